@@ -1,0 +1,138 @@
+-- An image, the rules that it may break, and the map and the transactions that it stands for.
+use Rattle.std.specs.Prelude.{if◌then◌else◌, ◌≡◌, ◌<◌, ◌≤◌, ℕ, zero, suc, Bool, true, false, ◌||◌, not, ltb, List, [], ◌∷◌, ◌++◌, Option, Some, None}
+use Rattle.map_model.specs.Lists.{Has, all, in_order}
+use Rattle.map_model.specs.Maps.{Map}
+use Rattle.map_model.specs.Journals.{Name}
+use Rattle.page_model.specs.Nodes.{Format, free}
+use Rattle.page_model.specs.Tree.{IsTree, entry, value_of}
+use Rattle.page_model.specs.Check.{first_bad, first_break}
+use Rattle.page_model.specs.Redo.{is_some}
+use Rattle.image_model.specs.Entries.{Entry, Page, earlier}
+use Rattle.image_model.specs.Ends.{reach, winners, losers}
+use Rattle.image_model.specs.Redo.{Redone, redo, passes, all_pass}
+use Rattle.image_model.specs.Undo.{is_lost, undo, undo_node, nodes_of, values}
+
+-- An image of the disk: its master's floor, the records of each log's longest run, the newest first, and the base of each
+-- page, where it has one. Logs are 1 to `logs`.
+pub record Image : Type 0 where
+  pub format : Format
+  pub logs : ℕ
+  pub floor : ℕ
+  pub log : ℕ → List Entry
+  pub base : ℕ → Option Page
+
+-- the logs 1 to n, one behind another
+abbrev pub gathered : (ℕ → List Entry) → ℕ → List Entry
+gathered log zero = []
+gathered log (suc n) = log (suc n) ++ gathered log n
+
+abbrev pub found : Image → List Entry
+found i = gathered i.log i.logs
+
+-- by number, then by log, the last first
+abbrev pub sorted : Image → List Entry
+sorted i = in_order earlier (found i)
+
+abbrev pub has_base : Option Page → Bool
+has_base (Some v) = true
+has_base None = false
+
+abbrev pub page_or : Option Page → Page
+page_or (Some v) = v
+page_or None = record { gsn = 0; last = 0; node = free }
+
+abbrev pub bases : Image → ℕ → Page
+bases i p = page_or (i.base p)
+
+abbrev pub redone : Image → Redone
+redone i = redo (bases i) (sorted i)
+
+abbrev pub lost : Image → Entry → Bool
+lost i = is_lost i.logs i.floor (found i) (redone i)
+
+-- each key's word after redo and undo; an absent key has a tombstone's
+abbrev pub recovered : Image → ℕ → ℕ
+recovered i = undo (lost i) (sorted i) (values i.format (redone i))
+
+abbrev pub map_of : Image → Map
+map_of i k = value_of i.format (Some (recovered i k))
+
+abbrev pub won_by : Image → List Name
+won_by i = winners (reach i.logs i.floor (found i)) (found i)
+
+abbrev pub lost_by : Image → List Name
+lost_by i = losers (reach i.logs i.floor (found i)) (found i)
+
+-- each page after redo and undo, with the number and the log that redo left
+abbrev pub recovered_page : Image → ℕ → Page
+recovered_page i p = record ((redone i).page p) { node = undo_node (lost i) (sorted i) ((redone i).page p).node }
+
+-- ## Rules
+
+-- numbers rise strictly in a log: the newest is above those behind it
+abbrev pub IsFalling : List Entry → Type 0
+IsFalling [] = Unit {0}
+IsFalling (r ∷ z) = IsFalling z × ((x : Entry) → Has x z → x.number < r.number)
+
+-- the key has an entry in the pages that redo leaves
+abbrev pub has_entry : Image → ℕ → Bool
+has_entry i k = is_some (entry i.format.pages (nodes_of (redone i)) k)
+
+-- No rule is broken: each page has a base, numbers rise in each log, each record names pages that there are and can be
+-- done if it counts, the pages that redo leaves are a tree, and each key that is put back has an entry.
+pub record IsSound (i : Image) : Type 0 where
+  pub whole : (p : ℕ) → p < i.format.pages → has_base (i.base p) ≡ true
+  pub rising : (w : ℕ) → 0 < w → w ≤ i.logs → IsFalling (i.log w)
+  pub done : all_pass i.format (bases i) (sorted i) ≡ true
+  pub tree : IsTree i.format (nodes_of (redone i))
+  pub entries : (r : Entry) → Has r (sorted i) → lost i r ≡ true → has_entry i r.key ≡ true
+
+-- The image stands for a map and its winners.
+pub record StandsFor (i : Image) (m : Map) (w : List Name) : Type 0 where
+  pub sound : IsSound i
+  pub map : (k : ℕ) → m k ≡ map_of i k
+  pub won : w ≡ won_by i
+
+-- ## Damage
+
+-- What breaks a rule: a page without a base; a record that is not above those before it in its log; one that names a page
+-- that there is not, or counts and can't be done; a page that breaks the tree; a record whose key can't be put back.
+pub data Damage : Type 0 where
+  No_base : (page : ℕ) → Damage
+  Unordered : (log number : ℕ) → Damage
+  Undoable : (log number : ℕ) → Damage
+  Broken : (page : ℕ) → Damage
+  No_entry : (log number : ℕ) → Damage
+
+abbrev pub page_damage : (ℕ → Damage) → Option ℕ → Option Damage
+page_damage kind (Some p) = Some (kind p)
+page_damage kind None = None
+
+abbrev pub or_first : Option Damage → Option Damage → Option Damage
+or_first (Some d) other = Some d
+or_first None other = other
+
+-- of the records that do not pass, the first in time, where the list has the newest first
+abbrev pub first_failing : (Entry → List Entry → Bool) → (ℕ → ℕ → Damage) → List Entry → Option Damage
+first_failing passes kind [] = None
+first_failing passes kind (r ∷ z) = or_first (first_failing passes kind z) (if passes r z then None else Some (kind r.log r.number))
+
+-- the logs in turn
+abbrev pub first_in_logs : (ℕ → Option Damage) → ℕ → Option Damage
+first_in_logs damage zero = None
+first_in_logs damage (suc n) = or_first (first_in_logs damage n) (damage (suc n))
+
+-- the first in the list that can't be put back
+abbrev pub first_without : Image → List Entry → Option Damage
+first_without i [] = None
+first_without i (r ∷ z) = or_first (if not (lost i r) || has_entry i r.key then None else Some (Damage.No_entry r.log r.number)) (first_without i z)
+
+-- The first rule that is broken: bases by page; the logs in turn; records by (number, log); the tree by page; and put-backs
+-- in falling order.
+abbrev pub damage : Image → Option Damage
+damage i =
+    or_first (page_damage Damage.No_base (first_bad i.format.pages (λ p. has_base (i.base p))))
+    (or_first (first_in_logs (λ w. first_failing (λ r z. all (λ x. ltb x.number r.number) z) Damage.Unordered (i.log w)) i.logs)
+    (or_first (first_failing (λ r z. passes i.format (redo (bases i) z).page r) Damage.Undoable (sorted i))
+    (or_first (page_damage Damage.Broken (first_break i.format (nodes_of (redone i))))
+    (first_without i (sorted i)))))

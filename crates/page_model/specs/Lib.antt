@@ -1,0 +1,9 @@
+pub mod Nodes
+pub mod Pairs
+pub mod Records
+pub mod Tree
+pub mod Laws
+pub mod Needs
+pub mod Redo
+pub mod Check
+pub mod Page

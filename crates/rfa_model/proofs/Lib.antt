@@ -1,0 +1,3 @@
+pub mod KnowLemmas
+pub mod ReachLemmas
+pub mod NeedLemmas
