@@ -1,0 +1,6 @@
+pub mod LoopFacts
+pub mod OrderLemmas
+pub mod RedoLemmas
+pub mod UndoLemmas
+pub mod ReadLemmas
+pub mod WordsLemmas
