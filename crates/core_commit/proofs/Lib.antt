@@ -1,0 +1,13 @@
+pub mod Lists
+pub mod KindFacts
+pub mod Nodes
+pub mod History
+pub mod Invariants
+pub mod Events
+pub mod Controls
+pub mod Nexts
+pub mod Copies
+pub mod Runs
+pub mod Debts
+pub mod Says
+pub mod RiseLemmas

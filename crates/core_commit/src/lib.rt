@@ -1,0 +1,25 @@
+//! Laws of records, locks and debts, over every list of events.
+//!
+//! Its proofs have the invariants that every event keeps; the laws above it, on pages in frames, on answers and on
+//! crashes, stand on them.
+#![tactic(auto)]
+
+ghost use Rattle.core_commit.specs.Debts.{EveryNeed, EveryDebt};
+ghost use Rattle.core_commit.specs.Rises.{EveryRise};
+
+/// An end needs the greatest number of another log that its worker ever touched, was remote then, and is above what the
+/// worker found flushed everywhere; and nothing where there is none.
+pub fn every_need()
+    ensures { EveryNeed }
+{}
+
+/// Of each record of its own a worker knows what was written on the same page before, and of each row that it holds the
+/// ends of those who wrote there: it stands in the worker's own log, or the worker's debt or all logs are as far.
+pub fn every_debt()
+    ensures { EveryDebt }
+{}
+
+/// Flushed numbers, clocks, last ends, heads, floors and epochs never fall.
+pub fn every_rise()
+    ensures { EveryRise }
+{}

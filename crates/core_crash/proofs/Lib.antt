@@ -1,0 +1,15 @@
+pub mod Words
+pub mod Order
+pub mod Ends
+pub mod Redo
+pub mod Undo
+pub mod Journal
+pub mod Kept
+pub mod Cuts
+pub mod Main
+pub mod Serial
+pub mod Images
+pub mod Transactions
+pub mod Recovery
+pub mod ByHand
+pub mod Reopening

@@ -1,0 +1,35 @@
+//! What recovery gives from every crash of every run.
+//!
+//! Read specs/Crashes: what a crash leaves of the logs and the pages, and what recovery makes of it.
+#![tactic(auto)]
+
+ghost use Rattle.core_crash.specs.Crashes.{EveryCrash, EveryStored, EveryReopening, EverySerial};
+ghost use Rattle.core_crash.specs.Example.{WorkedExample};
+
+/// Whatever happens and wherever a crash falls, no rule of an image is broken, and recovery gives the map after a closed
+/// set of committed transactions that holds each ripe one.
+pub fn every_crash()
+    ensures { EveryCrash }
+{}
+
+/// The same of recovery from the logs and the saved pages.
+pub fn every_stored()
+    ensures { EveryStored }
+{}
+
+/// After any crash the engine opens again, on the map for which the image stands.
+pub fn every_reopening()
+    ensures { EveryReopening }
+{}
+
+/// Run one after another from the first map, in the order of their commit numbers, the committed transactions give their
+/// answers.
+pub fn every_serial()
+    ensures { EverySerial }
+{}
+
+/// A run by hand: after a crash that leaves log 1 empty nothing is kept; after one that leaves its record, the second
+/// transaction of worker 2 alone.
+pub fn worked_example()
+    ensures { WorkedExample }
+{}

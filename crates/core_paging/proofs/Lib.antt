@@ -1,0 +1,6 @@
+pub mod Places
+pub mod ResidenceKept
+pub mod Saves
+pub mod Epochs
+pub mod Laws
+pub mod ByHand

@@ -1,0 +1,39 @@
+//! Where pages are, what is saved of them, and the epoch rule, over every list of events.
+#![tactic(auto)]
+
+ghost use Rattle.core_paging.specs.Paging.{EveryResidence, EverySaved, EpochRule, EveryRipe, EveryHot};
+ghost use Rattle.core_paging.specs.Example.{WorkedExample};
+
+/// A frame has one page and a page one frame; page 0 and the parent of each hot page are hot; the queue has each cooling
+/// page once; a cold page is as it was saved.
+pub fn every_residence()
+    ensures { EveryResidence }
+{}
+
+/// What is saved of a page the page has been, with a number that is flushed everywhere; it holds the page's changes up to
+/// the greatest number of a cut; and a page that is not dirty is as it was saved.
+pub fn every_saved()
+    ensures { EverySaved }
+{}
+
+/// From a worker's enter to its leave, a frame that was reachable from page 0 at the enter or at any moment since keeps
+/// its page.
+pub fn epoch_rule()
+    ensures { EpochRule }
+{}
+
+/// A cooling page waits for nobody where each worker inside entered at an epoch above the page's.
+pub fn every_ripe()
+    ensures { EveryRipe }
+{}
+
+/// Each hot node is reachable from page 0 by frame swips.
+pub fn every_hot()
+    ensures { EveryHot }
+{}
+
+/// A run by hand in which each event's need is met: a leaf is lifted, split, evicted and loaded, the leaves are joined, the
+/// root is dropped, and the log is cut.
+pub fn worked_example()
+    ensures { WorkedExample }
+{}

@@ -1,0 +1,7 @@
+-- Read States, Events, Needs and Steps in this order, then Local; Lists has words that they use.
+pub mod Lists
+pub mod States
+pub mod Events
+pub mod Needs
+pub mod Steps
+pub mod Local
