@@ -1,0 +1,35 @@
+use Rattle.std.proofs.Common.{◌∙◌, ap, sym}
+use Rattle.core_state.specs.Needs as needs
+use Rattle.plain_core.specs.Events.{event_of}
+use Rattle.plain_core.specs.States.{opening, state_of}
+use Rattle.plain_core.proofs.state.Core.may.Goals as goal
+
+pub returns-in-Enter : goal.returns-in-Enter
+returns-in-Enter c = λ x. c.may_enter.ensures x ∙ ap (λ e. needs.may (opening c.args.self.now.settings x) (state_of c.args.self.now) (event_of e)) (sym c.in-Enter.is)
+
+pub returns-in-Begin : goal.returns-in-Begin
+returns-in-Begin c = λ x. c.may_begin.ensures x ∙ ap (λ e. needs.may (opening c.args.self.now.settings x) (state_of c.args.self.now) (event_of e)) (sym c.in-Begin.is)
+
+pub returns-in-Lock : goal.returns-in-Lock
+returns-in-Lock c = λ x. c.may_lock.ensures x ∙ ap (λ e. needs.may (opening c.args.self.now.settings x) (state_of c.args.self.now) (event_of e)) (sym c.in-Lock.is)
+
+pub returns-in-Change : goal.returns-in-Change
+returns-in-Change c = λ x. c.may_change.ensures x ∙ ap (λ e. needs.may (opening c.args.self.now.settings x) (state_of c.args.self.now) (event_of e)) (sym c.in-Change.is)
+
+pub returns-in-End : goal.returns-in-End
+returns-in-End c = λ x. c.may_end.ensures x ∙ ap (λ e. needs.may (opening c.args.self.now.settings x) (state_of c.args.self.now) (event_of e)) (sym c.in-End.is)
+
+pub returns-in-Unlock : goal.returns-in-Unlock
+returns-in-Unlock c = λ x. c.may_unlock.ensures x ∙ ap (λ e. needs.may (opening c.args.self.now.settings x) (state_of c.args.self.now) (event_of e)) (sym c.in-Unlock.is)
+
+pub returns-in-Flush : goal.returns-in-Flush
+returns-in-Flush c = λ x. c.may_flush.ensures x ∙ ap (λ e. needs.may (opening c.args.self.now.settings x) (state_of c.args.self.now) (event_of e)) (sym c.in-Flush.is)
+
+pub returns-in-Sync : goal.returns-in-Sync
+returns-in-Sync c = λ x. c.may_sync.ensures x ∙ ap (λ e. needs.may (opening c.args.self.now.settings x) (state_of c.args.self.now) (event_of e)) (sym c.in-Sync.is)
+
+pub returns-in-Post : goal.returns-in-Post
+returns-in-Post c = λ x. c.may_post.ensures x ∙ ap (λ e. needs.may (opening c.args.self.now.settings x) (state_of c.args.self.now) (event_of e)) (sym c.in-Post.is)
+
+pub returns-in-Refused : goal.returns-in-Refused
+returns-in-Refused c = λ x. c.may_refuse.ensures x ∙ ap (λ e. needs.may (opening c.args.self.now.settings x) (state_of c.args.self.now) (event_of e)) (sym c.in-Refused.is)

@@ -1,0 +1,35 @@
+-- The events for which the program's stand.
+use Rattle.core_state.specs.Events as model
+use Rattle.plain_core.specs.declared.event.Mode.{Mode}
+use Rattle.plain_core.specs.declared.event.Mode.TheVariants as modes
+use Rattle.plain_core.specs.declared.event.Event.{Event}
+use Rattle.plain_core.specs.declared.event.Event.TheVariants as events
+use Rattle.std.specs.Prelude.{List, map}
+
+-- how a row is held
+abbrev pub mode_of : Mode → model.Mode
+mode_of modes.Shared = model.Mode.Shared
+mode_of modes.Alone = model.Mode.Alone
+
+-- the event
+abbrev pub event_of : Event → model.Event
+event_of (events.Enter w e) = model.Event.Enter w e
+event_of (events.Begin w f) = model.Event.Begin w f
+event_of (events.Lock w i mode) = model.Event.Lock w i (mode_of mode)
+event_of (events.Read w p k a) = model.Event.Read w p k a
+event_of (events.Peek w p k a) = model.Event.Peek w p k a
+event_of (events.Change w p k v) = model.Event.Change w p k v
+event_of (events.PutBack w p) = model.Event.Put_back w p
+event_of (events.End w commit f) = model.Event.End w commit f
+event_of (events.Unlock w i) = model.Event.Unlock w i
+event_of (events.Flush w n) = model.Event.Flush w n
+event_of (events.Sync n) = model.Event.Sync n
+event_of (events.Post w n) = model.Event.Post w n
+event_of events.Tick = model.Event.Tick
+event_of (events.Ask w) = model.Event.Ask w
+event_of (events.Refused w n m) = model.Event.Refused w n m
+event_of (events.Miss w) = model.Event.Miss w
+
+-- events, the first first
+abbrev pub events_of : List Event → List model.Event
+events_of es = map event_of es

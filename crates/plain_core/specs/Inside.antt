@@ -1,0 +1,66 @@
+-- Words of private functions: needs that lean on the numbers of an opening alone.
+use Rattle.std.specs.Prelude.{ℕ, suc, max, Bool, true, false, ◌&&◌, ◌||◌, ltb, leb, List, [], ◌∷◌, length, Option, Some, None, if◌then◌else◌}
+use Rattle.image_model.specs.Entries.{Kind, Entry, Page, page_kind}
+use Rattle.page_model.specs.Records as records
+use Rattle.page_model.specs.Needs.{nowhere}
+use Rattle.page_model.specs.Pairs.{find, put}
+use Rattle.page_model.specs.Tree.{word_or}
+use Rattle.page_model.specs.Nodes.{Node, holds}
+use Rattle.page_model.specs.Redo.{has_key}
+use Rattle.core_state.specs.States.{State, Worker}
+use Rattle.core_state.specs.Needs.{holds_row}
+use Rattle.plain_core.specs.declared.state.Settings.{Settings}
+use Rattle.plain_core.specs.States.{row_at}
+
+-- what a word says: a value, or none
+abbrev pub value_at : ℕ → Option ℕ → Option ℕ
+value_at dead None = None
+value_at dead (Some w) = if ltb w dead then Some w else None
+
+-- one of the workers
+abbrev pub is_worker_of : Settings → ℕ → Bool
+is_worker_of s w = ltb 0 w && leb w s.workers
+
+-- a leaf with the key in its fences, which has the key, or is not full
+abbrev pub may_put_in : Settings → Node → (p k v : ℕ) → Bool
+may_put_in s n p k v = ltb p s.pages && (holds n k && (leb v s.dead && (has_key k n || ltb (length n.pairs) s.room)))
+
+-- the last listed change is of a key in p
+abbrev pub may_put_back_in : Settings → Node → ℕ → List Entry → Bool
+may_put_back_in s n p [] = false
+may_put_back_in s n p (c ∷ cs) = ltb p s.pages && (holds n c.key && has_key c.key n)
+
+-- w is open, holds the key's row, and p is the key's leaf
+abbrev pub may_look : Settings → State → (w p k : ℕ) → Bool
+may_look s c w p k = (c.worker w).is_open && (holds_row (c.row (row_at s.rows k)) w && (ltb p s.pages && holds (c.page p).node k))
+
+-- with its clock at n or above
+abbrev pub raised : ℕ → Worker → Worker
+raised n a = record a { clock = max a.clock n }
+
+-- a page in which the key has the word, by a record of the log with the number
+abbrev pub written_in : (log number : ℕ) → Page → (k v : ℕ) → Page
+written_in log number p k v = record { gsn = number; last = log; node = record { live = p.node.live; level = p.node.level; low = p.node.low; high = p.node.high; pairs = put k v p.node.pairs } }
+
+-- a change, or one that is put back
+abbrev pub write_kind : Bool → Kind
+write_kind true = Kind.Change
+write_kind false = Kind.Put_back
+
+-- what a write says of its page
+abbrev pub write_record_in : Kind → records.Ref → (k before after : ℕ) → records.Record
+write_record_in kind left k before after = record { kind = page_kind kind; left = left; right = nowhere; parent = nowhere; key = k; before = before; after = after; sep = 0; high = 0; level = 0; pairs = []; keys = [] }
+
+-- a write of key k in page p
+abbrev pub write_entry_in : Kind → ℕ → Worker → ℕ → Page → (dead k v : ℕ) → Entry
+write_entry_in kind w a p leaf dead k v = record { kind = kind; log = w; txn = a.txn; number = suc a.clock; key = k; before = word_or dead (find k leaf.node.pairs); after = v; need = 0; refs = record { page = p; prev = leaf.gsn } ∷ []; record_of = write_record_in kind (record { page = p; prev = leaf.gsn }) k (word_or dead (find k leaf.node.pairs)) v }
+
+-- the entries but for the newest
+abbrev pub tail : List Entry → List Entry
+tail [] = []
+tail (x ∷ xs) = xs
+
+-- the newest entry's key, and the word before it
+abbrev pub newest_of : List Entry → Option (ℕ × ℕ)
+newest_of [] = None
+newest_of (x ∷ xs) = Some (x.key, x.before)

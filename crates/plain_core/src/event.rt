@@ -1,0 +1,80 @@
+// What can happen.
+
+/// How a row is held: with others that read, or by one alone.
+#[derive(Clone, Copy, Debug, PartialEq, Eq)]
+pub enum Mode {
+    Shared,
+    Alone,
+}
+
+/// An event, by its worker, if it has one, and what it names. `flushed` is the least flushed number as the worker found it.
+#[derive(Clone, Copy, Debug, PartialEq, Eq)]
+pub enum Event {
+    Enter {
+        worker: u64,
+        epoch: u64,
+    },
+    Begin {
+        worker: u64,
+        flushed: u64,
+    },
+    Lock {
+        worker: u64,
+        row: u64,
+        mode: Mode,
+    },
+    Read {
+        worker: u64,
+        page: u64,
+        key: u64,
+        answer: Option<u64>,
+    },
+    Peek {
+        worker: u64,
+        page: u64,
+        key: u64,
+        answer: Option<u64>,
+    },
+    Change {
+        worker: u64,
+        page: u64,
+        key: u64,
+        word: u64,
+    },
+    PutBack {
+        worker: u64,
+        page: u64,
+    },
+    End {
+        worker: u64,
+        commit: bool,
+        flushed: u64,
+    },
+    Unlock {
+        worker: u64,
+        row: u64,
+    },
+    Flush {
+        worker: u64,
+        number: u64,
+    },
+    Sync {
+        number: u64,
+    },
+    Post {
+        worker: u64,
+        number: u64,
+    },
+    Tick,
+    Ask {
+        worker: u64,
+    },
+    Refused {
+        worker: u64,
+        cause: u64,
+        pages: u64,
+    },
+    Miss {
+        worker: u64,
+    },
+}

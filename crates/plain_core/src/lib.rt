@@ -1,0 +1,20 @@
+//! The plain, slow program of the core of events: what each event needs, and what it does to the state.
+#![tactic(auto)]
+
+mod effects;
+mod event;
+mod needs;
+mod records;
+mod refusal;
+mod start;
+mod state;
+mod table;
+
+pub use event::{Event, Mode};
+pub use records::{Entry, Kind, Node, Page, PageKind, PageRecord, Pair, Ref};
+pub use refusal::Refusal;
+pub use state::{Core, Place, Row, Settings, Worker};
+pub use table::Table;
+
+#[cfg(test)]
+mod tests;

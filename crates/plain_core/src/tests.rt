@@ -1,0 +1,226 @@
+// Small lists of events, with what each answers.
+use super::*;
+use std::alloc::{AllocError, Global};
+
+// Two workers, one empty leaf that is page 0, and a free page; four pairs a node, a tombstone is 100.
+fn opened(alloc: Global) -> Result<Core, AllocError> {
+    let settings = Settings {
+        workers: 2,
+        frames: 2,
+        rows: 0,
+        changes: 3,
+        joined: 2,
+        base: 0,
+        pages: 2,
+        room: 4,
+        levels: 2,
+        dead: 100,
+        top: 100,
+    };
+    let mut pages = Table::new(alloc, page(alloc, false, 0));
+    pages.set(0, page(alloc, true, 100))?;
+    Core::start(alloc, settings, pages)
+}
+
+fn page(alloc: Global, live: bool, high: u64) -> Page {
+    Page {
+        number: 0,
+        log: 0,
+        node: Node {
+            live,
+            level: 0,
+            low: 0,
+            high,
+            pairs: Vec::new(alloc),
+        },
+    }
+}
+
+// Each event's need is met, or is not, as is said.
+fn answers(core: &mut Core, alloc: Global, events: &[(Event, bool)]) -> bool {
+    let mut as_said = true;
+    for (event, is_met) in events {
+        match core.step(alloc, *event) {
+            Ok(met) => as_said = as_said && met == *is_met,
+            Err(_) => as_said = false,
+        }
+    }
+    as_said
+}
+
+fn begin(worker: u64, flushed: u64) -> Event {
+    Event::Begin { worker, flushed }
+}
+
+fn lock(worker: u64, row: u64, mode: Mode) -> Event {
+    Event::Lock { worker, row, mode }
+}
+
+fn change(worker: u64, key: u64, word: u64) -> Event {
+    Event::Change {
+        worker,
+        page: 0,
+        key,
+        word,
+    }
+}
+
+fn read(worker: u64, key: u64, answer: Option<u64>) -> Event {
+    Event::Read {
+        worker,
+        page: 0,
+        key,
+        answer,
+    }
+}
+
+fn put_back(worker: u64) -> Event {
+    Event::PutBack { worker, page: 0 }
+}
+
+fn end(worker: u64, commit: bool) -> Event {
+    Event::End {
+        worker,
+        commit,
+        flushed: 0,
+    }
+}
+
+fn unlock(worker: u64, row: u64) -> Event {
+    Event::Unlock { worker, row }
+}
+
+fn flush(worker: u64, number: u64) -> Event {
+    Event::Flush { worker, number }
+}
+
+#[test]
+fn an_end_needs_what_its_worker_touched_of_another_log(rt: HostRuntime) {
+    let alloc = rt.alloc();
+    let opened = opened(alloc);
+    assert!(rt; opened.is_ok());
+    let Ok(mut core) = opened else { return };
+    let events = [
+        (begin(1, 0), true),
+        (lock(1, 5, Mode::Alone), true),
+        (change(1, 5, 7), true),
+        (begin(2, 0), true),
+        (lock(2, 6, Mode::Alone), true),
+        (change(2, 6, 1), true),
+        (put_back(2), true),
+        (end(2, false), true),
+        (unlock(2, 6), true),
+        (begin(2, 0), true),
+        (lock(2, 6, Mode::Alone), true),
+        (change(2, 6, 2), true),
+        (end(2, true), true),
+        (unlock(2, 6), true),
+        (flush(2, 6), true),
+    ];
+    assert!(rt; answers(&mut core, alloc, &events));
+    let second = core.workers.get(2);
+    assert!(rt; second.clock == 6 && second.end == 6 && second.debt == 1 && second.txn == 2);
+    let first = core.workers.get(1);
+    assert!(rt; first.clock == 1 && first.is_open && first.changes.len() == 1);
+    let row = core.rows.get(6);
+    assert!(rt; row.number == 6 && row.log == 2 && row.holder.is_none());
+    let leaf = core.pages.get(0);
+    assert!(rt; leaf.number == 5 && leaf.log == 2);
+    assert!(rt; leaf.node.find(5) == Some(7) && leaf.node.find(6) == Some(2));
+    assert!(rt; core.entries.len() == 6);
+    let newest = &core.entries[0];
+    assert!(rt; newest.kind == Kind::Commit && newest.number == 6 && newest.need == 1);
+    let abort = &core.entries[2];
+    assert!(rt; abort.kind == Kind::Abort && abort.number == 4 && abort.need == 1);
+    assert!(rt; *core.flushed.get(2) == 6 && core.flushed_by_all() == 0);
+}
+
+#[test]
+fn an_event_whose_need_is_not_met_changes_nothing(rt: HostRuntime) {
+    let alloc = rt.alloc();
+    let opened = opened(alloc);
+    assert!(rt; opened.is_ok());
+    let Ok(mut core) = opened else { return };
+    let events = [
+        (begin(3, 0), false),
+        (begin(0, 0), false),
+        (begin(1, 1), false),
+        (lock(1, 5, Mode::Alone), false),
+        (begin(1, 0), true),
+        (begin(1, 0), false),
+        (change(1, 5, 7), false),
+        (lock(1, 5, Mode::Shared), true),
+        (change(1, 5, 7), false),
+        (begin(2, 0), true),
+        (lock(2, 5, Mode::Shared), true),
+        (lock(1, 5, Mode::Alone), false),
+        (read(2, 5, Some(7)), false),
+        (read(2, 5, None), true),
+        (end(2, false), true),
+        (unlock(1, 5), false),
+        (unlock(2, 5), true),
+        (lock(1, 5, Mode::Alone), true),
+        (change(1, 5, 101), false),
+        (change(1, 5, 7), true),
+        (end(1, false), false),
+        (flush(1, 1), false),
+        (Event::Sync { number: 2 }, false),
+        (flush(1, 2), true),
+        (end(1, true), true),
+        (
+            Event::Post {
+                worker: 1,
+                number: 1,
+            },
+            false,
+        ),
+        (
+            Event::Post {
+                worker: 1,
+                number: 0,
+            },
+            true,
+        ),
+        (Event::Tick, true),
+        (
+            Event::Enter {
+                worker: 1,
+                epoch: 2,
+            },
+            false,
+        ),
+        (
+            Event::Enter {
+                worker: 1,
+                epoch: 1,
+            },
+            true,
+        ),
+        (
+            Event::Enter {
+                worker: 1,
+                epoch: 1,
+            },
+            false,
+        ),
+        (
+            Event::Refused {
+                worker: 1,
+                cause: 4,
+                pages: 1,
+            },
+            false,
+        ),
+        (
+            Event::Refused {
+                worker: 1,
+                cause: 4,
+                pages: 2,
+            },
+            true,
+        ),
+    ];
+    assert!(rt; answers(&mut core, alloc, &events));
+    assert!(rt; core.epoch == 1 && core.posted == 0 && core.pages.get(0).number == 2);
+    assert!(rt; core.entries.len() == 4 && core.workers.get(1).clock == 3);
+}
