@@ -1,0 +1,12 @@
+pub mod BeginLemmas
+pub mod ByteLemmas
+pub mod CopyLemmas
+pub mod CrashLemmas
+pub mod DiskLemmas
+pub mod EndLemmas
+pub mod LoanLemmas
+pub mod MomentLemmas
+pub mod NoteLemmas
+pub mod PartLemmas
+pub mod RoundLemmas
+pub mod TellingLemmas

@@ -1,0 +1,17 @@
+use Rattle.std.proofs.Common.{not, is_ok}
+use Rattle.lean_disk.specs.Area.{fresh}
+use Rattle.lean_disk.specs.declared.area_log.What.TheVariants.{Synced}
+use Rattle.lean_disk.specs.declared.area_log.Call.{Call}
+use Rattle.lean_disk.specs.Inside.Lists.{kept_push, sync_keeps}
+use Rattle.lean_disk.specs.Inside.Newest.{ordered_if}
+use Rattle.lean_disk.proofs.area_log.AreaLog.sync.Goals as goal
+
+pub invariant_of-self : goal.invariant_of-self
+invariant_of-self c =
+    let log = c.args.self.now in
+    let call : Call = record { number = c.args.number; notes = c.args.notes; what = Synced (not c.fails_next-done.result) } in
+    record {
+      kept = kept_push (fresh log.first.items) log.calls.items c.push.new.self.items call log.bytes.items (is_ok c.push.result)
+          c.push.ensures.items (sync_keeps (not c.fails_next-done.result)) log.kept;
+      ordered = ordered_if log.calls.items c.push.new.self.items call (is_ok c.push.result) c.push.ensures.items c.requires log.ordered;
+    }

@@ -1,0 +1,14 @@
+-- Counts of faults.
+use Rattle.std.specs.Prelude.{◌≡◌, ℕ, ◌+◌, ◌-◌, ◌≤◌, ◌^◌, min}
+
+-- The count of faults has risen, or stands at its type's end.
+abbrev pub Rose : ℕ → ℕ → Type 0
+Rose before now = min (before + 1) (2 ^ 64 - 1) ≤ now
+
+pub record HasCause (before now : ℕ) (failed : Type 0) : Type 0 where
+  pub later : before ≤ now
+  pub cause : failed → Rose before now
+
+-- both counts of faults in one, which may stand at its type's end
+abbrev pub HasSum : ℕ → ℕ → ℕ → Type 0
+HasSum one other sum = sum ≡ min (one + other) (2 ^ 64 - 1)

@@ -1,0 +1,6 @@
+use Rattle.std.proofs.Common.{◌≤◌, length, take}
+use Rattle.std.specs.Io.KnownBytes.{Appends}
+use Rattle.lean_edge.proofs.std_sink.write_out.Given as goal
+
+abbrev pub invariant-loop : goal.invariant-loop
+invariant-loop g l = (l.count ≤ length l.bytes) × Appends (g.W.Write.contents l.initial.writer) (g.W.Write.contents l.writer) (take l.count l.bytes)
