@@ -1,0 +1,5 @@
+pub mod FlatLemmas
+pub mod SpellingLemmas
+pub mod PlaceLemmas
+pub mod ChangeLemmas
+pub mod StructureLemmas

@@ -1,0 +1,4 @@
+pub mod SlotLemmas
+pub mod PageLemmas
+pub mod MasterLemmas
+pub mod LawLemmas

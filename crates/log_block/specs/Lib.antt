@@ -1,0 +1,3 @@
+-- Read Block, then Run.
+pub mod Block
+pub mod Run

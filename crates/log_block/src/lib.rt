@@ -1,0 +1,13 @@
+//! The blocks of a log: records with a header in front and a seal behind.
+#![tactic(auto)]
+
+mod block;
+mod format;
+mod run;
+
+pub use block::{Refusal, belongs, block_bytes, read_block};
+pub use format::{BLOCK, PAYLOAD};
+pub use run::valid_run;
+
+#[cfg(test)]
+mod tests;
