@@ -1,0 +1,209 @@
+-- A line that is spelled is read, and a line that is read was spelled so.
+use Rattle.std.proofs.Common.{◌≡◌, ◌⊎◌, inl, inr, ⊎_elim, ◌++◌, ◌∷◌, ℕ, List, Option, Some, None, codes, ◌∙◌, sym, refl, ap, subst, ◌+◌, ◌-◌, ◌^◌, ◌<◌, ◌≤◌, Bool, true, false, cond, nat_lt, length, arith}
+use Rattle.std.proofs.lemmas.List.{length-append}
+use Rattle.std.proofs.lemmas.Bool.Decides.{nat_tests}
+use Rattle.std.proofs.lemmas.Slice.Eq.{bytes_eq-Decides}
+use Rattle.std.proofs.lemmas.Fmt.{length-decimal-le}
+use Rattle.std.specs.Str.{bytes_eq}
+use Rattle.std.specs.Fmt.{decimal}
+use Rattle.script_lang.specs.Words.{first_word, after_word, number_of, ranged, word, rest, ends, with_one, with_two}
+use Rattle.script_lang.specs.Lines.{call_text, line_text, CallFits, Spells, get_of, put_of, verb_of, line_with, line_of}
+use Rattle.script_lang.specs.declared.line.Line.{Line}
+use Rattle.map_model.specs.declared.call.Call.{Call}
+use Rattle.map_model.specs.declared.call.Call.TheVariants.{Begin, Get, Put, Commit}
+use Rattle.script_lang.proofs.NumberLemmas.{word_number, word_last, after_last, word_before, after_before, Joins, joins, guard, number_is, number_spelled, ranged_is, in_range}
+
+-- what is spelled is read
+pub call_read : (call : Call) → CallFits call → verb_of (Some (call_text call)) ≡ Some call
+call_read Begin h = refl
+call_read Commit h = refl
+call_read (Get k) h =
+    let small : k < 2 ^ 64 = omega arith in
+    let w = word_number k small in
+    rw (word_last (decimal k) w, after_last (decimal k) w, number_is k small, ranged_is 0 (2 ^ 64 - 1) k (omega arith) h) refl
+call_read (Put k v) h =
+    let key : k < 2 ^ 64 - 1 = h.0 in
+    let value : v < 2 ^ 63 = h.1 in
+    let small : k < 2 ^ 64 = omega arith in
+    let fits : v < 2 ^ 64 = omega arith in
+    let w = word_number k small in
+    let u = word_number v fits in
+    rw (
+      word_before (decimal k) (decimal v) w,
+      after_before (decimal k) (decimal v) w,
+      number_is k small,
+      ranged_is 0 (2 ^ 64 - 1) k (omega arith) key,
+      word_last (decimal v) u,
+      after_last (decimal v) u,
+      number_is v fits,
+      ranged_is 0 (2 ^ 63) v (omega arith) value,
+    ) refl
+
+call_short : (call : Call) → CallFits call → length (call_text call) ≤ 50
+call_short Begin h = omega arith
+call_short Commit h = omega arith
+call_short (Get k) h = let key : k < 2 ^ 64 - 1 = h in let l = length-decimal-le 20 k (omega arith) (omega arith) (omega arith) in omega arith
+call_short (Put k v) h =
+    let key : k < 2 ^ 64 - 1 = h.0 in
+    let value : v < 2 ^ 63 = h.1 in
+    let l = length-decimal-le 20 k (omega arith) (omega arith) (omega arith) in
+    let m = length-decimal-le 20 v (omega arith) (omega arith) (omega arith) in
+    let e = length-append (decimal k) (32 ∷ decimal v) in omega arith
+
+pub line_read : (workers : ℕ) (bytes : List ℕ) (line : Line) → workers < 2 ^ 32 → Spells workers bytes line → line_of workers bytes ≡ Some line
+line_read workers bytes line many is =
+    let s : ℕ = line.session in
+    let call : Call = line.call in
+    let first : 1 ≤ s = is.first in
+    let last : s ≤ workers = is.last in
+    let small : s < 2 ^ 64 = omega arith in
+    let w = word_number s small in
+    let text : List ℕ = call_text call in
+    let l = length-decimal-le 20 s (omega arith) (omega arith) small in
+    let m = call_short call is.call in
+    let e = length-append (decimal s) (32 ∷ text) in
+    let short : length (line_text line) ≤ 80 = omega arith in
+    let no : nat_lt 80 (length (line_text line)) ≡ false = grind (arith, nat_tests) in
+    let P : List ℕ → Type 0 = λ bytes. line_of workers bytes ≡ Some line in
+    subst P (sym is.spelled) (rw (no, word_before (decimal s) text w, after_before (decimal s) text w, number_is s small, ranged_is 1 (workers + 1) s first (omega arith), call_read call is.call) refl)
+
+-- what is read was spelled
+split : {A : Type 0} (b : Bool) (x y : Option A) (a : A) → cond b x y ≡ Some a → ((b ≡ true) × (x ≡ Some a)) ⊎ (y ≡ Some a)
+split true x y a e = inl (refl, e)
+split false x y a e = inr e
+
+same : (xs ys : List ℕ) → bytes_eq xs ys ≡ true → xs ≡ ys
+same xs ys e = (bytes_eq-Decides xs ys).0 e
+
+ends_is : {A : Type 0} (x y : A) (left : Option (List ℕ)) → ends x left ≡ Some y → (x ≡ y) × (left ≡ None)
+ends_is x y None e = let s : x ≡ y = cc in (s, refl)
+ends_is x y (Some more) e = cc
+
+-- the word is the last one
+last_word : (bytes word : List ℕ) → first_word bytes ≡ word → after_word bytes ≡ None → bytes ≡ word
+last_word bytes word is none = subst (λ (r : Option (List ℕ)). Joins bytes (first_word bytes) r) none (joins bytes) ∙ is
+
+then_word : (bytes word more : List ℕ) → first_word bytes ≡ word → after_word bytes ≡ Some more → bytes ≡ word ++ 32 ∷ more
+then_word bytes word more is some = subst (λ (r : Option (List ℕ)). Joins bytes (first_word bytes) r) some (joins bytes) ∙ ap (λ (w : List ℕ). w ++ 32 ∷ more) is
+
+-- words that spell a call
+pub record Says (words : Option (List ℕ)) (call : Call) : Type 0 where
+  pub spelled : words ≡ Some (call_text call)
+  pub fits : CallFits call
+
+pub record OneIs {A : Type 0} (f : ℕ → A) (n : Option ℕ) (left : Option (List ℕ)) (a : A) : Type 0 where
+  pub number : ℕ
+  pub is : n ≡ Some number
+  pub made : f number ≡ a
+  pub last : left ≡ None
+
+one_is : {A : Type 0} (f : ℕ → A) (n : Option ℕ) (left : Option (List ℕ)) (a : A) → with_one f n left ≡ Some a → OneIs f n left a
+one_is f None left a e = cc
+one_is f (Some m) left a e = let h = ends_is (f m) a left e in record { number = m; is = refl; made = h.0; last = h.1 }
+
+pub record TwoAre {A : Type 0} (f : ℕ → ℕ → A) (m n : Option ℕ) (left : Option (List ℕ)) (a : A) : Type 0 where
+  pub first : ℕ
+  pub is : m ≡ Some first
+  pub second : OneIs (f first) n left a
+
+two_are : {A : Type 0} (f : ℕ → ℕ → A) (m n : Option ℕ) (left : Option (List ℕ)) (a : A) → with_two f m n left ≡ Some a → TwoAre f m n left a
+two_are f None n left a e = cc
+two_are f (Some m) n left a e = record { first = m; is = refl; second = one_is (f m) n left a e }
+
+begin_says : (ws : List ℕ) (call : Call) → bytes_eq (first_word ws) (codes "begin") ≡ true → ends Begin (after_word ws) ≡ Some call → Says (Some ws) call
+begin_says ws call is e =
+    let h = ends_is Begin call (after_word ws) e in
+    let P : Call → Type 0 = λ call. Says (Some ws) call in
+    subst P h.0 (record { spelled = ap (λ (w : List ℕ). Some w) (last_word ws (codes "begin") (same (first_word ws) (codes "begin") is) h.1); fits = tt })
+
+commit_says : (ws : List ℕ) (call : Call) → bytes_eq (first_word ws) (codes "commit") ≡ true → ends Commit (after_word ws) ≡ Some call → Says (Some ws) call
+commit_says ws call is e =
+    let h = ends_is Commit call (after_word ws) e in
+    let P : Call → Type 0 = λ call. Says (Some ws) call in
+    subst P h.0 (record { spelled = ap (λ (w : List ℕ). Some w) (last_word ws (codes "commit") (same (first_word ws) (codes "commit") is) h.1); fits = tt })
+
+get_says : (ws : List ℕ) (call : Call) (more : Option (List ℕ)) → after_word ws ≡ more → bytes_eq (first_word ws) (codes "get") ≡ true → get_of more ≡ Some call → Says (Some ws) call
+get_says ws call None after is e = let o = one_is Get None None call e in let no = o.is in cc
+get_says ws call (Some more) after is e =
+    let o = one_is Get (ranged 0 (2 ^ 64 - 1) (number_of (first_word more))) (after_word more) call e in
+    let k : ℕ = o.number in
+    let r = in_range 0 (2 ^ 64 - 1) k (number_of (first_word more)) o.is in
+    let n = number_spelled (first_word more) k r.read in
+    let words : more ≡ decimal k = last_word more (decimal k) n.0 o.last in
+    let text : ws ≡ codes "get" ++ 32 ∷ more = then_word ws (codes "get") more (same (first_word ws) (codes "get") is) after in
+    let P : Call → Type 0 = λ call. Says (Some ws) call in
+    subst P o.made (record { spelled = ap (λ (w : List ℕ). Some w) (text ∙ ap (λ (w : List ℕ). codes "get" ++ 32 ∷ w) words); fits = r.under })
+
+-- the second number of a put
+value_says : (k : ℕ) (more : List ℕ) (left : Option (List ℕ)) (call : Call) → after_word more ≡ left → first_word more ≡ decimal k
+    → OneIs (Put k) (ranged 0 (2 ^ 63) (number_of (word left))) (rest left) call
+    → (v : ℕ) × (more ≡ decimal k ++ 32 ∷ decimal v) × (v < 2 ^ 63) × (Put k v ≡ call)
+value_says k more None call after is o = let no = o.is in cc
+value_says k more (Some last) call after is o =
+    let v : ℕ = o.number in
+    let r = in_range 0 (2 ^ 63) v (number_of (first_word last)) o.is in
+    let n = number_spelled (first_word last) v r.read in
+    let words : last ≡ decimal v = last_word last (decimal v) n.0 o.last in
+    (v, then_word more (decimal k) last is after ∙ ap (λ (w : List ℕ). decimal k ++ 32 ∷ w) words, r.under, o.made)
+
+put_says : (ws : List ℕ) (call : Call) (more : Option (List ℕ)) → after_word ws ≡ more → bytes_eq (first_word ws) (codes "put") ≡ true → put_of more ≡ Some call → Says (Some ws) call
+put_says ws call None after is e = let t = two_are Put None None None call e in let no = t.is in cc
+put_says ws call (Some more) after is e =
+    let t = two_are Put (ranged 0 (2 ^ 64 - 1) (number_of (first_word more))) (ranged 0 (2 ^ 63) (number_of (word (after_word more)))) (rest (after_word more)) call e in
+    let k : ℕ = t.first in
+    let r = in_range 0 (2 ^ 64 - 1) k (number_of (first_word more)) t.is in
+    let n = number_spelled (first_word more) k r.read in
+    let s = value_says k more (after_word more) call refl n.0 t.second in
+    let text : ws ≡ codes "put" ++ 32 ∷ more = then_word ws (codes "put") more (same (first_word ws) (codes "put") is) after in
+    let P : Call → Type 0 = λ call. Says (Some ws) call in
+    subst P s.3 (record { spelled = ap (λ (w : List ℕ). Some w) (text ∙ ap (λ (w : List ℕ). codes "put" ++ 32 ∷ w) s.1); fits = (r.under, s.2) })
+
+abbrev put_tail : List ℕ → Option Call
+put_tail ws = cond (bytes_eq (first_word ws) (codes "put")) (put_of (after_word ws)) None
+
+abbrev get_tail : List ℕ → Option Call
+get_tail ws = cond (bytes_eq (first_word ws) (codes "get")) (get_of (after_word ws)) (put_tail ws)
+
+abbrev commit_tail : List ℕ → Option Call
+commit_tail ws = cond (bytes_eq (first_word ws) (codes "commit")) (ends Commit (after_word ws)) (get_tail ws)
+
+pub verb_says : (words : Option (List ℕ)) (call : Call) → verb_of words ≡ Some call → Says words call
+verb_says None call e = cc
+verb_says (Some ws) call e =
+    ⊎_elim (λ h. begin_says ws call h.0 h.1)
+    (λ e. ⊎_elim (λ h. commit_says ws call h.0 h.1)
+    (λ e. ⊎_elim (λ h. get_says ws call (after_word ws) refl h.0 h.1)
+    (λ e. let h = guard (bytes_eq (first_word ws) (codes "put")) (put_of (after_word ws)) call e in put_says ws call (after_word ws) refl h.0 h.1)
+    (split (bytes_eq (first_word ws) (codes "get")) (get_of (after_word ws)) (put_tail ws) call e))
+    (split (bytes_eq (first_word ws) (codes "commit")) (ends Commit (after_word ws)) (get_tail ws) call e))
+    (split (bytes_eq (first_word ws) (codes "begin")) (ends Begin (after_word ws)) (commit_tail ws) call e)
+
+pub record WithIs (n : Option ℕ) (c : Option Call) (line : Line) : Type 0 where
+  pub session : n ≡ Some line.session
+  pub call : c ≡ Some line.call
+
+with_is : (n : Option ℕ) (c : Option Call) (line : Line) → line_with n c ≡ Some line → WithIs n c line
+with_is None c line e = cc
+with_is (Some s) None line e = cc
+with_is (Some s) (Some call) line e =
+    let is : record { session = s; call = call } ≡ line = cc in
+    record { session = ap (λ (l : Line). Some l.session) is; call = ap (λ (l : Line). Some l.call) is }
+
+unless : (b : Bool) (r : Option Line) (line : Line) → cond b None r ≡ Some line → r ≡ Some line
+unless true r line e = cc
+unless false r line e = e
+
+pub line_says : (workers : ℕ) (bytes : List ℕ) (line : Line) → line_of workers bytes ≡ Some line → Spells workers bytes line
+line_says workers bytes line e =
+    let w = with_is (ranged 1 (workers + 1) (number_of (first_word bytes))) (verb_of (after_word bytes)) line
+    (unless (nat_lt 80 (length bytes)) (line_with (ranged 1 (workers + 1) (number_of (first_word bytes))) (verb_of (after_word bytes))) line e) in
+    let r = in_range 1 (workers + 1) line.session (number_of (first_word bytes)) w.session in
+    let n = number_spelled (first_word bytes) line.session r.read in
+    let v = verb_says (after_word bytes) line.call w.call in
+    let high : line.session < workers + 1 = r.under in
+    record {
+      spelled = then_word bytes (decimal line.session) (call_text line.call) n.0 v.spelled;
+      first = r.above;
+      last = omega arith;
+      call = v.fits;
+    }

@@ -1,0 +1,30 @@
+-- The pieces of a line, as they are written one after another.
+use Rattle.std.proofs.Common.{◌≡◌, ◌++◌, [], ℕ, List, refl, ap, subst, ◌∙◌}
+use mathlib.Core.List.{append_assoc}
+use Rattle.script_lang.specs.Pieces.{Holds}
+
+-- a buffer in which nothing was written
+pub holds_none : (first : List ℕ) → Holds [] first first 0
+holds_none first = record { count = refl; bytes = refl }
+
+pub holds_same : (text other first now : List ℕ) (end : ℕ) → text ≡ other → Holds text first now end → Holds other first now end
+holds_same text other first now end same is = let P : List ℕ → Type 0 = λ t. Holds t first now end in subst P same is
+
+-- two pieces behind a front are one
+pub holds_joined : (front a b first now : List ℕ) (end : ℕ) → Holds ((front ++ a) ++ b) first now end → Holds (front ++ (a ++ b)) first now end
+holds_joined front a b first now end is = holds_same ((front ++ a) ++ b) (front ++ (a ++ b)) first now end (append_assoc front a b) is
+
+-- and with a last one between them
+pub holds_regrouped : (front a b c first now : List ℕ) (end : ℕ) → Holds ((front ++ (a ++ b)) ++ c) first now end → Holds (front ++ (a ++ (b ++ c))) first now end
+holds_regrouped front a b c first now end is =
+    holds_same ((front ++ (a ++ b)) ++ c) (front ++ (a ++ (b ++ c))) first now end (append_assoc front (a ++ b) c ∙ ap (λ (t : List ℕ). front ++ t) (append_assoc a b c)) is
+
+-- three numbers, each behind its text
+pub three_pieces : (a b c d e f : List ℕ) → (((a ++ b) ++ (c ++ d)) ++ (e ++ f)) ≡ a ++ (b ++ (c ++ (d ++ (e ++ f))))
+three_pieces a b c d e f = simp append_assoc
+
+pub two_pieces : (a b c d : List ℕ) → ((a ++ b) ++ (c ++ d)) ≡ a ++ (b ++ (c ++ d))
+two_pieces a b c d = simp append_assoc
+
+pub last_piece : (a b c d : List ℕ) → (a ++ b) ++ (c ++ d) ≡ (a ++ (b ++ c)) ++ d
+last_piece a b c d = simp append_assoc

@@ -1,0 +1,47 @@
+// Pieces of a line of output, one after another in a buffer.
+ghost use Rattle.std.specs.Prelude.{◌≡◌, ◌≤◌, ◌+◌, ◌++◌, ◌∷◌, ℕ, List, length};
+ghost use Rattle.std.specs.Fmt.{decimal};
+ghost use Rattle.script_lang.specs.Pieces.{Holds, name};
+
+use itoa::Buffer;
+
+/// Puts a text behind the first `at` bytes. The answer is how many bytes stand then.
+pub fn put_text(into: &mut [u8], at: usize, text: &[u8]) -> usize
+    requires room { at + length text.now ≤ length into.old }
+    ensures end { result ≡ at + length text.now }
+    ensures written { (front first : List ℕ) → Holds front first into.old at → Holds (front ++ text.now) first into.new result }
+{
+    let end = at + text.len();
+    into[at..end].copy_from_slice(text);
+    end
+}
+
+/// Puts a number, in decimal digits.
+pub fn put_number(into: &mut [u8], at: usize, number: u64) -> usize
+    requires room { at + 20 ≤ length into.old }
+    ensures end { result ≤ at + 20 }
+    ensures written { (front first : List ℕ) → Holds front first into.old at → Holds (front ++ decimal number) first into.new result }
+{
+    let mut digits = Buffer::new();
+    put_text(into, at, digits.format(number).as_bytes())
+}
+
+/// Puts a text, and a number behind it.
+pub fn put_with_number(into: &mut [u8], at: usize, text: &[u8], number: u64) -> usize
+    requires room { at + length text.now + 20 ≤ length into.old }
+    ensures end { result ≤ at + length text.now + 20 }
+    ensures written { (front first : List ℕ) → Holds front first into.old at → Holds (front ++ (text.now ++ decimal number)) first into.new result }
+{
+    let at = put_text(into, at, text);
+    put_number(into, at, number)
+}
+
+/// Puts a text, and behind it the name of a session's transaction.
+pub fn put_with_name(into: &mut [u8], at: usize, text: &[u8], session: u32, number: u64) -> usize
+    requires room { at + length text.now + 41 ≤ length into.old }
+    ensures end { result ≤ at + length text.now + 41 }
+    ensures written { (front first : List ℕ) → Holds front first into.old at → Holds (front ++ (text.now ++ name session number)) first into.new result }
+{
+    let at = put_with_number(into, at, text, session as u64);
+    put_with_number(into, at, b".", number)
+}
