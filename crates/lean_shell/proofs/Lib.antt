@@ -1,0 +1,10 @@
+mod CommandLemmas
+mod ComposeLemmas
+mod CrashLemmas
+mod EndLemmas
+mod FormatLemmas
+mod FreshLemmas
+mod MasterLemmas
+mod NumberLemmas
+mod PieceLemmas
+mod PutLemmas
