@@ -1,0 +1,177 @@
+// How many lines, replies, records, node searches and blocks a second. With no argument a handful of each, and what they add up to; with
+// a number N, N million of each, with times.
+#![tactic(auto)]
+
+ghost use Rattle.std.specs.Prelude.{◌≤◌, IfOk};
+
+use btree_node::Node;
+use log_block::{BLOCK, block_bytes};
+use log_record::{Body, PageRef, Record, read_record, record_bytes};
+use map_model::{Answer, Call};
+use script_lang::{REPLY, read_line, reply_bytes};
+use std::time::Instant;
+use std::{env, io};
+
+const LINES: [&[u8]; 4] = [
+    b"1 begin",
+    b"1 put 500123 77000456",
+    b"1 get 18446744073709551614",
+    b"1 commit",
+];
+
+fn lines(times: u64) -> u64 {
+    let mut sum = 0u64;
+    for i in 0..times {
+        for line in LINES.iter() {
+            if let Ok(read) = read_line(16, line) {
+                let key = match read.call {
+                    Call::Get { key } => key,
+                    Call::Put { key, value } => key.wrapping_add(value),
+                    _ => i,
+                };
+                sum = sum.wrapping_add(key).wrapping_add(read.session as u64);
+            }
+        }
+    }
+    sum
+}
+
+fn replies(times: u64) -> u64 {
+    let mut into = [0u8; REPLY];
+    let mut sum = 0u64;
+    for i in 0..times {
+        let answers = [
+            Answer::Begun { number: i },
+            Answer::Was(Some(i)),
+            Answer::Value(None),
+            Answer::Committed { number: i, at: i },
+        ];
+        for answer in answers.iter() {
+            let n = reply_bytes(1, answer, &mut into);
+            sum = sum.wrapping_add(n as u64).wrapping_add(into[2] as u64);
+        }
+    }
+    sum
+}
+
+// Not inlined, so that each record is written and read whole.
+#[inline(never)]
+fn write_change(i: u64, into: &mut [u8; 64]) -> usize {
+    let change = Record {
+        txn: i,
+        gsn: i,
+        body: Body::Change {
+            leaf: PageRef { page: 0, prev: i },
+            key: i,
+            before: 1 << 63,
+            after: i,
+        },
+    };
+    record_bytes(&change, into)
+}
+
+#[inline(never)]
+fn read_back(bytes: &[u8; 64]) -> u64 {
+    match read_record(bytes) {
+        Some((entry, size)) => match entry.body {
+            Body::Change {
+                leaf,
+                key,
+                before,
+                after,
+            } => entry
+                .txn
+                .wrapping_add(entry.gsn)
+                .wrapping_add(leaf.page as u64)
+                .wrapping_add(leaf.prev)
+                .wrapping_add(key)
+                .wrapping_add(before)
+                .wrapping_add(after)
+                .wrapping_add(size as u64),
+            _ => 0,
+        },
+        None => 0,
+    }
+}
+
+fn records(times: u64) -> u64 {
+    let mut into = [0u8; 64];
+    let mut sum = 0u64;
+    for i in 0..times {
+        let n = write_change(i, &mut into);
+        sum = sum.wrapping_add(n as u64).wrapping_add(read_back(&into));
+    }
+    sum
+}
+
+// A leaf with as many entries as fit.
+fn full_leaf() -> Node {
+    let mut leaf = Node::empty_leaf(1, 0, u64::MAX);
+    for i in 0..60 {
+        let _ = leaf.put(1000 * i, i);
+    }
+    leaf
+}
+
+fn searches(times: u64) -> u64 {
+    let leaf = full_leaf();
+    let mut state = 1u64;
+    let mut sum = 0u64;
+    for _ in 0..times {
+        state = state
+            .wrapping_mul(6364136223846793005)
+            .wrapping_add(1442695040888963407);
+        let key = 1000 * ((state >> 32) % 60);
+        sum = sum.wrapping_add(leaf.find(key).unwrap_or(1000));
+    }
+    sum
+}
+
+fn blocks(times: u64) -> u64 {
+    let mut into = [0u8; BLOCK];
+    let payload = [0u8; 1960];
+    let mut sum = 0u64;
+    for i in 0..times {
+        block_bytes(i, 1, i, 1, &payload, &mut into);
+        sum = sum.wrapping_add(into[2040] as u64);
+    }
+    sum
+}
+
+fn times(rt: &HostRuntime) -> io::Result<u64>
+    ensures { IfOk result (λ millions. millions ≤ 1000000) }
+{
+    let mut millions = 0u64;
+    for word in env::args(rt)? {
+        millions = word.as_str().parse::<u64>().unwrap_or(0);
+    }
+    Ok(millions.min(1000000))
+}
+
+fn main(rt: HostRuntime) -> io::Result<()> {
+    let millions = times(&rt)?;
+    if millions == 0 {
+        let (a, b, c, d, e) = (lines(3), replies(3), records(3), searches(3), blocks(3));
+        return println!(rt; "{a} {b} {c} {d} {e}");
+    }
+    let start = Instant::now(&rt)?;
+    let sum = lines(millions * 250000);
+    let took = start.elapsed(&rt)?.as_millis();
+    println!(rt; "lines {sum} {took} ms")?;
+    let start = Instant::now(&rt)?;
+    let sum = replies(millions * 250000);
+    let took = start.elapsed(&rt)?.as_millis();
+    println!(rt; "replies {sum} {took} ms")?;
+    let start = Instant::now(&rt)?;
+    let sum = records(millions * 1000000);
+    let took = start.elapsed(&rt)?.as_millis();
+    println!(rt; "records {sum} {took} ms")?;
+    let start = Instant::now(&rt)?;
+    let sum = searches(millions * 1000000);
+    let took = start.elapsed(&rt)?.as_millis();
+    println!(rt; "searches {sum} {took} ms")?;
+    let start = Instant::now(&rt)?;
+    let sum = blocks(millions * 10000);
+    let took = start.elapsed(&rt)?.as_millis();
+    println!(rt; "blocks {sum} {took} ms")
+}
