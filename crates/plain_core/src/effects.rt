@@ -1,23 +1,24 @@
 // What each event makes of the state.
-ghost use Rattle.std.specs.Prelude.{◌≡◌, ◌==◌, ◌∷◌, [], ℕ, suc, max, not, map, IfOk, Some, if◌then◌else◌};
+ghost use Rattle.std.specs.Prelude.{◌≡◌, ◌==◌, ◌∷◌, [], ℕ, false, None, suc, max, not, map, IfOk, Some, if◌then◌else◌};
 ghost use Rattle.map_model.specs.Lists.{upd, keep};
 ghost use Rattle.page_model.specs.Pairs as paired;
 ghost use Rattle.page_model.specs.Tree.{word_or};
 ghost use Rattle.image_model.specs.Entries as logged;
 ghost use Rattle.rfa_model.specs.Stamps as stamps;
 ghost use Rattle.core_state.specs.Needs as needs;
+ghost use Rattle.core_state.specs.States as states;
 ghost use Rattle.core_state.specs.Steps as steps;
 ghost use Rattle.core_state.specs.Events as events;
 ghost use Rattle.plain_core.specs.Inside.{tail, newest_of, raised, written_in, write_entry_in, write_record_in, write_kind};
 ghost use Rattle.plain_core.specs.Tables.{at};
 ghost use Rattle.plain_core.specs.Records.{pair_of, node_of, page_of, ref_of, record_of, kind_of, entry_of, entries_of};
-ghost use Rattle.plain_core.specs.States.{Rest, Becomes, IsStep, format_of, opening, row_at, row_of, worker_of, state_of};
+ghost use Rattle.plain_core.specs.States.{place_of, Rest, Becomes, IsStep, format_of, opening, row_at, row_of, worker_of, state_of};
 ghost use Rattle.plain_core.specs.Events.{event_of, events_of, mode_of};
 
 use crate::event::{Event, Mode};
 use crate::records::{Entry, Kind, Node, Page, PageKind, PageRecord, Pair, Ref, copy_entries};
 use crate::refusal::Refusal;
-use crate::state::{Core, Row, Worker};
+use crate::state::{Core, Place, Row, Worker};
 use crate::table::{Placed, Table};
 use std::alloc::{AllocError, Global};
 
@@ -464,6 +465,68 @@ fn write_record(
     }
 }
 
+impl Table<bool> {
+    // The same, but false at a number.
+    fn without(&self, alloc: Global, place: u64) -> Result<Table<bool>, AllocError>
+        ensures { IfOk result (λ t. at t ≡ upd (at self.now) place false) }
+    {
+        let mut changes = Vec::new(alloc);
+        for change in &self.changes {
+            changes.push(Placed {
+                place: change.place,
+                value: change.value,
+            })?;
+        }
+        let mut copy = Table {
+            default: self.default,
+            changes,
+        };
+        copy.set(place, false)?;
+        Ok(copy)
+    }
+}
+
+impl Place {
+    // The worker left.
+    fn left_by(&self, alloc: Global, worker: u64) -> Result<Place, AllocError>
+        ensures { IfOk result (λ p. place_of p ≡ states.left_by worker (place_of self.now)) }
+    {
+        match self {
+            Place::Hot { frame } => Ok(Place::Hot { frame: *frame }),
+            Place::Cooling {
+                frame,
+                epoch,
+                waited,
+            } => {
+                let waited = waited.without(alloc, worker)?;
+                Ok(Place::Cooling {
+                    frame: *frame,
+                    epoch: *epoch,
+                    waited,
+                })
+            }
+            Place::Cold => Ok(Place::Cold),
+        }
+    }
+}
+
+impl Table<Place> {
+    // The worker left.
+    fn left_by(&self, alloc: Global, worker: u64) -> Result<Table<Place>, AllocError>
+        ensures { IfOk result (λ t. (i : ℕ) → place_of (at t i) ≡ states.left_by worker (place_of (at self.now i))) }
+    {
+        let mut changes = Vec::new(alloc);
+        for change in &self.changes {
+            changes.push(Placed {
+                place: change.place,
+                value: change.value.left_by(alloc, worker)?,
+            })?;
+        }
+        let default = self.default.left_by(alloc, worker)?;
+        Ok(Table { default, changes })
+    }
+}
+
 impl Table<Worker> {
     // Each clock is at the number or above.
     fn raise(&mut self, alloc: Global, number: u64) -> Result<(), AllocError>
@@ -667,6 +730,8 @@ impl Core {
                 self.post(number);
                 Ok(())
             }
+            Event::Save { page } => self.save(alloc, page),
+            Event::Leave { worker } => self.leave(alloc, worker),
             Event::Tick => self.tick(),
             Event::Ask { .. } => Ok(()),
             Event::Refused { .. } => Ok(()),
@@ -716,6 +781,22 @@ impl Core {
         ensures { IfOk result (λ _. Becomes self.old self.new (record (state_of self.old) { inside = upd (state_of self.old).inside worker (Some epoch) })) }
     {
         self.set_inside(worker, Some(epoch))?;
+        Ok(())
+    }
+
+    fn save(&mut self, alloc: Global, page: u64) -> Result<(), Refusal>
+        ensures { IfOk result (λ _. Becomes self.old self.new (record (state_of self.old) { saved = upd (state_of self.old).saved page ((state_of self.old).page page) })) }
+    {
+        let saved = self.pages.get(page).copy(alloc)?;
+        self.set_saved(page, saved)?;
+        Ok(())
+    }
+
+    fn leave(&mut self, alloc: Global, worker: u64) -> Result<(), Refusal>
+        ensures { IfOk result (λ _. Becomes self.old self.new (record (state_of self.old) { inside = upd (state_of self.old).inside worker None; place = λ p. states.left_by worker ((state_of self.old).place p) })) }
+    {
+        self.places = self.places.left_by(alloc, worker)?;
+        self.set_inside(worker, None)?;
         Ok(())
     }
 

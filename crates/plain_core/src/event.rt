@@ -65,6 +65,12 @@ pub enum Event {
         worker: u64,
         number: u64,
     },
+    Save {
+        page: u64,
+    },
+    Leave {
+        worker: u64,
+    },
     Tick,
     Ask {
         worker: u64,

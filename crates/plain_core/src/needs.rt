@@ -171,6 +171,17 @@ impl Place {
     }
 }
 
+impl Place {
+    fn is_cold(&self) -> bool
+        ensures { result ≡ states.is_cold (place_of self.now) }
+    {
+        match self {
+            Place::Cold => true,
+            _ => false,
+        }
+    }
+}
+
 impl Settings {
     fn is_worker(&self, worker: u64) -> bool
         ensures { result ≡ is_worker_of self.now worker }
@@ -379,6 +390,12 @@ impl Core {
         greatest
     }
 
+    fn may_save(&self, page: u64) -> bool
+        ensures { (x : Rest self.now.settings) → result ≡ needs.may (opening self.now.settings x) (state_of self.now) (events.Event.Save page) }
+    {
+        !self.places.get(page).is_cold() && self.pages.get(page).number <= self.flushed_by_all()
+    }
+
     fn may_post(&self, worker: u64, number: u64) -> bool
         ensures { (x : Rest self.now.settings) → result ≡ needs.may (opening self.now.settings x) (state_of self.now) (events.Event.Post worker number) }
     {
@@ -439,6 +456,8 @@ impl Core {
             Event::Flush { worker, number } => self.may_flush(worker, number),
             Event::Sync { number } => self.may_sync(number),
             Event::Post { worker, number } => self.may_post(worker, number),
+            Event::Save { page } => self.may_save(page),
+            Event::Leave { worker } => self.is_inside(worker),
             Event::Tick => true,
             Event::Ask { .. } => true,
             Event::Refused {

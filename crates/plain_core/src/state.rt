@@ -138,6 +138,13 @@ impl Core {
         Ok(())
     }
 
+    pub fn set_saved(&mut self, place: u64, page: Page) -> Result<(), AllocError>
+        ensures { IfOk result (λ _. Becomes self.old self.new (record (state_of self.old) { saved = upd (state_of self.old).saved place (page_of page) })) }
+    {
+        self.saved.set(place, page)?;
+        Ok(())
+    }
+
     pub fn enter(&mut self, entry: Entry) -> Result<(), AllocError>
         ensures { IfOk result (λ _. Becomes self.old self.new (record (state_of self.old) { entries = entry_of entry ∷ (state_of self.old).entries })) }
     {

@@ -142,6 +142,7 @@ fn an_event_whose_need_is_not_met_changes_nothing(rt: HostRuntime) {
     assert!(rt; opened.is_ok());
     let Ok(mut core) = opened else { return };
     let events = [
+        (Event::Save { page: 0 }, true),
         (begin(3, 0), false),
         (begin(0, 0), false),
         (begin(1, 1), false),
@@ -203,6 +204,11 @@ fn an_event_whose_need_is_not_met_changes_nothing(rt: HostRuntime) {
             },
             false,
         ),
+        (Event::Leave { worker: 2 }, false),
+        (Event::Leave { worker: 1 }, true),
+        (Event::Leave { worker: 1 }, false),
+        (Event::Save { page: 0 }, false),
+        (Event::Save { page: 1 }, false),
         (
             Event::Refused {
                 worker: 1,

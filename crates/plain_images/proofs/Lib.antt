@@ -4,3 +4,4 @@ pub mod RedoLemmas
 pub mod UndoLemmas
 pub mod ReadLemmas
 pub mod WordsLemmas
+pub mod DamageLemmas

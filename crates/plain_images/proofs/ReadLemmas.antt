@@ -1,5 +1,5 @@
 -- What was read of an image on the way, put together.
-use Rattle.std.proofs.Common.{◌≡◌, ℕ, List, length, Option, Some, refl, sym, ◌∙◌, ap, subst}
+use Rattle.std.proofs.Common.{◌≡◌, ℕ, Bool, List, length, Option, Some, refl, sym, ◌∙◌, ap, subst}
 use Rattle.map_model.specs.Lists.{in_order}
 use Rattle.page_model.specs.Nodes.{Format}
 use Rattle.image_model.specs.Entries.{Entry, earlier}
@@ -23,7 +23,12 @@ use Rattle.plain_images.specs.Records.{entries_of}
 use Rattle.plain_images.specs.Images.{log_of, base_of, bases_of, image_of, counted, redone_of}
 use Rattle.plain_images.specs.Undo.{is_lost_by, word_undone}
 use Rattle.plain_images.specs.Words as listed
-use Rattle.plain_images.proofs.UndoLemmas.{recovered_is, page_is, page_made}
+use Rattle.plain_images.proofs.UndoLemmas.{lost_same, recovered_is, page_is, page_made}
+use Rattle.plain_images.specs.Damages.{missing_base, unordered_in, undoable_in, broken, without_in}
+use Rattle.page_model.specs.Redo.{is_some}
+use Rattle.page_model.specs.Tree as tree
+use Rattle.image_model.specs.Redo as redoing
+use Rattle.plain_images.proofs.DamageLemmas.{first_without_is}
 use Rattle.plain_images.proofs.WordsLemmas.{find_all, rising_all}
 
 -- the image with these logs and bases
@@ -90,3 +95,36 @@ module _ (image : Image) (logs : List Log) (bases : List (Option Page)) (sorted 
       whole =
           e ∙ ap (λ (t : List Pair). listed.values_in f (pairs_of t)) es ∙ ap (listed.values_in f) eu
           ∙ ap (λ (t : List pairs.Pair). listed.values_in f (listed.undo_words (is_lost_by far (entries_of records) (counted ms)) (entries_of records) t)) ew
+
+  abbrev lacking : ℕ → List Entry → redoing.Redone → Option images.Damage
+  lacking n z t = without_in (is_lost_by n z t.counts) (λ k. is_some (tree.entry (length bases) (nodes_of t) k)) z
+
+  lacking_read : lacking far (entries_of records) (redone_of bases d) ≡ images.first_without i (images.sorted i)
+  lacking_read =
+      ap (λ n. lacking n (entries_of records) (redone_of bases d)) x.same_far
+      ∙ ap (λ (t : redoing.Redone). lacking (ends.reach (length logs) image.floor (entries_of records)) (entries_of records) t) x.same_redone
+      ∙ ap (λ (z : List Entry). lacking (ends.reach (length logs) image.floor z) z (redo (bases_of bases) z)) z_same
+      ∙ ap (λ (l : Entry → Bool). without_in l (images.has_entry i) (images.sorted i)) (lost_same (length logs) image.floor (images.found i) (images.redone i))
+      ∙ sym (first_without_is i (images.sorted i))
+
+  pub damage_read : (missing unordered undoable torn lack late later latest out : Option images.Damage) →
+      missing ≡ missing_base (length bases) (base_of bases) → unordered ≡ images.first_in_logs (λ w. unordered_in (log_of logs w)) (length logs) →
+      undoable ≡ undoable_in (format_of (length bases)) (bases_of bases) (entries_of records) → torn ≡ broken (format_of (length bases)) (nodes_of (redone_of bases d)) →
+      lack ≡ lacking far (entries_of records) (redone_of bases d) →
+      late ≡ images.or_first torn lack → later ≡ images.or_first undoable late → latest ≡ images.or_first unordered later → out ≡ images.or_first missing latest → out ≡ images.damage (image_of image)
+  damage_read missing unordered undoable torn lack late later latest out em eo eu et el e1 e2 e3 e4 =
+      e4 ∙ ap (λ o. images.or_first o latest) em
+      ∙ ap (images.or_first m) (e3 ∙ ap (λ o. images.or_first o later) eo
+      ∙ ap (images.or_first u) (e2 ∙ ap (λ o. images.or_first o late) (eu ∙ ap (undoable_in (format_of (length bases)) (bases_of bases)) z_same)
+      ∙ ap (images.or_first v) (e1 ∙ ap (λ o. images.or_first o lack) (et ∙ ap (λ (t : redoing.Redone). broken (format_of (length bases)) (nodes_of t)) (x.same_redone ∙ ap (redo (bases_of bases)) z_same))
+      ∙ ap (images.or_first (broken (format_of (length bases)) (nodes_of (images.redone i)))) (el ∙ lacking_read))))
+      ∙ ap images.damage same
+    where
+      m : Option images.Damage
+      m = missing_base (length bases) (base_of bases)
+
+      u : Option images.Damage
+      u = images.first_in_logs (λ w. unordered_in (log_of logs w)) (length logs)
+
+      v : Option images.Damage
+      v = undoable_in (format_of (length bases)) (bases_of bases) (images.sorted i)

@@ -50,7 +50,7 @@ pub(crate) fn lookup(
     }
 }
 
-fn entry(
+pub(crate) fn entry(
     alloc: Global,
     bases: &[Option<Page>],
     redone: &Redone,

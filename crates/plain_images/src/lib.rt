@@ -2,6 +2,8 @@
 #![tactic(auto)]
 
 mod changes;
+mod checks;
+mod damages;
 mod ends;
 mod leaves;
 mod order;
@@ -12,6 +14,7 @@ mod redone;
 mod words;
 
 pub use changes::applied;
+pub use damages::{Damage, first_damage};
 pub use order::sorted;
 pub use records::{Image, Kind, Log, Page, Record, Ref};
 pub use recovered::{recovered_page, value};

@@ -15,7 +15,7 @@ use crate::redone::{Mark, page_at, redo};
 use plain_recovery::Node;
 use std::alloc::{AllocError, Global};
 
-/// The page after redo and undo, with the number and the log that redo left. It is free where the image has no such page.
+/// The page after redo and undo, with the number and the log that redo left. In a sound image it is free where there is no such page.
 ///
 /// # Errors
 /// Where memory runs out.
@@ -100,6 +100,7 @@ fn undo_node(
 #[cfg(test)]
 mod tests {
     use super::*;
+    use crate::damages::{Damage, first_damage};
     use crate::records::{Kind, Log, Ref};
     use crate::words::map;
     use plain_recovery::Pair;
@@ -306,5 +307,37 @@ mod tests {
         assert!(rt; page.is_ok());
         let Ok(page) = page else { return };
         assert_eq!(rt; page.number, 0);
+    }
+
+    fn damage_in(rt: HostRuntime, image: &Image) -> Option<Damage> {
+        match first_damage(rt.alloc(), image) {
+            Ok(damage) => damage,
+            Err(_) => Some(Damage::Broken { page: 1000 }),
+        }
+    }
+
+    #[test]
+    fn the_first_rule_that_is_broken_is_named(rt: HostRuntime) {
+        let image = one_commits(rt, true);
+        assert!(rt; image.is_ok());
+        let Ok(mut image) = image else { return };
+        assert_eq!(rt; damage_in(rt, &image), None);
+        // the one page is no root
+        if let Some(Some(page)) = image.bases.first_mut() {
+            page.node.low = 1;
+        }
+        assert_eq!(rt; damage_in(rt, &image), Some(Damage::Broken { page: 0 }));
+        // a record names the page behind the last one
+        if let Some(log) = image.logs.first_mut() {
+            if let Some(entry) = log.records.first_mut() {
+                if let Some(one) = entry.refs.first_mut() {
+                    one.page = 1;
+                }
+            }
+        }
+        assert_eq!(rt;
+            damage_in(rt, &image),
+            Some(Damage::Undoable { log: 1, number: 1 })
+        );
     }
 }

@@ -79,7 +79,7 @@ fn redo_one(
 }
 
 // Each page stands at its prev, or at the record's number or beyond.
-fn stands(bases: &[Option<Page>], placed: &[Placed], entry: &Record) -> bool
+pub(crate) fn stands(bases: &[Option<Page>], placed: &[Placed], entry: &Record) -> bool
     ensures { result ≡ redoing.stands (pages_of bases.now placed.now) (entry_of entry.now) }
 {
     for one in &entry.refs {

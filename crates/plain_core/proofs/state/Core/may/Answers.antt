@@ -33,3 +33,9 @@ returns-in-Post c = λ x. c.may_post.ensures x ∙ ap (λ e. needs.may (opening 
 
 pub returns-in-Refused : goal.returns-in-Refused
 returns-in-Refused c = λ x. c.may_refuse.ensures x ∙ ap (λ e. needs.may (opening c.args.self.now.settings x) (state_of c.args.self.now) (event_of e)) (sym c.in-Refused.is)
+
+pub returns-in-Save : goal.returns-in-Save
+returns-in-Save c = λ x. c.may_save.ensures x ∙ ap (λ e. needs.may (opening c.args.self.now.settings x) (state_of c.args.self.now) (event_of e)) (sym c.in-Save.is)
+
+pub returns-in-Leave : goal.returns-in-Leave
+returns-in-Leave c = λ x. c.is_inside.ensures ∙ ap (λ e. needs.may (opening c.args.self.now.settings x) (state_of c.args.self.now) (event_of e)) (sym c.in-Leave.is)
