@@ -1,0 +1,44 @@
+//! What the bytes of a disk show, and what they stand for: definitions and their laws.
+#![tactic(auto)]
+
+ghost use Rattle.disk_image.specs.Laws.{EveryAgreement, EveryBelongs, EveryBlockIn, EveryBreak, EveryMasterIn, EveryPageIn, EveryRecordIn, EverySealed};
+
+/// A slot holds the page that the grammar says, or none.
+pub fn every_page_in()
+    ensures { EveryPageIn }
+{}
+
+/// So it does with masters.
+pub fn every_master_in()
+    ensures { EveryMasterIn }
+{}
+
+/// A record of a kind that has come stands first in the bytes, or none does.
+pub fn every_record_in()
+    ensures { EveryRecordIn }
+{}
+
+/// The test of a seal.
+pub fn every_sealed()
+    ensures { EverySealed }
+{}
+
+/// The test whether a block is the one that is looked for.
+pub fn every_belongs()
+    ensures { EveryBelongs }
+{}
+
+/// A block holds the records that the grammar says, or none.
+pub fn every_block_in()
+    ensures { EveryBlockIn }
+{}
+
+/// A disk with a place that breaks a rule is not sound.
+pub fn every_break()
+    ensures { EveryBreak }
+{}
+
+/// Images that agree as far as logs and pages go stand for the same.
+pub fn every_agreement()
+    ensures { EveryAgreement }
+{}
