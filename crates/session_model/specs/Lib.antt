@@ -1,0 +1,4 @@
+-- Read Sessions, then Calls, then Laws.
+pub mod Sessions
+pub mod Calls
+pub mod Laws
