@@ -1,0 +1,10 @@
+//! One log as a ring of sealed blocks: records are staged into the block in hand, which is written when it is full or
+//! flushed. No block is written twice.
+#![tactic(auto)]
+
+mod log;
+
+pub use log::{DiskFault, Staging, WorkerLog};
+
+#[cfg(test)]
+mod tests;
