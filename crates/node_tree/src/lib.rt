@@ -1,0 +1,8 @@
+//! The pages of a disk in memory, as a tree: whether they are one, and the way to a key's leaf.
+#![tactic(auto)]
+
+mod check;
+mod descent;
+
+pub use check::first_break;
+pub use descent::leaf_of;
