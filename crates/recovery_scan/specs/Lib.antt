@@ -1,0 +1,3 @@
+-- Read Records, then Scans.
+pub mod Records
+pub mod Scans
