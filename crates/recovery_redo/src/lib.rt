@@ -1,6 +1,6 @@
 //! Redo and undo: what the records of a log make of the pages in memory.
 #![tactic(auto)]
 
-mod rebuild;
+mod recovered;
 
-pub use rebuild::{Broken, Rebuilt, rebuild};
+pub use recovered::{Broken, Rebuilt, rebuild};
