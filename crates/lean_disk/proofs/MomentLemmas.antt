@@ -3,9 +3,10 @@ use Rattle.std.proofs.Common.{◌≡◌, ◌⊎◌, inl, inr, ⊎_elim, ℕ, ◌
 use Rattle.std.proofs.lemmas.Bool.{cases_lt}
 use Rattle.lean_disk.specs.Area.{Area, Write, Leaves}
 use Rattle.lean_disk.specs.Story.{Story, Crash, LeavesNow, IsLawful, Elapses}
-use Rattle.lean_disk.specs.Calls.{Wrote, Synced, Split, Rejoined}
-use Rattle.lean_disk.specs.Moments.{LeavesOnly, Framed, CrashIn}
+use Rattle.lean_disk.specs.Calls.{Looked, Wrote, Synced, Split, Rejoined}
+use Rattle.lean_disk.specs.Moments.{LeavesOnly, Framed, CrashIn, AsAt, OnlyReads}
 use Rattle.lean_disk.specs.declared.disk.Did.{Did}
+use Rattle.lean_disk.specs.declared.disk.Read.{Read}
 
 pub elapsed : (old new : Story) → Elapses old new → (m : ℕ) (c : Crash) → new.left_at m c → old.left_at m c ⊎ LeavesNow new c
 elapsed old new time m c left = ⊎_elim (λ lt. inr (time.now m c lt left)) (λ le. inl (time.past m c le left)) (cases_lt old.moment m)
@@ -90,3 +91,52 @@ round a old apart later new part ended split disk area rejoined m c left = ⊎_e
 -- while something is split off, a disk's call adds no moment
 pub no_moment : (old new : Story) → Elapses old new → old.counts ≡ false → (m : ℕ) (c : Crash) → new.left_at m c → old.left_at m c
 no_moment old new time out m c left = ⊎_elim (λ was. was) (λ (now : LeavesNow new c). absurd (let counts : new.counts ≡ false = time.counts ∙ out in let yes : IsTrue new.counts = now.counts in cc)) (elapsed old new time m c left)
+
+-- ## Runs that only read
+
+-- before the first call
+pub reads_none : (s : Story) → IsLawful s → OnlyReads s s
+reads_none s law = record {
+  any_moment = started s (AsAt s) law (λ c now. record { notes = now.notes; writes = now.writes; leaves = now.leaves });
+  area = λ a. refl;
+  notes = refl;
+  tells = λ a. refl;
+  areas = refl;
+  counts = refl;
+  later = omega arith;
+  past = λ m c le left. left;
+}
+
+-- one call more
+pub reads_more : (a at : ℕ) (before after : List ℕ) (result : Read) (s0 s1 s2 : Story) → OnlyReads s0 s1 → Looked a at before after result s1 s2 → OnlyReads s0 s2
+reads_more a at before after result s0 s1 s2 r l = record {
+  any_moment = goes_on s0 s1 s2 (AsAt s0) r.any_moment l.time (λ c now. record {
+    notes = now.notes ∙ (l.notes ∙ r.notes);
+    writes = λ b told. now.writes b (l.time.tells b ∙ (r.tells b ∙ told)) ∙ ap (λ (x : Area). x.writes) (l.area b ∙ r.area b);
+    leaves = λ b told. subst (λ (x : Area). Leaves x (c.image b)) (l.area b ∙ r.area b) (now.leaves b (l.time.tells b ∙ (r.tells b ∙ told)));
+  });
+  area = λ b. l.area b ∙ r.area b;
+  notes = l.notes ∙ r.notes;
+  tells = λ b. l.time.tells b ∙ r.tells b;
+  areas = l.time.areas ∙ r.areas;
+  counts = l.time.counts ∙ r.counts;
+  later = omega (arith, r.later, l.time.later);
+  past = λ m c le left. r.past m c le (l.time.past m c (omega (arith, le, r.later)) left);
+}
+
+-- a call that only read, and one run more
+pub reads_then : (s0 s1 s2 : Story) → OnlyReads s0 s1 → OnlyReads s1 s2 → OnlyReads s0 s2
+reads_then s0 s1 s2 r l = record {
+  any_moment = then s0 s1 s2 (AsAt s0) r.any_moment (weaker s1 s2 (AsAt s1) (AsAt s0) (λ c now. record {
+    notes = now.notes ∙ r.notes;
+    writes = λ b told. now.writes b (r.tells b ∙ told) ∙ ap (λ (x : Area). x.writes) (r.area b);
+    leaves = λ b told. subst (λ (x : Area). Leaves x (c.image b)) (r.area b) (now.leaves b (r.tells b ∙ told));
+  }) l.any_moment);
+  area = λ b. l.area b ∙ r.area b;
+  notes = l.notes ∙ r.notes;
+  tells = λ b. l.tells b ∙ r.tells b;
+  areas = l.areas ∙ r.areas;
+  counts = l.counts ∙ r.counts;
+  later = omega (arith, r.later, l.later);
+  past = λ m c le left. r.past m c le (l.past m c (omega (arith, le, r.later)) left);
+}

@@ -26,3 +26,20 @@ pub record CrashIn (s : Story) (a : ℕ) (Q : List Write → List ℕ → Type 0
   pub writes : (b : ℕ) → (b ≡ a → ⊥) → Tells s b → c.writes b ≡ (s.area b).writes
   pub leaves : (b : ℕ) → (b ≡ a → ⊥) → Tells s b → Leaves (s.area b) (c.image b)
   pub here : Q (c.writes a) (c.image a)
+
+-- A crash that might have been at s already.
+pub record AsAt (s : Story) (c : Crash) : Type 0 where
+  pub notes : c.notes ≡ s.notes
+  pub writes : (a : ℕ) → Tells s a → c.writes a ≡ (s.area a).writes
+  pub leaves : (a : ℕ) → Tells s a → Leaves (s.area a) (c.image a)
+
+-- A run of calls that only read: all stands as it stood, and no crash may leave anything else.
+pub record OnlyReads (old new : Story) : Type 0 where
+  pub any_moment : LeavesOnly old new (AsAt old)
+  pub area : (a : ℕ) → new.area a ≡ old.area a
+  pub notes : new.notes ≡ old.notes
+  pub tells : (a : ℕ) → new.tells a ≡ old.tells a
+  pub areas : new.areas ≡ old.areas
+  pub counts : new.counts ≡ old.counts
+  pub later : old.moment ≤ new.moment
+  pub past : (m : ℕ) (c : Crash) → m ≤ old.moment → new.left_at m c → old.left_at m c
