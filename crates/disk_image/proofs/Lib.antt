@@ -4,3 +4,6 @@ pub mod PageSlotLemmas
 pub mod MasterSlotLemmas
 pub mod RecordInLemmas
 pub mod BlockInLemmas
+pub mod RunLemmas
+pub mod BreakLemmas
+pub mod AgreementLemmas
