@@ -13,8 +13,8 @@ use Rattle.page_model.proofs.Tree.{ok}
 use Rattle.image_model.specs.Entries.{Entry, Page, is_write, is_page, page_kind, written, earlier}
 use Rattle.image_model.specs.Ends.{reach, ended, winners, losers}
 use Rattle.image_model.specs.Redo.{Redone, mark, stands, at_prev, redo, names_pages, is_sayable_as, can_change, passes, all_pass}
-use Rattle.image_model.specs.Undo.{is_lost, undo, undo_node, nodes_of, values}
-use Rattle.image_model.specs.Images.{Image, gathered, found, sorted, has_base, page_or, bases, redone, lost, recovered, map_of, won_by, lost_by, recovered_page, IsFalling, has_entry, IsSound}
+use Rattle.image_model.specs.Undo.{undo, undo_node, nodes_of, values}
+use Rattle.image_model.specs.Images.{Image, gathered, found, sorted, has_base, page_or, bases, redone, lost, recovered, IsFalling, IsSound}
 use Rattle.disk_image.specs.Laws.{Agree, Agreement, EveryAgreement}
 use Rattle.disk_image.proofs.TestLemmas.{all_to, all_same}
 

@@ -1,12 +1,12 @@
 -- Seals, and the records of a block.
-use Rattle.std.proofs.Common.{◌≡◌, ◌<◌, ◌≤◌, ◌-◌, ◌^◌, ℕ, zero, suc, Bool, true, cond, ◌&&◌, leb, ◌==◌, List, [], ◌∷◌, ◌++◌, length, take, drop, replicate, Option, Some, None, bytes_eq, refl, sym, ap, subst, ◌∙◌, arith}
+use Rattle.std.proofs.Common.{◌≡◌, ◌≤◌, ◌-◌, ℕ, zero, suc, Bool, true, cond, ◌&&◌, leb, ◌==◌, List, [], ◌∷◌, ◌++◌, length, take, drop, replicate, Option, Some, None, bytes_eq, refl, sym, ap, subst, ◌∙◌, arith}
 use mathlib.Core.List.{append_assoc}
 use Rattle.std.proofs.lemmas.Bool.{and_parts, and_from, leb-true, le-leb, eqb-true, eq-eqb, cond-true}
 use Rattle.std.proofs.lemmas.List.{take_at, drop_at}
 use Rattle.std.proofs.lemmas.Slice.Eq.{bytes_eq-Decides}
 use Rattle.page_model.specs.Check.{is_nil}
-use Rattle.lean_bytes.specs.Numbers.{number_bytes, number_of}
-use Rattle.log_record.specs.Spelling.{record_text, Begins}
+use Rattle.lean_bytes.specs.Numbers.{number_bytes}
+use Rattle.log_record.specs.Spelling.{record_text}
 use Rattle.log_record.specs.declared.record.Record.{Record}
 use Rattle.log_block.specs.Block.{header_text, body_text, seal_text, block_text, generation_of, log_of, block_of, IsSealed, Belongs, records_text, AllFit, Lists, IsBlock}
 use Rattle.log_block.proofs.BlockLemmas.{header_spread, records_long}

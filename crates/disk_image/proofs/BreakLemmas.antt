@@ -1,5 +1,5 @@
 -- A place that breaks a rule stands on no sound disk.
-use Rattle.std.proofs.Common.{◌≡◌, ◌<◌, ◌≤◌, ℕ, suc, Bool, true, false, ◌&&◌, List, [], ◌∷◌, ◌++◌, Option, Some, None, refl, sym, ap, subst, ◌∙◌, inl, inr, arith, true≢false}
+use Rattle.std.proofs.Common.{◌≡◌, ◌<◌, ℕ, suc, true, List, [], ◌∷◌, ◌++◌, Some, sym, ap, subst, ◌∙◌, inl, inr, arith, true≢false}
 use Rattle.std.proofs.lemmas.Bool.{and_parts}
 use Rattle.map_model.specs.Lists.{Has}
 use Rattle.page_model.specs.Nodes.{Format}
@@ -13,7 +13,7 @@ use Rattle.disk_slots.specs.declared.master.Master.{Master}
 use Rattle.log_record.specs.declared.record.Record.{Record}
 use Rattle.disk_image.specs.Blocks.{block_in}
 use Rattle.disk_image.specs.Runs.{Block, Logged, entries_in, AreReadable}
-use Rattle.disk_image.specs.Shown.{Areas, run_of, logged_in, image_by, IsSoundDisk}
+use Rattle.disk_image.specs.Shown.{Areas, run_of, image_by, IsSoundDisk}
 use Rattle.disk_image.specs.Breaks.{HasNoBase, IsNoBlock, IsUnordered, IsUndoable, BreaksTree, HasNoEntry, BreaksLog, Breaks}
 use Rattle.disk_image.specs.Laws.{EveryBreak}
 use Rattle.disk_image.proofs.TestLemmas.{none_some}

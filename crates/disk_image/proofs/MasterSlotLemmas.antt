@@ -1,5 +1,5 @@
 -- The master of a slot.
-use Rattle.std.proofs.Common.{◌≡◌, ◌<◌, ◌≤◌, ◌-◌, ◌%◌, ◌^◌, ℕ, Bool, true, cond, ◌&&◌, leb, ltb, ◌==◌, List, [], ◌∷◌, ◌++◌, length, take, drop, replicate, get_or, Option, Some, None, codes, bytes_eq, refl, sym, ap, subst, ◌∙◌, arith}
+use Rattle.std.proofs.Common.{◌≡◌, ◌≤◌, ◌-◌, ◌%◌, ◌^◌, ℕ, Bool, true, ◌&&◌, leb, ltb, ◌==◌, List, length, replicate, get_or, Some, None, codes, bytes_eq, refl, ap, subst, ◌∙◌}
 use Rattle.std.proofs.lemmas.Bool.{and_parts, and_from, leb-true, le-leb, ltb-true, lt-ltb, eqb-true, eq-eqb, cond-true}
 use Rattle.std.proofs.lemmas.List.{take_at}
 use Rattle.std.proofs.lemmas.Slice.Eq.{bytes_eq-Decides}
@@ -8,7 +8,7 @@ use Rattle.disk_slots.specs.Masters.{master_words, master_slot, IsMaster, IsMast
 use Rattle.disk_slots.specs.declared.master.Master.{Master}
 use Rattle.disk_slots.proofs.MasterLemmas.{master-has}
 use Rattle.disk_image.specs.Words.{words_in}
-use Rattle.disk_image.specs.MasterSlots.{master_of, is_among, is_master, master_if, master_in}
+use Rattle.disk_image.specs.MasterSlots.{master_of, is_among, is_master, master_if}
 use Rattle.disk_image.specs.Laws.{EveryMasterIn}
 use Rattle.disk_image.proofs.TestLemmas.{if_some, all_at, all_from_at}
 use Rattle.disk_image.proofs.WordLemmas.{words_in-slot}
@@ -84,5 +84,5 @@ module _ (n : ℕ) (bytes : List ℕ) where
 pub every_master_in : EveryMasterIn
 every_master_in n bytes m = (
   slot_to n bytes (master_of (words_in 126 bytes)) m,
-  λ s. ap (master_if n bytes) (master_read n bytes m s) ∙ slot_from n bytes m s
+  λ s. ap (master_if n bytes) (master_read n bytes m s) ∙ slot_from n bytes m s,
 )

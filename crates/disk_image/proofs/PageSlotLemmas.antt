@@ -1,9 +1,9 @@
 -- The page of a slot.
-use Rattle.std.proofs.Common.{◌≡◌, ◌↔◌, ◌<◌, ◌≤◌, ◌⊎◌, ◌^◌, ℕ, zero, suc, Bool, true, false, cond, ◌&&◌, ◌||◌, not, leb, ltb, ◌==◌, List, [], ◌∷◌, length, Option, Some, None, codes, bytes_eq, refl, sym, ap, subst, ◌∙◌, inl, inr, arith, true≢false}
+use Rattle.std.proofs.Common.{◌≡◌, ◌<◌, ◌⊎◌, ◌^◌, ℕ, Bool, true, false, ◌&&◌, ◌||◌, not, leb, ltb, ◌==◌, List, [], ◌∷◌, length, Some, None, codes, bytes_eq, refl, sym, ap, subst, ◌∙◌, inl, inr, arith, true≢false}
 use Rattle.std.proofs.lemmas.Bool.{cases_Bool, cases_eq, and_parts, and_from, or_cases, or_left, or_right, leb-true, le-leb, ltb-true, lt-ltb, eqb-true, eq-eqb, ne_eqb, cond-true, cond-false, not-true}
 use Rattle.std.proofs.lemmas.Slice.Eq.{bytes_eq-Decides}
 use Rattle.map_model.specs.Lists.{all}
-use Rattle.page_model.specs.Pairs.{Pair, Has, first_key}
+use Rattle.page_model.specs.Pairs.{Pair, first_key}
 use Rattle.page_model.specs.Nodes.{Node, free}
 use Rattle.page_model.specs.Check.{is_nil, is_rising, is_free}
 use Rattle.page_model.specs.Page.{Page}
@@ -12,7 +12,7 @@ use Rattle.btree_node.proofs.SpellingLemmas.{page_of-words_of}
 use Rattle.disk_slots.specs.Pages.{page_slot, IsStorable, IsPage, IsPageSlot}
 use Rattle.disk_slots.proofs.PageLemmas.{page-words}
 use Rattle.disk_image.specs.Words.{words_in, are_words}
-use Rattle.disk_image.specs.PageSlots.{fits, is_word, is_storable, is_page, page_if, page_in}
+use Rattle.disk_image.specs.PageSlots.{fits, is_word, is_storable, is_page, page_if}
 use Rattle.disk_image.specs.Laws.{EveryPageIn}
 use Rattle.disk_image.proofs.TestLemmas.{if_some, all_to, all_of, nil_to, rising_to, rising_from}
 use Rattle.disk_image.proofs.WordLemmas.{are_words_to, are_words_from, words_in-slot}
@@ -174,5 +174,5 @@ module _ (n pages : ℕ) (bytes : List ℕ) where
 pub every_page_in : EveryPageIn
 every_page_in n pages bytes p = (
   slot_to n pages bytes (page_of (words_in 126 bytes)) p,
-  λ s. ap (page_if n pages bytes) (page_read n pages bytes p s) ∙ slot_from n pages bytes p s
+  λ s. ap (page_if n pages bytes) (page_read n pages bytes p s) ∙ slot_from n pages bytes p s,
 )

@@ -1,5 +1,5 @@
 -- The record that stands first.
-use Rattle.std.proofs.Common.{◌≡◌, ◌<◌, ◌^◌, ◌⊎◌, ℕ, Bool, true, false, cond, ◌&&◌, ltb, List, [], ◌∷◌, ◌++◌, length, take, drop, Option, Some, None, bytes_eq, refl, sym, ap, subst, ◌∙◌, inl, inr, arith, true≢false}
+use Rattle.std.proofs.Common.{◌≡◌, ◌<◌, ◌^◌, ℕ, Bool, true, false, cond, ◌&&◌, ltb, List, ◌∷◌, ◌++◌, length, take, drop, Some, None, bytes_eq, refl, sym, ap, subst, ◌∙◌, arith, true≢false}
 use mathlib.Core.List.{append_assoc}
 use Rattle.std.proofs.lemmas.Bool.{and_parts, and_from, ltb-true, lt-ltb, cond-true, cond-false, false_from_ne_true}
 use Rattle.std.proofs.lemmas.List.{take_at, take-append-drop}
@@ -12,7 +12,7 @@ use Rattle.log_record.specs.declared.record.Body.TheVariants.{Change, Commit}
 use Rattle.log_record.proofs.RecordLemmas.{first_kind}
 use Rattle.disk_image.specs.Blocks.{change_at, commit_at, body_fits, fits, begins, record_in}
 use Rattle.disk_image.specs.Laws.{EveryRecordIn}
-use Rattle.disk_image.proofs.TestLemmas.{if_option, some_is, none_some}
+use Rattle.disk_image.proofs.TestLemmas.{some_is, none_some}
 use Rattle.disk_image.proofs.WordLemmas.{drop_next, number_there}
 
 -- ## Numbers fit their bytes

@@ -1,14 +1,15 @@
--- Runs: what a log writer needs of blocks that it spelled.
-use Rattle.std.proofs.Common.{◌≡◌, ◌<◌, ◌≤◌, ◌+◌, ◌-◌, ◌%◌, ◌^◌, ℕ, zero, suc, true, false, cond, List, [], ◌∷◌, ◌++◌, length, replicate, codes, Some, refl, ap, ◌∙◌, arith}
+-- Runs, and the blocks that they take.
+use Rattle.std.proofs.Common.{◌≡◌, ◌<◌, ◌≤◌, ◌+◌, ◌-◌, ◌%◌, ◌^◌, ℕ, zero, suc, true, false, cond, min, List, [], ◌∷◌, ◌++◌, length, take, drop, length-take, length-drop, replicate, codes, Some, refl, sym, ap, subst, ◌∙◌, arith}
 use mathlib.Core.List.{append_assoc}
 use Rattle.std.proofs.lemmas.Bool.{cond-true, cond-false}
 use Rattle.lean_bytes.proofs.SealLemmas.{length-seal_of}
 use Rattle.log_record.specs.declared.record.Record.{Record}
 use Rattle.log_block.specs.Block.{header_text, body_text, seal_text, block_text, Belongs, records_text, AllFit}
+use Rattle.log_block.specs.Run.{place, StandsAt}
 use Rattle.log_block.proofs.BlockLemmas as blocks
 use Rattle.disk_image.specs.Blocks.{belongs, block_in}
 use Rattle.disk_image.specs.Runs.{block_at, Block, run_in, Logged, records_onto, records_or, logged_onto}
-use Rattle.disk_image.proofs.BlockInLemmas.{belongs_from, every_block_in}
+use Rattle.disk_image.proofs.BlockInLemmas.{belongs_from, every_belongs, every_block_in}
 
 -- ## A block that was spelled
 
@@ -54,6 +55,36 @@ run_in-same generation log n area other (suc count) q h =
     ap (λ (b : List ℕ). cond (belongs generation log q b) (record { number = q; bytes = b } ∷ run_in generation log n area count (suc q)) []) (h q (omega arith) (omega arith))
     ∙ ap (λ (bs : List Block). cond (belongs generation log q (block_at n q other)) (record { number = q; bytes = block_at n q other } ∷ bs) [])
     (run_in-same generation log n area other count (suc q) (λ k least most. h k (omega arith) (omega arith)))
+
+-- a block stands at its place, as the reader of a run asks
+pub stands_at-belongs : (generation log q n : ℕ) (area : List ℕ) → StandsAt generation log q n area → belongs generation log q (block_at n q area) ≡ true
+stands_at-belongs generation log q n area s =
+    let at = place n q in
+    let long : at + 2048 - at ≡ 2048 = omega arith in
+    belongs_from generation log q (block_at n q area) (subst (Belongs generation log q) (ap (λ j. take j (drop at area)) long) s.belongs)
+
+pub belongs-stands_at : (generation log q n : ℕ) (area : List ℕ) → belongs generation log q (block_at n q area) ≡ true → StandsAt generation log q n area
+belongs-stands_at generation log q n area h =
+    let at = place n q in
+    let long : at + 2048 - at ≡ 2048 = omega arith in
+    let b = (every_belongs generation log q (block_at n q area)).0 h in
+    let whole : min 2048 (length (drop at area)) ≡ 2048 = sym (length-take 2048 (drop at area)) ∙ b.sealed.whole in
+    let left = length-drop at area in
+    record { room = omega arith; belongs = subst (Belongs generation log q) (ap (λ j. take j (drop at area)) (sym long)) b }
+
+-- where so many blocks belong and the next one, if more are asked for, does not, the run has so many
+pub run_in-cut : (generation log n : ℕ) (area : List ℕ) (most count q : ℕ) → count ≤ most → ((k : ℕ) → k < count → belongs generation log (q + k) (block_at n (q + k) area) ≡ true)
+    → (count < most → belongs generation log (q + count) (block_at n (q + count) area) ≡ false) → length (run_in generation log n area most q) ≡ count
+run_in-cut generation log n area zero zero q l all end = refl
+run_in-cut generation log n area zero (suc count) q l all end = absurd (omega arith)
+run_in-cut generation log n area (suc most) zero q l all end =
+    let here : q + 0 ≡ q = omega arith in
+    ap (λ (bs : List Block). length bs) (run_in-end generation log n area most q (ap (λ j. belongs generation log j (block_at n j area)) (sym here) ∙ end (omega arith)))
+run_in-cut generation log n area (suc most) (suc count) q l all end =
+    let here : q + 0 ≡ q = omega arith in
+    let next = λ (k : ℕ). let e : suc q + k ≡ q + suc k = omega arith in ap (λ j. belongs generation log j (block_at n j area)) e in
+    ap (λ (bs : List Block). length bs) (run_in-more generation log n area most q (ap (λ j. belongs generation log j (block_at n j area)) (sym here) ∙ all 0 (omega arith)))
+    ∙ ap suc (run_in-cut generation log n area most count (suc q) (omega arith) (λ k lt. next k ∙ all (suc k) (omega arith)) (λ lt. next count ∙ end (omega arith)))
 
 -- ## The records of a run
 

@@ -1,5 +1,5 @@
 -- Tests, and options that hang on them.
-use Rattle.std.proofs.Common.{◌≡◌, ◌<◌, ◌≤◌, ◌⊎◌, ℕ, zero, suc, Bool, true, false, cond, ◌&&◌, List, [], ◌∷◌, Option, Some, None, refl, ap, ◌∙◌, inl, inr, arith, true≢false, length, get_or, leb, sym}
+use Rattle.std.proofs.Common.{◌≡◌, ◌<◌, ℕ, zero, suc, Bool, true, false, cond, ◌&&◌, List, [], ◌∷◌, Option, Some, None, refl, ap, ◌∙◌, inl, inr, arith, true≢false, length, get_or, leb, sym}
 use Rattle.std.proofs.lemmas.Bool.{and_parts, and_from, le-leb, leb-true}
 use Rattle.map_model.specs.Lists.{Has, all}
 use Rattle.page_model.specs.Pairs.{Pair, Rising}
