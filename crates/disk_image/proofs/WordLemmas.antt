@@ -30,7 +30,7 @@ are_words_from [] a = refl
 are_words_from (x ∷ xs) a = and_from (ltb x (2 ^ 64)) (are_words xs) (lt-ltb x (2 ^ 64) (a.word 0)) (are_words_from xs (words-tail x xs a))
 
 words_in-bytes : (ws rest : List ℕ) → AreWords ws → words_in (length ws) (words_bytes ws ++ rest) ≡ ws
-unfolding words_bytes
+unfolding words_bytes words_in
 words_in-bytes [] rest a = refl
 words_in-bytes (w ∷ ws) rest a =
     let few : w < 256 ^ 8 = a.word 0 in
