@@ -1,3 +1,4 @@
--- Read Records, then Scans.
+-- Read Records, then Scans. Inside has the words of private functions.
 pub mod Records
 pub mod Scans
+pub mod Inside
