@@ -113,7 +113,7 @@ change_is g s a t p k v e c q =
     ap₂ (λ (x y : ℕ). change_with g.format x y (s.page p) p k v) e c
     ∙ ap (λ (x : Page). change_with g.format t.begun t.clock x p k v) q
 
-put_call : (f : Format) (k v : ℕ) → v < f.dead → write_call f k v ≡ MapCall.Put k v
+pub put_call : (f : Format) (k v : ℕ) → v < f.dead → write_call f k v ≡ MapCall.Put k v
 put_call f k v l = cond-true (ltb v f.dead) (MapCall.Put k v) (MapCall.Del k) (lt-ltb v f.dead l)
 
 pub entered_put : (f : Format) (h : List Entry) (xs : List Answered) (t : Session) (p k v : ℕ) → t.is_open ≡ true → v < f.dead → Entered f h xs t →

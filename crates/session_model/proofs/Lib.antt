@@ -4,3 +4,6 @@ pub mod Counts
 pub mod Frames
 pub mod Entries
 pub mod Pictures
+pub mod Events
+pub mod Calls
+pub mod Main
