@@ -7,3 +7,4 @@ pub mod Pictures
 pub mod Events
 pub mod Calls
 pub mod Main
+pub mod Openings
