@@ -1,12 +1,12 @@
 -- The numbers of a session: of its records, of its pages and of its commits.
-use Rattle.std.proofs.Common.{◌≡◌, ◌⊎◌, ◌≤◌, ◌<◌, ℕ, suc, Bool, true, false, cond, ◌&&◌, ◌||◌, ltb, ◌==◌, List, [], ◌∷◌, map, refl, sym, ap, ◌∙◌, subst, inl, inr, arith, true≢false}
-use Rattle.std.proofs.lemmas.Bool.{cases_eq, eq-eqb, ne_eqb, lt-ltb, le-ltb, or_left, or_from, and_left, cond-true, cond-false}
+use Rattle.std.proofs.Common.{◌≡◌, ◌≤◌, ◌<◌, ℕ, suc, Bool, true, false, cond, ◌&&◌, ltb, ◌==◌, List, [], ◌∷◌, refl, sym, ap, ◌∙◌, subst, inl, inr, arith}
+use Rattle.std.proofs.lemmas.Bool.{ne_eqb, lt-ltb, le-ltb, or_left, or_from, and_left, cond-false}
 use Rattle.map_model.specs.Lists.{Has, insert_by}
-use Rattle.map_model.specs.Journals.{Txn, Journal, is_earlier, journal_of}
+use Rattle.map_model.specs.Journals.{Txn, is_earlier, journal_of}
 use Rattle.map_model.specs.Laws.{IsFalling}
 use Rattle.page_model.specs.Nodes.{Format}
 use Rattle.image_model.specs.Entries.{Entry, Page, written}
-use Rattle.core_state.specs.States.{Opening, start_page}
+use Rattle.core_state.specs.States.{Opening}
 use Rattle.session_model.specs.Sessions.{Session, start, begun, put, committed, change_of, commit_of}
 use Rattle.session_model.proofs.Workers.{IsNear}
 

@@ -1,9 +1,8 @@
 -- The core's entries beside the lines of a session's calls.
-use Rattle.std.proofs.Common.{◌≡◌, ◌⊎◌, ◌≤◌, ◌<◌, ℕ, suc, Bool, true, false, cond, ◌&&◌, ltb, ◌==◌, List, [], ◌∷◌, map, Option, Some, None, refl, sym, ap, ap₂, ◌∙◌, subst, inl, inr, arith, true≢false}
+use Rattle.std.proofs.Common.{◌≡◌, ◌≤◌, ◌<◌, ℕ, suc, Bool, true, false, cond, ◌&&◌, ltb, ◌==◌, List, [], ◌∷◌, map, Option, Some, None, refl, sym, ap, ap₂, ◌∙◌, inl, inr, arith, true≢false}
 use Rattle.std.proofs.lemmas.Bool.{eq-eqb, ne_eqb, lt-ltb, le-ltb, and_right, cond-true, cond-false}
 use Rattle.map_model.specs.declared.call.Call.{Call}
 use Rattle.map_model.specs.declared.call.Call.TheVariants as call
-use Rattle.map_model.specs.declared.call.Answer.{Answer}
 use Rattle.map_model.specs.declared.call.Answer.TheVariants as answer
 use Rattle.map_model.specs.declared.call.Refusal.{Refusal}
 use Rattle.map_model.specs.Lists.{Has, keep}
@@ -12,12 +11,11 @@ use Rattle.map_model.specs.Histories.{Step}
 use Rattle.map_model.specs.Journals.{Txn}
 use Rattle.map_model.specs.Transcripts as lines_of
 use Rattle.map_model.specs.Transcripts.{map_call, lines_in, told, txn_of}
-use Rattle.page_model.specs.Nodes.{Format, Node}
+use Rattle.page_model.specs.Nodes.{Format}
 use Rattle.page_model.specs.Tree.{value_of, word_or}
-use Rattle.page_model.specs.Pairs.{find}
 use Rattle.page_model.specs.Records as records
 use Rattle.page_model.specs.Needs.{write_record}
-use Rattle.image_model.specs.Entries.{Kind, Entry, Page, word_in, same_txn}
+use Rattle.image_model.specs.Entries.{Kind, Entry, Page, word_in}
 use Rattle.image_model.specs.Histories as histories
 use Rattle.image_model.specs.Histories.{said, write_call, steps_of}
 use Rattle.core_state.specs.States.{Opening, State, Worker}

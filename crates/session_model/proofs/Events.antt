@@ -1,32 +1,31 @@
 -- What each call is in the core's events: what they need is met, and the state that they leave is beside the session after it.
-use Rattle.std.proofs.Common.{◌≡◌, ◌⊎◌, ◌≤◌, ◌<◌, ℕ, zero, suc, Bool, true, false, cond, ◌&&◌, ◌||◌, not, leb, ltb, ◌==◌, List, [], ◌∷◌, length, Option, Some, None, refl, sym, ap, ap₂, ◌∙◌, subst, inl, inr, arith, true≢false}
-use Rattle.std.proofs.lemmas.Bool.{cases_eq, eq-eqb, ne_eqb, lt-ltb, le-leb, and_parts, and_from, or_left, or_right, or_from, cond-true, cond-false}
+use Rattle.std.proofs.Common.{◌≡◌, ◌<◌, ℕ, suc, true, false, cond, ◌&&◌, ◌||◌, not, leb, ltb, ◌==◌, List, [], ◌∷◌, length, Option, Some, None, refl, sym, ap, ap₂, ◌∙◌, subst, inl, inr, arith, true≢false}
+use Rattle.std.proofs.lemmas.Bool.{cases_eq, eq-eqb, ne_eqb, lt-ltb, le-leb, and_from, or_left, or_right, or_from, cond-true, cond-false}
 use Rattle.map_model.specs.declared.call.Call.TheVariants as call
 use Rattle.map_model.specs.declared.call.Answer.TheVariants as answer
-use Rattle.map_model.specs.Lists.{upd}
-use Rattle.map_model.specs.Maps.{MapCall, write_of}
+use Rattle.map_model.specs.Maps.{MapCall, MapAnswer, write_of}
 use Rattle.map_model.specs.Histories.{Step, first_of, write_or, last_write, over}
 use Rattle.map_model.specs.Journals.{after}
 use Rattle.page_model.specs.Pairs.{find}
-use Rattle.page_model.specs.Nodes.{Format, Node, holds}
+use Rattle.page_model.specs.Nodes.{holds}
 use Rattle.page_model.specs.Tree.{value_of}
-use Rattle.page_model.specs.Redo.{has_key}
+use Rattle.page_model.specs.Redo.{is_some, has_key}
 use Rattle.image_model.specs.Entries.{Kind, Entry, Page, touches, written, word_in}
 use Rattle.image_model.specs.Histories.{said, write_call}
-use Rattle.core_state.specs.States.{Opening, State, Place, Worker, is_hot, flushed_by_all}
+use Rattle.core_state.specs.States.{Opening, State, Place, is_hot, flushed_by_all}
 use Rattle.core_state.specs.Events.{Event, Mode}
-use Rattle.core_state.specs.Needs.{is_worker, is_held_by, is_reader, holds_row, may_hold, is_value, value_in, may_read, may_put, are_hot, may}
+use Rattle.core_state.specs.Needs.{is_worker, is_held_by, is_reader, holds_row, is_value, value_in, may_read, may_put, are_hot, may}
 use Rattle.core_state.specs.Steps as steps
 use Rattle.core_state.specs.Steps.{touch, at_row, at_pages, read_entry, write_entry, end_entry, happens}
 use Rattle.core_crash.specs.Crashes.{first_map}
-use Rattle.session_model.specs.Sessions.{Session, nodes_of, IsAlone, begun, put, committed, change_of, commit_of}
-use Rattle.session_model.specs.Calls.{Answered, IsLeafOf, Begins, Gets, Puts, Commits}
-use Rattle.session_model.proofs.Reaches.{Reached, reached_more}
-use Rattle.session_model.proofs.Workers.{Worked, worked_begun, worked_committed, touched, no_need, Rowed, may_lock, at_the_row, rowed_locked, held, rowed_unlocked, least_same}
+use Rattle.session_model.specs.Sessions.{Session, IsAlone, begun, put, committed, change_of}
+use Rattle.session_model.specs.Calls.{Answered, IsLeafOf}
+use Rattle.session_model.proofs.Reaches.{reached_more}
+use Rattle.session_model.proofs.Workers.{Worked, worked_begun, worked_committed, touched, no_need, may_lock, at_the_row, rowed_locked, held, rowed_unlocked, least_same}
 use Rattle.session_model.proofs.Counts.{counted_begun, counted_put, counted_committed, told_later, told_more}
-use Rattle.session_model.proofs.Frames.{Paged, IsPlaced}
-use Rattle.session_model.proofs.Entries.{Entered, txns, open_steps, entered_begun, read_of, read_is, entered_get, change_is, put_call, entered_put, commit_is, entered_committed, said_word}
-use Rattle.session_model.proofs.Pictures.{Picture, Pictured, Heated, Agrees}
+use Rattle.session_model.proofs.Frames.{IsPlaced}
+use Rattle.session_model.proofs.Entries.{Entered, txns, open_steps, entered_begun, read_is, entered_get, change_is, put_call, entered_put, commit_is, entered_committed, said_word}
+use Rattle.session_model.proofs.Pictures.{Picture, Pictured, Heated}
 
 flushed_all : (g : Opening) (xs : List Answered) (t : Session) (s : State) (h : List Step) → Picture g xs t s h → flushed_by_all g s ≡ g.base
 flushed_all g xs t s h c = least_same s.flushed g.base g.workers c.flushed
@@ -42,7 +41,10 @@ module _ (g : Opening) (changes : ℕ) (alone : IsAlone changes g) (xs : List An
       (and_from (leb (s.worker 1).floor g.base) (leb g.base (flushed_by_all g s)) (le-leb (s.worker 1).floor g.base (omega arith)) (le-leb g.base (flushed_by_all g s) (omega arith))))
 
   pub pictured_begun : (n : ℕ) → t.is_open ≡ false → Pictured g xs t → Pictured g (record { call = call.Begin; answer = answer.Begun n } ∷ xs) (begun t)
-  pictured_begun n o p = record { state = two; steps = p.steps; picture = record {
+  pictured_begun n o p = record {
+    state = two;
+    steps = p.steps;
+    picture = record {
       reached = reached_more g one p.steps (reached_more g s p.steps c.reached (Event.Begin 1 g.base) (begins s p.steps c o)) (Event.Lock 1 0 Mode.Alone) (may_lock (s.row 0) t c.rowed o);
       worked = at_the_row g.base (steps.begun (s.worker 1) g.base) (s.row 0) t (begun t) c.rowed refl (worked_begun g.base (s.worker 1) t c.worked);
       rowed = rowed_locked (s.row 0) t c.rowed o;
@@ -54,7 +56,8 @@ module _ (g : Opening) (changes : ℕ) (alone : IsAlone changes g) (xs : List An
       counted = counted_begun g.base t c.counted;
       told = c.told;
       agrees = λ k. c.agrees k ∙ ap (λ (l : List Step). over (after (first_map g) (txns xs)) (last_write l) k) (c.entered.closed o);
-    } }
+    };
+  }
     where
       s : State
       s = p.state
@@ -86,7 +89,10 @@ module _ (g : Opening) (changes : ℕ) (alone : IsAlone changes g) (xs : List An
 
   pub pictured_get : (k p : ℕ) → t.is_open ≡ true → IsLeafOf g.format t p k → Heated g xs t p →
       Pictured g (record { call = call.Get k; answer = answer.Value (value_of g.format (find k (t.page p).node.pairs)) } ∷ xs) t
-  pictured_get k p o leaf w = record { state = one; steps = record { session = 1; call = MapCall.Get k; answer = Rattle.map_model.specs.Maps.MapAnswer.Value v } ∷ w.steps; picture = record {
+  pictured_get k p o leaf w = record {
+    state = one;
+    steps = record { session = 1; call = MapCall.Get k; answer = MapAnswer.Value v } ∷ w.steps;
+    picture = record {
       reached = reached_more g s w.steps c.reached (Event.Read 1 p k v) reads;
       worked = at_page s w.steps c p;
       rowed = c.rowed;
@@ -97,11 +103,12 @@ module _ (g : Opening) (changes : ℕ) (alone : IsAlone changes g) (xs : List An
       entered = subst (λ (r : Entry). Entered g.format (r ∷ s.entries) (record { call = call.Get k; answer = answer.Value (value_of g.format (find k (t.page p).node.pairs)) } ∷ xs) t)
           (sym (read_is (at_pages s 1 (s.worker 1) (p ∷ [])) k (word_in g.format (s.page p).node k) (is_held_by (s.row (g.row_of k)).holder 1) t.begun t.clock (at_page s w.steps c p).txn (at_page s w.steps c p).clock))
           (entered_get g.format s.entries xs t k (word_in g.format (s.page p).node k) (is_held_by (s.row (g.row_of k)).holder 1) (value_of g.format (find k (t.page p).node.pairs)) o
-              (said_word g.format (find k (s.page p).node.pairs) ∙ ap (λ (x : Page). value_of g.format (find k x.node.pairs)) (c.paged.same p)) c.entered);
+          (said_word g.format (find k (s.page p).node.pairs) ∙ ap (λ (x : Page). value_of g.format (find k x.node.pairs)) (c.paged.same p)) c.entered);
       counted = c.counted;
       told = c.told;
       agrees = c.agrees;
-    } }
+    };
+  }
     where
       s : State
       s = w.state
@@ -119,10 +126,10 @@ module _ (g : Opening) (changes : ℕ) (alone : IsAlone changes g) (xs : List An
       reads =
           and_from (are_hot s (p ∷ [])) (may_read g s 1 p k && is_value v v) (and_from (is_hot (s.place p)) true w.hot refl)
           (and_from (may_read g s 1 p k) (is_value v v)
-              (and_from (s.worker 1).is_open (holds_row (s.row (g.row_of k)) 1 && (ltb p g.format.pages && holds (s.page p).node k)) (c.worked.is_open ∙ o)
-              (and_from (holds_row (s.row (g.row_of k)) 1) (ltb p g.format.pages && holds (s.page p).node k) (or_left (is_held_by (s.row (g.row_of k)).holder 1) (is_reader 1 (s.row (g.row_of k)).readers) (holds_key s w.steps c o k))
-              (and_from (ltb p g.format.pages) (holds (s.page p).node k) (lt-ltb p g.format.pages leaf.page) (ap (λ (x : Page). holds x.node k) (c.paged.same p) ∙ leaf.holds))))
-              (same_value v))
+          (and_from (s.worker 1).is_open (holds_row (s.row (g.row_of k)) 1 && (ltb p g.format.pages && holds (s.page p).node k)) (c.worked.is_open ∙ o)
+          (and_from (holds_row (s.row (g.row_of k)) 1) (ltb p g.format.pages && holds (s.page p).node k) (or_left (is_held_by (s.row (g.row_of k)).holder 1) (is_reader 1 (s.row (g.row_of k)).readers) (holds_key s w.steps c o k))
+          (and_from (ltb p g.format.pages) (holds (s.page p).node k) (lt-ltb p g.format.pages leaf.page) (ap (λ (x : Page). holds x.node k) (c.paged.same p) ∙ leaf.holds))))
+          (same_value v))
 
   -- ## A put
 
@@ -161,34 +168,35 @@ module _ (g : Opening) (changes : ℕ) (alone : IsAlone changes g) (xs : List An
   pub pictured_put : (k v p : ℕ) → t.is_open ≡ true → t.changes < g.changes → v < g.format.dead → IsLeafOf g.format t p k → (find k (t.page p).node.pairs ≡ None → length (t.page p).node.pairs < g.format.room) → Heated g xs t p →
       Pictured g (record { call = call.Put k v; answer = answer.Was (said g.format (word_in g.format (t.page p).node k)) } ∷ xs) (put g.format t p k v)
   pictured_put k v p o fewer low leaf room w = record {
-      state = one;
-      steps = record { session = 1; call = write_call g.format k v; answer = Rattle.map_model.specs.Maps.MapAnswer.Was (value_in g.format (s.page p).node k) } ∷ w.steps;
-      picture = record {
-        reached = reached_more g s w.steps c.reached (Event.Change 1 p k v) writes;
-        worked = record {
-          clock = ap suc a.clock;
-          floor = a.floor;
-          debt = a.debt;
-          txn = a.txn;
-          is_open = a.is_open;
-          changes = ap suc c.worked.changes;
-        };
-        rowed = record { holder = c.rowed.holder; readers = c.rowed.readers; number = (let n = c.rowed.number in omega arith); own = c.rowed.own; read_end = c.rowed.read_end };
-        paged = record {
-          same = put_pages s.page r p k v e c.paged.same;
-          first = c.paged.first;
-          placed = put_placed s.page s.saved s.place r p off c.paged.placed w.hot;
-          root = c.paged.root;
-        };
-        flushed = c.flushed;
-        heads = c.heads;
-        floor = c.floor;
-        entered = subst (λ (x : Entry). Entered g.format (x ∷ s.entries) (record { call = call.Put k v; answer = answer.Was (said g.format (word_in g.format (t.page p).node k)) } ∷ xs) (put g.format t p k v)) (sym e)
-            (entered_put g.format s.entries xs t p k v o low c.entered);
-        counted = counted_put g.base g.format t p k v c.counted;
-        told = told_later g.base t.clock (txns xs) c.told;
-        agrees = λ q. write_both (first_map g) (after (first_map g) (txns xs)) w.steps (open_steps xs) (write_call g.format k v) (MapCall.Put k v) q (put_call g.format k v low) (c.agrees q);
-      } }
+    state = one;
+    steps = record { session = 1; call = write_call g.format k v; answer = MapAnswer.Was (value_in g.format (s.page p).node k) } ∷ w.steps;
+    picture = record {
+      reached = reached_more g s w.steps c.reached (Event.Change 1 p k v) writes;
+      worked = record {
+        clock = ap suc a.clock;
+        floor = a.floor;
+        debt = a.debt;
+        txn = a.txn;
+        is_open = a.is_open;
+        changes = ap suc c.worked.changes;
+      };
+      rowed = record { holder = c.rowed.holder; readers = c.rowed.readers; number = (let n = c.rowed.number in omega arith); own = c.rowed.own; read_end = c.rowed.read_end };
+      paged = record {
+        same = put_pages s.page r p k v e c.paged.same;
+        first = c.paged.first;
+        placed = put_placed s.page s.saved s.place r p off c.paged.placed w.hot;
+        root = c.paged.root;
+      };
+      flushed = c.flushed;
+      heads = c.heads;
+      floor = c.floor;
+      entered = subst (λ (x : Entry). Entered g.format (x ∷ s.entries) (record { call = call.Put k v; answer = answer.Was (said g.format (word_in g.format (t.page p).node k)) } ∷ xs) (put g.format t p k v)) (sym e)
+          (entered_put g.format s.entries xs t p k v o low c.entered);
+      counted = counted_put g.base g.format t p k v c.counted;
+      told = told_later g.base t.clock (txns xs) c.told;
+      agrees = λ q. write_both (first_map g) (after (first_map g) (txns xs)) w.steps (open_steps xs) (write_call g.format k v) (MapCall.Put k v) q (put_call g.format k v low) (c.agrees q);
+    };
+  }
     where
       s : State
       s = w.state
@@ -213,7 +221,7 @@ module _ (g : Opening) (changes : ℕ) (alone : IsAlone changes g) (xs : List An
 
       roomy : (x : Page) → (find k x.node.pairs ≡ None → length x.node.pairs < g.format.room) → (z : Option ℕ) → find k x.node.pairs ≡ z → (has_key k x.node || ltb (length x.node.pairs) g.format.room) ≡ true
       roomy x f None q = or_right (has_key k x.node) (ltb (length x.node.pairs) g.format.room) (lt-ltb (length x.node.pairs) g.format.room (f q))
-      roomy x f (Some y) q = or_left (has_key k x.node) (ltb (length x.node.pairs) g.format.room) (ap Rattle.page_model.specs.Redo.is_some q)
+      roomy x f (Some y) q = or_left (has_key k x.node) (ltb (length x.node.pairs) g.format.room) (ap is_some q)
 
       puts : may_put g (t.page p).node p k v ≡ true
       puts =
@@ -231,7 +239,10 @@ module _ (g : Opening) (changes : ℕ) (alone : IsAlone changes g) (xs : List An
   -- ## A commit
 
   pub pictured_committed : t.is_open ≡ true → Pictured g xs t → Pictured g (record { call = call.Commit; answer = answer.Committed t.begun (suc t.clock) } ∷ xs) (committed t)
-  pictured_committed o p = record { state = two; steps = p.steps; picture = record {
+  pictured_committed o p = record {
+    state = two;
+    steps = p.steps;
+    picture = record {
       reached = reached_more g one p.steps (reached_more g s p.steps c.reached (Event.End 1 true g.base) ends) (Event.Unlock 1 0) (or_left (is_held_by (s.row 0).holder 1) (is_reader 1 (s.row 0).readers) (held (s.row 0) t c.rowed o));
       worked = worked_committed g.base (s.worker 1) t c.worked;
       rowed = rowed_unlocked (s.row 0) t (suc (s.worker 1).clock) c.rowed o (ap suc c.worked.clock);
@@ -245,7 +256,8 @@ module _ (g : Opening) (changes : ℕ) (alone : IsAlone changes g) (xs : List An
       counted = counted_committed g.base t c.counted;
       told = told_more g.base t.clock (record { session = 1; number = t.begun; at = suc t.clock; calls = open_steps xs }) (txns xs) c.counted.clock refl refl c.told;
       agrees = c.agrees;
-    } }
+    };
+  }
     where
       s : State
       s = p.state

@@ -1,30 +1,17 @@
 -- Pages in frames: each page is hot in its own frame or cold as it was saved, and a page comes in below a hot parent.
-use Rattle.std.proofs.Common.{◌≡◌, ◌⊎◌, ◌≤◌, ◌<◌, ℕ, zero, suc, Bool, true, false, cond, ◌&&◌, ◌||◌, not, ltb, ◌==◌, List, [], ◌∷◌, refl, sym, ap, ◌∙◌, subst, inl, inr, arith, true≢false}
-use Rattle.std.proofs.lemmas.Bool.{cases_Bool, cases_eq, eq-eqb, ne_eqb, eqb-true, ltb-true, lt-ltb, and_parts, and_from, or_cases, or_left, or_right, cond-true, cond-false}
+use Rattle.std.proofs.Common.{◌≡◌, ◌⊎◌, ◌<◌, ℕ, zero, suc, Bool, true, ◌&&◌, not, ltb, ◌==◌, List, [], ◌∷◌, refl, sym, ap, ◌∙◌, subst, inl, inr, arith, true≢false}
+use Rattle.std.proofs.lemmas.Bool.{ne_eqb, eqb-true, ltb-true, and_parts, and_from, or_cases}
 use Rattle.map_model.specs.Lists.{upd}
 use Rattle.page_model.specs.Pairs.{Has, Span, spans}
 use Rattle.page_model.specs.Nodes.{Format, Node}
-use Rattle.page_model.specs.Tree.{Names, IsTree}
+use Rattle.page_model.specs.Tree.{Names}
 use Rattle.page_model.specs.Laws.{TreeLaws}
 use Rattle.page_model.specs.Records.{any}
 use Rattle.page_model.specs.Check.{names_page}
 use Rattle.image_model.specs.Entries.{Page}
 use Rattle.core_state.specs.Lists.{all_below}
 use Rattle.core_state.specs.States.{Opening, Place, start_page, is_hot, is_cold, in_frame}
-use Rattle.session_model.specs.Sessions.{Session}
-
-pub upd_same : {A : Type 0} (f : ℕ → A) (i : ℕ) (a : A) (j : ℕ) → j ≡ i → upd f i a j ≡ a
-upd_same f i a j e = cond-true (j == i) a (f j) (eq-eqb j i e)
-
-pub upd_other : {A : Type 0} (f : ℕ → A) (i : ℕ) (a : A) (j : ℕ) → (j ≡ i → ⊥) → upd f i a j ≡ f j
-upd_other f i a j n = cond-false (j == i) a (f j) (ne_eqb j i n)
-
--- P of an update, from P at the place and P elsewhere
-pub at_place : {A : Type 0} (P : ℕ → A → Type 0) (f : ℕ → A) (i : ℕ) (a : A) → P i a → ((j : ℕ) → (j ≡ i → ⊥) → P j (f j)) → (j : ℕ) → P j (upd f i a j)
-at_place {A} P f i a h k j = elim (cases_eq j i) [
-  | inl e ↦ subst (λ (x : A). P j x) (sym (upd_same f i a j e)) (subst (λ (n : ℕ). P n a) (sym e) h)
-  | inr n ↦ subst (λ (x : A). P j x) (sym (upd_other f i a j n)) (k j n)
-]
+use Rattle.session_model.proofs.Lists.{upd_other, at_place}
 
 -- page p is hot in frame p, or cold as it was saved
 abbrev pub IsPlaced : (page saved : Page) → ℕ → Place → Type 0
@@ -76,6 +63,7 @@ empty_frame page saved place placed p c q = elim (placed q) [
   | inr e ↦ ap (λ (x : Place). not (in_frame x p)) e.0
 ]
 
+-- the same word of the pages' crate
 any_has : {A : Type 0} (p : A → Bool) (xs : List A) → any p xs ≡ true → (x : A) × Has x xs × (p x ≡ true)
 any_has p [] h = absurd (true≢false (sym h))
 any_has p (x ∷ xs) h = elim (or_cases (p x) (any p xs) h) [ inl e ↦ (x, inl refl, e) | inr e ↦ let r = any_has p xs e in (r.0, inr r.1, r.2) ]

@@ -1,3 +1,4 @@
+pub mod Lists
 pub mod Reaches
 pub mod Workers
 pub mod Counts

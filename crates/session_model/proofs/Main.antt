@@ -1,10 +1,9 @@
 -- The laws of one session, from those of the core.
-use Rattle.std.proofs.Common.{◌≡◌, ◌⊎◌, ◌≤◌, ◌<◌, ℕ, Bool, true, false, ◌&&◌, ◌||◌, leb, ◌==◌, List, [], ◌∷◌, ◌++◌, Option, Some, refl, sym, ap, ap₂, ◌∙◌, subst, inl, inr, arith, true≢false}
-use Rattle.std.proofs.lemmas.Bool.{eq-eqb, eqb-true, le-leb, lt-leb, leb-true, and_parts, and_from, or_cases, or_right, cond-false, cond-true}
+use Rattle.std.proofs.Common.{◌≡◌, ◌≤◌, ◌<◌, ℕ, Bool, true, ◌&&◌, not, leb, ◌==◌, List, [], ◌∷◌, ◌++◌, Some, refl, sym, ap, ◌∙◌, subst, inl, inr, arith}
+use Rattle.std.proofs.lemmas.Bool.{eq-eqb, eqb-true, le-leb, lt-leb, leb-true, and_parts, and_from, or_cases, or_right, cond-true}
 use mathlib.Core.Path.{fun_ext}
-use Rattle.map_model.specs.Lists.{Has, any, keep}
-use Rattle.map_model.specs.Maps.{Map}
-use Rattle.map_model.specs.Histories.{last_write, over}
+use Rattle.map_model.specs.Lists.{Has, any}
+use Rattle.map_model.specs.Histories.{Step, last_write, over}
 use Rattle.map_model.specs.Journals.{Txn, Journal, journal_of, after, Serial, IsClosed}
 use Rattle.map_model.specs.Laws.{IsFalling}
 use Rattle.page_model.specs.Nodes.{Node}
@@ -13,72 +12,34 @@ use Rattle.page_model.specs.Laws as page_laws
 use Rattle.image_model.specs.Entries.{Entry, Page, is_commit}
 use Rattle.image_model.specs.Ends.{reach, wins, is_kept, kept}
 use Rattle.image_model.specs.Images.{Image, StandsFor, found, won_by}
-use Rattle.core_state.specs.States as states
-use Rattle.core_state.specs.States.{Opening, State, start_page}
-use Rattle.core_state.specs.Steps.{run}
+use Rattle.core_state.specs.States.{Opening, State}
 use Rattle.core_index.specs.Answers as answers
 use Rattle.core_index.specs.Answers.{EveryTree, EveryMap}
 use Rattle.core_crash.specs.Crashes.{IsFront, log_of, from_head, image_of, first_map, journal_in, kept_in, Recovers, EverySerial, EveryStored}
 use Rattle.session_model.specs.Sessions.{Session, nodes_of, IsAlone}
-use Rattle.session_model.specs.Calls.{Answered, Runs, journal}
+use Rattle.session_model.specs.Calls.{Answered, journal}
 use Rattle.session_model.specs.Laws.{image_left, kept_of, Survives, SessionLaws, EverySession}
+use Rattle.session_model.proofs.Lists.{has_cases, has_left, has_right, any_has, has_any, keep_has, has_keep}
 use Rattle.session_model.proofs.Counts.{Logged, Ended, journal_is, falling}
 use Rattle.session_model.proofs.Entries.{txns, open_steps}
-use Rattle.session_model.proofs.Pictures.{Picture, Pictured, tree_of}
+use Rattle.session_model.proofs.Pictures.{Picture, tree_of}
 use Rattle.session_model.proofs.Calls.{pictured}
 
-has_right : {A : Type 0} (x : A) (xs ys : List A) → Has x ys → Has x (xs ++ ys)
-has_right x [] ys h = h
-has_right x (y ∷ xs) ys h = inr (has_right x xs ys h)
-
-has_back : {A : Type 0} (x : A) (xs : List A) → Has x (xs ++ []) → Has x xs
-has_back x [] h = h
-has_back x (y ∷ xs) (inl e) = inl e
-has_back x (y ∷ xs) (inr h) = inr (has_back x xs h)
-
-has_front : {A : Type 0} (x : A) (xs : List A) → Has x xs → Has x (xs ++ [])
-has_front x [] h = h
-has_front x (y ∷ xs) (inl e) = inl e
-has_front x (y ∷ xs) (inr h) = inr (has_front x xs h)
-
-any_has : {A : Type 0} (p : A → Bool) (xs : List A) → any p xs ≡ true → (x : A) × Has x xs × (p x ≡ true)
-any_has p [] h = absurd (true≢false (sym h))
-any_has p (x ∷ xs) h = elim (or_cases (p x) (any p xs) h) [ inl e ↦ (x, inl refl, e) | inr e ↦ let r = any_has p xs e in (r.0, inr r.1, r.2) ]
-
-has_any : {A : Type 0} (p : A → Bool) (xs : List A) (x : A) → Has x xs → p x ≡ true → any p xs ≡ true
-has_any p [] x h e = absurd h
-has_any p (y ∷ ys) x (inl q) e = Rattle.std.proofs.lemmas.Bool.or_left (p y) (any p ys) (ap p (sym q) ∙ e)
-has_any p (y ∷ ys) x (inr h) e = or_right (p y) (any p ys) (has_any p ys x h e)
-
-keep_has : {A : Type 0} (p : A → Bool) (xs : List A) (x : A) → Has x (keep p xs) → Has x xs × (p x ≡ true)
-keep_has p [] x h = absurd h
-keep_has p (y ∷ ys) x h = go (keep_has p ys x) (p y) refl h
-  where
-    go : (Has x (keep p ys) → Has x ys × (p x ≡ true)) → (b : Bool) → p y ≡ b → Has x (Rattle.std.proofs.Common.cond b (y ∷ keep p ys) (keep p ys)) → Has x (y ∷ ys) × (p x ≡ true)
-    go ih true e (inl q) = (inl q, ap p q ∙ e)
-    go ih true e (inr h) = let r = ih h in (inr r.0, r.1)
-    go ih false e h = let r = ih h in (inr r.0, r.1)
-
-has_keep : {A : Type 0} (p : A → Bool) (xs : List A) (x : A) → Has x xs → p x ≡ true → Has x (keep p xs)
-has_keep p [] x h e = absurd h
-has_keep {A} p (y ∷ ys) x (inl q) e = subst (λ (l : List A). Has x l) (sym (cond-true (p y) (y ∷ keep p ys) (keep p ys) (ap p (sym q) ∙ e))) (inl q)
-has_keep p (y ∷ ys) x (inr h) e = go (has_keep p ys x h e) (p y)
-  where
-    go : Has x (keep p ys) → (b : Bool) → Has x (Rattle.std.proofs.Common.cond b (y ∷ keep p ys) (keep p ys))
-    go rest true = inr rest
-    go rest false = rest
+-- nothing stands behind the one log
+end_of : {A : Type 0} (x : A) (l : List A) → Has x (l ++ []) → Has x l
+end_of x l h = elim (has_cases x l [] h) [ inl i ↦ i | inr i ↦ absurd i ]
 
 -- a log without a head is whole
 uncut : (base : ℕ) (head : ℕ) (l : List Entry) → head ≡ 0 → ((r : Entry) → Has r l → base < r.number) → from_head head l ≡ l
 uncut base head [] e n = refl
-uncut base head (r ∷ l) e n = cond-true (Rattle.std.proofs.Common.not (leb r.number head)) (r ∷ from_head head l) (from_head head l)
-    (ap Rattle.std.proofs.Common.not (lt-leb r.number head (let q = n r (inl refl) in omega arith))) ∙ ap (λ (z : List Entry). r ∷ z) (uncut base head l e (λ x i. n x (inr i)))
+uncut base head (r ∷ l) e n = cond-true (not (leb r.number head)) (r ∷ from_head head l) (from_head head l)
+    (ap not (lt-leb r.number head (let q = n r (inl refl) in omega arith))) ∙ ap (λ (z : List Entry). r ∷ z) (uncut base head l e (λ x i. n x (inr i)))
 
 abbrev image_with : Opening → ℕ → ℕ → (ℕ → List Entry) → (ℕ → Page) → Image
 image_with g logs floor log base = record { format = g.format; logs = logs; floor = floor; log = log; base = λ p. Some (base p) }
 
 module _ (serial : EverySerial) (stored : EveryStored) (trees : EveryTree) (maps : EveryMap) (laws : page_laws.EveryTree)
-    (g : Opening) (changes : ℕ) (alone : IsAlone changes g) (xs : List Answered) (t : Session) (s : State) (h : List Rattle.map_model.specs.Histories.Step) (c : Picture g xs t s h) where
+    (g : Opening) (changes : ℕ) (alone : IsAlone changes g) (xs : List Answered) (t : Session) (s : State) (h : List Step) (c : Picture g xs t s h) where
   journal_now : journal_in g s ≡ journal xs
   journal_now = ap journal_of c.entered.done
 
@@ -96,7 +57,7 @@ module _ (serial : EverySerial) (stored : EveryStored) (trees : EveryTree) (maps
       ap (λ (n : ℕ → Node). value g.format n k) (sym (fun_ext (λ p. ap (λ (x : Page). x.node) (c.paged.same p))))
       ∙ (sym (ap (λ (x : State). answers.map_in g x k) c.reached.run_is)
       ∙ ((maps g c.reached.events).map k
-      ∙ (ap (λ (l : List Rattle.map_model.specs.Histories.Step). over (first_map g) (last_write l) k) c.reached.history_is
+      ∙ (ap (λ (l : List Step). over (first_map g) (last_write l) k) c.reached.history_is
       ∙ (c.agrees k ∙ ap (λ (j : Journal). over (after (first_map g) j) (last_write (open_steps xs)) k) (sym in_order)))))
 
   -- ## A crash
@@ -125,8 +86,8 @@ module _ (serial : EverySerial) (stored : EveryStored) (trees : EveryTree) (maps
     recovers : Recovers g s (image_of g s (λ _. left) s.saved)
     recovers = subst (λ (x : State). Recovers g x (image_of g x (λ _. left) x.saved)) c.reached.run_is
         (stored g c.reached.events (λ _. left)
-            (subst (λ (x : State). (w : ℕ) → 0 < w → w ≤ g.workers → IsFront left (log_of w x.entries)) (sym c.reached.run_is) fronts)
-            (subst (λ (x : State). (w : ℕ) → 0 < w → w ≤ g.workers → (r : Entry) → Has r (log_of w x.entries) → r.number ≤ x.flushed w → Has r left) (sym c.reached.run_is) flushed))
+        (subst (λ (x : State). (w : ℕ) → 0 < w → w ≤ g.workers → IsFront left (log_of w x.entries)) (sym c.reached.run_is) fronts)
+        (subst (λ (x : State). (w : ℕ) → 0 < w → w ≤ g.workers → (r : Entry) → Has r (log_of w x.entries) → r.number ≤ x.flushed w → Has r left) (sym c.reached.run_is) flushed))
 
     kept_is : kept_in g s (image_of g s (λ _. left) s.saved) ≡ kept_of g xs left
     kept_is = ap (λ (i : Image). kept i.logs i.floor (found i) (journal_in g s)) image_is ∙ ap (kept 1 g.base (left ++ [])) journal_now
@@ -148,17 +109,17 @@ module _ (serial : EverySerial) (stored : EveryStored) (trees : EveryTree) (maps
     is_end u e = wins far e && ((e.log == u.session) && (e.txn == u.number))
 
     has : (u : Txn) (e : Entry) → Has u (journal xs) → Has e left → is_commit e.kind ≡ true → e.txn ≡ u.number → Has u (kept_of g xs left)
-    has u e i j k n = has_keep (is_kept 1 g.base (left ++ [])) (journal xs) u i (or_right (leb u.at g.base) (any (is_end u) (left ++ [])) (has_any (is_end u) (left ++ []) e (has_front e left j)
+    has u e i j k n = has_keep (is_kept 1 g.base (left ++ [])) (journal xs) u i (or_right (leb u.at g.base) (any (is_end u) (left ++ [])) (has_any (is_end u) (left ++ []) e (has_left e left [] j)
         (and_from (wins far e) ((e.log == u.session) && (e.txn == u.number))
-            (and_from (is_commit e.kind) (leb e.need far) k (le-leb e.need far (let z = (logged e j).free in omega arith)))
-            (and_from (e.log == u.session) (e.txn == u.number) (eq-eqb e.log u.session ((logged e j).own ∙ sym (ended u i).own)) (eq-eqb e.txn u.number n)))))
+        (and_from (is_commit e.kind) (leb e.need far) k (le-leb e.need far (let z = (logged e j).free in omega arith)))
+        (and_from (e.log == u.session) (e.txn == u.number) (eq-eqb e.log u.session ((logged e j).own ∙ sym (ended u i).own)) (eq-eqb e.txn u.number n)))))
 
     only : (u : Txn) → Has u (kept_of g xs left) → (e : Entry) × Has e left × (is_commit e.kind ≡ true) × (e.txn ≡ u.number)
     only u i = let q = keep_has (is_kept 1 g.base (left ++ [])) (journal xs) u i in elim (or_cases (leb u.at g.base) (any (is_end u) (left ++ [])) q.1) [
       | inl l ↦ (let a = leb-true u.at g.base l in let b = (ended u q.0).above in absurd (omega arith))
       | inr l ↦ (let x = any_has (is_end u) (left ++ []) l in
           let y = and_parts (wins far x.0) ((x.0.log == u.session) && (x.0.txn == u.number)) x.2 in
-          (x.0, has_back x.0 left x.1, (and_parts (is_commit x.0.kind) (leb x.0.need far) y.0).0, eqb-true x.0.txn u.number (and_parts (x.0.log == u.session) (x.0.txn == u.number) y.1).1))
+          (x.0, end_of x.0 left x.1, (and_parts (is_commit x.0.kind) (leb x.0.need far) y.0).0, eqb-true x.0.txn u.number (and_parts (x.0.log == u.session) (x.0.txn == u.number) y.1).1))
     ]
 
     survives : Survives g xs left

@@ -1,19 +1,17 @@
 -- An opening on the pages that recovery leaves: each word that is set back is one that a leaf can have.
-use Rattle.std.proofs.Common.{◌≡◌, ◌⊎◌, ◌≤◌, ◌<◌, ℕ, zero, suc, Bool, true, false, cond, ◌&&◌, ◌||◌, not, leb, ltb, ◌==◌, List, [], ◌∷◌, ◌++◌, refl, sym, ap, ap₂, ◌∙◌, subst, inl, inr, arith, true≢false}
+use Rattle.std.proofs.Common.{◌≡◌, ◌⊎◌, ◌≤◌, ◌<◌, ℕ, zero, suc, Bool, true, false, cond, ◌&&◌, ◌||◌, not, leb, ltb, ◌==◌, List, [], ◌∷◌, ◌++◌, refl, sym, ap, ap₂, ◌∙◌, inl, inr, arith, true≢false}
 use Rattle.std.proofs.lemmas.Bool.{cases_eq, eq-eqb, ne_eqb, and_parts, or_cases, leb-true, ltb-true, lt-ltb, cond-true, cond-false}
 use Rattle.map_model.specs.Lists.{Has, upd, insert_by, in_order}
-use Rattle.page_model.specs.Nodes.{Format, Node}
-use Rattle.page_model.specs.Tree.{IsTree}
+use Rattle.page_model.specs.Nodes.{Format}
 use Rattle.page_model.specs.Records.{Record}
 use Rattle.image_model.specs.Entries.{Kind, Entry, Page, is_write, is_page, page_kind, earlier}
-use Rattle.image_model.specs.Redo.{Redone, mark, stands, redo, names_pages, is_sayable_as, can_change, passes, all_pass}
-use Rattle.image_model.specs.Undo.{is_lost}
+use Rattle.image_model.specs.Redo.{mark, stands, redo, names_pages, is_sayable_as, can_change, passes, all_pass}
 use Rattle.image_model.specs.Ends.{reach, ended}
 use Rattle.image_model.specs.Images.{Image, IsSound, IsFalling, gathered, found, sorted, bases, redone, lost, recovered_page}
 use Rattle.image_model.specs.Laws.{UndoneLaws, EveryUndone}
-use Rattle.core_state.specs.States.{Opening, start_page}
-use Rattle.session_model.specs.Sessions.{IsAlone}
-use Rattle.session_model.specs.Laws.{IsOwn, Opened, EveryOpening}
+use Rattle.core_state.specs.States.{Opening}
+use Rattle.session_model.specs.Laws.{IsOwn, EveryOpening}
+use Rattle.session_model.proofs.Lists.{has_cases, insert_has, order_has}
 
 -- ## Marks
 
@@ -21,11 +19,6 @@ use Rattle.session_model.specs.Laws.{IsOwn, Opened, EveryOpening}
 abbrev pub AreMarked : List Entry → Type 0
 AreMarked [] = Unit {0}
 AreMarked (x ∷ z) = AreMarked z × ((r : Entry) → Has r z → r.log ≡ x.log → r.number ≡ x.number → ⊥)
-
-has_cases : (x : Entry) (a b : List Entry) → Has x (a ++ b) → Has x a ⊎ Has x b
-has_cases x [] b h = inr h
-has_cases x (y ∷ a) b (inl e) = inl (inl e)
-has_cases x (y ∷ a) b (inr h) = elim (has_cases x a b h) [ inl i ↦ inl (inr i) | inr i ↦ inr i ]
 
 marked_log : (l : List Entry) → IsFalling l → AreMarked l
 marked_log [] f = tt
@@ -38,27 +31,6 @@ marked_both (x ∷ a) b m n apart = (marked_both a b m.0 n (λ y r i j. apart y 
     here : (r : Entry) → Has r (a ++ b) → r.log ≡ x.log → r.number ≡ x.number → ⊥
     here r i e d = elim (has_cases r a b i) [ inl j ↦ m.1 r j e d | inr j ↦ apart x r (inl refl) j e ]
 
-insert_has : (x : Entry) (ys : List Entry) (z : Entry) → Has z (insert_by earlier x ys) → Has z (x ∷ ys)
-insert_has x [] z h = h
-insert_has x (y ∷ ys) z h = go (insert_has x ys z) (earlier x y) h
-  where
-    swap : Has z (x ∷ ys) → Has z (x ∷ y ∷ ys)
-    swap (inl e) = inl e
-    swap (inr k) = inr (inr k)
-
-    go : (Has z (insert_by earlier x ys) → Has z (x ∷ ys)) → (b : Bool) → Has z (cond b (y ∷ insert_by earlier x ys) (x ∷ y ∷ ys)) → Has z (x ∷ y ∷ ys)
-    go ih true (inl e) = inr (inl e)
-    go ih true (inr k) = swap (ih k)
-    go ih false k = k
-
-order_has : (xs : List Entry) (z : Entry) → Has z (in_order earlier xs) → Has z xs
-order_has [] z h = h
-order_has (x ∷ xs) z h = go (order_has xs z) (insert_has x (in_order earlier xs) z h)
-  where
-    go : (Has z (in_order earlier xs) → Has z xs) → Has z (x ∷ in_order earlier xs) → Has z (x ∷ xs)
-    go ih (inl e) = inl e
-    go ih (inr k) = inr (ih k)
-
 marked_insert : (x : Entry) (ys : List Entry) → AreMarked ys → ((r : Entry) → Has r ys → r.log ≡ x.log → r.number ≡ x.number → ⊥) → AreMarked (insert_by earlier x ys)
 marked_insert x [] m n = (tt, n)
 marked_insert x (y ∷ ys) m n = go (marked_insert x ys m.0 (λ r i. n r (inr i))) (earlier x y)
@@ -68,12 +40,12 @@ marked_insert x (y ∷ ys) m n = go (marked_insert x ys m.0 (λ r i. n r (inr i)
     here r (inr i) e d = m.1 r i e d
 
     go : AreMarked (insert_by earlier x ys) → (b : Bool) → AreMarked (cond b (y ∷ insert_by earlier x ys) (x ∷ y ∷ ys))
-    go ih true = (ih, λ r i e d. here r (insert_has x ys r i) e d)
+    go ih true = (ih, λ r i e d. here r (insert_has earlier x ys r i) e d)
     go ih false = (m, n)
 
 marked_order : (xs : List Entry) → AreMarked xs → AreMarked (in_order earlier xs)
 marked_order [] m = tt
-marked_order (x ∷ xs) m = marked_insert x (in_order earlier xs) (marked_order xs m.0) (λ r i. m.1 r (order_has xs r i))
+marked_order (x ∷ xs) m = marked_insert x (in_order earlier xs) (marked_order xs m.0) (λ r i. m.1 r (order_has earlier xs r i))
 
 -- ## What counts could be done
 
@@ -143,7 +115,7 @@ module _ (i : Image) (sound : IsSound i) (own : IsOwn i) where
       let b = and_parts ((redone i).counts r.log r.number) (not (ended (reach i.logs i.floor (found i)) (found i) r)) a.1 in
       let s = counted_sayable i.format (bases i) (sorted i) (marked_order (found i) (marked_found i.logs (omega arith))) sound.done r j a.0 b.0 in
       let d = said_before i.format r.kind r.record_of a.0 s in
-      let q = of_log i.logs (omega arith) r (order_has (found i) r j) in
+      let q = of_log i.logs (omega arith) r (order_has earlier (found i) r j) in
       let e = own.before q.0 q.1 q.2 r q.3 a.0 in omega arith
 
 pub every_opening : EveryUndone → EveryOpening

@@ -1,27 +1,28 @@
 -- A state of the core beside a session: it is reached by events, and it has the session's pages, numbers and records.
 -- Any leaf of the session can be brought into its frame.
-use Rattle.std.proofs.Common.{◌≡◌, ◌⊎◌, ◌≤◌, ◌<◌, ◌+◌, ℕ, zero, suc, Bool, true, false, cond, ◌&&◌, ◌||◌, not, leb, ltb, ◌==◌, List, [], ◌∷◌, refl, sym, ap, ◌∙◌, subst, inl, inr, arith, true≢false}
-use Rattle.std.proofs.lemmas.Bool.{cases_Bool, cases_eq, lt-ltb, and_parts, and_from, or_left, or_right}
+use Rattle.std.proofs.Common.{◌≡◌, ◌⊎◌, ◌≤◌, ◌<◌, ◌+◌, ℕ, zero, suc, Bool, true, false, ◌&&◌, ◌||◌, not, ltb, ◌==◌, List, [], refl, sym, ap, ◌∙◌, subst, inl, inr, arith}
+use Rattle.std.proofs.lemmas.Bool.{cases_eq, lt-ltb, and_parts, and_from}
 use mathlib.Core.Path.{fun_ext}
 use Rattle.map_model.specs.Lists.{upd}
 use Rattle.map_model.specs.Histories.{Step, last_write, over}
 use Rattle.map_model.specs.Journals.{after}
 use Rattle.page_model.specs.Pairs.{Span}
-use Rattle.page_model.specs.Nodes.{Format, Node, is_leaf, covers, holds}
+use Rattle.page_model.specs.Nodes.{is_leaf, covers, holds}
 use Rattle.page_model.specs.Tree.{Names, IsTree}
 use Rattle.page_model.specs.Laws as page_laws
 use Rattle.page_model.specs.Laws.{TreeLaws}
 use Rattle.page_model.specs.Check.{names_page}
-use Rattle.core_state.specs.Lists.{all_below}
+use Rattle.image_model.specs.Entries.{Page}
 use Rattle.core_state.specs.States as states
 use Rattle.core_state.specs.States.{Opening, State, Place, is_hot, is_cold, in_frame}
 use Rattle.core_state.specs.Events.{Event}
-use Rattle.core_state.specs.Needs.{has_hot_parent, is_empty_frame, may}
-use Rattle.core_state.specs.Steps.{happens, run}
+use Rattle.core_state.specs.Needs.{has_hot_parent, is_empty_frame}
+use Rattle.core_state.specs.Steps.{happens}
 use Rattle.core_index.specs.Answers.{EveryTree}
 use Rattle.core_crash.specs.Crashes.{first_map}
-use Rattle.session_model.specs.Sessions.{Session, start, nodes_of, IsAlone}
+use Rattle.session_model.specs.Sessions.{Session, start, nodes_of}
 use Rattle.session_model.specs.Calls.{Answered}
+use Rattle.session_model.proofs.Lists.{upd_same}
 use Rattle.session_model.proofs.Reaches.{Reached, reached_start, reached_more}
 use Rattle.session_model.proofs.Workers.{Worked, Rowed}
 use Rattle.session_model.proofs.Counts.{Counted, counted_start, Told}
@@ -78,7 +79,7 @@ pub record Heated (g : Opening) (xs : List Answered) (t : Session) (p : ℕ) : T
 
 module _ (g : Opening) (trees : EveryTree) (laws : page_laws.EveryTree) (frames : g.format.pages ≤ g.frames) (xs : List Answered) (t : Session) where
   pub tree_of : (s : State) (h : List Step) → Picture g xs t s h → IsTree g.format (nodes_of t)
-  tree_of s h c = subst (IsTree g.format) (fun_ext (λ p. ap (λ (x : Rattle.image_model.specs.Entries.Page). x.node) (c.paged.same p)))
+  tree_of s h c = subst (IsTree g.format) (fun_ext (λ p. ap (λ (x : Page). x.node) (c.paged.same p)))
       (subst (λ (x : State). IsTree g.format (states.nodes_of x)) c.reached.run_is (trees g c.reached.events))
 
   load : (s : State) (h : List Step) → Picture g xs t s h → (p : ℕ) → p < g.format.pages → is_cold (s.place p) ≡ true → s.page p ≡ s.saved p → has_hot_parent g s p ≡ true → Picture g xs t (happens g s (Event.Load p p)) h
@@ -111,13 +112,13 @@ module _ (g : Opening) (trees : EveryTree) (laws : page_laws.EveryTree) (frames 
       named : (o : ℕ) → o < g.format.pages → (b : Bool) → names_page (w.state.page o).node p ≡ b → (not b || is_hot (w.state.place o)) ≡ true
       named o i false e = refl
       named o i true e = subst (λ (j : ℕ). is_hot (w.state.place j) ≡ true) (sym (one_parent g.format (nodes_of t) tl p q o z m i n a
-          (ap (λ (x : Rattle.image_model.specs.Entries.Page). names_page x.node p) (sym (w.picture.paged.same o)) ∙ e))) w.hot
+          (ap (λ (x : Page). names_page x.node p) (sym (w.picture.paged.same o)) ∙ e))) w.hot
 
       parent : has_hot_parent g w.state p ≡ true
       parent = all_below_from g.format.pages (λ o. not (names_page (w.state.page o).node p) || is_hot (w.state.place o)) (λ o i. named o i (names_page (w.state.page o).node p) refl)
 
       loaded : is_hot (upd w.state.place p (Place.Hot p) p) ≡ true
-      loaded = ap is_hot (Rattle.session_model.proofs.Frames.upd_same w.state.place p (Place.Hot p) p refl)
+      loaded = ap is_hot (upd_same w.state.place p (Place.Hot p) p refl)
 
   root : Pictured g xs t → (p : ℕ) → p ≡ 0 → Heated g xs t p
   root c p e = record { state = c.state; steps = c.steps; picture = c.picture; hot = ap (λ (i : ℕ). is_hot (c.state.place i)) e ∙ ap is_hot c.picture.paged.root }

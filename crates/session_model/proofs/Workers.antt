@@ -1,12 +1,12 @@
 -- The worker and the lock row of a session, in the core's words.
-use Rattle.std.proofs.Common.{◌≡◌, ◌⊎◌, ◌≤◌, ◌<◌, ℕ, suc, max, Bool, true, false, cond, ◌&&◌, not, ltb, leb, ◌==◌, List, [], ◌∷◌, length, Option, Some, None, refl, sym, ap, ◌∙◌, subst, inl, inr, arith, true≢false}
-use Rattle.std.proofs.lemmas.Bool.{and_left, and_right, and_from, le-ltb, le-leb, cond-true, cond-false}
+use Rattle.std.proofs.Common.{◌≡◌, ◌⊎◌, ◌≤◌, ℕ, suc, max, true, false, cond, ◌&&◌, not, ltb, leb, ◌==◌, [], length, Some, None, refl, sym, ap, ◌∙◌, subst, inl, inr, arith}
+use Rattle.std.proofs.lemmas.Bool.{and_left, and_right, le-ltb, le-leb, cond-true, cond-false}
 use Rattle.map_model.specs.Lists.{keep}
-use Rattle.rfa_model.specs.Stamps.{is_remote, owed, need_of}
+use Rattle.rfa_model.specs.Stamps.{is_remote, need_of}
 use Rattle.rfa_model.specs.Reaches.{least}
-use Rattle.core_state.specs.States.{Opening, Row, Worker}
+use Rattle.core_state.specs.States.{Row, Worker}
 use Rattle.core_state.specs.Events.{Mode}
-use Rattle.core_state.specs.Needs.{is_held_by, is_free, is_reader, holds_row, may_hold}
+use Rattle.core_state.specs.Needs.{is_held_by, may_hold}
 use Rattle.core_state.specs.Steps as steps
 use Rattle.core_state.specs.Steps.{touch, at_row, finished, locked, unlocked}
 use Rattle.session_model.specs.Sessions.{Session, begun, committed}

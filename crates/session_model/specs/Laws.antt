@@ -7,7 +7,6 @@ use Rattle.map_model.specs.Histories.{last_write, over}
 use Rattle.map_model.specs.Journals.{Txn, Journal, after, Serial, IsClosed}
 use Rattle.map_model.specs.Laws.{IsFalling}
 use Rattle.map_model.specs.Transcripts.{lines_in, steps_of}
-use Rattle.page_model.specs.Nodes.{Format}
 use Rattle.page_model.specs.Tree.{IsTree, value}
 use Rattle.image_model.specs.Entries.{Entry, is_write, is_commit}
 use Rattle.image_model.specs.Ends.{kept}
