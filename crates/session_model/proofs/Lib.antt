@@ -1,0 +1,11 @@
+pub mod Lists
+pub mod Reaches
+pub mod Workers
+pub mod Counts
+pub mod Frames
+pub mod Entries
+pub mod Pictures
+pub mod Events
+pub mod Calls
+pub mod Main
+pub mod Openings

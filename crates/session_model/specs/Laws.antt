@@ -7,9 +7,8 @@ use Rattle.map_model.specs.Histories.{last_write, over}
 use Rattle.map_model.specs.Journals.{Txn, Journal, after, Serial, IsClosed}
 use Rattle.map_model.specs.Laws.{IsFalling}
 use Rattle.map_model.specs.Transcripts.{lines_in, steps_of}
-use Rattle.page_model.specs.Nodes.{Format}
 use Rattle.page_model.specs.Tree.{IsTree, value}
-use Rattle.image_model.specs.Entries.{Entry, Page, is_commit}
+use Rattle.image_model.specs.Entries.{Entry, is_write, is_commit}
 use Rattle.image_model.specs.Ends.{kept}
 use Rattle.image_model.specs.Images.{Image, IsSound, StandsFor, map_of, won_by, recovered_page}
 use Rattle.core_state.specs.States.{Opening, start_page}
@@ -49,6 +48,11 @@ pub record SessionLaws (g : Opening) (xs : List Answered) (s : Session) : Type 0
 abbrev pub EverySession : Type 0
 EverySession = (g : Opening) (changes : ℕ) → IsAlone changes g → (xs : List Answered) (s : Session) → Runs g xs s → SessionLaws g xs s
 
+-- Each record is of the log in which it stands, and a write's word before is that of its page record.
+pub record IsOwn (i : Image) : Type 0 where
+  pub log : (w : ℕ) → 0 < w → w ≤ i.logs → (r : Entry) → Has r (i.log w) → r.log ≡ w
+  pub before : (w : ℕ) → 0 < w → w ≤ i.logs → (r : Entry) → Has r (i.log w) → is_write r.kind ≡ true → r.before ≡ r.record_of.before
+
 -- An opening on the pages that recovery of a sound image gives.
 pub record Opened (i : Image) (base changes : ℕ) : Type 0 where
   pub opening : Opening
@@ -58,7 +62,7 @@ pub record Opened (i : Image) (base changes : ℕ) : Type 0 where
   pub pages : (p : ℕ) → p < i.format.pages → start_page opening p ≡ recovered_page i p
   pub map : (k : ℕ) → first_map opening k ≡ map_of i k
 
--- There is one, at any base number that no page is above.
+-- There is one where each record is its log's own, at any base number that no page is above.
 abbrev pub EveryOpening : Type 0
-EveryOpening = (i : Image) (base changes : ℕ) → IsSound i → i.format.top ≤ key_end → i.format.dead ≤ value_end →
+EveryOpening = (i : Image) (base changes : ℕ) → IsSound i → IsOwn i → i.format.top ≤ key_end → i.format.dead ≤ value_end →
     ((p : ℕ) → p < i.format.pages → (recovered_page i p).gsn ≤ base) → Opened i base changes
