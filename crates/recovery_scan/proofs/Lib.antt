@@ -1,1 +1,3 @@
 pub mod ScanLemmas
+pub mod ReadLemmas
+pub mod RunLemmas

@@ -1,5 +1,5 @@
 -- Records that are found one after another, and the newest-first list for which they stand.
-use Rattle.std.proofs.Common.{◌≡◌, ◌⊎◌, inl, inr, ⊎_elim, ◌<◌, ◌≤◌, ◌-◌, ℕ, suc, zero, List, [], ◌∷◌, ◌++◌, length, slice_index_or, drop, take, Option, Some, None, refl, sym, ◌∙◌, ap, subst, arith}
+use Rattle.std.proofs.Common.{◌≡◌, inl, inr, ◌<◌, ◌≤◌, ◌-◌, ℕ, suc, zero, List, [], ◌∷◌, ◌++◌, length, slice_index_or, drop, take, Option, Some, None, refl, sym, ◌∙◌, ap, subst, arith}
 use Rattle.std.proofs.lemmas.Option.{none-some}
 use Rattle.std.proofs.Math.Seq.{drop-append_seam, take-length}
 use Rattle.std.proofs.lemmas.List.{length-drop}
@@ -11,7 +11,7 @@ use Rattle.disk_image.specs.Records.{entry_of}
 use Rattle.disk_image.specs.Runs.{Logged, entries_in, records_onto}
 use Rattle.recovery_scan.specs.declared.found.Found.{Found}
 use Rattle.recovery_scan.specs.Records.{logged_of, logged_onto}
-use Rattle.log_record.specs.Spelling.{record_text, Fits, Begins}
+use Rattle.log_record.specs.Spelling.{record_text, Fits}
 use Rattle.log_block.specs.Block.{AllFit, records_text}
 use Rattle.recovery_scan.specs.Inside.{logged, IsAbove, IsNotAbove, IsLate, Added, IsAdding, AllAdded, IsDoing}
 

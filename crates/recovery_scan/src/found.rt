@@ -21,5 +21,7 @@ pub enum What {
         after: u64,
     },
     /// The transaction is committed where all numbers up to `need` are on disk.
-    Commit { need: u64 },
+    Commit {
+        need: u64,
+    },
 }

@@ -4,6 +4,7 @@ ghost use Rattle.lean_disk.specs.Faults.{HasCause};
 ghost use Rattle.lean_disk.specs.Moments.{OnlyReads};
 ghost use Rattle.lean_disk.specs.Story.{Tells};
 ghost use Rattle.disk_slots.specs.Masters.{IsMaster};
+ghost use Rattle.log_block.specs.Block.{Belongs};
 ghost use Rattle.disk_image.specs.Blocks.{belongs};
 ghost use Rattle.disk_image.specs.Runs.{block_at};
 ghost use Rattle.recovery_scan.specs.Scans.{IsBadLog, IsScan, areas_of};
@@ -42,6 +43,7 @@ fn read_at<P: Part>(
         is ≡ belongs generation log number (block_at blocks number ((P.story dev.old).area (P.seat dev.old).area).bytes)) }
     ensures bytes { IfOk result (λ is. Tells (P.story dev.old) (P.seat dev.old).area → is ≡ true →
         buffer.new ≡ block_at blocks number ((P.story dev.old).area (P.seat dev.old).area).bytes) }
+    ensures holds { IfOk result (λ is. is ≡ true → Belongs generation log number buffer.new) }
     ensures long { length buffer.new ≡ 2048 }
     ensures reads { OnlyReads (P.story dev.old) (P.story dev.new) }
     ensures seat { P.seat dev.new ≡ P.seat dev.old }
@@ -78,7 +80,14 @@ pub fn scan<P: Part>(
     let mut count = 0;
     while count < master.blocks {
         let number = head + count as u64;
-        match read_at(dev, master.generation, log, master.blocks, number, &mut block) {
+        match read_at(
+            dev,
+            master.generation,
+            log,
+            master.blocks,
+            number,
+            &mut block,
+        ) {
             Ok(true) => {}
             Ok(false) => return Ok(found),
             Err(_) => return Err(Unread::DiskFault),

@@ -1,4 +1,4 @@
-use Rattle.std.proofs.Common.{◌≡◌, ◌<◌, ◌≤◌, ◌-◌, ℕ, suc, length, slice_index_or, arith}
+use Rattle.std.proofs.Common.{◌≡◌, ◌<◌, ◌≤◌, ◌-◌, suc, length, slice_index_or, arith}
 use Rattle.recovery_scan.specs.declared.found.Found.{Found}
 use Rattle.recovery_scan.specs.declared.found.What.TheVariants.{Change}
 use Rattle.recovery_scan.proofs.ScanLemmas.{ends-last, above-last, not-above-last}

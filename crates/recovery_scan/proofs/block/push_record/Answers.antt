@@ -1,4 +1,4 @@
-use Rattle.std.proofs.Common.{◌≡◌, List, subst}
+use Rattle.std.proofs.Common.{List, subst}
 use Rattle.recovery_scan.specs.declared.found.Found.{Found}
 use Rattle.image_model.specs.Images.{IsFalling}
 use Rattle.disk_image.specs.Runs.{entries_in}

@@ -1,4 +1,4 @@
-use Rattle.std.proofs.Common.{◌≡◌, inl, inr, List, IsOk, subst}
+use Rattle.std.proofs.Common.{inl, inr, List, IsOk, subst}
 use Rattle.std.proofs.lemmas.Bool.{false≢true}
 use Rattle.log_record.specs.declared.record.Record.{Record}
 use Rattle.disk_image.specs.Blocks.{block_in}
