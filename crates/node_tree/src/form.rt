@@ -28,6 +28,7 @@ fn is_free(node: &Node) -> bool
     !node.is_live() && node.level() == 0 && node.low() == 0 && node.high() == 0 && node.count() == 0
 }
 
+// Its words are asked for since their contract says what the type promises.
 fn is_node(pages: usize, node: &Node) -> bool
     ensures { result ≡ model.is_node_ok (format_of pages) node.now.node }
 {
@@ -41,7 +42,7 @@ fn is_node(pages: usize, node: &Node) -> bool
     begins_at_low(node)
 }
 
-// Only a node without pairs may have crossed fences.
+// Only a node without pairs may have crossed fences: the words promise the order of the others.
 fn is_rising(node: &Node) -> bool
     ensures { result ≡ model.is_rising node.now.node.low node.now.node.pairs node.now.node.high }
 {
