@@ -1,6 +1,5 @@
 -- Pairs by their places, and loops over them.
-use Rattle.std.proofs.Common.{◌≡◌, ◌+◌, ◌<◌, ◌≤◌, ◌==◌, ◌&&◌, ◌||◌, ℕ, zero, suc, Bool, true, false, leb, ltb, List, [], ◌∷◌, length, drop, get_or, Some, refl, sym, ap, ◌∙◌, arith, add-one}
-use Rattle.std.specs.Prelude.{slice_get}
+use Rattle.std.proofs.Common.{◌≡◌, ◌+◌, ◌<◌, ◌≤◌, ◌&&◌, ℕ, zero, suc, Bool, true, false, leb, List, [], ◌∷◌, length, drop, get_or, refl, sym, ap, ◌∙◌, arith, add-one}
 use Rattle.page_model.specs.Pairs.{Pair, Rising, first_key, Span, spans}
 use Rattle.page_model.specs.Needs.{key_at}
 use Rattle.page_model.specs.Nodes.{Format, Node}
@@ -8,9 +7,8 @@ use Rattle.page_model.specs.Page.{Page, word_at}
 use Rattle.page_model.specs.Check.{all, is_rising, word_ok, is_child}
 use Rattle.btree_node.specs.Words.{IsOrdered}
 use Rattle.std.proofs.lemmas.Bool.{and_from, le-leb}
-use Rattle.disk_image.specs.Formats.{format_of}
 use Rattle.node_tree.specs.Nodes.{nodes_of}
-use Rattle.node_tree.specs.Inside.{word_fits, stands_below, fence_behind}
+use Rattle.node_tree.specs.Inside.{stands_below, fence_behind}
 
 -- the pair at a place
 abbrev pub pair_at : ℕ → List Pair → Pair

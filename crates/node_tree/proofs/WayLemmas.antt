@@ -1,9 +1,9 @@
 -- The way from the root to a key's leaf.
-use Rattle.std.proofs.Common.{◌≡◌, ◌+◌, ◌-◌, ◌^◌, ◌<◌, ◌≤◌, ◌==◌, ◌&&◌, ℕ, zero, suc, Bool, true, false, leb, ltb, List, [], ◌∷◌, length, refl, sym, ap, ◌∙◌, subst, arith}
+use Rattle.std.proofs.Common.{◌≡◌, ◌-◌, ◌^◌, ◌<◌, ◌≤◌, ◌==◌, ◌&&◌, ℕ, suc, true, leb, ltb, List, [], ◌∷◌, length, refl, sym, subst, arith}
 use Rattle.std.proofs.lemmas.Bool.{and_from, le-leb, lt-ltb, eq-eqb}
 use Rattle.page_model.specs.Pairs.{Pair, first_key, route}
 use Rattle.page_model.specs.Needs.{key_at}
-use Rattle.page_model.specs.Nodes.{Node, holds}
+use Rattle.page_model.specs.Nodes.{holds}
 use Rattle.page_model.specs.Page.{Page}
 use Rattle.page_model.specs.Tree.{IsTree}
 use Rattle.page_model.specs.Laws.{EveryTree}

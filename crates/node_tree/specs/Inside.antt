@@ -1,6 +1,6 @@
 -- Words of private functions: the way to a leaf, rows of marks, and the parts of the test of a page.
 use Rattle.std.specs.Prelude.{◌≡◌, ◌<◌, ◌≤◌, ◌&&◌, ◌||◌, ◌==◌, ◌^◌, ℕ, suc, zero, Bool, true, false, ltb, leb, List, [], ◌∷◌, length, slice_index_or, if◌then◌else◌}
-use Rattle.page_model.specs.Pairs.{Pair, Span, first_key}
+use Rattle.page_model.specs.Pairs.{Pair, first_key}
 use Rattle.page_model.specs.Nodes.{Node}
 use Rattle.page_model.specs.Page.{Page}
 use Rattle.page_model.specs.Check.{some_below, names_page}
