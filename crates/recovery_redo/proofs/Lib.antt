@@ -1,0 +1,4 @@
+pub mod LogLemmas
+pub mod OutcomeLemmas
+pub mod PageLemmas
+pub mod ChangeLemmas
