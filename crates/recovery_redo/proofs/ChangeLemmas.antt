@@ -11,7 +11,7 @@ use Rattle.image_model.specs.Redo.{stands, passes}
 use Rattle.disk_image.specs.Formats.{format_of}
 use Rattle.recovery_redo.specs.declared.redo.Change.{Change}
 use Rattle.recovery_redo.specs.Images.{page_of, pages_of}
-use Rattle.recovery_redo.specs.Inside.{change_of, one_redone, takes}
+use Rattle.recovery_redo.specs.Inside.{change_of, one_redone, takes, SameOwn}
 use Rattle.recovery_redo.proofs.PageLemmas.{page_here, pages_set}
 
 module _ (n : ℕ) (page : ℕ → model.Page) (x : Change) where
@@ -55,13 +55,13 @@ module _ (n : ℕ) (page : ℕ → model.Page) (x : Change) where
     counted_by : (stood || beyond) ≡ true
     counted_by = go counts
       where
-        go : ((page x.page).gsn ≡ x.prev) ⊎ (x.number ≤ (page x.page).gsn) → (stood || beyond) ≡ true
-        go (inl e) = ap (λ b. b || beyond) (eq-eqb (page x.page).gsn x.prev e)
-        go (inr h) = ap (λ b. stood || b) (le-leb x.number (page x.page).gsn h) ∙ any_true stood
-
         any_true : (b : Bool) → (b || true) ≡ true
         any_true true = refl
         any_true false = refl
+
+        go : ((page x.page).gsn ≡ x.prev) ⊎ (x.number ≤ (page x.page).gsn) → (stood || beyond) ≡ true
+        go (inl e) = ap (λ b. b || beyond) (eq-eqb (page x.page).gsn x.prev e)
+        go (inr h) = ap (λ b. stood || b) (le-leb x.number (page x.page).gsn h) ∙ any_true stood
 
     pub counted : true ≡ stands page (change_of x)
     counted = sym (ap (λ b. b && true) counted_by)
@@ -73,13 +73,13 @@ module _ (n : ℕ) (page : ℕ → model.Page) (x : Change) where
     pub wordless : (2 ^ 63 < x.before) ⊎ (2 ^ 63 < x.after) → false ≡ passes (format_of n) page (change_of x)
     wordless h = sym (passing ∙ ap (λ b. b && ((not (stood || false) || takes x.key (page x.page).node) && true)) (go h))
       where
-        go : (2 ^ 63 < x.before) ⊎ (2 ^ 63 < x.after) → words ≡ false
-        go (inl a) = ap (λ b. b && leb x.after (2 ^ 63)) (lt-leb x.before (2 ^ 63) a)
-        go (inr a) = ap (λ b. leb x.before (2 ^ 63) && b) (lt-leb x.after (2 ^ 63) a) ∙ none (leb x.before (2 ^ 63))
-
         none : (b : Bool) → (b && false) ≡ false
         none true = refl
         none false = refl
+
+        go : (2 ^ 63 < x.before) ⊎ (2 ^ 63 < x.after) → words ≡ false
+        go (inl a) = ap (λ b. b && leb x.after (2 ^ 63)) (lt-leb x.before (2 ^ 63) a)
+        go (inr a) = ap (λ b. leb x.before (2 ^ 63) && b) (lt-leb x.after (2 ^ 63) a) ∙ none (leb x.before (2 ^ 63))
 
     module _ (before : x.before ≤ 2 ^ 63) (after : x.after ≤ 2 ^ 63) where
       worded : words ≡ true
@@ -138,8 +138,28 @@ written_as x v = ap (λ (w : Node). record { gsn = x.number; last = 1; node = w 
     (sym (cond-true (x.page == x.page) (record { live = v.node.live; level = v.node.level; low = v.node.low; high = v.node.high; pairs = put x.key x.after v.node.pairs }) v.node (eq-eqb x.page x.page refl)))
 
 -- the page written and stored
-pub stored : (pages : List Page) (x : Change) (v y : Page) → x.page < length pages → v ≡ get_or pages x.page v → y ≡ left x v →
+pub stored : (pages : List Page) (x : Change) (d y : Page) → x.page < length pages → y ≡ left x (get_or pages x.page d) →
     pages_of (set pages x.page y) ≡ (λ p. cond (p == x.page) (written (change_of x) x.page (pages_of pages x.page)) (pages_of pages p))
-stored pages x v y l is made =
+stored pages x d y l made =
+    let one : (model.Page → ℕ → model.Page) = λ w p. cond (p == x.page) w (pages_of pages p) in
     pages_set pages x.page y l
-    ∙ ap (λ (w : model.Page) p. cond (p == x.page) w (pages_of pages p)) (ap page_of made ∙ (written_as x v ∙ ap (written (change_of x) x.page) (sym (page_here pages x.page v l is))))
+    ∙ ap one (ap page_of made ∙ (written_as x (get_or pages x.page d) ∙ ap (written (change_of x) x.page) (sym (page_here pages x.page d l))))
+
+-- the number of a page that was read
+pub number_here : (pages : List Page) (i g : ℕ) (d : Page) → i < length pages → g ≡ (get_or pages i d).gsn → (pages_of pages i).gsn ≡ g
+number_here pages i g d l e = ap (λ (v : model.Page). v.gsn) (page_here pages i d l) ∙ sym e
+
+pub counts_by : (a g prev number : ℕ) → a ≡ g → ((g ≡ prev → ⊥) × (number ≤ g)) ⊎ (g ≡ prev) → (a ≡ prev) ⊎ (number ≤ a)
+counts_by a g prev number e (inl h) = inr (let l = h.1 in omega arith)
+counts_by a g prev number e (inr h) = inl (e ∙ h)
+
+pub wordless_by : (before after : ℕ) → (2 ^ 63 < before) ⊎ ((before ≤ 2 ^ 63) × (2 ^ 63 < after)) → (2 ^ 63 < before) ⊎ (2 ^ 63 < after)
+wordless_by before after (inl h) = inl h
+wordless_by before after (inr h) = inr h.1
+
+-- the leaf that was tested
+pub taken_here : (pages : List Page) (i key : ℕ) (b : Bool) (d : Page) → i < length pages → b ≡ takes key (get_or pages i d).node → takes key (pages_of pages i).node ≡ b
+taken_here pages i key b d l e = ap (λ (v : model.Page). takes key v.node) (page_here pages i d l) ∙ sym e
+
+pub left_own : (x : Change) (v y : Page) → y ≡ left x v → SameOwn v y
+left_own x v y e = record { number = ap (λ (w : Page). w.number) e; generation = ap (λ (w : Page). w.generation) e }

@@ -30,8 +30,8 @@ get_here xs i x l e = slice_get-get_or xs i x l ∙ ap Some (sym e)
 
 -- ## Pages by their numbers
 
-pub page_here : (pages : List Page) (i : ℕ) (x : Page) → i < length pages → x ≡ get_or pages i x → pages_of pages i ≡ page_of x
-page_here pages i x l e = ap page_or (get_here pages i x l e)
+pub page_here : (pages : List Page) (i : ℕ) (d : Page) → i < length pages → pages_of pages i ≡ page_of (get_or pages i d)
+page_here pages i d l = ap page_or (slice_get-get_or pages i d l)
 
 pub page_beyond : (pages : List Page) (p : ℕ) → length pages ≤ p → pages_of pages p ≡ page_or None
 page_beyond pages p l = ap page_or (slice_get_past pages p l)
@@ -78,16 +78,16 @@ keeps_both a b c m n o f g = record {
     unmarked p h = elim (cases_Bool (get_or n p false)) [ inl t ↦ absurd (true≢false (sym (g.stay p t) ∙ h)) | inr e ↦ e ]
 
 -- a page is changed and marked
-pub keeps_set : (pages : List Page) (marks : List Bool) (i : ℕ) (x y : Page) → length marks ≡ length pages → i < length pages → x ≡ get_or pages i x → SameOwn x y →
+pub keeps_set : (pages : List Page) (marks : List Bool) (i : ℕ) (d y : Page) → length marks ≡ length pages → i < length pages → SameOwn (get_or pages i d) y →
     Keeps pages (set pages i y) marks (set marks i true)
-keeps_set pages marks i x y long l is own = record {
+keeps_set pages marks i d y long l own = record {
   count = length-set pages i y;
   marks = length-set marks i true;
   own = λ p u v a b. elim (cases_eq p i) [
     | inl e ↦
-        let eu : x ≡ u = same_Some x u (sym (get_here pages i x l is) ∙ (ap (slice_get pages) (sym e) ∙ a)) in
+        let eu : get_or pages i d ≡ u = same_Some (get_or pages i d) u (sym (slice_get-get_or pages i d l) ∙ (ap (slice_get pages) (sym e) ∙ a)) in
         let ev : y ≡ v = same_Some y v (sym (get_set pages i y l) ∙ (ap (slice_get (set pages i y)) (sym e) ∙ b)) in
-        subst (λ (w : Page). SameOwn w v) eu (subst (λ (w : Page). SameOwn x w) ev own)
+        subst (λ (w : Page). SameOwn w v) eu (subst (λ (w : Page). SameOwn (get_or pages i d) w) ev own)
     | inr n ↦
         let e : u ≡ v = same_Some u v (sym a ∙ (sym (get_other pages i p y n) ∙ b)) in
         subst (λ (w : Page). SameOwn u w) e (record { number = refl; generation = refl })
