@@ -2,3 +2,4 @@ pub mod LogLemmas
 pub mod OutcomeLemmas
 pub mod PageLemmas
 pub mod ChangeLemmas
+pub mod RedoLemmas
