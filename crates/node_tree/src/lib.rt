@@ -3,6 +3,11 @@
 
 mod check;
 mod descent;
+mod form;
+mod marks;
 
 pub use check::first_break;
-pub use descent::leaf_of;
+pub use descent::{is_leaf_with, leaf_of};
+
+#[cfg(test)]
+mod tests;
