@@ -3,3 +3,5 @@ pub mod OutcomeLemmas
 pub mod PageLemmas
 pub mod ChangeLemmas
 pub mod RedoLemmas
+pub mod SetLemmas
+pub mod UndoLemmas

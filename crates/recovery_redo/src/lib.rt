@@ -4,7 +4,6 @@
 mod outcome;
 mod recovered;
 mod redo;
-mod tree;
 mod undo;
 
 pub use recovered::{Broken, Rebuilt, rebuild};

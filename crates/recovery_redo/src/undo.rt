@@ -10,8 +10,8 @@ ghost use Rattle.node_tree.specs.Nodes.{nodes_of};
 ghost use Rattle.recovery_redo.specs.Images.{pages_of};
 ghost use Rattle.recovery_redo.specs.Inside as inside;
 
-use crate::tree::leaf_of;
 use btree_node::Node;
+use node_tree::leaf_of;
 use recovery_scan::{Found, What};
 use std::collections::BTreeSet;
 
