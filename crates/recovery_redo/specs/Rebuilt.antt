@@ -1,5 +1,5 @@
 -- What redo and undo leave in memory, and why they may not go on.
-use Rattle.std.specs.Prelude.{◌≡◌, ◌⊎◌, ◌<◌, ◌≤◌, ℕ, Bool, false, true, List, ◌∷◌, ◌++◌, length, slice_index_or, Option, Some, None, slice_get}
+use Rattle.std.specs.Prelude.{◌≡◌, ◌⊎◌, ◌<◌, ◌≤◌, ℕ, Bool, false, true, List, [], ◌∷◌, ◌++◌, length, slice_index_or, Option, Some, None, slice_get}
 use Rattle.map_model.specs.Lists.{Has}
 use Rattle.page_model.specs.Page.{Page}
 use Rattle.page_model.specs.Check.{page_ok}
@@ -14,7 +14,7 @@ use Rattle.recovery_redo.specs.Images.{pages_of}
 
 -- a record in the block at the place stands in the log
 abbrev pub StandsIn : List Found → ℕ → Entry → Type 0
-StandsIn found place r = Has (record { place = place; entry = r }) (logged_onto 1 [] found)
+StandsIn records place r = Has (record { place = place; entry = r }) (logged_onto 1 [] records)
 
 -- a record in the block at the place names a page that there is not, or counts and can't be done
 pub record IsUndoable (i : Image) (found : List Found) (place : ℕ) : Type 0 where
