@@ -1,0 +1,9 @@
+pub mod TestLemmas
+pub mod WordLemmas
+pub mod PageSlotLemmas
+pub mod MasterSlotLemmas
+pub mod RecordInLemmas
+pub mod BlockInLemmas
+pub mod RunLemmas
+pub mod BreakLemmas
+pub mod AgreementLemmas

@@ -1,5 +1,5 @@
 -- The records that the bytes of a block spell, if they spell some.
-use Rattle.std.specs.Prelude.{ℕ, zero, suc, Bool, false, ◌&&◌, leb, ltb, ◌==◌, ◌^◌, List, [], ◌∷◌, length, drop, take, slice_index, Option, Some, None, if◌then◌else◌}
+use Rattle.std.specs.Prelude.{ℕ, zero, suc, Bool, false, ◌&&◌, leb, ltb, ◌==◌, ◌^◌, List, [], ◌∷◌, length, drop, take, Option, Some, None, if◌then◌else◌}
 use Rattle.std.specs.Str.{bytes_eq}
 use Rattle.page_model.specs.Check.{is_nil}
 use Rattle.lean_bytes.specs.Numbers.{number_at}

@@ -1,10 +1,10 @@
 -- Which place of a disk breaks a rule.
-use Rattle.std.specs.Prelude.{◌≡◌, ◌⊎◌, ◌<◌, ◌≤◌, ◌+◌, ◌%◌, ℕ, suc, false, true, List, ◌∷◌, ◌++◌, map, length, Option, None}
+use Rattle.std.specs.Prelude.{◌≡◌, ◌⊎◌, ◌<◌, ◌≤◌, ◌%◌, ℕ, suc, false, true, List, ◌∷◌, ◌++◌, length, None}
 use Rattle.map_model.specs.Lists.{Has}
 use Rattle.page_model.specs.Check.{page_ok}
 use Rattle.image_model.specs.Entries.{Entry}
 use Rattle.image_model.specs.Redo.{redo, passes}
-use Rattle.image_model.specs.Images.{Image, bases, sorted, redone, lost, has_entry}
+use Rattle.image_model.specs.Images.{bases, sorted, redone, lost, has_entry}
 use Rattle.image_model.specs.Undo.{nodes_of}
 use Rattle.image_model.specs.Slots.{base_of}
 use Rattle.disk_slots.specs.declared.master.Master.{Master}

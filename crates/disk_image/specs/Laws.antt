@@ -5,7 +5,7 @@ use Rattle.image_model.specs.Images.{Image, IsSound, map_of, won_by, lost_by, re
 use Rattle.disk_slots.specs.Pages.{IsPageSlot}
 use Rattle.disk_slots.specs.Masters.{IsMasterSlot}
 use Rattle.disk_slots.specs.declared.master.Master.{Master}
-use Rattle.log_record.specs.Spelling.{Begins, record_text, Fits}
+use Rattle.log_record.specs.Spelling.{Begins, record_text}
 use Rattle.log_record.specs.declared.record.Record.{Record}
 use Rattle.log_block.specs.Block.{IsSealed, Belongs, IsBlock}
 use Rattle.disk_image.specs.PageSlots.{page_in}

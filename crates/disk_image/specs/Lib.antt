@@ -1,4 +1,4 @@
--- Read Formats, Words, PageSlots, MasterSlots, Records, Blocks, Runs and Shown in this order; then Breaks, Same and Laws.
+-- Read Formats, Words, PageSlots, MasterSlots, Records, Blocks, Runs and Shown in this order; then Breaks and Laws.
 pub mod Formats
 pub mod Words
 pub mod PageSlots

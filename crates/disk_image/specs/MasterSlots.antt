@@ -1,5 +1,5 @@
 -- The master that the bytes of a slot spell, if they spell one; and the one that counts.
-use Rattle.std.specs.Prelude.{ℕ, Bool, true, ◌&&◌, leb, ltb, ◌==◌, ◌^◌, ◌%◌, List, [], ◌∷◌, length, drop, take, slice_index, Option, Some, None, if◌then◌else◌}
+use Rattle.std.specs.Prelude.{ℕ, Bool, ◌&&◌, leb, ltb, ◌==◌, ◌^◌, ◌%◌, List, length, drop, take, slice_index, Option, Some, None, if◌then◌else◌}
 use Rattle.std.specs.Str.{bytes_eq}
 use Rattle.map_model.specs.Lists.{all}
 use Rattle.image_model.specs.Fair.{piece}

@@ -1,5 +1,5 @@
 -- The page that the bytes of a slot spell, if they spell one.
-use Rattle.std.specs.Prelude.{ℕ, Bool, true, ◌&&◌, ◌||◌, not, leb, ltb, ◌==◌, ◌^◌, List, [], ◌∷◌, length, Option, Some, None, if◌then◌else◌}
+use Rattle.std.specs.Prelude.{ℕ, Bool, ◌&&◌, ◌||◌, not, leb, ltb, ◌==◌, ◌^◌, List, length, Option, Some, None, if◌then◌else◌}
 use Rattle.std.specs.Str.{bytes_eq}
 use Rattle.map_model.specs.Lists.{all}
 use Rattle.page_model.specs.Pairs.{Pair, first_key}

@@ -1,5 +1,5 @@
 -- The run with which a log begins, and its records.
-use Rattle.std.specs.Prelude.{◌≡◌, ◌*◌, ◌%◌, ℕ, zero, suc, List, [], ◌∷◌, map, Option, Some, None, if◌then◌else◌}
+use Rattle.std.specs.Prelude.{◌≡◌, ◌%◌, ℕ, zero, suc, List, [], ◌∷◌, map, Option, Some, None, if◌then◌else◌}
 use Rattle.image_model.specs.Fair.{piece}
 use Rattle.image_model.specs.Entries.{Entry}
 use Rattle.log_record.specs.declared.record.Record.{Record}

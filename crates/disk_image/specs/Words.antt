@@ -3,7 +3,7 @@ use Rattle.std.specs.Prelude.{ℕ, zero, suc, Bool, true, ◌&&◌, ltb, ◌^◌
 use Rattle.lean_bytes.specs.Numbers.{number_of}
 
 -- the first n words
-abbrev pub words_in : ℕ → List ℕ → List ℕ
+unfoldable pub words_in : ℕ → List ℕ → List ℕ
 words_in zero bytes = []
 words_in (suc n) bytes = number_of 8 bytes ∷ words_in n (drop 8 bytes)
 
