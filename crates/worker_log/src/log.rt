@@ -32,14 +32,6 @@ pub enum Staging {
     DiskFault,
 }
 
-impl From<DiskFault> for Staging {
-    ghost from_gives = { λ _ staging. staging ≡ Staging.DiskFault };
-
-    fn from(_: DiskFault) -> Staging {
-        Staging::DiskFault
-    }
-}
-
 /// A log in memory: the block in hand, and where it will stand in the ring. The buffers are reserved when it is made:
 /// `payload` holds `size` bytes of `count` records, and a block is spelled in `block` before it is written.
 #[derive(Drop)]
@@ -173,8 +165,10 @@ impl WorkerLog {
         ensures cause_disk_fault { HasCause (P.faults dev.old) (P.faults dev.new) (result ≡ Err Staging.DiskFault) }
     {
         self.room()?;
-        self.stage_end(dev, entry)?;
-        Ok(())
+        match self.stage_end(dev, entry) {
+            Ok(()) => Ok(()),
+            Err(_) => Err(Staging::DiskFault),
+        }
     }
 
     /// Puts the record of an end into the block in hand, and uses the blocks that are kept back.
