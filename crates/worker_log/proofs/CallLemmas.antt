@@ -11,17 +11,18 @@ use Rattle.lean_disk.specs.Moments.{LeavesOnly, CrashIn, Framed}
 use Rattle.lean_disk.specs.declared.disk.Did.{Did}
 use Rattle.lean_disk.specs.declared.disk.Did.TheVariants.{Done}
 use Rattle.lean_disk.proofs.MomentLemmas.{started, goes_on, then, weaker, framed, framed_wrote, framed_synced, crash_in}
+use Rattle.log_record.specs.Spelling.{Fits, HasCome}
 use Rattle.log_record.specs.declared.record.Record.{Record}
 use Rattle.log_block.specs.Block.{IsSealed, block_text, records_text}
 use Rattle.disk_image.specs.Runs.{Block}
 use Rattle.disk_image.proofs.BlockInLemmas.{every_belongs}
 use Rattle.disk_image.proofs.RunLemmas.{belongs-text}
 use Rattle.worker_log.specs.Inside.{IsSized}
-use Rattle.worker_log.specs.Logs.{Account, Log, all_blocks, spelled_from, with_current}
-use Rattle.worker_log.specs.Kept.{AreLate, HoldsFirst, IsBlockWrite, IsKept, LeavesBlocks, closed, closed_log, flushed, flushed_log}
-use Rattle.worker_log.proofs.ListLemmas.{block_of, fit_blocks-with, length-with, spelled-last, spelled-with, take-with, with_some}
+use Rattle.worker_log.specs.Logs.{Account, Log, all_blocks, spelled_from, used, with_current}
+use Rattle.worker_log.specs.Kept.{AreLate, HasRoom, HoldsFirst, IsBlockWrite, IsKept, LeavesBlocks, StagesTo, closed, closed_log, flushed, staged}
+use Rattle.worker_log.proofs.ListLemmas.{block_of, fit_blocks-with, length-with, one_size, size_some, spelled-last, spelled-with, take-with, with_some}
 use Rattle.worker_log.proofs.CrashLemmas.{synced_stands, front_left}
-use Rattle.worker_log.proofs.KeptLemmas.{count_none, count_some, kept_closed, kept_synced}
+use Rattle.worker_log.proofs.KeptLemmas.{count_none, count_some, kept_closed, kept_put, kept_synced}
 
 -- ## What a crash leaves
 
@@ -180,8 +181,56 @@ module _ (x : Account) (log : Log) (s0 s1 s2 : Story) (a : ℕ) (frame : Framed 
         here = same_blocks x log (c.writes a) (c.image a) (subst (λ (l : Log). LeavesBlocks (closed x) l (c.writes a) (c.image a)) is_mid in_run.here);
       })) second)
 
-  pub synced_kept : r ≡ Done → Tells s2 a → IsKept (closed x) mid (s1.area a) → IsKept (flushed x) (record mid { flushed = mid.last }) (s2.area a)
-  synced_kept done t2 kept =
-      let t1 : Tells s1 a = sym (did.time.tells a) ∙ t2 in
-      subst (IsKept (flushed x) (record mid { flushed = mid.last })) (sym (did.done t1 done))
-      (kept_synced x.first x.older (with_current x.written x.current) x.synced mid (s1.area a) sized kept)
+pub synced_kept : (x : Account) (s1 s2 : Story) (a : ℕ) (mid : Log) (sized : IsSized mid) (r : Did) → Synced a r s1 s2 → r ≡ Done → Tells s2 a → IsKept (closed x) mid (s1.area a) → IsKept (flushed x) (record mid { flushed = mid.last }) (s2.area a)
+synced_kept x s1 s2 a mid sized r did done t2 kept =
+    let t1 : Tells s1 a = sym (did.time.tells a) ∙ t2 in
+    subst (IsKept (flushed x) (record mid { flushed = mid.last })) (sym (did.done t1 done))
+    (kept_synced x.first x.older (with_current x.written x.current) x.synced mid (s1.area a) sized kept)
+
+-- ## A record that is staged
+
+-- into the block in hand
+pub staged_here : (x : Account) (old new : Log) (area : Area) (r : Record) → IsSized old → IsKept x old area → Fits r → old.last < r.gsn → HasRoom old r
+    → new ≡ record old { payload = old.payload ++ records_text (r ∷ []); count = old.count + 1; last = r.gsn } → StagesTo r x old new area
+staged_here x old new area r sized kept fits rises room is = record {
+  y = staged x r;
+  staged = record { room = λ _. refl; full = λ no. absurd (no room) };
+  kept = subst (λ (l : Log). IsKept (staged x r) l area) (sym is) (kept_put x old area sized kept r fits rises room);
+}
+
+-- a log that is sized still is where the block in hand was written
+pub sized_closed : (log : Log) → IsSized log → IsSized (closed_log log)
+sized_closed log sized =
+    let step : used (closed_log log) ≡ used log = ⊎_elim
+    (λ (some : 0 < log.count). omega (arith, count_some log.count some, sized.order))
+    (λ (none : log.count ≤ 0). omega (arith, count_none log.count (omega (arith, none)), sized.order))
+    (cases_lt 0 log.count) in
+    record {
+      some = sized.some;
+      head = sized.head;
+      order = omega (arith, sized.order);
+      ring = omega (arith, step, sized.ring);
+      payload = omega arith;
+      count = omega arith;
+      none = λ e. refl;
+      generation = sized.generation;
+      number = sized.number;
+      flushed = sized.flushed;
+      pending = λ some. absurd (omega arith);
+    }
+
+-- into the next one
+pub staged_next : (x : Account) (old mid new : Log) (area : Area) (r : Record) → IsSized old → mid ≡ closed_log old → IsKept (closed x) mid area → Fits r → HasCome r.body → old.last < r.gsn → (HasRoom old r → ⊥)
+    → new ≡ record mid { payload = mid.payload ++ records_text (r ∷ []); count = mid.count + 1; last = r.gsn } → StagesTo r x old new area
+staged_next x old mid new area r sized is_mid kept fits come rises full is =
+    let mid_sized : IsSized mid = subst IsSized (sym is_mid) (sized_closed old sized) in
+    let last : mid.last ≡ old.last = ap (λ (l : Log). l.last) is_mid in
+    let payload : length mid.payload ≡ 0 = ap (λ (l : Log). length l.payload) is_mid in
+    let few = (size_some r.body come).1 in
+    let one = one_size r come in
+    let room : HasRoom mid r = omega (arith, payload, few, one) in
+    record {
+      y = staged (closed x) r;
+      staged = record { room = λ has. absurd (full has); full = λ _. refl };
+      kept = subst (λ (l : Log). IsKept (staged (closed x) r) l area) (sym is) (kept_put (closed x) mid area mid_sized kept r fits (omega (arith, last, rises)) room);
+    }

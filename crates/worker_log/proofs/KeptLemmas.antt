@@ -183,7 +183,7 @@ module _ (x : Account) (log : Log) (area : Area) (sized : IsSized log) (kept : I
       subst (λ (y : Account). IsKept y log area) (sym account) kept
 
   -- nothing is left to flush
-  pub kept_nothing : log.last ≡ log.flushed → IsKept (flushed x) (flushed_log log) area
+  pub kept_nothing : log.last ≡ log.flushed → IsKept (flushed x) log area
   kept_nothing all_of =
       let none : log.count ≡ 0 = ⊎_elim (λ (lt : 0 < log.count). absurd (omega (arith, all_of, sized.pending lt))) (λ (le : log.count ≤ 0). omega (arith, le)) (cases_lt 0 log.count) in
       let nothing : length x.current ≡ 0 = omega (arith, none, kept.count) in
@@ -200,11 +200,7 @@ module _ (x : Account) (log : Log) (area : Area) (sized : IsSized log) (kept : I
       let dropped : length (drop x.synced x.written) ≡ 0 = none_left (drop x.synced x.written) (fit_blocks-drop x.synced x.written kept.fit.0) left in
       let synced : length (with_current x.written x.current) ≡ x.synced = ap length written ∙ (let e : length x.written ≡ x.synced = omega (arith, dropped, length-drop x.synced x.written, kept.synced) in e) in
       let account : flushed x ≡ x = λ i. record x { written = written i; synced = synced i; current = sym no_record i } in
-      let next : log.next + (if log.count == 0 then 0 else 1) ≡ log.next = omega (arith, count_none log.count none) in
-      let payload : [] ≡ log.payload = sym (sized.none none) in
-      let count : 0 ≡ log.count = sym none in
-      let same : flushed_log log ≡ log = λ i. record log { next = next i; payload = payload i; count = count i; flushed = all_of i } in
-      subst (λ (y : Account). IsKept y (flushed_log log) area) (sym account) (subst (λ (l : Log). IsKept x l area) (sym same) kept)
+      subst (λ (y : Account). IsKept y log area) (sym account) kept
 
   -- a record was put into the block in hand
   pub kept_put : (r : Record) → Fits r → log.last < r.gsn → HasRoom log r → IsKept (staged x r) (record log { payload = log.payload ++ records_text (r ∷ []); count = log.count + 1; last = r.gsn }) area

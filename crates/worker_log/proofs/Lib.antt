@@ -4,3 +4,4 @@ pub mod FrontLemmas
 pub mod CrashLemmas
 pub mod KeptLemmas
 pub mod CallLemmas
+pub mod PutLemmas

@@ -3,7 +3,10 @@ use Rattle.std.proofs.Common.{◌≡◌, ◌⊎◌, inl, inr, ⊎_elim, ℕ, zer
 use Rattle.std.proofs.lemmas.Bool.{cases_eq}
 use Rattle.std.proofs.lemmas.List.{append-nil, take-append-le, drop-append-le}
 use Rattle.map_model.specs.Lists.{Has}
-use Rattle.log_record.specs.Spelling.{Fits}
+use Rattle.log_record.specs.Spelling.{Fits, HasCome, record_text, size_of}
+use Rattle.log_record.specs.declared.record.Body.{Body}
+use Rattle.log_record.specs.declared.record.Body.TheVariants.{Change, Commit}
+use Rattle.log_record.proofs.RecordLemmas.{change_long, end_long}
 use Rattle.log_record.specs.declared.record.Record.{Record}
 use Rattle.log_block.specs.Block.{AllFit, records_text}
 use Rattle.disk_image.specs.Blocks.{belongs}
@@ -160,3 +163,25 @@ module _ (g s : ℕ) where
   spelled-belongs fg fs q (v ∷ ws) most fit b (inl is) =
       subst (λ (c : Block). belongs g s c.number c.bytes ≡ true) (sym is) (belongs-text g s q (length v) (records_text v) fg fs (omega (arith, most)) fit.1.room)
   spelled-belongs fg fs q (v ∷ ws) most fit b (inr has) = spelled-belongs fg fs (suc q) ws (omega (arith, most)) fit.2 b has
+
+-- ## How long a record is
+
+body_size : (t n : ℕ) (b : Body) → HasCome b → length (record_text (record { txn = t; gsn = n; body = b })) ≡ size_of b
+body_size t n (Change l k before after) come = change_long t n l.page l.prev k before after
+body_size t n (Commit need) come = end_long 8 t n need
+body_size t n _ come = absurd come
+
+pub record_size_is : (r : Record) → HasCome r.body → length (record_text r) ≡ size_of r.body
+record_size_is r come = body_size r.txn r.gsn r.body come
+
+pub size_some : (b : Body) → HasCome b → (25 ≤ size_of b) × (size_of b ≤ 53)
+size_some (Change l k before after) come = (omega arith, omega arith)
+size_some (Commit need) come = (omega arith, omega arith)
+size_some _ come = absurd come
+
+-- the text of one record
+pub one_text : (r : Record) → records_text (r ∷ []) ≡ record_text r
+one_text r = append-nil (record_text r)
+
+pub one_size : (r : Record) → HasCome r.body → length (records_text (r ∷ [])) ≡ size_of r.body
+one_size r come = ap length (one_text r) ∙ record_size_is r come

@@ -199,7 +199,6 @@ impl WorkerLog {
     /// Writes the block in hand if it holds a record, and syncs what is not synced. The answer is the number up to which
     /// the log is flushed then.
     pub fn flush<P: Part>(&mut self, dev: &mut P) -> Result<u64, DiskFault>
-        requires room { used self.old ≤ self.old.blocks }
         ensures answer { IfOk result (λ number. number ≡ self.old.last) }
         ensures log { OnOk result (self.new ≡ flushed_log self.old) }
         ensures kept { OnOk result ((x : Account) → Tells (P.story dev.new) (P.seat dev.old).area → IsKept x self.old ((P.story dev.old).area (P.seat dev.old).area)
@@ -215,11 +214,12 @@ impl WorkerLog {
             return Ok(self.last);
         }
         self.close_block(dev)?;
+        let last = self.last;
         let Did::Done = dev.sync() else {
             return Err(DiskFault);
         };
-        self.flushed = self.last;
-        Ok(self.last)
+        self.flushed = last;
+        Ok(last)
     }
 
     /// The number up to which it was flushed.
