@@ -59,10 +59,10 @@ impl Model for WorkerLog {
     ghost view = { λ s. record { generation = s.generation; log = s.log; blocks = s.blocks; head = s.head; next = s.next; payload = take s.size s.payload.items; count = s.count; last = s.last; flushed = s.flushed } };
 
     ghost invariant = { λ s. record {
-        sized : IsSized (record { generation = s.generation; log = s.log; blocks = s.blocks; head = s.head; next = s.next; payload = take s.size s.payload.items; count = s.count; last = s.last; flushed = s.flushed });
-        filled : s.size ≤ 2000;
-        payload_room : vec_len s.payload ≡ 2000;
-        block_room : vec_len s.block ≡ 2048;
+      sized : IsSized (record { generation = s.generation; log = s.log; blocks = s.blocks; head = s.head; next = s.next; payload = take s.size s.payload.items; count = s.count; last = s.last; flushed = s.flushed });
+      filled : s.size ≤ 2000;
+      payload_room : vec_len s.payload ≡ 2000;
+      block_room : vec_len s.block ≡ 2048;
     } };
 }
 
@@ -105,7 +105,11 @@ impl WorkerLog {
         ensures { result ≡ used self.now }
     {
         let written = (self.next - self.head) as u32;
-        if self.count == 0 { written } else { written + 1 }
+        if self.count == 0 {
+            written
+        } else {
+            written + 1
+        }
     }
 
     /// How many changes may use.
@@ -164,6 +168,7 @@ impl WorkerLog {
         ensures cause_log_full { IsErrAnd result IsLogFull ↔ IsFull self.old }
         ensures cause_disk_fault { HasCause (P.faults dev.old) (P.faults dev.new) (result ≡ Err Staging.DiskFault) }
     {
+        let _ = &self.blocks;
         self.room()?;
         match self.stage_end(dev, entry) {
             Ok(()) => Ok(()),
