@@ -17,9 +17,9 @@ use Rattle.log_block.specs.Block.{IsSealed, block_text, records_text}
 use Rattle.disk_image.specs.Runs.{Block}
 use Rattle.disk_image.proofs.BlockInLemmas.{every_belongs}
 use Rattle.disk_image.proofs.RunLemmas.{belongs-text}
-use Rattle.worker_log.specs.Inside.{IsSized}
+use Rattle.worker_log.specs.Inside.{IsSized, closed_log}
 use Rattle.worker_log.specs.Logs.{Account, Log, all_blocks, spelled_from, used, with_current}
-use Rattle.worker_log.specs.Kept.{AreLate, HasRoom, HoldsFirst, IsBlockWrite, IsKept, LeavesBlocks, StagesTo, closed, closed_log, flushed, staged}
+use Rattle.worker_log.specs.Kept.{AreLate, HasRoom, HoldsFirst, IsBlockWrite, IsKept, LeavesBlocks, StagesTo, closed, flushed, staged}
 use Rattle.worker_log.proofs.ListLemmas.{block_of, fit_blocks-with, length-with, one_size, size_some, spelled-last, spelled-with, take-with, with_some}
 use Rattle.worker_log.proofs.CrashLemmas.{synced_stands, front_left}
 use Rattle.worker_log.proofs.KeptLemmas.{count_none, count_some, kept_closed, kept_put, kept_synced}

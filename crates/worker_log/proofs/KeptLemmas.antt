@@ -13,9 +13,9 @@ use Rattle.disk_image.specs.Blocks.{belongs}
 use Rattle.disk_image.specs.Runs.{Block, block_at}
 use Rattle.disk_image.proofs.BlockInLemmas.{every_belongs}
 use Rattle.disk_image.proofs.RunLemmas.{belongs-text}
-use Rattle.worker_log.specs.Inside.{IsSized}
+use Rattle.worker_log.specs.Inside.{IsSized, closed_log}
 use Rattle.worker_log.specs.Logs.{Account, Log, joined, spelled, spelled_from, used, with_current}
-use Rattle.worker_log.specs.Kept.{AllFitBlocks, FitsBlock, HasRoom, HoldsBlocks, IsBlockWrite, IsFresh, IsKept, RiseFrom, closed, closed_log, flushed, flushed_log, fresh_account, range_of, staged}
+use Rattle.worker_log.specs.Kept.{AllFitBlocks, FitsBlock, HasRoom, HoldsBlocks, IsBlockWrite, IsKept, RiseFrom, closed, flushed, staged}
 use Rattle.worker_log.proofs.ListLemmas.{block_of, fit-push, fit_blocks-drop, fit_blocks-with, has_first, has_front, has_split, joined-drop-with, joined-dropped, joined-with, length-with, none_left, rise-has, rise-most, rise-push, spelled-last, spelled-more, spelled-number, spelled-push, spelled-take, take-with, with_none, with_some}
 use Rattle.worker_log.proofs.RingLemmas.{rem_apart, rem_next, write_here, write_other, write_size}
 use Rattle.worker_log.proofs.CrashLemmas.{written_within}
@@ -238,32 +238,3 @@ module _ (first : List ℕ) (older : List Write) (ws : List (List Record)) (done
     above = λ r has. absurd (subst (λ (l : List (List Record)). Has r (joined l ++ [])) (drop_all (length ws) ws (omega arith)) has);
     holds = holds_synced log.generation log.log log.blocks log.head first older ws done area sized.generation (omega (arith, sized.number.1)) (omega (arith, sized.head, sized.some.1)) kept.synced kept.ring kept.fit.0 kept.holds;
   }
-
--- a log begins
-pub kept_fresh : (generation log blocks head flushed : ℕ) (area : Area)
-    → IsFresh (record { generation = generation; log = log; blocks = blocks; head = head; next = head; payload = []; count = 0; last = flushed; flushed = flushed }) area
-    → IsKept (fresh_account area) (record { generation = generation; log = log; blocks = blocks; head = head; next = head; payload = []; count = 0; last = flushed; flushed = flushed }) area
-kept_fresh generation log blocks head flushed area fresh =
-    let at : head + 0 ≡ head = omega arith in
-    record {
-      next = sym at;
-      payload = refl;
-      count = refl;
-      fit = (tt, record { fit = tt; room = omega arith });
-      ring = omega arith;
-      numbers = (flushed, omega arith);
-      synced = omega arith;
-      below = λ r has. absurd has;
-      above = λ r has. absurd has;
-      holds = record {
-        since = [];
-        writes = refl;
-        blocks = λ w has. absurd has;
-        new = fresh.new;
-        fair = λ p sealed. inl refl;
-        reads = λ b has. absurd has;
-        late = record { late = λ range has. absurd (subst (Has range) fresh.clean has) };
-        end = λ b has. absurd has;
-        reach = let same : (head + 0) % blocks ≡ head % blocks = ap (λ (k : ℕ). k % blocks) at in omega (arith, same, fresh.reach);
-      };
-    }

@@ -1,5 +1,5 @@
 -- Words of private functions.
-use Rattle.std.specs.Prelude.{◌≡◌, ◌≤◌, ◌<◌, ◌+◌, ◌^◌, ℕ, [], length}
+use Rattle.std.specs.Prelude.{◌≡◌, ◌≤◌, ◌<◌, ◌+◌, ◌^◌, ◌==◌, [], length, if◌then◌else◌}
 use Rattle.worker_log.specs.Logs.{Log, used}
 
 -- the numbers of a log fit their types, and it uses no more blocks than the ring has
@@ -16,3 +16,7 @@ pub record IsSized (log : Log) : Type 0 where
   -- the block in hand holds no record that is flushed
   pub flushed : log.flushed ≤ log.last
   pub pending : 0 < log.count → log.flushed < log.last
+
+-- the block in hand was written, if it held a record, and the next one is in hand
+abbrev pub closed_log : Log → Log
+closed_log log = record log { next = log.next + (if log.count == 0 then 0 else 1); payload = []; count = 0 }

@@ -138,10 +138,6 @@ pub record After (r : Record) (old new : Log) : Type 0 where
   pub room : HasRoom old r → new ≡ record old { payload = old.payload ++ records_text (r ∷ []); count = old.count + 1; last = r.gsn }
   pub full : (HasRoom old r → ⊥) → new ≡ record old { next = old.next + 1; payload = records_text (r ∷ []); count = 1; last = r.gsn }
 
--- the block in hand was written, and the next one begins
-abbrev pub closed_log : Log → Log
-closed_log log = record log { next = log.next + (if log.count == 0 then 0 else 1); payload = []; count = 0 }
-
--- and all of it is synced
+-- the block in hand was written, if it held a record, and all is synced
 abbrev pub flushed_log : Log → Log
 flushed_log log = record log { next = log.next + (if log.count == 0 then 0 else 1); payload = []; count = 0; flushed = log.last }

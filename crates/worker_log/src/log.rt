@@ -8,7 +8,7 @@ ghost use Rattle.lean_disk.specs.Story.{Tells};
 ghost use Rattle.log_record.specs.Spelling.{Fits, HasCome, record_text};
 ghost use Rattle.log_block.specs.Block.{block_text, records_text};
 ghost use Rattle.worker_log.specs.Logs.{Log, Account, limit, used};
-ghost use Rattle.worker_log.specs.Kept.{After, HasRoom, IsFresh, IsKept, LeavesBlocks, StagesTo, closed, closed_log, flushed_log, fresh_account};
+ghost use Rattle.worker_log.specs.Kept.{After, HasRoom, IsFresh, IsKept, LeavesBlocks, StagesTo, closed, flushed_log, fresh_account};
 ghost use Rattle.worker_log.specs.Kept.{flushed as flushed_account};
 
 use lean_disk::{Did, Part};
@@ -68,7 +68,7 @@ impl Model for WorkerLog {
 
 impl WorkerLog {
     ghost use Rattle.worker_log.specs.Causes.{IsFull, IsLogFull, TellsCounts};
-    ghost use Rattle.worker_log.specs.Inside.{IsSized};
+    ghost use Rattle.worker_log.specs.Inside.{closed_log};
 
     /// A log of this number, whose first block is block `head` of a ring of so many.
     pub fn new(
@@ -168,6 +168,7 @@ impl WorkerLog {
         ensures cause_log_full { IsErrAnd result IsLogFull ↔ IsFull self.old }
         ensures cause_disk_fault { HasCause (P.faults dev.old) (P.faults dev.new) (result ≡ Err Staging.DiskFault) }
     {
+        // What holds of each log is used where it is full.
         let _ = &self.blocks;
         self.room()?;
         match self.stage_end(dev, entry) {
@@ -206,6 +207,7 @@ impl WorkerLog {
     pub fn flush<P: Part>(&mut self, dev: &mut P) -> Result<u64, DiskFault>
         ensures answer { IfOk result (λ number. number ≡ self.old.last) }
         ensures log { OnOk result (self.new ≡ flushed_log self.old) }
+        ensures same_device { self.old.last ≡ self.old.flushed → dev.new ≡ dev.old }
         ensures kept { OnOk result ((x : Account) → Tells (P.story dev.new) (P.seat dev.old).area → IsKept x self.old ((P.story dev.old).area (P.seat dev.old).area)
             → IsKept (flushed_account x) self.new ((P.story dev.new).area (P.seat dev.old).area)) }
         ensures any_moment { (x : Account) → (Tells (P.story dev.old) (P.seat dev.old).area → IsKept x self.old ((P.story dev.old).area (P.seat dev.old).area))
@@ -249,13 +251,15 @@ impl WorkerLog {
         if self.count == 0 {
             return Ok(());
         }
-        let Did::Done = self.write_block(dev) else {
-            return Err(DiskFault);
-        };
-        self.next += 1;
-        self.size = 0;
-        self.count = 0;
-        Ok(())
+        match self.write_block(dev) {
+            Did::Done => {
+                self.next += 1;
+                self.size = 0;
+                self.count = 0;
+                Ok(())
+            }
+            Did::Failed => Err(DiskFault),
+        }
     }
 
     // Writes the block in hand at its place.

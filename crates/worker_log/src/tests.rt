@@ -54,8 +54,8 @@ fn commit<P: Part>(
     gsn: u64,
 ) -> Result<(), DiskFault> {
     assert!(rt; log.last() < gsn);
-    let used = log.used();
-    assert!(rt; used < 16 || used - 16 < log.limit());
+    let above = log.used().saturating_sub(16);
+    assert!(rt; above < log.limit());
     let body = Body::Commit { need: 0 };
     log.stage_end(dev, &Record { txn: 1, gsn, body })
 }
@@ -105,15 +105,15 @@ fn a_record_that_does_not_fit_begins_the_next_block(rt: HostRuntime) -> Result<(
     let bytes = disk.bytes(2);
     assert_eq!(rt; bytes.len(), 131072);
     assert_eq!(rt;
-        bytes[16..32],
-        [64, 0, 0, 0, 0, 0, 0, 0, 53, 0, 0, 0, 1, 0, 0, 0]
+        &bytes[16..32],
+        [64, 0, 0, 0, 0, 0, 0, 0, 53, 0, 0, 0, 1, 0, 0, 0].as_slice()
     );
-    assert_eq!(rt; bytes[2032..2048], FIRST_SEAL);
+    assert_eq!(rt; &bytes[2032..2048], FIRST_SEAL.as_slice());
     assert_eq!(rt;
-        bytes[129040..129056],
-        [63, 0, 0, 0, 0, 0, 0, 0, 169, 7, 0, 0, 37, 0, 0, 0]
+        &bytes[129040..129056],
+        [63, 0, 0, 0, 0, 0, 0, 0, 169, 7, 0, 0, 37, 0, 0, 0].as_slice()
     );
-    assert_eq!(rt; bytes[131056..131072], LAST_SEAL);
+    assert_eq!(rt; &bytes[131056..], LAST_SEAL.as_slice());
     assert_eq!(rt; disk.moment(), 3);
     Ok(())
 }
