@@ -1,40 +1,68 @@
 -- What an account says of a log and of its area, and what a crash leaves of it.
-use Rattle.std.specs.Prelude.{◌≡◌, ◌⊎◌, ◌≤◌, ◌<◌, ◌+◌, ◌*◌, ◌%◌, ◌^◌, ℕ, List, [], ◌∷◌, ◌++◌, length, take, drop}
+use Rattle.std.specs.Prelude.{◌≡◌, ◌⊎◌, ◌≤◌, ◌<◌, ◌+◌, ◌*◌, ◌%◌, ◌^◌, ◌==◌, ℕ, List, [], ◌∷◌, ◌++◌, length, take, drop, if◌then◌else◌}
 use Rattle.map_model.specs.Lists.{Has}
 use Rattle.image_model.specs.Fair.{piece, IsFair}
 use Rattle.lean_disk.specs.Area.{Write, Area}
 use Rattle.log_record.specs.declared.record.Record.{Record}
 use Rattle.log_block.specs.Block.{AllFit, records_text, IsSealed, generation_of}
 use Rattle.disk_image.specs.Runs.{Block, run_in, block_at}
-use Rattle.worker_log.specs.Logs.{Log, Account, all_blocks, spelled, spelled_from, joined}
+use Rattle.worker_log.specs.Logs.{Log, Account, all_blocks, spelled_from, joined}
 
 -- the run of the log in an area with these bytes
 abbrev pub run_of : Log → List ℕ → List Block
 run_of log bytes = run_in log.generation log.log log.blocks bytes log.blocks log.head
 
--- each list of records fits in a block, and has one
+-- the records fit in a block
 pub record FitsBlock (rs : List Record) : Type 0 where
   pub fit : AllFit rs
   pub room : length (records_text rs) ≤ 2000
 
+-- each list of records fits in a block, and has one
 abbrev pub AllFitBlocks : List (List Record) → Type 0
 AllFitBlocks [] = Unit {0}
-AllFitBlocks (rs ∷ rest) = FitsBlock rs × AllFitBlocks rest
+AllFitBlocks (rs ∷ rest) = (0 < length rs) × FitsBlock rs × AllFitBlocks rest
 
 -- numbers rise strictly, from above one number up to another
 abbrev pub RiseFrom : ℕ → List Record → ℕ → Type 0
 RiseFrom low [] last = low ≤ last
 RiseFrom low (r ∷ rs) last = (low < r.gsn) × RiseFrom r.gsn rs last
 
--- the ranges that are not synced are blocks, and none of the synced ones
-pub record AreLate (log : Log) (x : Account) (ranges : List (ℕ × ℕ)) : Type 0 where
-  pub late : (range : ℕ × ℕ) → Has range ranges → (q : ℕ) × (log.head + x.synced ≤ q) × (q < log.next) × (range ≡ (2048 * (q % log.blocks), 2048))
+-- where block q of a ring of n blocks stands, and how long it is
+abbrev pub range_of : (n q : ℕ) → ℕ × ℕ
+range_of n q = (2048 * (q % n), 2048)
+
+-- the ranges that are not synced are blocks from number low on and below high
+pub record AreLate (n low high : ℕ) (ranges : List (ℕ × ℕ)) : Type 0 where
+  pub late : (range : ℕ × ℕ) → Has range ranges → (q : ℕ) × (low ≤ q) × (q < high) × (range ≡ range_of n q)
+
+-- the write of a block
+abbrev pub write_of : (n : ℕ) → Block → Write
+write_of n block = (2048 * (block.number % n), block.bytes)
 
 -- a write of one of the blocks
-pub record IsBlockWrite (log : Log) (x : Account) (w : Write) : Type 0 where
+pub record IsBlockWrite (n : ℕ) (blocks : List Block) (w : Write) : Type 0 where
   pub block : Block
-  pub has : Has block (spelled_from log log.head x.written)
-  pub at : w ≡ (2048 * (block.number % log.blocks), block.bytes)
+  pub has : Has block blocks
+  pub at : w ≡ write_of n block
+
+-- no block of the generation stands in these bytes
+abbrev pub HasNone : ℕ → List ℕ → Type 0
+HasNone generation bytes = (p : ℕ) → IsSealed (piece 2048 p bytes) → generation_of (piece 2048 p bytes) ≡ generation → ⊥
+
+-- The area of a ring of n blocks holds the blocks that were written since it had these first bytes and older writes, from
+-- number head on, so many of them synced; and nothing else of this generation.
+pub record HoldsBlocks (generation log n head : ℕ) (first : List ℕ) (older : List Write) (written : List (List Record)) (synced : ℕ) (area : Area) : Type 0 where
+  pub since : List Write
+  pub writes : area.writes ≡ since ++ older
+  pub blocks : (w : Write) → Has w since → IsBlockWrite n (spelled_from generation log head written) w
+  pub new : HasNone generation first
+  pub fair : IsFair 2048 IsSealed first since area.bytes
+  -- as it reads
+  pub reads : (block : Block) → Has block (spelled_from generation log head written) → block_at n block.number area.bytes ≡ block.bytes
+  pub late : AreLate n (head + synced) (head + length written) area.unsynced
+  pub end : (block : Block) → Has block (spelled_from generation log head (take synced written)) → 2048 * (block.number % n) + 2048 ≤ area.end
+  -- the place of the next block is not past the end
+  pub reach : 2048 * ((head + length written) % n) ≤ length area.bytes
 
 -- The account is right of the log and of what its area tells.
 pub record IsKept (x : Account) (log : Log) (area : Area) : Type 0 where
@@ -49,38 +77,30 @@ pub record IsKept (x : Account) (log : Log) (area : Area) : Type 0 where
   pub synced : x.synced ≤ length x.written
   pub below : (r : Record) → Has r (joined (take x.synced x.written)) → r.gsn ≤ log.flushed
   pub above : (r : Record) → Has r (joined (drop x.synced x.written) ++ x.current) → log.flushed < r.gsn
-  -- the area: what was written since the account began, and nothing else of this generation
-  pub since : List Write
-  pub writes : area.writes ≡ since ++ x.older
-  pub blocks : (w : Write) → Has w since → IsBlockWrite log x w
-  pub new : (p : ℕ) → IsSealed (piece 2048 p x.first) → generation_of (piece 2048 p x.first) ≡ log.generation → ⊥
-  pub fair : IsFair 2048 IsSealed x.first since area.bytes
-  -- as it reads
-  pub reads : (block : Block) → Has block (spelled_from log log.head x.written) → block_at log.blocks block.number area.bytes ≡ block.bytes
-  pub late : AreLate log x area.unsynced
-  pub end : (block : Block) → Has block (spelled_from log log.head (take x.synced x.written)) → 2048 * (block.number % log.blocks) + 2048 ≤ area.end
-  pub reach : 2048 * (log.next % log.blocks) ≤ length area.bytes
+  -- the area
+  pub holds : HoldsBlocks log.generation log.log log.blocks log.head x.first x.older x.written x.synced area
 
--- A log without blocks, whose area holds nothing of its generation.
+-- A log without blocks, whose area holds nothing of its generation, and reaches to the place of its first block.
 pub record IsFresh (log : Log) (area : Area) : Type 0 where
   pub clean : area.unsynced ≡ []
   pub end : area.end ≡ length area.bytes
-  pub new : (p : ℕ) → IsSealed (piece 2048 p area.bytes) → generation_of (piece 2048 p area.bytes) ≡ log.generation → ⊥
+  pub new : HasNone log.generation area.bytes
+  pub reach : 2048 * (log.head % log.blocks) ≤ length area.bytes
 
 abbrev pub fresh_account : Area → Account
 fresh_account area = record { first = area.bytes; older = area.writes; written = []; synced = 0; current = [] }
 
--- In a fair image of the area the run is the first k of these blocks, whole, in order, none skipped, and holds the synced ones.
-pub record Leaves (x : Account) (log : Log) (blocks : List (List Record)) (bytes : List ℕ) : Type 0 where
+-- The run is the first k of these blocks, whole, in order, none skipped, and holds the synced ones.
+pub record HoldsFirst (x : Account) (log : Log) (blocks : List (List Record)) (bytes : List ℕ) : Type 0 where
   pub k : ℕ
   pub synced : x.synced ≤ k
   pub within : k ≤ length blocks
-  pub run : run_of log bytes ≡ spelled_from log log.head (take k blocks)
+  pub run : run_of log bytes ≡ spelled_from log.generation log.log log.head (take k blocks)
 
--- The same of a crash: its image is fair where each block whose seal fits is one that was written since the account began, or
+-- So it is in each fair image: one in which each block whose seal fits is one that was written since the account began, or
 -- stood there then.
 abbrev pub LeavesBlocks : Account → Log → List Write → List ℕ → Type 0
-LeavesBlocks x log writes bytes = (since : List Write) → writes ≡ since ++ x.older → IsFair 2048 IsSealed x.first since bytes → Leaves x log (all_blocks x) bytes
+LeavesBlocks x log writes bytes = (since : List Write) → writes ≡ since ++ x.older → IsFair 2048 IsSealed x.first since bytes → HoldsFirst x log (all_blocks x) bytes
 
 -- ## What calls make of an account
 
@@ -105,7 +125,19 @@ pub record Staged (r : Record) (x y : Account) (old : Log) : Type 0 where
   pub room : HasRoom old r → y ≡ staged x r
   pub full : (HasRoom old r → ⊥) → y ≡ staged (closed x) r
 
--- what the log is after it, whatever the account
+-- the account after that, which is right of the log again
+pub record StagesTo (r : Record) (x : Account) (old new : Log) (area : Area) : Type 0 where
+  pub y : Account
+  pub staged : Staged r x y old
+  pub kept : IsKept y new area
+
+-- ## What calls make of a log, whatever the account
+
+-- with the record
 pub record After (r : Record) (old new : Log) : Type 0 where
   pub room : HasRoom old r → new ≡ record old { payload = old.payload ++ records_text (r ∷ []); count = old.count + 1; last = r.gsn }
   pub full : (HasRoom old r → ⊥) → new ≡ record old { next = old.next + 1; payload = records_text (r ∷ []); count = 1; last = r.gsn }
+
+-- the block in hand was written, if it held a record, and all is synced
+abbrev pub flushed_log : Log → Log
+flushed_log log = record log { next = log.next + (if log.count == 0 then 0 else 1); payload = []; count = 0; flushed = log.last }

@@ -1,4 +1,5 @@
--- Read Logs, then Kept; Inside has the words of private functions.
+-- Read Logs, then Kept and Causes; Inside has the words of private functions.
 pub mod Logs
 pub mod Kept
+pub mod Causes
 pub mod Inside

@@ -1,7 +1,6 @@
 -- A log in memory, and an account of what was put into it.
 use Rattle.std.specs.Prelude.{◌≡◌, ◌+◌, ◌-◌, ℕ, zero, suc, List, [], ◌∷◌, ◌++◌, length, if◌then◌else◌, ◌==◌}
 use Rattle.lean_disk.specs.Area.{Write}
-use Rattle.log_record.specs.Spelling.{record_text}
 use Rattle.log_record.specs.declared.record.Record.{Record}
 use Rattle.log_block.specs.Block.{block_text, records_text}
 use Rattle.disk_image.specs.Runs.{Block}
@@ -46,14 +45,14 @@ with_current written (r ∷ rs) = written ++ (r ∷ rs) ∷ []
 abbrev pub all_blocks : Account → List (List Record)
 all_blocks x = with_current x.written x.current
 
--- the block of these records with number q
-abbrev pub spelled : Log → ℕ → List Record → List ℕ
-spelled log q rs = block_text log.generation log.log q (length rs) (records_text rs)
+-- the block of these records with number q of the log of a generation
+abbrev pub spelled : (generation log q : ℕ) → List Record → List ℕ
+spelled generation log q rs = block_text generation log q (length rs) (records_text rs)
 
 -- such blocks one after the other, from number q on
-abbrev pub spelled_from : Log → ℕ → List (List Record) → List Block
-spelled_from log q [] = []
-spelled_from log q (rs ∷ rest) = record { number = q; bytes = spelled log q rs } ∷ spelled_from log (suc q) rest
+abbrev pub spelled_from : (generation log q : ℕ) → List (List Record) → List Block
+spelled_from generation log q [] = []
+spelled_from generation log q (rs ∷ rest) = record { number = q; bytes = spelled generation log q rs } ∷ spelled_from generation log (suc q) rest
 
 -- the records of blocks one behind the other
 abbrev pub joined : List (List Record) → List Record

@@ -4,7 +4,7 @@
 
 mod log;
 
-pub use log::{DiskFault, Staging, WorkerLog};
+pub use log::{DiskFault, RESERVE, Staging, WorkerLog};
 
 #[cfg(test)]
 mod tests;

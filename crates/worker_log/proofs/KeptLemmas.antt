@@ -1,0 +1,240 @@
+-- What an account says after each step: a block is written, the ring is synced, a record is put into the block in hand.
+use Rattle.std.proofs.Common.{◌≡◌, ◌⊎◌, inl, inr, ⊎_elim, ℕ, ◌+◌, ◌-◌, ◌*◌, ◌%◌, ◌^◌, ◌≤◌, ◌<◌, ◌==◌, if◌then◌else◌, Bool, true, false, max, List, [], ◌∷◌, ◌++◌, length, take, drop, refl, sym, ◌∙◌, ap, subst, arith, append_assoc, length-append}
+use Rattle.std.proofs.lemmas.Bool.{cases_eq, cases_lt, eq-eqb, ne_eqb}
+use Rattle.std.proofs.lemmas.List.{append-nil, length-drop, nil_from_length, take-append-le, take_all, drop_all}
+use Rattle.std.proofs.lemmas.List.Concat.{flat_map-append}
+use Rattle.map_model.specs.Lists.{Has}
+use Rattle.image_model.specs.Fair.{piece, IsFair}
+use Rattle.lean_disk.specs.Area.{Area, Write, put_over, written as over, synced as cleaned}
+use Rattle.log_record.specs.Spelling.{Fits, record_text}
+use Rattle.log_record.specs.declared.record.Record.{Record}
+use Rattle.log_block.specs.Block.{AllFit, IsSealed, block_text, records_text}
+use Rattle.disk_image.specs.Blocks.{belongs}
+use Rattle.disk_image.specs.Runs.{Block, block_at}
+use Rattle.disk_image.proofs.BlockInLemmas.{every_belongs}
+use Rattle.disk_image.proofs.RunLemmas.{belongs-text}
+use Rattle.worker_log.specs.Inside.{IsSized, closed_log}
+use Rattle.worker_log.specs.Logs.{Account, Log, joined, spelled, spelled_from, used, with_current}
+use Rattle.worker_log.specs.Kept.{AllFitBlocks, FitsBlock, HasRoom, HoldsBlocks, IsBlockWrite, IsKept, RiseFrom, closed, flushed, staged}
+use Rattle.worker_log.proofs.ListLemmas.{block_of, fit-push, fit_blocks-drop, fit_blocks-with, has_first, has_front, has_split, joined-drop-with, joined-dropped, joined-with, length-with, none_left, rise-has, rise-most, rise-push, spelled-last, spelled-more, spelled-number, spelled-push, spelled-take, take-with, with_none, with_some}
+use Rattle.worker_log.proofs.RingLemmas.{rem_apart, rem_next, write_here, write_other, write_size}
+use Rattle.worker_log.proofs.CrashLemmas.{written_within}
+
+-- ## The area
+
+module _ (g s n h : ℕ) (first : List ℕ) (older : List Write) (ws : List (List Record)) (done : ℕ) (area : Area) (fg : g < 2 ^ 64) (fs : s < 2 ^ 64) (fh : h + n ≤ 2 ^ 64)
+    (le : done ≤ length ws) (few : length ws ≤ n) (fit : AllFitBlocks ws) (holds : HoldsBlocks g s n h first older ws done area) where
+  -- one block more is written
+  module _ (rs : List Record) (is : FitsBlock rs) (room : length ws < n) where
+    abbrev next : ℕ
+    next = h + length ws
+
+    abbrev p : ℕ
+    p = next % n
+
+    abbrev bytes : List ℕ
+    bytes = spelled g s next rs
+
+    abbrev wrote : Write
+    wrote = (2048 * p, bytes)
+
+    abbrev after : List ℕ
+    after = put_over (2048 * p) bytes area.bytes
+
+    whole : length bytes ≡ 2048
+    whole = ((every_belongs g s next bytes).0 (belongs-text g s next (length rs) (records_text rs) fg fs (omega (arith, room, fh)) is.room)).sealed.whole
+
+    here : piece 2048 p after ≡ bytes
+    here = write_here p bytes area.bytes whole holds.reach
+
+    other : (r : ℕ) → (r ≡ p → ⊥) → piece 2048 r after ≡ piece 2048 r area.bytes
+    other r ne = write_other p bytes area.bytes whole holds.reach r ne
+
+    fair_after : IsFair 2048 IsSealed first (wrote ∷ holds.since) after
+    fair_after r sealed = ⊎_elim
+        (λ (e : r ≡ p).
+        let there : piece 2048 r after ≡ bytes = ap (λ (k : ℕ). piece 2048 k after) e ∙ here in
+        let same : ◌≡◌ {A = Write} (2048 * r, piece 2048 r after) wrote = λ i. (2048 * e i, there i) in inr (inl same))
+        (λ (ne : r ≡ p → ⊥).
+        let same : piece 2048 r after ≡ piece 2048 r area.bytes = other r ne in
+        ⊎_elim (λ old. inl (same ∙ old)) (λ has. inr (inr (subst (λ (b : List ℕ). Has (2048 * r, b) holds.since) (sym same) has))) (holds.fair r (subst IsSealed same sealed)))
+        (cases_eq r p)
+
+    size : length (ws ++ rs ∷ []) ≡ length ws + 1
+    size = length-append ws (rs ∷ [])
+
+    pub holds_written : HoldsBlocks g s n h first older (ws ++ rs ∷ []) done (over (2048 * p) bytes area)
+    holds_written = record {
+      since = wrote ∷ holds.since;
+      writes = ap (λ (l : List Write). wrote ∷ l) holds.writes;
+      blocks = λ w has. ⊎_elim
+          (λ (e : w ≡ wrote). record { block = block_of g s next rs; has = spelled-last g s h ws rs; at = e })
+          (λ old. let it = holds.blocks w old in record { block = it.block; has = spelled-more g s h ws (rs ∷ []) it.block it.has; at = it.at }) has;
+      new = holds.new;
+      fair = fair_after;
+      reads = λ b has. ⊎_elim
+          (λ old.
+          let number = spelled-number g s h ws b old in
+          let close : next < b.number + n = omega (arith, number.0, room) in
+          other (b.number % n) (λ e. rem_apart n b.number next number.1 close e) ∙ holds.reads b old)
+          (λ (e : b ≡ block_of g s next rs). subst (λ (x : Block). block_at n x.number after ≡ x.bytes) (sym e) here)
+          (spelled-push g s h ws rs b has);
+      late = record {
+        late = λ range has. ⊎_elim
+            (λ (e : range ≡ (2048 * p, length bytes)). (next, omega (arith, le), omega (arith, size), e ∙ ap (λ (k : ℕ). let r : ℕ × ℕ = (2048 * p, k) in r) whole))
+            (λ old. let it = holds.late.late range old in (it.0, it.1, omega (arith, it.2, size), it.3)) has;
+      };
+      end = λ b has. holds.end b (subst (λ (l : List (List Record)). Has b (spelled_from g s h l)) (take-append-le done ws (rs ∷ []) le) has);
+      reach =
+          let at : h + length (ws ++ rs ∷ []) ≡ next + 1 = omega (arith, size) in
+          let same : (h + length (ws ++ rs ∷ [])) % n ≡ (next + 1) % n = ap (λ (k : ℕ). k % n) at in
+          let most : (next + 1) % n ≤ p + 1 = rem_next n next (omega (arith, room)) in
+          omega (arith, same, most, write_size p bytes area.bytes whole holds.reach);
+    }
+
+  -- all is synced
+  pub holds_synced : HoldsBlocks g s n h first older ws (length ws) (cleaned area)
+  holds_synced = record {
+    since = holds.since;
+    writes = holds.writes;
+    blocks = holds.blocks;
+    new = holds.new;
+    fair = holds.fair;
+    reads = holds.reads;
+    late = record { late = λ range has. absurd has };
+    end = λ b has. written_within g s n h first older ws done area fg fs fh le few fit holds b (spelled-take g s (length ws) h ws b has);
+    reach = holds.reach;
+  }
+
+-- ## The account
+
+pub count_some : (c : ℕ) → 0 < c → ◌≡◌ {A = ℕ} (if c == 0 then 0 else 1) 1
+count_some c some = ap (λ (b : Bool). let n : ℕ = if b then 0 else 1 in n) (ne_eqb c 0 (λ e. omega arith))
+
+pub count_none : (c : ℕ) → c ≡ 0 → ◌≡◌ {A = ℕ} (if c == 0 then 0 else 1) 0
+count_none c none = ap (λ (b : Bool). let n : ℕ = if b then 0 else 1 in n) (eq-eqb c 0 none)
+
+-- the log after a block was written
+pub closed_is : (now log : Log) → now ≡ log → 0 < log.count → record now { next = now.next + 1; payload = []; count = 0 } ≡ closed_log log
+closed_is now log same some =
+    let count : now.count ≡ log.count = ap (λ (l : Log). l.count) same in
+    let next : now.next + 1 ≡ now.next + (if now.count == 0 then 0 else 1) = omega (arith, count_some now.count (omega (arith, some, count))) in
+    let closes : record now { next = now.next + 1; payload = []; count = 0 } ≡ closed_log now = λ i. record now { next = next i; payload = []; count = 0 } in
+    closes ∙ ap closed_log same
+
+module _ (x : Account) (log : Log) (area : Area) (sized : IsSized log) (kept : IsKept x log area) where
+  log_fits : log.log < 2 ^ 64
+  log_fits = omega (arith, sized.number.1)
+
+  head_fits : log.head + log.blocks ≤ 2 ^ 64
+  head_fits = omega (arith, sized.head, sized.some.1)
+
+  -- the block in hand was written
+  module _ (some : 0 < log.count) where
+    abbrev all : List (List Record)
+    all = with_current x.written x.current
+
+    has_some : 0 < length x.current
+    has_some = omega (arith, some, kept.count)
+
+    one_more : length all ≡ length x.written + 1
+    one_more = ap length (with_some x.written x.current has_some) ∙ length-append x.written (x.current ∷ [])
+
+    place_left : length x.written < log.blocks
+    place_left = omega (arith, sized.ring, count_some log.count some, kept.next)
+
+    abbrev Held : List (List Record) → Area → Type 0
+    Held l a = HoldsBlocks log.generation log.log log.blocks log.head x.first x.older l x.synced a
+
+    abbrev spelled_at : ℕ → ℕ → List ℕ → Area
+    spelled_at q count payload = over (2048 * (q % log.blocks)) (block_text log.generation log.log q count payload) area
+
+    holds_closed : Held all (spelled_at log.next log.count log.payload)
+    holds_closed =
+        let q : ℕ = log.head + length x.written in
+        let plain : Held (x.written ++ x.current ∷ []) (spelled_at q (length x.current) (records_text x.current)) =
+        holds_written log.generation log.log log.blocks log.head x.first x.older x.written x.synced area sized.generation log_fits head_fits kept.synced kept.ring kept.fit.0 kept.holds x.current kept.fit.1 place_left in
+        let same : spelled_at q (length x.current) (records_text x.current) ≡ spelled_at log.next log.count log.payload =
+        ap (λ (k : ℕ). spelled_at k (length x.current) (records_text x.current)) (sym kept.next) ∙ ap (λ (k : ℕ). spelled_at log.next k (records_text x.current)) (sym kept.count) ∙ ap (spelled_at log.next log.count) (sym kept.payload) in
+        subst (λ (l : List (List Record)). Held l (spelled_at log.next log.count log.payload)) (sym (with_some x.written x.current has_some))
+        (subst (Held (x.written ++ x.current ∷ [])) same plain)
+
+    pub kept_closed : IsKept (closed x) (closed_log log) (over (2048 * (log.next % log.blocks)) (block_text log.generation log.log log.next log.count log.payload) area)
+    kept_closed = record {
+      next = omega (arith, count_some log.count some, kept.next, one_more);
+      payload = refl;
+      count = refl;
+      fit = (fit_blocks-with x.written x.current kept.fit.0 kept.fit.1, record { fit = tt; room = omega arith });
+      ring = omega (arith, one_more, place_left);
+      numbers = (kept.numbers.0, subst (λ (l : List Record). RiseFrom kept.numbers.0 l log.last) (sym (append-nil (joined all) ∙ joined-with x.written x.current)) kept.numbers.1);
+      synced = omega (arith, kept.synced, one_more);
+      below = λ r has. kept.below r (subst (λ (l : List (List Record)). Has r (joined l)) (take-with x.synced x.written x.current kept.synced) has);
+      above = λ r has. kept.above r (subst (Has r) (append-nil (joined (drop x.synced all)) ∙ joined-drop-with x.synced x.written x.current kept.synced) has);
+      holds = holds_closed;
+    }
+
+  -- there was none in hand
+  pub kept_same : log.count ≡ 0 → IsKept (closed x) log area
+  kept_same none =
+      let nothing : length x.current ≡ 0 = omega (arith, none, kept.count) in
+      let no_record : x.current ≡ [] = nil_from_length x.current nothing in
+      let written : with_current x.written x.current ≡ x.written = with_none x.written x.current nothing in
+      let account : closed x ≡ x = λ i. record x { written = written i; current = sym no_record i } in
+      subst (λ (y : Account). IsKept y log area) (sym account) kept
+
+  -- nothing is left to flush
+  pub kept_nothing : log.last ≡ log.flushed → IsKept (flushed x) log area
+  kept_nothing all_of =
+      let none : log.count ≡ 0 = ⊎_elim (λ (lt : 0 < log.count). absurd (omega (arith, all_of, sized.pending lt))) (λ (le : log.count ≤ 0). omega (arith, le)) (cases_lt 0 log.count) in
+      let nothing : length x.current ≡ 0 = omega (arith, none, kept.count) in
+      let no_record : x.current ≡ [] = nil_from_length x.current nothing in
+      let written : with_current x.written x.current ≡ x.written = with_none x.written x.current nothing in
+      let left : length (joined (drop x.synced x.written)) ≡ 0 = ⊎_elim
+      (λ (lt : 0 < length (joined (drop x.synced x.written))).
+      let it = has_first (joined (drop x.synced x.written)) lt in
+      let r : Record = it.0 in
+      let late : log.flushed < r.gsn = kept.above r (has_front r (joined (drop x.synced x.written)) x.current it.1) in
+      let early : r.gsn ≤ log.last = rise-has kept.numbers.0 (joined x.written ++ x.current) log.last kept.numbers.1 r (has_front r (joined x.written) x.current (joined-dropped x.synced x.written r it.1)) in
+      absurd (omega (arith, late, early, all_of)))
+      (λ (le : length (joined (drop x.synced x.written)) ≤ 0). omega (arith, le)) (cases_lt 0 (length (joined (drop x.synced x.written)))) in
+      let dropped : length (drop x.synced x.written) ≡ 0 = none_left (drop x.synced x.written) (fit_blocks-drop x.synced x.written kept.fit.0) left in
+      let synced : length (with_current x.written x.current) ≡ x.synced = ap length written ∙ (let e : length x.written ≡ x.synced = omega (arith, dropped, length-drop x.synced x.written, kept.synced) in e) in
+      let account : flushed x ≡ x = λ i. record x { written = written i; synced = synced i; current = sym no_record i } in
+      subst (λ (y : Account). IsKept y log area) (sym account) kept
+
+  -- a record was put into the block in hand
+  pub kept_put : (r : Record) → Fits r → log.last < r.gsn → HasRoom log r → IsKept (staged x r) (record log { payload = log.payload ++ records_text (r ∷ []); count = log.count + 1; last = r.gsn }) area
+  kept_put r fits rises room =
+      let text : log.payload ++ records_text (r ∷ []) ≡ records_text (x.current ++ r ∷ []) = ap (λ (l : List ℕ). l ++ records_text (r ∷ [])) kept.payload ∙ sym (flat_map-append record_text x.current (r ∷ [])) in
+      let long : length (records_text (x.current ++ r ∷ [])) ≡ length log.payload + length (records_text (r ∷ [])) = ap length (sym text) ∙ length-append log.payload (records_text (r ∷ [])) in
+      record {
+        next = kept.next;
+        payload = text;
+        count = omega (arith, kept.count, length-append x.current (r ∷ []));
+        fit = (kept.fit.0, record { fit = fit-push x.current r kept.fit.1.fit fits; room = omega (arith, long, room) });
+        ring = kept.ring;
+        numbers = (kept.numbers.0, subst (λ (l : List Record). RiseFrom kept.numbers.0 l r.gsn) (append_assoc (joined x.written) x.current (r ∷ [])) (rise-push kept.numbers.0 (joined x.written ++ x.current) log.last r kept.numbers.1 rises));
+        synced = kept.synced;
+        below = kept.below;
+        above = λ y has. ⊎_elim (kept.above y)
+            (λ last. ⊎_elim (λ (is : y ≡ r). let e : y.gsn ≡ r.gsn = ap (λ (z : Record). z.gsn) is in omega (arith, e, rises, sized.flushed)) (λ no_more. absurd no_more) last)
+            (has_split y (joined (drop x.synced x.written) ++ x.current) (r ∷ []) (subst (Has y) (sym (append_assoc (joined (drop x.synced x.written)) x.current (r ∷ []))) has));
+        holds = kept.holds;
+      }
+
+-- all is synced, where no block is in hand
+module _ (first : List ℕ) (older : List Write) (ws : List (List Record)) (done : ℕ) (log : Log) (area : Area) (sized : IsSized log)
+    (kept : IsKept (record { first = first; older = older; written = ws; synced = done; current = [] }) log area) where
+  pub kept_synced : IsKept (record { first = first; older = older; written = ws; synced = length ws; current = [] }) (record log { flushed = log.last }) (cleaned area)
+  kept_synced = record {
+    next = kept.next;
+    payload = kept.payload;
+    count = kept.count;
+    fit = kept.fit;
+    ring = kept.ring;
+    numbers = kept.numbers;
+    synced = omega arith;
+    below = λ r has. rise-has kept.numbers.0 (joined ws ++ []) log.last kept.numbers.1 r (has_front r (joined ws) [] (subst (λ (l : List (List Record)). Has r (joined l)) (take_all (length ws) ws (omega arith)) has));
+    above = λ r has. absurd (subst (λ (l : List (List Record)). Has r (joined l ++ [])) (drop_all (length ws) ws (omega arith)) has);
+    holds = holds_synced log.generation log.log log.blocks log.head first older ws done area sized.generation (omega (arith, sized.number.1)) (omega (arith, sized.head, sized.some.1)) kept.synced kept.ring kept.fit.0 kept.holds;
+  }
