@@ -1,5 +1,5 @@
+pub mod Changes
 pub mod Copies
 pub mod Meanings
 pub mod Started
-pub mod Steps
 pub mod Updates

@@ -8,7 +8,7 @@ pub enum Mode {
 }
 
 /// An event, by its worker, if it has one, and what it names. `flushed` is the least flushed number as the worker found it.
-#[derive(Clone, Copy, Debug, PartialEq, Eq)]
+#[derive(Debug, Drop)]
 pub enum Event {
     Enter {
         worker: u64,

@@ -8,6 +8,7 @@ mod records;
 mod refusal;
 mod start;
 mod state;
+mod steps;
 mod table;
 
 pub use event::{Event, Mode};

@@ -421,10 +421,10 @@ impl Core {
     }
 
     /// Whether an event may happen.
-    pub fn may(&self, event: Event) -> bool
-        ensures { (x : Rest self.now.settings) → result ≡ needs.may (opening self.now.settings x) (state_of self.now) (event_of event) }
+    pub fn may(&self, event: &Event) -> bool
+        ensures { (x : Rest self.now.settings) → result ≡ needs.may (opening self.now.settings x) (state_of self.now) (event_of event.now) }
     {
-        match event {
+        match *event {
             Event::Enter { worker, epoch } => self.may_enter(worker, epoch),
             Event::Begin { worker, flushed } => self.may_begin(worker, flushed),
             Event::Lock { worker, row, mode } => self.may_lock(worker, row, mode),
@@ -458,14 +458,12 @@ impl Core {
             Event::Post { worker, number } => self.may_post(worker, number),
             Event::Save { page } => self.may_save(page),
             Event::Leave { worker } => self.is_inside(worker),
-            Event::Tick => true,
-            Event::Ask { .. } => true,
             Event::Refused {
                 worker,
                 cause,
                 pages,
             } => self.may_refuse(worker, cause, pages),
-            Event::Miss { .. } => true,
+            Event::Tick | Event::Ask { .. } | Event::Miss { .. } => true,
         }
     }
 }
