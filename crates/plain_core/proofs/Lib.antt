@@ -1,5 +1,5 @@
-pub mod Changes
 pub mod Copies
 pub mod Meanings
+pub mod Runs
 pub mod Started
 pub mod Updates

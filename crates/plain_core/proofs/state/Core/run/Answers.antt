@@ -2,7 +2,7 @@ use Rattle.std.proofs.Common.{ap}
 use Rattle.std.proofs.lemmas.List.{drop_all, drop_more}
 use Rattle.plain_core.specs.Events.{events_of}
 use Rattle.plain_core.specs.States.{opening}
-use Rattle.plain_core.proofs.Changes.{run_step, run_done}
+use Rattle.plain_core.proofs.Runs.{run_step, run_done}
 use Rattle.plain_core.proofs.state.Core.run.Goals as goal
 
 pub loop-event-preserved : goal.loop-event-preserved

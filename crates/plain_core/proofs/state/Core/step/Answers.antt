@@ -1,7 +1,7 @@
 use Rattle.std.proofs.Common.{◌≡◌, true, arith}
 use Rattle.plain_core.specs.Events.{event_of}
 use Rattle.plain_core.specs.States.{opening}
-use Rattle.plain_core.proofs.Changes.{happened}
+use Rattle.plain_core.proofs.Runs.{happened}
 use Rattle.plain_core.proofs.state.Core.step.Goals as goal
 
 pub returns : goal.returns
