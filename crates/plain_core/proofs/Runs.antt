@@ -4,6 +4,7 @@ use Rattle.std.proofs.lemmas.Bool.{eqb-false}
 use mathlib.Core.Path.{fun_ext}
 use Rattle.page_model.specs.Nodes as nodes
 use Rattle.page_model.specs.Pairs as paired
+use Rattle.core_state.specs.Lists as lists
 use Rattle.core_state.specs.Steps as steps
 use Rattle.plain_core.specs.Inside.{written_in, write_entry_in, write_kind, newest_of, tail}
 use Rattle.map_model.specs.Lists.{upd}
@@ -37,6 +38,37 @@ rowed old mid new n r e w a b h k i j = record {
   state = k.state ∙ ap (λ (t : model.State). record t { worker = upd t.worker w a }) h.state
       ∙ ap (λ (z : model.Row). record (state_of old) { row = upd (state_of old).row n z; worker = upd (state_of old).worker w a }) i
       ∙ ap (λ (z : model.Worker). record (state_of old) { row = upd (state_of old).row n e; worker = upd (state_of old).worker w z }) j;
+}
+
+-- where a page stands, and then what it is
+pub loaded : (old mid new : Core) (p : ℕ) (l : model.Place) (v e : logged.Page) →
+    Becomes old mid (record (state_of old) { place = upd (state_of old).place p l }) →
+    Becomes mid new (record (state_of mid) { page = upd (state_of mid).page p v }) → v ≡ e →
+    Becomes old new (record (state_of old) { place = upd (state_of old).place p l; page = upd (state_of old).page p e })
+loaded old mid new p l v e h k i = record {
+  settings = k.settings ∙ h.settings;
+  state = k.state ∙ ap (λ (t : model.State). record t { page = upd t.page p v }) h.state
+      ∙ ap (λ (z : logged.Page). record (state_of old) { place = upd (state_of old).place p l; page = upd (state_of old).page p z }) i;
+}
+
+-- where a page stands, and then the queue
+pub queued : (old mid new : Core) (p : ℕ) (l e : model.Place) →
+    Becomes old mid (record (state_of old) { place = upd (state_of old).place p l }) →
+    Becomes mid new (record (state_of mid) { queue = lists.at_end (state_of mid).queue p }) → l ≡ e →
+    Becomes old new (record (state_of old) { place = upd (state_of old).place p e; queue = lists.at_end (state_of old).queue p })
+queued old mid new p l e h k i = record {
+  settings = k.settings ∙ h.settings;
+  state = k.state ∙ ap (λ (t : model.State). record t { queue = lists.at_end t.queue p }) h.state
+      ∙ ap (λ (z : model.Place). record (state_of old) { place = upd (state_of old).place p z; queue = lists.at_end (state_of old).queue p }) i;
+}
+
+-- a place that is said otherwise
+pub stands : (old new : Core) (p : ℕ) (q : List ℕ) (l e : model.Place) →
+    Becomes old new (record (state_of old) { place = upd (state_of old).place p l; queue = q }) → l ≡ e →
+    Becomes old new (record (state_of old) { place = upd (state_of old).place p e; queue = q })
+stands old new p q l e h i = record {
+  settings = h.settings;
+  state = h.state ∙ ap (λ (z : model.Place). record (state_of old) { place = upd (state_of old).place p z; queue = q }) i;
 }
 
 -- an entry, a page, and then a worker

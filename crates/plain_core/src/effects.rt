@@ -51,7 +51,7 @@ impl Worker {
     }
 
     // The worker, after it met a page.
-    fn at_page(&self, alloc: Global, own: u64, page: &Page) -> Result<Worker, AllocError>
+    pub(crate) fn at_page(&self, alloc: Global, own: u64, page: &Page) -> Result<Worker, AllocError>
         ensures { IfOk result (λ a. worker_of a ≡ steps.touch own (worker_of self.now) page.now.number page.now.log) }
     {
         let mut worker = self.copy(alloc)?;

@@ -1,17 +1,20 @@
 //! The plain, slow program of the core of events: what each event needs, and what it does to the state.
 #![tactic(auto)]
 
+mod cut;
 mod effects;
 mod event;
+mod frames;
 mod needs;
 mod records;
 mod refusal;
+mod scan;
 mod start;
 mod state;
 mod steps;
 mod table;
 
-pub use event::{Event, Mode};
+pub use event::{Event, Following, Mode};
 pub use records::{Entry, Kind, Node, Page, PageKind, PageRecord, Pair, Ref};
 pub use refusal::Refusal;
 pub use state::{Core, Place, Row, Settings, Worker};

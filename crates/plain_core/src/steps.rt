@@ -24,6 +24,12 @@ impl Core {
                 key,
                 ..
             } => self.read(alloc, worker, page, key),
+            Event::Next {
+                worker,
+                page,
+                answer,
+                ..
+            } => self.follow(alloc, worker, page, answer),
             Event::Change {
                 worker,
                 page,
@@ -43,9 +49,14 @@ impl Core {
                 self.post(number);
                 Ok(())
             }
+            Event::Load { page, frame } => self.load(alloc, page, frame),
+            Event::Cool { page } => self.cool(alloc, page),
+            Event::Rescue { page } => self.rescue(alloc, page),
             Event::Save { page } => self.save(alloc, page),
+            Event::Evict { page } => self.evict(alloc, page),
             Event::Leave { worker } => self.leave(alloc, worker),
             Event::Tick => self.tick(),
+            Event::Cut { number, ref heads } => self.cut_off(alloc, number, heads),
             Event::Peek { .. } | Event::Ask { .. } | Event::Refused { .. } | Event::Miss { .. } => {
                 Ok(())
             }

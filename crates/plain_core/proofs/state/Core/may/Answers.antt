@@ -1,6 +1,7 @@
 use Rattle.std.proofs.Common.{◌∙◌, ap, sym}
 use Rattle.core_state.specs.Needs as needs
 use Rattle.plain_core.specs.Events.{event_of}
+use Rattle.plain_core.specs.Tables.{at}
 use Rattle.plain_core.specs.States.{opening, state_of}
 use Rattle.plain_core.proofs.state.Core.may.Goals as goal
 
@@ -39,3 +40,18 @@ returns-in-Save c = λ x. c.may_save.ensures x ∙ ap (λ e. needs.may (opening 
 
 pub returns-in-Leave : goal.returns-in-Leave
 returns-in-Leave c = λ x. c.is_inside.ensures ∙ ap (λ e. needs.may (opening c.args.self.now.settings x) (state_of c.args.self.now) (event_of e)) (sym c.in-Leave.is)
+
+pub returns-in-Load : goal.returns-in-Load
+returns-in-Load c = λ x. c.may_load.ensures x ∙ ap (λ e. needs.may (opening c.args.self.now.settings x) (state_of c.args.self.now) (event_of e)) (sym c.in-Load.is)
+
+pub returns-in-Cool : goal.returns-in-Cool
+returns-in-Cool c = λ x. c.may_cool.ensures x ∙ ap (λ e. needs.may (opening c.args.self.now.settings x) (state_of c.args.self.now) (event_of e)) (sym c.in-Cool.is)
+
+pub returns-in-Rescue : goal.returns-in-Rescue
+returns-in-Rescue c = λ x. c.may_rescue.ensures x ∙ ap (λ e. needs.may (opening c.args.self.now.settings x) (state_of c.args.self.now) (event_of e)) (sym c.in-Rescue.is)
+
+pub returns-in-Evict : goal.returns-in-Evict
+returns-in-Evict c = λ x. c.may_evict.ensures x ∙ ap (λ e. needs.may (opening c.args.self.now.settings x) (state_of c.args.self.now) (event_of e)) (sym c.in-Evict.is)
+
+pub returns-in-Cut : goal.returns-in-Cut
+returns-in-Cut c = λ x. c.may_cut.ensures x (at c.in-Cut.heads) ∙ ap (λ e. needs.may (opening c.args.self.now.settings x) (state_of c.args.self.now) (event_of e)) (sym c.in-Cut.is)
