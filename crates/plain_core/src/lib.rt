@@ -1,13 +1,18 @@
 //! The plain, slow program of the core of events: what each event needs, and what it does to the state.
 #![tactic(auto)]
 
+mod changes;
 mod effects;
 mod event;
+mod moves;
 mod needs;
+mod page_records;
+mod pairs;
 mod records;
 mod refusal;
 mod start;
 mod state;
+mod structure;
 mod table;
 
 pub use event::{Event, Mode};

@@ -31,7 +31,7 @@ impl Row {
         }
     }
 
-    fn is_free(&self) -> bool
+    pub(crate) fn is_free(&self) -> bool
         ensures { result ≡ needs.is_free (row_of self.now).holder }
     {
         match self.holder {
@@ -256,7 +256,7 @@ impl Core {
         self.settings.is_worker(worker)
     }
 
-    fn is_hot(&self, page: u64) -> bool
+    pub(crate) fn is_hot(&self, page: u64) -> bool
         ensures { result ≡ states.is_hot ((state_of self.now).place page) }
     {
         self.places.get(page).is_hot()
