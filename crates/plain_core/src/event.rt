@@ -8,7 +8,7 @@ pub enum Mode {
 }
 
 /// An event, by its worker, if it has one, and what it names. `flushed` is the least flushed number as the worker found it.
-#[derive(Clone, Copy, Debug, PartialEq, Eq)]
+#[derive(Debug, Drop)]
 pub enum Event {
     Enter {
         worker: u64,
@@ -44,6 +44,32 @@ pub enum Event {
     PutBack {
         worker: u64,
         page: u64,
+    },
+    Split {
+        worker: u64,
+        left: u64,
+        right: u64,
+        parent: u64,
+        place: u64,
+    },
+    Lift {
+        worker: u64,
+        child: u64,
+    },
+    Join {
+        worker: u64,
+        left: u64,
+        right: u64,
+        parent: u64,
+    },
+    Drop {
+        worker: u64,
+        child: u64,
+    },
+    Purge {
+        worker: u64,
+        page: u64,
+        keys: Vec<u64>,
     },
     End {
         worker: u64,

@@ -12,6 +12,7 @@ mod records;
 mod refusal;
 mod start;
 mod state;
+mod steps;
 mod structure;
 mod table;
 

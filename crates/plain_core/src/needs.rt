@@ -421,10 +421,10 @@ impl Core {
     }
 
     /// Whether an event may happen.
-    pub fn may(&self, event: Event) -> bool
-        ensures { (x : Rest self.now.settings) → result ≡ needs.may (opening self.now.settings x) (state_of self.now) (event_of event) }
+    pub fn may(&self, event: &Event) -> bool
+        ensures { (x : Rest self.now.settings) → result ≡ needs.may (opening self.now.settings x) (state_of self.now) (event_of event.now) }
     {
-        match event {
+        match *event {
             Event::Enter { worker, epoch } => self.may_enter(worker, epoch),
             Event::Begin { worker, flushed } => self.may_begin(worker, flushed),
             Event::Lock { worker, row, mode } => self.may_lock(worker, row, mode),
@@ -447,6 +447,26 @@ impl Core {
                 word,
             } => self.may_change(worker, page, key, word),
             Event::PutBack { worker, page } => self.may_put_back(worker, page),
+            Event::Split {
+                worker,
+                left,
+                right,
+                parent,
+                place,
+            } => self.may_split(worker, left, right, parent, place),
+            Event::Lift { worker, child } => self.may_lift(worker, child),
+            Event::Join {
+                worker,
+                left,
+                right,
+                parent,
+            } => self.may_join(worker, left, right, parent),
+            Event::Drop { worker, child } => self.may_drop(worker, child),
+            Event::Purge {
+                worker,
+                page,
+                ref keys,
+            } => self.may_purge(worker, page, keys),
             Event::End {
                 worker,
                 commit,
@@ -458,14 +478,12 @@ impl Core {
             Event::Post { worker, number } => self.may_post(worker, number),
             Event::Save { page } => self.may_save(page),
             Event::Leave { worker } => self.is_inside(worker),
-            Event::Tick => true,
-            Event::Ask { .. } => true,
             Event::Refused {
                 worker,
                 cause,
                 pages,
             } => self.may_refuse(worker, cause, pages),
-            Event::Miss { .. } => true,
+            Event::Tick | Event::Ask { .. } | Event::Miss { .. } => true,
         }
     }
 }

@@ -25,7 +25,7 @@ impl Row {
 
 impl Node {
     // It is inner, and one of its pairs names the page.
-    fn names_page(&self, page: u64) -> bool
+    pub(crate) fn names_page(&self, page: u64) -> bool
         ensures { result ≡ check.names_page (node_of self.now) page }
     {
         if !self.live || self.level == 0 {

@@ -40,7 +40,7 @@ fn page(alloc: Global, live: bool, high: u64) -> Page {
 fn answers(core: &mut Core, alloc: Global, events: &[(Event, bool)]) -> bool {
     let mut as_said = true;
     for (event, is_met) in events {
-        match core.step(alloc, *event) {
+        match core.step(alloc, event) {
             Ok(met) => as_said = as_said && met == *is_met,
             Err(_) => as_said = false,
         }
