@@ -2,4 +2,5 @@ pub mod Events
 pub mod Inside
 pub mod Records
 pub mod States
+pub mod Structure
 pub mod Tables

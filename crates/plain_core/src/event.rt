@@ -59,6 +59,32 @@ pub enum Event {
         worker: u64,
         page: u64,
     },
+    Split {
+        worker: u64,
+        left: u64,
+        right: u64,
+        parent: u64,
+        place: u64,
+    },
+    Lift {
+        worker: u64,
+        child: u64,
+    },
+    Join {
+        worker: u64,
+        left: u64,
+        right: u64,
+        parent: u64,
+    },
+    Drop {
+        worker: u64,
+        child: u64,
+    },
+    Purge {
+        worker: u64,
+        page: u64,
+        keys: Vec<u64>,
+    },
     End {
         worker: u64,
         commit: bool,

@@ -8,31 +8,12 @@ ghost use Rattle.core_state.specs.Needs as needs;
 ghost use Rattle.core_state.specs.Events as events;
 ghost use Rattle.plain_core.specs.Inside.{has_hot_parent_in, has_hot_child_in, is_empty_in, is_ripe_page};
 ghost use Rattle.plain_core.specs.Tables.{at};
-ghost use Rattle.plain_core.specs.Records.{node_of};
 ghost use Rattle.plain_core.specs.States.{Rest, Becomes, opening, place_of, state_of};
 
-use crate::records::Node;
 use crate::refusal::Refusal;
 use crate::state::{Core, Place};
 use crate::table::{Placed, Table};
 use std::alloc::{AllocError, Global};
-
-impl Node {
-    // It is inner, and one of its pairs names the page.
-    fn names_page(&self, page: u64) -> bool
-        ensures { result ≡ check.names_page (node_of self.now) page }
-    {
-        if !self.live || self.level == 0 {
-            return false;
-        }
-        for pair in &self.pairs {
-            if pair.word == page {
-                return true;
-            }
-        }
-        false
-    }
-}
 
 impl Place {
     fn is_cooling(&self) -> bool

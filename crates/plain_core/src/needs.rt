@@ -31,7 +31,7 @@ impl Row {
         }
     }
 
-    fn is_free(&self) -> bool
+    pub(crate) fn is_free(&self) -> bool
         ensures { result ≡ needs.is_free (row_of self.now).holder }
     {
         match self.holder {
@@ -453,6 +453,26 @@ impl Core {
                 word,
             } => self.may_change(worker, page, key, word),
             Event::PutBack { worker, page } => self.may_put_back(worker, page),
+            Event::Split {
+                worker,
+                left,
+                right,
+                parent,
+                place,
+            } => self.may_split(worker, left, right, parent, place),
+            Event::Lift { worker, child } => self.may_lift(worker, child),
+            Event::Join {
+                worker,
+                left,
+                right,
+                parent,
+            } => self.may_join(worker, left, right, parent),
+            Event::Drop { worker, child } => self.may_drop(worker, child),
+            Event::Purge {
+                worker,
+                page,
+                ref keys,
+            } => self.may_purge(worker, page, keys),
             Event::End {
                 worker,
                 commit,

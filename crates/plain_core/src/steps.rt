@@ -37,6 +37,26 @@ impl Core {
                 word,
             } => self.change(alloc, worker, page, key, word),
             Event::PutBack { worker, page } => self.put_back(alloc, worker, page),
+            Event::Split {
+                worker,
+                left,
+                right,
+                parent,
+                place,
+            } => self.split(alloc, worker, left, right, parent, place),
+            Event::Lift { worker, child } => self.lift(alloc, worker, child),
+            Event::Join {
+                worker,
+                left,
+                right,
+                parent,
+            } => self.join(alloc, worker, left, right, parent),
+            Event::Drop { worker, child } => self.drop_root(alloc, worker, child),
+            Event::Purge {
+                worker,
+                page,
+                ref keys,
+            } => self.purge(alloc, worker, page, keys),
             Event::End {
                 worker,
                 commit,

@@ -1,5 +1,6 @@
 use Rattle.std.proofs.Common.{◌∙◌, ap, sym}
 use Rattle.core_state.specs.Needs as needs
+use Rattle.core_state.specs.Events as events
 use Rattle.plain_core.specs.Events.{event_of}
 use Rattle.plain_core.specs.Tables.{at}
 use Rattle.plain_core.specs.States.{opening, state_of}
@@ -55,3 +56,18 @@ returns-in-Evict c = λ x. c.may_evict.ensures x ∙ ap (λ e. needs.may (openin
 
 pub returns-in-Cut : goal.returns-in-Cut
 returns-in-Cut c = λ x. c.may_cut.ensures x (at c.in-Cut.heads) ∙ ap (λ e. needs.may (opening c.args.self.now.settings x) (state_of c.args.self.now) (event_of e)) (sym c.in-Cut.is)
+
+pub returns-in-Split : goal.returns-in-Split
+returns-in-Split c = λ x. c.may_split.ensures x ∙ ap (λ e. needs.may (opening c.args.self.now.settings x) (state_of c.args.self.now) (event_of e)) (sym c.in-Split.is)
+
+pub returns-in-Lift : goal.returns-in-Lift
+returns-in-Lift c = λ x. c.may_lift.ensures x ∙ ap (λ e. needs.may (opening c.args.self.now.settings x) (state_of c.args.self.now) (event_of e)) (sym c.in-Lift.is)
+
+pub returns-in-Join : goal.returns-in-Join
+returns-in-Join c = λ x. c.may_join.ensures x ∙ ap (λ e. needs.may (opening c.args.self.now.settings x) (state_of c.args.self.now) (event_of e)) (sym c.in-Join.is)
+
+pub returns-in-Drop : goal.returns-in-Drop
+returns-in-Drop c = λ x. c.may_drop.ensures x ∙ ap (λ e. needs.may (opening c.args.self.now.settings x) (state_of c.args.self.now) (event_of e)) (sym c.in-Drop.is)
+
+pub returns-in-Purge : goal.returns-in-Purge
+returns-in-Purge c = λ x. c.may_purge.ensures x ∙ ap (λ keys. needs.may (opening c.args.self.now.settings x) (state_of c.args.self.now) (events.Event.Purge c.in-Purge.worker c.in-Purge.page keys)) c.deref.ensures.value ∙ ap (λ e. needs.may (opening c.args.self.now.settings x) (state_of c.args.self.now) (event_of e)) (sym c.in-Purge.is)
