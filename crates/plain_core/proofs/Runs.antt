@@ -1,5 +1,5 @@
 -- A state that two changes made.
-use Rattle.std.proofs.Common.{◌≡◌, ◌∷◌, ℕ, Bool, true, false, cond, suc, ◌==◌, ◌||◌, List, [], Option, Some, None, subst, if◌then◌else◌, refl, sym, ◌∙◌, ap, eq-eqb, eqb-true}
+use Rattle.std.proofs.Common.{◌≡◌, ◌∷◌, ℕ, Bool, true, false, cond, suc, ◌==◌, ◌||◌, List, [], Option, Some, None, subst, inl, inr, if◌then◌else◌, refl, sym, ◌∙◌, ap, eq-eqb, eqb-true}
 use Rattle.std.proofs.lemmas.Bool.{eqb-false}
 use mathlib.Core.Path.{fun_ext}
 use Rattle.page_model.specs.Nodes as nodes
@@ -14,6 +14,9 @@ use Rattle.core_state.specs.Events as events
 use Rattle.plain_core.specs.declared.state.Core.{Core}
 use Rattle.core_state.specs.Needs as needs
 use Rattle.plain_core.specs.declared.state.Settings.{Settings}
+use Rattle.plain_core.specs.declared.refusal.Refusal.{Refusal}
+use Rattle.plain_core.specs.declared.refusal.Refusal.TheVariants as refusals
+use Rattle.plain_core.specs.Spent.{IsSpent, IsSpentIn, IfNumber}
 use Rattle.plain_core.specs.States.{Rest, Becomes, IsStep, opening, state_of}
 
 -- an entry, and then a worker
@@ -160,6 +163,11 @@ becomes old new s t h k = record { settings = h.settings; state = h.state ∙ k 
 pub record IsRun (g : model.Opening) (old new : Core) (all rest : List events.Event) : Type 0 where
   pub settings : new.settings ≡ old.settings
   pub state : steps.run g (state_of new) rest ≡ steps.run g (state_of old) all
+  pub spent : IsSpentIn g (state_of new) rest → IsSpentIn g (state_of old) all
+
+-- all of the run is still to come
+pub run_start : (g : model.Opening) (old : Core) (all rest : List events.Event) → rest ≡ all → IsRun g old old all rest
+run_start g old all rest h = record { settings = refl; state = ap (steps.run g (state_of old)) h; spent = λ k. subst (IsSpentIn g (state_of old)) h k }
 
 -- the event happens
 pub happened : (g : model.Opening) (old new : Core) (e : events.Event) (b : Bool) → b ≡ true → b ≡ needs.may g (state_of old) e →
@@ -184,7 +192,22 @@ run_step old cur new x e b all rest later h i f =
     record {
       settings = k.settings ∙ h.settings;
       state = ap (λ s. steps.run g s later) k.state ∙ ap (λ r. steps.run g (state_of cur) r) (sym i) ∙ h.state;
+      spent = λ j. h.spent (subst (IsSpentIn g (state_of cur)) (sym i) (inr (subst (λ s. IsSpentIn g s later) k.state j)));
     }
+
+-- the next event of the run finds no further number
+pub run_spent : (old cur : Core) (x : Rest old.settings) (e : events.Event) (all rest later : List events.Event) →
+    IsRun (opening old.settings x) old cur all rest → rest ≡ e ∷ later → ((y : Rest cur.settings) → IsSpent (opening cur.settings y) (state_of cur) e) →
+    IsSpentIn (opening old.settings x) (state_of old) all
+run_spent old cur x e all rest later h i f =
+    let g : model.Opening = opening old.settings x in
+    let P : Settings → Type 0 = λ u. (z : Rest u) → IsSpent (opening u z) (state_of cur) e in
+    h.spent (subst (IsSpentIn g (state_of cur)) (sym i) (inl (subst P h.settings f x)))
+
+-- a refusal that comes for a reason comes for what follows from it
+pub if_number : (r : Refusal) (P Q : Type 0) → (P → Q) → IfNumber r P → IfNumber r Q
+if_number refusals.Memory P Q f h = tt
+if_number refusals.Number P Q f h = f h
 
 -- the run is over
 pub run_done : (g : model.Opening) (old new : Core) (all rest : List events.Event) → IsRun g old new all rest → rest ≡ [] → Becomes old new (steps.run g (state_of old) all)

@@ -56,7 +56,12 @@ impl<T: Drop> Table<T> {
 
 impl Core {
     // The worker, after it touched the pages, the last of the list first.
-    fn at_pages(&self, alloc: Global, own: u64, pages: &[u64]) -> Result<Worker, AllocError>
+    pub(crate) fn at_pages(
+        &self,
+        alloc: Global,
+        own: u64,
+        pages: &[u64],
+    ) -> Result<Worker, AllocError>
         ensures { IfOk result (λ a. let s = state_of self.now in worker_of a ≡ steps.at_pages s own (s.worker own) pages.now) }
     {
         let mut worker = self.workers.get(own).copy(alloc)?;
