@@ -24,3 +24,5 @@ pub use table::Table;
 
 #[cfg(test)]
 mod tests;
+#[cfg(test)]
+mod tests_structure;
