@@ -1,12 +1,11 @@
 // What changes of the tree make of the state.
-ghost use Rattle.std.specs.Prelude.{◌≡◌, ◌∷◌, [], ◌++◌, ℕ, map, IfOk, if◌then◌else◌};
+ghost use Rattle.std.specs.Prelude.{◌≡◌, ◌∷◌, [], ◌++◌, map, IfOk, if◌then◌else◌};
 ghost use Rattle.map_model.specs.Lists.{upd};
 ghost use Rattle.page_model.specs.Needs as page_needs;
 ghost use Rattle.image_model.specs.Entries as logged;
 ghost use Rattle.core_state.specs.States as states;
 ghost use Rattle.core_state.specs.Steps as steps;
 ghost use Rattle.plain_core.specs.Structure.{placed_by, placing_of, at_number};
-ghost use Rattle.plain_core.specs.Tables.{at, found};
 ghost use Rattle.plain_core.specs.Records.{page_of, kind_of, record_of, entry_of};
 ghost use Rattle.plain_core.specs.States.{Becomes, worker_of, state_of};
 
@@ -14,7 +13,7 @@ use crate::page_records::page_entry;
 use crate::records::{Entry, Kind, Page, PageRecord};
 use crate::refusal::Refusal;
 use crate::state::{Core, Worker};
-use crate::table::{Placed, Table};
+use crate::table::Placed;
 use std::alloc::{AllocError, Global};
 
 impl Worker {
@@ -40,18 +39,6 @@ fn add(placed: &mut Vec<Placed<Page>>, place: u64, value: Page) -> Result<(), Al
 {
     placed.push(Placed { place, value })?;
     Ok(())
-}
-
-impl<T: Drop> Table<T> {
-    // Sets the values, the last of the list first.
-    fn set_all(&mut self, mut newer: Vec<Placed<T>>) -> Result<(), AllocError>
-        ensures { IfOk result (λ _. (i : ℕ) → at self.new i ≡ found newer.items (at self.old i) i) }
-    {
-        while let Some(change) = newer.pop() {
-            self.set(change.place, change.value)?;
-        }
-        Ok(())
-    }
 }
 
 impl Core {
