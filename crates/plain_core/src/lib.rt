@@ -28,4 +28,6 @@ pub use table::Table;
 #[cfg(test)]
 mod tests;
 #[cfg(test)]
+mod tests_frames;
+#[cfg(test)]
 mod tests_structure;
