@@ -22,7 +22,7 @@ use crate::state::{Core, Place, Row, Worker};
 use crate::table::{Placed, Table};
 use std::alloc::{AllocError, Global};
 
-fn next(number: u64) -> Result<u64, Refusal>
+pub(crate) fn next(number: u64) -> Result<u64, Refusal>
     ensures { IfOk result (λ n. n ≡ suc number) }
 {
     match number.checked_add(1) {
@@ -33,7 +33,7 @@ fn next(number: u64) -> Result<u64, Refusal>
 
 impl Worker {
     // It met a stamp.
-    fn touch(&mut self, own: u64, number: u64, log: u64)
+    pub(crate) fn touch(&mut self, own: u64, number: u64, log: u64)
         ensures { worker_of self.new ≡ steps.touch own (worker_of self.old) number log }
     {
         if self.floor < number && (log != own && log != 0) {
@@ -51,7 +51,7 @@ impl Worker {
     }
 
     // The worker, after it met a page.
-    fn at_page(&self, alloc: Global, own: u64, page: &Page) -> Result<Worker, AllocError>
+    pub(crate) fn at_page(&self, alloc: Global, own: u64, page: &Page) -> Result<Worker, AllocError>
         ensures { IfOk result (λ a. worker_of a ≡ steps.touch own (worker_of self.now) page.now.number page.now.log) }
     {
         let mut worker = self.copy(alloc)?;
@@ -367,7 +367,12 @@ impl Page {
 }
 
 // The pairs, in which the key has the word.
-fn put(alloc: Global, pairs: &[Pair], key: u64, word: u64) -> Result<Vec<Pair>, AllocError>
+pub(crate) fn put(
+    alloc: Global,
+    pairs: &[Pair],
+    key: u64,
+    word: u64,
+) -> Result<Vec<Pair>, AllocError>
     ensures { IfOk result (λ v. map pair_of v.items ≡ paired.put key word (map pair_of pairs.now)) }
 {
     let mut all = Vec::new(alloc);
@@ -563,7 +568,7 @@ impl Core {
         Ok(())
     }
 
-    fn change(
+    pub(crate) fn change(
         &mut self,
         alloc: Global,
         worker: u64,
@@ -628,7 +633,7 @@ impl Core {
         Ok(())
     }
 
-    fn put_back(&mut self, alloc: Global, worker: u64, page: u64) -> Result<(), Refusal>
+    pub(crate) fn put_back(&mut self, alloc: Global, worker: u64, page: u64) -> Result<(), Refusal>
         ensures { IfOk result (λ _. (x : Rest self.old.settings) → Becomes self.old self.new (steps.put_back (opening self.old.settings x) (state_of self.old) worker page ((state_of self.old).worker worker).changes)) }
     {
         let newest = newest(&self.workers.get(worker).changes);
@@ -641,7 +646,7 @@ impl Core {
         }
     }
 
-    fn begin(&mut self, alloc: Global, worker: u64, flushed: u64) -> Result<(), Refusal>
+    pub(crate) fn begin(&mut self, alloc: Global, worker: u64, flushed: u64) -> Result<(), Refusal>
         ensures { IfOk result (λ _. Becomes self.old self.new (let s = state_of self.old in record s { worker = upd s.worker worker (steps.begun (s.worker worker) flushed) })) }
     {
         let begun = self.workers.get(worker).begun(alloc, flushed)?;
@@ -649,7 +654,13 @@ impl Core {
         Ok(())
     }
 
-    fn lock(&mut self, alloc: Global, worker: u64, row: u64, mode: Mode) -> Result<(), Refusal>
+    pub(crate) fn lock(
+        &mut self,
+        alloc: Global,
+        worker: u64,
+        row: u64,
+        mode: Mode,
+    ) -> Result<(), Refusal>
         ensures { IfOk result (λ _. Becomes self.old self.new (let s = state_of self.old in record s { row = upd s.row row (steps.locked (s.row row) worker (mode_of mode)); worker = upd s.worker worker (steps.at_row worker (s.worker worker) (s.row row)) })) }
     {
         let locked = self.rows.get(row).locked(alloc, worker, mode)?;
@@ -662,7 +673,7 @@ impl Core {
         Ok(())
     }
 
-    fn unlock(&mut self, alloc: Global, worker: u64, row: u64) -> Result<(), Refusal>
+    pub(crate) fn unlock(&mut self, alloc: Global, worker: u64, row: u64) -> Result<(), Refusal>
         ensures { IfOk result (λ _. Becomes self.old self.new (let s = state_of self.old in record s { row = upd s.row row (steps.unlocked (s.row row) worker (s.worker worker).end) })) }
     {
         let end = self.workers.get(worker).end;
@@ -671,7 +682,13 @@ impl Core {
         Ok(())
     }
 
-    fn end(&mut self, alloc: Global, worker: u64, commit: bool, flushed: u64) -> Result<(), Refusal>
+    pub(crate) fn end(
+        &mut self,
+        alloc: Global,
+        worker: u64,
+        commit: bool,
+        flushed: u64,
+    ) -> Result<(), Refusal>
         ensures { IfOk result (λ _. Becomes self.old self.new (let s = state_of self.old in steps.ends s worker (steps.end_entry (if commit then logged.Kind.Commit else logged.Kind.Abort) worker (s.worker worker) flushed))) }
     {
         let entry = end_entry(alloc, worker, self.workers.get(worker), commit, flushed)?;
@@ -681,7 +698,13 @@ impl Core {
         Ok(())
     }
 
-    fn read(&mut self, alloc: Global, worker: u64, page: u64, key: u64) -> Result<(), Refusal>
+    pub(crate) fn read(
+        &mut self,
+        alloc: Global,
+        worker: u64,
+        page: u64,
+        key: u64,
+    ) -> Result<(), Refusal>
         ensures { IfOk result (λ _. (x : Rest self.old.settings) → Becomes self.old self.new (steps.reads (opening self.old.settings x) (state_of self.old) worker page key)) }
     {
         let reader = self
@@ -696,79 +719,14 @@ impl Core {
         Ok(())
     }
 
-    /// What an event makes of the state.
-    fn happen(&mut self, alloc: Global, event: Event) -> Result<(), Refusal>
-        ensures { IfOk result (λ _. (x : Rest self.old.settings) → Becomes self.old self.new (steps.happens (opening self.old.settings x) (state_of self.old) (event_of event))) }
-    {
-        match event {
-            Event::Enter { worker, epoch } => self.come_in(worker, epoch),
-            Event::Begin { worker, flushed } => self.begin(alloc, worker, flushed),
-            Event::Lock { worker, row, mode } => self.lock(alloc, worker, row, mode),
-            Event::Read {
-                worker,
-                page,
-                key,
-                ..
-            } => self.read(alloc, worker, page, key),
-            Event::Peek { .. } => Ok(()),
-            Event::Change {
-                worker,
-                page,
-                key,
-                word,
-            } => self.change(alloc, worker, page, key, word),
-            Event::PutBack { worker, page } => self.put_back(alloc, worker, page),
-            Event::End {
-                worker,
-                commit,
-                flushed,
-            } => self.end(alloc, worker, commit, flushed),
-            Event::Unlock { worker, row } => self.unlock(alloc, worker, row),
-            Event::Flush { worker, number } => self.flush(worker, number),
-            Event::Sync { number } => self.sync(alloc, number),
-            Event::Post { number, .. } => {
-                self.post(number);
-                Ok(())
-            }
-            Event::Save { page } => self.save(alloc, page),
-            Event::Leave { worker } => self.leave(alloc, worker),
-            Event::Tick => self.tick(),
-            Event::Ask { .. } => Ok(()),
-            Event::Refused { .. } => Ok(()),
-            Event::Miss { .. } => Ok(()),
-        }
-    }
-
-    /// The event happens, if its need is met. Answers whether it is; if not, nothing changes. After a refusal nothing is
-    /// said of the state.
-    pub fn step(&mut self, alloc: Global, event: Event) -> Result<bool, Refusal>
-        ensures { IfOk result (λ is_met. (x : Rest self.old.settings) → IsStep (opening self.old.settings x) self.old self.new (event_of event) is_met) }
-    {
-        if !self.may(event) {
-            return Ok(false);
-        }
-        self.happen(alloc, event)?;
-        Ok(true)
-    }
-
-    /// The events, the first first.
-    pub fn run(&mut self, alloc: Global, events: &[Event]) -> Result<(), Refusal>
-        ensures { IfOk result (λ _. (x : Rest self.old.settings) → Becomes self.old self.new (steps.run (opening self.old.settings x) (state_of self.old) (events_of events.now))) }
-    {
-        for event in events {
-            self.step(alloc, *event)?;
-        }
-        Ok(())
-    }
-
-    fn flush(&mut self, log: u64, number: u64) -> Result<(), Refusal>
+    pub(crate) fn flush(&mut self, log: u64, number: u64) -> Result<(), Refusal>
         ensures { IfOk result (λ _. Becomes self.old self.new (record (state_of self.old) { flushed = upd (state_of self.old).flushed log number })) }
     {
         self.set_flushed(log, number)?;
         Ok(())
     }
 
-    fn sync(&mut self, alloc: Global, number: u64) -> Result<(), Refusal>
+    pub(crate) fn sync(&mut self, alloc: Global, number: u64) -> Result<(), Refusal>
         ensures { IfOk result (λ _. Becomes self.old self.new (steps.synced (state_of self.old) number)) }
     {
         self.workers.raise(alloc, number)?;
@@ -777,14 +735,14 @@ impl Core {
         Ok(())
     }
 
-    fn come_in(&mut self, worker: u64, epoch: u64) -> Result<(), Refusal>
+    pub(crate) fn come_in(&mut self, worker: u64, epoch: u64) -> Result<(), Refusal>
         ensures { IfOk result (λ _. Becomes self.old self.new (record (state_of self.old) { inside = upd (state_of self.old).inside worker (Some epoch) })) }
     {
         self.set_inside(worker, Some(epoch))?;
         Ok(())
     }
 
-    fn save(&mut self, alloc: Global, page: u64) -> Result<(), Refusal>
+    pub(crate) fn save(&mut self, alloc: Global, page: u64) -> Result<(), Refusal>
         ensures { IfOk result (λ _. Becomes self.old self.new (record (state_of self.old) { saved = upd (state_of self.old).saved page ((state_of self.old).page page) })) }
     {
         let saved = self.pages.get(page).copy(alloc)?;
@@ -792,7 +750,7 @@ impl Core {
         Ok(())
     }
 
-    fn leave(&mut self, alloc: Global, worker: u64) -> Result<(), Refusal>
+    pub(crate) fn leave(&mut self, alloc: Global, worker: u64) -> Result<(), Refusal>
         ensures { IfOk result (λ _. Becomes self.old self.new (record (state_of self.old) { inside = upd (state_of self.old).inside worker None; place = λ p. states.left_by worker ((state_of self.old).place p) })) }
     {
         self.places = self.places.left_by(alloc, worker)?;
@@ -800,14 +758,14 @@ impl Core {
         Ok(())
     }
 
-    fn tick(&mut self) -> Result<(), Refusal>
+    pub(crate) fn tick(&mut self) -> Result<(), Refusal>
         ensures { IfOk result (λ _. Becomes self.old self.new (record (state_of self.old) { epoch = suc (state_of self.old).epoch })) }
     {
         self.epoch = next(self.epoch)?;
         Ok(())
     }
 
-    fn post(&mut self, number: u64)
+    pub(crate) fn post(&mut self, number: u64)
         ensures { Becomes self.old self.new (record (state_of self.old) { posted = max (state_of self.old).posted number }) }
     {
         self.posted = self.posted.max(number);

@@ -5,7 +5,7 @@ use Rattle.plain_core.specs.Inside.{written_in, write_entry_in, write_kind}
 use Rattle.plain_core.specs.Tables.{at}
 use Rattle.plain_core.specs.Records.{page_of, entry_of}
 use Rattle.plain_core.specs.States.{worker_of}
-use Rattle.plain_core.proofs.Steps.{recorded}
+use Rattle.plain_core.proofs.Runs.{recorded}
 use Rattle.plain_core.proofs.state.Core.change.Goals as goal
 
 pub returns : goal.returns

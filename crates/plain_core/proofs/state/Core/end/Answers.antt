@@ -4,7 +4,7 @@ use Rattle.core_state.specs.Steps as steps
 use Rattle.plain_core.specs.Tables.{at}
 use Rattle.plain_core.specs.Records.{entry_of}
 use Rattle.plain_core.specs.States.{worker_of}
-use Rattle.plain_core.proofs.Steps.{entered}
+use Rattle.plain_core.proofs.Runs.{entered}
 use Rattle.plain_core.proofs.state.Core.end.Goals as goal
 
 pub returns : goal.returns

@@ -3,7 +3,7 @@ use Rattle.core_state.specs.Steps as steps
 use Rattle.plain_core.specs.Tables.{at}
 use Rattle.plain_core.specs.States.{row_of, worker_of}
 use Rattle.plain_core.specs.Events.{mode_of}
-use Rattle.plain_core.proofs.Steps.{rowed}
+use Rattle.plain_core.proofs.Runs.{rowed}
 use Rattle.plain_core.proofs.state.Core.lock.Goals as goal
 
 pub returns : goal.returns

@@ -3,7 +3,7 @@ use Rattle.plain_core.specs.declared.state.Worker.{Worker}
 use Rattle.plain_core.specs.Inside.{newest_of}
 use Rattle.plain_core.specs.Records.{entries_of}
 use Rattle.plain_core.specs.States.{opening, state_of}
-use Rattle.plain_core.proofs.Steps.{becomes, put_back_is}
+use Rattle.plain_core.proofs.Runs.{becomes, put_back_is}
 use Rattle.plain_core.proofs.state.Core.put_back.Goals as goal
 
 pub returns-in_ok-put_word_back-in-Some : goal.returns-in_ok-put_word_back-in-Some

@@ -6,7 +6,7 @@ use Rattle.core_state.specs.Steps as steps
 use Rattle.plain_core.specs.Tables.{at}
 use Rattle.plain_core.specs.Records.{node_of, page_of, entry_of}
 use Rattle.plain_core.specs.States.{row_of, worker_of}
-use Rattle.plain_core.proofs.Steps.{entered, ap3}
+use Rattle.plain_core.proofs.Runs.{entered, ap3}
 use Rattle.plain_core.proofs.state.Core.read.Goals as goal
 
 pub returns : goal.returns

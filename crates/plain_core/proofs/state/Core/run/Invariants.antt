@@ -1,7 +1,7 @@
 use Rattle.std.proofs.Common.{drop}
 use Rattle.plain_core.specs.States.{Rest, opening}
 use Rattle.plain_core.specs.Events.{events_of}
-use Rattle.plain_core.proofs.Steps.{IsRun}
+use Rattle.plain_core.proofs.Runs.{IsRun}
 use Rattle.plain_core.proofs.state.Core.run.Given as goal
 
 abbrev pub invariant-loop-event : goal.invariant-loop-event

@@ -1,6 +1,6 @@
 use Rattle.plain_core.specs.Records.{page_of, entry_of}
 use Rattle.plain_core.specs.States.{worker_of}
-use Rattle.plain_core.proofs.Steps.{wrote}
+use Rattle.plain_core.proofs.Runs.{wrote}
 use Rattle.plain_core.proofs.state.Core.write.Goals as goal
 
 pub returns : goal.returns
