@@ -1,0 +1,18 @@
+// The lists, each by a sentence.
+mod ends;
+mod saves;
+
+use crate::expectations::List;
+use std::alloc::{AllocError, Global};
+
+/// All lists.
+pub fn lists(alloc: Global) -> Result<Vec<&'static List>, AllocError> {
+    let mut lists = Vec::new(alloc);
+    for list in &ends::LISTS {
+        lists.push(list)?;
+    }
+    for list in &saves::LISTS {
+        lists.push(list)?;
+    }
+    Ok(lists)
+}
