@@ -1,5 +1,5 @@
 -- What the changes of a table mean.
-use Rattle.std.proofs.Common.{◌≡◌, ◌==◌, ℕ, Bool, true, false, cond, List, [], ◌∷◌, ◌++◌, map, length, drop, ◌≤◌, refl, sym, ◌∙◌, ap}
+use Rattle.std.proofs.Common.{◌≡◌, ◌==◌, ℕ, Bool, true, false, cond, List, [], ◌∷◌, ◌++◌, map, length, drop, ◌≤◌, refl, sym, ◌∙◌, ap, eqb-true}
 use Rattle.std.proofs.lemmas.List.{append-nil, drop_all}
 use Rattle.plain_core.specs.declared.table.Placed.{Placed}
 use Rattle.plain_core.specs.Tables.{found}
@@ -35,3 +35,26 @@ same_found f g xs ys d e i h k = found_meant f xs d i ∙ ap (λ zs. found zs (f
 -- the changes are all where none is left
 pub all_meant : {A B C : Type 0} (f : A → C) (g : B → C) (xs : List (Placed A)) (ys : List (Placed B)) (n : ℕ) → length ys ≤ n → HasMeant f g xs (drop n ys) ys → meant f xs ≡ meant g ys
 all_meant f g xs ys n h k = sym (append-nil (meant f xs)) ∙ ap (λ zs. meant f xs ++ meant g zs) (sym (drop_all n ys h)) ∙ k
+
+-- the function at the places of the list
+abbrev pub there : {A C : Type 0} → (ℕ → C) → List (Placed A) → List (Placed C)
+there f xs = map (λ x. record { place = x.place; value = f x.place }) xs
+
+there_if : {A C : Type 0} (f : ℕ → C) (x : Placed A) (xs : List (Placed A)) (zs : List (Placed C)) (d : A) (e : C) (i : ℕ) (b : Bool) → (i == x.place) ≡ b →
+    ((found xs d i ≡ d → found zs e i ≡ f i) → found (there f xs ++ zs) e i ≡ f i) →
+    (cond (i == x.place) x.value (found xs d i) ≡ d → found zs e i ≡ f i) → cond (i == x.place) (f x.place) (found (there f xs ++ zs) e i) ≡ f i
+there_if f x xs zs d e i true h k l = ap (λ b. cond b (f x.place) (found (there f xs ++ zs) e i)) h ∙ ap f (sym (eqb-true i x.place h))
+there_if f x xs zs d e i false h k l = ap (λ b. cond b (f x.place) (found (there f xs ++ zs) e i)) h ∙ k (λ m. l (ap (λ b. cond b x.value (found xs d i)) h ∙ m))
+
+-- a table that has the function at these places is it, if it is where none of them is
+found_there : {A C : Type 0} (f : ℕ → C) (xs : List (Placed A)) (zs : List (Placed C)) (d : A) (e : C) (i : ℕ) →
+    (found xs d i ≡ d → found zs e i ≡ f i) → found (there f xs ++ zs) e i ≡ f i
+found_there f [] zs d e i h = h refl
+found_there f (x ∷ xs) zs d e i h = there_if f x xs zs d e i (i == x.place) refl (found_there f xs zs d e i) h
+
+-- two tables at once
+pub found_both : {A B C : Type 0} (F : A → B → C) (xs : List (Placed A)) (ys : List (Placed B)) (d : A) (e : B) (i : ℕ) →
+    found (there (λ j. F (found xs d j) (found ys e j)) xs ++ there (λ j. F (found xs d j) (found ys e j)) ys) (F d e) i ≡ F (found xs d i) (found ys e i)
+found_both F xs ys d e i =
+    let f = λ (j : ℕ). F (found xs d j) (found ys e j) in
+    found_there f xs (there f ys) d (F d e) i (λ h. ap (λ zs. found zs (F d e) i) (sym (append-nil (there f ys))) ∙ found_there f ys [] e (F d e) i (λ k. sym (ap (λ a. F a (found ys e i)) h ∙ ap (F d) k)))

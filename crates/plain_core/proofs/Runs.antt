@@ -1,9 +1,10 @@
 -- A state that two changes made.
-use Rattle.std.proofs.Common.{◌≡◌, ◌∷◌, ℕ, Bool, true, false, cond, suc, ◌==◌, ◌||◌, List, [], Option, Some, None, subst, if◌then◌else◌, refl, sym, ◌∙◌, ap, eq-eqb, eqb-true}
+use Rattle.std.proofs.Common.{◌≡◌, ◌∷◌, ℕ, Bool, true, false, cond, suc, ◌==◌, ◌||◌, List, [], Option, Some, None, subst, inl, inr, if◌then◌else◌, refl, sym, ◌∙◌, ap, eq-eqb, eqb-true}
 use Rattle.std.proofs.lemmas.Bool.{eqb-false}
 use mathlib.Core.Path.{fun_ext}
 use Rattle.page_model.specs.Nodes as nodes
 use Rattle.page_model.specs.Pairs as paired
+use Rattle.core_state.specs.Lists as lists
 use Rattle.core_state.specs.Steps as steps
 use Rattle.plain_core.specs.Inside.{written_in, write_entry_in, write_kind, newest_of, tail}
 use Rattle.map_model.specs.Lists.{upd}
@@ -13,6 +14,9 @@ use Rattle.core_state.specs.Events as events
 use Rattle.plain_core.specs.declared.state.Core.{Core}
 use Rattle.core_state.specs.Needs as needs
 use Rattle.plain_core.specs.declared.state.Settings.{Settings}
+use Rattle.plain_core.specs.declared.refusal.Refusal.{Refusal}
+use Rattle.plain_core.specs.declared.refusal.Refusal.TheVariants as refusals
+use Rattle.plain_core.specs.Spent.{IsSpent, IsSpentIn, IfNumber}
 use Rattle.plain_core.specs.States.{Rest, Becomes, IsStep, opening, state_of}
 
 -- an entry, and then a worker
@@ -37,6 +41,37 @@ rowed old mid new n r e w a b h k i j = record {
   state = k.state ∙ ap (λ (t : model.State). record t { worker = upd t.worker w a }) h.state
       ∙ ap (λ (z : model.Row). record (state_of old) { row = upd (state_of old).row n z; worker = upd (state_of old).worker w a }) i
       ∙ ap (λ (z : model.Worker). record (state_of old) { row = upd (state_of old).row n e; worker = upd (state_of old).worker w z }) j;
+}
+
+-- where a page stands, and then what it is
+pub loaded : (old mid new : Core) (p : ℕ) (l : model.Place) (v e : logged.Page) →
+    Becomes old mid (record (state_of old) { place = upd (state_of old).place p l }) →
+    Becomes mid new (record (state_of mid) { page = upd (state_of mid).page p v }) → v ≡ e →
+    Becomes old new (record (state_of old) { place = upd (state_of old).place p l; page = upd (state_of old).page p e })
+loaded old mid new p l v e h k i = record {
+  settings = k.settings ∙ h.settings;
+  state = k.state ∙ ap (λ (t : model.State). record t { page = upd t.page p v }) h.state
+      ∙ ap (λ (z : logged.Page). record (state_of old) { place = upd (state_of old).place p l; page = upd (state_of old).page p z }) i;
+}
+
+-- where a page stands, and then the queue
+pub queued : (old mid new : Core) (p : ℕ) (l e : model.Place) →
+    Becomes old mid (record (state_of old) { place = upd (state_of old).place p l }) →
+    Becomes mid new (record (state_of mid) { queue = lists.at_end (state_of mid).queue p }) → l ≡ e →
+    Becomes old new (record (state_of old) { place = upd (state_of old).place p e; queue = lists.at_end (state_of old).queue p })
+queued old mid new p l e h k i = record {
+  settings = k.settings ∙ h.settings;
+  state = k.state ∙ ap (λ (t : model.State). record t { queue = lists.at_end t.queue p }) h.state
+      ∙ ap (λ (z : model.Place). record (state_of old) { place = upd (state_of old).place p z; queue = lists.at_end (state_of old).queue p }) i;
+}
+
+-- a place that is said otherwise
+pub stands : (old new : Core) (p : ℕ) (q : List ℕ) (l e : model.Place) →
+    Becomes old new (record (state_of old) { place = upd (state_of old).place p l; queue = q }) → l ≡ e →
+    Becomes old new (record (state_of old) { place = upd (state_of old).place p e; queue = q })
+stands old new p q l e h i = record {
+  settings = h.settings;
+  state = h.state ∙ ap (λ (z : model.Place). record (state_of old) { place = upd (state_of old).place p z; queue = q }) i;
 }
 
 -- an entry, a page, and then a worker
@@ -128,6 +163,11 @@ becomes old new s t h k = record { settings = h.settings; state = h.state ∙ k 
 pub record IsRun (g : model.Opening) (old new : Core) (all rest : List events.Event) : Type 0 where
   pub settings : new.settings ≡ old.settings
   pub state : steps.run g (state_of new) rest ≡ steps.run g (state_of old) all
+  pub spent : IsSpentIn g (state_of new) rest → IsSpentIn g (state_of old) all
+
+-- all of the run is still to come
+pub run_start : (g : model.Opening) (old : Core) (all rest : List events.Event) → rest ≡ all → IsRun g old old all rest
+run_start g old all rest h = record { settings = refl; state = ap (steps.run g (state_of old)) h; spent = λ k. subst (IsSpentIn g (state_of old)) h k }
 
 -- the event happens
 pub happened : (g : model.Opening) (old new : Core) (e : events.Event) (b : Bool) → b ≡ true → b ≡ needs.may g (state_of old) e →
@@ -152,7 +192,22 @@ run_step old cur new x e b all rest later h i f =
     record {
       settings = k.settings ∙ h.settings;
       state = ap (λ s. steps.run g s later) k.state ∙ ap (λ r. steps.run g (state_of cur) r) (sym i) ∙ h.state;
+      spent = λ j. h.spent (subst (IsSpentIn g (state_of cur)) (sym i) (inr (subst (λ s. IsSpentIn g s later) k.state j)));
     }
+
+-- the next event of the run finds no further number
+pub run_spent : (old cur : Core) (x : Rest old.settings) (e : events.Event) (all rest later : List events.Event) →
+    IsRun (opening old.settings x) old cur all rest → rest ≡ e ∷ later → ((y : Rest cur.settings) → IsSpent (opening cur.settings y) (state_of cur) e) →
+    IsSpentIn (opening old.settings x) (state_of old) all
+run_spent old cur x e all rest later h i f =
+    let g : model.Opening = opening old.settings x in
+    let P : Settings → Type 0 = λ u. (z : Rest u) → IsSpent (opening u z) (state_of cur) e in
+    h.spent (subst (IsSpentIn g (state_of cur)) (sym i) (inl (subst P h.settings f x)))
+
+-- a refusal that comes for a reason comes for what follows from it
+pub if_number : (r : Refusal) (P Q : Type 0) → (P → Q) → IfNumber r P → IfNumber r Q
+if_number refusals.Memory P Q f h = tt
+if_number refusals.Number P Q f h = f h
 
 -- the run is over
 pub run_done : (g : model.Opening) (old new : Core) (all rest : List events.Event) → IsRun g old new all rest → rest ≡ [] → Becomes old new (steps.run g (state_of old) all)

@@ -1,14 +1,19 @@
 -- Words of private functions: needs that lean on the numbers of an opening alone.
-use Rattle.std.specs.Prelude.{ℕ, suc, max, Bool, true, false, ◌&&◌, ◌||◌, ltb, leb, List, [], ◌∷◌, length, Option, Some, None, if◌then◌else◌}
-use Rattle.image_model.specs.Entries.{Kind, Entry, Page, page_kind}
+use Rattle.std.specs.Prelude.{ℕ, suc, max, Bool, true, false, ◌&&◌, ◌||◌, not, ltb, leb, List, [], ◌∷◌, length, map, Option, Some, None, if◌then◌else◌}
+use Rattle.map_model.specs.Lists.{any, all as every}
+use Rattle.image_model.specs.Entries.{Kind, Entry, Page, page_kind, is_record}
 use Rattle.page_model.specs.Records as records
 use Rattle.page_model.specs.Needs.{nowhere}
 use Rattle.page_model.specs.Pairs.{find, put}
 use Rattle.page_model.specs.Tree.{word_or}
 use Rattle.page_model.specs.Nodes.{Node, holds}
 use Rattle.page_model.specs.Redo.{has_key}
-use Rattle.core_state.specs.States.{State, Worker}
-use Rattle.core_state.specs.Needs.{holds_row}
+use Rattle.page_model.specs.Check.{names_page}
+use Rattle.rfa_model.specs.Reaches.{least}
+use Rattle.core_state.specs.Lists.{all_below}
+use Rattle.core_state.specs.States.{State, Worker, is_hot, in_frame, waits_for}
+use Rattle.core_state.specs.Needs.{holds_row, is_ripe_end}
+use Rattle.plain_core.specs.declared.table.Placed.{Placed}
 use Rattle.plain_core.specs.declared.state.Settings.{Settings}
 use Rattle.plain_core.specs.States.{row_at}
 
@@ -64,3 +69,35 @@ tail (x ∷ xs) = xs
 abbrev pub newest_of : List Entry → Option (ℕ × ℕ)
 newest_of [] = None
 newest_of (x ∷ xs) = Some (x.key, x.before)
+
+-- a record up to x, of a transaction that is open or whose end is not ripe
+abbrev pub is_unripe : (ℕ → ℕ) → (F x : ℕ) → List Entry → Entry → Bool
+is_unripe flushed F x all r = is_record r.kind && (leb r.number x && not (any (λ e. is_ripe_end flushed F r e) all))
+
+-- above x, or the saved contents of its pages have its changes
+abbrev pub is_saved : (ℕ → Page) → ℕ → Entry → Bool
+is_saved saved x r = not (leb r.number x) || every (λ f. leb r.number (saved f.page).gsn) r.refs
+
+-- x is below the first record of each transaction that is open or whose end is not ripe
+abbrev pub is_ripe_in : Settings → State → ℕ → Bool
+is_ripe_in s c x = not (any (is_unripe c.flushed (least c.flushed s.workers) x c.entries) c.entries)
+
+-- what the function is at these places
+abbrev pub heads_at : (ℕ → ℕ) → List (Placed ℕ) → List (Placed ℕ)
+heads_at f xs = map (λ x. record { place = x.place; value = f x.place }) xs
+
+-- each page that names p is hot
+abbrev pub has_hot_parent_in : Settings → State → ℕ → Bool
+has_hot_parent_in s c p = all_below s.pages (λ q. not (names_page (c.page q).node p) || is_hot (c.place q))
+
+-- some page that p names is hot
+abbrev pub has_hot_child_in : Settings → State → ℕ → Bool
+has_hot_child_in s c p = not (all_below s.pages (λ q. not (names_page (c.page p).node q && is_hot (c.place q))))
+
+-- no page stands in frame f
+abbrev pub is_empty_in : Settings → State → ℕ → Bool
+is_empty_in s c f = all_below s.pages (λ p. not (in_frame (c.place p) f))
+
+-- p waits for no worker
+abbrev pub is_ripe_page : Settings → State → ℕ → Bool
+is_ripe_page s c p = all_below (suc s.workers) (λ w. not (waits_for (c.place p) w))

@@ -22,7 +22,7 @@ use crate::state::{Core, Place, Row, Worker};
 use crate::table::{Placed, Table};
 use std::alloc::{AllocError, Global};
 
-fn next(number: u64) -> Result<u64, Refusal>
+pub(crate) fn next(number: u64) -> Result<u64, Refusal>
     ensures { IfOk result (λ n. n ≡ suc number) }
 {
     match number.checked_add(1) {
@@ -33,7 +33,7 @@ fn next(number: u64) -> Result<u64, Refusal>
 
 impl Worker {
     // It met a stamp.
-    fn touch(&mut self, own: u64, number: u64, log: u64)
+    pub(crate) fn touch(&mut self, own: u64, number: u64, log: u64)
         ensures { worker_of self.new ≡ steps.touch own (worker_of self.old) number log }
     {
         if self.floor < number && (log != own && log != 0) {
@@ -51,7 +51,7 @@ impl Worker {
     }
 
     // The worker, after it met a page.
-    fn at_page(&self, alloc: Global, own: u64, page: &Page) -> Result<Worker, AllocError>
+    pub(crate) fn at_page(&self, alloc: Global, own: u64, page: &Page) -> Result<Worker, AllocError>
         ensures { IfOk result (λ a. worker_of a ≡ steps.touch own (worker_of self.now) page.now.number page.now.log) }
     {
         let mut worker = self.copy(alloc)?;
@@ -367,7 +367,12 @@ impl Page {
 }
 
 // The pairs, in which the key has the word.
-fn put(alloc: Global, pairs: &[Pair], key: u64, word: u64) -> Result<Vec<Pair>, AllocError>
+pub(crate) fn put(
+    alloc: Global,
+    pairs: &[Pair],
+    key: u64,
+    word: u64,
+) -> Result<Vec<Pair>, AllocError>
     ensures { IfOk result (λ v. map pair_of v.items ≡ paired.put key word (map pair_of pairs.now)) }
 {
     let mut all = Vec::new(alloc);

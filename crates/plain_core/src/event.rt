@@ -1,10 +1,18 @@
 // What can happen.
+use crate::table::Table;
 
 /// How a row is held: with others that read, or by one alone.
 #[derive(Clone, Copy, Debug, PartialEq, Eq)]
 pub enum Mode {
     Shared,
     Alone,
+}
+
+/// What follows a key in a leaf: the least pair at or above it, or that there is none up to the high fence.
+#[derive(Clone, Copy, Debug, PartialEq, Eq)]
+pub enum Following {
+    Pair { key: u64, value: u64 },
+    Gap { high: u64 },
 }
 
 /// An event, by its worker, if it has one, and what it names. `flushed` is the least flushed number as the worker found it.
@@ -29,6 +37,12 @@ pub enum Event {
         key: u64,
         answer: Option<u64>,
     },
+    Next {
+        worker: u64,
+        page: u64,
+        key: u64,
+        answer: Following,
+    },
     Peek {
         worker: u64,
         page: u64,
@@ -44,6 +58,32 @@ pub enum Event {
     PutBack {
         worker: u64,
         page: u64,
+    },
+    Split {
+        worker: u64,
+        left: u64,
+        right: u64,
+        parent: u64,
+        place: u64,
+    },
+    Lift {
+        worker: u64,
+        child: u64,
+    },
+    Join {
+        worker: u64,
+        left: u64,
+        right: u64,
+        parent: u64,
+    },
+    Drop {
+        worker: u64,
+        child: u64,
+    },
+    Purge {
+        worker: u64,
+        page: u64,
+        keys: Vec<u64>,
     },
     End {
         worker: u64,
@@ -65,13 +105,30 @@ pub enum Event {
         worker: u64,
         number: u64,
     },
+    Load {
+        page: u64,
+        frame: u64,
+    },
+    Cool {
+        page: u64,
+    },
+    Rescue {
+        page: u64,
+    },
     Save {
+        page: u64,
+    },
+    Evict {
         page: u64,
     },
     Leave {
         worker: u64,
     },
     Tick,
+    Cut {
+        number: u64,
+        heads: Table<u64>,
+    },
     Ask {
         worker: u64,
     },

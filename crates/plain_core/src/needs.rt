@@ -31,7 +31,7 @@ impl Row {
         }
     }
 
-    fn is_free(&self) -> bool
+    pub(crate) fn is_free(&self) -> bool
         ensures { result ≡ needs.is_free (row_of self.now).holder }
     {
         match self.holder {
@@ -46,7 +46,7 @@ impl Row {
         is_among(&self.readers, worker)
     }
 
-    fn holds(&self, worker: u64) -> bool
+    pub(crate) fn holds(&self, worker: u64) -> bool
         ensures { result ≡ needs.holds_row (row_of self.now) worker }
     {
         self.is_held_by(worker) || self.is_read_by(worker)
@@ -86,7 +86,7 @@ fn has_other(readers: &[u64], worker: u64) -> bool
 }
 
 impl Node {
-    fn is_leaf_of(&self, key: u64) -> bool
+    pub(crate) fn is_leaf_of(&self, key: u64) -> bool
         ensures { result ≡ nodes.holds (node_of self.now) key }
     {
         (self.live && self.level == 0) && (self.live && (self.low <= key && key < self.high))
@@ -172,7 +172,7 @@ impl Place {
 }
 
 impl Place {
-    fn is_cold(&self) -> bool
+    pub(crate) fn is_cold(&self) -> bool
         ensures { result ≡ states.is_cold (place_of self.now) }
     {
         match self {
@@ -232,7 +232,7 @@ fn is_behind(flushed: &Table<u64>, entries: &[Entry]) -> bool
 }
 
 impl Kind {
-    fn is_record(self) -> bool
+    pub(crate) fn is_record(self) -> bool
         ensures { result ≡ logged.is_record (kind_of self) }
     {
         match self {
@@ -256,7 +256,7 @@ impl Core {
         self.settings.is_worker(worker)
     }
 
-    fn is_hot(&self, page: u64) -> bool
+    pub(crate) fn is_hot(&self, page: u64) -> bool
         ensures { result ≡ states.is_hot ((state_of self.now).place page) }
     {
         self.places.get(page).is_hot()
@@ -434,6 +434,12 @@ impl Core {
                 key,
                 answer,
             } => self.may_read(worker, page, key, answer),
+            Event::Next {
+                worker,
+                page,
+                key,
+                answer,
+            } => self.may_follow(worker, page, key, answer),
             Event::Peek {
                 worker,
                 page,
@@ -447,6 +453,26 @@ impl Core {
                 word,
             } => self.may_change(worker, page, key, word),
             Event::PutBack { worker, page } => self.may_put_back(worker, page),
+            Event::Split {
+                worker,
+                left,
+                right,
+                parent,
+                place,
+            } => self.may_split(worker, left, right, parent, place),
+            Event::Lift { worker, child } => self.may_lift(worker, child),
+            Event::Join {
+                worker,
+                left,
+                right,
+                parent,
+            } => self.may_join(worker, left, right, parent),
+            Event::Drop { worker, child } => self.may_drop(worker, child),
+            Event::Purge {
+                worker,
+                page,
+                ref keys,
+            } => self.may_purge(worker, page, keys),
             Event::End {
                 worker,
                 commit,
@@ -456,8 +482,13 @@ impl Core {
             Event::Flush { worker, number } => self.may_flush(worker, number),
             Event::Sync { number } => self.may_sync(number),
             Event::Post { worker, number } => self.may_post(worker, number),
+            Event::Load { page, frame } => self.may_load(page, frame),
+            Event::Cool { page } => self.may_cool(page),
+            Event::Rescue { page } => self.may_rescue(page),
             Event::Save { page } => self.may_save(page),
+            Event::Evict { page } => self.may_evict(page),
             Event::Leave { worker } => self.is_inside(worker),
+            Event::Cut { number, .. } => self.may_cut(number),
             Event::Refused {
                 worker,
                 cause,

@@ -1,7 +1,7 @@
 // One state of the whole engine, as lists.
 ghost use Rattle.std.specs.Prelude.{◌≡◌, ◌∷◌, IfOk};
 ghost use Rattle.map_model.specs.Lists.{upd};
-ghost use Rattle.plain_core.specs.States.{Becomes, row_of, worker_of, state_of};
+ghost use Rattle.plain_core.specs.States.{Becomes, place_of, row_of, worker_of, state_of};
 ghost use Rattle.plain_core.specs.Records.{page_of, entry_of};
 
 use crate::records::{Entry, Page, copy_entries};
@@ -142,6 +142,13 @@ impl Core {
         ensures { IfOk result (λ _. Becomes self.old self.new (record (state_of self.old) { saved = upd (state_of self.old).saved place (page_of page) })) }
     {
         self.saved.set(place, page)?;
+        Ok(())
+    }
+
+    pub fn set_place(&mut self, page: u64, place: Place) -> Result<(), AllocError>
+        ensures { IfOk result (λ _. Becomes self.old self.new (record (state_of self.old) { place = upd (state_of self.old).place page (place_of place) })) }
+    {
+        self.places.set(page, place)?;
         Ok(())
     }
 

@@ -51,6 +51,16 @@ impl<T: Drop> Table<T> {
         self.changes.insert(0, Placed { place, value })?;
         Ok(())
     }
+
+    /// Sets the values, the last of the list first.
+    pub fn set_all(&mut self, mut newer: Vec<Placed<T>>) -> Result<(), AllocError>
+        ensures { IfOk result (λ _. (i : ℕ) → at self.new i ≡ found newer.items (at self.old i) i) }
+    {
+        while let Some(change) = newer.pop() {
+            self.set(change.place, change.value)?;
+        }
+        Ok(())
+    }
 }
 
 impl Table<Page> {

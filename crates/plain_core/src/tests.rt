@@ -136,7 +136,7 @@ fn an_end_needs_what_its_worker_touched_of_another_log(rt: HostRuntime) {
 }
 
 #[test]
-fn an_event_whose_need_is_not_met_changes_nothing(rt: HostRuntime) {
+fn a_change_needs_a_lock_and_an_end_its_changes(rt: HostRuntime) {
     let alloc = rt.alloc();
     let opened = opened(alloc);
     assert!(rt; opened.is_ok());
@@ -168,6 +168,20 @@ fn an_event_whose_need_is_not_met_changes_nothing(rt: HostRuntime) {
         (Event::Sync { number: 2 }, false),
         (flush(1, 2), true),
         (end(1, true), true),
+        (Event::Save { page: 0 }, false),
+    ];
+    assert!(rt; answers(&mut core, alloc, &events));
+    assert!(rt; core.entries.len() == 4 && core.workers.get(1).clock == 3);
+    assert!(rt; core.pages.get(0).number == 2);
+}
+
+#[test]
+fn a_worker_enters_no_epoch_to_come(rt: HostRuntime) {
+    let alloc = rt.alloc();
+    let opened = opened(alloc);
+    assert!(rt; opened.is_ok());
+    let Ok(mut core) = opened else { return };
+    let events = [
         (
             Event::Post {
                 worker: 1,
@@ -207,7 +221,7 @@ fn an_event_whose_need_is_not_met_changes_nothing(rt: HostRuntime) {
         (Event::Leave { worker: 2 }, false),
         (Event::Leave { worker: 1 }, true),
         (Event::Leave { worker: 1 }, false),
-        (Event::Save { page: 0 }, false),
+        (Event::Save { page: 0 }, true),
         (Event::Save { page: 1 }, false),
         (
             Event::Refused {
@@ -227,6 +241,101 @@ fn an_event_whose_need_is_not_met_changes_nothing(rt: HostRuntime) {
         ),
     ];
     assert!(rt; answers(&mut core, alloc, &events));
-    assert!(rt; core.epoch == 1 && core.posted == 0 && core.pages.get(0).number == 2);
-    assert!(rt; core.entries.len() == 4 && core.workers.get(1).clock == 3);
+    assert!(rt; core.epoch == 1 && core.posted == 0 && core.entries.is_empty());
+}
+
+fn follow(worker: u64, key: u64, answer: Following) -> Event {
+    Event::Next {
+        worker,
+        page: 0,
+        key,
+        answer,
+    }
+}
+
+fn pair(key: u64, value: u64) -> Following {
+    Following::Pair { key, value }
+}
+
+#[test]
+fn what_follows_is_the_least_live_pair_and_its_row_is_held(rt: HostRuntime) {
+    let alloc = rt.alloc();
+    let opened = opened(alloc);
+    assert!(rt; opened.is_ok());
+    let Ok(mut core) = opened else { return };
+    let gap = Following::Gap { high: 100 };
+    let events = [
+        (begin(1, 0), true),
+        (lock(1, 5, Mode::Alone), true),
+        (follow(1, 3, gap), true),
+        (change(1, 5, 7), true),
+        (begin(2, 0), true),
+        (follow(1, 3, gap), false),
+        (follow(1, 3, pair(5, 8)), false),
+        (follow(1, 3, pair(5, 7)), true),
+        (follow(2, 3, pair(5, 7)), false),
+        (follow(2, 6, gap), true),
+        (follow(2, 100, gap), false),
+        (change(1, 5, 100), true),
+        (follow(1, 3, gap), true),
+    ];
+    assert!(rt; answers(&mut core, alloc, &events));
+    assert!(rt; core.entries.len() == 3);
+    let found = &core.entries[1];
+    assert!(rt; found.kind == Kind::Read && found.key == 5 && found.after == 7 && found.need == 1);
+    let second = core.workers.get(2);
+    assert!(rt; second.clock == 1 && second.debt == 1);
+}
+
+// A cut that asks that log 1 begins behind number 5.
+fn cut(alloc: Global, number: u64) -> Result<Event, AllocError> {
+    let mut heads = Table::new(alloc, 0);
+    heads.set(1, 5)?;
+    Ok(Event::Cut { number, heads })
+}
+
+fn cuts(core: &mut Core, alloc: Global, number: u64, is_met: bool) -> bool {
+    match cut(alloc, number) {
+        Ok(event) => answers(core, alloc, &[(event, is_met)]),
+        Err(_) => false,
+    }
+}
+
+#[test]
+fn a_cut_needs_ripe_ends_and_saved_pages(rt: HostRuntime) {
+    let alloc = rt.alloc();
+    let opened = opened(alloc);
+    assert!(rt; opened.is_ok());
+    let Ok(mut core) = opened else { return };
+    let begun = [
+        (begin(1, 0), true),
+        (lock(1, 5, Mode::Alone), true),
+        (change(1, 5, 7), true),
+        (flush(1, 1), true),
+        (Event::Sync { number: 1 }, true),
+    ];
+    assert!(rt; answers(&mut core, alloc, &begun));
+    assert!(rt; cuts(&mut core, alloc, 1, false));
+    assert!(rt; answers(&mut core, alloc, &[(end(1, true), true)]));
+    assert!(rt; cuts(&mut core, alloc, 1, false));
+    assert!(rt; answers(&mut core, alloc, &[(flush(1, 2), true)]));
+    assert!(rt; cuts(&mut core, alloc, 1, false));
+    assert!(rt; answers(&mut core, alloc, &[(Event::Save { page: 0 }, true)]));
+    assert!(rt; cuts(&mut core, alloc, 2, false));
+    assert!(rt; cuts(&mut core, alloc, 1, true));
+    assert!(rt; *core.heads.get(1) == 1 && *core.heads.get(2) == 0);
+    assert!(rt; core.cut == 1 && core.floor == 1);
+    assert!(rt; cuts(&mut core, alloc, 0, true));
+    assert!(rt; *core.heads.get(1) == 1 && core.cut == 1);
+}
+
+#[test]
+fn an_epoch_at_its_end_is_refused(rt: HostRuntime) {
+    let alloc = rt.alloc();
+    let opened = opened(alloc);
+    assert!(rt; opened.is_ok());
+    let Ok(mut core) = opened else { return };
+    core.epoch = u64::MAX;
+    assert!(rt; matches!(core.step(alloc, &Event::Tick), Err(Refusal::Number)));
+    assert!(rt; answers(&mut core, alloc, &[(Event::Ask { worker: 1 }, true)]));
 }
