@@ -5,14 +5,14 @@ use std::alloc::{AllocError, Global};
 
 /// What each log and each page may be left with: of each log, how many records from its head on; of each page, which of the
 /// run's versions.
-#[derive(Debug, Drop)]
+#[derive(Drop)]
 pub struct Choices {
     pub logs: Vec<Vec<usize>>,
     pub pages: Vec<Vec<usize>>,
 }
 
 /// One of them each.
-#[derive(Debug, Drop)]
+#[derive(Drop)]
 pub struct Picked {
     pub logs: Vec<usize>,
     pub pages: Vec<usize>,
@@ -77,6 +77,18 @@ fn is_admitted(core: &Core, version: &Version) -> bool {
 // It changed the page, and is up to the greatest cut.
 fn is_cut_from(core: &Core, entry: &Entry, page: u64) -> bool {
     entry.number <= core.cut && entry.refs.iter().any(|one| one.page == page)
+}
+
+/// The saved contents of each page are among them.
+pub fn admits_saved(run: &Run) -> bool {
+    (0..run.core.settings.pages).all(|page| is_saved_admitted(run, page))
+}
+
+fn is_saved_admitted(run: &Run, page: u64) -> bool {
+    let number = run.core.saved.get(page).number;
+    run.versions.iter().any(|version| {
+        version.page == page && version.made.number == number && is_admitted(&run.core, version)
+    })
 }
 
 impl Choices {

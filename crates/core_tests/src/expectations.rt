@@ -1,12 +1,10 @@
 // What is written by hand of a list: the answers of its events, and what comes of them and of its crashes.
 use crate::openings::Opening;
 use crate::steps::Step;
-use plain_core::Refusal;
-use std::alloc::AllocError;
+use std::alloc::{AllocError, Global};
 
 /// A list of events by name. An event stands with whether its need is met. Then: the ends that are entered, the first one
 /// first; the map of the leaves and that of the committed transactions; how many crashes there are; and some crashes.
-#[derive(Clone, Copy, Debug)]
 pub struct List {
     pub name: &'static str,
     pub opening: Opening,
@@ -19,12 +17,11 @@ pub struct List {
 }
 
 /// An end record: its log, its transaction there, its number, and what it needs.
-#[derive(Clone, Copy, Debug, PartialEq, Eq)]
+#[derive(Drop)]
 pub struct End(pub u64, pub u64, pub u64, pub u64);
 
 /// A crash by how many records it leaves of each log, and by the number of the contents that it leaves of each page. Then:
 /// how far the logs reach, the kept transactions by worker and number, the first one first, and the map.
-#[derive(Clone, Copy, Debug)]
 pub struct Crash {
     pub logs: &'static [usize],
     pub pages: &'static [u64],
@@ -38,14 +35,14 @@ pub struct Crash {
 pub enum Finding {
     /// The event at this place, counted from 0, is met or not met otherwise.
     Answer(usize),
-    /// A clock or another number ran out, or memory did.
-    Refused,
     /// The ends, the map of the leaves, or that of the committed transactions are others.
     Ends,
     Leaves,
     Committed,
     /// The committed transactions do not give their answers one after another.
     NotSerial,
+    /// Some page's saved contents are none that a crash may leave.
+    Saved,
     /// There are so many crashes.
     Crashes(usize),
     /// Only so many of the crashes that are written there are.
@@ -64,14 +61,43 @@ pub enum Finding {
     RipeLost(usize),
 }
 
-impl From<AllocError> for Finding {
-    fn from(_refused: AllocError) -> Finding {
-        Finding::Refused
+/// Those that there are, the first of each kind.
+#[derive(Debug, Drop)]
+pub struct Findings {
+    pub all: Vec<Finding>,
+}
+
+impl Findings {
+    pub fn new(alloc: Global) -> Findings {
+        Findings {
+            all: Vec::new(alloc),
+        }
+    }
+
+    /// There is one, unless it is as is said.
+    pub fn unless(&mut self, holds: bool, finding: Finding) -> Result<(), AllocError> {
+        if !holds && !self.has_kind(finding) {
+            self.all.push(finding)?;
+        }
+        Ok(())
+    }
+
+    fn has_kind(&self, finding: Finding) -> bool {
+        self.all.iter().any(|other| is_kind(*other, finding))
     }
 }
 
-impl From<Refusal> for Finding {
-    fn from(_refused: Refusal) -> Finding {
-        Finding::Refused
+// Both are of one kind, wherever they are.
+fn is_kind(a: Finding, b: Finding) -> bool {
+    match (a, b) {
+        (Finding::Reach(_), Finding::Reach(_)) => true,
+        (Finding::Kept(_), Finding::Kept(_)) => true,
+        (Finding::Map(_), Finding::Map(_)) => true,
+        (Finding::Damaged(_), Finding::Damaged(_)) => true,
+        (Finding::OtherMap(_), Finding::OtherMap(_)) => true,
+        (Finding::OtherPages(_), Finding::OtherPages(_)) => true,
+        (Finding::NotClosed(_), Finding::NotClosed(_)) => true,
+        (Finding::RipeLost(_), Finding::RipeLost(_)) => true,
+        _ => a == b,
     }
 }

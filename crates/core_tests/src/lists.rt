@@ -1,6 +1,9 @@
 // The lists, each by a sentence.
 mod ends;
+mod frames;
+mod looks;
 mod saves;
+mod trees;
 
 use crate::expectations::List;
 use std::alloc::{AllocError, Global};
@@ -12,6 +15,15 @@ pub fn lists(alloc: Global) -> Result<Vec<&'static List>, AllocError> {
         lists.push(list)?;
     }
     for list in &saves::LISTS {
+        lists.push(list)?;
+    }
+    for list in &looks::LISTS {
+        lists.push(list)?;
+    }
+    for list in &trees::LISTS {
+        lists.push(list)?;
+    }
+    for list in &frames::LISTS {
         lists.push(list)?;
     }
     Ok(lists)

@@ -1,6 +1,6 @@
 // Each list is run, and each of its crashes looked at.
-use crate::crashes::{Picked, all_choices};
-use crate::expectations::{Crash, End, Finding, List};
+use crate::crashes::{Choices, Picked, admits_saved, all_choices};
+use crate::expectations::{Crash, End, Finding, Findings, List};
 use crate::images::{found_in, image_of, logs_of};
 use crate::journals::{
     Committed, after, has_ripe, is_closed, is_serial, journal_of, kept_of, transcript_of,
@@ -9,9 +9,9 @@ use crate::lists::lists;
 use crate::maps::{copy_of, has_pairs, is_map, is_same, map_of_leaves, write_leaf};
 use crate::runs::{Run, run_list};
 use map_model::Replay;
-use plain_core::{Core, Kind};
+use plain_core::{Core, Entry, Kind, Refusal};
 use plain_images::{Image, first_damage, map, recovered_page};
-use plain_recovery::{first_break, reach, winners};
+use plain_recovery::{Pair, first_break, reach, winners};
 use std::alloc::{AllocError, Global};
 use std::collections::BTreeMap;
 
@@ -21,41 +21,55 @@ fn each_list_answers_as_is_written_and_each_crash_is_recovered(rt: HostRuntime) 
     let all = lists(alloc);
     assert!(rt; all.is_ok());
     let Ok(all) = all else { return };
+    assert_eq!(rt; all.len(), 20);
+    let mut as_written = true;
     for list in &all {
         let looked = look(alloc, list);
-        assert!(rt; looked.is_ok(), "{}: {looked:?}", list.name);
+        assert!(rt; looked.is_ok());
+        let Ok(findings) = looked else { return };
+        if !findings.all.is_empty() {
+            as_written = false;
+            let _ = eprintln!(rt; "{}: {findings:?}", list.name);
+        }
     }
+    assert!(rt; as_written);
 }
 
 // All that is written of the list, and all rules.
-fn look(alloc: Global, list: &List) -> Result<(), Finding> {
+fn look(alloc: Global, list: &List) -> Result<Findings, Refusal> {
+    let mut findings = Findings::new(alloc);
     let run = run_list(alloc, list)?;
-    if !has_ends(&run.core, list.ends) {
-        return Err(Finding::Ends);
+    if let Some(place) = run.wrong {
+        findings.unless(false, Finding::Answer(place))?;
     }
-    if !is_map(&map_of_leaves(alloc, &run.core)?, list.leaves) {
-        return Err(Finding::Leaves);
-    }
+    findings.unless(has_ends(&run.core, list.ends), Finding::Ends)?;
+    let leaves = map_of_leaves(alloc, &run.core)?;
+    findings.unless(is_map(&leaves, list.leaves), Finding::Leaves)?;
     let journal = journal_of(alloc, &run.core)?;
-    look_at_journal(alloc, &run, &journal, list)?;
-    look_at_crashes(alloc, &run, &journal, list)
+    look_at_journal(alloc, &run, &journal, list, &mut findings)?;
+    look_at_crashes(alloc, &run, &journal, list, &mut findings)?;
+    Ok(findings)
 }
 
 // The ends that were entered are these, the first one first.
 fn has_ends(core: &Core, ends: &[End]) -> bool {
-    let mut left = ends.len();
-    for entry in &core.entries {
-        if matches!(entry.kind, Kind::Commit | Kind::Abort) {
-            if left == 0 {
-                return false;
-            }
-            left -= 1;
-            if ends[left] != End(entry.log, entry.txn, entry.number, entry.need) {
-                return false;
-            }
-        }
-    }
-    left == 0
+    let count = core.entries.iter().filter(|entry| is_end(entry)).count();
+    count == ends.len()
+        && core
+            .entries
+            .iter()
+            .rev()
+            .filter(|entry| is_end(entry))
+            .zip(ends)
+            .all(|(entry, end)| is_as_written(entry, end))
+}
+
+fn is_as_written(entry: &Entry, end: &End) -> bool {
+    (entry.log, entry.txn) == (end.0, end.1) && (entry.number, entry.need) == (end.2, end.3)
+}
+
+fn is_end(entry: &Entry) -> bool {
+    matches!(entry.kind, Kind::Commit | Kind::Abort)
 }
 
 // The committed transactions are serial, by the test's own replay and by that of transcripts, and leave the map.
@@ -64,32 +78,21 @@ fn look_at_journal(
     run: &Run,
     journal: &[Committed],
     list: &List,
-) -> Result<(), Finding> {
-    if !is_serial(alloc, &run.core, &run.first, journal)? {
-        return Err(Finding::NotSerial);
-    }
-    if !is_map(
-        &after(alloc, &run.core, &run.first, journal)?,
-        list.committed,
-    ) {
-        return Err(Finding::Committed);
-    }
+    findings: &mut Findings,
+) -> Result<(), AllocError> {
+    let serial = is_serial(alloc, &run.core, &run.first, journal)?;
+    findings.unless(serial, Finding::NotSerial)?;
+    let committed = after(alloc, &run.core, &run.first, journal)?;
+    findings.unless(is_map(&committed, list.committed), Finding::Committed)?;
     if let Some(lines) = transcript_of(alloc, &run.core, journal)? {
         let start = copy_of(alloc, &run.first)?;
-        match Replay::run(alloc, start, &lines) {
-            Ok(end) if is_map(&end, list.committed) => {}
-            _ => return Err(Finding::NotSerial),
-        }
+        let serial = match Replay::run(alloc, start, &lines) {
+            Ok(end) => is_map(&end, list.committed),
+            Err(_) => false,
+        };
+        findings.unless(serial, Finding::NotSerial)?;
     }
     Ok(())
-}
-
-// What recovery gives after a crash.
-#[derive(Debug, Drop)]
-struct Recovered {
-    reach: u64,
-    kept: Vec<Committed>,
-    map: BTreeMap<u64, u64>,
 }
 
 fn look_at_crashes(
@@ -97,27 +100,45 @@ fn look_at_crashes(
     run: &Run,
     journal: &[Committed],
     list: &List,
-) -> Result<(), Finding> {
+    findings: &mut Findings,
+) -> Result<(), AllocError> {
+    findings.unless(admits_saved(run), Finding::Saved)?;
     let choices = all_choices(alloc, run)?;
     let count = choices.count();
-    if count != list.crashes {
-        return Err(Finding::Crashes(count));
-    }
+    findings.unless(count == list.crashes, Finding::Crashes(count))?;
+    let told = look_at_each(alloc, run, journal, list, &choices, findings)?;
+    findings.unless(told == list.told.len(), Finding::Untold(told))
+}
+
+// How many of the crashes are told of.
+fn look_at_each(
+    alloc: Global,
+    run: &Run,
+    journal: &[Committed],
+    list: &List,
+    choices: &Choices,
+    findings: &mut Findings,
+) -> Result<usize, AllocError> {
     let mut seen: usize = 0;
-    for number in 0..count {
+    for number in 0..choices.count() {
         let picked = choices.pick(alloc, number)?;
-        let recovered = look_at_crash(alloc, run, journal, &picked, number)?;
+        let recovered = look_at_crash(alloc, run, journal, &picked, number, findings)?;
         for (place, told) in list.told.iter().enumerate() {
             if is_told(run, &picked, told) {
-                look_at_told(&recovered, told, place)?;
+                look_at_told(&recovered, told, place, findings)?;
                 seen = seen.saturating_add(1);
             }
         }
     }
-    if seen != list.told.len() {
-        return Err(Finding::Untold(seen));
-    }
-    Ok(())
+    Ok(seen)
+}
+
+// What recovery gives after a crash.
+#[derive(Drop)]
+struct Recovered {
+    reach: u64,
+    kept: Vec<Committed>,
+    map: Vec<Pair>,
 }
 
 // The rules that hold of each crash.
@@ -127,32 +148,27 @@ fn look_at_crash(
     journal: &[Committed],
     picked: &Picked,
     number: usize,
-) -> Result<Recovered, Finding> {
+    findings: &mut Findings,
+) -> Result<Recovered, AllocError> {
     let image = image_of(alloc, run, picked)?;
-    if first_damage(alloc, &image)?.is_some() {
-        return Err(Finding::Damaged(number));
-    }
+    let damage = first_damage(alloc, &image)?;
+    findings.unless(damage.is_none(), Finding::Damaged(number))?;
     let found = found_in(alloc, &image)?;
     let far = reach(logs_of(&image), image.floor, &found);
     let winners = winners(alloc, far, &found)?;
     let kept = kept_of(alloc, journal, image.floor, &winners)?;
-    if !is_closed(&run.core, journal, &kept) {
-        return Err(Finding::NotClosed(number));
-    }
-    if !has_ripe(&run.core, &kept) {
-        return Err(Finding::RipeLost(number));
-    }
+    let closed = is_closed(&run.core, journal, &kept);
+    findings.unless(closed, Finding::NotClosed(number))?;
+    findings.unless(has_ripe(&run.core, &kept), Finding::RipeLost(number))?;
     let after = after(alloc, &run.core, &run.first, &kept)?;
-    if !has_pairs(&after, &map(alloc, &image)?) {
-        return Err(Finding::OtherMap(number));
-    }
-    if !has_pages(alloc, &image, &after)? {
-        return Err(Finding::OtherPages(number));
-    }
+    let map = map(alloc, &image)?;
+    findings.unless(has_pairs(&after, &map), Finding::OtherMap(number))?;
+    let same = has_pages(alloc, &image, &after)?;
+    findings.unless(same, Finding::OtherPages(number))?;
     Ok(Recovered {
         reach: far,
         kept,
-        map: after,
+        map,
     })
 }
 
@@ -188,17 +204,15 @@ fn has_number(run: &Run, place: usize, number: u64) -> bool {
     }
 }
 
-fn look_at_told(recovered: &Recovered, told: &Crash, place: usize) -> Result<(), Finding> {
-    if recovered.reach != told.reach {
-        return Err(Finding::Reach(place));
-    }
-    if !are_named(&recovered.kept, told.kept) {
-        return Err(Finding::Kept(place));
-    }
-    if !is_map(&recovered.map, told.map) {
-        return Err(Finding::Map(place));
-    }
-    Ok(())
+fn look_at_told(
+    recovered: &Recovered,
+    told: &Crash,
+    place: usize,
+    findings: &mut Findings,
+) -> Result<(), AllocError> {
+    findings.unless(recovered.reach == told.reach, Finding::Reach(place))?;
+    findings.unless(are_named(&recovered.kept, told.kept), Finding::Kept(place))?;
+    findings.unless(are_pairs(&recovered.map, told.map), Finding::Map(place))
 }
 
 fn are_named(kept: &[Committed], names: &[(u64, u64)]) -> bool {
@@ -207,4 +221,12 @@ fn are_named(kept: &[Committed], names: &[(u64, u64)]) -> bool {
             .iter()
             .zip(names)
             .all(|(txn, name)| (txn.session, txn.number) == *name)
+}
+
+fn are_pairs(map: &[Pair], pairs: &[(u64, u64)]) -> bool {
+    map.len() == pairs.len()
+        && map
+            .iter()
+            .zip(pairs)
+            .all(|(pair, told)| (pair.key, pair.word) == *told)
 }

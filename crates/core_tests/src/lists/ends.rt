@@ -1,7 +1,9 @@
 // What an end needs, and which ends count after a crash.
 use crate::expectations::{Crash, End, List};
 use crate::openings::{EMPTY, LEAF};
-use crate::steps::Step::{Abort, Begin, Change, Commit, Flush, Lock, Post, PutBack, Read, Unlock};
+use crate::steps::Step::{
+    Abort, Begin, Change, Commit, Flush, Lock, Post, Purge, PutBack, Read, Unlock,
+};
 use plain_core::Mode::{Alone, Shared};
 
 pub static LISTS: [List; 8] = [
@@ -182,6 +184,7 @@ pub static LISTS: [List; 8] = [
             (Abort(1, 0), true),
             (Unlock(1, 5), true),
             (Begin(2, 0), true),
+            (Purge(2, 0, &[5]), false),
             (Lock(2, 5, Alone), true),
             (Lock(2, 6, Alone), true),
             (Change(2, 0, 6, 9), true),
@@ -216,36 +219,40 @@ pub static LISTS: [List; 8] = [
             (Begin(2, 0), true),
             (Lock(1, 5, Alone), true),
             (Lock(2, 6, Alone), true),
+            (Lock(1, 7, Alone), true),
             (Change(1, 0, 5, 7), true),
             (Change(2, 0, 6, 8), true),
             (Change(1, 0, 5, 9), true),
+            (Change(1, 0, 7, 3), true),
+            (Change(1, 0, 7, 4), false),
             (Abort(1, 0), false),
+            (PutBack(1, 0), true),
             (PutBack(1, 0), true),
             (PutBack(1, 0), true),
             (PutBack(1, 0), false),
             (Abort(1, 0), true),
         ],
-        ends: &[End(1, 1, 6, 2)],
+        ends: &[End(1, 1, 8, 2)],
         leaves: &[(5, 50), (6, 8)],
         committed: &[(5, 50)],
-        crashes: 12,
+        crashes: 16,
         told: &[
             Crash {
-                logs: &[5, 0],
+                logs: &[7, 0],
                 pages: &[0, 0],
                 reach: 0,
                 kept: &[],
                 map: &[(5, 50)],
             },
             Crash {
-                logs: &[2, 1],
+                logs: &[3, 1],
                 pages: &[0, 0],
                 reach: 2,
                 kept: &[],
                 map: &[(5, 50)],
             },
             Crash {
-                logs: &[5, 1],
+                logs: &[7, 1],
                 pages: &[0, 0],
                 reach: 2,
                 kept: &[],

@@ -1,10 +1,10 @@
-// What is saved, synced, cut off and looked at.
+// What is saved, synced and cut off.
 use crate::expectations::{Crash, End, List};
 use crate::openings::LEAF;
-use crate::steps::Step::{Begin, Change, Commit, Flush, Lock, Peek, Save, Sync};
+use crate::steps::Step::{Begin, Change, Commit, Cut, Flush, Lock, Save, Sync, Unlock};
 use plain_core::Mode::Alone;
 
-pub static LISTS: [List; 3] = [
+pub static LISTS: [List; 4] = [
     List {
         name: "a page is saved only as far as all logs are flushed",
         opening: LEAF,
@@ -88,30 +88,93 @@ pub static LISTS: [List; 3] = [
         ],
     },
     List {
-        name: "a peek needs no lock and leaves no trace",
+        name: "a cut stops at the least flushed number and raises the floor",
         opening: LEAF,
         steps: &[
             (Begin(1, 0), true),
             (Lock(1, 5, Alone), true),
             (Change(1, 0, 5, 7), true),
-            (Peek(2, 0, 5, Some(50)), false),
-            (Peek(2, 0, 5, Some(7)), true),
-            (Peek(2, 0, 6, None), true),
-            (Peek(2, 1, 6, None), false),
+            (Commit(1, 0), true),
+            (Unlock(1, 5), true),
+            (Flush(1, 2), true),
+            (Cut(2, &[9, 9]), false),
             (Begin(2, 0), true),
-            (Peek(2, 0, 5, Some(7)), true),
             (Commit(2, 0), true),
+            (Flush(2, 1), true),
+            (Cut(1, &[9, 9]), false),
+            (Save(0), true),
+            (Cut(2, &[9, 9]), false),
+            (Cut(1, &[9, 9]), true),
+            (Begin(2, 1), true),
+            (Lock(2, 6, Alone), true),
+            (Change(2, 0, 6, 8), true),
+            (Commit(2, 1), true),
         ],
-        ends: &[End(2, 1, 1, 0)],
-        leaves: &[(5, 7)],
-        committed: &[(5, 50)],
-        crashes: 4,
-        told: &[Crash {
-            logs: &[0, 1],
-            pages: &[0, 0],
-            reach: 0,
-            kept: &[(2, 1)],
-            map: &[(5, 50)],
-        }],
+        ends: &[End(1, 1, 2, 0), End(2, 1, 1, 0), End(2, 2, 3, 0)],
+        leaves: &[(5, 7), (6, 8)],
+        committed: &[(5, 7), (6, 8)],
+        crashes: 3,
+        told: &[
+            Crash {
+                logs: &[1, 0],
+                pages: &[1, 0],
+                reach: 1,
+                kept: &[(2, 1), (1, 1)],
+                map: &[(5, 7)],
+            },
+            Crash {
+                logs: &[1, 2],
+                pages: &[1, 0],
+                reach: 2,
+                kept: &[(2, 1), (1, 1), (2, 2)],
+                map: &[(5, 7), (6, 8)],
+            },
+        ],
+    },
+    List {
+        name: "a cut waits for what is open and for what an end needs",
+        opening: LEAF,
+        steps: &[
+            (Begin(2, 0), true),
+            (Lock(2, 6, Alone), true),
+            (Change(2, 0, 6, 8), true),
+            (Begin(1, 0), true),
+            (Lock(1, 5, Alone), true),
+            (Change(1, 0, 5, 7), true),
+            (Sync(2), false),
+            (Flush(2, 1), true),
+            (Flush(1, 2), true),
+            (Sync(2), true),
+            (Save(0), true),
+            (Cut(1, &[0, 9]), false),
+            (Change(1, 0, 5, 9), true),
+            (Change(2, 0, 6, 4), true),
+            (Commit(2, 2), true),
+            (Cut(1, &[0, 9]), false),
+            (Flush(2, 5), true),
+            (Cut(1, &[0, 9]), false),
+            (Flush(1, 3), true),
+            (Cut(1, &[9, 9]), true),
+        ],
+        ends: &[End(2, 1, 5, 3)],
+        leaves: &[(5, 9), (6, 4)],
+        committed: &[(5, 50), (6, 4)],
+        crashes: 3,
+        told: &[
+            Crash {
+                logs: &[2, 2],
+                pages: &[1, 0],
+                reach: 3,
+                kept: &[(2, 1)],
+                map: &[(5, 50), (6, 4)],
+            },
+            Crash {
+                logs: &[2, 2],
+                pages: &[3, 0],
+                reach: 3,
+                kept: &[(2, 1)],
+                map: &[(5, 50), (6, 4)],
+            },
+        ],
     },
 ];
