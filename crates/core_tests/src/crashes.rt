@@ -1,0 +1,133 @@
+// All that a crash may leave after a run.
+use crate::runs::{Run, Version};
+use plain_core::{Core, Entry, Kind};
+use std::alloc::{AllocError, Global};
+
+/// What each log and each page may be left with: of each log, how many records from its head on; of each page, which of the
+/// run's versions.
+#[derive(Drop)]
+pub struct Choices {
+    pub logs: Vec<Vec<usize>>,
+    pub pages: Vec<Vec<usize>>,
+}
+
+/// One of them each.
+#[derive(Drop)]
+pub struct Picked {
+    pub logs: Vec<usize>,
+    pub pages: Vec<usize>,
+}
+
+/// Of each log each front that holds all up to its flushed number. Of each page all contents that it has had, with a number
+/// up to the least flushed one, which hold its changes up to the greatest cut.
+pub fn all_choices(alloc: Global, run: &Run) -> Result<Choices, AllocError> {
+    let mut logs = Vec::new(alloc);
+    for log in 1..=run.core.settings.workers {
+        logs.push(fronts(alloc, &run.core, log)?)?;
+    }
+    let mut pages = Vec::new(alloc);
+    for page in 0..run.core.settings.pages {
+        pages.push(versions(alloc, run, page)?)?;
+    }
+    Ok(Choices { logs, pages })
+}
+
+fn fronts(alloc: Global, core: &Core, log: u64) -> Result<Vec<usize>, AllocError> {
+    let head = *core.heads.get(log);
+    let flushed = *core.flushed.get(log);
+    let all = core
+        .entries
+        .iter()
+        .filter(|entry| is_in_log(entry, log, head))
+        .count();
+    let least = core
+        .entries
+        .iter()
+        .filter(|entry| is_in_log(entry, log, head) && entry.number <= flushed)
+        .count();
+    let mut fronts = Vec::new(alloc);
+    for count in least..=all {
+        fronts.push(count)?;
+    }
+    Ok(fronts)
+}
+
+/// It is a record of the log behind its head.
+pub fn is_in_log(entry: &Entry, log: u64, head: u64) -> bool {
+    entry.kind != Kind::Read && entry.log == log && head < entry.number
+}
+
+fn versions(alloc: Global, run: &Run, page: u64) -> Result<Vec<usize>, AllocError> {
+    let mut versions = Vec::new(alloc);
+    for (place, version) in run.versions.iter().enumerate() {
+        if version.page == page && is_admitted(&run.core, version) {
+            versions.push(place)?;
+        }
+    }
+    Ok(versions)
+}
+
+fn is_admitted(core: &Core, version: &Version) -> bool {
+    let number = version.made.number;
+    number <= core.flushed_by_all()
+        && core.entries.iter().all(|entry| !is_cut_from(core, entry, version.page)
+            || entry.number <= number)
+}
+
+// It changed the page, and is up to the greatest cut.
+fn is_cut_from(core: &Core, entry: &Entry, page: u64) -> bool {
+    entry.number <= core.cut && entry.refs.iter().any(|one| one.page == page)
+}
+
+/// The saved contents of each page are among them.
+pub fn admits_saved(run: &Run) -> bool {
+    (0..run.core.settings.pages).all(|page| is_saved_admitted(run, page))
+}
+
+fn is_saved_admitted(run: &Run, page: u64) -> bool {
+    let number = run.core.saved.get(page).number;
+    run.versions.iter().any(|version| {
+        version.page == page && version.made.number == number && is_admitted(&run.core, version)
+    })
+}
+
+impl Choices {
+    /// How many crashes there are.
+    pub fn count(&self) -> usize {
+        let mut count: usize = 1;
+        for some in &self.logs {
+            count = count.saturating_mul(some.len());
+        }
+        for some in &self.pages {
+            count = count.saturating_mul(some.len());
+        }
+        count
+    }
+
+    /// The crash with a number below the count.
+    pub fn pick(&self, alloc: Global, number: usize) -> Result<Picked, AllocError> {
+        let mut left = number;
+        let logs = picks(alloc, &self.logs, &mut left)?;
+        let pages = picks(alloc, &self.pages, &mut left)?;
+        Ok(Picked { logs, pages })
+    }
+}
+
+// One of each, by the digits of a number.
+fn picks(
+    alloc: Global,
+    choices: &[Vec<usize>],
+    left: &mut usize,
+) -> Result<Vec<usize>, AllocError> {
+    let mut picks = Vec::new(alloc);
+    for some in choices {
+        let count = some.len();
+        if count > 0 {
+            if let Some(pick) = some.get(*left % count) {
+                picks.push(*pick)?;
+            }
+            *left /= count;
+        }
+    }
+    Ok(picks)
+}

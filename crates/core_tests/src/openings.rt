@@ -1,0 +1,153 @@
+// What the lists begin with.
+use plain_core::{Core, Node, Page, Pair, Settings, Table};
+use std::alloc::{AllocError, Global};
+
+/// The word of a tombstone, as the programs of images have it.
+pub const DEAD: u64 = 1 << 63;
+
+/// The high fence of the root.
+pub const TOP: u64 = u64::MAX;
+
+/// A page: free, or a node with its level, its fences and its pairs.
+#[derive(Clone, Copy)]
+pub enum Contents {
+    Free,
+    Node(u64, u64, u64, &'static [(u64, u64)]),
+}
+
+/// The numbers of workers and frames, the base number, which is that of each page, and the pages.
+#[derive(Clone, Copy)]
+pub struct Opening {
+    pub workers: u64,
+    pub frames: u64,
+    pub base: u64,
+    pub pages: &'static [Contents],
+}
+
+/// Page 0 is one empty leaf; page 1 is free.
+pub const EMPTY: Opening = Opening {
+    workers: 2,
+    frames: 2,
+    base: 0,
+    pages: &[Contents::Node(0, 0, TOP, &[]), Contents::Free],
+};
+
+/// Page 0 is one leaf with key 5; page 1 is free.
+pub const LEAF: Opening = Opening {
+    workers: 2,
+    frames: 2,
+    base: 0,
+    pages: &[Contents::Node(0, 0, TOP, &[(5, 50)]), Contents::Free],
+};
+
+/// The same with a tombstone of key 3.
+pub const SPARSE: Opening = Opening {
+    workers: 2,
+    frames: 2,
+    base: 0,
+    pages: &[
+        Contents::Node(0, 0, TOP, &[(3, DEAD), (5, 50)]),
+        Contents::Free,
+    ],
+};
+
+/// Page 0 is one full leaf; pages 1 and 2 are free.
+pub const FULL: Opening = Opening {
+    workers: 2,
+    frames: 3,
+    base: 0,
+    pages: &[
+        Contents::Node(0, 0, TOP, &[(1, 11), (2, 12), (3, 13), (4, 14)]),
+        Contents::Free,
+        Contents::Free,
+    ],
+};
+
+/// Each node but the last has one child: page 0, page 1, and the leaf with key 5, page 2.
+pub const CHAIN: Opening = Opening {
+    workers: 2,
+    frames: 3,
+    base: 0,
+    pages: &[
+        Contents::Node(2, 0, TOP, &[(0, 1)]),
+        Contents::Node(1, 0, TOP, &[(0, 2)]),
+        Contents::Node(0, 0, TOP, &[(5, 50)]),
+    ],
+};
+
+/// Two inner nodes, each with two leaves: 1 has 3, which is full, and 4; 2 has 5 and 6.
+pub const TALL: Opening = Opening {
+    workers: 2,
+    frames: 6,
+    base: 0,
+    pages: &[
+        Contents::Node(2, 0, TOP, &[(0, 1), (100, 2)]),
+        Contents::Node(1, 0, 100, &[(0, 3), (50, 4)]),
+        Contents::Node(1, 100, TOP, &[(100, 5), (150, 6)]),
+        Contents::Node(0, 0, 50, &[(1, 11), (2, 12), (3, 13), (4, 14)]),
+        Contents::Node(0, 50, 100, &[]),
+        Contents::Node(0, 100, 150, &[(100, 7)]),
+        Contents::Node(0, 150, TOP, &[]),
+    ],
+};
+
+/// The state that opening gives. Four pairs a node; a transaction makes at most three changes.
+pub fn opened(alloc: Global, opening: Opening) -> Result<Core, AllocError> {
+    let settings = Settings {
+        workers: opening.workers,
+        frames: opening.frames,
+        rows: 0,
+        changes: 3,
+        joined: 4,
+        base: opening.base,
+        pages: opening.pages.len() as u64,
+        room: 4,
+        levels: 2,
+        dead: DEAD,
+        top: TOP,
+    };
+    let free = page_of(alloc, opening.base, Contents::Free)?;
+    let mut pages = Table::new(alloc, free);
+    for (place, contents) in opening.pages.iter().enumerate() {
+        pages.set(place as u64, page_of(alloc, opening.base, *contents)?)?;
+    }
+    Core::start(alloc, settings, pages)
+}
+
+fn page_of(alloc: Global, number: u64, contents: Contents) -> Result<Page, AllocError> {
+    Ok(Page {
+        number,
+        log: 0,
+        node: node_of(alloc, contents)?,
+    })
+}
+
+fn node_of(alloc: Global, contents: Contents) -> Result<Node, AllocError> {
+    match contents {
+        Contents::Free => Ok(Node {
+            live: false,
+            level: 0,
+            low: 0,
+            high: 0,
+            pairs: Vec::new(alloc),
+        }),
+        Contents::Node(level, low, high, pairs) => Ok(Node {
+            live: true,
+            level,
+            low,
+            high,
+            pairs: pairs_of(alloc, pairs)?,
+        }),
+    }
+}
+
+fn pairs_of(alloc: Global, said: &[(u64, u64)]) -> Result<Vec<Pair>, AllocError> {
+    let mut pairs = Vec::new(alloc);
+    for (key, word) in said {
+        pairs.push(Pair {
+            key: *key,
+            word: *word,
+        })?;
+    }
+    Ok(pairs)
+}
