@@ -1,4 +1,5 @@
--- Read Masters, then Recovered. Inside has the words of private functions.
+-- Read Moments, Masters, then Recovered. Inside has the words of private functions.
+pub mod Moments
 pub mod Masters
 pub mod Recovered
 pub mod Inside

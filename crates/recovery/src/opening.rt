@@ -1,14 +1,14 @@
 // The opening of a disk.
 ghost use Rattle.std.specs.Prelude.{◌≡◌, ℕ, Err, IfOk};
 ghost use Rattle.lean_disk.specs.Faults.{HasCause};
-ghost use Rattle.lean_disk.specs.Moments.{AsAt, LeavesOnly};
-ghost use Rattle.lean_disk.specs.Story.{Story};
+ghost use Rattle.lean_disk.specs.Moments.{AsAt};
 ghost use Rattle.disk_slots.specs.declared.master.Master.{Master};
 ghost use Rattle.disk_image.specs.Breaks.{Breaks};
 ghost use Rattle.disk_image.specs.MasterSlots.{master_on};
 ghost use Rattle.disk_image.specs.Shown.{IsCleanDisk};
 ghost use Rattle.recovery_scan.specs.Scans.{areas_of};
 ghost use Rattle.recovery.specs.Masters.{IsNotFormatted};
+ghost use Rattle.recovery.specs.Moments.{LeavesThen};
 ghost use Rattle.recovery.specs.Recovered.{IsOpened, IsRecovered, RecoveryLeaves, TellsAll};
 
 use btree_node::Node;
@@ -51,7 +51,7 @@ pub fn recover<D: Disk>(alloc: Global, disk: &mut D) -> Result<Recovered, Refusa
     ensures cause_disk_fault { HasCause (D.faults disk.old) (D.faults disk.new) (result ≡ Err Refusal.DiskFault) }
 
     // Up to a moment nothing is written; from then on each fair image is clean and stands for the same map.
-    ensures any_moment { (mid : Story) × (LeavesOnly (D.story disk.old) mid (AsAt (D.story disk.old)) × LeavesOnly mid (D.story disk.new) (RecoveryLeaves (D.story disk.old))) }
+    ensures any_moment { LeavesThen (D.story disk.old) (D.story disk.new) (AsAt (D.story disk.old)) (RecoveryLeaves (D.story disk.old)) }
 {
     Err(Refusal::Memory)
 }
