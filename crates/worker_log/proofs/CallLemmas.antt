@@ -1,11 +1,11 @@
 -- From a device's calls to what an account says: each moment of a write and of a sync, and what stands after it.
-use Rattle.std.proofs.Common.{◌≡◌, ◌⊎◌, inl, inr, ⊎_elim, ℕ, ◌+◌, ◌*◌, ◌%◌, ◌^◌, ◌≤◌, ◌<◌, List, [], ◌∷◌, ◌++◌, length, get_or, take, refl, sym, ◌∙◌, ap, subst, IsTrue, arith, length-append}
+use Rattle.std.proofs.Common.{◌≡◌, ◌⊎◌, inl, inr, ⊎_elim, ℕ, ◌+◌, ◌*◌, ◌%◌, ◌^◌, ◌≤◌, ◌<◌, List, [], ◌∷◌, ◌++◌, length, get_or, refl, sym, ◌∙◌, ap, subst, IsTrue, arith}
 use Rattle.std.proofs.lemmas.Bool.{cases_lt}
 use Rattle.std.proofs.lemmas.List.{append_cancel_right}
 use Rattle.map_model.specs.Lists.{Has}
 use Rattle.image_model.specs.Fair.{IsFair}
-use Rattle.lean_disk.specs.Area.{Area, Leaves, Write, IsApart, torn, written as over, synced as cleaned}
-use Rattle.lean_disk.specs.Story.{Story, Crash, Tells, LeavesNow, IsLawful}
+use Rattle.lean_disk.specs.Area.{Area, Leaves, Write, IsApart, torn}
+use Rattle.lean_disk.specs.Story.{Story, Crash, Tells, IsLawful}
 use Rattle.lean_disk.specs.Calls.{Wrote, Synced}
 use Rattle.lean_disk.specs.Moments.{LeavesOnly, CrashIn, Framed}
 use Rattle.lean_disk.specs.declared.disk.Did.{Did}
@@ -18,7 +18,7 @@ use Rattle.disk_image.specs.Runs.{Block}
 use Rattle.disk_image.proofs.BlockInLemmas.{every_belongs}
 use Rattle.disk_image.proofs.RunLemmas.{belongs-text}
 use Rattle.worker_log.specs.Inside.{IsSized, closed_log}
-use Rattle.worker_log.specs.Logs.{Account, Log, all_blocks, spelled_from, used, with_current}
+use Rattle.worker_log.specs.Logs.{Account, Log, spelled_from, used, with_current}
 use Rattle.worker_log.specs.Kept.{AreLate, HasRoom, HoldsFirst, IsBlockWrite, IsKept, LeavesBlocks, StagesTo, closed, flushed, staged}
 use Rattle.worker_log.proofs.ListLemmas.{block_of, fit_blocks-with, length-with, one_size, size_some, spelled-last, spelled-with, take-with, with_some}
 use Rattle.worker_log.proofs.CrashLemmas.{synced_stands, front_left}

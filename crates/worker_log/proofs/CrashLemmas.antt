@@ -1,5 +1,5 @@
 -- What a crash leaves of the blocks of a ring: a front of them, with those that are synced.
-use Rattle.std.proofs.Common.{◌≡◌, ◌⊎◌, inl, inr, ⊎_elim, ℕ, ◌+◌, ◌*◌, ◌%◌, ◌^◌, ◌≤◌, ◌<◌, true, min, List, [], ◌∷◌, ◌++◌, length, get_or, take, refl, sym, ◌∙◌, ap, subst, arith}
+use Rattle.std.proofs.Common.{◌≡◌, ⊎_elim, ℕ, ◌+◌, ◌*◌, ◌%◌, ◌^◌, ◌≤◌, ◌<◌, true, List, length, get_or, take, sym, ◌∙◌, ap, subst, arith}
 use Rattle.std.proofs.lemmas.List.{length-take}
 use Rattle.map_model.specs.Lists.{Has}
 use Rattle.image_model.specs.Fair.{piece, IsFair}
@@ -10,7 +10,7 @@ use Rattle.disk_image.specs.Blocks.{belongs}
 use Rattle.disk_image.specs.Runs.{Block, block_at}
 use Rattle.disk_image.proofs.BlockInLemmas.{every_belongs}
 use Rattle.worker_log.specs.Logs.{spelled_from}
-use Rattle.worker_log.specs.Kept.{AllFitBlocks, AreLate, HasNone, HoldsBlocks, IsBlockWrite, write_of}
+use Rattle.worker_log.specs.Kept.{AllFitBlocks, AreLate, HasNone, HoldsBlocks, IsBlockWrite}
 use Rattle.worker_log.proofs.ListLemmas.{spelled-number, spelled-at, spelled-take, spelled-belongs}
 use Rattle.worker_log.proofs.RingLemmas.{same_piece, piece_within, block_apart}
 use Rattle.worker_log.proofs.FrontLemmas.{Front, found, front}

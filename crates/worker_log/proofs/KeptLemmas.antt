@@ -1,5 +1,5 @@
 -- What an account says after each step: a block is written, the ring is synced, a record is put into the block in hand.
-use Rattle.std.proofs.Common.{◌≡◌, ◌⊎◌, inl, inr, ⊎_elim, ℕ, ◌+◌, ◌-◌, ◌*◌, ◌%◌, ◌^◌, ◌≤◌, ◌<◌, ◌==◌, if◌then◌else◌, Bool, true, false, max, List, [], ◌∷◌, ◌++◌, length, take, drop, refl, sym, ◌∙◌, ap, subst, arith, append_assoc, length-append}
+use Rattle.std.proofs.Common.{◌≡◌, inl, inr, ⊎_elim, ℕ, ◌+◌, ◌*◌, ◌%◌, ◌^◌, ◌≤◌, ◌<◌, ◌==◌, if◌then◌else◌, Bool, List, [], ◌∷◌, ◌++◌, length, drop, refl, sym, ◌∙◌, ap, subst, arith, append_assoc, length-append}
 use Rattle.std.proofs.lemmas.Bool.{cases_eq, cases_lt, eq-eqb, ne_eqb}
 use Rattle.std.proofs.lemmas.List.{append-nil, length-drop, nil_from_length, take-append-le, take_all, drop_all}
 use Rattle.std.proofs.lemmas.List.Concat.{flat_map-append}
@@ -8,15 +8,14 @@ use Rattle.image_model.specs.Fair.{piece, IsFair}
 use Rattle.lean_disk.specs.Area.{Area, Write, put_over, written as over, synced as cleaned}
 use Rattle.log_record.specs.Spelling.{Fits, record_text}
 use Rattle.log_record.specs.declared.record.Record.{Record}
-use Rattle.log_block.specs.Block.{AllFit, IsSealed, block_text, records_text}
-use Rattle.disk_image.specs.Blocks.{belongs}
+use Rattle.log_block.specs.Block.{IsSealed, block_text, records_text}
 use Rattle.disk_image.specs.Runs.{Block, block_at}
 use Rattle.disk_image.proofs.BlockInLemmas.{every_belongs}
 use Rattle.disk_image.proofs.RunLemmas.{belongs-text}
 use Rattle.worker_log.specs.Inside.{IsSized, closed_log}
-use Rattle.worker_log.specs.Logs.{Account, Log, joined, spelled, spelled_from, used, with_current}
-use Rattle.worker_log.specs.Kept.{AllFitBlocks, FitsBlock, HasRoom, HoldsBlocks, IsBlockWrite, IsKept, RiseFrom, closed, flushed, staged}
-use Rattle.worker_log.proofs.ListLemmas.{block_of, fit-push, fit_blocks-drop, fit_blocks-with, has_first, has_front, has_split, joined-drop-with, joined-dropped, joined-with, length-with, none_left, rise-has, rise-most, rise-push, spelled-last, spelled-more, spelled-number, spelled-push, spelled-take, take-with, with_none, with_some}
+use Rattle.worker_log.specs.Logs.{Account, Log, joined, spelled, spelled_from, with_current}
+use Rattle.worker_log.specs.Kept.{AllFitBlocks, FitsBlock, HasRoom, HoldsBlocks, IsKept, RiseFrom, closed, flushed, staged}
+use Rattle.worker_log.proofs.ListLemmas.{block_of, fit-push, fit_blocks-drop, fit_blocks-with, has_first, has_front, has_split, joined-drop-with, joined-dropped, joined-with, none_left, rise-has, rise-push, spelled-last, spelled-more, spelled-number, spelled-push, spelled-take, take-with, with_none, with_some}
 use Rattle.worker_log.proofs.RingLemmas.{rem_apart, rem_next, write_here, write_other, write_size}
 use Rattle.worker_log.proofs.CrashLemmas.{written_within}
 

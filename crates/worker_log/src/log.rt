@@ -105,11 +105,7 @@ impl WorkerLog {
         ensures { result ≡ used self.now }
     {
         let written = (self.next - self.head) as u32;
-        if self.count == 0 {
-            written
-        } else {
-            written + 1
-        }
+        if self.count > 0 { written + 1 } else { written }
     }
 
     /// How many changes may use.
@@ -265,7 +261,8 @@ impl WorkerLog {
     // Writes the block in hand at its place.
     fn write_block<P: Part>(&mut self, dev: &mut P) -> Did
         ensures same { self.new ≡ self.old }
-        ensures wrote { Wrote (P.seat dev.old).area (2048 * (self.old.next % self.old.blocks)) (block_text self.old.generation self.old.log self.old.next self.old.count self.old.payload) result (P.story dev.old) (P.story dev.new) }
+        ensures wrote { Wrote (P.seat dev.old).area (2048 * (self.old.next % self.old.blocks))
+            (block_text self.old.generation self.old.log self.old.next self.old.count self.old.payload) result (P.story dev.old) (P.story dev.new) }
         ensures seat { P.seat dev.new ≡ P.seat dev.old }
 
         ensures cause { HasCause (P.faults dev.old) (P.faults dev.new) (result ≡ Did.Failed) }
