@@ -10,7 +10,7 @@ use Rattle.page_model.specs.Check.{names_page}
 use Rattle.page_model.specs.Needs.{key_at, nowhere}
 use Rattle.core_state.specs.Lists.{is_empty}
 use Rattle.core_state.specs.States.{State, Worker}
-use Rattle.core_state.specs.Needs.{is_free, is_single}
+use Rattle.core_state.specs.Needs.{is_free}
 use Rattle.plain_core.specs.declared.state.Settings.{Settings}
 use Rattle.plain_core.specs.declared.table.Placed.{Placed}
 use Rattle.plain_core.specs.declared.records.Page as pages
