@@ -58,7 +58,7 @@ pub static LISTS: [List; 3] = [
         ],
     },
     List {
-        name: "a split meets the stamps of its parent and of the page that it takes",
+        name: "a split and a lift meet the stamps of the pages that they take",
         opening: WIDE,
         steps: &[
             (Load(1, 1), true),
@@ -71,6 +71,10 @@ pub static LISTS: [List; 3] = [
             (Load(8, 8), true),
             (Begin(2, 0), true),
             (Join(2, 4, 7, 1), true),
+            (Begin(3, 0), true),
+            (Lift(3, 6), false),
+            (Lift(3, 7), true),
+            (Commit(3, 0), true),
             (Begin(1, 0), true),
             (Lock(1, 3, Alone), true),
             (Split(1, 3, 8, 1, 2), true),
@@ -84,7 +88,7 @@ pub static LISTS: [List; 3] = [
             (Change(1, 6, 52, 99), true),
             (Commit(1, 0), true),
         ],
-        ends: &[End(1, 1, 4, 1), End(1, 2, 7, 2)],
+        ends: &[End(3, 1, 3, 1), End(1, 1, 4, 1), End(1, 2, 7, 2)],
         leaves: &[
             (1, 11),
             (2, 12),
@@ -107,11 +111,11 @@ pub static LISTS: [List; 3] = [
             (53, 18),
             (100, 7),
         ],
-        crashes: 21,
+        crashes: 63,
         told: &[
             Crash {
-                logs: &[6, 0],
-                pages: &[0, 0, 0, 0, 0, 0, 0, 0, 0],
+                logs: &[6, 0, 2],
+                pages: &[0, 0, 0, 0, 0, 0, 0, 0, 0, 0, 0, 0, 0],
                 reach: 0,
                 kept: &[],
                 map: &[
@@ -127,10 +131,10 @@ pub static LISTS: [List; 3] = [
                 ],
             },
             Crash {
-                logs: &[6, 1],
-                pages: &[0, 0, 0, 0, 0, 0, 0, 0, 0],
+                logs: &[6, 1, 2],
+                pages: &[0, 0, 0, 0, 0, 0, 0, 0, 0, 0, 0, 0, 0],
                 reach: 1,
-                kept: &[(1, 1)],
+                kept: &[(3, 1), (1, 1)],
                 map: &[
                     (1, 11),
                     (2, 12),
@@ -144,10 +148,10 @@ pub static LISTS: [List; 3] = [
                 ],
             },
             Crash {
-                logs: &[6, 2],
-                pages: &[0, 0, 0, 0, 0, 0, 0, 0, 0],
+                logs: &[6, 2, 2],
+                pages: &[0, 0, 0, 0, 0, 0, 0, 0, 0, 0, 0, 0, 0],
                 reach: 2,
-                kept: &[(1, 1), (1, 2)],
+                kept: &[(3, 1), (1, 1), (1, 2)],
                 map: &[
                     (1, 11),
                     (2, 12),
@@ -156,6 +160,23 @@ pub static LISTS: [List; 3] = [
                     (50, 15),
                     (51, 16),
                     (52, 99),
+                    (53, 18),
+                    (100, 7),
+                ],
+            },
+            Crash {
+                logs: &[6, 2, 0],
+                pages: &[0, 0, 0, 0, 0, 0, 0, 0, 0, 0, 0, 0, 0],
+                reach: 0,
+                kept: &[],
+                map: &[
+                    (1, 11),
+                    (2, 12),
+                    (3, 13),
+                    (4, 14),
+                    (50, 15),
+                    (51, 16),
+                    (52, 17),
                     (53, 18),
                     (100, 7),
                 ],
