@@ -75,19 +75,26 @@ pub const CHAIN: Opening = Opening {
     ],
 };
 
-/// Two inner nodes, each with two leaves: 1 has 3, which is full, and 4; 2 has 5 and 6.
-pub const TALL: Opening = Opening {
-    workers: 2,
-    frames: 6,
+/// A full root with four inner nodes. Of those, 1 has the leaves 3, 4 and 7, of which 3 and 4 are full; 2 has 5 and 6; 9 and 10
+/// have one each. Page 8 is free. There are three workers.
+pub const WIDE: Opening = Opening {
+    workers: 3,
+    frames: 9,
     base: 0,
     pages: &[
-        Contents::Node(2, 0, TOP, &[(0, 1), (100, 2)]),
-        Contents::Node(1, 0, 100, &[(0, 3), (50, 4)]),
-        Contents::Node(1, 100, TOP, &[(100, 5), (150, 6)]),
+        Contents::Node(2, 0, TOP, &[(0, 1), (100, 2), (200, 9), (300, 10)]),
+        Contents::Node(1, 0, 100, &[(0, 3), (50, 4), (70, 7)]),
+        Contents::Node(1, 100, 200, &[(100, 5), (150, 6)]),
         Contents::Node(0, 0, 50, &[(1, 11), (2, 12), (3, 13), (4, 14)]),
-        Contents::Node(0, 50, 100, &[]),
+        Contents::Node(0, 50, 70, &[(50, 15), (51, 16), (52, 17), (53, 18)]),
         Contents::Node(0, 100, 150, &[(100, 7)]),
-        Contents::Node(0, 150, TOP, &[]),
+        Contents::Node(0, 150, 200, &[]),
+        Contents::Node(0, 70, 100, &[]),
+        Contents::Free,
+        Contents::Node(1, 200, 300, &[(200, 11)]),
+        Contents::Node(1, 300, TOP, &[(300, 12)]),
+        Contents::Node(0, 200, 300, &[]),
+        Contents::Node(0, 300, TOP, &[]),
     ],
 };
 
@@ -102,7 +109,7 @@ pub fn opened(alloc: Global, opening: Opening) -> Result<Core, AllocError> {
         base: opening.base,
         pages: opening.pages.len() as u64,
         room: 4,
-        levels: 2,
+        levels: 3,
         dead: DEAD,
         top: TOP,
     };
