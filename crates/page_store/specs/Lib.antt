@@ -1,4 +1,0 @@
--- Read Stores, then Saves. Inside has the words of private functions.
-pub mod Stores
-pub mod Saves
-pub mod Inside

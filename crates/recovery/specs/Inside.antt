@@ -1,1 +1,0 @@
--- Words of private functions.
