@@ -5,3 +5,4 @@ pub mod CrashLemmas
 pub mod KeptLemmas
 pub mod CallLemmas
 pub mod PutLemmas
+pub mod ReadLemmas

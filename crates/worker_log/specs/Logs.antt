@@ -1,5 +1,5 @@
 -- A log in memory, and an account of what was put into it.
-use Rattle.std.specs.Prelude.{◌+◌, ◌-◌, ℕ, suc, List, [], ◌∷◌, ◌++◌, length, if◌then◌else◌, ◌==◌}
+use Rattle.std.specs.Prelude.{◌≤◌, ◌<◌, ◌+◌, ◌-◌, ◌^◌, ℕ, suc, List, [], ◌∷◌, ◌++◌, length, if◌then◌else◌, ◌==◌}
 use Rattle.lean_disk.specs.Area.{Write}
 use Rattle.log_record.specs.declared.record.Record.{Record}
 use Rattle.log_block.specs.Block.{block_text, records_text}
@@ -26,6 +26,14 @@ used log = (log.next - log.head) + (if log.count == 0 then 0 else 1)
 -- how many a transaction's changes may use: sixteen are kept back for ends
 abbrev pub limit : Log → ℕ
 limit log = log.blocks - 16
+
+-- its numbers are in their ranges, and it uses no more blocks than the ring has
+pub record IsInRange (log : Log) : Type 0 where
+  pub generation : log.generation < 2 ^ 64
+  pub number : (1 ≤ log.log) × (log.log ≤ 16)
+  pub some : (64 ≤ log.blocks) × (log.blocks ≤ 4096)
+  pub head : log.head < 2 ^ 63
+  pub ring : used log ≤ log.blocks
 
 -- An account of a log: the bytes of its area and the writes to it by the time the account begins; since then the records of
 -- each block that was written, the first block first; how many of these blocks are synced; and the records of the block
