@@ -239,6 +239,7 @@ impl WorkerLog {
 
     // Writes the block in hand, if it holds a record. The next block is in hand then.
     fn close_block<P: Part>(&mut self, dev: &mut P) -> Result<(), DiskFault>
+        ensures ranges { IsInRange self.new }
         ensures log { OnOk result (self.new ≡ closed_log self.old) }
         ensures kept { OnOk result ((x : Account) → Tells (P.story dev.new) (P.seat dev.old).area → IsKept x self.old ((P.story dev.old).area (P.seat dev.old).area)
             → IsKept (closed x) self.new ((P.story dev.new).area (P.seat dev.old).area)) }
