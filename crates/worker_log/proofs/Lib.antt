@@ -6,3 +6,4 @@ pub mod KeptLemmas
 pub mod CallLemmas
 pub mod PutLemmas
 pub mod ReadLemmas
+pub mod AccountLemmas

@@ -33,6 +33,10 @@ module _ (log : ℕ) where
   pub entries-append : (rs us : List Record) → of (rs ++ us) ≡ of us ++ of rs
   entries-append rs us = entries-join [] rs us ∙ entries-back (of rs) us
 
+  -- the newest record stands first
+  pub entries-push : (rs : List Record) (r : Record) → of (rs ++ r ∷ []) ≡ entry_of log r ∷ of rs
+  entries-push rs r = entries-join [] rs (r ∷ [])
+
   -- the record for which an entry stands
   pub record Stands (e : Entry) (rs : List Record) : Type 0 where
     pub entry : Record

@@ -6,7 +6,7 @@ use Rattle.lean_disk.specs.Area.{Write, Area}
 use Rattle.log_record.specs.declared.record.Record.{Record}
 use Rattle.log_block.specs.Block.{AllFit, records_text, IsSealed, generation_of}
 use Rattle.disk_image.specs.Runs.{Block, run_in, block_at}
-use Rattle.worker_log.specs.Logs.{Log, Account, all_blocks, spelled_from, joined}
+use Rattle.worker_log.specs.Logs.{Log, Account, all_blocks, spelled_from, joined, records_of}
 
 -- the run of the log in an area with these bytes
 abbrev pub run_of : Log → List ℕ → List Block
@@ -72,7 +72,7 @@ pub record IsKept (x : Account) (log : Log) (area : Area) : Type 0 where
   pub count : log.count ≡ length x.current
   pub fit : AllFitBlocks x.written × FitsBlock x.current
   pub ring : length x.written ≤ log.blocks
-  pub numbers : (low : ℕ) × RiseFrom low (joined x.written ++ x.current) log.last
+  pub numbers : (low : ℕ) × RiseFrom low (records_of x) log.last
   -- what is flushed: the synced blocks, and these alone
   pub synced : x.synced ≤ length x.written
   pub below : (r : Record) → Has r (joined (take x.synced x.written)) → r.gsn ≤ log.flushed

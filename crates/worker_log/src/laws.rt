@@ -1,5 +1,5 @@
 // What holds of accounts and of the runs that crashes leave.
-ghost use Rattle.worker_log.specs.Laws.{EveryFront, EveryKept, EveryRun};
+ghost use Rattle.worker_log.specs.Laws.{EveryFlushed, EveryFront, EveryKept, EveryRun, EveryStaged};
 
 /// What a crash leaves between two calls.
 pub fn every_kept()
@@ -14,4 +14,14 @@ pub fn every_run()
 /// The run that a crash leaves has a front of the account's records, with all that are flushed.
 pub fn every_front()
     ensures { EveryFront }
+{}
+
+/// The account after a record is staged.
+pub fn every_staged()
+    ensures { EveryStaged }
+{}
+
+/// A flush leaves the records of an account.
+pub fn every_flushed()
+    ensures { EveryFlushed }
 {}

@@ -5,7 +5,7 @@
 mod laws;
 mod log;
 
-pub use laws::{every_front, every_kept, every_run};
+pub use laws::{every_flushed, every_front, every_kept, every_run, every_staged};
 pub use log::{DiskFault, RESERVE, Staging, WorkerLog};
 
 #[cfg(test)]
