@@ -1,7 +1,6 @@
 -- From a device's calls to what an account says: each moment of a write and of a sync, and what stands after it.
 use Rattle.std.proofs.Common.{◌≡◌, ◌⊎◌, inl, inr, ⊎_elim, ℕ, ◌+◌, ◌*◌, ◌%◌, ◌^◌, ◌≤◌, ◌<◌, List, [], ◌∷◌, ◌++◌, length, get_or, refl, sym, ◌∙◌, ap, subst, IsTrue, arith}
 use Rattle.std.proofs.lemmas.Bool.{cases_lt}
-use Rattle.std.proofs.lemmas.List.{append_cancel_right}
 use Rattle.map_model.specs.Lists.{Has}
 use Rattle.image_model.specs.Fair.{IsFair}
 use Rattle.lean_disk.specs.Area.{Area, Leaves, Write, IsApart, torn}
@@ -13,56 +12,80 @@ use Rattle.lean_disk.specs.declared.disk.Did.TheVariants.{Done}
 use Rattle.lean_disk.proofs.MomentLemmas.{started, goes_on, then, weaker, framed, framed_wrote, framed_synced, crash_in}
 use Rattle.log_record.specs.Spelling.{Fits, HasCome}
 use Rattle.log_record.specs.declared.record.Record.{Record}
-use Rattle.log_block.specs.Block.{IsSealed, block_text, records_text}
+use Rattle.log_block.specs.Block.{Belongs, IsSealed, block_text, generation_of, records_text}
 use Rattle.disk_image.specs.Runs.{Block}
 use Rattle.disk_image.proofs.BlockInLemmas.{every_belongs}
 use Rattle.disk_image.proofs.RunLemmas.{belongs-text}
 use Rattle.worker_log.specs.Inside.{IsSized, closed_log}
-use Rattle.worker_log.specs.Logs.{Account, Log, spelled_from, used, with_current}
-use Rattle.worker_log.specs.Kept.{AreLate, HasRoom, HoldsFirst, IsBlockWrite, IsKept, LeavesBlocks, StagesTo, closed, flushed, staged}
-use Rattle.worker_log.proofs.ListLemmas.{block_of, fit_blocks-with, length-with, one_size, size_some, spelled-last, spelled-with, take-with, with_some}
+use Rattle.worker_log.specs.Logs.{Account, IsInRange, Log, spelled_from, used, with_current}
+use Rattle.worker_log.specs.Kept.{AllFitBlocks, AreLate, HasRoom, HoldsFirst, IsBlockWrite, IsKept, LeavesBlocks, RiseFrom, StagesTo, closed, flushed, staged}
+use Rattle.worker_log.proofs.ListLemmas.{block_of, fit_blocks-take, fit_blocks-with, joined-drop-more, joined-drop-with, joined-with, length-with, one_size, size_some, spelled-belongs, spelled-last, spelled-with, take-with, with_some}
 use Rattle.worker_log.proofs.CrashLemmas.{synced_stands, front_left}
 use Rattle.worker_log.proofs.KeptLemmas.{count_none, count_some, kept_closed, kept_put, kept_synced}
 
 -- ## What a crash leaves
 
-module _ (x : Account) (log : Log) (area : Area) (sized : IsSized log) (kept : IsKept x log area) where
+module _ (x : Account) (log : Log) (area : Area) (ranges : IsInRange log) (kept : IsKept x log area) where
   log_fits : log.log < 2 ^ 64
-  log_fits = omega (arith, sized.number.1)
+  log_fits = omega (arith, ranges.number.1)
 
   head_fits : log.head + log.blocks ≤ 2 ^ 64
-  head_fits = omega (arith, sized.head, sized.some.1)
+  head_fits = omega (arith, ranges.head, ranges.some.1)
 
   abbrev all : List (List Record)
   all = with_current x.written x.current
 
   all_within : length all ≤ log.blocks
   all_within = ⊎_elim
-      (λ (some : 0 < log.count). omega (arith, (length-with x.written x.current).2, sized.ring, count_some log.count some, kept.next))
+      (λ (some : 0 < log.count). omega (arith, (length-with x.written x.current).2, ranges.ring, count_some log.count some, kept.next))
       (λ (none : log.count ≤ 0). omega (arith, (length-with x.written x.current).1, none, kept.count, kept.ring))
       (cases_lt 0 log.count)
+
+  all_fit : AllFitBlocks all
+  all_fit = fit_blocks-with x.written x.current kept.fit.0 kept.fit.1
+
+  abbrev Own : Write → Type 0
+  Own w = IsBlockWrite log.blocks (spelled_from log.generation log.log log.head all) w
 
   -- in the image c, which has the area's bytes outside these ranges, with these writes
   holds_first : (c : List ℕ) (high : ℕ) (ranges : List (ℕ × ℕ)) (since : List Write) → AreLate log.blocks (log.head + x.synced) high ranges → high ≤ log.head + log.blocks → area.end ≤ length c
       → ((j : ℕ) → j < area.end → IsApart j ranges → get_or c j 0 ≡ get_or area.bytes j 0)
-      → ((w : Write) → Has w since → IsBlockWrite log.blocks (spelled_from log.generation log.log log.head all) w) → IsFair 2048 IsSealed x.first since c → HoldsFirst x log all c
-  holds_first c high ranges since late near longer same writes fair =
+      → ((w : Write) → Has w since → Own w) → IsFair 2048 IsSealed x.first since c → HoldsFirst x log all c
+  holds_first c high late_ranges since late near longer same writes fair =
       let front = take-with x.synced x.written x.current kept.synced in
-      let stands = synced_stands log.generation log.log log.blocks log.head x.first x.older x.written x.synced area sized.generation log_fits head_fits kept.synced kept.ring kept.fit.0 kept.holds c high ranges late near longer same in
-      let it = front_left log.generation log.log log.blocks log.head x.first all x.synced c since sized.generation log_fits head_fits (omega (arith, kept.synced, (length-with x.written x.current).0)) all_within
-      (fit_blocks-with x.written x.current kept.fit.0 kept.fit.1) kept.holds.new writes fair
+      let stands = synced_stands log.generation log.log log.blocks log.head x.first x.older x.written x.synced area ranges.generation log_fits head_fits kept.synced kept.ring kept.fit.0 kept.holds c high late_ranges late near longer same in
+      let it = front_left log.generation log.log log.blocks log.head x.first all x.synced c since ranges.generation log_fits head_fits (omega (arith, kept.synced, (length-with x.written x.current).0)) all_within
+      all_fit (omega (arith, ranges.some.0)) kept.holds.new writes fair
       (λ b has. stands b (subst (λ (l : List (List Record)). Has b (spelled_from log.generation log.log log.head l)) front has)) in
-      record { k = it.k; synced = it.enough; within = it.within; run = it.run }
+      record {
+        k = it.k;
+        synced = it.enough;
+        within = it.within;
+        run = it.run;
+        fit = fit_blocks-take it.k all all_fit;
+        numbers = (kept.numbers.0, subst (λ (l : List Record). RiseFrom kept.numbers.0 l log.last) (sym (joined-with x.written x.current)) kept.numbers.1);
+        above = λ r has. kept.above r (subst (Has r) (joined-drop-with x.synced x.written x.current kept.synced) (joined-drop-more x.synced it.k all it.enough r has));
+      }
 
-  old_writes : (w : Write) → Has w kept.holds.since → IsBlockWrite log.blocks (spelled_from log.generation log.log log.head all) w
+  -- a block that was spelled is of the generation
+  own_generation : (w : Write) → Own w → generation_of w.1 ≡ log.generation
+  own_generation w is =
+      let b : Block = is.block in
+      let its : Belongs log.generation log.log b.number b.bytes = (every_belongs log.generation log.log b.number b.bytes).0
+      (spelled-belongs log.generation log.log ranges.generation log_fits log.head all (omega (arith, all_within, head_fits)) all_fit b is.has) in
+      ap (λ (v : Write). generation_of v.1) is.at ∙ its.of_generation
+
+  old_writes : (w : Write) → Has w kept.holds.since → Own w
   old_writes w has = let it = kept.holds.blocks w has in record { block = it.block; has = spelled-with log.generation log.log log.head x.written x.current it.block it.has; at = it.at }
 
   -- before any further write
   pub leaves_now : (writes : List Write) (c : List ℕ) → writes ≡ area.writes → Leaves area c → LeavesBlocks x log writes c
-  leaves_now writes c are left since is fair =
-      let same : since ≡ kept.holds.since = append_cancel_right since kept.holds.since x.older (sym is ∙ are ∙ kept.holds.writes) in
-      holds_first c (log.head + length x.written) area.unsynced since kept.holds.late (omega (arith, kept.ring)) left.no_shorter left.same
-      (λ w has. old_writes w (subst (Has w) same has)) fair
+  leaves_now writes c are left = record {
+    since = kept.holds.since;
+    writes_are = are ∙ kept.holds.writes;
+    own = λ w has. own_generation w (old_writes w has);
+    holds = λ fair. holds_first c (log.head + length x.written) area.unsynced kept.holds.since kept.holds.late (omega (arith, kept.ring)) left.no_shorter left.same old_writes fair;
+  }
 
   -- while the block in hand is written
   module _ (some : 0 < log.count) where
@@ -76,10 +99,13 @@ module _ (x : Account) (log : Log) (area : Area) (sized : IsSized log) (kept : I
     has_some = omega (arith, some, kept.count)
 
     place_left : length x.written < log.blocks
-    place_left = omega (arith, sized.ring, count_some log.count some, kept.next)
+    place_left = omega (arith, ranges.ring, count_some log.count some, kept.next)
+
+    payload_fits : length log.payload ≤ 2000
+    payload_fits = subst (λ (l : List ℕ). length l ≤ 2000) (sym kept.payload) kept.fit.1.room
 
     whole : length block ≡ 2048
-    whole = ((every_belongs log.generation log.log log.next block).0 (belongs-text log.generation log.log log.next log.count log.payload sized.generation log_fits (omega (arith, kept.next, place_left, head_fits)) sized.payload)).sealed.whole
+    whole = ((every_belongs log.generation log.log log.next block).0 (belongs-text log.generation log.log log.next log.count log.payload ranges.generation log_fits (omega (arith, kept.next, place_left, head_fits)) payload_fits)).sealed.whole
 
     is_last : ◌≡◌ {A = Block} (record { number = log.next; bytes = block }) (block_of log.generation log.log (log.head + length x.written) x.current)
     is_last =
@@ -87,7 +113,7 @@ module _ (x : Account) (log : Log) (area : Area) (sized : IsSized log) (kept : I
         ∙ ap (λ (k : ℕ). record { number = log.head + length x.written; bytes = block_text log.generation log.log (log.head + length x.written) k log.payload }) kept.count
         ∙ ap (λ (l : List ℕ). record { number = log.head + length x.written; bytes = block_text log.generation log.log (log.head + length x.written) (length x.current) l }) kept.payload
 
-    new_write : (w : Write) → w ≡ (at, block) → IsBlockWrite log.blocks (spelled_from log.generation log.log log.head all) w
+    new_write : (w : Write) → w ≡ (at, block) → Own w
     new_write w is = record {
       block = record { number = log.next; bytes = block };
       has = subst (λ (b : Block). Has b (spelled_from log.generation log.log log.head all)) (sym is_last)
@@ -103,17 +129,23 @@ module _ (x : Account) (log : Log) (area : Area) (sized : IsSized log) (kept : I
           (λ old. let it = kept.holds.late.late range old in (it.0, it.1, omega (arith, it.2), it.3)) has;
     }
 
-    torn_first : (c : List ℕ) (since : List Write) → Leaves (torn at block area) c → ((w : Write) → Has w since → IsBlockWrite log.blocks (spelled_from log.generation log.log log.head all) w) → IsFair 2048 IsSealed x.first since c → HoldsFirst x log all c
+    torn_first : (c : List ℕ) (since : List Write) → Leaves (torn at block area) c → ((w : Write) → Has w since → Own w) → IsFair 2048 IsSealed x.first since c → HoldsFirst x log all c
     torn_first c since left writes fair = holds_first c (log.head + length x.written + 1) ((at, length block) ∷ area.unsynced) since late_too (omega (arith, place_left)) left.no_shorter left.same writes fair
 
+    -- with the writes since the account began
+    torn_leaves : (writes : List Write) (c : List ℕ) (since : List Write) → writes ≡ since ++ x.older → Leaves (torn at block area) c → ((w : Write) → Has w since → Own w) → LeavesBlocks x log writes c
+    torn_leaves writes c since are left own = record {
+      since = since;
+      writes_are = are;
+      own = λ w has. own_generation w (own w has);
+      holds = λ fair. torn_first c since left own fair;
+    }
+
     pub leaves_torn : (writes : List Write) (c : List ℕ) → (writes ≡ (at, block) ∷ area.writes) ⊎ (writes ≡ area.writes) → Leaves (torn at block area) c → LeavesBlocks x log writes c
-    leaves_torn writes c (inl are) left since is fair =
+    leaves_torn writes c (inl are) left =
         let wrote : Write = (at, block) in
-        let same : since ≡ wrote ∷ kept.holds.since = append_cancel_right since (wrote ∷ kept.holds.since) x.older (sym is ∙ are ∙ ap (λ (l : List Write). wrote ∷ l) kept.holds.writes) in
-        torn_first c since left (λ w has. ⊎_elim (new_write w) (old_writes w) (subst (Has w) same has)) fair
-    leaves_torn writes c (inr are) left since is fair =
-        let same : since ≡ kept.holds.since = append_cancel_right since kept.holds.since x.older (sym is ∙ are ∙ kept.holds.writes) in
-        torn_first c since left (λ w has. old_writes w (subst (Has w) same has)) fair
+        torn_leaves writes c (wrote ∷ kept.holds.since) (are ∙ ap (λ (l : List Write). wrote ∷ l) kept.holds.writes) left (λ w has. ⊎_elim (new_write w) (old_writes w) has)
+    leaves_torn writes c (inr are) left = torn_leaves writes c kept.holds.since (are ∙ kept.holds.writes) left old_writes
 
 -- ## Calls
 
@@ -125,7 +157,7 @@ module _ (x : Account) (log : Log) (sized : IsSized log) (s0 : Story) (a : ℕ) 
   pub quiet : LeavesOnly s0 s0 P
   quiet = started s0 P law (λ c now.
       let t : Tells s0 a = seated now.counts in
-      crash_in a s0 s0 (LeavesBlocks x log) c (framed a s0) now (leaves_now x log (s0.area a) sized (is t) (c.writes a) (c.image a) (now.writes a t) (now.leaves a t)))
+      crash_in a s0 s0 (LeavesBlocks x log) c (framed a s0) now (leaves_now x log (s0.area a) sized.ranges (is t) (c.writes a) (c.image a) (now.writes a t) (now.leaves a t)))
 
   -- the block in hand is written
   pub while_written : (some : 0 < log.count) (s1 : Story) (r : Did) → Wrote a (2048 * (log.next % log.blocks)) (block_text log.generation log.log log.next log.count log.payload) r s0 s1 → LeavesOnly s0 s1 P
@@ -133,7 +165,7 @@ module _ (x : Account) (log : Log) (sized : IsSized log) (s0 : Story) (a : ℕ) 
       let t : Tells s0 a = seated (sym wrote.time.counts ∙ now.counts) in
       let t1 : Tells s1 a = wrote.time.tells a ∙ t in
       let frame : Framed a s0 s1 = framed_wrote a (2048 * (log.next % log.blocks)) (block_text log.generation log.log log.next log.count log.payload) r s0 s0 s1 (framed a s0) wrote in
-      crash_in a s0 s1 (LeavesBlocks x log) c frame now (leaves_torn x log (s0.area a) sized (is t) some (c.writes a) (c.image a)
+      crash_in a s0 s1 (LeavesBlocks x log) c frame now (leaves_torn x log (s0.area a) sized.ranges (is t) some (c.writes a) (c.image a)
       (⊎_elim (λ e. inl (now.writes a t1 ∙ e)) (λ e. inr (now.writes a t1 ∙ e)) (wrote.writes t)) (wrote.crash t (c.image a) (now.leaves a t1))))
 
   -- it is synced
@@ -142,7 +174,7 @@ module _ (x : Account) (log : Log) (sized : IsSized log) (s0 : Story) (a : ℕ) 
       let t : Tells s0 a = seated (sym did.time.counts ∙ now.counts) in
       let t1 : Tells s1 a = did.time.tells a ∙ t in
       let frame : Framed a s0 s1 = framed_synced a r s0 s0 s1 (framed a s0) did in
-      crash_in a s0 s1 (LeavesBlocks x log) c frame now (leaves_now x log (s0.area a) sized (is t) (c.writes a) (c.image a) (now.writes a t1 ∙ did.writes) (did.crash t (c.image a) (now.leaves a t1))))
+      crash_in a s0 s1 (LeavesBlocks x log) c frame now (leaves_now x log (s0.area a) sized.ranges (is t) (c.writes a) (c.image a) (now.writes a t1 ∙ did.writes) (did.crash t (c.image a) (now.leaves a t1))))
 
 -- the area after a block in hand was written
 pub written_kept : (x : Account) (log : Log) (sized : IsSized log) (s0 s1 : Story) (a : ℕ) (some : 0 < log.count) (r : Did)
@@ -164,7 +196,12 @@ crash_back a s0 s1 Q c f in_run = record {
 
 -- the blocks of an account are those when the one in hand is closed
 same_blocks : (x : Account) (log : Log) (writes : List Write) (c : List ℕ) → LeavesBlocks (closed x) (closed_log log) writes c → LeavesBlocks x log writes c
-same_blocks x log writes c leaves since is fair = let it = leaves since is fair in record { k = it.k; synced = it.synced; within = it.within; run = it.run }
+same_blocks x log writes c leaves = record {
+  since = leaves.since;
+  writes_are = leaves.writes_are;
+  own = leaves.own;
+  holds = λ fair. let it = leaves.holds fair in record { k = it.k; synced = it.synced; within = it.within; run = it.run; fit = it.fit; numbers = it.numbers; above = it.above };
+}
 
 module _ (x : Account) (log : Log) (s0 s1 s2 : Story) (a : ℕ) (frame : Framed a s0 s1) (first : LeavesOnly s0 s1 (CrashIn s0 a (LeavesBlocks x log)))
     (mid : Log) (sized : IsSized mid) (is_mid : mid ≡ closed_log log) (law : IsLawful s1) (seated : IsTrue s1.counts → Tells s1 a)
@@ -206,15 +243,17 @@ sized_closed log sized =
     (λ (none : log.count ≤ 0). omega (arith, count_none log.count (omega (arith, none)), sized.order))
     (cases_lt 0 log.count) in
     record {
-      some = sized.some;
-      head = sized.head;
+      ranges = record {
+        generation = sized.ranges.generation;
+        number = sized.ranges.number;
+        some = sized.ranges.some;
+        head = sized.ranges.head;
+        ring = omega (arith, step, sized.ranges.ring);
+      };
       order = omega (arith, sized.order);
-      ring = omega (arith, step, sized.ring);
       payload = omega arith;
       count = omega arith;
       none = λ e. refl;
-      generation = sized.generation;
-      number = sized.number;
       flushed = sized.flushed;
       pending = λ some. absurd (omega arith);
     }

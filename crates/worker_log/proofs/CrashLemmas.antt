@@ -1,6 +1,7 @@
 -- What a crash leaves of the blocks of a ring: a front of them, with those that are synced.
 use Rattle.std.proofs.Common.{◌≡◌, ⊎_elim, ℕ, ◌+◌, ◌*◌, ◌%◌, ◌^◌, ◌≤◌, ◌<◌, true, List, length, get_or, take, sym, ◌∙◌, ap, subst, arith}
 use Rattle.std.proofs.lemmas.List.{length-take}
+use Rattle.std.proofs.Math.Nat.{mod-lt}
 use Rattle.map_model.specs.Lists.{Has}
 use Rattle.image_model.specs.Fair.{piece, IsFair}
 use Rattle.lean_disk.specs.Area.{Area, Write, IsApart}
@@ -43,7 +44,7 @@ module _ (g s n h : ℕ) (first : List ℕ) (older : List Write) (written : List
 
 -- The image c of a ring, where each write since it had the first bytes is one of these blocks, and the synced ones stand.
 module _ (g s n h : ℕ) (first : List ℕ) (ws : List (List Record)) (synced : ℕ) (c : List ℕ) (since : List Write) (fg : g < 2 ^ 64) (fs : s < 2 ^ 64) (fh : h + n ≤ 2 ^ 64)
-    (le : synced ≤ length ws) (few : length ws ≤ n) (fit : AllFitBlocks ws) (new : HasNone g first)
+    (le : synced ≤ length ws) (few : length ws ≤ n) (fit : AllFitBlocks ws) (some : 0 < n) (new : HasNone g n first)
     (writes : (w : Write) → Has w since → IsBlockWrite n (spelled_from g s h ws) w) (fair : IsFair 2048 IsSealed first since c)
     (stands : (b : Block) → Has b (spelled_from g s h (take synced ws)) → block_at n b.number c ≡ b.bytes) where
   ws_belongs : (b : Block) → Has b (spelled_from g s h ws) → belongs g s b.number b.bytes ≡ true
@@ -54,7 +55,7 @@ module _ (g s n h : ℕ) (first : List ℕ) (ws : List (List Record)) (synced : 
   listed r low yes_it =
       let is : Belongs g s r (block_at n r c) = (every_belongs g s r (block_at n r c)).0 yes_it in
       ⊎_elim
-      (λ (stood : piece 2048 (r % n) c ≡ piece 2048 (r % n) first). absurd (let P : List ℕ → Type 0 = Belongs g s r in let old : Belongs g s r (piece 2048 (r % n) first) = subst P stood is in new (r % n) old.sealed old.of_generation))
+      (λ (stood : piece 2048 (r % n) c ≡ piece 2048 (r % n) first). absurd (let P : List ℕ → Type 0 = Belongs g s r in let old : Belongs g s r (piece 2048 (r % n) first) = subst P stood is in new (r % n) (mod-lt r some) old.sealed old.of_generation))
       (λ (has : Has (2048 * (r % n), piece 2048 (r % n) c) since).
       let w : Write = (2048 * (r % n), piece 2048 (r % n) c) in
       let one = writes w has in

@@ -123,10 +123,10 @@ closed_is now log same some =
 
 module _ (x : Account) (log : Log) (area : Area) (sized : IsSized log) (kept : IsKept x log area) where
   log_fits : log.log < 2 ^ 64
-  log_fits = omega (arith, sized.number.1)
+  log_fits = omega (arith, sized.ranges.number.1)
 
   head_fits : log.head + log.blocks ≤ 2 ^ 64
-  head_fits = omega (arith, sized.head, sized.some.1)
+  head_fits = omega (arith, sized.ranges.head, sized.ranges.some.1)
 
   -- the block in hand was written
   module _ (some : 0 < log.count) where
@@ -140,7 +140,7 @@ module _ (x : Account) (log : Log) (area : Area) (sized : IsSized log) (kept : I
     one_more = ap length (with_some x.written x.current has_some) ∙ length-append x.written (x.current ∷ [])
 
     place_left : length x.written < log.blocks
-    place_left = omega (arith, sized.ring, count_some log.count some, kept.next)
+    place_left = omega (arith, sized.ranges.ring, count_some log.count some, kept.next)
 
     abbrev Held : List (List Record) → Area → Type 0
     Held l a = HoldsBlocks log.generation log.log log.blocks log.head x.first x.older l x.synced a
@@ -152,7 +152,7 @@ module _ (x : Account) (log : Log) (area : Area) (sized : IsSized log) (kept : I
     holds_closed =
         let q : ℕ = log.head + length x.written in
         let plain : Held (x.written ++ x.current ∷ []) (spelled_at q (length x.current) (records_text x.current)) =
-        holds_written log.generation log.log log.blocks log.head x.first x.older x.written x.synced area sized.generation log_fits head_fits kept.synced kept.ring kept.fit.0 kept.holds x.current kept.fit.1 place_left in
+        holds_written log.generation log.log log.blocks log.head x.first x.older x.written x.synced area sized.ranges.generation log_fits head_fits kept.synced kept.ring kept.fit.0 kept.holds x.current kept.fit.1 place_left in
         let same : spelled_at q (length x.current) (records_text x.current) ≡ spelled_at log.next log.count log.payload =
         ap (λ (k : ℕ). spelled_at k (length x.current) (records_text x.current)) (sym kept.next) ∙ ap (λ (k : ℕ). spelled_at log.next k (records_text x.current)) (sym kept.count) ∙ ap (spelled_at log.next log.count) (sym kept.payload) in
         subst (λ (l : List (List Record)). Held l (spelled_at log.next log.count log.payload)) (sym (with_some x.written x.current has_some))
@@ -235,5 +235,5 @@ module _ (first : List ℕ) (older : List Write) (ws : List (List Record)) (done
     synced = omega arith;
     below = λ r has. rise-has kept.numbers.0 (joined ws ++ []) log.last kept.numbers.1 r (has_front r (joined ws) [] (subst (λ (l : List (List Record)). Has r (joined l)) (take_all (length ws) ws (omega arith)) has));
     above = λ r has. absurd (subst (λ (l : List (List Record)). Has r (joined l ++ [])) (drop_all (length ws) ws (omega arith)) has);
-    holds = holds_synced log.generation log.log log.blocks log.head first older ws done area sized.generation (omega (arith, sized.number.1)) (omega (arith, sized.head, sized.some.1)) kept.synced kept.ring kept.fit.0 kept.holds;
+    holds = holds_synced log.generation log.log log.blocks log.head first older ws done area sized.ranges.generation (omega (arith, sized.ranges.number.1)) (omega (arith, sized.ranges.head, sized.ranges.some.1)) kept.synced kept.ring kept.fit.0 kept.holds;
   }

@@ -5,3 +5,5 @@ pub mod CrashLemmas
 pub mod KeptLemmas
 pub mod CallLemmas
 pub mod PutLemmas
+pub mod ReadLemmas
+pub mod AccountLemmas

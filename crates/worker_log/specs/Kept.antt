@@ -6,7 +6,7 @@ use Rattle.lean_disk.specs.Area.{Write, Area}
 use Rattle.log_record.specs.declared.record.Record.{Record}
 use Rattle.log_block.specs.Block.{AllFit, records_text, IsSealed, generation_of}
 use Rattle.disk_image.specs.Runs.{Block, run_in, block_at}
-use Rattle.worker_log.specs.Logs.{Log, Account, all_blocks, spelled_from, joined}
+use Rattle.worker_log.specs.Logs.{Log, Account, all_blocks, spelled_from, joined, records_of}
 
 -- the run of the log in an area with these bytes
 abbrev pub run_of : Log → List ℕ → List Block
@@ -45,9 +45,9 @@ pub record IsBlockWrite (n : ℕ) (blocks : List Block) (w : Write) : Type 0 whe
   pub has : Has block blocks
   pub at : w ≡ write_of n block
 
--- no block of the generation stands in these bytes
-abbrev pub HasNone : ℕ → List ℕ → Type 0
-HasNone generation bytes = (p : ℕ) → IsSealed (piece 2048 p bytes) → generation_of (piece 2048 p bytes) ≡ generation → ⊥
+-- no block of the generation stands at a place of a ring of n blocks with these bytes
+abbrev pub HasNone : (generation n : ℕ) → List ℕ → Type 0
+HasNone generation n bytes = (p : ℕ) → p < n → IsSealed (piece 2048 p bytes) → generation_of (piece 2048 p bytes) ≡ generation → ⊥
 
 -- The area of a ring of n blocks holds the blocks that were written since it had these first bytes and older writes, from
 -- number head on, so many of them synced; and nothing else of this generation.
@@ -55,7 +55,7 @@ pub record HoldsBlocks (generation log n head : ℕ) (first : List ℕ) (older :
   pub since : List Write
   pub writes : area.writes ≡ since ++ older
   pub blocks : (w : Write) → Has w since → IsBlockWrite n (spelled_from generation log head written) w
-  pub new : HasNone generation first
+  pub new : HasNone generation n first
   pub fair : IsFair 2048 IsSealed first since area.bytes
   -- as it reads
   pub reads : (block : Block) → Has block (spelled_from generation log head written) → block_at n block.number area.bytes ≡ block.bytes
@@ -72,7 +72,7 @@ pub record IsKept (x : Account) (log : Log) (area : Area) : Type 0 where
   pub count : log.count ≡ length x.current
   pub fit : AllFitBlocks x.written × FitsBlock x.current
   pub ring : length x.written ≤ log.blocks
-  pub numbers : (low : ℕ) × RiseFrom low (joined x.written ++ x.current) log.last
+  pub numbers : (low : ℕ) × RiseFrom low (records_of x) log.last
   -- what is flushed: the synced blocks, and these alone
   pub synced : x.synced ≤ length x.written
   pub below : (r : Record) → Has r (joined (take x.synced x.written)) → r.gsn ≤ log.flushed
@@ -84,23 +84,30 @@ pub record IsKept (x : Account) (log : Log) (area : Area) : Type 0 where
 pub record IsFresh (log : Log) (area : Area) : Type 0 where
   pub clean : area.unsynced ≡ []
   pub end : area.end ≡ length area.bytes
-  pub new : HasNone log.generation area.bytes
+  pub new : HasNone log.generation log.blocks area.bytes
   pub reach : 2048 * (log.head % log.blocks) ≤ length area.bytes
 
 abbrev pub fresh_account : Area → Account
 fresh_account area = record { first = area.bytes; older = area.writes; written = []; synced = 0; current = [] }
 
--- The run is the first k of these blocks, whole, in order, none skipped, and holds the synced ones.
+-- The run is the first k of these blocks, whole, in order, none skipped, and holds the synced ones. Numbers rise in the blocks,
+-- and no record that is flushed stands behind the first k.
 pub record HoldsFirst (x : Account) (log : Log) (blocks : List (List Record)) (bytes : List ℕ) : Type 0 where
   pub k : ℕ
   pub synced : x.synced ≤ k
   pub within : k ≤ length blocks
   pub run : run_of log bytes ≡ spelled_from log.generation log.log log.head (take k blocks)
+  pub fit : AllFitBlocks (take k blocks)
+  pub numbers : (low : ℕ) × RiseFrom low (joined blocks) log.last
+  pub above : (r : Record) → Has r (joined (drop k blocks)) → log.flushed < r.gsn
 
--- So it is in each fair image: one in which each block whose seal fits is one that was written since the account began, or
--- stood there then.
-abbrev pub LeavesBlocks : Account → Log → List Write → List ℕ → Type 0
-LeavesBlocks x log writes bytes = (since : List Write) → writes ≡ since ++ x.older → IsFair 2048 IsSealed x.first since bytes → HoldsFirst x log (all_blocks x) bytes
+-- The writes since the account began are blocks of the log's generation; and so it is in each fair image: one in which each
+-- block whose seal fits is one of those writes, or stood there when the account began.
+pub record LeavesBlocks (x : Account) (log : Log) (writes : List Write) (bytes : List ℕ) : Type 0 where
+  pub since : List Write
+  pub writes_are : writes ≡ since ++ x.older
+  pub own : (w : Write) → Has w since → generation_of w.1 ≡ log.generation
+  pub holds : IsFair 2048 IsSealed x.first since bytes → HoldsFirst x log (all_blocks x) bytes
 
 -- ## What calls make of an account
 

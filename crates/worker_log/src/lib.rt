@@ -2,8 +2,10 @@
 //! flushed. No block is written twice.
 #![tactic(auto)]
 
+mod laws;
 mod log;
 
+pub use laws::{every_flushed, every_front, every_kept, every_run, every_staged};
 pub use log::{DiskFault, RESERVE, Staging, WorkerLog};
 
 #[cfg(test)]

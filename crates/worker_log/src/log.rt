@@ -7,7 +7,7 @@ ghost use Rattle.lean_disk.specs.Moments.{CrashIn, Framed, LeavesOnly};
 ghost use Rattle.lean_disk.specs.Story.{Tells};
 ghost use Rattle.log_record.specs.Spelling.{Fits, HasCome, record_text};
 ghost use Rattle.log_block.specs.Block.{block_text, records_text};
-ghost use Rattle.worker_log.specs.Logs.{Log, Account, limit, used};
+ghost use Rattle.worker_log.specs.Logs.{Log, Account, IsInRange, limit, used};
 ghost use Rattle.worker_log.specs.Kept.{After, HasRoom, IsFresh, IsKept, LeavesBlocks, StagesTo, closed, flushed_log, fresh_account};
 ghost use Rattle.worker_log.specs.Kept.{flushed as flushed_account};
 
@@ -83,6 +83,7 @@ impl WorkerLog {
         requires some { (64 ≤ blocks) × (blocks ≤ 4096) }
         requires head { head < 2 ^ 63 }
         ensures log { IfOk result (λ it. it ≡ record { generation = generation; log = log; blocks = blocks; head = head; next = head; payload = []; count = 0; last = flushed; flushed = flushed }) }
+        ensures ranges { IfOk result IsInRange }
         ensures starts { IfOk result (λ it. (area : Area) → IsFresh it area → IsKept (fresh_account area) it area) }
     {
         Ok(WorkerLog {
@@ -117,7 +118,8 @@ impl WorkerLog {
 
     /// The number of the last record.
     pub fn last(&self) -> u64
-        ensures { result ≡ self.now.last }
+        ensures answer { result ≡ self.now.last }
+        ensures ranges { IsInRange self.now }
     {
         self.last
     }
@@ -151,6 +153,7 @@ impl WorkerLog {
         requires come { HasCome entry.now.body }
         requires rises { self.old.last < entry.now.gsn }
         ensures told { IfErr result (TellsCounts self.old) }
+        ensures ranges { IsInRange self.new }
         ensures log { OnOk result (After entry.now self.old self.new) }
         ensures same_log { IsErrAnd result IsLogFull → self.new ≡ self.old }
         ensures same_device { IsErrAnd result IsLogFull → dev.new ≡ dev.old }
@@ -179,6 +182,7 @@ impl WorkerLog {
         requires come { HasCome entry.now.body }
         requires rises { self.old.last < entry.now.gsn }
         requires room { used self.old + 1 ≤ self.old.blocks }
+        ensures ranges { IsInRange self.new }
         ensures log { OnOk result (After entry.now self.old self.new) }
         ensures kept { OnOk result ((x : Account) → Tells (P.story dev.new) (P.seat dev.old).area → IsKept x self.old ((P.story dev.old).area (P.seat dev.old).area)
             → StagesTo entry.now x self.old self.new ((P.story dev.new).area (P.seat dev.old).area)) }
@@ -202,6 +206,7 @@ impl WorkerLog {
     /// the log is flushed then.
     pub fn flush<P: Part>(&mut self, dev: &mut P) -> Result<u64, DiskFault>
         ensures answer { IfOk result (λ number. number ≡ self.old.last) }
+        ensures ranges { IsInRange self.new }
         ensures log { OnOk result (self.new ≡ flushed_log self.old) }
         ensures same_device { self.old.last ≡ self.old.flushed → dev.new ≡ dev.old }
         ensures kept { OnOk result ((x : Account) → Tells (P.story dev.new) (P.seat dev.old).area → IsKept x self.old ((P.story dev.old).area (P.seat dev.old).area)
@@ -234,6 +239,7 @@ impl WorkerLog {
 
     // Writes the block in hand, if it holds a record. The next block is in hand then.
     fn close_block<P: Part>(&mut self, dev: &mut P) -> Result<(), DiskFault>
+        ensures ranges { IsInRange self.new }
         ensures log { OnOk result (self.new ≡ closed_log self.old) }
         ensures kept { OnOk result ((x : Account) → Tells (P.story dev.new) (P.seat dev.old).area → IsKept x self.old ((P.story dev.old).area (P.seat dev.old).area)
             → IsKept (closed x) self.new ((P.story dev.new).area (P.seat dev.old).area)) }

@@ -1,0 +1,64 @@
+-- What a crash leaves between two calls, and what the run that a crash leaves says.
+use Rattle.std.specs.Prelude.{◌≡◌, ◌≤◌, ℕ, List, [], ◌∷◌, ◌++◌, length}
+use Rattle.map_model.specs.Lists.{Has}
+use Rattle.image_model.specs.Entries.{Entry}
+use Rattle.image_model.specs.Images.{IsFalling}
+use Rattle.lean_disk.specs.Area.{Area, Leaves}
+use Rattle.log_record.specs.declared.record.Record.{Record}
+use Rattle.disk_image.specs.Records.{entry_of}
+use Rattle.disk_image.specs.Runs.{Block, logged_onto, entries_in, AreReadable}
+use Rattle.worker_log.specs.Logs.{Log, Account, IsInRange, all_blocks, spelled_from, joined, records_of}
+use Rattle.worker_log.specs.Kept.{AllFitBlocks, HoldsFirst, IsKept, LeavesBlocks, Staged, flushed, run_of}
+
+-- a crash between two calls leaves what one in a call does
+abbrev pub EveryKept : Type 0
+EveryKept = (x : Account) (log : Log) (area : Area) → IsInRange log → IsKept x log area → (c : List ℕ) → Leaves area c → LeavesBlocks x log area.writes c
+
+-- the entries of records, put before those behind them: the newest first
+abbrev pub entries_onto : (log : ℕ) → List Entry → List Record → List Entry
+entries_onto log behind [] = behind
+entries_onto log behind (r ∷ rs) = entries_onto log (entry_of log r ∷ behind) rs
+
+-- The account after the record is staged is one alone, whatever the device tells. It begins where the other does, and has the
+-- record behind the others.
+pub record StagesOnce (r : Record) (x : Account) (old : Log) : Type 0 where
+  pub y : Account
+  pub is : Staged r x y old
+  pub only : (z : Account) → Staged r x z old → z ≡ y
+  pub first : y.first ≡ x.first
+  pub older : y.older ≡ x.older
+  pub records : records_of y ≡ records_of x ++ r ∷ []
+  pub entries : (log : ℕ) → entries_onto log [] (records_of y) ≡ entry_of log r ∷ entries_onto log [] (records_of x)
+
+abbrev pub EveryStaged : Type 0
+EveryStaged = (r : Record) (x : Account) (old : Log) → StagesOnce r x old
+
+-- a flush leaves the records
+abbrev pub EveryFlushed : Type 0
+EveryFlushed = (x : Account) → records_of (flushed x) ≡ records_of x
+
+-- each block of the run is readable, and these are the run's records
+pub record Reads (generation log n : ℕ) (run : List Block) (rs : List Record) : Type 0 where
+  pub readable : AreReadable generation log run
+  pub entries : entries_in (logged_onto generation log n [] run) ≡ entries_onto log [] rs
+
+-- blocks that were spelled have the records that were put into them
+abbrev pub EveryRun : Type 0
+EveryRun = (generation log n q : ℕ) (blocks : List (List Record)) → AllFitBlocks blocks → Reads generation log n (spelled_from generation log q blocks) (joined blocks)
+
+-- The run's records are a front of the account's, with falling numbers; each that is flushed is among them, and all are where
+-- all blocks are synced.
+pub record ReadsFront (x : Account) (log : Log) (bytes : List ℕ) : Type 0 where
+  pub blocks : List (List Record)
+  pub fit : AllFitBlocks blocks
+  pub run : run_of log bytes ≡ spelled_from log.generation log.log log.head blocks
+  pub reads : Reads log.generation log.log log.blocks (run_of log bytes) (joined blocks)
+  pub newer : List Entry
+  pub splits : newer ++ entries_onto log.log [] (joined blocks) ≡ entries_onto log.log [] (records_of x)
+  pub falls : IsFalling (entries_onto log.log [] (joined blocks))
+  pub flushed : (e : Entry) → Has e (entries_onto log.log [] (records_of x)) → e.number ≤ log.flushed → Has e (entries_onto log.log [] (joined blocks))
+  pub whole : x.synced ≡ length (all_blocks x) → newer ≡ []
+
+-- So it is wherever the run is the first of the account's blocks.
+abbrev pub EveryFront : Type 0
+EveryFront = (x : Account) (log : Log) (bytes : List ℕ) → HoldsFirst x log (all_blocks x) bytes → ReadsFront x log bytes

@@ -1,0 +1,27 @@
+// What holds of accounts and of the runs that crashes leave.
+ghost use Rattle.worker_log.specs.Laws.{EveryFlushed, EveryFront, EveryKept, EveryRun, EveryStaged};
+
+/// What a crash leaves between two calls.
+pub fn every_kept()
+    ensures { EveryKept }
+{}
+
+/// Blocks that were spelled have the records that were put into them.
+pub fn every_run()
+    ensures { EveryRun }
+{}
+
+/// The run that a crash leaves has a front of the account's records, with all that are flushed.
+pub fn every_front()
+    ensures { EveryFront }
+{}
+
+/// The account after a record is staged.
+pub fn every_staged()
+    ensures { EveryStaged }
+{}
+
+/// A flush leaves the records of an account.
+pub fn every_flushed()
+    ensures { EveryFlushed }
+{}
