@@ -1,0 +1,5 @@
+pub mod BaseLemmas
+pub mod PieceLemmas
+pub mod HeldLemmas
+pub mod CrashLemmas
+pub mod RunLemmas

@@ -1,0 +1,29 @@
+-- The base of a page, as it is fetched.
+use Rattle.std.specs.Prelude.{◌≡◌, ◌<◌, ◌≤◌, ℕ, Some}
+use Rattle.page_model.specs.Page as page
+use Rattle.image_model.specs.Entries.{Page}
+use Rattle.image_model.specs.Slots.{base_of}
+use Rattle.lean_disk.specs.Story.{Story}
+use Rattle.disk_slots.specs.declared.master.Master.{Master}
+use Rattle.disk_image.specs.Shown.{Areas, page_slot_in, shown_by}
+use Rattle.page_store.specs.declared.base.Base.{Base}
+
+-- what a disk tells that its areas hold
+abbrev pub areas_of : Story → Areas
+areas_of s a = (s.area a).bytes
+
+-- the page with the number and the log of its last record
+abbrev pub image_page : page.Page → Page
+image_page p = record { gsn = p.gsn; last = p.last_log; node = p.node }
+
+-- It is a slot of the page that a generation up to the master's has saved.
+pub record IsOwn (m : Master) (page : ℕ) (base : Base) : Type 0 where
+  pub within : base.slot < 2
+  pub number : base.node.number ≡ page
+  pub generation : base.node.generation ≤ m.generation
+
+-- It is the page's base, and stands in this slot.
+pub record IsBase (m : Master) (page : ℕ) (area : Areas) (base : Base) : Type 0 where
+  pub own : IsOwn m page base
+  pub is : base_of (shown_by m area) page ≡ Some (image_page base.node)
+  pub there : page_slot_in m.pages page base.slot (area 1) ≡ Some base.node

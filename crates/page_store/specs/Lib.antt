@@ -1,0 +1,6 @@
+-- Read Bases, then Saved. Laws has what holds of pages that are saved, Runs how a run of calls saves them. Inside has the words of private functions.
+pub mod Bases
+pub mod Saved
+pub mod Laws
+pub mod Runs
+pub mod Inside
