@@ -2,6 +2,7 @@ pub mod LogLemmas
 pub mod OutcomeLemmas
 pub mod PageLemmas
 pub mod ChangeLemmas
+pub mod MarkLemmas
 pub mod RedoLemmas
 pub mod SetLemmas
 pub mod UndoLemmas

@@ -9,19 +9,22 @@ use Rattle.image_model.specs.Redo.{redo, stands, passes, all_pass}
 use Rattle.disk_image.specs.Formats.{format_of}
 use Rattle.recovery_scan.specs.declared.found.Found.{Found}
 use Rattle.recovery_redo.specs.Images.{pages_of}
-use Rattle.recovery_redo.specs.Inside.{entry_of, entries_of, made, one_redone, AreMarks, IsRedone, FailsAt, Keeps}
+use Rattle.recovery_redo.specs.Inside.{entry_of, entries_of, made, one_redone, AreMarks, IsRedone, FailsAt, Keeps, MarksFor, is_named}
 use Rattle.recovery_redo.proofs.LogLemmas.{entries_at}
 use Rattle.recovery_redo.proofs.PageLemmas.{keeps_all, keeps_both}
+use Rattle.recovery_redo.proofs.MarkLemmas.{marks_none}
 
 -- the first records are redone, and what has changed is marked
 pub record IsRedoing (start now : List Page) (was marks : List Bool) (found : List Found) (counted : List Bool) (k : ℕ) : Type 0 where
   pub redone : IsRedone start now found counted k
   pub kept : Keeps start now was marks
+  pub only : MarksFor (is_named (entries_of (take k found))) was marks
 
 pub redone_none : (start : List Page) (marks : List Bool) (found : List Found) (counted : List Bool) → IsRedoing start start marks marks found counted 0
 redone_none start marks found counted = record {
   redone = record { pages = refl; pass = refl; marks = record { at = λ k x l e. absurd (omega arith) } };
   kept = keeps_all start marks;
+  only = marks_none (is_named []) marks;
 }
 
 module _ (start now : List Page) (found : List Found) (counted : List Bool) (k : ℕ) (x d : Found) (l : k < length found) (is : x ≡ get_or found k d) (long : length now ≡ length start) (before : IsRedone start now found counted k) where

@@ -5,7 +5,7 @@ use Rattle.std.proofs.lemmas.List.{get_or_default}
 use Rattle.std.proofs.Math.Seq.{take-length}
 use Rattle.std.specs.BTreeSet.{BTreeSet}
 use Rattle.page_model.specs.Page.{Page}
-use Rattle.page_model.specs.Nodes.{Node}
+use Rattle.page_model.specs.Nodes.{Node, holds}
 use Rattle.page_model.specs.Tree.{IsTree, entry}
 use Rattle.page_model.specs.Redo.{is_some}
 use Rattle.image_model.specs.Entries as model
@@ -15,9 +15,10 @@ use Rattle.disk_image.specs.Formats.{format_of}
 use Rattle.node_tree.specs.Nodes.{nodes_of}
 use Rattle.recovery_scan.specs.declared.found.Found.{Found}
 use Rattle.recovery_redo.specs.Images.{pages_of}
-use Rattle.recovery_redo.specs.Inside.{entry_of, entries_of, lost_by, TellsLost, AreWords, has, set_back, IsUndone, LacksAt, Keeps}
-use Rattle.recovery_redo.proofs.LogLemmas.{entries_at, entries_all}
+use Rattle.recovery_redo.specs.Inside.{entry_of, entries_of, lost_by, TellsLost, AreWords, has, set_back, IsUndone, LacksAt, Keeps, MarksFor, is_leaf_of}
+use Rattle.recovery_redo.proofs.LogLemmas.{entries_at, entries_all, has_entry_of}
 use Rattle.recovery_redo.proofs.PageLemmas.{node_at, keeps_all, keeps_both}
+use Rattle.recovery_redo.proofs.MarkLemmas.{marks_none, holds_same, leaves_more}
 use Rattle.recovery_redo.proofs.SetLemmas.{tree_same, entry_same, put_tree, put_entries}
 
 -- the last records are undone, and the pages are still a tree with the same keys
@@ -27,6 +28,8 @@ pub record IsUndoing (start now : List Page) (was marks : List Bool) (found : Li
   pub tree : IsTree (format_of (length now)) (nodes_of now)
   pub keys : (q : ℕ) → has now q ≡ has start q
   pub kept : Keeps start now was marks
+  pub fences : (p q : ℕ) → holds (nodes_of now p) q ≡ holds (nodes_of start p) q
+  pub only : MarksFor (is_leaf_of (entries_of found) (nodes_of start)) was marks
 
 pub undone_none : (start : List Page) (marks : List Bool) (found : List Found) (counted : List Bool) (ended : BTreeSet ℕ) → IsTree (format_of (length start)) (nodes_of start) → IsUndoing start start marks marks found counted ended (length found)
 undone_none start marks found counted ended t = record {
@@ -38,6 +41,8 @@ undone_none start marks found counted ended t = record {
   tree = t;
   keys = λ q. refl;
   kept = keeps_all start marks;
+  fences = λ p q. refl;
+  only = marks_none (is_leaf_of (entries_of found) (nodes_of start)) marks;
 }
 
 not_or : (a b : Bool) → true ≡ (not a || b) → a ≡ true → b ≡ true
@@ -75,8 +80,9 @@ module _ (start now : List Page) (was marks : List Bool) (found : List Found) (c
   b = lost_by ended (get_or counted k false) x
 
   pub undone_more : (next : List Page) (more : List Bool) → AreWords found counted → true ≡ (not b || has now (entry_of x).key) →
-      pages_of next ≡ set_back b (entry_of x).key (entry_of x).before (pages_of now) → Keeps now next marks more → IsUndoing start next was more found counted ended k
-  undone_more next more words answer set kept = record {
+      pages_of next ≡ set_back b (entry_of x).key (entry_of x).before (pages_of now) → Keeps now next marks more →
+      MarksFor (λ p. holds (nodes_of now p) (entry_of x).key) marks more → IsUndoing start next was more found counted ended k
+  undone_more next more words answer set kept only = record {
     within = omega arith;
     undone = record {
       pages = λ lost tells p.
@@ -93,6 +99,8 @@ module _ (start now : List Page) (was marks : List Bool) (found : List Found) (c
     tree = next_tree now next (entry_of x).key (entry_of x).before before.tree kept.count b set fit;
     keys = λ q. next_keys now next (entry_of x).key (entry_of x).before before.tree kept.count b set fit q ∙ before.keys q;
     kept = keeps_both start now next was marks more before.kept kept;
+    fences = λ p q. holds_same now next b (entry_of x).key (entry_of x).before set p q ∙ before.fences p q;
+    only = leaves_more (entries_of found) (entry_of x) start now was marks more (has_entry_of found k x l here) before.fences before.only only;
   }
     where
       fit : b ≡ true → (has now (entry_of x).key ≡ true) × ((entry_of x).before ≤ 2 ^ 63)

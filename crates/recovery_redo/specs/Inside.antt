@@ -2,13 +2,14 @@
 use Rattle.std.specs.Prelude.{◌≡◌, ◌<◌, ◌≤◌, ◌^◌, ◌⊎◌, ℕ, Bool, true, false, ◌&&◌, ◌||◌, not, ltb, ◌==◌, List, [], ◌∷◌, length, take, slice_index_or, Option, Some, None, slice_get, if◌then◌else◌}
 use Rattle.std.specs.Ordering.{nat_cmp}
 use Rattle.std.specs.BTreeSet.{BTreeSet, contains}
+use Rattle.map_model.specs.Lists.{any}
 use Rattle.page_model.specs.Page.{Page}
-use Rattle.page_model.specs.Nodes.{Node}
+use Rattle.page_model.specs.Nodes.{Node, holds}
 use Rattle.page_model.specs.Tree.{entry}
 use Rattle.page_model.specs.Check.{page_ok}
 use Rattle.page_model.specs.Redo.{within, has_key, is_some}
 use Rattle.image_model.specs.Entries as model
-use Rattle.image_model.specs.Entries.{Kind, Entry, is_write}
+use Rattle.image_model.specs.Entries.{Kind, Entry, is_write, touches}
 use Rattle.image_model.specs.Ends as ends
 use Rattle.image_model.specs.Redo.{redo, redo_one, stands, passes, all_pass}
 use Rattle.image_model.specs.Undo.{set_in, undo_node}
@@ -63,6 +64,18 @@ pub record Keeps (before after : List Page) (was now : List Bool) : Type 0 where
   pub own : (p : ℕ) (x y : Page) → slice_get before p ≡ Some x → slice_get after p ≡ Some y → SameOwn x y
   pub stay : (p : ℕ) → slice_index_or was p false ≡ true → slice_index_or now p false ≡ true
   pub same : (p : ℕ) → slice_index_or now p false ≡ false → slice_get after p ≡ slice_get before p
+
+-- each mark was there, or this is why it was set
+pub record MarksFor (why : ℕ → Bool) (was now : List Bool) : Type 0 where
+  pub at : (p : ℕ) → slice_index_or now p false ≡ true → (slice_index_or was p false ≡ true) ⊎ (why p ≡ true)
+
+-- a record names the page
+abbrev pub is_named : List Entry → ℕ → Bool
+is_named z p = any (λ r. touches p r) z
+
+-- a record's key is one that the page, a leaf, may hold
+abbrev pub is_leaf_of : List Entry → (ℕ → Node) → ℕ → Bool
+is_leaf_of z node p = any (λ r. holds (node p) r.key) z
 
 -- ## Redo
 

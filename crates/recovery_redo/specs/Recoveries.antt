@@ -1,14 +1,16 @@
 -- What is in memory before recovery, and what it makes of that.
-use Rattle.std.specs.Prelude.{◌≡◌, ◌⊎◌, ◌<◌, ◌≤◌, ℕ, false, List, length, slice_get, slice_index_or, Some}
-use Rattle.map_model.specs.Lists.{Has}
+use Rattle.std.specs.Prelude.{◌≡◌, ◌⊎◌, ◌<◌, ◌≤◌, ◌||◌, ℕ, Bool, List, [], length, slice_get, Some}
+use Rattle.map_model.specs.Lists.{Has, any}
+use Rattle.page_model.specs.Nodes.{Node, holds}
 use Rattle.page_model.specs.Page.{Page}
-use Rattle.image_model.specs.Entries.{Entry}
+use Rattle.image_model.specs.Entries.{Entry, touches}
 use Rattle.image_model.specs.Images.{sorted, won_by, lost_by, recovered_page}
 use Rattle.image_model.specs.Slots.{base_of}
 use Rattle.disk_slots.specs.declared.master.Master.{Master}
 use Rattle.disk_image.specs.MasterSlots.{master_on}
 use Rattle.disk_image.specs.Shown.{Areas, shown_by, image_by, IsSoundDisk}
 use Rattle.recovery_scan.specs.declared.found.Found.{Found}
+use Rattle.recovery_scan.specs.Records.{entries_onto}
 use Rattle.recovery_scan.specs.Scans.{IsScan}
 use Rattle.recovery_redo.specs.Images.{pages_of}
 use Rattle.recovery_redo.specs.declared.recover.Outcome.{Outcome}
@@ -43,3 +45,7 @@ pub record KeepsOwn (old new : List Page) : Type 0 where
   pub count : length new ≡ length old
   pub number : (p : ℕ) (x y : Page) → slice_get old p ≡ Some x → slice_get new p ≡ Some y → y.number ≡ x.number
   pub generation : (p : ℕ) (x y : Page) → slice_get old p ≡ Some x → slice_get new p ≡ Some y → y.generation ≡ x.generation
+
+-- a record names the page, or its key is one that the page, a leaf, may hold
+abbrev pub is_meant : List Found → (ℕ → Node) → ℕ → Bool
+is_meant found node p = any (λ r. touches p r || holds (node p) r.key) (entries_onto 1 [] found)

@@ -7,3 +7,6 @@ mod redo;
 mod undo;
 
 pub use recover::{Failed, Outcome, recover_pages};
+
+#[cfg(test)]
+mod tests;

@@ -1,5 +1,5 @@
 // The pages that recovery gives, from their bases and the records of a log.
-ghost use Rattle.std.specs.Prelude.{◌≡◌, ◌<◌, ◌≤◌, ℕ, Err, IfOk, OnOk, false, length, slice_get, slice_index_or};
+ghost use Rattle.std.specs.Prelude.{◌≡◌, ◌<◌, ◌≤◌, ℕ, Err, IfOk, OnOk, false, length, replicate, slice_get, slice_index_or, true};
 ghost use Rattle.page_model.specs.Check.{page_ok};
 ghost use Rattle.page_model.specs.Tree.{IsTree};
 ghost use Rattle.disk_slots.specs.declared.master.Master.{Master};
@@ -7,7 +7,7 @@ ghost use Rattle.disk_image.specs.Breaks.{Breaks};
 ghost use Rattle.disk_image.specs.Formats.{format_of};
 ghost use Rattle.disk_image.specs.Shown.{Areas};
 ghost use Rattle.node_tree.specs.Nodes.{nodes_of};
-ghost use Rattle.recovery_redo.specs.Recoveries.{IsLoaded, IsRecovered, KeepsOwn};
+ghost use Rattle.recovery_redo.specs.Recoveries.{IsLoaded, IsRecovered, KeepsOwn, is_meant};
 ghost use Rattle.recovery_redo.specs.Inside as inside;
 
 use crate::outcome::{ended, losers, reach, winners};
@@ -17,7 +17,7 @@ use btree_node::Node;
 use node_tree::first_break;
 use page_model::every_check;
 use recovery_scan::Found;
-use std::alloc::Global;
+use std::alloc::{AllocError, Global};
 use std::collections::BTreeSet;
 
 /// The area of the pages.
@@ -57,15 +57,16 @@ pub fn recover_pages(
     ensures tree { OnOk result (IsTree (format_of (length pages.new)) (nodes_of pages.new)) }
     ensures own { OnOk result (KeepsOwn pages.old pages.new) }
 
-    // A page that is not marked is as it was.
+    // A page that is not marked is as it was, and one is marked only where a record is about it.
     ensures marks { IfOk result (λ outcome. length outcome.changed.items ≡ length pages.old) }
     ensures same { IfOk result (λ outcome. (p : ℕ) → slice_index_or outcome.changed.items p false ≡ false → slice_get pages.new p ≡ slice_get pages.old p) }
+    ensures only { IfOk result (λ outcome. (p : ℕ) → slice_index_or outcome.changed.items p false ≡ true → is_meant found.now (nodes_of pages.new) p ≡ true) }
 
     ensures cause_damaged { (a place : ℕ) → result ≡ Err (Failed.Damaged a place) → (m : Master) (area : Areas) → IsLoaded m area pages.old found.now floor → Breaks m area a place }
 {
     let far = reach(floor, found);
     let base = base_number(far, pages);
-    let Ok(mut changed) = vec![in alloc; false; pages.len()] else {
+    let Ok(mut changed) = unmarked(alloc, pages.len()) else {
         return Err(Failed::Memory);
     };
     let counted = redo_all(alloc, pages, &mut changed, found)?;
@@ -96,6 +97,13 @@ fn base_number(far: u64, pages: &[Node]) -> u64
     most
 }
 
+// A row without marks.
+fn unmarked(alloc: Global, count: usize) -> Result<Vec<bool>, AllocError>
+    ensures { IfOk result (λ row. row.items ≡ replicate count false) }
+{
+    vec![in alloc; false; count]
+}
+
 // Redoes the records, with a mark for each that counts.
 fn redo_all(
     alloc: Global,
@@ -107,10 +115,11 @@ fn redo_all(
     ensures redone { IfOk result (λ counted. inside.IsRedone pages.old pages.new found.now counted.items (length found.now)) }
     ensures flags { IfOk result (λ counted. length counted.items ≡ length found.now) }
     ensures kept { OnOk result (inside.Keeps pages.old pages.new changed.old changed.new) }
+    ensures only { OnOk result (inside.MarksFor (inside.is_named (inside.entries_of found.now)) changed.old changed.new) }
 
     ensures cause { (a place : ℕ) → result ≡ Err (Failed.Damaged a place) → (a ≡ 2) × inside.FailsAt pages.old found.now place }
 {
-    let Ok(mut counted) = vec![in alloc; false; found.len()] else {
+    let Ok(mut counted) = unmarked(alloc, found.len()) else {
         return Err(Failed::Memory);
     };
     match redo(pages, changed, &mut counted, found) {
@@ -159,6 +168,7 @@ fn undo_all(
     requires flags { length counted.now ≡ length found.now }
     ensures undone { OnOk result (inside.IsUndone pages.old pages.new found.now counted.now ended.now 0) }
     ensures kept { OnOk result (inside.Keeps pages.old pages.new changed.old changed.new) }
+    ensures only { OnOk result (inside.MarksFor (inside.is_leaf_of (inside.entries_of found.now) (nodes_of pages.new)) changed.old changed.new) }
     ensures tree { OnOk result (IsTree (format_of (length pages.new)) (nodes_of pages.new)) }
 
     ensures cause { (a place : ℕ) → result ≡ Err (Failed.Damaged a place) → (a ≡ 2) × inside.LacksAt pages.old found.now counted.now ended.now place }

@@ -2,6 +2,7 @@
 ghost use Rattle.std.specs.Prelude.{◌≡◌, ◌≤◌, ◌<◌, ◌||◌, length, true, is_some, IfSome, IsSome, OnOk, IfErr};
 ghost use Rattle.page_model.specs.Page.{Page};
 ghost use Rattle.page_model.specs.Pairs.{put};
+ghost use Rattle.image_model.specs.Entries.{touches};
 ghost use Rattle.image_model.specs.Redo as redoing;
 ghost use Rattle.disk_image.specs.Formats.{format_of};
 ghost use Rattle.recovery_redo.specs.Images.{pages_of};
@@ -38,6 +39,7 @@ pub fn redo(
     requires flags { length counted.old ≡ length found.now }
     ensures redone { OnOk result (inside.IsRedone pages.old pages.new found.now counted.new (length found.now)) }
     ensures kept { OnOk result (inside.Keeps pages.old pages.new changed.old changed.new) }
+    ensures only { OnOk result (inside.MarksFor (inside.is_named (inside.entries_of found.now)) changed.old changed.new) }
 
     ensures cause { IfErr result (inside.FailsAt pages.old found.now) }
 {
@@ -58,6 +60,7 @@ fn redo_one(pages: &mut [Node], changed: &mut [bool], number: u64, what: What) -
     ensures counts { IfSome result (λ counts. counts ≡ redoing.stands (pages_of pages.old) (inside.made number what)) }
     ensures after { IsSome result → pages_of pages.new ≡ inside.one_redone (pages_of pages.old) (inside.made number what) }
     ensures kept { IsSome result → inside.Keeps pages.old pages.new changed.old changed.new }
+    ensures only { IsSome result → inside.MarksFor (λ p. touches p (inside.made number what)) changed.old changed.new }
 {
     match what {
         What::Commit { .. } => Some(true),
@@ -88,6 +91,7 @@ fn change_page(pages: &mut [Node], changed: &mut [bool], change: Change) -> Opti
     ensures counts { IfSome result (λ counts. counts ≡ redoing.stands (pages_of pages.old) (inside.change_of change)) }
     ensures after { IsSome result → pages_of pages.new ≡ inside.one_redone (pages_of pages.old) (inside.change_of change) }
     ensures kept { IsSome result → inside.Keeps pages.old pages.new changed.old changed.new }
+    ensures only { IsSome result → inside.MarksFor (λ p. touches p (inside.change_of change)) changed.old changed.new }
 {
     let at = change.page as usize;
     if at >= pages.len() {

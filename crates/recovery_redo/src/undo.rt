@@ -29,6 +29,7 @@ pub fn undo(
     requires flags { length counted.now ≡ length found.now }
     ensures undone { OnOk result (inside.IsUndone pages.old pages.new found.now counted.now ended.now 0) }
     ensures kept { OnOk result (inside.Keeps pages.old pages.new changed.old changed.new) }
+    ensures only { OnOk result (inside.MarksFor (inside.is_leaf_of (inside.entries_of found.now) (nodes_of pages.new)) changed.old changed.new) }
     ensures tree { OnOk result (IsTree (format_of (length pages.new)) (nodes_of pages.new)) }
 
     ensures cause { IfErr result (inside.LacksAt pages.old found.now counted.now ended.now) }
@@ -57,6 +58,7 @@ fn undo_one(
     ensures answer { result ≡ (not (inside.lost_by ended.now counts entry) || inside.has pages.old (inside.entry_of entry).key) }
     ensures after { result ≡ true → pages_of pages.new ≡ inside.set_back (inside.lost_by ended.now counts entry) (inside.entry_of entry).key (inside.entry_of entry).before (pages_of pages.old) }
     ensures kept { result ≡ true → inside.Keeps pages.old pages.new changed.old changed.new }
+    ensures only { result ≡ true → inside.MarksFor (λ p. holds (nodes_of pages.old p) (inside.entry_of entry).key) changed.old changed.new }
 {
     let What::Change { key, before, .. } = entry.what else {
         return true;
@@ -74,6 +76,7 @@ fn put_back(pages: &mut [Node], changed: &mut [bool], key: u64, word: u64) -> bo
     ensures answer { result ≡ inside.has pages.old key }
     ensures after { result ≡ true → pages_of pages.new ≡ inside.set_back true key word (pages_of pages.old) }
     ensures kept { result ≡ true → inside.Keeps pages.old pages.new changed.old changed.new }
+    ensures only { result ≡ true → inside.MarksFor (λ p. holds (nodes_of pages.old p) key) changed.old changed.new }
 {
     if key == u64::MAX {
         return false;

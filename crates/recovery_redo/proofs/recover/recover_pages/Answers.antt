@@ -1,4 +1,4 @@
-use Rattle.std.proofs.Common.{◌≡◌, ◌<◌, ℕ, Bool, List, length, Err, refl, sym, ◌∙◌, ap, subst, arith}
+use Rattle.std.proofs.Common.{◌≡◌, ◌<◌, ℕ, Bool, false, List, length, get_or, Err, refl, sym, ◌∙◌, ap, subst, arith}
 use Rattle.std.proofs.lemmas.Result.{err_from_is_err_and}
 use Rattle.page_model.specs.Tree.{IsTree}
 use Rattle.image_model.specs.Ends as ends
@@ -7,9 +7,10 @@ use Rattle.disk_image.specs.Formats.{format_of}
 use Rattle.node_tree.specs.Nodes.{nodes_of}
 use Rattle.recovery_redo.specs.declared.recover.Failed.{Failed}
 use Rattle.recovery_redo.specs.declared.recover.Failed.TheVariants.{Damaged}
-use Rattle.recovery_redo.specs.Inside.{entries_of, AreEnded, AreWords, IsAtop, IsRedone}
+use Rattle.recovery_redo.specs.Inside.{entries_of, AreEnded, AreWords, IsAtop, IsRedone, MarksFor, is_named, is_leaf_of}
 use Rattle.recovery_redo.proofs.CountLemmas.{words_from}
 use Rattle.recovery_redo.proofs.PageLemmas.{own_both}
+use Rattle.recovery_redo.proofs.MarkLemmas.{written, meant_from}
 use Rattle.recovery_redo.proofs.DiskLemmas.{some_on, undoable, broken, lacking, recovered}
 use Rattle.recovery_redo.proofs.recover.recover_pages.Goals as goal
 
@@ -73,3 +74,20 @@ returns-clause-recovered c m area loaded =
 
 pub returns-clause-own : goal.returns-clause-own
 returns-clause-own c = own_both c.args.pages.now c.redo_all.new.pages c.undo_all.new.pages _ _ _ _ c.in_ok-counted.ensures.kept c.in_ok-undo_all.ensures.kept
+
+pub returns-clause-only : goal.returns-clause-only
+returns-clause-only c p h =
+    let n = length c.args.pages.now in
+    let first = c.deref_mut.ensures.value ∙ c.in-Ok.ensures in
+    let a = c.redo_all.auto.changed in
+    let b = c.undo_all.auto.changed in
+    let ok = c.in-Ok.changed.ok.0 in
+    let v : length c.deref_mut.result.now ≡ length c.in-Ok.changed.items = ap length c.deref_mut.ensures.value in
+    let one = written c.in-Ok.changed.len c.redo_all.new.changed _ (omega arith) in
+    let second = c.deref_mut-2.ensures.value ∙ one in
+    let w : length c.deref_mut-2.result.now ≡ length c.redo_all.new.changed = ap length second in
+    let two = written c.in-Ok.changed.len c.undo_all.new.changed _ (omega arith) in
+    meant_from c.args.found.now c.undo_all.new.pages _ c.redo_all.new.changed c.undo_all.new.changed
+    (subst (λ (ms : List Bool). MarksFor (is_named (entries_of c.args.found.now)) ms c.redo_all.new.changed) first c.in_ok-counted.ensures.only)
+    (subst (λ (ms : List Bool). MarksFor (is_leaf_of (entries_of c.args.found.now) (nodes_of c.undo_all.new.pages)) ms c.undo_all.new.changed) second c.in_ok-undo_all.ensures.only)
+    p (ap (λ (ms : List Bool). get_or ms p false) (sym two) ∙ h)

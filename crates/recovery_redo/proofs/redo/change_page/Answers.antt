@@ -1,6 +1,10 @@
-use Rattle.std.proofs.Common.{length, refl, sym, ◌∙◌, arith}
+use Rattle.std.proofs.Common.{length, refl, sym, ◌∙◌, ◌==◌, false, arith}
+use Rattle.std.proofs.lemmas.Bool.{or_left, eq-eqb}
+use Rattle.image_model.specs.Entries.{touches}
 use Rattle.recovery_redo.specs.Images.{pages_of}
 use Rattle.recovery_redo.proofs.ChangeLemmas.{missing, skipped, not_counted, not_changed, counted, wordless, passed_beyond, changed_beyond, refused, done, changed_at, stored, number_here, counts_by, wordless_by, taken_here, left_own}
+use Rattle.recovery_redo.specs.Inside.{change_of}
+use Rattle.recovery_redo.proofs.MarkLemmas.{marks_set}
 use Rattle.recovery_redo.proofs.PageLemmas.{keeps_set}
 use Rattle.recovery_redo.proofs.redo.change_page.Goals as goal
 
@@ -87,3 +91,8 @@ returns-clause-kept c = λ _.
     let pages = c.args.pages.now in let x = c.args.change in
     keeps_set pages c.args.changed.now x.page c.index-pages-at-3.result c.write.new.node c.requires.marks c.if-at-pages.false
     (left_own x (Rattle.std.proofs.Common.get_or pages x.page c.index-pages-at-3.result) c.write.new.node c.write.ensures)
+
+pub returns-clause-only : goal.returns-clause-only
+returns-clause-only c = λ _.
+    let x = c.args.change in
+    marks_set (λ p. touches p (change_of x)) c.args.changed.now x.page (or_left (x.page == x.page) false (eq-eqb x.page x.page refl))
