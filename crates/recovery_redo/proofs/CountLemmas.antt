@@ -1,12 +1,12 @@
 -- Records whose numbers fall: their order, and which of them counted.
-use Rattle.std.proofs.Common.{◌≡◌, ◌<◌, ◌≤◌, ◌⊎◌, ◌^◌, ℕ, Bool, true, false, cond, ◌&&◌, ◌||◌, not, leb, ltb, ◌==◌, List, [], ◌∷◌, ◌++◌, length, get_or, take, refl, sym, ◌∙◌, ap, subst, inl, inr, arith}
+use Rattle.std.proofs.Common.{◌≡◌, ◌<◌, ◌≤◌, ◌^◌, ℕ, Bool, true, false, cond, ◌&&◌, ◌||◌, not, leb, ltb, ◌==◌, List, [], ◌∷◌, ◌++◌, length, get_or, take, refl, sym, ◌∙◌, ap, subst, inl, inr, arith}
 use Rattle.std.proofs.lemmas.Bool.{cases_eq, eq-eqb, ne_eqb, cond-false, le-ltb, and_parts, leb-true}
 use Rattle.map_model.specs.Lists.{Has, upd, insert_by, in_order}
 use Rattle.page_model.specs.Page.{Page}
 use Rattle.page_model.specs.Nodes.{Format}
 use Rattle.image_model.specs.Entries as model
 use Rattle.image_model.specs.Entries.{Entry, earlier}
-use Rattle.image_model.specs.Redo.{Redone, mark, redo, stands, names_pages, is_sayable_as, can_change, passes, all_pass}
+use Rattle.image_model.specs.Redo.{mark, redo, stands, names_pages, can_change, passes, all_pass}
 use Rattle.image_model.specs.Images.{IsFalling}
 use Rattle.disk_image.specs.Formats.{format_of}
 use Rattle.recovery_scan.specs.declared.found.Found.{Found}

@@ -4,7 +4,7 @@ use Rattle.std.proofs.lemmas.Bool.{and_parts, leb-true}
 use Rattle.std.specs.BTreeSet.{BTreeSet}
 use Rattle.map_model.specs.Lists.{Has, all, in_order}
 use Rattle.page_model.specs.Page.{Page}
-use Rattle.page_model.specs.Nodes.{Format, Node}
+use Rattle.page_model.specs.Nodes.{Format}
 use Rattle.page_model.specs.Tree.{IsTree, entry}
 use Rattle.page_model.specs.Check.{page_ok}
 use Rattle.page_model.specs.Redo.{is_some}
@@ -12,23 +12,23 @@ use Rattle.image_model.specs.Fair.{piece}
 use Rattle.image_model.specs.Entries as model
 use Rattle.image_model.specs.Entries.{Entry, earlier}
 use Rattle.image_model.specs.Ends as ends
-use Rattle.image_model.specs.Redo.{Redone, redo, passes, all_pass}
+use Rattle.image_model.specs.Redo.{Redone, redo, passes}
 use Rattle.image_model.specs.Undo as undoing
-use Rattle.image_model.specs.Images.{Image, gathered, found, sorted, bases, redone, lost, has_entry, page_or, recovered_page, IsFalling}
+use Rattle.image_model.specs.Images.{Image, gathered, found, sorted, bases, redone, lost, has_entry, page_or, IsFalling}
 use Rattle.disk_slots.specs.declared.master.Master.{Master}
 use Rattle.disk_image.specs.Formats.{format_of}
 use Rattle.disk_image.specs.Runs.{Logged, entries_in, AreReadable}
-use Rattle.disk_image.specs.MasterSlots.{master_of, is_among, is_master, master_if, master_in, newer, master_on}
-use Rattle.disk_image.specs.Shown.{Areas, run_of, logged_in, shown_by, image_by, IsReadable}
+use Rattle.disk_image.specs.MasterSlots.{master_of, is_among, is_master, master_in, newer, master_on}
+use Rattle.disk_image.specs.Shown.{Areas, run_of, logged_in, image_by, IsReadable}
 use Rattle.disk_image.specs.Breaks.{Breaks, StandsAt}
 use Rattle.disk_image.specs.Laws.{Agree, Agreement}
 use Rattle.disk_image.specs.Words.{words_in}
-use Rattle.disk_image.proofs.TestLemmas.{if_some, none_some, some_is}
+use Rattle.disk_image.proofs.TestLemmas.{if_some}
 use Rattle.disk_image.proofs.AgreementLemmas.{every_agreement}
 use Rattle.node_tree.specs.Nodes.{nodes_of}
 use Rattle.recovery_scan.specs.declared.found.Found.{Found}
 use Rattle.recovery_scan.specs.Records.{logged_of, logged_onto, entries_onto}
-use Rattle.recovery_redo.specs.Images.{page_of, pages_of}
+use Rattle.recovery_redo.specs.Images.{pages_of}
 use Rattle.recovery_redo.specs.Recoveries.{IsLoaded, IsGreatest, IsRecovered}
 use Rattle.recovery_redo.specs.declared.recover.Outcome.{Outcome}
 use Rattle.recovery_redo.specs.Inside as inside
@@ -130,15 +130,19 @@ module _ (m : Master) (area : Areas) (old : List Page) (records : List Found) (f
       let older : List Entry = entries_of (Rattle.std.proofs.Common.take f.k records) in
       let s = entries_split records f.k f.x f.within f.is in
       let same = redo_same (format_of (length old)) (pages_of old) (bases i) bases_is older f.pass in
-      inr (1, refl, inr (inr (inl (record {
-        r = entry_of f.x;
-        stands = stands f.k f.x place f.within f.is f.place_is;
-        newer = s.0;
-        older = older;
-        splits = sorted_is ∙ s.1;
-        fails = ap (λ (o : Format). passes o (redo (bases i) older).page (entry_of f.x)) (sym format_is)
-            ∙ sym (passes_same (format_of (length old)) (entry_of f.x) (redo (pages_of old) older).page (redo (bases i) older).page same.page) ∙ f.fails;
-      }))))
+      inr (
+        1,
+        refl,
+        inr (inr (inl (record {
+          r = entry_of f.x;
+          stands = stands f.k f.x place f.within f.is f.place_is;
+          newer = s.0;
+          older = older;
+          splits = sorted_is ∙ s.1;
+          fails = ap (λ (o : Format). passes o (redo (bases i) older).page (entry_of f.x)) (sym format_is)
+              ∙ sym (passes_same (format_of (length old)) (entry_of f.x) (redo (pages_of old) older).page (redo (bases i) older).page same.page) ∙ f.fails;
+        }))),
+      )
 
   module _ (mid : List Page) (counted : List Bool) (all : IsRedone old mid records counted (length records)) (count : length mid ≡ length old) where
     redone_same : SameRedone (format_of (length old)) (redo (pages_of old) z) (redo (bases i) z)
@@ -156,12 +160,15 @@ module _ (m : Master) (area : Areas) (old : List Page) (records : List Found) (f
     broken page b =
         let l = b.within in
         let c = loaded.count in
-        inl (refl, inr (record {
-          page = omega arith;
-          fails = ap (λ (o : Format). page_ok o (undoing.nodes_of (redone i)) page) (sym format_is)
-              ∙ sym (page_ok_same (format_of (length old)) (nodes_of mid) (undoing.nodes_of (redone i)) nodes_is page (omega arith))
-              ∙ ap (λ n. page_ok (format_of n) (nodes_of mid) page) (sym count) ∙ b.fails;
-        }))
+        inl (
+          refl,
+          inr (record {
+            page = omega arith;
+            fails = ap (λ (o : Format). page_ok o (undoing.nodes_of (redone i)) page) (sym format_is)
+                ∙ sym (page_ok_same (format_of (length old)) (nodes_of mid) (undoing.nodes_of (redone i)) nodes_is page (omega arith))
+                ∙ ap (λ n. page_ok (format_of n) (nodes_of mid) page) (sym count) ∙ b.fails;
+          }),
+        )
 
     module _ (ended : BTreeSet ℕ) (ends_at : AreEnded (ends.reach 1 floor z) z ended) where
       has_is : (k : ℕ) → has mid k ≡ has_entry i k
@@ -176,13 +183,17 @@ module _ (m : Master) (area : Areas) (old : List Page) (records : List Found) (f
 
       pub lacking : (place : ℕ) → LacksAt mid records counted ended place → Breaks m area 2 place
       lacking place h =
-          inr (1, refl, inr (inr (inr (record {
-            r = entry_of h.x;
-            stands = stands h.k h.x place h.within h.is h.place_is;
-            has = subst (λ (y : List Entry). Has (entry_of h.x) y) (sym sorted_is) (has_entry_of records h.k h.x h.within h.is);
-            is_lost = lost_is h.k h.x h.within h.is ∙ h.is_lost;
-            none = sym (has_is (entry_of h.x).key) ∙ h.none;
-          }))))
+          inr (
+            1,
+            refl,
+            inr (inr (inr (record {
+              r = entry_of h.x;
+              stands = stands h.k h.x place h.within h.is h.place_is;
+              has = subst (λ (y : List Entry). Has (entry_of h.x) y) (sym sorted_is) (has_entry_of records h.k h.x h.within h.is);
+              is_lost = lost_is h.k h.x h.within h.is ∙ h.is_lost;
+              none = sym (has_is (entry_of h.x).key) ∙ h.none;
+            }))),
+          )
 
       -- ## Recovery
 

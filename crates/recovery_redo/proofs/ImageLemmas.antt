@@ -4,7 +4,6 @@ use Rattle.std.proofs.lemmas.Bool.{cases_eq, cases_Bool, eqb-true, ne_eqb, cond-
 use Rattle.std.specs.BTreeSet.{BTreeSet}
 use Rattle.map_model.specs.Lists.{Has, in_order}
 use Rattle.page_model.specs.Page.{Page}
-use Rattle.page_model.specs.Nodes.{Format, Node}
 use Rattle.page_model.specs.Tree.{IsTree, entry}
 use Rattle.page_model.specs.Redo.{is_some}
 use Rattle.image_model.specs.Entries as model
@@ -13,11 +12,11 @@ use Rattle.image_model.specs.Ends as ends
 use Rattle.image_model.specs.Redo.{Redone, redo, stands, at_prev, all_pass}
 use Rattle.image_model.specs.Undo as undoing
 use Rattle.image_model.specs.Undo.{is_lost, undo_node}
-use Rattle.image_model.specs.Images.{Image, found, sorted, bases, redone, lost, has_entry, recovered_page, won_by, lost_by, IsFalling, IsSound}
+use Rattle.image_model.specs.Images.{Image, found, sorted, redone, lost, has_entry, recovered_page, won_by, lost_by, IsFalling, IsSound}
 use Rattle.disk_image.specs.Formats.{format_of}
 use Rattle.node_tree.specs.Nodes.{nodes_of}
 use Rattle.recovery_scan.specs.declared.found.Found.{Found}
-use Rattle.recovery_redo.specs.Images.{page_of, pages_of}
+use Rattle.recovery_redo.specs.Images.{pages_of}
 use Rattle.recovery_redo.specs.Recoveries.{IsGreatest}
 use Rattle.recovery_redo.specs.Inside as inside
 use Rattle.recovery_redo.specs.Inside.{entry_of, entries_of, has, AreEnded, IsRedone, IsUndone, TellsLost, IsAtop}
@@ -65,9 +64,9 @@ greatest_met (x ∷ z) = go (cases_Bool (x.log == 1)) (greatest_met z)
     go (inr e) ih = up ih (ends.greatest 1 (x ∷ z)) (cond-false (x.log == 1) (max x.number (ends.greatest 1 z)) (ends.greatest 1 z) e)
     go (inl e) ih = let q : ends.greatest 1 (x ∷ z) ≡ max x.number (ends.greatest 1 z) = cond-true (x.log == 1) (max x.number (ends.greatest 1 z)) (ends.greatest 1 z) e in
         elim (Rattle.std.proofs.lemmas.Bool.cases_lt x.number (ends.greatest 1 z)) [
-      | inl l ↦ up ih (ends.greatest 1 (x ∷ z)) (omega arith)
-      | inr l ↦ inr (x, inl refl, (omega arith))
-    ]
+          | inl l ↦ up ih (ends.greatest 1 (x ∷ z)) (omega arith)
+          | inr l ↦ inr (x, inl refl, (omega arith))
+        ]
 
 one_log : (found : List Found) (r : Entry) → Has r (entries_of found) → r.log ≡ 1
 one_log found r h = let a = entry_at found r h in ap (λ (u : Entry). u.log) a.made

@@ -1,7 +1,6 @@
 -- The records of a log, of which the code has the oldest first and the model the newest.
 use Rattle.std.proofs.Common.{◌≡◌, ◌<◌, ◌≤◌, ◌⊎◌, ℕ, zero, suc, List, [], ◌∷◌, ◌++◌, length, get_or, take, drop, refl, sym, ◌∙◌, ap, inl, inr, arith, subst}
-use Rattle.std.proofs.Math.Seq.{take-suc, drop-cons, take-length}
-use Rattle.std.proofs.lemmas.List.{get_or_default}
+use Rattle.std.proofs.Math.Seq.{take-suc, take-length}
 use Rattle.map_model.specs.Lists.{Has}
 use Rattle.image_model.specs.Entries.{Entry}
 use Rattle.disk_image.specs.Runs.{Logged}
@@ -40,11 +39,12 @@ entries_all found = ap entries_of (take-length found)
 
 -- a record with those behind it
 pub entries_split : (found : List Found) (k : ℕ) (x : Found) → k < length found → x ≡ get_or found k x → (newer : List Entry) × (entries_of found ≡ newer ++ entry_of x ∷ entries_of (take k found))
-entries_split found k x l is =
-    (entries_of (drop (suc k) found),
-    ap entries_of (sym (split found k x l is))
-    ∙ onto_append [] (take k found) (x ∷ drop (suc k) found)
-    ∙ onto_apart (entry_of x ∷ entries_of (take k found)) (drop (suc k) found))
+entries_split found k x l is = (
+  entries_of (drop (suc k) found),
+  ap entries_of (sym (split found k x l is))
+      ∙ onto_append [] (take k found) (x ∷ drop (suc k) found)
+      ∙ onto_apart (entry_of x ∷ entries_of (take k found)) (drop (suc k) found),
+)
   where
     split : (xs : List Found) (i : ℕ) (y : Found) → i < length xs → y ≡ get_or xs i y → take i xs ++ y ∷ drop (suc i) xs ≡ xs
     split [] i y h e = absurd (omega arith)

@@ -5,12 +5,11 @@ use Rattle.std.proofs.lemmas.List.{take_all}
 use Rattle.std.specs.Ordering.{nat_cmp}
 use Rattle.std.specs.BTreeSet.{BTreeSet, contains}
 use Rattle.map_model.specs.Lists.{any, keep}
-use Rattle.map_model.specs.Journals.{Name}
 use Rattle.image_model.specs.Entries.{Entry, same_txn}
 use Rattle.image_model.specs.Ends as ends
 use Rattle.recovery_scan.specs.declared.found.Found.{Found}
 use Rattle.recovery_redo.specs.Inside.{entry_of, entries_of, of_txn, AreEnded}
-use Rattle.recovery_redo.proofs.LogLemmas.{entries_at, entries_all}
+use Rattle.recovery_redo.proofs.LogLemmas.{entries_at}
 
 -- ## The reach
 

@@ -1,12 +1,10 @@
 -- Pages in memory, one of them changed.
-use Rattle.std.proofs.Common.{◌≡◌, ◌<◌, ◌≤◌, ◌⊎◌, ℕ, zero, suc, Bool, true, false, cond, ◌==◌, List, [], ◌∷◌, length, get_or, set, Option, Some, None, slice_get, refl, sym, ◌∙◌, ap, subst, inl, inr, arith, true≢false}
-use Rattle.std.proofs.lemmas.Bool.{cases_eq, cases_lt, cases_Bool, eq-eqb, ne_eqb, cond-true, cond-false}
-use Rattle.std.proofs.lemmas.List.{length-set, get_or-set_same, get_or-set_other, set_past}
+use Rattle.std.proofs.Common.{◌≡◌, ◌<◌, ◌≤◌, ℕ, zero, suc, Bool, true, false, cond, ◌==◌, List, [], ◌∷◌, length, get_or, set, Option, Some, None, slice_get, refl, sym, ◌∙◌, ap, subst, inl, inr, arith, true≢false}
+use Rattle.std.proofs.lemmas.Bool.{cases_eq, cases_Bool, eq-eqb, ne_eqb, cond-true, cond-false}
+use Rattle.std.proofs.lemmas.List.{length-set, get_or-set_same, get_or-set_other}
 use Rattle.std.proofs.lemmas.Option.{slice_get-get_or, slice_get_past, same_Some, slice_get_within}
 use mathlib.Core.Path.{fun_ext}
 use Rattle.page_model.specs.Page.{Page}
-use Rattle.page_model.specs.Nodes.{Node}
-use Rattle.image_model.specs.Entries as model
 use Rattle.node_tree.specs.Nodes.{nodes_of}
 use Rattle.recovery_redo.specs.Images.{page_of, page_or, pages_of}
 use Rattle.recovery_redo.specs.Recoveries.{KeepsOwn}

@@ -1,5 +1,5 @@
 -- Redo, one record more at a time.
-use Rattle.std.proofs.Common.{◌≡◌, ◌<◌, ◌≤◌, ◌⊎◌, ℕ, zero, suc, Bool, true, false, List, [], ◌∷◌, length, get_or, set, take, refl, sym, ◌∙◌, ap, subst, inl, inr, arith}
+use Rattle.std.proofs.Common.{◌≡◌, ◌<◌, ◌⊎◌, ℕ, suc, Bool, true, false, List, [], ◌∷◌, length, get_or, set, take, refl, sym, ◌∙◌, ap, subst, inl, inr, arith}
 use Rattle.std.proofs.lemmas.Bool.{cases_eq, and_from}
 use Rattle.std.proofs.lemmas.List.{get_or-set_same, get_or-set_other, get_or_default}
 use Rattle.page_model.specs.Page.{Page}
@@ -9,9 +9,9 @@ use Rattle.image_model.specs.Redo.{redo, stands, passes, all_pass}
 use Rattle.disk_image.specs.Formats.{format_of}
 use Rattle.recovery_scan.specs.declared.found.Found.{Found}
 use Rattle.recovery_redo.specs.Images.{pages_of}
-use Rattle.recovery_redo.specs.Inside.{entry_of, entries_of, made, one_redone, AreMarks, IsRedone, FailsAt, Keeps, MarksFor, is_named}
+use Rattle.recovery_redo.specs.Inside.{entry_of, entries_of, made, one_redone, IsRedone, FailsAt, Keeps, MarksFor, is_named}
 use Rattle.recovery_redo.proofs.LogLemmas.{entries_at}
-use Rattle.recovery_redo.proofs.PageLemmas.{keeps_all, keeps_both}
+use Rattle.recovery_redo.proofs.PageLemmas.{keeps_all}
 use Rattle.recovery_redo.proofs.MarkLemmas.{marks_none}
 
 -- the first records are redone, and what has changed is marked

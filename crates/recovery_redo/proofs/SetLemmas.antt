@@ -1,5 +1,5 @@
 -- One word set back in a tree of pages.
-use Rattle.std.proofs.Common.{◌≡◌, ◌<◌, ◌≤◌, ◌⊎◌, ◌^◌, ℕ, zero, suc, Bool, true, false, cond, ◌&&◌, ◌||◌, not, ◌==◌, List, length, get_or, set, Option, Some, None, refl, sym, ◌∙◌, ap, subst, inl, inr, arith, true≢false}
+use Rattle.std.proofs.Common.{◌≡◌, ◌<◌, ◌≤◌, ◌⊎◌, ℕ, zero, suc, Bool, true, false, cond, ◌==◌, List, length, get_or, set, Option, None, refl, sym, ◌∙◌, ap, subst, inl, inr, arith, true≢false}
 use Rattle.std.proofs.lemmas.Bool.{cases_eq, cases_lt, eq-eqb, ne_eqb, cond-true, cond-false, false_from_ne_true}
 use mathlib.Core.Path.{fun_ext}
 use Rattle.page_model.specs.Page.{Page, with_pairs}
@@ -18,7 +18,7 @@ use Rattle.image_model.specs.Entries as model
 use Rattle.image_model.specs.Undo.{set_in}
 use Rattle.disk_image.specs.Formats.{format_of}
 use Rattle.node_tree.specs.Nodes.{nodes_of}
-use Rattle.recovery_redo.specs.Images.{page_of, page_or, pages_of}
+use Rattle.recovery_redo.specs.Images.{page_of, pages_of}
 use Rattle.recovery_redo.specs.Inside.{has, set_back, SameOwn}
 use Rattle.recovery_redo.proofs.PageLemmas.{node_at, page_here, page_beyond, pages_set}
 

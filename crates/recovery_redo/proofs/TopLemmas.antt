@@ -1,9 +1,9 @@
 -- The greatest of a number and the numbers of pages, page by page.
-use Rattle.std.proofs.Common.{◌≡◌, ◌<◌, ◌≤◌, ◌⊎◌, ℕ, suc, max, List, length, get_or, refl, sym, ◌∙◌, ap, subst, inl, inr, arith}
+use Rattle.std.proofs.Common.{◌≡◌, ◌<◌, ◌≤◌, ◌⊎◌, ℕ, suc, max, List, length, get_or, refl, sym, ◌∙◌, ap, inl, inr, arith}
 use Rattle.std.proofs.lemmas.Bool.{cases_eq, cases_lt}
 use Rattle.page_model.specs.Page.{Page}
 use Rattle.image_model.specs.Entries as model
-use Rattle.recovery_redo.specs.Images.{page_of, pages_of}
+use Rattle.recovery_redo.specs.Images.{pages_of}
 use Rattle.recovery_redo.specs.Inside.{IsAtop}
 use Rattle.recovery_redo.proofs.PageLemmas.{page_here}
 

@@ -1,8 +1,7 @@
 -- Undo, one record more at a time.
-use Rattle.std.proofs.Common.{◌≡◌, ◌<◌, ◌≤◌, ◌⊎◌, ◌^◌, ℕ, zero, suc, Bool, true, false, cond, ◌&&◌, ◌||◌, not, List, [], ◌∷◌, length, get_or, take, refl, sym, ◌∙◌, ap, subst, inl, inr, arith, true≢false}
-use Rattle.std.proofs.lemmas.Bool.{cases_eq, cases_Bool, and_parts}
+use Rattle.std.proofs.Common.{◌≡◌, ◌<◌, ◌≤◌, ◌⊎◌, ◌^◌, ℕ, suc, Bool, true, false, cond, ◌||◌, not, List, length, get_or, take, refl, sym, ◌∙◌, ap, subst, inl, inr, arith, true≢false}
+use Rattle.std.proofs.lemmas.Bool.{cases_eq, and_parts}
 use Rattle.std.proofs.lemmas.List.{get_or_default}
-use Rattle.std.proofs.Math.Seq.{take-length}
 use Rattle.std.specs.BTreeSet.{BTreeSet}
 use Rattle.page_model.specs.Page.{Page}
 use Rattle.page_model.specs.Nodes.{Node, holds}
@@ -15,7 +14,7 @@ use Rattle.disk_image.specs.Formats.{format_of}
 use Rattle.node_tree.specs.Nodes.{nodes_of}
 use Rattle.recovery_scan.specs.declared.found.Found.{Found}
 use Rattle.recovery_redo.specs.Images.{pages_of}
-use Rattle.recovery_redo.specs.Inside.{entry_of, entries_of, lost_by, TellsLost, AreWords, has, set_back, IsUndone, LacksAt, Keeps, MarksFor, is_leaf_of}
+use Rattle.recovery_redo.specs.Inside.{entry_of, entries_of, lost_by, AreWords, has, set_back, IsUndone, LacksAt, Keeps, MarksFor, is_leaf_of}
 use Rattle.recovery_redo.proofs.LogLemmas.{entries_at, entries_all, has_entry_of}
 use Rattle.recovery_redo.proofs.PageLemmas.{node_at, keeps_all, keeps_both}
 use Rattle.recovery_redo.proofs.MarkLemmas.{marks_none, holds_same, leaves_more}

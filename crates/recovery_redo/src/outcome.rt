@@ -65,11 +65,7 @@ pub fn winners(far: u64, found: &[Found]) -> u64
 }
 
 /// How many others have records.
-pub fn losers(
-    alloc: Global,
-    ended: &BTreeSet<u64>,
-    found: &[Found],
-) -> Result<u64, AllocError>
+pub fn losers(alloc: Global, ended: &BTreeSet<u64>, found: &[Found]) -> Result<u64, AllocError>
     ensures { (far : ℕ) → AreEnded far (entries_of found.now) ended.now → IfOk result (λ n. n ≡ length (ends.losers far (entries_of found.now))) }
 {
     let mut seen = BTreeSet::new(alloc);

@@ -39,10 +39,7 @@ pub struct Outcome {
 #[derive(Clone, Copy, Debug, PartialEq, Eq)]
 pub enum Failed {
     /// This page, or a record in the block at this place of the log, breaks a rule.
-    Damaged {
-        area: u32,
-        place: u64,
-    },
+    Damaged { area: u32, place: u64 },
     Memory,
 }
 

@@ -88,7 +88,10 @@ fn a_winner_stays_and_a_loser_leaves_a_tombstone(rt: HostRuntime) {
     assert_eq!(rt; outcome.winners, 1);
     assert_eq!(rt; outcome.undone, 1);
     assert_eq!(rt; outcome.base, 13);
-    assert_eq!(rt; outcome.changed.as_slice(), [false, true, true, false].as_slice());
+    assert_eq!(rt;
+        outcome.changed.as_slice(),
+        [false, true, true, false].as_slice()
+    );
     assert_eq!(rt; pages[1].find(4), Some(41));
     assert_eq!(rt; pages[1].gsn(), 11);
     assert_eq!(rt; pages[1].last_log(), 1);
@@ -129,7 +132,10 @@ fn a_record_of_a_page_that_stands_elsewhere_does_not_count(rt: HostRuntime) {
 fn what_the_page_has_already_is_undone_newest_first(rt: HostRuntime) {
     for number in [2, 11, 12] {
         let mut pages = pages(&rt, number, 39 + number);
-        let found = [change(1, 11, 1, 2, 4, 40, 41), change(1, 12, 1, 11, 4, 41, 42)];
+        let found = [
+            change(1, 11, 1, 2, 4, 40, 41),
+            change(1, 12, 1, 11, 4, 41, 42),
+        ];
         let outcome = recover(&rt, rt.alloc(), &mut pages, &found, 0);
         assert_eq!(rt; outcome.undone, 1, "{number}");
         assert_eq!(rt; pages[1].find(4), Some(40), "{number}");
@@ -158,7 +164,11 @@ fn a_record_that_can_not_be_done_is_damage(rt: HostRuntime) {
     for entry in bad {
         let mut pages = pages(&rt, 0, 40);
         let damaged = Some(Failed::Damaged { area: 2, place: 5 });
-        assert_eq!(rt; failure(rt.alloc(), &mut pages, &[entry]), damaged, "{entry:?}");
+        assert_eq!(rt;
+            failure(rt.alloc(), &mut pages, &[entry]),
+            damaged,
+            "{entry:?}"
+        );
     }
 }
 

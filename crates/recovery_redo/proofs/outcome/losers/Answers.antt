@@ -12,10 +12,11 @@ loop-entry-preserved c =
     let k = c.loop-entry.entry-index in
     let n = c.loop-entry.losers in
     let made : c.if-branch.losers ≡ cond c.in_ok-is_new_loser.field-0 (n + 1) n =
-        elim c.if-branch.branch [ then-branch w ↦ w.losers-is ∙ ap (λ b. cond b (n + 1) n) (sym w.if-branch.true) | else-branch w ↦ w.losers-is ∙ ap (λ b. cond b (n + 1) n) (sym w.if-branch.false) ] in
-    (seen_more c.args.ended.now c.args.found.now k (k + 1) (get_or c.args.found.now k nothing) nothing c.loop-entry.seen c.is_new_loser.new.seen c.in_ok-is_new_loser.field-0 n c.if-branch.losers
-        (omega arith) c.loop-entry-test.true refl c.loop-entry.invariant.0 c.in_ok-is_new_loser.ensures.answer c.in_ok-is_new_loser.ensures.seen made,
-    elim c.if-branch.branch [ then-branch w ↦ omega (arith, c.loop-entry.invariant.1, w.losers-is) | else-branch w ↦ omega (arith, c.loop-entry.invariant.1, w.losers-is) ])
+    elim c.if-branch.branch [ then-branch w ↦ w.losers-is ∙ ap (λ b. cond b (n + 1) n) (sym w.if-branch.true) | else-branch w ↦ w.losers-is ∙ ap (λ b. cond b (n + 1) n) (sym w.if-branch.false) ] in (
+      seen_more c.args.ended.now c.args.found.now k (k + 1) (get_or c.args.found.now k nothing) nothing c.loop-entry.seen c.is_new_loser.new.seen c.in_ok-is_new_loser.field-0 n c.if-branch.losers
+          (omega arith) c.loop-entry-test.true refl c.loop-entry.invariant.0 c.in_ok-is_new_loser.ensures.answer c.in_ok-is_new_loser.ensures.seen made,
+      elim c.if-branch.branch [ then-branch w ↦ omega (arith, c.loop-entry.invariant.1, w.losers-is) | else-branch w ↦ omega (arith, c.loop-entry.invariant.1, w.losers-is) ],
+    )
 
 pub returns : goal.returns
 returns c = λ far a. seen_all c.args.ended.now c.args.found.now c.loop-entry.entry-index c.loop-entry.seen c.loop-entry.losers c.loop-entry-test.false c.loop-entry.invariant.0 far a

@@ -1,4 +1,4 @@
-use Rattle.std.proofs.Common.{◌+◌, max, refl, ◌∙◌, ap, arith}
+use Rattle.std.proofs.Common.{◌+◌, max, ◌∙◌, ap, arith}
 use Rattle.recovery_redo.proofs.TopLemmas.{atop_none, atop_more, atop_all}
 use Rattle.recovery_redo.proofs.recover.base_number.Goals as goal
 

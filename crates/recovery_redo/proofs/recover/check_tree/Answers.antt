@@ -1,4 +1,4 @@
-use Rattle.std.proofs.Common.{◌≡◌, ◌<◌, ℕ, length, sym, ◌∙◌, arith, subst, ap}
+use Rattle.std.proofs.Common.{◌≡◌, ◌<◌, length, sym, ◌∙◌, arith, subst}
 use Rattle.disk_image.specs.Formats.{format_of}
 use Rattle.node_tree.specs.Nodes.{nodes_of}
 use Rattle.recovery_redo.specs.Inside.{BreaksAt}

@@ -1,11 +1,8 @@
-use Rattle.std.proofs.Common.{◌≡◌, ◌<◌, ℕ, Bool, false, List, length, get_or, Err, refl, sym, ◌∙◌, ap, subst, arith}
+use Rattle.std.proofs.Common.{◌≡◌, ◌<◌, ℕ, Bool, false, List, length, get_or, Err, sym, ◌∙◌, ap, subst, arith}
 use Rattle.std.proofs.lemmas.Result.{err_from_is_err_and}
-use Rattle.page_model.specs.Tree.{IsTree}
 use Rattle.image_model.specs.Ends as ends
 use Rattle.disk_image.specs.Breaks.{Breaks}
-use Rattle.disk_image.specs.Formats.{format_of}
 use Rattle.node_tree.specs.Nodes.{nodes_of}
-use Rattle.recovery_redo.specs.declared.recover.Failed.{Failed}
 use Rattle.recovery_redo.specs.declared.recover.Failed.TheVariants.{Damaged}
 use Rattle.recovery_redo.specs.Inside.{entries_of, AreEnded, AreWords, IsAtop, IsRedone, MarksFor, is_named, is_leaf_of}
 use Rattle.recovery_redo.proofs.CountLemmas.{words_from}

@@ -2,7 +2,7 @@ use Rattle.std.proofs.Common.{length, refl, sym, ◌∙◌, ◌==◌, false, ari
 use Rattle.std.proofs.lemmas.Bool.{or_left, eq-eqb}
 use Rattle.image_model.specs.Entries.{touches}
 use Rattle.recovery_redo.specs.Images.{pages_of}
-use Rattle.recovery_redo.proofs.ChangeLemmas.{missing, skipped, not_counted, not_changed, counted, wordless, passed_beyond, changed_beyond, refused, done, changed_at, stored, number_here, counts_by, wordless_by, taken_here, left_own}
+use Rattle.recovery_redo.proofs.ChangeLemmas.{skipped, not_counted, not_changed, counted, wordless, passed_beyond, changed_beyond, refused, done, changed_at, stored, number_here, counts_by, wordless_by, taken_here, left_own}
 use Rattle.recovery_redo.specs.Inside.{change_of}
 use Rattle.recovery_redo.proofs.MarkLemmas.{marks_set}
 use Rattle.recovery_redo.proofs.PageLemmas.{keeps_set}

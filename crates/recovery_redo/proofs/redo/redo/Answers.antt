@@ -1,4 +1,4 @@
-use Rattle.std.proofs.Common.{◌+◌, length, get_or, refl, sym, ◌∙◌, arith}
+use Rattle.std.proofs.Common.{◌+◌, get_or, refl, arith}
 use Rattle.recovery_redo.proofs.LogLemmas.{nothing}
 use Rattle.recovery_redo.proofs.PageLemmas.{keeps_both}
 use Rattle.recovery_redo.proofs.RedoLemmas.{redone_none, redone_more, fails_here, redone_all}

@@ -1,4 +1,4 @@
-use Rattle.std.proofs.Common.{◌-◌, length, get_or, refl, sym, ◌∙◌, arith}
+use Rattle.std.proofs.Common.{◌-◌, get_or, refl, arith}
 use Rattle.recovery_redo.proofs.LogLemmas.{nothing}
 use Rattle.recovery_redo.proofs.UndoLemmas.{undone_none, undone_more, lacks_here, undone_all}
 use Rattle.recovery_redo.proofs.MarkLemmas.{leaves_later}
