@@ -38,7 +38,7 @@ use Rattle.recovery_redo.proofs.PageLemmas.{node_at}
 use Rattle.recovery_redo.proofs.SetLemmas.{entry_same}
 use Rattle.recovery_redo.proofs.SameLemmas.{SameRedone, redo_same, passes_same, page_ok_same}
 use Rattle.recovery_redo.proofs.CountLemmas.{in_order_falling, redone_pages, redone_pass, counts_at}
-use Rattle.recovery_redo.proofs.ImageLemmas.{image_in, lost_from, base_from, numbers_within, won_is, undone_is, recovered_is, gsn_is, sound_is}
+use Rattle.recovery_redo.proofs.ImageLemmas.{image_in, lost_from, base_from, numbers_within, won_is, undone_is, recovered_is, sound_is}
 
 -- ## A disk has a page
 
@@ -211,8 +211,4 @@ module _ (m : Master) (area : Areas) (old : List Page) (records : List Found) (f
               winners = winners ∙ ap length (sym (won_is floor old mid records counted rising_is all)) ∙ ap length (sym agreement.won);
               undone = losers ∙ ap length (sym (undone_is floor old mid records counted rising_is all)) ∙ ap length (sym agreement.lost);
               base = subst (λ (y : List Entry). IsGreatest m.floor y old outcome.base) (sym sorted_is) (subst (λ (n : ℕ). IsGreatest n z old outcome.base) loaded.floor_is base);
-              within = λ p l. (let c = loaded.count in
-                  let g = gsn_is floor old mid records counted rising_is all tree count ended ends_at new undone p in
-                  let b = numbers_within (pages_of old) outcome.base p (base.above_pages p (omega arith)) z base.above_entries in
-                  omega arith);
             }

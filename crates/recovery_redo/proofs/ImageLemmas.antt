@@ -19,7 +19,7 @@ use Rattle.recovery_scan.specs.declared.found.Found.{Found}
 use Rattle.recovery_redo.specs.Images.{pages_of}
 use Rattle.recovery_redo.specs.Recoveries.{IsGreatest}
 use Rattle.recovery_redo.specs.Inside as inside
-use Rattle.recovery_redo.specs.Inside.{entry_of, entries_of, has, AreEnded, IsRedone, IsUndone, TellsLost, IsAtop}
+use Rattle.recovery_redo.specs.Inside.{entry_of, entries_of, has, AreEnded, IsRedone, IsUndone, TellsLost, IsAtop, SameNumbers}
 use Rattle.recovery_redo.proofs.LogLemmas.{entry_at, At}
 use Rattle.recovery_redo.proofs.PageLemmas.{node_at}
 use Rattle.recovery_redo.proofs.SetLemmas.{tree_same, entry_same}
@@ -104,6 +104,15 @@ numbers_within page n p low (r ∷ z) h = go (stands (redo page z).page r && at_
     go true ih = h r (inl refl)
     go false ih = ih
 
+-- so it is of pages that were redone, whatever disk they are of
+pub redone_within : (floor : ℕ) (old mid new : List Page) (records : List Found) (counted : List Bool) (n : ℕ) → IsRedone old mid records counted (length records) → length mid ≡ length old → length new ≡ length mid →
+    SameNumbers mid new → IsAtop (ends.reach 1 floor (entries_of records)) old n → (p : ℕ) → p < length new → (pages_of new p).gsn ≤ n
+redone_within floor old mid new records counted n all count more same top p l =
+    let b = base_from floor records old n top in
+    let g = same.at p ∙ ap (λ (page : ℕ → model.Page). (page p).gsn) (redone_pages old mid records counted all) in
+    let w = numbers_within (pages_of old) n p (b.above_pages p (omega arith)) (entries_of records) b.above_entries in
+    omega arith
+
 -- ## The image
 
 module _ (floor : ℕ) (old mid : List Page) (records : List Found) (counted : List Bool) (rising : IsFalling (entries_of records)) (all : IsRedone old mid records counted (length records)) where
@@ -152,9 +161,6 @@ module _ (floor : ℕ) (old mid : List Page) (records : List Found) (counted : L
           ∙ ap (λ (page : ℕ → model.Page). record (page p) { node = undo_node (lost j) z (page p).node }) (redone_pages old mid records counted all)
           ∙ ap (λ (y : List Entry). record ((redo (pages_of old) z).page p) { node = undo_node (lost j) y ((redo (pages_of old) z).page p).node }) (sym sorted_is)
           ∙ ap (λ (e : Redone). record (e.page p) { node = undo_node (lost j) (sorted j) (e.page p).node }) (sym redone_is)
-
-      pub gsn_is : (p : ℕ) → (pages_of new p).gsn ≡ ((redo (pages_of old) z).page p).gsn
-      gsn_is p = ap (λ (v : model.Page). v.gsn) (recovered_is p) ∙ ap (λ (e : Redone). (e.page p).gsn) redone_is
 
       entered : (r : Entry) → lost j r ≡ true → At records r → has_entry j r.key ≡ true
       entered r h a =

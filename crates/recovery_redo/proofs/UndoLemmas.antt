@@ -14,7 +14,7 @@ use Rattle.disk_image.specs.Formats.{format_of}
 use Rattle.node_tree.specs.Nodes.{nodes_of}
 use Rattle.recovery_scan.specs.declared.found.Found.{Found}
 use Rattle.recovery_redo.specs.Images.{pages_of}
-use Rattle.recovery_redo.specs.Inside.{entry_of, entries_of, lost_by, AreWords, has, set_back, IsUndone, LacksAt, Keeps, MarksFor, is_leaf_of}
+use Rattle.recovery_redo.specs.Inside.{entry_of, entries_of, lost_by, AreWords, has, set_back, IsUndone, LacksAt, Keeps, MarksFor, is_leaf_of, SameNumbers}
 use Rattle.recovery_redo.proofs.LogLemmas.{entries_at, entries_all, has_entry_of}
 use Rattle.recovery_redo.proofs.PageLemmas.{node_at, keeps_all, keeps_both}
 use Rattle.recovery_redo.proofs.MarkLemmas.{marks_none, holds_same, leaves_more}
@@ -29,6 +29,7 @@ pub record IsUndoing (start now : List Page) (was marks : List Bool) (found : Li
   pub kept : Keeps start now was marks
   pub fences : (p q : ℕ) → holds (nodes_of now p) q ≡ holds (nodes_of start p) q
   pub only : MarksFor (is_leaf_of (entries_of found) (nodes_of start)) was marks
+  pub numbers : SameNumbers start now
 
 pub undone_none : (start : List Page) (marks : List Bool) (found : List Found) (counted : List Bool) (ended : BTreeSet ℕ) → IsTree (format_of (length start)) (nodes_of start) → IsUndoing start start marks marks found counted ended (length found)
 undone_none start marks found counted ended t = record {
@@ -42,6 +43,7 @@ undone_none start marks found counted ended t = record {
   kept = keeps_all start marks;
   fences = λ p q. refl;
   only = marks_none (is_leaf_of (entries_of found) (nodes_of start)) marks;
+  numbers = record { at = λ p. refl };
 }
 
 not_or : (a b : Bool) → true ≡ (not a || b) → a ≡ true → b ≡ true
@@ -100,6 +102,7 @@ module _ (start now : List Page) (was marks : List Bool) (found : List Found) (c
     kept = keeps_both start now next was marks more before.kept kept;
     fences = λ p q. holds_same now next b (entry_of x).key (entry_of x).before set p q ∙ before.fences p q;
     only = leaves_more (entries_of found) (entry_of x) start now was marks more (has_entry_of found k x l here) before.fences before.only only;
+    numbers = record { at = λ p. ap (λ (page : ℕ → model.Page). (page p).gsn) set ∙ before.numbers.at p };
   }
     where
       fit : b ≡ true → (has now (entry_of x).key ≡ true) × ((entry_of x).before ≤ 2 ^ 63)

@@ -113,6 +113,10 @@ pub record FailsAt (before : List Page) (found : List Found) (place : ℕ) : Typ
 abbrev pub lost_by : BTreeSet ℕ → Bool → Found → Bool
 lost_by ended counts x = is_write (entry_of x).kind && (counts && not (contains nat_cmp ended x.txn))
 
+-- each page stands at its number
+pub record SameNumbers (before after : List Page) : Type 0 where
+  pub at : (p : ℕ) → (pages_of after p).gsn ≡ (pages_of before p).gsn
+
 -- these are the lost
 pub record TellsLost (lost : Entry → Bool) (found : List Found) (counted : List Bool) (ended : BTreeSet ℕ) : Type 0 where
   pub at : (k : ℕ) (x : Found) → k < length found → x ≡ slice_index_or found k x → lost (entry_of x) ≡ lost_by ended (slice_index_or counted k false) x

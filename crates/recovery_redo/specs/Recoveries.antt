@@ -38,7 +38,6 @@ pub record IsRecovered (m : Master) (area : Areas) (old new : List Page) (outcom
   pub winners : outcome.winners ≡ length (won_by (image_by m area))
   pub undone : outcome.undone ≡ length (lost_by (image_by m area))
   pub base : IsGreatest m.floor (sorted (image_by m area)) old outcome.base
-  pub within : (p : ℕ) → p < m.pages → (pages_of new p).gsn ≤ outcome.base
 
 -- as many pages, each with its own number and its generation
 pub record KeepsOwn (old new : List Page) : Type 0 where

@@ -7,6 +7,7 @@ ghost use Rattle.disk_image.specs.Breaks.{Breaks};
 ghost use Rattle.disk_image.specs.Formats.{format_of};
 ghost use Rattle.disk_image.specs.Shown.{Areas};
 ghost use Rattle.node_tree.specs.Nodes.{nodes_of};
+ghost use Rattle.recovery_redo.specs.Images.{pages_of};
 ghost use Rattle.recovery_redo.specs.Recoveries.{IsLoaded, IsRecovered, KeepsOwn, is_meant};
 ghost use Rattle.recovery_redo.specs.Inside as inside;
 
@@ -53,6 +54,7 @@ pub fn recover_pages(
     ensures recovered { IfOk result (λ outcome. (m : Master) (area : Areas) → IsLoaded m area pages.old found.now floor → IsRecovered m area pages.old pages.new outcome) }
     ensures tree { OnOk result (IsTree (format_of (length pages.new)) (nodes_of pages.new)) }
     ensures own { OnOk result (KeepsOwn pages.old pages.new) }
+    ensures numbers { IfOk result (λ outcome. (p : ℕ) → p < length pages.new → (pages_of pages.new p).gsn ≤ outcome.base) }
 
     // A page that is not marked is as it was, and one is marked only where a record is about it.
     ensures marks { IfOk result (λ outcome. length outcome.changed.items ≡ length pages.old) }
@@ -166,6 +168,7 @@ fn undo_all(
     ensures undone { OnOk result (inside.IsUndone pages.old pages.new found.now counted.now ended.now 0) }
     ensures kept { OnOk result (inside.Keeps pages.old pages.new changed.old changed.new) }
     ensures only { OnOk result (inside.MarksFor (inside.is_leaf_of (inside.entries_of found.now) (nodes_of pages.new)) changed.old changed.new) }
+    ensures numbers { OnOk result (inside.SameNumbers pages.old pages.new) }
     ensures tree { OnOk result (IsTree (format_of (length pages.new)) (nodes_of pages.new)) }
 
     ensures cause { (a place : ℕ) → result ≡ Err (Failed.Damaged a place) → (a ≡ 2) × inside.LacksAt pages.old found.now counted.now ended.now place }

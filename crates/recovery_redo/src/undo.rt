@@ -30,6 +30,7 @@ pub fn undo(
     ensures undone { OnOk result (inside.IsUndone pages.old pages.new found.now counted.now ended.now 0) }
     ensures kept { OnOk result (inside.Keeps pages.old pages.new changed.old changed.new) }
     ensures only { OnOk result (inside.MarksFor (inside.is_leaf_of (inside.entries_of found.now) (nodes_of pages.new)) changed.old changed.new) }
+    ensures numbers { OnOk result (inside.SameNumbers pages.old pages.new) }
     ensures tree { OnOk result (IsTree (format_of (length pages.new)) (nodes_of pages.new)) }
 
     ensures cause { IfErr result (inside.LacksAt pages.old found.now counted.now ended.now) }

@@ -8,6 +8,7 @@ use Rattle.recovery_redo.specs.Inside.{entries_of, AreEnded, AreWords, IsAtop, I
 use Rattle.recovery_redo.proofs.CountLemmas.{words_from}
 use Rattle.recovery_redo.proofs.PageLemmas.{own_both}
 use Rattle.recovery_redo.proofs.MarkLemmas.{written, meant_from}
+use Rattle.recovery_redo.proofs.ImageLemmas.{redone_within}
 use Rattle.recovery_redo.proofs.DiskLemmas.{some_on, undoable, broken, lacking, recovered}
 use Rattle.recovery_redo.proofs.recover.recover_pages.Goals as goal
 
@@ -88,3 +89,10 @@ returns-clause-only c p h =
     (subst (λ (ms : List Bool). MarksFor (is_named (entries_of c.args.found.now)) ms c.redo_all.new.changed) first c.in_ok-counted.ensures.only)
     (subst (λ (ms : List Bool). MarksFor (is_leaf_of (entries_of c.args.found.now) (nodes_of c.undo_all.new.pages)) ms c.undo_all.new.changed) second c.in_ok-undo_all.ensures.only)
     p (ap (λ (ms : List Bool). get_or ms p false) (sym two) ∙ h)
+
+pub returns-clause-numbers : goal.returns-clause-numbers
+returns-clause-numbers c =
+    let r = c.in_ok-counted.ensures in
+    let u = c.in_ok-undo_all.ensures in
+    redone_within c.args.floor c.args.pages.now c.redo_all.new.pages c.undo_all.new.pages c.args.found.now c.in_ok-counted.counted.items c.base_number-base.result r.redone r.kept.count u.kept.count u.numbers
+    (subst (λ n. IsAtop n c.args.pages.now c.base_number-base.result) c.reach-far.ensures c.base_number-base.ensures)

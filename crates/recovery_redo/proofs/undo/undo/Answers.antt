@@ -34,3 +34,6 @@ returns-clause-tree c = c.loop-left.invariant.tree
 
 pub returns-clause-only : goal.returns-clause-only
 returns-clause-only c = leaves_later (entries_of c.args.found.now) c.args.pages.now c.loop-left.pages c.args.changed.now c.loop-left.changed c.loop-left.invariant.fences c.loop-left.invariant.only
+
+pub returns-clause-numbers : goal.returns-clause-numbers
+returns-clause-numbers c = c.loop-left.invariant.numbers
