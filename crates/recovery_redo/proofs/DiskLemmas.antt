@@ -38,7 +38,7 @@ use Rattle.recovery_redo.proofs.PageLemmas.{node_at}
 use Rattle.recovery_redo.proofs.SetLemmas.{entry_same}
 use Rattle.recovery_redo.proofs.SameLemmas.{SameRedone, redo_same, passes_same, page_ok_same}
 use Rattle.recovery_redo.proofs.CountLemmas.{in_order_falling, redone_pages, redone_pass, counts_at}
-use Rattle.recovery_redo.proofs.ImageLemmas.{image_in, lost_from, base_from, numbers_within, won_is, undone_is, recovered_is, sound_is}
+use Rattle.recovery_redo.proofs.ImageLemmas.{image_in, lost_from, base_from, won_is, undone_is, recovered_is, sound_is}
 
 -- ## A disk has a page
 

@@ -1,6 +1,5 @@
 // The pages that recovery gives, from their bases and the records of a log.
 ghost use Rattle.std.specs.Prelude.{◌≡◌, ◌<◌, ◌≤◌, ℕ, Err, IfOk, OnOk, false, length, replicate, slice_get, slice_index_or, true};
-ghost use Rattle.page_model.specs.Check.{page_ok};
 ghost use Rattle.page_model.specs.Tree.{IsTree};
 ghost use Rattle.disk_slots.specs.declared.master.Master.{Master};
 ghost use Rattle.disk_image.specs.Breaks.{Breaks};
