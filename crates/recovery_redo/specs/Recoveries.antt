@@ -1,0 +1,50 @@
+-- What is in memory before recovery, and what it makes of that.
+use Rattle.std.specs.Prelude.{◌≡◌, ◌⊎◌, ◌<◌, ◌≤◌, ◌||◌, ℕ, Bool, List, [], length, slice_get, Some}
+use Rattle.map_model.specs.Lists.{Has, any}
+use Rattle.page_model.specs.Nodes.{Node, holds}
+use Rattle.page_model.specs.Page.{Page}
+use Rattle.image_model.specs.Entries.{Entry, touches}
+use Rattle.image_model.specs.Images.{sorted, won_by, lost_by, recovered_page}
+use Rattle.image_model.specs.Slots.{base_of}
+use Rattle.disk_slots.specs.declared.master.Master.{Master}
+use Rattle.disk_image.specs.MasterSlots.{master_on}
+use Rattle.disk_image.specs.Shown.{Areas, shown_by, image_by, IsSoundDisk}
+use Rattle.recovery_scan.specs.declared.found.Found.{Found}
+use Rattle.recovery_scan.specs.Records.{entries_onto}
+use Rattle.recovery_scan.specs.Scans.{IsScan}
+use Rattle.recovery_redo.specs.Images.{pages_of}
+use Rattle.recovery_redo.specs.declared.recover.Outcome.{Outcome}
+
+-- The bases of all pages of the disk, the records of its one log, and its master's floor are in memory.
+pub record IsLoaded (m : Master) (area : Areas) (pages : List Page) (found : List Found) (floor : ℕ) : Type 0 where
+  pub master : master_on (area 0) ≡ Some m
+  pub one_log : length m.heads ≡ 1
+  pub floor_is : floor ≡ m.floor
+  pub count : length pages ≡ m.pages
+  pub base : (p : ℕ) → p < m.pages → base_of (shown_by m area) p ≡ Some (pages_of pages p)
+  pub scan : IsScan m 1 area found
+
+-- n is the greatest of the floor, the numbers of records, and those of pages
+pub record IsGreatest (floor : ℕ) (entries : List Entry) (pages : List Page) (n : ℕ) : Type 0 where
+  pub above_floor : floor ≤ n
+  pub above_entries : (r : Entry) → Has r entries → r.number ≤ n
+  pub above_pages : (p : ℕ) → p < length pages → (pages_of pages p).gsn ≤ n
+  pub met : (n ≡ floor) ⊎ (((r : Entry) × Has r entries × (n ≡ r.number)) ⊎ ((p : ℕ) × (p < length pages) × (n ≡ (pages_of pages p).gsn)))
+
+-- No rule is broken, the pages are the recovered ones, and the counts and the base number are the disk's.
+pub record IsRecovered (m : Master) (area : Areas) (old new : List Page) (outcome : Outcome) : Type 0 where
+  pub sound : IsSoundDisk m area
+  pub pages : (p : ℕ) → p < m.pages → pages_of new p ≡ recovered_page (image_by m area) p
+  pub winners : outcome.winners ≡ length (won_by (image_by m area))
+  pub undone : outcome.undone ≡ length (lost_by (image_by m area))
+  pub base : IsGreatest m.floor (sorted (image_by m area)) old outcome.base
+
+-- as many pages, each with its own number and its generation
+pub record KeepsOwn (old new : List Page) : Type 0 where
+  pub count : length new ≡ length old
+  pub number : (p : ℕ) (x y : Page) → slice_get old p ≡ Some x → slice_get new p ≡ Some y → y.number ≡ x.number
+  pub generation : (p : ℕ) (x y : Page) → slice_get old p ≡ Some x → slice_get new p ≡ Some y → y.generation ≡ x.generation
+
+-- a record names the page, or its key is one that the page, a leaf, may hold
+abbrev pub is_meant : List Found → (ℕ → Node) → ℕ → Bool
+is_meant found node p = any (λ r. touches p r || holds (node p) r.key) (entries_onto 1 [] found)
