@@ -1,0 +1,85 @@
+-- What private functions say: what a line asks, and what was put of a call.
+use Rattle.std.specs.Prelude.{◌≡◌, ◌⊎◌, ◌<◌, ◌≤◌, ◌+◌, ◌^◌, ◌++◌, ℕ, List, [], ◌∷◌, length, Option, Some, None, Result, Ok, Err, IsTrue}
+use Rattle.map_model.specs.declared.call.Call.{Call}
+use Rattle.map_model.specs.declared.call.Answer.{Answer}
+use Rattle.lean_edge.specs.Outside.{Feed, Held}
+use Rattle.lean_disk.specs.Area.{Leaves}
+use Rattle.lean_disk.specs.Moments.{LeavesOnly}
+use Rattle.lean_disk.specs.Story.{Crash, Story, Tells}
+use Rattle.script_lang.specs.Lines.{CallFits}
+use Rattle.script_lang.specs.Reading.{Unread, Reading}
+use Rattle.script_lang.specs.Replies.{Reply}
+use Rattle.core_state.specs.States.{Opening}
+use Rattle.session_model.specs.Sessions.{Session}
+use Rattle.session_model.specs.Calls.{Answered}
+use Rattle.lean_engine.specs.States.{State}
+use Rattle.transcripts.specs.Told.{ask, durable_of}
+use Rattle.script_run.specs.Runs.{IsOutside, ReadsTo, PrintsTo, Holds, ScriptRuns}
+use Rattle.script_run.specs.declared.stop.Stop.{Stop}
+use Rattle.script_run.specs.declared.stop.Stop.TheVariants.{End, Refused, ReadFault, WriteFault, DiskFault}
+
+-- the line of this number asks the call
+pub record IsAsk (bytes : List ℕ) (number : ℕ) (call : Call) : Type 0 where
+  pub spelled : bytes ≡ ask call
+  pub fits : CallFits call
+  pub few : number < 2 ^ 40
+
+-- it asks none
+pub record IsNoAsk (bytes : List ℕ) (number : ℕ) (stop : Stop) : Type 0 where
+  pub stop_is : stop ≡ Refused number
+  pub cause : IsOutside bytes ⊎ (number ≡ 2 ^ 40)
+
+-- a reader stops for this
+abbrev pub IsOfReading : Stop → Type 0
+IsOfReading End = Unit {0}
+IsOfReading (Refused line) = Unit {0}
+IsOfReading ReadFault = Unit {0}
+IsOfReading WriteFault = ⊥
+IsOfReading DiskFault = ⊥
+
+-- what the next line asks was handed out, or why it asks nothing
+abbrev pub AskIs : Result Call Stop → ℕ → Feed → Feed → Unread → List ℕ → Type 0
+AskIs (Ok call) number start now reader seen = Reading start now reader (seen ++ (ask call ++ 10 ∷ []))
+AskIs (Err stop) number start now reader seen = ReadsTo (Some stop) number start now reader seen
+
+-- the replies to a call with this answer
+abbrev pub replies_to : Answer → List Reply
+replies_to a = durable_of a ++ Reply.Answered 1 a ∷ []
+
+-- lines were put: a note more for each, and nothing else
+pub record OnlyNotes (told : List Reply) (old new : Story) : Type 0 where
+  pub later : old.moment ≤ new.moment
+  pub counts : new.counts ≡ old.counts
+  pub tells : (a : ℕ) → new.tells a ≡ old.tells a
+  pub areas : new.areas ≡ old.areas
+  pub area : (a : ℕ) → new.area a ≡ old.area a
+  pub notes : IsTrue old.counts → old.notes + length told < 2 ^ 64 → new.notes ≡ old.notes + length told
+
+-- a crash meanwhile
+pub record PutLeaves (told : List Reply) (old : Story) (c : Crash) : Type 0 where
+  pub first : List Reply
+  pub later : List Reply
+  pub split : later ++ first ≡ told
+  pub notes : old.notes + length first < 2 ^ 64 → c.notes ≡ old.notes + length first
+  pub writes : (a : ℕ) → Tells old a → c.writes a ≡ (old.area a).writes
+  pub leaves : (a : ℕ) → Tells old a → Leaves (old.area a) (c.image a)
+
+-- the sink alone stops this
+abbrev pub IsOfPutting : Option Stop → Type 0
+IsOfPutting None = Unit {0}
+IsOfPutting (Some stop) = stop ≡ WriteFault
+
+-- The replies to a call were put, or some of them.
+pub record Says (a : Answer) (stop : Option Stop) (held0 held1 : Held) (old new : Story) : Type 0 where
+  pub of_putting : IsOfPutting stop
+  pub told : List Reply
+  pub tail : List ℕ
+  pub prints : PrintsTo stop (replies_to a) told tail
+  pub holds : Holds told tail held0 held1
+  pub notes : OnlyNotes told old new
+  pub any_moment : LeavesOnly old new (PutLeaves told old)
+
+-- A run of lines, which are so many where it goes on.
+pub record Stepped (count : ℕ) (stop : Option Stop) (g : Opening) (xs : List Answered) (s : Session) (before : ℕ) (start : Feed) (seen : List ℕ) (e0 e1 : State) (reader : Unread) (feed : Feed) (held0 held1 : Held) (old new : Story) : Type 0 where
+  pub run : ScriptRuns stop g xs s before start seen e0 e1 reader feed held0 held1 old new
+  pub count_is : stop ≡ None → length run.newer ≡ count

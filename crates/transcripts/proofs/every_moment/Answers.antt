@@ -1,0 +1,5 @@
+use Rattle.transcripts.proofs.FrontLemmas.{moments}
+use Rattle.transcripts.proofs.every_moment.Goals as goal
+
+pub returns : goal.returns
+returns c = moments c.replies_are_read_back.ensures c.notices_are_no_replies.ensures

@@ -1,0 +1,55 @@
+//! The transactions that a script and its output tell of: definitions and their laws.
+#![tactic(auto)]
+
+ghost use Rattle.transcripts.specs.Laws.{EveryEnd, EveryFront, EveryMoment, EveryNext, EveryNotice, EveryPart, EveryReading, EveryTranscript};
+
+/// A script and its output tell of the calls that were asked and answered.
+pub fn every_transcript()
+    ensures { EveryTranscript }
+{
+    script_lang::replies_are_read_back();
+    script_lang::notices_are_no_replies();
+}
+
+/// The first lines of an output are those that were printed first.
+pub fn every_moment()
+    ensures { EveryMoment }
+{
+    script_lang::replies_are_read_back();
+    script_lang::notices_are_no_replies();
+}
+
+/// The first of the replies to calls are replies to the first of the calls.
+pub fn every_front()
+    ensures { EveryFront }
+{}
+
+/// A script begins with the lines that were handed out of it.
+pub fn every_reading()
+    ensures { EveryReading }
+{}
+
+/// What comes behind them is the line that was handed out next, or one that is too long, or nothing at the end.
+pub fn every_next()
+    ensures { EveryNext }
+{}
+
+/// What a failed put leaves of a line is a line that was cut off, or the whole line.
+pub fn every_part()
+    ensures { EveryPart }
+{}
+
+/// From the first line behind the replies on, no more is told.
+pub fn every_end()
+    ensures { EveryEnd }
+{
+    script_lang::replies_are_read_back();
+    script_lang::notices_are_no_replies();
+}
+
+/// A notice alone tells of nothing.
+pub fn every_notice()
+    ensures { EveryNotice }
+{
+    script_lang::notices_are_no_replies();
+}
