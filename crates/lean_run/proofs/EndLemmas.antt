@@ -1,0 +1,156 @@
+-- How a run ends.
+use Rattle.std.proofs.Common.{◌≡◌, ◌⊎◌, inl, inr, ⊎_elim, ◌≤◌, ◌<◌, ◌+◌, ◌*◌, ◌-◌, ◌^◌, ◌++◌, ℕ, suc, List, [], ◌∷◌, length, take, min, Some, None, Option, IsTrue, refl, sym, ◌∙◌, ap, ap₂, subst, arith}
+use Rattle.std.proofs.lemmas.List.{append-nil}
+use mathlib.Core.List.{append_assoc}
+use mathlib.Core.Path.{fun_ext}
+use Rattle.map_model.specs.Lists.{Has}
+use Rattle.map_model.specs.Maps.{Map}
+use Rattle.map_model.specs.Journals.{Journal, Name, Serial}
+use Rattle.map_model.specs.Transcripts as model
+use Rattle.image_model.specs.Images.{map_of}
+use Rattle.lean_disk.specs.Area.{Area}
+use Rattle.lean_disk.specs.Calls.{Noted}
+use Rattle.lean_disk.specs.Faults.{HasCause}
+use Rattle.lean_disk.specs.Moments.{LeavesOnly}
+use Rattle.lean_disk.specs.Story.{Crash, IsLawful, LeavesNow, Story, Tells}
+use Rattle.lean_disk.proofs.MomentLemmas as moments
+use Rattle.lean_edge.specs.Outside.{Feed, Held, Puts}
+use Rattle.lean_edge.specs.declared.sink.Put.{Put}
+use Rattle.lean_edge.specs.declared.sink.Put.TheVariants.{Done, Failed}
+use Rattle.script_lang.specs.Notices.{Notice, notice_text, NoticeFits}
+use Rattle.script_lang.specs.Reading.{Unread, Reading}
+use Rattle.script_lang.specs.Replies.{Reply, reply_text, Fits}
+use Rattle.script_lang.specs.Text.{script_lines}
+use Rattle.disk_slots.specs.declared.master.Master.{Master}
+use Rattle.disk_image.specs.Laws.{EveryAgreement, EverySealed}
+use Rattle.disk_image.specs.Shown.{Areas, DiskStandsFor, IsCleanDisk, image_by}
+use Rattle.recovery_scan.specs.Scans.{areas_of}
+use Rattle.recovery.specs.Crashes.{RecoveryLeaves}
+use Rattle.recovery.specs.Opened.{Keeps, TellsAll}
+use Rattle.recovery.specs.declared.opening.Unrecovered.{Unrecovered}
+use Rattle.core_state.specs.States.{Opening}
+use Rattle.core_crash.specs.Crashes.{first_map}
+use Rattle.session_model.specs.Calls.{Answered, Runs}
+use Rattle.session_model.specs.Calls as session
+use Rattle.session_model.specs.Laws.{EverySession}
+use Rattle.session_model.specs.Sessions.{Session, IsAlone, start}
+use Rattle.worker_log.specs.Laws.{EveryRun}
+use Rattle.worker_log.specs.Logs.{Log}
+use Rattle.worker_log.specs.Kept.{IsKept, fresh_account}
+use Rattle.lean_engine.specs.States.{State, Pictures}
+use Rattle.transcripts.specs.Laws.{EveryEnd, EveryFront, EveryMoment, EveryNotice, EveryReading, EveryTranscript, IsQuiet, TellsOf}
+use Rattle.transcripts.specs.Told.{asked_lines, asked_text, ask, opened_line, replies, text_of, names, EachFits, EachReplyFits, Heard, IsCut, IsOutput, IsTail}
+use Rattle.transcripts.specs.Told.Heard.{Whole, Lacking}
+use Rattle.transcripts.specs.Told.IsTail.{CutReply, CutNotice}
+use Rattle.transcripts.specs.Transcripts.{durables, first_lines, in_turn, transcript}
+use Rattle.script_run.specs.Moments.{ScriptLeaves}
+use Rattle.script_run.specs.Runs.{PrintsTo}
+use Rattle.script_run.specs.Texts.{LinesRead}
+use Rattle.script_run.specs.declared.stop.Stop.{Stop}
+use Rattle.script_run.specs.declared.stop.Stop.TheVariants as stops
+use Rattle.lean_run.specs.Crashes.{IsYoung, RunLeaves, TellsCrashes}
+use Rattle.lean_run.specs.Ends.{RunEnds}
+use Rattle.lean_run.specs.Inside.{EndsWith, HasOpened, Refuses, Rests, counts_of}
+use Rattle.lean_run.specs.Lines.{IsPut, line_of}
+use Rattle.lean_run.specs.Runs.{Counts, HowRun, Shows, ended, first_line, last_line, notice_of, status_of}
+use Rattle.lean_run.specs.declared.opening.Opened.{Opened}
+use Rattle.lean_run.proofs.LastLemmas.{Last, PutText, last_of, put_text, went_out}
+use Rattle.lean_run.proofs.MomentLemmas.{line_moments, put_moments, same_but, then, unmoved}
+use Rattle.lean_run.proofs.NoteLemmas.{put_notes}
+use Rattle.lean_run.proofs.OutputLemmas.{Out, all_put, asked_parts, earlier_fit, few_replies, front_few, no_tail, older_fit, out_of, same_front}
+use Rattle.lean_run.proofs.SurviveLemmas as survive
+
+-- ## A disk that was not opened, or a first line that was cut off
+
+module _ (notice_law : EveryNotice) (s0 old new : Story) (law : IsLawful old) (later : s0.moment ≤ old.moment) (notes : old.notes ≡ s0.notes)
+    (any : (m : Master) → TellsAll s0 → IsCleanDisk m (areas_of s0) → LeavesOnly s0 old (RecoveryLeaves m s0)) (feed : Feed) (n : Notice) (fits : NoticeFits n) (answer : Put) (held0 held1 : Held)
+    (p : IsPut (line_of n) answer held0 held1 old new) where
+  abbrev pub line_text : PutText (line_of n) answer held0 held1
+  line_text = put_text (line_of n) answer held0 held1 p.puts
+
+  pub line_leaves : IsTrue feed.tells → (m : Master) → TellsCrashes s0 → IsCleanDisk m (areas_of s0) → IsYoung m s0 → LeavesOnly s0 new (RunLeaves m s0 feed.left line_text.text)
+  line_leaves tells m all clean young = line_moments m s0 old new clean young.notes feed.left line_text.text answer (any m all.all clean) law later notes p.noted p.same
+      (notice_law n feed.left 0 fits)
+      (λ is. subst (λ (t : List ℕ). IsQuiet feed.left (first_lines 1 t)) (sym (line_text.whole is)) (notice_law n feed.left 1 fits))
+
+pub refused_ends : EveryNotice → (status : ℕ) (s0 old new : Story) → IsLawful old → s0.moment ≤ old.moment → old.notes ≡ s0.notes
+    → ((m : Master) → TellsAll s0 → IsCleanDisk m (areas_of s0) → LeavesOnly s0 old (RecoveryLeaves m s0)) → (feed : Feed) (reason : Unrecovered) → status ≡ status_of reason → Shows s0 reason
+    → (held0 held1 : Held) (sink0 sink1 : ℕ) → Refuses reason held0 held1 sink0 sink1 old new → RunEnds status s0 new feed feed held0 held1 sink0 sink1
+refused_ends notice_law status s0 old new law later notes any feed reason is shown held0 held1 sink0 sink1 r =
+    let t = line_text notice_law s0 old new law later notes any feed (notice_of reason) r.fits r.answer held0 held1 r.line in record {
+      put = t.text;
+      holds = t.holds;
+      how = inl (record { reason = reason; status_is = is; shown = shown; printed = went_out (line_of (notice_of reason)) t.text r.answer sink0 sink1 t.front t.is_front t.whole r.cause; unread = refl });
+      any_moment = line_leaves notice_law s0 old new law later notes any feed (notice_of reason) r.fits r.answer held0 held1 r.line;
+    }
+
+pub cut_ends : EveryNotice → (s0 old new : Story) → IsLawful old → s0.moment ≤ old.moment → old.notes ≡ s0.notes
+    → ((m : Master) → TellsAll s0 → IsCleanDisk m (areas_of s0) → LeavesOnly s0 old (RecoveryLeaves m s0)) → (feed : Feed) (n : Counts) → NoticeFits (Notice.Opened n.generation n.winners n.undone)
+    → (held0 held1 : Held) (sink0 sink1 : ℕ) (answer : Put) → IsPut (first_line n) answer held0 held1 old new → RunEnds 5 s0 new feed feed held0 held1 sink0 sink1
+cut_ends notice_law s0 old new law later notes any feed n fits held0 held1 sink0 sink1 answer p =
+    let o : Notice = Notice.Opened n.generation n.winners n.undone in
+    let t = line_text notice_law s0 old new law later notes any feed o fits answer held0 held1 p in record {
+      put = t.text;
+      holds = t.holds;
+      how = inr (inl (record { status_is = refl; counts = n; front = t.front; printed = t.is_front; unread = refl }));
+      any_moment = line_leaves notice_law s0 old new law later notes any feed o fits answer held0 held1 p;
+    }
+
+-- ## What was read
+
+-- the script begins with the lines that ask the calls
+pub record HasLines (input : List ℕ) (calls : List Answered) : Type 0 where
+  pub others : List (List ℕ)
+  pub is : script_lines input ≡ asked_lines calls ++ others
+
+pub lines_of : (stop : Stop) (input : List ℕ) (calls : List Answered) → LinesRead stop calls input → HasLines input calls
+lines_of stop input calls r = record { others = r.others; is = r.lines }
+
+-- and with those of the first of them
+pub first_lines_of : (input : List ℕ) (later first calls : List Answered) → later ++ first ≡ calls → HasLines input calls → HasLines input first
+first_lines_of input later first calls e l = record {
+  others = asked_lines later ++ l.others;
+  is = l.is ∙ (ap (λ (xs : List Answered). asked_lines xs ++ l.others) (sym e) ∙ (ap (λ (ls : List (List ℕ)). ls ++ l.others) (asked_parts later first) ∙ append_assoc (asked_lines first) (asked_lines later) l.others));
+}
+
+-- the calls that the output answers
+pub record HeardOf (stop : Stop) (calls : List Answered) (all : List Reply) : Type 0 where
+  pub heard : List Answered
+  pub unheard : List Answered
+  pub calls_are : unheard ++ heard ≡ calls
+  pub all_heard : (stop ≡ stops.WriteFault → ⊥) → unheard ≡ []
+  pub hears : Heard heard all
+
+pub heard_of : EveryFront → (stop : Stop) (calls : List Answered) (told : List Reply) (tail : List ℕ) (fits : EachReplyFits (replies calls)) (p : PrintsTo (Some stop) (replies calls) told tail) → HeardOf stop calls (out_of stop calls told tail fits p).all
+heard_of front stops.End calls told tail fits p = record { heard = calls; unheard = []; calls_are = refl; all_heard = λ e. refl; hears = Whole p.told_is }
+heard_of front (stops.Refused line) calls told tail fits p = record { heard = calls; unheard = []; calls_are = refl; all_heard = λ e. refl; hears = Whole p.told_is }
+heard_of front stops.ReadFault calls told tail fits p = record { heard = calls; unheard = []; calls_are = refl; all_heard = λ e. refl; hears = Whole p.told_is }
+heard_of front stops.DiskFault calls told tail fits p = record { heard = calls; unheard = []; calls_are = refl; all_heard = λ e. refl; hears = Whole p.told_is }
+heard_of front stops.WriteFault calls told tail fits p =
+    let o : Out calls told tail = out_of stops.WriteFault calls told tail fits p in
+    let f = front calls o.newer o.all o.split in
+    record { heard = f.calls.first; unheard = f.calls.later; calls_are = f.calls.is; all_heard = λ e. absurd (e refl); hears = f.calls.heard }
+
+-- what stands behind the replies
+pub final_tail : (stop : Stop) (calls : List Answered) (told : List Reply) (tail : List ℕ) (fits : EachReplyFits (replies calls)) (p : PrintsTo (Some stop) (replies calls) told tail) (held0 held1 : Held) (old new : Story)
+    (l : Last stop held0 held1 old new) (n : Notice) → NoticeFits n → IsTail ((out_of stop calls told tail fits p).rest ++ l.text)
+final_tail stop calls told tail fits p held0 held1 old new l n n_fits = go stop calls told tail fits p l
+  where
+    behind : (rest text : List ℕ) → rest ≡ [] → IsTail text → IsTail (rest ++ text)
+    behind rest text e t = subst IsTail (sym (ap (λ (r : List ℕ). r ++ text) e)) t
+
+    cut : (rest text : List ℕ) → text ≡ [] → (rest ≡ []) ⊎ ((r : Reply) × Fits r × IsCut (reply_text r) rest) → IsTail (rest ++ text)
+    cut rest text e (inl none) = subst IsTail (sym (ap (λ (t : List ℕ). rest ++ t) e ∙ (append-nil rest ∙ none))) (no_tail n n_fits)
+    cut rest text e (inr c) = subst IsTail (sym (ap (λ (t : List ℕ). rest ++ t) e ∙ append-nil rest)) (CutReply c.0 c.1 c.2)
+
+    go : (stop : Stop) (calls : List Answered) (told : List Reply) (tail : List ℕ) (fits : EachReplyFits (replies calls)) (p : PrintsTo (Some stop) (replies calls) told tail) (l : Last stop held0 held1 old new) → IsTail ((out_of stop calls told tail fits p).rest ++ l.text)
+    go stops.End calls told tail fits p l = behind tail l.text p.none (l.tail (λ q. cc) n n_fits)
+    go (stops.Refused line) calls told tail fits p l = behind tail l.text p.none (l.tail (λ q. cc) n n_fits)
+    go stops.ReadFault calls told tail fits p l = behind tail l.text p.none (l.tail (λ q. cc) n n_fits)
+    go stops.DiskFault calls told tail fits p l = behind tail l.text p.none (l.tail (λ q. cc) n n_fits)
+    go stops.WriteFault calls told tail fits p l = let o : Out calls told tail = out_of stops.WriteFault calls told tail fits p in cut o.rest l.text (l.none refl) o.cut
+
+-- the first of calls ran too
+pub runs_first : (g : Opening) (later first : List Answered) (s : Session) → Runs g (later ++ first) s → (t : Session) × Runs g first t
+runs_first g [] first s r = (s, r)
+runs_first g (x ∷ later) first s r = runs_first g later first r.0 r.1

@@ -1,0 +1,88 @@
+-- The first line, the last line, and lines of disks that were not opened: what the sink holds of them, and what is noted.
+use Rattle.std.proofs.Common.{◌≡◌, ◌⊎◌, inl, inr, ⊎_elim, ◌≤◌, ◌<◌, ◌+◌, ◌^◌, ◌++◌, ℕ, List, [], ◌∷◌, length, take, IsTrue, refl, sym, ◌∙◌, ap, subst, arith}
+use Rattle.std.proofs.lemmas.List.{append-nil}
+use Rattle.std.proofs.Math.Seq.{take-length}
+use Rattle.lean_disk.specs.Faults.{HasCause, Rose}
+use Rattle.lean_disk.specs.Story.{Crash, IsLawful, LeavesNow, Story}
+use Rattle.lean_disk.specs.Told.{TellsSame}
+use Rattle.lean_edge.specs.Outside.{Held, Puts}
+use Rattle.lean_edge.specs.declared.sink.Put.{Put}
+use Rattle.lean_edge.specs.declared.sink.Put.TheVariants.{Done, Failed}
+use Rattle.script_lang.specs.Notices.{Notice, notice_text, NoticeFits}
+use Rattle.transcripts.specs.Told.{IsTail}
+use Rattle.script_run.specs.declared.stop.Stop.{Stop}
+use Rattle.script_run.specs.declared.stop.Stop.TheVariants as stops
+use Rattle.lean_run.specs.Lines.{IsPut, OnlyNotes, WentOut, line_of}
+use Rattle.lean_run.specs.Inside.{EndsWith}
+use Rattle.lean_run.specs.Runs.{last_line}
+use Rattle.lean_run.proofs.MomentLemmas.{noted_more}
+use Rattle.lean_run.proofs.NoteLemmas.{put_notes}
+use Rattle.lean_run.proofs.OutputLemmas.{notice_tail, no_tail}
+
+-- what a sink holds of a line
+pub record PutText (line : List ℕ) (answer : Put) (held0 held1 : Held) : Type 0 where
+  pub text : List ℕ
+  pub holds : IsTrue held0.tells → held1.bytes ≡ held0.bytes ++ text
+  pub front : ℕ
+  pub is_front : text ≡ take front line
+  pub whole : answer ≡ Done → text ≡ line
+
+not_done : Failed ≡ Done → ⊥
+not_done e = cc
+
+pub put_text : (line : List ℕ) (answer : Put) (held0 held1 : Held) → Puts line answer held0 held1 → PutText line answer held0 held1
+put_text line Done held0 held1 p = record { text = line; holds = p.done refl; front = length line; is_front = sym (take-length line); whole = λ e. refl }
+put_text line Failed held0 held1 p = let q = p.failed refl in record { text = take q.0 line; holds = q.1; front = q.0; is_front = refl; whole = λ e. absurd (not_done e) }
+
+-- it went out, or the sink failed
+pub went_out : (line text : List ℕ) (answer : Put) (before now front : ℕ) → text ≡ take front line → (answer ≡ Done → text ≡ line) → HasCause before now (answer ≡ Failed) → WentOut line text before now
+went_out line text Done before now front is whole cause = inl (whole refl)
+went_out line text Failed before now front is whole cause = inr ((front, is), cause.cause refl)
+
+-- The last line of a script that stopped: what the sink holds of it, and whether it was noted.
+pub record Last (stop : Stop) (held0 held1 : Held) (old new : Story) : Type 0 where
+  pub text : List ℕ
+  pub front : ℕ
+  pub is_front : text ≡ take front (last_line stop)
+  pub holds : IsTrue held0.tells → held1.bytes ≡ held0.bytes ++ text
+  pub notes : OnlyNotes old new
+  pub noted : old.notes < 2 ^ 63 → (c : Crash) → LeavesNow new c → (c.notes ≡ old.notes) ⊎ ((c.notes ≡ old.notes + 1) × (stop ≡ stops.WriteFault → ⊥))
+  pub tail : (stop ≡ stops.WriteFault → ⊥) → (n : Notice) → NoticeFits n → IsTail text
+  pub none : stop ≡ stops.WriteFault → text ≡ []
+
+nothing_put : (stop : Stop) (held0 held1 : Held) (old new : Story) → last_line stop ≡ [] → held1 ≡ held0 → TellsSame old new → Last stop held0 held1 old new
+nothing_put stop held0 held1 old new empty held same = record {
+  text = [];
+  front = 0;
+  is_front = refl;
+  holds = λ told. ap (λ (h : Held). h.bytes) held ∙ sym (append-nil held0.bytes);
+  notes = put_notes old new Failed (λ e. absurd (not_done e)) (λ e. same);
+  noted = λ few c now. inl (now.notes ∙ same.notes);
+  tail = λ not_write n fits. no_tail n fits;
+  none = λ e. refl;
+}
+
+line_put : (stop : Stop) (n : Notice) → NoticeFits n → last_line stop ≡ line_of n → (stop ≡ stops.WriteFault → ⊥) → (held0 held1 : Held) (old new : Story) (answer : Put) → IsPut (last_line stop) answer held0 held1 old new → Last stop held0 held1 old new
+line_put stop n fits line not_write held0 held1 old new answer p =
+    let t = put_text (last_line stop) answer held0 held1 p.puts in
+    record {
+      text = t.text;
+      front = t.front;
+      is_front = t.is_front;
+      holds = t.holds;
+      notes = put_notes old new answer p.noted p.same;
+      noted = λ few c now. how answer refl few c now;
+      tail = λ other m m_fits. subst IsTail (sym (t.is_front ∙ ap (take t.front) line)) (notice_tail n fits t.front);
+      none = λ e. absurd (not_write e);
+    }
+  where
+    how : (r : Put) → answer ≡ r → old.notes < 2 ^ 63 → (c : Crash) → LeavesNow new c → (c.notes ≡ old.notes) ⊎ ((c.notes ≡ old.notes + 1) × (stop ≡ stops.WriteFault → ⊥))
+    how Done is few c now = inr (noted_more old new (p.noted is) c now few, not_write)
+    how Failed is few c now = inl (now.notes ∙ (p.same is).notes)
+
+pub last_of : (stop : Stop) (held0 held1 : Held) (old new : Story) → EndsWith stop held0 held1 old new → Last stop held0 held1 old new
+last_of stops.End held0 held1 old new e = nothing_put stops.End held0 held1 old new refl e.0 e.1
+last_of stops.WriteFault held0 held1 old new e = nothing_put stops.WriteFault held0 held1 old new refl e.0 e.1
+last_of (stops.Refused line) held0 held1 old new e = line_put (stops.Refused line) (Notice.Refused line) e.0 refl (λ q. cc) held0 held1 old new e.1.0 e.1.1
+last_of stops.ReadFault held0 held1 old new e = line_put stops.ReadFault Notice.ReadFault tt refl (λ q. cc) held0 held1 old new e.0 e.1
+last_of stops.DiskFault held0 held1 old new e = line_put stops.DiskFault Notice.DiskFault tt refl (λ q. cc) held0 held1 old new e.0 e.1

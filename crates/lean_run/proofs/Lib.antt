@@ -1,0 +1,13 @@
+pub mod LineLemmas
+pub mod NoteLemmas
+pub mod SealedLemmas
+pub mod ImageLemmas
+pub mod JournalLemmas
+pub mod SurviveLemmas
+pub mod OpeningLemmas
+pub mod ReasonLemmas
+pub mod MomentLemmas
+pub mod OutputLemmas
+pub mod LastLemmas
+pub mod EndLemmas
+pub mod RunLemmas

@@ -1,0 +1,102 @@
+-- What recovery's clauses say, from what its steps say.
+use Rattle.std.proofs.Common.{◌≡◌, ◌⊎◌, ◌<◌, ◌≤◌, ◌+◌, ◌*◌, ◌%◌, ◌^◌, ℕ, suc, List, length, Some, slice_get, IsTrue, refl, sym, ◌∙◌, ap, subst, inl, inr, arith}
+use Rattle.std.proofs.lemmas.Option.{slice_get_within}
+use Rattle.page_model.specs.Page.{Page}
+use Rattle.page_model.specs.Tree.{IsTree}
+use Rattle.lean_disk.specs.Area.{Area, synced, written}
+use Rattle.lean_disk.specs.Moments.{AsAt, CrashIn, Framed, LeavesOnly}
+use Rattle.lean_disk.specs.Story.{Crash, Story, Tells}
+use Rattle.lean_disk.specs.declared.disk.Did.{Did}
+use Rattle.lean_disk.specs.declared.disk.Did.TheVariants.{Done}
+use Rattle.lean_disk.proofs.MomentLemmas.{then, weaker}
+use Rattle.disk_slots.specs.Masters.{master_slot}
+use Rattle.disk_slots.specs.declared.master.Master.{Master}
+use Rattle.disk_image.specs.Shown.{IsCleanDisk}
+use Rattle.page_store.specs.Runs.{IsReady}
+use Rattle.page_store.specs.Saved.{LeavesSaves, Save}
+use Rattle.recovery_scan.specs.Scans.{areas_of}
+use Rattle.recovery_redo.specs.Images as redo_images
+use Rattle.recovery.specs.Crashes.{Lasts, RecoveryLeaves}
+use Rattle.recovery.specs.Inside.{AreSettled, IsOfSlot, IsPrepared, IsReadied, OnlySettles, SavesAll, WritesOnce, saves_to}
+use Rattle.recovery.specs.Masters.{IsOpenable, next_master}
+use Rattle.recovery.specs.Opened.{IsOpened, IsRecovered, IsSettled, IsWhole, TellsAll}
+use Rattle.recovery.specs.declared.opening.Recovered.{Recovered}
+use Rattle.recovery.specs.declared.prepare.Prepared.{Prepared}
+use Rattle.recovery.proofs.LastLemmas.{opened, saving, writing}
+use Rattle.recovery.proofs.MasterLemmas.{master_is, next_valid, slot_of}
+
+-- nothing was written
+pub settled_moments : (m : Master) (s0 s : Story) → OnlySettles s0 s → LeavesOnly s0 s (RecoveryLeaves m s0)
+settled_moments m s0 s settles = weaker s0 s (AsAt s0) (RecoveryLeaves m s0) (λ c at. inl at) settles.any_moment
+
+module _ (it : Prepared) (readied : IsReadied it) (s0 s4 : Story) (settles : OnlySettles s0 s4) (t : TellsAll s0) (all : AreSettled s0 s4) (prepared : IsPrepared (areas_of s0) it)
+    (m : Master) (clean_m : IsCleanDisk m (areas_of s0)) (seated : IsTrue s4.counts → Tells s4 1) where
+  abbrev these : List Save
+  these = saves_to it.pages.items it.slots.items it.changed.items it.master.pages
+
+  -- the master that was chosen is the disk's
+  same_master : it.master ≡ m
+  same_master = master_is it.master m (sym prepared.master ∙ clean_m.master)
+
+  clean : IsCleanDisk it.master (areas_of s0)
+  clean = subst (λ (k : Master). IsCleanDisk k (areas_of s0)) (sym same_master) clean_m
+
+  ready : IsReady 1 s4
+  ready = record { seated = seated; clean = λ told. let e = all t 1 (omega arith) in record { clean = e.clean; end = e.end } }
+
+  module _ (s6 : Story) (result : Did) (saves : IsReady 1 s4 → SavesAll it.master.pages s4 these result s6) where
+    saving_moments : LeavesOnly s0 s6 (RecoveryLeaves it.master s0)
+    saving_moments = then s0 s4 s6 (RecoveryLeaves it.master s0) (settled_moments it.master s0 s4 settles)
+        (weaker s4 s6 (CrashIn s4 1 (LeavesSaves it.master.pages (s4.area 1) these)) (RecoveryLeaves it.master s0)
+        (λ c at. inr (saving it readied s0 s4 settles t (all t) prepared clean c at)) (saves ready).run.any_moment)
+
+    pub saved_moments : LeavesOnly s0 s6 (RecoveryLeaves m s0)
+    saved_moments = subst (λ (k : Master). LeavesOnly s0 s6 (RecoveryLeaves k s0)) same_master saving_moments
+
+    module _ (done : result ≡ Done) (wide : it.base < 2 ^ 64) (next : Master) (next_is : next ≡ next_master it.master it.base) (s7 : Story) where
+      abbrev place : ℕ
+      place = 1024 * slot_of (next_master it.master it.base)
+
+      told_1 : Tells s4 1
+      told_1 = settles.tells 1 ∙ t.pages
+
+      pub written_moments : LeavesOnly s6 s7 (CrashIn s6 0 (WritesOnce (1024 * (next.sequence % 2)) (master_slot next) (s6.area 0))) → LeavesOnly s0 s7 (RecoveryLeaves m s0)
+      written_moments run = subst (λ (k : Master). LeavesOnly s0 s7 (RecoveryLeaves k s0)) same_master (then s0 s6 s7 (RecoveryLeaves it.master s0) saving_moments
+          (weaker s6 s7 (CrashIn s6 0 (WritesOnce (1024 * slot_of (next_master it.master it.base)) (master_slot (next_master it.master it.base)) (s6.area 0))) (RecoveryLeaves it.master s0)
+          (λ c at. inr (writing it readied s0 s4 settles t (all t) prepared clean s6 (saves ready).run.frame ((saves ready).are done) ((saves ready).done done told_1) wide c at))
+          (subst (λ (k : Master). LeavesOnly s6 s7 (CrashIn s6 0 (WritesOnce (1024 * (k.sequence % 2)) (master_slot k) (s6.area 0)))) next_is run)))
+
+      pub opens : Framed 0 s6 s7 → s7.area 0 ≡ synced (written (1024 * (next.sequence % 2)) (master_slot next) (s6.area 0)) → (r : Recovered) → r.master ≡ next → IsOpened m (areas_of s0) r s7
+      opens frame wrote r is = subst (λ (k : Master). IsOpened k (areas_of s0) r s7) same_master
+          (opened it readied s0 s4 settles t (all t) prepared clean s6 (saves ready).run.frame ((saves ready).are done) ((saves ready).done done told_1) wide s7 frame
+          (subst (λ (k : Master). s7.area 0 ≡ synced (written (1024 * (k.sequence % 2)) (master_slot k) (s6.area 0))) next_is wrote) r (is ∙ next_is))
+
+-- ## The answer
+
+module _ (it : Prepared) (readied : IsReadied it) (r : Recovered) (pages : r.pages ≡ it.pages) (winners : r.winners ≡ it.winners) (undone : r.undone ≡ it.undone) (master : r.master ≡ next_master it.master it.base) where
+  pub answers : (s0 : Story) → IsPrepared (areas_of s0) it → (m : Master) × IsOpenable m × IsRecovered m (areas_of s0) r
+  answers s0 prepared = (it.master, readied.openable, record {
+    sound = prepared.sound;
+    count = ap (λ v. length v.items) pages ∙ readied.count;
+    page = λ p v e.
+        let e2 : slice_get it.pages.items p ≡ Some v = ap (λ xs. slice_get xs.items p) (sym pages) ∙ e in
+        let l : p < it.master.pages = (let w : p < length it.pages.items = slice_get_within it.pages.items p v e2 in let c : length it.pages.items ≡ it.master.pages = readied.count in omega arith) in
+        record { own = readied.own p v e2; is = sym (ap redo_images.page_or e2) ∙ prepared.pages p l; saved = readied.saved p v e2 };
+    won = winners ∙ prepared.won;
+    lost = undone ∙ prepared.lost;
+    base = subst (λ (k : Master). Rattle.recovery.specs.Opened.IsGreatest (Rattle.disk_image.specs.Shown.image_by it.master (areas_of s0)) k.floor) (sym master) prepared.greatest;
+    master = master ∙ ap (next_master it.master) (sym (ap (λ (k : Master). k.floor) master));
+  })
+
+  pub wholes : it.base < 2 ^ 64 → IsWhole r
+  wholes wide = record {
+    count = ap (λ v. length v.items) pages ∙ (readied.count ∙ sym (ap (λ (k : Master). k.pages) master));
+    own = λ p v e. readied.own p v (ap (λ xs. slice_get xs.items p) (sym pages) ∙ e);
+    tree = subst (λ (k : Master). IsTree (Rattle.disk_image.specs.Formats.format_of k.pages) (Rattle.node_tree.specs.Nodes.nodes_of r.pages.items)) (sym master)
+        (subst (λ xs. IsTree (Rattle.disk_image.specs.Formats.format_of it.master.pages) (Rattle.node_tree.specs.Nodes.nodes_of xs.items)) (sym pages) readied.tree);
+    numbers = λ p v e. subst (λ (k : Master). v.gsn ≤ k.floor) (sym master) (readied.numbers p v (ap (λ xs. slice_get xs.items p) (sym pages) ∙ e));
+    master = subst IsOfSlot (sym master) (slot_of (next_master it.master it.base), next_master_valid);
+  }
+    where
+      next_master_valid : Rattle.disk_slots.specs.Masters.IsMaster (slot_of (next_master it.master it.base)) (next_master it.master it.base)
+      next_master_valid = Rattle.recovery.proofs.MasterLemmas.valid_next it.master it.base (readied.valid.0, readied.valid.1) readied.openable wide

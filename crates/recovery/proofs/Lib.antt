@@ -1,0 +1,15 @@
+pub mod OwnLemmas
+pub mod UndoLemmas
+pub mod NextLemmas
+pub mod BaseLemmas
+pub mod MasterLemmas
+pub mod WriteLemmas
+pub mod ReadLemmas
+pub mod StampLemmas
+pub mod LoadLemmas
+pub mod SaveLemmas
+pub mod SettleLemmas
+pub mod PrepareLemmas
+pub mod FinishLemmas
+pub mod LastLemmas
+pub mod ClauseLemmas

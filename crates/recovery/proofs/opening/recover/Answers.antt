@@ -1,0 +1,59 @@
+use Rattle.std.proofs.Common.{◌≡◌, ◌^◌, ◌<◌, ℕ, IsTrue, refl, ap, subst, ◌∙◌}
+use Rattle.lean_disk.specs.Story.{Tells}
+use Rattle.disk_slots.specs.declared.master.Master.{Master}
+use Rattle.recovery.proofs.ClauseLemmas.{answers, opens, saved_moments, wholes, written_moments}
+use Rattle.recovery.proofs.opening.recover.Goals as goal
+
+pub returns-in_default-clause-any_moment : goal.returns-in_default-clause-any_moment
+returns-in_default-clause-any_moment g c m t clean =
+    let story = g.D.Disk.story in
+    let e = c.in-Ok.ensures in
+    saved_moments c.in-Ok.it e.readied (story c.args.disk.now) (story c.prepare.new.disk) e.settles t e.settled (e.prepared t) m clean
+    (((g.met.D.Disk g.world.𝓛 g.world.𝓜 g.world.𝓡 ((λ s x. x), (λ x. x), (λ x. x), (λ x. x))).whole c.prepare.new.disk) 1)
+    (story c.save_changed.new.disk) c.save_changed.result c.save_changed.ensures.saves
+
+pub returns-in_default-write_next-clause-any_moment : goal.returns-in_default-write_next-clause-any_moment
+returns-in_default-write_next-clause-any_moment g c m t clean =
+    let story = g.D.Disk.story in
+    let e = c.in-Ok.ensures in
+    let next = c.next_master-master in
+    let wide : c.in-Ok.it.base < 2 ^ 64 = subst (λ (k : Master). k.floor < 2 ^ 64) next.ensures.answer next.ensures.wide in
+    written_moments c.in-Ok.it e.readied (story c.args.disk.now) (story c.prepare.new.disk) e.settles t e.settled (e.prepared t) m clean
+    (((g.met.D.Disk g.world.𝓛 g.world.𝓜 g.world.𝓡 ((λ s x. x), (λ x. x), (λ x. x), (λ x. x))).whole c.prepare.new.disk) 1)
+    (story c.save_changed.new.disk) c.save_changed.result c.save_changed.ensures.saves c.in-Done.is wide next.result next.ensures.answer (story c.write_next.new.disk) c.write_next.ensures.any_moment
+
+pub returns-clause-any_moment : goal.returns-clause-any_moment
+returns-clause-any_moment g c m t clean =
+    let story = g.D.Disk.story in
+    let e = c.in-Ok.ensures in
+    let next = c.next_master-master in
+    let wide : c.in-Ok.it.base < 2 ^ 64 = subst (λ (k : Master). k.floor < 2 ^ 64) next.ensures.answer next.ensures.wide in
+    written_moments c.in-Ok.it e.readied (story c.args.disk.now) (story c.prepare.new.disk) e.settles t e.settled (e.prepared t) m clean
+    (((g.met.D.Disk g.world.𝓛 g.world.𝓜 g.world.𝓡 ((λ s x. x), (λ x. x), (λ x. x), (λ x. x))).whole c.prepare.new.disk) 1)
+    (story c.save_changed.new.disk) c.save_changed.result c.save_changed.ensures.saves c.in-Done.is wide next.result next.ensures.answer (story c.write_next.new.disk) c.write_next.ensures.any_moment
+
+pub returns-clause-opened : goal.returns-clause-opened
+returns-clause-opened g c t m clean =
+    let story = g.D.Disk.story in
+    let s0 = story c.args.disk.now in
+    let s4 = story c.prepare.new.disk in
+    let s6 = story c.save_changed.new.disk in
+    let e = c.in-Ok.ensures in
+    let next = c.next_master-master in
+    let wide : c.in-Ok.it.base < 2 ^ 64 = subst (λ (k : Master). k.floor < 2 ^ 64) next.ensures.answer next.ensures.wide in
+    let told : Tells s6 0 = c.save_changed.ensures.frame.tells 0 ∙ (e.settles.tells 0 ∙ t.master) in
+    opens c.in-Ok.it e.readied s0 s4 e.settles t e.settled (e.prepared t) m clean
+    (((g.met.D.Disk g.world.𝓛 g.world.𝓜 g.world.𝓡 ((λ s x. x), (λ x. x), (λ x. x), (λ x. x))).whole c.prepare.new.disk) 1)
+    s6 c.save_changed.result c.save_changed.ensures.saves c.in-Done.is wide next.result next.ensures.answer (story c.write_next.new.disk) c.write_next.ensures.frame (c.write_next.ensures.done (c.in-Done-write_next).is told) _ refl
+
+pub returns-clause-answer : goal.returns-clause-answer
+returns-clause-answer g c t =
+    let story = g.D.Disk.story in
+    let e = c.in-Ok.ensures in
+    answers c.in-Ok.it e.readied _ refl refl refl c.next_master-master.ensures.answer (story c.args.disk.now) (e.prepared t)
+
+pub returns-clause-whole : goal.returns-clause-whole
+returns-clause-whole g c =
+    let next = c.next_master-master in
+    let wide : c.in-Ok.it.base < 2 ^ 64 = subst (λ (k : Master). k.floor < 2 ^ 64) next.ensures.answer next.ensures.wide in
+    wholes c.in-Ok.it c.in-Ok.ensures.readied _ refl refl refl next.ensures.answer wide

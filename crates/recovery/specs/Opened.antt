@@ -1,0 +1,103 @@
+-- What recovery gives, and the disk that it leaves.
+use Rattle.std.specs.Prelude.{◌≡◌, ◌⊎◌, ◌<◌, ◌≤◌, ℕ, suc, List, [], length, slice_get, Some}
+use Rattle.map_model.specs.Lists.{Has}
+use Rattle.page_model.specs.Page.{Page}
+use Rattle.page_model.specs.Tree.{IsTree}
+use Rattle.image_model.specs.Entries as model
+use Rattle.image_model.specs.Fair.{piece}
+use Rattle.image_model.specs.Entries.{Entry}
+use Rattle.image_model.specs.Images.{Image, bases, sorted, won_by, lost_by, recovered_page}
+use Rattle.image_model.specs.Slots.{Slot, base_of}
+use Rattle.lean_disk.specs.Area.{Area}
+use Rattle.lean_disk.specs.Story.{Story, Tells}
+use Rattle.log_block.specs.Block.{IsSealed, generation_of}
+use Rattle.disk_slots.specs.Masters.{IsMaster}
+use Rattle.disk_slots.specs.declared.master.Master.{Master}
+use Rattle.disk_image.specs.Breaks.{Breaks}
+use Rattle.disk_image.specs.Formats.{format_of}
+use Rattle.disk_image.specs.MasterSlots.{master_on}
+use Rattle.disk_image.specs.Shown.{Areas, shown_by, image_by, IsSoundDisk}
+use Rattle.node_tree.specs.Nodes.{nodes_of}
+use Rattle.recovery_scan.specs.Scans.{areas_of}
+use Rattle.recovery_redo.specs.Images.{page_of}
+use Rattle.recovery.specs.Masters.{next_master}
+use Rattle.recovery.specs.declared.opening.Recovered.{Recovered}
+
+-- it tells of the areas of the master, of the pages and of the log
+pub record TellsAll (s : Story) : Type 0 where
+  pub master : Tells s 0
+  pub pages : Tells s 1
+  pub log : Tells s 2
+
+-- this is page p as recovery gives it, saved by the generation or one before
+pub record IsPageOf (i : Image) (generation p : ℕ) (v : Page) : Type 0 where
+  pub own : v.number ≡ p
+  pub is : page_of v ≡ recovered_page i p
+  pub saved : v.generation ≤ generation
+
+-- n is the greatest of the floor, of the numbers of records, and of those of the pages' bases; no recovered page is above it
+pub record IsGreatest (i : Image) (n : ℕ) : Type 0 where
+  pub floor : i.floor ≤ n
+  pub records : (r : Entry) → Has r (sorted i) → r.number ≤ n
+  pub stored : (p : ℕ) → p < i.format.pages → (bases i p).gsn ≤ n
+  pub recovered : (p : ℕ) → p < i.format.pages → (recovered_page i p).gsn ≤ n
+  pub met : (n ≡ i.floor) ⊎ (((r : Entry) × Has r (sorted i) × (n ≡ r.number)) ⊎ ((p : ℕ) × (p < i.format.pages) × (n ≡ (bases i p).gsn)))
+
+-- The areas are those of a sound disk; the pages and the counts are its image's; the floor of the next master is the base
+-- number.
+pub record IsRecovered (m : Master) (area : Areas) (r : Recovered) : Type 0 where
+  pub sound : IsSoundDisk m area
+  pub count : length r.pages.items ≡ m.pages
+  pub page : (p : ℕ) (v : Page) → slice_get r.pages.items p ≡ Some v → IsPageOf (image_by m area) (suc m.generation) p v
+  pub won : r.winners ≡ length (won_by (image_by m area))
+  pub lost : r.undone ≡ length (lost_by (image_by m area))
+  pub base : IsGreatest (image_by m area) r.master.floor
+  pub master : r.master ≡ next_master m r.master.floor
+
+-- Whatever the disk told: as many pages as the master has, each with its own number, which form a tree; and the master is one of a
+-- slot.
+pub record IsWhole (r : Recovered) : Type 0 where
+  pub count : length r.pages.items ≡ r.master.pages
+  pub own : (p : ℕ) (v : Page) → slice_get r.pages.items p ≡ Some v → v.number ≡ p
+  pub tree : IsTree (format_of r.master.pages) (nodes_of r.pages.items)
+  -- no page has a number above the floor
+  pub numbers : (p : ℕ) (v : Page) → slice_get r.pages.items p ≡ Some v → v.gsn ≤ r.master.floor
+  pub master : (slot : ℕ) × IsMaster slot r.master
+
+-- a crash leaves nothing else of the area
+pub record IsSettled (area : Area) : Type 0 where
+  pub clean : area.unsynced ≡ []
+  pub end : area.end ≡ length area.bytes
+
+-- no block of the generation stands among the first n
+abbrev pub HasNone : (generation n : ℕ) → List ℕ → Type 0
+HasNone generation n bytes = (p : ℕ) → p < n → IsSealed (piece 2048 p bytes) → generation_of (piece 2048 p bytes) ≡ generation → ⊥
+
+-- The disk then, where the areas were those of a clean one: the master is the new one; each page's base is the recovered page; nothing
+-- is of a later generation than the master's, and no block is of that one; and all is settled.
+pub record IsOpened (m : Master) (area : Areas) (r : Recovered) (s : Story) : Type 0 where
+  pub master : master_on (s.area 0).bytes ≡ Some r.master
+  pub base : (p : ℕ) → p < m.pages → base_of (shown_by r.master (areas_of s)) p ≡ Some (recovered_page (image_by m area) p)
+  pub slots : (p i : ℕ) (x : Slot) → p < m.pages → i < 2 → (shown_by r.master (areas_of s)).slot p i ≡ Some x → x.generation ≤ r.master.generation
+  pub blocks : HasNone r.master.generation m.blocks (s.area 2).bytes
+  pub settled : (a : ℕ) → a < 3 → IsSettled (s.area a)
+
+-- a place of the area breaks a rule
+pub record IsDamaged (area : Areas) (a place : ℕ) : Type 0 where
+  pub m : Master
+  pub master : master_on (area 0) ≡ Some m
+  pub breaks : Breaks m area a place
+
+-- what a run of calls keeps, whatever it writes
+pub record Keeps (old new : Story) : Type 0 where
+  pub notes : new.notes ≡ old.notes
+  pub tells : (a : ℕ) → new.tells a ≡ old.tells a
+  pub areas : new.areas ≡ old.areas
+  pub counts : new.counts ≡ old.counts
+  pub later : old.moment ≤ new.moment
+
+-- the area holds what it held, and nothing was written to it
+pub record IsUntouched (old new : Area) : Type 0 where
+  pub bytes : new.bytes ≡ old.bytes
+  pub writes : new.writes ≡ old.writes
+  pub first : new.first ≡ old.first
