@@ -1,13 +1,15 @@
 -- A script that was executed on a disk that was opened.
 use Rattle.std.proofs.Common.{◌≡◌, ◌⊎◌, inl, inr, ⊎_elim, ◌≤◌, ◌<◌, ◌+◌, ◌*◌, ◌-◌, ◌^◌, ◌++◌, ℕ, suc, List, [], ◌∷◌, length, take, min, Some, None, Option, IsTrue, refl, sym, ◌∙◌, ap, ap₂, subst, arith}
-use Rattle.std.proofs.lemmas.List.{append-nil}
+use Rattle.std.proofs.lemmas.List.{append-nil, append_cancel_right}
 use mathlib.Core.List.{append_assoc}
 use mathlib.Core.Path.{fun_ext}
 use Rattle.map_model.specs.Maps.{Map}
 use Rattle.map_model.specs.Journals.{Journal, Name, Serial}
 use Rattle.map_model.specs.Transcripts as model
 use Rattle.image_model.specs.Images.{map_of}
-use Rattle.lean_disk.specs.Area.{Area}
+use Rattle.image_model.specs.Fair.{IsFair}
+use Rattle.log_block.specs.Block.{IsSealed}
+use Rattle.lean_disk.specs.Area.{Area, Write}
 use Rattle.lean_disk.specs.Calls.{Noted}
 use Rattle.lean_disk.specs.Moments.{LeavesOnly}
 use Rattle.lean_disk.specs.Story.{Crash, IsLawful, LeavesNow, Story, Tells}
@@ -38,18 +40,18 @@ use Rattle.transcripts.specs.Told.{asked_text, opened_line, replies, text_of, na
 use Rattle.transcripts.specs.Told.Heard.{Whole}
 use Rattle.transcripts.specs.Transcripts.{durables, first_lines, in_turn, transcript}
 use Rattle.script_run.specs.Moments.{ScriptLeaves}
-use Rattle.script_run.specs.Runs.{PrintsTo, ScriptRuns}
+use Rattle.script_run.specs.Runs.{PrintsTo, ScriptRuns, WentOn}
 use Rattle.script_run.specs.Texts.{EveryScript, LinesRead}
 use Rattle.script_run.specs.declared.stop.Stop.{Stop}
 use Rattle.script_run.specs.declared.stop.Stop.TheVariants as stops
-use Rattle.lean_run.specs.Crashes.{IsFairCrash, IsYoung, RunLeaves, Survives, TellsCrashes}
+use Rattle.lean_run.specs.Crashes.{IsFairCrash, IsYoung, RunLeaves, Survives, TellsCrashes, as_read}
 use Rattle.lean_run.specs.Ends.{RunEnds}
 use Rattle.lean_run.specs.Inside.{EndsWith, HasOpened, Rests, counts_of}
 use Rattle.lean_run.specs.Lines.{IsPut}
 use Rattle.lean_run.specs.Runs.{Counts, ended, first_line, last_line}
 use Rattle.lean_run.specs.declared.opening.Opened.{Opened}
 use Rattle.lean_run.proofs.LastLemmas.{Last, last_of}
-use Rattle.lean_run.proofs.MomentLemmas.{line_moments, put_moments, same_but, then}
+use Rattle.lean_run.proofs.MomentLemmas.{line_moments, put_moments, same_but, then, was_then}
 use Rattle.lean_run.proofs.OutputLemmas.{Out, all_put, earlier_fit, few_replies, front_few, no_tail, older_fit, out_of, same_front}
 use Rattle.lean_run.proofs.EndLemmas.{HasLines, HeardOf, final_tail, first_lines_of, heard_of, lines_of, runs_first}
 use Rattle.lean_run.proofs.SurviveLemmas as survive
@@ -64,7 +66,7 @@ all_told stops.DiskFault calls told tail fits p not_write = refl
 
 module _ (laws : EverySession) (tells_law : EveryTranscript) (moment_law : EveryMoment) (front_law : EveryFront) (script_law : EveryScript) (end_law : EveryEnd)
     (agrees : EveryAgreement) (seals : EverySealed) (reads_so : EveryRun)
-    (s0 sa sb sc s1 : Story) (law_a : IsLawful sa) (law_c : IsLawful sc) (op : Opened) (o : HasOpened s0 sa op) (keeps : Keeps s0 sa)
+    (s0 sa sb sc s1 : Story) (law_a : IsLawful sa) (law_c : IsLawful sc) (law_1 : IsLawful s1) (op : Opened) (o : HasOpened s0 sa op) (keeps : Keeps s0 sa)
     (any : (m : Master) → TellsAll s0 → IsCleanDisk m (areas_of s0) → LeavesOnly s0 sa (RecoveryLeaves m s0))
     (held0 held_b held_c held1 : Held) (opened_fits : NoticeFits (Notice.Opened op.generation op.winners op.undone)) (p : IsPut (first_line (counts_of op)) Done held0 held_b sa sb)
     (feed0 feed1 : Feed) (reader : Unread) (stop : Stop) (e1 : State) (r : ScriptRuns (Some stop) o.g [] (start o.g) 0 feed0 [] op.engine e1 reader feed1 held_b held_c sb sc)
@@ -215,9 +217,25 @@ module _ (laws : EverySession) (tells_law : EveryTranscript) (moment_law : Every
     script = r.any_moment (told_b 2 ∙ all.all.log) (fresh_account (sa.area 2)) refl kept_b
 
     -- a crash with the writes and the bytes of one that the script leaves, as these lines were out
-    survives_as : (c d : Crash) → (q : Q c) → survive.IsSameBut c d → (lines_out : ℕ) → d.notes ≡ s0.notes + lines_out → TellsOf q.heard q.first input (first_lines lines_out put) → P d
-    survives_as c d q same lines_out notes t = inr (survive.survives laws agrees reads_so seals m s0 sa sb o.g op.engine.log o.alone rests clean all.all (o.map m all.all clean) noted.area told_b rests.writes input put
-        calls r.told c d q same lines_out notes t.journal_is t.durables_are)
+    module _ (c d : Crash) (q : Q c) (same : survive.IsSameBut c d) (lines_out : ℕ) (notes : d.notes ≡ s0.notes + lines_out) (t : TellsOf q.heard q.first input (first_lines lines_out put)) where
+      fair_as : IsFairCrash s0 d → IsFair 2048 IsSealed (sa.area 2).bytes q.since (d.image 2)
+      fair_as = survive.fair_log laws agrees reads_so seals m s0 sa sb o.g op.engine.log o.alone rests clean all.all (o.map m all.all clean) noted.area told_b rests.writes input put
+          calls r.told c d q same lines_out notes t.journal_is t.durables_are
+
+      survives_as : IsFair 2048 IsSealed (sa.area 2).bytes q.since (d.image 2) → Survives m s0 input put d
+      survives_as = survive.survives laws agrees reads_so seals m s0 sa sb o.g op.engine.log o.alone rests clean all.all (o.map m all.all clean) noted.area told_b rests.writes input put
+          calls r.told c d q same lines_out notes t.journal_is t.durables_are
+
+    -- so it is in each image in which the log's blocks are fair, and they are in each fair image
+    record IsSafe (since : List Write) (d : Crash) : Type 0 where
+      survives : IsFair 2048 IsSealed (sa.area 2).bytes since (d.image 2) → Survives m s0 input put d
+      fair : IsFairCrash s0 d → IsFair 2048 IsSealed (sa.area 2).bytes since (d.image 2)
+
+    safe_as : (c d : Crash) (q : Q c) → survive.IsSameBut c d → (lines_out : ℕ) → d.notes ≡ s0.notes + lines_out → TellsOf q.heard q.first input (first_lines lines_out put) → IsSafe q.since d
+    safe_as c d q same lines_out notes t = record { survives = survives_as c d q same lines_out notes t; fair = fair_as c d q same lines_out notes t }
+
+    is_left : (since : List Write) (d : Crash) → IsSafe since d → P d
+    is_left since d s = inr (λ fair. s.survives (s.fair fair))
 
     first_few : (c : Crash) (q : Q c) → length q.first ≤ length r.told
     first_few c q = front_few q.later q.first r.told q.split
@@ -231,16 +249,16 @@ module _ (laws : EverySession) (tells_law : EveryTranscript) (moment_law : Every
     first_tells c q = tells_of tells q.unheard q.heard q.calls q.first (first_lines (suc (length q.first)) put) q.hears (first_output q.later q.first q.split)
 
     in_script : (c : Crash) → Q c → P c
-    in_script c q = survives_as c c q (record { writes = λ a. refl; image = λ a. refl }) (suc (length q.first)) (notes_of c q) (first_tells c q)
+    in_script c q = is_left q.since c (safe_as c c q (record { writes = λ a. refl; image = λ a. refl }) (suc (length q.first)) (notes_of c q) (first_tells c q))
 
     -- behind it
-    at_last : (c : Crash) → LeavesNow s1 c → Q (then sc c) → P c
+    at_last : (c : Crash) → LeavesNow s1 c → (q : Q (then sc c)) → IsSafe q.since c
     at_last c now q = ⊎_elim
-        (λ (e : c.notes ≡ sc.notes). survives_as (then sc c) c q (same_but sc c) (suc (length q.first)) (e ∙ notes_of (then sc c) q) (first_tells (then sc c) q))
+        (λ (e : c.notes ≡ sc.notes). safe_as (then sc c) c q (same_but sc c) (suc (length q.first)) (e ∙ notes_of (then sc c) q) (first_tells (then sc c) q))
         (λ (e : (c.notes ≡ sc.notes + 1) × (stop ≡ stops.WriteFault → ⊥)). whole e.0 e.1)
         (l.noted (let a = told_few in let b = notes_b in let y = young.notes in let n = notes_c in omega arith) c now)
       where
-        whole : c.notes ≡ sc.notes + 1 → (stop ≡ stops.WriteFault → ⊥) → P c
+        whole : c.notes ≡ sc.notes + 1 → (stop ≡ stops.WriteFault → ⊥) → IsSafe q.since c
         whole e not_write =
             let n = notes_c in
             let b = notes_b in
@@ -251,7 +269,7 @@ module _ (laws : EverySession) (tells_law : EveryTranscript) (moment_law : Every
             let lines_out : ℕ = suc (suc (length r.told)) in
             let size : length out.all ≡ length r.told = ap (λ (rs : List Reply). length rs) alls in
             let ended_out = end_law op.generation op.winners op.undone out.all put lines_out output (omega (arith, size)) in
-            survives_as (then sc c) c q (same_but sc c) lines_out (omega (arith, e, n, b))
+            safe_as (then sc c) c q (same_but sc c) lines_out (omega (arith, e, n, b))
             (tells_of tells q.unheard q.heard q.calls q.first (first_lines lines_out put) q.hears
             (subst (λ (rs : List Reply). IsOutput op.generation op.winners op.undone rs (first_lines lines_out put)) (alls ∙ sym firsts) ended_out))
 
@@ -259,7 +277,33 @@ module _ (laws : EverySession) (tells_law : EveryTranscript) (moment_law : Every
     later_bc = r.others.later
 
     pub leaves : LeavesOnly s0 s1 P
-    leaves = moments.then s0 sb s1 P before (put_moments sb sc s1 Q P script in_script law_c later_bc l.notes at_last)
+    leaves = moments.then s0 sb s1 P before (put_moments sb sc s1 Q P script in_script law_c later_bc l.notes (λ c now q. is_left q.since c (at_last c now q)))
+
+    -- as a read gives it
+    module _ (no_fault : stop ≡ stops.DiskFault → ⊥) where
+      now : LeavesNow s1 (as_read s1)
+      now = record { counts = l.notes.counts ∙ (r.others.counts ∙ counts_b); notes = refl; writes = λ a told. refl; leaves = λ a told. law_1.reads_so a told }
+
+      left : Q (then sc (as_read s1))
+      left = script.each sc.moment (then sc (as_read s1)) later_bc (was_then sc s1 law_c l.notes (as_read s1) now)
+
+      some_stop : {x y : Stop} → Some x ≡ Some y → x ≡ y
+      some_stop e = cc
+
+      went_on : WentOn r.session (fresh_account (sa.area 2)) r.state.log (sc.area 2)
+      went_on = r.goes_on (λ (e : Some stop ≡ Some stops.DiskFault). no_fault (some_stop e)) (told_b 2 ∙ all.all.log) (fresh_account (sa.area 2)) refl kept_b
+
+      fair_now : IsFair 2048 IsSealed (sa.area 2).bytes left.since (s1.area 2).bytes
+      fair_now =
+          let k = went_on.kept.holds in
+          let same : left.since ≡ k.since = append_cancel_right left.since k.since (sa.area 2).writes
+          (sym left.writes_are ∙ (ap (λ (x : Area). x.writes) (l.notes.area 2) ∙ (k.writes ∙ ap (λ (ws : List Write). k.since ++ ws) went_on.older))) in
+          subst (λ (x : Area). IsFair 2048 IsSealed (sa.area 2).bytes left.since x.bytes) (sym (l.notes.area 2))
+          (subst (λ (ws : List Write). IsFair 2048 IsSealed (sa.area 2).bytes ws (sc.area 2).bytes) (sym same)
+          (subst (λ (b : List ℕ). IsFair 2048 IsSealed b k.since (sc.area 2).bytes) went_on.first k.fair))
+
+      pub stands : Survives m s0 input put (as_read s1)
+      stands = (at_last (as_read s1) now left).survives fair_now
 
   pub run_ends : (status : ℕ) → status ≡ ended stop → (sink0 sink1 : ℕ) → RunEnds status s0 s1 feed0 feed1 held0 held1 sink0 sink1
   run_ends status is sink0 sink1 = record {
@@ -290,6 +334,7 @@ module _ (laws : EverySession) (tells_law : EveryTranscript) (moment_law : Every
       all_heard = h.all_heard;
       transcript_is = λ tells. (all_tells tells).transcript_is;
       serial = serial;
+      stands = λ no_fault tells m all clean young. stands tells m all clean young no_fault;
     }));
     any_moment = leaves;
   }

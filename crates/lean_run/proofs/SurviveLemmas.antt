@@ -114,10 +114,10 @@ module _ (laws : EverySession) (agrees : EveryAgreement) (reads_so : EveryRun) (
     since_is : d.writes 2 ≡ l.since ++ (s0.area 2).writes
     since_is = same.writes 2 ∙ (l.writes_are ∙ ap (λ (ws : List Write). l.since ++ ws) writes_0)
 
-    module _ (fair : IsFairCrash s0 d) where
-      fair_d : IsFair 2048 IsSealed (s.area 2).bytes l.since (d.image 2)
-      fair_d = subst (λ (b : List ℕ). IsFair 2048 IsSealed b l.since (d.image 2)) (sym rests.bytes) (fair.log l.since since_is)
+    pub fair_log : IsFairCrash s0 d → IsFair 2048 IsSealed (s.area 2).bytes l.since (d.image 2)
+    fair_log fair = subst (λ (b : List ℕ). IsFair 2048 IsSealed b l.since (d.image 2)) (sym rests.bytes) (fair.log l.since since_is)
 
+    module _ (fair_d : IsFair 2048 IsSealed (s.area 2).bytes l.since (d.image 2)) where
       fair_c : IsFair 2048 IsSealed (s.area 2).bytes l.since (c.image 2)
       fair_c = subst (λ (b : List ℕ). IsFair 2048 IsSealed (s.area 2).bytes l.since b) (same.image 2) fair_d
 

@@ -62,6 +62,10 @@ pub record TellsCrashes (s : Story) : Type 0 where
   pub all : TellsAll s
   pub counts : IsTrue s.counts
 
+-- what a read gives now, as if a crash had left it
+abbrev pub as_read : Story → Crash
+as_read s = record { notes = s.notes; writes = λ a. (s.area a).writes; image = areas_of s }
+
 -- The numbers on entry are far from their ends.
 pub record IsYoung (m : Master) (s : Story) : Type 0 where
   pub sequence : m.sequence < 2 ^ 62

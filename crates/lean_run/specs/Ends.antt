@@ -13,5 +13,5 @@ use Rattle.lean_run.specs.Crashes.{IsYoung, RunLeaves, TellsCrashes}
 pub record RunEnds (status : ℕ) (s0 s1 : Story) (feed0 feed1 : Feed) (held0 held1 : Held) (sink0 sink1 : ℕ) : Type 0 where
   pub put : List ℕ
   pub holds : IsTrue held0.tells → held1.bytes ≡ held0.bytes ++ put
-  pub how : HowRun status s0 feed0 feed1 put sink0 sink1
+  pub how : HowRun status s0 s1 feed0 feed1 put sink0 sink1
   pub any_moment : IsTrue feed0.tells → (m : Master) → TellsCrashes s0 → IsCleanDisk m (areas_of s0) → IsYoung m s0 → LeavesOnly s0 s1 (RunLeaves m s0 feed0.left put)

@@ -1,4 +1,4 @@
--- Read Lines, then Runs, Crashes and Ends. Inside has the words of private functions.
+-- Read Lines, then Crashes, Runs and Ends. Inside has the words of private functions.
 pub mod Lines
 pub mod Runs
 pub mod Crashes

@@ -9,7 +9,7 @@ use Rattle.lean_disk.specs.Story.{Story}
 use Rattle.lean_edge.specs.Outside.{Feed, Held}
 use Rattle.script_lang.specs.Notices.{Notice}
 use Rattle.disk_slots.specs.declared.master.Master.{Master}
-use Rattle.disk_image.specs.Shown.{image_by, DiskStandsFor, IsSoundDisk}
+use Rattle.disk_image.specs.Shown.{image_by, DiskStandsFor, IsCleanDisk, IsSoundDisk}
 use Rattle.recovery_scan.specs.Scans.{areas_of}
 use Rattle.recovery.specs.Masters.{HasOpenable, IsOpenable}
 use Rattle.recovery.specs.Opened.{IsDamaged, TellsAll}
@@ -27,6 +27,7 @@ use Rattle.script_run.specs.Runs.{Executes, PrintsTo}
 use Rattle.script_run.specs.Texts.{LinesRead}
 use Rattle.script_run.specs.declared.stop.Stop.{Stop}
 use Rattle.script_run.specs.declared.stop.Stop.TheVariants as stops
+use Rattle.lean_run.specs.Crashes.{IsYoung, Survives, TellsCrashes, as_read}
 use Rattle.lean_run.specs.Lines.{line_of, WentOut}
 
 -- ## A disk that was not opened
@@ -105,7 +106,7 @@ last_line stops.DiskFault = line_of Notice.DiskFault
 -- The script was executed on an opening: the first line went out, then the replies to its lines, then the last line or a front of it. What
 -- the script and the output tell of is what was executed, but for a last call whose reply was cut off; and it is serial from the
 -- map for which the disk on entry stands.
-pub record Ran (status : ℕ) (s0 : Story) (feed0 feed1 : Feed) (put : List ℕ) : Type 0 where
+pub record Ran (status : ℕ) (s0 s1 : Story) (feed0 feed1 : Feed) (put : List ℕ) : Type 0 where
   pub counts : Counts
   pub opening : Opening
   pub alone : IsAlone 64 opening
@@ -134,9 +135,11 @@ pub record Ran (status : ℕ) (s0 : Story) (feed0 feed1 : Feed) (put : List ℕ)
   pub all_heard : (stop ≡ stops.WriteFault → ⊥) → unheard ≡ []
   pub transcript_is : IsTrue feed0.tells → transcript 1 feed0.left put ≡ in_turn heard
   pub serial : IsTrue feed0.tells → TellsAll s0 → (m : Master) (map : Map) (won : List Name) → DiskStandsFor m (areas_of s0) map won → Serial map (journal (transcript 1 feed0.left put))
+  -- unless the disk failed, it stands as a crash would have left it
+  pub stands : (stop ≡ stops.DiskFault → ⊥) → IsTrue feed0.tells → (m : Master) → TellsCrashes s0 → IsCleanDisk m (areas_of s0) → IsYoung m s0 → Survives m s0 feed0.left put (as_read s1)
 
--- How a run ended, on a disk that told s0, with a source that told feed0 and tells feed1, and a sink into which these bytes were put; and
+-- How a run ended, on a disk that told s0 and tells s1, with a source that told feed0 and tells feed1, and a sink into which these bytes were put; and
 -- how often the sink had failed before and has now.
-abbrev pub HowRun : (status : ℕ) (s0 : Story) (feed0 feed1 : Feed) (put : List ℕ) (sink0 sink1 : ℕ) → Type 0
-HowRun status s0 feed0 feed1 put sink0 sink1 =
-    NotOpened status s0 feed0 feed1 put sink0 sink1 ⊎ (CutFirst status feed0 feed1 put ⊎ Ran status s0 feed0 feed1 put)
+abbrev pub HowRun : (status : ℕ) (s0 s1 : Story) (feed0 feed1 : Feed) (put : List ℕ) (sink0 sink1 : ℕ) → Type 0
+HowRun status s0 s1 feed0 feed1 put sink0 sink1 =
+    NotOpened status s0 feed0 feed1 put sink0 sink1 ⊎ (CutFirst status feed0 feed1 put ⊎ Ran status s0 s1 feed0 feed1 put)
