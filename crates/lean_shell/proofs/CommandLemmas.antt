@@ -1,23 +1,28 @@
--- How a command ended, clause by clause.
-use Rattle.std.proofs.Common.{◌≡◌, ◌⊎◌, inl, inr, ⊎_elim, ◌↔◌, ◌≤◌, ◌<◌, ℕ, List, sym, ◌∙◌, ap, subst, arith}
+-- How each command ended, as an end whatever the words.
+use Rattle.std.proofs.Common.{◌≡◌, ◌⊎◌, inl, inr, ⊎_elim, ◌≤◌, ◌<◌, ℕ, List, sym, ◌∙◌, ap, subst, arith}
 use Rattle.std.proofs.lemmas.Fmt.{decimal_injective}
 use Rattle.lean_disk.specs.Area.{Leaves}
 use Rattle.lean_disk.specs.Faults.{HasCause}
 use Rattle.lean_disk.specs.Moments.{LeavesOnly}
-use Rattle.lean_disk.specs.Story.{IsLawful, Story, Tells}
-use Rattle.lean_disk.proofs.MomentLemmas.{started, weaker}
-use Rattle.lean_edge.specs.Outside.{Held, Puts}
-use Rattle.lean_edge.specs.declared.sink.Put.TheVariants as put
-use Rattle.lean_shell.specs.Endings.{CommandEnds, CommandLeaves, FormatEnds, IsStatus, WentOut, formatted_line, last_line, number_of}
-use Rattle.lean_shell.specs.Formatted.{FormatLeaves, HasMaster, IsNewDisk, IsUntouched, OnlyNotes}
-use Rattle.lean_shell.specs.Words.{Asks, AsksFormat, IsNumberIn}
-use Rattle.lean_shell.specs.declared.failure.Failure.{Failure}
-use Rattle.lean_shell.specs.declared.failure.Failure.TheVariants.{Usage}
+use Rattle.lean_disk.specs.Story.{IsLawful, Story}
+use Rattle.lean_disk.proofs.MomentLemmas.{started}
+use Rattle.lean_edge.specs.Outside.{Feed, Held}
+use Rattle.recovery.specs.declared.opening.Unrecovered.{Unrecovered}
+use Rattle.recovery.specs.declared.opening.Unrecovered.TheVariants as why
+use Rattle.script_run.specs.declared.stop.Stop.{Stop}
+use Rattle.script_run.specs.declared.stop.Stop.TheVariants as stops
+use Rattle.lean_run.specs.Ends.{RunEnds}
+use Rattle.lean_run.specs.Runs.{HowRun, ended, status_of}
+use Rattle.lean_shell.specs.Endings.{FormatEnds, IsFormatStatus, IsStatus, Stays, UsageEnds}
+use Rattle.lean_shell.specs.Formatted.{OnlyNotes}
+use Rattle.lean_shell.specs.Inside.{CommandEnds, Counts}
+use Rattle.lean_shell.specs.Words.{Asks, AsksFormat, AsksRun, IsNumberIn}
 use Rattle.lean_shell.specs.declared.words.Command.{Command}
-use Rattle.lean_shell.specs.declared.words.Command.TheVariants.{Format}
+use Rattle.lean_shell.specs.declared.words.Command.TheVariants.{Format, Run}
 use Rattle.lean_shell.specs.declared.words.Shape.{Shape}
-use Rattle.lean_shell.proofs.EndLemmas.{same_failure}
 use Rattle.lean_shell.proofs.PutLemmas.{IsOfBytes, noted_moments}
+
+-- ## Words
 
 one_number : (from to : ℕ) (text : List ℕ) (m n : ℕ) → to ≤ 4096 → IsNumberIn from to text m → IsNumberIn from to text n → m ≡ n
 one_number from to text m n end is other = decimal_injective m n (omega (arith, end, is.most)) (omega (arith, end, other.most)) (sym is.spelled ∙ other.spelled)
@@ -29,71 +34,91 @@ same_shape words x y is other =
     let blocks : x.blocks ≡ y.blocks = one_number 64 4096 _ x.blocks y.blocks (omega arith) is.shape_is.blocks_are other.shape_is.blocks_are in
     ap (λ (p : ℕ). record x { pages = p }) pages ∙ ap (λ (b : ℕ). record y { blocks = b }) blocks
 
+-- words that ask for a new disk ask for no run
+pub not_both : (words : List (List ℕ)) (shape : Shape) → AsksFormat words shape → AsksRun words → ⊥
+not_both words shape format run = let eight = format.count in let two = run.count in omega (arith, eight, two)
+
+-- ## Statuses
+
+of_format_status : (n : ℕ) → IsFormatStatus n → IsStatus n × (n ≡ 4 → ⊥)
+of_format_status n (inl e) = (inl e, λ z. omega (arith, e, z))
+of_format_status n (inr (inl e)) = (inr (inr (inr (inr (inl e)))), λ z. omega (arith, e, z))
+of_format_status n (inr (inr (inl e))) = (inr (inr (inr (inr (inr (inl e))))), λ z. omega (arith, e, z))
+of_format_status n (inr (inr (inr (inl e)))) = (inr (inr (inr (inr (inr (inr (inr (inl e))))))), λ z. omega (arith, e, z))
+of_format_status n (inr (inr (inr (inr e)))) = (inr (inr (inr (inr (inr (inr (inr (inr e))))))), λ z. omega (arith, e, z))
+
+of_reason : (reason : Unrecovered) (n : ℕ) → n ≡ status_of reason → IsStatus n × (n ≡ 2 → ⊥)
+of_reason why.NotFormatted n e = (inr (inr (inr (inr (inr (inr (inl e)))))), λ z. omega (arith, e, z))
+of_reason (why.Damaged area place) n e = (inr (inr (inr (inr (inr (inr (inl e)))))), λ z. omega (arith, e, z))
+of_reason why.DiskFault n e = (inr (inr (inr (inr (inr (inl e))))), λ z. omega (arith, e, z))
+of_reason why.Memory n e = (inr (inr (inr (inr (inr (inr (inr (inl e))))))), λ z. omega (arith, e, z))
+
+of_stop : (stop : Stop) (n : ℕ) → n ≡ ended stop → IsStatus n × (n ≡ 2 → ⊥)
+of_stop stops.End n e = (inl e, λ z. omega (arith, e, z))
+of_stop (stops.Refused line) n e = (inr (inr (inl e)), λ z. omega (arith, e, z))
+of_stop stops.ReadFault n e = (inr (inr (inr (inl e))), λ z. omega (arith, e, z))
+of_stop stops.WriteFault n e = (inr (inr (inr (inr (inl e)))), λ z. omega (arith, e, z))
+of_stop stops.DiskFault n e = (inr (inr (inr (inr (inr (inl e))))), λ z. omega (arith, e, z))
+
+of_run_status : (n : ℕ) (s0 s1 : Story) (feed0 feed1 : Feed) (put : List ℕ) (sink0 sink1 : ℕ) → HowRun n s0 s1 feed0 feed1 put sink0 sink1 → IsStatus n × (n ≡ 2 → ⊥)
+of_run_status n s0 s1 feed0 feed1 put sink0 sink1 (inl x) = of_reason x.reason n x.status_is
+of_run_status n s0 s1 feed0 feed1 put sink0 sink1 (inr (inl x)) = of_stop stops.WriteFault n x.status_is
+of_run_status n s0 s1 feed0 feed1 put sink0 sink1 (inr (inr x)) = of_stop x.stop n x.status_is
+
+-- ## Words that ask for nothing
+
+stays_of_bytes : (s : Story) → IsOfBytes (Stays s)
+stays_of_bytes s = record { same = λ c d images writes is a told. subst (Leaves (s.area a)) (sym (images a)) (is a told) }
+
 -- before the first call nothing is touched
-module _ (words : List (List ℕ)) (s0 s1 : Story) (law : IsLawful s0) (none : (command : Command) → Asks words command → ⊥) (notes : OnlyNotes s0 s1) where
-  of_bytes : IsOfBytes (CommandLeaves words s0)
-  of_bytes = record {
-    same = λ c d images writes is. record {
-      format = λ shape asks. absurd (none (Format shape) asks);
-      usage = λ no a told. subst (Leaves (s0.area a)) (sym (images a)) (is.usage no a told);
-    };
+pub usage_moments : (s0 s1 : Story) → IsLawful s0 → OnlyNotes s0 s1 → LeavesOnly s0 s1 (Stays s0)
+usage_moments s0 s1 law notes = noted_moments s0 s0 s1 (Stays s0) (stays_of_bytes s0) law (omega arith) (started s0 (Stays s0) law (λ c now. now.leaves)) notes
+
+-- ## Ends
+
+module _ (words : List (List ℕ)) (status : ℕ) (s0 s1 : Story) (feed0 feed1 : Feed) (held0 held1 : Held) (before now : Counts) where
+  abbrev Ends : Type 0
+  Ends = CommandEnds words status s0 s1 feed0 feed1 held0 held1 before now
+
+  pub of_format : (shape : Shape) → AsksFormat words shape → now.source ≡ before.source
+      → FormatEnds shape status s0 s1 held0 held1 before.sink now.sink before.disk now.disk → Ends
+  of_format shape asks unread ends = record {
+    known = (of_format_status status ends.known).0;
+    usage = ((λ e. absurd (ends.words e)), (λ none. absurd (none (Format shape) asks)));
+    cause_read_fault = record { later = omega (arith, unread); cause = λ e. absurd ((of_format_status status ends.known).1 e) };
+    cause_write_fault = ends.cause_write_fault;
+    cause_disk_fault = ends.cause_disk_fault;
+    format = λ other also. subst (λ (x : Shape). FormatEnds x status s0 s1 held0 held1 before.sink now.sink before.disk now.disk) (same_shape words shape other asks also) ends;
+    run = λ also. absurd (not_both words shape asks also);
+    none = λ none. absurd (none (Format shape) asks);
   }
 
-  pub usage_moments : LeavesOnly s0 s1 (CommandLeaves words s0)
-  usage_moments = noted_moments s0 s0 s1 (CommandLeaves words s0) of_bytes law (omega arith)
-      (started s0 (CommandLeaves words s0) law (λ c now. record { format = λ shape asks. absurd (none (Format shape) asks); usage = λ no a told. now.leaves a told })) notes
+  pub of_run : AsksRun words → RunEnds status s0 s1 feed0 feed1 held0 held1 before.sink now.sink
+      → HasCause before.source now.source (status ≡ 4) → HasCause before.sink now.sink (status ≡ 5) → HasCause before.disk now.disk (status ≡ 6) → Ends
+  of_run asks ends read write disk =
+      let is = of_run_status status s0 s1 feed0 feed1 ends.put before.sink now.sink ends.how in
+      record {
+        known = is.0;
+        usage = ((λ e. absurd (is.1 e)), (λ none. absurd (none Run asks)));
+        cause_read_fault = read;
+        cause_write_fault = write;
+        cause_disk_fault = disk;
+        format = λ shape also. absurd (not_both words shape also asks);
+        run = λ also. ends;
+        none = λ none. absurd (none Run asks);
+      }
 
-module _ (words : List (List ℕ)) (status : ℕ) (s0 s1 : Story) (held0 held1 : Held) (sink0 sink1 disk0 disk1 : ℕ) (ends : CommandEnds words status s0 s1 held0 held1 sink0 sink1 disk0 disk1) where
-  pub known : IsStatus status
-  known = ⊎_elim (λ u. inr (inl u.status_is)) (λ f. f.2.known) ends
-
-  pub usage : (status ≡ 2) ↔ ((command : Command) → Asks words command → ⊥)
-  usage = ⊎_elim (λ u. ((λ e. u.unknown), (λ no. u.status_is))) (λ f. ((λ e. absurd (f.2.words e)), (λ no. absurd (no (Format f.0) f.1)))) ends
-
-  pub write_fault_cause : HasCause sink0 sink1 (status ≡ 5)
-  write_fault_cause = ⊎_elim (λ u. record { later = u.printed.cause.later; cause = λ e. absurd (let two = u.status_is in omega (arith, two, e)) }) (λ f. f.2.cause_write_fault) ends
-
-  pub disk_fault_cause : HasCause disk0 disk1 (status ≡ 6)
-  disk_fault_cause = ⊎_elim (λ u. record { later = omega (arith, u.faults); cause = λ e. absurd (let two = u.status_is in omega (arith, two, e)) }) (λ f. f.2.cause_disk_fault) ends
-
-  pub already : status ≡ 9 → Tells s0 0 → HasMaster (s0.area 0).bytes
-  already = ⊎_elim (λ u e. absurd (let two = u.status_is in omega (arith, two, e))) (λ f. f.2.cause_already_formatted) ends
-
-  not_usage : status ≡ 2 → (status ≡ 0) ⊎ (status ≡ 5) → ⊥
-  not_usage two is = ⊎_elim (λ e. omega (arith, two, e)) (λ e. omega (arith, two, e)) is
-
-  pub without_master : (status ≡ 0) ⊎ (status ≡ 5) → Tells s0 0 → HasMaster (s0.area 0).bytes → ⊥
-  without_master is = ⊎_elim (λ u. absurd (not_usage u.status_is is)) (λ f. f.2.no_master is) ends
-
-  of_shape : (shape : Shape) → Asks words (Format shape) → FormatEnds shape status s0 s1 held0 held1 sink0 sink1 disk0 disk1
-  of_shape shape asks = ⊎_elim (λ u. absurd (u.unknown (Format shape) asks)) (λ f. subst (λ (x : Shape). FormatEnds x status s0 s1 held0 held1 sink0 sink1 disk0 disk1) (same_shape words f.0 shape f.1 asks) f.2) ends
-
-  pub done : (shape : Shape) → Asks words (Format shape) → status ≡ 0 → Puts (formatted_line shape) put.Done held0 held1
-  done shape asks = (of_shape shape asks).done
-
-  pub write_fault : (shape : Shape) → Asks words (Format shape) → status ≡ 5 → Puts (formatted_line shape) put.Failed held0 held1
-  write_fault shape asks = (of_shape shape asks).write_fault
-
-  pub failed : (failure : Failure) → status ≡ number_of failure → WentOut (last_line failure) held0 held1 sink0 sink1
-  failed failure e = ⊎_elim
-      (λ u. subst (λ (f : Failure). WentOut (last_line f) held0 held1 sink0 sink1) (same_failure Usage failure (sym u.status_is ∙ e)) u.printed)
-      (λ f. f.2.failed failure e) ends
-
-  pub after : (shape : Shape) → Asks words (Format shape) → (status ≡ 0) ⊎ (status ≡ 5) → IsNewDisk shape s1
-  after shape asks = (of_shape shape asks).after
-
-  pub same : (status ≡ 2) ⊎ (status ≡ 8) ⊎ (status ≡ 9) → IsUntouched s0 s1
-  same is = ⊎_elim (λ u. u.same) (λ f. ⊎_elim (λ e. absurd (f.2.words e)) (λ rest. f.2.same rest) is) ends
-
-  pub logs : (a : ℕ) → 1 < a → s1.area a ≡ s0.area a
-  logs a lt = ⊎_elim (λ u. u.same a) (λ f. f.2.logs a lt) ends
-
-  pub any_moment : LeavesOnly s0 s1 (CommandLeaves words s0)
-  any_moment = ⊎_elim (λ u. u.any_moment)
-      (λ f. weaker s0 s1 (FormatLeaves f.0 s0) (CommandLeaves words s0)
-      (λ c is. record {
-        format = λ shape asks. subst (λ (x : Shape). FormatLeaves x s0 c) (same_shape words f.0 shape f.1 asks) is;
-        usage = λ no. absurd (no (Format f.0) f.1);
-      })
-      f.2.any_moment)
-      ends
+  pub of_none : ((command : Command) → Asks words command → ⊥) → now.source ≡ before.source
+      → UsageEnds status s0 s1 held0 held1 before.sink now.sink before.disk now.disk → Ends
+  of_none nothing unread ends =
+      let two : status ≡ 2 = ends.status_is in
+      record {
+        known = inr (inl two);
+        usage = ((λ e. nothing), (λ also. two));
+        cause_read_fault = record { later = omega (arith, unread); cause = λ e. absurd (omega (arith, two, e)) };
+        cause_write_fault = record { later = ends.printed.cause.later; cause = λ e. absurd (omega (arith, two, e)) };
+        cause_disk_fault = record { later = omega (arith, ends.faults); cause = λ e. absurd (omega (arith, two, e)) };
+        format = λ shape asks. absurd (nothing (Format shape) asks);
+        run = λ asks. absurd (nothing Run asks);
+        none = λ also. ends;
+      }

@@ -8,7 +8,7 @@ use Rattle.lean_disk.specs.Story.{IsLawful, Story, Tells}
 use Rattle.lean_edge.specs.Outside.{Held, Puts}
 use Rattle.lean_edge.specs.declared.sink.Put.{Put}
 use Rattle.lean_edge.specs.declared.sink.Put.TheVariants as put
-use Rattle.lean_shell.specs.Endings.{FinishedPut, FormatEnds, IsStatus, WentOut, finished, formatted_line, last_line, number_of}
+use Rattle.lean_shell.specs.Endings.{FinishedPut, FormatEnds, IsFormatStatus, WentOut, finished, formatted_line, last_line, number_of}
 use Rattle.lean_shell.specs.Formatted.{FormatLeaves, HasMaster, HasPages, IsFormatted, IsMaster, IsNewDisk, IsUntouched, OnlyNotes}
 use Rattle.lean_shell.specs.declared.failure.Failure.{Failure}
 use Rattle.lean_shell.specs.declared.failure.Failure.TheVariants.{Usage, DiskFault, Memory, AlreadyFormatted}
@@ -43,11 +43,11 @@ no_failure DiskFault n e is = ⊎_elim (λ z. omega (arith, e, z)) (λ z. omega 
 no_failure Memory n e is = ⊎_elim (λ z. omega (arith, e, z)) (λ z. omega (arith, e, z)) is
 no_failure AlreadyFormatted n e is = ⊎_elim (λ z. omega (arith, e, z)) (λ z. omega (arith, e, z)) is
 
-status_known : (f : Failure) (n : ℕ) → n ≡ number_of f → IsStatus n
-status_known Usage n e = inr (inl e)
-status_known DiskFault n e = inr (inr (inr (inl e)))
-status_known Memory n e = inr (inr (inr (inr (inl e))))
-status_known AlreadyFormatted n e = inr (inr (inr (inr (inr e))))
+status_known : (f : Failure) (n : ℕ) → n ≡ number_of f → (f ≡ Usage → ⊥) → IsFormatStatus n
+status_known Usage n e other = absurd (other refl)
+status_known DiskFault n e other = inr (inr (inl e))
+status_known Memory n e other = inr (inr (inr (inl e)))
+status_known AlreadyFormatted n e other = inr (inr (inr (inr e)))
 
 -- a line that was put ends with 0 or 5
 ways : (r : Put) (n : ℕ) → n ≡ finished r → (n ≡ 0) ⊎ (n ≡ 5)
@@ -86,7 +86,7 @@ module _ (shape : Shape) (s0 s s1 : Story) (law : IsLawful s) (later : s0.moment
       → (f ≡ AlreadyFormatted → Tells s0 0 → HasMaster (s0.area 0).bytes) → ((f ≡ Memory) ⊎ (f ≡ AlreadyFormatted) → IsUntouched s0 s) → HasCause disk0 disk1 (f ≡ DiskFault)
       → FormatEnds shape status s0 s1 held0 held1 sink0 sink1 disk0 disk1
   failed f status is no_usage out already same cause = record {
-    known = status_known f status is;
+    known = status_known f status is no_usage;
     words = λ e. no_usage (same_failure f Usage (sym is ∙ e));
     cause_write_fault = record { later = out.cause.later; cause = λ e. absurd (no_failure f status is (inr e)) };
     cause_disk_fault = record { later = cause.later; cause = λ e. cause.cause (same_failure f DiskFault (sym is ∙ e)) };
@@ -104,7 +104,7 @@ module _ (shape : Shape) (s0 s s1 : Story) (law : IsLawful s) (later : s0.moment
   pub finished_well : (status : ℕ) → FinishedPut shape status held0 held1 sink0 sink1 → IsNewDisk shape s → (Tells s0 0 → HasMaster (s0.area 0).bytes → ⊥) → disk0 ≤ disk1
       → FormatEnds shape status s0 s1 held0 held1 sink0 sink1 disk0 disk1
   finished_well status fin new none later_disk = record {
-    known = ⊎_elim inl (λ e. inr (inr (inl e))) (ways fin.answer status fin.status_is);
+    known = ⊎_elim inl (λ e. inr (inl e)) (ways fin.answer status fin.status_is);
     words = λ e. ⊎_elim (λ z. omega (arith, e, z)) (λ z. omega (arith, e, z)) (ways fin.answer status fin.status_is);
     cause_write_fault = record { later = fin.cause.later; cause = λ e. fin.cause.cause (was_failed fin.answer status fin.status_is e) };
     cause_disk_fault = record { later = later_disk; cause = λ e. absurd (⊎_elim (λ z. omega (arith, e, z)) (λ z. omega (arith, e, z)) (ways fin.answer status fin.status_is)) };

@@ -29,9 +29,12 @@ fresh_words : (p : ℕ) (b : Bool) → length (words_of (new_page p (if b then e
 fresh_words p true = omega (arith, length-replicate {A = ℕ} 120 0)
 fresh_words p false = omega (arith, length-replicate {A = ℕ} 120 0)
 
+pub length-fresh_slot : (p : ℕ) → length (page_slot (new_page p (fresh_node p))) ≡ 1024
+length-fresh_slot p = length-page_slot (new_page p (fresh_node p)) (fresh_words p (p == 0))
+
 pub length-fresh_page : (p : ℕ) → length (fresh_page p) ≡ 2048
 unfolding fresh_page
-length-fresh_page p = omega (arith, length-append (page_slot (new_page p (fresh_node p))) (replicate 1024 0), length-page_slot (new_page p (fresh_node p)) (fresh_words p (p == 0)), length-replicate {A = ℕ} 1024 0)
+length-fresh_page p = omega (arith, length-append (page_slot (new_page p (fresh_node p))) (replicate 1024 0), length-fresh_slot p, length-replicate {A = ℕ} 1024 0)
 
 pub length-first_slot : (shape : Shape) → length (first_slot shape) ≡ 1024
 unfolding master_slot

@@ -5,6 +5,7 @@ mod EndLemmas
 mod FormatLemmas
 mod FreshLemmas
 mod MasterLemmas
+mod NewDiskLemmas
 mod NumberLemmas
 mod PieceLemmas
 mod PutLemmas

@@ -12,9 +12,6 @@ use Rattle.lean_edge.specs.declared.sink.Put.TheVariants as put
 use Rattle.lean_shell.specs.declared.failure.Failure.{Failure}
 use Rattle.lean_shell.specs.declared.failure.Failure.TheVariants.{Usage, DiskFault, Memory, AlreadyFormatted}
 use Rattle.lean_shell.specs.Formatted.{FormatLeaves, HasMaster, IsNewDisk, IsUntouched}
-use Rattle.lean_shell.specs.Words.{Asks}
-use Rattle.lean_shell.specs.declared.words.Command.{Command}
-use Rattle.lean_shell.specs.declared.words.Command.TheVariants.{Format}
 use Rattle.lean_shell.specs.declared.words.Shape.{Shape}
 
 -- the status of each failure; 0 is none, and 5 is that of a sink that failed
@@ -37,7 +34,11 @@ formatted_line shape = notice_text (Formatted 1 shape.pages shape.blocks) ++ 10 
 
 -- the statuses there are
 abbrev pub IsStatus : ℕ → Type 0
-IsStatus n = (n ≡ 0) ⊎ (n ≡ 2) ⊎ (n ≡ 5) ⊎ (n ≡ 6) ⊎ (n ≡ 8) ⊎ (n ≡ 9)
+IsStatus n = (n ≡ 0) ⊎ (n ≡ 2) ⊎ (n ≡ 3) ⊎ (n ≡ 4) ⊎ (n ≡ 5) ⊎ (n ≡ 6) ⊎ (n ≡ 7) ⊎ (n ≡ 8) ⊎ (n ≡ 9)
+
+-- those that `format` ends with
+abbrev pub IsFormatStatus : ℕ → Type 0
+IsFormatStatus n = (n ≡ 0) ⊎ (n ≡ 5) ⊎ (n ≡ 6) ⊎ (n ≡ 8) ⊎ (n ≡ 9)
 
 -- The line went out, or some front of it; then the sink's count rose.
 pub record WentOut (line : List ℕ) (old new : Held) (before now : ℕ) : Type 0 where
@@ -60,7 +61,7 @@ pub record FinishedPut (shape : Shape) (status : ℕ) (old new : Held) (before n
 -- How `format` of a shape ended, on a disk that told s0 and tells s1, with a sink that held held0 and holds held1; and how often
 -- sink and disk had failed before and have now.
 pub record FormatEnds (shape : Shape) (status : ℕ) (s0 s1 : Story) (held0 held1 : Held) (sink0 sink1 disk0 disk1 : ℕ) : Type 0 where
-  pub known : IsStatus status
+  pub known : IsFormatStatus status
   pub words : status ≡ 2 → ⊥
   pub cause_write_fault : HasCause sink0 sink1 (status ≡ 5)
   pub cause_disk_fault : HasCause disk0 disk1 (status ≡ 6)
@@ -74,22 +75,14 @@ pub record FormatEnds (shape : Shape) (status : ℕ) (s0 s1 : Story) (held0 held
   pub logs : (a : ℕ) → 1 < a → s1.area a ≡ s0.area a
   pub any_moment : LeavesOnly s0 s1 (FormatLeaves shape s0)
 
--- What a crash may leave of a disk on which a command with these words began at s.
-pub record CommandLeaves (words : List (List ℕ)) (s : Story) (c : Crash) : Type 0 where
-  pub format : (shape : Shape) → Asks words (Format shape) → FormatLeaves shape s c
-  -- words that ask for nothing touch nothing
-  pub usage : ((command : Command) → Asks words command → ⊥) → (a : ℕ) → Tells s a → Leaves (s.area a) (c.image a)
+-- a crash leaves what it might have left at s
+abbrev pub Stays : Story → Crash → Type 0
+Stays s c = (a : ℕ) → Tells s a → Leaves (s.area a) (c.image a)
 
 -- How a command ended whose words ask for nothing.
-pub record UsageEnds (words : List (List ℕ)) (status : ℕ) (s0 s1 : Story) (held0 held1 : Held) (sink0 sink1 disk0 disk1 : ℕ) : Type 0 where
-  pub unknown : (command : Command) → Asks words command → ⊥
+pub record UsageEnds (status : ℕ) (s0 s1 : Story) (held0 held1 : Held) (sink0 sink1 disk0 disk1 : ℕ) : Type 0 where
   pub status_is : status ≡ number_of Usage
   pub printed : WentOut (last_line Usage) held0 held1 sink0 sink1
   pub same : IsUntouched s0 s1
   pub faults : disk1 ≡ disk0
-  pub any_moment : LeavesOnly s0 s1 (CommandLeaves words s0)
-
--- How a command ended.
-abbrev pub CommandEnds : List (List ℕ) → ℕ → (s0 s1 : Story) → (held0 held1 : Held) → (sink0 sink1 disk0 disk1 : ℕ) → Type 0
-CommandEnds words status s0 s1 held0 held1 sink0 sink1 disk0 disk1 =
-    UsageEnds words status s0 s1 held0 held1 sink0 sink1 disk0 disk1 ⊎ ((shape : Shape) × Asks words (Format shape) × FormatEnds shape status s0 s1 held0 held1 sink0 sink1 disk0 disk1)
+  pub any_moment : LeavesOnly s0 s1 (Stays s0)

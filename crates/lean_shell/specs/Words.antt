@@ -4,7 +4,7 @@ use Rattle.std.specs.declared.alloc.Global.{Global}
 use Rattle.std.specs.Fmt.{decimal}
 use Rattle.lean_shell.specs.declared.words.Shape.{Shape}
 use Rattle.lean_shell.specs.declared.words.Command.{Command}
-use Rattle.lean_shell.specs.declared.words.Command.TheVariants.{Format}
+use Rattle.lean_shell.specs.declared.words.Command.TheVariants.{Format, Run}
 
 -- a text with no sign and no leading zero
 pub record IsPlain (text : List ℕ) : Type 0 where
@@ -44,6 +44,12 @@ pub record AsksFormat (words : List (List ℕ)) (shape : Shape) : Type 0 where
   pub options : HasOptions words
   pub shape_is : SpellsShape (word_at words 5) (word_at words 7) shape
 
+-- `NAME run`
+pub record AsksRun (words : List (List ℕ)) : Type 0 where
+  pub count : length words ≡ 2
+  pub command : word_at words 1 ≡ codes "run"
+
 -- the words ask for this
 abbrev pub Asks : List (List ℕ) → Command → Type 0
 Asks words (Format shape) = AsksFormat words shape
+Asks words Run = AsksRun words

@@ -1,6 +1,8 @@
 //! The commands of the program: what it reads, what it prints, the status that it ends with.
 #![tactic(auto)]
 
+ghost use Rattle.lean_shell.specs.Laws.{EveryNewDisk};
+
 mod failure;
 mod format;
 mod gate;
@@ -13,5 +15,12 @@ pub use gate::Gate;
 pub use program::{Ended, run};
 pub use words::{Command, Shape, read_words};
 
+/// A disk as `format` leaves it is clean, and stands for the empty map.
+pub fn every_new_disk()
+    ensures { EveryNewDisk }
+{}
+
+#[cfg(test)]
+mod rows;
 #[cfg(test)]
 mod tests;

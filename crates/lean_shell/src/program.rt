@@ -1,15 +1,13 @@
 // The program's one call.
-ghost use Rattle.std.specs.Prelude.{◌≡◌, ◌⊎◌, ◌<◌, ◌≤◌, ◌↔◌, ℕ, length};
+ghost use Rattle.std.specs.Prelude.{◌≡◌, ◌↔◌, ◌≤◌, length};
 ghost use Rattle.lean_disk.specs.Faults.{HasCause};
-ghost use Rattle.lean_disk.specs.Moments.{LeavesOnly};
-ghost use Rattle.lean_disk.specs.Story.{Tells};
-ghost use Rattle.lean_edge.specs.Outside.{Puts};
-ghost use Rattle.lean_shell.specs.Endings.{CommandEnds, CommandLeaves, FinishedPut, FormatEnds, IsStatus, WentOut, formatted_line, last_line, number_of};
-ghost use Rattle.lean_shell.specs.Formatted.{HasMaster, IsNewDisk, IsUntouched, OnlyNotes};
+ghost use Rattle.lean_run.specs.Ends.{RunEnds};
+ghost use Rattle.lean_shell.specs.Endings.{FinishedPut, FormatEnds, IsStatus, UsageEnds, WentOut, last_line, number_of};
+ghost use Rattle.lean_shell.specs.Formatted.{OnlyNotes};
+ghost use Rattle.lean_shell.specs.Inside.{CommandEnds};
 ghost use Rattle.lean_shell.specs.Words.{Asks, texts};
-ghost use Rattle.lean_shell.specs.declared.failure.Failure.{Failure};
 ghost use Rattle.lean_shell.specs.declared.words.Command.{Command};
-ghost use Rattle.lean_shell.specs.declared.words.Command.TheVariants.{Format};
+ghost use Rattle.lean_shell.specs.declared.words.Command.TheVariants.{Format, Run};
 ghost use Rattle.lean_shell.specs.declared.words.Shape.{Shape};
 
 use crate::Gate;
@@ -18,6 +16,7 @@ use crate::format::{Formatted, format};
 use crate::words::{Command, Shape, read_words};
 use lean_disk::Disk;
 use lean_edge::{Put, Sink, Source};
+use lean_run::run_disk;
 use script_lang::{REPLY, formatted_bytes};
 use std::alloc::Global;
 use std::sync::Wait;
@@ -63,11 +62,20 @@ fn run_format<K: Sink<D>, D: Disk>(alloc: Global, shape: Shape, sink: &mut K, di
 }
 
 // Every command but those that take threads.
-fn run_alone<K: Sink<D>, D: Disk>(alloc: Global, words: &[String], sink: &mut K, disk: &mut D) -> u8
-    ensures { CommandEnds (texts words.now) result (D.story disk.old) (D.story disk.new) (K.held sink.old) (K.held sink.new) (K.faults sink.old) (K.faults sink.new) (D.faults disk.old) (D.faults disk.new) }
+fn run_alone<S: Source, K: Sink<D>, D: Disk>(
+    alloc: Global,
+    words: &[String],
+    source: &mut S,
+    sink: &mut K,
+    disk: &mut D,
+) -> u8
+    ensures ends { CommandEnds (texts words.now) result (D.story disk.old) (D.story disk.new) (S.feed source.old) (S.feed source.new) (K.held sink.old) (K.held sink.new)
+        (record { source = S.faults source.old; sink = K.faults sink.old; disk = D.faults disk.old }) (record { source = S.faults source.new; sink = K.faults sink.new; disk = D.faults disk.new }) }
+    ensures source { (Asks (texts words.now) Run → ⊥) → source.new ≡ source.old }
 {
     match read_words(words) {
         Some(Command::Format(shape)) => run_format(alloc, shape, sink, disk),
+        Some(Command::Run) => run_disk(alloc, source, sink, disk),
         None => fail(Failure::Usage, sink, disk),
     }
 }
@@ -82,8 +90,9 @@ pub struct Ended<D> {
 /// Does what the words of a command line ask for, the program's name first.
 ///
 /// It reads a script from `source`, puts each line of its output into `sink`, works on `disk`, and holds the workers
-/// of a round at `gate`. The statuses: 0 it was done; 2 the words are no command; 5 the sink failed; 6 the disk
-/// failed; 8 memory was refused; 9 the disk has a valid master already.
+/// of a round at `gate`. The statuses: 0 it was done; 2 the words are no command; 3 a line of the script was refused;
+/// 4 the source failed; 5 the sink failed; 6 the disk failed; 7 the disk is not formatted or is damaged; 8 memory was
+/// refused; 9 the disk has a valid master already.
 pub fn run<R: Threads + Wait + Sync, S: Source, K: Sink<D>, D: Disk, G: Gate + Sync>(
     rt: &R,
     alloc: Global,
@@ -96,26 +105,19 @@ pub fn run<R: Threads + Wait + Sync, S: Source, K: Sink<D>, D: Disk, G: Gate + S
     // Which statuses there are, and why.
     ensures known { IsStatus result.status }
     ensures usage { (result.status ≡ 2) ↔ ((command : Command) → Asks (texts words.now) command → ⊥) }
+    ensures cause_read_fault { HasCause (S.faults source.old) (S.faults source.new) (result.status ≡ 4) }
     ensures cause_write_fault { HasCause (K.faults sink.old) (K.faults sink.new) (result.status ≡ 5) }
     ensures cause_disk_fault { HasCause (D.faults disk) (D.faults result.disk) (result.status ≡ 6) }
-    ensures cause_already_formatted { result.status ≡ 9 → Tells (D.story disk) 0 → HasMaster ((D.story disk).area 0).bytes }
-    ensures no_master { (result.status ≡ 0) ⊎ (result.status ≡ 5) → Tells (D.story disk) 0 → HasMaster ((D.story disk).area 0).bytes → ⊥ }
 
-    // What is printed: one line, and only a sink that failed holds less of it.
-    ensures done { (shape : Shape) → Asks (texts words.now) (Format shape) → result.status ≡ 0 → Puts (formatted_line shape) Put.Done (K.held sink.old) (K.held sink.new) }
-    ensures write_fault { (shape : Shape) → Asks (texts words.now) (Format shape) → result.status ≡ 5 → Puts (formatted_line shape) Put.Failed (K.held sink.old) (K.held sink.new) }
-    ensures failed { (failure : Failure) → result.status ≡ number_of failure → WentOut (last_line failure) (K.held sink.old) (K.held sink.new) (K.faults sink.old) (K.faults sink.new) }
+    // What each command does.
+    ensures format { (shape : Shape) → Asks (texts words.now) (Format shape) → FormatEnds shape result.status (D.story disk) (D.story result.disk) (K.held sink.old) (K.held sink.new) (K.faults sink.old) (K.faults sink.new) (D.faults disk) (D.faults result.disk) }
+    ensures run { Asks (texts words.now) Run → RunEnds result.status (D.story disk) (D.story result.disk) (S.feed source.old) (S.feed source.new) (K.held sink.old) (K.held sink.new) (K.faults sink.old) (K.faults sink.new) }
+    ensures none { ((command : Command) → Asks (texts words.now) command → ⊥) → UsageEnds result.status (D.story disk) (D.story result.disk) (K.held sink.old) (K.held sink.new) (K.faults sink.old) (K.faults sink.new) (D.faults disk) (D.faults result.disk) }
 
-    // What the disk holds.
-    ensures after { (shape : Shape) → Asks (texts words.now) (Format shape) → (result.status ≡ 0) ⊎ (result.status ≡ 5) → IsNewDisk shape (D.story result.disk) }
-    ensures same { (result.status ≡ 2) ⊎ (result.status ≡ 8) ⊎ (result.status ≡ 9) → IsUntouched (D.story disk) (D.story result.disk) }
-    ensures logs { (a : ℕ) → 1 < a → (D.story result.disk).area a ≡ (D.story disk).area a }
-    ensures any_moment { LeavesOnly (D.story disk) (D.story result.disk) (CommandLeaves (texts words.now) (D.story disk)) }
-
-    // The source is not read.
-    ensures source { source.new ≡ source.old }
+    // The source is read by a run alone.
+    ensures source { (Asks (texts words.now) Run → ⊥) → source.new ≡ source.old }
 {
     let mut disk = disk;
-    let status = run_alone(alloc, words, sink, &mut disk);
+    let status = run_alone(alloc, words, source, sink, &mut disk);
     Ended { status, disk }
 }

@@ -9,7 +9,8 @@ use std::thread::Threads;
 
 const FORMAT: &str = "lean format --workers 1 --pages 16 --blocks 64";
 
-struct Open;
+// Holds no worker.
+pub(crate) struct Open;
 
 impl Gate for Open {
     fn pass(&self, _: u32, _: u64) {}
@@ -17,7 +18,7 @@ impl Gate for Open {
     fn answered(&self, _: u32, _: u64) {}
 }
 
-fn words_of(alloc: Global, text: &str) -> Result<Vec<String>, AllocError> {
+pub(crate) fn words_of(alloc: Global, text: &str) -> Result<Vec<String>, AllocError> {
     let mut words = Vec::new(alloc);
     for word in text.split(' ') {
         words.push(String::from_str(alloc, word)?)?;
@@ -26,7 +27,7 @@ fn words_of(alloc: Global, text: &str) -> Result<Vec<String>, AllocError> {
 }
 
 // The status, the disk and what was printed.
-fn run_words<R: Threads + Wait + Sync>(
+pub(crate) fn run_words<R: Threads + Wait + Sync>(
     rt: &R,
     alloc: Global,
     words: &[String],
@@ -47,7 +48,7 @@ fn format_on<R: Threads + Wait + Sync>(
     run_words(rt, alloc, &words, disk, MemSink::new(alloc))
 }
 
-fn part(bytes: &[u8], at: usize, count: usize) -> &[u8] {
+pub(crate) fn part(bytes: &[u8], at: usize, count: usize) -> &[u8] {
     match bytes.get(at..) {
         Some(rest) => rest.get(..count).unwrap_or(b""),
         None => b"",
@@ -87,7 +88,9 @@ fn other_words_are_no_command(rt: HostRuntime) -> Result<(), Fail> {
     for text in [
         "",
         "lean",
-        "lean run",
+        "lean run 1",
+        "lean run --frames 32",
+        "lean Run",
         "lean --help",
         "lean format --help",
         "lean format --workers 0 --pages 64 --blocks 64",

@@ -1,7 +1,7 @@
 // The words of a command line.
 ghost use Rattle.std.specs.Prelude.{◌≡◌, ◌^◌, ◌<◌, ℕ, length, ◌↔◌, IfSome, IfNone, IsTrue, string_bytes};
 ghost use Rattle.std.specs.Fmt.{decimal};
-ghost use Rattle.lean_shell.specs.Words.{Asks, HasOptions, IsNumberIn, IsPlain, SpellsShape, texts, word_at};
+ghost use Rattle.lean_shell.specs.Words.{Asks, AsksFormat, AsksRun, HasOptions, IsNumberIn, IsPlain, SpellsShape, texts, word_at};
 ghost use Rattle.lean_shell.specs.declared.words.Command.{Command};
 ghost use Rattle.lean_shell.specs.declared.words.Shape.{Shape};
 
@@ -18,6 +18,7 @@ pub struct Shape {
 #[derive(Clone, Copy, Debug, PartialEq, Eq)]
 pub enum Command {
     Format(Shape),
+    Run,
 }
 
 // Whether the text has no sign and no leading zero.
@@ -87,10 +88,10 @@ fn is_format(words: &[String]) -> bool
         && is_word(words, 6, "--blocks")
 }
 
-/// What the words of a command line ask for, the program's name first.
-pub fn read_words(words: &[String]) -> Option<Command>
-    ensures some { IfSome result (Asks (texts words.now)) }
-    ensures none { IfNone result ((c : Command) → Asks (texts words.now) c → ⊥) }
+// The shape that the words ask `format` for.
+fn read_format(words: &[String]) -> Option<Shape>
+    ensures some { IfSome result (AsksFormat (texts words.now)) }
+    ensures none { IfNone result ((s : Shape) → AsksFormat (texts words.now) s → ⊥) }
 {
     if words.len() != 8 {
         return None;
@@ -98,6 +99,24 @@ pub fn read_words(words: &[String]) -> Option<Command>
     if !is_format(words) {
         return None;
     }
-    let shape = read_shape(words[5].as_str(), words[7].as_str())?;
+    read_shape(words[5].as_str(), words[7].as_str())
+}
+
+// Whether the words ask for a run.
+fn is_run(words: &[String]) -> bool
+    ensures { IsTrue result ↔ AsksRun (texts words.now) }
+{
+    words.len() == 2 && is_word(words, 1, "run")
+}
+
+/// What the words of a command line ask for, the program's name first.
+pub fn read_words(words: &[String]) -> Option<Command>
+    ensures some { IfSome result (Asks (texts words.now)) }
+    ensures none { IfNone result ((c : Command) → Asks (texts words.now) c → ⊥) }
+{
+    if is_run(words) {
+        return Some(Command::Run);
+    }
+    let shape = read_format(words)?;
     Some(Command::Format(shape))
 }
