@@ -1,5 +1,5 @@
 -- How each command ended, as an end whatever the words.
-use Rattle.std.proofs.Common.{◌≡◌, ◌⊎◌, inl, inr, ⊎_elim, ◌≤◌, ◌<◌, ℕ, List, sym, ◌∙◌, ap, subst, arith}
+use Rattle.std.proofs.Common.{◌≡◌, inl, inr, ◌≤◌, ℕ, List, sym, ◌∙◌, ap, subst, arith}
 use Rattle.std.proofs.lemmas.Fmt.{decimal_injective}
 use Rattle.lean_disk.specs.Area.{Leaves}
 use Rattle.lean_disk.specs.Faults.{HasCause}

@@ -1,30 +1,26 @@
 -- A disk as `format` leaves it is clean, and stands for the empty map.
-use Rattle.std.proofs.Common.{◌≡◌, inl, inr, ⊎_elim, ◌<◌, ◌≤◌, ◌+◌, ◌-◌, ◌*◌, ◌^◌, ◌%◌, ◌==◌, ltb, ℕ, zero, suc, Bool, true, false, cond, List, [], ◌∷◌, ◌++◌, length, take, drop, replicate, Option, Some, None, refl, sym, ◌∙◌, ap, subst, arith, append_assoc, get_or}
+use Rattle.std.proofs.Common.{◌≡◌, ⊎_elim, ◌<◌, ◌≤◌, ◌+◌, ◌-◌, ◌*◌, ◌^◌, ◌%◌, ◌==◌, ltb, ℕ, zero, suc, Bool, true, false, cond, List, [], ◌∷◌, ◌++◌, take, drop, replicate, Option, Some, None, refl, sym, ◌∙◌, ap, subst, arith, append_assoc, get_or}
 use Rattle.std.proofs.lemmas.List.{take_at, drop_at, drop-drop, take-append-drop, length-replicate}
-use Rattle.std.proofs.lemmas.Bool.{cases_Bool, cases_lt, and_from, lt-ltb, le-ltb, cond-true, cond-false}
+use Rattle.std.proofs.lemmas.Bool.{cases_Bool, and_from, lt-ltb, le-ltb, cond-true, cond-false}
 use Rattle.std.proofs.lemmas.Nat.{mod_below}
 use Rattle.image_model.specs.Fair.{piece}
 use Rattle.image_model.specs.Slots.{Shown, Slot, base_of, image_of, newer_page, valid}
-use Rattle.image_model.specs.Entries.{Entry}
-use Rattle.image_model.specs.Entries as entries
 use Rattle.image_laws.specs.Formatted.{IsFormatted as IsFormattedImage, FormattedLaws, formatted_page}
 use Rattle.image_laws.proofs.FormattedLemmas.{every_formatted}
 use Rattle.page_model.specs.Nodes.{free}
-use Rattle.page_model.specs.Page.{Page, empty_leaf, new_page}
+use Rattle.page_model.specs.Page.{empty_leaf, new_page}
 use Rattle.btree_node.specs.Words.{words_of, Fits}
-use Rattle.lean_bytes.specs.Numbers.{AreWords}
-use Rattle.log_block.specs.Block.{IsSealed, generation_of}
-use Rattle.disk_slots.specs.Masters.{IsMaster as HoldsMaster, IsMasterSlot, master_slot}
+use Rattle.log_block.specs.Block.{generation_of}
+use Rattle.disk_slots.specs.Masters.{IsMaster as HoldsMaster, IsMasterSlot}
 use Rattle.disk_slots.specs.Pages.{IsPage, IsPageSlot, IsStorable, page_slot}
 use Rattle.disk_slots.specs.declared.master.Master.{Master}
 use Rattle.disk_slots.proofs.LawLemmas.{every_master, every_page}
 use Rattle.disk_image.specs.Blocks.{belongs, is_sealed}
-use Rattle.disk_image.specs.Formats.{format_of}
 use Rattle.disk_image.specs.Laws.{Agree, Agreement}
 use Rattle.disk_image.specs.MasterSlots.{master_in, master_on, newer}
 use Rattle.disk_image.specs.PageSlots.{page_in}
 use Rattle.disk_image.specs.Runs.{Block, AreReadable, block_at, entries_in, logged_onto, run_in, sealed_in}
-use Rattle.disk_image.specs.Shown.{DiskStandsFor, IsCleanDisk, IsReadable, run_of, shown_by, slot_of}
+use Rattle.disk_image.specs.Shown.{IsReadable, run_of, shown_by, slot_of}
 use Rattle.disk_image.specs.Words.{are_words}
 use Rattle.disk_image.proofs.AgreementLemmas.{every_agreement}
 use Rattle.disk_image.proofs.BlockInLemmas.{every_belongs, every_sealed}
@@ -32,7 +28,7 @@ use Rattle.disk_image.proofs.MasterSlotLemmas.{every_master_in}
 use Rattle.disk_image.proofs.PageSlotLemmas.{every_page_in}
 use Rattle.disk_image.proofs.TestLemmas.{none_some, some_is}
 use Rattle.disk_image.proofs.WordLemmas.{are_words_to}
-use Rattle.lean_shell.specs.Formatted.{HasPages, IsFormatted, IsMaster}
+use Rattle.lean_shell.specs.Formatted.{HasPages, IsFormatted}
 use Rattle.lean_shell.specs.Fresh.{first_master, fresh_node, fresh_page}
 use Rattle.lean_shell.specs.Laws.{EveryNewDisk, HasNoBlock, IsNew, IsShape}
 use Rattle.lean_shell.specs.Pieces.{pages_from}
@@ -183,8 +179,8 @@ module _ (shape : Shape) (area : ℕ → List ℕ) (fit : IsShape shape) (is : I
   master_is =
       let zero_is : master_in 0 (piece 1024 0 (area 0)) ≡ Some m = (every_master_in 0 (piece 1024 0 (area 0)) m).1 (record { holds = holds; spelled = is.master }) in
       let one_is : master_in 1 (piece 1024 1 (area 0)) ≡ None = none_of (master_in 1 (piece 1024 1 (area 0))) (λ o e.
-          let slot : IsMasterSlot 1 (piece 1024 1 (area 0)) o = (every_master_in 1 (piece 1024 1 (area 0)) o).0 e in
-          is.no_other (record { sealed = (every_master 1 o).sealed (piece 1024 1 (area 0)) slot; master = o; is = slot })) in
+      let slot : IsMasterSlot 1 (piece 1024 1 (area 0)) o = (every_master_in 1 (piece 1024 1 (area 0)) o).0 e in
+      is.no_other (record { sealed = (every_master 1 o).sealed (piece 1024 1 (area 0)) slot; master = o; is = slot })) in
       ap (λ (o : Option Master). newer o (master_in 1 (piece 1024 1 (area 0)))) zero_is ∙ ap (λ (o : Option Master). newer (Some m) o) one_is
 
   -- the log
