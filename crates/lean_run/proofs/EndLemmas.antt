@@ -52,7 +52,7 @@ use Rattle.lean_run.specs.Crashes.{IsYoung, RunLeaves, TellsCrashes}
 use Rattle.lean_run.specs.Ends.{RunEnds}
 use Rattle.lean_run.specs.Inside.{EndsWith, HasOpened, Refuses, Rests, counts_of}
 use Rattle.lean_run.specs.Lines.{IsPut, line_of}
-use Rattle.lean_run.specs.Runs.{Counts, HowRun, Shows, ended, first_line, last_line, notice_of, status_of}
+use Rattle.lean_run.specs.Runs.{Counts, HowRun, IsFrom, Shows, ended, first_line, last_line, notice_of, status_of}
 use Rattle.lean_run.specs.declared.opening.Opened.{Opened}
 use Rattle.lean_run.proofs.LastLemmas.{Last, PutText, last_of, put_text, went_out}
 use Rattle.lean_run.proofs.MomentLemmas.{line_moments, put_moments, same_but, then, unmoved}
@@ -73,26 +73,28 @@ module _ (notice_law : EveryNotice) (s0 old new : Story) (law : IsLawful old) (l
       (notice_law n feed.left 0 fits)
       (λ is. subst (λ (t : List ℕ). IsQuiet feed.left (first_lines 1 t)) (sym (line_text.whole is)) (notice_law n feed.left 1 fits))
 
-pub refused_ends : EveryNotice → (status : ℕ) (s0 old new : Story) → IsLawful old → s0.moment ≤ old.moment → old.notes ≡ s0.notes
+pub refused_ends : EveryNotice → (status : ℕ) (s0 old new : Story) → IsLawful old → s0.moment ≤ old.moment → old.notes ≡ s0.notes → ((a : ℕ) → 2 < a → old.area a ≡ s0.area a)
     → ((m : Master) → TellsAll s0 → IsCleanDisk m (areas_of s0) → LeavesOnly s0 old (RecoveryLeaves m s0)) → (feed : Feed) (reason : Unrecovered) → status ≡ status_of reason → Shows s0 reason
     → (held0 held1 : Held) (sink0 sink1 : ℕ) → Refuses reason held0 held1 sink0 sink1 old new → RunEnds status s0 new feed feed held0 held1 sink0 sink1
-refused_ends notice_law status s0 old new law later notes any feed reason is shown held0 held1 sink0 sink1 r =
+refused_ends notice_law status s0 old new law later notes others any feed reason is shown held0 held1 sink0 sink1 r =
     let t = line_text notice_law s0 old new law later notes any feed (notice_of reason) r.fits r.answer held0 held1 r.line in record {
       put = t.text;
       holds = t.holds;
       how = inl (record { reason = reason; status_is = is; shown = shown; printed = went_out (line_of (notice_of reason)) t.text r.answer sink0 sink1 t.front t.is_front t.whole r.cause; unread = refl });
+      others = λ a lt. (put_notes old new r.answer r.line.noted r.line.same).area a ∙ others a lt;
       any_moment = line_leaves notice_law s0 old new law later notes any feed (notice_of reason) r.fits r.answer held0 held1 r.line;
     }
 
-pub cut_ends : EveryNotice → (s0 old new : Story) → IsLawful old → s0.moment ≤ old.moment → old.notes ≡ s0.notes
-    → ((m : Master) → TellsAll s0 → IsCleanDisk m (areas_of s0) → LeavesOnly s0 old (RecoveryLeaves m s0)) → (feed : Feed) (n : Counts) → NoticeFits (Notice.Opened n.generation n.winners n.undone)
+pub cut_ends : EveryNotice → (s0 old new : Story) → IsLawful old → s0.moment ≤ old.moment → old.notes ≡ s0.notes → ((a : ℕ) → 2 < a → old.area a ≡ s0.area a)
+    → ((m : Master) → TellsAll s0 → IsCleanDisk m (areas_of s0) → LeavesOnly s0 old (RecoveryLeaves m s0)) → (feed : Feed) (n : Counts) (g : Opening) → (TellsAll s0 → IsFrom g s0 n) → NoticeFits (Notice.Opened n.generation n.winners n.undone)
     → (held0 held1 : Held) (sink0 sink1 : ℕ) (answer : Put) → IsPut (first_line n) answer held0 held1 old new → RunEnds 5 s0 new feed feed held0 held1 sink0 sink1
-cut_ends notice_law s0 old new law later notes any feed n fits held0 held1 sink0 sink1 answer p =
+cut_ends notice_law s0 old new law later notes others any feed n g from fits held0 held1 sink0 sink1 answer p =
     let o : Notice = Notice.Opened n.generation n.winners n.undone in
     let t = line_text notice_law s0 old new law later notes any feed o fits answer held0 held1 p in record {
       put = t.text;
       holds = t.holds;
-      how = inr (inl (record { status_is = refl; counts = n; front = t.front; printed = t.is_front; unread = refl }));
+      how = inr (inl (record { status_is = refl; counts = n; opening = g; from = from; front = t.front; printed = t.is_front; unread = refl }));
+      others = λ a lt. (put_notes old new answer p.noted p.same).area a ∙ others a lt;
       any_moment = line_leaves notice_law s0 old new law later notes any feed o fits answer held0 held1 p;
     }
 
@@ -132,9 +134,9 @@ heard_of front stops.WriteFault calls told tail fits p =
     record { heard = f.calls.first; unheard = f.calls.later; calls_are = f.calls.is; all_heard = λ e. absurd (e refl); hears = f.calls.heard }
 
 -- what stands behind the replies
-pub final_tail : (stop : Stop) (calls : List Answered) (told : List Reply) (tail : List ℕ) (fits : EachReplyFits (replies calls)) (p : PrintsTo (Some stop) (replies calls) told tail) (held0 held1 : Held) (old new : Story)
-    (l : Last stop held0 held1 old new) (n : Notice) → NoticeFits n → IsTail ((out_of stop calls told tail fits p).rest ++ l.text)
-final_tail stop calls told tail fits p held0 held1 old new l n n_fits = go stop calls told tail fits p l
+pub final_tail : (stop : Stop) (calls : List Answered) (told : List Reply) (tail : List ℕ) (fits : EachReplyFits (replies calls)) (p : PrintsTo (Some stop) (replies calls) told tail) (held0 held1 : Held) (sink0 sink1 : ℕ) (old new : Story)
+    (l : Last stop held0 held1 sink0 sink1 old new) (n : Notice) → NoticeFits n → IsTail ((out_of stop calls told tail fits p).rest ++ l.text)
+final_tail stop calls told tail fits p held0 held1 sink0 sink1 old new l n n_fits = go stop calls told tail fits p l
   where
     behind : (rest text : List ℕ) → rest ≡ [] → IsTail text → IsTail (rest ++ text)
     behind rest text e t = subst IsTail (sym (ap (λ (r : List ℕ). r ++ text) e)) t
@@ -143,7 +145,7 @@ final_tail stop calls told tail fits p held0 held1 old new l n n_fits = go stop 
     cut rest text e (inl none) = subst IsTail (sym (ap (λ (t : List ℕ). rest ++ t) e ∙ (append-nil rest ∙ none))) (no_tail n n_fits)
     cut rest text e (inr c) = subst IsTail (sym (ap (λ (t : List ℕ). rest ++ t) e ∙ append-nil rest)) (CutReply c.0 c.1 c.2)
 
-    go : (stop : Stop) (calls : List Answered) (told : List Reply) (tail : List ℕ) (fits : EachReplyFits (replies calls)) (p : PrintsTo (Some stop) (replies calls) told tail) (l : Last stop held0 held1 old new) → IsTail ((out_of stop calls told tail fits p).rest ++ l.text)
+    go : (stop : Stop) (calls : List Answered) (told : List Reply) (tail : List ℕ) (fits : EachReplyFits (replies calls)) (p : PrintsTo (Some stop) (replies calls) told tail) (l : Last stop held0 held1 sink0 sink1 old new) → IsTail ((out_of stop calls told tail fits p).rest ++ l.text)
     go stops.End calls told tail fits p l = behind tail l.text p.none (l.tail (λ q. cc) n n_fits)
     go (stops.Refused line) calls told tail fits p l = behind tail l.text p.none (l.tail (λ q. cc) n n_fits)
     go stops.ReadFault calls told tail fits p l = behind tail l.text p.none (l.tail (λ q. cc) n n_fits)

@@ -40,21 +40,19 @@ went_out line text Done before now front is whole cause = inl (whole refl)
 went_out line text Failed before now front is whole cause = inr ((front, is), cause.cause refl)
 
 -- The last line of a script that stopped: what the sink holds of it, and whether it was noted.
-pub record Last (stop : Stop) (held0 held1 : Held) (old new : Story) : Type 0 where
+pub record Last (stop : Stop) (held0 held1 : Held) (sink0 sink1 : ℕ) (old new : Story) : Type 0 where
   pub text : List ℕ
-  pub front : ℕ
-  pub is_front : text ≡ take front (last_line stop)
+  pub went : (before : ℕ) → before ≤ sink0 → WentOut (last_line stop) text before sink1
   pub holds : IsTrue held0.tells → held1.bytes ≡ held0.bytes ++ text
   pub notes : OnlyNotes old new
   pub noted : old.notes < 2 ^ 63 → (c : Crash) → LeavesNow new c → (c.notes ≡ old.notes) ⊎ ((c.notes ≡ old.notes + 1) × (stop ≡ stops.WriteFault → ⊥))
   pub tail : (stop ≡ stops.WriteFault → ⊥) → (n : Notice) → NoticeFits n → IsTail text
   pub none : stop ≡ stops.WriteFault → text ≡ []
 
-nothing_put : (stop : Stop) (held0 held1 : Held) (old new : Story) → last_line stop ≡ [] → held1 ≡ held0 → TellsSame old new → Last stop held0 held1 old new
-nothing_put stop held0 held1 old new empty held same = record {
+nothing_put : (stop : Stop) (held0 held1 : Held) (sink0 sink1 : ℕ) (old new : Story) → last_line stop ≡ [] → held1 ≡ held0 → TellsSame old new → Last stop held0 held1 sink0 sink1 old new
+nothing_put stop held0 held1 sink0 sink1 old new empty held same = record {
   text = [];
-  front = 0;
-  is_front = refl;
+  went = λ before le. inl (sym empty);
   holds = λ told. ap (λ (h : Held). h.bytes) held ∙ sym (append-nil held0.bytes);
   notes = put_notes old new Failed (λ e. absurd (not_done e)) (λ e. same);
   noted = λ few c now. inl (now.notes ∙ same.notes);
@@ -62,13 +60,12 @@ nothing_put stop held0 held1 old new empty held same = record {
   none = λ e. refl;
 }
 
-line_put : (stop : Stop) (n : Notice) → NoticeFits n → last_line stop ≡ line_of n → (stop ≡ stops.WriteFault → ⊥) → (held0 held1 : Held) (old new : Story) (answer : Put) → IsPut (last_line stop) answer held0 held1 old new → Last stop held0 held1 old new
-line_put stop n fits line not_write held0 held1 old new answer p =
+line_put : (stop : Stop) (n : Notice) → NoticeFits n → last_line stop ≡ line_of n → (stop ≡ stops.WriteFault → ⊥) → (held0 held1 : Held) (sink0 sink1 : ℕ) (old new : Story) (answer : Put) → IsPut (last_line stop) answer held0 held1 old new → HasCause sink0 sink1 (answer ≡ Failed) → Last stop held0 held1 sink0 sink1 old new
+line_put stop n fits line not_write held0 held1 sink0 sink1 old new answer p cause =
     let t = put_text (last_line stop) answer held0 held1 p.puts in
     record {
       text = t.text;
-      front = t.front;
-      is_front = t.is_front;
+      went = λ before le. went_out (last_line stop) t.text answer before sink1 t.front t.is_front t.whole (earlier before le);
       holds = t.holds;
       notes = put_notes old new answer p.noted p.same;
       noted = λ few c now. how answer refl few c now;
@@ -76,13 +73,19 @@ line_put stop n fits line not_write held0 held1 old new answer p =
       none = λ e. absurd (not_write e);
     }
   where
+    earlier : (before : ℕ) → before ≤ sink0 → HasCause before sink1 (answer ≡ Failed)
+    earlier before le = record { later = (let a = cause.later in omega arith); cause = λ e. let a : Rose sink0 sink1 = cause.cause e in rose_earlier before le a }
+      where
+        rose_earlier : (before : ℕ) → before ≤ sink0 → Rose sink0 sink1 → Rose before sink1
+        rose_earlier before le a = omega arith
+
     how : (r : Put) → answer ≡ r → old.notes < 2 ^ 63 → (c : Crash) → LeavesNow new c → (c.notes ≡ old.notes) ⊎ ((c.notes ≡ old.notes + 1) × (stop ≡ stops.WriteFault → ⊥))
     how Done is few c now = inr (noted_more old new (p.noted is) c now few, not_write)
     how Failed is few c now = inl (now.notes ∙ (p.same is).notes)
 
-pub last_of : (stop : Stop) (held0 held1 : Held) (old new : Story) → EndsWith stop held0 held1 old new → Last stop held0 held1 old new
-last_of stops.End held0 held1 old new e = nothing_put stops.End held0 held1 old new refl e.0 e.1
-last_of stops.WriteFault held0 held1 old new e = nothing_put stops.WriteFault held0 held1 old new refl e.0 e.1
-last_of (stops.Refused line) held0 held1 old new e = line_put (stops.Refused line) (Notice.Refused line) e.0 refl (λ q. cc) held0 held1 old new e.1.0 e.1.1
-last_of stops.ReadFault held0 held1 old new e = line_put stops.ReadFault Notice.ReadFault tt refl (λ q. cc) held0 held1 old new e.0 e.1
-last_of stops.DiskFault held0 held1 old new e = line_put stops.DiskFault Notice.DiskFault tt refl (λ q. cc) held0 held1 old new e.0 e.1
+pub last_of : (stop : Stop) (held0 held1 : Held) (sink0 sink1 : ℕ) (old new : Story) → EndsWith stop held0 held1 sink0 sink1 old new → Last stop held0 held1 sink0 sink1 old new
+last_of stops.End held0 held1 sink0 sink1 old new e = nothing_put stops.End held0 held1 sink0 sink1 old new refl e.0 e.1
+last_of stops.WriteFault held0 held1 sink0 sink1 old new e = nothing_put stops.WriteFault held0 held1 sink0 sink1 old new refl e.0 e.1
+last_of (stops.Refused line) held0 held1 sink0 sink1 old new e = line_put (stops.Refused line) (Notice.Refused line) e.0 refl (λ q. cc) held0 held1 sink0 sink1 old new e.1.0 e.1.1 e.1.2
+last_of stops.ReadFault held0 held1 sink0 sink1 old new e = line_put stops.ReadFault Notice.ReadFault tt refl (λ q. cc) held0 held1 sink0 sink1 old new e.0 e.1 e.2
+last_of stops.DiskFault held0 held1 sink0 sink1 old new e = line_put stops.DiskFault Notice.DiskFault tt refl (λ q. cc) held0 held1 sink0 sink1 old new e.0 e.1 e.2

@@ -70,7 +70,7 @@ module _ (laws : EverySession) (tells_law : EveryTranscript) (moment_law : Every
     (any : (m : Master) → TellsAll s0 → IsCleanDisk m (areas_of s0) → LeavesOnly s0 sa (RecoveryLeaves m s0))
     (held0 held_b held_c held1 : Held) (opened_fits : NoticeFits (Notice.Opened op.generation op.winners op.undone)) (p : IsPut (first_line (counts_of op)) Done held0 held_b sa sb)
     (feed0 feed1 : Feed) (reader : Unread) (stop : Stop) (e1 : State) (r : ScriptRuns (Some stop) o.g [] (start o.g) 0 feed0 [] op.engine e1 reader feed1 held_b held_c sb sc)
-    (last : EndsWith stop held_c held1 sc s1) where
+    (sink_c sink1 : ℕ) (last : EndsWith stop held_c held1 sink_c sink1 sc s1) where
   abbrev calls : List Answered
   calls = r.newer
 
@@ -89,8 +89,8 @@ module _ (laws : EverySession) (tells_law : EveryTranscript) (moment_law : Every
   abbrev out : Out calls r.told r.tail
   out = out_of stop calls r.told r.tail fit_replies r.prints
 
-  abbrev l : Last stop held_c held1 sc s1
-  l = last_of stop held_c held1 sc s1 last
+  abbrev l : Last stop held_c held1 sink_c sink1 sc s1
+  l = last_of stop held_c held1 sink_c sink1 sc s1 last
 
   abbrev put : List ℕ
   put = first_line (counts_of op) ++ (text_of r.told ++ (r.tail ++ l.text))
@@ -100,7 +100,7 @@ module _ (laws : EverySession) (tells_law : EveryTranscript) (moment_law : Every
     opened = opened_fits;
     fit = older_fit out.newer out.all (subst EachReplyFits (sym out.split) fit_replies);
     tail = out.rest ++ l.text;
-    ends = final_tail stop calls r.told r.tail fit_replies r.prints held_c held1 sc s1 l (Notice.Opened op.generation op.winners op.undone) opened_fits;
+    ends = final_tail stop calls r.told r.tail fit_replies r.prints held_c held1 sink_c sink1 sc s1 l (Notice.Opened op.generation op.winners op.undone) opened_fits;
     is = ap (λ (t : List ℕ). first_line (counts_of op) ++ t)
         (sym (append_assoc (text_of r.told) r.tail l.text) ∙ (ap (λ (t : List ℕ). t ++ l.text) out.text ∙ append_assoc (text_of out.all) out.rest l.text));
   }
@@ -305,8 +305,8 @@ module _ (laws : EverySession) (tells_law : EveryTranscript) (moment_law : Every
       pub stands : Survives m s0 input put (as_read s1)
       stands = (at_last (as_read s1) now left).survives fair_now
 
-  pub run_ends : (status : ℕ) → status ≡ ended stop → (sink0 sink1 : ℕ) → RunEnds status s0 s1 feed0 feed1 held0 held1 sink0 sink1
-  run_ends status is sink0 sink1 = record {
+  pub run_ends : (status : ℕ) → status ≡ ended stop → (sink0 : ℕ) → sink0 ≤ sink_c → ((a : ℕ) → 2 < a → sa.area a ≡ s0.area a) → RunEnds status s0 s1 feed0 feed1 held0 held1 sink0 sink1
+  run_ends status is sink0 sinks others = record {
     put = put;
     holds = holds;
     how = inr (inr (record {
@@ -326,8 +326,9 @@ module _ (laws : EverySession) (tells_law : EveryTranscript) (moment_law : Every
       told = r.told;
       tail = r.tail;
       prints = r.prints;
-      front = l.front;
-      put_is = ap (λ (t : List ℕ). first_line (counts_of op) ++ (text_of r.told ++ (r.tail ++ t))) l.is_front;
+      last = l.text;
+      last_is = l.went sink0 sinks;
+      put_is = refl;
       heard = h.heard;
       unheard = h.unheard;
       calls_are = h.calls_are;
@@ -336,5 +337,6 @@ module _ (laws : EverySession) (tells_law : EveryTranscript) (moment_law : Every
       serial = serial;
       stands = λ no_fault tells m all clean young. stands tells m all clean young no_fault;
     }));
+    others = λ a lt. l.notes.area a ∙ (r.others.area a (λ e. omega arith) ∙ (noted.area a ∙ others a lt));
     any_moment = leaves;
   }

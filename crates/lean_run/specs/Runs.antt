@@ -81,9 +81,11 @@ pub record IsFrom (g : Opening) (s : Story) (n : Counts) : Type 0 where
   pub lost : n.undone ≡ length (lost_by (image_by m (areas_of s)))
 
 -- The sink failed as it was given the first line, and the script was not read.
-pub record CutFirst (status : ℕ) (feed0 feed1 : Feed) (put : List ℕ) : Type 0 where
+pub record CutFirst (status : ℕ) (s0 : Story) (feed0 feed1 : Feed) (put : List ℕ) : Type 0 where
   pub status_is : status ≡ 5
   pub counts : Counts
+  pub opening : Opening
+  pub from : TellsAll s0 → IsFrom opening s0 counts
   pub front : ℕ
   pub printed : put ≡ take front (first_line counts)
   pub unread : feed1 ≡ feed0
@@ -106,7 +108,7 @@ last_line stops.DiskFault = line_of Notice.DiskFault
 -- The script was executed on an opening: the first line went out, then the replies to its lines, then the last line or a front of it. What
 -- the script and the output tell of is what was executed, but for a last call whose reply was cut off; and it is serial from the
 -- map for which the disk on entry stands.
-pub record Ran (status : ℕ) (s0 s1 : Story) (feed0 feed1 : Feed) (put : List ℕ) : Type 0 where
+pub record Ran (status : ℕ) (s0 s1 : Story) (feed0 feed1 : Feed) (put : List ℕ) (sink0 sink1 : ℕ) : Type 0 where
   pub counts : Counts
   pub opening : Opening
   pub alone : IsAlone 64 opening
@@ -126,8 +128,9 @@ pub record Ran (status : ℕ) (s0 s1 : Story) (feed0 feed1 : Feed) (put : List �
   pub told : List Reply
   pub tail : List ℕ
   pub prints : PrintsTo (Some stop) (replies calls) told tail
-  pub front : ℕ
-  pub put_is : put ≡ first_line counts ++ (text_of told ++ (tail ++ take front (last_line stop)))
+  pub last : List ℕ
+  pub last_is : WentOut (last_line stop) last sink0 sink1
+  pub put_is : put ≡ first_line counts ++ (text_of told ++ (tail ++ last))
   -- what the script and the output tell of: all calls, unless the sink failed
   pub heard : List Answered
   pub unheard : List Answered
@@ -142,4 +145,4 @@ pub record Ran (status : ℕ) (s0 s1 : Story) (feed0 feed1 : Feed) (put : List �
 -- how often the sink had failed before and has now.
 abbrev pub HowRun : (status : ℕ) (s0 s1 : Story) (feed0 feed1 : Feed) (put : List ℕ) (sink0 sink1 : ℕ) → Type 0
 HowRun status s0 s1 feed0 feed1 put sink0 sink1 =
-    NotOpened status s0 feed0 feed1 put sink0 sink1 ⊎ (CutFirst status feed0 feed1 put ⊎ Ran status s0 s1 feed0 feed1 put)
+    NotOpened status s0 feed0 feed1 put sink0 sink1 ⊎ (CutFirst status s0 feed0 feed1 put ⊎ Ran status s0 s1 feed0 feed1 put sink0 sink1)

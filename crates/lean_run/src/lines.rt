@@ -91,7 +91,7 @@ pub(crate) fn put_reason<K: Sink<D>, D: Disk>(
 
 // Puts the last line of a script that stopped, if it has one.
 pub(crate) fn put_last<K: Sink<D>, D: Disk>(stop: Stop, sink: &mut K, disk: &mut D)
-    ensures put { EndsWith stop (K.held sink.old) (K.held sink.new) (D.story disk.old) (D.story disk.new) }
+    ensures put { EndsWith stop (K.held sink.old) (K.held sink.new) (K.faults sink.old) (K.faults sink.new) (D.story disk.old) (D.story disk.new) }
     ensures faults { D.faults disk.new ≡ D.faults disk.old }
     ensures later { K.faults sink.old ≤ K.faults sink.new }
 {

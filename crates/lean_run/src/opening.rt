@@ -1,5 +1,5 @@
 // The engine on a disk that is opened.
-ghost use Rattle.std.specs.Prelude.{◌≡◌, ℕ, Err, IfErr, IfOk};
+ghost use Rattle.std.specs.Prelude.{◌≡◌, ◌<◌, ℕ, Err, IfErr, IfOk};
 ghost use Rattle.lean_disk.specs.Faults.{HasCause};
 ghost use Rattle.lean_disk.specs.Moments.{LeavesOnly};
 ghost use Rattle.disk_slots.specs.declared.master.Master.{Master};
@@ -29,6 +29,7 @@ pub(crate) struct Opened {
 /// Opens a disk.
 pub(crate) fn open<D: Disk>(alloc: Global, disk: &mut D) -> Result<Opened, Unrecovered>
     ensures opened { IfOk result (HasOpened (D.story disk.old) (D.story disk.new)) }
+    ensures others { (a : ℕ) → 2 < a → (D.story disk.new).area a ≡ (D.story disk.old).area a }
     ensures keeps { Keeps (D.story disk.old) (D.story disk.new) }
     ensures any_moment { (m : Master) → TellsAll (D.story disk.old) → IsCleanDisk m (areas_of (D.story disk.old)) → LeavesOnly (D.story disk.old) (D.story disk.new) (RecoveryLeaves m (D.story disk.old)) }
 

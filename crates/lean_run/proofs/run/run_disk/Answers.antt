@@ -14,7 +14,7 @@ pub returns-in_default-clause-ends : goal.returns-in_default-clause-ends
 returns-in_default-clause-ends g c =
     let s0 = g.D.Disk.story c.args.disk.now in
     let law = ((g.met.D.Disk g.world.𝓛 g.world.𝓜 g.world.𝓡 ((λ s x. x), (λ x. x), (λ x. x), (λ x. x))).lawful c.args.disk.now) in
-    refused_ends c.every_notice.ensures c.refuse.result s0 s0 (g.D.Disk.story c.refuse.new.disk) law (omega arith) refl (λ m tells clean. unmoved m s0 law) (g.S.Source.feed c.args.source.now) Memory c.refuse.ensures.status tt
+    refused_ends c.every_notice.ensures c.refuse.result s0 s0 (g.D.Disk.story c.refuse.new.disk) law (omega arith) refl (λ a lt. refl) (λ m tells clean. unmoved m s0 law) (g.S.Source.feed c.args.source.now) Memory c.refuse.ensures.status tt
     (g.K.Sink.held c.args.sink.now) (g.K.Sink.held c.refuse.new.sink) (g.K.Sink.faults c.args.sink.now) (g.K.Sink.faults c.refuse.new.sink) c.refuse.ensures.put
 
 pub returns-in-Err-clause-ends : goal.returns-in-Err-clause-ends
@@ -22,7 +22,7 @@ returns-in-Err-clause-ends g c =
     let s0 = g.D.Disk.story c.args.disk.now in
     let sa = g.D.Disk.story c.open.new.disk in
     let law = ((g.met.D.Disk g.world.𝓛 g.world.𝓜 g.world.𝓡 ((λ s x. x), (λ x. x), (λ x. x), (λ x. x))).lawful c.open.new.disk) in
-    refused_ends c.every_notice.ensures c.refuse-in-Err.result s0 sa (g.D.Disk.story c.refuse-in-Err.new.disk) law c.open.ensures.keeps.later c.open.ensures.keeps.notes c.open.ensures.any_moment (g.S.Source.feed c.args.source.now) c.in-Err.reason c.refuse-in-Err.ensures.status c.in-Err.ensures.shown
+    refused_ends c.every_notice.ensures c.refuse-in-Err.result s0 sa (g.D.Disk.story c.refuse-in-Err.new.disk) law c.open.ensures.keeps.later c.open.ensures.keeps.notes c.open.ensures.others c.open.ensures.any_moment (g.S.Source.feed c.args.source.now) c.in-Err.reason c.refuse-in-Err.ensures.status c.in-Err.ensures.shown
     (g.K.Sink.held c.args.sink.now) (g.K.Sink.held c.refuse-in-Err.new.sink) (g.K.Sink.faults c.args.sink.now) (g.K.Sink.faults c.refuse-in-Err.new.sink) c.refuse-in-Err.ensures.put
 
 pub returns-in_default-put_opened-clause-ends : goal.returns-in_default-put_opened-clause-ends
@@ -30,7 +30,7 @@ returns-in_default-put_opened-clause-ends g c =
     let s0 = g.D.Disk.story c.args.disk.now in
     let sa = g.D.Disk.story c.open.new.disk in
     let law = ((g.met.D.Disk g.world.𝓛 g.world.𝓜 g.world.𝓡 ((λ s x. x), (λ x. x), (λ x. x), (λ x. x))).lawful c.open.new.disk) in
-    cut_ends c.every_notice.ensures s0 sa (g.D.Disk.story c.put_opened.new.disk) law c.open.ensures.keeps.later c.open.ensures.keeps.notes c.open.ensures.any_moment (g.S.Source.feed c.args.source.now) (counts_of c.in-Ok-open.opened) c.put_opened.ensures.fits
+    cut_ends c.every_notice.ensures s0 sa (g.D.Disk.story c.put_opened.new.disk) law c.open.ensures.keeps.later c.open.ensures.keeps.notes c.open.ensures.others c.open.ensures.any_moment (g.S.Source.feed c.args.source.now) (counts_of c.in-Ok-open.opened) c.in-Ok-open.ensures.opened.g c.in-Ok-open.ensures.opened.from c.put_opened.ensures.fits
     (g.K.Sink.held c.args.sink.now) (g.K.Sink.held c.put_opened.new.sink) (g.K.Sink.faults c.args.sink.now) (g.K.Sink.faults c.put_opened.new.sink) c.put_opened.result c.put_opened.ensures.put
 
 pub returns-clause-ends : goal.returns-clause-ends
@@ -47,4 +47,5 @@ returns-clause-ends g c =
     (g.K.Sink.held c.args.sink.now) (g.K.Sink.held c.put_opened.new.sink) (g.K.Sink.held c.run_script-stop.new.sink) (g.K.Sink.held c.put_last.new.sink) c.put_opened.ensures.fits (subst (λ (a : Put). IsPut (first_line (counts_of op)) a (g.K.Sink.held c.args.sink.now) (g.K.Sink.held c.put_opened.new.sink) sa (g.D.Disk.story c.put_opened.new.disk)) c.in-Done.is c.put_opened.ensures.put)
     (g.S.Source.feed c.args.source.now) (g.S.Source.feed c.run_script-stop.new.source) c.run_script-stop.new.reader c.run_script-stop.result c.run_script-stop.new.engine
     (c.run_script-stop.ensures.runs o.g [] (start o.g) (g.S.Source.feed c.args.source.now) [] o.alone.most refl o.pictures (c.in-Ok.ensures (g.S.Source.feed c.args.source.now)))
-    c.put_last.ensures.put c.ended.result c.ended.ensures (g.K.Sink.faults c.args.sink.now) (g.K.Sink.faults c.put_last.new.sink)
+    (g.K.Sink.faults c.run_script-stop.new.sink) (g.K.Sink.faults c.put_last.new.sink) c.put_last.ensures.put c.ended.result c.ended.ensures (g.K.Sink.faults c.args.sink.now)
+    (let a = c.put_opened.ensures.cause.later in let b = c.run_script-stop.ensures.cause_write_fault.later in omega arith) c.open.ensures.others
