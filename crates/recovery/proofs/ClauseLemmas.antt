@@ -1,29 +1,30 @@
 -- What recovery's clauses say, from what its steps say.
-use Rattle.std.proofs.Common.{◌≡◌, ◌⊎◌, ◌<◌, ◌≤◌, ◌+◌, ◌*◌, ◌%◌, ◌^◌, ℕ, suc, List, length, Some, slice_get, IsTrue, refl, sym, ◌∙◌, ap, subst, inl, inr, arith}
+use Rattle.std.proofs.Common.{◌≡◌, ◌<◌, ◌≤◌, ◌*◌, ◌%◌, ◌^◌, ℕ, List, length, Some, slice_get, IsTrue, sym, ◌∙◌, ap, subst, inl, inr, arith}
 use Rattle.std.proofs.lemmas.Option.{slice_get_within}
-use Rattle.page_model.specs.Page.{Page}
 use Rattle.page_model.specs.Tree.{IsTree}
-use Rattle.lean_disk.specs.Area.{Area, synced, written}
+use Rattle.lean_disk.specs.Area.{synced, written}
 use Rattle.lean_disk.specs.Moments.{AsAt, CrashIn, Framed, LeavesOnly}
-use Rattle.lean_disk.specs.Story.{Crash, Story, Tells}
+use Rattle.lean_disk.specs.Story.{Story, Tells}
 use Rattle.lean_disk.specs.declared.disk.Did.{Did}
 use Rattle.lean_disk.specs.declared.disk.Did.TheVariants.{Done}
 use Rattle.lean_disk.proofs.MomentLemmas.{then, weaker}
-use Rattle.disk_slots.specs.Masters.{master_slot}
+use Rattle.disk_slots.specs.Masters.{master_slot, IsMaster}
 use Rattle.disk_slots.specs.declared.master.Master.{Master}
-use Rattle.disk_image.specs.Shown.{IsCleanDisk}
+use Rattle.disk_image.specs.Shown.{IsCleanDisk, image_by}
 use Rattle.page_store.specs.Runs.{IsReady}
 use Rattle.page_store.specs.Saved.{LeavesSaves, Save}
 use Rattle.recovery_scan.specs.Scans.{areas_of}
 use Rattle.recovery_redo.specs.Images as redo_images
-use Rattle.recovery.specs.Crashes.{Lasts, RecoveryLeaves}
+use Rattle.recovery.specs.Crashes.{RecoveryLeaves}
 use Rattle.recovery.specs.Inside.{AreSettled, IsOfSlot, IsPrepared, IsReadied, OnlySettles, SavesAll, WritesOnce, saves_to}
 use Rattle.recovery.specs.Masters.{IsOpenable, next_master}
-use Rattle.recovery.specs.Opened.{IsOpened, IsRecovered, IsSettled, IsWhole, TellsAll}
+use Rattle.recovery.specs.Opened.{IsOpened, IsRecovered, IsWhole, TellsAll, IsGreatest}
 use Rattle.recovery.specs.declared.opening.Recovered.{Recovered}
 use Rattle.recovery.specs.declared.prepare.Prepared.{Prepared}
 use Rattle.recovery.proofs.LastLemmas.{opened, saving, writing}
-use Rattle.recovery.proofs.MasterLemmas.{master_is, next_valid, slot_of}
+use Rattle.recovery.proofs.MasterLemmas.{master_is, slot_of, valid_next}
+use Rattle.disk_image.specs.Formats.{format_of}
+use Rattle.node_tree.specs.Nodes.{nodes_of}
 
 -- nothing was written
 pub settled_moments : (m : Master) (s0 s : Story) → OnlySettles s0 s → LeavesOnly s0 s (RecoveryLeaves m s0)
@@ -75,28 +76,32 @@ module _ (it : Prepared) (readied : IsReadied it) (s0 s4 : Story) (settles : Onl
 
 module _ (it : Prepared) (readied : IsReadied it) (r : Recovered) (pages : r.pages ≡ it.pages) (winners : r.winners ≡ it.winners) (undone : r.undone ≡ it.undone) (master : r.master ≡ next_master it.master it.base) where
   pub answers : (s0 : Story) → IsPrepared (areas_of s0) it → (m : Master) × IsOpenable m × IsRecovered m (areas_of s0) r
-  answers s0 prepared = (it.master, readied.openable, record {
-    sound = prepared.sound;
-    count = ap (λ v. length v.items) pages ∙ readied.count;
-    page = λ p v e.
-        let e2 : slice_get it.pages.items p ≡ Some v = ap (λ xs. slice_get xs.items p) (sym pages) ∙ e in
-        let l : p < it.master.pages = (let w : p < length it.pages.items = slice_get_within it.pages.items p v e2 in let c : length it.pages.items ≡ it.master.pages = readied.count in omega arith) in
-        record { own = readied.own p v e2; is = sym (ap redo_images.page_or e2) ∙ prepared.pages p l; saved = readied.saved p v e2 };
-    won = winners ∙ prepared.won;
-    lost = undone ∙ prepared.lost;
-    base = subst (λ (k : Master). Rattle.recovery.specs.Opened.IsGreatest (Rattle.disk_image.specs.Shown.image_by it.master (areas_of s0)) k.floor) (sym master) prepared.greatest;
-    master = master ∙ ap (next_master it.master) (sym (ap (λ (k : Master). k.floor) master));
-  })
+  answers s0 prepared = (
+    it.master,
+    readied.openable,
+    record {
+      sound = prepared.sound;
+      count = ap (λ v. length v.items) pages ∙ readied.count;
+      page = λ p v e.
+          let e2 : slice_get it.pages.items p ≡ Some v = ap (λ xs. slice_get xs.items p) (sym pages) ∙ e in
+          let l : p < it.master.pages = (let w : p < length it.pages.items = slice_get_within it.pages.items p v e2 in let c : length it.pages.items ≡ it.master.pages = readied.count in omega arith) in
+          record { own = readied.own p v e2; is = sym (ap redo_images.page_or e2) ∙ prepared.pages p l; saved = readied.saved p v e2 };
+      won = winners ∙ prepared.won;
+      lost = undone ∙ prepared.lost;
+      base = subst (λ (k : Master). IsGreatest (image_by it.master (areas_of s0)) k.floor) (sym master) prepared.greatest;
+      master = master ∙ ap (next_master it.master) (sym (ap (λ (k : Master). k.floor) master));
+    },
+  )
 
   pub wholes : it.base < 2 ^ 64 → IsWhole r
   wholes wide = record {
     count = ap (λ v. length v.items) pages ∙ (readied.count ∙ sym (ap (λ (k : Master). k.pages) master));
     own = λ p v e. readied.own p v (ap (λ xs. slice_get xs.items p) (sym pages) ∙ e);
-    tree = subst (λ (k : Master). IsTree (Rattle.disk_image.specs.Formats.format_of k.pages) (Rattle.node_tree.specs.Nodes.nodes_of r.pages.items)) (sym master)
-        (subst (λ xs. IsTree (Rattle.disk_image.specs.Formats.format_of it.master.pages) (Rattle.node_tree.specs.Nodes.nodes_of xs.items)) (sym pages) readied.tree);
+    tree = subst (λ (k : Master). IsTree (format_of k.pages) (nodes_of r.pages.items)) (sym master)
+        (subst (λ xs. IsTree (format_of it.master.pages) (nodes_of xs.items)) (sym pages) readied.tree);
     numbers = λ p v e. subst (λ (k : Master). v.gsn ≤ k.floor) (sym master) (readied.numbers p v (ap (λ xs. slice_get xs.items p) (sym pages) ∙ e));
     master = subst IsOfSlot (sym master) (slot_of (next_master it.master it.base), next_master_valid);
   }
     where
-      next_master_valid : Rattle.disk_slots.specs.Masters.IsMaster (slot_of (next_master it.master it.base)) (next_master it.master it.base)
-      next_master_valid = Rattle.recovery.proofs.MasterLemmas.valid_next it.master it.base (readied.valid.0, readied.valid.1) readied.openable wide
+      next_master_valid : IsMaster (slot_of (next_master it.master it.base)) (next_master it.master it.base)
+      next_master_valid = valid_next it.master it.base (readied.valid.0, readied.valid.1) readied.openable wide

@@ -1,48 +1,22 @@
 -- What is left when pages and master are written, and meanwhile.
-use Rattle.std.proofs.Common.{◌≡◌, ◌⊎◌, ◌<◌, ◌≤◌, ◌+◌, ◌-◌, ◌*◌, ◌%◌, ◌^◌, ℕ, zero, suc, Bool, true, false, cond, List, [], ◌∷◌, ◌++◌, length, get_or, map, Option, Some, None, codes, slice_get, slice_index_or, refl, sym, ◌∙◌, ap, subst, inl, inr, ⊎_elim, arith, true≢false}
+use Rattle.std.proofs.Common.{◌≡◌, ◌⊎◌, ◌<◌, ◌≤◌, ◌+◌, ◌-◌, ◌*◌, ℕ, zero, suc, Bool, true, false, cond, List, ◌∷◌, length, get_or, Option, Some, slice_get, slice_index_or, refl, sym, ◌∙◌, ap, subst, inl, inr, ⊎_elim, arith, true≢false}
 use Rattle.std.proofs.lemmas.Bool.{cases_eq, cases_Bool}
-use Rattle.std.proofs.lemmas.Option.{slice_get-get_or, slice_get_within, same_Some}
+use Rattle.std.proofs.lemmas.Option.{slice_get-get_or, slice_get_within}
 use Rattle.map_model.specs.Lists.{Has}
 use Rattle.page_model.specs.Page.{Page, new_page}
 use Rattle.page_model.specs.Nodes.{WellFormed, free}
-use Rattle.image_model.specs.Entries as model
-use Rattle.image_model.specs.Fair.{IsFair}
-use Rattle.image_model.specs.Images.{recovered_page}
 use Rattle.image_model.specs.Laws.{UndoneLaws}
-use Rattle.image_model.specs.Slots.{base_of}
 use Rattle.image_model.proofs.UndoLemmas.{every_undone}
-use Rattle.lean_disk.specs.Area.{Area, Leaves, Write, synced, torn, written}
-use Rattle.lean_disk.specs.Moments.{AsAt, CrashIn, Framed, LeavesOnly}
-use Rattle.lean_disk.specs.Story.{Crash, Story, Tells}
-use Rattle.lean_disk.specs.declared.disk.Did.{Did}
-use Rattle.lean_disk.specs.declared.disk.Did.TheVariants.{Done}
-use Rattle.lean_disk.proofs.MomentLemmas.{then, weaker}
-use Rattle.disk_slots.specs.Masters.{IsMaster, master_slot}
-use Rattle.disk_slots.specs.Slots.{IsSealed}
 use Rattle.disk_slots.specs.declared.master.Master.{Master}
 use Rattle.disk_image.specs.Formats.{format_of}
-use Rattle.disk_image.specs.MasterSlots.{master_on}
-use Rattle.disk_image.specs.Shown.{Areas, image_by, shown_by, IsCleanDisk}
-use Rattle.disk_image.proofs.AgreementLemmas.{every_agreement}
-use Rattle.disk_image.proofs.BlockInLemmas.{every_sealed}
+use Rattle.disk_image.specs.Shown.{Areas, image_by}
 use Rattle.node_tree.specs.Nodes.{node_or}
-use Rattle.page_store.specs.Bases.{IsBase, image_page}
-use Rattle.page_store.specs.Saved.{AreSaves, HoldsSaves, IsSpared, LeavesSaves, MayHoldSaves, Reaches, Save, saved, write_of}
-use Rattle.page_store.proofs.HeldLemmas.{every_read}
+use Rattle.page_store.specs.Saved.{IsSpared, Reaches, Save}
 use Rattle.page_store.proofs.PieceLemmas.{every_whole}
-use Rattle.recovery_scan.specs.Scans.{areas_of}
 use Rattle.recovery_redo.specs.Images as redo_images
-use Rattle.recovery.specs.Crashes.{IsSameOrNext, Lasts, RecoveryLeaves, StandsStill}
-use Rattle.recovery.specs.Inside.{AreFormed, AreSettled, IsPrepared, IsReadied, IsRecovery, OnlySettles, SavesAll, WritesOnce, save_of, saves_to}
-use Rattle.recovery.specs.Masters.{next_master}
-use Rattle.recovery.specs.Opened.{IsOpened, IsSettled, TellsAll}
-use Rattle.recovery.specs.declared.opening.Recovered.{Recovered}
+use Rattle.recovery.specs.Inside.{AreFormed, IsPrepared, IsReadied, IsRecovery, save_of, saves_to, IsRecoverySave, page_or}
 use Rattle.recovery.specs.declared.prepare.Prepared.{Prepared}
-use Rattle.recovery.proofs.BaseLemmas.{all_may, has_recovered, stays_clean, stays_map}
-use Rattle.recovery.proofs.MasterLemmas.{counts_after, fair_slot, master_is, other_slot, slot_of, torn_stays, written_counts}
-use Rattle.recovery.proofs.NextLemmas.{HasRecovered, has_none, next_clean, next_map}
 use Rattle.recovery.proofs.OwnLemmas.{every_own}
-use Rattle.recovery.proofs.PrepareLemmas.{same_areas}
 use Rattle.recovery.proofs.UndoLemmas.{set_back}
 
 -- ## Which pages are saved
@@ -118,12 +92,12 @@ module _ (it : Prepared) (readied : IsReadied it) where
         let c : length prepared.old ≡ it.master.pages = prepared.count_old in
         (get_or prepared.old p (new_page p free), slice_get-get_or prepared.old p (new_page p free) (omega arith))
 
-    is_save : (s : Save) → IsMarked it.pages.items it.slots.items it.changed.items it.master.pages s → Rattle.recovery.specs.Inside.IsRecoverySave it.master area (λ p. get_or it.slots.items p 0) s
+    is_save : (s : Save) → IsMarked it.pages.items it.slots.items it.changed.items it.master.pages s → IsRecoverySave it.master area (λ p. get_or it.slots.items p 0) s
     is_save s k =
         let v = page_at k.p k.lt in
         let this : save_of it.pages.items it.slots.items k.p ≡ record { page = k.p; slot = 1 - get_or it.slots.items k.p 0; node = v.0 } =
-        ap (λ (o : Option Page). record { page = k.p; slot = 1 - get_or it.slots.items k.p 0; node = Rattle.recovery.specs.Inside.page_or k.p o }) v.1 in
-        subst (Rattle.recovery.specs.Inside.IsRecoverySave it.master area (λ p. get_or it.slots.items p 0)) (sym (k.is ∙ this)) (record {
+        ap (λ (o : Option Page). record { page = k.p; slot = 1 - get_or it.slots.items k.p 0; node = page_or k.p o }) v.1 in
+        subst (IsRecoverySave it.master area (λ p. get_or it.slots.items p 0)) (sym (k.is ∙ this)) (record {
           spare = refl;
           generation = prepared.stamped k.p v.0 k.mark v.1;
           page_is = sym (ap redo_images.page_or v.1) ∙ prepared.pages k.p k.lt;

@@ -1,12 +1,9 @@
 -- What a crash leaves of the disk at each moment of recovery, and what stands there at its end.
-use Rattle.std.proofs.Common.{◌≡◌, ◌⊎◌, ◌<◌, ◌≤◌, ◌+◌, ◌-◌, ◌*◌, ◌%◌, ◌^◌, ℕ, zero, suc, List, [], ◌∷◌, ◌++◌, length, get_or, map, Some, codes, refl, sym, ◌∙◌, ap, subst, inl, inr, ⊎_elim, arith}
-use Rattle.image_model.specs.Fair.{IsFair, piece}
-use Rattle.lean_disk.specs.Area.{Area, Leaves, Write, synced, written}
-use Rattle.lean_disk.specs.Moments.{AsAt, CrashIn, Framed, LeavesOnly}
+use Rattle.std.proofs.Common.{◌≡◌, ◌⊎◌, ◌<◌, ◌≤◌, ◌*◌, ◌^◌, ℕ, zero, suc, List, [], ◌∷◌, ◌++◌, get_or, map, Some, refl, sym, ◌∙◌, ap, subst, inl, inr, ⊎_elim, arith}
+use Rattle.lean_disk.specs.Area.{Area, Leaves, Write, synced, written, put_over}
+use Rattle.lean_disk.specs.Moments.{CrashIn, Framed}
 use Rattle.lean_disk.specs.Story.{Crash, Story, Tells}
-use Rattle.lean_disk.proofs.MomentLemmas.{then, weaker}
 use Rattle.disk_slots.specs.Masters.{master_slot}
-use Rattle.disk_slots.specs.Slots.{IsSealed}
 use Rattle.disk_slots.specs.declared.master.Master.{Master}
 use Rattle.disk_image.specs.MasterSlots.{master_on}
 use Rattle.disk_image.specs.Shown.{Areas, shown_by, IsCleanDisk}
@@ -17,7 +14,7 @@ use Rattle.page_store.specs.Saved.{AreSaves, HoldsSaves, IsFairSince, LeavesSave
 use Rattle.page_store.specs.Laws.{IsRead}
 use Rattle.page_store.proofs.HeldLemmas.{every_read}
 use Rattle.recovery_scan.specs.Scans.{areas_of}
-use Rattle.recovery.specs.Crashes.{Lasts, RecoveryLeaves, StandsStill}
+use Rattle.recovery.specs.Crashes.{Lasts, StandsStill}
 use Rattle.recovery.specs.Inside.{IsPrepared, IsReadied, OnlySettles, WritesOnce, saves_to}
 use Rattle.recovery.specs.Masters.{next_master}
 use Rattle.recovery.specs.Opened.{HasNone, IsOpened, IsSettled, TellsAll}
@@ -25,7 +22,7 @@ use Rattle.recovery.specs.declared.opening.Recovered.{Recovered}
 use Rattle.recovery.specs.declared.prepare.Prepared.{Prepared}
 use Rattle.recovery.proofs.BaseLemmas.{all_may, has_recovered, stays_clean, stays_map}
 use Rattle.recovery.proofs.FinishLemmas.{is_recovery, reaches, undone}
-use Rattle.recovery.proofs.MasterLemmas.{counts_after, fair_slot, other_slot, slot_of, torn_stays, written_counts}
+use Rattle.recovery.proofs.MasterLemmas.{counts_after, fair_slot, slot_of, torn_stays, written_counts}
 use Rattle.recovery.proofs.NextLemmas.{HasRecovered, has_none, next_clean, next_map}
 
 module _ (it : Prepared) (readied : IsReadied it) (s0 s4 : Story) (settles : OnlySettles s0 s4) (t : TellsAll s0) (settled : (a : ℕ) → a < 3 → IsSettled (s4.area a))
@@ -136,8 +133,8 @@ module _ (it : Prepared) (readied : IsReadied it) (s0 s4 : Story) (settles : Onl
         ⊎_elim
         (λ (none : c.writes 0 ≡ (s6.area 0).writes). made c in_0 log here writes_1 [] (none ∙ writes_0) (inl refl))
         (λ (one : c.writes 0 ≡ (1024 * slot_of (next_master it.master it.base), master_slot (next_master it.master it.base)) ∷ (s6.area 0).writes).
-            made c in_0 log here writes_1 ((1024 * slot_of (next_master it.master it.base), master_slot (next_master it.master it.base)) ∷ [])
-            (one ∙ ap (λ (ws : List Write). (1024 * slot_of (next_master it.master it.base), master_slot (next_master it.master it.base)) ∷ ws) writes_0) (inr refl))
+        made c in_0 log here writes_1 ((1024 * slot_of (next_master it.master it.base), master_slot (next_master it.master it.base)) ∷ [])
+        (one ∙ ap (λ (ws : List Write). (1024 * slot_of (next_master it.master it.base), master_slot (next_master it.master it.base)) ∷ ws) writes_0) (inr refl))
         in_0.here.writes_are
       where
         made : (c : Crash) → CrashIn s6 0 (WritesOnce (1024 * slot_of (next_master it.master it.base)) (master_slot (next_master it.master it.base)) (s6.area 0)) c
@@ -185,7 +182,7 @@ module _ (it : Prepared) (readied : IsReadied it) (s0 s4 : Story) (settles : Onl
       opened r is =
           let has : HasRecovered it.master it.base (areas_of s0) (areas_of s7) = recovered (areas_of s7) log_then holds_then in
           let master : master_on (s7.area 0).bytes ≡ Some (next_master it.master it.base) =
-          ap (λ (x : Area). master_on x.bytes) done_0 ∙ (ap (λ (b : List ℕ). master_on (Rattle.lean_disk.specs.Area.put_over (1024 * slot_of (next_master it.master it.base)) (master_slot (next_master it.master it.base)) b)) bytes_0
+          ap (λ (x : Area). master_on x.bytes) done_0 ∙ (ap (λ (b : List ℕ). master_on (put_over (1024 * slot_of (next_master it.master it.base)) (master_slot (next_master it.master it.base)) b)) bytes_0
           ∙ written_counts (s0.area 0).bytes it.master it.base clean.master readied.openable wide) in
           record {
             master = master ∙ ap Some (sym is);

@@ -3,7 +3,6 @@ use Rattle.std.specs.Prelude.{◌≡◌, ◌⊎◌, ◌<◌, ◌≤◌, ℕ, suc
 use Rattle.map_model.specs.Lists.{Has}
 use Rattle.page_model.specs.Page.{Page}
 use Rattle.page_model.specs.Tree.{IsTree}
-use Rattle.image_model.specs.Entries as model
 use Rattle.image_model.specs.Fair.{piece}
 use Rattle.image_model.specs.Entries.{Entry}
 use Rattle.image_model.specs.Images.{Image, bases, sorted, won_by, lost_by, recovered_page}

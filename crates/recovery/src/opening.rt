@@ -12,8 +12,7 @@ ghost use Rattle.recovery_scan.specs.Scans.{areas_of};
 ghost use Rattle.recovery.specs.Crashes.{RecoveryLeaves};
 ghost use Rattle.recovery.specs.Masters.{HasOpenable, IsOpenable};
 ghost use Rattle.recovery.specs.Opened.{IsDamaged, IsOpened, IsRecovered, IsUntouched, IsWhole, Keeps, TellsAll};
-
-ghost use Rattle.recovery.specs.Inside.{AreFormed, AreOwn, IsReadied, SavesAll, WritesOnce, saves_to};
+ghost use Rattle.recovery.specs.Inside.{AreFormed, AreOwn, IsReadied, SavesAll, SavesEach, WritesOnce, saves_to};
 
 use crate::master::{next_master, write_master};
 use crate::pages::save_pages;
@@ -57,7 +56,7 @@ fn save_on<D: Disk>(
     requires halves { (p : ℕ) → p < length slots.now → slice_index slots.now p < 2 }
     requires marks { length marks.now ≡ length pages.now }
     requires room { length buffer.old ≡ 1024 }
-    ensures saves { IsReady 1 (D.story disk.old) → AreFormed pages.now → SavesAll (length pages.now) (D.story disk.old) (saves_to pages.now slots.now marks.now (length pages.now)) result (D.story disk.new) }
+    ensures saves { IsReady 1 (D.story disk.old) → AreFormed pages.now → SavesEach (length pages.now) (D.story disk.old) (saves_to pages.now slots.now marks.now (length pages.now)) result (D.story disk.new) }
     ensures frame { Framed 1 (D.story disk.old) (D.story disk.new) }
     ensures cause { HasCause (D.faults disk.old) (D.faults disk.new) (result ≡ Did.Failed) }
 {
@@ -72,7 +71,10 @@ fn save_changed<D: Disk>(disk: &mut D, it: &Prepared) -> Did
     ensures cause { HasCause (D.faults disk.old) (D.faults disk.new) (result ≡ Did.Failed) }
 {
     let mut buffer = [0; 1024];
-    save_on(disk, &it.pages, &it.slots, &it.changed, &mut buffer)
+    let Did::Done = save_on(disk, &it.pages, &it.slots, &it.changed, &mut buffer) else {
+        return Did::Failed;
+    };
+    disk.sync(1)
 }
 
 // Writes the next master and syncs it.

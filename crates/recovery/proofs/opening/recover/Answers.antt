@@ -1,4 +1,4 @@
-use Rattle.std.proofs.Common.{◌≡◌, ◌^◌, ◌<◌, ℕ, IsTrue, refl, ap, subst, ◌∙◌}
+use Rattle.std.proofs.Common.{◌^◌, ◌<◌, refl, subst, ◌∙◌}
 use Rattle.lean_disk.specs.Story.{Tells}
 use Rattle.disk_slots.specs.declared.master.Master.{Master}
 use Rattle.recovery.proofs.ClauseLemmas.{answers, opens, saved_moments, wholes, written_moments}

@@ -24,8 +24,8 @@ loop-page-preserved g c =
     let m = c.args.master.now in
     let inv = c.loop-page.invariant in
     let base = c.in-Ok-fetch.base in
-    let pages = c.push_reserved-in-Ok-fetch.ensures.items in
-    let slots = c.push_reserved.ensures.items in
+    let pages : c.push_reserved-in-Ok-fetch.new.self.items ≡ c.loop-page.pages.items ++ base.node ∷ [] = c.push_reserved-in-Ok-fetch.ensures.items in
+    let slots : c.push_reserved.new.self.items ≡ c.loop-page.slots.items ++ base.slot ∷ [] = c.push_reserved.ensures.items in
     record {
       shaped = subst (λ (xs : List Page). AreShaped m (c.loop-page.page + 1) xs c.push_reserved.new.self.items) (sym pages)
           (subst (λ (ys : List ℕ). AreShaped m (c.loop-page.page + 1) (c.loop-page.pages.items ++ base.node ∷ []) ys) (sym slots)

@@ -1,14 +1,11 @@
-use Rattle.std.proofs.Common.{◌≡◌, ◌≤◌, ◌+◌, ◌^◌, ◌<◌, ℕ, length, get_or, refl, sym, ◌∙◌, ap, subst, arith, slice_index_or, false, Some, slice_get, true}
-use Rattle.page_model.specs.Page.{Page}
-use Rattle.lean_disk.specs.Calls.{Synced}
-use Rattle.lean_disk.specs.Story.{Seat}
+use Rattle.std.proofs.Common.{◌≡◌, ◌^◌, ◌<◌, ℕ, length, get_or, refl, ◌∙◌, ap, subst, arith, slice_index_or, false}
 use Rattle.lean_disk.proofs.MomentLemmas.{framed}
 use Rattle.recovery_redo.proofs.PageLemmas.{get_here}
 use Rattle.page_store.proofs.RunLemmas.{run_begins}
-use Rattle.page_store.specs.Runs.{HasSaved, IsReady}
+use Rattle.page_store.specs.Runs.{HasSaved}
 use Rattle.page_store.specs.Saved.{AreSaves}
-use Rattle.recovery.specs.Inside.{AreFormed, SavesAll, saves_to}
-use Rattle.recovery.proofs.SaveLemmas.{all_synced, are_more, failed_more, saved_more}
+use Rattle.recovery.specs.Inside.{saves_to}
+use Rattle.recovery.proofs.SaveLemmas.{are_more, failed_more, saved_more}
 use Rattle.recovery.proofs.WriteLemmas.{framed_then}
 use Rattle.recovery.proofs.pages.save_pages.Goals as goal
 
@@ -65,13 +62,11 @@ loop-page-preserved g c =
 
 pub returns-clause-saves : goal.returns-clause-saves
 returns-clause-saves g c ready formed =
-    let story = g.P.Part.story in
-    let s0 = story c.args.dev.now in
-    let s = story c.loop-page.dev in
-    let s1 = story c.sync.new.self in
+    let s0 = g.P.Part.story c.args.dev.now in
+    let s = g.P.Part.story c.loop-page.dev in
     let n = length c.args.pages.now in
     let inv = c.loop-page.invariant in
     let at : c.loop-page.page ≡ n = omega (arith, c.loop-page-test.false, c.loop-page.auto.page-end) in
     let to = saves_to c.args.pages.now c.args.slots.now c.args.marks.now in
-    let did : Synced 1 c.sync.result s s1 = subst (λ (a : ℕ). Synced a c.sync.result s s1) (ap (λ (q : Seat). q.area) inv.seat ∙ c.requires.seat) c.sync.ensures.synced in
-    all_synced n s0 s s1 (to n) c.sync.result ready (subst (λ (i : ℕ). AreSaves n (to i)) at (inv.are formed)) (subst (λ (i : ℕ). HasSaved n 1 s0 (to i) s) at (inv.saving ready formed)) did
+    let has : HasSaved n 1 s0 (to n) s = subst (λ (i : ℕ). HasSaved n 1 s0 (to i) s) at (inv.saving ready formed) in
+    record { run = has.run; are = λ e. subst (λ (i : ℕ). AreSaves n (to i)) at (inv.are formed); done = λ e. has }
