@@ -1,64 +1,41 @@
 -- How a run ends.
-use Rattle.std.proofs.Common.{◌≡◌, ◌⊎◌, inl, inr, ⊎_elim, ◌≤◌, ◌<◌, ◌+◌, ◌*◌, ◌-◌, ◌^◌, ◌++◌, ℕ, suc, List, [], ◌∷◌, length, take, min, Some, None, Option, IsTrue, refl, sym, ◌∙◌, ap, ap₂, subst, arith}
+use Rattle.std.proofs.Common.{◌≡◌, ◌⊎◌, inl, inr, ◌≤◌, ◌<◌, ◌++◌, ℕ, List, [], ◌∷◌, Some, IsTrue, refl, sym, ◌∙◌, ap, subst}
 use Rattle.std.proofs.lemmas.List.{append-nil}
 use mathlib.Core.List.{append_assoc}
-use mathlib.Core.Path.{fun_ext}
-use Rattle.map_model.specs.Lists.{Has}
-use Rattle.map_model.specs.Maps.{Map}
-use Rattle.map_model.specs.Journals.{Journal, Name, Serial}
-use Rattle.map_model.specs.Transcripts as model
-use Rattle.image_model.specs.Images.{map_of}
-use Rattle.lean_disk.specs.Area.{Area}
-use Rattle.lean_disk.specs.Calls.{Noted}
-use Rattle.lean_disk.specs.Faults.{HasCause}
 use Rattle.lean_disk.specs.Moments.{LeavesOnly}
-use Rattle.lean_disk.specs.Story.{Crash, IsLawful, LeavesNow, Story, Tells}
-use Rattle.lean_disk.proofs.MomentLemmas as moments
-use Rattle.lean_edge.specs.Outside.{Feed, Held, Puts}
+use Rattle.lean_disk.specs.Story.{IsLawful, Story}
+use Rattle.lean_edge.specs.Outside.{Feed, Held}
 use Rattle.lean_edge.specs.declared.sink.Put.{Put}
-use Rattle.lean_edge.specs.declared.sink.Put.TheVariants.{Done, Failed}
-use Rattle.script_lang.specs.Notices.{Notice, notice_text, NoticeFits}
-use Rattle.script_lang.specs.Reading.{Unread, Reading}
+use Rattle.script_lang.specs.Notices.{Notice, NoticeFits}
 use Rattle.script_lang.specs.Replies.{Reply, reply_text, Fits}
 use Rattle.script_lang.specs.Text.{script_lines}
 use Rattle.disk_slots.specs.declared.master.Master.{Master}
-use Rattle.disk_image.specs.Laws.{EveryAgreement, EverySealed}
-use Rattle.disk_image.specs.Shown.{Areas, DiskStandsFor, IsCleanDisk, image_by}
+use Rattle.disk_image.specs.Shown.{IsCleanDisk}
 use Rattle.recovery_scan.specs.Scans.{areas_of}
 use Rattle.recovery.specs.Crashes.{RecoveryLeaves}
-use Rattle.recovery.specs.Opened.{Keeps, TellsAll}
+use Rattle.recovery.specs.Opened.{TellsAll}
 use Rattle.recovery.specs.declared.opening.Unrecovered.{Unrecovered}
 use Rattle.core_state.specs.States.{Opening}
-use Rattle.core_crash.specs.Crashes.{first_map}
 use Rattle.session_model.specs.Calls.{Answered, Runs}
-use Rattle.session_model.specs.Calls as session
-use Rattle.session_model.specs.Laws.{EverySession}
-use Rattle.session_model.specs.Sessions.{Session, IsAlone, start}
-use Rattle.worker_log.specs.Laws.{EveryRun}
-use Rattle.worker_log.specs.Logs.{Log}
-use Rattle.worker_log.specs.Kept.{IsKept, fresh_account}
-use Rattle.lean_engine.specs.States.{State, Pictures}
-use Rattle.transcripts.specs.Laws.{EveryEnd, EveryFront, EveryMoment, EveryNotice, EveryReading, EveryTranscript, IsQuiet, TellsOf}
-use Rattle.transcripts.specs.Told.{asked_lines, asked_text, ask, opened_line, replies, text_of, names, EachFits, EachReplyFits, Heard, IsCut, IsOutput, IsTail}
-use Rattle.transcripts.specs.Told.Heard.{Whole, Lacking}
-use Rattle.transcripts.specs.Told.IsTail.{CutReply, CutNotice}
-use Rattle.transcripts.specs.Transcripts.{durables, first_lines, in_turn, transcript}
-use Rattle.script_run.specs.Moments.{ScriptLeaves}
+use Rattle.session_model.specs.Sessions.{Session}
+use Rattle.transcripts.specs.Laws.{EveryFront, EveryNotice, IsQuiet}
+use Rattle.transcripts.specs.Told.{asked_lines, replies, EachReplyFits, Heard, IsCut, IsTail}
+use Rattle.transcripts.specs.Told.Heard.{Whole}
+use Rattle.transcripts.specs.Told.IsTail.{CutReply}
+use Rattle.transcripts.specs.Transcripts.{first_lines}
 use Rattle.script_run.specs.Runs.{PrintsTo}
 use Rattle.script_run.specs.Texts.{LinesRead}
 use Rattle.script_run.specs.declared.stop.Stop.{Stop}
 use Rattle.script_run.specs.declared.stop.Stop.TheVariants as stops
 use Rattle.lean_run.specs.Crashes.{IsYoung, RunLeaves, TellsCrashes}
 use Rattle.lean_run.specs.Ends.{RunEnds}
-use Rattle.lean_run.specs.Inside.{EndsWith, HasOpened, Refuses, Rests, counts_of}
+use Rattle.lean_run.specs.Inside.{Refuses}
 use Rattle.lean_run.specs.Lines.{IsPut, line_of}
-use Rattle.lean_run.specs.Runs.{Counts, HowRun, IsFrom, Shows, ended, first_line, last_line, notice_of, status_of}
-use Rattle.lean_run.specs.declared.opening.Opened.{Opened}
-use Rattle.lean_run.proofs.LastLemmas.{Last, PutText, last_of, put_text, went_out}
-use Rattle.lean_run.proofs.MomentLemmas.{line_moments, put_moments, same_but, then, unmoved}
+use Rattle.lean_run.specs.Runs.{Counts, IsFrom, Shows, first_line, notice_of, status_of}
+use Rattle.lean_run.proofs.LastLemmas.{Last, PutText, put_text, went_out}
+use Rattle.lean_run.proofs.MomentLemmas.{line_moments}
 use Rattle.lean_run.proofs.NoteLemmas.{put_notes}
-use Rattle.lean_run.proofs.OutputLemmas.{Out, all_put, asked_parts, earlier_fit, few_replies, front_few, no_tail, older_fit, out_of, same_front}
-use Rattle.lean_run.proofs.SurviveLemmas as survive
+use Rattle.lean_run.proofs.OutputLemmas.{Out, asked_parts, no_tail, out_of}
 
 -- ## A disk that was not opened, or a first line that was cut off
 

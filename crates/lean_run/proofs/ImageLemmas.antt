@@ -1,18 +1,16 @@
 -- The image that a crash leaves of a disk that was opened: by the pages of the opening and a front of the session's log.
-use Rattle.std.proofs.Common.{◌≡◌, ◌⊎◌, inl, inr, ⊎_elim, ◌≤◌, ◌<◌, ◌*◌, ◌++◌, ℕ, suc, Bool, true, false, List, [], ◌∷◌, length, slice_index_or, Some, Option, refl, sym, ◌∙◌, ap, ap₂, subst, arith, IsTrue, true≢false}
+use Rattle.std.proofs.Common.{◌≡◌, ⊎_elim, ◌≤◌, ◌<◌, ◌*◌, ◌++◌, ℕ, suc, List, [], length, slice_index_or, Some, Option, refl, sym, ◌∙◌, ap, ap₂, subst, arith}
 use Rattle.map_model.specs.Lists.{Has}
-use Rattle.map_model.specs.Maps.{Map}
-use Rattle.map_model.specs.Journals.{Journal, Txn, IsClosed, after}
+use Rattle.map_model.specs.Journals.{IsClosed, after}
 use Rattle.image_model.specs.Ends.{kept}
-use Rattle.image_model.specs.Entries.{Entry, Page, is_commit}
+use Rattle.image_model.specs.Entries.{Entry, Page}
 use Rattle.image_model.specs.Fair.{piece, IsFair}
-use Rattle.image_model.specs.Images.{Image, IsSound, StandsFor, found, gathered, map_of, won_by}
-use Rattle.image_model.specs.Slots.{base_of, image_of, newer_page, valid, IsClean, Slot}
+use Rattle.image_model.specs.Images.{StandsFor, found, gathered, won_by}
+use Rattle.image_model.specs.Slots.{base_of, newer_page, valid, Slot}
 use Rattle.page_model.specs.Nodes.{Format}
-use Rattle.lean_disk.specs.Area.{Area, Write}
-use Rattle.lean_disk.specs.Story.{Story, Crash}
+use Rattle.lean_disk.specs.Area.{Write}
+use Rattle.lean_disk.specs.Story.{Story}
 use Rattle.log_block.specs.Block.{IsSealed, generation_of}
-use Rattle.log_record.specs.declared.record.Record.{Record}
 use Rattle.disk_slots.specs.declared.master.Master.{Master}
 use Rattle.disk_image.specs.Blocks.{is_sealed}
 use Rattle.disk_image.specs.Laws.{Agree, Agreement, EveryAgreement, EverySealed}

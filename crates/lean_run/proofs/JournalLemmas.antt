@@ -2,14 +2,14 @@
 use Rattle.std.proofs.Common.{◌≡◌, ◌⊎◌, inl, inr, ⊎_elim, ◌++◌, ℕ, Bool, true, false, List, [], ◌∷◌, map, refl, sym, ◌∙◌, ap, subst}
 use Rattle.map_model.specs.declared.call.Answer.{Answer}
 use Rattle.map_model.specs.declared.call.Answer.TheVariants as answer
-use Rattle.map_model.specs.Lists.{Has, insert_by, in_order}
+use Rattle.map_model.specs.Lists.{Has, insert_by}
 use Rattle.map_model.specs.Journals.{Journal, Name, Txn, is_earlier, journal_of}
-use Rattle.map_model.specs.Transcripts.{Told, told, told_onto, txn_of, lines_in}
+use Rattle.map_model.specs.Transcripts.{told, told_onto, txn_of, lines_in}
 use Rattle.script_lang.specs.Replies.{Reply}
 use Rattle.session_model.specs.Calls.{Answered, journal, lines}
-use Rattle.transcripts.specs.Told.{durable_of, names, name_of, replies, Heard, LacksDurable}
+use Rattle.transcripts.specs.Told.{durable_of, names, replies, Heard}
 use Rattle.transcripts.specs.Told.Heard.{Whole, Lacking}
-use Rattle.lean_run.specs.Crashes.{HasOneMore, WithOneInHand}
+use Rattle.lean_run.specs.Crashes.{WithOneInHand}
 
 pub has_front : {A : Type 0} (x : A) (xs ys : List A) → Has x xs → Has x (xs ++ ys)
 has_front x [] ys h = absurd h

@@ -1,14 +1,14 @@
 -- The first line, the last line, and lines of disks that were not opened: what the sink holds of them, and what is noted.
-use Rattle.std.proofs.Common.{◌≡◌, ◌⊎◌, inl, inr, ⊎_elim, ◌≤◌, ◌<◌, ◌+◌, ◌^◌, ◌++◌, ℕ, List, [], ◌∷◌, length, take, IsTrue, refl, sym, ◌∙◌, ap, subst, arith}
+use Rattle.std.proofs.Common.{◌≡◌, ◌⊎◌, inl, inr, ◌≤◌, ◌<◌, ◌+◌, ◌^◌, ◌++◌, ℕ, List, [], length, take, IsTrue, refl, sym, ◌∙◌, ap, subst, arith}
 use Rattle.std.proofs.lemmas.List.{append-nil}
 use Rattle.std.proofs.Math.Seq.{take-length}
 use Rattle.lean_disk.specs.Faults.{HasCause, Rose}
-use Rattle.lean_disk.specs.Story.{Crash, IsLawful, LeavesNow, Story}
+use Rattle.lean_disk.specs.Story.{Crash, LeavesNow, Story}
 use Rattle.lean_disk.specs.Told.{TellsSame}
 use Rattle.lean_edge.specs.Outside.{Held, Puts}
 use Rattle.lean_edge.specs.declared.sink.Put.{Put}
 use Rattle.lean_edge.specs.declared.sink.Put.TheVariants.{Done, Failed}
-use Rattle.script_lang.specs.Notices.{Notice, notice_text, NoticeFits}
+use Rattle.script_lang.specs.Notices.{Notice, NoticeFits}
 use Rattle.transcripts.specs.Told.{IsTail}
 use Rattle.script_run.specs.declared.stop.Stop.{Stop}
 use Rattle.script_run.specs.declared.stop.Stop.TheVariants as stops

@@ -1,8 +1,8 @@
 -- Moments of a run: a line is put after other calls.
-use Rattle.std.proofs.Common.{◌≡◌, ◌⊎◌, inl, inr, ◌≤◌, ◌<◌, ◌+◌, ◌-◌, ◌^◌, ℕ, List, min, IsTrue, refl, sym, ◌∙◌, ap, subst, arith}
+use Rattle.std.proofs.Common.{◌≡◌, inl, inr, ◌≤◌, ◌<◌, ◌+◌, ◌-◌, ◌^◌, ℕ, List, min, refl, sym, ◌∙◌, ap, subst, arith}
 use Rattle.lean_disk.specs.Area.{Area, Leaves}
 use Rattle.lean_disk.specs.Calls.{Noted}
-use Rattle.lean_disk.specs.Moments.{AsAt, LeavesOnly}
+use Rattle.lean_disk.specs.Moments.{LeavesOnly}
 use Rattle.lean_disk.specs.Story.{Crash, IsLawful, LeavesNow, Story}
 use Rattle.lean_disk.specs.Told.{TellsSame}
 use Rattle.lean_disk.proofs.MomentLemmas.{goes_on_by, weaker, started}
@@ -11,7 +11,7 @@ use Rattle.lean_edge.specs.declared.sink.Put.TheVariants.{Done, Failed}
 use Rattle.disk_slots.specs.declared.master.Master.{Master}
 use Rattle.disk_image.specs.Shown.{IsCleanDisk}
 use Rattle.recovery_scan.specs.Scans.{areas_of}
-use Rattle.recovery.specs.Crashes.{Lasts, RecoveryLeaves}
+use Rattle.recovery.specs.Crashes.{RecoveryLeaves}
 use Rattle.transcripts.specs.Laws.{IsQuiet}
 use Rattle.transcripts.specs.Transcripts.{first_lines}
 use Rattle.lean_run.specs.Crashes.{RunLeaves}

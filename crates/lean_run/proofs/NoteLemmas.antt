@@ -1,5 +1,5 @@
 -- A line that is put changes no area, and adds no crash but by its note.
-use Rattle.std.proofs.Common.{◌≡◌, inl, inr, ◌≤◌, ℕ, refl, sym, ◌∙◌, ap, subst, arith}
+use Rattle.std.proofs.Common.{◌≡◌, inl, refl, sym, subst, arith}
 use Rattle.lean_disk.specs.Calls.{Noted}
 use Rattle.lean_disk.specs.Story.{Story}
 use Rattle.lean_disk.specs.Told.{TellsSame}

@@ -4,24 +4,20 @@ use Rattle.std.proofs.Common.{lit<}
 use Rattle.std.proofs.lemmas.Option.{slice_get_cases}
 use Rattle.std.proofs.Math.Nat.{zero-mod}
 use Rattle.page_model.specs.Page as stored
-use Rattle.page_model.specs.Nodes.{Format, Node, holds, free}
+use Rattle.page_model.specs.Nodes.{Format, Node, holds}
 use Rattle.page_model.specs.Pairs.{find}
-use Rattle.page_model.specs.Tree.{IsTree, entry, value, value_of}
+use Rattle.page_model.specs.Tree.{IsTree, entry, value_of}
 use Rattle.image_model.specs.Entries.{Page}
 use Rattle.image_model.specs.Images.{Image, map_of, recovered_page}
-use Rattle.image_model.specs.Slots.{Slot, base_of}
 use Rattle.lean_disk.specs.Area.{Area}
 use Rattle.lean_disk.specs.Story.{Story}
 use Rattle.disk_slots.specs.declared.master.Master.{Master}
 use Rattle.disk_image.specs.Formats.{format_of}
-use Rattle.disk_image.specs.MasterSlots.{master_on}
-use Rattle.disk_image.specs.Shown.{Areas, IsCleanDisk, IsSoundDisk, image_by, shown_by}
+use Rattle.disk_image.specs.Shown.{Areas, IsCleanDisk, IsSoundDisk, image_by}
 use Rattle.node_tree.specs.Nodes.{nodes_of, node_or}
 use Rattle.recovery_scan.specs.Scans.{areas_of}
-use Rattle.recovery_redo.specs.Images.{page_of}
-use Rattle.recovery.specs.Crashes.{IsSameOrNext}
 use Rattle.recovery.specs.Masters.{IsOpenable, next_master}
-use Rattle.recovery.specs.Opened.{IsOpened, IsPageOf, IsRecovered, IsUntouched, IsWhole, TellsAll}
+use Rattle.recovery.specs.Opened.{IsOpened, IsRecovered, IsUntouched, IsWhole, TellsAll}
 use Rattle.recovery.specs.Own.{EveryOwn}
 use Rattle.recovery.specs.declared.opening.Recovered.{Recovered}
 use Rattle.core_state.specs.States.{Opening, start_page}
@@ -32,9 +28,7 @@ use Rattle.session_model.specs.Sessions.{IsAlone, start}
 use Rattle.worker_log.specs.Logs.{Log}
 use Rattle.worker_log.specs.Kept.{IsFresh, IsKept, fresh_account}
 use Rattle.lean_engine.specs.States.{State, Pictures, gsn_or, last_or}
-use Rattle.lean_engine.specs.States as engine
 use Rattle.lean_run.specs.Inside.{HasOpened, IsLogOf, Rests}
-use Rattle.lean_run.specs.Inside as inside
 use Rattle.lean_run.specs.Runs.{Counts, IsFrom}
 
 -- what stands in the leaves depends on these pages alone

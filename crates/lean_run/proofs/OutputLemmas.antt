@@ -1,5 +1,5 @@
 -- What was put, as an output: replies, and what stands behind them.
-use Rattle.std.proofs.Common.{◌≡◌, ◌⊎◌, inl, inr, ⊎_elim, ◌≤◌, ◌<◌, ◌+◌, ◌-◌, ◌*◌, ◌^◌, ◌++◌, ℕ, zero, suc, List, [], ◌∷◌, length, take, drop, Some, None, Option, refl, sym, ◌∙◌, ap, subst, arith}
+use Rattle.std.proofs.Common.{◌≡◌, ◌⊎◌, inl, inr, ⊎_elim, ◌≤◌, ◌<◌, ◌*◌, ◌++◌, ℕ, suc, List, [], ◌∷◌, length, take, drop, Some, refl, sym, ◌∙◌, ap, subst, arith}
 use Rattle.std.proofs.lemmas.List.{append-nil, take-append-le, take_all, take-append-drop, length-append}
 use mathlib.Core.List.{append_assoc}
 use Rattle.std.proofs.lemmas.Bool.{cases_lt}
@@ -8,9 +8,8 @@ use Rattle.map_model.specs.declared.call.Answer.TheVariants as answer
 use Rattle.script_lang.specs.Notices.{Notice, notice_text, NoticeFits}
 use Rattle.script_lang.specs.Replies.{Reply, reply_text, reply_line, Fits}
 use Rattle.session_model.specs.Calls.{Answered}
-use Rattle.transcripts.specs.Laws.{EveryFront, Front}
-use Rattle.transcripts.specs.Told.{asked_lines, ask, durable_of, opened_line, replies, text_of, EachFits, EachReplyFits, Heard, IsCut, IsOutput, IsTail}
-use Rattle.transcripts.specs.Told.IsTail.{CutReply, CutNotice, WholeNotice}
+use Rattle.transcripts.specs.Told.{asked_lines, ask, durable_of, replies, text_of, EachFits, EachReplyFits, IsCut, IsTail}
+use Rattle.transcripts.specs.Told.IsTail.{CutNotice, WholeNotice}
 use Rattle.script_run.specs.Runs.{IsCutOff, IsWhole, PrintsTo}
 use Rattle.script_run.specs.declared.stop.Stop.{Stop}
 use Rattle.script_run.specs.declared.stop.Stop.TheVariants as stops

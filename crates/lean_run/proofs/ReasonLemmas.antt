@@ -1,5 +1,5 @@
 -- Why a disk was not opened.
-use Rattle.std.proofs.Common.{◌≡◌, ℕ, refl, IfErr, Result, Ok, Err}
+use Rattle.std.proofs.Common.{◌≡◌, ℕ, Result, Err}
 use Rattle.lean_disk.specs.Story.{Story}
 use Rattle.recovery_scan.specs.Scans.{areas_of}
 use Rattle.recovery.specs.Masters.{HasOpenable}

@@ -1,5 +1,5 @@
 -- A script that was executed on a disk that was opened.
-use Rattle.std.proofs.Common.{◌≡◌, ◌⊎◌, inl, inr, ⊎_elim, ◌≤◌, ◌<◌, ◌+◌, ◌*◌, ◌-◌, ◌^◌, ◌++◌, ℕ, suc, List, [], ◌∷◌, length, take, min, Some, None, Option, IsTrue, refl, sym, ◌∙◌, ap, ap₂, subst, arith}
+use Rattle.std.proofs.Common.{◌≡◌, inr, ⊎_elim, ◌≤◌, ◌<◌, ◌+◌, ◌-◌, ◌^◌, ◌++◌, ℕ, suc, List, [], ◌∷◌, length, min, Some, IsTrue, refl, sym, ◌∙◌, ap, subst, arith}
 use Rattle.std.proofs.lemmas.List.{append-nil, append_cancel_right}
 use mathlib.Core.List.{append_assoc}
 use mathlib.Core.Path.{fun_ext}
@@ -12,21 +12,19 @@ use Rattle.log_block.specs.Block.{IsSealed}
 use Rattle.lean_disk.specs.Area.{Area, Write}
 use Rattle.lean_disk.specs.Calls.{Noted}
 use Rattle.lean_disk.specs.Moments.{LeavesOnly}
-use Rattle.lean_disk.specs.Story.{Crash, IsLawful, LeavesNow, Story, Tells}
+use Rattle.lean_disk.specs.Story.{Crash, IsLawful, LeavesNow, Story}
 use Rattle.lean_disk.proofs.MomentLemmas as moments
 use Rattle.lean_edge.specs.Outside.{Feed, Held}
-use Rattle.lean_edge.specs.declared.sink.Put.{Put}
-use Rattle.lean_edge.specs.declared.sink.Put.TheVariants.{Done, Failed}
-use Rattle.script_lang.specs.Notices.{Notice, notice_text, NoticeFits}
+use Rattle.lean_edge.specs.declared.sink.Put.TheVariants.{Done}
+use Rattle.script_lang.specs.Notices.{Notice, NoticeFits}
 use Rattle.script_lang.specs.Reading.{Unread}
 use Rattle.script_lang.specs.Replies.{Reply}
 use Rattle.disk_slots.specs.declared.master.Master.{Master}
 use Rattle.disk_image.specs.Laws.{EveryAgreement, EverySealed}
-use Rattle.disk_image.specs.Shown.{Areas, DiskStandsFor, IsCleanDisk, image_by}
+use Rattle.disk_image.specs.Shown.{DiskStandsFor, IsCleanDisk, image_by}
 use Rattle.recovery_scan.specs.Scans.{areas_of}
 use Rattle.recovery.specs.Crashes.{RecoveryLeaves}
 use Rattle.recovery.specs.Opened.{Keeps, TellsAll}
-use Rattle.core_state.specs.States.{Opening}
 use Rattle.core_crash.specs.Crashes.{first_map}
 use Rattle.session_model.specs.Calls.{Answered, Runs}
 use Rattle.session_model.specs.Calls as session
@@ -36,7 +34,7 @@ use Rattle.worker_log.specs.Laws.{EveryRun}
 use Rattle.worker_log.specs.Kept.{IsKept, fresh_account}
 use Rattle.lean_engine.specs.States.{State}
 use Rattle.transcripts.specs.Laws.{EveryEnd, EveryFront, EveryMoment, EveryTranscript, IsQuiet, TellsOf}
-use Rattle.transcripts.specs.Told.{asked_text, opened_line, replies, text_of, names, EachFits, EachReplyFits, Heard, IsOutput}
+use Rattle.transcripts.specs.Told.{opened_line, replies, text_of, EachFits, EachReplyFits, Heard, IsOutput}
 use Rattle.transcripts.specs.Told.Heard.{Whole}
 use Rattle.transcripts.specs.Transcripts.{durables, first_lines, in_turn, transcript}
 use Rattle.script_run.specs.Moments.{ScriptLeaves}
@@ -48,11 +46,11 @@ use Rattle.lean_run.specs.Crashes.{IsFairCrash, IsYoung, RunLeaves, Survives, Te
 use Rattle.lean_run.specs.Ends.{RunEnds}
 use Rattle.lean_run.specs.Inside.{EndsWith, HasOpened, Rests, counts_of}
 use Rattle.lean_run.specs.Lines.{IsPut}
-use Rattle.lean_run.specs.Runs.{Counts, ended, first_line, last_line}
+use Rattle.lean_run.specs.Runs.{ended, first_line}
 use Rattle.lean_run.specs.declared.opening.Opened.{Opened}
 use Rattle.lean_run.proofs.LastLemmas.{Last, last_of}
 use Rattle.lean_run.proofs.MomentLemmas.{line_moments, put_moments, same_but, then, was_then}
-use Rattle.lean_run.proofs.OutputLemmas.{Out, all_put, earlier_fit, few_replies, front_few, no_tail, older_fit, out_of, same_front}
+use Rattle.lean_run.proofs.OutputLemmas.{Out, earlier_fit, few_replies, front_few, no_tail, older_fit, out_of, same_front}
 use Rattle.lean_run.proofs.EndLemmas.{HasLines, HeardOf, final_tail, first_lines_of, heard_of, lines_of, runs_first}
 use Rattle.lean_run.proofs.SurviveLemmas as survive
 

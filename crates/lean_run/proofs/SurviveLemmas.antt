@@ -1,15 +1,13 @@
 -- What a crash leaves in a run: of a disk that stands still, and of one on which a script is executed.
-use Rattle.std.proofs.Common.{◌≡◌, ◌⊎◌, inl, inr, ⊎_elim, ◌≤◌, ◌<◌, ◌+◌, ◌++◌, ◌^◌, ℕ, zero, suc, List, [], ◌∷◌, refl, sym, ◌∙◌, ap, ap₂, subst, arith, codes}
+use Rattle.std.proofs.Common.{◌≡◌, ◌⊎◌, inl, inr, ◌<◌, ◌+◌, ◌++◌, ℕ, List, [], ◌∷◌, refl, sym, ◌∙◌, ap, subst, arith, codes}
 use mathlib.Core.Path.{fun_ext}
 use Rattle.std.proofs.lemmas.List.{append-nil}
 use Rattle.map_model.specs.Lists.{Has}
 use Rattle.map_model.specs.Maps.{Map}
-use Rattle.map_model.specs.Journals.{Journal, Name, Txn, Serial, IsClosed, after}
+use Rattle.map_model.specs.Journals.{Journal, Name, Txn, Serial, after}
 use Rattle.map_model.specs.Transcripts as model
-use Rattle.image_model.specs.Ends.{kept}
 use Rattle.image_model.specs.Fair.{IsFair}
-use Rattle.image_model.specs.Entries.{Entry}
-use Rattle.image_model.specs.Images.{StandsFor, found, map_of, won_by}
+use Rattle.image_model.specs.Images.{map_of, won_by}
 use Rattle.lean_disk.specs.Area.{Area, Leaves, Write}
 use Rattle.lean_disk.specs.Moments.{AsAt}
 use Rattle.lean_disk.specs.Story.{Crash, Story, Tells}
@@ -24,8 +22,8 @@ use Rattle.core_state.specs.States.{Opening}
 use Rattle.core_crash.specs.Crashes.{first_map}
 use Rattle.session_model.specs.Calls.{Answered, Runs}
 use Rattle.session_model.specs.Calls as session
-use Rattle.session_model.specs.Laws.{EverySession, SessionLaws, kept_of}
-use Rattle.session_model.specs.Sessions.{Session, IsAlone, start}
+use Rattle.session_model.specs.Laws.{EverySession, kept_of}
+use Rattle.session_model.specs.Sessions.{IsAlone, start}
 use Rattle.worker_log.specs.Laws.{EveryRun}
 use Rattle.script_lang.specs.Replies.{Reply}
 use Rattle.worker_log.specs.Logs.{Log}
@@ -34,7 +32,7 @@ use Rattle.transcripts.specs.Laws.{IsQuiet}
 use Rattle.transcripts.specs.Told.{names}
 use Rattle.transcripts.specs.Transcripts.{durables, first_lines, transcript}
 use Rattle.script_run.specs.Moments.{HoldsRun, ScriptLeaves}
-use Rattle.lean_run.specs.Crashes.{HasOneMore, IsFairCrash, IsUnwritten, IsYoung, RunLeaves, Survives, WithOneInHand}
+use Rattle.lean_run.specs.Crashes.{IsFairCrash, IsUnwritten, RunLeaves, Survives, WithOneInHand}
 use Rattle.lean_run.specs.Inside.{IsFront, Rests}
 use Rattle.lean_run.proofs.ImageLemmas as image
 use Rattle.lean_run.proofs.JournalLemmas.{HasNamed, still_has, told_named, with_hand}

@@ -1,5 +1,5 @@
 -- What a crash in a run leaves.
-use Rattle.std.specs.Prelude.{◌≡◌, ◌⊎◌, ◌++◌, ◌<◌, ◌+◌, ◌^◌, ℕ, List, [], IsTrue, codes}
+use Rattle.std.specs.Prelude.{◌≡◌, ◌⊎◌, ◌++◌, ◌<◌, ◌+◌, ◌^◌, ℕ, List, IsTrue, codes}
 use Rattle.map_model.specs.Lists.{Has}
 use Rattle.map_model.specs.Laws.{IsFalling}
 use Rattle.map_model.specs.Journals.{Journal, Name, Txn, Serial, IsClosed, after}

@@ -1,5 +1,5 @@
 -- Words of private functions: what an opening leaves, and lines that are put.
-use Rattle.std.specs.Prelude.{◌≡◌, ◌⊎◌, ◌++◌, ◌<◌, ◌≤◌, ℕ, List, [], ◌∷◌, IsTrue, Some}
+use Rattle.std.specs.Prelude.{◌≡◌, ◌++◌, ◌<◌, ◌≤◌, ℕ, List, [], ◌∷◌, Some}
 use Rattle.image_model.specs.Images.{map_of}
 use Rattle.image_model.specs.Slots.{Slot, base_of}
 use Rattle.lean_disk.specs.Area.{Area}

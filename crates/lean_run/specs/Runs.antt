@@ -1,12 +1,11 @@
 -- How a run of a script ended.
-use Rattle.std.specs.Prelude.{◌≡◌, ◌⊎◌, ◌++◌, ℕ, suc, List, [], ◌∷◌, length, take, IsTrue, Some}
+use Rattle.std.specs.Prelude.{◌≡◌, ◌⊎◌, ◌++◌, ℕ, suc, List, [], length, take, IsTrue, Some}
 use Rattle.map_model.specs.Maps.{Map}
 use Rattle.map_model.specs.Journals.{Name, Serial}
 use Rattle.map_model.specs.Transcripts.{journal}
 use Rattle.image_model.specs.Images.{won_by, lost_by, map_of}
-use Rattle.lean_disk.specs.Faults.{Rose}
 use Rattle.lean_disk.specs.Story.{Story}
-use Rattle.lean_edge.specs.Outside.{Feed, Held}
+use Rattle.lean_edge.specs.Outside.{Feed}
 use Rattle.script_lang.specs.Notices.{Notice}
 use Rattle.disk_slots.specs.declared.master.Master.{Master}
 use Rattle.disk_image.specs.Shown.{image_by, DiskStandsFor, IsCleanDisk, IsSoundDisk}

@@ -6,3 +6,6 @@ mod opening;
 mod run;
 
 pub use run::run_disk;
+
+#[cfg(test)]
+mod tests;

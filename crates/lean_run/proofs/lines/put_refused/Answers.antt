@@ -1,4 +1,4 @@
-use Rattle.std.proofs.Common.{◌≡◌, List, ℕ, subst, sym}
+use Rattle.std.proofs.Common.{List, ℕ, subst}
 use Rattle.script_lang.specs.Notices.{Notice}
 use Rattle.lean_run.specs.Lines.{IsPut, line_of}
 use Rattle.lean_run.proofs.LineLemmas.{held_line}

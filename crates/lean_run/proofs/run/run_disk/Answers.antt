@@ -1,4 +1,4 @@
-use Rattle.std.proofs.Common.{◌≡◌, [], refl, subst, arith}
+use Rattle.std.proofs.Common.{[], refl, subst, arith}
 use Rattle.lean_edge.specs.declared.sink.Put.{Put}
 use Rattle.session_model.specs.Sessions.{start}
 use Rattle.lean_run.specs.Lines.{IsPut}
