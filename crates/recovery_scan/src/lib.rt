@@ -7,3 +7,6 @@ mod reading;
 
 pub use found::{Found, What};
 pub use reading::{Unread, scan};
+
+#[cfg(test)]
+mod tests;
