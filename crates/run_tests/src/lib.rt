@@ -8,6 +8,8 @@ mod faults;
 #[cfg(test)]
 mod openings;
 #[cfg(test)]
+mod rows;
+#[cfg(test)]
 mod runs;
 #[cfg(test)]
 mod scripts;

@@ -1,6 +1,7 @@
 // Openings that are stopped, on a disk whose log has a committed transaction and one that is not.
+use crate::crashes::add_one;
 use crate::runs::{
-    CHOICES, MANY, Outcome, copy_of, formatted, run_failing, run_script, run_up_to, whole_lines,
+    CHOICES, MANY, Outcome, copy_of, formatted, lines_of, run_failing, run_script, whole_lines,
 };
 use lean_disk::{Choice, MemDisk};
 use std::alloc::{AllocError, Global};
@@ -133,15 +134,132 @@ fn stops_of<R: Threads + Wait + Sync>(
     Ok(stops.is_wrong(MANY, 0))
 }
 
+// Stops of which each is as it must be.
+fn all_well(calls: u64, crashes: u64, opened: u64) -> Stops {
+    Stops {
+        calls,
+        crashes,
+        opened,
+        wrong: None,
+    }
+}
+
+// The disk that the tables begin with is opened under generation 2, with one transaction to keep and one to undo; it is clean
+// after that.
 #[test]
-fn the_disk_of_two_has_one_to_keep_and_one_to_undo(rt: HostRuntime) -> Result<(), Fail> {
+fn an_opening_keeps_the_committed_one_and_undoes_the_other(rt: HostRuntime) -> Result<(), Fail> {
+    let alloc = rt.alloc();
+    let first = run_script(&rt, alloc, disk_of_two(&rt, alloc)?, GETS)?;
+    let want = "open 2 winners 1 undone 1;1 begun 1.1;1 value 7;1 none;";
+    assert_eq!(rt; first.printed(), lines_of(alloc, want)?.as_str());
+    assert_eq!(rt; first.status, 0);
+    let second = run_script(&rt, alloc, first.disk, GETS)?;
+    let want = "open 3 winners 0 undone 0;1 begun 1.1;1 value 7;1 none;";
+    assert_eq!(rt; second.printed(), lines_of(alloc, want)?.as_str());
+    assert_eq!(rt; second.status, 0);
+    Ok(())
+}
+
+// Its calls are a sync of area 0, two reads there, a sync of 1 and of 2, three reads of the log, 32 of the pages, the write of
+// the page that has changed, its sync, the master's write, its sync: 44 in all. A crash has two moments more than the number
+// of the call that failed. The stopped opening's master counts where all bytes of its write are left.
+#[test]
+fn an_opening_that_stops_at_the_masters_changes_no_map(rt: HostRuntime) -> Result<(), Fail> {
     let alloc = rt.alloc();
     let disk = disk_of_two(&rt, alloc)?;
-    for area in 0..3u32 {
-        for choice in CHOICES {
-            let found = stops_of(&rt, alloc, &disk, area, choice)?;
-            println!(rt; "{area} {choice:?} {found:?}")?;
+    for choice in CHOICES {
+        let opened = if choice == Choice::AllBytes { 5 } else { 0 };
+        let found = stops_of(&rt, alloc, &disk, 0, choice)?;
+        assert_eq!(rt; found, all_well(5, 103, opened), "by {choice:?}");
+    }
+    Ok(())
+}
+
+#[test]
+fn an_opening_that_stops_at_the_pages_changes_no_map(rt: HostRuntime) -> Result<(), Fail> {
+    let alloc = rt.alloc();
+    let disk = disk_of_two(&rt, alloc)?;
+    for choice in CHOICES {
+        let found = stops_of(&rt, alloc, &disk, 1, choice)?;
+        assert_eq!(rt; found, all_well(35, 941, 0), "by {choice:?}");
+    }
+    Ok(())
+}
+
+#[test]
+fn an_opening_that_stops_at_the_log_changes_no_map(rt: HostRuntime) -> Result<(), Fail> {
+    let alloc = rt.alloc();
+    let disk = disk_of_two(&rt, alloc)?;
+    for choice in CHOICES {
+        let found = stops_of(&rt, alloc, &disk, 2, choice)?;
+        assert_eq!(rt; found, all_well(4, 34, 0), "by {choice:?}");
+    }
+    Ok(())
+}
+
+// Three openings, each crashed at this moment, or after its last line.
+fn crash_thrice<R: Threads + Wait + Sync>(
+    rt: &R,
+    alloc: Global,
+    disk: &MemDisk,
+    moment: u64,
+    choice: Choice,
+) -> Result<MemDisk, Fail> {
+    let mut left = copy_of(disk)?;
+    for _ in 0..3u32 {
+        let done = run_script(rt, alloc, left, GETS)?;
+        left = done.disk.crash(moment, choice)?;
+    }
+    Ok(left)
+}
+
+// How many moments there are, by the generation that a fourth opening has; and the first moment at which it finds another map.
+#[derive(Clone, Copy, Debug, PartialEq, Eq)]
+struct Again {
+    generations: [u64; 6],
+    wrong: Option<u64>,
+}
+
+// Three crashes at each moment of the first opening, up to its three lines.
+fn crashed_again<R: Threads + Wait + Sync>(
+    rt: &R,
+    alloc: Global,
+    choice: Choice,
+) -> Result<Again, Fail> {
+    let disk = disk_of_two(rt, alloc)?;
+    let end = run_script(rt, alloc, copy_of(&disk)?, GETS)?.disk.moment();
+    let mut generations = [0; 6];
+    for moment in 0..=end {
+        let left = crash_thrice(rt, alloc, &disk, moment, choice)?;
+        match generation_of(rt, alloc, left, 5)? {
+            Some(generation) => add_one(&mut generations, generation),
+            None => {
+                return Ok(Again {
+                    generations,
+                    wrong: Some(moment),
+                });
+            }
         }
+    }
+    Ok(Again {
+        generations,
+        wrong: None,
+    })
+}
+
+// The first opening has 44 calls and four lines. The openings before the fourth count from the first one's sync of the master
+// on, which is call 44, and from its write on where that leaves all bytes.
+#[test]
+fn three_crashes_of_openings_in_a_row_change_no_map(rt: HostRuntime) -> Result<(), Fail> {
+    let alloc = rt.alloc();
+    for choice in CHOICES {
+        let written = if choice == Choice::AllBytes { 1 } else { 0 };
+        let want = Again {
+            generations: [0, 0, 44 - written, 0, 0, 5 + written],
+            wrong: None,
+        };
+        let found = crashed_again(&rt, alloc, choice)?;
+        assert_eq!(rt; found, want, "by {choice:?}");
     }
     Ok(())
 }
