@@ -1,0 +1,5 @@
+use Rattle.run_tests.proofs.NextLemmas as next
+use Rattle.run_tests.proofs.every_next_run.Goals as goal
+
+pub returns : goal.returns
+returns c = next.every_next_run
