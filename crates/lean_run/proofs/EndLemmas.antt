@@ -2,6 +2,7 @@
 use Rattle.std.proofs.Common.{◌≡◌, ◌⊎◌, inl, inr, ◌≤◌, ◌<◌, ◌++◌, ℕ, List, [], ◌∷◌, Some, IsTrue, refl, sym, ◌∙◌, ap, subst}
 use Rattle.std.proofs.lemmas.List.{append-nil}
 use mathlib.Core.List.{append_assoc}
+use Rattle.lean_disk.specs.Area.{Area}
 use Rattle.lean_disk.specs.Moments.{LeavesOnly}
 use Rattle.lean_disk.specs.Story.{IsLawful, Story}
 use Rattle.lean_edge.specs.Outside.{Feed, Held}
@@ -13,7 +14,7 @@ use Rattle.disk_slots.specs.declared.master.Master.{Master}
 use Rattle.disk_image.specs.Shown.{IsCleanDisk}
 use Rattle.recovery_scan.specs.Scans.{areas_of}
 use Rattle.recovery.specs.Crashes.{RecoveryLeaves}
-use Rattle.recovery.specs.Opened.{TellsAll}
+use Rattle.recovery.specs.Opened.{IsRefusal, IsUntouched, TellsAll}
 use Rattle.recovery.specs.declared.opening.Unrecovered.{Unrecovered}
 use Rattle.core_state.specs.States.{Opening}
 use Rattle.session_model.specs.Calls.{Answered, Runs}
@@ -52,12 +53,20 @@ module _ (notice_law : EveryNotice) (s0 old new : Story) (law : IsLawful old) (l
 
 pub refused_ends : EveryNotice → (status : ℕ) (s0 old new : Story) → IsLawful old → s0.moment ≤ old.moment → old.notes ≡ s0.notes → ((a : ℕ) → 2 < a → old.area a ≡ s0.area a)
     → ((m : Master) → TellsAll s0 → IsCleanDisk m (areas_of s0) → LeavesOnly s0 old (RecoveryLeaves m s0)) → (feed : Feed) (reason : Unrecovered) → status ≡ status_of reason → Shows s0 reason
+    → (IsRefusal reason → (a : ℕ) → IsUntouched (s0.area a) (old.area a))
     → (held0 held1 : Held) (sink0 sink1 : ℕ) → Refuses reason held0 held1 sink0 sink1 old new → RunEnds status s0 new feed feed held0 held1 sink0 sink1
-refused_ends notice_law status s0 old new law later notes others any feed reason is shown held0 held1 sink0 sink1 r =
+refused_ends notice_law status s0 old new law later notes others any feed reason is shown left held0 held1 sink0 sink1 r =
     let t = line_text notice_law s0 old new law later notes any feed (notice_of reason) r.fits r.answer held0 held1 r.line in record {
       put = t.text;
       holds = t.holds;
-      how = inl (record { reason = reason; status_is = is; shown = shown; printed = went_out (line_of (notice_of reason)) t.text r.answer sink0 sink1 t.front t.is_front t.whole r.cause; unread = refl });
+      how = inl (record {
+        reason = reason;
+        status_is = is;
+        shown = shown;
+        printed = went_out (line_of (notice_of reason)) t.text r.answer sink0 sink1 t.front t.is_front t.whole r.cause;
+        unread = refl;
+        left = λ refused a. subst (λ (x : Area). IsUntouched (s0.area a) x) (sym ((put_notes old new r.answer r.line.noted r.line.same).area a)) (left refused a);
+      });
       others = λ a lt. (put_notes old new r.answer r.line.noted r.line.same).area a ∙ others a lt;
       any_moment = line_leaves notice_law s0 old new law later notes any feed (notice_of reason) r.fits r.answer held0 held1 r.line;
     }

@@ -11,7 +11,7 @@ use Rattle.disk_slots.specs.declared.master.Master.{Master}
 use Rattle.disk_image.specs.Shown.{image_by, DiskStandsFor, IsCleanDisk, IsSoundDisk}
 use Rattle.recovery_scan.specs.Scans.{areas_of}
 use Rattle.recovery.specs.Masters.{HasOpenable, IsOpenable}
-use Rattle.recovery.specs.Opened.{IsDamaged, TellsAll}
+use Rattle.recovery.specs.Opened.{IsDamaged, IsRefusal, IsUntouched, TellsAll}
 use Rattle.recovery.specs.declared.opening.Unrecovered.{Unrecovered}
 use Rattle.recovery.specs.declared.opening.Unrecovered.TheVariants as why
 use Rattle.core_state.specs.States.{Opening}
@@ -50,13 +50,14 @@ Shows s (why.Damaged area place) = TellsAll s → IsDamaged (areas_of s) area pl
 Shows s why.DiskFault = Unit {0}
 Shows s why.Memory = Unit {0}
 
--- The line of the reason was put, or a front of it, and the script was not read.
-pub record NotOpened (status : ℕ) (s0 : Story) (feed0 feed1 : Feed) (put : List ℕ) (sink0 sink1 : ℕ) : Type 0 where
+-- The line of the reason was put, or a front of it and the sink failed; the script was not read, and a disk that is refused is left as it was.
+pub record NotOpened (status : ℕ) (s0 s1 : Story) (feed0 feed1 : Feed) (put : List ℕ) (sink0 sink1 : ℕ) : Type 0 where
   pub reason : Unrecovered
   pub status_is : status ≡ status_of reason
   pub shown : Shows s0 reason
   pub printed : WentOut (line_of (notice_of reason)) put sink0 sink1
   pub unread : feed1 ≡ feed0
+  pub left : IsRefusal reason → (a : ℕ) → IsUntouched (s0.area a) (s1.area a)
 
 -- ## A disk that was opened
 
@@ -144,4 +145,4 @@ pub record Ran (status : ℕ) (s0 s1 : Story) (feed0 feed1 : Feed) (put : List �
 -- how often the sink had failed before and has now.
 abbrev pub HowRun : (status : ℕ) (s0 s1 : Story) (feed0 feed1 : Feed) (put : List ℕ) (sink0 sink1 : ℕ) → Type 0
 HowRun status s0 s1 feed0 feed1 put sink0 sink1 =
-    NotOpened status s0 feed0 feed1 put sink0 sink1 ⊎ (CutFirst status s0 feed0 feed1 put ⊎ Ran status s0 s1 feed0 feed1 put sink0 sink1)
+    NotOpened status s0 s1 feed0 feed1 put sink0 sink1 ⊎ (CutFirst status s0 feed0 feed1 put ⊎ Ran status s0 s1 feed0 feed1 put sink0 sink1)

@@ -6,7 +6,7 @@ ghost use Rattle.disk_slots.specs.declared.master.Master.{Master};
 ghost use Rattle.disk_image.specs.Shown.{IsCleanDisk};
 ghost use Rattle.recovery_scan.specs.Scans.{areas_of};
 ghost use Rattle.recovery.specs.Crashes.{RecoveryLeaves};
-ghost use Rattle.recovery.specs.Opened.{Keeps, TellsAll};
+ghost use Rattle.recovery.specs.Opened.{IsRefusal, IsUntouched, Keeps, TellsAll};
 ghost use Rattle.recovery.specs.declared.opening.Unrecovered.{Unrecovered};
 ghost use Rattle.lean_run.specs.Runs.{Shows};
 ghost use Rattle.lean_run.specs.Inside.{HasOpened};
@@ -33,6 +33,7 @@ pub(crate) fn open<D: Disk>(alloc: Global, disk: &mut D) -> Result<Opened, Unrec
     ensures keeps { Keeps (D.story disk.old) (D.story disk.new) }
     ensures any_moment { (m : Master) → TellsAll (D.story disk.old) → IsCleanDisk m (areas_of (D.story disk.old)) → LeavesOnly (D.story disk.old) (D.story disk.new) (RecoveryLeaves m (D.story disk.old)) }
 
+    ensures left { IfErr result (λ why. IsRefusal why → (a : ℕ) → IsUntouched ((D.story disk.old).area a) ((D.story disk.new).area a)) }
     ensures shown { IfErr result (Shows (D.story disk.old)) }
     ensures cause_disk_fault { HasCause (D.faults disk.old) (D.faults disk.new) (result ≡ Err Unrecovered.DiskFault) }
 {

@@ -21,6 +21,8 @@ use Rattle.recovery_scan.specs.Scans.{areas_of}
 use Rattle.recovery_redo.specs.Images.{page_of}
 use Rattle.recovery.specs.Masters.{next_master}
 use Rattle.recovery.specs.declared.opening.Recovered.{Recovered}
+use Rattle.recovery.specs.declared.opening.Unrecovered.{Unrecovered}
+use Rattle.recovery.specs.declared.opening.Unrecovered.TheVariants as why
 
 -- it tells of the areas of the master, of the pages and of the log
 pub record TellsAll (s : Story) : Type 0 where
@@ -100,3 +102,10 @@ pub record IsUntouched (old new : Area) : Type 0 where
   pub bytes : new.bytes ≡ old.bytes
   pub writes : new.writes ≡ old.writes
   pub first : new.first ≡ old.first
+
+-- the disk is refused for what it holds
+abbrev pub IsRefusal : Unrecovered → Type 0
+IsRefusal why.NotFormatted = Unit {0}
+IsRefusal (why.Damaged area place) = Unit {0}
+IsRefusal why.DiskFault = ⊥
+IsRefusal why.Memory = ⊥

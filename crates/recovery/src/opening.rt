@@ -1,5 +1,5 @@
 // The opening of a disk.
-ghost use Rattle.std.specs.Prelude.{◌≡◌, ◌<◌, ◌*◌, ◌%◌, ◌^◌, ℕ, Err, IfOk, length, slice_index};
+ghost use Rattle.std.specs.Prelude.{◌≡◌, ◌<◌, ◌*◌, ◌%◌, ◌^◌, ℕ, Err, IfErr, IfOk, length, slice_index};
 ghost use Rattle.lean_disk.specs.Area.{synced, written};
 ghost use Rattle.lean_disk.specs.Faults.{HasCause};
 ghost use Rattle.lean_disk.specs.Moments.{CrashIn, Framed, LeavesOnly};
@@ -11,7 +11,7 @@ ghost use Rattle.page_store.specs.Runs.{IsReady};
 ghost use Rattle.recovery_scan.specs.Scans.{areas_of};
 ghost use Rattle.recovery.specs.Crashes.{RecoveryLeaves};
 ghost use Rattle.recovery.specs.Masters.{HasOpenable, IsOpenable};
-ghost use Rattle.recovery.specs.Opened.{IsDamaged, IsOpened, IsRecovered, IsUntouched, IsWhole, Keeps, TellsAll};
+ghost use Rattle.recovery.specs.Opened.{IsDamaged, IsOpened, IsRecovered, IsRefusal, IsUntouched, IsWhole, Keeps, TellsAll};
 ghost use Rattle.recovery.specs.Inside.{AreFormed, AreOwn, IsReadied, SavesAll, SavesEach, WritesOnce, saves_to};
 
 use crate::master::{next_master, write_master};
@@ -99,6 +99,9 @@ pub fn recover<D: Disk>(alloc: Global, disk: &mut D) -> Result<Recovered, Unreco
     ensures log { IsUntouched ((D.story disk.old).area 2) ((D.story disk.new).area 2) }
     ensures others { (a : ℕ) → 2 < a → (D.story disk.new).area a ≡ (D.story disk.old).area a }
     ensures keeps { Keeps (D.story disk.old) (D.story disk.new) }
+
+    // A disk that is refused is left as it was.
+    ensures left { IfErr result (λ why. IsRefusal why → (a : ℕ) → IsUntouched ((D.story disk.old).area a) ((D.story disk.new).area a)) }
 
     // It is refused exactly where no master is there by which it can be opened.
     ensures cause_not_formatted { result ≡ Err Unrecovered.NotFormatted → TellsAll (D.story disk.old) → HasOpenable (areas_of (D.story disk.old)) → ⊥ }

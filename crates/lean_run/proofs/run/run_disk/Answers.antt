@@ -14,7 +14,7 @@ pub returns-in_default-clause-ends : goal.returns-in_default-clause-ends
 returns-in_default-clause-ends g c =
     let s0 = g.D.Disk.story c.args.disk.now in
     let law = ((g.met.D.Disk g.world.𝓛 g.world.𝓜 g.world.𝓡 ((λ s x. x), (λ x. x), (λ x. x), (λ x. x))).lawful c.args.disk.now) in
-    refused_ends c.every_notice.ensures c.refuse.result s0 s0 (g.D.Disk.story c.refuse.new.disk) law (omega arith) refl (λ a lt. refl) (λ m tells clean. unmoved m s0 law) (g.S.Source.feed c.args.source.now) Memory c.refuse.ensures.status tt
+    refused_ends c.every_notice.ensures c.refuse.result s0 s0 (g.D.Disk.story c.refuse.new.disk) law (omega arith) refl (λ a lt. refl) (λ m tells clean. unmoved m s0 law) (g.S.Source.feed c.args.source.now) Memory c.refuse.ensures.status tt (λ refused a. absurd refused)
     (g.K.Sink.held c.args.sink.now) (g.K.Sink.held c.refuse.new.sink) (g.K.Sink.faults c.args.sink.now) (g.K.Sink.faults c.refuse.new.sink) c.refuse.ensures.put
 
 pub returns-in-Err-clause-ends : goal.returns-in-Err-clause-ends
@@ -22,7 +22,7 @@ returns-in-Err-clause-ends g c =
     let s0 = g.D.Disk.story c.args.disk.now in
     let sa = g.D.Disk.story c.open.new.disk in
     let law = ((g.met.D.Disk g.world.𝓛 g.world.𝓜 g.world.𝓡 ((λ s x. x), (λ x. x), (λ x. x), (λ x. x))).lawful c.open.new.disk) in
-    refused_ends c.every_notice.ensures c.refuse-in-Err.result s0 sa (g.D.Disk.story c.refuse-in-Err.new.disk) law c.open.ensures.keeps.later c.open.ensures.keeps.notes c.open.ensures.others c.open.ensures.any_moment (g.S.Source.feed c.args.source.now) c.in-Err.reason c.refuse-in-Err.ensures.status c.in-Err.ensures.shown
+    refused_ends c.every_notice.ensures c.refuse-in-Err.result s0 sa (g.D.Disk.story c.refuse-in-Err.new.disk) law c.open.ensures.keeps.later c.open.ensures.keeps.notes c.open.ensures.others c.open.ensures.any_moment (g.S.Source.feed c.args.source.now) c.in-Err.reason c.refuse-in-Err.ensures.status c.in-Err.ensures.shown c.in-Err.ensures.left
     (g.K.Sink.held c.args.sink.now) (g.K.Sink.held c.refuse-in-Err.new.sink) (g.K.Sink.faults c.args.sink.now) (g.K.Sink.faults c.refuse-in-Err.new.sink) c.refuse-in-Err.ensures.put
 
 pub returns-in_default-put_opened-clause-ends : goal.returns-in_default-put_opened-clause-ends
