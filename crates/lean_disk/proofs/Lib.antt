@@ -4,6 +4,7 @@ pub mod CopyLemmas
 pub mod CrashLemmas
 pub mod DiskLemmas
 pub mod EndLemmas
+pub mod FaultLemmas
 pub mod LoanLemmas
 pub mod MomentLemmas
 pub mod NoteLemmas

@@ -3,6 +3,7 @@ use Rattle.std.proofs.Common.{◌≡◌, ◌⊎◌, inl, inr, ◌≤◌, ◌<◌
 use Rattle.std.proofs.lemmas.List.{append-nil}
 use mathlib.Core.List.{append_assoc}
 use Rattle.lean_disk.specs.Area.{Area}
+use Rattle.lean_disk.specs.Faults.{Rose}
 use Rattle.lean_disk.specs.Moments.{LeavesOnly}
 use Rattle.lean_disk.specs.Story.{IsLawful, Story}
 use Rattle.lean_edge.specs.Outside.{Feed, Held}
@@ -73,13 +74,13 @@ refused_ends notice_law status s0 old new law later notes others any feed reason
 
 pub cut_ends : EveryNotice → (s0 old new : Story) → IsLawful old → s0.moment ≤ old.moment → old.notes ≡ s0.notes → ((a : ℕ) → 2 < a → old.area a ≡ s0.area a)
     → ((m : Master) → TellsAll s0 → IsCleanDisk m (areas_of s0) → LeavesOnly s0 old (RecoveryLeaves m s0)) → (feed : Feed) (n : Counts) (g : Opening) → (TellsAll s0 → IsFrom g s0 n) → NoticeFits (Notice.Opened n.generation n.winners n.undone)
-    → (held0 held1 : Held) (sink0 sink1 : ℕ) (answer : Put) → IsPut (first_line n) answer held0 held1 old new → RunEnds 5 s0 new feed feed held0 held1 sink0 sink1
-cut_ends notice_law s0 old new law later notes others any feed n g from fits held0 held1 sink0 sink1 answer p =
+    → (held0 held1 : Held) (sink0 sink1 : ℕ) (answer : Put) → IsPut (first_line n) answer held0 held1 old new → Rose sink0 sink1 → RunEnds 5 s0 new feed feed held0 held1 sink0 sink1
+cut_ends notice_law s0 old new law later notes others any feed n g from fits held0 held1 sink0 sink1 answer p rose =
     let o : Notice = Notice.Opened n.generation n.winners n.undone in
     let t = line_text notice_law s0 old new law later notes any feed o fits answer held0 held1 p in record {
       put = t.text;
       holds = t.holds;
-      how = inr (inl (record { status_is = refl; counts = n; opening = g; from = from; front = t.front; printed = t.is_front; unread = refl }));
+      how = inr (inl (record { status_is = refl; cause = rose; counts = n; opening = g; from = from; front = t.front; printed = t.is_front; unread = refl }));
       others = λ a lt. (put_notes old new answer p.noted p.same).area a ∙ others a lt;
       any_moment = line_leaves notice_law s0 old new law later notes any feed o fits answer held0 held1 p;
     }

@@ -14,7 +14,7 @@ use Rattle.script_run.specs.declared.stop.Stop.{Stop}
 use Rattle.script_run.specs.declared.stop.Stop.TheVariants as stops
 use Rattle.lean_run.specs.Lines.{IsPut, OnlyNotes, WentOut, line_of}
 use Rattle.lean_run.specs.Inside.{EndsWith}
-use Rattle.lean_run.specs.Runs.{last_line}
+use Rattle.lean_run.specs.Runs.{WentLast, last_line}
 use Rattle.lean_run.proofs.MomentLemmas.{noted_more}
 use Rattle.lean_run.proofs.NoteLemmas.{put_notes}
 use Rattle.lean_run.proofs.OutputLemmas.{notice_tail, no_tail}
@@ -36,23 +36,33 @@ put_text line Failed held0 held1 p = let q = p.failed refl in record { text = ta
 
 -- it went out, or the sink failed
 pub went_out : (line text : List ℕ) (answer : Put) (before now front : ℕ) → text ≡ take front line → (answer ≡ Done → text ≡ line) → HasCause before now (answer ≡ Failed) → WentOut line text before now
-went_out line text Done before now front is whole cause = inl (whole refl)
+went_out line text Done before now front is whole cause = inl (whole refl, cause.calm (λ e. not_done (sym e)))
 went_out line text Failed before now front is whole cause = inr ((front, is), cause.cause refl)
+
+pub put_not_done : (answer : Put) → (answer ≡ Done → ⊥) → answer ≡ Failed
+put_not_done Done n = absurd (n refl)
+put_not_done Failed n = refl
+
+-- from the first line, which went out, to the end of the script
+pub cause_from : (sink0 sink1 sink2 : ℕ) (answer : Put) (stop : Stop) → answer ≡ Done → HasCause sink0 sink1 (answer ≡ Failed) → HasCause sink1 sink2 (stop ≡ stops.WriteFault) → HasCause sink0 sink2 (stop ≡ stops.WriteFault)
+cause_from sink0 sink1 sink2 answer stop done first script =
+    subst (λ (n : ℕ). HasCause n sink2 (stop ≡ stops.WriteFault)) (first.calm (λ e. not_done (sym e ∙ done))) script
 
 -- The last line of a script that stopped: what the sink holds of it, and whether it was noted.
 pub record Last (stop : Stop) (held0 held1 : Held) (sink0 sink1 : ℕ) (old new : Story) : Type 0 where
   pub text : List ℕ
-  pub went : (before : ℕ) → before ≤ sink0 → WentOut (last_line stop) text before sink1
+  pub went : (before : ℕ) → HasCause before sink0 (stop ≡ stops.WriteFault) → WentLast stop text before sink1
   pub holds : IsTrue held0.tells → held1.bytes ≡ held0.bytes ++ text
   pub notes : OnlyNotes old new
   pub noted : old.notes < 2 ^ 63 → (c : Crash) → LeavesNow new c → (c.notes ≡ old.notes) ⊎ ((c.notes ≡ old.notes + 1) × (stop ≡ stops.WriteFault → ⊥))
   pub tail : (stop ≡ stops.WriteFault → ⊥) → (n : Notice) → NoticeFits n → IsTail text
   pub none : stop ≡ stops.WriteFault → text ≡ []
 
-nothing_put : (stop : Stop) (held0 held1 : Held) (sink0 sink1 : ℕ) (old new : Story) → last_line stop ≡ [] → held1 ≡ held0 → TellsSame old new → Last stop held0 held1 sink0 sink1 old new
-nothing_put stop held0 held1 sink0 sink1 old new empty held same = record {
+nothing_put : (stop : Stop) (held0 held1 : Held) (sink0 sink1 : ℕ) (old new : Story) → ((before : ℕ) → HasCause before sink0 (stop ≡ stops.WriteFault) → WentLast stop [] before sink1) → held1 ≡ held0 → TellsSame old new
+    → Last stop held0 held1 sink0 sink1 old new
+nothing_put stop held0 held1 sink0 sink1 old new went held same = record {
   text = [];
-  went = λ before le. inl (sym empty);
+  went = went;
   holds = λ told. ap (λ (h : Held). h.bytes) held ∙ sym (append-nil held0.bytes);
   notes = put_notes old new Failed (λ e. absurd (not_done e)) (λ e. same);
   noted = λ few c now. inl (now.notes ∙ same.notes);
@@ -60,12 +70,14 @@ nothing_put stop held0 held1 sink0 sink1 old new empty held same = record {
   none = λ e. refl;
 }
 
-line_put : (stop : Stop) (n : Notice) → NoticeFits n → last_line stop ≡ line_of n → (stop ≡ stops.WriteFault → ⊥) → (held0 held1 : Held) (sink0 sink1 : ℕ) (old new : Story) (answer : Put) → IsPut (last_line stop) answer held0 held1 old new → HasCause sink0 sink1 (answer ≡ Failed) → Last stop held0 held1 sink0 sink1 old new
-line_put stop n fits line not_write held0 held1 sink0 sink1 old new answer p cause =
+line_put : (stop : Stop) (n : Notice) → NoticeFits n → last_line stop ≡ line_of n → (stop ≡ stops.WriteFault → ⊥)
+    → ((text : List ℕ) (before now : ℕ) → WentOut (last_line stop) text before now → WentLast stop text before now) → (held0 held1 : Held) (sink0 sink1 : ℕ) (old new : Story) (answer : Put) → IsPut (last_line stop) answer held0 held1 old new → HasCause sink0 sink1 (answer ≡ Failed) → Last stop held0 held1 sink0 sink1 old new
+line_put stop n fits line not_write last held0 held1 sink0 sink1 old new answer p cause =
     let t = put_text (last_line stop) answer held0 held1 p.puts in
     record {
       text = t.text;
-      went = λ before le. went_out (last_line stop) t.text answer before sink1 t.front t.is_front t.whole (earlier before le);
+      went = λ before earlier. last t.text before sink1
+          (subst (λ (k : ℕ). WentOut (last_line stop) t.text k sink1) (earlier.calm not_write) (went_out (last_line stop) t.text answer sink0 sink1 t.front t.is_front t.whole cause));
       holds = t.holds;
       notes = put_notes old new answer p.noted p.same;
       noted = λ few c now. how answer refl few c now;
@@ -73,19 +85,13 @@ line_put stop n fits line not_write held0 held1 sink0 sink1 old new answer p cau
       none = λ e. absurd (not_write e);
     }
   where
-    earlier : (before : ℕ) → before ≤ sink0 → HasCause before sink1 (answer ≡ Failed)
-    earlier before le = record { later = (let a = cause.later in omega arith); cause = λ e. let a : Rose sink0 sink1 = cause.cause e in rose_earlier before le a }
-      where
-        rose_earlier : (before : ℕ) → before ≤ sink0 → Rose sink0 sink1 → Rose before sink1
-        rose_earlier before le a = omega arith
-
     how : (r : Put) → answer ≡ r → old.notes < 2 ^ 63 → (c : Crash) → LeavesNow new c → (c.notes ≡ old.notes) ⊎ ((c.notes ≡ old.notes + 1) × (stop ≡ stops.WriteFault → ⊥))
     how Done is few c now = inr (noted_more old new (p.noted is) c now few, not_write)
     how Failed is few c now = inl (now.notes ∙ (p.same is).notes)
 
 pub last_of : (stop : Stop) (held0 held1 : Held) (sink0 sink1 : ℕ) (old new : Story) → EndsWith stop held0 held1 sink0 sink1 old new → Last stop held0 held1 sink0 sink1 old new
-last_of stops.End held0 held1 sink0 sink1 old new e = nothing_put stops.End held0 held1 sink0 sink1 old new refl e.0 e.1
-last_of stops.WriteFault held0 held1 sink0 sink1 old new e = nothing_put stops.WriteFault held0 held1 sink0 sink1 old new refl e.0 e.1
-last_of (stops.Refused line) held0 held1 sink0 sink1 old new e = line_put (stops.Refused line) (Notice.Refused line) e.0 refl (λ q. cc) held0 held1 sink0 sink1 old new e.1.0 e.1.1 e.1.2
-last_of stops.ReadFault held0 held1 sink0 sink1 old new e = line_put stops.ReadFault Notice.ReadFault tt refl (λ q. cc) held0 held1 sink0 sink1 old new e.0 e.1 e.2
-last_of stops.DiskFault held0 held1 sink0 sink1 old new e = line_put stops.DiskFault Notice.DiskFault tt refl (λ q. cc) held0 held1 sink0 sink1 old new e.0 e.1 e.2
+last_of stops.End held0 held1 sink0 sink1 old new e = nothing_put stops.End held0 held1 sink0 sink1 old new (λ before earlier. (refl, e.1 ∙ earlier.calm (λ q. cc))) e.0 e.2
+last_of stops.WriteFault held0 held1 sink0 sink1 old new e = nothing_put stops.WriteFault held0 held1 sink0 sink1 old new (λ before earlier. (refl, subst (Rose before) (sym e.1) (earlier.cause refl))) e.0 e.2
+last_of (stops.Refused line) held0 held1 sink0 sink1 old new e = line_put (stops.Refused line) (Notice.Refused line) e.0 refl (λ q. cc) (λ text before now w. w) held0 held1 sink0 sink1 old new e.1.0 e.1.1 e.1.2
+last_of stops.ReadFault held0 held1 sink0 sink1 old new e = line_put stops.ReadFault Notice.ReadFault tt refl (λ q. cc) (λ text before now w. w) held0 held1 sink0 sink1 old new e.0 e.1 e.2
+last_of stops.DiskFault held0 held1 sink0 sink1 old new e = line_put stops.DiskFault Notice.DiskFault tt refl (λ q. cc) (λ text before now w. w) held0 held1 sink0 sink1 old new e.0 e.1 e.2

@@ -11,6 +11,7 @@ use Rattle.image_model.specs.Fair.{IsFair}
 use Rattle.log_block.specs.Block.{IsSealed}
 use Rattle.lean_disk.specs.Area.{Area, Write}
 use Rattle.lean_disk.specs.Calls.{Noted}
+use Rattle.lean_disk.specs.Faults.{HasCause}
 use Rattle.lean_disk.specs.Moments.{LeavesOnly}
 use Rattle.lean_disk.specs.Story.{Crash, IsLawful, LeavesNow, Story}
 use Rattle.lean_disk.proofs.MomentLemmas as moments
@@ -303,7 +304,7 @@ module _ (laws : EverySession) (tells_law : EveryTranscript) (moment_law : Every
       pub stands : Survives m s0 input put (as_read s1)
       stands = (at_last (as_read s1) now left).survives fair_now
 
-  pub run_ends : (status : ℕ) → status ≡ ended stop → (sink0 : ℕ) → sink0 ≤ sink_c → ((a : ℕ) → 2 < a → sa.area a ≡ s0.area a) → RunEnds status s0 s1 feed0 feed1 held0 held1 sink0 sink1
+  pub run_ends : (status : ℕ) → status ≡ ended stop → (sink0 : ℕ) → HasCause sink0 sink_c (stop ≡ stops.WriteFault) → ((a : ℕ) → 2 < a → sa.area a ≡ s0.area a) → RunEnds status s0 s1 feed0 feed1 held0 held1 sink0 sink1
   run_ends status is sink0 sinks others = record {
     put = put;
     holds = holds;

@@ -4,6 +4,7 @@ use Rattle.map_model.specs.Maps.{Map}
 use Rattle.map_model.specs.Journals.{Name, Serial}
 use Rattle.map_model.specs.Transcripts.{journal}
 use Rattle.image_model.specs.Images.{won_by, lost_by, map_of}
+use Rattle.lean_disk.specs.Faults.{Rose}
 use Rattle.lean_disk.specs.Story.{Story}
 use Rattle.lean_edge.specs.Outside.{Feed}
 use Rattle.script_lang.specs.Notices.{Notice}
@@ -81,8 +82,9 @@ pub record IsFrom (g : Opening) (s : Story) (n : Counts) : Type 0 where
   pub lost : n.undone ≡ length (lost_by (image_by m (areas_of s)))
 
 -- The sink failed as it was given the first line, and the script was not read.
-pub record CutFirst (status : ℕ) (s0 : Story) (feed0 feed1 : Feed) (put : List ℕ) : Type 0 where
+pub record CutFirst (status : ℕ) (s0 : Story) (feed0 feed1 : Feed) (put : List ℕ) (sink0 sink1 : ℕ) : Type 0 where
   pub status_is : status ≡ 5
+  pub cause : Rose sink0 sink1
   pub counts : Counts
   pub opening : Opening
   pub from : TellsAll s0 → IsFrom opening s0 counts
@@ -104,6 +106,12 @@ last_line (stops.Refused line) = line_of (Notice.Refused line)
 last_line stops.ReadFault = line_of Notice.ReadFault
 last_line stops.WriteFault = []
 last_line stops.DiskFault = line_of Notice.DiskFault
+
+-- what was put behind the replies, and how often the sink failed in the run
+abbrev pub WentLast : Stop → (put : List ℕ) (before now : ℕ) → Type 0
+WentLast stops.End put before now = (put ≡ []) × (now ≡ before)
+WentLast stops.WriteFault put before now = (put ≡ []) × Rose before now
+WentLast stop put before now = WentOut (last_line stop) put before now
 
 -- The script was executed on an opening: the first line went out, then the replies to its lines, then the last line or a front of it. What
 -- the script and the output tell of is what was executed, but for a last call whose reply was cut off; and it is serial from the
@@ -129,7 +137,7 @@ pub record Ran (status : ℕ) (s0 s1 : Story) (feed0 feed1 : Feed) (put : List �
   pub tail : List ℕ
   pub prints : PrintsTo (Some stop) (replies calls) told tail
   pub last : List ℕ
-  pub last_is : WentOut (last_line stop) last sink0 sink1
+  pub last_is : WentLast stop last sink0 sink1
   pub put_is : put ≡ first_line counts ++ (text_of told ++ (tail ++ last))
   -- what the script and the output tell of: all calls, unless the sink failed
   pub heard : List Answered
@@ -145,4 +153,4 @@ pub record Ran (status : ℕ) (s0 s1 : Story) (feed0 feed1 : Feed) (put : List �
 -- how often the sink had failed before and has now.
 abbrev pub HowRun : (status : ℕ) (s0 s1 : Story) (feed0 feed1 : Feed) (put : List ℕ) (sink0 sink1 : ℕ) → Type 0
 HowRun status s0 s1 feed0 feed1 put sink0 sink1 =
-    NotOpened status s0 s1 feed0 feed1 put sink0 sink1 ⊎ (CutFirst status s0 feed0 feed1 put ⊎ Ran status s0 s1 feed0 feed1 put sink0 sink1)
+    NotOpened status s0 s1 feed0 feed1 put sink0 sink1 ⊎ (CutFirst status s0 feed0 feed1 put sink0 sink1 ⊎ Ran status s0 s1 feed0 feed1 put sink0 sink1)

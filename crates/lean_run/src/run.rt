@@ -1,6 +1,6 @@
 // The run of a script.
 ghost use Rattle.std.specs.Prelude.{◌≡◌, ℕ};
-ghost use Rattle.lean_disk.specs.Faults.{HasCause};
+ghost use Rattle.lean_disk.specs.Faults.{HasCause, IsBlamed};
 ghost use Rattle.lean_run.specs.Ends.{RunEnds};
 ghost use Rattle.lean_run.specs.Inside.{Refuses};
 ghost use Rattle.lean_run.specs.Runs.{ended, status_of};
@@ -59,7 +59,8 @@ pub fn run_disk<S: Source, K: Sink<D>, D: Disk>(
     ensures ends { RunEnds result (D.story disk.old) (D.story disk.new) (S.feed source.old) (S.feed source.new) (K.held sink.old) (K.held sink.new) (K.faults sink.old) (K.faults sink.new) }
 
     ensures cause_read_fault { HasCause (S.faults source.old) (S.faults source.new) (result ≡ 4) }
-    ensures cause_write_fault { HasCause (K.faults sink.old) (K.faults sink.new) (result ≡ 5) }
+    // A last line that is cut off leaves the status as it is.
+    ensures cause_write_fault { IsBlamed (K.faults sink.old) (K.faults sink.new) (result ≡ 5) }
     ensures cause_disk_fault { HasCause (D.faults disk.old) (D.faults disk.new) (result ≡ 6) }
 {
     // What holds of a session's calls, of transcripts, and of images that agree.

@@ -2,7 +2,7 @@
 use Rattle.std.proofs.Common.{◌≡◌, inl, inr, ◌≤◌, ℕ, List, sym, ◌∙◌, ap, subst, arith}
 use Rattle.std.proofs.lemmas.Fmt.{decimal_injective}
 use Rattle.lean_disk.specs.Area.{Leaves}
-use Rattle.lean_disk.specs.Faults.{HasCause}
+use Rattle.lean_disk.specs.Faults.{HasCause, IsBlamed}
 use Rattle.lean_disk.specs.Moments.{LeavesOnly}
 use Rattle.lean_disk.specs.Story.{IsLawful, Story}
 use Rattle.lean_disk.proofs.MomentLemmas.{started}
@@ -85,7 +85,7 @@ module _ (words : List (List ℕ)) (status : ℕ) (s0 s1 : Story) (feed0 feed1 :
   of_format shape asks unread ends = record {
     known = (of_format_status status ends.known).0;
     usage = ((λ e. absurd (ends.words e)), (λ none. absurd (none (Format shape) asks)));
-    cause_read_fault = record { later = omega (arith, unread); cause = λ e. absurd ((of_format_status status ends.known).1 e) };
+    cause_read_fault = record { later = omega (arith, unread); cause = λ e. absurd ((of_format_status status ends.known).1 e); calm = λ n. unread };
     cause_write_fault = ends.cause_write_fault;
     cause_disk_fault = ends.cause_disk_fault;
     format = λ other also. subst (λ (x : Shape). FormatEnds x status s0 s1 held0 held1 before.sink now.sink before.disk now.disk) (same_shape words shape other asks also) ends;
@@ -94,7 +94,7 @@ module _ (words : List (List ℕ)) (status : ℕ) (s0 s1 : Story) (feed0 feed1 :
   }
 
   pub of_run : AsksRun words → RunEnds status s0 s1 feed0 feed1 held0 held1 before.sink now.sink
-      → HasCause before.source now.source (status ≡ 4) → HasCause before.sink now.sink (status ≡ 5) → HasCause before.disk now.disk (status ≡ 6) → Ends
+      → HasCause before.source now.source (status ≡ 4) → IsBlamed before.sink now.sink (status ≡ 5) → HasCause before.disk now.disk (status ≡ 6) → Ends
   of_run asks ends read write disk =
       let is = of_run_status status s0 s1 feed0 feed1 ends.put before.sink now.sink ends.how in
       record {
@@ -115,9 +115,9 @@ module _ (words : List (List ℕ)) (status : ℕ) (s0 s1 : Story) (feed0 feed1 :
       record {
         known = inr (inl two);
         usage = ((λ e. nothing), (λ also. two));
-        cause_read_fault = record { later = omega (arith, unread); cause = λ e. absurd (omega (arith, two, e)) };
+        cause_read_fault = record { later = omega (arith, unread); cause = λ e. absurd (omega (arith, two, e)); calm = λ n. unread };
         cause_write_fault = record { later = ends.printed.cause.later; cause = λ e. absurd (omega (arith, two, e)) };
-        cause_disk_fault = record { later = omega (arith, ends.faults); cause = λ e. absurd (omega (arith, two, e)) };
+        cause_disk_fault = record { later = omega (arith, ends.faults); cause = λ e. absurd (omega (arith, two, e)); calm = λ n. ends.faults };
         format = λ shape asks. absurd (nothing (Format shape) asks);
         run = λ asks. absurd (nothing Run asks);
         none = λ also. ends;

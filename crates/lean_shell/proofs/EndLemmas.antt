@@ -5,10 +5,10 @@ use Rattle.lean_disk.specs.Area.{Area}
 use Rattle.lean_disk.specs.Faults.{HasCause}
 use Rattle.lean_disk.specs.Moments.{LeavesOnly}
 use Rattle.lean_disk.specs.Story.{IsLawful, Story, Tells}
-use Rattle.lean_edge.specs.Outside.{Held, Puts}
+use Rattle.lean_edge.specs.Outside.{Held}
 use Rattle.lean_edge.specs.declared.sink.Put.{Put}
 use Rattle.lean_edge.specs.declared.sink.Put.TheVariants as put
-use Rattle.lean_shell.specs.Endings.{FinishedPut, FormatEnds, IsFormatStatus, WentOut, finished, formatted_line, last_line, number_of}
+use Rattle.lean_shell.specs.Endings.{FinishedPut, FormatEnds, IsFormatStatus, WentOut, finished, last_line, number_of}
 use Rattle.lean_shell.specs.Formatted.{FormatLeaves, HasMaster, HasPages, IsFormatted, IsMaster, IsNewDisk, IsUntouched, OnlyNotes}
 use Rattle.lean_shell.specs.declared.failure.Failure.{Failure}
 use Rattle.lean_shell.specs.declared.failure.Failure.TheVariants.{Usage, DiskFault, Memory, AlreadyFormatted}
@@ -54,10 +54,6 @@ ways : (r : Put) (n : ℕ) → n ≡ finished r → (n ≡ 0) ⊎ (n ≡ 5)
 ways put.Done n e = inl e
 ways put.Failed n e = inr e
 
-was_done : (r : Put) (n : ℕ) → n ≡ finished r → n ≡ 0 → r ≡ put.Done
-was_done put.Done n e zero_is = refl
-was_done put.Failed n e zero_is = absurd (omega (arith, e, zero_is))
-
 was_failed : (r : Put) (n : ℕ) → n ≡ finished r → n ≡ 5 → r ≡ put.Failed
 was_failed put.Done n e five_is = absurd (omega (arith, e, five_is))
 was_failed put.Failed n e five_is = refl
@@ -89,11 +85,10 @@ module _ (shape : Shape) (s0 s s1 : Story) (law : IsLawful s) (later : s0.moment
     known = status_known f status is no_usage;
     words = λ e. no_usage (same_failure f Usage (sym is ∙ e));
     cause_write_fault = record { later = out.cause.later; cause = λ e. absurd (no_failure f status is (inr e)) };
-    cause_disk_fault = record { later = cause.later; cause = λ e. cause.cause (same_failure f DiskFault (sym is ∙ e)) };
+    cause_disk_fault = record { later = cause.later; cause = λ e. cause.cause (same_failure f DiskFault (sym is ∙ e)); calm = λ n. cause.calm (λ e. n (is ∙ ap number_of e)) };
     cause_already_formatted = λ e. already (same_failure f AlreadyFormatted (sym is ∙ e));
     no_master = λ e. absurd (no_failure f status is e);
-    done = λ e. absurd (no_failure f status is (inl e));
-    write_fault = λ e. absurd (no_failure f status is (inr e));
+    printed = λ e. absurd (no_failure f status is e);
     failed = λ other e. subst (λ (h : Failure). WentOut (last_line h) held0 held1 sink0 sink1) (same_failure f other (sym is ∙ e)) out;
     after = λ e. absurd (no_failure f status is e);
     same = λ e a. notes.area a ∙ same (⊎_elim (λ z. inl (same_failure f Memory (sym is ∙ z))) (λ z. inr (same_failure f AlreadyFormatted (sym is ∙ z))) e) a;
@@ -101,17 +96,16 @@ module _ (shape : Shape) (s0 s s1 : Story) (law : IsLawful s) (later : s0.moment
     any_moment = moments;
   }
 
-  pub finished_well : (status : ℕ) → FinishedPut shape status held0 held1 sink0 sink1 → IsNewDisk shape s → (Tells s0 0 → HasMaster (s0.area 0).bytes → ⊥) → disk0 ≤ disk1
+  pub finished_well : (status : ℕ) → FinishedPut shape status held0 held1 sink0 sink1 → IsNewDisk shape s → (Tells s0 0 → HasMaster (s0.area 0).bytes → ⊥) → disk1 ≡ disk0
       → FormatEnds shape status s0 s1 held0 held1 sink0 sink1 disk0 disk1
-  finished_well status fin new none later_disk = record {
+  finished_well status fin new none same_disk = record {
     known = ⊎_elim inl (λ e. inr (inl e)) (ways fin.answer status fin.status_is);
     words = λ e. ⊎_elim (λ z. omega (arith, e, z)) (λ z. omega (arith, e, z)) (ways fin.answer status fin.status_is);
     cause_write_fault = record { later = fin.cause.later; cause = λ e. fin.cause.cause (was_failed fin.answer status fin.status_is e) };
-    cause_disk_fault = record { later = later_disk; cause = λ e. absurd (⊎_elim (λ z. omega (arith, e, z)) (λ z. omega (arith, e, z)) (ways fin.answer status fin.status_is)) };
+    cause_disk_fault = record { later = omega (arith, same_disk); cause = λ e. absurd (⊎_elim (λ z. omega (arith, e, z)) (λ z. omega (arith, e, z)) (ways fin.answer status fin.status_is)); calm = λ n. same_disk };
     cause_already_formatted = λ e. absurd (⊎_elim (λ z. omega (arith, e, z)) (λ z. omega (arith, e, z)) (ways fin.answer status fin.status_is));
     no_master = λ e. none;
-    done = λ e. subst (λ (r : Put). Puts (formatted_line shape) r held0 held1) (was_done fin.answer status fin.status_is e) fin.puts;
-    write_fault = λ e. subst (λ (r : Put). Puts (formatted_line shape) r held0 held1) (was_failed fin.answer status fin.status_is e) fin.puts;
+    printed = λ e. fin;
     failed = λ failure e. absurd (no_failure failure status e (ways fin.answer status fin.status_is));
     after = λ e. new_1 new;
     same = λ e. absurd (⊎_elim

@@ -3,7 +3,7 @@ use Rattle.std.specs.Prelude.{◌≡◌, ◌⊎◌, ◌++◌, ◌<◌, ℕ, List
 use Rattle.script_lang.specs.Notices.{notice_text}
 use Rattle.script_lang.specs.Notices.Notice.{Formatted, NoMemory, Usage as UsageNotice, DiskFault as DiskNotice, AlreadyFormatted as AlreadyNotice}
 use Rattle.lean_disk.specs.Area.{Leaves}
-use Rattle.lean_disk.specs.Faults.{HasCause}
+use Rattle.lean_disk.specs.Faults.{HasCause, IsBlamed}
 use Rattle.lean_disk.specs.Moments.{LeavesOnly}
 use Rattle.lean_disk.specs.Story.{Crash, Story, Tells}
 use Rattle.lean_edge.specs.Outside.{Held, Puts}
@@ -63,12 +63,11 @@ pub record FinishedPut (shape : Shape) (status : ℕ) (old new : Held) (before n
 pub record FormatEnds (shape : Shape) (status : ℕ) (s0 s1 : Story) (held0 held1 : Held) (sink0 sink1 disk0 disk1 : ℕ) : Type 0 where
   pub known : IsFormatStatus status
   pub words : status ≡ 2 → ⊥
-  pub cause_write_fault : HasCause sink0 sink1 (status ≡ 5)
+  pub cause_write_fault : IsBlamed sink0 sink1 (status ≡ 5)
   pub cause_disk_fault : HasCause disk0 disk1 (status ≡ 6)
   pub cause_already_formatted : status ≡ 9 → Tells s0 0 → HasMaster (s0.area 0).bytes
   pub no_master : (status ≡ 0) ⊎ (status ≡ 5) → Tells s0 0 → HasMaster (s0.area 0).bytes → ⊥
-  pub done : status ≡ 0 → Puts (formatted_line shape) put.Done held0 held1
-  pub write_fault : status ≡ 5 → Puts (formatted_line shape) put.Failed held0 held1
+  pub printed : (status ≡ 0) ⊎ (status ≡ 5) → FinishedPut shape status held0 held1 sink0 sink1
   pub failed : (failure : Failure) → status ≡ number_of failure → WentOut (last_line failure) held0 held1 sink0 sink1
   pub after : (status ≡ 0) ⊎ (status ≡ 5) → IsNewDisk shape s1
   pub same : (status ≡ 8) ⊎ (status ≡ 9) → IsUntouched s0 s1

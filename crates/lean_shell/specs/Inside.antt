@@ -1,6 +1,6 @@
 -- Words of private functions: how a command ended, whatever the words.
 use Rattle.std.specs.Prelude.{◌≡◌, ◌↔◌, ℕ, List}
-use Rattle.lean_disk.specs.Faults.{HasCause}
+use Rattle.lean_disk.specs.Faults.{HasCause, IsBlamed}
 use Rattle.lean_disk.specs.Story.{Story}
 use Rattle.lean_edge.specs.Outside.{Feed, Held}
 use Rattle.lean_run.specs.Ends.{RunEnds}
@@ -21,7 +21,7 @@ pub record CommandEnds (words : List (List ℕ)) (status : ℕ) (s0 s1 : Story) 
   pub known : IsStatus status
   pub usage : (status ≡ 2) ↔ ((command : Command) → Asks words command → ⊥)
   pub cause_read_fault : HasCause before.source now.source (status ≡ 4)
-  pub cause_write_fault : HasCause before.sink now.sink (status ≡ 5)
+  pub cause_write_fault : IsBlamed before.sink now.sink (status ≡ 5)
   pub cause_disk_fault : HasCause before.disk now.disk (status ≡ 6)
   pub format : (shape : Shape) → Asks words (Format shape) → FormatEnds shape status s0 s1 held0 held1 before.sink now.sink before.disk now.disk
   pub run : Asks words Run → RunEnds status s0 s1 feed0 feed1 held0 held1 before.sink now.sink

@@ -1,6 +1,6 @@
 // The program's one call.
 ghost use Rattle.std.specs.Prelude.{◌≡◌, ◌↔◌, ◌≤◌};
-ghost use Rattle.lean_disk.specs.Faults.{HasCause};
+ghost use Rattle.lean_disk.specs.Faults.{HasCause, IsBlamed};
 ghost use Rattle.lean_run.specs.Ends.{RunEnds};
 ghost use Rattle.lean_shell.specs.Endings.{FinishedPut, FormatEnds, IsStatus, UsageEnds, WentOut, last_line, number_of};
 ghost use Rattle.lean_shell.specs.Formatted.{OnlyNotes};
@@ -106,7 +106,7 @@ pub fn run<R: Threads + Wait + Sync, S: Source, K: Sink<D>, D: Disk, G: Gate + S
     ensures known { IsStatus result.status }
     ensures usage { (result.status ≡ 2) ↔ ((command : Command) → Asks (texts words.now) command → ⊥) }
     ensures cause_read_fault { HasCause (S.faults source.old) (S.faults source.new) (result.status ≡ 4) }
-    ensures cause_write_fault { HasCause (K.faults sink.old) (K.faults sink.new) (result.status ≡ 5) }
+    ensures cause_write_fault { IsBlamed (K.faults sink.old) (K.faults sink.new) (result.status ≡ 5) }
     ensures cause_disk_fault { HasCause (D.faults disk) (D.faults result.disk) (result.status ≡ 6) }
 
     // What each command does.

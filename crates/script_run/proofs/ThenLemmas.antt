@@ -4,7 +4,6 @@ use Rattle.std.proofs.lemmas.List.{append-nil, length-append}
 use mathlib.Core.List.{append_assoc}
 use Rattle.lean_edge.specs.Outside.{Feed, Held}
 use Rattle.lean_disk.specs.Area.{Area, Write, Leaves}
-use Rattle.lean_disk.specs.Faults.{HasCause}
 use Rattle.lean_disk.specs.Moments.{LeavesOnly}
 use Rattle.lean_disk.specs.Story.{Crash, Story, Tells}
 use Rattle.lean_disk.proofs.MomentLemmas.{then, weaker}
@@ -230,13 +229,6 @@ module _ (g : Opening) (xs : List Answered) (s : Session) (start f0 f1 : Feed) (
             let one : length b.run.newer ≡ count = b.count_is none in
             let l : length a.run.newer ≡ so_far = long in omega arith;
       }
-
--- a fault that comes later has its cause
-pub cause_later : (n0 n1 n2 : ℕ) (failed : Type 0) → n0 ≤ n1 → HasCause n1 n2 failed → HasCause n0 n2 failed
-cause_later n0 n1 n2 failed le h = record {
-  later = let k : n1 ≤ n2 = h.later in omega arith;
-  cause = λ f. let rose : min (n1 + 1) (2 ^ 64 - 1) ≤ n2 = h.cause f in omega arith;
-}
 
 pub not_below_itself : (n : ℕ) → n < n → ⊥
 not_below_itself n h = omega arith

@@ -4,6 +4,7 @@ use Rattle.session_model.specs.Sessions.{start}
 use Rattle.lean_run.specs.Lines.{IsPut}
 use Rattle.lean_run.specs.Runs.{first_line}
 use Rattle.lean_run.proofs.EndLemmas.{cut_ends, refused_ends}
+use Rattle.lean_run.proofs.LastLemmas.{cause_from, put_not_done}
 use Rattle.lean_run.proofs.MomentLemmas.{unmoved}
 use Rattle.lean_run.proofs.RunLemmas.{run_ends}
 use Rattle.lean_run.specs.Inside.{counts_of}
@@ -31,7 +32,7 @@ returns-in_default-put_opened-clause-ends g c =
     let sa = g.D.Disk.story c.open.new.disk in
     let law = ((g.met.D.Disk g.world.𝓛 g.world.𝓜 g.world.𝓡 ((λ s x. x), (λ x. x), (λ x. x), (λ x. x))).lawful c.open.new.disk) in
     cut_ends c.every_notice.ensures s0 sa (g.D.Disk.story c.put_opened.new.disk) law c.open.ensures.keeps.later c.open.ensures.keeps.notes c.open.ensures.others c.open.ensures.any_moment (g.S.Source.feed c.args.source.now) (counts_of c.in-Ok-open.opened) c.in-Ok-open.ensures.opened.g c.in-Ok-open.ensures.opened.from c.put_opened.ensures.fits
-    (g.K.Sink.held c.args.sink.now) (g.K.Sink.held c.put_opened.new.sink) (g.K.Sink.faults c.args.sink.now) (g.K.Sink.faults c.put_opened.new.sink) c.put_opened.result c.put_opened.ensures.put
+    (g.K.Sink.held c.args.sink.now) (g.K.Sink.held c.put_opened.new.sink) (g.K.Sink.faults c.args.sink.now) (g.K.Sink.faults c.put_opened.new.sink) c.put_opened.result c.put_opened.ensures.put (c.put_opened.ensures.cause.cause (put_not_done c.put_opened.result c.in_default-put_opened.not-Done))
 
 pub returns-clause-ends : goal.returns-clause-ends
 returns-clause-ends g c =
@@ -48,4 +49,4 @@ returns-clause-ends g c =
     (g.S.Source.feed c.args.source.now) (g.S.Source.feed c.run_script-stop.new.source) c.run_script-stop.new.reader c.run_script-stop.result c.run_script-stop.new.engine
     (c.run_script-stop.ensures.runs o.g [] (start o.g) (g.S.Source.feed c.args.source.now) [] o.alone.most refl o.pictures (c.in-Ok.ensures (g.S.Source.feed c.args.source.now)))
     (g.K.Sink.faults c.run_script-stop.new.sink) (g.K.Sink.faults c.put_last.new.sink) c.put_last.ensures.put c.ended.result c.ended.ensures (g.K.Sink.faults c.args.sink.now)
-    (let a = c.put_opened.ensures.cause.later in let b = c.run_script-stop.ensures.cause_write_fault.later in omega arith) c.open.ensures.others
+    (cause_from (g.K.Sink.faults c.args.sink.now) (g.K.Sink.faults c.put_opened.new.sink) (g.K.Sink.faults c.run_script-stop.new.sink) c.put_opened.result c.run_script-stop.result c.in-Done.is c.put_opened.ensures.cause c.run_script-stop.ensures.cause_write_fault) c.open.ensures.others

@@ -1,6 +1,7 @@
 use Rattle.std.proofs.Common.{◌*◌, subst, ◌∙◌, arith}
 use Rattle.lean_disk.specs.Calls.{Wrote}
 use Rattle.lean_disk.specs.Story.{Seat}
+use Rattle.lean_disk.proofs.FaultLemmas.{done_still}
 use Rattle.lean_disk.proofs.MomentLemmas.{framed_wrote}
 use Rattle.lean_shell.specs.Fresh.{fresh_page}
 use Rattle.lean_shell.specs.Pieces.{pages_from}
@@ -25,5 +26,5 @@ loop-first-preserved g c =
       frame = framed_wrote a (2048 * first) (pages_from fresh_page first count) c.write_piece.result s0 s s1 is.frame wrote;
       seat = c.write_piece.ensures.seat ∙ is.seat;
       pages = pages_written first count a s s1 c.write_piece.result wrote c.in-Done.is is.pages;
-      faults = omega (arith, is.faults, c.write_piece.ensures.cause.later);
+      faults = done_still (g.P.Part.faults c.args.dev.now) (g.P.Part.faults c.loop-first.dev) (g.P.Part.faults c.write_piece.new.dev) c.write_piece.result is.faults c.write_piece.ensures.cause c.in-Done.is;
     }

@@ -19,5 +19,5 @@ invariant-loop-first g l =
       frame : Framed a s0 s;
       seat : g.P.Part.seat l.dev ≡ g.P.Part.seat l.fn.dev;
       pages : Tells s a → HasPages l.first (s.area a).bytes;
-      faults : g.P.Part.faults l.fn.dev ≤ g.P.Part.faults l.dev;
+      faults : g.P.Part.faults l.dev ≡ g.P.Part.faults l.fn.dev;
     }

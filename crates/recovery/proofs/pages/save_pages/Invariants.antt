@@ -13,7 +13,7 @@ invariant-loop-page g l =
       frame : Framed 1 s0 s;
       seat : g.P.Part.seat l.dev ≡ g.P.Part.seat l.fn.dev;
       room : length l.buffer ≡ 1024;
-      faults : g.P.Part.faults l.fn.dev ≤ g.P.Part.faults l.dev;
+      faults : g.P.Part.faults l.dev ≡ g.P.Part.faults l.fn.dev;
       are : AreFormed l.pages → AreSaves (length l.pages) (saves_to l.pages l.slots l.marks l.page);
       saving : IsReady 1 s0 → AreFormed l.pages → HasSaved (length l.pages) 1 s0 (saves_to l.pages l.slots l.marks l.page) s;
     }

@@ -1,4 +1,4 @@
-use Rattle.std.proofs.Common.{◌≡◌, ◌+◌, ℕ, suc, true, false, List, Err, refl, sym, ◌∙◌, ap, subst, arith}
+use Rattle.std.proofs.Common.{◌≡◌, ◌+◌, ℕ, suc, true, false, List, Err, is_err, true≢false, refl, sym, ◌∙◌, ap, subst, arith}
 use Rattle.lean_disk.specs.Area.{Area}
 use Rattle.lean_disk.specs.Story.{Seat, Story, Tells}
 use Rattle.lean_disk.proofs.MomentLemmas.{reads_then}
@@ -61,7 +61,7 @@ loop-count-preserved g c =
       room = c.read_at.ensures.long;
       reads = reads_then s0 s (g.P.Part.story c.read_at.new.dev) inv.reads c.read_at.ensures.reads;
       seat = c.read_at.ensures.seat ∙ inv.seat;
-      faults = omega (arith, inv.faults, c.read_at.ensures.cause.later);
+      faults = c.read_at.ensures.cause.calm (λ e. true≢false (sym e ∙ ap is_err c.in-Ok-true.is)) ∙ inv.faults;
       going = λ t.
           let there = told s0 s (g.P.Part.seat c.args.dev.now) (g.P.Part.seat c.loop-count.dev) c.args.log inv.seat c.requires.seat (inv.reads.tells (suc c.args.log)) t in
           let is = c.in-Ok-true.ensures.answer there in

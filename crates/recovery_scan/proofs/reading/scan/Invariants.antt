@@ -16,6 +16,6 @@ invariant-loop-count g l =
       room : length l.block ≡ 2048;
       reads : OnlyReads s0 s;
       seat : g.P.Part.seat l.dev ≡ g.P.Part.seat l.fn.dev;
-      faults : g.P.Part.faults l.fn.dev ≤ g.P.Part.faults l.dev;
+      faults : g.P.Part.faults l.dev ≡ g.P.Part.faults l.fn.dev;
       going : Tells s0 (suc l.log) → IsGoing l.master l.log (s0.area (suc l.log)).bytes l.count l.found.items;
     }

@@ -1,4 +1,4 @@
-use Rattle.std.proofs.Common.{◌≡◌, ◌≤◌, ◌+◌, ◌-◌, ◌^◌, ℕ, None, Some, subst, arith}
+use Rattle.std.proofs.Common.{◌≡◌, ◌≤◌, ◌+◌, ◌-◌, ◌^◌, ℕ, None, Some, is_some, true≢false, refl, sym, ap, ◌∙◌, subst, arith}
 use Rattle.script_run.specs.Inside.{Stepped}
 use Rattle.script_run.proofs.StepLemmas.{none_stepped}
 use Rattle.script_run.proofs.ThenLemmas.{stepped_then}
@@ -10,9 +10,9 @@ loop-number-init g c = record {
       let law = ((g.met.D.Disk g.world.𝓛 g.world.𝓜 g.world.𝓡 ((λ s x. x), (λ x. x), (λ x. x), (λ x. x))).lawful c.args.disk.now) in
       none_stepped c.every_rest.ensures o xs s c.args.engine.now runs pictures (g.D.Disk.story c.args.disk.now) law c.ranges-2.ensures
       0 start (g.S.Source.feed c.args.source.now) seen c.args.reader.now (g.K.Sink.held c.args.sink.now) (omega arith) was;
-  reading = omega arith;
-  writing = omega arith;
-  disk = omega arith;
+  reading = refl;
+  writing = refl;
+  disk = refl;
 }
 
 pub loop-number-preserved : goal.loop-number-preserved
@@ -31,9 +31,9 @@ loop-number-preserved g c = record {
       let same : 1 + n ≡ (c.loop-number.number + 1) - 1 = let low : 1 ≤ c.loop-number.number = c.loop-number.auto.number in omega arith in
       subst P same (stepped_then o xs s start (g.S.Source.feed c.loop-number.source) f2 seen e0 c.loop-number.engine e2 c.loop-number.reader c.take_step.new.reader h0 (g.K.Sink.held c.loop-number.sink) h2 s0 (g.D.Disk.story c.loop-number.disk) s2 None n a 1
       (λ ys t more reached pictured reads. (c.in_default.ensures).runs o ys t start more most reached pictured reads));
-  reading = omega (arith, c.loop-number.invariant.reading, c.take_step.ensures.cause_read_fault.later);
-  writing = omega (arith, c.loop-number.invariant.writing, c.take_step.ensures.cause_write_fault.later);
-  disk = omega (arith, c.loop-number.invariant.disk, c.take_step.ensures.cause_disk_fault.later);
+  reading = c.take_step.ensures.cause_read_fault.calm (λ e. true≢false (sym (ap is_some e) ∙ ap is_some c.in_default.is)) ∙ c.loop-number.invariant.reading;
+  writing = c.take_step.ensures.cause_write_fault.calm (λ e. true≢false (sym (ap is_some e) ∙ ap is_some c.in_default.is)) ∙ c.loop-number.invariant.writing;
+  disk = c.take_step.ensures.cause_disk_fault.calm (λ e. true≢false (sym (ap is_some e) ∙ ap is_some c.in_default.is)) ∙ c.loop-number.invariant.disk;
 }
 
 pub returns-in-Some-clause-runs : goal.returns-in-Some-clause-runs

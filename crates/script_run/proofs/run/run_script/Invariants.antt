@@ -12,7 +12,7 @@ abbrev pub invariant-loop-number : goal.invariant-loop-number
 invariant-loop-number g l = record {
   runs : (o : Opening) (xs : List Answered) (s : Session) (start : Feed) (seen : List ℕ) → o.changes ≡ 64 → Runs o xs s → Pictures o s l.fn.engine → Reading start (g.S.Source.feed l.fn.source) l.fn.reader seen
       → Stepped (l.number - 1) None o xs s 0 start seen l.fn.engine l.engine l.reader (g.S.Source.feed l.source) (g.K.Sink.held l.fn.sink) (g.K.Sink.held l.sink) (g.D.Disk.story l.fn.disk) (g.D.Disk.story l.disk);
-  reading : g.S.Source.faults l.fn.source ≤ g.S.Source.faults l.source;
-  writing : g.K.Sink.faults l.fn.sink ≤ g.K.Sink.faults l.sink;
-  disk : g.D.Disk.faults l.fn.disk ≤ g.D.Disk.faults l.disk;
+  reading : g.S.Source.faults l.source ≡ g.S.Source.faults l.fn.source;
+  writing : g.K.Sink.faults l.sink ≡ g.K.Sink.faults l.fn.sink;
+  disk : g.D.Disk.faults l.disk ≡ g.D.Disk.faults l.fn.disk;
 }

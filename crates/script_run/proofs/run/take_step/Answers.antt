@@ -1,4 +1,4 @@
-use Rattle.std.proofs.Common.{◌-◌, ◌<◌, ◌^◌, Ok, ap, ◌∙◌, arith}
+use Rattle.std.proofs.Common.{◌-◌, ◌<◌, ◌^◌, Ok, refl, ap, ◌∙◌, arith}
 use Rattle.map_model.specs.declared.call.Answer.TheVariants.{Refused}
 use Rattle.script_run.proofs.StepLemmas.{within, no_stepped, fault_stepped, answer_stepped}
 use Rattle.script_run.proofs.ReadLemmas.{of_no_sink, of_no_disk, ok_is}
@@ -12,10 +12,10 @@ returns-in-Err-clause-runs g c o xs s start seen most runs pictures was =
     (c.in-Err.ensures).stop ((c.in-Err.ensures).read start seen was)
 
 pub returns-in-Err-clause-cause_write_fault : goal.returns-in-Err-clause-cause_write_fault
-returns-in-Err-clause-cause_write_fault g c = record { later = omega arith; cause = λ e. absurd (of_no_sink c.in-Err.stop (c.in-Err.ensures).stop e) }
+returns-in-Err-clause-cause_write_fault g c = record { later = omega arith; cause = λ e. absurd (of_no_sink c.in-Err.stop (c.in-Err.ensures).stop e); calm = λ n. refl }
 
 pub returns-in-Err-clause-cause_disk_fault : goal.returns-in-Err-clause-cause_disk_fault
-returns-in-Err-clause-cause_disk_fault g c = record { later = omega arith; cause = λ e. absurd (of_no_disk c.in-Err.stop (c.in-Err.ensures).stop e) }
+returns-in-Err-clause-cause_disk_fault g c = record { later = omega arith; cause = λ e. absurd (of_no_disk c.in-Err.stop (c.in-Err.ensures).stop e); calm = λ n. refl }
 
 pub call_engine-requires-clause-range : goal.call_engine-requires-clause-range
 call_engine-requires-clause-range g c κs held = within c.in-Ok.call (c.in-Ok.ensures).fits

@@ -1,4 +1,4 @@
-use Rattle.std.proofs.Common.{◌≤◌, ◌-◌, ℕ, List, cond, length}
+use Rattle.std.proofs.Common.{◌≡◌, ◌-◌, ℕ, List, cond, length}
 use Rattle.lean_edge.specs.Outside.{Feed}
 use Rattle.script_lang.specs.Reading.{Reading}
 use Rattle.script_lang.proofs.reader.LineReader.next_line.Given as goal
@@ -7,7 +7,7 @@ abbrev pub invariant-asking : goal.invariant-asking
 invariant-asking g l =
     let S = g.S.Source in
     record {
-      faults : S.faults l.fn.source ≤ S.faults l.source;
+      faults : S.faults l.source ≡ S.faults l.fn.source;
       read : (start : Feed) (seen : List ℕ) → Reading start (S.feed l.fn.source) l.fn.self seen → Reading start (S.feed l.source) l.self seen;
     }
 
