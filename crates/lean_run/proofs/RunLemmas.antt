@@ -325,6 +325,7 @@ module _ (laws : EverySession) (tells_law : EveryTranscript) (moment_law : Every
       told = r.told;
       tail = r.tail;
       prints = r.prints;
+      cut = λ failed. r.cut (ap (λ (s : Stop). Some s) failed);
       last = l.text;
       last_is = l.went sink0 sinks;
       put_is = refl;

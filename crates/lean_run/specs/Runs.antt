@@ -23,7 +23,7 @@ use Rattle.script_lang.specs.Replies.{Reply}
 use Rattle.session_model.specs.Calls.{Answered}
 use Rattle.transcripts.specs.Told.{opened_line, replies, text_of}
 use Rattle.transcripts.specs.Transcripts.{transcript, in_turn}
-use Rattle.script_run.specs.Runs.{Executes, PrintsTo}
+use Rattle.script_run.specs.Runs.{Executes, IsLastCut, PrintsTo}
 use Rattle.script_run.specs.Texts.{LinesRead}
 use Rattle.script_run.specs.declared.stop.Stop.{Stop}
 use Rattle.script_run.specs.declared.stop.Stop.TheVariants as stops
@@ -136,6 +136,7 @@ pub record Ran (status : ℕ) (s0 s1 : Story) (feed0 feed1 : Feed) (put : List �
   pub told : List Reply
   pub tail : List ℕ
   pub prints : PrintsTo (Some stop) (replies calls) told tail
+  pub cut : stop ≡ stops.WriteFault → IsLastCut calls told
   pub last : List ℕ
   pub last_is : WentLast stop last sink0 sink1
   pub put_is : put ≡ first_line counts ++ (text_of told ++ (tail ++ last))

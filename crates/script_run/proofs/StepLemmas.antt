@@ -36,11 +36,11 @@ use Rattle.script_run.specs.Moments.{ScriptLeaves}
 use Rattle.script_run.specs.Runs.{Answers, ScriptRuns, SameRing, IsFlushed, ReadsTo, PrintsTo, OthersStand}
 use Rattle.script_run.specs.Inside.{IsOfReading, PutLeaves, Says, Stepped}
 use Rattle.script_run.specs.declared.stop.Stop.{Stop}
-use Rattle.script_run.specs.declared.stop.Stop.TheVariants.{DiskFault}
+use Rattle.script_run.specs.declared.stop.Stop.TheVariants.{WriteFault, DiskFault}
 use Rattle.script_run.proofs.ListLemmas.{has_left, names_append, none_or_one}
 use Rattle.script_run.proofs.SessionLemmas.{all_below, StaysFlushed, stays_flushed, commit_flushed, same_ring}
 use Rattle.script_run.proofs.PutLemmas.{holds_none}
-use Rattle.script_run.proofs.ReadLemmas.{reads_same, reads_putting, prints_none, FirstOf, first_of}
+use Rattle.script_run.proofs.ReadLemmas.{reads_same, reads_putting, prints_none, of_no_sink, FirstOf, first_of}
 use Rattle.script_run.proofs.CrashLemmas.{Hand, LogLeft, left_back, at_rest}
 
 same_log : (e : State) → SameRing e.log e.log
@@ -88,9 +88,9 @@ module _ (rest : EveryRest) (g : Opening) (xs : List Answered) (s : Session) (e0
       (c.writes 2) (c.image 2) (at_rest rest s x e0.log old pictures.log range tells logs kept c (now.writes 2 tells) (now.leaves 2 tells))))
 
   -- no line is executed: the sink, the disk and the engine stand
-  no_step : (stop : Option Stop) (before : ℕ) (start feed : Feed) (seen : List ℕ) (reader : Unread) (held : Held) → before < 2 ^ 40 → PrintsTo stop [] [] [] → ReadsTo stop (suc before) start feed reader seen
+  no_step : (stop : Option Stop) (before : ℕ) (start feed : Feed) (seen : List ℕ) (reader : Unread) (held : Held) → before < 2 ^ 40 → PrintsTo stop [] [] [] → (stop ≡ Some WriteFault → ⊥) → ReadsTo stop (suc before) start feed reader seen
       → ScriptRuns stop g xs s before start seen e0 e0 reader feed held held old old
-  no_step stop before start feed seen reader held few prints reads = record {
+  no_step stop before start feed seen reader held few prints no_sink reads = record {
     newer = [];
     session = s;
     runs = runs;
@@ -104,6 +104,7 @@ module _ (rest : EveryRest) (g : Opening) (xs : List Answered) (s : Session) (e0
     told = [];
     tail = [];
     prints = prints;
+    cut = λ e. absurd (no_sink e);
     holds = holds_none held;
     others = others_same old;
     ring = same_log e0;
@@ -115,12 +116,12 @@ module _ (rest : EveryRest) (g : Opening) (xs : List Answered) (s : Session) (e0
 
   pub none_stepped : (before : ℕ) (start feed : Feed) (seen : List ℕ) (reader : Unread) (held : Held) → before < 2 ^ 40 → Reading start feed reader seen → Stepped 0 None g xs s before start seen e0 e0 reader feed held held old old
   unfolding no_step
-  none_stepped before start feed seen reader held few reading = record { run = no_step None before start feed seen reader held few (record { told_is = refl; none = refl }) reading; count_is = λ none. refl }
+  none_stepped before start feed seen reader held few reading = record { run = no_step None before start feed seen reader held few (record { told_is = refl; none = refl }) (λ (e : None ≡ Some WriteFault). cc) reading; count_is = λ none. refl }
 
   pub no_stepped : (stop : Stop) (before number : ℕ) (start feed : Feed) (seen : List ℕ) (reader : Unread) (held : Held) → number ≡ suc before → before < 2 ^ 40 → IsOfReading stop → ReadsTo (Some stop) number start feed reader seen
       → Stepped 1 (Some stop) g xs s before start seen e0 e0 reader feed held held old old
   no_stepped stop before number start feed seen reader held is few of reads = record {
-    run = no_step (Some stop) before start feed seen reader held few (prints_none stop of) (reads_same (Some stop) number (suc before) start feed reader seen seen is refl reads);
+    run = no_step (Some stop) before start feed seen reader held few (prints_none stop of) (of_no_sink stop of) (reads_same (Some stop) number (suc before) start feed reader seen seen is refl reads);
     count_is = λ none. let e : Some stop ≡ None = none in cc;
   }
 
@@ -153,6 +154,7 @@ module _ (rest : EveryRest) (g : Opening) (xs : List Answered) (s : Session) (e0
       told = [];
       tail = [];
       prints = record { told_is = refl; none = refl };
+      cut = λ e. let clash : Some DiskFault ≡ Some WriteFault = e in cc;
       holds = holds_none held;
       others = record { later = frame.later; counts = frame.counts; tells = frame.tells; areas = frame.areas; area = frame.elsewhere; notes = λ counts fits. let n : mid.notes ≡ old.notes = frame.notes in omega arith };
       ring = same_log e0;
@@ -227,6 +229,7 @@ module _ (rest : EveryRest) (g : Opening) (xs : List Answered) (s : Session) (e0
         told = said.told;
         tail = said.tail;
         prints = said.prints;
+        cut = λ e. record { last = x1; earlier = []; calls_are = refl; said = said.told; told_are = sym (append-nil said.told) };
         holds = said.holds;
         others = record {
           later = let p : old.moment ≤ mid.moment = frame.later in let q : mid.moment ≤ new.moment = said.notes.later in omega arith;

@@ -1,5 +1,5 @@
 -- A run, and a run more.
-use Rattle.std.proofs.Common.{◌≡◌, inl, inr, ⊎_elim, ◌++◌, ◌∷◌, [], ◌≤◌, ◌<◌, ◌+◌, ◌-◌, ◌^◌, min, ℕ, suc, List, Option, Some, None, length, refl, sym, ap, ◌∙◌, subst, arith}
+use Rattle.std.proofs.Common.{◌≡◌, inl, inr, ⊎_elim, ◌++◌, ◌∷◌, [], ◌≤◌, ◌<◌, ◌+◌, ◌^◌, ℕ, suc, List, Option, Some, None, length, refl, sym, ap, ◌∙◌, subst, arith}
 use Rattle.std.proofs.lemmas.List.{append-nil, length-append}
 use mathlib.Core.List.{append_assoc}
 use Rattle.lean_edge.specs.Outside.{Feed, Held}
@@ -24,10 +24,10 @@ use Rattle.transcripts.specs.Told.{asked_text, text_of, replies, names, committe
 use Rattle.transcripts.proofs.AskedLemmas.{text_append, replies_append}
 use Rattle.transcripts.proofs.TranscriptLemmas.{names_are}
 use Rattle.script_run.specs.Moments.{HoldsRun, ScriptLeaves}
-use Rattle.script_run.specs.Runs.{Executes, ScriptRuns, WentOn, SameRing, IsFlushed, PrintsTo, Holds, OthersStand}
+use Rattle.script_run.specs.Runs.{Executes, ScriptRuns, WentOn, SameRing, IsFlushed, IsLastCut, PrintsTo, Holds, OthersStand}
 use Rattle.script_run.specs.Inside.{Stepped}
 use Rattle.script_run.specs.declared.stop.Stop.{Stop}
-use Rattle.script_run.specs.declared.stop.Stop.TheVariants.{DiskFault}
+use Rattle.script_run.specs.declared.stop.Stop.TheVariants.{WriteFault, DiskFault}
 use Rattle.script_run.proofs.ListLemmas.{has_cases, names_append, committed_append, fits_append, heard_more}
 use Rattle.script_run.proofs.SessionLemmas.{executes_then, runs_then}
 use Rattle.script_run.proofs.ReadLemmas.{reads_same, seen_more, prints_more}
@@ -70,6 +70,18 @@ module _ (g : Opening) (xs : List Answered) (s : Session) (before : ℕ) (start 
   module _ (b : ScriptRuns stop g (a.newer ++ xs) a.session (before + length a.newer) start (seen ++ asked_text a.newer) e1 e2 r1 f1 h1 h2 s1 s2) where
     told_first : a.told ≡ replies a.newer
     told_first = a.prints.told_is
+
+    cut_then : stop ≡ Some WriteFault → IsLastCut (b.newer ++ a.newer) (b.told ++ a.told)
+    cut_then failed =
+        let c : IsLastCut b.newer b.told = b.cut failed in
+        record {
+          last = c.last;
+          earlier = c.earlier ++ a.newer;
+          calls_are = ap (λ (ys : List Answered). ys ++ a.newer) c.calls_are;
+          said = c.said;
+          told_are = ap (λ (rs : List Reply). rs ++ a.told) c.told_are ∙ append_assoc c.said (replies c.earlier) a.told
+              ∙ ap (λ (rs : List Reply). c.said ++ rs) (ap (λ (rs : List Reply). replies c.earlier ++ rs) told_first ∙ sym (replies_append c.earlier a.newer));
+        }
 
     flushed_then : (r : Entry) → Has r s.log → r.number ≤ e0.log.flushed → Has r b.session.log × (r.number ≤ b.state.log.flushed)
     flushed_then r has le =
@@ -193,6 +205,7 @@ module _ (g : Opening) (xs : List Answered) (s : Session) (before : ℕ) (start 
           told = b.told ++ a.told;
           tail = b.tail;
           prints = subst (λ (all : List Reply). PrintsTo stop all (b.told ++ a.told) b.tail) (ap (λ (rs : List Reply). replies b.newer ++ rs) told_first ∙ sym (replies_append b.newer a.newer)) (prints_more stop (replies b.newer) b.told a.told b.tail b.prints);
+          cut = cut_then;
           holds = holds_then a.told b.told b.tail h0 h1 h2 (subst (λ (t : List ℕ). Holds a.told t h0 h1) a.prints.none a.holds) b.holds;
           others = others_then a.told b.told s0 s1 s2 a.others b.others;
           ring = ring_then e0 e1 b.state ring_first b.ring;

@@ -108,6 +108,15 @@ PrintsTo (Some ReadFault) all told tail = IsWhole all told tail
 PrintsTo (Some WriteFault) all told tail = IsCutOff all told tail
 PrintsTo (Some DiskFault) all told tail = IsWhole all told tail
 
+-- Where it failed, that was at the last call: every call before was answered in full.
+pub record IsLastCut (calls : List Answered) (told : List Reply) : Type 0 where
+  pub last : Answered
+  pub earlier : List Answered
+  pub calls_are : calls ≡ last ∷ earlier
+  -- what was told of the last
+  pub said : List Reply
+  pub told_are : told ≡ said ++ replies earlier
+
 -- what a sink holds then
 pub record Holds (told : List Reply) (tail : List ℕ) (old new : Held) : Type 0 where
   pub same : new.tells ≡ old.tells
@@ -143,6 +152,7 @@ pub record ScriptRuns (stop : Option Stop) (g : Opening) (xs : List Answered) (s
   pub told : List Reply
   pub tail : List ℕ
   pub prints : PrintsTo stop (replies newer) told tail
+  pub cut : stop ≡ Some WriteFault → IsLastCut newer told
   pub holds : Holds told tail held0 held1
   -- the disk
   pub others : OthersStand told old new
