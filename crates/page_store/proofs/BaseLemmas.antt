@@ -1,6 +1,6 @@
 -- The newer of two slots, and the base of a page.
-use Rattle.std.proofs.Common.{◌≡◌, ◌⊎◌, inl, inr, ⊎_elim, ℕ, ◌+◌, ◌*◌, ◌≤◌, ◌<◌, true, false, List, length, leb, Option, Some, None, IfSome, IfNone, refl, sym, ◌∙◌, ap, subst, arith}
-use Rattle.std.proofs.lemmas.Bool.{cases_Bool, cond-true, cond-false, leb-true, le-leb}
+use Rattle.std.proofs.Common.{◌≡◌, ◌⊎◌, inl, inr, ⊎_elim, ℕ, zero, suc, ◌+◌, ◌*◌, ◌≤◌, ◌<◌, true, false, ◌&&◌, ◌||◌, ◌==◌, ltb, List, length, leb, Option, Some, None, IfSome, IfNone, refl, sym, ◌∙◌, ap, subst, arith, true≢false}
+use Rattle.std.proofs.lemmas.Bool.{cases_Bool, cases_lt, cond-true, cond-false, leb-true, le-leb, lt-ltb, le-ltb, ne_eqb}
 use Rattle.page_model.specs.Page.{Page}
 use Rattle.image_model.specs.Entries as model
 use Rattle.image_model.specs.Slots.{Slot, base_of, newer_page, valid}
@@ -115,6 +115,43 @@ none_taken (Some x) (Some y) is = go (cases_Bool (is_older_page x y))
     go (inl older) = absurd (let e : ◌≡◌ {A = Option Base} None (Some (in_slot 1 y)) = is ∙ cond-true (is_older_page x y) (Some (in_slot 1 y)) (Some (in_slot 0 x)) older in let never : ⊥ = cc in never)
     go (inr newer) = absurd (let e : ◌≡◌ {A = Option Base} None (Some (in_slot 0 x)) = is ∙ cond-false (is_older_page x y) (Some (in_slot 1 y)) (Some (in_slot 0 x)) newer in let never : ⊥ = cc in never)
 
+-- neither of both is of a later generation
+record IsTop (a b : Option Page) (g : ℕ) : Type 0 where
+  first : (x : Page) → a ≡ Some x → x.generation ≤ g
+  second : (x : Page) → b ≡ Some x → x.generation ≤ g
+
+older_low : (x y : Page) → is_older_page x y ≡ true → x.generation ≤ y.generation
+older_low x y older = ⊎_elim
+    (λ (lt : y.generation < x.generation).
+    let unequal : (x.generation == y.generation) ≡ false = ne_eqb x.generation y.generation (λ e. absurd (omega (arith, lt, e))) in
+    let no_it : is_older_page x y ≡ false = ap (λ b. b || ((x.generation == y.generation) && ltb x.gsn y.gsn)) (le-ltb x.generation y.generation (omega (arith, lt))) ∙ ap (λ b. b && ltb x.gsn y.gsn) unequal in
+    absurd (true≢false (sym older ∙ no_it)))
+    (λ (le : x.generation ≤ y.generation). le)
+    (cases_lt y.generation x.generation)
+
+newer_low : (x y : Page) → is_older_page x y ≡ false → y.generation ≤ x.generation
+newer_low x y newer = ⊎_elim
+    (λ (lt : x.generation < y.generation). absurd (true≢false (sym (ap (λ b. b || ((x.generation == y.generation) && ltb x.gsn y.gsn)) (lt-ltb x.generation y.generation lt)) ∙ newer)))
+    (λ (le : y.generation ≤ x.generation). le)
+    (cases_lt x.generation y.generation)
+
+same_low : (x y : Page) (g : ℕ) → ◌≡◌ {A = Option Page} (Some x) (Some y) → x.generation ≤ g → y.generation ≤ g
+same_low x y g e le = let same : x ≡ y = cc in subst (λ (z : Page). z.generation ≤ g) same le
+
+is_top : (a b : Option Page) (base : Base) → Some base ≡ newest a b → IsTop a b base.node.generation
+is_top None None base is = absurd (let never : ⊥ = cc in never)
+is_top (Some x) None base is = subst (λ (y : Base). IsTop (Some x) None y.node.generation) (sym (same_some base (in_slot 0 x) is))
+    (record { first = λ z e. same_low x z x.generation e (omega arith); second = λ z e. absurd (let never : ⊥ = cc in never) })
+is_top None (Some y) base is = subst (λ (z : Base). IsTop None (Some y) z.node.generation) (sym (same_some base (in_slot 1 y) is))
+    (record { first = λ z e. absurd (let never : ⊥ = cc in never); second = λ z e. same_low y z y.generation e (omega arith) })
+is_top (Some x) (Some y) base is = go (cases_Bool (is_older_page x y))
+  where
+    go : (is_older_page x y ≡ true) ⊎ (is_older_page x y ≡ false) → IsTop (Some x) (Some y) base.node.generation
+    go (inl older) = subst (λ (z : Base). IsTop (Some x) (Some y) z.node.generation) (sym (same_some base (in_slot 1 y) (is ∙ cond-true (is_older_page x y) (Some (in_slot 1 y)) (Some (in_slot 0 x)) older)))
+        (record { first = λ z e. same_low x z y.generation e (older_low x y older); second = λ z e. same_low y z y.generation e (omega arith) })
+    go (inr newer) = subst (λ (z : Base). IsTop (Some x) (Some y) z.node.generation) (sym (same_some base (in_slot 0 x) (is ∙ cond-false (is_older_page x y) (Some (in_slot 1 y)) (Some (in_slot 0 x)) newer)))
+        (record { first = λ z e. same_low x z x.generation e (omega arith); second = λ z e. same_low y z x.generation e (newer_low x y newer) })
+
 -- ## The base
 
 own_of : (m : Master) (page i : ℕ) (o : Option Page) (base : Base) → i < 2 → base.slot ≡ i → o ≡ Some base.node → IsOfSlot m page o → IsOwn m page base
@@ -137,6 +174,11 @@ module _ (m : Master) (page : ℕ) (area : Areas) (first second : Option Page) (
   stands_in : (i : ℕ) (o : Option Page) (base : Base) → o ≡ valid_in m page i (area 1) → base.slot ≡ i → o ≡ Some base.node → page_slot_in m.pages page base.slot (area 1) ≡ Some base.node
   stands_in i o base there slot is = ap (λ (k : ℕ). page_slot_in m.pages page k (area 1)) slot ∙ (valid_some m.generation (page_slot_in m.pages page i (area 1)) base.node (sym there ∙ is)).0
 
+  none_later : (base : Base) → IsTop first second base.node.generation → (i : ℕ) (x : Page) → i < 2 → page_slot_in m.pages page i (area 1) ≡ Some x → x.generation ≤ m.generation → x.generation ≤ base.node.generation
+  none_later base top zero x half there low = top.first x (one ∙ (ap (valid_page m.generation) there ∙ valid_is m.generation x low))
+  none_later base top (suc zero) x half there low = top.second x (two ∙ (ap (valid_page m.generation) there ∙ valid_is m.generation x low))
+  none_later base top (suc (suc i)) x half there low = absurd (omega arith)
+
   pub base_found : (base : Base) → IsOwn m page base → Some base ≡ newest first second → IsBase m page area base
   base_found base own is =
       let it = is_taken first second base is in record {
@@ -146,6 +188,7 @@ module _ (m : Master) (page : ℕ) (area : Areas) (first second : Option Page) (
             (λ (e : (base.slot ≡ 0) × (first ≡ Some base.node)). stands_in 0 first base one e.0 e.1)
             (λ (e : (base.slot ≡ 1) × (second ≡ Some base.node)). stands_in 1 second base two e.0 e.1)
             it.choice;
+        newest = none_later base (is_top first second base is);
       }
 
   pub none_found : page < m.pages → None ≡ newest first second → HasNoBase m area page

@@ -1,6 +1,6 @@
 -- The base of a page, as it is fetched.
 use Rattle.std.specs.Prelude.{◌≡◌, ◌<◌, ◌≤◌, ℕ, Some}
-use Rattle.page_model.specs.Page as page
+use Rattle.page_model.specs.Page as memory
 use Rattle.image_model.specs.Entries.{Page}
 use Rattle.image_model.specs.Slots.{base_of}
 use Rattle.lean_disk.specs.Story.{Story}
@@ -13,7 +13,7 @@ abbrev pub areas_of : Story → Areas
 areas_of s a = (s.area a).bytes
 
 -- the page with the number and the log of its last record
-abbrev pub image_page : page.Page → Page
+abbrev pub image_page : memory.Page → Page
 image_page p = record { gsn = p.gsn; last = p.last_log; node = p.node }
 
 -- It is a slot of the page that a generation up to the master's has saved.
@@ -22,8 +22,9 @@ pub record IsOwn (m : Master) (page : ℕ) (base : Base) : Type 0 where
   pub number : base.node.number ≡ page
   pub generation : base.node.generation ≤ m.generation
 
--- It is the page's base, and stands in this slot.
+-- It is the page's base, and stands in this slot; no slot of the page is of a later generation up to the master's.
 pub record IsBase (m : Master) (page : ℕ) (area : Areas) (base : Base) : Type 0 where
   pub own : IsOwn m page base
   pub is : base_of (shown_by m area) page ≡ Some (image_page base.node)
   pub there : page_slot_in m.pages page base.slot (area 1) ≡ Some base.node
+  pub newest : (i : ℕ) (x : memory.Page) → i < 2 → page_slot_in m.pages page i (area 1) ≡ Some x → x.generation ≤ m.generation → x.generation ≤ base.node.generation

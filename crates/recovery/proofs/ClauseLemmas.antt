@@ -67,10 +67,10 @@ module _ (it : Prepared) (readied : IsReadied it) (s0 s4 : Story) (settles : Onl
           (λ c at. inr (writing it readied s0 s4 settles t (all t) prepared clean s6 (saves ready).run.frame ((saves ready).are done) ((saves ready).done done told_1) wide c at))
           (subst (λ (k : Master). LeavesOnly s6 s7 (CrashIn s6 0 (WritesOnce (1024 * (k.sequence % 2)) (master_slot k) (s6.area 0)))) next_is run)))
 
-      pub opens : Framed 0 s6 s7 → s7.area 0 ≡ synced (written (1024 * (next.sequence % 2)) (master_slot next) (s6.area 0)) → (r : Recovered) → r.master ≡ next → IsOpened m (areas_of s0) r s7
-      opens frame wrote r is = subst (λ (k : Master). IsOpened k (areas_of s0) r s7) same_master
+      pub opens : Framed 0 s6 s7 → s7.area 0 ≡ synced (written (1024 * (next.sequence % 2)) (master_slot next) (s6.area 0)) → (r : Recovered) → r.pages ≡ it.pages → r.master ≡ next → IsOpened m (areas_of s0) r s7
+      opens frame wrote r pages is = subst (λ (k : Master). IsOpened k (areas_of s0) r s7) same_master
           (opened it readied s0 s4 settles t (all t) prepared clean s6 (saves ready).run.frame ((saves ready).are done) ((saves ready).done done told_1) wide s7 frame
-          (subst (λ (k : Master). s7.area 0 ≡ synced (written (1024 * (k.sequence % 2)) (master_slot k) (s6.area 0))) next_is wrote) r (is ∙ next_is))
+          (subst (λ (k : Master). s7.area 0 ≡ synced (written (1024 * (k.sequence % 2)) (master_slot k) (s6.area 0))) next_is wrote) r pages (is ∙ next_is))
 
 -- ## The answer
 

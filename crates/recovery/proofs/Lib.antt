@@ -11,5 +11,6 @@ pub mod SaveLemmas
 pub mod SettleLemmas
 pub mod PrepareLemmas
 pub mod FinishLemmas
+pub mod HeldLemmas
 pub mod LastLemmas
 pub mod ClauseLemmas

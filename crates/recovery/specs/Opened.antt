@@ -6,7 +6,7 @@ use Rattle.page_model.specs.Tree.{IsTree}
 use Rattle.image_model.specs.Fair.{piece}
 use Rattle.image_model.specs.Entries.{Entry}
 use Rattle.image_model.specs.Images.{Image, bases, sorted, won_by, lost_by, recovered_page}
-use Rattle.image_model.specs.Slots.{Slot, base_of}
+use Rattle.image_model.specs.Slots.{Shown, Slot, base_of}
 use Rattle.lean_disk.specs.Area.{Area}
 use Rattle.lean_disk.specs.Story.{Story, Tells}
 use Rattle.log_block.specs.Block.{IsSealed, generation_of}
@@ -74,11 +74,21 @@ pub record IsSettled (area : Area) : Type 0 where
 abbrev pub HasNone : (generation n : ℕ) → List ℕ → Type 0
 HasNone generation n bytes = (p : ℕ) → p < n → IsSealed (piece 2048 p bytes) → generation_of (piece 2048 p bytes) ≡ generation → ⊥
 
--- The disk then, where the areas were those of a clean one: the master is the new one; each page's base is the recovered page; nothing
--- is of a later generation than the master's, and no block is of that one; and all is settled.
+-- What is in memory of page p is what one of its slots holds, by the same generation. Where a slot of it is of a later one, that is the
+-- master's, and the page is the same.
+pub record IsHeld (i : Shown) (p : ℕ) (v : Page) : Type 0 where
+  pub at : ℕ
+  pub within : at < 2
+  pub there : i.slot p at ≡ Some (record { generation = v.generation; page = page_of v })
+  pub newest : (j : ℕ) (x : Slot) → j < 2 → i.slot p j ≡ Some x → (x.generation ≤ v.generation) ⊎ ((x.generation ≡ i.generation) × (x.page ≡ page_of v))
+
+-- The disk then, where the areas were those of a clean one: the master is the new one; each page's base is the recovered page, and
+-- what is in memory of it stands there; nothing is of a later generation than the master's, and no block is of that one; and all is
+-- settled.
 pub record IsOpened (m : Master) (area : Areas) (r : Recovered) (s : Story) : Type 0 where
   pub master : master_on (s.area 0).bytes ≡ Some r.master
   pub base : (p : ℕ) → p < m.pages → base_of (shown_by r.master (areas_of s)) p ≡ Some (recovered_page (image_by m area) p)
+  pub held : (p : ℕ) (v : Page) → slice_get r.pages.items p ≡ Some v → IsHeld (shown_by r.master (areas_of s)) p v
   pub slots : (p i : ℕ) (x : Slot) → p < m.pages → i < 2 → (shown_by r.master (areas_of s)).slot p i ≡ Some x → x.generation ≤ r.master.generation
   pub blocks : HasNone r.master.generation m.blocks (s.area 2).bytes
   pub settled : (a : ℕ) → a < 3 → IsSettled (s.area a)

@@ -44,7 +44,7 @@ returns-clause-opened g c t m clean =
     let told : Tells s6 0 = c.save_changed.ensures.frame.tells 0 ∙ (e.settles.tells 0 ∙ t.master) in
     opens c.in-Ok.it e.readied s0 s4 e.settles t e.settled (e.prepared t) m clean
     (((g.met.D.Disk g.world.𝓛 g.world.𝓜 g.world.𝓡 ((λ s x. x), (λ x. x), (λ x. x), (λ x. x))).whole c.prepare.new.disk) 1)
-    s6 c.save_changed.result c.save_changed.ensures.saves c.in-Done.is wide next.result next.ensures.answer (story c.write_next.new.disk) c.write_next.ensures.frame (c.write_next.ensures.done (c.in-Done-write_next).is told) _ refl
+    s6 c.save_changed.result c.save_changed.ensures.saves c.in-Done.is wide next.result next.ensures.answer (story c.write_next.new.disk) c.write_next.ensures.frame (c.write_next.ensures.done (c.in-Done-write_next).is told) _ refl refl
 
 pub returns-clause-answer : goal.returns-clause-answer
 returns-clause-answer g c t =
