@@ -1,4 +1,4 @@
-use Rattle.std.proofs.Common.{◌≡◌, ◌≤◌, ◌-◌, ℕ, List, None}
+use Rattle.std.proofs.Common.{◌≡◌, ◌-◌, ℕ, List, None}
 use Rattle.core_state.specs.States.{Opening}
 use Rattle.lean_edge.specs.Outside.{Feed}
 use Rattle.script_lang.specs.Reading.{Reading}
