@@ -24,10 +24,3 @@ pub use records::{Entry, Kind, Node, Page, PageKind, PageRecord, Pair, Ref};
 pub use refusal::Refusal;
 pub use state::{Core, Place, Row, Settings, Worker};
 pub use table::Table;
-
-#[cfg(test)]
-mod tests;
-#[cfg(test)]
-mod tests_frames;
-#[cfg(test)]
-mod tests_structure;
