@@ -35,18 +35,18 @@ pub fn all_choices(alloc: Global, run: &Run) -> Result<Choices, AllocError> {
 fn fronts(alloc: Global, core: &Core, log: u64) -> Result<Vec<usize>, AllocError> {
     let head = *core.heads.get(log);
     let flushed = *core.flushed.get(log);
-    let all = core
-        .entries
-        .iter()
-        .filter(|entry| is_in_log(entry, log, head))
-        .count();
-    let least = core
-        .entries
-        .iter()
-        .filter(|entry| is_in_log(entry, log, head) && entry.number <= flushed)
-        .count();
+    let mut all: usize = 0;
+    let mut least: usize = 0;
+    for entry in &core.entries {
+        if is_in_log(entry, log, head) {
+            all = all.saturating_add(1);
+            if entry.number <= flushed {
+                least = least.saturating_add(1);
+            }
+        }
+    }
     let mut fronts = Vec::new(alloc);
-    for count in least..=all {
+    for count in least..all.saturating_add(1) {
         fronts.push(count)?;
     }
     Ok(fronts)
@@ -69,26 +69,45 @@ fn versions(alloc: Global, run: &Run, page: u64) -> Result<Vec<usize>, AllocErro
 
 fn is_admitted(core: &Core, version: &Version) -> bool {
     let number = version.made.number;
+    for entry in &core.entries {
+        if is_cut_from(core, entry, version.page) && number < entry.number {
+            return false;
+        }
+    }
     number <= core.flushed_by_all()
-        && core.entries.iter().all(|entry| !is_cut_from(core, entry, version.page)
-            || entry.number <= number)
 }
 
 // It changed the page, and is up to the greatest cut.
 fn is_cut_from(core: &Core, entry: &Entry, page: u64) -> bool {
-    entry.number <= core.cut && entry.refs.iter().any(|one| one.page == page)
+    for one in &entry.refs {
+        if one.page == page {
+            return entry.number <= core.cut;
+        }
+    }
+    false
 }
 
 /// The saved contents of each page are among them.
 pub fn admits_saved(run: &Run) -> bool {
-    (0..run.core.settings.pages).all(|page| is_saved_admitted(run, page))
+    for page in 0..run.core.settings.pages {
+        if !is_saved_admitted(run, page) {
+            return false;
+        }
+    }
+    true
 }
 
 fn is_saved_admitted(run: &Run, page: u64) -> bool {
     let number = run.core.saved.get(page).number;
-    run.versions.iter().any(|version| {
-        version.page == page && version.made.number == number && is_admitted(&run.core, version)
-    })
+    for version in &run.versions {
+        if version.page == page
+            && version.made.number == number
+            && is_admitted(&run.core, version)
+        {
+            return true;
+        }
+    }
+    false
 }
 
 impl Choices {

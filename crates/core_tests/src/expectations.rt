@@ -30,11 +30,11 @@ pub struct Crash {
     pub map: &'static [(u64, u64)],
 }
 
-/// What of a list is not as it is written, or breaks a rule.
+/// What of a list is not as it is written, or breaks a rule. Where there are many, a number says which.
 #[derive(Clone, Copy, Debug, PartialEq, Eq)]
-pub enum Finding {
+pub enum Fault {
     /// The event at this place, counted from 0, is met or not met otherwise.
-    Answer(usize),
+    Answer,
     /// The ends, the map of the leaves, or that of the committed transactions are others.
     Ends,
     Leaves,
@@ -44,24 +44,31 @@ pub enum Finding {
     /// Some page's saved contents are none that a crash may leave.
     Saved,
     /// There are so many crashes.
-    Crashes(usize),
+    Crashes,
     /// Only so many of the crashes that are written there are.
-    Untold(usize),
+    Untold,
     /// Of the crash at this place of the table: what it reaches, keeps, or gives as the map.
-    Reach(usize),
-    Kept(usize),
-    Map(usize),
+    Reach,
+    Kept,
+    Map,
     /// Of the crash with this number: its image breaks a rule; it stands for another map than its kept give; the pages that
     /// recovery leaves are no tree with that map; a kept transaction used what one that is not kept wrote or held; a ripe
     /// one is not kept.
-    Damaged(usize),
-    OtherMap(usize),
-    OtherPages(usize),
-    NotClosed(usize),
-    RipeLost(usize),
+    Damaged,
+    OtherMap,
+    OtherPages,
+    NotClosed,
+    RipeLost,
 }
 
-/// Those that there are, the first of each kind.
+/// A fault, and the place, the number or the count that it has; of the other faults 0.
+#[derive(Clone, Copy, Debug)]
+pub struct Finding {
+    pub fault: Fault,
+    pub number: usize,
+}
+
+/// Those that there are, the first of each fault.
 #[derive(Debug, Drop)]
 pub struct Findings {
     pub all: Vec<Finding>,
@@ -75,29 +82,19 @@ impl Findings {
     }
 
     /// There is one, unless it is as is said.
-    pub fn unless(&mut self, holds: bool, finding: Finding) -> Result<(), AllocError> {
-        if !holds && !self.has_kind(finding) {
-            self.all.push(finding)?;
+    pub fn unless(&mut self, holds: bool, fault: Fault, number: usize) -> Result<(), AllocError> {
+        if !holds && !self.has(fault) {
+            self.all.push(Finding { fault, number })?;
         }
         Ok(())
     }
 
-    fn has_kind(&self, finding: Finding) -> bool {
-        self.all.iter().any(|other| is_kind(*other, finding))
-    }
-}
-
-// Both are of one kind, wherever they are.
-fn is_kind(a: Finding, b: Finding) -> bool {
-    match (a, b) {
-        (Finding::Reach(_), Finding::Reach(_)) => true,
-        (Finding::Kept(_), Finding::Kept(_)) => true,
-        (Finding::Map(_), Finding::Map(_)) => true,
-        (Finding::Damaged(_), Finding::Damaged(_)) => true,
-        (Finding::OtherMap(_), Finding::OtherMap(_)) => true,
-        (Finding::OtherPages(_), Finding::OtherPages(_)) => true,
-        (Finding::NotClosed(_), Finding::NotClosed(_)) => true,
-        (Finding::RipeLost(_), Finding::RipeLost(_)) => true,
-        _ => a == b,
+    fn has(&self, fault: Fault) -> bool {
+        for finding in &self.all {
+            if finding.fault == fault {
+                return true;
+            }
+        }
+        false
     }
 }

@@ -47,7 +47,12 @@ pub fn kept_of(
 }
 
 fn is_named(winners: &[Name], txn: Committed) -> bool {
-    winners.iter().any(|name| u64::from(name.session) == txn.session && name.number == txn.number)
+    for name in winners {
+        if u64::from(name.session) == txn.session && name.number == txn.number {
+            return true;
+        }
+    }
+    false
 }
 
 /// A map after these transactions, in their order.
@@ -87,14 +92,21 @@ fn claims(entry: &Entry) -> bool {
 
 /// Each that wrote a key or held its row alone, before a kept one used the key, is kept.
 pub fn is_closed(core: &Core, journal: &[Committed], kept: &[Committed]) -> bool {
-    kept.iter()
-        .all(|txn| has_all_before(core, journal, kept, *txn))
+    for txn in kept {
+        if !has_all_before(core, journal, kept, *txn) {
+            return false;
+        }
+    }
+    true
 }
 
 fn has_all_before(core: &Core, journal: &[Committed], kept: &[Committed], txn: Committed) -> bool {
-    journal.iter().all(|other| kept.contains(other)
-        || !is_before(*other, txn)
-        || !follows(core, txn, *other))
+    for other in journal {
+        if !kept.contains(other) && is_before(*other, txn) && follows(core, txn, *other) {
+            return false;
+        }
+    }
+    true
 }
 
 fn is_before(a: Committed, b: Committed) -> bool {
@@ -103,19 +115,40 @@ fn is_before(a: Committed, b: Committed) -> bool {
 
 // The transaction used a key that the other claimed.
 fn follows(core: &Core, txn: Committed, other: Committed) -> bool {
-    core.entries.iter().any(|entry| {
-        is_of(entry, txn) && is_call(entry.kind) && is_claimed(core, other, entry.key)
-    })
+    for entry in &core.entries {
+        if is_of(entry, txn) && is_call(entry.kind) && is_claimed(core, other, entry.key) {
+            return true;
+        }
+    }
+    false
 }
 
 fn is_claimed(core: &Core, txn: Committed, key: u64) -> bool {
-    core.entries.iter().any(|entry| is_of(entry, txn) && claims(entry) && entry.key == key)
+    for entry in &core.entries {
+        if is_of(entry, txn) && claims(entry) && entry.key == key {
+            return true;
+        }
+    }
+    false
 }
 
 /// Each commit that is flushed in its own log, where all logs are as far as it needs, is kept.
 pub fn has_ripe(core: &Core, kept: &[Committed]) -> bool {
-    core.entries.iter().all(|entry| !is_ripe(core, entry)
-        || kept.iter().any(|txn| is_of(entry, *txn)))
+    for entry in &core.entries {
+        if is_ripe(core, entry) && !is_of_one(entry, kept) {
+            return false;
+        }
+    }
+    true
+}
+
+fn is_of_one(entry: &Entry, txns: &[Committed]) -> bool {
+    for txn in txns {
+        if is_of(entry, *txn) {
+            return true;
+        }
+    }
+    false
 }
 
 fn is_ripe(core: &Core, entry: &Entry) -> bool {

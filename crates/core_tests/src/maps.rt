@@ -58,23 +58,30 @@ pub fn copy_of(alloc: Global, map: &BTreeMap<u64, u64>) -> Result<BTreeMap<u64, 
 
 /// The map has these pairs and no other.
 pub fn is_map(map: &BTreeMap<u64, u64>, pairs: &[(u64, u64)]) -> bool {
+    for (key, value) in pairs {
+        if map.get(key).copied() != Some(*value) {
+            return false;
+        }
+    }
     map.len() == pairs.len()
-        && pairs
-            .iter()
-            .all(|(key, value)| map.get(key).copied() == Some(*value))
 }
 
 /// The same of the pairs that a program of images answers.
 pub fn has_pairs(map: &BTreeMap<u64, u64>, pairs: &[Pair]) -> bool {
+    for pair in pairs {
+        if map.get(&pair.key).copied() != Some(pair.word) {
+            return false;
+        }
+    }
     map.len() == pairs.len()
-        && pairs
-            .iter()
-            .all(|pair| map.get(&pair.key).copied() == Some(pair.word))
 }
 
 /// Both maps have the same pairs.
 pub fn is_same(a: &BTreeMap<u64, u64>, b: &BTreeMap<u64, u64>) -> bool {
+    for (key, value) in a {
+        if b.get(key).copied() != Some(*value) {
+            return false;
+        }
+    }
     a.len() == b.len()
-        && a.iter()
-            .all(|(key, value)| b.get(key).copied() == Some(*value))
 }

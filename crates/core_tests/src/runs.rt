@@ -1,8 +1,7 @@
 // The run of a list, and all contents that its pages have had.
-use crate::expectations::List;
 use crate::maps::map_of_leaves;
-use crate::openings::opened;
-use crate::steps::event_of;
+use crate::openings::{Opening, opened};
+use crate::steps::{Step, event_of};
 use plain_core::{Core, Page, Refusal};
 use std::alloc::{AllocError, Global};
 use std::collections::BTreeMap;
@@ -24,29 +23,37 @@ pub struct Version {
     pub made: Page,
 }
 
-/// Runs a list.
-pub fn run_list(alloc: Global, list: &List) -> Result<Run, Refusal> {
-    let core = opened(alloc, list.opening)?;
+/// A run before its first event.
+pub fn started(alloc: Global, opening: Opening) -> Result<Run, AllocError> {
+    let core = opened(alloc, opening)?;
     let first = map_of_leaves(alloc, &core)?;
-    let mut run = Run {
+    Ok(Run {
         first,
         core,
         versions: Vec::new(alloc),
         wrong: None,
-    };
-    run.note(alloc)?;
-    for (place, (step, is_met)) in list.steps.iter().enumerate() {
-        let event = event_of(alloc, *step)?;
-        let met = run.core.step(alloc, &event)?;
-        if met != *is_met && run.wrong.is_none() {
-            run.wrong = Some(place);
-        }
-        run.note(alloc)?;
-    }
-    Ok(run)
+    })
 }
 
 impl Run {
+    /// Runs a list's events.
+    pub fn go_through(&mut self, alloc: Global, steps: &[(Step, bool)]) -> Result<(), Refusal> {
+        self.note(alloc)?;
+        for (place, (step, is_met)) in steps.iter().enumerate() {
+            if self.take(alloc, *step)? != *is_met && self.wrong.is_none() {
+                self.wrong = Some(place);
+            }
+            self.note(alloc)?;
+        }
+        Ok(())
+    }
+
+    // Whether the event's need is met.
+    fn take(&mut self, alloc: Global, step: Step) -> Result<bool, Refusal> {
+        let event = event_of(alloc, step)?;
+        self.core.step(alloc, &event)
+    }
+
     // Pages that have other contents than ever before are noted: each change has a number of its own.
     fn note(&mut self, alloc: Global) -> Result<(), AllocError> {
         for place in 0..self.core.settings.pages {
@@ -63,5 +70,10 @@ impl Run {
 }
 
 fn has_version(versions: &[Version], page: u64, number: u64) -> bool {
-    versions.iter().any(|version| version.page == page && version.made.number == number)
+    for version in versions {
+        if version.page == page && version.made.number == number {
+            return true;
+        }
+    }
+    false
 }

@@ -1,29 +1,27 @@
 // Each list is run, and each of its crashes looked at.
 use crate::crashes::{Choices, Picked, admits_saved, all_choices};
-use crate::expectations::{Crash, End, Finding, Findings, List};
+use crate::expectations::{Crash, End, Fault, Findings, List};
 use crate::images::{found_in, image_of, logs_of};
 use crate::journals::{
     Committed, after, has_ripe, is_closed, is_serial, journal_of, kept_of, transcript_of,
 };
 use crate::lists::lists;
 use crate::maps::{copy_of, has_pairs, is_map, is_same, map_of_leaves, write_leaf};
-use crate::runs::{Run, run_list};
+use crate::runs::{Run, started};
 use map_model::Replay;
 use plain_core::{Core, Entry, Kind, Refusal};
 use plain_images::{Image, first_damage, map, recovered_page};
-use plain_recovery::{Pair, first_break, reach, winners};
+use plain_recovery::{Node, Pair, first_break, reach, winners};
 use std::alloc::{AllocError, Global};
 use std::collections::BTreeMap;
 
 #[test]
 fn each_list_answers_as_is_written_and_each_crash_is_recovered(rt: HostRuntime) {
     let alloc = rt.alloc();
-    let all = lists(alloc);
-    assert!(rt; all.is_ok());
-    let Ok(all) = all else { return };
-    assert_eq!(rt; all.len(), 20);
+    let lists = lists();
+    assert_eq!(rt; lists.len(), 20);
     let mut as_written = true;
-    for list in &all {
+    for list in &lists {
         let looked = look(alloc, list);
         assert!(rt; looked.is_ok());
         let Ok(findings) = looked else { return };
@@ -37,35 +35,56 @@ fn each_list_answers_as_is_written_and_each_crash_is_recovered(rt: HostRuntime) 
 
 // All that is written of the list, and all rules.
 fn look(alloc: Global, list: &List) -> Result<Findings, Refusal> {
+    let mut run = started(alloc, list.opening)?;
+    run.go_through(alloc, list.steps)?;
+    Ok(look_at_run(alloc, &run, list)?)
+}
+
+fn look_at_run(alloc: Global, run: &Run, list: &List) -> Result<Findings, AllocError> {
     let mut findings = Findings::new(alloc);
-    let run = run_list(alloc, list)?;
-    if let Some(place) = run.wrong {
-        findings.unless(false, Finding::Answer(place))?;
-    }
-    findings.unless(has_ends(&run.core, list.ends), Finding::Ends)?;
-    let leaves = map_of_leaves(alloc, &run.core)?;
-    findings.unless(is_map(&leaves, list.leaves), Finding::Leaves)?;
+    look_at_state(alloc, run, list, &mut findings)?;
     let journal = journal_of(alloc, &run.core)?;
-    look_at_journal(alloc, &run, &journal, list, &mut findings)?;
-    look_at_crashes(alloc, &run, &journal, list, &mut findings)?;
+    look_at_journal(alloc, run, &journal, list, &mut findings)?;
+    look_at_crashes(alloc, run, &journal, list, &mut findings)?;
     Ok(findings)
+}
+
+// The events are answered, and leave the ends and the leaves, as is written.
+fn look_at_state(
+    alloc: Global,
+    run: &Run,
+    list: &List,
+    findings: &mut Findings,
+) -> Result<(), AllocError> {
+    if let Some(place) = run.wrong {
+        findings.unless(false, Fault::Answer, place)?;
+    }
+    findings.unless(has_ends(&run.core, list.ends), Fault::Ends, 0)?;
+    let leaves = map_of_leaves(alloc, &run.core)?;
+    findings.unless(is_map(&leaves, list.leaves), Fault::Leaves, 0)
 }
 
 // The ends that were entered are these, the first one first.
 fn has_ends(core: &Core, ends: &[End]) -> bool {
-    let count = core.entries.iter().filter(|entry| is_end(entry)).count();
+    let mut count: usize = 0;
+    for entry in core.entries.iter().rev() {
+        if is_end(entry) {
+            if !is_as_written(entry, ends.get(count)) {
+                return false;
+            }
+            count = count.saturating_add(1);
+        }
+    }
     count == ends.len()
-        && core
-            .entries
-            .iter()
-            .rev()
-            .filter(|entry| is_end(entry))
-            .zip(ends)
-            .all(|(entry, end)| is_as_written(entry, end))
 }
 
-fn is_as_written(entry: &Entry, end: &End) -> bool {
-    (entry.log, entry.txn) == (end.0, end.1) && (entry.number, entry.need) == (end.2, end.3)
+fn is_as_written(entry: &Entry, end: Option<&End>) -> bool {
+    match end {
+        Some(End(log, txn, number, need)) => {
+            entry.log == *log && entry.txn == *txn && entry.number == *number && entry.need == *need
+        }
+        None => false,
+    }
 }
 
 fn is_end(entry: &Entry) -> bool {
@@ -81,16 +100,16 @@ fn look_at_journal(
     findings: &mut Findings,
 ) -> Result<(), AllocError> {
     let serial = is_serial(alloc, &run.core, &run.first, journal)?;
-    findings.unless(serial, Finding::NotSerial)?;
+    findings.unless(serial, Fault::NotSerial, 0)?;
     let committed = after(alloc, &run.core, &run.first, journal)?;
-    findings.unless(is_map(&committed, list.committed), Finding::Committed)?;
+    findings.unless(is_map(&committed, list.committed), Fault::Committed, 0)?;
     if let Some(lines) = transcript_of(alloc, &run.core, journal)? {
         let start = copy_of(alloc, &run.first)?;
         let serial = match Replay::run(alloc, start, &lines) {
             Ok(end) => is_map(&end, list.committed),
             Err(_) => false,
         };
-        findings.unless(serial, Finding::NotSerial)?;
+        findings.unless(serial, Fault::NotSerial, 0)?;
     }
     Ok(())
 }
@@ -102,12 +121,12 @@ fn look_at_crashes(
     list: &List,
     findings: &mut Findings,
 ) -> Result<(), AllocError> {
-    findings.unless(admits_saved(run), Finding::Saved)?;
+    findings.unless(admits_saved(run), Fault::Saved, 0)?;
     let choices = all_choices(alloc, run)?;
     let count = choices.count();
-    findings.unless(count == list.crashes, Finding::Crashes(count))?;
+    findings.unless(count == list.crashes, Fault::Crashes, count)?;
     let told = look_at_each(alloc, run, journal, list, &choices, findings)?;
-    findings.unless(told == list.told.len(), Finding::Untold(told))
+    findings.unless(told == list.told.len(), Fault::Untold, told)
 }
 
 // How many of the crashes are told of.
@@ -152,49 +171,87 @@ fn look_at_crash(
 ) -> Result<Recovered, AllocError> {
     let image = image_of(alloc, run, picked)?;
     let damage = first_damage(alloc, &image)?;
-    findings.unless(damage.is_none(), Finding::Damaged(number))?;
-    let found = found_in(alloc, &image)?;
-    let far = reach(logs_of(&image), image.floor, &found);
-    let winners = winners(alloc, far, &found)?;
-    let kept = kept_of(alloc, journal, image.floor, &winners)?;
-    let closed = is_closed(&run.core, journal, &kept);
-    findings.unless(closed, Finding::NotClosed(number))?;
-    findings.unless(has_ripe(&run.core, &kept), Finding::RipeLost(number))?;
-    let after = after(alloc, &run.core, &run.first, &kept)?;
-    let map = map(alloc, &image)?;
-    findings.unless(has_pairs(&after, &map), Finding::OtherMap(number))?;
-    let same = has_pages(alloc, &image, &after)?;
-    findings.unless(same, Finding::OtherPages(number))?;
+    findings.unless(damage.is_none(), Fault::Damaged, number)?;
+    let recovered = recovered_of(alloc, journal, &image)?;
+    look_at_kept(run, journal, &recovered.kept, number, findings)?;
+    look_at_map(alloc, run, &image, &recovered, number, findings)?;
+    Ok(recovered)
+}
+
+fn recovered_of(
+    alloc: Global,
+    journal: &[Committed],
+    image: &Image,
+) -> Result<Recovered, AllocError> {
+    let found = found_in(alloc, image)?;
+    let reach = reach(logs_of(image), image.floor, &found);
+    let winners = winners(alloc, reach, &found)?;
     Ok(Recovered {
-        reach: far,
-        kept,
-        map,
+        reach,
+        kept: kept_of(alloc, journal, image.floor, &winners)?,
+        map: map(alloc, image)?,
     })
+}
+
+// The kept transactions are closed, and the ripe ones are among them.
+fn look_at_kept(
+    run: &Run,
+    journal: &[Committed],
+    kept: &[Committed],
+    number: usize,
+    findings: &mut Findings,
+) -> Result<(), AllocError> {
+    let closed = is_closed(&run.core, journal, kept);
+    findings.unless(closed, Fault::NotClosed, number)?;
+    findings.unless(has_ripe(&run.core, kept), Fault::RipeLost, number)
+}
+
+// The image's map, and that of the pages that recovery leaves, are the one after the kept transactions.
+fn look_at_map(
+    alloc: Global,
+    run: &Run,
+    image: &Image,
+    recovered: &Recovered,
+    number: usize,
+    findings: &mut Findings,
+) -> Result<(), AllocError> {
+    let after = after(alloc, &run.core, &run.first, &recovered.kept)?;
+    findings.unless(has_pairs(&after, &recovered.map), Fault::OtherMap, number)?;
+    let same = has_pages(alloc, image, &after)?;
+    findings.unless(same, Fault::OtherPages, number)
 }
 
 // The pages that recovery leaves are a tree with this map.
 fn has_pages(alloc: Global, image: &Image, after: &BTreeMap<u64, u64>) -> Result<bool, AllocError> {
+    let nodes = nodes_of(alloc, image)?;
+    let map = map_of_nodes(alloc, &nodes)?;
+    Ok(first_break(&nodes).is_none() && is_same(&map, after))
+}
+
+fn nodes_of(alloc: Global, image: &Image) -> Result<Vec<Node>, AllocError> {
     let mut nodes = Vec::new(alloc);
     for place in 0..image.bases.len() {
-        let page = recovered_page(alloc, image, place as u64)?;
-        nodes.push(page.node)?;
+        nodes.push(recovered_page(alloc, image, place as u64)?.node)?;
     }
+    Ok(nodes)
+}
+
+fn map_of_nodes(alloc: Global, nodes: &[Node]) -> Result<BTreeMap<u64, u64>, AllocError> {
     let mut map = BTreeMap::new(alloc);
-    for node in &nodes {
+    for node in nodes {
         write_leaf(&mut map, node)?;
     }
-    Ok(first_break(&nodes).is_none() && is_same(&map, after))
+    Ok(map)
 }
 
 // It leaves so many records of each log, and of each page the contents with this number.
 fn is_told(run: &Run, picked: &Picked, told: &Crash) -> bool {
-    picked.logs.as_slice() == told.logs
-        && picked.pages.len() == told.pages.len()
-        && picked
-            .pages
-            .iter()
-            .zip(told.pages)
-            .all(|(place, number)| has_number(run, *place, *number))
+    for (place, number) in picked.pages.iter().zip(told.pages) {
+        if !has_number(run, *place, *number) {
+            return false;
+        }
+    }
+    picked.logs.as_slice() == told.logs && picked.pages.len() == told.pages.len()
 }
 
 fn has_number(run: &Run, place: usize, number: u64) -> bool {
@@ -210,23 +267,25 @@ fn look_at_told(
     place: usize,
     findings: &mut Findings,
 ) -> Result<(), AllocError> {
-    findings.unless(recovered.reach == told.reach, Finding::Reach(place))?;
-    findings.unless(are_named(&recovered.kept, told.kept), Finding::Kept(place))?;
-    findings.unless(are_pairs(&recovered.map, told.map), Finding::Map(place))
+    findings.unless(recovered.reach == told.reach, Fault::Reach, place)?;
+    findings.unless(are_named(&recovered.kept, told.kept), Fault::Kept, place)?;
+    findings.unless(are_pairs(&recovered.map, told.map), Fault::Map, place)
 }
 
 fn are_named(kept: &[Committed], names: &[(u64, u64)]) -> bool {
+    for (txn, (session, number)) in kept.iter().zip(names) {
+        if txn.session != *session || txn.number != *number {
+            return false;
+        }
+    }
     kept.len() == names.len()
-        && kept
-            .iter()
-            .zip(names)
-            .all(|(txn, name)| (txn.session, txn.number) == *name)
 }
 
 fn are_pairs(map: &[Pair], pairs: &[(u64, u64)]) -> bool {
+    for (pair, (key, word)) in map.iter().zip(pairs) {
+        if pair.key != *key || pair.word != *word {
+            return false;
+        }
+    }
     map.len() == pairs.len()
-        && map
-            .iter()
-            .zip(pairs)
-            .all(|(pair, told)| (pair.key, pair.word) == *told)
 }
