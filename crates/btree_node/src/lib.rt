@@ -27,6 +27,3 @@ impl Model for Node {
 
     ghost invariant = { λ n. IsPage n.words };
 }
-
-#[cfg(test)]
-mod tests;

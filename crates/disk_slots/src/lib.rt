@@ -26,6 +26,3 @@ pub fn every_page()
 pub fn every_master()
     ensures { EveryMaster }
 {}
-
-#[cfg(test)]
-mod tests;

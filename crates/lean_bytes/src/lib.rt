@@ -26,6 +26,3 @@ pub fn every_word()
 pub fn every_seal()
     ensures { EverySeal }
 {}
-
-#[cfg(test)]
-mod tests;

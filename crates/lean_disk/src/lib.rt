@@ -10,8 +10,6 @@ mod mem_disk;
 mod mem_part;
 mod slot;
 mod slots;
-#[cfg(test)]
-mod tests;
 
 pub use area_log::{AreaLog, Call, What};
 pub use area_of::AreaOf;

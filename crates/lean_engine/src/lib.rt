@@ -11,6 +11,3 @@ mod staging;
 pub use engine::Engine;
 pub use laws::every_rest;
 pub use worker_log::DiskFault;
-
-#[cfg(test)]
-mod tests;

@@ -6,6 +6,3 @@ mod opening;
 mod run;
 
 pub use run::run_disk;
-
-#[cfg(test)]
-mod tests;

@@ -19,8 +19,3 @@ pub use words::{Command, Shape, read_words};
 pub fn every_new_disk()
     ensures { EveryNewDisk }
 {}
-
-#[cfg(test)]
-mod rows;
-#[cfg(test)]
-mod tests;

@@ -8,6 +8,3 @@ mod run;
 pub use block::{Refusal, belongs, block_bytes, read_block};
 pub use format::{BLOCK, PAYLOAD};
 pub use run::valid_run;
-
-#[cfg(test)]
-mod tests;

@@ -12,6 +12,3 @@ pub use pieces::{put_short, put_word, split_short, split_word};
 pub use read::read_record;
 pub use record::{Body, Keys, PageRef, Pair, Pairs, Record};
 pub use write::{record_bytes, record_size};
-
-#[cfg(test)]
-mod tests;

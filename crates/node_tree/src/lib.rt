@@ -8,6 +8,3 @@ mod marks;
 
 pub use check::first_break;
 pub use descent::{is_leaf_with, leaf_of};
-
-#[cfg(test)]
-mod tests;

@@ -34,6 +34,3 @@ pub fn every_left()
 pub fn every_fewer()
     ensures { EveryFewer }
 {}
-
-#[cfg(test)]
-mod tests;

@@ -7,6 +7,3 @@ mod redo;
 mod undo;
 
 pub use recover::{Failed, Outcome, recover_pages};
-
-#[cfg(test)]
-mod tests;

@@ -7,6 +7,3 @@ mod reading;
 
 pub use found::{Found, What};
 pub use reading::{Unread, scan};
-
-#[cfg(test)]
-mod tests;

@@ -14,6 +14,3 @@ pub use notice::{
 };
 pub use reader::{LineReader, NextLine};
 pub use reply::{REPLY, durable_bytes, replies_are_read_back, reply_bytes};
-
-#[cfg(test)]
-mod tests;

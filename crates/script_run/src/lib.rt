@@ -10,6 +10,3 @@ mod stop;
 pub use laws::every_script;
 pub use run::run_script;
 pub use stop::Stop;
-
-#[cfg(test)]
-mod tests;

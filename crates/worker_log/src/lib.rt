@@ -7,6 +7,3 @@ mod log;
 
 pub use laws::{every_flushed, every_front, every_kept, every_run, every_staged};
 pub use log::{DiskFault, RESERVE, Staging, WorkerLog};
-
-#[cfg(test)]
-mod tests;

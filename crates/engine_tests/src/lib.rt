@@ -1,0 +1,17 @@
+//! Tests of the tree in memory, of the log, of the opening of a disk, and of the engine's calls.
+#![tactic(auto)]
+
+#[cfg(test)]
+mod calls;
+#[cfg(test)]
+mod logs;
+#[cfg(test)]
+mod openings;
+#[cfg(test)]
+mod redo;
+#[cfg(test)]
+mod scans;
+#[cfg(test)]
+mod stores;
+#[cfg(test)]
+mod trees;

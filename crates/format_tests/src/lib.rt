@@ -1,0 +1,13 @@
+//! Tests of what lies on the disk: numbers and seals, nodes, page and master slots, records, blocks.
+#![tactic(auto)]
+
+#[cfg(test)]
+mod blocks;
+#[cfg(test)]
+mod nodes;
+#[cfg(test)]
+mod numbers;
+#[cfg(test)]
+mod records;
+#[cfg(test)]
+mod slots;
