@@ -6,7 +6,7 @@ use Rattle.std.specs.List.{insert}
 use Rattle.page_model.specs.Pairs.{Pair, Rising, find, put, below, onward, route}
 use Rattle.page_model.specs.Needs.{key_at}
 use Rattle.page_model.specs.Page.{Page, word_at}
-use Rattle.page_model.proofs.Pairs.{rising_put, rising_le, find_out, put_front, put_here, put_back}
+use Rattle.page_model.proofs.Pairs.{rising_put, rising_le, find_out, put_prefix, put_here, put_back}
 use Rattle.btree_node.specs.Words.{IsOrdered, Spells}
 use Rattle.btree_node.specs.Inside.{pair, place, IsAt, IsGap}
 use Rattle.btree_node.proofs.SpellingLemmas.{spells-key}
@@ -118,7 +118,7 @@ put-new : (k w : ℕ) (ps : List Pair) → NotAt k ps → put k w ps ≡ insert 
 put-new k w [] n = refl
 put-new k w (p ∷ ps) n = elim (cases_lt p.key k) [
   | inl lt ↦ put_back k w p ps lt ∙ ap (λ (r : List Pair). p ∷ r) (put-new k w ps (not_at-tail k p ps lt n)) ∙ sym (ap (λ j. insert (p ∷ ps) j (pair k w)) (place-past k p ps lt))
-  | inr ge ↦ put_front k w p ps (not_at-head k p ps ge n) ∙ sym (ap (λ j. insert (p ∷ ps) j (pair k w)) (place-here k p ps ge))
+  | inr ge ↦ put_prefix k w p ps (not_at-head k p ps ge n) ∙ sym (ap (λ j. insert (p ∷ ps) j (pair k w)) (place-here k p ps ge))
 ]
 
 put-there : (k w : ℕ) (ps : List Pair) → place k ps < length ps → key_at (place k ps) ps ≡ k → put k w ps ≡ set ps (place k ps) (pair k w)

@@ -1,6 +1,6 @@
 -- What is saved of each page: a cold page, and one that is not dirty, is as it was saved.
 use Rattle.map_model.specs.Lists.{upd, all, Has}
-use Rattle.image_model.specs.Entries.{Entry, Page, touches, written}
+use Rattle.image_model.specs.Entries.{Entry, Contents, touches, written}
 use Rattle.core_state.specs.States.{Opening, Place, State, flushed_by_all, is_hot, is_cold, left_by, start}
 use Rattle.core_state.specs.Needs.{are_hot}
 use Rattle.core_state.specs.Steps.{at_pages, refs_of}
@@ -17,7 +17,7 @@ at_place P f i a j h k = elim (cases_eq j i) [
   | inr n ↦ subst (λ x. P j x) (sym (upd_other f i a j n)) (k n)
 ]
 
-pub record Copied (page saved : ℕ → Page) (place : ℕ → Place) : Type 0 where
+pub record Copied (page saved : ℕ → Contents) (place : ℕ → Place) : Type 0 where
   pub cold : (p : ℕ) → is_cold (place p) ≡ true → page p ≡ saved p
   pub clean : (p : ℕ) → (page p).gsn ≤ (saved p).gsn → page p ≡ saved p
   pub behind : (p : ℕ) → (saved p).gsn ≤ (page p).gsn
@@ -33,7 +33,7 @@ left_cold w (Place.Cooling f e v) = refl
 left_cold w Place.Cold = refl
 
 -- what a Load brings is what the page has
-pub loaded : (page saved : ℕ → Page) (place : ℕ → Place) → Copied page saved place → (p : ℕ) → is_cold (place p) ≡ true → (q : ℕ) → upd page p (saved p) q ≡ page q
+pub loaded : (page saved : ℕ → Contents) (place : ℕ → Place) → Copied page saved place → (p : ℕ) → is_cold (place p) ≡ true → (q : ℕ) → upd page p (saved p) q ≡ page q
 loaded page saved place k p c q = at_place (λ j v. v ≡ page j) page p (saved p) q (λ e. sym (k.cold p c) ∙ ap page (sym e)) (λ _. refl)
 
 -- a record's pages are hot, and its number is above theirs
@@ -62,36 +62,36 @@ copied_records s k x h = record { cold = cold; clean = clean; behind = behind }
         go false t = k.behind p
 
 -- p's place changes, and it is not cold then
-pub copied_place : (page saved : ℕ → Page) (place : ℕ → Place) (p : ℕ) (x : Place) → is_cold x ≡ false → Copied page saved place → Copied page saved (upd place p x)
+pub copied_place : (page saved : ℕ → Contents) (place : ℕ → Place) (p : ℕ) (x : Place) → is_cold x ≡ false → Copied page saved place → Copied page saved (upd place p x)
 copied_place page saved place p x n k = record {
   cold = λ j. at_place (λ j y. is_cold y ≡ true → page j ≡ saved j) place p x j (λ _ c. absurd (true≢false (sym c ∙ n))) (λ _ c. k.cold j c);
   clean = k.clean;
   behind = k.behind;
 }
 
-pub copied_load : (page saved : ℕ → Page) (place : ℕ → Place) (p f : ℕ) → Copied page saved place → is_cold (place p) ≡ true → Copied (upd page p (saved p)) saved (upd place p (Place.Hot f))
+pub copied_load : (page saved : ℕ → Contents) (place : ℕ → Place) (p f : ℕ) → Copied page saved place → is_cold (place p) ≡ true → Copied (upd page p (saved p)) saved (upd place p (Place.Hot f))
 copied_load page saved place p f k c =
     let n = copied_place page saved place p (Place.Hot f) refl k in record {
       cold = λ j h. loaded page saved place k p c j ∙ n.cold j h;
-      clean = λ j l. loaded page saved place k p c j ∙ k.clean j (let e = ap (λ (v : Page). v.gsn) (loaded page saved place k p c j) in omega arith);
-      behind = λ j. let e = ap (λ (v : Page). v.gsn) (loaded page saved place k p c j) in let b = k.behind j in omega arith;
+      clean = λ j l. loaded page saved place k p c j ∙ k.clean j (let e = ap (λ (v : Contents). v.gsn) (loaded page saved place k p c j) in omega arith);
+      behind = λ j. let e = ap (λ (v : Contents). v.gsn) (loaded page saved place k p c j) in let b = k.behind j in omega arith;
     }
 
-pub copied_save : (page saved : ℕ → Page) (place : ℕ → Place) (p : ℕ) → Copied page saved place → Copied page (upd saved p (page p)) place
+pub copied_save : (page saved : ℕ → Contents) (place : ℕ → Place) (p : ℕ) → Copied page saved place → Copied page (upd saved p (page p)) place
 copied_save page saved place p k = record {
   cold = λ j c. at_place (λ j v. page j ≡ saved j → page j ≡ v) saved p (page p) j (λ e _. ap page e) (λ _ q. q) (k.cold j c);
   clean = λ j. at_place (λ j v. (page j).gsn ≤ v.gsn → page j ≡ v) saved p (page p) j (λ e _. ap page e) (λ _ l. k.clean j l);
   behind = λ j. at_place (λ j v. v.gsn ≤ (page j).gsn) saved p (page p) j (λ e. let q = ap (λ (i : ℕ). (page i).gsn) e in omega arith) (λ _. k.behind j);
 }
 
-pub copied_evict : (page saved : ℕ → Page) (place : ℕ → Place) (p : ℕ) → Copied page saved place → (page p).gsn ≤ (saved p).gsn → Copied page saved (upd place p Place.Cold)
+pub copied_evict : (page saved : ℕ → Contents) (place : ℕ → Place) (p : ℕ) → Copied page saved place → (page p).gsn ≤ (saved p).gsn → Copied page saved (upd place p Place.Cold)
 copied_evict page saved place p k l = record {
   cold = λ j. at_place (λ j y. is_cold y ≡ true → page j ≡ saved j) place p Place.Cold j (λ e _. ap page e ∙ (k.clean p l ∙ ap saved (sym e))) (λ _ c. k.cold j c);
   clean = k.clean;
   behind = k.behind;
 }
 
-pub copied_leave : (page saved : ℕ → Page) (place : ℕ → Place) (w : ℕ) → Copied page saved place → Copied page saved (λ p. left_by w (place p))
+pub copied_leave : (page saved : ℕ → Contents) (place : ℕ → Place) (w : ℕ) → Copied page saved place → Copied page saved (λ p. left_by w (place p))
 copied_leave page saved place w k = record { cold = λ p c. k.cold p (sym (left_cold w (place p)) ∙ c); clean = k.clean; behind = k.behind }
 
 pub copied_start : (g : Opening) → Copied (start g).page (start g).saved (start g).place

@@ -11,7 +11,7 @@ use Rattle.page_model.proofs.Check as page_check
 use Rattle.std.proofs.Common.{◌≡◌, ◌+◌, ℕ, suc, ◌≤◌, ◌<◌, max, Bool, true, false, cond, ◌&&◌, ◌||◌, if◌then◌else◌, not, ltb, leb, ◌==◌, List, [], ◌∷◌, ◌⊎◌, Option, Some, None, length, refl, sym, ap, ◌∙◌, subst, inl, inr, arith, true≢false}
 use Rattle.std.proofs.lemmas.Bool.{cases_Bool, cases_eq, cases_lt, eq-eqb, ne_eqb, eqb-true, and_parts, or_cases, or_left, or_right, and_from, leb-true, ltb-true, lt-ltb, le-ltb, and_left, and_right, cond-true, cond-false, not_from_true}
 use Rattle.map_model.specs.Lists.{any, upd, Has}
-use Rattle.image_model.specs.Entries.{Entry, Kind, is_call, is_write, is_end, is_commit, is_record, touches, same_txn, word_in, is_purge, is_page, page_kind, Page, written}
+use Rattle.image_model.specs.Entries.{Entry, Kind, is_call, is_write, is_end, is_commit, is_record, touches, same_txn, word_in, is_purge, is_page, page_kind, Contents, written}
 use Rattle.page_model.specs.Records.{Ref, Record}
 use Rattle.core_state.specs.Lists.{is_empty}
 use Rattle.page_model.specs.Pairs.{Pair}
@@ -43,7 +43,7 @@ upd_at_most f worker w a l v = elim (cases_eq v w) [
 
 -- ## Entries
 
-pub inv_entry : (g : Opening) (s : State) → Inv g s → (w : ℕ) (a : Worker) (x : Entry) (page : ℕ → Page) →
+pub inv_entry : (g : Opening) (s : State) → Inv g s → (w : ℕ) (a : Worker) (x : Entry) (page : ℕ → Contents) →
     x.log ≡ w → ((p : ℕ) → page p ≡ page_at g (x ∷ s.entries) p) → Entered g (flushed_by_all g s) x s.entries → ((i : ℕ) → MayEnter g i (s.row i) x) →
     max (s.worker w).debt (flushed_by_all g s) ≤ max a.debt (flushed_by_all g s) → top_of (s.worker w) ≤ top_of a →
     WorkerOk g (flushed_by_all g s) s.floor (s.flushed w) (x ∷ s.entries) s.row w a → (is_record x.kind ≡ true → s.cut < x.number) →
@@ -224,22 +224,22 @@ inv_records g s i w ps n m x cs op ln lm mn tc lx tx nx ex rx xr fit wc hold ch 
     o = i.workers w
 
     same : nodes s.page ≡ nodes (page_at g h)
-    same = fun_ext (λ p. ap (λ (z : Page). z.node) (i.pages p))
+    same = fun_ext (λ p. ap (λ (z : Contents). z.node) (i.pages p))
 
     cover : (p : ℕ) → touches p x ≡ true → (y : Entry) → Has y h → touches p y ≡ true → Covered w (max m F) y
     cover p tp y iy ty = page_covers g F w (max m F) p h i.history (pages_more w (max (s.worker w).debt F) (max m F) h (let q = lm in omega arith) o.pages)
-        (subst (λ (q : Page). (q.last ≡ w) ⊎ (q.gsn ≤ max m F)) (i.pages p) (tc p (touch_has s ps x xr p tp)).1) y iy ty
+        (subst (λ (q : Contents). (q.last ≡ w) ⊎ (q.gsn ≤ max m F)) (i.pages p) (tc p (touch_has s ps x xr p tp)).1) y iy ty
 
     pages : (q : ℕ) → cond (touches q x) (written x q (s.page q)) (s.page q) ≡ page_at g (x ∷ h) q
-    pages q = ap (λ (z : Page). cond (touches q x) (written x q z) z) (i.pages q)
+    pages q = ap (λ (z : Contents). cond (touches q x) (written x q z) z) (i.pages q)
 
     entered : Entered g F x h
     entered = record {
       log = subst (Within g.workers) (sym lx) (o.is_log op);
       later = λ _ y iy l. let q = (o.numbers y iy (l ∙ lx)).0 in let u = nx in let v = ln in omega arith;
       logged = λ p t. rx;
-      prev = λ f jf. let z = refs_have s ps f (subst (λ (l : List Ref). Has f l) xr jf) in z.1 ∙ ap (λ (v : Page). v.gsn) (i.pages f.page);
-      rises = λ p t. let z = (tc p (touch_has s ps x xr p t)).0 in let e = ap (λ (v : Page). v.gsn) (i.pages p) in let u = nx in omega arith;
+      prev = λ f jf. let z = refs_have s ps f (subst (λ (l : List Ref). Has f l) xr jf) in z.1 ∙ ap (λ (v : Contents). v.gsn) (i.pages f.page);
+      rises = λ p t. let z = (tc p (touch_has s ps x xr p t)).0 in let e = ap (λ (v : Contents). v.gsn) (i.pages p) in let u = nx in omega arith;
       fits = subst (λ (v : ℕ → Node). Fits g.format v x) same fit;
       still_open = λ d id kd sd. o.unended op d id kd (sd.0 ∙ lx) (sd.1 ∙ tx);
       purged = λ c k ik y iy ky e. (let z = and_parts (is_free (s.row (g.row_of k)).holder) (is_empty (s.row (g.row_of k)).readers && leb (s.row (g.row_of k)).number F) (settled c k ik) in
@@ -262,7 +262,7 @@ inv_records g s i w ps n m x cs op ln lm mn tc lx tx nx ex rx xr fit wc hold ch 
     }
 
 pub same_nodes : (g : Opening) (s : State) → Inv g s → nodes s.page ≡ nodes (page_at g s.entries)
-same_nodes g s i = fun_ext (λ p. ap (λ (z : Page). z.node) (i.pages p))
+same_nodes g s i = fun_ext (λ p. ap (λ (z : Contents). z.node) (i.pages p))
 
 -- the pages are a tree
 pub tree_now : (g : Opening) (s : State) → Inv g s → IsTree g.format (nodes_of s)
@@ -626,7 +626,7 @@ inv_reads g s i w p k m =
         | inl l ↦ elim (o.past y iy l) [ inl q ↦ inl (l, q.1) | inr d ↦ inr d ]
         | inr d ↦ inr d.0
       ];
-      answers = λ _. ap (λ (v : Page). word_in g.format v.node k) (i.pages p) ∙ sym (lookup_at g.format (nodes (page_at g h)) k p (history_parted g F h i.history) (ltb-true p g.format.pages own_leaf.0) (subst (λ (v : Page). holds v.node k ≡ true) (i.pages p) own_leaf.1));
+      answers = λ _. ap (λ (v : Contents). word_in g.format v.node k) (i.pages p) ∙ sym (lookup_at g.format (nodes (page_at g h)) k p (history_parted g F h i.history) (ltb-true p g.format.pages own_leaf.0) (subst (λ (v : Contents). holds v.node k ≡ true) (i.pages p) own_leaf.1));
       closes = λ ke. absurd (true≢false (sym ke));
       aborts = λ ke. absurd (true≢false (sym ke));
     }

@@ -2,7 +2,7 @@
 use Rattle.page_model.specs.Pairs as pairs
 use Rattle.std.proofs.Common.{◌≡◌, ℕ, ◌≤◌, ◌<◌, max, Bool, true, false, cond, ◌&&◌, ◌||◌, if◌then◌else◌, not, ◌==◌, List, [], ◌∷◌, ◌⊎◌, refl, sym, ap, ◌∙◌, subst, inl, inr, arith}
 use Rattle.std.proofs.lemmas.Bool.{cases_Bool, cond-true, cond-false, eq-eqb, eqb-true, and_parts, and_from}
-use Rattle.image_model.specs.Entries.{is_purge, Entry, is_call, is_write, is_end, is_commit, is_record, same_txn, touches, applied_as, Page, written}
+use Rattle.image_model.specs.Entries.{is_purge, Entry, is_call, is_write, is_end, is_commit, is_record, same_txn, touches, applied_as, Contents, written}
 use Rattle.map_model.specs.Lists.{Has}
 use Rattle.page_model.specs.Records.{Ref}
 use Rattle.core_state.specs.Steps.{claims}
@@ -27,11 +27,11 @@ pub same_to : (a b : Entry) → same_txn a b ≡ true → SameTxn a b
 same_to a b h = let p = and_parts (a.log == b.log) (a.txn == b.txn) h in (eqb-true a.log b.log p.0, eqb-true a.txn b.txn p.1)
 
 -- the page after these entries, the newest first
-abbrev pub page_at : Opening → List Entry → ℕ → Page
+abbrev pub page_at : Opening → List Entry → ℕ → Contents
 page_at g [] p = start_page g p
 page_at g (r ∷ h) p = if touches p r then written r p (page_at g h p) else page_at g h p
 
-abbrev pub nodes : (ℕ → Page) → ℕ → Node
+abbrev pub nodes : (ℕ → Contents) → ℕ → Node
 nodes page p = (page p).node
 
 abbrev pub history_value : Opening → ℕ → List Entry → ℕ

@@ -2,7 +2,7 @@
 use Rattle.std.proofs.Common.{◌≡◌, ℕ, ◌≤◌, ◌<◌, max, Bool, true, false, cond, ◌&&◌, if◌then◌else◌, not, ltb, ◌==◌, List, [], ◌∷◌, ◌⊎◌, Some, refl, sym, ap, ◌∙◌, inl, inr, arith, true≢false}
 use Rattle.std.proofs.lemmas.Bool.{cases_Bool, cases_eq, cases_lt, ne_eqb, and_from, lt-ltb, and_left, cond-true, cond-false, not_from_false}
 use Rattle.map_model.specs.Lists.{upd, Has}
-use Rattle.image_model.specs.Entries.{Entry, touches, is_call, is_write, is_end, is_record, same_txn, Page, written}
+use Rattle.image_model.specs.Entries.{Entry, touches, is_call, is_write, is_end, is_record, same_txn, Contents, written}
 use Rattle.rfa_model.specs.Stamps.{is_remote}
 use Rattle.core_state.specs.States.{Opening, Row, Worker, State, flushed_by_all}
 use Rattle.core_state.specs.Steps.{claims, touch, end_entry}
@@ -268,8 +268,8 @@ page_log g F p (r ∷ h) hist e = go (page_log g F p h hist.1) (touches p r) e
 pub stamp_flushed : (g : Opening) (s : State) → Inv g s → (p : ℕ) → (s.page p).last ≡ 0 → (s.page p).gsn ≤ flushed_by_all g s
 stamp_flushed g s i p z =
     let b = base_flushed g s i in
-    let q = page_log g (flushed_by_all g s) p s.entries i.history (sym (ap (λ (v : Page). v.last) (i.pages p)) ∙ z) in
-    let e = ap (λ (v : Page). v.gsn) (i.pages p) in omega arith
+    let q = page_log g (flushed_by_all g s) p s.entries i.history (sym (ap (λ (v : Contents). v.last) (i.pages p)) ∙ z) in
+    let e = ap (λ (v : Contents). v.gsn) (i.pages p) in omega arith
 
 -- what a page's stamp covers
 pub page_covers : (g : Opening) (F w x p : ℕ) (h : List Entry) → IsHistory g F h → PagesCovered w x h → ((page_at g h p).last ≡ w) ⊎ ((page_at g h p).gsn ≤ x) → (y : Entry) → Has y h → touches p y ≡ true → Covered w x y

@@ -5,7 +5,7 @@ use Rattle.page_model.specs.Nodes.{holds}
 use Rattle.page_model.specs.Needs as record_needs
 use Rattle.map_model.specs.Lists.{upd}
 use Rattle.map_model.specs.Maps.{MapAnswer}
-use Rattle.image_model.specs.Entries.{Kind, Entry, Page}
+use Rattle.image_model.specs.Entries.{Kind, Entry, Contents}
 use Rattle.core_state.specs.Lists.{all_below, at_end, without}
 use Rattle.core_state.specs.States.{Opening, Place, State, nodes_of, gsns_of, is_cold, is_cooling, frame_of, left_by, waits_for, start}
 use Rattle.core_state.specs.Events.{Event}
@@ -47,7 +47,7 @@ inv_next g s i w p k (MapAnswer.Was v) m = i
 -- ## Pages in frames
 
 -- what moves pages changes nothing else
-inv_moved : (g : Opening) (s : State) → Inv g s → (saved : ℕ → Page) (place : ℕ → Place) (queue : List ℕ) (posted : ℕ) (inside : ℕ → Option ℕ) (epoch : ℕ) →
+inv_moved : (g : Opening) (s : State) → Inv g s → (saved : ℕ → Contents) (place : ℕ → Place) (queue : List ℕ) (posted : ℕ) (inside : ℕ → Option ℕ) (epoch : ℕ) →
     Inv g (record s { saved = saved; place = place; queue = queue; posted = posted; inside = inside; epoch = epoch })
 inv_moved g s v saved place queue posted inside epoch = record { cuts = v.cuts; history = v.history; pages = v.pages; rows = v.rows; workers = v.workers }
 

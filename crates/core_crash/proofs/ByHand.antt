@@ -10,7 +10,7 @@ use Rattle.page_model.proofs.Check as page_check
 use Rattle.image_model.specs.Entries.{Entry}
 use Rattle.core_state.specs.States.{Opening, State, start, start_page}
 use Rattle.core_state.specs.Steps.{run}
-use Rattle.core_crash.specs.Crashes.{Leaves, IsFront, log_of, first_map, kept_in}
+use Rattle.core_crash.specs.Crashes.{Leaves, IsPrefix, log_of, first_map, kept_in}
 use Rattle.core_crash.specs.Example.{events, logs_left, second, Example, image, WorkedExample}
 use Rattle.core_crash.proofs.Recovery.{every_crash}
 
@@ -68,7 +68,7 @@ append_nil (x ∷ xs) = ap (λ (l : List Entry). x ∷ l) (append_nil xs)
 
 leaves_without : Leaves opening events (logs_left last false) (start_page opening)
 leaves_without = record {
-  fronts = two (λ w. IsFront (logs_left last false w) (log_of w last.entries)) (log_of 1 last.entries, append_nil (log_of 1 last.entries)) ([], refl);
+  prefixes = two (λ w. IsPrefix (logs_left last false w) (log_of w last.entries)) (log_of 1 last.entries, append_nil (log_of 1 last.entries)) ([], refl);
   flushed = two (λ w. (r : Entry) → Has r (log_of w last.entries) → r.number ≤ last.flushed w → Has r (logs_left last false w)) (λ r i l. first r i l) (λ r i l. i);
   pages = λ p. inl refl;
   numbers = λ p. omega arith;
@@ -81,7 +81,7 @@ leaves_without = record {
 
 leaves_with : Leaves opening events (logs_left last true) (start_page opening)
 leaves_with = record {
-  fronts = two (λ w. IsFront (logs_left last true w) (log_of w last.entries)) ([], refl) ([], refl);
+  prefixes = two (λ w. IsPrefix (logs_left last true w) (log_of w last.entries)) ([], refl) ([], refl);
   flushed = two (λ w. (r : Entry) → Has r (log_of w last.entries) → r.number ≤ last.flushed w → Has r (logs_left last true w)) (λ r i l. i) (λ r i l. i);
   pages = λ p. inl refl;
   numbers = λ p. omega arith;

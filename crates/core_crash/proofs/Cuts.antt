@@ -4,7 +4,7 @@ use Rattle.std.proofs.Common.{◌≡◌, ℕ, ◌≤◌, max, Bool, true, false,
 use Rattle.std.proofs.lemmas.Bool.{cases_Bool, cases_eq, and_parts, or_cases, or_left, or_right, and_from, leb-true, le-leb, and_left, and_right, cond-true, cond-false, false_from_ne_true, not_from_true, not_from_false}
 use Rattle.map_model.specs.Lists.{upd, keep, Has}
 use Rattle.rfa_model.specs.Reaches.{least}
-use Rattle.image_model.specs.Entries.{earlier, Entry, is_write, is_end, is_commit, is_record, touches, same_txn, Page}
+use Rattle.image_model.specs.Entries.{earlier, Entry, is_write, is_end, is_commit, is_record, touches, same_txn, Contents}
 use Rattle.image_model.specs.Undo.{is_lost, undo_one, undo, values}
 use Rattle.image_model.specs.Redo.{passes, Redone, redo_one, redo}
 use Rattle.core_crash.proofs.Words.{Tested, tested, found, is_cut, there, recovered, Done, committed, done_earlier, journal, after, wins, kept, IsClosed, Stands}
@@ -43,7 +43,7 @@ same_bool false false f g = refl
 
 -- ## What is known of the records that are cut
 
-pub record CutOff (g : Opening) (floor R : ℕ) (up_to head : ℕ → ℕ) (snap : ℕ → Page) (all : List Entry) : Type 0 where
+pub record CutOff (g : Opening) (floor R : ℕ) (up_to head : ℕ → ℕ) (snap : ℕ → Contents) (all : List Entry) : Type 0 where
   pub low : (r : Entry) → Has r all → is_cut head r ≡ true → r.number ≤ floor
   pub pages : (r : Entry) → Has r all → is_cut head r ≡ true → (p : ℕ) → touches p r ≡ true → r.number ≤ (snap p).gsn
   pub ended : (r : Entry) → Has r all → is_record r.kind ≡ true → is_cut head r ≡ true → is_ended R up_to all r ≡ true
@@ -79,7 +79,7 @@ reach_cut g floor up_to head h low = ap (λ (f : ℕ → ℕ). least f g.workers
 
 -- ## Redo stays
 
-module _ (g : Opening) (F R : ℕ) (up_to head : ℕ → ℕ) (snap : ℕ → Page) (low : (p : ℕ) → (snap p).gsn ≤ R) where
+module _ (g : Opening) (F R : ℕ) (up_to head : ℕ → ℕ) (snap : ℕ → Contents) (low : (p : ℕ) → (snap p).gsn ≤ R) where
   IsSame : List Entry → Type 0
   IsSame h = ((p : ℕ) → (redo snap (keep (there head up_to) h)).page p ≡ (redone up_to snap h).page p)
       × ((k l : ℕ) → ((r : Entry) → Has r h → is_cut head r ≡ true → is_record r.kind ≡ true → r.log ≡ k → r.number ≡ l → ⊥) → (redo snap (keep (there head up_to) h)).counts k l ≡ (redone up_to snap h).counts k l)
@@ -138,12 +138,12 @@ module _ (g : Opening) (F R : ℕ) (up_to head : ℕ → ℕ) (snap : ℕ → Pa
           stay p (inl o) = redo_stays d r p (at_prev_no g F r h p (d.page p) hist.0 (λ e.
               let n = pg r (inl refl) c p o in
               let up = hist.0.rises p o in
-              let s = ap (λ (v : Page). v.gsn) ((redoes g F R up_to snap low h hist.1 (λ y i. a y (inr i)) (placed_before g F snap r h hist.0 pl) p).1 (omega arith)) in
+              let s = ap (λ (v : Contents). v.gsn) ((redoes g F R up_to snap low h hist.1 (λ y i. a y (inr i)) (placed_before g F snap r h hist.0 pl) p).1 (omega arith)) in
               omega arith))
 
 -- ## The whole
 
-module _ (g : Opening) (F floor R : ℕ) (up_to head : ℕ → ℕ) (all : List Entry) (snap : ℕ → Page) (is_R : R ≡ reach g.workers floor (keep (found up_to) all)) (c : Cut g F R up_to all) (lowF : (p : ℕ) → (snap p).gsn ≤ F) (had : (p : ℕ) → Had g all p (snap p)) (co : CutOff g floor R up_to head snap all) where
+module _ (g : Opening) (F floor R : ℕ) (up_to head : ℕ → ℕ) (all : List Entry) (snap : ℕ → Contents) (is_R : R ≡ reach g.workers floor (keep (found up_to) all)) (c : Cut g F R up_to all) (lowF : (p : ℕ) → (snap p).gsn ≤ F) (had : (p : ℕ) → Had g all p (snap p)) (co : CutOff g floor R up_to head snap all) where
   z' : List Entry
   z' = keep (there head up_to) all
 
@@ -235,7 +235,7 @@ module _ (g : Opening) (F floor R : ℕ) (up_to head : ℕ → ℕ) (all : List 
       dc r ir kr x = rc.1 r.log r.number (λ y iy cy ky l n. true≢false (sym cy ∙ (unique y r iy ir ky kr l n ∙ x)))
 
       vals : values g.format d' ≡ values g.format d
-      vals = ap (λ (pg : ℕ → Page). values g.format (record { page = pg; counts = d.counts })) (fun_ext rc.0)
+      vals = ap (λ (pg : ℕ → Contents). values g.format (record { page = pg; counts = d.counts })) (fun_ext rc.0)
 
   -- ## The kept
 
@@ -290,7 +290,7 @@ module _ (g : Opening) (F floor R : ℕ) (up_to head : ℕ → ℕ) (all : List 
           let same = fun_ext (redo_cut g F R up_to head snap low_R h hist.1 (λ y i. a y (inr i)) (placed_before g F snap r h hist.0 pl) (λ y i. pg y (inr i))).0 in
           ap (λ (z : List Entry). (tested g.format snap z).sound) (keep_on (there head up_to) r h e)
           ∙ and_from (tested g.format snap (keep (there head up_to) h)).sound (passes g.format (tested g.format snap (keep (there head up_to) h)).done.page r) ih
-          (ap (λ (d : Redone). passes g.format d.page r) (tested_done g snap (keep (there head up_to) h)) ∙ (ap (λ (d : ℕ → Page). passes g.format d r) same ∙ redo_passes g F R up_to snap low_R r h hist a pl f))
+          (ap (λ (d : Redone). passes g.format d.page r) (tested_done g snap (keep (there head up_to) h)) ∙ (ap (λ (d : ℕ → Contents). passes g.format d r) same ∙ redo_passes g F R up_to snap low_R r h hist a pl f))
 
   pub stands_for : Stands g all floor (keep (there head up_to) all) snap
   stands_for = record {

@@ -4,7 +4,7 @@ use Rattle.std.proofs.Common.{◌≡◌, ℕ, zero, suc, ◌≤◌, ◌<◌, max
 use Rattle.std.proofs.lemmas.Bool.{cases_Bool, cases_eq, cases_lt, cases_order, eq-eqb, eqb-true, and_parts, or_cases, or_left, or_right, and_from, leb-true, le-leb, lt-ltb, cond-true, cond-false, false_from_ne_true, not_from_false, not-true}
 use Rattle.map_model.specs.Lists.{any, keep, Has}
 use Rattle.rfa_model.specs.Reaches.{least}
-use Rattle.image_model.specs.Entries.{earlier, Entry, is_record, is_write, is_commit, same_txn, Page}
+use Rattle.image_model.specs.Entries.{earlier, Entry, is_record, is_write, is_commit, same_txn, Contents}
 use Rattle.core_crash.proofs.Words.{tested, found, is_cut, there, recovered, left, Crash, Stands, Done, journal, after, wins, kept, IsClosed, IsRipe}
 use Rattle.map_model.specs.Lists.{in_order, insert_by}
 use Rattle.image_model.specs.Ends.{greatest, reach, ends, ended}
@@ -14,7 +14,7 @@ use Rattle.page_model.specs.Tree.{IsTree}
 use Rattle.core_state.specs.States.{Opening, State, start, first, flushed_by_all}
 use Rattle.core_state.specs.Events.{Event}
 use Rattle.core_state.specs.Steps.{run}
-use Rattle.core_crash.specs.Crashes.{log_of, IsFront, Leaves, from_head}
+use Rattle.core_crash.specs.Crashes.{log_of, IsPrefix, Leaves, from_head}
 use Rattle.image_model.specs.Images.{gathered}
 use Rattle.core_commit.proofs.Lists.{Within, Each, has_before, any_has, has_any, keep_has, has_keep, each_at}
 use Rattle.core_crash.proofs.Order.{insert_has, order_has, has_order}
@@ -152,7 +152,7 @@ module _ (a b : List Entry) (s : SameMembers a b) (da : Distinct a) (db : Distin
       (λ h. let x = any_has p a h in has_any p b x.0 (s.0 x.0 x.1) x.2)
       (λ h. let x = any_has p b h in has_any p a x.0 (s.1 x.0 x.1) x.2)
 
-  pub recovered_same : (g : Opening) (floor : ℕ) (page : ℕ → Page) → recovered g floor page a ≡ recovered g floor page b
+  pub recovered_same : (g : Opening) (floor : ℕ) (page : ℕ → Contents) → recovered g floor page a ≡ recovered g floor page b
   recovered_same g floor page =
       ap (λ (l : List Entry). undo (is_lost g.workers floor a (redo page l)) l (values g.format (redo page l))) order_same
       ∙ ap (λ (f : Entry → Bool). undo f (in_order earlier b) (values g.format (redo page (in_order earlier b)))) (fun_ext (λ r.
@@ -261,7 +261,7 @@ distinct_history g F p (r ∷ h) pr hist = go (distinct_history g F p h pr hist.
     go ih true e = (λ y i. comparable r y (λ l. hist.0.later (pr r e) y (keep_has p h y i).0 (sym l)), ih)
     go ih false e = ih
 
-pub every_image : (g : Opening) (es : List Event) (logs : ℕ → List Entry) (page : ℕ → Page) → Leaves g es logs page →
+pub every_image : (g : Opening) (es : List Event) (logs : ℕ → List Entry) (page : ℕ → Contents) → Leaves g es logs page →
     let s = run g (start g) es in
     let z = gathered (λ w. from_head (s.head w) (logs w)) g.workers in
     Stands g s.entries s.floor z page × ((t : Done) → Has t (journal s.entries) → IsRipe g s t → Has t (kept g s.floor z (journal s.entries)))
@@ -294,7 +294,7 @@ every_image g es logs page c = (
     z2 = left up_to s
 
     in_log : (w : ℕ) → Within g.workers w → (r : Entry) → Has r (logs w) → Has r (log_of w s.entries)
-    in_log w l r i = let f = c.fronts w l.0 l.1 in subst (λ (x : List Entry). Has r x) f.1 (has_right r f.0 (logs w) i)
+    in_log w l r i = let f = c.prefixes w l.0 l.1 in subst (λ (x : List Entry). Has r x) f.1 (has_right r f.0 (logs w) i)
 
     of_log : (w : ℕ) → Within g.workers w → (r : Entry) → Has r (logs w) → Has r s.entries × (is_record r.kind ≡ true) × (r.log ≡ w)
     of_log w l r i =
@@ -321,8 +321,8 @@ every_image g es logs page c = (
         mine : Has r (log_of r.log s.entries)
         mine = has_keep (λ x. is_record x.kind && (x.log == r.log)) s.entries r i (and_from (is_record r.kind) (r.log == r.log) k (eq-eqb r.log r.log refl))
 
-        f : IsFront (logs r.log) (log_of r.log s.entries)
-        f = c.fronts r.log l.0 l.1
+        f : IsPrefix (logs r.log) (log_of r.log s.entries)
+        f = c.prefixes r.log l.0 l.1
 
         nums : Numbers (f.0 ++ logs r.log)
         nums = subst Numbers (sym f.1) (log_numbers g (flushed_by_all g s) r.log s.entries v.history)
@@ -350,7 +350,7 @@ every_image g es logs page c = (
 
     d1 : Distinct z1
     d1 = distinct_gathered (λ w. from_head (s.head w) (logs w)) g.workers
-        (λ w l. distinct_keep (λ r. not (leb r.number (s.head w))) (logs w) (numbers_distinct (logs w) (numbers_behind (c.fronts w l.0 l.1).0 (logs w) (subst Numbers (sym (c.fronts w l.0 l.1).1) (log_numbers g (flushed_by_all g s) w s.entries v.history)))))
+        (λ w l. distinct_keep (λ r. not (leb r.number (s.head w))) (logs w) (numbers_distinct (logs w) (numbers_behind (c.prefixes w l.0 l.1).0 (logs w) (subst Numbers (sym (c.prefixes w l.0 l.1).1) (log_numbers g (flushed_by_all g s) w s.entries v.history)))))
         (λ w l r i. (of_log w l r (keep_has (λ r. not (leb r.number (s.head w))) (logs w) r i).0).2)
 
     d2 : Distinct z2

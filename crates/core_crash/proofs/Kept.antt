@@ -5,7 +5,7 @@ use Rattle.core_crash.proofs.Words.{recovered, found, Done, calls_of, committed,
 use Rattle.image_model.specs.Ends.{reach}
 use Rattle.core_commit.proofs.KindFacts.{write_claims, end_is_record, write_is_call}
 use Rattle.core_commit.proofs.Nodes.{key_parts}
-use Rattle.image_model.specs.Entries.{Page, earlier, Entry, is_call, is_write, is_commit, same_txn}
+use Rattle.image_model.specs.Entries.{Contents, earlier, Entry, is_call, is_write, is_commit, same_txn}
 use Rattle.map_model.specs.Lists.{upd, keep, any, Has}
 use Rattle.core_state.specs.Steps.{claims}
 use Rattle.core_state.specs.States.{first, Opening}
@@ -154,7 +154,7 @@ module _ (g : Opening) (F R : ℕ) (up_to : ℕ → ℕ) (all : List Entry) (c :
 
 -- ## Where nothing is cut
 
-pub kept_map : (g : Opening) (F floor : ℕ) (up_to : ℕ → ℕ) (h : List Entry) (snap : ℕ → Page) →
+pub kept_map : (g : Opening) (F floor : ℕ) (up_to : ℕ → ℕ) (h : List Entry) (snap : ℕ → Contents) →
     Cut g F (reach g.workers floor (keep (found up_to) h)) up_to h → ((p : ℕ) → (snap p).gsn ≤ F) → ((p : ℕ) → Had g h p (snap p)) →
     (k : ℕ) → recovered g floor snap (keep (found up_to) h) k ≡ after (first g) (keep (wins (reach g.workers floor (keep (found up_to) h)) (keep (found up_to) h)) (journal h)) k
 kept_map g F floor up_to h snap c low had k = recovered_lasting g F floor up_to h snap c low had k ∙ applied_after g F (reach g.workers floor (keep (found up_to) h)) up_to h c k

@@ -2,7 +2,7 @@
 use Rattle.std.proofs.Common.{◌≡◌, ℕ, ◌≤◌, true, List, [], ◌∷◌, refl, sym, ◌∙◌, subst, inl, inr, arith}
 use Rattle.std.proofs.lemmas.Bool.{leb-true}
 use Rattle.map_model.specs.Lists.{Has, keep}
-use Rattle.image_model.specs.Entries.{Entry, Page}
+use Rattle.image_model.specs.Entries.{Entry, Contents}
 use Rattle.core_state.specs.States.{Opening, State, flushed_by_all, start}
 use Rattle.map_model.specs.Maps.{MapAnswer}
 use Rattle.core_state.specs.Events.{Event}
@@ -26,7 +26,7 @@ had_now g [] p = refl
 had_now g (r ∷ h) p = inl refl
 
 -- the history only grows
-had_step : (g : Opening) (s : State) (e : Event) (p : ℕ) (v : Page) → Had g s.entries p v → Had g (step g s e).entries p v
+had_step : (g : Opening) (s : State) (e : Event) (p : ℕ) (v : Contents) → Had g s.entries p v → Had g (step g s e).entries p v
 had_step g s e p v h = step_keeps (λ s. Had g s.entries p v) g s e h (λ _. more e)
   where
     back : (w q : ℕ) (cs : List Entry) → Had g (put_back g s w q cs).entries p v
@@ -52,13 +52,13 @@ had_step g s e p v h = step_keeps (λ s. Had g s.entries p v) g s e h (λ _. mor
     more (Event.End w c f) = inr h
     more _ = h
 
-had_run : (g : Opening) (es : List Event) (s : State) (p : ℕ) (v : Page) → Had g s.entries p v → Had g (run g s es).entries p v
+had_run : (g : Opening) (es : List Event) (s : State) (p : ℕ) (v : Contents) → Had g s.entries p v → Had g (run g s es).entries p v
 had_run g [] s p v h = h
 had_run g (e ∷ es) s p v h = had_run g es (step g s e) p v (had_step g s e p v h)
 
-had : (g : Opening) (es : List Event) (s : State) (p : ℕ) (v : Page) → Good g s → HasBeen g s es p v → Had g (run g s es).entries p v
-had g [] s p v i b = subst (λ (q : Page). Had g s.entries p q) (sym (b ∙ i.inv.pages p)) (had_now g s.entries p)
-had g (e ∷ es) s p v i (inl b) = had_run g (e ∷ es) s p v (subst (λ (q : Page). Had g s.entries p q) (sym (b ∙ i.inv.pages p)) (had_now g s.entries p))
+had : (g : Opening) (es : List Event) (s : State) (p : ℕ) (v : Contents) → Good g s → HasBeen g s es p v → Had g (run g s es).entries p v
+had g [] s p v i b = subst (λ (q : Contents). Had g s.entries p q) (sym (b ∙ i.inv.pages p)) (had_now g s.entries p)
+had g (e ∷ es) s p v i (inl b) = had_run g (e ∷ es) s p v (subst (λ (q : Contents). Had g s.entries p q) (sym (b ∙ i.inv.pages p)) (had_now g s.entries p))
 had g (e ∷ es) s p v i (inr b) = had g es (step g s e) p v (good_step g s e i) b
 
 pub every_crash : EveryCrash

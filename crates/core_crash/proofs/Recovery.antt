@@ -3,7 +3,7 @@ use Rattle.map_model.specs.Lists.{Has, keep}
 use Rattle.map_model.specs.Journals as maps
 use Rattle.map_model.specs.Journals.{Txn}
 use Rattle.image_model.specs.Histories as histories
-use Rattle.image_model.specs.Entries.{Entry, Page, earlier, same_txn}
+use Rattle.image_model.specs.Entries.{Entry, Contents, earlier, same_txn}
 use Rattle.image_model.specs.Redo.{redo, all_pass, passes, Redone}
 use Rattle.image_model.specs.Images.{Image, StandsFor, IsFalling, found, sorted, won_by}
 use Rattle.page_model.specs.Redo.{is_some}
@@ -30,11 +30,11 @@ use Rattle.core_crash.proofs.Transactions.{txns, journal_as, kept_as, txns_has, 
 use Rattle.std.proofs.Common.{◌≡◌, ◌≤◌, ◌<◌, ℕ, Bool, true, false, cond, ◌&&◌, not, leb, List, [], ◌∷◌, Option, Some, None, refl, sym, ap, ap₂, ◌∙◌, subst}
 
 -- each record passes, at its turn
-all_pass_is : (f : Format) (page : ℕ → Page) (z : List Entry) → all_pass f page z ≡ (tested f page z).sound
+all_pass_is : (f : Format) (page : ℕ → Contents) (z : List Entry) → all_pass f page z ≡ (tested f page z).sound
 all_pass_is f page [] = refl
 all_pass_is f page (r ∷ z) = ap₂ (λ (a b : Bool). a && b) (all_pass_is f page z) (ap (λ (d : Redone). passes f d.page r) (sym (done f page z)))
   where
-    done : (f : Format) (page : ℕ → Page) (z : List Entry) → (tested f page z).done ≡ redo page z
+    done : (f : Format) (page : ℕ → Contents) (z : List Entry) → (tested f page z).done ≡ redo page z
     done f page [] = refl
     done f page (r ∷ z) = ap (λ (d : Redone). Rattle.image_model.specs.Redo.redo_one d r) (done f page z)
 
@@ -73,7 +73,7 @@ every_crash g es logs page c = record { stands = stands; closed = closed; follow
     keeps = ap (Rattle.image_model.specs.Ends.kept g.workers s.floor (found i)) (journal_as g.format s.entries) ∙ kept_as g s.floor (found i) (journal s.entries)
 
     rising : (w : ℕ) → 0 < w → w ≤ g.workers → IsFalling (from_head (s.head w) (logs w))
-    rising w a b = falling_keep (λ r. not (leb r.number (s.head w))) (logs w) (falling (logs w) (numbers_behind (c.fronts w a b).0 (logs w) (subst Numbers (sym (c.fronts w a b).1) (log_numbers g (flushed_by_all g s) w s.entries inv.history))))
+    rising w a b = falling_keep (λ r. not (leb r.number (s.head w))) (logs w) (falling (logs w) (numbers_behind (c.prefixes w a b).0 (logs w) (subst Numbers (sym (c.prefixes w a b).1) (log_numbers g (flushed_by_all g s) w s.entries inv.history))))
 
     stands : StandsFor i (maps.after (first_map g) (kept_in g s i)) (won_by i)
     stands = record {
@@ -135,4 +135,4 @@ pub every_serial : EverySerial
 every_serial g es = subst (maps.Serial (first_map g)) (sym (journal_as g.format (run g (start g) es).entries)) (serial_as g.format (first g) (first_map g) (journal (run g (start g) es).entries) (first_as g) (serial.every_serial g es))
 
 pub every_stored : EveryStored
-every_stored g es logs a b = every_crash g es logs (run g (start g) es).saved (let w = every_saved g es in record { fronts = a; flushed = b; pages = w.pages; numbers = w.numbers; changes = w.changes })
+every_stored g es logs a b = every_crash g es logs (run g (start g) es).saved (let w = every_saved g es in record { prefixes = a; flushed = b; pages = w.pages; numbers = w.numbers; changes = w.changes })

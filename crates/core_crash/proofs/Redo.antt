@@ -7,7 +7,7 @@ use Rattle.page_model.proofs.Needs as page_needs
 use Rattle.std.proofs.Common.{◌≡◌, ℕ, ◌≤◌, ◌<◌, Bool, true, false, ◌&&◌, ◌||◌, not, if◌then◌else◌, ltb, leb, ◌+◌, length, ◌==◌, List, [], ◌∷◌, ◌⊎◌, None, refl, sym, ap, ◌∙◌, subst, inl, inr, arith, true≢false}
 use Rattle.std.proofs.lemmas.Bool.{cases_Bool, cases_eq, eq-eqb, ne_eqb, eqb-true, and_parts, and_from, or_left, or_right, or_from, leb-true, ltb-true, lt-ltb, le-leb, lt-leb, and_left, and_right, cond-true, cond-false, false_from_ne_true}
 use Rattle.map_model.specs.Lists.{upd, keep, any, all, Has}
-use Rattle.image_model.specs.Entries.{is_page, page_kind, Entry, is_write, is_record, applied_as, touches, Page, written}
+use Rattle.image_model.specs.Entries.{is_page, page_kind, Entry, is_write, is_record, applied_as, touches, Contents, written}
 use Rattle.image_model.specs.Redo.{passes, names_pages, is_sayable_as, Redone, mark, stands, at_prev, redo_one, redo}
 use Rattle.core_crash.proofs.Words.{found}
 use Rattle.image_model.specs.Undo.{values}
@@ -23,7 +23,7 @@ use mathlib.Core.Path.{fun_ext}
 
 -- ## The pages after the counting records alone
 
-abbrev pub virtual : Opening → (ℕ → ℕ) → List Entry → ℕ → Page
+abbrev pub virtual : Opening → (ℕ → ℕ) → List Entry → ℕ → Contents
 virtual g up_to [] p = start_page g p
 virtual g up_to (r ∷ h) p = if touches p r && counting up_to r h then written r p (virtual g up_to h p) else virtual g up_to h p
 
@@ -71,15 +71,15 @@ virtual_behind g F up_to (r ∷ h) hist p w = go (virtual_behind g F up_to h his
 -- the counting records alone are a run too
 pub virtual_on : (g : Opening) (up_to : ℕ → ℕ) (r : Entry) (h : List Entry) → counting up_to r h ≡ true → nodes (virtual g up_to (r ∷ h)) ≡ moved_on (nodes (virtual g up_to h)) r
 virtual_on g up_to r h c = fun_ext (λ p. elim (cases_Bool (touches p r)) [
-  | inl o ↦ ap (λ (v : Page). v.node) (virtual_hit g up_to p r h o c) ∙ sym (cond-true (touches p r) (applied_as r.kind r p (virtual g up_to h p).node) (virtual g up_to h p).node o)
-  | inr o ↦ ap (λ (v : Page). v.node) (virtual_miss g up_to p r h o) ∙ sym (cond-false (touches p r) (applied_as r.kind r p (virtual g up_to h p).node) (virtual g up_to h p).node o)
+  | inl o ↦ ap (λ (v : Contents). v.node) (virtual_hit g up_to p r h o c) ∙ sym (cond-true (touches p r) (applied_as r.kind r p (virtual g up_to h p).node) (virtual g up_to h p).node o)
+  | inr o ↦ ap (λ (v : Contents). v.node) (virtual_miss g up_to p r h o) ∙ sym (cond-false (touches p r) (applied_as r.kind r p (virtual g up_to h p).node) (virtual g up_to h p).node o)
 ])
 
 pub virtual_off : (g : Opening) (up_to : ℕ → ℕ) (r : Entry) (h : List Entry) → counting up_to r h ≡ false → nodes (virtual g up_to (r ∷ h)) ≡ nodes (virtual g up_to h)
-virtual_off g up_to r h c = fun_ext (λ p. ap (λ (v : Page). v.node) (virtual_cut g up_to p r h c))
+virtual_off g up_to r h c = fun_ext (λ p. ap (λ (v : Contents). v.node) (virtual_cut g up_to p r h c))
 
 pub virtual_fits : (g : Opening) (F : ℕ) (up_to : ℕ → ℕ) (r : Entry) (h : List Entry) → Entered g F r h → counting up_to r h ≡ true → Fits g.format (nodes (virtual g up_to h)) r
-virtual_fits g F up_to r h n c = fits_local g.format (nodes (page_at g h)) (nodes (virtual g up_to h)) r (λ p o. ap (λ (v : Page). v.node) (sym (virtual_whole g up_to h p (counting_whole up_to p r h c o)))) n.fits
+virtual_fits g F up_to r h n c = fits_local g.format (nodes (page_at g h)) (nodes (virtual g up_to h)) r (λ p o. ap (λ (v : Contents). v.node) (sym (virtual_whole g up_to h p (counting_whole up_to p r h c o)))) n.fits
 
 pub virtual_parted : (g : Opening) (F : ℕ) (up_to : ℕ → ℕ) (h : List Entry) → IsHistory g F h → IsTree g.format (nodes (virtual g up_to h))
 virtual_parted g F up_to [] hist = g.tree
@@ -212,17 +212,17 @@ sayable page_records.Kind.Purge f node r h = refl
 -- ## Redo
 
 -- the page has been v
-abbrev pub Had : Opening → List Entry → ℕ → Page → Type 0
+abbrev pub Had : Opening → List Entry → ℕ → Contents → Type 0
 Had g [] p v = v ≡ page_at g [] p
 Had g (r ∷ h) p v = (v ≡ page_at g (r ∷ h) p) ⊎ Had g h p v
 
-abbrev pub redone : (ℕ → ℕ) → (ℕ → Page) → List Entry → Redone
+abbrev pub redone : (ℕ → ℕ) → (ℕ → Contents) → List Entry → Redone
 redone up_to snap h = redo snap (keep (found up_to) h)
 
-pub redone_found : (up_to : ℕ → ℕ) (snap : ℕ → Page) (r : Entry) (h : List Entry) → found up_to r ≡ true → redone up_to snap (r ∷ h) ≡ redo_one (redone up_to snap h) r
+pub redone_found : (up_to : ℕ → ℕ) (snap : ℕ → Contents) (r : Entry) (h : List Entry) → found up_to r ≡ true → redone up_to snap (r ∷ h) ≡ redo_one (redone up_to snap h) r
 redone_found up_to snap r h f = ap (redo snap) (cond-true (found up_to r) (r ∷ keep (found up_to) h) (keep (found up_to) h) f)
 
-pub redone_lost : (up_to : ℕ → ℕ) (snap : ℕ → Page) (r : Entry) (h : List Entry) → found up_to r ≡ false → redone up_to snap (r ∷ h) ≡ redone up_to snap h
+pub redone_lost : (up_to : ℕ → ℕ) (snap : ℕ → Contents) (r : Entry) (h : List Entry) → found up_to r ≡ false → redone up_to snap (r ∷ h) ≡ redone up_to snap h
 redone_lost up_to snap r h f = ap (redo snap) (cond-false (found up_to r) (r ∷ keep (found up_to) h) (keep (found up_to) h) f)
 
 pub redo_hit : (d : Redone) (r : Entry) (p : ℕ) → stands d.page r ≡ true → at_prev r p (d.page p) ≡ true → (redo_one d r).page p ≡ written r p (d.page p)
@@ -234,40 +234,40 @@ redo_not d r p s = cond-false (stands d.page r && at_prev r p (d.page p)) (writt
 pub redo_stays : (d : Redone) (r : Entry) (p : ℕ) → at_prev r p (d.page p) ≡ false → (redo_one d r).page p ≡ d.page p
 redo_stays d r p s = cond-false (stands d.page r && at_prev r p (d.page p)) (written r p (d.page p)) (d.page p) (and_right (stands d.page r) (at_prev r p (d.page p)) s)
 
-pub at_prev_off : (r : Entry) (p : ℕ) (v : Page) → touches p r ≡ false → at_prev r p v ≡ false
+pub at_prev_off : (r : Entry) (p : ℕ) (v : Contents) → touches p r ≡ false → at_prev r p v ≡ false
 at_prev_off r p v o = false_from_ne_true (at_prev r p v) (λ h.
     let a = any_has (λ f. (f.page == p) && (v.gsn == f.prev)) r.refs h in
     let q = and_parts (a.0.page == p) (v.gsn == a.0.prev) a.2 in
     true≢false (sym (subst (λ (i : ℕ). touches i r ≡ true) (eqb-true a.0.page p q.0) (ref_touch r a.0 a.1)) ∙ o))
 
-pub at_prev_on : (g : Opening) (F : ℕ) (r : Entry) (h : List Entry) (p : ℕ) (v : Page) → Entered g F r h → touches p r ≡ true → v.gsn ≡ (page_at g h p).gsn → at_prev r p v ≡ true
+pub at_prev_on : (g : Opening) (F : ℕ) (r : Entry) (h : List Entry) (p : ℕ) (v : Contents) → Entered g F r h → touches p r ≡ true → v.gsn ≡ (page_at g h p).gsn → at_prev r p v ≡ true
 at_prev_on g F r h p v n o e =
     let f = touch_ref p r o in
     has_any (λ f. (f.page == p) && (v.gsn == f.prev)) r.refs f.0 f.1 (and_from (f.0.page == p) (v.gsn == f.0.prev) (eq-eqb f.0.page p f.2) (eq-eqb v.gsn f.0.prev (e ∙ (ap (λ (i : ℕ). (page_at g h i).gsn) (sym f.2) ∙ sym (n.prev f.0 f.1)))))
 
-pub at_prev_no : (g : Opening) (F : ℕ) (r : Entry) (h : List Entry) (p : ℕ) (v : Page) → Entered g F r h → (v.gsn ≡ (page_at g h p).gsn → ⊥) → at_prev r p v ≡ false
+pub at_prev_no : (g : Opening) (F : ℕ) (r : Entry) (h : List Entry) (p : ℕ) (v : Contents) → Entered g F r h → (v.gsn ≡ (page_at g h p).gsn → ⊥) → at_prev r p v ≡ false
 at_prev_no g F r h p v n ne = false_from_ne_true (at_prev r p v) (λ q.
     let a = any_has (λ f. (f.page == p) && (v.gsn == f.prev)) r.refs q in
     let b = and_parts (a.0.page == p) (v.gsn == a.0.prev) a.2 in
     ne (eqb-true v.gsn a.0.prev b.1 ∙ (n.prev a.0 a.1 ∙ ap (λ (i : ℕ). (page_at g h i).gsn) (eqb-true a.0.page p b.0))))
 
 -- the image's page was there before, or is ahead
-abbrev pub Placed : Opening → (ℕ → Page) → List Entry → Type 0
+abbrev pub Placed : Opening → (ℕ → Contents) → List Entry → Type 0
 Placed g snap h = (p : ℕ) → Had g h p (snap p) ⊎ ((page_at g h p).gsn ≤ (snap p).gsn)
 
-pub placed_before : (g : Opening) (F : ℕ) (snap : ℕ → Page) (r : Entry) (h : List Entry) → Entered g F r h → Placed g snap (r ∷ h) → Placed g snap h
+pub placed_before : (g : Opening) (F : ℕ) (snap : ℕ → Contents) (r : Entry) (h : List Entry) → Entered g F r h → Placed g snap (r ∷ h) → Placed g snap h
 placed_before g F snap r h n pl p = go (pl p)
   where
     go : Had g (r ∷ h) p (snap p) ⊎ ((page_at g (r ∷ h) p).gsn ≤ (snap p).gsn) → Had g h p (snap p) ⊎ ((page_at g h p).gsn ≤ (snap p).gsn)
-    go (inl (inl e)) = let k = gsn_rises g F p r h n in let q = ap (λ (v : Page). v.gsn) e in inr (omega arith)
+    go (inl (inl e)) = let k = gsn_rises g F p r h n in let q = ap (λ (v : Contents). v.gsn) e in inr (omega arith)
     go (inl (inr had)) = inl had
     go (inr le) = let k = gsn_rises g F p r h n in inr (omega arith)
 
 -- what redo has made of the pages
-abbrev pub Redoes : Opening → (ℕ → ℕ) → (ℕ → Page) → List Entry → Type 0
+abbrev pub Redoes : Opening → (ℕ → ℕ) → (ℕ → Contents) → List Entry → Type 0
 Redoes g up_to snap h = (p : ℕ) → (Had g h p (snap p) → (redone up_to snap h).page p ≡ virtual g up_to h p) × ((page_at g h p).gsn ≤ (snap p).gsn → (redone up_to snap h).page p ≡ snap p)
 
-module _ (g : Opening) (F R : ℕ) (up_to : ℕ → ℕ) (snap : ℕ → Page) (low : (p : ℕ) → (snap p).gsn ≤ R) where
+module _ (g : Opening) (F R : ℕ) (up_to : ℕ → ℕ) (snap : ℕ → Contents) (low : (p : ℕ) → (snap p).gsn ≤ R) where
   AllUp : List Entry → Type 0
   AllUp h = (y : Entry) → Has y h → is_record y.kind ≡ true → y.number ≤ R → found up_to y ≡ true
 
@@ -277,7 +277,7 @@ module _ (g : Opening) (F R : ℕ) (up_to : ℕ → ℕ) (snap : ℕ → Page) (
       all_same (λ f. ((d f.page).gsn == f.prev) || leb r.number (d f.page).gsn) (λ f. whole up_to f.page h) r.refs (λ f i. each f i (ref_touch r f i) (pl f.page))
       ∙ sym (rw f refl)
     where
-      d : ℕ → Page
+      d : ℕ → Contents
       d = (redone up_to snap h).page
 
       each : (f : Ref) → Has f r.refs → touches f.page r ≡ true → Had g (r ∷ h) f.page (snap f.page) ⊎ ((page_at g (r ∷ h) f.page).gsn ≤ (snap f.page).gsn) → (((d f.page).gsn == f.prev) || leb r.number (d f.page).gsn) ≡ whole up_to f.page h
@@ -290,22 +290,22 @@ module _ (g : Opening) (F R : ℕ) (up_to : ℕ → ℕ) (snap : ℕ → Page) (
           ahead le =
               let u = up in
               let l = low f.page in
-              let e = ap (λ (v : Page). v.gsn) ((ih f.page).1 (omega arith)) in
+              let e = ap (λ (v : Contents). v.gsn) ((ih f.page).1 (omega arith)) in
               or_right ((d f.page).gsn == f.prev) (leb r.number (d f.page).gsn) (le-leb r.number (d f.page).gsn (omega arith))
               ∙ sym (whole_low g F R up_to h hist.1 (λ y j. a y (inr j)) f.page (omega arith))
 
           inside : Had g h f.page (snap f.page) → (whole up_to f.page h ≡ true) ⊎ (whole up_to f.page h ≡ false) → (((d f.page).gsn == f.prev) || leb r.number (d f.page).gsn) ≡ whole up_to f.page h
           inside had (inl w) =
-              or_left ((d f.page).gsn == f.prev) (leb r.number (d f.page).gsn) (eq-eqb (d f.page).gsn f.prev (ap (λ (v : Page). v.gsn) ((ih f.page).0 had ∙ virtual_whole g up_to h f.page w) ∙ sym (hist.0.prev f i))) ∙ sym w
+              or_left ((d f.page).gsn == f.prev) (leb r.number (d f.page).gsn) (eq-eqb (d f.page).gsn f.prev (ap (λ (v : Contents). v.gsn) ((ih f.page).0 had ∙ virtual_whole g up_to h f.page w) ∙ sym (hist.0.prev f i))) ∙ sym w
           inside had (inr w) =
               let u = up in
-              let e = ap (λ (v : Page). v.gsn) ((ih f.page).0 had) in
+              let e = ap (λ (v : Contents). v.gsn) ((ih f.page).0 had) in
               let lt = virtual_behind g F up_to h hist.1 f.page w in
               let pv = hist.0.prev f i in
               or_from ((d f.page).gsn == f.prev) (leb r.number (d f.page).gsn) (ne_eqb (d f.page).gsn f.prev (λ q. omega arith)) (lt-leb r.number (d f.page).gsn (omega arith)) ∙ sym w
 
           go : Had g (r ∷ h) f.page (snap f.page) ⊎ ((page_at g (r ∷ h) f.page).gsn ≤ (snap f.page).gsn) → (((d f.page).gsn == f.prev) || leb r.number (d f.page).gsn) ≡ whole up_to f.page h
-          go (inl (inl e)) = ahead (let q = ap (λ (v : Page). v.gsn) (e ∙ page_hit g f.page r h o) in omega arith)
+          go (inl (inl e)) = ahead (let q = ap (λ (v : Contents). v.gsn) (e ∙ page_hit g f.page r h o) in omega arith)
           go (inl (inr had)) = inside had (cases_Bool (whole up_to f.page h))
           go (inr le) = ahead (rw (page_hit g f.page r h o) at le)
 
@@ -328,7 +328,7 @@ module _ (g : Opening) (F R : ℕ) (up_to : ℕ → ℕ) (snap : ℕ → Page) (
           still (inl o) = at_prev_no g F r h p (d.page p) hist.0 (λ q.
               let n : r.number ≤ (snap p).gsn = rw (page_hit g p r h o) at le in
               let up = hist.0.rises p o in
-              let e = ap (λ (v : Page). v.gsn) old in
+              let e = ap (λ (v : Contents). v.gsn) old in
               omega arith)
           still (inr o) = at_prev_off r p (d.page p) o
 
@@ -342,13 +342,13 @@ module _ (g : Opening) (F R : ℕ) (up_to : ℕ → ℕ) (snap : ℕ → Page) (
           go : (touches p r ≡ true) ⊎ (touches p r ≡ false) → (counting up_to r h ≡ true) ⊎ (counting up_to r h ≡ false) → (redo_one d r).page p ≡ virtual g up_to (r ∷ h) p
           go (inr o) c = redo_stays d r p (at_prev_off r p (d.page p) o) ∙ ((ih p).0 had ∙ sym (virtual_miss g up_to p r h o))
           go (inl o) (inl c) =
-              redo_hit d r p (st ∙ c) (at_prev_on g F r h p (d.page p) hist.0 o (ap (λ (v : Page). v.gsn) ((ih p).0 had ∙ virtual_whole g up_to h p (counting_whole up_to p r h c o))))
+              redo_hit d r p (st ∙ c) (at_prev_on g F r h p (d.page p) hist.0 o (ap (λ (v : Contents). v.gsn) ((ih p).0 had ∙ virtual_whole g up_to h p (counting_whole up_to p r h c o))))
               ∙ (ap (written r p) ((ih p).0 had) ∙ sym (virtual_hit g up_to p r h o c))
           go (inl o) (inr c) = redo_not d r p (st ∙ c) ∙ ((ih p).0 had ∙ sym (virtual_cut g up_to p r h c))
 
       here : Had g (r ∷ h) p (snap p) → (redone up_to snap (r ∷ h)).page p ≡ virtual g up_to (r ∷ h) p
       here (inl e) =
-          let q = ap (λ (v : Page). v.gsn) e in
+          let q = ap (λ (v : Contents). v.gsn) e in
           let l = low p in
           ahead (omega arith) ∙ (e ∙ sym (virtual_whole g up_to (r ∷ h) p (whole_low g F R up_to (r ∷ h) hist a p (omega arith))))
       here (inr had) = later had (cases_Bool (found up_to r))
@@ -362,21 +362,21 @@ module _ (g : Opening) (F R : ℕ) (up_to : ℕ → ℕ) (snap : ℕ → Page) (
       (p : ℕ) → touches p r ≡ true → at_prev r p ((redone up_to snap h).page p) ≡ true → page_redo.can_be g.format (page_kind r.kind) r.record_of p ((redone up_to snap h).page p).node ≡ true
   redo_can r h hist a pl c k p o q = go (pl p)
     where
-      d : Page
+      d : Contents
       d = (redone up_to snap h).page p
 
       ih : (Had g h p (snap p) → d ≡ virtual g up_to h p) × ((page_at g h p).gsn ≤ (snap p).gsn → d ≡ snap p)
       ih = redoes h hist.1 (λ y i. a y (inr i)) (placed_before g F snap r h hist.0 pl) p
 
       ahead : {A : Type 0} → r.number ≤ (snap p).gsn → A
-      ahead le = absurd (true≢false (sym q ∙ at_prev_no g F r h p d hist.0 (λ z. (let up = hist.0.rises p o in let e = ap (λ (v : Page). v.gsn) (ih.1 (omega arith)) in omega arith))))
+      ahead le = absurd (true≢false (sym q ∙ at_prev_no g F r h p d hist.0 (λ z. (let up = hist.0.rises p o in let e = ap (λ (v : Contents). v.gsn) (ih.1 (omega arith)) in omega arith))))
 
       mine : any (λ (x : Ref). x.page == p) (page_records.refs_as (page_kind r.kind) r.record_of) ≡ true
       mine = ap (λ (l : List Ref). any (λ (x : Ref). x.page == p) l) (sym ((virtual_fits g F up_to r h hist.0 c).page k).refs) ∙ o
 
       go : Had g (r ∷ h) p (snap p) ⊎ ((page_at g (r ∷ h) p).gsn ≤ (snap p).gsn) → page_redo.can_be g.format (page_kind r.kind) r.record_of p d.node ≡ true
-      go (inl (inl e)) = ahead (let z = ap (λ (v : Page). v.gsn) (e ∙ page_hit g p r h o) in omega arith)
-      go (inl (inr had)) = subst (λ (v : Page). page_redo.can_be g.format (page_kind r.kind) r.record_of p v.node ≡ true) (sym (ih.0 had))
+      go (inl (inl e)) = ahead (let z = ap (λ (v : Contents). v.gsn) (e ∙ page_hit g p r h o) in omega arith)
+      go (inl (inr had)) = subst (λ (v : Contents). page_redo.can_be g.format (page_kind r.kind) r.record_of p v.node ≡ true) (sym (ih.0 had))
           (page_needs.can_do (page_kind r.kind) g.format (nodes (virtual g up_to h)) r.record_of (virtual_doable g F up_to r h hist c k) p mine)
       go (inr le) = ahead (rw (page_hit g p r h o) at le)
 
@@ -390,7 +390,7 @@ module _ (g : Opening) (F R : ℕ) (up_to : ℕ → ℕ) (snap : ℕ → Page) (
         (each r.refs (λ x i. one x i c q.0 (cases_Bool (at_prev r x.page (d x.page)))))))
   ])
     where
-      d : ℕ → Page
+      d : ℕ → Contents
       d = (redone up_to snap h).page
 
       test : Ref → Bool
@@ -409,7 +409,7 @@ module _ (g : Opening) (F R : ℕ) (up_to : ℕ → ℕ) (snap : ℕ → Page) (
 
   -- the values that redo leaves
   pub redo_value : (k : ℕ) (h : List Entry) → IsHistory g F h → ((y : Entry) → Has y h → is_record y.kind ≡ true → y.number ≤ R → found up_to y ≡ true) → ((p : ℕ) → Had g h p (snap p)) → values g.format (redone up_to snap h) k ≡ value g up_to k h
-  redo_value k h hist a had = ap (λ (n : ℕ → Node). lookup g.format n k) (fun_ext (λ p. ap (λ (v : Page). v.node) ((redoes h hist a (λ q. inl (had q)) p).0 (had p))))
+  redo_value k h hist a had = ap (λ (n : ℕ → Node). lookup g.format n k) (fun_ext (λ p. ap (λ (v : Contents). v.node) ((redoes h hist a (λ q. inl (had q)) p).0 (had p))))
 
 -- ## Entries
 
@@ -454,7 +454,7 @@ mark_other f i j b k l ne = elim (cases_eq k i) [
 pub counts_else : (d : Redone) (r : Entry) (k l : ℕ) → (k ≡ r.log → l ≡ r.number → ⊥) → (redo_one d r).counts k l ≡ d.counts k l
 counts_else d r k l ne = mark_other d.counts r.log r.number (stands d.page r) k l ne
 
-pub counts_are : (g : Opening) (F R : ℕ) (up_to : ℕ → ℕ) (snap : ℕ → Page) → ((p : ℕ) → (snap p).gsn ≤ R) → (h : List Entry) → IsHistory g F h → ((y : Entry) → Has y h → is_record y.kind ≡ true → y.number ≤ R → found up_to y ≡ true) → Placed g snap h → Each (CountsAre up_to (redone up_to snap h).counts) h
+pub counts_are : (g : Opening) (F R : ℕ) (up_to : ℕ → ℕ) (snap : ℕ → Contents) → ((p : ℕ) → (snap p).gsn ≤ R) → (h : List Entry) → IsHistory g F h → ((y : Entry) → Has y h → is_record y.kind ≡ true → y.number ≤ R → found up_to y ≡ true) → Placed g snap h → Each (CountsAre up_to (redone up_to snap h).counts) h
 counts_are g F R up_to snap low [] hist a pl = tt
 counts_are g F R up_to snap low (r ∷ h) hist a pl = (
   λ f. ap (λ (d : Redone). d.counts r.log r.number) (redone_found up_to snap r h f) ∙ (counts_here (redone up_to snap h) r ∙ stands_counting g F R up_to snap low r h hist a pl (redoes g F R up_to snap low h hist.1 (λ y i. a y (inr i)) (placed_before g F snap r h hist.0 pl)) f),

@@ -3,7 +3,7 @@ use Rattle.map_model.specs.Lists.{Has}
 use Rattle.page_model.specs.Nodes.{Format}
 use Rattle.page_model.specs.Records as page_records
 use Rattle.page_model.proofs.Needs as page_needs
-use Rattle.image_model.specs.Entries.{Kind, Entry, Page, is_write, is_page, is_record, page_kind}
+use Rattle.image_model.specs.Entries.{Kind, Entry, Contents, is_write, is_page, is_record, page_kind}
 use Rattle.image_model.specs.Redo.{is_sayable_as}
 use Rattle.image_model.specs.Images.{Image, found, sorted, recovered_page}
 use Rattle.image_model.proofs.UndoLemmas.{every_undone}
@@ -85,7 +85,7 @@ every_reopening g es logs page c base low = record {
     happened r j =
         let q = gathered_has (λ w. from_head (s.head w) (logs w)) g.workers r (order_has Rattle.image_model.specs.Entries.earlier (found i) r j) in
         let p = keep_has (λ r. not (leb r.number (s.head q.0))) (logs q.0) r q.2 in
-        let f = c.fronts q.0 q.1.0 q.1.1 in
+        let f = c.prefixes q.0 q.1.0 q.1.1 in
         (keep_has (λ r. is_record r.kind && (r.log == q.0)) s.entries r (subst (λ (l : List Entry). Has r l) f.1 (has_right r f.0 (logs q.0) p.0))).0
 
     laws : UndoneLaws i

@@ -3,7 +3,7 @@ use Rattle.std.proofs.Common.{◌≡◌, ℕ, ◌≤◌, ◌<◌, Bool, true, fa
 use Rattle.std.proofs.lemmas.Bool.{cases_Bool, cases_eq, eq-eqb, eqb-true, and_parts, or_cases, and_from, ltb-true, and_left, and_right, cond-true, cond-false, false_from_ne_true}
 use Rattle.page_model.specs.Redo as page_redo
 use Rattle.map_model.specs.Lists.{any, all, upd, keep, Has}
-use Rattle.image_model.specs.Entries.{is_page, page_kind, earlier, Entry, is_write, touches, Page, written}
+use Rattle.image_model.specs.Entries.{is_page, page_kind, earlier, Entry, is_write, touches, Contents, written}
 use Rattle.page_model.specs.Records.{Ref}
 use Rattle.image_model.specs.Redo.{passes, names_pages, is_sayable_as, Redone, stands, at_prev, redo_one, redo}
 use Rattle.core_crash.proofs.Words.{Tested, test_one, tested, found, recovered}
@@ -148,11 +148,11 @@ redone_path : (a b : Redone) → a.page ≡ b.page → a.counts ≡ b.counts →
 redone_path a b p q = λ i. record { page = p i; counts = q i }
 
 -- what a record does depends on its own pages alone
-pub stands_local : (d e : ℕ → Page) (r : Entry) → ((p : ℕ) → touches p r ≡ true → d p ≡ e p) → stands d r ≡ stands e r
-stands_local d e r h = all_same (λ f. ((d f.page).gsn == f.prev) || leb r.number (d f.page).gsn) (λ f. ((e f.page).gsn == f.prev) || leb r.number (e f.page).gsn) r.refs (λ f i. ap (λ (v : Page). (v.gsn == f.prev) || leb r.number v.gsn) (h f.page (ref_touch r f i)))
+pub stands_local : (d e : ℕ → Contents) (r : Entry) → ((p : ℕ) → touches p r ≡ true → d p ≡ e p) → stands d r ≡ stands e r
+stands_local d e r h = all_same (λ f. ((d f.page).gsn == f.prev) || leb r.number (d f.page).gsn) (λ f. ((e f.page).gsn == f.prev) || leb r.number (e f.page).gsn) r.refs (λ f i. ap (λ (v : Contents). (v.gsn == f.prev) || leb r.number v.gsn) (h f.page (ref_touch r f i)))
 
 pub redo_local : (d e : Redone) (r : Entry) (p : ℕ) → ((q : ℕ) → touches q r ≡ true → d.page q ≡ e.page q) → d.page p ≡ e.page p → (redo_one d r).page p ≡ (redo_one e r).page p
-redo_local d e r p h s = ap₂ (λ (b : Bool) (v : Page). cond (b && at_prev r p v) (written r p v) v) (stands_local d.page e.page r h) s
+redo_local d e r p h s = ap₂ (λ (b : Bool) (v : Contents). cond (b && at_prev r p v) (written r p v) v) (stands_local d.page e.page r h) s
 
 pub redo_off : (d : Redone) (r : Entry) (p : ℕ) → touches p r ≡ false → (redo_one d r).page p ≡ d.page p
 redo_off d r p o = redo_stays d r p (at_prev_off r p (d.page p) o)
@@ -235,7 +235,7 @@ undo_apart : (g : Opening) (F : ℕ) (lost : Entry → Bool) → ((r : Entry) �
 undo_apart g F lost lw [] hist = tt
 undo_apart g F lost lw (x ∷ h) hist = (undo_commutes g F lost lw x h hist.1 hist.0, undo_apart g F lost lw h hist.1)
 
-redo_fold : (page : ℕ → Page) (z : List Entry) → redo page z ≡ fold_up redo_one (record { page = page; counts = λ _ _. false }) z
+redo_fold : (page : ℕ → Contents) (z : List Entry) → redo page z ≡ fold_up redo_one (record { page = page; counts = λ _ _. false }) z
 redo_fold page [] = refl
 redo_fold page (r ∷ z) = ap (λ (d : Redone). redo_one d r) (redo_fold page z)
 
@@ -243,19 +243,19 @@ undo_fold : (lost : Entry → Bool) (z : List Entry) (m : ℕ → ℕ) → undo 
 undo_fold lost [] m = refl
 undo_fold lost (r ∷ z) m = undo_fold lost z (undo_one lost m r)
 
-pub redo_sorted : (g : Opening) (F : ℕ) (f : Entry → Bool) (page : ℕ → Page) (h : List Entry) → IsHistory g F h → redo page (in_order earlier (keep f h)) ≡ redo page (keep f h)
+pub redo_sorted : (g : Opening) (F : ℕ) (f : Entry → Bool) (page : ℕ → Contents) (h : List Entry) → IsHistory g F h → redo page (in_order earlier (keep f h)) ≡ redo page (keep f h)
 redo_sorted g F f page h hist =
     redo_fold page (in_order earlier (keep f h))
     ∙ (fold_up_order earlier redo_one (keep f h) (apart_keep earlier redo_one f h (redo_apart g F h hist)) (record { page = page; counts = λ _ _. false })
     ∙ sym (redo_fold page (keep f h)))
 
 -- redo with its tests doesn't mind the order either
-pub passes_local : (g : Opening) (d e : ℕ → Page) (r : Entry) → ((p : ℕ) → touches p r ≡ true → d p ≡ e p) → passes g.format d r ≡ passes g.format e r
+pub passes_local : (g : Opening) (d e : ℕ → Contents) (r : Entry) → ((p : ℕ) → touches p r ≡ true → d p ≡ e p) → passes g.format d r ≡ passes g.format e r
 passes_local g d e r h =
     ap (λ (b : Bool). names_pages g.format r && (not (is_page r.kind && b) || (is_sayable_as g.format (page_kind r.kind) r.record_of && all (test d) r.refs))) (stands_local d e r h)
-    ∙ ap (λ (b : Bool). names_pages g.format r && (not (is_page r.kind && stands e r) || (is_sayable_as g.format (page_kind r.kind) r.record_of && b))) (all_same (test d) (test e) r.refs (λ f i. ap (λ (v : Page). not (at_prev r f.page v) || page_redo.can_be g.format (page_kind r.kind) r.record_of f.page v.node) (h f.page (ref_touch r f i))))
+    ∙ ap (λ (b : Bool). names_pages g.format r && (not (is_page r.kind && stands e r) || (is_sayable_as g.format (page_kind r.kind) r.record_of && b))) (all_same (test d) (test e) r.refs (λ f i. ap (λ (v : Contents). not (at_prev r f.page v) || page_redo.can_be g.format (page_kind r.kind) r.record_of f.page v.node) (h f.page (ref_touch r f i))))
   where
-    test : (ℕ → Page) → Ref → Bool
+    test : (ℕ → Contents) → Ref → Bool
     test d f = not (at_prev r f.page (d f.page)) || page_redo.can_be g.format (page_kind r.kind) r.record_of f.page (d f.page).node
 
 and_swap : (a b c : Bool) → ((a && b) && c) ≡ ((a && c) && b)
@@ -278,17 +278,17 @@ test_apart : (g : Opening) (F : ℕ) (h : List Entry) → IsHistory g F h → Ap
 test_apart g F [] hist = tt
 test_apart g F (x ∷ h) hist = (λ y i e. test_swaps g x y (pages_apart g F x h hist.1 hist.0 y i e) (earlier_differ x y e), test_apart g F h hist.1)
 
-test_fold : (g : Opening) (page : ℕ → Page) (z : List Entry) → tested g.format page z ≡ fold_up (test_one g.format) (record { done = record { page = page; counts = λ _ _. false }; sound = true }) z
+test_fold : (g : Opening) (page : ℕ → Contents) (z : List Entry) → tested g.format page z ≡ fold_up (test_one g.format) (record { done = record { page = page; counts = λ _ _. false }; sound = true }) z
 test_fold g page [] = refl
 test_fold g page (r ∷ z) = ap (λ (d : Tested). test_one g.format d r) (test_fold g page z)
 
-pub tested_sorted : (g : Opening) (F : ℕ) (f : Entry → Bool) (page : ℕ → Page) (h : List Entry) → IsHistory g F h → tested g.format page (in_order earlier (keep f h)) ≡ tested g.format page (keep f h)
+pub tested_sorted : (g : Opening) (F : ℕ) (f : Entry → Bool) (page : ℕ → Contents) (h : List Entry) → IsHistory g F h → tested g.format page (in_order earlier (keep f h)) ≡ tested g.format page (keep f h)
 tested_sorted g F f page h hist =
     test_fold g page (in_order earlier (keep f h))
     ∙ (fold_up_order earlier (test_one g.format) (keep f h) (apart_keep earlier (test_one g.format) f h (test_apart g F h hist)) (record { done = record { page = page; counts = λ _ _. false }; sound = true })
     ∙ sym (test_fold g page (keep f h)))
 
-pub tested_done : (g : Opening) (page : ℕ → Page) (z : List Entry) → (tested g.format page z).done ≡ redo page z
+pub tested_done : (g : Opening) (page : ℕ → Contents) (z : List Entry) → (tested g.format page z).done ≡ redo page z
 tested_done g page [] = refl
 tested_done g page (r ∷ z) = ap (λ (d : Redone). redo_one d r) (tested_done g page z)
 
@@ -300,7 +300,7 @@ undo_sorted g F f lost lw h hist m =
 
 -- ## What recovery gives
 
-pub recovered_unsorted : (g : Opening) (F floor : ℕ) (f : Entry → Bool) (h : List Entry) (snap : ℕ → Page) → IsHistory g F h → (k : ℕ) →
+pub recovered_unsorted : (g : Opening) (F floor : ℕ) (f : Entry → Bool) (h : List Entry) (snap : ℕ → Contents) → IsHistory g F h → (k : ℕ) →
     recovered g floor snap (keep f h) k ≡ undo (is_lost g.workers floor (keep f h) (redo snap (keep f h))) (keep f h) (values g.format (redo snap (keep f h))) k
 recovered_unsorted g F floor f h snap hist k =
     ap (λ (d : Redone). undo (is_lost g.workers floor z d) (in_order earlier z) (values g.format d) k) (redo_sorted g F f snap h hist)
@@ -312,7 +312,7 @@ recovered_unsorted g F floor f h snap hist k =
     d : Redone
     d = redo snap z
 
-pub recovered_lasting : (g : Opening) (F floor : ℕ) (up_to : ℕ → ℕ) (h : List Entry) (snap : ℕ → Page) →
+pub recovered_lasting : (g : Opening) (F floor : ℕ) (up_to : ℕ → ℕ) (h : List Entry) (snap : ℕ → Contents) →
     Cut g F (reach g.workers floor (keep (found up_to) h)) up_to h → ((p : ℕ) → (snap p).gsn ≤ F) → ((p : ℕ) → Had g h p (snap p)) →
     (k : ℕ) → recovered g floor snap (keep (found up_to) h) k ≡ lasting g (reach g.workers floor (keep (found up_to) h)) up_to h k h
 recovered_lasting g F floor up_to h snap c low had k =

@@ -1,6 +1,6 @@
 -- Words of the proof: a crash said by thresholds, and committed transactions by their entries.
 use Rattle.map_model.specs.Lists.{Has, any, keep, upd, in_order}
-use Rattle.image_model.specs.Entries.{Entry, Page, is_write, is_call, is_commit, is_record, same_txn, earlier, touches}
+use Rattle.image_model.specs.Entries.{Entry, Contents, is_write, is_call, is_commit, is_record, same_txn, earlier, touches}
 use Rattle.image_model.specs.Ends.{reach}
 use Rattle.image_model.specs.Redo.{Redone, redo_one, redo, passes}
 use Rattle.image_model.specs.Undo.{is_lost, undo, values}
@@ -38,11 +38,11 @@ pub record Tested : Type 0 where
 abbrev pub test_one : Format → Tested → Entry → Tested
 test_one f t r = record { done = redo_one t.done r; sound = t.sound && passes f t.done.page r }
 
-abbrev pub tested : Format → (ℕ → Page) → List Entry → Tested
+abbrev pub tested : Format → (ℕ → Contents) → List Entry → Tested
 tested f page [] = record { done = record { page = page; counts = λ _ _. false }; sound = true }
 tested f page (r ∷ z) = test_one f (tested f page z) r
 
-abbrev pub recovered : Opening → ℕ → (ℕ → Page) → List Entry → ℕ → ℕ
+abbrev pub recovered : Opening → ℕ → (ℕ → Contents) → List Entry → ℕ → ℕ
 recovered g floor page z =
     let sorted = in_order earlier z in
     let d = redo page sorted in
@@ -118,14 +118,14 @@ IsRipe g s t = (t.end.number ≤ s.flushed t.end.log) × (t.end.need ≤ flushed
 
 -- ## What a crash may leave
 
-pub record Crash (g : Opening) (es : List Event) (up_to : ℕ → ℕ) (page : ℕ → Page) : Type 0 where
+pub record Crash (g : Opening) (es : List Event) (up_to : ℕ → ℕ) (page : ℕ → Contents) : Type 0 where
   pub logs : (w : ℕ) → Within g.workers w → (run g (start g) es).flushed w ≤ up_to w
   pub pages : (p : ℕ) → HasBeen g (start g) es p (page p)
   pub numbers : (p : ℕ) → (page p).gsn ≤ flushed_by_all g (run g (start g) es)
   -- a page holds its changes up to the greatest number of a Cut
   pub changes : (p : ℕ) (r : Entry) → Has r (run g (start g) es).entries → touches p r ≡ true → r.number ≤ (run g (start g) es).cut → r.number ≤ (page p).gsn
 
-pub record Stands (g : Opening) (h : List Entry) (floor : ℕ) (z : List Entry) (page : ℕ → Page) : Type 0 where
+pub record Stands (g : Opening) (h : List Entry) (floor : ℕ) (z : List Entry) (page : ℕ → Contents) : Type 0 where
   pub map : (k : ℕ) → recovered g floor page z k ≡ after (first g) (kept g floor z (journal h)) k
   pub closed : IsClosed (journal h) (kept g floor z (journal h))
   -- the pages that redo leaves are a tree, each well formed
@@ -136,7 +136,7 @@ pub record Stands (g : Opening) (h : List Entry) (floor : ℕ) (z : List Entry) 
   pub entries : (r : Entry) → Has r z → is_lost g.workers floor z (redo page (in_order earlier z)) r ≡ true → entry g.format.pages (λ p. ((redo page (in_order earlier z)).page p).node) r.key ≡ None → ⊥
 
 abbrev pub EveryCrash : Type 0
-EveryCrash = (g : Opening) (es : List Event) (up_to : ℕ → ℕ) (page : ℕ → Page) → Crash g es up_to page →
+EveryCrash = (g : Opening) (es : List Event) (up_to : ℕ → ℕ) (page : ℕ → Contents) → Crash g es up_to page →
     let s = run g (start g) es in
     let z = left up_to s in
     Stands g s.entries s.floor z page

@@ -5,7 +5,7 @@ use Rattle.map_model.specs.Lists.{Has, keep}
 use Rattle.map_model.specs.Maps.{Map}
 use Rattle.map_model.specs.Journals.{Txn, Journal, is_earlier, Used, after, IsClosed, Serial}
 use Rattle.page_model.specs.Tree.{value}
-use Rattle.image_model.specs.Entries.{Entry, Page, is_record, is_commit, touches}
+use Rattle.image_model.specs.Entries.{Entry, Contents, is_record, is_commit, touches}
 use Rattle.image_model.specs.Ends.{kept}
 use Rattle.image_model.specs.Images.{Image, StandsFor, found, won_by, recovered_page, map_of}
 use Rattle.image_model.specs.Histories.{journal}
@@ -20,13 +20,13 @@ abbrev pub log_of : ℕ → List Entry → List Entry
 log_of w h = keep (λ r. is_record r.kind && (r.log == w)) h
 
 -- xs is ys without some of its newest
-abbrev pub IsFront : List Entry → List Entry → Type 0
-IsFront xs ys = (newer : List Entry) × (newer ++ xs ≡ ys)
+abbrev pub IsPrefix : List Entry → List Entry → Type 0
+IsPrefix xs ys = (newer : List Entry) × (newer ++ xs ≡ ys)
 
--- Of each log a front that holds all up to its flushed number; of each page contents that it has had, with a number up
+-- Of each log a prefix that holds all up to its flushed number; of each page contents that it has had, with a number up
 -- to the least flushed one, which hold its changes up to the greatest number of a Cut.
-pub record Leaves (g : Opening) (es : List Event) (logs : ℕ → List Entry) (page : ℕ → Page) : Type 0 where
-  pub fronts : (w : ℕ) → 0 < w → w ≤ g.workers → IsFront (logs w) (log_of w (run g (start g) es).entries)
+pub record Leaves (g : Opening) (es : List Event) (logs : ℕ → List Entry) (page : ℕ → Contents) : Type 0 where
+  pub prefixes : (w : ℕ) → 0 < w → w ≤ g.workers → IsPrefix (logs w) (log_of w (run g (start g) es).entries)
   pub flushed : (w : ℕ) → 0 < w → w ≤ g.workers → (r : Entry) → Has r (log_of w (run g (start g) es).entries) → r.number ≤ (run g (start g) es).flushed w → Has r (logs w)
   pub pages : (p : ℕ) → HasBeen g (start g) es p (page p)
   pub numbers : (p : ℕ) → (page p).gsn ≤ flushed_by_all g (run g (start g) es)
@@ -37,7 +37,7 @@ abbrev pub from_head : ℕ → List Entry → List Entry
 from_head head l = keep (λ r. not (leb r.number head)) l
 
 -- the image that the disk is then
-abbrev pub image_of : Opening → State → (ℕ → List Entry) → (ℕ → Page) → Image
+abbrev pub image_of : Opening → State → (ℕ → List Entry) → (ℕ → Contents) → Image
 image_of g s logs page = record { format = g.format; logs = g.workers; floor = s.floor; log = λ w. from_head (s.head w) (logs w); base = λ p. Some (page p) }
 
 -- ## What recovery gives
@@ -89,7 +89,7 @@ pub record Recovers (g : Opening) (s : State) (i : Image) : Type 0 where
 -- Whatever happens and wherever a crash falls, recovery gives the map after a closed set of committed transactions that
 -- holds each ripe one.
 abbrev pub EveryCrash : Type 0
-EveryCrash = (g : Opening) (es : List Event) (logs : ℕ → List Entry) (page : ℕ → Page) → Leaves g es logs page →
+EveryCrash = (g : Opening) (es : List Event) (logs : ℕ → List Entry) (page : ℕ → Contents) → Leaves g es logs page →
     let s = run g (start g) es in Recovers g s (image_of g s logs page)
 
 -- Run one after another from the first map, in the order of their commit numbers, the committed transactions give their answers.
@@ -99,7 +99,7 @@ EverySerial = (g : Opening) (es : List Event) → Serial (first_map g) (journal_
 -- The same of the saved contents: recovery from the logs and the saved pages.
 abbrev pub EveryStored : Type 0
 EveryStored = (g : Opening) (es : List Event) (logs : ℕ → List Entry) → let s = run g (start g) es in
-    ((w : ℕ) → 0 < w → w ≤ g.workers → IsFront (logs w) (log_of w s.entries)) →
+    ((w : ℕ) → 0 < w → w ≤ g.workers → IsPrefix (logs w) (log_of w s.entries)) →
     ((w : ℕ) → 0 < w → w ≤ g.workers → (r : Entry) → Has r (log_of w s.entries) → r.number ≤ s.flushed w → Has r (logs w)) →
     Recovers g s (image_of g s logs s.saved)
 
@@ -118,6 +118,6 @@ pub record Reopened (g : Opening) (i : Image) (base : ℕ) : Type 0 where
 
 -- After a crash the engine opens again, on the map for which the image stands, at any base number that no page is above.
 abbrev pub EveryReopening : Type 0
-EveryReopening = (g : Opening) (es : List Event) (logs : ℕ → List Entry) (page : ℕ → Page) → Leaves g es logs page →
+EveryReopening = (g : Opening) (es : List Event) (logs : ℕ → List Entry) (page : ℕ → Contents) → Leaves g es logs page →
     let i = image_of g (run g (start g) es) logs page in
     (base : ℕ) → ((p : ℕ) → p < g.format.pages → (recovered_page i p).gsn ≤ base) → Reopened g i base

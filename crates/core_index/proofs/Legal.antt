@@ -10,7 +10,7 @@ use Rattle.page_model.specs.Needs as record_needs
 use Rattle.page_model.proofs.Pairs.{find_out}
 use Rattle.page_model.proofs.Entries.{holds_to, holds_from, entry_at, entry_beyond}
 use Rattle.page_model.proofs.Tree.{below_top}
-use Rattle.image_model.specs.Entries.{Kind, Entry, Page, is_write}
+use Rattle.image_model.specs.Entries.{Kind, Entry, Contents, is_write}
 use Rattle.image_model.specs.Histories.{said}
 use Rattle.core_state.specs.States.{Opening, State, start, nodes_of, gsns_of, flushed_by_all}
 use Rattle.core_state.specs.Events.{Event}

@@ -1,7 +1,7 @@
 -- Each event keeps pages where they may be.
 use Rattle.map_model.specs.Lists.{upd}
 use Rattle.map_model.specs.Maps.{MapAnswer}
-use Rattle.image_model.specs.Entries.{Kind, Entry, Page, touches, written}
+use Rattle.image_model.specs.Entries.{Kind, Entry, Contents, touches, written}
 use Rattle.page_model.specs.Nodes.{Node}
 use Rattle.page_model.specs.Tree.{IsTree}
 use Rattle.page_model.specs.Records.{Record}
@@ -134,7 +134,7 @@ placed_load g s good i p f m = record {
   one = one;
   within = λ a j h. elim (which a j h) [ inl e ↦ (subst (λ z. z < g.format.pages) (sym e.0) (ltb-true p g.format.pages m1.0), subst (λ z. z < g.frames) (sym e.1) (ltb-true f g.frames m2.0)) | inr o ↦ i.within a j o ];
   root = upd_other s.place p (Hot f) 0 (not_root s p i.root (cold_not_hot (s.place p) m3.0)) ∙ i.root;
-  parent = λ q c l k. hot_parents g s p f i m4.0 q c l (sym (ap (λ (v : Page). names_page v.node c) (loaded s.page s.saved s.place good.copied p m3.0 q)) ∙ k);
+  parent = λ q c l k. hot_parents g s p f i m4.0 q c l (sym (ap (λ (v : Contents). names_page v.node c) (loaded s.page s.saved s.place good.copied p m3.0 q)) ∙ k);
   queue = queue;
 }
   where

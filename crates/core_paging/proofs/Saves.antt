@@ -1,7 +1,7 @@
 -- What is known of saved contents.
 use Rattle.map_model.specs.Lists.{upd, all, Has}
 use Rattle.map_model.specs.Maps.{MapAnswer}
-use Rattle.image_model.specs.Entries.{Kind, Entry, Page, touches}
+use Rattle.image_model.specs.Entries.{Kind, Entry, Contents, touches}
 use Rattle.page_model.specs.Records.{Record}
 use Rattle.page_model.specs.Needs as record_needs
 use Rattle.core_state.specs.Lists.{most}
@@ -27,7 +27,7 @@ pub record Saves (g : Opening) (s : State) : Type 0 where
 
 -- a change of the page has a number up to the page's
 had : (g : Opening) (s : State) → Inv g s → (p : ℕ) (r : Entry) → Has r s.entries → touches p r ≡ true → r.number ≤ (s.page p).gsn
-had g s i p r h t = let a = number_le_gsn g (flushed_by_all g s) p s.entries i.history r h t in let e = ap (λ (v : Page). v.gsn) (i.pages p) in omega arith
+had g s i p r h t = let a = number_le_gsn g (flushed_by_all g s) p s.entries i.history r h t in let e = ap (λ (v : Contents). v.gsn) (i.pages p) in omega arith
 
 -- a record that comes has a number above the cut
 above_cut : (g : Opening) (s : State) → Inv g s → (w : ℕ) (ps : List ℕ) → (s.worker w).is_open ≡ true → s.cut < suc (at_pages s w (s.worker w) ps).clock
@@ -151,6 +151,6 @@ saved_run g (e ∷ es) s p = elim (saved_run g es (step g s e) p) [
   | inl h ↦ elim (saved_step g s e p) [ inl q ↦ inl (h ∙ q) | inr q ↦ inr (inl (h ∙ q)) ]
 ]
 
-pub now_been : (g : Opening) (es : List Event) (s : State) (p : ℕ) (v : Page) → v ≡ s.page p → HasBeen g s es p v
+pub now_been : (g : Opening) (es : List Event) (s : State) (p : ℕ) (v : Contents) → v ≡ s.page p → HasBeen g s es p v
 now_been g [] s p v e = e
 now_been g (x ∷ es) s p v e = inl e

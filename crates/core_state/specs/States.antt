@@ -2,7 +2,7 @@
 use Rattle.map_model.specs.Lists.{upd}
 use Rattle.map_model.specs.Maps.{key_end, value_end}
 use Rattle.rfa_model.specs.Reaches.{least}
-use Rattle.image_model.specs.Entries.{Entry, Page}
+use Rattle.image_model.specs.Entries.{Entry, Contents}
 use Rattle.page_model.specs.Nodes.{Format, Node}
 use Rattle.page_model.specs.Tree.{IsTree, lookup}
 use Rattle.std.specs.Prelude.{◌<◌, ◌≤◌, ℕ, Bool, true, false, ◌==◌, List, [], Option, None}
@@ -63,8 +63,8 @@ pub record Worker : Type 0 where
 -- number of a Cut. `inside`: the epoch of each worker that is inside. `posted`: the posted need.
 pub record State : Type 0 where
   pub entries : List Entry
-  pub page : ℕ → Page
-  pub saved : ℕ → Page
+  pub page : ℕ → Contents
+  pub saved : ℕ → Contents
   pub place : ℕ → Place
   pub queue : List ℕ
   pub row : ℕ → Row
@@ -78,7 +78,7 @@ pub record State : Type 0 where
   pub epoch : ℕ
 
 -- a page as opening gives it
-abbrev pub start_page : Opening → ℕ → Page
+abbrev pub start_page : Opening → ℕ → Contents
 start_page g p = record { gsn = g.gsn p; last = g.last p; node = g.node p }
 
 -- nothing is open, locked, owed or logged; page 0 alone is hot, in frame 0

@@ -3,7 +3,7 @@ use Rattle.page_model.specs.Records as records
 use Rattle.page_model.specs.Needs as page_needs
 use Rattle.map_model.specs.Lists.{upd, keep}
 use Rattle.map_model.specs.Maps.{MapAnswer}
-use Rattle.image_model.specs.Entries.{Kind, Entry, is_write, is_call, page_kind, touches, word_in, Page, written}
+use Rattle.image_model.specs.Entries.{Kind, Entry, is_write, is_call, page_kind, touches, word_in, Contents, written}
 use Rattle.page_model.specs.Records.{Ref, Record}
 use Rattle.rfa_model.specs.Stamps.{owed, debt_at_begin, need_of}
 use Rattle.core_state.specs.Lists.{without, at_end}
@@ -185,6 +185,6 @@ run g s [] = s
 run g s (e ∷ es) = run g (step g s e) es
 
 -- at some moment of the run the page was this
-abbrev pub HasBeen : Opening → State → List Event → ℕ → Page → Type 0
+abbrev pub HasBeen : Opening → State → List Event → ℕ → Contents → Type 0
 HasBeen g s [] p v = v ≡ s.page p
 HasBeen g s (e ∷ es) p v = (v ≡ s.page p) ⊎ HasBeen g (step g s e) es p v

@@ -18,12 +18,12 @@ pub struct Picked {
     pub pages: Vec<usize>,
 }
 
-/// Of each log each front that holds all up to its flushed number. Of each page all contents that it has had, with a number
+/// Of each log each prefix that holds all up to its flushed number. Of each page all contents that it has had, with a number
 /// up to the least flushed one, which hold its changes up to the greatest cut.
 pub fn all_choices(alloc: Global, run: &Run) -> Result<Choices, AllocError> {
     let mut logs = Vec::new(alloc);
     for log in 1..=run.core.settings.workers {
-        logs.push(fronts(alloc, &run.core, log)?)?;
+        logs.push(prefixes(alloc, &run.core, log)?)?;
     }
     let mut pages = Vec::new(alloc);
     for page in 0..run.core.settings.pages {
@@ -32,7 +32,7 @@ pub fn all_choices(alloc: Global, run: &Run) -> Result<Choices, AllocError> {
     Ok(Choices { logs, pages })
 }
 
-fn fronts(alloc: Global, core: &Core, log: u64) -> Result<Vec<usize>, AllocError> {
+fn prefixes(alloc: Global, core: &Core, log: u64) -> Result<Vec<usize>, AllocError> {
     let head = *core.heads.get(log);
     let flushed = *core.flushed.get(log);
     let mut all: usize = 0;
@@ -45,11 +45,11 @@ fn fronts(alloc: Global, core: &Core, log: u64) -> Result<Vec<usize>, AllocError
             }
         }
     }
-    let mut fronts = Vec::new(alloc);
+    let mut prefixes = Vec::new(alloc);
     for count in least..all.saturating_add(1) {
-        fronts.push(count)?;
+        prefixes.push(count)?;
     }
-    Ok(fronts)
+    Ok(prefixes)
 }
 
 /// It is a record of the log behind its head.

@@ -10,7 +10,7 @@ use Rattle.page_model.specs.Records.{Ref}
 use Rattle.page_model.specs.Redo.{is_some, can_be}
 use Rattle.page_model.proofs.Spans.{span_pair}
 use Rattle.page_model.proofs.Tree.{ok}
-use Rattle.image_model.specs.Entries.{Entry, Page, is_write, is_page, page_kind, written, earlier}
+use Rattle.image_model.specs.Entries.{Entry, Contents, is_write, is_page, page_kind, written, earlier}
 use Rattle.image_model.specs.Ends.{reach, ended, winners, losers}
 use Rattle.image_model.specs.Redo.{Redone, mark, stands, at_prev, redo, names_pages, is_sayable_as, can_change, passes, all_pass}
 use Rattle.image_model.specs.Undo.{undo, undo_node, nodes_of, values}
@@ -62,25 +62,25 @@ record SameRedone (f : Format) (d e : Redone) : Type 0 where
   page : (p : ℕ) → p < f.pages → d.page p ≡ e.page p
   counts : d.counts ≡ e.counts
 
-module _ (f : Format) (r : Entry) (d e : ℕ → Page) (named : names_pages f r ≡ true) (same : (p : ℕ) → p < f.pages → d p ≡ e p) where
+module _ (f : Format) (r : Entry) (d e : ℕ → Contents) (named : names_pages f r ≡ true) (same : (p : ℕ) → p < f.pages → d p ≡ e p) where
   at_ref : (x : Ref) → Has x r.refs → d x.page ≡ e x.page
   at_ref x m = same x.page (ltb-true x.page f.pages (all_to (λ (y : Ref). ltb y.page f.pages) r.refs named x m))
 
   stands_same : stands d r ≡ stands e r
   stands_same = all_same (λ (x : Ref). ((d x.page).gsn == x.prev) || leb r.number (d x.page).gsn) (λ (x : Ref). ((e x.page).gsn == x.prev) || leb r.number (e x.page).gsn) r.refs
-      (λ x m. ap (λ (v : Page). (v.gsn == x.prev) || leb r.number v.gsn) (at_ref x m))
+      (λ x m. ap (λ (v : Contents). (v.gsn == x.prev) || leb r.number v.gsn) (at_ref x m))
 
   can_change_same : can_change f d r ≡ can_change f e r
   can_change_same = all_same (λ (x : Ref). not (at_prev r x.page (d x.page)) || can_be f (page_kind r.kind) r.record_of x.page (d x.page).node)
       (λ (x : Ref). not (at_prev r x.page (e x.page)) || can_be f (page_kind r.kind) r.record_of x.page (e x.page).node) r.refs
-      (λ x m. ap (λ (v : Page). not (at_prev r x.page v) || can_be f (page_kind r.kind) r.record_of x.page v.node) (at_ref x m))
+      (λ x m. ap (λ (v : Contents). not (at_prev r x.page v) || can_be f (page_kind r.kind) r.record_of x.page v.node) (at_ref x m))
 
   passes_same : passes f d r ≡ passes f e r
   passes_same =
       ap (λ b. names_pages f r && (not (is_page r.kind && b) || (is_sayable_as f (page_kind r.kind) r.record_of && can_change f d r))) stands_same
       ∙ ap (λ b. names_pages f r && (not (is_page r.kind && stands e r) || (is_sayable_as f (page_kind r.kind) r.record_of && b))) can_change_same
 
-module _ (f : Format) (page other : ℕ → Page) (same : (p : ℕ) → p < f.pages → page p ≡ other p) where
+module _ (f : Format) (page other : ℕ → Contents) (same : (p : ℕ) → p < f.pages → page p ≡ other p) where
   -- a record that passes names pages that there are
   named_in : (r : Entry) (z : List Entry) → passes f (redo page z).page r ≡ true → names_pages f r ≡ true
   named_in r z h =
@@ -98,7 +98,7 @@ module _ (f : Format) (page other : ℕ → Page) (same : (p : ℕ) → p < f.pa
       record {
         page = λ p l.
             ap (λ c. cond (c && at_prev r p (d.page p)) (written r p (d.page p)) (d.page p)) st
-            ∙ ap (λ (v : Page). cond (stands e.page r && at_prev r p v) (written r p v) v) (i.page p l);
+            ∙ ap (λ (v : Contents). cond (stands e.page r && at_prev r p v) (written r p v) v) (i.page p l);
         counts =
             ap (λ (c : ℕ → ℕ → Bool). mark c r.log r.number (stands d.page r)) i.counts
             ∙ ap (λ c. mark e.counts r.log r.number c) st;
@@ -113,7 +113,7 @@ module _ (f : Format) (page other : ℕ → Page) (same : (p : ℕ) → p < f.pa
 
 -- ## Two images with one format, as many logs and one floor
 
-module _ (i : Image) (log : ℕ → List Entry) (base : ℕ → Option Page) (same_log : (w : ℕ) → 0 < w → w ≤ i.logs → i.log w ≡ log w)
+module _ (i : Image) (log : ℕ → List Entry) (base : ℕ → Option Contents) (same_log : (w : ℕ) → 0 < w → w ≤ i.logs → i.log w ≡ log w)
     (same_base : (p : ℕ) → p < i.format.pages → i.base p ≡ base p) (s : IsSound i) where
   abbrev j : Image
   j = record { format = i.format; logs = i.logs; floor = i.floor; log = log; base = base }
@@ -131,7 +131,7 @@ module _ (i : Image) (log : ℕ → List Entry) (base : ℕ → Option Page) (sa
   redone_same = subst (λ (z : List Entry). SameRedone i.format (redone i) (redo (bases j) z)) sorted_same (redo_same i.format (bases i) (bases j) bases_same (sorted i) s.done)
 
   nodes_same : (p : ℕ) → p < i.format.pages → nodes_of (redone i) p ≡ nodes_of (redone j) p
-  nodes_same p l = ap (λ (v : Page). v.node) (redone_same.page p l)
+  nodes_same p l = ap (λ (v : Contents). v.node) (redone_same.page p l)
 
   -- of what redo left, only which records counted is asked
   abbrev lost_in : List Entry → (ℕ → ℕ → Bool) → Entry → Bool
@@ -171,7 +171,7 @@ module _ (i : Image) (log : ℕ → List Entry) (base : ℕ → Option Page) (sa
     recovered = λ p l. sym (
         ap (λ (t : Entry → Bool). record ((redone i).page p) { node = undo_node t (sorted i) ((redone i).page p).node }) lost_same
         ∙ ap (λ (z : List Entry). record ((redone i).page p) { node = undo_node (lost j) z ((redone i).page p).node }) sorted_same
-        ∙ ap (λ (v : Page). record v { node = undo_node (lost j) (sorted j) v.node }) (redone_same.page p l));
+        ∙ ap (λ (v : Contents). record v { node = undo_node (lost j) (sorted j) v.node }) (redone_same.page p l));
   }
 
 -- with the first one's format, number of logs and floor it is the same image

@@ -144,9 +144,9 @@ module _ (generation log block : ℕ) (bytes : List ℕ) where
       let d32 = drop_next 4 32 28 c bytes rest d28 refl in
       let count = number_there 4 28 c bytes _ d28 (omega arith) in
       let long = number_there 4 24 n bytes _ d24 (omega arith) in
-      let front : payload_of bytes ≡ payload =
+      let prefix : payload_of bytes ≡ payload =
       ap (λ j. take j (drop 32 bytes)) long ∙ ap (take n) (d32 ∙ append_assoc payload zeros seal) ∙ take_at payload (zeros ++ seal) n refl in
-      ap (λ j. block_if j (payload_of bytes)) count ∙ ap (block_if c) front
+      ap (λ j. block_if j (payload_of bytes)) count ∙ ap (block_if c) prefix
       ∙ cond-true (is_text c payload) (records_in c payload) None
       (and_from (leb n 2000) (bytes_eq bytes (block_text generation log block c payload)) (le-leb n 2000 few) ((bytes_eq-Decides bytes (block_text generation log block c payload)).1 s.spelled))
       ∙ records_from rs s.fit

@@ -5,7 +5,7 @@ use Rattle.map_model.specs.Lists.{Has}
 use Rattle.page_model.specs.Nodes.{Format}
 use Rattle.page_model.specs.Check.{page_ok}
 use Rattle.page_model.proofs.Check.{none_bad, every_check}
-use Rattle.image_model.specs.Entries.{Entry, Page}
+use Rattle.image_model.specs.Entries.{Entry, Contents}
 use Rattle.image_model.specs.Redo.{redo, passes, all_pass}
 use Rattle.image_model.specs.Undo.{nodes_of}
 use Rattle.image_model.specs.Images.{bases, redone, has_base, IsFalling}
@@ -30,7 +30,7 @@ falling_at [] it older f x m = f.1 x m
 falling_at (y ∷ ys) it older f x m = falling_at ys it older f.0 x m
 
 -- each record passes at its turn
-passes_at : (f : Format) (page : ℕ → Page) (newer : List Entry) (r : Entry) (older : List Entry) → all_pass f page (newer ++ r ∷ older) ≡ true → passes f (redo page older).page r ≡ true
+passes_at : (f : Format) (page : ℕ → Contents) (newer : List Entry) (r : Entry) (older : List Entry) → all_pass f page (newer ++ r ∷ older) ≡ true → passes f (redo page older).page r ≡ true
 passes_at f page [] r older h = (and_parts (all_pass f page older) (passes f (redo page older).page r) h).1
 passes_at f page (y ∷ ys) r older h = passes_at f page ys r older (and_parts (all_pass f page (ys ++ r ∷ older)) (passes f (redo page (ys ++ r ∷ older)).page y) h).0
 

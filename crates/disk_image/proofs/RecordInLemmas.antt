@@ -53,12 +53,12 @@ begins_to : (bytes : List ℕ) (r : Record) → begins bytes r ≡ true → Begi
 begins_to bytes r h =
     let n = length (record_text r) in
     let a = and_parts (fits r) (bytes_eq (take n bytes) (record_text r)) h in
-    let front = (bytes_eq-Decides (take n bytes) (record_text r)).0 a.1 in
+    let prefix = (bytes_eq-Decides (take n bytes) (record_text r)).0 a.1 in
     record {
       fits = fits_to r a.0;
       count = refl;
       rest = drop n bytes;
-      spelled = sym (take-append-drop n bytes) ∙ ap (λ (us : List ℕ). us ++ drop n bytes) front;
+      spelled = sym (take-append-drop n bytes) ∙ ap (λ (us : List ℕ). us ++ drop n bytes) prefix;
     }
 
 begins_from : (bytes rest : List ℕ) (r : Record) → Fits r → bytes ≡ record_text r ++ rest → begins bytes r ≡ true

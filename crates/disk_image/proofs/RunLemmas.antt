@@ -25,12 +25,12 @@ belongs-text generation log q count payload fg fl fq few =
     let bytes = block_text generation log q count payload in
     let room : List ℕ = payload ++ replicate (2000 - n) 0 in
     let rest = room ++ seal_text body in
-    let front : bytes ≡ header_text generation log q n count ++ rest = append_assoc (header_text generation log q n count) room (seal_text body) in
+    let prefix : bytes ≡ header_text generation log q n count ++ rest = append_assoc (header_text generation log q n count) room (seal_text body) in
     belongs_from generation log q bytes (record {
       sealed = blocks.is_sealed bytes body (seal_text body) refl (blocks.body_long generation log q count payload few) (length-seal_of (codes "LEANLOGB") body) refl;
-      of_generation = blocks.generation_read generation log q n count bytes rest fg fl fq front;
-      of_log = blocks.log_read generation log q n count bytes rest fg fl fq front;
-      of_block = blocks.block_read generation log q n count bytes rest fg fl fq front;
+      of_generation = blocks.generation_read generation log q n count bytes rest fg fl fq prefix;
+      of_log = blocks.log_read generation log q n count bytes rest fg fl fq prefix;
+      of_block = blocks.block_read generation log q n count bytes rest fg fl fq prefix;
     })
 
 -- ## Runs

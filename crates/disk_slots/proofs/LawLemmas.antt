@@ -12,7 +12,7 @@ use Rattle.disk_slots.specs.Slots.{HasWords}
 use Rattle.disk_slots.specs.Pages.{IsPage, IsPageSlot}
 use Rattle.disk_slots.specs.Masters.{master_words, IsMasterSlot}
 use Rattle.disk_slots.specs.Laws.{IsSized, EveryPage, EveryMaster}
-use Rattle.disk_slots.proofs.SlotLemmas.{slot-one, slot-sealed, slot-words_front}
+use Rattle.disk_slots.proofs.SlotLemmas.{slot-one, slot-sealed, slot-words_prefix}
 use Rattle.disk_slots.proofs.PageLemmas.{page-words, page-spells}
 use Rattle.disk_slots.proofs.MasterLemmas.{master-has, zeros-at}
 
@@ -34,13 +34,13 @@ zero-words (suc n) =
 zeros-fit : (n : ℕ) → AreWords (replicate n 0)
 zeros-fit n = record { word = λ k. let e = zeros-at n k in omega arith }
 
-front-zeros : (n m : ℕ) → m ≡ n → n ≤ 1024 → replicate m 0 ≡ take n (replicate {A = ℕ} 1024 0)
-front-zeros n m e h = ap (λ j. replicate j 0) e ∙ sym (take-replicate n 1024 0 h)
+prefix-zeros : (n m : ℕ) → m ≡ n → n ≤ 1024 → replicate m 0 ≡ take n (replicate {A = ℕ} 1024 0)
+prefix-zeros n m e h = ap (λ j. replicate j 0) e ∙ sym (take-replicate n 1024 0 h)
 
 -- words whose bytes are zeros are zeros
 zeros-words : (tag ws : List ℕ) → HasWords tag (replicate 1024 0) ws → ws ≡ replicate 126 0
-zeros-words tag ws h = slot-words_front tag (replicate 1024 0) ws (replicate 126 0) (1024 - 16) refl h (length-replicate {A = ℕ} 126 0) (zeros-fit 126)
-    (zero-words 126 ∙ front-zeros (1024 - 16) (8 * 126) (omega arith) (omega arith))
+zeros-words tag ws h = slot-words_prefix tag (replicate 1024 0) ws (replicate 126 0) (1024 - 16) refl h (length-replicate {A = ℕ} 126 0) (zeros-fit 126)
+    (zero-words 126 ∙ prefix-zeros (1024 - 16) (8 * 126) (omega arith) (omega arith))
 
 page-zeros : (n pages : ℕ) (p : Page) → IsPageSlot n pages (replicate 1024 0) p → ⊥
 page-zeros n pages p s =

@@ -48,9 +48,9 @@ slot-read tag bytes ws n e s l t a = record {
 
 -- ## A slot has a seal and one list of words
 
-slot-front : (tag bytes ws : List ℕ) (n : ℕ) → n ≡ 1024 - 16 → HasWords tag bytes ws → take n bytes ≡ words_bytes ws
+slot-prefix : (tag bytes ws : List ℕ) (n : ℕ) → n ≡ 1024 - 16 → HasWords tag bytes ws → take n bytes ≡ words_bytes ws
 unfolding slot_of
-slot-front tag bytes ws n e s =
+slot-prefix tag bytes ws n e s =
     let l = s.long in
     let lb : length (words_bytes ws) ≡ n = length-words_bytes ws ∙ omega arith in
     ap (take n) s.spelled ∙ take_at (words_bytes ws) _ n lb
@@ -60,7 +60,7 @@ unfolding slot_of
 slot-back tag bytes ws n e s =
     let l = s.long in
     let lb : length (words_bytes ws) ≡ n = length-words_bytes ws ∙ omega arith in
-    ap (drop n) s.spelled ∙ drop_at (words_bytes ws) _ n lb ∙ ap (seal_of tag) (sym (slot-front tag bytes ws n e s))
+    ap (drop n) s.spelled ∙ drop_at (words_bytes ws) _ n lb ∙ ap (seal_of tag) (sym (slot-prefix tag bytes ws n e s))
 
 slot-long : (tag bytes ws : List ℕ) → HasWords tag bytes ws → length bytes ≡ 1024
 unfolding slot_of
@@ -74,12 +74,12 @@ slot-long tag bytes ws s =
 pub slot-sealed : (tag bytes ws : List ℕ) → HasWords tag bytes ws → IsSealed tag bytes
 slot-sealed tag bytes ws s = sealed-from tag bytes (1024 - 16) (slot-long tag bytes ws s) refl (slot-back tag bytes ws (1024 - 16) refl s)
 
-one-front : (tag bytes us ws : List ℕ) (n : ℕ) → n ≡ 1024 - 16 → HasWords tag bytes us → HasWords tag bytes ws → words_bytes us ≡ words_bytes ws
-one-front tag bytes us ws n e s t = sym (slot-front tag bytes us n e s) ∙ slot-front tag bytes ws n e t
+one-prefix : (tag bytes us ws : List ℕ) (n : ℕ) → n ≡ 1024 - 16 → HasWords tag bytes us → HasWords tag bytes ws → words_bytes us ≡ words_bytes ws
+one-prefix tag bytes us ws n e s t = sym (slot-prefix tag bytes us n e s) ∙ slot-prefix tag bytes ws n e t
 
 pub slot-one : (tag bytes us ws : List ℕ) → HasWords tag bytes us → HasWords tag bytes ws → us ≡ ws
-slot-one tag bytes us ws s t = words-one us ws (s.long ∙ sym t.long) s.fit t.fit (one-front tag bytes us ws (1024 - 16) refl s t)
+slot-one tag bytes us ws s t = words-one us ws (s.long ∙ sym t.long) s.fit t.fit (one-prefix tag bytes us ws (1024 - 16) refl s t)
 
--- words with the bytes of a slot's front are the slot's
-pub slot-words_front : (tag bytes ws us : List ℕ) (n : ℕ) → n ≡ 1024 - 16 → HasWords tag bytes ws → length us ≡ 126 → AreWords us → words_bytes us ≡ take n bytes → ws ≡ us
-slot-words_front tag bytes ws us n e h l a t = words-one ws us (h.long ∙ sym l) h.fit a (sym (slot-front tag bytes ws n e h) ∙ sym t)
+-- words with the bytes of a slot's prefix are the slot's
+pub slot-words_prefix : (tag bytes ws us : List ℕ) (n : ℕ) → n ≡ 1024 - 16 → HasWords tag bytes ws → length us ≡ 126 → AreWords us → words_bytes us ≡ take n bytes → ws ≡ us
+slot-words_prefix tag bytes ws us n e h l a t = words-one ws us (h.long ∙ sym l) h.fit a (sym (slot-prefix tag bytes ws n e h) ∙ sym t)

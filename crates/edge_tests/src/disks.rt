@@ -3,7 +3,7 @@ use lean_disk::{AreaOf, Choice, Did, Disk, MemDisk, Part, Read};
 use std::alloc::Global;
 use std::test::Fail;
 
-fn front<D: Disk>(disk: &mut D, area: u32) -> [u8; 4] {
+fn prefix<D: Disk>(disk: &mut D, area: u32) -> [u8; 4] {
     let mut into = [9u8; 4];
     let _ = disk.read(area, 0, &mut into);
     into
@@ -30,12 +30,12 @@ fn written_twice(alloc: Global) -> Result<MemDisk, Fail> {
 fn a_crash_leaves_what_was_synced_and_the_choice_of_the_rest(rt: HostRuntime) -> Result<(), Fail> {
     let disk = written_twice(rt.alloc())?;
     assert_eq!(rt; disk.moment(), 4);
-    assert_eq!(rt; front(&mut disk.crash(4, Choice::NoBytes)?, 1), *b"abcd");
-    assert_eq!(rt; front(&mut disk.crash(4, Choice::AllBytes)?, 1), *b"wxyz");
-    assert_eq!(rt; front(&mut disk.crash(4, Choice::FirstHalf)?, 1), *b"wxcd");
-    assert_eq!(rt; front(&mut disk.crash(4, Choice::Zeros)?, 1), [0u8; 4]);
-    assert_eq!(rt; front(&mut disk.crash(3, Choice::Zeros)?, 1), *b"abcd");
-    assert_eq!(rt; front(&mut disk.crash(1, Choice::NoBytes)?, 1), [9u8; 4]);
+    assert_eq!(rt; prefix(&mut disk.crash(4, Choice::NoBytes)?, 1), *b"abcd");
+    assert_eq!(rt; prefix(&mut disk.crash(4, Choice::AllBytes)?, 1), *b"wxyz");
+    assert_eq!(rt; prefix(&mut disk.crash(4, Choice::FirstHalf)?, 1), *b"wxcd");
+    assert_eq!(rt; prefix(&mut disk.crash(4, Choice::Zeros)?, 1), [0u8; 4]);
+    assert_eq!(rt; prefix(&mut disk.crash(3, Choice::Zeros)?, 1), *b"abcd");
+    assert_eq!(rt; prefix(&mut disk.crash(1, Choice::NoBytes)?, 1), [9u8; 4]);
     Ok(())
 }
 
@@ -76,7 +76,7 @@ fn a_disk_begins_with_the_bytes_that_it_is_given(rt: HostRuntime) -> Result<(), 
     assert_eq!(rt; disk.bytes(0), b"head".as_slice());
     assert_eq!(rt; disk.bytes(1), b"page".as_slice());
     assert_eq!(rt; disk.bytes(2), b"".as_slice());
-    assert_eq!(rt; front(&mut disk.crash(0, Choice::Zeros)?, 1), *b"page");
+    assert_eq!(rt; prefix(&mut disk.crash(0, Choice::Zeros)?, 1), *b"page");
     Ok(())
 }
 
@@ -90,8 +90,8 @@ fn what_a_part_wrote_is_the_disks_when_it_is_back(rt: HostRuntime) -> Result<(),
     assert_eq!(rt; wrote, Did::Done);
     assert_eq!(rt; synced, Did::Done);
     assert_eq!(rt; disk.moment(), 1);
-    assert_eq!(rt; front(&mut disk.crash(0, Choice::NoBytes)?, 1), [9u8; 4]);
-    assert_eq!(rt; front(&mut disk.crash(1, Choice::NoBytes)?, 1), *b"part");
+    assert_eq!(rt; prefix(&mut disk.crash(0, Choice::NoBytes)?, 1), [9u8; 4]);
+    assert_eq!(rt; prefix(&mut disk.crash(1, Choice::NoBytes)?, 1), *b"part");
     Ok(())
 }
 

@@ -32,12 +32,12 @@ fn a_source_in_memory_gives_pieces_and_fails_where_it_was_told(
 }
 
 #[test]
-fn a_sink_in_memory_holds_the_front_of_a_piece_that_failed(rt: HostRuntime) -> Result<(), Fail> {
+fn a_sink_in_memory_holds_the_prefix_of_a_piece_that_failed(rt: HostRuntime) -> Result<(), Fail> {
     let alloc = rt.alloc();
     let mut disk = MemDisk::new(alloc, 1)?;
     let mut sink = MemSink::new(alloc);
     sink.fail_at(vec![in alloc; 2, 3]?);
-    sink.keep_front(2);
+    sink.keep_prefix(2);
     for (piece, want, bytes) in [
         (b"one\n", Put::Done, "one\n"),
         (b"two\n", Put::Failed, "one\ntw"),

@@ -29,7 +29,7 @@ fn words_stand_one_after_the_other(rt: HostRuntime) {
 }
 
 #[test]
-fn a_reader_takes_numbers_off_the_front_and_then_none(rt: HostRuntime) {
+fn a_reader_takes_numbers_off_its_bytes_and_then_none(rt: HostRuntime) {
     let bytes: [u8; 15] = [7, 1, 40, 107, 238, 8, 7, 6, 5, 4, 3, 2, 1, 5, 6];
     let mut reader = Cur::new(&bytes);
     assert_eq!(rt; reader.u8(), Some(7));
@@ -44,7 +44,7 @@ fn a_reader_takes_numbers_off_the_front_and_then_none(rt: HostRuntime) {
 }
 
 #[test]
-fn a_seal_is_the_front_of_the_digest_of_tag_and_bytes(rt: HostRuntime) {
+fn a_seal_is_the_prefix_of_the_digest_of_tag_and_bytes(rt: HostRuntime) {
     let bytes: [u8; 10] = [0, 1, 2, 3, 4, 5, 6, 7, 8, 9];
     assert_eq!(rt; seal(b"LEANLOGB", &bytes), SEAL);
     assert!(rt; check(b"LEANLOGB", &bytes, &SEAL));

@@ -110,7 +110,7 @@ fn is_the_commit(found: Option<(Record, usize)>) -> bool {
 }
 
 #[test]
-fn records_are_read_off_the_front(rt: HostRuntime) {
+fn records_are_read_off_the_beginning(rt: HostRuntime) {
     assert!(rt; is_the_change(read_record(&LOG)));
     assert!(rt; is_the_commit(read_record(&LOG[53..])));
     assert!(rt; read_record(&LOG[78..]).is_none());

@@ -26,11 +26,11 @@ const MASTER_SEAL: [u8; 16] = [
     169, 220, 125, 107, 174, 61, 4, 203, 114, 183, 116, 244, 69, 67, 163, 198,
 ];
 
-fn slot_of(front: &[u8], seal: &[u8; 16]) -> [u8; 1024] {
+fn slot_of(prefix: &[u8], seal: &[u8; 16]) -> [u8; 1024] {
     let mut bytes = [0; 1024];
-    if front.len() <= 1008 {
-        let n = front.len();
-        bytes[..n].copy_from_slice(front);
+    if prefix.len() <= 1008 {
+        let n = prefix.len();
+        bytes[..n].copy_from_slice(prefix);
     }
     bytes[1008..].copy_from_slice(seal);
     bytes

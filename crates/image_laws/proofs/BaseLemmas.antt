@@ -1,7 +1,7 @@
 -- Of two slots, the base is the newer valid one.
 use Rattle.std.proofs.Common.{◌≡◌, ◌⊎◌, ◌<◌, ◌≤◌, ℕ, zero, suc, Bool, true, false, cond, ◌&&◌, ◌||◌, ltb, ◌==◌, Option, Some, None, refl, sym, ◌∙◌, ap, subst, inl, inr, arith, true≢false}
 use Rattle.std.proofs.lemmas.Bool.{cases_eq, cases_lt, eq-eqb, ne_eqb, lt-ltb, le-ltb, le-leb, lt-leb}
-use Rattle.image_model.specs.Entries.{Page}
+use Rattle.image_model.specs.Entries.{Contents}
 use Rattle.image_model.specs.Slots.{Slot, Shown, valid, is_older, newer_page, base_of}
 use Rattle.image_laws.specs.Bases.{IsUpTo, IsNewest, BaseLaws, EveryBase}
 
@@ -17,10 +17,10 @@ some_is x y e = ap or_x e
     or_x (Some z) = z
     or_x None = x
 
-page_is : (x y : Page) → Some x ≡ Some y → x ≡ y
+page_is : (x y : Contents) → Some x ≡ Some y → x ≡ y
 page_is x y e = ap or_x e
   where
-    or_x : Option Page → Page
+    or_x : Option Contents → Contents
     or_x (Some z) = z
     or_x None = x
 
@@ -87,7 +87,7 @@ module _ (s : Shown) (p : ℕ) where
   none_at : (i : ℕ) (z : Slot) → ((x : Slot) → s.slot p i ≡ Some x → s.generation < x.generation) → UpTo z i
   none_at i z late y e low = let a = late y e in let b = low in absurd (omega arith)
 
-  newest : (i : ℕ) (x : Slot) (v : Page) → s.slot p i ≡ Some x → x.page ≡ v → x.generation ≤ s.generation → UpTo x 0 → UpTo x 1 → IsNewest s p v
+  newest : (i : ℕ) (x : Slot) (v : Contents) → s.slot p i ≡ Some x → x.page ≡ v → x.generation ≤ s.generation → UpTo x 0 → UpTo x 1 → IsNewest s p v
   newest i x v is page low a b = record { place = i; slot = x; there = is; is_page = page; valid = low; newest = λ j y l e w. two (UpTo x) a b j l y e w }
 
   laws : Known s.generation (s.slot p 0) → Known s.generation (s.slot p 1) → BaseLaws s p
@@ -96,7 +96,7 @@ module _ (s : Shown) (p : ℕ) where
     none = λ e i y l is. two (λ j. (y : Slot) → s.slot p j ≡ Some y → s.generation < y.generation) l0 l1 i l y is;
   }
     where
-      no_page : (v : Page) → None ≡ Some v → ⊥
+      no_page : (v : Contents) → None ≡ Some v → ⊥
       no_page v e = cc
   laws (Valid x i0 w0 n0) (Other l1 n1) = record {
     some = λ v e. newest 0 x v i0 (page_is x.page v (sym (ap (λ (o : Option Slot). newer_page o (valid s.generation (s.slot p 1))) n0 ∙ ap (λ (o : Option Slot). newer_page (Some x) o) n1) ∙ e)) w0 (at 0 x x i0 (same_up_to x)) (none_at 1 x l1);
@@ -117,7 +117,7 @@ module _ (s : Shown) (p : ℕ) where
       seen : base_of s p ≡ cond (is_older x y) (Some y.page) (Some x.page)
       seen = ap (λ (o : Option Slot). newer_page o (valid s.generation (s.slot p 1))) n0 ∙ ap (λ (o : Option Slot). newer_page (Some x) o) n1
 
-      no_none : (z : Page) → Some z ≡ None → ⊥
+      no_none : (z : Contents) → Some z ≡ None → ⊥
       no_none z e = cc
 
       go : (b : Bool) → is_older x y ≡ b → BaseLaws s p

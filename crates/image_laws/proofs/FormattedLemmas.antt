@@ -6,7 +6,7 @@ use Rattle.map_model.specs.Lists.{Has, in_order}
 use Rattle.page_model.specs.Pairs.{find}
 use Rattle.page_model.specs.Nodes.{Format, Node, free, WellFormed, holds}
 use Rattle.page_model.specs.Tree.{Names, IsTree, entry, value_of, word_or}
-use Rattle.image_model.specs.Entries.{Entry, Page, earlier}
+use Rattle.image_model.specs.Entries.{Entry, Contents, earlier}
 use Rattle.image_model.specs.Undo.{nodes_of}
 use Rattle.image_model.specs.Images.{Image, gathered, found, sorted, bases, redone, page_or, has_base, map_of, recovered, IsFalling, IsSound, lost}
 use Rattle.image_model.specs.Redo.{redo, all_pass}
@@ -80,8 +80,8 @@ module _ (s : Shown) (some : 0 < s.format.pages) (is : IsFormatted s) where
 
   node_at : (p : ℕ) → (bases i p).node ≡ formatted_node s.format p
   node_at p = elim (cases_lt p s.format.pages) [
-    | inl l ↦ ap (λ (o : Option Page). (page_or o).node) (is.pages p l)
-    | inr g ↦ ap (λ (o : Option Page). (page_or o).node) (is.beyond p g) ∙ sym (ap (λ b. cond b (root_leaf s.format) free) (ne_eqb p 0 (λ e. (let a = some in let b = g in let c = e in omega arith))))
+    | inl l ↦ ap (λ (o : Option Contents). (page_or o).node) (is.pages p l)
+    | inr g ↦ ap (λ (o : Option Contents). (page_or o).node) (is.beyond p g) ∙ sym (ap (λ b. cond b (root_leaf s.format) free) (ne_eqb p 0 (λ e. (let a = some in let b = g in let c = e in omega arith))))
   ]
 
   nodes : nodes_of (redone i) ≡ formatted_node s.format

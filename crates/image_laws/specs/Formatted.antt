@@ -1,7 +1,7 @@
 -- The image that formatting leaves.
 use Rattle.std.specs.Prelude.{if◌then◌else◌, ◌≡◌, ◌<◌, ◌≤◌, ℕ, true, ◌==◌, [], Some, None}
 use Rattle.page_model.specs.Nodes.{Format, Node, free}
-use Rattle.image_model.specs.Entries.{Page}
+use Rattle.image_model.specs.Entries.{Contents}
 use Rattle.image_model.specs.Images.{StandsFor}
 use Rattle.image_model.specs.Slots.{Slot, Shown, base_of, image_of, IsClean}
 
@@ -9,7 +9,7 @@ use Rattle.image_model.specs.Slots.{Slot, Shown, base_of, image_of, IsClean}
 abbrev pub formatted_node : Format → ℕ → Node
 formatted_node f p = if p == 0 then record { live = true; level = 0; low = 0; high = f.top; pairs = [] } else free
 
-abbrev pub formatted_page : Format → ℕ → Page
+abbrev pub formatted_page : Format → ℕ → Contents
 formatted_page f p = record { gsn = 0; last = 0; node = formatted_node f p }
 
 -- each page's base is a formatted one, no slot is of a later generation, and no log has a record or a sealed block

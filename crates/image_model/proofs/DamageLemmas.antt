@@ -5,7 +5,7 @@ use Rattle.map_model.specs.Lists.{Has, all}
 use Rattle.page_model.specs.Nodes.{Format}
 use Rattle.page_model.specs.Check.{first_bad, first_break}
 use Rattle.page_model.proofs.Check.{none_bad, bad_none, every_check}
-use Rattle.image_model.specs.Entries.{Entry, Page}
+use Rattle.image_model.specs.Entries.{Entry, Contents}
 use Rattle.image_model.specs.Redo.{redo, passes, all_pass}
 use Rattle.image_model.specs.Undo.{nodes_of}
 use Rattle.image_model.specs.Images.{Image, sorted, bases, redone, lost, has_base, has_entry, IsFalling, IsSound, Damage, page_damage, or_first, first_failing, first_in_logs, first_without, damage}
@@ -89,11 +89,11 @@ logs_from d (suc n) f = none_both (first_in_logs d n) (d (suc n)) (logs_from d n
 
 -- ## Redo and put-backs
 
-pass_to : (f : Format) (page : ℕ → Page) (z : List Entry) → AllPass (λ r z. passes f (redo page z).page r) z → all_pass f page z ≡ true
+pass_to : (f : Format) (page : ℕ → Contents) (z : List Entry) → AllPass (λ r z. passes f (redo page z).page r) z → all_pass f page z ≡ true
 pass_to f page [] a = refl
 pass_to f page (r ∷ z) a = and_from (all_pass f page z) (passes f (redo page z).page r) (pass_to f page z a.0) a.1
 
-pass_from : (f : Format) (page : ℕ → Page) (z : List Entry) → all_pass f page z ≡ true → AllPass (λ r z. passes f (redo page z).page r) z
+pass_from : (f : Format) (page : ℕ → Contents) (z : List Entry) → all_pass f page z ≡ true → AllPass (λ r z. passes f (redo page z).page r) z
 pass_from f page [] e = tt
 pass_from f page (r ∷ z) e = let b = and_parts (all_pass f page z) (passes f (redo page z).page r) e in (pass_from f page z b.0, b.1)
 

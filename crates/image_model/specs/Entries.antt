@@ -78,8 +78,8 @@ same_txn a b = (a.log == b.log) && (a.txn == b.txn)
 abbrev pub earlier : Entry → Entry → Bool
 earlier a b = ltb a.number b.number || ((a.number == b.number) && ltb a.log b.log)
 
--- a page, with the number and the log of the last record that changed it
-pub record Page : Type 0 where
+-- a page's contents, with the number and the log of the last record that changed it
+pub record Contents : Type 0 where
   pub gsn : ℕ
   pub last : ℕ
   pub node : Node
@@ -88,7 +88,7 @@ pub record Page : Type 0 where
 abbrev pub applied_as : Kind → Entry → ℕ → Node → Node
 applied_as kind r p n = records.applied_as (page_kind kind) r.record_of p n
 
-abbrev pub written : Entry → ℕ → Page → Page
+abbrev pub written : Entry → ℕ → Contents → Contents
 written r p v = record { gsn = r.number; last = r.log; node = applied_as r.kind r p v.node }
 
 abbrev pub touches : ℕ → Entry → Bool

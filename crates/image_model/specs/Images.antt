@@ -7,7 +7,7 @@ use Rattle.page_model.specs.Nodes.{Format, free}
 use Rattle.page_model.specs.Tree.{IsTree, entry, value_of}
 use Rattle.page_model.specs.Check.{first_bad, first_break}
 use Rattle.page_model.specs.Redo.{is_some}
-use Rattle.image_model.specs.Entries.{Entry, Page, earlier}
+use Rattle.image_model.specs.Entries.{Entry, Contents, earlier}
 use Rattle.image_model.specs.Ends.{reach, winners, losers}
 use Rattle.image_model.specs.Redo.{Redone, redo, passes, all_pass}
 use Rattle.image_model.specs.Undo.{is_lost, undo, undo_node, nodes_of, values}
@@ -19,7 +19,7 @@ pub record Image : Type 0 where
   pub logs : ℕ
   pub floor : ℕ
   pub log : ℕ → List Entry
-  pub base : ℕ → Option Page
+  pub base : ℕ → Option Contents
 
 -- the logs 1 to n, one behind another
 abbrev pub gathered : (ℕ → List Entry) → ℕ → List Entry
@@ -33,15 +33,15 @@ found i = gathered i.log i.logs
 abbrev pub sorted : Image → List Entry
 sorted i = in_order earlier (found i)
 
-abbrev pub has_base : Option Page → Bool
+abbrev pub has_base : Option Contents → Bool
 has_base (Some v) = true
 has_base None = false
 
-abbrev pub page_or : Option Page → Page
+abbrev pub page_or : Option Contents → Contents
 page_or (Some v) = v
 page_or None = record { gsn = 0; last = 0; node = free }
 
-abbrev pub bases : Image → ℕ → Page
+abbrev pub bases : Image → ℕ → Contents
 bases i p = page_or (i.base p)
 
 abbrev pub redone : Image → Redone
@@ -64,7 +64,7 @@ abbrev pub lost_by : Image → List Name
 lost_by i = losers (reach i.logs i.floor (found i)) (found i)
 
 -- each page after redo and undo, with the number and the log that redo left
-abbrev pub recovered_page : Image → ℕ → Page
+abbrev pub recovered_page : Image → ℕ → Contents
 recovered_page i p = record ((redone i).page p) { node = undo_node (lost i) (sorted i) ((redone i).page p).node }
 
 -- ## Rules

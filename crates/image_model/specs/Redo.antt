@@ -5,22 +5,22 @@ use Rattle.page_model.specs.Nodes.{Format}
 use Rattle.page_model.specs.Records as records
 use Rattle.page_model.specs.Records.{Record}
 use Rattle.page_model.specs.Redo.{can_be}
-use Rattle.image_model.specs.Entries.{Entry, Page, is_page, page_kind, written}
+use Rattle.image_model.specs.Entries.{Entry, Contents, is_page, page_kind, written}
 
 -- pages, and which records (by log and number) counted
 pub record Redone : Type 0 where
-  pub page : ℕ → Page
+  pub page : ℕ → Contents
   pub counts : ℕ → ℕ → Bool
 
 abbrev pub mark : (ℕ → ℕ → Bool) → ℕ → ℕ → Bool → ℕ → ℕ → Bool
 mark f i j b = upd f i (upd (f i) j b)
 
 -- the record counts: each page stands at its prev, or at the record's number or beyond
-abbrev pub stands : (ℕ → Page) → Entry → Bool
+abbrev pub stands : (ℕ → Contents) → Entry → Bool
 stands page r = all (λ f. ((page f.page).gsn == f.prev) || leb r.number (page f.page).gsn) r.refs
 
 -- the page stands at its prev
-abbrev pub at_prev : Entry → ℕ → Page → Bool
+abbrev pub at_prev : Entry → ℕ → Contents → Bool
 at_prev r p v = any (λ f. (f.page == p) && (v.gsn == f.prev)) r.refs
 
 -- a record that counts changes those of its pages that stand at their prev
@@ -30,7 +30,7 @@ redo_one d r = record {
   counts = mark d.counts r.log r.number (stands d.page r);
 }
 
-abbrev pub redo : (ℕ → Page) → List Entry → Redone
+abbrev pub redo : (ℕ → Contents) → List Entry → Redone
 redo page [] = record { page = page; counts = λ _ _. false }
 redo page (r ∷ z) = redo_one (redo page z) r
 
@@ -51,14 +51,14 @@ is_sayable_as f records.Kind.Drop r = not (r.right.page == 0) && leb (length r.p
 is_sayable_as f records.Kind.Purge r = true
 
 -- what it asks of each page that it changes
-abbrev pub can_change : Format → (ℕ → Page) → Entry → Bool
+abbrev pub can_change : Format → (ℕ → Contents) → Entry → Bool
 can_change f page r = all (λ x. not (at_prev r x.page (page x.page)) || can_be f (page_kind r.kind) r.record_of x.page (page x.page).node) r.refs
 
 -- the record names pages that there are and, if it counts, can be done
-abbrev pub passes : Format → (ℕ → Page) → Entry → Bool
+abbrev pub passes : Format → (ℕ → Contents) → Entry → Bool
 passes f page r = names_pages f r && (not (is_page r.kind && stands page r) || (is_sayable_as f (page_kind r.kind) r.record_of && can_change f page r))
 
 -- each record passes, at its turn
-abbrev pub all_pass : Format → (ℕ → Page) → List Entry → Bool
+abbrev pub all_pass : Format → (ℕ → Contents) → List Entry → Bool
 all_pass f page [] = true
 all_pass f page (r ∷ z) = all_pass f page z && passes f (redo page z).page r

@@ -2,13 +2,13 @@
 use Rattle.std.specs.Prelude.{if◌then◌else◌, ◌≡◌, ◌<◌, ◌≤◌, ℕ, suc, Bool, ◌&&◌, ◌||◌, leb, ltb, ◌==◌, List, Option, Some, None}
 use Rattle.map_model.specs.Lists.{Has}
 use Rattle.page_model.specs.Nodes.{Format}
-use Rattle.image_model.specs.Entries.{Entry, Page}
+use Rattle.image_model.specs.Entries.{Entry, Contents}
 use Rattle.image_model.specs.Images.{Image, IsSound, recovered_page}
 
 -- A page slot whose seal fits and which is well formed.
 pub record Slot : Type 0 where
   pub generation : ℕ
-  pub page : Page
+  pub page : Contents
 
 -- What the bytes of an image show: of its master the generation and the floor; of each log the records of its longest run
 -- of that generation, the newest first, and the generations of all blocks whose seals fit; of each page its two slots.
@@ -30,14 +30,14 @@ valid generation None = None
 abbrev pub is_older : Slot → Slot → Bool
 is_older x y = ltb x.generation y.generation || ((x.generation == y.generation) && ltb x.page.gsn y.page.gsn)
 
-abbrev pub newer_page : Option Slot → Option Slot → Option Page
+abbrev pub newer_page : Option Slot → Option Slot → Option Contents
 newer_page None None = None
 newer_page (Some x) None = Some x.page
 newer_page None (Some y) = Some y.page
 newer_page (Some x) (Some y) = if is_older x y then Some y.page else Some x.page
 
 -- a page's base: its valid slot of the greatest (generation, number), if it has one
-abbrev pub base_of : Shown → ℕ → Option Page
+abbrev pub base_of : Shown → ℕ → Option Contents
 base_of s p = newer_page (valid s.generation (s.slot p 0)) (valid s.generation (s.slot p 1))
 
 abbrev pub image_of : Shown → Image

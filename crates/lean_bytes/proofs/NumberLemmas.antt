@@ -81,7 +81,7 @@ number-put n at k xs bs new l kn e =
 pub number-taken : (n at k : ℕ) (xs : List ℕ) → k ≡ length xs - at → number_of n (take k (drop at xs)) ≡ number_of n (drop at xs)
 number-taken n at k xs e = ap (number_of n) (take_all k (drop at xs) (let l = length-drop at xs in omega arith))
 
--- a number was read off the front
+-- a number was read off the prefix
 pub number-next : (n k x : ℕ) (bytes : List ℕ) → n ≤ length bytes → AreBytes bytes → x ≡ number_of n bytes → k ≡ length bytes - n → bytes ≡ number_bytes n x ++ take k (drop n bytes)
 number-next n k x bytes h b e l =
     number-split n bytes h b

@@ -1,4 +1,4 @@
-// A reader over bytes: each call takes a number off their front.
+// A reader over bytes: each call takes a number off their prefix.
 ghost use Rattle.std.specs.Prelude.{◌≡◌, ◌↔◌, ◌++◌, ◌∷◌, [], ◌<◌, ◌≤◌, length, IfSome, IfNone, IsNone};
 ghost use Rattle.lean_bytes.specs.Numbers.{number_bytes};
 

@@ -12,9 +12,9 @@ pub fn seal(tag: &[u8; 8], bytes: &[u8]) -> [u8; 16]
     hasher.update(tag);
     hasher.update(bytes);
     let digest = hasher.finalize();
-    let mut front = [0; 16];
-    front.copy_from_slice(&digest[..16]);
-    front
+    let mut prefix = [0; 16];
+    prefix.copy_from_slice(&digest[..16]);
+    prefix
 }
 
 /// Whether these sixteen bytes are the seal of the others; false for fewer or more than sixteen.

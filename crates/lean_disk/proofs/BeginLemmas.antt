@@ -7,10 +7,10 @@ use Rattle.lean_disk.specs.Memory.{View, AreDated, IsDated, areas_story, view_at
 use Rattle.lean_disk.specs.declared.area_log.AreaLog.{AreaLog}
 use Rattle.lean_disk.specs.declared.slot.Slot.{Slot}
 
-pub view_front : (xs : List Slot) (x : Slot) (a : ℕ) → a < length xs → view_at (xs ++ x ∷ []) a ≡ view_at xs a
-view_front [] x a lt = absurd (omega arith)
-view_front (y ∷ ys) x zero lt = refl
-view_front (y ∷ ys) x (suc a) lt = view_front ys x a (omega arith)
+pub view_prefix : (xs : List Slot) (x : Slot) (a : ℕ) → a < length xs → view_at (xs ++ x ∷ []) a ≡ view_at xs a
+view_prefix [] x a lt = absurd (omega arith)
+view_prefix (y ∷ ys) x zero lt = refl
+view_prefix (y ∷ ys) x (suc a) lt = view_prefix ys x a (omega arith)
 
 pub view_last : (xs : List Slot) (x : Slot) (a : ℕ) → a ≡ length xs → view_at (xs ++ x ∷ []) a ≡ slot_view x
 view_last [] x zero is = refl
@@ -27,7 +27,7 @@ view_beyond (y ∷ ys) x (suc a) lt = view_beyond ys x a (omega arith)
 -- what holds of each area
 pub each_push : (P : ℕ → View → Type 0) (xs : List Slot) (x : Slot) → ((a : ℕ) → P a (view_at xs a)) → P (length xs) (slot_view x) → (a : ℕ) → P a (view_at (xs ++ x ∷ []) a)
 each_push P xs x all here a = ⊎_elim
-    (λ (lt : a < length xs). subst (P a) (sym (view_front xs x a lt)) (all a))
+    (λ (lt : a < length xs). subst (P a) (sym (view_prefix xs x a lt)) (all a))
     (λ (le : length xs ≤ a). ⊎_elim
     (λ (lt : length xs < a). subst (P a) (sym (view_beyond xs x a lt)) (all a))
     (λ (ge : a ≤ length xs).

@@ -13,7 +13,7 @@ put_in_place at size bytes old full new size_is full_is new_is =
     let rest : ℕ = size - length old in
     let zeros : List ℕ = replicate rest 0 in
     let whole : full ≡ old ++ zeros = full_is ∙ ap (λ (l : List ℕ). l ++ zeros) (take_all size old (omega arith)) in
-    let front : take at (old ++ zeros) ≡ take at old ++ replicate (at - length old) 0 = ⊎_elim
+    let prefix : take at (old ++ zeros) ≡ take at old ++ replicate (at - length old) 0 = ⊎_elim
     (λ (lt : length old < at).
     let e : at ≡ length old + (at - length old) = omega arith in
     ap (λ (n : ℕ). take n (old ++ zeros)) e ∙ take-append-add old zeros (at - length old)
@@ -30,5 +30,5 @@ put_in_place at size bytes old full new size_is full_is new_is =
     let none : rest ≡ 0 = omega arith in
     drop-append-le end old zeros le ∙ ap (λ (n : ℕ). drop end old ++ replicate n 0) none ∙ simp (append-nil))
     (cases_lt (length old) end) in
-    new_is ∙ ap (λ (l : List ℕ). take at l ++ bytes ++ drop end l) whole ∙ ap (λ (l : List ℕ). l ++ bytes ++ drop end (old ++ zeros)) front
+    new_is ∙ ap (λ (l : List ℕ). take at l ++ bytes ++ drop end l) whole ∙ ap (λ (l : List ℕ). l ++ bytes ++ drop end (old ++ zeros)) prefix
     ∙ ap (λ (l : List ℕ). (take at old ++ replicate (at - length old) 0) ++ bytes ++ l) back

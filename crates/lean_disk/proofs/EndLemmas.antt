@@ -11,7 +11,7 @@ use Rattle.lean_disk.specs.Inside.Newest.{Last, last_of}
 use Rattle.lean_disk.specs.Inside.Over.{IsNewest, Reached}
 use Rattle.lean_disk.specs.Inside.Slots.{ordered_at}
 use Rattle.lean_disk.specs.declared.slot.Slot.{Slot}
-use Rattle.lean_disk.proofs.BeginLemmas.{view_front, view_last}
+use Rattle.lean_disk.proofs.BeginLemmas.{view_prefix, view_last}
 use Rattle.lean_disk.proofs.DiskLemmas.{last_in_time}
 
 -- the greatest number, one area more at a time
@@ -31,7 +31,7 @@ newest_more made n n' xs x is more =
           (λ (le : last_number (slot_view x).line ≤ n).
           let same : n' ≡ n = omega (arith, more, le) in
           ⊎_elim (λ e. inl (same ∙ e))
-          (λ (r : Reached xs n). inr (record { area = r.area; inside = omega (arith, size, r.inside); last = same ∙ r.last ∙ ap (λ (v : View). last_number v.line) (sym (view_front xs x r.area r.inside)) }))
+          (λ (r : Reached xs n). inr (record { area = r.area; inside = omega (arith, size, r.inside); last = same ∙ r.last ∙ ap (λ (v : View). last_number v.line) (sym (view_prefix xs x r.area r.inside)) }))
           is.reached)
           (cases_lt n (last_number (slot_view x).line));
     }

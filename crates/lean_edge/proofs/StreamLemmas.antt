@@ -39,7 +39,7 @@ appends_then (Some xs) None c some more first second = absurd first
 appends_then (Some xs) (Some ys) None some more first second = absurd second
 appends_then (Some xs) (Some ys) (Some zs) some more first second = second ∙ ap (λ (l : List ℕ). l ++ more) first ∙ append_assoc xs some more
 
--- the front of a text, and then some of the rest
+-- the prefix of a text, and then some of the rest
 pub appends_more : (a b c : Option (List ℕ)) (bytes : List ℕ) (count more : ℕ) → Appends a b (take count bytes) → Appends b c (take more (take (length bytes - count) (drop count bytes))) → Appends a c (take (count + more) bytes)
 appends_more a b c bytes count more first second =
     rw (take-add count more bytes) (appends_then a b c (take count bytes) (take more (drop count bytes)) first (rw (take_rest bytes count) at second))

@@ -20,7 +20,7 @@ pub record Stock : Type 0 where
 -- a sink in memory: what it holds, and how many bytes it holds of a piece whose call fails
 pub record Store : Type 0 where
   pub bytes : List ℕ
-  pub front : ℕ
+  pub prefix : ℕ
   pub calls : Calls
 
 -- no call was made, and none is to fail
@@ -59,10 +59,10 @@ pub record Gives (room : ℕ) (answer : Next) (old new : Stock) : Type 0 where
   pub gave : GaveOf room answer old new
   pub piece : new.piece ≡ old.piece
 
--- A call of a sink in memory fails where its number is listed, and holds the front then; it holds nothing where memory is refused.
+-- A call of a sink in memory fails where its number is listed, and holds the prefix then; it holds nothing where memory is refused.
 pub record Holds (bytes : List ℕ) (answer : Put) (old new : Store) : Type 0 where
   pub fails : IsToFail old.calls → answer ≡ put.Failed
   pub done : answer ≡ put.Done → (new.bytes ≡ old.bytes ++ bytes) × (new.calls ≡ passed old.calls)
   pub failed_calls : answer ≡ put.Failed → new.calls ≡ failed old.calls
-  pub front_alone : answer ≡ put.Failed → (new.bytes ≡ old.bytes) ⊎ (IsToFail old.calls × (new.bytes ≡ old.bytes ++ take old.front bytes))
-  pub front : new.front ≡ old.front
+  pub prefix_alone : answer ≡ put.Failed → (new.bytes ≡ old.bytes) ⊎ (IsToFail old.calls × (new.bytes ≡ old.bytes ++ take old.prefix bytes))
+  pub prefix : new.prefix ≡ old.prefix

@@ -33,7 +33,7 @@ pub record Took (room : ℕ) (buffer : List ℕ) (answer : Next) (old new : Feed
   pub counts : Counts room answer old
   pub took : IsTrue old.tells → old.left ≡ given buffer answer ++ new.left
 
--- a call of a sink: it holds the bytes, or after a failure some front of them
+-- a call of a sink: it holds the bytes, or after a failure some prefix of them
 pub record Puts (bytes : List ℕ) (answer : Put) (old new : Held) : Type 0 where
   pub same : new.tells ≡ old.tells
   pub done : answer ≡ put.Done → IsTrue old.tells → new.bytes ≡ old.bytes ++ bytes

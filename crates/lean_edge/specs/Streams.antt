@@ -12,12 +12,12 @@ pub record Stream : Type 0 where
   pub known : Option (List ℕ)
   pub faults : ℕ
 
--- A source over a reader: what it gives is gone from the front of what was left, a failure takes nothing, and at the end nothing is left.
+-- A source over a reader: what it gives is gone from the beginning of what was left, a failure takes nothing, and at the end nothing is left.
 pub record Reads (buffer : List ℕ) (answer : Next) (old new : Stream) : Type 0 where
   pub gives : Consumes old.known new.known (given buffer answer)
   pub ends : answer ≡ End → IsAtEnd new.known
 
--- A sink over a writer: the writer holds the bytes, or after a failure some front of them.
+-- A sink over a writer: the writer holds the bytes, or after a failure some prefix of them.
 pub record Writes (bytes : List ℕ) (answer : Put) (old new : Stream) : Type 0 where
   pub done : answer ≡ put.Done → Appends old.known new.known bytes
   pub failed : answer ≡ put.Failed → (n : ℕ) × Appends old.known new.known (take n bytes)

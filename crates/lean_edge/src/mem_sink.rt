@@ -16,7 +16,7 @@ use std::marker::Model;
 #[derive(Debug, Drop)]
 pub struct MemSink {
     bytes: Vec<u8>,
-    front: usize,
+    prefix: usize,
     calls: Calls,
 }
 
@@ -25,17 +25,17 @@ impl Model for MemSink {
 
     ghost Value = { Store };
 
-    ghost view = { λ s. record { bytes = s.bytes.items; front = s.front; calls = s.calls } };
+    ghost view = { λ s. record { bytes = s.bytes.items; prefix = s.prefix; calls = s.calls } };
 }
 
 impl MemSink {
     /// An empty sink.
     pub fn new(alloc: Global) -> MemSink
-        ensures { result ≡ record { bytes = []; front = 0; calls = no_calls } }
+        ensures { result ≡ record { bytes = []; prefix = 0; calls = no_calls } }
     {
         MemSink {
             bytes: Vec::new(alloc),
-            front: 0,
+            prefix: 0,
             calls: Calls::new(alloc),
         }
     }
@@ -48,10 +48,10 @@ impl MemSink {
     }
 
     /// A call that fails holds so many bytes of its piece, or all of a shorter one.
-    pub fn keep_front(&mut self, count: usize)
-        ensures { self.new ≡ record self.old { front = count } }
+    pub fn keep_prefix(&mut self, count: usize)
+        ensures { self.new ≡ record self.old { prefix = count } }
     {
-        self.front = count;
+        self.prefix = count;
     }
 
     /// What it holds.
@@ -80,7 +80,7 @@ impl<D: Disk> Sink<D> for MemSink {
     {
         if self.calls.is_to_fail() {
             self.calls.fail();
-            hold_front(&mut self.bytes, self.front, bytes);
+            hold_prefix(&mut self.bytes, self.prefix, bytes);
             return Put::Failed;
         }
         let Ok(()) = self.bytes.extend_from_slice(bytes) else {
@@ -93,10 +93,10 @@ impl<D: Disk> Sink<D> for MemSink {
     }
 }
 
-// Holds the front of a piece, or nothing where memory is refused.
-fn hold_front(held: &mut Vec<u8>, front: usize, bytes: &[u8])
-    ensures { (held.new.items ≡ held.old.items) ⊎ (held.new.items ≡ held.old.items ++ take front bytes.now) }
+// Holds the prefix of a piece, or nothing where memory is refused.
+fn hold_prefix(held: &mut Vec<u8>, prefix: usize, bytes: &[u8])
+    ensures { (held.new.items ≡ held.old.items) ⊎ (held.new.items ≡ held.old.items ++ take prefix bytes.now) }
 {
-    let count = front.min(bytes.len());
+    let count = prefix.min(bytes.len());
     let _ = held.extend_from_slice(&bytes[..count]);
 }

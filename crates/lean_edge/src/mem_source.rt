@@ -85,15 +85,15 @@ fn give(bytes: &[u8], given: usize, piece: usize, into: &mut [u8]) -> usize
     ensures given { drop given bytes.now ≡ take result into.new ++ drop (given + result) bytes.now }
 {
     let count = piece.min(into.len()).min(bytes.len() - given);
-    copy_front(into, &bytes[given..given + count]);
+    copy_prefix(into, &bytes[given..given + count]);
     count
 }
 
-// Writes the bytes at the front.
-fn copy_front(into: &mut [u8], bytes: &[u8])
+// Writes the bytes at the prefix.
+fn copy_prefix(into: &mut [u8], bytes: &[u8])
     requires { length bytes.now ≤ length into.old }
     ensures { take (length bytes.now) into.new ≡ bytes.now }
 {
-    let (front, _) = into.split_at_mut(bytes.len());
-    front.copy_from_slice(bytes);
+    let (prefix, _) = into.split_at_mut(bytes.len());
+    prefix.copy_from_slice(bytes);
 }

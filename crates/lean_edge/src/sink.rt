@@ -11,7 +11,7 @@ use lean_disk::Disk;
 pub enum Put {
     /// The bytes are held, and the disk has noted it.
     Done,
-    /// A front of the bytes may be held, and the disk has noted nothing.
+    /// A prefix of the bytes may be held, and the disk has noted nothing.
     Failed,
 }
 

@@ -63,7 +63,7 @@ impl<D: Disk, W: Write + Drop> Sink<D> for StdSink<W> {
     }
 }
 
-// Writes all, or after an error a front.
+// Writes all, or after an error a prefix.
 fn write_out<W: Write>(writer: &mut W, bytes: &[u8]) -> io::Result<()>
     ensures ok { OnOk result (Appends (W.contents writer.old) (W.contents writer.new) bytes.now) }
     ensures err { OnErr result ((n : ℕ) × Appends (W.contents writer.old) (W.contents writer.new) (take n bytes.now)) }

@@ -1,7 +1,7 @@
 mod LeafLemmas
 mod PageLemmas
 mod LogLemmas
-mod FrontLemmas
+mod PrefixLemmas
 mod RefusalLemmas
 mod StateLemmas
 mod SessionLemmas

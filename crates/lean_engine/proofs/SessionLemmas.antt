@@ -11,7 +11,7 @@ use Rattle.page_model.specs.Pairs as pairs
 use Rattle.page_model.specs.Pairs.{find}
 use Rattle.page_model.specs.Records as records
 use Rattle.page_model.specs.Tree.{word_or}
-use Rattle.image_model.specs.Entries.{Kind, Entry, Page, written}
+use Rattle.image_model.specs.Entries.{Kind, Entry, Contents, written}
 use Rattle.core_state.specs.States.{Opening}
 use Rattle.lean_disk.specs.Area.{Area}
 use Rattle.lean_disk.specs.Moments.{CrashIn, LeavesOnly}
@@ -29,16 +29,16 @@ use Rattle.worker_log.specs.Laws.{StagesOnce, entries_onto}
 use Rattle.worker_log.proofs.AccountLemmas.{every_flushed, every_staged}
 use Rattle.lean_engine.specs.States.{IsEngine, Logs, Pictures, State, gsn_or, last_or, page_of}
 use Rattle.lean_engine.specs.Calls.{Calls, GoesOn, IsCommitted}
-use Rattle.lean_engine.specs.Crashes.{IsAround, LeavesFront}
+use Rattle.lean_engine.specs.Crashes.{IsAround, LeavesPrefix}
 use Rattle.lean_engine.specs.Laws.{EveryRest}
-use Rattle.lean_engine.proofs.FrontLemmas.{leaves_as, moments_as, quiet}
+use Rattle.lean_engine.proofs.PrefixLemmas.{leaves_as, moments_as, quiet}
 use Rattle.lean_engine.specs.Inside.{Ends, EndsTo, IsEnding, MayPut, Puts, change_of, changed, commit_of, said, word_of}
 use Rattle.lean_engine.proofs.LogLemmas.{Gained, gained, logs_more}
 use Rattle.lean_engine.proofs.PageLemmas.{get_here, get_other, room_for, size, sized}
 
 -- the page of a session, as the engine has it
 node_of : (g : Opening) (s : Session) (e : State) (page : ℕ) → Pictures g s e → page < length e.pages → (s.page page).node ≡ nodes_of e.pages page
-node_of g s e page p le = ap (λ (q : Page). q.node) (p.page page le)
+node_of g s e page p le = ap (λ (q : Contents). q.node) (p.page page le)
 
 leaf_of : (g : Opening) (s : Session) (e : State) (page key : ℕ) → Pictures g s e → page < length e.pages → holds (nodes_of e.pages page) key ≡ true → IsLeafOf (format_of (length e.pages)) s page key
 leaf_of g s e page key p le leaf = record { page = le; holds = ap (λ (v : Node). holds v key) (node_of g s e page p le) ∙ leaf }
@@ -67,7 +67,7 @@ module _ (g : Opening) (s : Session) (old new : State) (page key value : ℕ) (p
   abbrev t : Session
   t = session.put f s page key value
 
-  abbrev entry : ℕ → ℕ → Page → Entry
+  abbrev entry : ℕ → ℕ → Contents → Entry
   entry txn clock q = record {
     kind = Kind.Change;
     log = 1;
@@ -94,15 +94,15 @@ module _ (g : Opening) (s : Session) (old new : State) (page key value : ℕ) (p
   count = ap length it.pages ∙ size old.pages page key value (suc old.log.last) it.it it.was
 
   -- the page as it was, and as it is
-  abbrev shown : stored.Page → Page
+  abbrev shown : stored.Page → Contents
   shown q = record { gsn = q.gsn; last = q.last_log; node = q.node }
 
-  abbrev shown_or : Option stored.Page → Page
+  abbrev shown_or : Option stored.Page → Contents
   shown_or o = record { gsn = gsn_or o; last = last_or o; node = node_or o }
 
   here : written (session.change_of f s page key value) page (s.page page) ≡ shown (changed it.it key value (suc old.log.last))
   here =
-      let number : ℕ → Page → Page = λ n q. record { gsn = suc n; last = 1; node = cond (page == page) (record { live = q.node.live; level = q.node.level; low = q.node.low; high = q.node.high; pairs = pairs.put key value q.node.pairs }) q.node } in
+      let number : ℕ → Contents → Contents = λ n q. record { gsn = suc n; last = 1; node = cond (page == page) (record { live = q.node.live; level = q.node.level; low = q.node.low; high = q.node.high; pairs = pairs.put key value q.node.pairs }) q.node } in
       ap (λ (n : ℕ). number n (s.page page)) p.clock
       ∙ ap (number old.log.last) (p.page page may.within ∙ ap shown_or it.was)
       ∙ ap (λ (v : Node). record { gsn = suc old.log.last; last = 1; node = v })
@@ -227,8 +227,8 @@ is_ending g s c commit is_open t ending = subst (λ (x : Call). IsAround g s x t
 
 -- a call that touches no device
 pub quiet_call : (a : ℕ) (s0 : Story) → IsLawful s0 → (IsTrue s0.counts → Tells s0 a) → (g : Opening) (s : Session) (c : Call) (x : Account) (e now : State) → EveryRest → e ≡ now → IsEngine e → Pictures g s now → Logs s x
-    → (Tells s0 a → IsKept x now.log (s0.area a)) → LeavesOnly s0 s0 (CrashIn s0 a (LeavesFront (IsAround g s c) s x now.log))
+    → (Tells s0 a → IsKept x now.log (s0.area a)) → LeavesOnly s0 s0 (CrashIn s0 a (LeavesPrefix (IsAround g s c) s x now.log))
 quiet_call a s0 law seated g s c x e now rest is engine p logs kept =
     let ranges : IsInRange now.log = subst (λ (o : State). IsInRange o.log) is engine.ranges in
-    moments_as a s0 s0 (LeavesFront (λ t. t ≡ s) s x now.log) (LeavesFront (IsAround g s c) s x now.log) (leaves_as (λ t. t ≡ s) (IsAround g s c) s x now.log (is_same g s c))
+    moments_as a s0 s0 (LeavesPrefix (λ t. t ≡ s) s x now.log) (LeavesPrefix (IsAround g s c) s x now.log) (leaves_as (λ t. t ≡ s) (IsAround g s c) s x now.log (is_same g s c))
     (quiet a s0 law seated s x now.log p.log logs rest ranges kept)

@@ -1,4 +1,4 @@
--- What a crash in a call leaves of the log: a front of what the session has logged.
+-- What a crash in a call leaves of the log: a prefix of what the session has logged.
 use Rattle.std.specs.Prelude.{◌≡◌, ◌⊎◌, ◌≤◌, ℕ, List, [], ◌++◌}
 use Rattle.map_model.specs.declared.call.Call.{Call}
 use Rattle.map_model.specs.declared.call.Answer.{Answer}
@@ -15,24 +15,24 @@ use Rattle.worker_log.specs.Logs.{Log, Account, spelled_from, joined}
 use Rattle.worker_log.specs.Kept.{AllFitBlocks, run_of}
 use Rattle.worker_log.specs.Laws.{entries_onto}
 
--- The run of the log is these blocks, whole. Their records are a front of what such a session has logged, and have each record
+-- The run of the log is these blocks, whole. Their records are a prefix of what such a session has logged, and have each record
 -- of s that was flushed.
-pub record HoldsFront (Such : Session → Type 0) (s : Session) (log : Log) (bytes : List ℕ) : Type 0 where
+pub record HoldsPrefix (Such : Session → Type 0) (s : Session) (log : Log) (bytes : List ℕ) : Type 0 where
   pub blocks : List (List Record)
   pub run : run_of log bytes ≡ spelled_from log.generation log.log log.head blocks
   pub fit : AllFitBlocks blocks
   pub session : Session
   pub is : Such session
   pub newer : List Entry
-  pub front : newer ++ entries_onto 1 [] (joined blocks) ≡ session.log
+  pub prefix : newer ++ entries_onto 1 [] (joined blocks) ≡ session.log
   pub flushed : (r : Entry) → Has r s.log → r.number ≤ log.flushed → Has r (entries_onto 1 [] (joined blocks))
 
 -- The writes since the account began are blocks of the log's generation, and so it is in each fair image.
-pub record LeavesFront (Such : Session → Type 0) (s : Session) (x : Account) (log : Log) (writes : List Write) (bytes : List ℕ) : Type 0 where
+pub record LeavesPrefix (Such : Session → Type 0) (s : Session) (x : Account) (log : Log) (writes : List Write) (bytes : List ℕ) : Type 0 where
   pub since : List Write
   pub writes_are : writes ≡ since ++ x.older
   pub own : (w : Write) → Has w since → generation_of w.1 ≡ log.generation
-  pub holds : IsFair 2048 IsSealed x.first since bytes → HoldsFront Such s log bytes
+  pub holds : IsFair 2048 IsSealed x.first since bytes → HoldsPrefix Such s log bytes
 
 -- the session before a call or one that it leaves with an answer
 abbrev pub IsAround : Opening → Session → Call → Session → Type 0

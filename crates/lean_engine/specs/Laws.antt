@@ -5,9 +5,9 @@ use Rattle.session_model.specs.Sessions.{Session}
 use Rattle.worker_log.specs.Logs.{Log, Account, IsInRange}
 use Rattle.worker_log.specs.Kept.{IsKept}
 use Rattle.lean_engine.specs.States.{Logs}
-use Rattle.lean_engine.specs.Crashes.{LeavesFront}
+use Rattle.lean_engine.specs.Crashes.{LeavesPrefix}
 
--- what a crash between two calls leaves of log 1: a front of what the session has logged
+-- what a crash between two calls leaves of log 1: a prefix of what the session has logged
 abbrev pub EveryRest : Type 0
 EveryRest = (s : Session) (x : Account) (log : Log) (area : Area) → log.log ≡ 1 → IsInRange log → Logs s x → IsKept x log area →
-    (c : List ℕ) → Leaves area c → LeavesFront (λ t. t ≡ s) s x log area.writes c
+    (c : List ℕ) → Leaves area c → LeavesPrefix (λ t. t ≡ s) s x log area.writes c

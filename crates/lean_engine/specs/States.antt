@@ -2,7 +2,7 @@
 use Rattle.std.specs.Prelude.{◌≡◌, ◌≤◌, ◌<◌, ◌+◌, ◌^◌, ℕ, Bool, true, List, [], length, slice_get, Option, Some, None, if◌then◌else◌}
 use Rattle.page_model.specs.Page as stored
 use Rattle.page_model.specs.Tree.{IsTree}
-use Rattle.image_model.specs.Entries.{Page}
+use Rattle.image_model.specs.Entries.{Contents}
 use Rattle.core_state.specs.States.{Opening}
 use Rattle.disk_image.specs.Formats.{format_of}
 use Rattle.node_tree.specs.Nodes.{nodes_of}
@@ -28,7 +28,7 @@ last_or (Some p) = p.last_log
 last_or None = 0
 
 -- page p, as a session has it; beyond the last there are free ones
-abbrev pub page_of : State → ℕ → Page
+abbrev pub page_of : State → ℕ → Contents
 page_of e p = record { gsn = gsn_or (slice_get e.pages p); last = last_or (slice_get e.pages p); node = nodes_of e.pages p }
 
 -- The engine has in memory what the session has, in log 1.

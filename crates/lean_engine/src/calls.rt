@@ -13,8 +13,8 @@ ghost use Rattle.worker_log.specs.Logs.{Account, IsInRange};
 ghost use Rattle.worker_log.specs.Kept.{IsKept, StagesTo};
 ghost use Rattle.lean_engine.specs.States.{Logs, Pictures};
 ghost use Rattle.lean_engine.specs.Refusals.{IsRefused, refusal_of};
-ghost use Rattle.lean_engine.specs.Calls.{Calls, IsCommitted, IsStill, IsWithin, KeepsRing};
-ghost use Rattle.lean_engine.specs.Crashes.{IsAround, LeavesFront};
+ghost use Rattle.lean_engine.specs.Calls.{Calls, IsCommitted, IsStill, IsWithin, KeepsRing, LogAfter};
+ghost use Rattle.lean_engine.specs.Crashes.{IsAround, LeavesPrefix};
 ghost use Rattle.lean_engine.specs.Inside.{IsEnding, IsValue, IsWas, MayPut, Puts, change_of, said, word_of};
 
 use crate::engine::Engine;
@@ -36,12 +36,13 @@ impl Engine {
             → Calls g s self.old self.new call.now a (Tells (P.story dev.new) (P.seat dev.old).area)
             ((P.story dev.old).area (P.seat dev.old).area) ((P.story dev.new).area (P.seat dev.old).area)) }
         ensures ring { IfOk result (λ a. KeepsRing a self.old.log self.new.log) }
+        ensures log { IfOk result (λ a. LogAfter a self.old self.new) }
         ensures ranges { IsInRange self.new.log }
         ensures same { (r : Refusal) → IsRefused self.old call.now r → self.new ≡ self.old }
         ensures same_device { IsStill self.old call.now → dev.new ≡ dev.old }
         ensures any_moment { (g : Opening) (s : Session) (x : Account) → Pictures g s self.old → Logs s x
             → (Tells (P.story dev.old) (P.seat dev.old).area → IsKept x self.old.log ((P.story dev.old).area (P.seat dev.old).area))
-            → LeavesOnly (P.story dev.old) (P.story dev.new) (CrashIn (P.story dev.old) (P.seat dev.old).area (LeavesFront (IsAround g s call.now) s x self.old.log)) }
+            → LeavesOnly (P.story dev.old) (P.story dev.new) (CrashIn (P.story dev.old) (P.seat dev.old).area (LeavesPrefix (IsAround g s call.now) s x self.old.log)) }
         ensures frame { Framed (P.seat dev.old).area (P.story dev.old) (P.story dev.new) }
         ensures seat { P.seat dev.new ≡ P.seat dev.old }
 
@@ -68,6 +69,7 @@ impl Engine {
         requires { refusal_of self.old Call.Begin ≡ None }
         ensures does { (g : Opening) (s : Session) (told : Bool) (area : Area) → Pictures g s self.old → Calls g s self.old self.new Call.Begin result (IsTrue told) area area }
         ensures ring { KeepsRing result self.old.log self.new.log }
+        ensures log { LogAfter result self.old self.new }
         ensures ranges { IsInRange self.new.log }
         ensures answer { result ≡ Answer.Begun (suc self.old.begun) }
     {
@@ -81,6 +83,7 @@ impl Engine {
         requires free { refusal_of self.now (Call.Get key) ≡ None }
         requires key { key < key_end }
         ensures does { (g : Opening) (s : Session) (told : Bool) (area : Area) → Pictures g s self.now → Calls g s self.now self.now (Call.Get key) result (IsTrue told) area area }
+        ensures log { LogAfter result self.now self.now }
         ensures answer { IsValue result }
     {
         let page = leaf_of(&self.pages, key);
@@ -94,11 +97,12 @@ impl Engine {
             → Calls g s self.old self.new (Call.Put key value) a (Tells (P.story dev.new) (P.seat dev.old).area)
             ((P.story dev.old).area (P.seat dev.old).area) ((P.story dev.new).area (P.seat dev.old).area)) }
         ensures ring { IfOk result (λ a. KeepsRing a self.old.log self.new.log) }
+        ensures log { IfOk result (λ a. LogAfter a self.old self.new) }
         ensures ranges { IsInRange self.new.log }
         ensures answer { IfOk result IsWas }
         ensures any_moment { (s : Session) (x : Account) → self.old.log.log ≡ 1 → Logs s x
             → (Tells (P.story dev.old) (P.seat dev.old).area → IsKept x self.old.log ((P.story dev.old).area (P.seat dev.old).area))
-            → LeavesOnly (P.story dev.old) (P.story dev.new) (CrashIn (P.story dev.old) (P.seat dev.old).area (LeavesFront (λ t. t ≡ s) s x self.old.log)) }
+            → LeavesOnly (P.story dev.old) (P.story dev.new) (CrashIn (P.story dev.old) (P.seat dev.old).area (LeavesPrefix (λ t. t ≡ s) s x self.old.log)) }
         ensures frame { Framed (P.seat dev.old).area (P.story dev.old) (P.story dev.new) }
         ensures seat { P.seat dev.new ≡ P.seat dev.old }
 
@@ -126,7 +130,7 @@ impl Engine {
             → StagesTo (change_of self.old page key value) x self.old.log self.new.log ((P.story dev.new).area (P.seat dev.old).area)) }
         ensures any_moment { (s : Session) (x : Account) → self.old.log.log ≡ 1 → Logs s x
             → (Tells (P.story dev.old) (P.seat dev.old).area → IsKept x self.old.log ((P.story dev.old).area (P.seat dev.old).area))
-            → LeavesOnly (P.story dev.old) (P.story dev.new) (CrashIn (P.story dev.old) (P.seat dev.old).area (LeavesFront (λ t. t ≡ s) s x self.old.log)) }
+            → LeavesOnly (P.story dev.old) (P.story dev.new) (CrashIn (P.story dev.old) (P.seat dev.old).area (LeavesPrefix (λ t. t ≡ s) s x self.old.log)) }
         ensures frame { Framed (P.seat dev.old).area (P.story dev.old) (P.story dev.new) }
         ensures seat { P.seat dev.new ≡ P.seat dev.old }
 
@@ -182,11 +186,12 @@ impl Engine {
             → Calls g s self.old self.new Call.Commit a (Tells (P.story dev.new) (P.seat dev.old).area)
             ((P.story dev.old).area (P.seat dev.old).area) ((P.story dev.new).area (P.seat dev.old).area)) }
         ensures ring { IfOk result (λ a. KeepsRing a self.old.log self.new.log) }
+        ensures log { IfOk result (λ a. LogAfter a self.old self.new) }
         ensures ranges { IsInRange self.new.log }
         ensures answer { IfOk result IsCommitted }
         ensures any_moment { (g : Opening) (s : Session) (x : Account) → Pictures g s self.old → Logs s x
             → (Tells (P.story dev.old) (P.seat dev.old).area → IsKept x self.old.log ((P.story dev.old).area (P.seat dev.old).area))
-            → LeavesOnly (P.story dev.old) (P.story dev.new) (CrashIn (P.story dev.old) (P.seat dev.old).area (LeavesFront (IsEnding s) s x self.old.log)) }
+            → LeavesOnly (P.story dev.old) (P.story dev.new) (CrashIn (P.story dev.old) (P.seat dev.old).area (LeavesPrefix (IsEnding s) s x self.old.log)) }
         ensures frame { Framed (P.seat dev.old).area (P.story dev.old) (P.story dev.new) }
         ensures seat { P.seat dev.new ≡ P.seat dev.old }
 

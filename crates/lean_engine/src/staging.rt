@@ -8,12 +8,12 @@ ghost use Rattle.session_model.specs.Sessions.{Session};
 ghost use Rattle.worker_log.specs.Logs.{Account, IsInRange, limit, used};
 ghost use Rattle.worker_log.specs.Kept.{After, IsKept, StagesTo};
 ghost use Rattle.lean_engine.specs.States.{Logs};
-ghost use Rattle.lean_engine.specs.Crashes.{LeavesFront};
+ghost use Rattle.lean_engine.specs.Crashes.{LeavesPrefix};
 ghost use Rattle.lean_engine.specs.Inside.{Ends, EndsTo, IsEnding, commit_of};
 
 use lean_disk::Part;
 use log_record::{Body, Record};
-use worker_log::{DiskFault, WorkerLog, every_front};
+use worker_log::{DiskFault, WorkerLog, every_prefix};
 
 /// Stages the record of a change, for which the log has room.
 pub(crate) fn stage_change<P: Part>(
@@ -30,13 +30,13 @@ pub(crate) fn stage_change<P: Part>(
     ensures kept { OnOk result ((x : Account) → Tells (P.story dev.new) (P.seat dev.old).area → IsKept x log.old ((P.story dev.old).area (P.seat dev.old).area)
         → StagesTo entry.now x log.old log.new ((P.story dev.new).area (P.seat dev.old).area)) }
     ensures any_moment { (s : Session) (x : Account) → log.old.log ≡ 1 → Logs s x → (Tells (P.story dev.old) (P.seat dev.old).area → IsKept x log.old ((P.story dev.old).area (P.seat dev.old).area))
-        → LeavesOnly (P.story dev.old) (P.story dev.new) (CrashIn (P.story dev.old) (P.seat dev.old).area (LeavesFront (λ t. t ≡ s) s x log.old)) }
+        → LeavesOnly (P.story dev.old) (P.story dev.new) (CrashIn (P.story dev.old) (P.seat dev.old).area (LeavesPrefix (λ t. t ≡ s) s x log.old)) }
     ensures frame { Framed (P.seat dev.old).area (P.story dev.old) (P.story dev.new) }
     ensures seat { P.seat dev.new ≡ P.seat dev.old }
 
     ensures cause_disk_fault { HasCause (P.faults dev.old) (P.faults dev.new) (IsErr result) }
 {
-    every_front();
+    every_prefix();
     match log.stage(dev, entry) {
         Ok(()) => Ok(()),
         Err(_) => Err(DiskFault),
@@ -58,13 +58,13 @@ pub(crate) fn commit_log<P: Part>(
         → EndsTo (commit_of txn log.old) x log.old log.new ((P.story dev.new).area (P.seat dev.old).area)) }
     ensures any_moment { (s : Session) (x : Account) → s.begun ≡ txn → s.clock ≡ log.old.last → log.old.log ≡ 1 → Logs s x
         → (Tells (P.story dev.old) (P.seat dev.old).area → IsKept x log.old ((P.story dev.old).area (P.seat dev.old).area))
-        → LeavesOnly (P.story dev.old) (P.story dev.new) (CrashIn (P.story dev.old) (P.seat dev.old).area (LeavesFront (IsEnding s) s x log.old)) }
+        → LeavesOnly (P.story dev.old) (P.story dev.new) (CrashIn (P.story dev.old) (P.seat dev.old).area (LeavesPrefix (IsEnding s) s x log.old)) }
     ensures frame { Framed (P.seat dev.old).area (P.story dev.old) (P.story dev.new) }
     ensures seat { P.seat dev.new ≡ P.seat dev.old }
 
     ensures cause_disk_fault { HasCause (P.faults dev.old) (P.faults dev.new) (IsErr result) }
 {
-    every_front();
+    every_prefix();
     // Draw the number.
     let entry = commit_entry(log, txn);
     // Stage the record.

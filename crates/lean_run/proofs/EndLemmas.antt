@@ -20,7 +20,7 @@ use Rattle.recovery.specs.declared.opening.Unrecovered.{Unrecovered}
 use Rattle.core_state.specs.States.{Opening}
 use Rattle.session_model.specs.Calls.{Answered, Runs}
 use Rattle.session_model.specs.Sessions.{Session}
-use Rattle.transcripts.specs.Laws.{EveryFront, EveryNotice, IsQuiet}
+use Rattle.transcripts.specs.Laws.{EveryPrefix, EveryNotice, IsQuiet}
 use Rattle.transcripts.specs.Told.{asked_lines, replies, EachReplyFits, Heard, IsCut, IsTail}
 use Rattle.transcripts.specs.Told.Heard.{Whole}
 use Rattle.transcripts.specs.Told.IsTail.{CutReply}
@@ -64,7 +64,7 @@ refused_ends notice_law status s0 old new law later notes others any feed reason
         reason = reason;
         status_is = is;
         shown = shown;
-        printed = went_out (line_of (notice_of reason)) t.text r.answer sink0 sink1 t.front t.is_front t.whole r.cause;
+        printed = went_out (line_of (notice_of reason)) t.text r.answer sink0 sink1 t.prefix t.is_prefix t.whole r.cause;
         unread = refl;
         left = λ refused a. subst (λ (x : Area). IsUntouched (s0.area a) x) (sym ((put_notes old new r.answer r.line.noted r.line.same).area a)) (left refused a);
       });
@@ -80,7 +80,7 @@ cut_ends notice_law s0 old new law later notes others any feed n g from fits hel
     let t = line_text notice_law s0 old new law later notes any feed o fits answer held0 held1 p in record {
       put = t.text;
       holds = t.holds;
-      how = inr (inl (record { status_is = refl; cause = rose; counts = n; opening = g; from = from; front = t.front; printed = t.is_front; unread = refl }));
+      how = inr (inl (record { status_is = refl; cause = rose; counts = n; opening = g; from = from; prefix = t.prefix; printed = t.is_prefix; unread = refl }));
       others = λ a lt. (put_notes old new answer p.noted p.same).area a ∙ others a lt;
       any_moment = line_leaves notice_law s0 old new law later notes any feed o fits answer held0 held1 p;
     }
@@ -110,14 +110,14 @@ pub record HeardOf (stop : Stop) (calls : List Answered) (all : List Reply) : Ty
   pub all_heard : (stop ≡ stops.WriteFault → ⊥) → unheard ≡ []
   pub hears : Heard heard all
 
-pub heard_of : EveryFront → (stop : Stop) (calls : List Answered) (told : List Reply) (tail : List ℕ) (fits : EachReplyFits (replies calls)) (p : PrintsTo (Some stop) (replies calls) told tail) → HeardOf stop calls (out_of stop calls told tail fits p).all
-heard_of front stops.End calls told tail fits p = record { heard = calls; unheard = []; calls_are = refl; all_heard = λ e. refl; hears = Whole p.told_is }
-heard_of front (stops.Refused line) calls told tail fits p = record { heard = calls; unheard = []; calls_are = refl; all_heard = λ e. refl; hears = Whole p.told_is }
-heard_of front stops.ReadFault calls told tail fits p = record { heard = calls; unheard = []; calls_are = refl; all_heard = λ e. refl; hears = Whole p.told_is }
-heard_of front stops.DiskFault calls told tail fits p = record { heard = calls; unheard = []; calls_are = refl; all_heard = λ e. refl; hears = Whole p.told_is }
-heard_of front stops.WriteFault calls told tail fits p =
+pub heard_of : EveryPrefix → (stop : Stop) (calls : List Answered) (told : List Reply) (tail : List ℕ) (fits : EachReplyFits (replies calls)) (p : PrintsTo (Some stop) (replies calls) told tail) → HeardOf stop calls (out_of stop calls told tail fits p).all
+heard_of prefix stops.End calls told tail fits p = record { heard = calls; unheard = []; calls_are = refl; all_heard = λ e. refl; hears = Whole p.told_is }
+heard_of prefix (stops.Refused line) calls told tail fits p = record { heard = calls; unheard = []; calls_are = refl; all_heard = λ e. refl; hears = Whole p.told_is }
+heard_of prefix stops.ReadFault calls told tail fits p = record { heard = calls; unheard = []; calls_are = refl; all_heard = λ e. refl; hears = Whole p.told_is }
+heard_of prefix stops.DiskFault calls told tail fits p = record { heard = calls; unheard = []; calls_are = refl; all_heard = λ e. refl; hears = Whole p.told_is }
+heard_of prefix stops.WriteFault calls told tail fits p =
     let o : Out calls told tail = out_of stops.WriteFault calls told tail fits p in
-    let f = front calls o.newer o.all o.split in
+    let f = prefix calls o.newer o.all o.split in
     record { heard = f.calls.first; unheard = f.calls.later; calls_are = f.calls.is; all_heard = λ e. absurd (e refl); hears = f.calls.heard }
 
 -- what stands behind the replies

@@ -1,9 +1,9 @@
--- The image that a crash leaves of a disk that was opened: by the pages of the opening and a front of the session's log.
+-- The image that a crash leaves of a disk that was opened: by the pages of the opening and a prefix of the session's log.
 use Rattle.std.proofs.Common.{◌≡◌, ⊎_elim, ◌≤◌, ◌<◌, ◌*◌, ◌++◌, ℕ, suc, List, [], length, slice_index_or, Some, Option, refl, sym, ◌∙◌, ap, ap₂, subst, arith}
 use Rattle.map_model.specs.Lists.{Has}
 use Rattle.map_model.specs.Journals.{IsClosed, after}
 use Rattle.image_model.specs.Ends.{kept}
-use Rattle.image_model.specs.Entries.{Entry, Page}
+use Rattle.image_model.specs.Entries.{Entry, Contents}
 use Rattle.image_model.specs.Fair.{piece, IsFair}
 use Rattle.image_model.specs.Images.{StandsFor, found, gathered, won_by}
 use Rattle.image_model.specs.Slots.{base_of, newer_page, valid, Slot}
@@ -28,7 +28,7 @@ use Rattle.session_model.specs.Sessions.{Session, IsAlone}
 use Rattle.worker_log.specs.Laws.{EveryRun, Reads, entries_onto}
 use Rattle.worker_log.specs.Logs.{Log, joined, spelled_from}
 use Rattle.worker_log.specs.Kept as kept_log
-use Rattle.lean_run.specs.Inside.{IsFront, Rests}
+use Rattle.lean_run.specs.Inside.{IsPrefix, Rests}
 use Rattle.lean_run.proofs.SealedLemmas.{IsSealedIn, listed, lists}
 
 one : (w : ℕ) → 0 < w → w ≤ 1 → w ≡ 1
@@ -52,7 +52,7 @@ module _ (laws : EverySession) (agrees : EveryAgreement) (reads_so : EveryRun) (
       ∙ ap₂ (λ (w e : ℕ). runs.run_in e w log.blocks bytes log.blocks log.head) (sym rests.log_is.log_is) (sym rests.log_is.generation))
 
   module _ (hand : List Answered) (t : Session) (runs_so : Runs g hand t) (image : Areas)
-      (master : image 0 ≡ (s.area 0).bytes) (pages : image 1 ≡ (s.area 1).bytes) (run : IsFront log t (image 2)) where
+      (master : image 0 ≡ (s.area 0).bytes) (pages : image 1 ≡ (s.area 1).bytes) (run : IsPrefix log t (image 2)) where
     abbrev pub left : List Entry
     left = entries_onto 1 [] (joined run.blocks)
 
@@ -68,9 +68,9 @@ module _ (laws : EverySession) (agrees : EveryAgreement) (reads_so : EveryRun) (
     session = laws g 64 alone hand t runs_so
 
     pub survives : Survives g hand left
-    survives = session.crash run.newer left run.front
+    survives = session.crash run.newer left run.prefix
 
-    abbrev base_with : (p : ℕ) → List ℕ → Option Page
+    abbrev base_with : (p : ℕ) → List ℕ → Option Contents
     base_with p bytes = newer_page (valid n.generation (slot_of (page_slot_in n.pages p 0 bytes))) (valid n.generation (slot_of (page_slot_in n.pages p 1 bytes)))
 
     log_is : (w : ℕ) → w ≡ 1 → left ≡ entries_in (logged_in n w (image (suc w)))
@@ -104,6 +104,9 @@ module _ (laws : EverySession) (agrees : EveryAgreement) (reads_so : EveryRun) (
       where
         found_is : left ++ [] ≡ gathered (image_by n image).log 1
         found_is = ap (λ (z : List Entry). z ++ []) (log_is 1 refl)
+
+    pub found_left : left ++ [] ≡ found (image_by n image)
+    found_left = ap (λ (z : List Entry). z ++ []) (log_is 1 refl) ∙ ap (gathered (image_by n image).log) (sym logs)
 
     pub master_is : master_on (image 0) ≡ Some n
     master_is = ap master_on master ∙ rests.master

@@ -9,12 +9,11 @@ use Rattle.script_lang.specs.Replies.{Reply}
 use Rattle.session_model.specs.Calls.{Answered, journal, lines}
 use Rattle.transcripts.specs.Told.{durable_of, names, replies, Heard}
 use Rattle.transcripts.specs.Told.Heard.{Whole, Lacking}
-use Rattle.lean_run.specs.Crashes.{WithOneInHand}
 
-pub has_front : {A : Type 0} (x : A) (xs ys : List A) → Has x xs → Has x (xs ++ ys)
-has_front x [] ys h = absurd h
-has_front x (y ∷ xs) ys (inl e) = inl e
-has_front x (y ∷ xs) ys (inr h) = inr (has_front x xs ys h)
+pub has_prefix : {A : Type 0} (x : A) (xs ys : List A) → Has x xs → Has x (xs ++ ys)
+has_prefix x [] ys h = absurd h
+has_prefix x (y ∷ xs) ys (inl e) = inl e
+has_prefix x (y ∷ xs) ys (inr h) = inr (has_prefix x xs ys h)
 
 pub has_cases : {A : Type 0} (x : A) (xs ys : List A) → Has x (xs ++ ys) → Has x xs ⊎ Has x ys
 has_cases x [] ys h = inr h
@@ -53,11 +52,20 @@ only_inserted u t (y ∷ ys) h = only_cons (is_earlier t y) u t y ys (insert_by 
 
 -- ## One call more
 
+-- a journal has these transactions and one more
+pub record HasOneMore (told_ones all : Journal) : Type 0 where
+  pub more : Txn
+  pub has : (t : Txn) → Has t told_ones → Has t all
+  pub only : (t : Txn) → Has t all → Has t told_ones ⊎ (t ≡ more)
+
+abbrev pub Grows : Journal → Journal → Type 0
+Grows told_ones all = (all ≡ told_ones) ⊎ HasOneMore told_ones all
+
 -- the journal of calls with one more, by its answer
-abbrev with_answer : Answered → List Answered → Answer → Journal
+abbrev pub with_answer : Answered → List Answered → Answer → Journal
 with_answer x earlier a = journal_of (map txn_of (told_onto a 1 (lines_in 1 (lines earlier)) (told (lines earlier))))
 
-one_more : (x : Answered) (earlier : List Answered) (a : Answer) → WithOneInHand (journal earlier) (with_answer x earlier a)
+one_more : (x : Answered) (earlier : List Answered) (a : Answer) → Grows (journal earlier) (with_answer x earlier a)
 one_more x earlier (answer.Committed n at) = inr (record {
   more = txn_of (record { session = 1; number = n; at = at; lines = lines_in 1 (lines earlier) });
   has = λ t h. has_still t (txn_of (record { session = 1; number = n; at = at; lines = lines_in 1 (lines earlier) })) (journal earlier) h;
@@ -68,11 +76,11 @@ one_more x earlier (answer.Value v) = inl refl
 one_more x earlier (answer.Was v) = inl refl
 one_more x earlier (answer.Refused r) = inl refl
 
-pub with_hand : (calls hand : List Answered) → (hand ≡ calls) ⊎ ((x : Answered) × (hand ≡ x ∷ calls)) → WithOneInHand (journal calls) (journal hand)
+pub with_hand : (calls hand : List Answered) → (hand ≡ calls) ⊎ ((x : Answered) × (hand ≡ x ∷ calls)) → Grows (journal calls) (journal hand)
 with_hand calls hand (inl e) = inl (ap journal e)
-with_hand calls hand (inr p) = subst (λ (xs : List Answered). WithOneInHand (journal calls) (journal xs)) (sym p.1) (one_more p.0 calls p.0.answer)
+with_hand calls hand (inr p) = subst (λ (xs : List Answered). Grows (journal calls) (journal xs)) (sym p.1) (one_more p.0 calls p.0.answer)
 
-pub still_has : (told_ones all : Journal) → WithOneInHand told_ones all → (t : Txn) → Has t told_ones → Has t all
+pub still_has : (told_ones all : Journal) → Grows told_ones all → (t : Txn) → Has t told_ones → Has t all
 still_has told_ones all (inl e) t h = subst (Has t) (sym e) h
 still_has told_ones all (inr o) t h = o.has t h
 

@@ -23,21 +23,21 @@ use Rattle.lean_run.proofs.OutputLemmas.{notice_tail, no_tail}
 pub record PutText (line : List ℕ) (answer : Put) (held0 held1 : Held) : Type 0 where
   pub text : List ℕ
   pub holds : IsTrue held0.tells → held1.bytes ≡ held0.bytes ++ text
-  pub front : ℕ
-  pub is_front : text ≡ take front line
+  pub prefix : ℕ
+  pub is_prefix : text ≡ take prefix line
   pub whole : answer ≡ Done → text ≡ line
 
 not_done : Failed ≡ Done → ⊥
 not_done e = cc
 
 pub put_text : (line : List ℕ) (answer : Put) (held0 held1 : Held) → Puts line answer held0 held1 → PutText line answer held0 held1
-put_text line Done held0 held1 p = record { text = line; holds = p.done refl; front = length line; is_front = sym (take-length line); whole = λ e. refl }
-put_text line Failed held0 held1 p = let q = p.failed refl in record { text = take q.0 line; holds = q.1; front = q.0; is_front = refl; whole = λ e. absurd (not_done e) }
+put_text line Done held0 held1 p = record { text = line; holds = p.done refl; prefix = length line; is_prefix = sym (take-length line); whole = λ e. refl }
+put_text line Failed held0 held1 p = let q = p.failed refl in record { text = take q.0 line; holds = q.1; prefix = q.0; is_prefix = refl; whole = λ e. absurd (not_done e) }
 
 -- it went out, or the sink failed
-pub went_out : (line text : List ℕ) (answer : Put) (before now front : ℕ) → text ≡ take front line → (answer ≡ Done → text ≡ line) → HasCause before now (answer ≡ Failed) → WentOut line text before now
-went_out line text Done before now front is whole cause = inl (whole refl, cause.calm (λ e. not_done (sym e)))
-went_out line text Failed before now front is whole cause = inr ((front, is), cause.cause refl)
+pub went_out : (line text : List ℕ) (answer : Put) (before now prefix : ℕ) → text ≡ take prefix line → (answer ≡ Done → text ≡ line) → HasCause before now (answer ≡ Failed) → WentOut line text before now
+went_out line text Done before now prefix is whole cause = inl (whole refl, cause.calm (λ e. not_done (sym e)))
+went_out line text Failed before now prefix is whole cause = inr ((prefix, is), cause.cause refl)
 
 pub put_not_done : (answer : Put) → (answer ≡ Done → ⊥) → answer ≡ Failed
 put_not_done Done n = absurd (n refl)
@@ -77,11 +77,11 @@ line_put stop n fits line not_write last held0 held1 sink0 sink1 old new answer 
     record {
       text = t.text;
       went = λ before earlier. last t.text before sink1
-          (subst (λ (k : ℕ). WentOut (last_line stop) t.text k sink1) (earlier.calm not_write) (went_out (last_line stop) t.text answer sink0 sink1 t.front t.is_front t.whole cause));
+          (subst (λ (k : ℕ). WentOut (last_line stop) t.text k sink1) (earlier.calm not_write) (went_out (last_line stop) t.text answer sink0 sink1 t.prefix t.is_prefix t.whole cause));
       holds = t.holds;
       notes = put_notes old new answer p.noted p.same;
       noted = λ few c now. how answer refl few c now;
-      tail = λ other m m_fits. subst IsTail (sym (t.is_front ∙ ap (take t.front) line)) (notice_tail n fits t.front);
+      tail = λ other m m_fits. subst IsTail (sym (t.is_prefix ∙ ap (take t.prefix) line)) (notice_tail n fits t.prefix);
       none = λ e. absurd (not_write e);
     }
   where

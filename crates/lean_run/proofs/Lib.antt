@@ -3,6 +3,7 @@ pub mod NoteLemmas
 pub mod SealedLemmas
 pub mod ImageLemmas
 pub mod JournalLemmas
+pub mod HandLemmas
 pub mod SurviveLemmas
 pub mod OpeningLemmas
 pub mod ReasonLemmas

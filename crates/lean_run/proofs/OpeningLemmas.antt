@@ -7,7 +7,7 @@ use Rattle.page_model.specs.Page as stored
 use Rattle.page_model.specs.Nodes.{Format, Node, holds}
 use Rattle.page_model.specs.Pairs.{find}
 use Rattle.page_model.specs.Tree.{IsTree, entry, value_of}
-use Rattle.image_model.specs.Entries.{Page}
+use Rattle.image_model.specs.Entries.{Contents}
 use Rattle.image_model.specs.Images.{Image, map_of, recovered_page}
 use Rattle.lean_disk.specs.Area.{Area}
 use Rattle.lean_disk.specs.Story.{Story}
@@ -17,7 +17,7 @@ use Rattle.disk_image.specs.Shown.{Areas, IsCleanDisk, IsSoundDisk, image_by}
 use Rattle.node_tree.specs.Nodes.{nodes_of, node_or}
 use Rattle.recovery_scan.specs.Scans.{areas_of}
 use Rattle.recovery.specs.Masters.{IsOpenable, next_master}
-use Rattle.recovery.specs.Opened.{IsOpened, IsRecovered, IsUntouched, IsWhole, TellsAll}
+use Rattle.recovery.specs.Opened.{IsGreatest, IsOpened, IsRecovered, IsUntouched, IsWhole, TellsAll}
 use Rattle.recovery.specs.Own.{EveryOwn}
 use Rattle.recovery.specs.declared.opening.Recovered.{Recovered}
 use Rattle.core_state.specs.States.{Opening, start_page}
@@ -29,7 +29,7 @@ use Rattle.worker_log.specs.Logs.{Log}
 use Rattle.worker_log.specs.Kept.{IsFresh, IsKept, fresh_account}
 use Rattle.lean_engine.specs.States.{State, Pictures, gsn_or, last_or}
 use Rattle.lean_run.specs.Inside.{HasOpened, IsLogOf, Rests}
-use Rattle.lean_run.specs.Runs.{Counts, IsFrom}
+use Rattle.lean_run.specs.Runs.{Counts, IsFrom, first_log}
 
 -- what stands in the leaves depends on these pages alone
 entry_same : (n : ℕ) (x y : ℕ → Node) (k : ℕ) → ((p : ℕ) → p < n → x p ≡ y p) → entry n x k ≡ entry n y k
@@ -109,7 +109,7 @@ module _ (r : Recovered) (whole : IsWhole r) where
       where
         node_is : (p : ℕ) → p < length r.pages.items → nodes_of r.pages.items p ≡ given.opening.node p
         node_is p lt = let low : p < m.pages = (let e = is.count in omega arith) in
-            ap (λ (v : Page). v.node) (page_is p low ∙ sym (given.pages p low))
+            ap (λ (v : Contents). v.node) (page_is p low ∙ sym (given.pages p low))
 
     pub from : (s : Story) → area ≡ areas_of s → (n : Counts) → n ≡ record { generation = r.master.generation; winners = r.winners; undone = r.undone } → IsFrom opening_on s n
     from s same n counts = subst (λ (c : Counts). IsFrom opening_on s c) (sym counts) (here s same)
@@ -120,6 +120,9 @@ module _ (r : Recovered) (whole : IsWhole r) where
           openable = openable;
           sound = subst (IsSoundDisk m) same is.sound;
           map = λ k. map_is k ∙ ap (λ (a : Areas). map_of (image_by m a) k) same;
+          format = ap format_of is.count;
+          pages = λ p lt. page_is p lt ∙ ap (λ (a : Areas). recovered_page (image_by m a) p) same;
+          base = subst (λ (a : Areas). IsGreatest (image_by m a) r.master.floor) same is.base;
           generation = ap (λ (x : Master). x.generation) is.master;
           won = is.won ∙ ap (λ (a : Areas). length (Rattle.image_model.specs.Images.won_by (image_by m a))) same;
           lost = is.lost ∙ ap (λ (a : Areas). length (Rattle.image_model.specs.Images.lost_by (image_by m a))) same;
@@ -146,7 +149,7 @@ module _ (r : Recovered) (whole : IsWhole r) where
         master = opened.master;
         format = ap format_of whole.count;
         floor = refl;
-        base = λ p lt. opened.base p (low p lt) ∙ ap (λ (v : Page). Some v) (sym (page_is p (low p lt)));
+        base = λ p lt. opened.base p (low p lt) ∙ ap (λ (v : Contents). Some v) (sym (page_is p (low p lt)));
         slots = λ p h x lt half there. opened.slots p h x (low p lt) half there;
         settled = opened.settled;
         log_is = log_is;
@@ -183,6 +186,9 @@ module _ (r : Recovered) (whole : IsWhole r) where
       head = ap (λ (l : Log). l.head) log_is;
     }
 
+    same_one : {x y : Master} → Some x ≡ Some y → x ≡ y
+    same_one e = cc
+
     -- the master on entry is the one that it gives
     is_one : (tells : TellsAll s0) (m : Master) → IsCleanDisk m (areas_of s0) → (answer tells).0 ≡ m
     is_one tells m clean = some_one (sym (answer tells).2.sound.master ∙ clean.master)
@@ -201,6 +207,9 @@ module _ (r : Recovered) (whole : IsWhole r) where
       quiet = ap (λ (x : State). x.log.last) engine_is ∙ (ap (λ (l : Log). l.last) log_is ∙ sym (ap (λ (x : State). x.log.flushed) engine_is ∙ ap (λ (l : Log). l.flushed) log_is));
       starts = subst (λ (l : Log). (area : Area) → IsFresh l area → IsKept (fresh_account area) l area) (sym (ap (λ (x : State). x.log) engine_is)) starts;
       from = λ tells. from every_opening every_own (answer tells).0 (answer tells).1 (areas_of s0) (answer tells).2 s0 refl (record { generation = r.master.generation; winners = r.winners; undone = r.undone }) refl;
+      log = λ tells m there.
+          ap (λ (x : State). x.log) engine_is ∙ (log_is ∙ (ap (λ (x : Master). record { generation = x.generation; log = 1; blocks = x.blocks; head = 0; next = 0; payload = []; count = 0; last = r.master.floor; flushed = r.master.floor }) (answer tells).2.master
+          ∙ ap (λ (x : Master). first_log x r.master.floor) (same_one (sym (answer tells).2.sound.master ∙ there))));
       map = λ m tells clean k. map_is every_opening every_own m (so_opened tells m clean).0 (areas_of s0) (so_opened tells m clean).1 k;
       rests = λ m tells clean. subst (λ (l : Log). Rests m s0 s1 opening_on l) (sym (ap (λ (x : State). x.log) engine_is))
           (rests every_opening every_own m (so_opened tells m clean).0 (areas_of s0) (so_opened tells m clean).1 s0 s1 (opened tells m clean) log_same log is_log);

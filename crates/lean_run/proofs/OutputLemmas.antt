@@ -14,9 +14,9 @@ use Rattle.script_run.specs.Runs.{IsCutOff, IsWhole, PrintsTo}
 use Rattle.script_run.specs.declared.stop.Stop.{Stop}
 use Rattle.script_run.specs.declared.stop.Stop.TheVariants as stops
 
--- ## Fronts of lines
+-- ## Prefixes of lines
 
--- a front of a line lacks its newline at least, or is all of it
+-- a prefix of a line lacks its newline at least, or is all of it
 pub cut_or_whole : (text : List ℕ) (k : ℕ) → IsCut text (take k (text ++ 10 ∷ [])) ⊎ (take k (text ++ 10 ∷ []) ≡ text ++ 10 ∷ [])
 cut_or_whole text k = go (cases_lt (length text) k)
   where
@@ -28,7 +28,7 @@ cut_or_whole text k = go (cases_lt (length text) k)
     go (inl lt) = inr (take_all k (text ++ 10 ∷ []) (let e = length_line text in omega arith))
     go (inr le) = inl (record { more = drop k text; is = ap (λ (t : List ℕ). t ++ drop k text) (take-append-le k text (10 ∷ []) le) ∙ take-append-drop k text })
 
--- a front of a notice's line
+-- a prefix of a notice's line
 pub notice_tail : (n : Notice) → NoticeFits n → (k : ℕ) → IsTail (take k (notice_text n ++ 10 ∷ []))
 notice_tail n fits k = ⊎_elim (λ cut. CutNotice n fits cut) (λ e. WholeNotice n fits e) (cut_or_whole (notice_text n) k)
 
@@ -52,12 +52,12 @@ few_replies (x ∷ earlier) =
     let ih = few_replies earlier in
     omega arith
 
-pub front_few : (later first all : List Reply) → later ++ first ≡ all → length first ≤ length all
-front_few later first all e = let a = length-append later first in let b = ap (λ (rs : List Reply). length rs) e in omega arith
+pub prefix_few : (later first all : List Reply) → later ++ first ≡ all → length first ≤ length all
+prefix_few later first all e = let a = length-append later first in let b = ap (λ (rs : List Reply). length rs) e in omega arith
 
-pub same_front : (later first all : List Reply) → later ++ first ≡ all → length first ≡ length all → first ≡ all
-same_front [] first all e same = e
-same_front (r ∷ later) first all e same =
+pub same_prefix : (later first all : List Reply) → later ++ first ≡ all → length first ≡ length all → first ≡ all
+same_prefix [] first all e same = e
+same_prefix (r ∷ later) first all e same =
     absurd (let a = length-append later first in let b = ap (λ (rs : List Reply). length rs) e in omega arith)
 
 pub older_fit : (later first : List Reply) → EachReplyFits (later ++ first) → EachReplyFits first
@@ -82,13 +82,13 @@ pub record Out (calls : List Answered) (told : List Reply) (tail : List ℕ) : T
   pub rest : List ℕ
   pub text : text_of told ++ tail ≡ text_of all ++ rest
   pub later : List Reply
-  pub front : later ++ told ≡ all
+  pub prefix : later ++ told ≡ all
   pub newer : List Reply
   pub split : newer ++ all ≡ replies calls
   pub cut : (rest ≡ []) ⊎ ((r : Reply) × Fits r × IsCut (reply_text r) rest)
 
 abbrev pub whole_out : (calls : List Answered) (told : List Reply) (tail : List ℕ) → IsWhole (replies calls) told tail → Out calls told tail
-whole_out calls told tail w = record { all = told; rest = tail; text = refl; later = []; front = refl; newer = []; split = w.told_is; cut = inl w.none }
+whole_out calls told tail w = record { all = told; rest = tail; text = refl; later = []; prefix = refl; newer = []; split = w.told_is; cut = inl w.none }
 
 pub cut_out : (calls : List Answered) (told : List Reply) (tail : List ℕ) → EachReplyFits (replies calls) → IsCutOff (replies calls) told tail → Out calls told tail
 cut_out calls told tail fits c = go (cut_or_whole (reply_text c.next) c.count)
@@ -105,17 +105,17 @@ cut_out calls told tail fits c = go (cut_or_whole (reply_text c.next) c.count)
       rest = tail;
       text = refl;
       later = [];
-      front = refl;
+      prefix = refl;
       newer = c.later ++ c.next ∷ [];
       split = push c.later c.next told ∙ c.split;
-      cut = inr (c.next, next_fits, subst (IsCut (reply_text c.next)) (sym c.front) cut);
+      cut = inr (c.next, next_fits, subst (IsCut (reply_text c.next)) (sym c.prefix) cut);
     }
     go (inr all_of_it) = record {
       all = c.next ∷ told;
       rest = [];
-      text = ap (λ (t : List ℕ). text_of told ++ t) (c.front ∙ all_of_it) ∙ sym (append-nil (text_of told ++ reply_line c.next));
+      text = ap (λ (t : List ℕ). text_of told ++ t) (c.prefix ∙ all_of_it) ∙ sym (append-nil (text_of told ++ reply_line c.next));
       later = c.next ∷ [];
-      front = refl;
+      prefix = refl;
       newer = c.later;
       split = c.split;
       cut = inl refl;

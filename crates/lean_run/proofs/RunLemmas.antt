@@ -34,11 +34,12 @@ use Rattle.session_model.specs.Sessions.{Session, start}
 use Rattle.worker_log.specs.Laws.{EveryRun}
 use Rattle.worker_log.specs.Kept.{IsKept, fresh_account}
 use Rattle.lean_engine.specs.States.{State}
-use Rattle.transcripts.specs.Laws.{EveryEnd, EveryFront, EveryMoment, EveryTranscript, IsQuiet, TellsOf}
-use Rattle.transcripts.specs.Told.{opened_line, replies, text_of, EachFits, EachReplyFits, Heard, IsOutput}
+use Rattle.transcripts.specs.Laws.{ComesNext, EveryEnd, EveryPrefix, EveryMoment, EveryNext, EveryTranscript, IsQuiet, TellsOf}
+use Rattle.transcripts.specs.Told.{ask, asked_text, opened_line, replies, text_of, EachFits, EachReplyFits, Heard, IsOutput}
+use Rattle.map_model.specs.declared.call.Call.TheVariants as call
 use Rattle.transcripts.specs.Told.Heard.{Whole}
 use Rattle.transcripts.specs.Transcripts.{durables, first_lines, in_turn, transcript}
-use Rattle.script_run.specs.Moments.{ScriptLeaves}
+use Rattle.script_run.specs.Moments.{IsAsked, ScriptLeaves}
 use Rattle.script_run.specs.Runs.{PrintsTo, ScriptRuns, WentOn}
 use Rattle.script_run.specs.Texts.{EveryScript, LinesRead}
 use Rattle.script_run.specs.declared.stop.Stop.{Stop}
@@ -51,7 +52,7 @@ use Rattle.lean_run.specs.Runs.{ended, first_line}
 use Rattle.lean_run.specs.declared.opening.Opened.{Opened}
 use Rattle.lean_run.proofs.LastLemmas.{Last, last_of}
 use Rattle.lean_run.proofs.MomentLemmas.{line_moments, put_moments, same_but, then, was_then}
-use Rattle.lean_run.proofs.OutputLemmas.{Out, earlier_fit, few_replies, front_few, no_tail, older_fit, out_of, same_front}
+use Rattle.lean_run.proofs.OutputLemmas.{Out, earlier_fit, few_replies, prefix_few, no_tail, older_fit, out_of, same_prefix}
 use Rattle.lean_run.proofs.EndLemmas.{HasLines, HeardOf, final_tail, first_lines_of, heard_of, lines_of, runs_first}
 use Rattle.lean_run.proofs.SurviveLemmas as survive
 
@@ -63,7 +64,7 @@ all_told stops.ReadFault calls told tail fits p not_write = refl
 all_told stops.WriteFault calls told tail fits p not_write = absurd (not_write refl)
 all_told stops.DiskFault calls told tail fits p not_write = refl
 
-module _ (laws : EverySession) (tells_law : EveryTranscript) (moment_law : EveryMoment) (front_law : EveryFront) (script_law : EveryScript) (end_law : EveryEnd)
+module _ (laws : EverySession) (tells_law : EveryTranscript) (moment_law : EveryMoment) (prefix_law : EveryPrefix) (script_law : EveryScript) (end_law : EveryEnd) (next_law : EveryNext)
     (agrees : EveryAgreement) (seals : EverySealed) (reads_so : EveryRun)
     (s0 sa sb sc s1 : Story) (law_a : IsLawful sa) (law_c : IsLawful sc) (law_1 : IsLawful s1) (op : Opened) (o : HasOpened s0 sa op) (keeps : Keeps s0 sa)
     (any : (m : Master) → TellsAll s0 → IsCleanDisk m (areas_of s0) → LeavesOnly s0 sa (RecoveryLeaves m s0))
@@ -83,7 +84,7 @@ module _ (laws : EverySession) (tells_law : EveryTranscript) (moment_law : Every
   runs_calls = subst (λ (xs : List Answered). Runs o.g xs r.session) (append-nil calls) r.runs
 
   fit_replies : EachReplyFits (replies calls)
-  fit_replies = ((front_law calls [] (replies calls) refl).fit r.fits).1
+  fit_replies = ((prefix_law calls [] (replies calls) refl).fit r.fits).1
 
   abbrev out : Out calls r.told r.tail
   out = out_of stop calls r.told r.tail fit_replies r.prints
@@ -115,7 +116,7 @@ module _ (laws : EverySession) (tells_law : EveryTranscript) (moment_law : Every
       ∙ ap (λ (t : List ℕ). held0.bytes ++ (first_line (counts_of op) ++ t)) (append_assoc (text_of r.told) r.tail l.text))))
 
   abbrev h : HeardOf stop calls out.all
-  h = heard_of front_law stop calls r.told r.tail fit_replies r.prints
+  h = heard_of prefix_law stop calls r.told r.tail fit_replies r.prints
 
   read : IsTrue feed0.tells → LinesRead stop calls input
   read = (script_law stop calls feed0 feed1 reader r.told r.tail held_b held_c r.fits r.reads r.prints r.holds).read
@@ -151,7 +152,7 @@ module _ (laws : EverySession) (tells_law : EveryTranscript) (moment_law : Every
   -- the first of the replies, as an output of their own
   first_output : (later first : List Reply) → later ++ first ≡ r.told → IsOutput op.generation op.winners op.undone first (first_lines (suc (length first)) put)
   first_output later first e =
-      let all : (out.later ++ later) ++ first ≡ out.all = append_assoc out.later later first ∙ (ap (λ (rs : List Reply). out.later ++ rs) e ∙ out.front) in
+      let all : (out.later ++ later) ++ first ≡ out.all = append_assoc out.later later first ∙ (ap (λ (rs : List Reply). out.later ++ rs) e ∙ out.prefix) in
       let w = (moment_law op.generation op.winners op.undone out.all put output).each (out.later ++ later) first all in
       record {
         opened = opened_fits;
@@ -163,8 +164,8 @@ module _ (laws : EverySession) (tells_law : EveryTranscript) (moment_law : Every
 
   told_few : length r.told < 2 ^ 42
   told_few =
-      let a = front_few out.newer out.all (replies calls) out.split in
-      let b = front_few out.later r.told out.all out.front in
+      let a = prefix_few out.newer out.all (replies calls) out.split in
+      let b = prefix_few out.later r.told out.all out.prefix in
       let c = few_replies calls in
       let d = r.few in
       omega arith
@@ -204,7 +205,7 @@ module _ (laws : EverySession) (tells_law : EveryTranscript) (moment_law : Every
     P = RunLeaves m s0 input put
 
     abbrev Q : Crash → Type 0
-    Q = ScriptLeaves o.g [] calls r.told (start o.g) (fresh_account (sa.area 2)) op.engine.log sb
+    Q = ScriptLeaves feed0 [] o.g [] calls r.told (start o.g) (fresh_account (sa.area 2)) op.engine.log sb
 
     told_b : (a : ℕ) → sb.tells a ≡ s0.tells a
     told_b a = noted.tells a ∙ keeps.tells a
@@ -215,15 +216,18 @@ module _ (laws : EverySession) (tells_law : EveryTranscript) (moment_law : Every
     script : LeavesOnly sb sc Q
     script = r.any_moment (told_b 2 ∙ all.all.log) (fresh_account (sa.area 2)) refl kept_b
 
+    next_of : (c : Crash) (q : Q c) → IsAsked feed0 (asked_text q.heard) call.Commit → ComesNext q.heard (ask call.Commit) input
+    next_of c q asked = (next_law feed0 asked.feed asked.reader q.heard (earlier_fit q.unheard q.heard (subst EachFits (sym q.calls) r.fits)) tells).asks call.Commit asked.fits asked.read
+
     -- a crash with the writes and the bytes of one that the script leaves, as these lines were out
     module _ (c d : Crash) (q : Q c) (same : survive.IsSameBut c d) (lines_out : ℕ) (notes : d.notes ≡ s0.notes + lines_out) (t : TellsOf q.heard q.first input (first_lines lines_out put)) where
       fair_as : IsFairCrash s0 d → IsFair 2048 IsSealed (sa.area 2).bytes q.since (d.image 2)
-      fair_as = survive.fair_log laws agrees reads_so seals m s0 sa sb o.g op.engine.log o.alone rests clean all.all (o.map m all.all clean) noted.area told_b rests.writes input put
-          calls r.told c d q same lines_out notes t.journal_is t.durables_are
+      fair_as = survive.fair_log laws agrees reads_so seals m s0 sa sb o.g op.engine.log o.alone rests clean all.all (o.map m all.all clean) noted.area told_b rests.writes feed0 input put
+          calls r.told c d q same lines_out notes t.journal_is t.durables_are t.transcript_is (next_of c q)
 
       survives_as : IsFair 2048 IsSealed (sa.area 2).bytes q.since (d.image 2) → Survives m s0 input put d
-      survives_as = survive.survives laws agrees reads_so seals m s0 sa sb o.g op.engine.log o.alone rests clean all.all (o.map m all.all clean) noted.area told_b rests.writes input put
-          calls r.told c d q same lines_out notes t.journal_is t.durables_are
+      survives_as = survive.survives laws agrees reads_so seals m s0 sa sb o.g op.engine.log o.alone rests clean all.all (o.map m all.all clean) noted.area told_b rests.writes feed0 input put
+          calls r.told c d q same lines_out notes t.journal_is t.durables_are t.transcript_is (next_of c q)
 
     -- so it is in each image in which the log's blocks are fair, and they are in each fair image
     record IsSafe (since : List Write) (d : Crash) : Type 0 where
@@ -237,7 +241,7 @@ module _ (laws : EverySession) (tells_law : EveryTranscript) (moment_law : Every
     is_left since d s = inr (λ fair. s.survives (s.fair fair))
 
     first_few : (c : Crash) (q : Q c) → length q.first ≤ length r.told
-    first_few c q = front_few q.later q.first r.told q.split
+    first_few c q = prefix_few q.later q.first r.told q.split
 
     notes_of : (c : Crash) (q : Q c) → c.notes ≡ s0.notes + suc (length q.first)
     notes_of c q =
@@ -263,7 +267,7 @@ module _ (laws : EverySession) (tells_law : EveryTranscript) (moment_law : Every
             let b = notes_b in
             let own = notes_of (then sc c) q in
             let long : length q.first ≡ length r.told = omega arith in
-            let firsts : q.first ≡ r.told = same_front q.later q.first r.told q.split long in
+            let firsts : q.first ≡ r.told = same_prefix q.later q.first r.told q.split long in
             let alls : out.all ≡ r.told = all_told stop calls r.told r.tail fit_replies r.prints not_write in
             let lines_out : ℕ = suc (suc (length r.told)) in
             let size : length out.all ≡ length r.told = ap (λ (rs : List Reply). length rs) alls in
@@ -318,7 +322,9 @@ module _ (laws : EverySession) (tells_law : EveryTranscript) (moment_law : Every
       e0 = op.engine;
       e1 = r.state;
       pictures = o.pictures;
+      log = o.log;
       calls = calls;
+      few = let f = r.few in omega arith;
       session = r.session;
       executes = r.executes;
       read = read;

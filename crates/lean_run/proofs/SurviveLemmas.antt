@@ -1,5 +1,5 @@
 -- What a crash leaves in a run: of a disk that stands still, and of one on which a script is executed.
-use Rattle.std.proofs.Common.{◌≡◌, ◌⊎◌, inl, inr, ◌<◌, ◌+◌, ◌++◌, ℕ, List, [], ◌∷◌, refl, sym, ◌∙◌, ap, subst, arith, codes}
+use Rattle.std.proofs.Common.{◌≡◌, ◌⊎◌, inl, inr, ⊎_elim, ◌<◌, ◌+◌, ◌++◌, ℕ, List, [], ◌∷◌, refl, sym, ◌∙◌, ap, subst, arith, codes}
 use mathlib.Core.Path.{fun_ext}
 use Rattle.std.proofs.lemmas.List.{append-nil}
 use Rattle.map_model.specs.Lists.{Has}
@@ -7,7 +7,7 @@ use Rattle.map_model.specs.Maps.{Map}
 use Rattle.map_model.specs.Journals.{Journal, Name, Txn, Serial, after}
 use Rattle.map_model.specs.Transcripts as model
 use Rattle.image_model.specs.Fair.{IsFair}
-use Rattle.image_model.specs.Images.{map_of, won_by}
+use Rattle.image_model.specs.Images.{map_of, won_by, found}
 use Rattle.lean_disk.specs.Area.{Area, Leaves, Write}
 use Rattle.lean_disk.specs.Moments.{AsAt}
 use Rattle.lean_disk.specs.Story.{Crash, Story, Tells}
@@ -28,14 +28,22 @@ use Rattle.worker_log.specs.Laws.{EveryRun}
 use Rattle.script_lang.specs.Replies.{Reply}
 use Rattle.worker_log.specs.Logs.{Log}
 use Rattle.worker_log.specs.Kept.{fresh_account}
-use Rattle.transcripts.specs.Laws.{IsQuiet}
-use Rattle.transcripts.specs.Told.{names}
-use Rattle.transcripts.specs.Transcripts.{durables, first_lines, transcript}
-use Rattle.script_run.specs.Moments.{HoldsRun, ScriptLeaves}
+use Rattle.map_model.specs.declared.call.Call.TheVariants as call
+use Rattle.map_model.specs.declared.call.Answer.TheVariants as answer
+use Rattle.image_model.specs.Entries.{Entry}
+use Rattle.lean_edge.specs.Outside.{Feed}
+use Rattle.transcripts.specs.Laws.{ComesNext, IsQuiet}
+use Rattle.transcripts.specs.Told.{ask, asked_text, names}
+use Rattle.transcripts.specs.Transcripts.{durables, first_lines, in_turn, transcript}
+use Rattle.transcripts.proofs.TranscriptLemmas.{journal_is}
+use Rattle.worker_log.specs.Laws.{entries_onto}
+use Rattle.worker_log.specs.Logs.{joined}
+use Rattle.script_run.specs.Moments.{HoldsRun, InHand, IsAsked, ScriptLeaves}
 use Rattle.lean_run.specs.Crashes.{IsFairCrash, IsUnwritten, RunLeaves, Survives, WithOneInHand}
-use Rattle.lean_run.specs.Inside.{IsFront, Rests}
+use Rattle.lean_run.specs.Inside.{IsPrefix, Rests}
 use Rattle.lean_run.proofs.ImageLemmas as image
-use Rattle.lean_run.proofs.JournalLemmas.{HasNamed, still_has, told_named, with_hand}
+use Rattle.lean_run.proofs.HandLemmas.{Settled, settle}
+use Rattle.lean_run.proofs.JournalLemmas.{HasNamed, has_prefix, still_has, told_named}
 
 -- ## Before a call is answered
 
@@ -61,12 +69,12 @@ module _ (m : Master) (s : Story) (clean : IsCleanDisk m (areas_of s)) (input pu
       let still : StandsStill m (areas_of s) c.image = l.stands (subst (λ (b : List ℕ). IsFair 1024 (Rattle.disk_slots.specs.Slots.IsSealed (codes "LEANMAST")) (s.area 0).bytes l.masters b) (same.image 0) masters)
       (subst (λ (b : List ℕ). IsFair 1024 (Rattle.disk_slots.specs.Slots.IsSealed (codes "LEANPAGE")) (s.area 1).bytes l.pages b) (same.image 1) pages) in
       let images : d.image ≡ c.image = fun_ext same.image in
-      let journal_is : model.journal (transcript 1 input (first_lines lines put)) ≡ [] = ap model.journal quiet.transcript_is in
+      let none : model.journal (transcript 1 input (first_lines lines put)) ≡ [] = ap model.journal quiet.transcript_is in
       record {
         lines = lines;
         notes = notes;
         by_then = [];
-        by_then_is = inl (sym journal_is);
+        by_then_is = inl (sym none);
         serial = tt;
         falls = tt;
         n = still.next;
@@ -95,12 +103,13 @@ module _ (laws : EverySession) (agrees : EveryAgreement) (reads_so : EveryRun) (
     (m : Master) (s0 s sb : Story) (g : Opening) (log : Log) (alone : IsAlone 64 g) (rests : Rests m s0 s g log) (clean : IsCleanDisk m (areas_of s0)) (tells : TellsAll s0)
     (map_is : (k : ℕ) → first_map g k ≡ map_of (image_by m (areas_of s0)) k)
     (areas : (a : ℕ) → sb.area a ≡ s.area a) (told_same : (a : ℕ) → sb.tells a ≡ s0.tells a) (writes_0 : (s.area 2).writes ≡ (s0.area 2).writes)
-    (input put : List ℕ) where
+    (feed0 : Feed) (input put : List ℕ) where
   maps : first_map g ≡ map_of (image_by m (areas_of s0))
   maps = fun_ext map_is
 
-  module _ (answered : List Answered) (told : List Reply) (c d : Crash) (l : ScriptLeaves g [] answered told (start g) (fresh_account (s.area 2)) log sb c) (same : IsSameBut c d) (lines : ℕ) (notes : d.notes ≡ s0.notes + lines)
-      (said : model.journal (transcript 1 input (first_lines lines put)) ≡ session.journal l.heard) (durable : durables (first_lines lines put) ≡ names l.first) where
+  module _ (answered : List Answered) (told : List Reply) (c d : Crash) (l : ScriptLeaves feed0 [] g [] answered told (start g) (fresh_account (s.area 2)) log sb c) (same : IsSameBut c d) (lines : ℕ) (notes : d.notes ≡ s0.notes + lines)
+      (said : model.journal (transcript 1 input (first_lines lines put)) ≡ session.journal l.heard) (durable : durables (first_lines lines put) ≡ names l.first)
+      (turn : transcript 1 input (first_lines lines put) ≡ in_turn l.heard) (next_of : IsAsked feed0 (asked_text l.heard) call.Commit → ComesNext l.heard (ask call.Commit) input) where
     tells_sb : (a : ℕ) → Tells s0 a → Tells sb a
     tells_sb a t = told_same a ∙ t
 
@@ -119,8 +128,8 @@ module _ (laws : EverySession) (agrees : EveryAgreement) (reads_so : EveryRun) (
       fair_c : IsFair 2048 IsSealed (s.area 2).bytes l.since (c.image 2)
       fair_c = subst (λ (b : List ℕ). IsFair 2048 IsSealed (s.area 2).bytes l.since b) (same.image 2) fair_d
 
-      run : HoldsRun g (l.heard ++ []) l.first (start g) log (d.image 2)
-      run = subst (HoldsRun g (l.heard ++ []) l.first (start g) log) (sym (same.image 2)) (l.holds fair_c)
+      run : HoldsRun feed0 (asked_text l.heard) g (l.heard ++ []) l.first (start g) log (d.image 2)
+      run = subst (HoldsRun feed0 (asked_text l.heard) g (l.heard ++ []) l.first (start g) log) (sym (same.image 2)) (l.holds fair_c)
 
       zero_image : d.image 0 ≡ (s.area 0).bytes
       zero_image = settled 0 (λ e. omega arith) (omega arith) tells.master
@@ -129,40 +138,58 @@ module _ (laws : EverySession) (agrees : EveryAgreement) (reads_so : EveryRun) (
       one_image = settled 1 (λ e. omega arith) (omega arith) tells.pages
 
       -- what holds of the image, by its parts
-      module _ (zero_is : d.image 0 ≡ (s.area 0).bytes) (one_is : d.image 1 ≡ (s.area 1).bytes) (is : HoldsRun g (l.heard ++ []) l.first (start g) log (d.image 2)) where
-        abbrev front : IsFront log is.session (d.image 2)
-        front = record { blocks = is.blocks; run = is.run; fit = is.fit; newer = is.newer; front = is.front }
+      module _ (zero_is : d.image 0 ≡ (s.area 0).bytes) (one_is : d.image 1 ≡ (s.area 1).bytes) (is : HoldsRun feed0 (asked_text l.heard) g (l.heard ++ []) l.first (start g) log (d.image 2)) where
+        abbrev left : List Entry
+        left = entries_onto 1 [] (joined is.blocks)
 
-        in_hand : (is.hand ≡ l.heard) ⊎ ((x : Answered) × (is.hand ≡ x ∷ l.heard))
-        in_hand = subst (λ (xs : List Answered). (is.hand ≡ xs) ⊎ ((x : Answered) × (is.hand ≡ x ∷ xs))) (append-nil l.heard) is.in_hand
+        st : Settled feed0 g l.heard left
+        st = settle feed0 g l.heard is.hand is.session left is.newer is.runs is.prefix (subst (λ (xs : List Answered). InHand feed0 (asked_text l.heard) xs is.hand) (append-nil l.heard) is.in_hand)
+
+        abbrev prefix : IsPrefix log st.session (d.image 2)
+        prefix = record { blocks = is.blocks; run = is.run; fit = is.fit; newer = st.newer; prefix = st.prefix }
 
         abbrev kept_now : Journal
-        kept_now = kept_of g is.hand (image.left laws agrees reads_so seals m s0 s g log alone rests clean is.hand is.session is.runs d.image zero_is one_is front)
+        kept_now = kept_of g st.hand (image.left laws agrees reads_so seals m s0 s g log alone rests clean st.hand st.session st.runs d.image zero_is one_is prefix)
 
         named_kept : (name : Name) → Has name (names l.first) → (t : Txn) × Has t kept_now × (t.session ≡ name.session) × (t.number ≡ name.number)
         named_kept name h =
             let had : HasNamed name (session.journal l.heard) = told_named name l.heard l.first l.hears h in
-            let has : Has had.txn (session.journal is.hand) = still_has (session.journal l.heard) (session.journal is.hand) (with_hand l.heard is.hand in_hand) had.txn had.has in
+            let has : Has had.txn (session.journal st.hand) = still_has (session.journal l.heard) (session.journal st.hand) st.grows had.txn had.has in
             let e = is.durable name h in
-            let sur = image.survives laws agrees reads_so seals m s0 s g log alone rests clean is.hand is.session is.runs d.image zero_is one_is front in
+            let sur = image.survives laws agrees reads_so seals m s0 s g log alone rests clean st.hand st.session st.runs d.image zero_is one_is prefix in
             (had.txn, sur.has had.txn e.entry has e.has e.commit (e.txn ∙ sym had.number), had.session, had.number)
+
+        in_hand_now : WithOneInHand input (first_lines lines put) (found (image_by rests.n d.image)) (session.journal st.hand)
+        in_hand_now = ⊎_elim
+            (λ e. inl (e ∙ sym said))
+            (λ c. let next : ComesNext l.heard (ask call.Commit) input = next_of c.asked in inr (record {
+              heard = l.heard;
+              told = turn;
+              others = next.others;
+              next = next.lines;
+              end = c.end;
+              has = subst (Has c.end) (image.found_left laws agrees reads_so seals m s0 s g log alone rests clean st.hand st.session st.runs d.image zero_is one_is prefix) (has_prefix c.end left [] c.has);
+              commit = c.commit;
+              all_is = ap session.journal c.hand_is ∙ sym (journal_is (record { call = call.Commit; answer = answer.Committed c.end.txn c.end.number } ∷ l.heard));
+            }))
+            st.in_hand
 
         pub survives_so : Survives m s0 input put d
         survives_so = record {
           lines = lines;
           notes = notes;
-          by_then = session.journal is.hand;
-          by_then_is = subst (λ (j : Journal). WithOneInHand j (session.journal is.hand)) (sym said) (with_hand l.heard is.hand in_hand);
-          serial = subst (λ (mp : Map). Serial mp (session.journal is.hand)) maps (image.session laws agrees reads_so seals m s0 s g log alone rests clean is.hand is.session is.runs d.image zero_is one_is front).serial;
-          falls = (image.session laws agrees reads_so seals m s0 s g log alone rests clean is.hand is.session is.runs d.image zero_is one_is front).falls;
+          by_then = session.journal st.hand;
+          by_then_is = in_hand_now;
+          serial = subst (λ (mp : Map). Serial mp (session.journal st.hand)) maps (image.session laws agrees reads_so seals m s0 s g log alone rests clean st.hand st.session st.runs d.image zero_is one_is prefix).serial;
+          falls = (image.session laws agrees reads_so seals m s0 s g log alone rests clean st.hand st.session st.runs d.image zero_is one_is prefix).falls;
           n = rests.n;
           same = rests.same;
-          clean = image.is_clean laws agrees reads_so seals m s0 s g log alone rests clean is.hand is.session is.runs d.image zero_is one_is front l.since l.own fair_d;
+          clean = image.is_clean laws agrees reads_so seals m s0 s g log alone rests clean st.hand st.session st.runs d.image zero_is one_is prefix l.since l.own fair_d;
           kept_ones = kept_now;
-          kept_is = image.kept_is laws agrees reads_so seals m s0 s g log alone rests clean is.hand is.session is.runs d.image zero_is one_is front;
-          closed = image.closed laws agrees reads_so seals m s0 s g log alone rests clean is.hand is.session is.runs d.image zero_is one_is front;
+          kept_is = image.kept_is laws agrees reads_so seals m s0 s g log alone rests clean st.hand st.session st.runs d.image zero_is one_is prefix;
+          closed = image.closed laws agrees reads_so seals m s0 s g log alone rests clean st.hand st.session st.runs d.image zero_is one_is prefix;
           stands = subst (λ (mp : Map). DiskStandsFor rests.n d.image (after mp kept_now) (won_by (image_by rests.n d.image))) maps
-              (image.disk_stands laws agrees reads_so seals m s0 s g log alone rests clean is.hand is.session is.runs d.image zero_is one_is front);
+              (image.disk_stands laws agrees reads_so seals m s0 s g log alone rests clean st.hand st.session st.runs d.image zero_is one_is prefix);
           reported = λ name h. named_kept name (subst (Has name) durable h);
         }
 

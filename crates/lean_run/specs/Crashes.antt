@@ -1,10 +1,13 @@
 -- What a crash in a run leaves.
-use Rattle.std.specs.Prelude.{◌≡◌, ◌⊎◌, ◌++◌, ◌<◌, ◌+◌, ◌^◌, ℕ, List, IsTrue, codes}
+use Rattle.std.specs.Prelude.{◌≡◌, ◌⊎◌, ◌++◌, ◌<◌, ◌+◌, ◌^◌, ℕ, true, List, [], ◌∷◌, IsTrue, codes}
+use Rattle.map_model.specs.declared.call.Call.TheVariants as call
+use Rattle.map_model.specs.declared.call.Answer.TheVariants as answer
 use Rattle.map_model.specs.Lists.{Has}
 use Rattle.map_model.specs.Laws.{IsFalling}
 use Rattle.map_model.specs.Journals.{Journal, Name, Txn, Serial, IsClosed, after}
 use Rattle.map_model.specs.Transcripts.{journal}
 use Rattle.image_model.specs.Ends.{kept}
+use Rattle.image_model.specs.Entries.{Entry, is_commit}
 use Rattle.image_model.specs.Fair.{IsFair}
 use Rattle.image_model.specs.Images.{map_of, won_by, found}
 use Rattle.lean_disk.specs.Area.{Leaves, Write}
@@ -16,8 +19,11 @@ use Rattle.disk_image.specs.Shown.{image_by, DiskStandsFor, IsCleanDisk}
 use Rattle.recovery_scan.specs.Scans.{areas_of}
 use Rattle.recovery.specs.Crashes.{IsSameOrNext}
 use Rattle.recovery.specs.Opened.{TellsAll}
+use Rattle.script_lang.specs.Text.{script_lines}
+use Rattle.session_model.specs.Calls.{Answered}
 use Rattle.transcripts.specs.Laws.{IsQuiet}
-use Rattle.transcripts.specs.Transcripts.{transcript, durables, first_lines}
+use Rattle.transcripts.specs.Told.{ask, asked_lines}
+use Rattle.transcripts.specs.Transcripts.{transcript, durables, first_lines, in_turn}
 
 -- A crash leaves a fair image: each slot and block whose seal fits holds the bytes of one write that was made there since s, or those
 -- that stood there then.
@@ -26,15 +32,21 @@ pub record IsFairCrash (s : Story) (c : Crash) : Type 0 where
   pub pages : (since : List Write) → c.writes 1 ≡ since ++ (s.area 1).writes → IsFair 1024 (IsSealed (codes "LEANPAGE")) (s.area 1).bytes since (c.image 1)
   pub log : (since : List Write) → c.writes 2 ≡ since ++ (s.area 2).writes → IsFair 2048 blocks.IsSealed (s.area 2).bytes since (c.image 2)
 
--- a journal has these transactions and one more
-pub record HasOneMore (told all : Journal) : Type 0 where
-  pub more : Txn
-  pub has : (t : Txn) → Has t told → Has t all
-  pub only : (t : Txn) → Has t all → Has t told ⊎ (t ≡ more)
+-- A transaction is in hand: the lines that are out answer these calls, the script's next line asks for a commit, and its record is found
+-- in the image. With its answer, which is not out yet, they tell of all.
+pub record IsInHand (input output : List ℕ) (entries : List Entry) (all : Journal) : Type 0 where
+  pub heard : List Answered
+  pub told : transcript 1 input output ≡ in_turn heard
+  pub others : List (List ℕ)
+  pub next : script_lines input ≡ asked_lines heard ++ ask call.Commit ∷ others
+  pub end : Entry
+  pub has : Has end entries
+  pub commit : is_commit end.kind ≡ true
+  pub all_is : all ≡ journal (in_turn heard ++ (1, call.Commit, answer.Committed end.txn end.number) ∷ [])
 
--- these transactions, and at most one more, whose commit was executed and whose reply is not out yet
-abbrev pub WithOneInHand : Journal → Journal → Type 0
-WithOneInHand told all = (all ≡ told) ⊎ HasOneMore told all
+-- the transactions of which these lines tell, and the one in hand, if there is one
+abbrev pub WithOneInHand : (input output : List ℕ) → List Entry → Journal → Type 0
+WithOneInHand input output entries all = (all ≡ journal (transcript 1 input output)) ⊎ IsInHand input output entries all
 
 -- The image that a crash left, as so many lines were out of what was put in the end, is clean. It stands for the map after the kept
 -- transactions, by its own winners. The kept are those up to its master's floor and its winners: a closed part of the transactions
@@ -42,13 +54,13 @@ WithOneInHand told all = (all ≡ told) ⊎ HasOneMore told all
 pub record Survives (m : Master) (s : Story) (input put : List ℕ) (c : Crash) : Type 0 where
   pub lines : ℕ
   pub notes : c.notes ≡ s.notes + lines
+  pub n : Master
   -- the transactions by then
   pub by_then : Journal
-  pub by_then_is : WithOneInHand (journal (transcript 1 input (first_lines lines put))) by_then
+  pub by_then_is : WithOneInHand input (first_lines lines put) (found (image_by n c.image)) by_then
   pub serial : Serial (map_of (image_by m (areas_of s))) by_then
   pub falls : IsFalling by_then
   -- the image
-  pub n : Master
   pub same : IsSameOrNext m n
   pub clean : IsCleanDisk n c.image
   pub kept_ones : Journal

@@ -30,7 +30,7 @@ use Rattle.worker_log.specs.Logs.{Log, joined, spelled_from}
 use Rattle.worker_log.specs.Kept.{AllFitBlocks, IsFresh, IsKept, fresh_account, run_of}
 use Rattle.worker_log.specs.Laws.{entries_onto}
 use Rattle.lean_engine.specs.States.{Pictures}
-use Rattle.lean_run.specs.Runs.{Counts, IsFrom, last_line, notice_of}
+use Rattle.lean_run.specs.Runs.{Counts, IsFrom, first_log, last_line, notice_of}
 use Rattle.lean_run.specs.declared.opening.Opened.{Opened}
 
 abbrev pub counts_of : Opened → Counts
@@ -69,16 +69,17 @@ pub record HasOpened (s0 s1 : Story) (o : Opened) : Type 0 where
   pub quiet : o.engine.log.last ≡ o.engine.log.flushed
   pub starts : (area : Area) → IsFresh o.engine.log area → IsKept (fresh_account area) o.engine.log area
   pub from : TellsAll s0 → IsFrom g s0 (counts_of o)
+  pub log : TellsAll s0 → (m : Master) → master_on (areas_of s0 0) ≡ Some m → o.engine.log ≡ first_log m g.base
   pub map : (m : Master) → TellsAll s0 → IsCleanDisk m (areas_of s0) → (k : ℕ) → first_map g k ≡ map_of (image_by m (areas_of s0)) k
   pub rests : (m : Master) → TellsAll s0 → IsCleanDisk m (areas_of s0) → Rests m s0 s1 g o.engine.log
 
--- The run of a log is these blocks, whole, whose records are a front of what the session has logged.
-pub record IsFront (log : Log) (t : Session) (bytes : List ℕ) : Type 0 where
+-- The run of a log is these blocks, whole, whose records are a prefix of what the session has logged.
+pub record IsPrefix (log : Log) (t : Session) (bytes : List ℕ) : Type 0 where
   pub blocks : List (List Record)
   pub run : run_of log bytes ≡ spelled_from log.generation log.log log.head blocks
   pub fit : AllFitBlocks blocks
   pub newer : List Entry
-  pub front : newer ++ entries_onto 1 [] (joined blocks) ≡ t.log
+  pub prefix : newer ++ entries_onto 1 [] (joined blocks) ≡ t.log
 
 -- The last line was put, if there is one; or nothing was.
 abbrev pub EndsWith : Stop → Held → Held → (sink0 sink1 : ℕ) → Story → Story → Type 0

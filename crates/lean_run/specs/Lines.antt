@@ -13,9 +13,9 @@ use Rattle.lean_edge.specs.declared.sink.Put.TheVariants as put
 abbrev pub line_of : Notice → List ℕ
 line_of notice = notice_text notice ++ 10 ∷ []
 
--- the line went out, and the sink's count of faults stands; or a front of it, and the count rose
+-- the line went out, and the sink's count of faults stands; or a prefix of it, and the count rose
 abbrev pub WentOut : (line put : List ℕ) (before now : ℕ) → Type 0
-WentOut line put before now = ((put ≡ line) × (now ≡ before)) ⊎ (((front : ℕ) × (put ≡ take front line)) × Rose before now)
+WentOut line put before now = ((put ≡ line) × (now ≡ before)) ⊎ (((prefix : ℕ) × (put ≡ take prefix line)) × Rose before now)
 
 -- A line may have been noted, and else nothing happened.
 pub record OnlyNotes (old new : Story) : Type 0 where

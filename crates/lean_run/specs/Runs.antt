@@ -1,23 +1,26 @@
 -- How a run of a script ended.
-use Rattle.std.specs.Prelude.{◌≡◌, ◌⊎◌, ◌++◌, ℕ, suc, List, [], length, take, IsTrue, Some}
+use Rattle.std.specs.Prelude.{◌≡◌, ◌⊎◌, ◌++◌, ◌<◌, ◌^◌, ℕ, suc, List, [], ◌∷◌, length, take, IsTrue, Some}
 use Rattle.map_model.specs.Maps.{Map}
 use Rattle.map_model.specs.Journals.{Name, Serial}
 use Rattle.map_model.specs.Transcripts.{journal}
-use Rattle.image_model.specs.Images.{won_by, lost_by, map_of}
+use Rattle.image_model.specs.Images.{won_by, lost_by, map_of, recovered_page}
 use Rattle.lean_disk.specs.Faults.{Rose}
 use Rattle.lean_disk.specs.Story.{Story}
 use Rattle.lean_edge.specs.Outside.{Feed}
 use Rattle.script_lang.specs.Notices.{Notice}
 use Rattle.disk_slots.specs.declared.master.Master.{Master}
+use Rattle.disk_image.specs.Formats.{format_of}
+use Rattle.disk_image.specs.MasterSlots.{master_on}
 use Rattle.disk_image.specs.Shown.{image_by, DiskStandsFor, IsCleanDisk, IsSoundDisk}
 use Rattle.recovery_scan.specs.Scans.{areas_of}
 use Rattle.recovery.specs.Masters.{HasOpenable, IsOpenable}
-use Rattle.recovery.specs.Opened.{IsDamaged, IsRefusal, IsUntouched, TellsAll}
+use Rattle.recovery.specs.Opened.{IsDamaged, IsGreatest, IsRefusal, IsUntouched, TellsAll}
 use Rattle.recovery.specs.declared.opening.Unrecovered.{Unrecovered}
 use Rattle.recovery.specs.declared.opening.Unrecovered.TheVariants as why
-use Rattle.core_state.specs.States.{Opening}
+use Rattle.core_state.specs.States.{Opening, start_page}
 use Rattle.core_crash.specs.Crashes.{first_map}
 use Rattle.session_model.specs.Sessions.{Session, IsAlone, start}
+use Rattle.worker_log.specs.Logs.{Log}
 use Rattle.lean_engine.specs.States.{State, Pictures}
 use Rattle.script_lang.specs.Replies.{Reply}
 use Rattle.session_model.specs.Calls.{Answered}
@@ -51,7 +54,7 @@ Shows s (why.Damaged area place) = TellsAll s → IsDamaged (areas_of s) area pl
 Shows s why.DiskFault = Unit {0}
 Shows s why.Memory = Unit {0}
 
--- The line of the reason was put, or a front of it and the sink failed; the script was not read, and a disk that is refused is left as it was.
+-- The line of the reason was put, or a prefix of it and the sink failed; the script was not read, and a disk that is refused is left as it was.
 pub record NotOpened (status : ℕ) (s0 s1 : Story) (feed0 feed1 : Feed) (put : List ℕ) (sink0 sink1 : ℕ) : Type 0 where
   pub reason : Unrecovered
   pub status_is : status ≡ status_of reason
@@ -71,15 +74,23 @@ pub record Counts : Type 0 where
 abbrev pub first_line : Counts → List ℕ
 first_line n = opened_line n.generation n.winners n.undone
 
--- The map at the start is that for which the disk on entry stands, and the counts are those of its image.
+-- The map at the start is that for which the disk on entry stands, its pages are those that recovery gives, and the counts are those of its
+-- image. The base number is the greatest number there.
 pub record IsFrom (g : Opening) (s : Story) (n : Counts) : Type 0 where
   pub m : Master
   pub openable : IsOpenable m
   pub sound : IsSoundDisk m (areas_of s)
   pub map : (k : ℕ) → first_map g k ≡ map_of (image_by m (areas_of s)) k
+  pub format : g.format ≡ format_of m.pages
+  pub pages : (p : ℕ) → p < m.pages → start_page g p ≡ recovered_page (image_by m (areas_of s)) p
+  pub base : IsGreatest (image_by m (areas_of s)) g.base
   pub generation : n.generation ≡ suc m.generation
   pub won : n.winners ≡ length (won_by (image_by m (areas_of s)))
   pub lost : n.undone ≡ length (lost_by (image_by m (areas_of s)))
+
+-- the log of the next generation, which is empty
+abbrev pub first_log : Master → (base : ℕ) → Log
+first_log m base = record { generation = suc m.generation; log = 1; blocks = m.blocks; head = 0; next = 0; payload = []; count = 0; last = base; flushed = base }
 
 -- The sink failed as it was given the first line, and the script was not read.
 pub record CutFirst (status : ℕ) (s0 : Story) (feed0 feed1 : Feed) (put : List ℕ) (sink0 sink1 : ℕ) : Type 0 where
@@ -88,8 +99,8 @@ pub record CutFirst (status : ℕ) (s0 : Story) (feed0 feed1 : Feed) (put : List
   pub counts : Counts
   pub opening : Opening
   pub from : TellsAll s0 → IsFrom opening s0 counts
-  pub front : ℕ
-  pub printed : put ≡ take front (first_line counts)
+  pub prefix : ℕ
+  pub printed : put ≡ take prefix (first_line counts)
   pub unread : feed1 ≡ feed0
 
 -- the status by why the script stopped, and the line that is put then
@@ -113,7 +124,7 @@ WentLast stops.End put before now = (put ≡ []) × (now ≡ before)
 WentLast stops.WriteFault put before now = (put ≡ []) × Rose before now
 WentLast stop put before now = WentOut (last_line stop) put before now
 
--- The script was executed on an opening: the first line went out, then the replies to its lines, then the last line or a front of it. What
+-- The script was executed on an opening: the first line went out, then the replies to its lines, then the last line or a prefix of it. What
 -- the script and the output tell of is what was executed, but for a last call whose reply was cut off; and it is serial from the
 -- map for which the disk on entry stands.
 pub record Ran (status : ℕ) (s0 s1 : Story) (feed0 feed1 : Feed) (put : List ℕ) (sink0 sink1 : ℕ) : Type 0 where
@@ -127,7 +138,9 @@ pub record Ran (status : ℕ) (s0 s1 : Story) (feed0 feed1 : Feed) (put : List �
   pub e0 : State
   pub e1 : State
   pub pictures : Pictures opening (start opening) e0
+  pub log : TellsAll s0 → (m : Master) → master_on (areas_of s0 0) ≡ Some m → e0.log ≡ first_log m opening.base
   pub calls : List Answered
+  pub few : length calls < 2 ^ 40
   pub session : Session
   pub executes : Executes opening e0 (start opening) calls e1 session
   -- the script begins with the lines that ask them, and why no more were executed

@@ -67,9 +67,10 @@ pub fn run_disk<S: Source, K: Sink<D>, D: Disk>(
     session_model::every_session();
     transcripts::every_transcript();
     transcripts::every_moment();
-    transcripts::every_front();
+    transcripts::every_prefix();
     script_run::every_script();
     transcripts::every_end();
+    transcripts::every_next();
     transcripts::every_notice();
     disk_image::every_agreement();
     disk_image::every_sealed();

@@ -11,7 +11,7 @@ use Rattle.lean_shell.specs.Formatted.{Anything, HasPages}
 use Rattle.lean_shell.specs.Fresh.{fresh_page}
 use Rattle.lean_shell.specs.Pieces.{pages_from}
 use Rattle.lean_shell.proofs.FreshLemmas.{length-fresh_page}
-use Rattle.lean_shell.proofs.PieceLemmas.{length-pages_from, pages_from-more, front-put_over}
+use Rattle.lean_shell.proofs.PieceLemmas.{length-pages_from, pages_from-more, prefix-put_over}
 
 -- a run on one area of which nothing is said
 pub anything_wrote : (a at : ℕ) (bytes : List ℕ) (result : Did) (s0 s s1 : Story) → LeavesOnly s0 s (CrashIn s0 a Anything) → Framed a s0 s → Wrote a at bytes result s s1 → LeavesOnly s0 s1 (CrashIn s0 a Anything)
@@ -29,7 +29,7 @@ module _ (first count : ℕ) where
       let at : 2048 * (first + count) ≡ 2048 * first + length piece = omega (arith, long) in
       let none : 0 + first ≡ first = omega arith in
       ap (λ (n : ℕ). take n (put_over (2048 * first) piece old)) at
-      ∙ (front-put_over (2048 * first) (pages_from fresh_page 0 first) piece old has before
+      ∙ (prefix-put_over (2048 * first) (pages_from fresh_page 0 first) piece old has before
       ∙ sym (pages_from-more fresh_page 2048 length-fresh_page 0 first count ∙ ap (λ (f : ℕ). pages_from fresh_page 0 first ++ pages_from fresh_page f count) none))
 
   -- a piece more

@@ -43,9 +43,9 @@ none_of (Some x) h = absurd (h x refl)
 -- ## A page's place
 
 -- what begins at the place of a page
-record Begins (front bytes : List ℕ) : Type 0 where
+record Begins (prefix bytes : List ℕ) : Type 0 where
   rest : List ℕ
-  is : bytes ≡ front ++ rest
+  is : bytes ≡ prefix ++ rest
 
 module _ (pages p : ℕ) (bytes : List ℕ) (has : HasPages pages bytes) (lt : p < pages) where
   abbrev before : List ℕ

@@ -24,13 +24,13 @@ module _ (page : ℕ → List ℕ) (size : ℕ) (whole : (p : ℕ) → length (p
       ∙ ap (λ (ys : List ℕ). page first ++ ys) (pages_from-more (suc first) count more ∙ ap (λ (f : ℕ). pages_from page (suc first) count ++ pages_from page f more) e)
       ∙ sym (append_assoc (page first) (pages_from page (suc first) count) (pages_from page (first + suc count) more))
 
--- bytes put right behind a front
-pub front-put_over : (at : ℕ) (front bytes old : List ℕ) → take at old ≡ front → length front ≡ at → take (at + length bytes) (put_over at bytes old) ≡ front ++ bytes
-front-put_over at front bytes old is long =
+-- bytes put right behind a prefix
+pub prefix-put_over : (at : ℕ) (prefix bytes old : List ℕ) → take at old ≡ prefix → length prefix ≡ at → take (at + length bytes) (put_over at bytes old) ≡ prefix ++ bytes
+prefix-put_over at prefix bytes old is long =
     let fits : at - length old ≡ 0 = omega (arith, length-take at old, ap (λ (xs : List ℕ). length xs) is, long) in
-    let before : take at old ++ replicate (at - length old) 0 ≡ front = ap (λ (n : ℕ). take at old ++ replicate n 0) fits ∙ append-nil (take at old) ∙ is in
-    let size : length (front ++ bytes) ≡ at + length bytes = omega (arith, length-append front bytes, long) in
-    ap (λ (xs : List ℕ). take (at + length bytes) (xs ++ bytes ++ drop (at + length bytes) old)) before ∙ take_at (front ++ bytes) (drop (at + length bytes) old) (at + length bytes) size
+    let before : take at old ++ replicate (at - length old) 0 ≡ prefix = ap (λ (n : ℕ). take at old ++ replicate n 0) fits ∙ append-nil (take at old) ∙ is in
+    let size : length (prefix ++ bytes) ≡ at + length bytes = omega (arith, length-append prefix bytes, long) in
+    ap (λ (xs : List ℕ). take (at + length bytes) (xs ++ bytes ++ drop (at + length bytes) old)) before ∙ take_at (prefix ++ bytes) (drop (at + length bytes) old) (at + length bytes) size
 
 -- one page more, behind those that were written
 pub pages_from-written : (page : ℕ → List ℕ) (size : ℕ) → ((p : ℕ) → length (page p) ≡ size) → (first i : ℕ) (old now new : List ℕ)
@@ -41,13 +41,13 @@ pages_from-written page size whole first i old now new is wrote =
     let before : List ℕ = pages_from page first i in
     let rest : List ℕ = drop (size * i) old in
     let long : length before ≡ size * i = length-pages_from page size whole first i in
-    let front : take (size * i) now ≡ before = ap (take (size * i)) is ∙ take_at before rest (size * i) long in
+    let prefix : take (size * i) now ≡ before = ap (take (size * i)) is ∙ take_at before rest (size * i) long in
     let back : drop (size * i + size) now ≡ drop (size * (i + 1)) old =
     ap (drop (size * i + size)) is
     ∙ (sym (drop-drop size (size * i) (before ++ rest)) ∙ (ap (drop size) (drop_at before rest (size * i) long) ∙ (drop-drop size (size * i) old ∙ ap (λ (n : ℕ). drop n old) (let e : size * i + size ≡ size * (i + 1) = omega arith in e)))) in
     let one : pages_from page first (i + 1) ≡ before ++ page (first + i) = pages_from-more page size whole first i 1 ∙ ap (λ (ys : List ℕ). before ++ ys) (append-nil (page (first + i))) in
     wrote
-    ∙ (ap (λ (xs : List ℕ). xs ++ (page (first + i) ++ drop (size * i + size) now)) front
+    ∙ (ap (λ (xs : List ℕ). xs ++ (page (first + i) ++ drop (size * i + size) now)) prefix
     ∙ (ap (λ (ys : List ℕ). before ++ (page (first + i) ++ ys)) back
     ∙ (sym (append_assoc before (page (first + i)) (drop (size * (i + 1)) old))
     ∙ ap (λ (xs : List ℕ). xs ++ drop (size * (i + 1)) old) (sym one))))

@@ -40,7 +40,7 @@ IsStatus n = (n ≡ 0) ⊎ (n ≡ 2) ⊎ (n ≡ 3) ⊎ (n ≡ 4) ⊎ (n ≡ 5) �
 abbrev pub IsFormatStatus : ℕ → Type 0
 IsFormatStatus n = (n ≡ 0) ⊎ (n ≡ 5) ⊎ (n ≡ 6) ⊎ (n ≡ 8) ⊎ (n ≡ 9)
 
--- The line went out, or some front of it; then the sink's count rose.
+-- The line went out, or some prefix of it; then the sink's count rose.
 pub record WentOut (line : List ℕ) (old new : Held) (before now : ℕ) : Type 0 where
   pub answer : Put
   pub puts : Puts line answer old new

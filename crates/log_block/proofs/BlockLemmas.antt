@@ -24,9 +24,9 @@ holds_all text first now end full is =
     let none : drop (length text) first ≡ [] = drop_all (length text) first (omega arith) in
     is.bytes ∙ ap (λ (u : List ℕ). text ++ u) none ∙ append-nil text
 
--- the front of a buffer is the text that it holds
-pub holds_front : (text first now : List ℕ) (end k : ℕ) → k ≡ end → Holds text first now end → take k now ≡ text
-holds_front text first now end k same is =
+-- the prefix of a buffer is the text that it holds
+pub holds_prefix : (text first now : List ℕ) (end k : ℕ) → k ≡ end → Holds text first now end → take k now ≡ text
+holds_prefix text first now end k same is =
     let count : end ≡ length text = is.count in
     ap (take k) is.bytes ∙ take_at text (drop (length text) first) k (omega arith)
 
@@ -38,12 +38,12 @@ header_long g s q n c = simp (length-append, length-number_bytes) (omega arith)
 pub header_spread : (g s q n c rest : List ℕ) → (g ++ (s ++ (q ++ (n ++ c)))) ++ rest ≡ g ++ (s ++ (q ++ (n ++ (c ++ rest))))
 header_spread g s q n c rest = simp append_assoc
 
-module _ (g s q n c : ℕ) (bytes rest : List ℕ) (fg : g < 2 ^ 64) (fs : s < 2 ^ 64) (fq : q < 2 ^ 64) (front : bytes ≡ header_text g s q n c ++ rest) where
+module _ (g s q n c : ℕ) (bytes rest : List ℕ) (fg : g < 2 ^ 64) (fs : s < 2 ^ 64) (fq : q < 2 ^ 64) (prefix : bytes ≡ header_text g s q n c ++ rest) where
   abbrev behind : List ℕ
   behind = number_bytes 4 n ++ (number_bytes 4 c ++ rest)
 
   spread : bytes ≡ number_bytes 8 g ++ (number_bytes 8 s ++ (number_bytes 8 q ++ behind))
-  spread = front ∙ header_spread (number_bytes 8 g) (number_bytes 8 s) (number_bytes 8 q) (number_bytes 4 n) (number_bytes 4 c) rest
+  spread = prefix ∙ header_spread (number_bytes 8 g) (number_bytes 8 s) (number_bytes 8 q) (number_bytes 4 n) (number_bytes 4 c) rest
 
   pub generation_read : generation_of bytes ≡ g
   unfolding generation_of
@@ -153,14 +153,14 @@ pub record Parts (records : List Record) (n c : ℕ) (rest : List ℕ) : Type 0 
 
 pub parts_of : (g s q n c g1 s1 q1 : ℕ) (bytes rest : List ℕ) (records : List Record) → g < 2 ^ 64 → s < 2 ^ 64 → q < 2 ^ 64 → g1 < 2 ^ 64 → s1 < 2 ^ 64 → q1 < 2 ^ 64 → n < 2 ^ 32 → c < 2 ^ 32
     → bytes ≡ header_text g1 s1 q1 n c ++ rest → IsBlock g s q bytes records → Parts records n c rest
-parts_of g s q n c g1 s1 q1 bytes rest records fg fs fq fg1 fs1 fq1 fn fc front is =
+parts_of g s q n c g1 s1 q1 bytes rest records fg fs fq fg1 fs1 fq1 fn fc prefix is =
     let payload : List ℕ = records_text records in
     let few : length payload ≤ 2000 = is.room in
     let many = records_long records in
     let header : List ℕ = header_text g s q (length payload) (length records) in
     let room : List ℕ = payload ++ replicate (2000 - length payload) 0 in
     let seal : List ℕ = seal_text (body_text g s q (length records) payload) in
-    let e : header_text g1 s1 q1 n c ++ rest ≡ header ++ (room ++ seal) = sym front ∙ is.spelled ∙ append_assoc header room seal in
+    let e : header_text g1 s1 q1 n c ++ rest ≡ header ++ (room ++ seal) = sym prefix ∙ is.spelled ∙ append_assoc header room seal in
     let same = same_header g1 s1 q1 n c g s q (length payload) (length records) rest (room ++ seal) fg1 fs1 fq1 fn fc fg fs fq (omega arith) (omega arith) e in
     record { size = same.size; count = same.count; rest_is = (seal, same.rest) }
 
@@ -168,10 +168,10 @@ parts_of g s q n c g1 s1 q1 bytes rest records fg fs fq fg1 fs1 fq1 fn fc front 
 pub assembled : (g s q n c g1 s1 q1 : ℕ) (bytes rest room tail payload zeros : List ℕ) (records : List Record) → g < 2 ^ 64 → s < 2 ^ 64 → q < 2 ^ 64 → g1 < 2 ^ 64 → s1 < 2 ^ 64 → q1 < 2 ^ 64
     → bytes ≡ header_text g1 s1 q1 n c ++ rest → length rest + 32 ≡ length bytes → rest ≡ room ++ tail → length room ≡ 2000 → room ≡ payload ++ zeros → length payload ≡ n → n ≤ 2000 → zeros ≡ replicate (length zeros) 0
     → Belongs g s q bytes → Lists records c payload → IsPayload g s q bytes payload
-assembled g s q n c g1 s1 q1 bytes rest room tail payload zeros records fg fs fq fg1 fs1 fq1 front long cut few parts size most nothing is listed =
-    let eg : g1 ≡ g = sym (generation_read g1 s1 q1 n c bytes rest fg1 fs1 fq1 front) ∙ is.of_generation in
-    let es : s1 ≡ s = sym (log_read g1 s1 q1 n c bytes rest fg1 fs1 fq1 front) ∙ is.of_log in
-    let eq : q1 ≡ q = sym (block_read g1 s1 q1 n c bytes rest fg1 fs1 fq1 front) ∙ is.of_block in
+assembled g s q n c g1 s1 q1 bytes rest room tail payload zeros records fg fs fq fg1 fs1 fq1 prefix long cut few parts size most nothing is listed =
+    let eg : g1 ≡ g = sym (generation_read g1 s1 q1 n c bytes rest fg1 fs1 fq1 prefix) ∙ is.of_generation in
+    let es : s1 ≡ s = sym (log_read g1 s1 q1 n c bytes rest fg1 fs1 fq1 prefix) ∙ is.of_log in
+    let eq : q1 ≡ q = sym (block_read g1 s1 q1 n c bytes rest fg1 fs1 fq1 prefix) ∙ is.of_block in
     let ec : c ≡ length records = sym listed.many in
     let en : n ≡ length payload = sym size in
     let whole : length bytes ≡ 2048 = is.sealed.whole in
@@ -183,7 +183,7 @@ assembled g s q n c g1 s1 q1 bytes rest room tail payload zeros records fg fs fq
     ∙ ap (λ (x : ℕ). header_text g s q x c) en ∙ ap (λ (x : ℕ). header_text g s q (length payload) x) ec in
     let body : header_text g1 s1 q1 n c ++ room ≡ body_text g s q (length records) payload =
     ap (λ (u : List ℕ). u ++ room) head ∙ ap (λ (u : List ℕ). header_text g s q (length payload) (length records) ++ u) room_is in
-    let joined : bytes ≡ (header_text g1 s1 q1 n c ++ room) ++ tail = front ∙ ap (λ (u : List ℕ). header_text g1 s1 q1 n c ++ u) cut ∙ sym (append_assoc (header_text g1 s1 q1 n c) room tail) in
+    let joined : bytes ≡ (header_text g1 s1 q1 n c ++ room) ++ tail = prefix ∙ ap (λ (u : List ℕ). header_text g1 s1 q1 n c ++ u) cut ∙ sym (append_assoc (header_text g1 s1 q1 n c) room tail) in
     let body_size : length (header_text g1 s1 q1 n c ++ room) ≡ 2032 =
     let a = length-append (header_text g1 s1 q1 n c) room in let b = header_long g1 s1 q1 n c in omega arith in
     let ends = sealed_parts bytes (header_text g1 s1 q1 n c ++ room) tail joined body_size whole in
@@ -204,14 +204,14 @@ assembled g s q n c g1 s1 q1 bytes rest room tail payload zeros records fg fs fq
 
 -- what was read of a block that is one
 module _ (records : List Record) (n c end : ℕ) (rest room payload zeros : List ℕ) (few : length (records_text records) ≤ 2000) (at : end ≡ 2000) (is : Parts records n c rest)
-    (cut : room ≡ take end rest) (front : payload ≡ take n room) (back : zeros ≡ drop n room) where
+    (cut : room ≡ take end rest) (prefix : payload ≡ take n room) (back : zeros ≡ drop n room) where
   room_is : room ≡ records_text records ++ replicate (2000 - length (records_text records)) 0
   room_is =
       let long = room_long (records_text records) few in
       cut ∙ ap (take end) is.rest_is.1 ∙ take_at (records_text records ++ replicate (2000 - length (records_text records)) 0) is.rest_is.0 end (long ∙ sym at)
 
   pub payload_is : payload ≡ records_text records
-  payload_is = front ∙ ap (take n) room_is ∙ take_at (records_text records) (replicate {A = ℕ} (2000 - length (records_text records)) 0) n (sym is.size)
+  payload_is = prefix ∙ ap (take n) room_is ∙ take_at (records_text records) (replicate {A = ℕ} (2000 - length (records_text records)) 0) n (sym is.size)
 
   pub zeros_are : zeros ≡ replicate (length zeros) 0
   zeros_are =
@@ -232,14 +232,14 @@ block_belongs g s q bytes records fg fs fq is =
     let body : List ℕ = body_text g s q c payload in
     let room : List ℕ = payload ++ replicate (2000 - n) 0 in
     let rest : List ℕ = room ++ seal_text body in
-    let front : bytes ≡ header_text g s q n c ++ rest = is.spelled ∙ append_assoc (header_text g s q n c) room (seal_text body) in
+    let prefix : bytes ≡ header_text g s q n c ++ rest = is.spelled ∙ append_assoc (header_text g s q n c) room (seal_text body) in
     record {
       sealed = is_sealed bytes body (seal_text body) is.spelled (body_long g s q c payload is.room) (length-seal_of (codes "LEANLOGB") body) refl;
-      of_generation = generation_read g s q n c bytes rest fg fs fq front;
-      of_log = log_read g s q n c bytes rest fg fs fq front;
-      of_block = block_read g s q n c bytes rest fg fs fq front;
+      of_generation = generation_read g s q n c bytes rest fg fs fq prefix;
+      of_log = log_read g s q n c bytes rest fg fs fq prefix;
+      of_block = block_read g s q n c bytes rest fg fs fq prefix;
     }
 
 -- two parts of a list are the list
-pub parts_join : (k : ℕ) (xs front back : List ℕ) → front ≡ take k xs → back ≡ drop k xs → xs ≡ front ++ back
-parts_join k xs front back f b = sym (ap (λ (u : List ℕ). u ++ back) f ∙ ap (λ (u : List ℕ). take k xs ++ u) b ∙ take-append-drop k xs)
+pub parts_join : (k : ℕ) (xs prefix back : List ℕ) → prefix ≡ take k xs → back ≡ drop k xs → xs ≡ prefix ++ back
+parts_join k xs prefix back f b = sym (ap (λ (u : List ℕ). u ++ back) f ∙ ap (λ (u : List ℕ). take k xs ++ u) b ∙ take-append-drop k xs)

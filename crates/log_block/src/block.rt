@@ -110,7 +110,7 @@ fn are_records(bytes: &[u8], count: u32) -> bool
 
 fn split_header(bytes: &[u8]) -> (Header, &[u8])
     requires { 32 ≤ length bytes.now }
-    ensures front { bytes.now ≡ header_text result.0.generation result.0.log result.0.block result.0.size result.0.count ++ result.1.now }
+    ensures prefix { bytes.now ≡ header_text result.0.generation result.0.log result.0.block result.0.size result.0.count ++ result.1.now }
     ensures rest { length result.1.now + 32 ≡ length bytes.now }
     ensures generation { result.0.generation < 2 ^ 64 }
     ensures log { result.0.log < 2 ^ 64 }
@@ -175,7 +175,7 @@ fn put_body(
 fn put_bytes(into: &mut [u8], at: usize, bytes: &[u8]) -> usize
     requires room { at + length bytes.now ≤ length into.old }
     ensures end { result ≡ at + length bytes.now }
-    ensures written { (front first : List ℕ) → Holds front first into.old at → Holds (front ++ bytes.now) first into.new result }
+    ensures written { (prefix first : List ℕ) → Holds prefix first into.old at → Holds (prefix ++ bytes.now) first into.new result }
 {
     let end = at + bytes.len();
     into[at..end].copy_from_slice(bytes);
@@ -185,7 +185,7 @@ fn put_bytes(into: &mut [u8], at: usize, bytes: &[u8]) -> usize
 fn put_zeros(into: &mut [u8], at: usize, count: usize) -> usize
     requires room { at + count ≤ length into.old }
     ensures end { result ≡ at + count }
-    ensures written { (front first : List ℕ) → Holds front first into.old at → Holds (front ++ replicate count 0) first into.new result }
+    ensures written { (prefix first : List ℕ) → Holds prefix first into.old at → Holds (prefix ++ replicate count 0) first into.new result }
 {
     let end = at + count;
     into[at..end].fill(0);

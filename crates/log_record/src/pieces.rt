@@ -1,4 +1,4 @@
-// Numbers behind one another in a buffer, and off the front of bytes.
+// Numbers behind one another in a buffer, and off the beginning of bytes.
 ghost use Rattle.std.specs.Prelude.{◌≡◌, ◌≤◌, ◌<◌, ◌+◌, ◌^◌, ◌++◌, ◌∷◌, [], ℕ, List, length};
 ghost use Rattle.lean_bytes.specs.Numbers.{number_bytes};
 ghost use Rattle.log_record.specs.Spelling.{Holds};
@@ -10,7 +10,7 @@ use lean_bytes::put_u64;
 pub fn put_byte(into: &mut [u8], at: usize, byte: u8) -> usize
     requires room { at + 1 ≤ length into.old }
     ensures end { result ≡ at + 1 }
-    ensures written { (front first : List ℕ) → Holds front first into.old at → Holds (front ++ byte ∷ []) first into.new result }
+    ensures written { (prefix first : List ℕ) → Holds prefix first into.old at → Holds (prefix ++ byte ∷ []) first into.new result }
 {
     into[at] = byte;
     at + 1
@@ -20,7 +20,7 @@ pub fn put_byte(into: &mut [u8], at: usize, byte: u8) -> usize
 pub fn put_short(into: &mut [u8], at: usize, number: u32) -> usize
     requires room { at + 4 ≤ length into.old }
     ensures end { result ≡ at + 4 }
-    ensures written { (front first : List ℕ) → Holds front first into.old at → Holds (front ++ number_bytes 4 number) first into.new result }
+    ensures written { (prefix first : List ℕ) → Holds prefix first into.old at → Holds (prefix ++ number_bytes 4 number) first into.new result }
 {
     LittleEndian::write_u32(&mut into[at..at + 4], number);
     at + 4
@@ -30,7 +30,7 @@ pub fn put_short(into: &mut [u8], at: usize, number: u32) -> usize
 pub fn put_word(into: &mut [u8], at: usize, number: u64) -> usize
     requires room { at + 8 ≤ length into.old }
     ensures end { result ≡ at + 8 }
-    ensures written { (front first : List ℕ) → Holds front first into.old at → Holds (front ++ number_bytes 8 number) first into.new result }
+    ensures written { (prefix first : List ℕ) → Holds prefix first into.old at → Holds (prefix ++ number_bytes 8 number) first into.new result }
 {
     put_u64(into, at, number);
     at + 8
@@ -39,7 +39,7 @@ pub fn put_word(into: &mut [u8], at: usize, number: u64) -> usize
 /// The number in the first four bytes, and the bytes behind them.
 pub fn split_short(bytes: &[u8]) -> (u32, &[u8])
     requires { 4 ≤ length bytes.now }
-    ensures front { bytes.now ≡ number_bytes 4 result.0 ++ result.1.now }
+    ensures prefix { bytes.now ≡ number_bytes 4 result.0 ++ result.1.now }
     ensures rest { length result.1.now + 4 ≡ length bytes.now }
     ensures fits { result.0 < 2 ^ 32 }
 {
@@ -49,7 +49,7 @@ pub fn split_short(bytes: &[u8]) -> (u32, &[u8])
 /// The number in the first eight bytes, and the bytes behind them.
 pub fn split_word(bytes: &[u8]) -> (u64, &[u8])
     requires { 8 ≤ length bytes.now }
-    ensures front { bytes.now ≡ number_bytes 8 result.0 ++ result.1.now }
+    ensures prefix { bytes.now ≡ number_bytes 8 result.0 ++ result.1.now }
     ensures rest { length result.1.now + 8 ≡ length bytes.now }
     ensures fits { result.0 < 2 ^ 64 }
 {

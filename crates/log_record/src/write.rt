@@ -20,7 +20,7 @@ pub fn record_size(entry: &Record) -> usize
     }
 }
 
-/// Writes a record to the front of a buffer. The answer is how many bytes that are.
+/// Writes a record to the beginning of a buffer. The answer is how many bytes that are.
 pub fn record_bytes(entry: &Record, into: &mut [u8]) -> usize
     requires come { HasCome entry.now.body }
     requires room { size_of entry.now.body ≤ length into.old }

@@ -197,19 +197,19 @@ module _ (f : Format) (node : ℕ → Node) (t : IsTree f node) (r : Record) (m 
       go (inr (inl e)) = absurd (true≢false (sym n.live ∙ ap (λ (v : Node). v.live) (at_c p e)))
       go (inr (inr (inl e))) =
           let o = subst (λ (v : Node). Names v s) (at_q p e) n in
-          subst (λ (v : Node). IsChild v (new s.child) s) (sym (at_q p e)) (which (has_append s div.front (whole ∷ div.back) (subst (Has s) div.few_is o.has)))
+          subst (λ (v : Node). IsChild v (new s.child) s) (sym (at_q p e)) (which (has_append s div.prefix (whole ∷ div.back) (subst (Has s) div.few_is o.has)))
         where
-          which : Has s div.front ⊎ Has s (whole ∷ div.back) → IsChild NewQ (new s.child) s
-          which (inl h) = let w = div.before s h in let a = low_sep in of_parent (subst (Has s) (sym div.many_is) (append_left s div.front (first_span ∷ second_span ∷ div.back) h)) (λ z. omega arith) (λ z. omega arith)
+          which : Has s div.prefix ⊎ Has s (whole ∷ div.back) → IsChild NewQ (new s.child) s
+          which (inl h) = let w = div.before s h in let a = low_sep in of_parent (subst (Has s) (sym div.many_is) (append_left s div.prefix (first_span ∷ second_span ∷ div.back) h)) (λ z. omega arith) (λ z. omega arith)
           which (inr (inl h)) = subst (λ (z : Span). IsChild NewQ (new z.child) z) (sym h) (subst (λ (v : Node). IsChild NewQ v whole) (sym (at_l l refl)) (record { live = lc.live; level = lc.level; low = refl; high = refl }))
-          which (inr (inr h)) = let w = div.behind s h in let a = low_sep in let b = sep_high in of_parent (subst (Has s) (sym div.many_is) (append_right s div.front (first_span ∷ second_span ∷ div.back) (inr (inr h)))) (λ z. omega arith) (λ z. omega arith)
+          which (inr (inr h)) = let w = div.behind s h in let a = low_sep in let b = sep_high in of_parent (subst (Has s) (sym div.many_is) (append_right s div.prefix (first_span ∷ second_span ∷ div.back) (inr (inr h)))) (λ z. omega arith) (λ z. omega arith)
       go (inr (inr (inr e))) =
           let o = subst (λ (v : Node). Names v s) (at_else p e.0 e.1 e.2) n in
           subst (λ (v : Node). IsChild v (new s.child) s) (sym (at_else p e.0 e.1 e.2)) (stays p s (node p) b o (neither p s b o (λ z. absurd (e.2 z))) refl)
 
   -- ## Each page is named
 
-  in_q : (s : Span) → Has s ((div.front ++ (whole ∷ div.back))) → Names (new q) s
+  in_q : (s : Span) → Has s ((div.prefix ++ (whole ∷ div.back))) → Names (new q) s
   in_q s h = subst (λ (v : Node). Names v s) (sym (at_q q refl)) (record { live = m.left_named.live; inner = m.left_named.inner; has = subst (Has s) (sym div.few_is) h })
 
   in_l : (s : Span) → 0 < (node l).level → Has s (((spans (node l).pairs (node l).high) ++ (spans (node c).pairs (node c).high))) → Names (new l) s
@@ -224,22 +224,22 @@ module _ (f : Format) (node : ℕ → Node) (t : IsTree f node) (r : Record) (m 
           place : Parent f node p → Parent f new p
           place u = find_it (four u.page)
             where
-              in_parent : Has u.span div.front ⊎ Has u.span (first_span ∷ second_span ∷ div.back) → Parent f new p
-              in_parent (inl h) = record { page = q; below = m.parent; span = u.span; names = in_q u.span (append_left u.span div.front (whole ∷ div.back) h); child = u.child }
+              in_parent : Has u.span div.prefix ⊎ Has u.span (first_span ∷ second_span ∷ div.back) → Parent f new p
+              in_parent (inl h) = record { page = q; below = m.parent; span = u.span; names = in_q u.span (append_left u.span div.prefix (whole ∷ div.back) h); child = u.child }
               in_parent (inr (inl h)) = absurd (nl (sym u.child ∙ ap (λ (s : Span). s.child) h))
               in_parent (inr (inr (inl h))) = absurd (nc (sym u.child ∙ ap (λ (s : Span). s.child) h))
-              in_parent (inr (inr (inr h))) = record { page = q; below = m.parent; span = u.span; names = in_q u.span (append_right u.span div.front (whole ∷ div.back) (inr h)); child = u.child }
+              in_parent (inr (inr (inr h))) = record { page = q; below = m.parent; span = u.span; names = in_q u.span (append_right u.span div.prefix (whole ∷ div.back) (inr h)); child = u.child }
 
               find_it : (u.page ≡ l) ⊎ ((u.page ≡ c) ⊎ ((u.page ≡ q) ⊎ ((u.page ≡ l → ⊥) × (u.page ≡ c → ⊥) × (u.page ≡ q → ⊥)))) → Parent f new p
               find_it (inl e) = let o = subst (λ (i : ℕ). Names (node i) u.span) e u.names in
                   record { page = l; below = l_page.1; span = u.span; names = in_l u.span o.inner (append_left u.span (spans (node l).pairs (node l).high) (spans (node c).pairs (node c).high) o.has); child = u.child }
               find_it (inr (inl e)) = let o = subst (λ (i : ℕ). Names (node i) u.span) e u.names in let oi = o.inner in let x = same_level in
                   record { page = l; below = l_page.1; span = u.span; names = in_l u.span (omega arith) (append_right u.span (spans (node l).pairs (node l).high) (spans (node c).pairs (node c).high) o.has); child = u.child }
-              find_it (inr (inr (inl e))) = let o = subst (λ (i : ℕ). Names (node i) u.span) e u.names in in_parent (has_append u.span div.front (first_span ∷ second_span ∷ div.back) (subst (Has u.span) div.many_is o.has))
+              find_it (inr (inr (inl e))) = let o = subst (λ (i : ℕ). Names (node i) u.span) e u.names in in_parent (has_append u.span div.prefix (first_span ∷ second_span ∷ div.back) (subst (Has u.span) div.many_is o.has))
               find_it (inr (inr (inr e))) = record { page = u.page; below = u.below; span = u.span; names = subst (λ (v : Node). Names v u.span) (sym (at_else u.page e.0 e.1 e.2)) u.names; child = u.child }
 
       go : (p ≡ l) ⊎ ((p ≡ c) ⊎ ((p ≡ q) ⊎ ((p ≡ l → ⊥) × (p ≡ c → ⊥) × (p ≡ q → ⊥)))) → Parent f new p
-      go (inl e) = record { page = q; below = m.parent; span = whole; names = in_q whole (append_right whole div.front (whole ∷ div.back) (inl refl)); child = sym e }
+      go (inl e) = record { page = q; below = m.parent; span = whole; names = in_q whole (append_right whole div.prefix (whole ∷ div.back) (inl refl)); child = sym e }
       go (inr (inl e)) = absurd (true≢false (sym v ∙ ap (λ (v : Node). v.live) (at_c p e)))
       go (inr (inr (inl e))) = by_old (λ z. q_l (sym e ∙ z)) (λ z. q_c (sym e ∙ z)) (ap (λ (i : ℕ). (node i).live) e ∙ m.left_named.live)
       go (inr (inr (inr e))) = by_old e.0 e.1 (sym (ap (λ (v : Node). v.live) (at_else p e.0 e.1 e.2)) ∙ v)

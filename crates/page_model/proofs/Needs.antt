@@ -70,8 +70,8 @@ module _ (f : Format) (node : ℕ → Node) (gsn : ℕ → ℕ) (t : IsTree f no
   joins : (l r q : ℕ) → (m : NeedsJoin f node l r q) → FitsJoin f node (Rattle.page_model.specs.Needs.join_record node gsn l r q)
   joins l r q m = go m.beside.0 m.beside.1 m.beside.2.0 m.beside.2.1 m.beside.2.2 m.beside.2.3 m.beside.2.4
     where
-      go : (front back : List Pair) (x y : Pair) → (node q).pairs ≡ (front ++ (x ∷ y ∷ back)) → x.word ≡ l → y.word ≡ r → FitsJoin f node (Rattle.page_model.specs.Needs.join_record node gsn l r q)
-      go front back x y e el er = record {
+      go : (prefix back : List Pair) (x y : Pair) → (node q).pairs ≡ (prefix ++ (x ∷ y ∷ back)) → x.word ≡ l → y.word ≡ r → FitsJoin f node (Rattle.page_model.specs.Needs.join_record node gsn l r q)
+      go prefix back x y e el er = record {
         parent = m.parent;
         left_named = subst (Names (node q)) one first;
         right_named = subst (Names (node q)) two second;
@@ -79,14 +79,14 @@ module _ (f : Format) (node : ℕ → Node) (gsn : ℕ → ℕ) (t : IsTree f no
         room = m.room;
       }
         where
-          all : spans (node q).pairs (node q).high ≡ ((spans front x.key) ++ (record { child = x.word; low = x.key; high = y.key } ∷ record { child = y.word; low = y.key; high = first_key back (node q).high } ∷ spans back (node q).high))
-          all = ap (λ (z : List Pair). spans z (node q).high) e ∙ spans_append front (x ∷ y ∷ back) (node q).high
+          all : spans (node q).pairs (node q).high ≡ ((spans prefix x.key) ++ (record { child = x.word; low = x.key; high = y.key } ∷ record { child = y.word; low = y.key; high = first_key back (node q).high } ∷ spans back (node q).high))
+          all = ap (λ (z : List Pair). spans z (node q).high) e ∙ spans_append prefix (x ∷ y ∷ back) (node q).high
 
           first : Names (node q) (record { child = x.word; low = x.key; high = y.key })
-          first = record { live = m.live; inner = m.inner; has = subst (Has (record { child = x.word; low = x.key; high = y.key })) (sym all) (append_right (record { child = x.word; low = x.key; high = y.key }) (spans front x.key) (record { child = x.word; low = x.key; high = y.key } ∷ record { child = y.word; low = y.key; high = first_key back (node q).high } ∷ spans back (node q).high) (inl refl)) }
+          first = record { live = m.live; inner = m.inner; has = subst (Has (record { child = x.word; low = x.key; high = y.key })) (sym all) (append_right (record { child = x.word; low = x.key; high = y.key }) (spans prefix x.key) (record { child = x.word; low = x.key; high = y.key } ∷ record { child = y.word; low = y.key; high = first_key back (node q).high } ∷ spans back (node q).high) (inl refl)) }
 
           second : Names (node q) (record { child = y.word; low = y.key; high = first_key back (node q).high })
-          second = record { live = m.live; inner = m.inner; has = subst (Has (record { child = y.word; low = y.key; high = first_key back (node q).high })) (sym all) (append_right (record { child = y.word; low = y.key; high = first_key back (node q).high }) (spans front x.key) (record { child = x.word; low = x.key; high = y.key } ∷ record { child = y.word; low = y.key; high = first_key back (node q).high } ∷ spans back (node q).high) (inr (inl refl))) }
+          second = record { live = m.live; inner = m.inner; has = subst (Has (record { child = y.word; low = y.key; high = first_key back (node q).high })) (sym all) (append_right (record { child = y.word; low = y.key; high = first_key back (node q).high }) (spans prefix x.key) (record { child = x.word; low = x.key; high = y.key } ∷ record { child = y.word; low = y.key; high = first_key back (node q).high } ∷ spans back (node q).high) (inr (inl refl))) }
 
           a : IsChild (node q) (node l) (record { child = x.word; low = x.key; high = y.key })
           a = subst (λ (j : ℕ). IsChild (node q) (node j) (record { child = x.word; low = x.key; high = y.key })) el (t.down q m.parent (record { child = x.word; low = x.key; high = y.key }) first)

@@ -133,8 +133,8 @@ find_append_right a b k (x ∷ xs) ys h l = let r = rising_le (suc x.key) xs b h
 -- ## Putting a pair in
 
 -- by the place of its key
-pub put_front : (k w : ℕ) (x : Pair) (xs : List Pair) → k < x.key → put k w (x ∷ xs) ≡ record { key = k; word = w } ∷ x ∷ xs
-put_front k w x xs l = cond-true (ltb k x.key) (record { key = k; word = w } ∷ x ∷ xs) (if x.key == k then record { key = k; word = w } ∷ xs else x ∷ put k w xs) (lt-ltb k x.key l)
+pub put_prefix : (k w : ℕ) (x : Pair) (xs : List Pair) → k < x.key → put k w (x ∷ xs) ≡ record { key = k; word = w } ∷ x ∷ xs
+put_prefix k w x xs l = cond-true (ltb k x.key) (record { key = k; word = w } ∷ x ∷ xs) (if x.key == k then record { key = k; word = w } ∷ xs else x ∷ put k w xs) (lt-ltb k x.key l)
 
 pub put_here : (k w : ℕ) (x : Pair) (xs : List Pair) → x.key ≡ k → put k w (x ∷ xs) ≡ record { key = k; word = w } ∷ xs
 put_here k w x xs e =
@@ -153,7 +153,7 @@ placed k x = elim (cases_lt k x.key) [ inl l ↦ inl l | inr l ↦ elim (cases_e
 pub rising_put : (a k w : ℕ) (xs : List Pair) (b : ℕ) → Rising a xs b → a ≤ k → k < b → Rising a (put k w xs) b
 rising_put a k w [] b h l u = (l, omega arith)
 rising_put a k w (x ∷ xs) b h l u = elim (placed k x) [
-  | inl q ↦ subst (λ (ys : List Pair). Rising a ys b) (sym (put_front k w x xs q)) (l, (omega arith, h.1))
+  | inl q ↦ subst (λ (ys : List Pair). Rising a ys b) (sym (put_prefix k w x xs q)) (l, (omega arith, h.1))
   | inr (inl q) ↦ subst (λ (ys : List Pair). Rising a ys b) (sym (put_here k w x xs q)) (l, subst (λ (j : ℕ). Rising (suc j) xs b) q h.1)
   | inr (inr q) ↦ subst (λ (ys : List Pair). Rising a ys b) (sym (put_back k w x xs q)) (h.0, rising_put (suc x.key) k w xs b h.1 (omega arith) u)
 ]
@@ -161,7 +161,7 @@ rising_put a k w (x ∷ xs) b h l u = elim (placed k x) [
 pub find_put_same : (k w : ℕ) (xs : List Pair) → find k (put k w xs) ≡ Some w
 find_put_same k w [] = cond-true (k == k) (Some w) None (eq-eqb k k refl)
 find_put_same k w (x ∷ xs) = elim (placed k x) [
-  | inl q ↦ ap (find k) (put_front k w x xs q) ∙ cond-true (k == k) (Some w) (find k (x ∷ xs)) (eq-eqb k k refl)
+  | inl q ↦ ap (find k) (put_prefix k w x xs q) ∙ cond-true (k == k) (Some w) (find k (x ∷ xs)) (eq-eqb k k refl)
   | inr (inl q) ↦ ap (find k) (put_here k w x xs q) ∙ cond-true (k == k) (Some w) (find k xs) (eq-eqb k k refl)
   | inr (inr q) ↦ ap (find k) (put_back k w x xs q) ∙ (cond-false (x.key == k) (Some x.word) (find k (put k w xs)) (ne_eqb x.key k (λ e. omega arith)) ∙ find_put_same k w xs)
 ]
@@ -169,7 +169,7 @@ find_put_same k w (x ∷ xs) = elim (placed k x) [
 pub find_put_other : (k w j : ℕ) (xs : List Pair) → (k ≡ j → ⊥) → find j (put k w xs) ≡ find j xs
 find_put_other k w j [] n = cond-false (k == j) (Some w) None (ne_eqb k j n)
 find_put_other k w j (x ∷ xs) n = elim (placed k x) [
-  | inl q ↦ ap (find j) (put_front k w x xs q) ∙ cond-false (k == j) (Some w) (find j (x ∷ xs)) (ne_eqb k j n)
+  | inl q ↦ ap (find j) (put_prefix k w x xs q) ∙ cond-false (k == j) (Some w) (find j (x ∷ xs)) (ne_eqb k j n)
   | inr (inl q) ↦ ap (find j) (put_here k w x xs q) ∙ (cond-false (k == j) (Some w) (find j xs) (ne_eqb k j n) ∙ sym (cond-false (x.key == j) (Some x.word) (find j xs) (ne_eqb x.key j (λ e. n (sym q ∙ e)))))
   | inr (inr q) ↦ ap (find j) (put_back k w x xs q) ∙ ap (λ (z : Option ℕ). if x.key == j then Some x.word else z) (find_put_other k w j xs n)
 ]
@@ -178,7 +178,7 @@ pub put_has : (k w : ℕ) (xs : List Pair) (y : Pair) → Has y (put k w xs) →
 put_has k w [] y (inl e) = inl e
 put_has k w [] y (inr h) = absurd h
 put_has k w (x ∷ xs) y h = elim (placed k x) [
-  | inl q ↦ (let g : Has y (record { key = k; word = w } ∷ x ∷ xs) = subst (Has y) (put_front k w x xs q) h in g)
+  | inl q ↦ (let g : Has y (record { key = k; word = w } ∷ x ∷ xs) = subst (Has y) (put_prefix k w x xs q) h in g)
   | inr (inl q) ↦ (let g : Has y (record { key = k; word = w } ∷ xs) = subst (Has y) (put_here k w x xs q) h in elim g [ inl e ↦ inl e | inr m ↦ inr (inr m) ])
   | inr (inr q) ↦ (let g : Has y (x ∷ put k w xs) = subst (Has y) (put_back k w x xs q) h in elim g [ inl e ↦ inr (inl e) | inr m ↦ elim (put_has k w xs y m) [ inl e ↦ inl e | inr t ↦ inr (inr t) ] ])
 ]
@@ -186,7 +186,7 @@ put_has k w (x ∷ xs) y h = elim (placed k x) [
 pub size_put : (k w : ℕ) (xs : List Pair) → length (put k w xs) ≤ suc (length xs)
 size_put k w [] = omega arith
 size_put k w (x ∷ xs) = elim (placed k x) [
-  | inl q ↦ (let e = ap (λ (ys : List Pair). length ys) (put_front k w x xs q) in omega arith)
+  | inl q ↦ (let e = ap (λ (ys : List Pair). length ys) (put_prefix k w x xs q) in omega arith)
   | inr (inl q) ↦ (let e = ap (λ (ys : List Pair). length ys) (put_here k w x xs q) in omega arith)
   | inr (inr q) ↦ (let e = ap (λ (ys : List Pair). length ys) (put_back k w x xs q) in let r = size_put k w xs in omega arith)
 ]

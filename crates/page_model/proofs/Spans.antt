@@ -2,7 +2,7 @@
 use Rattle.std.proofs.Common.{◌++◌, length, ◌≡◌, ◌<◌, ◌≤◌, ℕ, suc, Bool, true, false, not, leb, ltb, ◌==◌, List, [], ◌∷◌, refl, sym, ap, ◌∙◌, inl, inr, arith}
 use Rattle.std.proofs.lemmas.Bool.{cases_lt, eq-eqb, ne_eqb, le-leb, lt-leb, lt-ltb, le-ltb, cond-true, cond-false}
 use Rattle.page_model.specs.Pairs.{Pair, Has, Rising, put, keep, below, onward, without, first_key, route, Span, spans}
-use Rattle.page_model.proofs.Pairs.{rising_in, first_between, put_front, put_back}
+use Rattle.page_model.proofs.Pairs.{rising_in, first_between, put_prefix, put_back}
 
 -- ## One list of spans
 
@@ -116,22 +116,22 @@ spans_some (x ∷ xs) h s m e = let q = ap (λ (z : List Pair). length z) e in o
 -- ## A span that is divided, or put together again
 
 pub record Divided (c r low sep high : ℕ) (few many : List Span) : Type 0 where
-  pub front : List Span
+  pub prefix : List Span
   pub back : List Span
-  pub few_is : few ≡ (front ++ (record { child = c; low = low; high = high } ∷ back))
-  pub many_is : many ≡ (front ++ (record { child = c; low = low; high = sep } ∷ record { child = r; low = sep; high = high } ∷ back))
-  pub before : (s : Span) → Has s front → s.low < low
+  pub few_is : few ≡ (prefix ++ (record { child = c; low = low; high = high } ∷ back))
+  pub many_is : many ≡ (prefix ++ (record { child = c; low = low; high = sep } ∷ record { child = r; low = sep; high = high } ∷ back))
+  pub before : (s : Span) → Has s prefix → s.low < low
   pub behind : (s : Span) → Has s back → high ≤ s.low
 
 put_first : (k w : ℕ) (xs : List Pair) (h : ℕ) → k < first_key xs h → put k w xs ≡ record { key = k; word = w } ∷ xs
 put_first k w [] h l = refl
-put_first k w (x ∷ xs) h l = put_front k w x xs l
+put_first k w (x ∷ xs) h l = put_prefix k w x xs l
 
 pub put_divides : (a : ℕ) (xs : List Pair) (h : ℕ) (c r low sep high : ℕ) → Rising a xs h → Has (record { child = c; low = low; high = high }) (spans xs h) → low < sep → sep < high → Divided c r low sep high (spans xs h) (spans (put sep r xs) h)
 put_divides a [] h c r low sep high g m l u = absurd m
 put_divides a (x ∷ xs) h c r low sep high g (inl e) l u =
     let el = ap (λ (z : Span). z.low) e in let eh = ap (λ (z : Span). z.high) e in record {
-      front = [];
+      prefix = [];
       back = spans xs h;
       few_is = ap (λ (z : Span). z ∷ spans xs h) (sym e);
       many_is = ap (λ (ys : List Pair). spans ys h) (put_back sep r x xs (omega arith) ∙ ap (λ (ys : List Pair). x ∷ ys) (put_first sep r xs h (omega arith)))
@@ -144,7 +144,7 @@ put_divides a (x ∷ xs) h c r low sep high g (inr m) l u =
     let i = (span_in (suc x.key) xs h (record { child = c; low = low; high = high }) g.1 m).0 in
     let j = span_after (suc x.key) xs h (record { child = c; low = low; high = high }) g.1 m in
     record {
-      front = record { child = x.word; low = x.key; high = first_key xs h } ∷ d.front;
+      prefix = record { child = x.word; low = x.key; high = first_key xs h } ∷ d.prefix;
       back = d.back;
       few_is = ap (λ (z : List Span). record { child = x.word; low = x.key; high = first_key xs h } ∷ z) d.few_is;
       many_is = ap (λ (ys : List Pair). spans ys h) (put_back sep r x xs (omega arith))
@@ -171,7 +171,7 @@ without_divides a (x ∷ y ∷ ys) h c r low sep high g (inl d) (inr (inr n)) =
     let dh = ap (λ (z : Span). z.high) d in let i = (span_in (suc y.key) ys h (record { child = r; low = sep; high = high }) g.1.1 n).0 in absurd (omega arith)
 without_divides a (x ∷ y ∷ ys) h c r low sep high g (inl d) (inr (inl e)) =
     let dh = ap (λ (z : Span). z.high) d in let el = ap (λ (z : Span). z.low) e in let eh = ap (λ (z : Span). z.high) e in let g1 = g.1.0 in record {
-      front = [];
+      prefix = [];
       back = spans ys h;
       few_is = ap (λ (z : List Pair). spans z h) (without_keep sep x (y ∷ ys) (λ q. omega arith) ∙ ap (λ (z : List Pair). x ∷ z) (without_drop sep y ys h (sym el) g.1.1))
           ∙ (ap (λ (z : ℕ). record { child = x.word; low = x.key; high = z } ∷ spans ys h) (sym eh) ∙ ap (λ (z : Span). record { child = z.child; low = z.low; high = high } ∷ spans ys h) (sym d));
@@ -185,7 +185,7 @@ without_divides a (x ∷ xs) h c r low sep high g (inr m) (inr n) =
     let i0 = i.0 in let i1 = i.1 in
     let j = span_after (suc x.key) xs h (record { child = c; low = low; high = sep }) g.1 m in
     record {
-      front = record { child = x.word; low = x.key; high = first_key xs h } ∷ d.front;
+      prefix = record { child = x.word; low = x.key; high = first_key xs h } ∷ d.prefix;
       back = d.back;
       few_is = ap (λ (ys : List Pair). spans ys h) (without_keep sep x xs (λ q. omega arith))
           ∙ (ap (λ (z : ℕ). record { child = x.word; low = x.key; high = z } ∷ spans (without sep xs) h) (first_without sep xs h (spans_some xs h (record { child = c; low = low; high = sep }) m) (omega arith))

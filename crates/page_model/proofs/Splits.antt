@@ -198,20 +198,20 @@ module _ (f : Format) (node : ℕ → Node) (t : IsTree f node) (r : Record) (m 
           subst (λ (v : Node). IsChild v (new s.child) s) (sym (at_c p e)) (of_left NewR m.level o.inner (subst (Has s) (sym (halves (omega arith))) (append_right s (spans (below sep (node l).pairs) sep) (spans r.pairs r.high) o.has)))
       go (inr (inr (inl e))) =
           let o = subst (λ (v : Node). Names v s) (at_q p e) n in
-          subst (λ (v : Node). IsChild v (new s.child) s) (sym (at_q p e)) (which (has_append s div.front (record { child = l; low = (node l).low; high = sep } ∷ record { child = c; low = sep; high = r.high } ∷ div.back) (subst (Has s) div.many_is o.has)))
+          subst (λ (v : Node). IsChild v (new s.child) s) (sym (at_q p e)) (which (has_append s div.prefix (record { child = l; low = (node l).low; high = sep } ∷ record { child = c; low = sep; high = r.high } ∷ div.back) (subst (Has s) div.many_is o.has)))
         where
-          which : Has s div.front ⊎ Has s (record { child = l; low = (node l).low; high = sep } ∷ record { child = c; low = sep; high = r.high } ∷ div.back) → IsChild NewQ (new s.child) s
-          which (inl h) = of_parent (subst (Has s) (sym div.few_is) (append_left s div.front (whole ∷ div.back) h)) (λ z. (let w = div.before s h in omega arith))
+          which : Has s div.prefix ⊎ Has s (record { child = l; low = (node l).low; high = sep } ∷ record { child = c; low = sep; high = r.high } ∷ div.back) → IsChild NewQ (new s.child) s
+          which (inl h) = of_parent (subst (Has s) (sym div.few_is) (append_left s div.prefix (whole ∷ div.back) h)) (λ z. (let w = div.before s h in omega arith))
           which (inr (inl h)) = subst (λ (z : Span). IsChild NewQ (new z.child) z) (sym h) (subst (λ (v : Node). IsChild NewQ v (record { child = l; low = (node l).low; high = sep })) (sym (at_l l refl)) (record { live = lc.live; level = lc.level; low = refl; high = refl }))
           which (inr (inr (inl h))) = subst (λ (z : Span). IsChild NewQ (new z.child) z) (sym h) (subst (λ (v : Node). IsChild NewQ v (record { child = c; low = sep; high = r.high })) (sym (at_c c refl)) (record { live = refl; level = ap suc m.level ∙ lc.level; low = refl; high = refl }))
-          which (inr (inr (inr h))) = of_parent (subst (Has s) (sym div.few_is) (append_right s div.front (whole ∷ div.back) (inr h))) (λ z. (let w = div.behind s h in let a = m.inside.0 in let b = m.inside.1 in omega arith))
+          which (inr (inr (inr h))) = of_parent (subst (Has s) (sym div.few_is) (append_right s div.prefix (whole ∷ div.back) (inr h))) (λ z. (let w = div.behind s h in let a = m.inside.0 in let b = m.inside.1 in omega arith))
       go (inr (inr (inr e))) =
           let o = subst (λ (v : Node). Names v s) (at_else p e.0 e.1 e.2) n in
           subst (λ (v : Node). IsChild v (new s.child) s) (sym (at_else p e.0 e.1 e.2)) (stays p s (node p) b o (not_left p s b o (λ z w. e.2 z)) refl)
 
   -- ## Each page is named
 
-  in_q : (s : Span) → Has s ((div.front ++ (record { child = l; low = (node l).low; high = sep } ∷ record { child = c; low = sep; high = r.high } ∷ div.back))) → Names (new q) s
+  in_q : (s : Span) → Has s ((div.prefix ++ (record { child = l; low = (node l).low; high = sep } ∷ record { child = c; low = sep; high = r.high } ∷ div.back))) → Names (new q) s
   in_q s h = subst (λ (v : Node). Names v s) (sym (at_q q refl)) (record { live = m.names.live; inner = m.names.inner; has = subst (Has s) (sym div.many_is) h })
 
   up : (p : ℕ) → p < f.pages → (new p).live ≡ true → (p ≡ 0 → ⊥) → Parent f new p
@@ -227,20 +227,20 @@ module _ (f : Format) (node : ℕ → Node) (t : IsTree f node) (r : Record) (m 
               halves_of (inl h) i = record { page = l; below = l_page.1; span = u.span; names = subst (λ (v : Node). Names v u.span) (sym (at_l l refl)) (record { live = lc.live; inner = i; has = h }); child = u.child }
               halves_of (inr h) i = record { page = c; below = m.right; span = u.span; names = subst (λ (v : Node). Names v u.span) (sym (at_c c refl)) (record { live = refl; inner = (let e = m.level in omega arith); has = h }); child = u.child }
 
-              in_parent : Has u.span div.front ⊎ Has u.span (whole ∷ div.back) → Parent f new p
-              in_parent (inl h) = record { page = q; below = m.parent; span = u.span; names = in_q u.span (append_left u.span div.front (record { child = l; low = (node l).low; high = sep } ∷ record { child = c; low = sep; high = r.high } ∷ div.back) h); child = u.child }
+              in_parent : Has u.span div.prefix ⊎ Has u.span (whole ∷ div.back) → Parent f new p
+              in_parent (inl h) = record { page = q; below = m.parent; span = u.span; names = in_q u.span (append_left u.span div.prefix (record { child = l; low = (node l).low; high = sep } ∷ record { child = c; low = sep; high = r.high } ∷ div.back) h); child = u.child }
               in_parent (inr (inl h)) = absurd (nl (sym u.child ∙ ap (λ (s : Span). s.child) h))
-              in_parent (inr (inr h)) = record { page = q; below = m.parent; span = u.span; names = in_q u.span (append_right u.span div.front (record { child = l; low = (node l).low; high = sep } ∷ record { child = c; low = sep; high = r.high } ∷ div.back) (inr (inr h))); child = u.child }
+              in_parent (inr (inr h)) = record { page = q; below = m.parent; span = u.span; names = in_q u.span (append_right u.span div.prefix (record { child = l; low = (node l).low; high = sep } ∷ record { child = c; low = sep; high = r.high } ∷ div.back) (inr (inr h))); child = u.child }
 
               find_it : (u.page ≡ l) ⊎ ((u.page ≡ c) ⊎ ((u.page ≡ q) ⊎ ((u.page ≡ l → ⊥) × (u.page ≡ c → ⊥) × (u.page ≡ q → ⊥)))) → Parent f new p
               find_it (inl e) = let o = subst (λ (i : ℕ). Names (node i) u.span) e u.names in halves_of (has_append u.span (spans (below sep (node l).pairs) sep) (spans r.pairs r.high) (subst (Has u.span) (halves o.inner) o.has)) o.inner
               find_it (inr (inl e)) = not_c u.page u.names.live e
-              find_it (inr (inr (inl e))) = let o = subst (λ (i : ℕ). Names (node i) u.span) e u.names in in_parent (has_append u.span div.front (whole ∷ div.back) (subst (Has u.span) div.few_is o.has))
+              find_it (inr (inr (inl e))) = let o = subst (λ (i : ℕ). Names (node i) u.span) e u.names in in_parent (has_append u.span div.prefix (whole ∷ div.back) (subst (Has u.span) div.few_is o.has))
               find_it (inr (inr (inr e))) = record { page = u.page; below = u.below; span = u.span; names = subst (λ (v : Node). Names v u.span) (sym (at_else u.page e.0 e.1 e.2)) u.names; child = u.child }
 
       go : (p ≡ l) ⊎ ((p ≡ c) ⊎ ((p ≡ q) ⊎ ((p ≡ l → ⊥) × (p ≡ c → ⊥) × (p ≡ q → ⊥)))) → Parent f new p
-      go (inl e) = record { page = q; below = m.parent; span = record { child = l; low = (node l).low; high = sep }; names = in_q (record { child = l; low = (node l).low; high = sep }) (append_right (record { child = l; low = (node l).low; high = sep }) div.front (record { child = l; low = (node l).low; high = sep } ∷ record { child = c; low = sep; high = r.high } ∷ div.back) (inl refl)); child = sym e }
-      go (inr (inl e)) = record { page = q; below = m.parent; span = record { child = c; low = sep; high = r.high }; names = in_q (record { child = c; low = sep; high = r.high }) (append_right (record { child = c; low = sep; high = r.high }) div.front (record { child = l; low = (node l).low; high = sep } ∷ record { child = c; low = sep; high = r.high } ∷ div.back) (inr (inl refl))); child = sym e }
+      go (inl e) = record { page = q; below = m.parent; span = record { child = l; low = (node l).low; high = sep }; names = in_q (record { child = l; low = (node l).low; high = sep }) (append_right (record { child = l; low = (node l).low; high = sep }) div.prefix (record { child = l; low = (node l).low; high = sep } ∷ record { child = c; low = sep; high = r.high } ∷ div.back) (inl refl)); child = sym e }
+      go (inr (inl e)) = record { page = q; below = m.parent; span = record { child = c; low = sep; high = r.high }; names = in_q (record { child = c; low = sep; high = r.high }) (append_right (record { child = c; low = sep; high = r.high }) div.prefix (record { child = l; low = (node l).low; high = sep } ∷ record { child = c; low = sep; high = r.high } ∷ div.back) (inr (inl refl))); child = sym e }
       go (inr (inr (inl e))) = by_old (λ z. q_l (sym e ∙ z)) (ap (λ (i : ℕ). (node i).live) e ∙ m.names.live)
       go (inr (inr (inr e))) = by_old e.0 (sym (ap (λ (v : Node). v.live) (at_else p e.0 e.1 e.2)) ∙ v)
 

@@ -71,7 +71,7 @@ pub record NeedsJoin (f : Format) (node : ℕ → Node) (l r q : ℕ) : Type 0 w
   pub parent : q < f.pages
   pub live : (node q).live ≡ true
   pub inner : 0 < (node q).level
-  pub beside : (front back : List Pair) × ((x y : Pair) × ((node q).pairs ≡ (front ++ (x ∷ y ∷ back))) × (x.word ≡ l) × (y.word ≡ r))
+  pub beside : (prefix back : List Pair) × ((x y : Pair) × ((node q).pairs ≡ (prefix ++ (x ∷ y ∷ back))) × (x.word ≡ l) × (y.word ≡ r))
   pub room : length (node l).pairs + length (node r).pairs ≤ f.room
 
 -- c is the one child of the root

@@ -70,7 +70,7 @@ IsChoice a b base = ((base.slot ≡ 0) × (a ≡ Some base.node)) ⊎ ((base.slo
 abbrev in_slot : ℕ → Page → Base
 in_slot i x = record { node = x; slot = i }
 
-abbrev model_newer : Option Page → Option Page → Option model.Page
+abbrev model_newer : Option Page → Option Page → Option model.Contents
 model_newer a b = newer_page (slot_of a) (slot_of b)
 
 -- what the newest of both is, by what the model takes

@@ -32,16 +32,16 @@ module _ (at q : ℕ) (slot old : List ℕ) (is : at ≡ 1024 * q) (whole : leng
   pub write_size : length now ≡ max (length old) (at + 1024)
   write_size = omega (arith, whole, reach, length-append {A = ℕ}, length-take {A = ℕ}, length-replicate {A = ℕ}, length-drop {A = ℕ})
 
-  abbrev front : List ℕ
-  front = take at old ++ replicate (at - length old) 0
+  abbrev prefix : List ℕ
+  prefix = take at old ++ replicate (at - length old) 0
 
-  front_size : length front ≡ at
-  front_size = omega (arith, reach, length-append {A = ℕ}, length-take {A = ℕ}, length-replicate {A = ℕ})
+  prefix_size : length prefix ≡ at
+  prefix_size = omega (arith, reach, length-append {A = ℕ}, length-take {A = ℕ}, length-replicate {A = ℕ})
 
   pub write_here : piece 1024 q now ≡ slot
   write_here =
       let rest : List ℕ = drop (at + length slot) old in
-      ap (λ (n : ℕ). take 1024 (drop n now)) (sym is) ∙ ap (λ (l : List ℕ). take 1024 (drop at l)) (append_assoc front slot rest) ∙ ap (take 1024) (drop_at front (slot ++ rest) at front_size) ∙ take_at slot rest 1024 whole
+      ap (λ (n : ℕ). take 1024 (drop n now)) (sym is) ∙ ap (λ (l : List ℕ). take 1024 (drop at l)) (append_assoc prefix slot rest) ∙ ap (take 1024) (drop_at prefix (slot ++ rest) at prefix_size) ∙ take_at slot rest 1024 whole
 
   pub write_other : (r : ℕ) → (r ≡ q → ⊥) → piece 1024 r now ≡ piece 1024 r old
   write_other r ne = ⊎_elim
@@ -49,11 +49,11 @@ module _ (at q : ℕ) (slot old : List ℕ) (is : at ≡ 1024 * q) (whole : leng
       (λ j from to. put_over_apart at slot old j (omega (arith, l, to, reach, is)) (inl (omega (arith, l, to, is)))))
       (λ (l : q ≤ r).
       let rest : List ℕ = drop (at + length slot) old in
-      let most : length (front ++ slot) ≡ at + length slot = omega (arith, length-append front slot, front_size) in
+      let most : length (prefix ++ slot) ≡ at + length slot = omega (arith, length-append prefix slot, prefix_size) in
       let past : at + length slot ≤ 1024 * r = ⊎_elim (λ (e : r ≡ q). absurd (ne e)) (λ (no : r ≡ q → ⊥). omega (arith, l, no, whole, is)) (cases_eq r q) in
       let k : ℕ = 1024 * r - (at + length slot) in
       let k_is : at + length slot + k ≡ 1024 * r = omega (arith, past) in
-      ap (take 1024) (ap (λ (i : ℕ). drop i now) (sym k_is) ∙ sym (drop-drop k (at + length slot) now) ∙ ap (drop k) (drop_at (front ++ slot) rest (at + length slot) most)
+      ap (take 1024) (ap (λ (i : ℕ). drop i now) (sym k_is) ∙ sym (drop-drop k (at + length slot) now) ∙ ap (drop k) (drop_at (prefix ++ slot) rest (at + length slot) most)
       ∙ drop-drop k (at + length slot) old ∙ ap (λ (i : ℕ). drop i old) k_is))
       (cases_lt r q)
 

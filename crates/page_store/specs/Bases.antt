@@ -1,7 +1,7 @@
 -- The base of a page, as it is fetched.
 use Rattle.std.specs.Prelude.{◌≡◌, ◌<◌, ◌≤◌, ℕ, Some}
 use Rattle.page_model.specs.Page as memory
-use Rattle.image_model.specs.Entries.{Page}
+use Rattle.image_model.specs.Entries.{Contents}
 use Rattle.image_model.specs.Slots.{base_of}
 use Rattle.lean_disk.specs.Story.{Story}
 use Rattle.disk_slots.specs.declared.master.Master.{Master}
@@ -13,7 +13,7 @@ abbrev pub areas_of : Story → Areas
 areas_of s a = (s.area a).bytes
 
 -- the page with the number and the log of its last record
-abbrev pub image_page : memory.Page → Page
+abbrev pub image_page : memory.Page → Contents
 image_page p = record { gsn = p.gsn; last = p.last_log; node = p.node }
 
 -- It is a slot of the page that a generation up to the master's has saved.

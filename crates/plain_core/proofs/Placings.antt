@@ -33,7 +33,7 @@ pub set_more : {T : Type 0} (newer was : List (Placed T)) (x : Placed T) (now ol
 set_more newer was x now old i h e =
     ap (λ (f : ℕ → _). found newer (f i) i) e ∙ sym (found_last newer x (old i) i) ∙ ap (λ ys. found ys (old i) i) (sym h)
 
-step : (c d a : Bool) (w v u rest : logged.Page) → c ≡ d → (d ≡ true → w ≡ v) → rest ≡ cond a v u → cond c w rest ≡ cond (d || a) v u
+step : (c d a : Bool) (w v u rest : logged.Contents) → c ≡ d → (d ≡ true → w ≡ v) → rest ≡ cond a v u → cond c w rest ≡ cond (d || a) v u
 step true true a w v u rest e same ih = same refl
 step true false a w v u rest e same ih = absurd (true≢false e)
 step false true a w v u rest e same ih = absurd (true≢false (sym e))
@@ -45,7 +45,7 @@ turned p q false true h k = absurd (true≢false (sym (eq-eqb p q (sym (eqb-true
 turned p q false false h k = refl
 
 -- a page that the entry touches is what it leaves of it, and another one is as it was
-placed_at : (page : ℕ → logged.Page) (r : logged.Entry) (p : ℕ) (fs : List Ref) → found (placed_by page r fs) (page p) p ≡ cond (any (λ f. f.page == p) fs) (logged.written r p (page p)) (page p)
+placed_at : (page : ℕ → logged.Contents) (r : logged.Entry) (p : ℕ) (fs : List Ref) → found (placed_by page r fs) (page p) p ≡ cond (any (λ f. f.page == p) fs) (logged.written r p (page p)) (page p)
 placed_at page r p [] = refl
 placed_at page r p (f ∷ fs) =
     step (p == f.page) (f.page == p) (any (λ x. x.page == p) fs) (logged.written r f.page (page f.page)) (logged.written r p (page p)) (page p) (found (placed_by page r fs) (page p) p)
@@ -54,12 +54,12 @@ placed_at page r p (f ∷ fs) =
 -- the pages, after those of an entry are set
 pub pages_placed : (r : logged.Entry) (items : List (Placed pages.Page)) (old new : ℕ → pages.Page) → ((i : ℕ) → new i ≡ found items (old i) i) →
     map placing_of items ≡ placed_by (λ p. page_of (old p)) r r.refs →
-    ◌≡◌ {A = ℕ → logged.Page} (λ p. page_of (new p)) (λ p. if logged.touches p r then logged.written r p (page_of (old p)) else page_of (old p))
+    ◌≡◌ {A = ℕ → logged.Contents} (λ p. page_of (new p)) (λ p. if logged.touches p r then logged.written r p (page_of (old p)) else page_of (old p))
 pages_placed r items old new h e = fun_ext (λ p.
     ap page_of (h p) ∙ found_meant page_of items (old p) p ∙ ap (λ xs. found xs (page_of (old p)) p) e ∙ placed_at (λ q. page_of (old q)) r p r.refs)
 
 -- pages, an entry, and then a worker
-pub moved : (old one two new : Core) (P : ℕ → logged.Page) (r : logged.Entry) (w : ℕ) (a : model.Worker) →
+pub moved : (old one two new : Core) (P : ℕ → logged.Contents) (r : logged.Entry) (w : ℕ) (a : model.Worker) →
     Becomes old one (record (state_of old) { page = P }) →
     Becomes one two (record (state_of one) { entries = r ∷ (state_of one).entries }) →
     Becomes two new (record (state_of two) { worker = upd (state_of two).worker w a }) →

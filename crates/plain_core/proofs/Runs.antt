@@ -44,14 +44,14 @@ rowed old mid new n r e w a b h k i j = record {
 }
 
 -- where a page stands, and then what it is
-pub loaded : (old mid new : Core) (p : ℕ) (l : model.Place) (v e : logged.Page) →
+pub loaded : (old mid new : Core) (p : ℕ) (l : model.Place) (v e : logged.Contents) →
     Becomes old mid (record (state_of old) { place = upd (state_of old).place p l }) →
     Becomes mid new (record (state_of mid) { page = upd (state_of mid).page p v }) → v ≡ e →
     Becomes old new (record (state_of old) { place = upd (state_of old).place p l; page = upd (state_of old).page p e })
 loaded old mid new p l v e h k i = record {
   settings = k.settings ∙ h.settings;
   state = k.state ∙ ap (λ (t : model.State). record t { page = upd t.page p v }) h.state
-      ∙ ap (λ (z : logged.Page). record (state_of old) { place = upd (state_of old).place p l; page = upd (state_of old).page p z }) i;
+      ∙ ap (λ (z : logged.Contents). record (state_of old) { place = upd (state_of old).place p l; page = upd (state_of old).page p z }) i;
 }
 
 -- where a page stands, and then the queue
@@ -75,7 +75,7 @@ stands old new p q l e h i = record {
 }
 
 -- an entry, a page, and then a worker
-pub wrote : (old one two new : Core) (r : logged.Entry) (p : ℕ) (v : logged.Page) (w : ℕ) (a : model.Worker) →
+pub wrote : (old one two new : Core) (r : logged.Entry) (p : ℕ) (v : logged.Contents) (w : ℕ) (a : model.Worker) →
     Becomes old one (record (state_of old) { entries = r ∷ (state_of old).entries }) →
     Becomes one two (record (state_of one) { page = upd (state_of one).page p v }) →
     Becomes two new (record (state_of two) { worker = upd (state_of two).worker w a }) →
@@ -93,17 +93,17 @@ other p q true h k = absurd (eqb-false q p h (sym (eqb-true p q k)))
 other p q false h k = k
 
 -- what a write of page p makes of page q
-point_if : (p q : ℕ) (P : ℕ → logged.Page) (n l : ℕ) (f : nodes.Node → nodes.Node) (b : Bool) → (q == p) ≡ b →
+point_if : (p q : ℕ) (P : ℕ → logged.Contents) (n l : ℕ) (f : nodes.Node → nodes.Node) (b : Bool) → (q == p) ≡ b →
     cond ((p == q) || false) (record { gsn = n; last = l; node = cond (q == p) (f (P q).node) (P q).node }) (P q) ≡ cond (q == p) (record { gsn = n; last = l; node = f (P p).node }) (P q)
 point_if p q P n l f true h =
     let e : q ≡ p = eqb-true q p h in
-    let R : nodes.Node → logged.Page = λ v. record { gsn = n; last = l; node = v } in
+    let R : nodes.Node → logged.Contents = λ v. record { gsn = n; last = l; node = v } in
     ap (λ b. cond (b || false) (R (cond (q == p) (f (P q).node) (P q).node)) (P q)) (eq-eqb p q (sym e))
     ∙ ap (λ b. R (cond b (f (P q).node) (P q).node)) h
     ∙ ap (λ z. R (f (P z).node)) e
     ∙ sym (ap (λ b. cond b (R (f (P p).node)) (P q)) h)
 point_if p q P n l f false h =
-    let R : nodes.Node → logged.Page = λ v. record { gsn = n; last = l; node = v } in
+    let R : nodes.Node → logged.Contents = λ v. record { gsn = n; last = l; node = v } in
     ap (λ b. cond (b || false) (R (cond (q == p) (f (P q).node) (P q).node)) (P q)) (other p q (p == q) h refl)
     ∙ sym (ap (λ b. cond b (R (f (P p).node)) (P q)) h)
 
@@ -111,13 +111,13 @@ abbrev putting : ℕ → ℕ → nodes.Node → nodes.Node
 putting k v n = record { live = n.live; level = n.level; low = n.low; high = n.high; pairs = paired.put k v n.pairs }
 
 -- a write changes its page alone
-pages_written : (P : ℕ → logged.Page) (b : Bool) (w : ℕ) (a : model.Worker) (p dead k v : ℕ) →
+pages_written : (P : ℕ → logged.Contents) (b : Bool) (w : ℕ) (a : model.Worker) (p dead k v : ℕ) →
     upd P p (written_in w (suc a.clock) (P p) k v) ≡ (λ q. if logged.touches q (write_entry_in (write_kind b) w a p (P p) dead k v) then logged.written (write_entry_in (write_kind b) w a p (P p) dead k v) q (P q) else P q)
 pages_written P true w a p dead k v = sym (fun_ext (λ q. point_if p q P (suc a.clock) w (putting k v) (q == p) refl))
 pages_written P false w a p dead k v = sym (fun_ext (λ q. point_if p q P (suc a.clock) w (putting k v) (q == p) refl))
 
 -- a write is recorded
-pub recorded : (old new : Core) (b : Bool) (w p dead k v : ℕ) (a : model.Worker) (r : logged.Entry) (V : logged.Page) (A : model.Worker) (f : logged.Entry → List logged.Entry) →
+pub recorded : (old new : Core) (b : Bool) (w p dead k v : ℕ) (a : model.Worker) (r : logged.Entry) (V : logged.Contents) (A : model.Worker) (f : logged.Entry → List logged.Entry) →
     Becomes old new (record (state_of old) { entries = r ∷ (state_of old).entries; page = upd (state_of old).page p V; worker = upd (state_of old).worker w A }) →
     r ≡ write_entry_in (write_kind b) w a p ((state_of old).page p) dead k v →
     V ≡ written_in w r.number ((state_of old).page p) k v → A ≡ record a { clock = r.number; changes = f r } →
@@ -129,7 +129,7 @@ recorded old new b w p dead k v a r V A f h i j l =
       settings = h.settings;
       state = h.state
           ∙ ap (λ (z : logged.Entry). record s { entries = z ∷ s.entries; page = upd s.page p V; worker = upd s.worker w A }) i
-          ∙ ap (λ (z : ℕ → logged.Page). record s { entries = e ∷ s.entries; page = z; worker = upd s.worker w A })
+          ∙ ap (λ (z : ℕ → logged.Contents). record s { entries = e ∷ s.entries; page = z; worker = upd s.worker w A })
           (ap (λ z. upd s.page p z) (j ∙ ap (λ (z : logged.Entry). written_in w z.number (s.page p) k v) i) ∙ pages_written s.page b w a p dead k v)
           ∙ ap (λ (z : model.Worker). record s { entries = e ∷ s.entries; page = (λ q. if logged.touches q e then logged.written e q (s.page q) else s.page q); worker = upd s.worker w z })
           (l ∙ ap (λ (z : logged.Entry). let t : model.Worker = record a { clock = z.number; changes = f z } in t) i);

@@ -23,8 +23,8 @@ started g s h =
     let t : model.State = model.start g in
     let k : model.State = record s { floor = g.base; cut = 0; posted = 0; epoch = 0 } in
     ap (λ (z : List logged.Entry). let u : model.State = record k { entries = z } in u) (h.entries)
-    ∙ ap (λ (z : ℕ → logged.Page). let u : model.State = record k { entries = t.entries; page = z } in u) (fun_ext h.page)
-    ∙ ap (λ (z : ℕ → logged.Page). let u : model.State = record k { entries = t.entries; page = t.page; saved = z } in u) (fun_ext h.saved)
+    ∙ ap (λ (z : ℕ → logged.Contents). let u : model.State = record k { entries = t.entries; page = z } in u) (fun_ext h.page)
+    ∙ ap (λ (z : ℕ → logged.Contents). let u : model.State = record k { entries = t.entries; page = t.page; saved = z } in u) (fun_ext h.saved)
     ∙ ap (λ (z : ℕ → model.Place). let u : model.State = record k { entries = t.entries; page = t.page; saved = t.saved; place = z } in u) (h.place)
     ∙ ap (λ (z : List ℕ). let u : model.State = record k { entries = t.entries; page = t.page; saved = t.saved; place = t.place; queue = z } in u) (h.queue)
     ∙ ap (λ (z : ℕ → model.Row). let u : model.State = record k { entries = t.entries; page = t.page; saved = t.saved; place = t.place; queue = t.queue; row = z } in u) (fun_ext h.row)

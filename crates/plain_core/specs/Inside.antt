@@ -1,7 +1,7 @@
 -- Words of private functions: needs that lean on the numbers of an opening alone.
 use Rattle.std.specs.Prelude.{ℕ, suc, max, Bool, true, false, ◌&&◌, ◌||◌, not, ltb, leb, List, [], ◌∷◌, length, map, Option, Some, None, if◌then◌else◌}
 use Rattle.map_model.specs.Lists.{any, all as every}
-use Rattle.image_model.specs.Entries.{Kind, Entry, Page, page_kind, is_record}
+use Rattle.image_model.specs.Entries.{Kind, Entry, Contents, page_kind, is_record}
 use Rattle.page_model.specs.Records as records
 use Rattle.page_model.specs.Needs.{nowhere}
 use Rattle.page_model.specs.Pairs.{find, put}
@@ -44,7 +44,7 @@ abbrev pub raised : ℕ → Worker → Worker
 raised n a = record a { clock = max a.clock n }
 
 -- a page in which the key has the word, by a record of the log with the number
-abbrev pub written_in : (log number : ℕ) → Page → (k v : ℕ) → Page
+abbrev pub written_in : (log number : ℕ) → Contents → (k v : ℕ) → Contents
 written_in log number p k v = record { gsn = number; last = log; node = record { live = p.node.live; level = p.node.level; low = p.node.low; high = p.node.high; pairs = put k v p.node.pairs } }
 
 -- a change, or one that is put back
@@ -57,7 +57,7 @@ abbrev pub write_record_in : Kind → records.Ref → (k before after : ℕ) →
 write_record_in kind left k before after = record { kind = page_kind kind; left = left; right = nowhere; parent = nowhere; key = k; before = before; after = after; sep = 0; high = 0; level = 0; pairs = []; keys = [] }
 
 -- a write of key k in page p
-abbrev pub write_entry_in : Kind → ℕ → Worker → ℕ → Page → (dead k v : ℕ) → Entry
+abbrev pub write_entry_in : Kind → ℕ → Worker → ℕ → Contents → (dead k v : ℕ) → Entry
 write_entry_in kind w a p leaf dead k v = record { kind = kind; log = w; txn = a.txn; number = suc a.clock; key = k; before = word_or dead (find k leaf.node.pairs); after = v; need = 0; refs = record { page = p; prev = leaf.gsn } ∷ []; record_of = write_record_in kind (record { page = p; prev = leaf.gsn }) k (word_or dead (find k leaf.node.pairs)) v }
 
 -- the entries but for the newest
@@ -75,7 +75,7 @@ abbrev pub is_unripe : (ℕ → ℕ) → (F x : ℕ) → List Entry → Entry �
 is_unripe flushed F x all r = is_record r.kind && (leb r.number x && not (any (λ e. is_ripe_end flushed F r e) all))
 
 -- above x, or the saved contents of its pages have its changes
-abbrev pub is_saved : (ℕ → Page) → ℕ → Entry → Bool
+abbrev pub is_saved : (ℕ → Contents) → ℕ → Entry → Bool
 is_saved saved x r = not (leb r.number x) || every (λ f. leb r.number (saved f.page).gsn) r.refs
 
 -- x is below the first record of each transaction that is open or whose end is not ripe

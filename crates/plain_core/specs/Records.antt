@@ -24,7 +24,7 @@ abbrev pub node_of : Node → nodes.Node
 node_of v = record { live = v.live; level = v.level; low = v.low; high = v.high; pairs = map pair_of v.pairs.items }
 
 -- a page with its last record's number and log
-abbrev pub page_of : Page → model.Page
+abbrev pub page_of : Page → model.Contents
 page_of p = record { gsn = p.number; last = p.log; node = node_of p.node }
 
 -- a page with its number before

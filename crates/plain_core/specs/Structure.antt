@@ -1,7 +1,7 @@
 -- Words of private functions: what changes of the tree need and say, by the numbers of an opening and the pages that they name.
 use Rattle.std.specs.Prelude.{◌+◌, ℕ, suc, Bool, false, ◌&&◌, not, ltb, leb, ◌==◌, List, [], ◌∷◌, length, Option, Some, None}
 use Rattle.rfa_model.specs.Reaches.{least}
-use Rattle.image_model.specs.Entries.{Kind, Entry, Page, written}
+use Rattle.image_model.specs.Entries.{Kind, Entry, Contents, written}
 use Rattle.page_model.specs.Pairs.{find, onward}
 use Rattle.page_model.specs.Nodes.{Node}
 use Rattle.page_model.specs.Records as records
@@ -85,12 +85,12 @@ page_entry_in kind w a refs x = record { kind = kind; log = w; txn = a.txn; numb
 -- ## Pages
 
 -- each of the pages, as the record leaves it
-abbrev pub placed_by : (ℕ → Page) → Entry → List records.Ref → List (Placed Page)
+abbrev pub placed_by : (ℕ → Contents) → Entry → List records.Ref → List (Placed Contents)
 placed_by page r [] = []
 placed_by page r (f ∷ fs) = record { place = f.page; value = written r f.page (page f.page) } ∷ placed_by page r fs
 
 -- a page that is set, as it stands for one
-abbrev pub placing_of : Placed pages.Page → Placed Page
+abbrev pub placing_of : Placed pages.Page → Placed Contents
 placing_of x = record { place = x.place; value = page_of x.value }
 
 -- the worker's clock is at the number

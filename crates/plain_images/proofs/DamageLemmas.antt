@@ -7,7 +7,7 @@ use Rattle.std.proofs.lemmas.List.{take_all}
 use Rattle.page_model.specs.Pairs.{Pair, first_key, spans}
 use Rattle.page_model.specs.Nodes.{Format, Node, free}
 use Rattle.page_model.specs.Check.{all, is_nil, word_ok, is_formed, is_node_ok, is_free, is_rising, is_root, is_child, has_children, is_named, names_page, some_below, or_else, first_bad, page_ok, first_break}
-use Rattle.image_model.specs.Entries.{Entry, Page}
+use Rattle.image_model.specs.Entries.{Entry, Contents}
 use Rattle.image_model.specs.Redo.{Redone, redo, passes}
 use Rattle.image_model.specs.Images as images
 use Rattle.plain_recovery.specs.declared.pages.Node as declared
@@ -26,7 +26,7 @@ first_log_more g i j was other now e before here step =
 rest_of : (records : List Record) (k : ℕ) → take (length records - k) (drop k records) ≡ drop k records
 rest_of records k = let l = length-drop k records in take_all (length records - k) (drop k records) (omega arith)
 
-pub undoable_more : (f : Format) (page : ℕ → Page) (records : List Record) (i j : ℕ) (x : Record) (was other now : Option images.Damage) → j ≡ suc i → i < length records → x ≡ get_or records i x →
+pub undoable_more : (f : Format) (page : ℕ → Contents) (records : List Record) (i j : ℕ) (x : Record) (was other now : Option images.Damage) → j ≡ suc i → i < length records → x ≡ get_or records i x →
     was ≡ undoable_in f page (entries_of (drop j records)) → other ≡ undoable f page (entry_of x) (entries_of (take (length records - (i + 1)) (drop (i + 1) records))) → now ≡ images.or_first was other →
     now ≡ undoable_in f page (entries_of (drop i records))
 undoable_more f page records i j x was other now e lt at before here step =
@@ -46,10 +46,10 @@ without_more lost has records i j x was other now e lt at before here step =
 
 -- ## Whether a record is undoable
 
-pub is_undoable : (f : Format) (page pages : ℕ → Page) (r : Entry) (z : List Entry) (d : Redone) (b : Bool) → pages ≡ d.page → d ≡ redo page z → b ≡ passes f pages r →
+pub is_undoable : (f : Format) (page pages : ℕ → Contents) (r : Entry) (z : List Entry) (d : Redone) (b : Bool) → pages ≡ d.page → d ≡ redo page z → b ≡ passes f pages r →
     cond b None (Some (images.Damage.Undoable r.log r.number)) ≡ undoable f page r z
 is_undoable f page pages r z d b ep ed e =
-    ap (λ c. cond c None (Some (images.Damage.Undoable r.log r.number))) (e ∙ ap (λ (g : ℕ → Page). passes f g r) (ep ∙ ap (λ (x : Redone). x.page) ed))
+    ap (λ c. cond c None (Some (images.Damage.Undoable r.log r.number))) (e ∙ ap (λ (g : ℕ → Contents). passes f g r) (ep ∙ ap (λ (x : Redone). x.page) ed))
 
 -- ## Pages that are the same below the number of pages
 
@@ -129,10 +129,10 @@ last [] y (suc p) e = absurd (omega arith)
 last (x ∷ xs) y zero e = absurd (omega arith)
 last (x ∷ xs) y (suc p) e = last xs y p (omega arith)
 
-front : (xs : List Node) (y : Node) (p : ℕ) → p < length xs → at (xs ++ y ∷ []) p ≡ at xs p
-front [] y p l = absurd (omega arith)
-front (x ∷ xs) y zero l = refl
-front (x ∷ xs) y (suc p) l = front xs y p (omega arith)
+prefix : (xs : List Node) (y : Node) (p : ℕ) → p < length xs → at (xs ++ y ∷ []) p ≡ at xs p
+prefix [] y p l = absurd (omega arith)
+prefix (x ∷ xs) y zero l = refl
+prefix (x ∷ xs) y (suc p) l = prefix xs y p (omega arith)
 
 size_last : (xs : List Node) (y : Node) → length (xs ++ y ∷ []) ≡ suc (length xs)
 size_last [] y = refl
@@ -145,7 +145,7 @@ size_taken (suc n) node = size_last (taken n node) (node n) ∙ ap suc (size_tak
 at_taken : (n : ℕ) (node : ℕ → Node) (p : ℕ) → p < n → at (taken n node) p ≡ node p
 at_taken zero node p l = absurd (omega arith)
 at_taken (suc n) node p l = let z = size_taken n node in elim (cases_lt p n) [
-  | inl q ↦ front (taken n node) (node n) p (omega arith) ∙ at_taken n node p q
+  | inl q ↦ prefix (taken n node) (node n) p (omega arith) ∙ at_taken n node p q
   | inr q ↦ let e : p ≡ n = omega arith in last (taken n node) (node n) p (omega arith) ∙ ap node (sym e)
 ]
 

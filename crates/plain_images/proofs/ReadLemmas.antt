@@ -68,7 +68,7 @@ module _ (image : Image) (logs : List Log) (bases : List (Option Page)) (sorted 
       ∙ recovered_is i (entries_of records) far (redone_of bases d) k z_same x.same_far x.same_redone
       ∙ ap (λ (j : images.Image). images.recovered j k) same
 
-  pub page_read : (ms : List Mark) (p : ℕ) (was out : entries.Page) → ms ≡ d.marks.items → was ≡ (redone_of bases d).page p → out.gsn ≡ was.gsn → out.last ≡ was.last →
+  pub page_read : (ms : List Mark) (p : ℕ) (was out : entries.Contents) → ms ≡ d.marks.items → was ≡ (redone_of bases d).page p → out.gsn ≡ was.gsn → out.last ≡ was.last →
       out.node ≡ undo_node (is_lost_by far (entries_of records) (counted ms)) (entries_of records) was.node → out ≡ images.recovered_page (image_of image) p
   page_read ms p was out em ew eg el e =
       page_made (is_lost_by far (entries_of records) (counted d.marks.items)) (entries_of records) ((redone_of bases d).page p) was out ew eg el

@@ -5,7 +5,7 @@ use Rattle.std.proofs.Math.Seq.{drop-cons}
 use mathlib.Core.Path.{fun_ext}
 use Rattle.map_model.specs.Lists.{any}
 use Rattle.page_model.specs.Records.{Ref}
-use Rattle.image_model.specs.Entries.{Entry, Page, written}
+use Rattle.image_model.specs.Entries.{Entry, Contents, written}
 use Rattle.image_model.specs.Redo.{Redone, mark, stands, at_prev, redo_one, redo}
 use Rattle.plain_images.specs.declared.redone.Mark.{Mark}
 use Rattle.plain_images.specs.declared.redone.Placed.{Placed}
@@ -13,16 +13,16 @@ use Rattle.plain_images.specs.declared.records.Record.{Record}
 use Rattle.plain_images.specs.Records.{page_of, entry_of, entries_of}
 use Rattle.plain_images.specs.Images.{Placing, placings_of, with_placed, placed_by, counted}
 
-over : (xs ys : List Placed) (page : ℕ → Page) (p : ℕ) → with_placed (placings_of (xs ++ ys)) page p ≡ with_placed (placings_of xs) (with_placed (placings_of ys) page) p
+over : (xs ys : List Placed) (page : ℕ → Contents) (p : ℕ) → with_placed (placings_of (xs ++ ys)) page p ≡ with_placed (placings_of xs) (with_placed (placings_of ys) page) p
 over [] ys page p = refl
 over (x ∷ xs) ys page p = ap (λ v. cond (x.page == p) (page_of x.made) v) (over xs ys page p)
 
-module _ (page : ℕ → Page) (r : Entry) (p : ℕ) where
-  one : (b : Bool) (q : ℕ) (w : Page) (xs : List Placing) → with_placed (cond b (record { page = q; made = w } ∷ xs) xs) page p ≡ cond (b && (q == p)) w (with_placed xs page p)
+module _ (page : ℕ → Contents) (r : Entry) (p : ℕ) where
+  one : (b : Bool) (q : ℕ) (w : Contents) (xs : List Placing) → with_placed (cond b (record { page = q; made = w } ∷ xs) xs) page p ≡ cond (b && (q == p)) w (with_placed xs page p)
   one true q w xs = refl
   one false q w xs = refl
 
-  step : (c b d a : Bool) (w v u rest : Page) → (c ≡ true → b ≡ d) → (c ≡ true → w ≡ v) → rest ≡ cond a v u → cond (b && c) w rest ≡ cond ((c && d) || a) v u
+  step : (c b d a : Bool) (w v u rest : Contents) → (c ≡ true → b ≡ d) → (c ≡ true → w ≡ v) → rest ≡ cond a v u → cond (b && c) w rest ≡ cond ((c && d) || a) v u
   step true true true a w v u rest same is ih = is refl
   step true false false a w v u rest same is ih = ih
   step true true false a w v u rest same is ih = absurd (true≢false (same refl))
@@ -45,21 +45,21 @@ marked_at false d b g h j n e same = refl
 marked : (m : Mark) (ms : List Mark) (w n : ℕ) → counted (m ∷ ms) w n ≡ mark (counted ms) m.log m.number m.counts w n
 marked m ms w n = marked_at (w == m.log) (n == m.number) m.counts (counted ms m.log) (counted ms w) m.number n refl (λ c. ap (λ i. counted ms i n) (eqb-true w m.log c))
 
-abbrev after : Bool → (ℕ → Page) → List Mark → Entry → Redone
+abbrev after : Bool → (ℕ → Contents) → List Mark → Entry → Redone
 after b page ms r = record {
   page = λ p. cond (b && at_prev r p (page p)) (written r p (page p)) (page p);
   counts = mark (counted ms) r.log r.number b;
 }
 
-after_both : (page : ℕ → Page) (ms : List Mark) (r : Entry) (d : Redone) (b : Bool) → stands page r ≡ b → ((p : ℕ) → d.page p ≡ (after b page ms r).page p) → ((w n : ℕ) → d.counts w n ≡ (after b page ms r).counts w n) →
+after_both : (page : ℕ → Contents) (ms : List Mark) (r : Entry) (d : Redone) (b : Bool) → stands page r ≡ b → ((p : ℕ) → d.page p ≡ (after b page ms r).page p) → ((w n : ℕ) → d.counts w n ≡ (after b page ms r).counts w n) →
     d ≡ redo_one (record { page = page; counts = counted ms }) r
 after_both page ms r d b e pages counts =
-    ap (λ (f : ℕ → Page). record { page = f; counts = d.counts }) (fun_ext pages)
+    ap (λ (f : ℕ → Contents). record { page = f; counts = d.counts }) (fun_ext pages)
     ∙ ap (λ (g : ℕ → ℕ → Bool). record { page = (after b page ms r).page; counts = g }) (fun_ext (λ w. fun_ext (λ n. counts w n)))
     ∙ ap (λ c. after c page ms r) (sym e)
 
 -- a record that counts places its pages
-pub redone_by : (bases : ℕ → Page) (newer ps : List Placed) (m : Mark) (ms : List Mark) (r : Entry) →
+pub redone_by : (bases : ℕ → Contents) (newer ps : List Placed) (m : Mark) (ms : List Mark) (r : Entry) →
     m.log ≡ r.log → m.number ≡ r.number → m.counts ≡ true → stands (with_placed (placings_of ps) bases) r ≡ true → placings_of newer ≡ placed_by (with_placed (placings_of ps) bases) r r.refs →
     record { page = with_placed (placings_of (newer ++ ps)) bases; counts = counted (m ∷ ms) } ≡ redo_one (record { page = with_placed (placings_of ps) bases; counts = counted ms }) r
 redone_by bases newer ps m ms r el en ec e q =
@@ -68,7 +68,7 @@ redone_by bases newer ps m ms r el en ec e q =
     (λ w n. marked m ms w n ∙ ap (λ i. mark (counted ms) i m.number m.counts w n) el ∙ ap (λ i. mark (counted ms) r.log i m.counts w n) en ∙ ap (λ b. mark (counted ms) r.log r.number b w n) ec)
 
 -- one that does not is marked alone
-pub not_redone : (page : ℕ → Page) (m : Mark) (ms : List Mark) (r : Entry) →
+pub not_redone : (page : ℕ → Contents) (m : Mark) (ms : List Mark) (r : Entry) →
     m.log ≡ r.log → m.number ≡ r.number → m.counts ≡ false → stands page r ≡ false →
     record { page = page; counts = counted (m ∷ ms) } ≡ redo_one (record { page = page; counts = counted ms }) r
 not_redone page m ms r el en ec e =
@@ -77,7 +77,7 @@ not_redone page m ms r el en ec e =
     (λ w n. marked m ms w n ∙ ap (λ i. mark (counted ms) i m.number m.counts w n) el ∙ ap (λ i. mark (counted ms) r.log i m.counts w n) en ∙ ap (λ b. mark (counted ms) r.log r.number b w n) ec)
 
 -- one record more
-pub redone_more : (bases : ℕ → Page) (records : List Record) (i j : ℕ) (x : Record) (was now : Redone) → j ≡ suc i → i < length records → x ≡ get_or records i x →
+pub redone_more : (bases : ℕ → Contents) (records : List Record) (i j : ℕ) (x : Record) (was now : Redone) → j ≡ suc i → i < length records → x ≡ get_or records i x →
     was ≡ redo bases (entries_of (drop j records)) → now ≡ redo_one was (entry_of x) → now ≡ redo bases (entries_of (drop i records))
 redone_more bases records i j x was now e lt at before step =
     step ∙ ap (λ d. redo_one d (entry_of x)) (before ∙ ap (λ n. redo bases (entries_of (drop n records))) e)
@@ -85,7 +85,7 @@ redone_more bases records i j x was now e lt at before step =
     ∙ ap (λ ys. redo bases (entries_of ys)) (sym (drop-cons records i x lt))
 
 -- the same of lists that were made on the way
-pub redone_with : (bases : ℕ → Page) (newer ps out s t : List Placed) (m : Mark) (ms marks : List Mark) (r : Entry) →
+pub redone_with : (bases : ℕ → Contents) (newer ps out s t : List Placed) (m : Mark) (ms marks : List Mark) (r : Entry) →
     m.log ≡ r.log → m.number ≡ r.number → m.counts ≡ true → out ≡ newer ++ ps → marks ≡ m ∷ ms → s ≡ ps → t ≡ ps →
     true ≡ stands (with_placed (placings_of s) bases) r → placings_of newer ≡ placed_by (with_placed (placings_of t) bases) r r.refs →
     record { page = with_placed (placings_of out) bases; counts = counted marks } ≡ redo_one (record { page = with_placed (placings_of ps) bases; counts = counted ms }) r
@@ -96,7 +96,7 @@ redone_with bases newer ps out s t m ms marks r el en ec eo em es et e q =
     (sym (e ∙ ap (λ (o : List Placed). stands (with_placed (placings_of o) bases) r) es))
     (q ∙ ap (λ (o : List Placed). placed_by (with_placed (placings_of o) bases) r r.refs) et)
 
-pub marked_with : (bases : ℕ → Page) (ps s : List Placed) (m : Mark) (ms marks : List Mark) (r : Entry) →
+pub marked_with : (bases : ℕ → Contents) (ps s : List Placed) (m : Mark) (ms marks : List Mark) (r : Entry) →
     m.log ≡ r.log → m.number ≡ r.number → m.counts ≡ false → marks ≡ m ∷ ms → s ≡ ps → false ≡ stands (with_placed (placings_of s) bases) r →
     record { page = with_placed (placings_of ps) bases; counts = counted marks } ≡ redo_one (record { page = with_placed (placings_of ps) bases; counts = counted ms }) r
 marked_with bases ps s m ms marks r el en ec em es e =

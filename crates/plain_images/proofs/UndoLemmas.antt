@@ -2,7 +2,7 @@
 use Rattle.std.proofs.Common.{◌≡◌, ℕ, Bool, true, false, cond, ◌&&◌, not, ◌==◌, List, [], ◌∷◌, refl, sym, ◌∙◌, ap}
 use mathlib.Core.Path.{fun_ext}
 use Rattle.map_model.specs.Lists.{upd, in_order}
-use Rattle.image_model.specs.Entries.{Entry, Page, earlier, is_write}
+use Rattle.image_model.specs.Entries.{Entry, Contents, earlier, is_write}
 use Rattle.image_model.specs.Ends as ends
 use Rattle.image_model.specs.Redo.{Redone, redo}
 use Rattle.image_model.specs.Images.{Image, found, sorted, bases, redone, lost, recovered, recovered_page}
@@ -34,7 +34,7 @@ recovered_is i z far d k ez ef ed =
     ∙ ap (λ (l : Entry → Bool). word_undone l (sorted i) k (values i.format (redone i) k)) (lost_same i.logs i.floor (found i) (redone i))
     ∙ sym (word_of_undo (lost i) (sorted i) (values i.format (redone i)) k)
 
-abbrev undone_page : (Entry → Bool) → List Entry → Page → Page
+abbrev undone_page : (Entry → Bool) → List Entry → Contents → Contents
 undone_page l z v = record v { node = undo_node l z v.node }
 
 pub page_is : (i : Image) (z : List Entry) (far : ℕ) (d : Redone) (p : ℕ) → z ≡ sorted i → far ≡ ends.reach i.logs i.floor z → d ≡ redo (bases i) z →
@@ -46,7 +46,7 @@ page_is i z far d p ez ef ed =
     ∙ ap (λ (l : Entry → Bool). undone_page l (sorted i) ((redone i).page p)) (lost_same i.logs i.floor (found i) (redone i))
 
 -- a page made of its parts
-pub page_made : (l : Entry → Bool) (z : List Entry) (v was out : Page) → was ≡ v → out.gsn ≡ was.gsn → out.last ≡ was.last → out.node ≡ undo_node l z was.node → out ≡ undone_page l z v
+pub page_made : (l : Entry → Bool) (z : List Entry) (v was out : Contents) → was ≡ v → out.gsn ≡ was.gsn → out.last ≡ was.last → out.node ≡ undo_node l z was.node → out ≡ undone_page l z v
 page_made l z v was out e g a n =
     ap (λ (x : ℕ). record { gsn = x; last = out.last; node = out.node }) g
     ∙ ap (λ (x : ℕ). record { gsn = was.gsn; last = x; node = out.node }) a

@@ -4,7 +4,7 @@ use Rattle.std.proofs.lemmas.Bool.{cases_eq, eq-eqb, ne_eqb, eqb-true, eqb-false
 use Rattle.page_model.specs.Pairs.{Pair, find, put, keep}
 use Rattle.page_model.specs.Nodes.{Format, Node, holds}
 use Rattle.page_model.specs.Tree.{entry, value_of, word_or}
-use Rattle.page_model.proofs.Pairs.{placed, put_front, put_here, put_back, find_put_same, find_put_other, find_keep_on, find_keep_off}
+use Rattle.page_model.proofs.Pairs.{placed, put_prefix, put_here, put_back, find_put_same, find_put_other, find_keep_on, find_keep_off}
 use Rattle.image_model.specs.Entries.{Entry}
 use Rattle.plain_images.specs.Undo.{word_undone}
 use Rattle.plain_images.specs.Words.{IsRising, leaf_onto, words_in, undo_words, values_in}
@@ -80,7 +80,7 @@ loosened low from (x ∷ xs) l r = let a = r.0 in (omega arith, r.1)
 rising_put : (low k w : ℕ) (xs : List Pair) → low ≤ k → IsRising low xs → IsRising low (put k w xs)
 rising_put low k w [] l r = (l, tt)
 rising_put low k w (x ∷ xs) l r = elim (placed k x) [
-  | inl q ↦ subst (IsRising low) (sym (put_front k w x xs q)) (l, (omega arith, r.1))
+  | inl q ↦ subst (IsRising low) (sym (put_prefix k w x xs q)) (l, (omega arith, r.1))
   | inr (inl e) ↦ subst (IsRising low) (sym (put_here k w x xs e)) (l, subst (λ (j : ℕ). IsRising (suc j) xs) e r.1)
   | inr (inr q) ↦ subst (IsRising low) (sym (put_back k w x xs q)) (r.0, rising_put (suc x.key) k w xs (omega arith) r.1)
 ]

@@ -3,7 +3,7 @@ use Rattle.std.specs.Prelude.{ℕ, zero, suc, Bool, ◌||◌, not, ltb, List, []
 use Rattle.map_model.specs.Lists.{all}
 use Rattle.page_model.specs.Nodes.{Format, Node}
 use Rattle.page_model.specs.Check.{first_bad, first_break}
-use Rattle.image_model.specs.Entries.{Entry, Page}
+use Rattle.image_model.specs.Entries.{Entry, Contents}
 use Rattle.image_model.specs.Redo.{redo, passes}
 use Rattle.image_model.specs.Images as images
 use Rattle.plain_images.specs.declared.damages.Damage.{Damage}
@@ -22,7 +22,7 @@ told None = None
 
 -- ## The rules one by one
 
-abbrev pub missing_base : ℕ → (ℕ → Option Page) → Option images.Damage
+abbrev pub missing_base : ℕ → (ℕ → Option Contents) → Option images.Damage
 missing_base n base = images.page_damage images.Damage.No_base (first_bad n (λ p. images.has_base (base p)))
 
 abbrev pub is_above : Entry → List Entry → Bool
@@ -34,10 +34,10 @@ unordered r z = if is_above r z then None else Some (images.Damage.Unordered r.l
 abbrev pub unordered_in : List Entry → Option images.Damage
 unordered_in z = images.first_failing is_above images.Damage.Unordered z
 
-abbrev pub undoable : Format → (ℕ → Page) → Entry → List Entry → Option images.Damage
+abbrev pub undoable : Format → (ℕ → Contents) → Entry → List Entry → Option images.Damage
 undoable f page r z = if passes f (redo page z).page r then None else Some (images.Damage.Undoable r.log r.number)
 
-abbrev pub undoable_in : Format → (ℕ → Page) → List Entry → Option images.Damage
+abbrev pub undoable_in : Format → (ℕ → Contents) → List Entry → Option images.Damage
 undoable_in f page z = images.first_failing (λ r z. passes f (redo page z).page r) images.Damage.Undoable z
 
 abbrev pub broken : Format → (ℕ → Node) → Option images.Damage

@@ -36,5 +36,5 @@ entry_of r = record { kind = kind_of r.kind; log = r.log; txn = r.txn; number = 
 abbrev pub entries_of : List Record → List entries.Entry
 entries_of rs = map entry_of rs
 
-abbrev pub page_of : Page → entries.Page
+abbrev pub page_of : Page → entries.Contents
 page_of v = record { gsn = v.number; last = v.log; node = node_of v.node }

@@ -96,7 +96,7 @@ fn can_change(
 
 // The page stands at its prev.
 fn at_prev(entry: &Record, page: u64, number: u64) -> bool
-    ensures { (v : entries.Page) → v.gsn ≡ number → result ≡ redoing.at_prev (entry_of entry.now) page v }
+    ensures { (v : entries.Contents) → v.gsn ≡ number → result ≡ redoing.at_prev (entry_of entry.now) page v }
 {
     for one in &entry.refs {
         if one.page == page && number == one.prev {

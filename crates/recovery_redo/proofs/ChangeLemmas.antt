@@ -14,7 +14,7 @@ use Rattle.recovery_redo.specs.Images.{page_of, pages_of}
 use Rattle.recovery_redo.specs.Inside.{change_of, one_redone, takes, SameOwn}
 use Rattle.recovery_redo.proofs.PageLemmas.{page_here, pages_set}
 
-module _ (n : ℕ) (page : ℕ → model.Page) (x : Change) where
+module _ (n : ℕ) (page : ℕ → model.Contents) (x : Change) where
   -- the parts of the tests, as the definitions have them
   abbrev tested : (there stood beyond words taken : Bool) → Bool
   tested there stood beyond words taken = (there && true) && (not (true && ((stood || beyond) && true)) || (words && ((not ((stood || false)) || taken) && true)))
@@ -141,13 +141,13 @@ written_as x v = ap (λ (w : Node). record { gsn = x.number; last = 1; node = w 
 pub stored : (pages : List Page) (x : Change) (d y : Page) → x.page < length pages → y ≡ left x (get_or pages x.page d) →
     pages_of (set pages x.page y) ≡ (λ p. cond (p == x.page) (written (change_of x) x.page (pages_of pages x.page)) (pages_of pages p))
 stored pages x d y l made =
-    let one : (model.Page → ℕ → model.Page) = λ w p. cond (p == x.page) w (pages_of pages p) in
+    let one : (model.Contents → ℕ → model.Contents) = λ w p. cond (p == x.page) w (pages_of pages p) in
     pages_set pages x.page y l
     ∙ ap one (ap page_of made ∙ (written_as x (get_or pages x.page d) ∙ ap (written (change_of x) x.page) (sym (page_here pages x.page d l))))
 
 -- the number of a page that was read
 pub number_here : (pages : List Page) (i g : ℕ) (d : Page) → i < length pages → g ≡ (get_or pages i d).gsn → (pages_of pages i).gsn ≡ g
-number_here pages i g d l e = ap (λ (v : model.Page). v.gsn) (page_here pages i d l) ∙ sym e
+number_here pages i g d l e = ap (λ (v : model.Contents). v.gsn) (page_here pages i d l) ∙ sym e
 
 pub counts_by : (a g prev number : ℕ) → a ≡ g → ((g ≡ prev → ⊥) × (number ≤ g)) ⊎ (g ≡ prev) → (a ≡ prev) ⊎ (number ≤ a)
 counts_by a g prev number e (inl h) = inr (let l = h.1 in omega arith)
@@ -159,7 +159,7 @@ wordless_by before after (inr h) = inr h.1
 
 -- the leaf that was tested
 pub taken_here : (pages : List Page) (i key : ℕ) (b : Bool) (d : Page) → i < length pages → b ≡ takes key (get_or pages i d).node → takes key (pages_of pages i).node ≡ b
-taken_here pages i key b d l e = ap (λ (v : model.Page). takes key v.node) (page_here pages i d l) ∙ sym e
+taken_here pages i key b d l e = ap (λ (v : model.Contents). takes key v.node) (page_here pages i d l) ∙ sym e
 
 pub left_own : (x : Change) (v y : Page) → y ≡ left x v → SameOwn v y
 left_own x v y e = record { number = ap (λ (w : Page). w.number) e; generation = ap (λ (w : Page). w.generation) e }

@@ -32,7 +32,7 @@ pub in_order_falling : (z : List Entry) → IsFalling z → in_order earlier z �
 in_order_falling [] h = refl
 in_order_falling (x ∷ xs) h = ap (insert_by earlier x) (in_order_falling xs h.0) ∙ stays_first x xs h.1
 
-in_middle : (front : List Entry) (r : Entry) (older : List Entry) → Has r (front ++ r ∷ older)
+in_middle : (prefix : List Entry) (r : Entry) (older : List Entry) → Has r (prefix ++ r ∷ older)
 in_middle [] r older = inl refl
 in_middle (y ∷ ys) r older = inr (in_middle ys r older)
 
@@ -52,7 +52,7 @@ mark_other f i j b w n ne = elim (cases_eq w i) [
   | inr a ↦ ap (λ c. (cond c (upd (f i) j b) (f w)) n) (ne_eqb w i a)
 ]
 
-counts_behind : (page : ℕ → model.Page) (newer : List Entry) (r : Entry) (older : List Entry) → ((x : Entry) → Has x newer → r.number < x.number) →
+counts_behind : (page : ℕ → model.Contents) (newer : List Entry) (r : Entry) (older : List Entry) → ((x : Entry) → Has x newer → r.number < x.number) →
     (redo page (newer ++ r ∷ older)).counts r.log r.number ≡ stands (redo page older).page r
 counts_behind page [] r older b = mark_same (redo page older).counts r.log r.number (stands (redo page older).page r)
 counts_behind page (y ∷ ys) r older b =
@@ -60,12 +60,12 @@ counts_behind page (y ∷ ys) r older b =
     mark_other (redo page (ys ++ r ∷ older)).counts y.log y.number (stands (redo page (ys ++ r ∷ older)).page y) r.log r.number (λ e. omega arith)
     ∙ counts_behind page ys r older (λ x m. b x (inr m))
 
-pass_behind : (f : Format) (page : ℕ → model.Page) (newer : List Entry) (r : Entry) (older : List Entry) → all_pass f page (newer ++ r ∷ older) ≡ true → passes f (redo page older).page r ≡ true
+pass_behind : (f : Format) (page : ℕ → model.Contents) (newer : List Entry) (r : Entry) (older : List Entry) → all_pass f page (newer ++ r ∷ older) ≡ true → passes f (redo page older).page r ≡ true
 pass_behind f page [] r older h = (and_parts (all_pass f page older) (passes f (redo page older).page r) h).1
 pass_behind f page (y ∷ ys) r older h = pass_behind f page ys r older (and_parts (all_pass f page (ys ++ r ∷ older)) (passes f (redo page (ys ++ r ∷ older)).page y) h).0
 
 -- the word before a record that counts and passes is one of a leaf
-word_fits : (n : ℕ) (page : ℕ → model.Page) (number : ℕ) (does : What) → passes (format_of n) page (made number does) ≡ true → stands page (made number does) ≡ true → (made number does).before ≤ 2 ^ 63
+word_fits : (n : ℕ) (page : ℕ → model.Contents) (number : ℕ) (does : What) → passes (format_of n) page (made number does) ≡ true → stands page (made number does) ≡ true → (made number does).before ≤ 2 ^ 63
 word_fits n page number (what.Commit need) h s = omega arith
 word_fits n page number (what.Change at prev key before after) h s =
     let r = made number (what.Change at prev key before after) in
@@ -89,7 +89,7 @@ module _ (old mid : List Page) (found : List Found) (counted : List Bool) (all :
     where
       word : (k : ℕ) (x : Found) → k < length found → x ≡ get_or found k x → get_or counted k false ≡ true → (newer : List Entry) × (entries_of found ≡ newer ++ entry_of x ∷ entries_of (take k found)) → (entry_of x).before ≤ 2 ^ 63
       word k x l is counts s =
-          let page : ℕ → model.Page = (redo (pages_of old) (entries_of (take k found))).page in
+          let page : ℕ → model.Contents = (redo (pages_of old) (entries_of (take k found))).page in
           word_fits (length old) page x.number x.what
           (pass_behind (format_of (length old)) (pages_of old) s.0 (entry_of x) (entries_of (take k found)) (sym (ap (all_pass (format_of (length old)) (pages_of old)) s.1) ∙ redone_pass))
           (sym (all.marks.at k x l is) ∙ counts)

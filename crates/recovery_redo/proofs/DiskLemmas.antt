@@ -153,8 +153,8 @@ module _ (m : Master) (area : Areas) (old : List Page) (records : List Found) (f
 
     nodes_is : (p : ℕ) → p < length old → nodes_of mid p ≡ undoing.nodes_of (redone i) p
     nodes_is p l =
-        sym (node_at mid p) ∙ ap (λ (page : ℕ → model.Page). (page p).node) (redone_pages old mid records counted all)
-        ∙ ap (λ (v : model.Page). v.node) (redone_same.page p l) ∙ ap (λ (e : Redone). (e.page p).node) (sym redone_is)
+        sym (node_at mid p) ∙ ap (λ (page : ℕ → model.Contents). (page p).node) (redone_pages old mid records counted all)
+        ∙ ap (λ (v : model.Contents). v.node) (redone_same.page p l) ∙ ap (λ (e : Redone). (e.page p).node) (sym redone_is)
 
     pub broken : (page : ℕ) → BreaksAt mid page → Breaks m area 1 page
     broken page b =

@@ -96,7 +96,7 @@ base_from floor found pages n a = record {
     go (inr h) m = inr (inr h)
 
 -- no number of a page goes above it
-pub numbers_within : (page : ℕ → model.Page) (n p : ℕ) → (page p).gsn ≤ n → (z : List Entry) → ((r : Entry) → Has r z → r.number ≤ n) → ((redo page z).page p).gsn ≤ n
+pub numbers_within : (page : ℕ → model.Contents) (n p : ℕ) → (page p).gsn ≤ n → (z : List Entry) → ((r : Entry) → Has r z → r.number ≤ n) → ((redo page z).page p).gsn ≤ n
 numbers_within page n p low [] h = low
 numbers_within page n p low (r ∷ z) h = go (stands (redo page z).page r && at_prev r p ((redo page z).page p)) (numbers_within page n p low z (λ s m. h s (inr m)))
   where
@@ -109,7 +109,7 @@ pub redone_within : (floor : ℕ) (old mid new : List Page) (records : List Foun
     SameNumbers mid new → IsAtop (ends.reach 1 floor (entries_of records)) old n → (p : ℕ) → p < length new → (pages_of new p).gsn ≤ n
 redone_within floor old mid new records counted n all count more same top p l =
     let b = base_from floor records old n top in
-    let g = same.at p ∙ ap (λ (page : ℕ → model.Page). (page p).gsn) (redone_pages old mid records counted all) in
+    let g = same.at p ∙ ap (λ (page : ℕ → model.Contents). (page p).gsn) (redone_pages old mid records counted all) in
     let w = numbers_within (pages_of old) n p (b.above_pages p (omega arith)) (entries_of records) b.above_entries in
     omega arith
 
@@ -138,7 +138,7 @@ module _ (floor : ℕ) (old mid : List Page) (records : List Found) (counted : L
   undone_is = ap (λ (y : List Entry). ends.losers (ends.reach 1 floor y) y) found_is
 
   nodes_is : (p : ℕ) → nodes_of mid p ≡ undoing.nodes_of (redone j) p
-  nodes_is p = sym (node_at mid p) ∙ ap (λ (page : ℕ → model.Page). (page p).node) (redone_pages old mid records counted all) ∙ ap (λ (e : Redone). (e.page p).node) (sym redone_is)
+  nodes_is p = sym (node_at mid p) ∙ ap (λ (page : ℕ → model.Contents). (page p).node) (redone_pages old mid records counted all) ∙ ap (λ (e : Redone). (e.page p).node) (sym redone_is)
 
   module _ (tree : IsTree (format_of (length mid)) (nodes_of mid)) (count : length mid ≡ length old) (ended : BTreeSet ℕ) (ends_at : AreEnded (ends.reach 1 floor z) z ended) where
     tree_is : IsTree (format_of (length old)) (undoing.nodes_of (redone j))
@@ -158,7 +158,7 @@ module _ (floor : ℕ) (old mid : List Page) (records : List Found) (counted : L
       pub recovered_is : (p : ℕ) → pages_of new p ≡ recovered_page j p
       recovered_is p =
           undone.pages (lost j) tells p
-          ∙ ap (λ (page : ℕ → model.Page). record (page p) { node = undo_node (lost j) z (page p).node }) (redone_pages old mid records counted all)
+          ∙ ap (λ (page : ℕ → model.Contents). record (page p) { node = undo_node (lost j) z (page p).node }) (redone_pages old mid records counted all)
           ∙ ap (λ (y : List Entry). record ((redo (pages_of old) z).page p) { node = undo_node (lost j) y ((redo (pages_of old) z).page p).node }) (sym sorted_is)
           ∙ ap (λ (e : Redone). record (e.page p) { node = undo_node (lost j) (sorted j) (e.page p).node }) (sym redone_is)
 

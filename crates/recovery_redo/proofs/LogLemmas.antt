@@ -86,6 +86,6 @@ entry_at found r h = elim (entry_from [] found r h) [ inl g ↦ absurd g | inr a
 pub has_entry_of : (found : List Found) (k : ℕ) (x : Found) → k < length found → x ≡ get_or found k x → Has (entry_of x) (entries_of found)
 has_entry_of found k x l e = let s = entries_split found k x l e in subst (λ (z : List Entry). Has (entry_of x) z) (sym s.1) (in_middle s.0)
   where
-    in_middle : (front : List Entry) → Has (entry_of x) (front ++ entry_of x ∷ entries_of (take k found))
+    in_middle : (prefix : List Entry) → Has (entry_of x) (prefix ++ entry_of x ∷ entries_of (take k found))
     in_middle [] = inl refl
     in_middle (y ∷ ys) = inr (in_middle ys)

@@ -76,7 +76,7 @@ holds_set true key w v k = go (holds v key)
 pub holds_same : (pages next : List Page) (b : Bool) (key w : ℕ) → pages_of next ≡ set_back b key w (pages_of pages) → (p k : ℕ) → holds (nodes_of next p) k ≡ holds (nodes_of pages p) k
 holds_same pages next b key w e p k =
     ap (λ (v : Node). holds v k) (sym (node_at next p))
-    ∙ ap (λ (page : ℕ → model.Page). holds (page p).node k) e
+    ∙ ap (λ (page : ℕ → model.Contents). holds (page p).node k) e
     ∙ holds_set b key w (pages_of pages p).node k
     ∙ ap (λ (v : Node). holds v k) (node_at pages p)
 

@@ -29,13 +29,13 @@ redone_none start marks found counted = record {
 
 module _ (start now : List Page) (found : List Found) (counted : List Bool) (k : ℕ) (x d : Found) (l : k < length found) (is : x ≡ get_or found k d) (long : length now ≡ length start) (before : IsRedone start now found counted k) where
   tested : (b : Bool) → b ≡ passes (format_of (length now)) (pages_of now) (made x.number x.what) → passes (format_of (length start)) (redo (pages_of start) (entries_of (take k found))).page (entry_of x) ≡ b
-  tested b e = sym (e ∙ ap (λ n. passes (format_of n) (pages_of now) (entry_of x)) long ∙ ap (λ (page : ℕ → model.Page). passes (format_of (length start)) page (entry_of x)) before.pages)
+  tested b e = sym (e ∙ ap (λ n. passes (format_of n) (pages_of now) (entry_of x)) long ∙ ap (λ (page : ℕ → model.Contents). passes (format_of (length start)) page (entry_of x)) before.pages)
 
   pub redone_more : (next : List Page) (j : ℕ) (b : Bool) → j ≡ suc k → k < length counted →
       true ≡ passes (format_of (length now)) (pages_of now) (made x.number x.what) → b ≡ stands (pages_of now) (made x.number x.what) → pages_of next ≡ one_redone (pages_of now) (made x.number x.what) →
       IsRedone start next found (set counted k b) j
   redone_more next j b e within pass counts after = record {
-    pages = after ∙ ap (λ (page : ℕ → model.Page). one_redone page (entry_of x)) before.pages ∙ ap (λ (z : List Entry). (redo (pages_of start) z).page) (sym here);
+    pages = after ∙ ap (λ (page : ℕ → model.Contents). one_redone page (entry_of x)) before.pages ∙ ap (λ (z : List Entry). (redo (pages_of start) z).page) (sym here);
     pass = ap (all_pass (format_of (length start)) (pages_of start)) here
         ∙ and_from (all_pass (format_of (length start)) (pages_of start) (entries_of (take k found))) (passes (format_of (length start)) (redo (pages_of start) (entries_of (take k found))).page (entry_of x)) before.pass (tested true pass);
     marks = record { at = λ i y h q. mark i y h q (cases_eq i k) };
@@ -48,7 +48,7 @@ module _ (start now : List Page) (found : List Found) (counted : List Bool) (k :
       mark i y h q (inr ne) = get_or-set_other counted k i b false ne ∙ before.marks.at i y (omega arith) q
       mark i y h q (inl same) =
           ap (λ n. get_or (set counted k b) n false) same ∙ get_or-set_same counted k b false within
-          ∙ (counts ∙ ap (λ (page : ℕ → model.Page). stands page (entry_of x)) before.pages)
+          ∙ (counts ∙ ap (λ (page : ℕ → model.Contents). stands page (entry_of x)) before.pages)
           ∙ ap (λ n. stands (redo (pages_of start) (entries_of (take n found))).page (entry_of x)) (sym same)
           ∙ ap (λ (u : Found). stands (redo (pages_of start) (entries_of (take i found))).page (entry_of u)) (is ∙ get_or_default found k d y l ∙ sym (q ∙ ap (λ n. get_or found n y) same))
 

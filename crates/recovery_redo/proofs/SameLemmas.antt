@@ -11,24 +11,24 @@ use Rattle.page_model.proofs.Spans.{span_pair}
 use Rattle.page_model.specs.Nodes.{Format, Node}
 use Rattle.page_model.specs.Records.{Ref}
 use Rattle.page_model.specs.Redo.{can_be}
-use Rattle.image_model.specs.Entries.{Entry, Page, is_page, page_kind, written}
+use Rattle.image_model.specs.Entries.{Entry, Contents, is_page, page_kind, written}
 use Rattle.image_model.specs.Redo.{Redone, mark, stands, at_prev, redo, names_pages, is_sayable_as, can_change, passes, all_pass}
 use Rattle.disk_image.proofs.TestLemmas.{all_to, all_same}
 
 -- ## Records
 
-module _ (f : Format) (r : Entry) (d e : ℕ → Page) (named : names_pages f r ≡ true) (same : (p : ℕ) → p < f.pages → d p ≡ e p) where
+module _ (f : Format) (r : Entry) (d e : ℕ → Contents) (named : names_pages f r ≡ true) (same : (p : ℕ) → p < f.pages → d p ≡ e p) where
   at_ref : (x : Ref) → Has x r.refs → d x.page ≡ e x.page
   at_ref x m = same x.page (ltb-true x.page f.pages (all_to (λ (y : Ref). ltb y.page f.pages) r.refs named x m))
 
   stands_same : stands d r ≡ stands e r
   stands_same = all_same (λ (x : Ref). ((d x.page).gsn == x.prev) || leb r.number (d x.page).gsn) (λ (x : Ref). ((e x.page).gsn == x.prev) || leb r.number (e x.page).gsn) r.refs
-      (λ x m. ap (λ (v : Page). (v.gsn == x.prev) || leb r.number v.gsn) (at_ref x m))
+      (λ x m. ap (λ (v : Contents). (v.gsn == x.prev) || leb r.number v.gsn) (at_ref x m))
 
   can_change_same : can_change f d r ≡ can_change f e r
   can_change_same = all_same (λ (x : Ref). not (at_prev r x.page (d x.page)) || can_be f (page_kind r.kind) r.record_of x.page (d x.page).node)
       (λ (x : Ref). not (at_prev r x.page (e x.page)) || can_be f (page_kind r.kind) r.record_of x.page (e x.page).node) r.refs
-      (λ x m. ap (λ (v : Page). not (at_prev r x.page v) || can_be f (page_kind r.kind) r.record_of x.page v.node) (at_ref x m))
+      (λ x m. ap (λ (v : Contents). not (at_prev r x.page v) || can_be f (page_kind r.kind) r.record_of x.page v.node) (at_ref x m))
 
   named_same : passes f d r ≡ passes f e r
   named_same =
@@ -36,7 +36,7 @@ module _ (f : Format) (r : Entry) (d e : ℕ → Page) (named : names_pages f r 
       ∙ ap (λ b. names_pages f r && (not (is_page r.kind && stands e r) || (is_sayable_as f (page_kind r.kind) r.record_of && b))) can_change_same
 
 -- a record that names a page that there is not passes nowhere
-pub passes_same : (f : Format) (r : Entry) (d e : ℕ → Page) → ((p : ℕ) → p < f.pages → d p ≡ e p) → passes f d r ≡ passes f e r
+pub passes_same : (f : Format) (r : Entry) (d e : ℕ → Contents) → ((p : ℕ) → p < f.pages → d p ≡ e p) → passes f d r ≡ passes f e r
 passes_same f r d e same = elim (cases_Bool (names_pages f r)) [
   | inl h ↦ named_same f r d e h same
   | inr h ↦ ap (λ b. b && (not (is_page r.kind && stands d r) || (is_sayable_as f (page_kind r.kind) r.record_of && can_change f d r))) h
@@ -48,7 +48,7 @@ pub record SameRedone (f : Format) (d e : Redone) : Type 0 where
   pub page : (p : ℕ) → p < f.pages → d.page p ≡ e.page p
   pub counts : d.counts ≡ e.counts
 
-pub redo_same : (f : Format) (page other : ℕ → Page) → ((p : ℕ) → p < f.pages → page p ≡ other p) → (z : List Entry) → all_pass f page z ≡ true → SameRedone f (redo page z) (redo other z)
+pub redo_same : (f : Format) (page other : ℕ → Contents) → ((p : ℕ) → p < f.pages → page p ≡ other p) → (z : List Entry) → all_pass f page z ≡ true → SameRedone f (redo page z) (redo other z)
 redo_same f page other same [] h = record { page = same; counts = refl }
 redo_same f page other same (r ∷ z) h =
     let b = and_parts (all_pass f page z) (passes f (redo page z).page r) h in
@@ -60,7 +60,7 @@ redo_same f page other same (r ∷ z) h =
     record {
       page = λ p l.
           ap (λ c. cond (c && at_prev r p (d.page p)) (written r p (d.page p)) (d.page p)) st
-          ∙ ap (λ (v : Page). cond (stands e.page r && at_prev r p v) (written r p v) v) (i.page p l);
+          ∙ ap (λ (v : Contents). cond (stands e.page r && at_prev r p v) (written r p v) v) (i.page p l);
       counts =
           ap (λ (c : ℕ → ℕ → Bool). mark c r.log r.number (stands d.page r)) i.counts
           ∙ ap (λ c. mark e.counts r.log r.number c) st;

@@ -104,7 +104,7 @@ module _ (pages : List Page) (key : ℕ) (t : IsTree (format_of (length pages)) 
 
   module _ (at : ℕ) (d : Page) (l : at < length pages) (h : holds (nodes_of pages at) key ≡ true) where
     here : nodes_of pages at ≡ (get_or pages at d).node
-    here = sym (node_at pages at) ∙ ap (λ (v : model.Page). v.node) (page_here pages at d l)
+    here = sym (node_at pages at) ∙ ap (λ (v : model.Contents). v.node) (page_here pages at d l)
 
     pub holds_here : holds (get_or pages at d).node key ≡ true
     holds_here = ap (λ (v : Node). holds v key) (sym here) ∙ h
@@ -121,7 +121,7 @@ module _ (pages : List Page) (key : ℕ) (t : IsTree (format_of (length pages)) 
 
         same : page_of y ≡ set_back true key w (pages_of pages) at
         same =
-            let back : (model.Page → model.Page) = λ v. record v { node = set_in key w v.node } in
+            let back : (model.Contents → model.Contents) = λ v. record v { node = set_in key w v.node } in
             ap page_of made
             ∙ ap (λ (v : Node). record (page_of (get_or pages at d)) { node = v }) (sym (cond-true (holds (get_or pages at d).node key) (record (get_or pages at d).node { pairs = put key w (get_or pages at d).node.pairs }) (get_or pages at d).node holds_here))
             ∙ ap back (sym (page_here pages at d l))
@@ -131,7 +131,7 @@ module _ (pages : List Page) (key : ℕ) (t : IsTree (format_of (length pages)) 
         go p (inr ne) (inl b) = cond-false (p == at) (page_of y) (pages_of pages p) (ne_eqb p at ne)
             ∙ other p (false_from_ne_true (holds (pages_of pages p).node key) (λ g. ne (one_leaf (format_of (length pages)) (nodes_of pages) t p at key b l
             (holds_to (nodes_of pages p) key (ap (λ (v : Node). holds v key) (sym (node_at pages p)) ∙ g)) (holds_to (nodes_of pages at) key h))))
-        go p (inr ne) (inr b) = cond-false (p == at) (page_of y) (pages_of pages p) (ne_eqb p at ne) ∙ other p (ap (λ (v : model.Page). holds v.node key) (page_beyond pages p b))
+        go p (inr ne) (inr b) = cond-false (p == at) (page_of y) (pages_of pages p) (ne_eqb p at ne) ∙ other p (ap (λ (v : model.Contents). holds v.node key) (page_beyond pages p b))
 
 pub with_own : (v y : Page) (w : ℕ) (key : ℕ) → y ≡ with_pairs v (put key w v.node.pairs) → SameOwn v y
 with_own v y w key e = record { number = ap (λ (u : Page). u.number) e; generation = ap (λ (u : Page). u.generation) e }

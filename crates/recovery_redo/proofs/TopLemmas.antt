@@ -18,7 +18,7 @@ atop_none far pages = record { low = omega arith; each = λ p l. absurd (omega a
 
 module _ (far : ℕ) (pages : List Page) (k j n now : ℕ) (x d : Page) (e : j ≡ suc k) (l : k < length pages) (is : x ≡ get_or pages k d) (step : now ≡ max n x.gsn) (before : IsAtopOf far pages k n) where
   here : (pages_of pages k).gsn ≡ x.gsn
-  here = ap (λ (v : model.Page). v.gsn) (page_here pages k d l) ∙ ap (λ (v : Page). v.gsn) (sym is)
+  here = ap (λ (v : model.Contents). v.gsn) (page_here pages k d l) ∙ ap (λ (v : Page). v.gsn) (sym is)
 
   top : (n < x.gsn) ⊎ (x.gsn ≤ n) → (n ≡ far) ⊎ ((p : ℕ) × (p < k) × (n ≡ (pages_of pages p).gsn)) → (now ≡ far) ⊎ ((p : ℕ) × (p < j) × (now ≡ (pages_of pages p).gsn))
   top (inl a) m = inr (k, omega arith, omega (arith, here, step, a))

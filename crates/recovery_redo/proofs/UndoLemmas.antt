@@ -59,7 +59,7 @@ module _ (pages next : List Page) (key w : ℕ) (t : IsTree (format_of (length p
   nodes_next : (b : Bool) → pages_of next ≡ set_back b key w (pages_of pages) → (p : ℕ) → cond b (set_in key w (nodes_of pages p)) (nodes_of pages p) ≡ nodes_of next p
   nodes_next b e p =
       ap (λ (v : Node). cond b (set_in key w v) v) (sym (node_at pages p))
-      ∙ sym (ap (λ (page : ℕ → model.Page). (page p).node) e) ∙ node_at next p
+      ∙ sym (ap (λ (page : ℕ → model.Contents). (page p).node) e) ∙ node_at next p
 
   next_tree : (b : Bool) → pages_of next ≡ set_back b key w (pages_of pages) → (b ≡ true → (has pages key ≡ true) × (w ≤ 2 ^ 63)) → IsTree (format_of (length next)) (nodes_of next)
   next_tree false e h = subst (λ n. IsTree (format_of n) (nodes_of next)) (sym long) (tree_same (format_of (length pages)) (nodes_of pages) (nodes_of next) t (λ p l. nodes_next false e p))
@@ -89,9 +89,9 @@ module _ (start now : List Page) (was marks : List Bool) (found : List Found) (c
       pages = λ lost tells p.
           let r = entry_of x in
           let rest = entries_of (take k found) in
-          let whole : (model.Page → model.Page) = λ v. record v { node = undo_node lost rest v.node } in
-          let back : (Bool → model.Page) = λ c. record (pages_of now p) { node = undo_node lost rest (cond c (set_in r.key r.before (pages_of now p).node) (pages_of now p).node) } in
-          ap (λ (page : ℕ → model.Page). whole (page p)) set
+          let whole : (model.Contents → model.Contents) = λ v. record v { node = undo_node lost rest v.node } in
+          let back : (Bool → model.Contents) = λ c. record (pages_of now p) { node = undo_node lost rest (cond c (set_in r.key r.before (pages_of now p).node) (pages_of now p).node) } in
+          ap (λ (page : ℕ → model.Contents). whole (page p)) set
           ∙ ap back (sym (tells.at k x l here))
           ∙ ap (λ (z : List Entry). record (pages_of now p) { node = undo_node lost z (pages_of now p).node }) (sym (entries_at found k left x d after l is))
           ∙ before.undone.pages lost tells p;
@@ -102,7 +102,7 @@ module _ (start now : List Page) (was marks : List Bool) (found : List Found) (c
     kept = keeps_both start now next was marks more before.kept kept;
     fences = λ p q. holds_same now next b (entry_of x).key (entry_of x).before set p q ∙ before.fences p q;
     only = leaves_more (entries_of found) (entry_of x) start now was marks more (has_entry_of found k x l here) before.fences before.only only;
-    numbers = record { at = λ p. ap (λ (page : ℕ → model.Page). (page p).gsn) set ∙ before.numbers.at p };
+    numbers = record { at = λ p. ap (λ (page : ℕ → model.Contents). (page p).gsn) set ∙ before.numbers.at p };
   }
     where
       fit : b ≡ true → (has now (entry_of x).key ≡ true) × ((entry_of x).before ≤ 2 ^ 63)

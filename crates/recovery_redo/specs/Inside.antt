@@ -84,11 +84,11 @@ abbrev pub takes : ℕ → Node → Bool
 takes key v = v.live && ((v.level == 0) && (within key v && (has_key key v || ltb (length v.pairs) 60)))
 
 -- what the record makes of pages, with no mark of what counted
-abbrev pub one_redone : (ℕ → model.Page) → Entry → ℕ → model.Page
+abbrev pub one_redone : (ℕ → model.Contents) → Entry → ℕ → model.Contents
 one_redone page r = (redo_one (record { page = page; counts = λ _ _. false }) r).page
 
 -- each record's mark says whether it counted
-pub record AreMarks (page : ℕ → model.Page) (found : List Found) (counted : List Bool) (upto : ℕ) : Type 0 where
+pub record AreMarks (page : ℕ → model.Contents) (found : List Found) (counted : List Bool) (upto : ℕ) : Type 0 where
   pub at : (k : ℕ) (x : Found) → k < upto → x ≡ slice_index_or found k x → slice_index_or counted k false ≡ stands (redo page (entries_of (take k found))).page (entry_of x)
 
 -- the first records are redone
@@ -130,7 +130,7 @@ abbrev pub has : List Page → ℕ → Bool
 has pages k = is_some (entry (length pages) (nodes_of pages) k)
 
 -- the page with the record's word set back, if that is to be
-abbrev pub set_back : Bool → ℕ → ℕ → (ℕ → model.Page) → ℕ → model.Page
+abbrev pub set_back : Bool → ℕ → ℕ → (ℕ → model.Contents) → ℕ → model.Contents
 set_back lost key word page p = record (page p) { node = if lost then set_in key word (page p).node else (page p).node }
 
 -- the last records are undone, and those before them are not

@@ -132,10 +132,10 @@ module _ (m : Master) (w : ℕ) (bytes : List ℕ) where
           going.records ∙ (ap (runs.logged_onto m.generation w m.blocks (logged w found)) (run-more lt is)
           ∙ ap (λ (o : Option (List Record)). runs.logged_onto m.generation w m.blocks (records_onto w (number % m.blocks) (logged w found) (records_or o)) (rest_of m w bytes (count + 1))) late.1) in
           let it : Logged = record { place = number % m.blocks; entry = entry_of w l.it } in
-          let front = run-before m.generation w m.blocks (records_onto w (number % m.blocks) (logged w found) rs) (rest_of m w bytes (count + 1)) in
+          let prefix = run-before m.generation w m.blocks (records_onto w (number % m.blocks) (logged w found) rs) (rest_of m w bytes (count + 1)) in
           let back = onto-before w (number % m.blocks) (it ∷ logged w l.so_far) l.newer in
           let both = before-before (runs.logged_onto m.generation w m.blocks (records_onto w (number % m.blocks) (logged w found) rs) (rest_of m w bytes (count + 1))) (records_onto w (number % m.blocks) (logged w found) rs) (it ∷ logged w l.so_far)
-          front (record { newer = back.newer; is = l.rest ∙ back.is }) in
+          prefix (record { newer = back.newer; is = l.rest ∙ back.is }) in
           inr (record {
             log = log;
             newer = both.newer;

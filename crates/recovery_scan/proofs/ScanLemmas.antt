@@ -22,25 +22,25 @@ onto-snoc w behind (y ∷ ys) x = onto-snoc w (logged_of w y ∷ behind) ys x
 
 -- a list that ends in its last element
 pub record Ends (xs : List Found) (x : Found) : Type 0 where
-  pub front : List Found
-  pub is : xs ≡ front ++ x ∷ []
+  pub prefix : List Found
+  pub is : xs ≡ prefix ++ x ∷ []
 
 pub ends-last : (xs : List Found) (n : ℕ) (d : Found) → length xs ≡ suc n → Ends xs (slice_index_or xs n d)
 ends-last [] n d long = absurd (omega (arith, long))
-ends-last (x ∷ []) zero d long = record { front = []; is = refl }
+ends-last (x ∷ []) zero d long = record { prefix = []; is = refl }
 ends-last (x ∷ []) (suc n) d long = absurd (omega (arith, long))
 ends-last (x ∷ (y ∷ ys)) zero d long = absurd (omega (arith, long))
-ends-last (x ∷ (y ∷ ys)) (suc n) d long = let e = ends-last (y ∷ ys) n d (omega (arith, long)) in record { front = x ∷ e.front; is = ap (λ (zs : List Found). x ∷ zs) e.is }
+ends-last (x ∷ (y ∷ ys)) (suc n) d long = let e = ends-last (y ∷ ys) n d (omega (arith, long)) in record { prefix = x ∷ e.prefix; is = ap (λ (zs : List Found). x ∷ zs) e.is }
 
 module _ (w : ℕ) (xs : List Found) (x : Found) (e : Ends xs x) where
-  last-first : logged w xs ≡ logged_of w x ∷ logged w e.front
-  last-first = ap (logged w) e.is ∙ onto-snoc w [] e.front x
+  last-first : logged w xs ≡ logged_of w x ∷ logged w e.prefix
+  last-first = ap (logged w) e.is ∙ onto-snoc w [] e.prefix x
 
   -- the last number is the greatest
   pub above-last : (number : ℕ) → x.number < number → IsFalling (entries_in (logged w xs)) → IsAbove w number xs
   above-last number lt falling y has = at (subst (λ (l : List Logged). IsFalling (entries_in l)) last-first falling) (subst (λ (l : List Logged). Has y (entries_in l)) last-first has)
     where
-      at : IsFalling (entries_in (logged_of w x ∷ logged w e.front)) → Has y (entries_in (logged_of w x ∷ logged w e.front)) → y.number < number
+      at : IsFalling (entries_in (logged_of w x ∷ logged w e.prefix)) → Has y (entries_in (logged_of w x ∷ logged w e.prefix)) → y.number < number
       at f (inl same) = let is : y.number ≡ x.number = ap (λ (r : Entry). r.number) same in omega (arith, is, lt)
       at f (inr h) = let below : y.number < x.number = f.1 y h in omega (arith, below, lt)
 
@@ -55,12 +55,12 @@ none-above w number (x ∷ xs) long = absurd (omega (arith, long))
 pub added : (r : Record) (place : ℕ) (x : Found) (old new : List Found) → ((w : ℕ) → logged_of w x ≡ record { place = place; entry = entry_of w r })
     → ((w : ℕ) → IsFalling (entries_in (logged w old)) → IsAbove w r.gsn old) → new ≡ old ++ x ∷ [] → Added r place old new
 added r place x old new is above more = record {
-  records = λ w. front w;
-  falling = λ w falling. subst (λ (l : List Logged). IsFalling (entries_in l)) (sym (front w)) (falling, above w falling);
+  records = λ w. prefix w;
+  falling = λ w falling. subst (λ (l : List Logged). IsFalling (entries_in l)) (sym (prefix w)) (falling, above w falling);
 }
   where
-    front : (w : ℕ) → logged w new ≡ record { place = place; entry = entry_of w r } ∷ logged w old
-    front w = ap (logged w) more ∙ (onto-snoc w [] old x ∙ ap (λ (l : Logged). l ∷ logged w old) (is w))
+    prefix : (w : ℕ) → logged w new ≡ record { place = place; entry = entry_of w r } ∷ logged w old
+    prefix w = ap (logged w) more ∙ (onto-snoc w [] old x ∙ ap (λ (l : Logged). l ∷ logged w old) (is w))
 
 -- ## Records of one block
 

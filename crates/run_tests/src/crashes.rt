@@ -140,28 +140,28 @@ fn a_crash_keeps_a_put_or_not_and_keeps_it_once_it_is_told(rt: HostRuntime) -> R
 }
 
 #[test]
-fn a_crash_that_leaves_none_keeps_a_front_of_six(rt: HostRuntime) -> Result<(), Fail> {
+fn a_crash_that_leaves_none_keeps_a_prefix_of_six(rt: HostRuntime) -> Result<(), Fail> {
     let found = sweep_of(&rt, rt.alloc(), &SIX, Choice::NoBytes)?;
     assert_eq!(rt; found, all_well([47, 7, 6, 7, 9, 6, 3]));
     Ok(())
 }
 
 #[test]
-fn a_crash_that_leaves_all_keeps_a_front_of_six(rt: HostRuntime) -> Result<(), Fail> {
+fn a_crash_that_leaves_all_keeps_a_prefix_of_six(rt: HostRuntime) -> Result<(), Fail> {
     let found = sweep_of(&rt, rt.alloc(), &SIX, Choice::AllBytes)?;
     assert_eq!(rt; found, all_well([46, 7, 6, 7, 9, 6, 4]));
     Ok(())
 }
 
 #[test]
-fn a_crash_that_leaves_halves_keeps_a_front_of_six(rt: HostRuntime) -> Result<(), Fail> {
+fn a_crash_that_leaves_halves_keeps_a_prefix_of_six(rt: HostRuntime) -> Result<(), Fail> {
     let found = sweep_of(&rt, rt.alloc(), &SIX, Choice::FirstHalf)?;
     assert_eq!(rt; found, all_well([47, 7, 6, 7, 9, 6, 3]));
     Ok(())
 }
 
 #[test]
-fn a_crash_that_leaves_zeros_keeps_a_front_of_six(rt: HostRuntime) -> Result<(), Fail> {
+fn a_crash_that_leaves_zeros_keeps_a_prefix_of_six(rt: HostRuntime) -> Result<(), Fail> {
     let found = sweep_of(&rt, rt.alloc(), &SIX, Choice::Zeros)?;
     assert_eq!(rt; found, all_well([47, 7, 6, 7, 9, 6, 3]));
     Ok(())

@@ -19,12 +19,12 @@ struct Failures {
     wrong: Option<u64>,
 }
 
-// The lines that went out before that of the fault, where they are a front of the whole lines.
-fn front_of<'a>(whole: &str, printed: &'a str) -> Option<&'a str> {
+// The lines that went out before that of the fault, where they are a prefix of the whole lines.
+fn prefix_of<'a>(whole: &str, printed: &'a str) -> Option<&'a str> {
     match printed.strip_suffix(FAULT) {
-        Some(front) => {
-            if whole.starts_with(front) && (front.is_empty() || front.ends_with('\n')) {
-                Some(front)
+        Some(prefix) => {
+            if whole.starts_with(prefix) && (prefix.is_empty() || prefix.ends_with('\n')) {
+                Some(prefix)
             } else {
                 None
             }
@@ -61,9 +61,9 @@ fn is_well<R: Threads + Wait + Sync>(
     kept: &mut [u64],
 ) -> Result<bool, Fail> {
     let whole = lines_of(alloc, script.lines)?;
-    match front_of(&whole, failed.printed()) {
-        Some(front) => {
-            let out = count_lines(front);
+    match prefix_of(&whole, failed.printed()) {
+        Some(prefix) => {
+            let out = count_lines(prefix);
             let is_found = crash_behind(rt, alloc, script, &failed.disk, out, kept)?;
             Ok(failed.status == 6 && is_found)
         }

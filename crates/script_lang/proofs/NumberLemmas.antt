@@ -96,12 +96,12 @@ reads_one n h small =
 
 reads_more : (n : ℕ) (ds : List ℕ) → 10 ≤ n → Reads (n / 10) ds → Reads n (ds ++ (48 + n % 10) ∷ [])
 reads_more n ds h is small =
-    let front : digits_on 0 ds ≡ Some (n / 10) = is (omega arith) in
+    let prefix : digits_on 0 ds ≡ Some (n / 10) = is (omega arith) in
     let same : 10 * (n / 10) + ((48 + n % 10) - 48) ≡ n = omega arith in
     let last : n % 10 < 10 = omega arith in
     let fits : 10 * (n / 10) + ((48 + n % 10) - 48) < 2 ^ 64 = omega arith in
     let goes : goes_on (n / 10) (48 + n % 10) ≡ true = grind (arith, nat_tests) in
-    on_end ds 0 (48 + n % 10) (n / 10) front goes ∙ ap (λ (x : ℕ). Some x) same
+    on_end ds 0 (48 + n % 10) (n / 10) prefix goes ∙ ap (λ (x : ℕ). Some x) same
 
 first_is : (ds : List ℕ) (n : ℕ) → 48 < get_or ds 0 0 → digits_on 0 ds ≡ Some n → number_of ds ≡ Some n
 first_is [] n h e = absurd (omega arith)
@@ -138,9 +138,9 @@ digits_on_is (d ∷ ds) m n some small e =
     let more : 10 * m + (d - 48) < 2 ^ 64 = is.small in
     let on = digits_on_is ds (10 * m + (d - 48)) n (omega arith) more g.1 in
     let step = decimal_step (10 * m + (d - 48)) (omega arith) more in
-    let front : (10 * m + (d - 48)) / 10 ≡ m = omega arith in
+    let prefix : (10 * m + (d - 48)) / 10 ≡ m = omega arith in
     let last : 48 + (10 * m + (d - 48)) % 10 ≡ d = omega arith in
-    let here : decimal (10 * m + (d - 48)) ≡ decimal m ++ d ∷ [] = step ∙ ap (λ (x : ℕ). decimal x ++ (48 + (10 * m + (d - 48)) % 10) ∷ []) front ∙ ap (λ (x : ℕ). decimal m ++ x ∷ []) last in
+    let here : decimal (10 * m + (d - 48)) ≡ decimal m ++ d ∷ [] = step ∙ ap (λ (x : ℕ). decimal x ++ (48 + (10 * m + (d - 48)) % 10) ∷ []) prefix ∙ ap (λ (x : ℕ). decimal m ++ x ∷ []) last in
     (on.0 ∙ ap (λ (x : List ℕ). x ++ ds) here ∙ append_assoc (decimal m) (d ∷ []) ds, on.1)
 
 -- what is read as a number is its digits

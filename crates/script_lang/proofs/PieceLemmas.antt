@@ -10,14 +10,14 @@ holds_none first = record { count = refl; bytes = refl }
 pub holds_same : (text other first now : List ℕ) (end : ℕ) → text ≡ other → Holds text first now end → Holds other first now end
 holds_same text other first now end same is = let P : List ℕ → Type 0 = λ t. Holds t first now end in subst P same is
 
--- two pieces behind a front are one
-pub holds_joined : (front a b first now : List ℕ) (end : ℕ) → Holds ((front ++ a) ++ b) first now end → Holds (front ++ (a ++ b)) first now end
-holds_joined front a b first now end is = holds_same ((front ++ a) ++ b) (front ++ (a ++ b)) first now end (append_assoc front a b) is
+-- two pieces behind a prefix are one
+pub holds_joined : (prefix a b first now : List ℕ) (end : ℕ) → Holds ((prefix ++ a) ++ b) first now end → Holds (prefix ++ (a ++ b)) first now end
+holds_joined prefix a b first now end is = holds_same ((prefix ++ a) ++ b) (prefix ++ (a ++ b)) first now end (append_assoc prefix a b) is
 
 -- and with a last one between them
-pub holds_regrouped : (front a b c first now : List ℕ) (end : ℕ) → Holds ((front ++ (a ++ b)) ++ c) first now end → Holds (front ++ (a ++ (b ++ c))) first now end
-holds_regrouped front a b c first now end is =
-    holds_same ((front ++ (a ++ b)) ++ c) (front ++ (a ++ (b ++ c))) first now end (append_assoc front (a ++ b) c ∙ ap (λ (t : List ℕ). front ++ t) (append_assoc a b c)) is
+pub holds_regrouped : (prefix a b c first now : List ℕ) (end : ℕ) → Holds ((prefix ++ (a ++ b)) ++ c) first now end → Holds (prefix ++ (a ++ (b ++ c))) first now end
+holds_regrouped prefix a b c first now end is =
+    holds_same ((prefix ++ (a ++ b)) ++ c) (prefix ++ (a ++ (b ++ c))) first now end (append_assoc prefix (a ++ b) c ∙ ap (λ (t : List ℕ). prefix ++ t) (append_assoc a b c)) is
 
 -- three numbers, each behind its text
 pub three_pieces : (a b c d e f : List ℕ) → (((a ++ b) ++ (c ++ d)) ++ (e ++ f)) ≡ a ++ (b ++ (c ++ (d ++ (e ++ f))))

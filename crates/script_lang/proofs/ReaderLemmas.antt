@@ -8,17 +8,17 @@ use Rattle.script_lang.specs.Reading.{Unread, Reading, LineIs, LineIsLong, IsSho
 use Rattle.script_lang.specs.Inside.{IsNewline}
 use Rattle.script_lang.proofs.TextLemmas.{end_line, is_within_line}
 
--- one byte more was moved to the front
-pub moved_front : (block first : List ℕ) (from i : ℕ) (v : ℕ) → from + i < length block → length block ≡ length first → drop i block ≡ drop i first → take i block ≡ take i (drop from first)
+-- one byte more was moved to the prefix
+pub moved_prefix : (block first : List ℕ) (from i : ℕ) (v : ℕ) → from + i < length block → length block ≡ length first → drop i block ≡ drop i first → take i block ≡ take i (drop from first)
     → v ≡ get_or block (from + i) 0 → take (i + 1) (set block i v) ≡ take (i + 1) (drop from first)
-moved_front block first from i v within long rest front is =
+moved_prefix block first from i v within long rest prefix is =
     let order : from + i ≡ i + from = omega arith in
     let here : get_or block (from + i) 0 ≡ get_or (drop i block) from 0 = ap (λ (k : ℕ). get_or block k 0) order ∙ sym (get_or-drop i block from 0) in
     let there : get_or (drop from first) i 0 ≡ get_or (drop i first) from 0 = get_or-drop from first i 0 ∙ ap (λ (k : ℕ). get_or first k 0) order ∙ sym (get_or-drop i first from 0) in
     let same : v ≡ get_or (drop from first) i 0 = is ∙ here ∙ ap (λ (xs : List ℕ). get_or xs from 0) rest ∙ sym there in
     let size : length (drop from first) ≡ length first - from = length-drop from first in
     let inside : i < length (drop from first) = omega arith in
-    take_more_set block i v (omega arith) ∙ ap (λ (xs : List ℕ). xs ++ v ∷ []) front ∙ ap (λ (x : ℕ). take i (drop from first) ++ x ∷ []) same ∙ sym (take_more (drop from first) i 0 inside)
+    take_more_set block i v (omega arith) ∙ ap (λ (xs : List ℕ). xs ++ v ∷ []) prefix ∙ ap (λ (x : ℕ). take i (drop from first) ++ x ∷ []) same ∙ sym (take_more (drop from first) i 0 inside)
 
 pub moved_rest : (block first : List ℕ) (i v : ℕ) → drop i block ≡ drop i first → drop (i + 1) (set block i v) ≡ drop (i + 1) first
 moved_rest block first i v rest =
@@ -57,7 +57,7 @@ stays start now r after seen bytes ended was =
 
 pub too_long : (start now : Feed) (r after : Unread) (seen : List ℕ) → IsLong r.bytes → after.bytes ≡ r.bytes → after.ended ≡ r.ended → Reading start now r seen → LineIsLong start now after seen
 too_long start now r after seen long bytes ended was = record {
-  front = long.front;
+  prefix = long.prefix;
   more = long.more;
   begins = bytes ∙ long.begins;
   line = long.line;
@@ -114,7 +114,7 @@ filled_end start now next r after seen started bytes same empty took was =
       end = λ e t. sym (took (was.same ∙ t)) ∙ empty (was.same ∙ t);
     }
 
--- what was taken, and where a newline was found in its front
+-- what was taken, and where a newline was found in its prefix
 module _ (from to most : ℕ) (block : List ℕ) (order : from + most ≤ to) (room : to ≤ length block) where
   abbrev xs : List ℕ
   xs = drop from block
@@ -133,7 +133,7 @@ module _ (from to most : ℕ) (block : List ℕ) (order : from + most ≤ to) (r
       let n : ℕ = to - from in
       let whole : length (take n xs) ≡ n = length-take-le n xs (omega arith) in
       let line : part from (from + at) block ≡ take at xs = let e : (from + at) - from ≡ at = omega arith in ap (λ (n : ℕ). take n xs) e in
-      let front : take at (take n xs) ≡ take at xs = take-take at n xs (omega arith) in
+      let prefix : take at (take n xs) ≡ take at xs = take-take at n xs (omega arith) in
       let here : get_or (take n xs) at 0 ≡ 10 = get_or-take n xs at 0 (omega arith) ∙ sym (get_or-take most xs at 0 inside) ∙ sym (ap (λ (u : List ℕ). get_or u at 0) looked_is) ∙ is.newline in
       let split : n ≡ (at + 1) + (to - ((from + at) + 1)) = omega arith in
       let rest : drop (at + 1) (take n xs) ≡ part ((from + at) + 1) to block =
@@ -149,7 +149,7 @@ module _ (from to most : ℕ) (block : List ℕ) (order : from + most ≤ to) (r
         short = subst Q (sym line) short;
         begins =
             sym (take-append-drop at (take n xs))
-            ∙ ap (λ (u : List ℕ). u ++ drop at (take n xs)) (front ∙ sym line)
+            ∙ ap (λ (u : List ℕ). u ++ drop at (take n xs)) (prefix ∙ sym line)
             ∙ ap (λ (u : List ℕ). part from (from + at) block ++ u) (drop_more (take n xs) at 0 (omega arith) ∙ ap (λ (b : ℕ). b ∷ drop (at + 1) (take n xs)) here ∙ ap (λ (u : List ℕ). 10 ∷ u) rest);
       }
 
@@ -158,7 +158,7 @@ module _ (from to most : ℕ) (block : List ℕ) (order : from + most ≤ to) (r
       let size_is : length xs ≡ length block - from = size in
       let P : List ℕ → Type 0 = IsLine in
       record {
-        front = take most xs;
+        prefix = take most xs;
         more = drop most (take (to - from) xs);
         begins = sym (take-append-drop most (take (to - from) xs)) ∙ ap (λ (u : List ℕ). u ++ drop most (take (to - from) xs)) (take-take most (to - from) xs (omega arith));
         line = subst P looked_is line;

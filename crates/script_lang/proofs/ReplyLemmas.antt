@@ -7,7 +7,7 @@ use Rattle.std.specs.Str.{bytes_eq}
 use Rattle.std.specs.Fmt.{decimal}
 use Rattle.script_lang.specs.Words.{number_of}
 use Rattle.script_lang.specs.Pieces.{name}
-use Rattle.script_lang.specs.Replies.{Reply, reply_text, reply_of, answer_text, said_of, after_front, numbered, Fits, AnswerFits}
+use Rattle.script_lang.specs.Replies.{Reply, reply_text, reply_of, answer_text, said_of, after_prefix, numbered, Fits, AnswerFits}
 use Rattle.script_lang.specs.Text.{IsLine}
 use Rattle.script_lang.specs.Replies.Reply.{Answered, Durable}
 use Rattle.map_model.specs.declared.call.Answer.{Answer}
@@ -15,18 +15,18 @@ use Rattle.map_model.specs.declared.call.Answer.TheVariants.{Begun, Value, Was, 
 use Rattle.map_model.specs.declared.call.Refusal.TheVariants.{InTransaction, NoTransaction, TooLong, LogFull, ClockSpent, Full}
 use Rattle.script_lang.proofs.NumberLemmas.{Digits, digits, word_number, word_name, word_last, after_last, word_before, after_before, number_is}
 
-front_is : (front ds : List ℕ) → after_front front (front ++ ds) ≡ number_of ds
-front_is front ds =
-    let t : take (length front) (front ++ ds) ≡ front = take_at front ds (length front) refl in
-    let d : drop (length front) (front ++ ds) ≡ ds = drop_at front ds (length front) refl in
-    let same : bytes_eq front front ≡ true = (bytes_eq-Decides front front).1 refl in
+prefix_is : (prefix ds : List ℕ) → after_prefix prefix (prefix ++ ds) ≡ number_of ds
+prefix_is prefix ds =
+    let t : take (length prefix) (prefix ++ ds) ≡ prefix = take_at prefix ds (length prefix) refl in
+    let d : drop (length prefix) (prefix ++ ds) ≡ ds = drop_at prefix ds (length prefix) refl in
+    let same : bytes_eq prefix prefix ≡ true = (bytes_eq-Decides prefix prefix).1 refl in
     rw (t, d, same) refl
 
 name_is : (s n : ℕ) → n < 2 ^ 64 → numbered s (name s n) ≡ Some n
 name_is s n small =
     let e : (decimal s ++ 46 ∷ []) ++ decimal n ≡ name s n = append_assoc (decimal s) (46 ∷ []) (decimal n) in
     let P : List ℕ → Type 0 = λ t. numbered s t ≡ Some n in
-    subst P e (front_is (decimal s ++ 46 ∷ []) (decimal n) ∙ number_is n small)
+    subst P e (prefix_is (decimal s ++ 46 ∷ []) (decimal n) ∙ number_is n small)
 
 said_back : (s : ℕ) (a : Answer) → s < 2 ^ 64 → AnswerFits a → said_of s (Some (answer_text s a)) ≡ Some (Answered s a)
 said_back s (Begun n) small h = let d = word_name s n small h in rw (word_last (name s n) d, after_last (name s n) d, name_is s n h) refl

@@ -66,11 +66,11 @@ pub is_within_line : (seen xs : List ℕ) → IsLine xs → 0 < length xs → is
 is_within_line seen xs is some = within_append false seen xs ∙ within_some (within_on false seen) xs is some
 
 -- a line goes on with the bytes that hold no newline
-pub line_front : (end : List ℕ → List (List ℕ)) (front xs more : List ℕ) → IsLine xs → lines_on end front (xs ++ more) ≡ lines_on end (front ++ xs) more
-line_front end front [] more is = ap (λ (f : List ℕ). lines_on end f more) (sym (append-nil front))
-line_front end front (x ∷ xs) more is =
+pub line_prefix : (end : List ℕ → List (List ℕ)) (prefix xs more : List ℕ) → IsLine xs → lines_on end prefix (xs ++ more) ≡ lines_on end (prefix ++ xs) more
+line_prefix end prefix [] more is = ap (λ (f : List ℕ). lines_on end f more) (sym (append-nil prefix))
+line_prefix end prefix (x ∷ xs) more is =
     let no : nat_eq x 10 ≡ false = not_ten x is.0 in
-    rw no (line_front end (front ++ x ∷ []) xs more is.1 ∙ ap (λ (f : List ℕ). lines_on end f more) (append_assoc front (x ∷ []) xs))
+    rw no (line_prefix end (prefix ++ x ∷ []) xs more is.1 ∙ ap (λ (f : List ℕ). lines_on end f more) (append_assoc prefix (x ∷ []) xs))
 
 -- a list of lines of which the first has so many bytes at least
 pub record BeginsLong (n : ℕ) (lines : List (List ℕ)) : Type 0 where
@@ -89,5 +89,5 @@ begins_long f (x ∷ xs) n some h = at (nat_eq x 10) refl (begins_long (f ++ x �
     at false is more = rw is more
 
 -- the first line of a text that begins with bytes of a line has these at least
-pub first_is_long : (front more : List ℕ) → IsLine front → 0 < length front → BeginsLong (length front) (script_lines (front ++ more))
-first_is_long front more is some = let P : List (List ℕ) → Type 0 = BeginsLong (length front) in subst P (sym (line_front last_line [] front more is)) (begins_long front more (length front) some (omega arith))
+pub first_is_long : (prefix more : List ℕ) → IsLine prefix → 0 < length prefix → BeginsLong (length prefix) (script_lines (prefix ++ more))
+first_is_long prefix more is some = let P : List (List ℕ) → Type 0 = BeginsLong (length prefix) in subst P (sym (line_prefix last_line [] prefix more is)) (begins_long prefix more (length prefix) some (omega arith))

@@ -42,11 +42,11 @@ pub record LineIs (start now : Feed) (r : Unread) (seen : List ℕ) : Type 0 whe
 
 -- the next line has more bytes, of which none was handed out
 pub record LineIsLong (start now : Feed) (r : Unread) (seen : List ℕ) : Type 0 where
-  pub front : List ℕ
+  pub prefix : List ℕ
   pub more : List ℕ
-  pub begins : r.bytes ≡ front ++ more
-  pub line : IsLine front
-  pub long : length front ≡ 81
+  pub begins : r.bytes ≡ prefix ++ more
+  pub line : IsLine prefix
+  pub long : length prefix ≡ 81
   pub read : Reading start now r seen
 
 -- nothing comes any more
@@ -72,11 +72,11 @@ pub record Takes (bytes line left : List ℕ) : Type 0 where
   pub begins : bytes ≡ line ++ 10 ∷ left
 
 pub record IsLong (bytes : List ℕ) : Type 0 where
-  pub front : List ℕ
+  pub prefix : List ℕ
   pub more : List ℕ
-  pub begins : bytes ≡ front ++ more
-  pub line : IsLine front
-  pub long : length front ≡ 81
+  pub begins : bytes ≡ prefix ++ more
+  pub line : IsLine prefix
+  pub long : length prefix ≡ 81
 
 -- what a further piece makes of the reader
 abbrev pub Filled : Next → Unread → Unread → Type 0

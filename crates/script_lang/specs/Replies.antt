@@ -41,11 +41,11 @@ abbrev pub reply_line : Reply → List ℕ
 reply_line reply = reply_text reply ++ 10 ∷ []
 
 -- Read back: the number of a session's transaction, from its name.
-abbrev pub after_front : List ℕ → List ℕ → Option ℕ
-after_front front text = if bytes_eq (take (length front) text) front then number_of (drop (length front) text) else None
+abbrev pub after_prefix : List ℕ → List ℕ → Option ℕ
+after_prefix prefix text = if bytes_eq (take (length prefix) text) prefix then number_of (drop (length prefix) text) else None
 
 abbrev pub numbered : ℕ → List ℕ → Option ℕ
-numbered s text = after_front (decimal s ++ 46 ∷ []) text
+numbered s text = after_prefix (decimal s ++ 46 ∷ []) text
 
 abbrev pub was_of : ℕ → Option ℕ → Option (List ℕ) → Option Reply
 was_of s (Some n) words = ends (Answered s (Was (Some n))) (rest words)

@@ -9,10 +9,10 @@ last_line (b ∷ bytes) = (b ∷ bytes) ∷ []
 abbrev pub no_line : List ℕ → List (List ℕ)
 no_line bytes = []
 
--- the lines of a text whose first line goes on from a front, and what its end makes a line
+-- the lines of a text whose first line goes on from a prefix, and what its end makes a line
 abbrev pub lines_on : (List ℕ → List (List ℕ)) → List ℕ → List ℕ → List (List ℕ)
-lines_on end front [] = end front
-lines_on end front (b ∷ bytes) = if b == 10 then front ∷ lines_on end [] bytes else lines_on end (front ++ b ∷ []) bytes
+lines_on end prefix [] = end prefix
+lines_on end prefix (b ∷ bytes) = if b == 10 then prefix ∷ lines_on end [] bytes else lines_on end (prefix ++ b ∷ []) bytes
 
 -- a script: the last line may lack its newline
 abbrev pub script_lines : List ℕ → List (List ℕ)

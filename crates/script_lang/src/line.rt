@@ -157,8 +157,8 @@ fn cut(line: &[u8]) -> (&[u8], Option<&[u8]>)
 {
     for (i, byte) in line.iter().enumerate() {
         if *byte == b' ' {
-            let (front, back) = line.split_at(i);
-            return (front, Some(&back[1..]));
+            let (prefix, back) = line.split_at(i);
+            return (prefix, Some(&back[1..]));
         }
     }
     (line, None)

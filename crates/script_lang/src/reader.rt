@@ -176,8 +176,8 @@ fn newline_in(bytes: &[u8]) -> Option<usize>
     None
 }
 
-// Moves `count` bytes from `from` on to the front.
-fn move_front(block: &mut [u8], from: usize, count: usize)
+// Moves `count` bytes from `from` on to the prefix.
+fn move_to_start(block: &mut [u8], from: usize, count: usize)
     requires { from + count ≤ length block.old }
     ensures { take count block.new ≡ take count (drop from block.old) }
 {
@@ -189,14 +189,14 @@ fn move_front(block: &mut [u8], from: usize, count: usize)
     }
 }
 
-// The source's next bytes, behind those that are kept: so many from a place on, which go to the front.
+// The source's next bytes, behind those that are kept: so many from a place on, which go to the prefix.
 fn refill<S: Source>(source: &mut S, block: &mut [u8], from: usize, kept: usize) -> Next
     requires { from + kept ≤ length block.old }
     ensures kept { take kept block.new ≡ take kept (drop from block.old) }
     ensures took { Took (length block.old - kept) (drop kept block.new) result (S.feed source.old) (S.feed source.new) }
     ensures cause { HasCause (S.faults source.old) (S.faults source.new) (result ≡ Next.Failed) }
 {
-    move_front(block, from, kept);
+    move_to_start(block, from, kept);
     next_behind(source, block, kept)
 }
 

@@ -35,7 +35,7 @@ pub fn durable_bytes(session: u32, number: u64, into: &mut [u8]) -> usize
 fn put_answer(into: &mut [u8], at: usize, session: u32, answer: &Answer) -> usize
     requires { at + 80 ≤ length into.old }
     ensures end { result ≤ at + 80 }
-    ensures written { (front first : List ℕ) → Holds front first into.old at → Holds (front ++ 32 ∷ answer_text session answer.now) first into.new result }
+    ensures written { (prefix first : List ℕ) → Holds prefix first into.old at → Holds (prefix ++ 32 ∷ answer_text session answer.now) first into.new result }
 {
     match answer {
         Answer::Begun { number } => put_with_name(into, at, b" begun ", session, *number),
@@ -53,7 +53,7 @@ fn put_answer(into: &mut [u8], at: usize, session: u32, answer: &Answer) -> usiz
 fn put_committed(into: &mut [u8], at: usize, session: u32, number: u64, commit: u64) -> usize
     requires { at + 80 ≤ length into.old }
     ensures end { result ≤ at + 80 }
-    ensures written { (front first : List ℕ) → Holds front first into.old at → Holds (front ++ 32 ∷ answer_text session (Answer.Committed number commit)) first into.new result }
+    ensures written { (prefix first : List ℕ) → Holds prefix first into.old at → Holds (prefix ++ 32 ∷ answer_text session (Answer.Committed number commit)) first into.new result }
 {
     let at = put_with_name(into, at, b" committed ", session, number);
     put_with_number(into, at, b" at ", commit)
@@ -62,7 +62,7 @@ fn put_committed(into: &mut [u8], at: usize, session: u32, number: u64, commit: 
 fn put_refusal(into: &mut [u8], at: usize, refusal: &Refusal) -> usize
     requires { at + 80 ≤ length into.old }
     ensures end { result ≤ at + 80 }
-    ensures written { (front first : List ℕ) → Holds front first into.old at → Holds (front ++ 32 ∷ refusal_text refusal.now) first into.new result }
+    ensures written { (prefix first : List ℕ) → Holds prefix first into.old at → Holds (prefix ++ 32 ∷ refusal_text refusal.now) first into.new result }
 {
     match refusal {
         Refusal::InTransaction => put_text(into, at, b" in-transaction"),
@@ -77,7 +77,7 @@ fn put_refusal(into: &mut [u8], at: usize, refusal: &Refusal) -> usize
 fn put_log_full(into: &mut [u8], at: usize, used: u32, limit: u32) -> usize
     requires { at + 80 ≤ length into.old }
     ensures end { result ≤ at + 80 }
-    ensures written { (front first : List ℕ) → Holds front first into.old at → Holds (front ++ 32 ∷ refusal_text (Refusal.LogFull used limit)) first into.new result }
+    ensures written { (prefix first : List ℕ) → Holds prefix first into.old at → Holds (prefix ++ 32 ∷ refusal_text (Refusal.LogFull used limit)) first into.new result }
 {
     let at = put_with_number(into, at, b" log-full ", used as u64);
     put_with_number(into, at, b" ", limit as u64)

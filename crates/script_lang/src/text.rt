@@ -9,7 +9,7 @@ use itoa::Buffer;
 pub fn put_text(into: &mut [u8], at: usize, text: &[u8]) -> usize
     requires room { at + length text.now ≤ length into.old }
     ensures end { result ≡ at + length text.now }
-    ensures written { (front first : List ℕ) → Holds front first into.old at → Holds (front ++ text.now) first into.new result }
+    ensures written { (prefix first : List ℕ) → Holds prefix first into.old at → Holds (prefix ++ text.now) first into.new result }
 {
     let end = at + text.len();
     into[at..end].copy_from_slice(text);
@@ -20,7 +20,7 @@ pub fn put_text(into: &mut [u8], at: usize, text: &[u8]) -> usize
 pub fn put_number(into: &mut [u8], at: usize, number: u64) -> usize
     requires room { at + 20 ≤ length into.old }
     ensures end { result ≤ at + 20 }
-    ensures written { (front first : List ℕ) → Holds front first into.old at → Holds (front ++ decimal number) first into.new result }
+    ensures written { (prefix first : List ℕ) → Holds prefix first into.old at → Holds (prefix ++ decimal number) first into.new result }
 {
     let mut digits = Buffer::new();
     put_text(into, at, digits.format(number).as_bytes())
@@ -30,7 +30,7 @@ pub fn put_number(into: &mut [u8], at: usize, number: u64) -> usize
 pub fn put_with_number(into: &mut [u8], at: usize, text: &[u8], number: u64) -> usize
     requires room { at + length text.now + 20 ≤ length into.old }
     ensures end { result ≤ at + length text.now + 20 }
-    ensures written { (front first : List ℕ) → Holds front first into.old at → Holds (front ++ (text.now ++ decimal number)) first into.new result }
+    ensures written { (prefix first : List ℕ) → Holds prefix first into.old at → Holds (prefix ++ (text.now ++ decimal number)) first into.new result }
 {
     let at = put_text(into, at, text);
     put_number(into, at, number)
@@ -40,7 +40,7 @@ pub fn put_with_number(into: &mut [u8], at: usize, text: &[u8], number: u64) -> 
 pub fn put_with_name(into: &mut [u8], at: usize, text: &[u8], session: u32, number: u64) -> usize
     requires room { at + length text.now + 41 ≤ length into.old }
     ensures end { result ≤ at + length text.now + 41 }
-    ensures written { (front first : List ℕ) → Holds front first into.old at → Holds (front ++ (text.now ++ name session number)) first into.new result }
+    ensures written { (prefix first : List ℕ) → Holds prefix first into.old at → Holds (prefix ++ (text.now ++ name session number)) first into.new result }
 {
     let at = put_with_number(into, at, text, session as u64);
     put_with_number(into, at, b".", number)

@@ -74,14 +74,14 @@ holds_more told r h0 h1 h2 so_far p = record {
 }
 
 -- a line that failed
-pub holds_front : (told : List Reply) (r : Reply) (h0 h1 h2 : Held) → Holds told [] h0 h1 → (p : Puts (reply_line r) Failed h1 h2) → Holds told (take (p.failed refl).0 (reply_line r)) h0 h2
-holds_front told r h0 h1 h2 so_far p =
-    let front : List ℕ = take (p.failed refl).0 (reply_line r) in
+pub holds_prefix : (told : List Reply) (r : Reply) (h0 h1 h2 : Held) → Holds told [] h0 h1 → (p : Puts (reply_line r) Failed h1 h2) → Holds told (take (p.failed refl).0 (reply_line r)) h0 h2
+holds_prefix told r h0 h1 h2 so_far p =
+    let prefix : List ℕ = take (p.failed refl).0 (reply_line r) in
     record {
       same = p.same ∙ so_far.same;
       bytes = λ tells.
-          (p.failed refl).1 (so_far.same ∙ tells) ∙ ap (λ (t : List ℕ). t ++ front) (so_far.bytes tells ∙ ap (λ (t : List ℕ). h0.bytes ++ t) (append-nil (text_of told)))
-          ∙ append_assoc h0.bytes (text_of told) front;
+          (p.failed refl).1 (so_far.same ∙ tells) ∙ ap (λ (t : List ℕ). t ++ prefix) (so_far.bytes tells ∙ ap (λ (t : List ℕ). h0.bytes ++ t) (append-nil (text_of told)))
+          ∙ append_assoc h0.bytes (text_of told) prefix;
     }
 
 -- ## What was put of a call
@@ -104,8 +104,8 @@ module _ (a : Answer) (h0 h1 h2 : Held) (s0 s1 s2 : Story) (law : IsLawful s0) w
         of_putting = refl;
         told = [];
         tail = take (p.failed refl).0 (reply_line first);
-        prints = record { later = durable_of a; next = first; split = refl; count = (p.failed refl).0; front = refl };
-        holds = holds_front [] first h0 h0 h1 (holds_none h0) p;
+        prints = record { later = durable_of a; next = first; split = refl; count = (p.failed refl).0; prefix = refl };
+        holds = holds_prefix [] first h0 h0 h1 (holds_none h0) p;
         notes = no_notes s0;
         any_moment = no_puts s0 law;
       }) in at s1 same
@@ -133,8 +133,8 @@ module _ (a : Answer) (h0 h1 h2 : Held) (s0 s1 s2 : Story) (law : IsLawful s0) w
       of_putting = refl;
       told = first ∷ [];
       tail = take (q.failed refl).0 (reply_line second);
-      prints = record { later = []; next = second; split = sym durable_is; count = (q.failed refl).0; front = refl };
-      holds = holds_front (first ∷ []) second h0 h1 h2 (holds_more [] first h0 h0 h1 (holds_none h0) p) q;
+      prints = record { later = []; next = second; split = sym durable_is; count = (q.failed refl).0; prefix = refl };
+      holds = holds_prefix (first ∷ []) second h0 h1 h2 (holds_more [] first h0 h0 h1 (holds_none h0) p) q;
       notes = note_more [] first s0 s0 s1 (no_notes s0) n;
       any_moment = put_more [] first s0 s0 s1 (no_notes s0) (no_puts s0 law) n;
     })

@@ -42,7 +42,7 @@ prints_more stop all told earlier tail is = go stop is
       next = cut.next;
       split = sym (append_assoc cut.later (cut.next ∷ told) earlier) ∙ ap (λ (rs : List Reply). rs ++ earlier) cut.split;
       count = cut.count;
-      front = cut.front;
+      prefix = cut.prefix;
     }
     go (Some DiskFault) w = whole w
 

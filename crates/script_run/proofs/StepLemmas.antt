@@ -24,15 +24,15 @@ use Rattle.worker_log.specs.Logs.{Account, IsInRange}
 use Rattle.worker_log.specs.Kept.{IsKept}
 use Rattle.lean_engine.specs.States.{State, Logs, Pictures}
 use Rattle.lean_engine.specs.Refusals.{IsRefused}
-use Rattle.lean_engine.specs.Calls.{Calls, GoesOn, IsWithin, KeepsRing}
-use Rattle.lean_engine.specs.Crashes.{IsAround, LeavesFront}
+use Rattle.lean_engine.specs.Calls.{Calls, GoesOn, IsWithin, KeepsRing, LogAfter}
+use Rattle.lean_engine.specs.Crashes.{IsAround, LeavesPrefix}
 use Rattle.lean_engine.specs.Laws.{EveryRest}
-use Rattle.transcripts.specs.Told.{ask, replies, names, Heard}
+use Rattle.transcripts.specs.Told.{ask, asked_text, replies, names, Heard}
 use Rattle.transcripts.specs.Told.Heard.{Whole}
 use Rattle.transcripts.specs.Laws.{FirstCalls}
-use Rattle.transcripts.proofs.FrontLemmas.{front}
+use Rattle.transcripts.proofs.PrefixLemmas.{prefix}
 use Rattle.transcripts.proofs.TranscriptLemmas.{names_are}
-use Rattle.script_run.specs.Moments.{ScriptLeaves}
+use Rattle.script_run.specs.Moments.{IsAsked, ScriptLeaves}
 use Rattle.script_run.specs.Runs.{Answers, ScriptRuns, SameRing, IsFlushed, ReadsTo, PrintsTo, OthersStand}
 use Rattle.script_run.specs.Inside.{IsOfReading, PutLeaves, Says, Stepped}
 use Rattle.script_run.specs.declared.stop.Stop.{Stop}
@@ -47,11 +47,11 @@ same_log : (e : State) → SameRing e.log e.log
 same_log e = record { generation = refl; log = refl; blocks = refl; head = refl }
 
 -- the run's parts of a crash, put together
-pub script_leaves : (g : Opening) (xs heard unheard answered : List Answered) (first later told : List Reply) (s : Session) (x : Account) (e : State) (old : Story) (c : Crash)
+pub script_leaves : (start : Feed) (seen : List ℕ) (g : Opening) (xs heard unheard answered : List Answered) (first later told : List Reply) (s : Session) (x : Account) (e : State) (old : Story) (c : Crash)
     → later ++ first ≡ told → (IsTrue old.counts → old.notes + length first < 2 ^ 64 → c.notes ≡ old.notes + length first) → unheard ++ heard ≡ answered → Heard heard first
     → ((a : ℕ) → (a ≡ 2 → ⊥) → Tells old a → c.writes a ≡ (old.area a).writes) → ((a : ℕ) → (a ≡ 2 → ⊥) → Tells old a → Leaves (old.area a) (c.image a))
-    → LogLeft g (heard ++ xs) first s x e.log (c.writes 2) (c.image 2) → ScriptLeaves g xs answered told s x e.log old c
-script_leaves g xs heard unheard answered first later told s x e old c split notes calls hears writes leaves l = record {
+    → LogLeft start (seen ++ asked_text heard) g (heard ++ xs) first s x e.log (c.writes 2) (c.image 2) → ScriptLeaves start seen g xs answered told s x e.log old c
+script_leaves start seen g xs heard unheard answered first later told s x e old c split notes calls hears writes leaves l = record {
   first = first;
   later = later;
   split = split;
@@ -80,11 +80,11 @@ others_same s = record { later = omega arith; counts = refl; tells = λ a. refl;
 
 module _ (rest : EveryRest) (g : Opening) (xs : List Answered) (s : Session) (e0 : State) (runs : Runs g xs s) (pictures : Pictures g s e0) (old : Story) (law : IsLawful old) (range : IsInRange e0.log) where
   -- nothing happened yet
-  rest_moments : Tells old 2 → (x : Account) → Logs s x → IsKept x e0.log (old.area 2) → LeavesOnly old old (ScriptLeaves g xs [] [] s x e0.log old)
-  rest_moments tells x logs kept = started old (ScriptLeaves g xs [] [] s x e0.log old) law
+  rest_moments : (start : Feed) (seen : List ℕ) → Tells old 2 → (x : Account) → Logs s x → IsKept x e0.log (old.area 2) → LeavesOnly old old (ScriptLeaves start seen g xs [] [] s x e0.log old)
+  rest_moments start seen tells x logs kept = started old (ScriptLeaves start seen g xs [] [] s x e0.log old) law
       (λ c now.
-      script_leaves g xs [] [] [] [] [] [] s x e0 old c refl (λ counts fits. let n : c.notes ≡ old.notes = now.notes in omega arith) refl (Whole refl) (λ a other. now.writes a) (λ a other. now.leaves a)
-      (left_back g xs [] s s e0.log e0.log (same_log e0) (λ r has le. (has, le)) (λ name none. absurd none) (λ t. t ≡ s) (λ t is. record { hand = xs; in_hand = inl refl; runs = subst (Runs g xs) (sym is) runs }) x x refl refl
+      script_leaves start seen g xs [] [] [] [] [] [] s x e0 old c refl (λ counts fits. let n : c.notes ≡ old.notes = now.notes in omega arith) refl (Whole refl) (λ a other. now.writes a) (λ a other. now.leaves a)
+      (left_back start (seen ++ []) g xs [] s s e0.log e0.log (same_log e0) (λ r has le. (has, le)) (λ name none. absurd none) (λ t. t ≡ s) (λ t is. record { hand = xs; in_hand = inl refl; runs = subst (Runs g xs) (sym is) runs }) x x refl refl
       (c.writes 2) (c.image 2) (at_rest rest s x e0.log old pictures.log range tells logs kept c (now.writes 2 tells) (now.leaves 2 tells))))
 
   -- no line is executed: the sink, the disk and the engine stand
@@ -111,7 +111,7 @@ module _ (rest : EveryRest) (g : Opening) (xs : List Answered) (s : Session) (e0
     goes_on = λ never tells x logs kept. record { y = x; first = refl; older = refl; logs = logs; kept = kept };
     keeps = λ r has le. (has, le);
     synced = λ name none. absurd none;
-    any_moment = rest_moments;
+    any_moment = rest_moments start seen;
   }
 
   pub none_stepped : (before : ℕ) (start feed : Feed) (seen : List ℕ) (reader : Unread) (held : Held) → before < 2 ^ 40 → Reading start feed reader seen → Stepped 0 None g xs s before start seen e0 e0 reader feed held held old old
@@ -127,15 +127,18 @@ module _ (rest : EveryRest) (g : Opening) (xs : List Answered) (s : Session) (e0
 
   -- A call, in hand, and the disk after the engine was called.
   module _ (call : Call) (fits : CallFits call) (mid : Story) (frame : Framed 2 old mid)
-      (in_call : (x : Account) → Logs s x → (Tells old 2 → IsKept x e0.log (old.area 2)) → LeavesOnly old mid (CrashIn old 2 (LeavesFront (IsAround g s call) s x e0.log))) where
-    around : (t : Session) → IsAround g s call t → Hand g xs t
-    around t (inl is) = record { hand = xs; in_hand = inl refl; runs = subst (Runs g xs) (sym is) runs }
-    around t (inr did) = record { hand = record { call = call; answer = did.0 } ∷ xs; in_hand = inr (record { call = call; answer = did.0 }, refl); runs = (s, runs, did.1) }
+      (in_call : (x : Account) → Logs s x → (Tells old 2 → IsKept x e0.log (old.area 2)) → LeavesOnly old mid (CrashIn old 2 (LeavesPrefix (IsAround g s call) s x e0.log))) where
+    around : (start : Feed) (seen : List ℕ) → IsAsked start (seen ++ []) call → (t : Session) → IsAround g s call t → Hand start (seen ++ []) g xs t
+    around start seen asked t (inl is) = record { hand = xs; in_hand = inl refl; runs = subst (Runs g xs) (sym is) runs }
+    around start seen asked t (inr did) = record { hand = record { call = call; answer = did.0 } ∷ xs; in_hand = inr (record { call = call; answer = did.0 }, refl, asked); runs = (s, runs, did.1) }
+
+    asked_by : (start feed : Feed) (seen : List ℕ) (reader : Unread) → Reading start feed reader (seen ++ (ask call ++ 10 ∷ [])) → IsAsked start (seen ++ []) call
+    asked_by start feed seen reader reading = record { feed = feed; reader = reader; fits = fits; read = subst (λ (t : List ℕ). Reading start feed reader (t ++ (ask call ++ 10 ∷ []))) (sym (append-nil seen)) reading }
 
     -- a crash in the call
-    call_leaves : (unheard : List Answered) (told : List Reply) (x : Account) (c : Crash) → CrashIn old 2 (LeavesFront (IsAround g s call) s x e0.log) c → ScriptLeaves g xs unheard told s x e0.log old c
-    call_leaves unheard told x c i = script_leaves g xs [] unheard unheard [] told told s x e0 old c (append-nil told) (λ counts fits. let n : c.notes ≡ old.notes = i.notes in omega arith) (append-nil unheard) (Whole refl) i.writes i.leaves
-        (left_back g xs [] s s e0.log e0.log (same_log e0) (λ r has le. (has, le)) (λ name none. absurd none) (IsAround g s call) around x x refl refl (c.writes 2) (c.image 2) i.here)
+    call_leaves : (start : Feed) (seen : List ℕ) → IsAsked start (seen ++ []) call → (unheard : List Answered) (told : List Reply) (x : Account) (c : Crash) → CrashIn old 2 (LeavesPrefix (IsAround g s call) s x e0.log) c → ScriptLeaves start seen g xs unheard told s x e0.log old c
+    call_leaves start seen asked unheard told x c i = script_leaves start seen g xs [] unheard unheard [] told told s x e0 old c (append-nil told) (λ counts fits. let n : c.notes ≡ old.notes = i.notes in omega arith) (append-nil unheard) (Whole refl) i.writes i.leaves
+        (left_back start (seen ++ []) g xs [] s s e0.log e0.log (same_log e0) (λ r has le. (has, le)) (λ name none. absurd none) (IsAround g s call) (around start seen asked) x x refl refl (c.writes 2) (c.image 2) i.here)
 
     -- the disk failed in the call
     fault_step : (e1 : State) (before : ℕ) (start feed : Feed) (seen : List ℕ) (reader : Unread) (held : Held) → before < 2 ^ 40 → Reading start feed reader (seen ++ (ask call ++ 10 ∷ []))
@@ -161,7 +164,7 @@ module _ (rest : EveryRest) (g : Opening) (xs : List Answered) (s : Session) (e0
       goes_on = λ never. absurd (never refl);
       keeps = λ r has le. (has, le);
       synced = λ name none. absurd none;
-      any_moment = λ tells x logs kept. weaker old mid (CrashIn old 2 (LeavesFront (IsAround g s call) s x e0.log)) (ScriptLeaves g xs [] [] s x e0.log old) (call_leaves [] [] x) (in_call x logs (λ told. kept));
+      any_moment = λ tells x logs kept. weaker old mid (CrashIn old 2 (LeavesPrefix (IsAround g s call) s x e0.log)) (ScriptLeaves start seen g xs [] [] s x e0.log old) (call_leaves start seen (asked_by start feed seen reader reading) [] [] x) (in_call x logs (λ told. kept));
     }
 
     pub fault_stepped : (e1 : State) (before : ℕ) (start feed : Feed) (seen : List ℕ) (reader : Unread) (held : Held) → before < 2 ^ 40 → Reading start feed reader (seen ++ (ask call ++ 10 ∷ []))
@@ -169,14 +172,14 @@ module _ (rest : EveryRest) (g : Opening) (xs : List Answered) (s : Session) (e0
     fault_stepped e1 before start feed seen reader held few reading = record { run = fault_step e1 before start feed seen reader held few reading; count_is = λ none. let e : Some DiskFault ≡ None = none in cc }
 
     -- it was answered
-    module _ (a : Answer) (a_fits : AnswerFits a) (e1 : State) (range_1 : IsInRange e1.log) (is : Calls g s e0 e1 call a (Tells mid 2) (old.area 2) (mid.area 2)) (ring : KeepsRing a e0.log e1.log)
+    module _ (a : Answer) (a_fits : AnswerFits a) (e1 : State) (range_1 : IsInRange e1.log) (is : Calls g s e0 e1 call a (Tells mid 2) (old.area 2) (mid.area 2)) (ring : KeepsRing a e0.log e1.log) (logged : LogAfter a e0 e1)
         (refused : (why : Refusal) → (a ≡ answer.Refused why → IsRefused e0 call why) × (IsRefused e0 call why → a ≡ answer.Refused why)) (same : (why : Refusal) → IsRefused e0 call why → e1 ≡ e0)
         (stop : Option Stop) (h0 h1 : Held) (new : Story) (said : Says a stop h0 h1 mid new) where
       abbrev x1 : Answered
       x1 = record { call = call; answer = a }
 
       answered : Answers g e0 s x1 e1 is.after
-      answered = record { does = is.does; pictures = is.pictures; refused = refused; same = same; ring = ring }
+      answered = record { does = is.does; pictures = is.pictures; refused = refused; same = same; ring = ring; log = logged }
 
       after_runs : Runs g (x1 ∷ xs) is.after
       after_runs = (s, runs, is.does)
@@ -192,25 +195,25 @@ module _ (rest : EveryRest) (g : Opening) (xs : List Answered) (s : Session) (e0
           let more : Has name (names ((f.later ++ later) ++ first)) = subst (Has name) (sym (names_append (f.later ++ later) first)) (has_left name (names first) (names (f.later ++ later)) has) in
           commit_flushed g e0 e1 s is.after x1 answered name (subst (Has name) (ap names all ∙ names_are (x1 ∷ [])) more)
 
-      hand_of : (later first : List Answered) → later ++ first ≡ x1 ∷ [] → (t : Session) → t ≡ is.after → Hand g (first ++ xs) t
-      hand_of later first split t at = ⊎_elim
-          (λ (none : first ≡ []). record { hand = x1 ∷ xs; in_hand = inr (x1, ap (λ (ys : List Answered). x1 ∷ (ys ++ xs)) (sym none)); runs = subst (Runs g (x1 ∷ xs)) (sym at) after_runs })
+      hand_of : (start : Feed) (seen : List ℕ) → IsAsked start (seen ++ []) call → (later first : List Answered) → later ++ first ≡ x1 ∷ [] → (t : Session) → t ≡ is.after → Hand start (seen ++ asked_text first) g (first ++ xs) t
+      hand_of start seen asked later first split t at = ⊎_elim
+          (λ (none : first ≡ []). record { hand = x1 ∷ xs; in_hand = inr (x1, ap (λ (ys : List Answered). x1 ∷ (ys ++ xs)) (sym none), subst (λ (ys : List Answered). IsAsked start (seen ++ asked_text ys) call) (sym none) asked); runs = subst (Runs g (x1 ∷ xs)) (sym at) after_runs })
           (λ (one : first ≡ x1 ∷ []). record { hand = x1 ∷ xs; in_hand = inl (ap (λ (ys : List Answered). ys ++ xs) (sym one)); runs = subst (Runs g (x1 ∷ xs)) (sym at) after_runs })
           (none_or_one later first x1 split)
 
       -- a crash while the replies are put
-      put_leaves : Tells old 2 → (x : Account) → GoesOn is.after x a e0.log e1.log (Tells mid 2) (old.area 2) (mid.area 2) → IsKept x e0.log (old.area 2) → (c : Crash) → PutLeaves said.told mid c → ScriptLeaves g xs (x1 ∷ []) said.told s x e0.log old c
-      put_leaves tells x y kept c p =
+      put_leaves : (start : Feed) (seen : List ℕ) → IsAsked start (seen ++ []) call → Tells old 2 → (x : Account) → GoesOn is.after x a e0.log e1.log (Tells mid 2) (old.area 2) (mid.area 2) → IsKept x e0.log (old.area 2) → (c : Crash) → PutLeaves said.told mid c → ScriptLeaves start seen g xs (x1 ∷ []) said.told s x e0.log old c
+      put_leaves start seen asked tells x y kept c p =
           let f : FirstOf (replies (x1 ∷ [])) said.told = first_of stop (replies (x1 ∷ [])) said.told said.tail said.prints in
           let all : (f.later ++ p.later) ++ p.first ≡ replies (x1 ∷ []) = append_assoc f.later p.later p.first ∙ ap (λ (rs : List Reply). f.later ++ rs) p.split ∙ f.is in
-          let calls : FirstCalls (x1 ∷ []) p.first = (front (x1 ∷ []) (f.later ++ p.later) p.first all).calls in
+          let calls : FirstCalls (x1 ∷ []) p.first = (prefix (x1 ∷ []) (f.later ++ p.later) p.first all).calls in
           let told : Tells mid 2 = frame.tells 2 ∙ tells in
-          script_leaves g xs calls.first calls.later (x1 ∷ []) p.first p.later said.told s x e0 old c p.split
+          script_leaves start seen g xs calls.first calls.later (x1 ∷ []) p.first p.later said.told s x e0 old c p.split
           (λ counts fits. let n : mid.notes ≡ old.notes = frame.notes in let m : c.notes ≡ mid.notes + length p.first = p.notes (omega arith) in omega arith)
           calls.is calls.heard
           (λ b other tell. p.writes b (frame.tells b ∙ tell) ∙ ap (λ (u : Area). u.writes) (frame.elsewhere b other))
           (λ b other tell. subst (λ (u : Area). Leaves u (c.image b)) (frame.elsewhere b other) (p.leaves b (frame.tells b ∙ tell)))
-          (left_back g (calls.first ++ xs) p.first s is.after e0.log e1.log (same_ring a e0.log e1.log ring) stays.each (told_durable p.later p.first p.split) (λ t. t ≡ is.after) (hand_of calls.later calls.first calls.is) x y.y y.first y.older
+          (left_back start (seen ++ asked_text calls.first) g (calls.first ++ xs) p.first s is.after e0.log e1.log (same_ring a e0.log e1.log ring) stays.each (told_durable p.later p.first p.split) (λ t. t ≡ is.after) (hand_of start seen asked calls.later calls.first calls.is) x y.y y.first y.older
           (c.writes 2) (c.image 2) (at_rest rest is.after y.y e1.log mid is.pictures.log range_1 told y.logs (y.kept told kept) c (p.writes 2 told) (p.leaves 2 told)))
 
       answer_step : (before : ℕ) (start feed : Feed) (seen : List ℕ) (reader : Unread) → before + 1 < 2 ^ 40 → Reading start feed reader (seen ++ (ask call ++ 10 ∷ []))
@@ -247,9 +250,10 @@ module _ (rest : EveryRest) (g : Opening) (xs : List Answered) (s : Session) (e0
         synced = λ name has. commit_flushed g e0 e1 s is.after x1 answered name has;
         any_moment = λ tells x logs kept.
             let y : GoesOn is.after x a e0.log e1.log (Tells mid 2) (old.area 2) (mid.area 2) = is.goes_on x logs in
-            then old mid new (ScriptLeaves g xs (x1 ∷ []) said.told s x e0.log old)
-            (weaker old mid (CrashIn old 2 (LeavesFront (IsAround g s call) s x e0.log)) (ScriptLeaves g xs (x1 ∷ []) said.told s x e0.log old) (call_leaves (x1 ∷ []) said.told x) (in_call x logs (λ told. kept)))
-            (weaker mid new (PutLeaves said.told mid) (ScriptLeaves g xs (x1 ∷ []) said.told s x e0.log old) (put_leaves tells x y kept) said.any_moment);
+            let asked : IsAsked start (seen ++ []) call = asked_by start feed seen reader reading in
+            then old mid new (ScriptLeaves start seen g xs (x1 ∷ []) said.told s x e0.log old)
+            (weaker old mid (CrashIn old 2 (LeavesPrefix (IsAround g s call) s x e0.log)) (ScriptLeaves start seen g xs (x1 ∷ []) said.told s x e0.log old) (call_leaves start seen asked (x1 ∷ []) said.told x) (in_call x logs (λ told. kept)))
+            (weaker mid new (PutLeaves said.told mid) (ScriptLeaves start seen g xs (x1 ∷ []) said.told s x e0.log old) (put_leaves start seen asked tells x y kept) said.any_moment);
       }
 
       pub answer_stepped : (before : ℕ) (start feed : Feed) (seen : List ℕ) (reader : Unread) → before + 1 < 2 ^ 40 → Reading start feed reader (seen ++ (ask call ++ 10 ∷ []))

@@ -9,9 +9,9 @@ use Rattle.script_lang.specs.Text.{script_lines}
 use Rattle.session_model.specs.Calls.{Answered}
 use Rattle.transcripts.specs.Told.{ask, asked_lines, asked_text, replies, text_of, EachFits, EachReplyFits, IsCut}
 use Rattle.transcripts.specs.Told.IsTail.{CutReply}
-use Rattle.transcripts.specs.Laws.{Front, NextLaws}
+use Rattle.transcripts.specs.Laws.{Prefix, NextLaws}
 use Rattle.transcripts.proofs.AskedLemmas.{reading}
-use Rattle.transcripts.proofs.FrontLemmas.{front}
+use Rattle.transcripts.proofs.PrefixLemmas.{prefix}
 use Rattle.transcripts.proofs.NextLemmas.{next_laws, part}
 use Rattle.script_run.specs.Runs.{Holds, IsRefusedLine, ReadsTo, PrintsTo, IsCutOff}
 use Rattle.script_run.specs.Runs.IsRefusedLine.{NoLine, TooLong, TooMany}
@@ -44,52 +44,52 @@ module _ (start feed : Feed) (reader : Unread) (xs : List Answered) (fit : EachF
 -- ## The output
 
 module _ (xs : List Answered) (fit : EachFits xs) (start : Feed) (told : List Reply) (tail : List ℕ) (h0 h1 : Held) (holds : Holds told tail h0 h1) where
-  fits_front : (out : List Reply) → Front xs out → EachReplyFits out
-  fits_front out f = let both = f.fit fit in both.1
+  fits_prefix : (out : List Reply) → Prefix xs out → EachReplyFits out
+  fits_prefix out f = let both = f.fit fit in both.1
 
   -- all was put
   whole_text : (stop : Stop) → (IsTrue start.tells → LinesRead stop xs start.left) → IsTailOf stop tail → told ≡ replies xs → ScriptText stop xs told start h0 h1
   whole_text stop read ends all =
-      let f : Front xs told = front xs [] told all in
-      record { read = read; out = told; more = []; out_is = refl; whole = λ other. all; front = f; fit = fits_front told f; tail = tail; ends = ends; bytes = holds.bytes }
+      let f : Prefix xs told = prefix xs [] told all in
+      record { read = read; out = told; more = []; out_is = refl; whole = λ other. all; prefix = f; fit = fits_prefix told f; tail = tail; ends = ends; bytes = holds.bytes }
 
   -- the sink failed
   cut_text : (IsTrue start.tells → LinesRead WriteFault xs start.left) → IsCutOff (replies xs) told tail → ScriptText WriteFault xs told start h0 h1
   cut_text read c = ⊎_elim cut whole (part c.next c.count)
     where
       next_fits : Fits c.next
-      next_fits = let all = fits_front (c.next ∷ told) (front xs c.later (c.next ∷ told) c.split) in all.1
+      next_fits = let all = fits_prefix (c.next ∷ told) (prefix xs c.later (c.next ∷ told) c.split) in all.1
 
       cut : IsCut (reply_text c.next) (take c.count (reply_line c.next)) → ScriptText WriteFault xs told start h0 h1
       cut is =
-          let f : Front xs told = front xs (c.later ++ c.next ∷ []) told (append_assoc c.later (c.next ∷ []) told ∙ c.split) in
+          let f : Prefix xs told = prefix xs (c.later ++ c.next ∷ []) told (append_assoc c.later (c.next ∷ []) told ∙ c.split) in
           record {
             read = read;
             out = told;
             more = [];
             out_is = refl;
             whole = λ other. absurd (other refl);
-            front = f;
-            fit = fits_front told f;
+            prefix = f;
+            fit = fits_prefix told f;
             tail = tail;
-            ends = CutReply c.next next_fits (subst (IsCut (reply_text c.next)) (sym c.front) is);
+            ends = CutReply c.next next_fits (subst (IsCut (reply_text c.next)) (sym c.prefix) is);
             bytes = holds.bytes;
           }
 
       whole : take c.count (reply_line c.next) ≡ reply_line c.next → ScriptText WriteFault xs told start h0 h1
       whole is =
-          let f : Front xs (c.next ∷ told) = front xs c.later (c.next ∷ told) c.split in
+          let f : Prefix xs (c.next ∷ told) = prefix xs c.later (c.next ∷ told) c.split in
           record {
             read = read;
             out = c.next ∷ told;
             more = c.next ∷ [];
             out_is = refl;
             whole = λ other. absurd (other refl);
-            front = f;
-            fit = fits_front (c.next ∷ told) f;
+            prefix = f;
+            fit = fits_prefix (c.next ∷ told) f;
             tail = [];
             ends = CutReply c.next next_fits (record { more = reply_text c.next; is = refl });
-            bytes = λ tells. holds.bytes tells ∙ ap (λ (t : List ℕ). h0.bytes ++ (text_of told ++ t)) (c.front ∙ is) ∙ ap (λ (t : List ℕ). h0.bytes ++ t) (sym (append-nil (text_of told ++ reply_line c.next)));
+            bytes = λ tells. holds.bytes tells ∙ ap (λ (t : List ℕ). h0.bytes ++ (text_of told ++ t)) (c.prefix ∙ is) ∙ ap (λ (t : List ℕ). h0.bytes ++ t) (sym (append-nil (text_of told ++ reply_line c.next)));
           }
 
   pub printed : (stop : Stop) → (IsTrue start.tells → LinesRead stop xs start.left) → PrintsTo (Some stop) (replies xs) told tail → ScriptText stop xs told start h0 h1

@@ -23,7 +23,7 @@ use Rattle.lean_engine.specs.States.{State, Logs, Pictures}
 use Rattle.transcripts.specs.Told.{asked_text, text_of, replies, names, committed, Heard}
 use Rattle.transcripts.proofs.AskedLemmas.{text_append, replies_append}
 use Rattle.transcripts.proofs.TranscriptLemmas.{names_are}
-use Rattle.script_run.specs.Moments.{HoldsRun, ScriptLeaves}
+use Rattle.script_run.specs.Moments.{HoldsRun, IsAsked, ScriptLeaves}
 use Rattle.script_run.specs.Runs.{Executes, ScriptRuns, WentOn, SameRing, IsFlushed, IsLastCut, PrintsTo, Holds, OthersStand}
 use Rattle.script_run.specs.Inside.{Stepped}
 use Rattle.script_run.specs.declared.stop.Stop.{Stop}
@@ -114,7 +114,7 @@ module _ (g : Opening) (xs : List Answered) (s : Session) (before : ℕ) (start 
 
     -- ## A crash in the first run
 
-    first_leaves : (x : Account) (c : Crash) → ScriptLeaves g xs a.newer a.told s x e0.log s0 c → ScriptLeaves g xs (b.newer ++ a.newer) (b.told ++ a.told) s x e0.log s0 c
+    first_leaves : (x : Account) (c : Crash) → ScriptLeaves start seen g xs a.newer a.told s x e0.log s0 c → ScriptLeaves start seen g xs (b.newer ++ a.newer) (b.told ++ a.told) s x e0.log s0 c
     first_leaves x c l = record {
       first = l.first;
       later = b.told ++ l.later;
@@ -134,7 +134,8 @@ module _ (g : Opening) (xs : List Answered) (s : Session) (before : ℕ) (start 
 
     -- ## A crash in the second one
 
-    run_back : (heard : List Answered) (first : List Reply) (bytes : List ℕ) → HoldsRun g (heard ++ (a.newer ++ xs)) first a.session e1.log bytes → HoldsRun g ((heard ++ a.newer) ++ xs) (first ++ a.told) s e0.log bytes
+    run_back : (heard : List Answered) (first : List Reply) (bytes : List ℕ) → HoldsRun start ((seen ++ asked_text a.newer) ++ asked_text heard) g (heard ++ (a.newer ++ xs)) first a.session e1.log bytes
+        → HoldsRun start (seen ++ asked_text (heard ++ a.newer)) g ((heard ++ a.newer) ++ xs) (first ++ a.told) s e0.log bytes
     run_back heard first bytes h =
         let calls : heard ++ (a.newer ++ xs) ≡ (heard ++ a.newer) ++ xs = sym (append_assoc heard a.newer xs) in
         record {
@@ -142,11 +143,11 @@ module _ (g : Opening) (xs : List Answered) (s : Session) (before : ℕ) (start 
           run = same_run e0.log e1.log bytes h.blocks ring_first h.run;
           fit = h.fit;
           hand = h.hand;
-          in_hand = ⊎_elim (λ e. inl (e ∙ calls)) (λ m. inr (m.0, m.1 ∙ ap (λ (ys : List Answered). m.0 ∷ ys) calls)) h.in_hand;
+          in_hand = ⊎_elim (λ e. inl (e ∙ calls)) (λ m. inr (m.0, m.1 ∙ ap (λ (ys : List Answered). m.0 ∷ ys) calls, subst (λ (t : List ℕ). IsAsked start t m.0.call) (seen_more seen a.newer heard) m.2)) h.in_hand;
           session = h.session;
           runs = h.runs;
           newer = h.newer;
-          front = h.front;
+          prefix = h.prefix;
           flushed = λ r has le. let k : Has r a.session.log × (r.number ≤ a.state.log.flushed) = a.keeps r has le in h.flushed r k.0 (subst (λ (e : State). r.number ≤ e.log.flushed) (sym state) k.1);
           durable = λ name has. ⊎_elim
               (λ (n : Has name (names a.told)).
@@ -156,8 +157,8 @@ module _ (g : Opening) (xs : List Answered) (s : Session) (before : ℕ) (start 
               (has_cases name (names a.told) (names first) (subst (Has name) (names_append first a.told) has));
         }
 
-    second_leaves : Tells s0 2 → (x : Account) (y : WentOn a.session x a.state.log (s1.area 2)) (c : Crash) → ScriptLeaves g (a.newer ++ xs) b.newer b.told a.session y.y e1.log s1 c
-        → ScriptLeaves g xs (b.newer ++ a.newer) (b.told ++ a.told) s x e0.log s0 c
+    second_leaves : Tells s0 2 → (x : Account) (y : WentOn a.session x a.state.log (s1.area 2)) (c : Crash) → ScriptLeaves start (seen ++ asked_text a.newer) g (a.newer ++ xs) b.newer b.told a.session y.y e1.log s1 c
+        → ScriptLeaves start seen g xs (b.newer ++ a.newer) (b.told ++ a.told) s x e0.log s0 c
     second_leaves tells x y c l = record {
       first = l.first ++ a.told;
       later = l.later;
@@ -178,13 +179,13 @@ module _ (g : Opening) (xs : List Answered) (s : Session) (before : ℕ) (start 
       holds = λ fair. run_back l.heard l.first (c.image 2) (l.holds (subst (λ (bs : List ℕ). IsFair 2048 IsSealed bs l.since (c.image 2)) (sym y.first) fair));
     }
 
-    moments_then : Tells s0 2 → (x : Account) → Logs s x → IsKept x e0.log (s0.area 2) → LeavesOnly s0 s2 (ScriptLeaves g xs (b.newer ++ a.newer) (b.told ++ a.told) s x e0.log s0)
+    moments_then : Tells s0 2 → (x : Account) → Logs s x → IsKept x e0.log (s0.area 2) → LeavesOnly s0 s2 (ScriptLeaves start seen g xs (b.newer ++ a.newer) (b.told ++ a.told) s x e0.log s0)
     moments_then tells x logs kept =
         let y : WentOn a.session x a.state.log (s1.area 2) = a.goes_on goes tells x logs kept in
-        let P : Crash → Type 0 = ScriptLeaves g xs (b.newer ++ a.newer) (b.told ++ a.told) s x e0.log s0 in
+        let P : Crash → Type 0 = ScriptLeaves start seen g xs (b.newer ++ a.newer) (b.told ++ a.told) s x e0.log s0 in
         then s0 s1 s2 P
-        (weaker s0 s1 (ScriptLeaves g xs a.newer a.told s x e0.log s0) P (first_leaves x) (a.any_moment tells x logs kept))
-        (weaker s1 s2 (ScriptLeaves g (a.newer ++ xs) b.newer b.told a.session y.y e1.log s1) P (second_leaves tells x y) (b.any_moment (a.others.tells 2 ∙ tells) y.y y.logs (kept_then y.y y.kept)))
+        (weaker s0 s1 (ScriptLeaves start seen g xs a.newer a.told s x e0.log s0) P (first_leaves x) (a.any_moment tells x logs kept))
+        (weaker s1 s2 (ScriptLeaves start (seen ++ asked_text a.newer) g (a.newer ++ xs) b.newer b.told a.session y.y e1.log s1) P (second_leaves tells x y) (b.any_moment (a.others.tells 2 ∙ tells) y.y y.logs (kept_then y.y y.kept)))
 
     pub run_then : ScriptRuns stop g xs s before start seen e0 e2 r1 f1 h0 h2 s0 s2
     run_then =

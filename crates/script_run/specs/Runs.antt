@@ -21,7 +21,7 @@ use Rattle.worker_log.specs.Logs.{Log, Account}
 use Rattle.worker_log.specs.Kept.{IsKept}
 use Rattle.lean_engine.specs.States.{State, Logs, Pictures}
 use Rattle.lean_engine.specs.Refusals.{IsRefused}
-use Rattle.lean_engine.specs.Calls.{KeepsRing}
+use Rattle.lean_engine.specs.Calls.{KeepsRing, LogAfter}
 use Rattle.transcripts.specs.Told.{ask, asked_text, text_of, replies, committed, EachFits}
 use Rattle.script_run.specs.Moments.{HasCommit, ScriptLeaves}
 use Rattle.script_run.specs.declared.stop.Stop.{Stop}
@@ -36,6 +36,7 @@ pub record Answers (g : Opening) (d : State) (r : Session) (x : Answered) (e : S
   pub refused : (why : Refusal) → (x.answer ≡ answer.Refused why) ↔ IsRefused d x.call why
   pub same : (why : Refusal) → IsRefused d x.call why → e ≡ d
   pub ring : KeepsRing x.answer d.log e.log
+  pub log : LogAfter x.answer d e
 
 -- so it answered call by call, the newest first
 abbrev pub Executes : Opening → State → Session → List Answered → State → Session → Type 0
@@ -93,7 +94,7 @@ pub record IsCutOff (all told : List Reply) (tail : List ℕ) : Type 0 where
   pub next : Reply
   pub split : later ++ next ∷ told ≡ all
   pub count : ℕ
-  pub front : tail ≡ take count (reply_line next)
+  pub prefix : tail ≡ take count (reply_line next)
 
 pub record IsWhole (all told : List Reply) (tail : List ℕ) : Type 0 where
   pub told_is : told ≡ all
@@ -162,4 +163,4 @@ pub record ScriptRuns (stop : Option Stop) (g : Opening) (xs : List Answered) (s
   pub keeps : (r : Entry) → Has r s.log → r.number ≤ e0.log.flushed → Has r session.log × (r.number ≤ state.log.flushed)
   pub synced : (name : Name) → Has name (committed newer) → IsFlushed name session state.log
   -- at every moment
-  pub any_moment : Tells old 2 → (x : Account) → Logs s x → IsKept x e0.log (old.area 2) → LeavesOnly old new (ScriptLeaves g xs newer told s x e0.log old)
+  pub any_moment : Tells old 2 → (x : Account) → Logs s x → IsKept x e0.log (old.area 2) → LeavesOnly old new (ScriptLeaves start seen g xs newer told s x e0.log old)

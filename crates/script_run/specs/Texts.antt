@@ -8,7 +8,7 @@ use Rattle.script_lang.specs.Replies.{Reply}
 use Rattle.script_lang.specs.Text.{script_lines}
 use Rattle.session_model.specs.Calls.{Answered}
 use Rattle.transcripts.specs.Told.{ask, asked_lines, asked_text, replies, text_of, EachFits, EachReplyFits, IsTail}
-use Rattle.transcripts.specs.Laws.{Front}
+use Rattle.transcripts.specs.Laws.{Prefix}
 use Rattle.script_run.specs.Runs.{ReadsTo, PrintsTo, Holds}
 use Rattle.script_run.specs.declared.stop.Stop.{Stop}
 use Rattle.script_run.specs.declared.stop.Stop.TheVariants.{End, Refused, ReadFault, WriteFault, DiskFault}
@@ -58,7 +58,7 @@ pub record ScriptText (stop : Stop) (answered : List Answered) (told : List Repl
   pub out_is : more ++ told ≡ out
   pub whole : (stop ≡ WriteFault → ⊥) → out ≡ replies answered
   -- they answer the first of the calls
-  pub front : Front answered out
+  pub prefix : Prefix answered out
   pub fit : EachReplyFits out
   pub tail : List ℕ
   pub ends : IsTailOf stop tail

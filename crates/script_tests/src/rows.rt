@@ -218,10 +218,10 @@ fn a_put_and_its_commit_are_one_block_of_the_log(rt: HostRuntime) -> Result<(), 
     Ok(())
 }
 
-// Whether the output is a front of the whole lines, and then this line.
+// Whether the output is a prefix of the whole lines, and then this line.
 fn is_cut_off(whole: &str, output: &str, last: &str) -> bool {
     match output.strip_suffix(last) {
-        Some(front) => whole.starts_with(front) && (front.is_empty() || front.ends_with('\n')),
+        Some(prefix) => whole.starts_with(prefix) && (prefix.is_empty() || prefix.ends_with('\n')),
         None => false,
     }
 }

@@ -64,7 +64,7 @@ fn executed(
     source.fail_at(Vec::from_slice(alloc, failing_reads)?);
     let mut sink = MemSink::new(alloc);
     sink.fail_at(Vec::from_slice(alloc, failing_puts)?);
-    sink.keep_front(3);
+    sink.keep_prefix(3);
     let mut disk = MemDisk::new(alloc, 3)?;
     let stop = run_script(&mut engine, &mut reader, &mut source, &mut sink, &mut disk);
     Ok(Ran { stop, sink })

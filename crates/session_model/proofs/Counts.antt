@@ -5,7 +5,7 @@ use Rattle.map_model.specs.Lists.{Has, insert_by}
 use Rattle.map_model.specs.Journals.{Txn, is_earlier, journal_of}
 use Rattle.map_model.specs.Laws.{IsFalling}
 use Rattle.page_model.specs.Nodes.{Format}
-use Rattle.image_model.specs.Entries.{Entry, Page, written}
+use Rattle.image_model.specs.Entries.{Entry, Contents, written}
 use Rattle.core_state.specs.States.{Opening}
 use Rattle.session_model.specs.Sessions.{Session, start, begun, put, committed, change_of, commit_of}
 use Rattle.session_model.proofs.Workers.{IsNear}
@@ -20,7 +20,7 @@ pub record Logged (base clock : ℕ) (r : Entry) : Type 0 where
   pub free : r.need ≡ 0
 
 -- a page is not above the clock, and above the base only by a record of log 1
-pub record Stamped (base clock : ℕ) (p : Page) : Type 0 where
+pub record Stamped (base clock : ℕ) (p : Contents) : Type 0 where
   pub up_to : p.gsn ≤ clock
   pub near : IsNear base p.gsn p.last
 
@@ -32,7 +32,7 @@ pub record Counted (base : ℕ) (t : Session) : Type 0 where
 later : (base clock : ℕ) (r : Entry) → Logged base clock r → Logged base (suc clock) r
 later base clock r l = record { above = l.above; up_to = (let q = l.up_to in omega arith); own = l.own; free = l.free }
 
-later_page : (base clock : ℕ) (p : Page) → Stamped base clock p → Stamped base (suc clock) p
+later_page : (base clock : ℕ) (p : Contents) → Stamped base clock p → Stamped base (suc clock) p
 later_page base clock p s = record { up_to = (let q = s.up_to in omega arith); near = s.near }
 
 pub counted_start : (g : Opening) → Counted g.base (start g)

@@ -15,7 +15,7 @@ use Rattle.page_model.specs.Nodes.{Format}
 use Rattle.page_model.specs.Tree.{value_of, word_or}
 use Rattle.page_model.specs.Records as records
 use Rattle.page_model.specs.Needs.{write_record}
-use Rattle.image_model.specs.Entries.{Kind, Entry, Page, word_in}
+use Rattle.image_model.specs.Entries.{Kind, Entry, Contents, word_in}
 use Rattle.image_model.specs.Histories as histories
 use Rattle.image_model.specs.Histories.{said, write_call, steps_of}
 use Rattle.core_state.specs.States.{Opening, State, Worker}
@@ -92,7 +92,7 @@ entered_get f h xs t k w alone value o s e = record {
 
 -- ## A put
 
-abbrev change_with : Format → ℕ → ℕ → Page → (p k v : ℕ) → Entry
+abbrev change_with : Format → ℕ → ℕ → Contents → (p k v : ℕ) → Entry
 change_with f txn clock page p k v = record {
   kind = Kind.Change;
   log = 1;
@@ -109,7 +109,7 @@ change_with f txn clock page p k v = record {
 pub change_is : (g : Opening) (s : State) (a : Worker) (t : Session) (p k v : ℕ) → a.txn ≡ t.begun → a.clock ≡ t.clock → s.page p ≡ t.page p → write_entry g Kind.Change s 1 a p k v ≡ change_of g.format t p k v
 change_is g s a t p k v e c q =
     ap₂ (λ (x y : ℕ). change_with g.format x y (s.page p) p k v) e c
-    ∙ ap (λ (x : Page). change_with g.format t.begun t.clock x p k v) q
+    ∙ ap (λ (x : Contents). change_with g.format t.begun t.clock x p k v) q
 
 pub put_call : (f : Format) (k v : ℕ) → v < f.dead → write_call f k v ≡ MapCall.Put k v
 put_call f k v l = cond-true (ltb v f.dead) (MapCall.Put k v) (MapCall.Del k) (lt-ltb v f.dead l)

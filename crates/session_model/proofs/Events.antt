@@ -10,7 +10,7 @@ use Rattle.page_model.specs.Pairs.{find}
 use Rattle.page_model.specs.Nodes.{holds}
 use Rattle.page_model.specs.Tree.{value_of}
 use Rattle.page_model.specs.Redo.{is_some, has_key}
-use Rattle.image_model.specs.Entries.{Kind, Entry, Page, touches, written, word_in}
+use Rattle.image_model.specs.Entries.{Kind, Entry, Contents, touches, written, word_in}
 use Rattle.image_model.specs.Histories.{said, write_call}
 use Rattle.core_state.specs.States.{Opening, State, Place, is_hot, flushed_by_all}
 use Rattle.core_state.specs.Events.{Event, Mode}
@@ -85,7 +85,7 @@ module _ (g : Opening) (changes : ℕ) (alone : IsAlone changes g) (xs : List An
   at_page : (s : State) (h : List Step) → Picture g xs t s h → (p : ℕ) → Worked g.base (at_pages s 1 (s.worker 1) (p ∷ [])) t
   at_page s h c p =
       let d = c.counted.pages p in
-      subst (λ (x : Page). Worked g.base (touch 1 (s.worker 1) x.gsn x.last) t) (sym (c.paged.same p)) (touched g.base (s.worker 1) t (t.page p).gsn (t.page p).last c.worked d.up_to d.near)
+      subst (λ (x : Contents). Worked g.base (touch 1 (s.worker 1) x.gsn x.last) t) (sym (c.paged.same p)) (touched g.base (s.worker 1) t (t.page p).gsn (t.page p).last c.worked d.up_to d.near)
 
   pub pictured_get : (k p : ℕ) → t.is_open ≡ true → IsLeafOf g.format t p k → Heated g xs t p →
       Pictured g (record { call = call.Get k; answer = answer.Value (value_of g.format (find k (t.page p).node.pairs)) } ∷ xs) t
@@ -103,7 +103,7 @@ module _ (g : Opening) (changes : ℕ) (alone : IsAlone changes g) (xs : List An
       entered = subst (λ (r : Entry). Entered g.format (r ∷ s.entries) (record { call = call.Get k; answer = answer.Value (value_of g.format (find k (t.page p).node.pairs)) } ∷ xs) t)
           (sym (read_is (at_pages s 1 (s.worker 1) (p ∷ [])) k (word_in g.format (s.page p).node k) (is_held_by (s.row (g.row_of k)).holder 1) t.begun t.clock (at_page s w.steps c p).txn (at_page s w.steps c p).clock))
           (entered_get g.format s.entries xs t k (word_in g.format (s.page p).node k) (is_held_by (s.row (g.row_of k)).holder 1) (value_of g.format (find k (t.page p).node.pairs)) o
-          (said_word g.format (find k (s.page p).node.pairs) ∙ ap (λ (x : Page). value_of g.format (find k x.node.pairs)) (c.paged.same p)) c.entered);
+          (said_word g.format (find k (s.page p).node.pairs) ∙ ap (λ (x : Contents). value_of g.format (find k x.node.pairs)) (c.paged.same p)) c.entered);
       counted = c.counted;
       told = c.told;
       agrees = c.agrees;
@@ -128,16 +128,16 @@ module _ (g : Opening) (changes : ℕ) (alone : IsAlone changes g) (xs : List An
           (and_from (may_read g s 1 p k) (is_value v v)
           (and_from (s.worker 1).is_open (holds_row (s.row (g.row_of k)) 1 && (ltb p g.format.pages && holds (s.page p).node k)) (c.worked.is_open ∙ o)
           (and_from (holds_row (s.row (g.row_of k)) 1) (ltb p g.format.pages && holds (s.page p).node k) (or_left (is_held_by (s.row (g.row_of k)).holder 1) (is_reader 1 (s.row (g.row_of k)).readers) (holds_key s w.steps c o k))
-          (and_from (ltb p g.format.pages) (holds (s.page p).node k) (lt-ltb p g.format.pages leaf.page) (ap (λ (x : Page). holds x.node k) (c.paged.same p) ∙ leaf.holds))))
+          (and_from (ltb p g.format.pages) (holds (s.page p).node k) (lt-ltb p g.format.pages leaf.page) (ap (λ (x : Contents). holds x.node k) (c.paged.same p) ∙ leaf.holds))))
           (same_value v))
 
   -- ## A put
 
-  put_pages : (page : ℕ → Page) (r : Entry) (p k v : ℕ) → r ≡ change_of g.format t p k v → ((q : ℕ) → page q ≡ t.page q) → (q : ℕ) →
+  put_pages : (page : ℕ → Contents) (r : Entry) (p k v : ℕ) → r ≡ change_of g.format t p k v → ((q : ℕ) → page q ≡ t.page q) → (q : ℕ) →
       cond (touches q r) (written r q (page q)) (page q) ≡ (put g.format t p k v).page q
   put_pages page r p k v e same q = subst (λ (x : Entry). cond (touches q x) (written x q (page q)) (page q) ≡ (put g.format t p k v).page q) (sym e) (elim (cases_eq q p) [
     | inl z ↦ cond-true ((p == q) || false) (written x q (page q)) (page q) (or_left (p == q) false (eq-eqb p q (sym z)))
-        ∙ (ap₂ (λ (i : ℕ) (y : Page). written x i y) z (same q ∙ ap t.page z) ∙ sym (cond-true (q == p) (written x p (t.page p)) (t.page q) (eq-eqb q p z)))
+        ∙ (ap₂ (λ (i : ℕ) (y : Contents). written x i y) z (same q ∙ ap t.page z) ∙ sym (cond-true (q == p) (written x p (t.page p)) (t.page q) (eq-eqb q p z)))
     | inr n ↦ cond-false ((p == q) || false) (written x q (page q)) (page q) (or_from (p == q) false (ne_eqb p q (λ z. n (sym z))) refl)
         ∙ (same q ∙ sym (cond-false (q == p) (written x p (t.page p)) (t.page q) (ne_eqb q p n)))
   ])
@@ -145,11 +145,11 @@ module _ (g : Opening) (changes : ℕ) (alone : IsAlone changes g) (xs : List An
       x : Entry
       x = change_of g.format t p k v
 
-  put_placed : (page saved : ℕ → Page) (place : ℕ → Place) (r : Entry) (p : ℕ) → ((q : ℕ) → (q ≡ p → ⊥) → touches q r ≡ false) → ((q : ℕ) → IsPlaced (page q) (saved q) q (place q)) → is_hot (place p) ≡ true →
+  put_placed : (page saved : ℕ → Contents) (place : ℕ → Place) (r : Entry) (p : ℕ) → ((q : ℕ) → (q ≡ p → ⊥) → touches q r ≡ false) → ((q : ℕ) → IsPlaced (page q) (saved q) q (place q)) → is_hot (place p) ≡ true →
       (q : ℕ) → IsPlaced (cond (touches q r) (written r q (page q)) (page q)) (saved q) q (place q)
   put_placed page saved place r p off placed hot q = elim (cases_eq q p) [
     | inl z ↦ inl (is_hot_here q (placed q) (subst (λ (i : ℕ). is_hot (place i) ≡ true) (sym z) hot))
-    | inr n ↦ subst (λ (x : Page). IsPlaced x (saved q) q (place q)) (sym (cond-false (touches q r) (written r q (page q)) (page q) (off q n))) (placed q)
+    | inr n ↦ subst (λ (x : Contents). IsPlaced x (saved q) q (place q)) (sym (cond-false (touches q r) (written r q (page q)) (page q) (off q n))) (placed q)
   ]
     where
       is_hot_here : (q : ℕ) → IsPlaced (page q) (saved q) q (place q) → is_hot (place q) ≡ true → place q ≡ Place.Hot q
@@ -219,7 +219,7 @@ module _ (g : Opening) (changes : ℕ) (alone : IsAlone changes g) (xs : List An
       off : (q : ℕ) → (q ≡ p → ⊥) → touches q r ≡ false
       off q n = or_from (p == q) false (ne_eqb p q (λ z. n (sym z))) refl
 
-      roomy : (x : Page) → (find k x.node.pairs ≡ None → length x.node.pairs < g.format.room) → (z : Option ℕ) → find k x.node.pairs ≡ z → (has_key k x.node || ltb (length x.node.pairs) g.format.room) ≡ true
+      roomy : (x : Contents) → (find k x.node.pairs ≡ None → length x.node.pairs < g.format.room) → (z : Option ℕ) → find k x.node.pairs ≡ z → (has_key k x.node || ltb (length x.node.pairs) g.format.room) ≡ true
       roomy x f None q = or_right (has_key k x.node) (ltb (length x.node.pairs) g.format.room) (lt-ltb (length x.node.pairs) g.format.room (f q))
       roomy x f (Some y) q = or_left (has_key k x.node) (ltb (length x.node.pairs) g.format.room) (ap is_some q)
 
@@ -234,7 +234,7 @@ module _ (g : Opening) (changes : ℕ) (alone : IsAlone changes g) (xs : List An
           and_from (are_hot s (p ∷ [])) (ltb (length (s.worker 1).changes) g.changes && ((s.worker 1).is_open && (is_held_by (s.row (g.row_of k)).holder 1 && may_put g (s.page p).node p k v))) (and_from (is_hot (s.place p)) true w.hot refl)
           (and_from (ltb (length (s.worker 1).changes) g.changes) ((s.worker 1).is_open && (is_held_by (s.row (g.row_of k)).holder 1 && may_put g (s.page p).node p k v)) (lt-ltb (length (s.worker 1).changes) g.changes (let q = c.worked.changes in omega arith))
           (and_from (s.worker 1).is_open (is_held_by (s.row (g.row_of k)).holder 1 && may_put g (s.page p).node p k v) (c.worked.is_open ∙ o)
-          (and_from (is_held_by (s.row (g.row_of k)).holder 1) (may_put g (s.page p).node p k v) (holds_key s w.steps c o k) (ap (λ (x : Page). may_put g x.node p k v) (c.paged.same p) ∙ puts))))
+          (and_from (is_held_by (s.row (g.row_of k)).holder 1) (may_put g (s.page p).node p k v) (holds_key s w.steps c o k) (ap (λ (x : Contents). may_put g x.node p k v) (c.paged.same p) ∙ puts))))
 
   -- ## A commit
 

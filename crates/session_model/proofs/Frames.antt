@@ -8,16 +8,16 @@ use Rattle.page_model.specs.Tree.{Names}
 use Rattle.page_model.specs.Laws.{TreeLaws}
 use Rattle.page_model.specs.Records.{any}
 use Rattle.page_model.specs.Check.{names_page}
-use Rattle.image_model.specs.Entries.{Page}
+use Rattle.image_model.specs.Entries.{Contents}
 use Rattle.core_state.specs.Lists.{all_below}
 use Rattle.core_state.specs.States.{Opening, Place, start_page, is_hot, is_cold, in_frame}
 use Rattle.session_model.proofs.Lists.{upd_other, at_place}
 
 -- page p is hot in frame p, or cold as it was saved
-abbrev pub IsPlaced : (page saved : Page) → ℕ → Place → Type 0
+abbrev pub IsPlaced : (page saved : Contents) → ℕ → Place → Type 0
 IsPlaced page saved p place = (place ≡ Place.Hot p) ⊎ ((place ≡ Place.Cold) × (page ≡ saved))
 
-pub record Paged (g : Opening) (page saved : ℕ → Page) (place : ℕ → Place) (now : ℕ → Page) : Type 0 where
+pub record Paged (g : Opening) (page saved : ℕ → Contents) (place : ℕ → Place) (now : ℕ → Contents) : Type 0 where
   pub same : (p : ℕ) → page p ≡ now p
   pub first : (p : ℕ) → saved p ≡ start_page g p
   pub placed : (p : ℕ) → IsPlaced (page p) (saved p) p (place p)
@@ -31,13 +31,13 @@ paged_start g = record {
   root = refl;
 }
 
-pub hot_or_cold : (page saved : Page) (p : ℕ) (x : Place) → IsPlaced page saved p x → ((is_hot x ≡ true) × (x ≡ Place.Hot p)) ⊎ ((is_cold x ≡ true) × (x ≡ Place.Cold) × (page ≡ saved))
+pub hot_or_cold : (page saved : Contents) (p : ℕ) (x : Place) → IsPlaced page saved p x → ((is_hot x ≡ true) × (x ≡ Place.Hot p)) ⊎ ((is_cold x ≡ true) × (x ≡ Place.Cold) × (page ≡ saved))
 hot_or_cold page saved p x (inl e) = inl (ap is_hot e, e)
 hot_or_cold page saved p x (inr e) = inr (ap is_cold e.0, e.0, e.1)
 
 -- ## A page comes in
 
-pub paged_load : (g : Opening) (page saved : ℕ → Page) (place : ℕ → Place) (now : ℕ → Page) → Paged g page saved place now → (p : ℕ) → is_cold (place p) ≡ true → page p ≡ saved p →
+pub paged_load : (g : Opening) (page saved : ℕ → Contents) (place : ℕ → Place) (now : ℕ → Contents) → Paged g page saved place now → (p : ℕ) → is_cold (place p) ≡ true → page p ≡ saved p →
     Paged g (upd page p (saved p)) saved (upd place p (Place.Hot p)) now
 paged_load g page saved place now h p c e = record {
   same = at_place (λ q x. x ≡ now q) page p (saved p) (sym e ∙ h.same p) (λ q n. h.same q);
@@ -50,14 +50,14 @@ paged_load g page saved place now h p c e = record {
     same = at_place (λ q x. x ≡ page q) page p (saved p) (sym e) (λ q n. refl)
 
     placed : (q : ℕ) → IsPlaced (upd page p (saved p) q) (saved q) q (upd place p (Place.Hot p) q)
-    placed q = subst (λ (x : Page). IsPlaced x (saved q) q (upd place p (Place.Hot p) q)) (sym (same q)) (at_place (λ q x. IsPlaced (page q) (saved q) q x) place p (Place.Hot p) (inl refl) (λ q n. h.placed q) q)
+    placed q = subst (λ (x : Contents). IsPlaced x (saved q) q (upd place p (Place.Hot p) q)) (sym (same q)) (at_place (λ q x. IsPlaced (page q) (saved q) q x) place p (Place.Hot p) (inl refl) (λ q n. h.placed q) q)
 
 pub all_below_from : (n : ℕ) (P : ℕ → Bool) → ((q : ℕ) → q < n → P q ≡ true) → all_below n P ≡ true
 all_below_from zero P h = refl
 all_below_from (suc n) P h = and_from (P n) (all_below n P) (h n (omega arith)) (all_below_from n P (λ q l. h q (omega arith)))
 
 -- no page stands in the frame of a cold one
-pub empty_frame : (page saved : ℕ → Page) (place : ℕ → Place) → ((q : ℕ) → IsPlaced (page q) (saved q) q (place q)) → (p : ℕ) → is_cold (place p) ≡ true → (q : ℕ) → not (in_frame (place q) p) ≡ true
+pub empty_frame : (page saved : ℕ → Contents) (place : ℕ → Place) → ((q : ℕ) → IsPlaced (page q) (saved q) q (place q)) → (p : ℕ) → is_cold (place p) ≡ true → (q : ℕ) → not (in_frame (place q) p) ≡ true
 empty_frame page saved place placed p c q = elim (placed q) [
   | inl e ↦ ap (λ (x : Place). not (in_frame x p)) e ∙ ap not (ne_eqb q p (λ z. true≢false (sym (subst (λ (i : ℕ). is_cold (place i) ≡ true) (sym z) c) ∙ ap is_cold e)))
   | inr e ↦ ap (λ (x : Place). not (in_frame x p)) e.0

@@ -9,13 +9,13 @@ use Rattle.map_model.specs.Laws.{IsFalling}
 use Rattle.page_model.specs.Nodes.{Node}
 use Rattle.page_model.specs.Tree.{value}
 use Rattle.page_model.specs.Laws as page_laws
-use Rattle.image_model.specs.Entries.{Entry, Page, is_commit}
+use Rattle.image_model.specs.Entries.{Entry, Contents, is_commit}
 use Rattle.image_model.specs.Ends.{reach, wins, is_kept, kept}
 use Rattle.image_model.specs.Images.{Image, StandsFor, found, won_by}
 use Rattle.core_state.specs.States.{Opening, State}
 use Rattle.core_index.specs.Answers as answers
 use Rattle.core_index.specs.Answers.{EveryTree, EveryMap}
-use Rattle.core_crash.specs.Crashes.{IsFront, log_of, from_head, image_of, first_map, journal_in, kept_in, Recovers, EverySerial, EveryStored}
+use Rattle.core_crash.specs.Crashes.{IsPrefix, log_of, from_head, image_of, first_map, journal_in, kept_in, Recovers, EverySerial, EveryStored}
 use Rattle.session_model.specs.Sessions.{Session, nodes_of, IsAlone}
 use Rattle.session_model.specs.Calls.{Answered, journal}
 use Rattle.session_model.specs.Laws.{image_left, kept_of, Survives, SessionLaws, EverySession}
@@ -35,7 +35,7 @@ uncut base head [] e n = refl
 uncut base head (r ∷ l) e n = cond-true (not (leb r.number head)) (r ∷ from_head head l) (from_head head l)
     (ap not (lt-leb r.number head (let q = n r (inl refl) in omega arith))) ∙ ap (λ (z : List Entry). r ∷ z) (uncut base head l e (λ x i. n x (inr i)))
 
-abbrev image_with : Opening → ℕ → ℕ → (ℕ → List Entry) → (ℕ → Page) → Image
+abbrev image_with : Opening → ℕ → ℕ → (ℕ → List Entry) → (ℕ → Contents) → Image
 image_with g logs floor log base = record { format = g.format; logs = logs; floor = floor; log = log; base = λ p. Some (base p) }
 
 module _ (serial : EverySerial) (stored : EveryStored) (trees : EveryTree) (maps : EveryMap) (laws : page_laws.EveryTree)
@@ -54,7 +54,7 @@ module _ (serial : EverySerial) (stored : EveryStored) (trees : EveryTree) (maps
 
   map_now : (k : ℕ) → value g.format (nodes_of t) k ≡ over (after (first_map g) (journal xs)) (last_write (open_steps xs)) k
   map_now k =
-      ap (λ (n : ℕ → Node). value g.format n k) (sym (fun_ext (λ p. ap (λ (x : Page). x.node) (c.paged.same p))))
+      ap (λ (n : ℕ → Node). value g.format n k) (sym (fun_ext (λ p. ap (λ (x : Contents). x.node) (c.paged.same p))))
       ∙ (sym (ap (λ (x : State). answers.map_in g x k) c.reached.run_is)
       ∙ ((maps g c.reached.events).map k
       ∙ (ap (λ (l : List Step). over (first_map g) (last_write l) k) c.reached.history_is
@@ -62,12 +62,12 @@ module _ (serial : EverySerial) (stored : EveryStored) (trees : EveryTree) (maps
 
   -- ## A crash
 
-  module _ (newer left : List Entry) (front : newer ++ left ≡ t.log) where
+  module _ (newer left : List Entry) (prefix : newer ++ left ≡ t.log) where
     logged : (r : Entry) → Has r left → Logged g.base t.clock r
-    logged r i = c.counted.log r (subst (λ (l : List Entry). Has r l) front (has_right r newer left i))
+    logged r i = c.counted.log r (subst (λ (l : List Entry). Has r l) prefix (has_right r newer left i))
 
-    fronts : (w : ℕ) → 0 < w → w ≤ g.workers → IsFront left (log_of w s.entries)
-    fronts w a b = let one = alone.workers in let e : w ≡ 1 = omega arith in (newer, front ∙ (sym c.entered.log ∙ ap (λ (v : ℕ). log_of v s.entries) (sym e)))
+    prefixes : (w : ℕ) → 0 < w → w ≤ g.workers → IsPrefix left (log_of w s.entries)
+    prefixes w a b = let one = alone.workers in let e : w ≡ 1 = omega arith in (newer, prefix ∙ (sym c.entered.log ∙ ap (λ (v : ℕ). log_of v s.entries) (sym e)))
 
     flushed : (w : ℕ) → 0 < w → w ≤ g.workers → (r : Entry) → Has r (log_of w s.entries) → r.number ≤ s.flushed w → Has r left
     flushed w a b r i l =
@@ -81,12 +81,12 @@ module _ (serial : EverySerial) (stored : EveryStored) (trees : EveryTree) (maps
         ap (λ (n : ℕ). image_with g n s.floor (λ w. from_head (s.head w) left) s.saved) alone.workers
         ∙ (ap (λ (n : ℕ). image_with g 1 n (λ w. from_head (s.head w) left) s.saved) c.floor
         ∙ (ap (λ (l : ℕ → List Entry). image_with g 1 g.base l s.saved) (fun_ext (λ w. uncut g.base (s.head w) left (c.heads w) (λ r i. (logged r i).above)))
-        ∙ ap (λ (b : ℕ → Page). image_with g 1 g.base (λ _. left) b) (fun_ext c.paged.first)))
+        ∙ ap (λ (b : ℕ → Contents). image_with g 1 g.base (λ _. left) b) (fun_ext c.paged.first)))
 
     recovers : Recovers g s (image_of g s (λ _. left) s.saved)
     recovers = subst (λ (x : State). Recovers g x (image_of g x (λ _. left) x.saved)) c.reached.run_is
         (stored g c.reached.events (λ _. left)
-        (subst (λ (x : State). (w : ℕ) → 0 < w → w ≤ g.workers → IsFront left (log_of w x.entries)) (sym c.reached.run_is) fronts)
+        (subst (λ (x : State). (w : ℕ) → 0 < w → w ≤ g.workers → IsPrefix left (log_of w x.entries)) (sym c.reached.run_is) prefixes)
         (subst (λ (x : State). (w : ℕ) → 0 < w → w ≤ g.workers → (r : Entry) → Has r (log_of w x.entries) → r.number ≤ x.flushed w → Has r left) (sym c.reached.run_is) flushed))
 
     kept_is : kept_in g s (image_of g s (λ _. left) s.saved) ≡ kept_of g xs left

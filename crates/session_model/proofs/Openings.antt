@@ -4,7 +4,7 @@ use Rattle.std.proofs.lemmas.Bool.{cases_eq, eq-eqb, ne_eqb, and_parts, or_cases
 use Rattle.map_model.specs.Lists.{Has, upd, insert_by, in_order}
 use Rattle.page_model.specs.Nodes.{Format}
 use Rattle.page_model.specs.Records.{Record}
-use Rattle.image_model.specs.Entries.{Kind, Entry, Page, is_write, is_page, page_kind, earlier}
+use Rattle.image_model.specs.Entries.{Kind, Entry, Contents, is_write, is_page, page_kind, earlier}
 use Rattle.image_model.specs.Redo.{mark, stands, redo, names_pages, is_sayable_as, can_change, passes, all_pass}
 use Rattle.image_model.specs.Ends.{reach, ended}
 use Rattle.image_model.specs.Images.{Image, IsSound, IsFalling, gathered, found, sorted, bases, redone, lost, recovered_page}
@@ -69,7 +69,7 @@ said_before f Kind.Put_back r h s = leb-true r.before f.dead (and_parts (leb r.b
 said_before f _ r h s = absurd (true≢false (sym h))
 
 -- a record that passes and counts is sayable
-pass_sayable : (f : Format) (page : ℕ → Page) (r : Entry) → is_write r.kind ≡ true → passes f page r ≡ true → stands page r ≡ true → is_sayable_as f (page_kind r.kind) r.record_of ≡ true
+pass_sayable : (f : Format) (page : ℕ → Contents) (r : Entry) → is_write r.kind ≡ true → passes f page r ≡ true → stands page r ≡ true → is_sayable_as f (page_kind r.kind) r.record_of ≡ true
 pass_sayable f page r w h s =
     let a = and_parts (names_pages f r) (not (is_page r.kind && stands page r) || (is_sayable_as f (page_kind r.kind) r.record_of && can_change f page r)) h in
     elim (or_cases (not (is_page r.kind && stands page r)) (is_sayable_as f (page_kind r.kind) r.record_of && can_change f page r) a.1) [
@@ -77,7 +77,7 @@ pass_sayable f page r w h s =
       | inr q ↦ (and_parts (is_sayable_as f (page_kind r.kind) r.record_of) (can_change f page r) q).0
     ]
 
-counted_sayable : (f : Format) (page : ℕ → Page) (z : List Entry) → AreMarked z → all_pass f page z ≡ true → (r : Entry) → Has r z → is_write r.kind ≡ true → (redo page z).counts r.log r.number ≡ true →
+counted_sayable : (f : Format) (page : ℕ → Contents) (z : List Entry) → AreMarked z → all_pass f page z ≡ true → (r : Entry) → Has r z → is_write r.kind ≡ true → (redo page z).counts r.log r.number ≡ true →
     is_sayable_as f (page_kind r.kind) r.record_of ≡ true
 counted_sayable f page [] m h r i w c = absurd i
 counted_sayable f page (x ∷ z) m h r (inl e) w c =
@@ -131,7 +131,7 @@ every_opening undone i base changes sound own keys values low = record {
     laws : UndoneLaws i
     laws = undone i sound (words i sound own)
 
-    numbered : ℕ → ℕ → Page
+    numbered : ℕ → ℕ → Contents
     numbered p n = record { gsn = n; last = (recovered_page i p).last; node = (recovered_page i p).node }
 
     gsn : ℕ → ℕ

@@ -12,7 +12,7 @@ use Rattle.page_model.specs.Tree.{Names, IsTree}
 use Rattle.page_model.specs.Laws as page_laws
 use Rattle.page_model.specs.Laws.{TreeLaws}
 use Rattle.page_model.specs.Check.{names_page}
-use Rattle.image_model.specs.Entries.{Page}
+use Rattle.image_model.specs.Entries.{Contents}
 use Rattle.core_state.specs.States as states
 use Rattle.core_state.specs.States.{Opening, State, Place, is_hot, is_cold, in_frame}
 use Rattle.core_state.specs.Events.{Event}
@@ -79,7 +79,7 @@ pub record Heated (g : Opening) (xs : List Answered) (t : Session) (p : ℕ) : T
 
 module _ (g : Opening) (trees : EveryTree) (laws : page_laws.EveryTree) (frames : g.format.pages ≤ g.frames) (xs : List Answered) (t : Session) where
   pub tree_of : (s : State) (h : List Step) → Picture g xs t s h → IsTree g.format (nodes_of t)
-  tree_of s h c = subst (IsTree g.format) (fun_ext (λ p. ap (λ (x : Page). x.node) (c.paged.same p)))
+  tree_of s h c = subst (IsTree g.format) (fun_ext (λ p. ap (λ (x : Contents). x.node) (c.paged.same p)))
       (subst (λ (x : State). IsTree g.format (states.nodes_of x)) c.reached.run_is (trees g c.reached.events))
 
   load : (s : State) (h : List Step) → Picture g xs t s h → (p : ℕ) → p < g.format.pages → is_cold (s.place p) ≡ true → s.page p ≡ s.saved p → has_hot_parent g s p ≡ true → Picture g xs t (happens g s (Event.Load p p)) h
@@ -112,7 +112,7 @@ module _ (g : Opening) (trees : EveryTree) (laws : page_laws.EveryTree) (frames 
       named : (o : ℕ) → o < g.format.pages → (b : Bool) → names_page (w.state.page o).node p ≡ b → (not b || is_hot (w.state.place o)) ≡ true
       named o i false e = refl
       named o i true e = subst (λ (j : ℕ). is_hot (w.state.place j) ≡ true) (sym (one_parent g.format (nodes_of t) tl p q o z m i n a
-          (ap (λ (x : Page). names_page x.node p) (sym (w.picture.paged.same o)) ∙ e))) w.hot
+          (ap (λ (x : Contents). names_page x.node p) (sym (w.picture.paged.same o)) ∙ e))) w.hot
 
       parent : has_hot_parent g w.state p ≡ true
       parent = all_below_from g.format.pages (λ o. not (names_page (w.state.page o).node p) || is_hot (w.state.place o)) (λ o i. named o i (names_page (w.state.page o).node p) refl)

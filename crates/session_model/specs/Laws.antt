@@ -1,4 +1,4 @@
--- What holds of one session's calls: they are serial, and a crash that leaves a front of the log leaves a closed part of
+-- What holds of one session's calls: they are serial, and a crash that leaves a prefix of the log leaves a closed part of
 -- the committed transactions.
 use Rattle.std.specs.Prelude.{◌≡◌, ◌<◌, ◌≤◌, ℕ, true, List, [], ◌++◌, Some}
 use Rattle.map_model.specs.Lists.{Has}
@@ -42,7 +42,7 @@ pub record SessionLaws (g : Opening) (xs : List Answered) (s : Session) : Type 0
   pub map : (k : ℕ) → value g.format (nodes_of s) k ≡ over (after (first_map g) (journal xs)) (last_write (steps_of (lines_in 1 (lines xs)))) k
   -- numbers rise in the log, above the base number
   pub numbers : (r : Entry) → Has r s.log → (g.base < r.number) × (r.number ≤ s.clock)
-  -- a crash that leaves a front of the log
+  -- a crash that leaves a prefix of the log
   pub crash : (newer left : List Entry) → newer ++ left ≡ s.log → Survives g xs left
 
 abbrev pub EverySession : Type 0

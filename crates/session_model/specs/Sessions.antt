@@ -4,14 +4,14 @@ use Rattle.page_model.specs.Nodes.{Format, Node}
 use Rattle.page_model.specs.Needs.{write_record}
 use Rattle.page_model.specs.Records as records
 use Rattle.page_model.specs.Records.{Record}
-use Rattle.image_model.specs.Entries.{Kind, Entry, Page, word_in, written}
+use Rattle.image_model.specs.Entries.{Kind, Entry, Contents, word_in, written}
 use Rattle.core_state.specs.States.{Opening, start_page}
 use Rattle.core_state.specs.Steps.{no_record}
 
 -- Between two calls: the pages; whether a transaction is open; how many it has begun; the number of its last record;
 -- how many changes the open transaction has made; and its records, the newest first.
 pub record Session : Type 0 where
-  pub page : ℕ → Page
+  pub page : ℕ → Contents
   pub is_open : Bool
   pub begun : ℕ
   pub clock : ℕ

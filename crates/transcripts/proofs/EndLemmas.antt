@@ -46,19 +46,19 @@ module _ (back : (reply : Reply) → Fits reply → (reply_of (reply_text reply)
 
     pub ends_so : (count : ℕ) → suc (length told) ≤ count → IsOutput g w u told (first_lines count output)
     ends_so count le =
-        let front : List (List ℕ) = opened ∷ texts told in
+        let prefix : List (List ℕ) = opened ∷ texts told in
         let k : ℕ = count - suc (length told) in
-        let size : length front ≡ suc (length told) = ap suc (length_texts told) in
-        let same : count ≡ length front + k = omega (arith, size, le) in
+        let size : length prefix ≡ suc (length told) = ap suc (length_texts told) in
+        let same : count ≡ length prefix + k = omega (arith, size, le) in
         let rest : List (List ℕ) = whole_lines o.tail in
-        let cut : take count (whole_lines output) ≡ front ++ take k rest =
-        ap (take count) (whole_output back quiet g w u told output o) ∙ (ap (λ (j : ℕ). take j (front ++ rest)) same ∙ take-append-add front rest k) in
+        let cut : take count (whole_lines output) ≡ prefix ++ take k rest =
+        ap (take count) (whole_output back quiet g w u told output o) ∙ (ap (λ (j : ℕ). take j (prefix ++ rest)) same ∙ take-append-add prefix rest k) in
         record {
           opened = o.opened;
           fit = o.fit;
           tail = lines_text (take k rest);
           ends = some k o.ends;
-          is = ap lines_text cut ∙ (lines_text_append front (take k rest)
+          is = ap lines_text cut ∙ (lines_text_append prefix (take k rest)
               ∙ (ap (λ (t : List ℕ). (opened ++ 10 ∷ t) ++ lines_text (take k rest)) (sym (text_is told))
               ∙ (append_assoc opened (10 ∷ text_of told) (lines_text (take k rest)) ∙ sym (append_assoc opened (10 ∷ []) (text_of told ++ lines_text (take k rest))))));
         }

@@ -1,7 +1,7 @@
 pub mod LineLemmas
 pub mod ReplyLemmas
 pub mod TranscriptLemmas
-pub mod FrontLemmas
+pub mod PrefixLemmas
 pub mod AskedLemmas
 pub mod NextLemmas
 pub mod EndLemmas

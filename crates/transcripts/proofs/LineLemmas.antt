@@ -3,24 +3,24 @@ use Rattle.std.proofs.Common.{◌≡◌, ◌++◌, ◌∷◌, [], ℕ, List, ref
 use Rattle.std.proofs.lemmas.List.{append-nil}
 use mathlib.Core.List.{append_assoc}
 use Rattle.script_lang.specs.Text.{lines_on, no_line, whole_lines, IsLine}
-use Rattle.script_lang.proofs.TextLemmas.{line_front}
+use Rattle.script_lang.proofs.TextLemmas.{line_prefix}
 use Rattle.transcripts.specs.Told.{IsCut}
 use Rattle.transcripts.specs.Transcripts.{lines_text}
 
 -- a line with its newline is the first line
 pub first_line : (end : List ℕ → List (List ℕ)) (line more : List ℕ) → IsLine line → lines_on end [] (line ++ 10 ∷ more) ≡ line ∷ lines_on end [] more
-first_line end line more is = line_front end [] line (10 ∷ more) is
+first_line end line more is = line_prefix end [] line (10 ∷ more) is
 
-pub front_is_line : (front more : List ℕ) → IsLine (front ++ more) → IsLine front
-front_is_line [] more is = tt
-front_is_line (b ∷ front) more is = (is.0, front_is_line front more is.1)
+pub prefix_is_line : (prefix more : List ℕ) → IsLine (prefix ++ more) → IsLine prefix
+prefix_is_line [] more is = tt
+prefix_is_line (b ∷ prefix) more is = (is.0, prefix_is_line prefix more is.1)
 
 -- what was cut off before its newline is no whole line
 pub no_whole_line : (tail : List ℕ) → IsLine tail → whole_lines tail ≡ []
-no_whole_line tail is = ap whole_lines (sym (append-nil tail)) ∙ line_front no_line [] tail [] is
+no_whole_line tail is = ap whole_lines (sym (append-nil tail)) ∙ line_prefix no_line [] tail [] is
 
 pub cut_is_no_line : (line tail : List ℕ) → IsLine line → IsCut line tail → whole_lines tail ≡ []
-cut_is_no_line line tail is cut = no_whole_line tail (front_is_line tail cut.more (subst IsLine (sym cut.is) is))
+cut_is_no_line line tail is cut = no_whole_line tail (prefix_is_line tail cut.more (subst IsLine (sym cut.is) is))
 
 abbrev pub EachIsLine : List (List ℕ) → Type 0
 EachIsLine [] = Unit {0}

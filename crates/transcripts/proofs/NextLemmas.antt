@@ -45,9 +45,9 @@ no_line_is_long workers line long = let over : nat_lt 80 (length line) ≡ true 
 
 long_next : (start now : Feed) (reader : Unread) (xs : List Answered) → EachFits xs → IsTrue start.tells → LineIsLong start now reader (asked_text xs) → LongNext xs start.left
 long_next start now reader xs fit tells l =
-    let size : length l.front ≡ 81 = l.long in
-    let begins : BeginsLong (length l.front) (script_lines (l.front ++ (l.more ++ now.left))) = first_is_long l.front (l.more ++ now.left) l.line (omega arith) in
-    let long : length l.front ≤ length begins.line = begins.long in
+    let size : length l.prefix ≡ 81 = l.long in
+    let begins : BeginsLong (length l.prefix) (script_lines (l.prefix ++ (l.more ++ now.left))) = first_is_long l.prefix (l.more ++ now.left) l.line (omega arith) in
+    let long : length l.prefix ≤ length begins.line = begins.long in
     record {
       line = begins.line;
       none = λ workers. no_line_is_long workers begins.line (omega arith);
@@ -55,8 +55,8 @@ long_next start now reader xs fit tells l =
         others = begins.others;
         lines =
             handed start now reader (asked_text xs) tells l.read
-            ∙ ap (λ (t : List ℕ). script_lines (asked_text xs ++ t)) (ap (λ (t : List ℕ). t ++ now.left) l.begins ∙ append_assoc l.front l.more now.left)
-            ∙ asked_begins xs (l.front ++ (l.more ++ now.left)) fit
+            ∙ ap (λ (t : List ℕ). script_lines (asked_text xs ++ t)) (ap (λ (t : List ℕ). t ++ now.left) l.begins ∙ append_assoc l.prefix l.more now.left)
+            ∙ asked_begins xs (l.prefix ++ (l.more ++ now.left)) fit
             ∙ ap (λ (ls : List (List ℕ)). asked_lines xs ++ ls) begins.is;
       };
     }

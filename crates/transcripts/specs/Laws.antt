@@ -54,13 +54,13 @@ pub record FirstCalls (xs : List Answered) (told : List Reply) : Type 0 where
   pub heard : Heard first told
 
 -- and where all fit, these do
-pub record Front (xs : List Answered) (told : List Reply) : Type 0 where
+pub record Prefix (xs : List Answered) (told : List Reply) : Type 0 where
   pub calls : FirstCalls xs told
   pub fit : EachFits xs → EachFits calls.first × EachReplyFits told
 
 -- The first of the replies to calls are replies to the first of the calls.
-abbrev pub EveryFront : Type 0
-EveryFront = (xs : List Answered) (newer told : List Reply) → newer ++ told ≡ replies xs → Front xs told
+abbrev pub EveryPrefix : Type 0
+EveryPrefix = (xs : List Answered) (newer told : List Reply) → newer ++ told ≡ replies xs → Prefix xs told
 
 -- Where a reader handed out what asks calls, the script begins with the lines that ask them; the others are in what the reader and the source have left.
 abbrev pub EveryReading : Type 0

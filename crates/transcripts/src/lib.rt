@@ -1,7 +1,7 @@
 //! The transactions that a script and its output tell of: definitions and their laws.
 #![tactic(auto)]
 
-ghost use Rattle.transcripts.specs.Laws.{EveryEnd, EveryFront, EveryMoment, EveryNext, EveryNotice, EveryPart, EveryReading, EveryTranscript};
+ghost use Rattle.transcripts.specs.Laws.{EveryEnd, EveryPrefix, EveryMoment, EveryNext, EveryNotice, EveryPart, EveryReading, EveryTranscript};
 
 /// A script and its output tell of the calls that were asked and answered.
 pub fn every_transcript()
@@ -20,8 +20,8 @@ pub fn every_moment()
 }
 
 /// The first of the replies to calls are replies to the first of the calls.
-pub fn every_front()
-    ensures { EveryFront }
+pub fn every_prefix()
+    ensures { EveryPrefix }
 {}
 
 /// A script begins with the lines that were handed out of it.

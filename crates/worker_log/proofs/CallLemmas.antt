@@ -20,7 +20,7 @@ use Rattle.worker_log.specs.Inside.{IsSized, closed_log}
 use Rattle.worker_log.specs.Logs.{Account, IsInRange, Log, spelled_from, used, with_current}
 use Rattle.worker_log.specs.Kept.{AllFitBlocks, AreLate, HasRoom, HoldsFirst, IsBlockWrite, IsKept, LeavesBlocks, RiseFrom, StagesTo, closed, flushed, staged}
 use Rattle.worker_log.proofs.ListLemmas.{block_of, fit_blocks-take, fit_blocks-with, joined-drop-more, joined-drop-with, joined-with, length-with, one_size, size_some, spelled-belongs, spelled-last, spelled-with, take-with, with_some}
-use Rattle.worker_log.proofs.CrashLemmas.{synced_stands, front_left}
+use Rattle.worker_log.proofs.CrashLemmas.{synced_stands, prefix_left}
 use Rattle.worker_log.proofs.KeptLemmas.{count_none, count_some, kept_closed, kept_put, kept_synced}
 
 -- ## What a crash leaves
@@ -52,11 +52,11 @@ module _ (x : Account) (log : Log) (area : Area) (ranges : IsInRange log) (kept 
       → ((j : ℕ) → j < area.end → IsApart j ranges → get_or c j 0 ≡ get_or area.bytes j 0)
       → ((w : Write) → Has w since → Own w) → IsFair 2048 IsSealed x.first since c → HoldsFirst x log all c
   holds_first c high late_ranges since late near longer same writes fair =
-      let front = take-with x.synced x.written x.current kept.synced in
+      let prefix = take-with x.synced x.written x.current kept.synced in
       let stands = synced_stands log.generation log.log log.blocks log.head x.first x.older x.written x.synced area ranges.generation log_fits head_fits kept.synced kept.ring kept.fit.0 kept.holds c high late_ranges late near longer same in
-      let it = front_left log.generation log.log log.blocks log.head x.first all x.synced c since ranges.generation log_fits head_fits (omega (arith, kept.synced, (length-with x.written x.current).0)) all_within
+      let it = prefix_left log.generation log.log log.blocks log.head x.first all x.synced c since ranges.generation log_fits head_fits (omega (arith, kept.synced, (length-with x.written x.current).0)) all_within
       all_fit (omega (arith, ranges.some.0)) kept.holds.new writes fair
-      (λ b has. stands b (subst (λ (l : List (List Record)). Has b (spelled_from log.generation log.log log.head l)) front has)) in
+      (λ b has. stands b (subst (λ (l : List (List Record)). Has b (spelled_from log.generation log.log log.head l)) prefix has)) in
       record {
         k = it.k;
         synced = it.enough;

@@ -1,4 +1,4 @@
--- What a crash leaves of the blocks of a ring: a front of them, with those that are synced.
+-- What a crash leaves of the blocks of a ring: a prefix of them, with those that are synced.
 use Rattle.std.proofs.Common.{◌≡◌, ⊎_elim, ℕ, ◌+◌, ◌*◌, ◌%◌, ◌^◌, ◌≤◌, ◌<◌, true, List, length, get_or, take, sym, ◌∙◌, ap, subst, arith}
 use Rattle.std.proofs.lemmas.List.{length-take}
 use Rattle.std.proofs.Math.Nat.{mod-lt}
@@ -14,7 +14,7 @@ use Rattle.worker_log.specs.Logs.{spelled_from}
 use Rattle.worker_log.specs.Kept.{AllFitBlocks, AreLate, HasNone, HoldsBlocks, IsBlockWrite}
 use Rattle.worker_log.proofs.ListLemmas.{spelled-number, spelled-at, spelled-take, spelled-belongs}
 use Rattle.worker_log.proofs.RingLemmas.{same_piece, piece_within, block_apart}
-use Rattle.worker_log.proofs.FrontLemmas.{Front, found, front}
+use Rattle.worker_log.proofs.PrefixLemmas.{Prefix, found, prefix}
 
 -- ## A synced block
 
@@ -74,5 +74,5 @@ module _ (g s n h : ℕ) (first : List ℕ) (ws : List (List Record)) (synced : 
       let b : Block = record { number = r; bytes = it.0 } in
       ap (belongs g s r) (stands b it.1) ∙ ws_belongs b (spelled-take g s synced h ws b it.1)
 
-  pub front_left : Front g s n c n h synced ws
-  front_left = front g s n c n h synced ws few le listed synced_belongs
+  pub prefix_left : Prefix g s n c n h synced ws
+  prefix_left = prefix g s n c n h synced ws few le listed synced_belongs

@@ -15,7 +15,7 @@ use Rattle.disk_image.proofs.RunLemmas.{belongs-text}
 use Rattle.worker_log.specs.Inside.{IsSized, closed_log}
 use Rattle.worker_log.specs.Logs.{Account, Log, joined, spelled, spelled_from, with_current}
 use Rattle.worker_log.specs.Kept.{AllFitBlocks, FitsBlock, HasRoom, HoldsBlocks, IsKept, RiseFrom, closed, flushed, staged}
-use Rattle.worker_log.proofs.ListLemmas.{block_of, fit-push, fit_blocks-drop, fit_blocks-with, has_first, has_front, has_split, joined-drop-with, joined-dropped, joined-with, none_left, rise-has, rise-push, spelled-last, spelled-more, spelled-number, spelled-push, spelled-take, take-with, with_none, with_some}
+use Rattle.worker_log.proofs.ListLemmas.{block_of, fit-push, fit_blocks-drop, fit_blocks-with, has_first, has_prefix, has_split, joined-drop-with, joined-dropped, joined-with, none_left, rise-has, rise-push, spelled-last, spelled-more, spelled-number, spelled-push, spelled-take, take-with, with_none, with_some}
 use Rattle.worker_log.proofs.RingLemmas.{rem_apart, rem_next, write_here, write_other, write_size}
 use Rattle.worker_log.proofs.CrashLemmas.{written_within}
 
@@ -192,8 +192,8 @@ module _ (x : Account) (log : Log) (area : Area) (sized : IsSized log) (kept : I
       (λ (lt : 0 < length (joined (drop x.synced x.written))).
       let it = has_first (joined (drop x.synced x.written)) lt in
       let r : Record = it.0 in
-      let late : log.flushed < r.gsn = kept.above r (has_front r (joined (drop x.synced x.written)) x.current it.1) in
-      let early : r.gsn ≤ log.last = rise-has kept.numbers.0 (joined x.written ++ x.current) log.last kept.numbers.1 r (has_front r (joined x.written) x.current (joined-dropped x.synced x.written r it.1)) in
+      let late : log.flushed < r.gsn = kept.above r (has_prefix r (joined (drop x.synced x.written)) x.current it.1) in
+      let early : r.gsn ≤ log.last = rise-has kept.numbers.0 (joined x.written ++ x.current) log.last kept.numbers.1 r (has_prefix r (joined x.written) x.current (joined-dropped x.synced x.written r it.1)) in
       absurd (omega (arith, late, early, all_of)))
       (λ (le : length (joined (drop x.synced x.written)) ≤ 0). omega (arith, le)) (cases_lt 0 (length (joined (drop x.synced x.written)))) in
       let dropped : length (drop x.synced x.written) ≡ 0 = none_left (drop x.synced x.written) (fit_blocks-drop x.synced x.written kept.fit.0) left in
@@ -233,7 +233,7 @@ module _ (first : List ℕ) (older : List Write) (ws : List (List Record)) (done
     ring = kept.ring;
     numbers = kept.numbers;
     synced = omega arith;
-    below = λ r has. rise-has kept.numbers.0 (joined ws ++ []) log.last kept.numbers.1 r (has_front r (joined ws) [] (subst (λ (l : List (List Record)). Has r (joined l)) (take_all (length ws) ws (omega arith)) has));
+    below = λ r has. rise-has kept.numbers.0 (joined ws ++ []) log.last kept.numbers.1 r (has_prefix r (joined ws) [] (subst (λ (l : List (List Record)). Has r (joined l)) (take_all (length ws) ws (omega arith)) has));
     above = λ r has. absurd (subst (λ (l : List (List Record)). Has r (joined l ++ [])) (drop_all (length ws) ws (omega arith)) has);
     holds = holds_synced log.generation log.log log.blocks log.head first older ws done area sized.ranges.generation (omega (arith, sized.ranges.number.1)) (omega (arith, sized.ranges.head, sized.ranges.some.1)) kept.synced kept.ring kept.fit.0 kept.holds;
   }

@@ -1,6 +1,6 @@
 pub mod ListLemmas
 pub mod RingLemmas
-pub mod FrontLemmas
+pub mod PrefixLemmas
 pub mod CrashLemmas
 pub mod KeptLemmas
 pub mod CallLemmas

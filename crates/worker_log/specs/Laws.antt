@@ -46,9 +46,9 @@ pub record Reads (generation log n : ℕ) (run : List Block) (rs : List Record) 
 abbrev pub EveryRun : Type 0
 EveryRun = (generation log n q : ℕ) (blocks : List (List Record)) → AllFitBlocks blocks → Reads generation log n (spelled_from generation log q blocks) (joined blocks)
 
--- The run's records are a front of the account's, with falling numbers; each that is flushed is among them, and all are where
+-- The run's records are a prefix of the account's, with falling numbers; each that is flushed is among them, and all are where
 -- all blocks are synced.
-pub record ReadsFront (x : Account) (log : Log) (bytes : List ℕ) : Type 0 where
+pub record ReadsPrefix (x : Account) (log : Log) (bytes : List ℕ) : Type 0 where
   pub blocks : List (List Record)
   pub fit : AllFitBlocks blocks
   pub run : run_of log bytes ≡ spelled_from log.generation log.log log.head blocks
@@ -60,5 +60,5 @@ pub record ReadsFront (x : Account) (log : Log) (bytes : List ℕ) : Type 0 wher
   pub whole : x.synced ≡ length (all_blocks x) → newer ≡ []
 
 -- So it is wherever the run is the first of the account's blocks.
-abbrev pub EveryFront : Type 0
-EveryFront = (x : Account) (log : Log) (bytes : List ℕ) → HoldsFirst x log (all_blocks x) bytes → ReadsFront x log bytes
+abbrev pub EveryPrefix : Type 0
+EveryPrefix = (x : Account) (log : Log) (bytes : List ℕ) → HoldsFirst x log (all_blocks x) bytes → ReadsPrefix x log bytes

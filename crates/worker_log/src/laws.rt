@@ -1,5 +1,5 @@
 // What holds of accounts and of the runs that crashes leave.
-ghost use Rattle.worker_log.specs.Laws.{EveryFlushed, EveryFront, EveryKept, EveryRun, EveryStaged};
+ghost use Rattle.worker_log.specs.Laws.{EveryFlushed, EveryPrefix, EveryKept, EveryRun, EveryStaged};
 
 /// What a crash leaves between two calls.
 pub fn every_kept()
@@ -11,9 +11,9 @@ pub fn every_run()
     ensures { EveryRun }
 {}
 
-/// The run that a crash leaves has a front of the account's records, with all that are flushed.
-pub fn every_front()
-    ensures { EveryFront }
+/// The run that a crash leaves has a prefix of the account's records, with all that are flushed.
+pub fn every_prefix()
+    ensures { EveryPrefix }
 {}
 
 /// The account after a record is staged.

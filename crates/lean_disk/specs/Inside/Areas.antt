@@ -15,17 +15,17 @@ length-put_over at bytes old = omega (arith, length-append {A = ℕ}, length-tak
 -- outside the range the bytes stand
 pub put_over_apart : (at : ℕ) (bytes old : List ℕ) (j : ℕ) → j < length old → (j < at) ⊎ (at + length bytes ≤ j) → get_or (put_over at bytes old) j 0 ≡ get_or old j 0
 put_over_apart at bytes old j lt (inl before) =
-    let front : List ℕ = take at old ++ replicate (at - length old) 0 in
+    let prefix : List ℕ = take at old ++ replicate (at - length old) 0 in
     let back : List ℕ = drop (at + length bytes) old in
     let in_take : j < length (take at old) = omega (arith, length-take {A = ℕ}) in
-    let in_front : j < length front = omega (arith, length-append {A = ℕ}) in
-    let in_most : j < length (front ++ bytes) = omega (arith, length-append {A = ℕ}) in
-    get_or_append_left (front ++ bytes) back 0 j in_most ∙ get_or_append_left front bytes 0 j in_front ∙ get_or_append_left (take at old) (replicate (at - length old) 0) 0 j in_take ∙ get_or-take at old j 0 before
+    let in_prefix : j < length prefix = omega (arith, length-append {A = ℕ}) in
+    let in_most : j < length (prefix ++ bytes) = omega (arith, length-append {A = ℕ}) in
+    get_or_append_left (prefix ++ bytes) back 0 j in_most ∙ get_or_append_left prefix bytes 0 j in_prefix ∙ get_or_append_left (take at old) (replicate (at - length old) 0) 0 j in_take ∙ get_or-take at old j 0 before
 put_over_apart at bytes old j lt (inr after) =
-    let front : List ℕ = take at old ++ replicate (at - length old) 0 in
+    let prefix : List ℕ = take at old ++ replicate (at - length old) 0 in
     let back : List ℕ = drop (at + length bytes) old in
-    let size : length (front ++ bytes) ≡ at + length bytes = omega (arith, length-append {A = ℕ}, length-take {A = ℕ}, length-replicate {A = ℕ}) in
-    get_or-append_right (front ++ bytes) back (at + length bytes) j 0 size after ∙ get_or-drop (at + length bytes) old (j - (at + length bytes)) 0
+    let size : length (prefix ++ bytes) ≡ at + length bytes = omega (arith, length-append {A = ℕ}, length-take {A = ℕ}, length-replicate {A = ℕ}) in
+    get_or-append_right (prefix ++ bytes) back (at + length bytes) j 0 size after ∙ get_or-drop (at + length bytes) old (j - (at + length bytes)) 0
     ∙ ap (λ (i : ℕ). get_or old i 0) (let e : at + length bytes + (j - (at + length bytes)) ≡ j = omega arith in e)
 
 -- a write: all that a crash may leave of the new bytes is the old bytes with any in the range
@@ -56,7 +56,7 @@ pub replay_fits : (x : Area) (calls : List Call) → x.end ≤ length x.bytes �
 replay_fits x [] fits = fits
 replay_fits x (c ∷ calls) fits = replay_fits (step x c.what) calls (step_fits x c.what fits)
 
--- any front of the bytes, or others in their place, may be left of a write
+-- any prefix of the bytes, or others in their place, may be left of a write
 pub chosen_torn : (at : ℕ) (bytes chosen : List ℕ) (x : Area) (c : List ℕ) → length chosen ≤ length bytes → x.end ≤ length x.bytes → Leaves x c → Leaves (torn at bytes x) (put_over at chosen c)
 chosen_torn at bytes chosen x c le fits left = record {
   clean = λ e. cc;

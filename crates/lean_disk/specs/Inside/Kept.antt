@@ -8,7 +8,7 @@ use Rattle.lean_disk.specs.Replay.{replay}
 use Rattle.lean_disk.specs.Memory.{View, WasAt, Was, IsAround, IsDated, area_now, area_after, gone, kept_story, late}
 use Rattle.lean_disk.specs.declared.area_log.Call.{Call}
 use Rattle.lean_disk.specs.Inside.Grown.{grown}
-use Rattle.lean_disk.specs.Inside.Lists.{upto_push_later, upto_all, all_push, all_front, all_last, all_weaker, all_both}
+use Rattle.lean_disk.specs.Inside.Lists.{upto_push_later, upto_all, all_push, all_prefix, all_last, all_weaker, all_both}
 use Rattle.lean_disk.specs.Inside.Areas.{reads_so, replay_fits}
 
 pub late_most : (whole : Bool) → late whole ≤ 1
@@ -52,7 +52,7 @@ now_was k i v made left all w = (
 pub was_before : (k i : ℕ) (v : View) (c : Call) (made : List Write) (left : List ℕ) → k < c.number → WasAt (grown c v) k i made left → WasAt v k i made left
 was_before k i v c made left lt w =
     let same : area_after k (grown c v) ≡ area_after k v = ap (replay (fresh v.first)) (upto_push_later k v.line c lt) in record {
-      around = all_front (IsAround k i) v.line c w.around;
+      around = all_prefix (IsAround k i) v.line c w.around;
       writes = λ h. w.writes h ∙ ap (λ (x : Area). x.writes) same;
       leaves = λ h. subst (λ (x : Area). Leaves x left) same (w.leaves h);
     }

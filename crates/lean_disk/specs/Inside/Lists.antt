@@ -55,9 +55,9 @@ module _ (P : Call → Type 0) where
   all_push [] c all here = (here, tt)
   all_push (x ∷ cs) c all here = (all.0, all_push cs c all.1 here)
 
-  pub all_front : (cs : List Call) (c : Call) → AllByRecursion P (cs ++ c ∷ []) → AllByRecursion P cs
-  all_front [] c all = tt
-  all_front (x ∷ cs) c all = (all.0, all_front cs c all.1)
+  pub all_prefix : (cs : List Call) (c : Call) → AllByRecursion P (cs ++ c ∷ []) → AllByRecursion P cs
+  all_prefix [] c all = tt
+  all_prefix (x ∷ cs) c all = (all.0, all_prefix cs c all.1)
 
   pub all_last : (cs : List Call) (c : Call) → AllByRecursion P (cs ++ c ∷ []) → P c
   all_last [] c all = all.0

@@ -1,4 +1,4 @@
-use Rattle.transcripts.proofs.FrontLemmas.{moments}
+use Rattle.transcripts.proofs.PrefixLemmas.{moments}
 use Rattle.transcripts.proofs.every_moment.Goals as goal
 
 pub returns : goal.returns

@@ -6,13 +6,13 @@ use Rattle.lean_disk.specs.Moments.{CrashIn, Framed, LeavesOnly}
 use Rattle.log_record.specs.declared.record.Record.{Record}
 use Rattle.worker_log.specs.Logs.{Account}
 use Rattle.worker_log.specs.Kept.{After, IsKept, LeavesBlocks, StagesTo, flushed}
-use Rattle.lean_engine.proofs.FrontLemmas.{while_staged, while_committed}
+use Rattle.lean_engine.proofs.PrefixLemmas.{while_staged, while_committed}
 use Rattle.lean_engine.specs.Inside.{EndsTo, IsEnding, commit_of}
 use Rattle.lean_engine.proofs.staging.commit_log.Goals as goal
 
 pub returns-in_err-stage_end-clause-any_moment : goal.returns-in_err-stage_end-clause-any_moment
 returns-in_err-stage_end-clause-any_moment g c s x begun clock one logs is =
-    while_staged c.every_front.ensures (IsEnding s) (g.P.Part.seat c.args.dev.now).area (g.P.Part.story c.args.dev.now) (g.P.Part.story c.stage_end.new.dev) s x c.args.log.now one logs (inl refl) (c.stage_end.ensures.any_moment x is)
+    while_staged c.every_prefix.ensures (IsEnding s) (g.P.Part.seat c.args.dev.now).area (g.P.Part.story c.args.dev.now) (g.P.Part.story c.stage_end.new.dev) s x c.args.log.now one logs (inl refl) (c.stage_end.ensures.any_moment x is)
 
 pub returns-clause-any_moment : goal.returns-clause-any_moment
 returns-clause-any_moment g c s x begun clock one logs is =
@@ -26,7 +26,7 @@ returns-clause-any_moment g c s x begun clock one logs is =
     let keeps : (z : Account) → Tells s1 a → IsKept z old (s0.area a) → StagesTo (commit_of c.args.txn old) z old mid (s1.area a) = λ z t k. subst (λ (r : Record). StagesTo r z old mid (s1.area a)) c.commit_entry-entry.ensures (c.in_ok-stage_end.ensures.kept z t k) in
     let flushes : (z : Account) → (Tells s1 a → IsKept z mid (s1.area a)) → LeavesOnly s1 s2 (CrashIn s1 a (LeavesBlocks z mid)) =
     subst (λ (q : Seat). (z : Account) → (Tells s1 q.area → IsKept z mid (s1.area q.area)) → LeavesOnly s1 s2 (CrashIn s1 q.area (LeavesBlocks z mid))) c.stage_end.ensures.seat c.flush.ensures.any_moment in
-    while_committed c.every_front.ensures a s0 s1 s2 s x c.args.txn old mid c.stage_end.ensures.frame begun clock one logs is (c.stage_end.ensures.any_moment x is) after keeps flushes
+    while_committed c.every_prefix.ensures a s0 s1 s2 s x c.args.txn old mid c.stage_end.ensures.frame begun clock one logs is (c.stage_end.ensures.any_moment x is) after keeps flushes
 
 pub returns-clause-kept : goal.returns-clause-kept
 returns-clause-kept g c =

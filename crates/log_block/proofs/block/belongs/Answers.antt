@@ -8,7 +8,7 @@ returns-then-header-generation c =
     let h = c.split_header.result.0 in
     let e = c.split_header.ensures in (
       λ t. let no_way : false ≡ true = t in cc,
-      λ is. absurd (c.if-header-generation.true (sym (generation_read h.generation h.log h.block h.size h.count c.args.bytes.now c.split_header.result.1.now e.generation e.log e.block e.front) ∙ is.of_generation)),
+      λ is. absurd (c.if-header-generation.true (sym (generation_read h.generation h.log h.block h.size h.count c.args.bytes.now c.split_header.result.1.now e.generation e.log e.block e.prefix) ∙ is.of_generation)),
     )
 
 pub returns-then-header-log : goal.returns-then-header-log
@@ -16,7 +16,7 @@ returns-then-header-log c =
     let h = c.split_header.result.0 in
     let e = c.split_header.ensures in (
       λ t. let no_way : false ≡ true = t in cc,
-      λ is. absurd (c.if-header-log.true (sym (log_read h.generation h.log h.block h.size h.count c.args.bytes.now c.split_header.result.1.now e.generation e.log e.block e.front) ∙ is.of_log)),
+      λ is. absurd (c.if-header-log.true (sym (log_read h.generation h.log h.block h.size h.count c.args.bytes.now c.split_header.result.1.now e.generation e.log e.block e.prefix) ∙ is.of_log)),
     )
 
 pub returns-then-header-block : goal.returns-then-header-block
@@ -24,7 +24,7 @@ returns-then-header-block c =
     let h = c.split_header.result.0 in
     let e = c.split_header.ensures in (
       λ t. let no_way : false ≡ true = t in cc,
-      λ is. absurd (c.if-header-block.true (sym (block_read h.generation h.log h.block h.size h.count c.args.bytes.now c.split_header.result.1.now e.generation e.log e.block e.front) ∙ is.of_block)),
+      λ is. absurd (c.if-header-block.true (sym (block_read h.generation h.log h.block h.size h.count c.args.bytes.now c.split_header.result.1.now e.generation e.log e.block e.prefix) ∙ is.of_block)),
     )
 
 pub returns : goal.returns
@@ -36,11 +36,11 @@ returns c =
       λ t. record {
         sealed = record {
           whole = c.if-bytes-ne-BLOCK.false;
-          seal = sym c.split_at.ensures.back ∙ c.check.ensures.0 t ∙ ap seal_text c.split_at.ensures.front;
+          seal = sym c.split_at.ensures.back ∙ c.check.ensures.0 t ∙ ap seal_text c.split_at.ensures.prefix;
         };
-        of_generation = generation_read h.generation h.log h.block h.size h.count bytes r e.generation e.log e.block e.front ∙ c.if-header-generation.false;
-        of_log = log_read h.generation h.log h.block h.size h.count bytes r e.generation e.log e.block e.front ∙ c.if-header-log.false;
-        of_block = block_read h.generation h.log h.block h.size h.count bytes r e.generation e.log e.block e.front ∙ c.if-header-block.false;
+        of_generation = generation_read h.generation h.log h.block h.size h.count bytes r e.generation e.log e.block e.prefix ∙ c.if-header-generation.false;
+        of_log = log_read h.generation h.log h.block h.size h.count bytes r e.generation e.log e.block e.prefix ∙ c.if-header-log.false;
+        of_block = block_read h.generation h.log h.block h.size h.count bytes r e.generation e.log e.block e.prefix ∙ c.if-header-block.false;
       },
-      λ is. c.check.ensures.1 (c.split_at.ensures.back ∙ is.sealed.seal ∙ ap seal_text (sym c.split_at.ensures.front)),
+      λ is. c.check.ensures.1 (c.split_at.ensures.back ∙ is.sealed.seal ∙ ap seal_text (sym c.split_at.ensures.prefix)),
     )

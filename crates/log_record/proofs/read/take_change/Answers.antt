@@ -9,8 +9,8 @@ returns c =
     change_begins bytes (take k (drop 1 bytes)) c.split_word-txn.result.1.now c.split_word-gsn.result.1.now c.split_short-page.result.1.now c.split_word-prev.result.1.now
     c.split_word-key.result.1.now c.split_word-before.result.1.now c.split_word-after.result.1.now
     c.split_word-txn.result.0 c.split_word-gsn.result.0 c.split_short-page.result.0 c.split_word-prev.result.0 c.split_word-key.result.0 c.split_word-before.result.0 c.split_word-after.result.0
-    (starts 1 k bytes c.requires.kind refl) c.split_word-txn.ensures.front c.split_word-gsn.ensures.front c.split_short-page.ensures.front c.split_word-prev.ensures.front
-    c.split_word-key.ensures.front c.split_word-before.ensures.front c.split_word-after.ensures.front
+    (starts 1 k bytes c.requires.kind refl) c.split_word-txn.ensures.prefix c.split_word-gsn.ensures.prefix c.split_short-page.ensures.prefix c.split_word-prev.ensures.prefix
+    c.split_word-key.ensures.prefix c.split_word-before.ensures.prefix c.split_word-after.ensures.prefix
     (record {
       txn = c.split_word-txn.ensures.fits;
       gsn = c.split_word-gsn.ensures.fits;

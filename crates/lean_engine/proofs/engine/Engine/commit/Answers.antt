@@ -7,7 +7,7 @@ use Rattle.lean_disk.specs.Story.{Tells}
 use Rattle.worker_log.specs.Kept.{IsKept}
 use Rattle.lean_engine.specs.contracts.engine.Engine.{the_view}
 use Rattle.lean_engine.specs.Calls.{Calls}
-use Rattle.lean_engine.specs.Crashes.{LeavesFront}
+use Rattle.lean_engine.specs.Crashes.{LeavesPrefix}
 use Rattle.lean_engine.specs.Inside.{IsEnding}
 use Rattle.lean_engine.specs.Refusals.{refusal_of}
 use Rattle.lean_engine.specs.States.{Pictures, State}
@@ -22,7 +22,7 @@ returns-in_default-clause-any_moment g c o s x p logs kept =
     let s0 = g.P.Part.story c.args.dev.now in
     let s1 = g.P.Part.story c.commit_log.new.dev in
     let q : Pictures o s (the_view c.self.inside) = subst (Pictures o s) (sym is) p in
-    subst (λ (e : State). LeavesOnly s0 s1 (CrashIn s0 at (LeavesFront (IsEnding s) s x e.log))) is
+    subst (λ (e : State). LeavesOnly s0 s1 (CrashIn s0 at (LeavesPrefix (IsEnding s) s x e.log))) is
     (c.commit_log.ensures.any_moment s x q.begun q.clock q.log logs (λ t. subst (λ (e : State). IsKept x e.log (s0.area at)) (sym is) (kept t)))
 
 pub returns-clause-any_moment : goal.returns-clause-any_moment
@@ -32,7 +32,7 @@ returns-clause-any_moment g c o s x p logs kept =
     let s0 = g.P.Part.story c.args.dev.now in
     let s1 = g.P.Part.story c.commit_log.new.dev in
     let q : Pictures o s (the_view c.self.inside) = subst (Pictures o s) (sym is) p in
-    subst (λ (e : State). LeavesOnly s0 s1 (CrashIn s0 at (LeavesFront (IsEnding s) s x e.log))) is
+    subst (λ (e : State). LeavesOnly s0 s1 (CrashIn s0 at (LeavesPrefix (IsEnding s) s x e.log))) is
     (c.commit_log.ensures.any_moment s x q.begun q.clock q.log logs (λ t. subst (λ (e : State). IsKept x e.log (s0.area at)) (sym is) (kept t)))
 
 pub returns-clause-does : goal.returns-clause-does

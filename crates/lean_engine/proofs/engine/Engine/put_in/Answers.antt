@@ -1,7 +1,7 @@
 use Rattle.std.proofs.Common.{◌≡◌, ◌∙◌, ◌+◌, ◌<◌, length, ap, sym, subst, slice_set}
 use Rattle.map_model.specs.declared.call.Answer.TheVariants.{Was}
 use Rattle.lean_disk.specs.Moments.{CrashIn, LeavesOnly}
-use Rattle.lean_engine.specs.Crashes.{LeavesFront}
+use Rattle.lean_engine.specs.Crashes.{LeavesPrefix}
 use Rattle.page_model.specs.Nodes.{Node, holds}
 use Rattle.lean_engine.specs.Refusals.{is_full_for}
 use Rattle.worker_log.specs.Kept.{IsKept}
@@ -49,7 +49,7 @@ returns-clause-any_moment g c s x one logs kept =
     let a = (g.P.Part.seat c.args.dev.now).area in
     let s0 = g.P.Part.story c.args.dev.now in
     let s1 = g.P.Part.story c.stage_change.new.dev in
-    subst (λ (e : State). LeavesOnly s0 s1 (CrashIn s0 a (LeavesFront (λ t. t ≡ s) s x e.log))) is
+    subst (λ (e : State). LeavesOnly s0 s1 (CrashIn s0 a (LeavesPrefix (λ t. t ≡ s) s x e.log))) is
     (c.stage_change.ensures.any_moment s x (ap (λ (e : State). e.log.log) is ∙ one) logs (λ t. subst (λ (e : State). IsKept x e.log (s0.area a)) (sym is) (kept t)))
 
 pub returns-in_default-clause-any_moment : goal.returns-in_default-clause-any_moment
@@ -58,7 +58,7 @@ returns-in_default-clause-any_moment g c s x one logs kept =
     let a = (g.P.Part.seat c.args.dev.now).area in
     let s0 = g.P.Part.story c.args.dev.now in
     let s1 = g.P.Part.story c.stage_change.new.dev in
-    subst (λ (e : State). LeavesOnly s0 s1 (CrashIn s0 a (LeavesFront (λ t. t ≡ s) s x e.log))) is
+    subst (λ (e : State). LeavesOnly s0 s1 (CrashIn s0 a (LeavesPrefix (λ t. t ≡ s) s x e.log))) is
     (c.stage_change.ensures.any_moment s x (ap (λ (e : State). e.log.log) is ∙ one) logs (λ t. subst (λ (e : State). IsKept x e.log (s0.area a)) (sym is) (kept t)))
 
 pub set_words-requires-clause-holds : goal.set_words-requires-clause-holds

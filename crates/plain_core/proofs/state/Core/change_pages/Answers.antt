@@ -9,6 +9,6 @@ use Rattle.plain_core.proofs.state.Core.change_pages.Goals as goal
 pub returns : goal.returns
 returns c = record {
   settings = refl;
-  state = ap (λ (f : ℕ → logged.Page). record (state_of c.args.self.now) { page = f })
+  state = ap (λ (f : ℕ → logged.Contents). record (state_of c.args.self.now) { page = f })
       (pages_placed (entry_of c.args.entry.now) c.in_ok-placed.placed.items (at c.args.self.now.pages) (at c.set_all.new.self) c.in_ok-set_all.ensures c.in_ok-placed.ensures);
 }

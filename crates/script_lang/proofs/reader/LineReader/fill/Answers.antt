@@ -18,9 +18,9 @@ returns-in-Got-clause-read g c start seen was =
     let long : length block ≡ r.block.len = c.refill.auto.block ∙ c.as_mut_slice.ensures.len in
     let items : (with_items r.block block).items ≡ block = with_items_is r.block block long in
     let P : List ℕ → Type 0 = λ b. take kept block ≡ take kept (drop r.from b) in
-    let front : take kept block ≡ take kept (drop r.from first) = subst P same c.in-Got.ensures.kept in
+    let prefix : take kept block ≡ take kept (drop r.from first) = subst P same c.in-Got.ensures.kept in
     let grown : part 0 (kept + n) (with_items r.block block).items ≡ c.args.self.now.bytes ++ take n (drop kept block) =
-    ap (λ (b : List ℕ). part 0 (kept + n) b) items ∙ kept_and_piece r.from r.to n first block c.self.invariant.order c.self.invariant.room front ∙ ap (λ (b : List ℕ). b ++ take n (drop kept block)) bytes in
+    ap (λ (b : List ℕ). part 0 (kept + n) b) items ∙ kept_and_piece r.from r.to n first block c.self.invariant.order c.self.invariant.room prefix ∙ ap (λ (b : List ℕ). b ++ take n (drop kept block)) bytes in
     filled_piece start (g.S.Source.feed c.args.source.now) (g.S.Source.feed c.refill.new.source) c.args.self.now
     (record { line = part 0 0 (with_items r.block block).items; bytes = part 0 (kept + n) (with_items r.block block).items; ended = r.ended }) seen (take n (drop kept block))
     c.requires.more ended grown c.in-Got.ensures.took.same c.in-Got.ensures.took.took was
