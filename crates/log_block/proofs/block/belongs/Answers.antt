@@ -36,11 +36,11 @@ returns c =
       λ t. record {
         sealed = record {
           whole = c.if-bytes-ne-BLOCK.false;
-          seal = sym c.split_at.ensures.back ∙ c.check.ensures.0 t ∙ ap seal_text c.split_at.ensures.prefix;
+          seal = sym c.split_at.ensures.back ∙ c.check.ensures.0 t ∙ ap seal_text c.split_at.ensures.front;
         };
         of_generation = generation_read h.generation h.log h.block h.size h.count bytes r e.generation e.log e.block e.prefix ∙ c.if-header-generation.false;
         of_log = log_read h.generation h.log h.block h.size h.count bytes r e.generation e.log e.block e.prefix ∙ c.if-header-log.false;
         of_block = block_read h.generation h.log h.block h.size h.count bytes r e.generation e.log e.block e.prefix ∙ c.if-header-block.false;
       },
-      λ is. c.check.ensures.1 (c.split_at.ensures.back ∙ is.sealed.seal ∙ ap seal_text (sym c.split_at.ensures.prefix)),
+      λ is. c.check.ensures.1 (c.split_at.ensures.back ∙ is.sealed.seal ∙ ap seal_text (sym c.split_at.ensures.front)),
     )

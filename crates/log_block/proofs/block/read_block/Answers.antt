@@ -37,7 +37,7 @@ not_zeros c records is =
     let whole : length c.args.bytes.now ≡ 2048 = (c.belongs.ensures.0 c.if-not-belongs.false).sealed.whole in
     let long : length rest + 32 ≡ length c.args.bytes.now = e.rest in
     let z = zeros_are records h.size h.count (length rest - 16) rest c.split_at.result.0.now c.split_at-2.result.0.now c.split_at-2.result.1.now is.room (omega arith) p
-    c.split_at.ensures.prefix c.split_at-2.ensures.prefix c.split_at-2.ensures.back in
+    c.split_at.ensures.front c.split_at-2.ensures.front c.split_at-2.ensures.back in
     let t : c.is_zero.result ≡ true = c.is_zero.ensures.1 z in
     let f : c.is_zero.result ≡ false = c.if-not-is_zero.true in
     cc
@@ -59,7 +59,7 @@ not_listed c records is =
     let long : length rest + 32 ≡ length c.args.bytes.now = e.rest in
     c.are_records.ensures.none c.if-not-are_records.true records
     (payload_lists records h.size h.count (length rest - 16) rest c.split_at.result.0.now c.split_at-2.result.0.now c.split_at-2.result.1.now is.room (omega arith) p
-    c.split_at.ensures.prefix c.split_at-2.ensures.prefix c.split_at-2.ensures.back is.fit)
+    c.split_at.ensures.front c.split_at-2.ensures.front c.split_at-2.ensures.back is.fit)
 
 pub returns-then-not-are_records-clause-every : goal.returns-then-not-are_records-clause-every
 returns-then-not-are_records-clause-every c records is = absurd (not_listed c records is)
@@ -78,10 +78,10 @@ returns-clause-answer c =
     let is = c.belongs.ensures.0 c.if-not-belongs.false in
     let whole : length c.args.bytes.now ≡ 2048 = is.sealed.whole in
     let long : length rest + 32 ≡ length c.args.bytes.now = e.rest in
-    let room_size : length room ≡ length rest - 16 = c.split_at.ensures.prefix_len in
+    let room_size : length room ≡ length rest - 16 = c.split_at.ensures.front_len in
     let most : h.size ≤ 2000 = c.if-header-gt-PAYLOAD.false in
     let listed = c.are_records.ensures.some c.if-not-are_records.false in
     assembled c.args.generation c.args.log c.args.block h.size h.count h.generation h.log h.block c.args.bytes.now rest room (drop (length rest - 16) rest) payload zeros listed.0
-    (omega arith) (omega arith) (omega arith) e.generation e.log e.block e.prefix long (parts_join (length rest - 16) rest room (drop (length rest - 16) rest) c.split_at.ensures.prefix refl)
-    (omega arith) (parts_join h.size room payload zeros c.split_at-2.ensures.prefix c.split_at-2.ensures.back) c.split_at-2.ensures.prefix_len most
+    (omega arith) (omega arith) (omega arith) e.generation e.log e.block e.prefix long (parts_join (length rest - 16) rest room (drop (length rest - 16) rest) c.split_at.ensures.front refl)
+    (omega arith) (parts_join h.size room payload zeros c.split_at-2.ensures.front c.split_at-2.ensures.back) c.split_at-2.ensures.front_len most
     (c.is_zero.ensures.0 c.if-not-is_zero.false) is listed.1
