@@ -1,2 +1,3 @@
 pub mod DamageLemmas
+pub mod FairLemmas
 pub mod UndoLemmas

@@ -11,11 +11,11 @@ use Rattle.recovery.specs.declared.opening.Unrecovered.{Unrecovered}
 use Rattle.recovery.specs.declared.opening.Unrecovered.TheVariants as why
 use Rattle.script_run.specs.declared.stop.Stop.{Stop}
 use Rattle.script_run.specs.declared.stop.Stop.TheVariants as stops
-use Rattle.lean_run.specs.Ends.{RunEnds}
-use Rattle.lean_run.specs.Runs.{HowRun, ended, status_of}
+use Rattle.lean_shell.specs.Ends.{RunEnds}
+use Rattle.lean_shell.specs.Runs.{HowRun, ended, status_of}
 use Rattle.lean_shell.specs.Endings.{FormatEnds, IsFormatStatus, IsStatus, Stays, UsageEnds}
 use Rattle.lean_shell.specs.Formatted.{OnlyNotes}
-use Rattle.lean_shell.specs.Inside.{CommandEnds, Counts}
+use Rattle.lean_shell.specs.Inside.Commands.{CommandEnds, Counts}
 use Rattle.lean_shell.specs.Words.{Asks, AsksFormat, AsksRun, IsNumberIn}
 use Rattle.lean_shell.specs.declared.words.Command.{Command}
 use Rattle.lean_shell.specs.declared.words.Command.TheVariants.{Format, Run}

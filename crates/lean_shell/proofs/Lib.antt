@@ -9,3 +9,4 @@ mod NewDiskLemmas
 mod NumberLemmas
 mod PieceLemmas
 mod PutLemmas
+mod Runs

@@ -1,8 +1,12 @@
--- Read Words, Fresh, Formatted and Endings, then Laws. Inside has the words of private functions.
+-- Of `format` read Words, Fresh, Formatted and Endings, then Laws; of `run` Lines, Runs, Crashes and Ends. Inside has the words of private functions.
 pub mod Words
 pub mod Pieces
 pub mod Fresh
 pub mod Formatted
 pub mod Endings
 pub mod Laws
+pub mod Lines
+pub mod Crashes
+pub mod Runs
+pub mod Ends
 pub mod Inside

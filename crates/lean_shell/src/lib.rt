@@ -3,13 +3,17 @@
 
 ghost use Rattle.lean_shell.specs.Laws.{EveryNewDisk};
 
+mod disk_run;
 mod failure;
 mod format;
 mod gate;
+mod lines;
+mod opening;
 mod parts;
 mod program;
 mod words;
 
+pub use disk_run::run_disk;
 pub use failure::Failure;
 pub use gate::Gate;
 pub use program::{Ended, run};

@@ -1,22 +1,22 @@
 // The program's one call.
 ghost use Rattle.std.specs.Prelude.{◌≡◌, ◌↔◌, ◌≤◌};
 ghost use Rattle.lean_disk.specs.Faults.{HasCause, IsBlamed};
-ghost use Rattle.lean_run.specs.Ends.{RunEnds};
+ghost use Rattle.lean_shell.specs.Ends.{RunEnds};
 ghost use Rattle.lean_shell.specs.Endings.{FinishedPut, FormatEnds, IsStatus, UsageEnds, WentOut, last_line, number_of};
 ghost use Rattle.lean_shell.specs.Formatted.{OnlyNotes};
-ghost use Rattle.lean_shell.specs.Inside.{CommandEnds};
+ghost use Rattle.lean_shell.specs.Inside.Commands.{CommandEnds};
 ghost use Rattle.lean_shell.specs.Words.{Asks, texts};
 ghost use Rattle.lean_shell.specs.declared.words.Command.{Command};
 ghost use Rattle.lean_shell.specs.declared.words.Command.TheVariants.{Format, Run};
 ghost use Rattle.lean_shell.specs.declared.words.Shape.{Shape};
 
 use crate::Gate;
+use crate::disk_run::run_disk;
 use crate::failure::Failure;
 use crate::format::{Formatted, format};
 use crate::words::{Command, Shape, read_words};
 use lean_disk::Disk;
 use lean_edge::{Put, Sink, Source};
-use lean_run::run_disk;
 use script_lang::{REPLY, formatted_bytes};
 use std::alloc::Global;
 use std::sync::Wait;

@@ -1,17 +1,19 @@
 -- What a crash leaves of an area over which pages are saved.
-use Rattle.std.proofs.Common.{◌≡◌, ◌⊎◌, inl, inr, ⊎_elim, ℕ, ◌+◌, ◌*◌, ◌≤◌, ◌<◌, List, [], ◌∷◌, length, get_or, map, Option, Some, None, refl, sym, ◌∙◌, ap, subst, arith}
+use Rattle.std.proofs.Common.{◌≡◌, codes, ◌⊎◌, inl, inr, ⊎_elim, ℕ, ◌+◌, ◌*◌, ◌≤◌, ◌<◌, List, [], ◌∷◌, length, get_or, map, Option, Some, None, refl, sym, ◌∙◌, ap, subst, arith}
 use Rattle.std.proofs.lemmas.Bool.{cases_lt}
 use Rattle.map_model.specs.Lists.{Has}
 use Rattle.page_model.specs.Page.{Page}
 use Rattle.image_model.specs.Fair.{piece}
+use Rattle.image_model.proofs.FairLemmas.{IsOfOne, narrow}
 use Rattle.lean_disk.specs.Area.{Area, IsApart, Leaves, Write, torn}
 use Rattle.lean_disk.specs.Inside.Areas.{put_over_apart}
 use Rattle.disk_slots.specs.Pages.{page_slot, IsPage}
+use Rattle.disk_slots.specs.Slots.{IsSealed}
 use Rattle.disk_image.specs.PageSlots.{page_in}
 use Rattle.disk_image.specs.Shown.{page_slot_in}
 use Rattle.page_store.specs.Laws.{EveryFewer, EveryLeft}
 use Rattle.page_store.specs.Saved.{Save, AreSaves, HoldsOne, IsFairSince, IsOneOf, IsSpared, IsSynced, LeavesSaves, MayHoldSaves, place_of, saved, write_of}
-use Rattle.page_store.proofs.PieceLemmas.{every_whole, none_of, page_sealed, page_there, same_page, same_piece, slot_size}
+use Rattle.page_store.proofs.PieceLemmas.{every_whole, none_of, page_sealed, page_there, place_is, same_page, same_piece, slot_size}
 use Rattle.page_store.proofs.HeldLemmas.{longer, writes_of}
 
 -- ## Bytes that stand
@@ -82,6 +84,16 @@ stands_during pages s saves start are is c left =
 -- ## What fair bytes hold
 
 module _ (pages : ℕ) (start : Area) (saves : List Save) (are : AreSaves pages saves) (since : List Write) (own : (w : Write) → Has w since → IsOneOf saves w) (c : List ℕ) (fair : IsFairSince start.bytes since c) where
+  -- each write is of one slot
+  of_one : (w : Write) → Has w since → IsOfOne 1024 w
+  of_one w has =
+      let one = own w has in
+      let s : Save = one.save in record {
+        slot = 2 * s.page + s.slot;
+        place = ap (λ (x : Write). x.0) one.at ∙ place_is s.page s.slot;
+        whole = ap (λ (x : Write). length x.1) one.at ∙ slot_size pages s.page s.node (are s one.has).stored;
+      }
+
   -- a write of slot i of page p is a save of it
   its_save : (p i : ℕ) → i < 2 → Has (1024 * (2 * p + i), piece 1024 (2 * p + i) c) since → HoldsOne pages saves p i c
   its_save p i half has =
@@ -105,7 +117,7 @@ module _ (pages : ℕ) (start : Area) (saves : List Save) (are : AreSaves pages 
   stood_or_saved p i half page has = ⊎_elim
       (λ (stood : piece 1024 (2 * p + i) c ≡ piece 1024 (2 * p + i) start.bytes). inl (ap (page_in p pages) stood))
       (λ (wrote : Has (1024 * (2 * p + i), piece 1024 (2 * p + i) c) since). inr (its_save p i half wrote))
-      (fair (2 * p + i) (page_sealed pages p i c page has))
+      (narrow 1024 (IsSealed (codes "LEANPAGE")) start.bytes since c of_one fair (2 * p + i) (page_sealed pages p i c page has))
 
   each : (p i : ℕ) → i < 2 → (o : Option Page) → page_slot_in pages p i c ≡ o → (page_slot_in pages p i c ≡ page_slot_in pages p i start.bytes) ⊎ (HoldsOne pages saves p i c ⊎ (page_slot_in pages p i c ≡ None))
   each p i half (Some page) is = ⊎_elim (λ stood. inl stood) (λ one. inr (inl one)) (stood_or_saved p i half page is)

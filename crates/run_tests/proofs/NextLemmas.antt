@@ -13,7 +13,7 @@ use Rattle.disk_slots.specs.declared.master.Master.{Master}
 use Rattle.disk_image.specs.Shown.{IsCleanDisk}
 use Rattle.recovery_scan.specs.Scans.{areas_of}
 use Rattle.recovery.specs.Crashes.{IsSameOrNext}
-use Rattle.lean_run.specs.Crashes.{IsUnwritten, IsYoung, RunLeaves, Survives, TellsCrashes}
+use Rattle.lean_shell.specs.Crashes.{IsUnwritten, IsYoung, RunLeaves, Survives, TellsCrashes}
 use Rattle.run_tests.specs.Laws.{EveryNextRun, IsCutOff, IsReadyAgain}
 
 -- where nothing is split off, each area is here

@@ -9,8 +9,8 @@ use Rattle.disk_slots.specs.declared.master.Master.{Master}
 use Rattle.disk_image.specs.Shown.{IsCleanDisk}
 use Rattle.recovery_scan.specs.Scans.{areas_of}
 use Rattle.recovery.specs.Crashes.{IsSameOrNext}
-use Rattle.lean_run.specs.Crashes.{IsFairCrash, IsYoung, TellsCrashes}
-use Rattle.lean_run.specs.Ends.{RunEnds}
+use Rattle.lean_shell.specs.Crashes.{IsFairCrash, IsYoung, TellsCrashes}
+use Rattle.lean_shell.specs.Ends.{RunEnds}
 
 -- A run on a clean disk on which no call was made yet, and the disk that a crash at some moment of it left, an image that is fair.
 pub record IsCutOff (m : Master) (first last left : MemDisk) : Type 0 where

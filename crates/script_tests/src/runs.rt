@@ -4,7 +4,7 @@ use btree_node::Node;
 use disk_slots::{Heads, Master, master_bytes, page_bytes};
 use lean_disk::MemDisk;
 use lean_edge::{MemSink, MemSource};
-use lean_run::run_disk;
+use lean_shell::run_disk;
 use std::alloc::{AllocError, Global};
 use std::test::Fail;
 

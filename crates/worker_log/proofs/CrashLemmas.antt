@@ -4,6 +4,7 @@ use Rattle.std.proofs.lemmas.List.{length-take}
 use Rattle.std.proofs.Math.Nat.{mod-lt}
 use Rattle.map_model.specs.Lists.{Has}
 use Rattle.image_model.specs.Fair.{piece, IsFair}
+use Rattle.image_model.proofs.FairLemmas.{IsOfOne, narrow}
 use Rattle.lean_disk.specs.Area.{Area, Write, IsApart}
 use Rattle.log_record.specs.declared.record.Record.{Record}
 use Rattle.log_block.specs.Block.{Belongs, IsSealed, block_of}
@@ -50,6 +51,17 @@ module _ (g s n h : ℕ) (first : List ℕ) (ws : List (List Record)) (synced : 
   ws_belongs : (b : Block) → Has b (spelled_from g s h ws) → belongs g s b.number b.bytes ≡ true
   ws_belongs b has = spelled-belongs g s fg fs h ws (omega (arith, few, fh)) fit b has
 
+  -- each write is of one block
+  of_one : (w : Write) → Has w since → IsOfOne 2048 w
+  of_one w has =
+      let one = writes w has in
+      let b : Block = one.block in
+      let its : Belongs g s b.number b.bytes = (every_belongs g s b.number b.bytes).0 (ws_belongs b one.has) in record {
+        slot = b.number % n;
+        place = ap (λ (x : Write). x.0) one.at;
+        whole = ap (λ (x : Write). length x.1) one.at ∙ its.sealed.whole;
+      }
+
   -- a block that belongs is one of them
   listed : (r : ℕ) → h ≤ r → belongs g s r (block_at n r c) ≡ true → Has (found g s n c r) (spelled_from g s h ws)
   listed r low yes_it =
@@ -65,7 +77,7 @@ module _ (g s n h : ℕ) (first : List ℕ) (ws : List (List Record)) (synced : 
       let number : r ≡ b.number = sym is.of_block ∙ ap block_of bytes ∙ its.of_block in
       let same : b ≡ found g s n c r = ap (λ (x : ℕ). record { number = x; bytes = b.bytes }) (sym number) ∙ ap (λ (x : List ℕ). record { number = r; bytes = x }) (sym bytes) in
       subst (λ (x : Block). Has x (spelled_from g s h ws)) same one.has)
-      (fair (r % n) is.sealed)
+      (narrow 2048 IsSealed first since c of_one fair (r % n) is.sealed)
 
   synced_belongs : (r : ℕ) → h ≤ r → r < h + synced → belongs g s r (block_at n r c) ≡ true
   synced_belongs r low high =

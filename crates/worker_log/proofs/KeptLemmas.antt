@@ -4,7 +4,8 @@ use Rattle.std.proofs.lemmas.Bool.{cases_eq, cases_lt, eq-eqb, ne_eqb}
 use Rattle.std.proofs.lemmas.List.{append-nil, length-drop, nil_from_length, take-append-le, take_all, drop_all}
 use Rattle.std.proofs.lemmas.List.Concat.{flat_map-append}
 use Rattle.map_model.specs.Lists.{Has}
-use Rattle.image_model.specs.Fair.{piece, IsFair}
+use Rattle.image_model.specs.Fair.{piece, IsFair, IsWritten}
+use Rattle.image_model.proofs.FairLemmas.{among_more, exactly}
 use Rattle.lean_disk.specs.Area.{Area, Write, put_over, written as over, synced as cleaned}
 use Rattle.log_record.specs.Spelling.{Fits, record_text}
 use Rattle.log_record.specs.declared.record.Record.{Record}
@@ -53,10 +54,11 @@ module _ (g s n h : ℕ) (first : List ℕ) (older : List Write) (ws : List (Lis
     fair_after r sealed = ⊎_elim
         (λ (e : r ≡ p).
         let there : piece 2048 r after ≡ bytes = ap (λ (k : ℕ). piece 2048 k after) e ∙ here in
-        let same : ◌≡◌ {A = Write} (2048 * r, piece 2048 r after) wrote = λ i. (2048 * e i, there i) in inr (inl same))
+        let same : ◌≡◌ {A = Write} (2048 * r, piece 2048 r after) wrote = λ i. (2048 * e i, there i) in
+        inr (exactly 2048 r (piece 2048 r after) (wrote ∷ holds.since) (ap (λ (b : List ℕ). length b) there ∙ whole) (inl same)))
         (λ (ne : r ≡ p → ⊥).
         let same : piece 2048 r after ≡ piece 2048 r area.bytes = other r ne in
-        ⊎_elim (λ old. inl (same ∙ old)) (λ has. inr (inr (subst (λ (b : List ℕ). Has (2048 * r, b) holds.since) (sym same) has))) (holds.fair r (subst IsSealed same sealed)))
+        ⊎_elim (λ old. inl (same ∙ old)) (λ has. inr (among_more 2048 r (piece 2048 r after) wrote holds.since (subst (λ (b : List ℕ). IsWritten 2048 r b holds.since) (sym same) has))) (holds.fair r (subst IsSealed same sealed)))
         (cases_eq r p)
 
     size : length (ws ++ rs ∷ []) ≡ length ws + 1

@@ -1,0 +1,145 @@
+-- How a run ends.
+use Rattle.std.proofs.Common.{◌≡◌, ◌⊎◌, inl, inr, ◌≤◌, ◌<◌, ◌++◌, ℕ, List, [], ◌∷◌, Some, IsTrue, refl, sym, ◌∙◌, ap, subst}
+use Rattle.std.proofs.lemmas.List.{append-nil}
+use mathlib.Core.List.{append_assoc}
+use Rattle.lean_disk.specs.Area.{Area}
+use Rattle.lean_disk.specs.Faults.{Rose}
+use Rattle.lean_disk.specs.Moments.{LeavesOnly}
+use Rattle.lean_disk.specs.Story.{IsLawful, Story}
+use Rattle.lean_edge.specs.Outside.{Feed, Held}
+use Rattle.lean_edge.specs.declared.sink.Put.{Put}
+use Rattle.script_lang.specs.Notices.{Notice, NoticeFits}
+use Rattle.script_lang.specs.Replies.{Reply, reply_text, Fits}
+use Rattle.script_lang.specs.Text.{script_lines}
+use Rattle.disk_slots.specs.declared.master.Master.{Master}
+use Rattle.disk_image.specs.Shown.{IsCleanDisk}
+use Rattle.recovery_scan.specs.Scans.{areas_of}
+use Rattle.recovery.specs.Crashes.{RecoveryLeaves}
+use Rattle.recovery.specs.Opened.{IsRefusal, IsUntouched, TellsAll}
+use Rattle.recovery.specs.declared.opening.Unrecovered.{Unrecovered}
+use Rattle.core_state.specs.States.{Opening}
+use Rattle.session_model.specs.Calls.{Answered, Runs}
+use Rattle.session_model.specs.Sessions.{Session}
+use Rattle.transcripts.specs.Laws.{EveryPrefix, EveryNotice, IsQuiet}
+use Rattle.transcripts.specs.Told.{asked_lines, replies, EachReplyFits, Heard, IsCut, IsTail}
+use Rattle.transcripts.specs.Told.Heard.{Whole}
+use Rattle.transcripts.specs.Told.IsTail.{CutReply}
+use Rattle.transcripts.specs.Transcripts.{first_lines}
+use Rattle.script_run.specs.Runs.{PrintsTo}
+use Rattle.script_run.specs.Texts.{LinesRead}
+use Rattle.script_run.specs.declared.stop.Stop.{Stop}
+use Rattle.script_run.specs.declared.stop.Stop.TheVariants as stops
+use Rattle.lean_shell.specs.Crashes.{IsYoung, RunLeaves, TellsCrashes}
+use Rattle.lean_shell.specs.Ends.{RunEnds}
+use Rattle.lean_shell.specs.Inside.Openings.{Refuses}
+use Rattle.lean_shell.specs.Lines.{IsPut, line_of}
+use Rattle.lean_shell.specs.Runs.{Counts, IsFrom, Shows, first_line, notice_of, status_of}
+use Rattle.lean_shell.proofs.Runs.LastLemmas.{Last, PutText, put_text, went_out}
+use Rattle.lean_shell.proofs.Runs.MomentLemmas.{line_moments}
+use Rattle.lean_shell.proofs.Runs.NoteLemmas.{put_notes}
+use Rattle.lean_shell.proofs.Runs.OutputLemmas.{Out, asked_parts, no_tail, out_of}
+
+-- ## A disk that was not opened, or a first line that was cut off
+
+module _ (notice_law : EveryNotice) (s0 old new : Story) (law : IsLawful old) (later : s0.moment ≤ old.moment) (notes : old.notes ≡ s0.notes)
+    (any : (m : Master) → TellsAll s0 → IsCleanDisk m (areas_of s0) → LeavesOnly s0 old (RecoveryLeaves m s0)) (feed : Feed) (n : Notice) (fits : NoticeFits n) (answer : Put) (held0 held1 : Held)
+    (p : IsPut (line_of n) answer held0 held1 old new) where
+  abbrev pub line_text : PutText (line_of n) answer held0 held1
+  line_text = put_text (line_of n) answer held0 held1 p.puts
+
+  pub line_leaves : IsTrue feed.tells → (m : Master) → TellsCrashes s0 → IsCleanDisk m (areas_of s0) → IsYoung m s0 → LeavesOnly s0 new (RunLeaves m s0 feed.left line_text.text)
+  line_leaves tells m all clean young = line_moments m s0 old new clean young.notes feed.left line_text.text answer (any m all.all clean) law later notes p.noted p.same
+      (notice_law n feed.left 0 fits)
+      (λ is. subst (λ (t : List ℕ). IsQuiet feed.left (first_lines 1 t)) (sym (line_text.whole is)) (notice_law n feed.left 1 fits))
+
+pub refused_ends : EveryNotice → (status : ℕ) (s0 old new : Story) → IsLawful old → s0.moment ≤ old.moment → old.notes ≡ s0.notes → ((a : ℕ) → 2 < a → old.area a ≡ s0.area a)
+    → ((m : Master) → TellsAll s0 → IsCleanDisk m (areas_of s0) → LeavesOnly s0 old (RecoveryLeaves m s0)) → (feed : Feed) (reason : Unrecovered) → status ≡ status_of reason → Shows s0 reason
+    → (IsRefusal reason → (a : ℕ) → IsUntouched (s0.area a) (old.area a))
+    → (held0 held1 : Held) (sink0 sink1 : ℕ) → Refuses reason held0 held1 sink0 sink1 old new → RunEnds status s0 new feed feed held0 held1 sink0 sink1
+refused_ends notice_law status s0 old new law later notes others any feed reason is shown left held0 held1 sink0 sink1 r =
+    let t = line_text notice_law s0 old new law later notes any feed (notice_of reason) r.fits r.answer held0 held1 r.line in record {
+      put = t.text;
+      holds = t.holds;
+      how = inl (record {
+        reason = reason;
+        status_is = is;
+        shown = shown;
+        printed = went_out (line_of (notice_of reason)) t.text r.answer sink0 sink1 t.prefix t.is_prefix t.whole r.cause;
+        unread = refl;
+        left = λ refused a. subst (λ (x : Area). IsUntouched (s0.area a) x) (sym ((put_notes old new r.answer r.line.noted r.line.same).area a)) (left refused a);
+      });
+      others = λ a lt. (put_notes old new r.answer r.line.noted r.line.same).area a ∙ others a lt;
+      any_moment = line_leaves notice_law s0 old new law later notes any feed (notice_of reason) r.fits r.answer held0 held1 r.line;
+    }
+
+pub cut_ends : EveryNotice → (s0 old new : Story) → IsLawful old → s0.moment ≤ old.moment → old.notes ≡ s0.notes → ((a : ℕ) → 2 < a → old.area a ≡ s0.area a)
+    → ((m : Master) → TellsAll s0 → IsCleanDisk m (areas_of s0) → LeavesOnly s0 old (RecoveryLeaves m s0)) → (feed : Feed) (n : Counts) (g : Opening) → (TellsAll s0 → IsFrom g s0 n) → NoticeFits (Notice.Opened n.generation n.winners n.undone)
+    → (held0 held1 : Held) (sink0 sink1 : ℕ) (answer : Put) → IsPut (first_line n) answer held0 held1 old new → Rose sink0 sink1 → RunEnds 5 s0 new feed feed held0 held1 sink0 sink1
+cut_ends notice_law s0 old new law later notes others any feed n g from fits held0 held1 sink0 sink1 answer p rose =
+    let o : Notice = Notice.Opened n.generation n.winners n.undone in
+    let t = line_text notice_law s0 old new law later notes any feed o fits answer held0 held1 p in record {
+      put = t.text;
+      holds = t.holds;
+      how = inr (inl (record { status_is = refl; cause = rose; counts = n; opening = g; from = from; prefix = t.prefix; printed = t.is_prefix; unread = refl }));
+      others = λ a lt. (put_notes old new answer p.noted p.same).area a ∙ others a lt;
+      any_moment = line_leaves notice_law s0 old new law later notes any feed o fits answer held0 held1 p;
+    }
+
+-- ## What was read
+
+-- the script begins with the lines that ask the calls
+pub record HasLines (input : List ℕ) (calls : List Answered) : Type 0 where
+  pub others : List (List ℕ)
+  pub is : script_lines input ≡ asked_lines calls ++ others
+
+pub lines_of : (stop : Stop) (input : List ℕ) (calls : List Answered) → LinesRead stop calls input → HasLines input calls
+lines_of stop input calls r = record { others = r.others; is = r.lines }
+
+-- and with those of the first of them
+pub first_lines_of : (input : List ℕ) (later first calls : List Answered) → later ++ first ≡ calls → HasLines input calls → HasLines input first
+first_lines_of input later first calls e l = record {
+  others = asked_lines later ++ l.others;
+  is = l.is ∙ (ap (λ (xs : List Answered). asked_lines xs ++ l.others) (sym e) ∙ (ap (λ (ls : List (List ℕ)). ls ++ l.others) (asked_parts later first) ∙ append_assoc (asked_lines first) (asked_lines later) l.others));
+}
+
+-- the calls that the output answers
+pub record HeardOf (stop : Stop) (calls : List Answered) (all : List Reply) : Type 0 where
+  pub heard : List Answered
+  pub unheard : List Answered
+  pub calls_are : unheard ++ heard ≡ calls
+  pub all_heard : (stop ≡ stops.WriteFault → ⊥) → unheard ≡ []
+  pub hears : Heard heard all
+
+pub heard_of : EveryPrefix → (stop : Stop) (calls : List Answered) (told : List Reply) (tail : List ℕ) (fits : EachReplyFits (replies calls)) (p : PrintsTo (Some stop) (replies calls) told tail) → HeardOf stop calls (out_of stop calls told tail fits p).all
+heard_of prefix stops.End calls told tail fits p = record { heard = calls; unheard = []; calls_are = refl; all_heard = λ e. refl; hears = Whole p.told_is }
+heard_of prefix (stops.Refused line) calls told tail fits p = record { heard = calls; unheard = []; calls_are = refl; all_heard = λ e. refl; hears = Whole p.told_is }
+heard_of prefix stops.ReadFault calls told tail fits p = record { heard = calls; unheard = []; calls_are = refl; all_heard = λ e. refl; hears = Whole p.told_is }
+heard_of prefix stops.DiskFault calls told tail fits p = record { heard = calls; unheard = []; calls_are = refl; all_heard = λ e. refl; hears = Whole p.told_is }
+heard_of prefix stops.WriteFault calls told tail fits p =
+    let o : Out calls told tail = out_of stops.WriteFault calls told tail fits p in
+    let f = prefix calls o.newer o.all o.split in
+    record { heard = f.calls.first; unheard = f.calls.later; calls_are = f.calls.is; all_heard = λ e. absurd (e refl); hears = f.calls.heard }
+
+-- what stands behind the replies
+pub final_tail : (stop : Stop) (calls : List Answered) (told : List Reply) (tail : List ℕ) (fits : EachReplyFits (replies calls)) (p : PrintsTo (Some stop) (replies calls) told tail) (held0 held1 : Held) (sink0 sink1 : ℕ) (old new : Story)
+    (l : Last stop held0 held1 sink0 sink1 old new) (n : Notice) → NoticeFits n → IsTail ((out_of stop calls told tail fits p).rest ++ l.text)
+final_tail stop calls told tail fits p held0 held1 sink0 sink1 old new l n n_fits = go stop calls told tail fits p l
+  where
+    behind : (rest text : List ℕ) → rest ≡ [] → IsTail text → IsTail (rest ++ text)
+    behind rest text e t = subst IsTail (sym (ap (λ (r : List ℕ). r ++ text) e)) t
+
+    cut : (rest text : List ℕ) → text ≡ [] → (rest ≡ []) ⊎ ((r : Reply) × Fits r × IsCut (reply_text r) rest) → IsTail (rest ++ text)
+    cut rest text e (inl none) = subst IsTail (sym (ap (λ (t : List ℕ). rest ++ t) e ∙ (append-nil rest ∙ none))) (no_tail n n_fits)
+    cut rest text e (inr c) = subst IsTail (sym (ap (λ (t : List ℕ). rest ++ t) e ∙ append-nil rest)) (CutReply c.0 c.1 c.2)
+
+    go : (stop : Stop) (calls : List Answered) (told : List Reply) (tail : List ℕ) (fits : EachReplyFits (replies calls)) (p : PrintsTo (Some stop) (replies calls) told tail) (l : Last stop held0 held1 sink0 sink1 old new) → IsTail ((out_of stop calls told tail fits p).rest ++ l.text)
+    go stops.End calls told tail fits p l = behind tail l.text p.none (l.tail (λ q. cc) n n_fits)
+    go (stops.Refused line) calls told tail fits p l = behind tail l.text p.none (l.tail (λ q. cc) n n_fits)
+    go stops.ReadFault calls told tail fits p l = behind tail l.text p.none (l.tail (λ q. cc) n n_fits)
+    go stops.DiskFault calls told tail fits p l = behind tail l.text p.none (l.tail (λ q. cc) n n_fits)
+    go stops.WriteFault calls told tail fits p l = let o : Out calls told tail = out_of stops.WriteFault calls told tail fits p in cut o.rest l.text (l.none refl) o.cut
+
+-- the first of calls ran too
+pub runs_first : (g : Opening) (later first : List Answered) (s : Session) → Runs g (later ++ first) s → (t : Session) × Runs g first t
+runs_first g [] first s r = (s, r)
+runs_first g (x ∷ later) first s r = runs_first g later first r.0 r.1

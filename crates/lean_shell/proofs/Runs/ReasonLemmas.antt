@@ -1,0 +1,20 @@
+-- Why a disk was not opened.
+use Rattle.std.proofs.Common.{◌≡◌, ℕ, Result, Err}
+use Rattle.lean_disk.specs.Story.{Story}
+use Rattle.recovery_scan.specs.Scans.{areas_of}
+use Rattle.recovery.specs.Masters.{HasOpenable}
+use Rattle.recovery.specs.Opened.{IsDamaged, TellsAll}
+use Rattle.recovery.specs.declared.opening.Recovered.{Recovered}
+use Rattle.recovery.specs.declared.opening.Unrecovered.{Unrecovered}
+use Rattle.recovery.specs.declared.opening.Unrecovered.TheVariants as why
+use Rattle.lean_shell.specs.Runs.{Shows}
+
+-- the disk shows the reason
+pub shows : (s : Story) (result : Result Recovered Unrecovered) (reason : Unrecovered) → result ≡ Err reason
+    → (result ≡ Err why.NotFormatted → TellsAll s → HasOpenable (areas_of s) → ⊥)
+    → ((area place : ℕ) → result ≡ Err (why.Damaged area place) → TellsAll s → IsDamaged (areas_of s) area place)
+    → Shows s reason
+shows s result why.NotFormatted is none damaged = none is
+shows s result (why.Damaged area place) is none damaged = damaged area place is
+shows s result why.DiskFault is none damaged = tt
+shows s result why.Memory is none damaged = tt

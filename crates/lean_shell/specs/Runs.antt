@@ -1,0 +1,170 @@
+-- How a run of a script ended.
+use Rattle.std.specs.Prelude.{◌≡◌, ◌⊎◌, ◌++◌, ◌<◌, ◌^◌, ℕ, suc, List, [], ◌∷◌, length, take, IsTrue, Some}
+use Rattle.map_model.specs.Maps.{Map}
+use Rattle.map_model.specs.Journals.{Name, Serial}
+use Rattle.map_model.specs.Transcripts.{journal}
+use Rattle.image_model.specs.Images.{won_by, lost_by, map_of, recovered_page}
+use Rattle.lean_disk.specs.Faults.{Rose}
+use Rattle.lean_disk.specs.Story.{Story}
+use Rattle.lean_edge.specs.Outside.{Feed}
+use Rattle.script_lang.specs.Notices.{Notice}
+use Rattle.disk_slots.specs.declared.master.Master.{Master}
+use Rattle.disk_image.specs.Formats.{format_of}
+use Rattle.disk_image.specs.MasterSlots.{master_on}
+use Rattle.disk_image.specs.Shown.{image_by, DiskStandsFor, IsCleanDisk, IsSoundDisk}
+use Rattle.recovery_scan.specs.Scans.{areas_of}
+use Rattle.recovery.specs.Masters.{HasOpenable, IsOpenable}
+use Rattle.recovery.specs.Opened.{IsDamaged, IsGreatest, IsRefusal, IsUntouched, TellsAll}
+use Rattle.recovery.specs.declared.opening.Unrecovered.{Unrecovered}
+use Rattle.recovery.specs.declared.opening.Unrecovered.TheVariants as why
+use Rattle.core_state.specs.States.{Opening, start_page}
+use Rattle.core_crash.specs.Crashes.{first_map}
+use Rattle.session_model.specs.Sessions.{Session, IsAlone, start}
+use Rattle.worker_log.specs.Logs.{Log}
+use Rattle.lean_engine.specs.States.{State, Pictures}
+use Rattle.script_lang.specs.Replies.{Reply}
+use Rattle.session_model.specs.Calls.{Answered}
+use Rattle.transcripts.specs.Told.{opened_line, replies, text_of}
+use Rattle.transcripts.specs.Transcripts.{transcript, in_turn}
+use Rattle.script_run.specs.Runs.{Executes, IsLastCut, PrintsTo}
+use Rattle.script_run.specs.Texts.{LinesRead}
+use Rattle.script_run.specs.declared.stop.Stop.{Stop}
+use Rattle.script_run.specs.declared.stop.Stop.TheVariants as stops
+use Rattle.lean_shell.specs.Crashes.{IsYoung, Survives, TellsCrashes, as_read}
+use Rattle.lean_shell.specs.Lines.{line_of, WentOut}
+
+-- ## A disk that was not opened
+
+abbrev pub notice_of : Unrecovered → Notice
+notice_of why.NotFormatted = Notice.NotFormatted
+notice_of (why.Damaged area place) = Notice.Damaged area place
+notice_of why.DiskFault = Notice.DiskFault
+notice_of why.Memory = Notice.NoMemory
+
+abbrev pub status_of : Unrecovered → ℕ
+status_of why.NotFormatted = 7
+status_of (why.Damaged area place) = 7
+status_of why.DiskFault = 6
+status_of why.Memory = 8
+
+-- what the disk shows of the reason
+abbrev pub Shows : Story → Unrecovered → Type 0
+Shows s why.NotFormatted = TellsAll s → HasOpenable (areas_of s) → ⊥
+Shows s (why.Damaged area place) = TellsAll s → IsDamaged (areas_of s) area place
+Shows s why.DiskFault = Unit {0}
+Shows s why.Memory = Unit {0}
+
+-- The line of the reason was put, or a prefix of it and the sink failed; the script was not read, and a disk that is refused is left as it was.
+pub record NotOpened (status : ℕ) (s0 s1 : Story) (feed0 feed1 : Feed) (put : List ℕ) (sink0 sink1 : ℕ) : Type 0 where
+  pub reason : Unrecovered
+  pub status_is : status ≡ status_of reason
+  pub shown : Shows s0 reason
+  pub printed : WentOut (line_of (notice_of reason)) put sink0 sink1
+  pub unread : feed1 ≡ feed0
+  pub left : IsRefusal reason → (a : ℕ) → IsUntouched (s0.area a) (s1.area a)
+
+-- ## A disk that was opened
+
+-- the new generation, and how many transactions were found committed and how many were undone
+pub record Counts : Type 0 where
+  pub generation : ℕ
+  pub winners : ℕ
+  pub undone : ℕ
+
+abbrev pub first_line : Counts → List ℕ
+first_line n = opened_line n.generation n.winners n.undone
+
+-- The map at the start is that for which the disk on entry stands, its pages are those that recovery gives, and the counts are those of its
+-- image. The base number is the greatest number there.
+pub record IsFrom (g : Opening) (s : Story) (n : Counts) : Type 0 where
+  pub m : Master
+  pub openable : IsOpenable m
+  pub sound : IsSoundDisk m (areas_of s)
+  pub map : (k : ℕ) → first_map g k ≡ map_of (image_by m (areas_of s)) k
+  pub format : g.format ≡ format_of m.pages
+  pub pages : (p : ℕ) → p < m.pages → start_page g p ≡ recovered_page (image_by m (areas_of s)) p
+  pub base : IsGreatest (image_by m (areas_of s)) g.base
+  pub generation : n.generation ≡ suc m.generation
+  pub won : n.winners ≡ length (won_by (image_by m (areas_of s)))
+  pub lost : n.undone ≡ length (lost_by (image_by m (areas_of s)))
+
+-- the log of the next generation, which is empty
+abbrev pub first_log : Master → (base : ℕ) → Log
+first_log m base = record { generation = suc m.generation; log = 1; blocks = m.blocks; head = 0; next = 0; payload = []; count = 0; last = base; flushed = base }
+
+-- The sink failed as it was given the first line, and the script was not read.
+pub record CutFirst (status : ℕ) (s0 : Story) (feed0 feed1 : Feed) (put : List ℕ) (sink0 sink1 : ℕ) : Type 0 where
+  pub status_is : status ≡ 5
+  pub cause : Rose sink0 sink1
+  pub counts : Counts
+  pub opening : Opening
+  pub from : TellsAll s0 → IsFrom opening s0 counts
+  pub prefix : ℕ
+  pub printed : put ≡ take prefix (first_line counts)
+  pub unread : feed1 ≡ feed0
+
+-- the status by why the script stopped, and the line that is put then
+abbrev pub ended : Stop → ℕ
+ended stops.End = 0
+ended (stops.Refused line) = 3
+ended stops.ReadFault = 4
+ended stops.WriteFault = 5
+ended stops.DiskFault = 6
+
+abbrev pub last_line : Stop → List ℕ
+last_line stops.End = []
+last_line (stops.Refused line) = line_of (Notice.Refused line)
+last_line stops.ReadFault = line_of Notice.ReadFault
+last_line stops.WriteFault = []
+last_line stops.DiskFault = line_of Notice.DiskFault
+
+-- what was put behind the replies, and how often the sink failed in the run
+abbrev pub WentLast : Stop → (put : List ℕ) (before now : ℕ) → Type 0
+WentLast stops.End put before now = (put ≡ []) × (now ≡ before)
+WentLast stops.WriteFault put before now = (put ≡ []) × Rose before now
+WentLast stop put before now = WentOut (last_line stop) put before now
+
+-- The script was executed on an opening: the first line went out, then the replies to its lines, then the last line or a prefix of it. What
+-- the script and the output tell of is what was executed, but for a last call whose reply was cut off; and it is serial from the
+-- map for which the disk on entry stands.
+pub record Ran (status : ℕ) (s0 s1 : Story) (feed0 feed1 : Feed) (put : List ℕ) (sink0 sink1 : ℕ) : Type 0 where
+  pub counts : Counts
+  pub opening : Opening
+  pub alone : IsAlone 64 opening
+  pub from : TellsAll s0 → IsFrom opening s0 counts
+  pub stop : Stop
+  pub status_is : status ≡ ended stop
+  -- each call was answered by the engine, in turn; each refusal has its cause
+  pub e0 : State
+  pub e1 : State
+  pub pictures : Pictures opening (start opening) e0
+  pub log : TellsAll s0 → (m : Master) → master_on (areas_of s0 0) ≡ Some m → e0.log ≡ first_log m opening.base
+  pub calls : List Answered
+  pub few : length calls < 2 ^ 40
+  pub session : Session
+  pub executes : Executes opening e0 (start opening) calls e1 session
+  -- the script begins with the lines that ask them, and why no more were executed
+  pub read : IsTrue feed0.tells → LinesRead stop calls feed0.left
+  -- what was put
+  pub told : List Reply
+  pub tail : List ℕ
+  pub prints : PrintsTo (Some stop) (replies calls) told tail
+  pub cut : stop ≡ stops.WriteFault → IsLastCut calls told
+  pub last : List ℕ
+  pub last_is : WentLast stop last sink0 sink1
+  pub put_is : put ≡ first_line counts ++ (text_of told ++ (tail ++ last))
+  -- what the script and the output tell of: all calls, unless the sink failed
+  pub heard : List Answered
+  pub unheard : List Answered
+  pub calls_are : unheard ++ heard ≡ calls
+  pub all_heard : (stop ≡ stops.WriteFault → ⊥) → unheard ≡ []
+  pub transcript_is : IsTrue feed0.tells → transcript 1 feed0.left put ≡ in_turn heard
+  pub serial : IsTrue feed0.tells → TellsAll s0 → (m : Master) (map : Map) (won : List Name) → DiskStandsFor m (areas_of s0) map won → Serial map (journal (transcript 1 feed0.left put))
+  -- unless the disk failed, it stands as a crash would have left it
+  pub stands : (stop ≡ stops.DiskFault → ⊥) → IsTrue feed0.tells → (m : Master) → TellsCrashes s0 → IsCleanDisk m (areas_of s0) → IsYoung m s0 → Survives m s0 feed0.left put (as_read s1)
+
+-- How a run ended, on a disk that told s0 and tells s1, with a source that told feed0 and tells feed1, and a sink into which these bytes were put; and
+-- how often the sink had failed before and has now.
+abbrev pub HowRun : (status : ℕ) (s0 s1 : Story) (feed0 feed1 : Feed) (put : List ℕ) (sink0 sink1 : ℕ) → Type 0
+HowRun status s0 s1 feed0 feed1 put sink0 sink1 =
+    NotOpened status s0 s1 feed0 feed1 put sink0 sink1 ⊎ (CutFirst status s0 feed0 feed1 put sink0 sink1 ⊎ Ran status s0 s1 feed0 feed1 put sink0 sink1)
