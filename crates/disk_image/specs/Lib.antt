@@ -1,4 +1,4 @@
--- Read Formats, Words, PageSlots, MasterSlots, Records, Blocks, Runs and Shown in this order; then Breaks and Laws.
+-- Read Formats, Words, PageSlots, MasterSlots, Records, Blocks, Runs and Shown in this order; then Masters, Fair, Breaks and Laws.
 pub mod Formats
 pub mod Words
 pub mod PageSlots
@@ -7,5 +7,7 @@ pub mod Records
 pub mod Blocks
 pub mod Runs
 pub mod Shown
+pub mod Masters
+pub mod Fair
 pub mod Breaks
 pub mod Laws

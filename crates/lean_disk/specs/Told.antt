@@ -1,5 +1,5 @@
 -- Stories that begin, that stand still, and that begin after a crash.
-use Rattle.std.specs.Prelude.{◌≡◌, ℕ, List, true}
+use Rattle.std.specs.Prelude.{◌≡◌, ◌≤◌, ℕ, List, true}
 use Rattle.lean_disk.specs.Area.{fresh}
 use Rattle.lean_disk.specs.Story.{Crash, Story}
 
@@ -21,6 +21,13 @@ pub record TellsSame (old new : Story) : Type 0 where
   pub moment : new.moment ≡ old.moment
   pub past : (m : ℕ) (c : Crash) → new.left_at m c → old.left_at m c
   pub keeps : (m : ℕ) (c : Crash) → old.left_at m c → new.left_at m c
+
+-- it tells of what it told of, at the same moment or later
+pub record TellsOn (old new : Story) : Type 0 where
+  pub counts : new.counts ≡ old.counts
+  pub tells : (a : ℕ) → new.tells a ≡ old.tells a
+  pub areas : new.areas ≡ old.areas
+  pub later : old.moment ≤ new.moment
 
 -- The new disk begins with what a crash at that moment left: where a crash is told of, one that leaves these bytes is told of too.
 pub record BeginsAfter (moment : ℕ) (old new : Story) : Type 0 where

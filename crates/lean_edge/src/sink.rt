@@ -2,7 +2,7 @@
 ghost use Rattle.std.specs.Prelude.{◌≡◌, ℕ};
 ghost use Rattle.lean_disk.specs.Calls.{Noted};
 ghost use Rattle.lean_disk.specs.Faults.{HasCause};
-ghost use Rattle.lean_edge.specs.Outside.{Held, Puts};
+ghost use Rattle.lean_edge.specs.Outside.{Held, IsWholeLine, Puts};
 
 use lean_disk::Disk;
 
@@ -15,8 +15,8 @@ pub enum Put {
     Failed,
 }
 
-/// Where lines go out. The disk notes each piece that is held, so that what a crash leaves can be
-/// compared with what had gone out.
+/// Where lines go out, one by one. The disk notes each line that is held, so that what a crash leaves can be
+/// compared with the lines that had gone out.
 pub trait Sink<D: Disk> {
     /// What it holds, where it tells.
     ghost held: { Self → Held };
@@ -24,8 +24,9 @@ pub trait Sink<D: Disk> {
     /// How often it has failed.
     ghost faults: { Self → ℕ };
 
-    /// Puts a piece, whole.
+    /// Puts one line, whole.
     fn put(&mut self, disk: &mut D, bytes: &[u8]) -> Put
+        requires { IsWholeLine bytes.now }
         ensures put { Puts bytes.now result (held self.old) (held self.new) }
 
         // The disk notes once what is held, and else is as it was.

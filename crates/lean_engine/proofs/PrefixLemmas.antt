@@ -13,13 +13,14 @@ use Rattle.disk_image.specs.Runs.{run_in}
 use Rattle.disk_image.specs.Records.{entry_of}
 use Rattle.session_model.specs.Sessions.{Session, committed}
 use Rattle.worker_log.specs.Logs.{Account, IsInRange, Log, all_blocks, joined, records_of, spelled_from}
-use Rattle.worker_log.specs.Kept.{After, HoldsFirst, IsKept, LeavesBlocks, StagesTo, run_of}
+use Rattle.worker_log.specs.Kept.{After, HoldsFirst, IsKept, LeavesBlocks, StagesTo, run_of, IsOfGeneration}
 use Rattle.worker_log.specs.Laws.{EveryPrefix, EveryKept, ReadsPrefix, StagesOnce, entries_onto}
 use Rattle.worker_log.proofs.CallLemmas.{crash_back}
 use Rattle.lean_engine.specs.States.{Logs}
 use Rattle.lean_engine.specs.Crashes.{HoldsPrefix, LeavesPrefix}
 use Rattle.lean_engine.specs.Laws.{EveryRest}
-use Rattle.lean_engine.specs.Inside.{IsEnding, commit_of}
+use Rattle.lean_engine.specs.Inside.{IsEnding}
+use Rattle.lean_engine.specs.Logged.{commit_of}
 use Rattle.worker_log.proofs.AccountLemmas.{every_staged}
 use Rattle.lean_engine.proofs.LogLemmas.{Gained, gained, logs_more}
 
@@ -67,7 +68,7 @@ module _ (law : EveryPrefix) (Such : Session → Type 0) (s t : Session) (x y : 
   leaves_prefix writes bytes leaves = record {
     since = leaves.since;
     writes_are = leaves.writes_are ∙ ap (λ (l : List Write). leaves.since ++ l) older;
-    own = λ w has. leaves.own w has ∙ same.generation;
+    own = λ w has. subst (λ (g : ℕ). IsOfGeneration g w) same.generation (leaves.own w has);
     holds = λ fair. holds_prefix bytes (leaves.holds (subst (λ (l : List ℕ). IsFair 2048 IsSealed l leaves.since bytes) (sym first) fair));
   }
 

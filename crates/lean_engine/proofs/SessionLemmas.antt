@@ -32,7 +32,8 @@ use Rattle.lean_engine.specs.Calls.{Calls, GoesOn, IsCommitted}
 use Rattle.lean_engine.specs.Crashes.{IsAround, LeavesPrefix}
 use Rattle.lean_engine.specs.Laws.{EveryRest}
 use Rattle.lean_engine.proofs.PrefixLemmas.{leaves_as, moments_as, quiet}
-use Rattle.lean_engine.specs.Inside.{Ends, EndsTo, IsEnding, MayPut, Puts, change_of, changed, commit_of, said, word_of}
+use Rattle.lean_engine.specs.Inside.{EndsTo, IsEnding, MayPut, Puts, changed, said}
+use Rattle.lean_engine.specs.Logged.{Ends, change_of, commit_of, word_of}
 use Rattle.lean_engine.proofs.LogLemmas.{Gained, gained, logs_more}
 use Rattle.lean_engine.proofs.PageLemmas.{get_here, get_other, room_for, size, sized}
 

@@ -17,7 +17,8 @@ use Rattle.worker_log.specs.Kept.{After}
 use Rattle.worker_log.specs.Logs.{IsInRange, Log}
 use Rattle.lean_engine.specs.States.{IsEngine, State, gsn_or}
 use Rattle.node_tree.specs.Nodes.{nodes_of}
-use Rattle.lean_engine.specs.Inside.{MayPut, Puts, change_of, changed, word_of}
+use Rattle.lean_engine.specs.Inside.{MayPut, Puts, changed}
+use Rattle.lean_engine.specs.Logged.{change_of, word_of}
 use Rattle.lean_engine.proofs.LogLemmas.{Gained, gained}
 use Rattle.lean_engine.proofs.PageLemmas.{put_tree, size}
 

@@ -1,4 +1,4 @@
--- What a call makes of a session, of an account of its log, and of the log.
+-- What a call makes of a session and of an account of its log.
 use Rattle.std.specs.Prelude.{◌≡◌, ◌<◌, ℕ, [], length}
 use Rattle.map_model.specs.declared.call.Call.{Call}
 use Rattle.map_model.specs.declared.call.Call.TheVariants as call
@@ -13,9 +13,7 @@ use Rattle.session_model.specs.Calls.{Does}
 use Rattle.worker_log.specs.Logs.{Log, Account}
 use Rattle.worker_log.specs.Kept.{IsKept}
 use Rattle.lean_engine.specs.States.{State, Pictures, Logs}
-use Rattle.worker_log.specs.Kept.{After}
 use Rattle.lean_engine.specs.Refusals.{IsRefused}
-use Rattle.lean_engine.specs.Inside.{Ends, change_of, commit_of}
 
 -- a call's key and value are in their ranges
 abbrev pub IsWithin : Call → Type 0
@@ -38,23 +36,6 @@ IsCommitted _ = ⊥
 pub record IsAllSynced (x : Account) : Type 0 where
   pub synced : x.synced ≡ length x.written
   pub current : x.current ≡ []
-
--- the log is the same ring as it was; it is flushed to its end by a commit, and else as far as it was
-pub record KeepsRing (a : Answer) (old new : Log) : Type 0 where
-  pub generation : new.generation ≡ old.generation
-  pub log : new.log ≡ old.log
-  pub blocks : new.blocks ≡ old.blocks
-  pub head : new.head ≡ old.head
-  pub committed : IsCommitted a → new.flushed ≡ new.last
-  pub other : (IsCommitted a → ⊥) → new.flushed ≡ old.flushed
-
--- The log after a call: with the record of a change, by a put; with that of a commit, and flushed, by a commit; and else as it was.
-abbrev pub LogAfter : Answer → State → State → Type 0
-LogAfter (answer.Was value) d e = (page key word : ℕ) × After (change_of d page key word) d.log e.log
-LogAfter (answer.Committed number at) d e = Ends (commit_of d.begun d.log) d.log e.log
-LogAfter (answer.Begun number) d e = e.log ≡ d.log
-LogAfter (answer.Value value) d e = e.log ≡ d.log
-LogAfter (answer.Refused refusal) d e = e.log ≡ d.log
 
 -- The account after a call that was answered, whatever the device tells: it has the same beginning, its records are those that
 -- the session has logged, and after a commit all its blocks are synced. Where the device tells of the log's area, it is right

@@ -8,11 +8,11 @@ use Rattle.image_model.specs.Fair.{IsFair}
 use Rattle.core_state.specs.States.{Opening}
 use Rattle.lean_disk.specs.Area.{Write}
 use Rattle.log_record.specs.declared.record.Record.{Record}
-use Rattle.log_block.specs.Block.{IsSealed, generation_of}
+use Rattle.log_block.specs.Block.{IsSealed}
 use Rattle.session_model.specs.Sessions.{Session}
 use Rattle.session_model.specs.Calls.{Does}
 use Rattle.worker_log.specs.Logs.{Log, Account, spelled_from, joined}
-use Rattle.worker_log.specs.Kept.{AllFitBlocks, run_of}
+use Rattle.worker_log.specs.Kept.{AllFitBlocks, run_of, IsOfGeneration}
 use Rattle.worker_log.specs.Laws.{entries_onto}
 
 -- The run of the log is these blocks, whole. Their records are a prefix of what such a session has logged, and have each record
@@ -31,7 +31,7 @@ pub record HoldsPrefix (Such : Session → Type 0) (s : Session) (log : Log) (by
 pub record LeavesPrefix (Such : Session → Type 0) (s : Session) (x : Account) (log : Log) (writes : List Write) (bytes : List ℕ) : Type 0 where
   pub since : List Write
   pub writes_are : writes ≡ since ++ x.older
-  pub own : (w : Write) → Has w since → generation_of w.1 ≡ log.generation
+  pub own : (w : Write) → Has w since → IsOfGeneration log.generation w
   pub holds : IsFair 2048 IsSealed x.first since bytes → HoldsPrefix Such s log bytes
 
 -- the session before a call or one that it leaves with an answer

@@ -4,16 +4,15 @@ use Rattle.map_model.specs.declared.call.Answer.{Answer}
 use Rattle.map_model.specs.declared.call.Answer.TheVariants as answer
 use Rattle.page_model.specs.Nodes.{Node, holds}
 use Rattle.page_model.specs.Page.{Page, with_pairs}
-use Rattle.page_model.specs.Pairs.{find, put}
-use Rattle.page_model.specs.Tree.{word_or}
+use Rattle.page_model.specs.Pairs.{put}
 use Rattle.lean_disk.specs.Area.{Area}
 use Rattle.log_record.specs.declared.record.Record.{Record}
-use Rattle.log_record.specs.declared.record.Body.TheVariants.{Change, Commit}
 use Rattle.node_tree.specs.Nodes.{nodes_of}
 use Rattle.session_model.specs.Sessions.{Session, committed}
 use Rattle.worker_log.specs.Logs.{Log, Account, limit, used}
 use Rattle.worker_log.specs.Kept.{After, IsKept, Staged, flushed, flushed_log}
-use Rattle.lean_engine.specs.States.{State, gsn_or}
+use Rattle.lean_engine.specs.States.{State}
+use Rattle.lean_engine.specs.Logged.{change_of}
 use Rattle.lean_engine.specs.Refusals.{is_full_for}
 
 -- page `page` is the key's leaf, and no test refuses the put
@@ -34,10 +33,6 @@ abbrev pub IsWas : Answer → Type 0
 IsWas (answer.Was value) = Unit {0}
 IsWas _ = ⊥
 
--- a key's word in a leaf: an absent key has a tombstone's
-abbrev pub word_of : ℕ → Node → ℕ
-word_of key v = word_or (2 ^ 63) (find key v.pairs)
-
 -- a tombstone's says none
 abbrev pub said : ℕ → Option ℕ
 said word = if ltb word (2 ^ 63) then Some word else None
@@ -45,18 +40,6 @@ said word = if ltb word (2 ^ 63) then Some word else None
 -- the page after a change with this number
 abbrev pub changed : Page → (key value number : ℕ) → Page
 changed p key value number = record (with_pairs p (put key value p.node.pairs)) { gsn = number; last_log = 1 }
-
--- the record of a put
-abbrev pub change_of : State → (page key value : ℕ) → Record
-change_of e page key value = record {
-  txn = e.begun;
-  gsn = suc e.log.last;
-  body = Change (record { page = page; prev = gsn_or (slice_get e.pages page) }) key (word_of key (nodes_of e.pages page)) value;
-}
-
--- the record of a commit
-abbrev pub commit_of : (txn : ℕ) → Log → Record
-commit_of txn log = record { txn = txn; gsn = suc log.last; body = Commit 0 }
 
 -- After a put: one page is another, with the change's entry, its number and its log.
 pub record Puts (page key value : ℕ) (old new : State) : Type 0 where
@@ -67,12 +50,6 @@ pub record Puts (page key value : ℕ) (old new : State) : Type 0 where
   pub is_open : new.is_open ≡ old.is_open
   pub begun : new.begun ≡ old.begun
   pub changes : new.changes ≡ suc old.changes
-
--- the log after a commit: with its record, and flushed
-pub record Ends (r : Record) (old new : Log) : Type 0 where
-  pub mid : Log
-  pub staged : After r old mid
-  pub flushed : new ≡ flushed_log mid
 
 -- an account after it
 pub record EndsTo (r : Record) (x : Account) (old new : Log) (area : Area) : Type 0 where

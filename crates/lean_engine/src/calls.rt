@@ -13,9 +13,10 @@ ghost use Rattle.worker_log.specs.Logs.{Account, IsInRange};
 ghost use Rattle.worker_log.specs.Kept.{IsKept, StagesTo};
 ghost use Rattle.lean_engine.specs.States.{Logs, Pictures};
 ghost use Rattle.lean_engine.specs.Refusals.{IsRefused, refusal_of};
-ghost use Rattle.lean_engine.specs.Calls.{Calls, IsCommitted, IsStill, IsWithin, KeepsRing, LogAfter};
+ghost use Rattle.lean_engine.specs.Calls.{Calls, IsCommitted, IsStill, IsWithin};
+ghost use Rattle.lean_engine.specs.Logged.{LogAfter, change_of, word_of};
 ghost use Rattle.lean_engine.specs.Crashes.{IsAround, LeavesPrefix};
-ghost use Rattle.lean_engine.specs.Inside.{IsEnding, IsValue, IsWas, MayPut, Puts, change_of, said, word_of};
+ghost use Rattle.lean_engine.specs.Inside.{IsEnding, IsValue, IsWas, MayPut, Puts, said};
 
 use crate::engine::Engine;
 use crate::laws::every_rest;
@@ -35,8 +36,7 @@ impl Engine {
         ensures does { IfOk result (λ a. (g : Opening) (s : Session) → g.changes ≡ 64 → Pictures g s self.old
             → Calls g s self.old self.new call.now a (Tells (P.story dev.new) (P.seat dev.old).area)
             ((P.story dev.old).area (P.seat dev.old).area) ((P.story dev.new).area (P.seat dev.old).area)) }
-        ensures ring { IfOk result (λ a. KeepsRing a self.old.log self.new.log) }
-        ensures log { IfOk result (λ a. LogAfter a self.old self.new) }
+        ensures log { IfOk result (λ a. LogAfter a call.now self.old self.new.log) }
         ensures ranges { IsInRange self.new.log }
         ensures same { (r : Refusal) → IsRefused self.old call.now r → self.new ≡ self.old }
         ensures same_device { IsStill self.old call.now → dev.new ≡ dev.old }
@@ -68,8 +68,7 @@ impl Engine {
     fn begin(&mut self) -> Answer
         requires { refusal_of self.old Call.Begin ≡ None }
         ensures does { (g : Opening) (s : Session) (told : Bool) (area : Area) → Pictures g s self.old → Calls g s self.old self.new Call.Begin result (IsTrue told) area area }
-        ensures ring { KeepsRing result self.old.log self.new.log }
-        ensures log { LogAfter result self.old self.new }
+        ensures log { LogAfter result Call.Begin self.old self.new.log }
         ensures ranges { IsInRange self.new.log }
         ensures answer { result ≡ Answer.Begun (suc self.old.begun) }
     {
@@ -83,7 +82,7 @@ impl Engine {
         requires free { refusal_of self.now (Call.Get key) ≡ None }
         requires key { key < key_end }
         ensures does { (g : Opening) (s : Session) (told : Bool) (area : Area) → Pictures g s self.now → Calls g s self.now self.now (Call.Get key) result (IsTrue told) area area }
-        ensures log { LogAfter result self.now self.now }
+        ensures log { LogAfter result (Call.Get key) self.now self.now.log }
         ensures answer { IsValue result }
     {
         let page = leaf_of(&self.pages, key);
@@ -96,8 +95,7 @@ impl Engine {
         ensures does { IfOk result (λ a. (g : Opening) (s : Session) → g.changes ≡ 64 → Pictures g s self.old
             → Calls g s self.old self.new (Call.Put key value) a (Tells (P.story dev.new) (P.seat dev.old).area)
             ((P.story dev.old).area (P.seat dev.old).area) ((P.story dev.new).area (P.seat dev.old).area)) }
-        ensures ring { IfOk result (λ a. KeepsRing a self.old.log self.new.log) }
-        ensures log { IfOk result (λ a. LogAfter a self.old self.new) }
+        ensures log { IfOk result (λ a. LogAfter a (Call.Put key value) self.old self.new.log) }
         ensures ranges { IsInRange self.new.log }
         ensures answer { IfOk result IsWas }
         ensures any_moment { (s : Session) (x : Account) → self.old.log.log ≡ 1 → Logs s x
@@ -185,8 +183,7 @@ impl Engine {
         ensures does { IfOk result (λ a. (g : Opening) (s : Session) → g.changes ≡ 64 → Pictures g s self.old
             → Calls g s self.old self.new Call.Commit a (Tells (P.story dev.new) (P.seat dev.old).area)
             ((P.story dev.old).area (P.seat dev.old).area) ((P.story dev.new).area (P.seat dev.old).area)) }
-        ensures ring { IfOk result (λ a. KeepsRing a self.old.log self.new.log) }
-        ensures log { IfOk result (λ a. LogAfter a self.old self.new) }
+        ensures log { IfOk result (λ a. LogAfter a Call.Commit self.old self.new.log) }
         ensures ranges { IsInRange self.new.log }
         ensures answer { IfOk result IsCommitted }
         ensures any_moment { (g : Opening) (s : Session) (x : Account) → Pictures g s self.old → Logs s x

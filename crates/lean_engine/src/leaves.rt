@@ -6,7 +6,8 @@ ghost use Rattle.page_model.specs.Tree.{IsTree};
 ghost use Rattle.disk_image.specs.Formats.{format_of};
 ghost use Rattle.node_tree.specs.Nodes.{nodes_of};
 ghost use Rattle.lean_engine.specs.Refusals.{is_full, is_full_for};
-ghost use Rattle.lean_engine.specs.Inside.{changed, said, word_of};
+ghost use Rattle.lean_engine.specs.Inside.{changed, said};
+ghost use Rattle.lean_engine.specs.Logged.{word_of};
 
 use btree_node::Node;
 use node_tree::leaf_of;

@@ -9,7 +9,8 @@ ghost use Rattle.worker_log.specs.Logs.{Account, IsInRange, limit, used};
 ghost use Rattle.worker_log.specs.Kept.{After, IsKept, StagesTo};
 ghost use Rattle.lean_engine.specs.States.{Logs};
 ghost use Rattle.lean_engine.specs.Crashes.{LeavesPrefix};
-ghost use Rattle.lean_engine.specs.Inside.{Ends, EndsTo, IsEnding, commit_of};
+ghost use Rattle.lean_engine.specs.Inside.{EndsTo, IsEnding};
+ghost use Rattle.lean_engine.specs.Logged.{Ends, commit_of};
 
 use lean_disk::Part;
 use log_record::{Body, Record};

@@ -14,7 +14,8 @@ use Rattle.script_run.specs.declared.stop.Stop.TheVariants as stops
 use Rattle.lean_shell.specs.Ends.{RunEnds}
 use Rattle.lean_shell.specs.Runs.{HowRun, ended, status_of}
 use Rattle.lean_shell.specs.Endings.{FormatEnds, IsFormatStatus, IsStatus, Stays, UsageEnds}
-use Rattle.lean_shell.specs.Formatted.{OnlyNotes}
+use Rattle.lean_disk.specs.Told.{TellsOn}
+use Rattle.lean_shell.specs.Lines.{OnlyNotes}
 use Rattle.lean_shell.specs.Inside.Commands.{CommandEnds, Counts}
 use Rattle.lean_shell.specs.Words.{Asks, AsksFormat, AsksRun, IsNumberIn}
 use Rattle.lean_shell.specs.declared.words.Command.{Command}
@@ -69,6 +70,10 @@ of_run_status n s0 s1 feed0 feed1 put sink0 sink1 (inr (inr x)) = of_stop x.stop
 
 stays_of_bytes : (s : Story) → IsOfBytes (Stays s)
 stays_of_bytes s = record { same = λ c d images writes is a told. subst (Leaves (s.area a)) (sym (images a)) (is a told) }
+
+-- a line that was put leaves what is told of
+pub tells_on : (s0 s1 : Story) → OnlyNotes s0 s1 → TellsOn s0 s1
+tells_on s0 s1 n = record { counts = n.counts; tells = n.tells; areas = n.areas; later = n.later }
 
 -- before the first call nothing is touched
 pub usage_moments : (s0 s1 : Story) → IsLawful s0 → OnlyNotes s0 s1 → LeavesOnly s0 s1 (Stays s0)

@@ -53,6 +53,7 @@ module _ (shape : Shape) (s0 s1 : Story) (still : StandsStill 0 s0 s1) where
     keeps_2 = record {
       notes = frame.notes ∙ still.frame.notes;
       tells = λ a. frame.tells a ∙ still.frame.tells a;
+      areas = frame.areas ∙ still.frame.areas;
       counts = frame.counts ∙ still.frame.counts;
       later = omega (arith, frame.later, still.frame.later);
     }
@@ -85,6 +86,7 @@ module _ (shape : Shape) (s0 s1 : Story) (still : StandsStill 0 s0 s1) where
       keeps_3 = record {
         notes = frame3.notes ∙ keeps_2.notes;
         tells = λ a. frame3.tells a ∙ keeps_2.tells a;
+        areas = frame3.areas ∙ keeps_2.areas;
         counts = frame3.counts ∙ keeps_2.counts;
         later = omega (arith, frame3.later, keeps_2.later);
       }
@@ -104,20 +106,19 @@ module _ (shape : Shape) (s0 s1 : Story) (still : StandsStill 0 s0 s1) where
       no_second old m = subst (λ (bs : List ℕ). IsMaster 1 (take 1024 bs)) (ap (drop 1024) (slots old) ∙ drop_at (first_slot shape) (drop 1024 old) 1024 (length-first_slot shape)) m
 
       -- all is written and synced
-      pub new_disk : (Tells s3 0 → s3.area 0 ≡ synced (written 0 (first_slot shape) (s2.area 0))) → IsNewDisk shape s3
+      pub new_disk : (Tells s3 0 → s3.area 0 ≡ synced (written 0 (first_slot shape) (s2.area 0))) → IsNewDisk shape s0 s3
       new_disk is = record {
         formatted = λ t0 t1.
-            let was_0 : Tells s0 0 = sym (keeps_3.tells 0) ∙ t0 in
-            let pages : HasSyncedPages shape.pages (s2.area 1) = synced_pages (sym (frame3.tells 1) ∙ t1) in
-            let bytes_0 : (s3.area 0).bytes ≡ put_over 0 (first_slot shape) (s0.area 0).bytes = ap (λ (x : Area). x.bytes) (is t0) ∙ ap (λ (x : Area). put_over 0 (first_slot shape) x.bytes) area_0 in
+            let pages : HasSyncedPages shape.pages (s2.area 1) = synced_pages (told_2 1 t1) in
+            let bytes_0 : (s3.area 0).bytes ≡ put_over 0 (first_slot shape) (s0.area 0).bytes = ap (λ (x : Area). x.bytes) (is (keeps_3.tells 0 ∙ t0)) ∙ ap (λ (x : Area). put_over 0 (first_slot shape) x.bytes) area_0 in
             record {
               master = ap (take 1024) (bytes_0 ∙ slots (s0.area 0).bytes) ∙ take_at (first_slot shape) (drop 1024 (s0.area 0).bytes) 1024 (length-first_slot shape);
-              no_other = λ m. none was_0 (inr (no_second (s0.area 0).bytes (subst (λ (bs : List ℕ). IsMaster 1 (piece 1024 1 bs)) bytes_0 m)));
+              no_other = λ m. none t0 (inr (no_second (s0.area 0).bytes (subst (λ (bs : List ℕ). IsMaster 1 (piece 1024 1 bs)) bytes_0 m)));
               pages = subst (λ (x : Area). HasPages shape.pages x.bytes) (sym (frame3.elsewhere 1 (λ e. absurd (omega (arith, e))))) pages.fresh;
             };
         clean = λ a lt told. ⊎_elim
-            (λ (e : a ≡ 0). subst (λ (b : ℕ). (s3.area b).unsynced ≡ []) (sym e) (ap (λ (x : Area). x.unsynced) (is (subst (Tells s3) e told))))
+            (λ (e : a ≡ 0). subst (λ (b : ℕ). (s3.area b).unsynced ≡ []) (sym e) (ap (λ (x : Area). x.unsynced) (is (keeps_3.tells 0 ∙ subst (Tells s0) e told))))
             (λ (other : a ≡ 0 → ⊥). let one : a ≡ 1 = omega (arith, lt, positive a other) in
-            subst (λ (b : ℕ). (s3.area b).unsynced ≡ []) (sym one) (ap (λ (x : Area). x.unsynced) (frame3.elsewhere 1 (λ e. absurd (omega (arith, e)))) ∙ (synced_pages (sym (frame3.tells 1) ∙ subst (Tells s3) one told)).clean))
+            subst (λ (b : ℕ). (s3.area b).unsynced ≡ []) (sym one) (ap (λ (x : Area). x.unsynced) (frame3.elsewhere 1 (λ e. absurd (omega (arith, e)))) ∙ (synced_pages (told_2 1 (subst (Tells s0) one told))).clean))
             (cases_eq a 0);
       }

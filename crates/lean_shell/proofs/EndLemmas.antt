@@ -9,7 +9,9 @@ use Rattle.lean_edge.specs.Outside.{Held}
 use Rattle.lean_edge.specs.declared.sink.Put.{Put}
 use Rattle.lean_edge.specs.declared.sink.Put.TheVariants as put
 use Rattle.lean_shell.specs.Endings.{FinishedPut, FormatEnds, IsFormatStatus, WentOut, finished, last_line, number_of}
-use Rattle.lean_shell.specs.Formatted.{FormatLeaves, HasMaster, HasPages, IsFormatted, IsMaster, IsNewDisk, IsUntouched, OnlyNotes}
+use Rattle.lean_disk.specs.Told.{TellsOn}
+use Rattle.lean_shell.specs.Formatted.{FormatLeaves, HasMaster, HasPages, IsFormatted, IsMaster, IsNewDisk, IsUntouched, Keeps}
+use Rattle.lean_shell.specs.Lines.{OnlyNotes}
 use Rattle.lean_shell.specs.declared.failure.Failure.{Failure}
 use Rattle.lean_shell.specs.declared.failure.Failure.TheVariants.{Usage, DiskFault, Memory, AlreadyFormatted}
 use Rattle.lean_shell.specs.declared.words.Shape.{Shape}
@@ -58,24 +60,32 @@ was_failed : (r : Put) (n : ℕ) → n ≡ finished r → n ≡ 5 → r ≡ put.
 was_failed put.Done n e five_is = absurd (omega (arith, e, five_is))
 was_failed put.Failed n e five_is = refl
 
-module _ (shape : Shape) (s0 s s1 : Story) (law : IsLawful s) (later : s0.moment ≤ s.moment) (run : LeavesOnly s0 s (FormatLeaves shape s0))
+module _ (shape : Shape) (s0 s s1 : Story) (law : IsLawful s) (keeps : Keeps s0 s) (run : LeavesOnly s0 s (FormatLeaves shape s0))
     (logs : (a : ℕ) → 1 < a → s.area a ≡ s0.area a) (notes : OnlyNotes s s1) (held0 held1 : Held) (sink0 sink1 disk0 disk1 : ℕ) where
   moments : LeavesOnly s0 s1 (FormatLeaves shape s0)
-  moments = noted_moments s0 s s1 (FormatLeaves shape s0) (format_of_bytes shape s0) law later run notes
+  moments = noted_moments s0 s s1 (FormatLeaves shape s0) (format_of_bytes shape s0) law keeps.later run notes
 
   logs_1 : (a : ℕ) → 1 < a → s1.area a ≡ s0.area a
   logs_1 a lt = notes.area a ∙ logs a lt
 
-  new_1 : IsNewDisk shape s → IsNewDisk shape s1
+  on : TellsOn s0 s1
+  on = record {
+    counts = notes.counts ∙ keeps.counts;
+    tells = λ a. notes.tells a ∙ keeps.tells a;
+    areas = notes.areas ∙ keeps.areas;
+    later = let a = keeps.later in let b = notes.later in omega arith;
+  }
+
+  new_1 : IsNewDisk shape s0 s → IsNewDisk shape s0 s1
   new_1 new = record {
     formatted = λ t0 t1.
-        let is : IsFormatted shape (λ a. (s.area a).bytes) = new.formatted (sym (notes.tells 0) ∙ t0) (sym (notes.tells 1) ∙ t1) in
+        let is : IsFormatted shape (λ a. (s.area a).bytes) = new.formatted t0 t1 in
         record {
           master = ap (λ (x : Area). piece 1024 0 x.bytes) (notes.area 0) ∙ is.master;
           no_other = λ m. is.no_other (subst (λ (x : Area). IsMaster 1 (piece 1024 1 x.bytes)) (notes.area 0) m);
           pages = subst (λ (x : Area). HasPages shape.pages x.bytes) (sym (notes.area 1)) is.pages;
         };
-    clean = λ a lt told. ap (λ (x : Area). x.unsynced) (notes.area a) ∙ new.clean a lt (sym (notes.tells a) ∙ told);
+    clean = λ a lt told. ap (λ (x : Area). x.unsynced) (notes.area a) ∙ new.clean a lt told;
   }
 
   pub failed : (f : Failure) (status : ℕ) → status ≡ number_of f → (f ≡ Usage → ⊥) → WentOut (last_line f) held0 held1 sink0 sink1
@@ -93,10 +103,11 @@ module _ (shape : Shape) (s0 s s1 : Story) (law : IsLawful s) (later : s0.moment
     after = λ e. absurd (no_failure f status is e);
     same = λ e a. notes.area a ∙ same (⊎_elim (λ z. inl (same_failure f Memory (sym is ∙ z))) (λ z. inr (same_failure f AlreadyFormatted (sym is ∙ z))) e) a;
     logs = logs_1;
+    tells_on = on;
     any_moment = moments;
   }
 
-  pub finished_well : (status : ℕ) → FinishedPut shape status held0 held1 sink0 sink1 → IsNewDisk shape s → (Tells s0 0 → HasMaster (s0.area 0).bytes → ⊥) → disk1 ≡ disk0
+  pub finished_well : (status : ℕ) → FinishedPut shape status held0 held1 sink0 sink1 → IsNewDisk shape s0 s → (Tells s0 0 → HasMaster (s0.area 0).bytes → ⊥) → disk1 ≡ disk0
       → FormatEnds shape status s0 s1 held0 held1 sink0 sink1 disk0 disk1
   finished_well status fin new none same_disk = record {
     known = ⊎_elim inl (λ e. inr (inl e)) (ways fin.answer status fin.status_is);
@@ -113,8 +124,13 @@ module _ (shape : Shape) (s0 s s1 : Story) (law : IsLawful s) (later : s0.moment
         (λ z. ⊎_elim (λ w. omega (arith, z, w)) (λ w. omega (arith, z, w)) e)
         (ways fin.answer status fin.status_is));
     logs = logs_1;
+    tells_on = on;
     any_moment = moments;
   }
+
+-- nothing was done
+pub keeps_all : (s : Story) → Keeps s s
+keeps_all s = record { notes = refl; tells = λ a. refl; areas = refl; counts = refl; later = omega arith }
 
 -- before the first call
 pub unmoved : (shape : Shape) (s : Story) → IsLawful s → LeavesOnly s s (FormatLeaves shape s)

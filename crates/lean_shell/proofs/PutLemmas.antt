@@ -8,14 +8,15 @@ use Rattle.lean_disk.proofs.MomentLemmas.{goes_on_by}
 use Rattle.lean_edge.specs.declared.sink.Put.{Put}
 use Rattle.lean_edge.specs.declared.sink.Put.TheVariants.{Done, Failed}
 use Rattle.image_model.specs.Fair.{piece, IsFair}
-use Rattle.lean_shell.specs.Formatted.{FormatLeaves, HasFairMasters, HasMaster, HasPages, IsFormatted, IsMaster, IsSealedMaster, OnlyNotes, writes_since}
+use Rattle.lean_shell.specs.Formatted.{FormatLeaves, HasFairMasters, HasMaster, HasPages, IsFormatted, IsMaster, IsSealedMaster, writes_since}
+use Rattle.lean_shell.specs.Lines.{OnlyNotes}
 use Rattle.lean_shell.specs.declared.words.Shape.{Shape}
 
 no_notes : (s : Story) → OnlyNotes s s
-no_notes s = record { area = λ a. refl; tells = λ a. refl; counts = refl; later = omega arith; nothing_else = λ m c left. inl left }
+no_notes s = record { area = λ a. refl; tells = λ a. refl; areas = refl; counts = refl; later = omega arith; nothing_else = λ m c left. inl left }
 
 a_note : (old new : Story) → Noted old new → OnlyNotes old new
-a_note old new n = record { area = n.area; tells = n.tells; counts = n.counts; later = n.later; nothing_else = n.nothing_else }
+a_note old new n = record { area = n.area; tells = n.tells; areas = n.areas; counts = n.counts; later = n.later; nothing_else = n.nothing_else }
 
 pub put_notes : {D : Type 0} (story : D → Story) (old new : D) (r : Put) → (r ≡ Done → Noted (story old) (story new)) → (r ≡ Failed → new ≡ old) → OnlyNotes (story old) (story new)
 put_notes story old new Done noted same = a_note (story old) (story new) (noted refl)

@@ -3,6 +3,8 @@ pub mod NoteLemmas
 pub mod SealedLemmas
 pub mod ImageLemmas
 pub mod JournalLemmas
+pub mod BoundLemmas
+pub mod NumberLemmas
 pub mod HandLemmas
 pub mod SurviveLemmas
 pub mod OpeningLemmas

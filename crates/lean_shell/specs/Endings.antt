@@ -6,6 +6,7 @@ use Rattle.lean_disk.specs.Area.{Leaves}
 use Rattle.lean_disk.specs.Faults.{HasCause, IsBlamed}
 use Rattle.lean_disk.specs.Moments.{LeavesOnly}
 use Rattle.lean_disk.specs.Story.{Crash, Story, Tells}
+use Rattle.lean_disk.specs.Told.{TellsOn}
 use Rattle.lean_edge.specs.Outside.{Held, Puts}
 use Rattle.lean_edge.specs.declared.sink.Put.{Put}
 use Rattle.lean_edge.specs.declared.sink.Put.TheVariants as put
@@ -69,9 +70,10 @@ pub record FormatEnds (shape : Shape) (status : ℕ) (s0 s1 : Story) (held0 held
   pub no_master : (status ≡ 0) ⊎ (status ≡ 5) → Tells s0 0 → HasMaster (s0.area 0).bytes → ⊥
   pub printed : (status ≡ 0) ⊎ (status ≡ 5) → FinishedPut shape status held0 held1 sink0 sink1
   pub failed : (failure : Failure) → status ≡ number_of failure → WentOut (last_line failure) held0 held1 sink0 sink1
-  pub after : (status ≡ 0) ⊎ (status ≡ 5) → IsNewDisk shape s1
+  pub after : (status ≡ 0) ⊎ (status ≡ 5) → IsNewDisk shape s0 s1
   pub same : (status ≡ 8) ⊎ (status ≡ 9) → IsUntouched s0 s1
   pub logs : (a : ℕ) → 1 < a → s1.area a ≡ s0.area a
+  pub tells_on : TellsOn s0 s1
   pub any_moment : LeavesOnly s0 s1 (FormatLeaves shape s0)
 
 -- a crash leaves what it might have left at s
@@ -83,5 +85,6 @@ pub record UsageEnds (status : ℕ) (s0 s1 : Story) (held0 held1 : Held) (sink0 
   pub status_is : status ≡ number_of Usage
   pub printed : WentOut (last_line Usage) held0 held1 sink0 sink1
   pub same : IsUntouched s0 s1
+  pub tells_on : TellsOn s0 s1
   pub faults : disk1 ≡ disk0
   pub any_moment : LeavesOnly s0 s1 (Stays s0)

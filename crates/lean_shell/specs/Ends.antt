@@ -1,19 +1,22 @@
--- How a run ends, and what a crash at any moment of it leaves.
+-- How a run ends: what it put, why it stopped, and the disk that it leaves.
 use Rattle.std.specs.Prelude.{◌≡◌, ◌++◌, ◌<◌, ℕ, List, IsTrue}
 use Rattle.lean_disk.specs.Moments.{LeavesOnly}
 use Rattle.lean_disk.specs.Story.{Story}
+use Rattle.lean_disk.specs.Told.{TellsOn}
 use Rattle.lean_edge.specs.Outside.{Feed, Held}
 use Rattle.disk_slots.specs.declared.master.Master.{Master}
 use Rattle.disk_image.specs.Shown.{IsCleanDisk}
 use Rattle.recovery_scan.specs.Scans.{areas_of}
+use Rattle.lean_shell.specs.Crashes.{IsYoung, MasterLeaves, TellsCrashes}
 use Rattle.lean_shell.specs.Runs.{HowRun}
-use Rattle.lean_shell.specs.Crashes.{IsYoung, RunLeaves, TellsCrashes}
 
--- A run put these bytes into the sink; and where the disk was clean, each crash leaves it so, with all that was reported durable by then.
+-- A run put these bytes into the sink.
 pub record RunEnds (status : ℕ) (s0 s1 : Story) (feed0 feed1 : Feed) (held0 held1 : Held) (sink0 sink1 : ℕ) : Type 0 where
   pub put : List ℕ
   pub holds : IsTrue held0.tells → held1.bytes ≡ held0.bytes ++ put
   pub how : HowRun status s0 s1 feed0 feed1 put sink0 sink1
-  -- no other area is touched
+  -- no other area is touched, and the disk tells on
   pub others : (a : ℕ) → 2 < a → s1.area a ≡ s0.area a
-  pub any_moment : IsTrue feed0.tells → (m : Master) → TellsCrashes s0 → IsCleanDisk m (areas_of s0) → IsYoung m s0 → LeavesOnly s0 s1 (RunLeaves m s0 feed0.left put)
+  pub tells_on : TellsOn s0 s1
+  -- at every moment the master is that of the entry, or the next one
+  pub masters : IsTrue feed0.tells → (m : Master) → TellsCrashes s0 → IsCleanDisk m (areas_of s0) → IsYoung m s0 → LeavesOnly s0 s1 (MasterLeaves m s0 feed0.left put)

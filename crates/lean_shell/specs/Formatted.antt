@@ -52,10 +52,10 @@ pub record FormatLeaves (shape : Shape) (s : Story) (c : Crash) : Type 0 where
   -- and any other has no master, or is formatted
   pub formatted : Tells s 0 → Tells s 1 → HasFairMasters s c → (HasMaster (s.area 0).bytes → ⊥) → (HasMaster (c.image 0) → ⊥) ⊎ IsFormatted shape c.image
 
--- a new disk, of which a crash leaves nothing else
-pub record IsNewDisk (shape : Shape) (s : Story) : Type 0 where
-  pub formatted : Tells s 0 → Tells s 1 → IsFormatted shape (λ a. (s.area a).bytes)
-  pub clean : (a : ℕ) → a < 2 → Tells s a → (s.area a).unsynced ≡ []
+-- A new disk, of which a crash leaves nothing else, on a disk that told s0 before.
+pub record IsNewDisk (shape : Shape) (s0 s : Story) : Type 0 where
+  pub formatted : Tells s0 0 → Tells s0 1 → IsFormatted shape (λ a. (s.area a).bytes)
+  pub clean : (a : ℕ) → a < 2 → Tells s0 a → (s.area a).unsynced ≡ []
 
 -- each area stands as it stood
 abbrev pub IsUntouched : Story → Story → Type 0
@@ -65,6 +65,7 @@ IsUntouched old new = (a : ℕ) → new.area a ≡ old.area a
 pub record Keeps (old new : Story) : Type 0 where
   pub notes : new.notes ≡ old.notes
   pub tells : (a : ℕ) → new.tells a ≡ old.tells a
+  pub areas : new.areas ≡ old.areas
   pub counts : new.counts ≡ old.counts
   pub later : old.moment ≤ new.moment
 
@@ -93,11 +94,3 @@ pub record StandsStill (a : ℕ) (old new : Story) : Type 0 where
 pub record StoodOr (bytes : List ℕ) (area : Area) (writes : List Write) (image : List ℕ) : Type 0 where
   pub writes_are : (writes ≡ area.writes) ⊎ (writes ≡ (0, bytes) ∷ area.writes)
   pub leaves : Leaves (torn 0 bytes area) image
-
--- A line may have been noted, and else nothing happened.
-pub record OnlyNotes (old new : Story) : Type 0 where
-  pub area : (a : ℕ) → new.area a ≡ old.area a
-  pub tells : (a : ℕ) → new.tells a ≡ old.tells a
-  pub counts : new.counts ≡ old.counts
-  pub later : old.moment ≤ new.moment
-  pub nothing_else : (m : ℕ) (c : Crash) → new.left_at m c → old.left_at m c ⊎ LeavesNow new c

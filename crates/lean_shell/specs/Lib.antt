@@ -1,4 +1,4 @@
--- Of `format` read Words, Fresh, Formatted and Endings, then Laws; of `run` Lines, Runs, Crashes and Ends. Inside has the words of private functions.
+-- Of `format` read Words, Fresh, Formatted and Endings, then Laws; of `run` Headline first, with Crashes; then Lines, Runs and Ends. Inside has the words of private functions.
 pub mod Words
 pub mod Pieces
 pub mod Fresh
@@ -7,6 +7,7 @@ pub mod Endings
 pub mod Laws
 pub mod Lines
 pub mod Crashes
+pub mod Headline
 pub mod Runs
 pub mod Ends
 pub mod Inside

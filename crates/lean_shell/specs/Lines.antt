@@ -21,6 +21,7 @@ WentOut line put before now = ((put ≡ line) × (now ≡ before)) ⊎ (((prefix
 pub record OnlyNotes (old new : Story) : Type 0 where
   pub area : (a : ℕ) → new.area a ≡ old.area a
   pub tells : (a : ℕ) → new.tells a ≡ old.tells a
+  pub areas : new.areas ≡ old.areas
   pub counts : new.counts ≡ old.counts
   pub later : old.moment ≤ new.moment
   pub nothing_else : (m : ℕ) (c : Crash) → new.left_at m c → old.left_at m c ⊎ LeavesNow new c

@@ -1,8 +1,5 @@
 -- How a run of a script ended.
 use Rattle.std.specs.Prelude.{◌≡◌, ◌⊎◌, ◌++◌, ◌<◌, ◌^◌, ℕ, suc, List, [], ◌∷◌, length, take, IsTrue, Some}
-use Rattle.map_model.specs.Maps.{Map}
-use Rattle.map_model.specs.Journals.{Name, Serial}
-use Rattle.map_model.specs.Transcripts.{journal}
 use Rattle.image_model.specs.Images.{won_by, lost_by, map_of, recovered_page}
 use Rattle.lean_disk.specs.Faults.{Rose}
 use Rattle.lean_disk.specs.Story.{Story}
@@ -11,7 +8,7 @@ use Rattle.script_lang.specs.Notices.{Notice}
 use Rattle.disk_slots.specs.declared.master.Master.{Master}
 use Rattle.disk_image.specs.Formats.{format_of}
 use Rattle.disk_image.specs.MasterSlots.{master_on}
-use Rattle.disk_image.specs.Shown.{image_by, DiskStandsFor, IsCleanDisk, IsSoundDisk}
+use Rattle.disk_image.specs.Shown.{Areas, image_by, IsCleanDisk, IsSoundDisk}
 use Rattle.recovery_scan.specs.Scans.{areas_of}
 use Rattle.recovery.specs.Masters.{HasOpenable, IsOpenable}
 use Rattle.recovery.specs.Opened.{IsDamaged, IsGreatest, IsRefusal, IsUntouched, TellsAll}
@@ -30,7 +27,8 @@ use Rattle.script_run.specs.Runs.{Executes, IsLastCut, PrintsTo}
 use Rattle.script_run.specs.Texts.{LinesRead}
 use Rattle.script_run.specs.declared.stop.Stop.{Stop}
 use Rattle.script_run.specs.declared.stop.Stop.TheVariants as stops
-use Rattle.lean_shell.specs.Crashes.{IsYoung, Survives, TellsCrashes, as_read}
+use Rattle.lean_shell.specs.Crashes.{IsYoung, TellsCrashes, as_read}
+use Rattle.lean_shell.specs.Headline.{Survives}
 use Rattle.lean_shell.specs.Lines.{line_of, WentOut}
 
 -- ## A disk that was not opened
@@ -74,16 +72,21 @@ pub record Counts : Type 0 where
 abbrev pub first_line : Counts → List ℕ
 first_line n = opened_line n.generation n.winners n.undone
 
--- The map at the start is that for which the disk on entry stands, its pages are those that recovery gives, and the counts are those of its
--- image. The base number is the greatest number there.
+-- The opening is the start that a disk gives by its master: its format and logs, the pages that recovery of its image gives, and the greatest number
+-- there as base number.
+pub record IsStartOf (m : Master) (area : Areas) (g : Opening) : Type 0 where
+  pub format : g.format ≡ format_of m.pages
+  pub logs : g.workers ≡ length m.heads
+  pub base : IsGreatest (image_by m area) g.base
+  pub pages : (p : ℕ) → p < m.pages → start_page g p ≡ recovered_page (image_by m area) p
+
+-- The opening is the start that the disk on entry gives, with the map for which it stands, and the counts are those of its image.
 pub record IsFrom (g : Opening) (s : Story) (n : Counts) : Type 0 where
   pub m : Master
   pub openable : IsOpenable m
   pub sound : IsSoundDisk m (areas_of s)
+  pub starts : IsStartOf m (areas_of s) g
   pub map : (k : ℕ) → first_map g k ≡ map_of (image_by m (areas_of s)) k
-  pub format : g.format ≡ format_of m.pages
-  pub pages : (p : ℕ) → p < m.pages → start_page g p ≡ recovered_page (image_by m (areas_of s)) p
-  pub base : IsGreatest (image_by m (areas_of s)) g.base
   pub generation : n.generation ≡ suc m.generation
   pub won : n.winners ≡ length (won_by (image_by m (areas_of s)))
   pub lost : n.undone ≡ length (lost_by (image_by m (areas_of s)))
@@ -102,6 +105,23 @@ pub record CutFirst (status : ℕ) (s0 : Story) (feed0 feed1 : Feed) (put : List
   pub prefix : ℕ
   pub printed : put ≡ take prefix (first_line counts)
   pub unread : feed1 ≡ feed0
+
+-- ## What was executed
+
+-- An engine stands on the start that the disk on entry gives, with an empty log, and answers these calls in turn: each refusal has its cause in the
+-- state at its place.
+pub record Executed (s0 : Story) (counts : Counts) (calls : List Answered) : Type 0 where
+  pub opening : Opening
+  pub alone : IsAlone 64 opening
+  pub from : TellsAll s0 → IsFrom opening s0 counts
+  pub first : State
+  pub pictures : Pictures opening (start opening) first
+  pub log : TellsAll s0 → (m : Master) → master_on (areas_of s0 0) ≡ Some m → first.log ≡ first_log m opening.base
+  pub last : State
+  pub session : Session
+  pub executes : Executes opening first (start opening) calls last session
+
+-- ## What was put
 
 -- the status by why the script stopped, and the line that is put then
 abbrev pub ended : Stop → ℕ
@@ -124,28 +144,8 @@ WentLast stops.End put before now = (put ≡ []) × (now ≡ before)
 WentLast stops.WriteFault put before now = (put ≡ []) × Rose before now
 WentLast stop put before now = WentOut (last_line stop) put before now
 
--- The script was executed on an opening: the first line went out, then the replies to its lines, then the last line or a prefix of it. What
--- the script and the output tell of is what was executed, but for a last call whose reply was cut off; and it is serial from the
--- map for which the disk on entry stands.
-pub record Ran (status : ℕ) (s0 s1 : Story) (feed0 feed1 : Feed) (put : List ℕ) (sink0 sink1 : ℕ) : Type 0 where
-  pub counts : Counts
-  pub opening : Opening
-  pub alone : IsAlone 64 opening
-  pub from : TellsAll s0 → IsFrom opening s0 counts
-  pub stop : Stop
-  pub status_is : status ≡ ended stop
-  -- each call was answered by the engine, in turn; each refusal has its cause
-  pub e0 : State
-  pub e1 : State
-  pub pictures : Pictures opening (start opening) e0
-  pub log : TellsAll s0 → (m : Master) → master_on (areas_of s0 0) ≡ Some m → e0.log ≡ first_log m opening.base
-  pub calls : List Answered
-  pub few : length calls < 2 ^ 40
-  pub session : Session
-  pub executes : Executes opening e0 (start opening) calls e1 session
-  -- the script begins with the lines that ask them, and why no more were executed
-  pub read : IsTrue feed0.tells → LinesRead stop calls feed0.left
-  -- what was put
+-- The first line went out, then the replies to these calls, then the last line or a prefix of it.
+pub record Printed (stop : Stop) (counts : Counts) (calls : List Answered) (put : List ℕ) (sink0 sink1 : ℕ) : Type 0 where
   pub told : List Reply
   pub tail : List ℕ
   pub prints : PrintsTo (Some stop) (replies calls) told tail
@@ -153,13 +153,29 @@ pub record Ran (status : ℕ) (s0 s1 : Story) (feed0 feed1 : Feed) (put : List �
   pub last : List ℕ
   pub last_is : WentLast stop last sink0 sink1
   pub put_is : put ≡ first_line counts ++ (text_of told ++ (tail ++ last))
-  -- what the script and the output tell of: all calls, unless the sink failed
+
+-- What a script and what was put tell of: all calls, but for the last ones where the sink failed.
+pub record AreTold (stop : Stop) (calls : List Answered) (input put : List ℕ) : Type 0 where
   pub heard : List Answered
   pub unheard : List Answered
   pub calls_are : unheard ++ heard ≡ calls
   pub all_heard : (stop ≡ stops.WriteFault → ⊥) → unheard ≡ []
-  pub transcript_is : IsTrue feed0.tells → transcript 1 feed0.left put ≡ in_turn heard
-  pub serial : IsTrue feed0.tells → TellsAll s0 → (m : Master) (map : Map) (won : List Name) → DiskStandsFor m (areas_of s0) map won → Serial map (journal (transcript 1 feed0.left put))
+  pub transcript_is : transcript 1 input put ≡ in_turn heard
+
+-- ## All of it
+
+-- The script was executed, line by line, and what came of it was put.
+pub record Ran (status : ℕ) (s0 s1 : Story) (feed0 feed1 : Feed) (put : List ℕ) (sink0 sink1 : ℕ) : Type 0 where
+  pub stop : Stop
+  pub status_is : status ≡ ended stop
+  pub counts : Counts
+  pub calls : List Answered
+  pub few : length calls < 2 ^ 40
+  pub executed : Executed s0 counts calls
+  -- the script begins with the lines that ask them, and why no more were executed
+  pub read : IsTrue feed0.tells → LinesRead stop calls feed0.left
+  pub printed : Printed stop counts calls put sink0 sink1
+  pub told : IsTrue feed0.tells → AreTold stop calls feed0.left put
   -- unless the disk failed, it stands as a crash would have left it
   pub stands : (stop ≡ stops.DiskFault → ⊥) → IsTrue feed0.tells → (m : Master) → TellsCrashes s0 → IsCleanDisk m (areas_of s0) → IsYoung m s0 → Survives m s0 feed0.left put (as_read s1)
 

@@ -1,7 +1,10 @@
 // The run of a script.
-ghost use Rattle.std.specs.Prelude.{◌≡◌, ℕ};
+ghost use Rattle.std.specs.Prelude.{◌≡◌, ℕ, IsTrue};
 ghost use Rattle.lean_disk.specs.Faults.{HasCause, IsBlamed};
+ghost use Rattle.lean_edge.specs.Outside.{added};
+ghost use Rattle.recovery.specs.Opened.{TellsAll};
 ghost use Rattle.lean_shell.specs.Ends.{RunEnds};
+ghost use Rattle.lean_shell.specs.Headline.{Headline};
 ghost use Rattle.lean_shell.specs.Inside.Openings.{Refuses};
 ghost use Rattle.lean_shell.specs.Runs.{ended, status_of};
 
@@ -56,6 +59,7 @@ pub fn run_disk<S: Source, K: Sink<D>, D: Disk>(
     sink: &mut K,
     disk: &mut D,
 ) -> u8
+    ensures headline { IsTrue (S.feed source.old).tells → IsTrue (K.held sink.old).tells → TellsAll (D.story disk.old) → Headline (D.story disk.old) (D.story disk.new) (S.feed source.old).left (added (K.held sink.old) (K.held sink.new)) }
     ensures ends { RunEnds result (D.story disk.old) (D.story disk.new) (S.feed source.old) (S.feed source.new) (K.held sink.old) (K.held sink.new) (K.faults sink.old) (K.faults sink.new) }
 
     ensures cause_read_fault { HasCause (S.faults source.old) (S.faults source.new) (result ≡ 4) }
@@ -70,8 +74,10 @@ pub fn run_disk<S: Source, K: Sink<D>, D: Disk>(
     transcripts::every_prefix();
     script_run::every_script();
     transcripts::every_end();
-    transcripts::every_next();
     transcripts::every_notice();
+    transcripts::every_tail();
+    transcripts::every_next();
+    transcripts::every_next_reply();
     disk_image::every_agreement();
     disk_image::every_sealed();
     worker_log::every_run();

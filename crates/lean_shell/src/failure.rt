@@ -1,8 +1,9 @@
 // How a command ends, and the last line that it prints.
 ghost use Rattle.std.specs.Prelude.{◌≡◌};
+ghost use Rattle.lean_edge.specs.Outside.{IsWholeLine};
 ghost use Rattle.lean_shell.specs.Endings.{last_line, number_of};
 
-use script_lang::{ALREADY_FORMATTED, DISK_FAULT, NO_MEMORY, USAGE, fixed_lines};
+use script_lang::{ALREADY_FORMATTED, DISK_FAULT, NO_MEMORY, USAGE, fixed_lines, notices_are_no_replies};
 
 /// How a command ended, other than well.
 #[derive(Clone, Copy, Debug, PartialEq, Eq)]
@@ -32,9 +33,11 @@ impl Failure {
 
     /// The last line.
     pub fn line(self) -> &'static [u8]
-        ensures { result.now ≡ last_line self }
+        ensures text { result.now ≡ last_line self }
+        ensures line { IsWholeLine result.now }
     {
         fixed_lines();
+        notices_are_no_replies();
         match self {
             Failure::Usage => USAGE,
             Failure::DiskFault => DISK_FAULT,

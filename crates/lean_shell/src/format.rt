@@ -53,7 +53,7 @@ pub fn format<D: Disk>(disk: &mut D, shape: Shape, buffer: &mut [u8]) -> Formatt
     requires pages { shape.pages ≤ 65536 }
     requires room { length buffer.old ≡ 65536 }
 
-    ensures after { result ≡ Formatted.Done → IsNewDisk shape (D.story disk.new) }
+    ensures after { result ≡ Formatted.Done → IsNewDisk shape (D.story disk.old) (D.story disk.new) }
     ensures same { result ≡ Formatted.AlreadyFormatted → IsUntouched (D.story disk.old) (D.story disk.new) }
     ensures logs { (a : ℕ) → 1 < a → (D.story disk.new).area a ≡ (D.story disk.old).area a }
     ensures keeps { Keeps (D.story disk.old) (D.story disk.new) }

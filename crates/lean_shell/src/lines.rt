@@ -4,6 +4,7 @@ ghost use Rattle.lean_disk.specs.Faults.{HasCause};
 ghost use Rattle.script_lang.specs.Notices.{Notice, NoticeFits};
 ghost use Rattle.recovery.specs.declared.opening.Unrecovered.{Unrecovered};
 ghost use Rattle.script_run.specs.declared.stop.Stop.{Stop};
+ghost use Rattle.lean_edge.specs.Outside.{IsWholeLine};
 ghost use Rattle.lean_shell.specs.Lines.{IsPut, line_of};
 ghost use Rattle.lean_shell.specs.Inside.Openings.{EndsWith};
 ghost use Rattle.lean_shell.specs.Runs.{Counts, first_line, last_line, notice_of};
@@ -13,12 +14,14 @@ use lean_edge::{Put, Sink};
 use recovery::Unrecovered;
 use script_lang::{
     DISK_FAULT, NO_MEMORY, NOT_FORMATTED, READ_FAULT, REPLY, damaged_bytes, fixed_lines,
+    notices_are_no_replies,
     opened_bytes, refused_bytes,
 };
 use script_run::Stop;
 
 /// Puts one line.
 fn put_line<K: Sink<D>, D: Disk>(line: &[u8], sink: &mut K, disk: &mut D) -> Put
+    requires { IsWholeLine line.now }
     ensures put { IsPut line.now result (K.held sink.old) (K.held sink.new) (D.story disk.old) (D.story disk.new) }
     ensures faults { D.faults disk.new ≡ D.faults disk.old }
 
@@ -41,6 +44,7 @@ pub(crate) fn put_opened<K: Sink<D>, D: Disk>(
 
     ensures cause { HasCause (K.faults sink.old) (K.faults sink.new) (result ≡ Put.Failed) }
 {
+    notices_are_no_replies();
     let mut line = [0; REPLY];
     let end = opened_bytes(generation, winners, undone, &mut line);
     put_line(&line[..end], sink, disk)
@@ -52,6 +56,7 @@ fn put_damaged<K: Sink<D>, D: Disk>(area: u32, place: u64, sink: &mut K, disk: &
 
     ensures cause { HasCause (K.faults sink.old) (K.faults sink.new) (result ≡ Put.Failed) }
 {
+    notices_are_no_replies();
     let mut line = [0; REPLY];
     let end = damaged_bytes(area, place, &mut line);
     put_line(&line[..end], sink, disk)
@@ -63,6 +68,7 @@ fn put_refused<K: Sink<D>, D: Disk>(number: u64, sink: &mut K, disk: &mut D) -> 
 
     ensures cause { HasCause (K.faults sink.old) (K.faults sink.new) (result ≡ Put.Failed) }
 {
+    notices_are_no_replies();
     let mut line = [0; REPLY];
     let end = refused_bytes(number, &mut line);
     put_line(&line[..end], sink, disk)
@@ -81,6 +87,7 @@ pub(crate) fn put_reason<K: Sink<D>, D: Disk>(
     ensures cause { HasCause (K.faults sink.old) (K.faults sink.new) (result ≡ Put.Failed) }
 {
     fixed_lines();
+    notices_are_no_replies();
     match reason {
         Unrecovered::NotFormatted => put_line(NOT_FORMATTED, sink, disk),
         Unrecovered::Damaged { area, place } => put_damaged(area, place, sink, disk),
@@ -96,6 +103,7 @@ pub(crate) fn put_last<K: Sink<D>, D: Disk>(stop: Stop, sink: &mut K, disk: &mut
     ensures later { K.faults sink.old ≤ K.faults sink.new }
 {
     fixed_lines();
+    notices_are_no_replies();
     match stop {
         Stop::End => {}
         Stop::WriteFault => {}

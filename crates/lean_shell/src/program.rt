@@ -1,9 +1,12 @@
 // The program's one call.
-ghost use Rattle.std.specs.Prelude.{◌≡◌, ◌↔◌, ◌≤◌};
+ghost use Rattle.std.specs.Prelude.{◌≡◌, ◌↔◌, ◌≤◌, IsTrue};
 ghost use Rattle.lean_disk.specs.Faults.{HasCause, IsBlamed};
+ghost use Rattle.lean_edge.specs.Outside.{added};
+ghost use Rattle.recovery.specs.Opened.{TellsAll};
 ghost use Rattle.lean_shell.specs.Ends.{RunEnds};
+ghost use Rattle.lean_shell.specs.Headline.{Headline};
 ghost use Rattle.lean_shell.specs.Endings.{FinishedPut, FormatEnds, IsStatus, UsageEnds, WentOut, last_line, number_of};
-ghost use Rattle.lean_shell.specs.Formatted.{OnlyNotes};
+ghost use Rattle.lean_shell.specs.Lines.{OnlyNotes};
 ghost use Rattle.lean_shell.specs.Inside.Commands.{CommandEnds};
 ghost use Rattle.lean_shell.specs.Words.{Asks, texts};
 ghost use Rattle.lean_shell.specs.declared.words.Command.{Command};
@@ -17,7 +20,7 @@ use crate::format::{Formatted, format};
 use crate::words::{Command, Shape, read_words};
 use lean_disk::Disk;
 use lean_edge::{Put, Sink, Source};
-use script_lang::{REPLY, formatted_bytes};
+use script_lang::{REPLY, formatted_bytes, notices_are_no_replies};
 use std::alloc::Global;
 use std::sync::Wait;
 use std::thread::Threads;
@@ -39,6 +42,7 @@ fn finish<K: Sink<D>, D: Disk>(shape: Shape, sink: &mut K, disk: &mut D) -> u8
     ensures noted { OnlyNotes (D.story disk.old) (D.story disk.new) }
     ensures faults { D.faults disk.new ≡ D.faults disk.old }
 {
+    notices_are_no_replies();
     let mut line = [0; REPLY];
     let end = formatted_bytes(1, shape.pages, shape.blocks, &mut line);
     match sink.put(disk, &line[..end]) {
@@ -71,6 +75,7 @@ fn run_alone<S: Source, K: Sink<D>, D: Disk>(
 ) -> u8
     ensures ends { CommandEnds (texts words.now) result (D.story disk.old) (D.story disk.new) (S.feed source.old) (S.feed source.new) (K.held sink.old) (K.held sink.new)
         (record { source = S.faults source.old; sink = K.faults sink.old; disk = D.faults disk.old }) (record { source = S.faults source.new; sink = K.faults sink.new; disk = D.faults disk.new }) }
+    ensures headline { Asks (texts words.now) Run → IsTrue (S.feed source.old).tells → IsTrue (K.held sink.old).tells → TellsAll (D.story disk.old) → Headline (D.story disk.old) (D.story disk.new) (S.feed source.old).left (added (K.held sink.old) (K.held sink.new)) }
     ensures source { (Asks (texts words.now) Run → ⊥) → source.new ≡ source.old }
 {
     match read_words(words) {
@@ -102,6 +107,9 @@ pub fn run<R: Threads + Wait + Sync, S: Source, K: Sink<D>, D: Disk, G: Gate + S
     disk: D,
     gate: &G,
 ) -> Ended<D>
+    // Whatever script runs, and wherever a crash falls.
+    ensures headline { Asks (texts words.now) Run → IsTrue (S.feed source.old).tells → IsTrue (K.held sink.old).tells → TellsAll (D.story disk) → Headline (D.story disk) (D.story result.disk) (S.feed source.old).left (added (K.held sink.old) (K.held sink.new)) }
+
     // Which statuses there are, and why.
     ensures known { IsStatus result.status }
     ensures usage { (result.status ≡ 2) ↔ ((command : Command) → Asks (texts words.now) command → ⊥) }

@@ -1,6 +1,8 @@
 -- The pieces of a line, as they are written one after another.
-use Rattle.std.proofs.Common.{◌≡◌, ◌++◌, [], ℕ, List, refl, ap, subst, ◌∙◌}
+use Rattle.std.proofs.Common.{◌≡◌, ◌++◌, ◌∷◌, [], ℕ, List, length, take, drop, refl, sym, ap, subst, ◌∙◌}
+use Rattle.std.proofs.lemmas.List.{take_at}
 use mathlib.Core.List.{append_assoc}
+use Rattle.lean_edge.specs.Outside.{IsLine, IsWholeLine}
 use Rattle.script_lang.specs.Pieces.{Holds}
 
 -- a buffer in which nothing was written
@@ -28,3 +30,11 @@ two_pieces a b c d = simp append_assoc
 
 pub last_piece : (a b c d : List ℕ) → (a ++ b) ++ (c ++ d) ≡ (a ++ (b ++ c)) ++ d
 last_piece a b c d = simp append_assoc
+
+-- the bytes up to its end are the text
+pub held_text : {first now : List ℕ} {end : ℕ} (text : List ℕ) → Holds text first now end → take end now ≡ text
+held_text {first} {now} {end} text h = ap (take end) h.bytes ∙ take_at text (drop (length text) first) end (sym h.count)
+
+-- a line that was written in a buffer is one line
+pub one_whole_line : (text : List ℕ) {first now : List ℕ} {end : ℕ} → IsLine text → Holds (text ++ 10 ∷ []) first now end → IsWholeLine (take end now)
+one_whole_line text is h = record { line = text; is_line = is; is = held_text (text ++ 10 ∷ []) h }

@@ -1,4 +1,5 @@
--- The lines of a text.
+-- The lines of a text. A line is bytes without a newline among them (`IsLine`).
+pub use Rattle.lean_edge.specs.Outside.{IsLine}
 use Rattle.std.specs.Prelude.{◌≡◌, ◌==◌, ◌++◌, ℕ, List, [], ◌∷◌, Bool, if◌then◌else◌, false, not}
 
 -- what stands behind the last newline is a line if it has a byte
@@ -29,8 +30,3 @@ within_on w (b ∷ bytes) = within_on (not (b == 10)) bytes
 
 abbrev pub is_within : List ℕ → Bool
 is_within = within_on false
-
--- a line without a newline in it
-abbrev pub IsLine : List ℕ → Type 0
-IsLine [] = Unit {0}
-IsLine (b ∷ bytes) = (b ≡ 10 → ⊥) × IsLine bytes

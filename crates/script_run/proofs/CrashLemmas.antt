@@ -5,7 +5,7 @@ use Rattle.map_model.specs.Lists.{Has}
 use Rattle.image_model.specs.Entries.{Entry}
 use Rattle.image_model.specs.Fair.{IsFair}
 use Rattle.log_record.specs.declared.record.Record.{Record}
-use Rattle.log_block.specs.Block.{IsSealed, generation_of}
+use Rattle.log_block.specs.Block.{IsSealed}
 use Rattle.lean_disk.specs.Area.{Write, Leaves}
 use Rattle.lean_disk.specs.Story.{Crash, Story, Tells}
 use Rattle.lean_edge.specs.Outside.{Feed}
@@ -14,7 +14,7 @@ use Rattle.core_state.specs.States.{Opening}
 use Rattle.session_model.specs.Sessions.{Session}
 use Rattle.session_model.specs.Calls.{Answered, Runs}
 use Rattle.worker_log.specs.Logs.{Log, Account, IsInRange, spelled_from}
-use Rattle.worker_log.specs.Kept.{IsKept, run_of}
+use Rattle.worker_log.specs.Kept.{IsKept, run_of, IsOfGeneration}
 use Rattle.lean_engine.specs.States.{Logs}
 use Rattle.lean_engine.specs.Crashes.{HoldsPrefix, LeavesPrefix}
 use Rattle.lean_engine.specs.Laws.{EveryRest}
@@ -32,7 +32,7 @@ pub record Hand (start : Feed) (seen : List ℕ) (g : Opening) (calls : List Ans
 pub record LogLeft (start : Feed) (seen : List ℕ) (g : Opening) (calls : List Answered) (told : List Reply) (s : Session) (x : Account) (log : Log) (writes : List Write) (bytes : List ℕ) : Type 0 where
   pub since : List Write
   pub writes_are : writes ≡ since ++ x.older
-  pub own : (w : Write) → Has w since → generation_of w.1 ≡ log.generation
+  pub own : (w : Write) → Has w since → IsOfGeneration log.generation w
   pub holds : IsFair 2048 IsSealed x.first since bytes → HoldsRun start seen g calls told s log bytes
 
 -- a run of the same ring
@@ -72,7 +72,7 @@ module _ (start : Feed) (seen : List ℕ) (g : Opening) (calls : List Answered) 
   left_back Is reach x y first older writes bytes f = record {
     since = f.since;
     writes_are = f.writes_are ∙ ap (λ (ws : List Write). f.since ++ ws) older;
-    own = λ w has. f.own w has ∙ ring.generation;
+    own = λ w has. subst (λ (n : ℕ). IsOfGeneration n w) ring.generation (f.own w has);
     holds = λ fair. back Is reach bytes (f.holds (subst (λ (bs : List ℕ). IsFair 2048 IsSealed bs f.since bytes) (sym first) fair));
   }
 

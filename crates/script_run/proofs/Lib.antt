@@ -1,4 +1,5 @@
 pub mod ListLemmas
+pub mod RingLemmas
 pub mod SessionLemmas
 pub mod PutLemmas
 pub mod ReadLemmas

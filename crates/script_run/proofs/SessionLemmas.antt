@@ -14,9 +14,10 @@ use Rattle.session_model.specs.Sessions.{Session, committed, change_of, commit_o
 use Rattle.session_model.specs.Calls.{Answered, Refuses, Does, Runs}
 use Rattle.worker_log.specs.Logs.{Log}
 use Rattle.lean_engine.specs.States.{State}
-use Rattle.lean_engine.specs.Calls.{IsCommitted, KeepsRing}
+use Rattle.lean_engine.specs.Calls.{IsCommitted}
 use Rattle.transcripts.specs.Told.{committed_by}
-use Rattle.script_run.specs.Runs.{Answers, Executes, IsFlushed, SameRing}
+use Rattle.script_run.specs.Runs.{Answers, Executes, IsFlushed}
+use Rattle.script_run.proofs.RingLemmas.{keeps_ring}
 
 -- the numbers of records are at most the clock
 abbrev pub AllBelow : Session → Type 0
@@ -64,11 +65,11 @@ pub stays_flushed : (g : Opening) (d e : State) (s t : Session) (x : Answered) �
 stays_flushed g d e s t x below a = go (grown g.format g.changes s x.call x.answer t a.does)
   where
     go : Grown s x.answer t → StaysFlushed s t d.log e.log
-    go (Stays log clock never) = record { each = λ r has le. (subst (Has r) (sym log) has, let same : e.log.flushed ≡ d.log.flushed = a.ring.other never in omega arith) }
-    go (Changed entry number log clock never) = record { each = λ r has le. (subst (Has r) (sym log) (inr has), let same : e.log.flushed ≡ d.log.flushed = a.ring.other never in omega arith) }
+    go (Stays log clock never) = record { each = λ r has le. (subst (Has r) (sym log) has, let same : e.log.flushed ≡ d.log.flushed = (keeps_ring x.answer x.call d e.log a.log).other never in omega arith) }
+    go (Changed entry number log clock never) = record { each = λ r has le. (subst (Has r) (sym log) (inr has), let same : e.log.flushed ≡ d.log.flushed = (keeps_ring x.answer x.call d e.log a.log).other never in omega arith) }
     go (Committed after is) = record {
       each = λ r has le.
-          let all : e.log.flushed ≡ e.log.last = a.ring.committed (subst IsCommitted (sym is) tt) in
+          let all : e.log.flushed ≡ e.log.last = (keeps_ring x.answer x.call d e.log a.log).committed (subst IsCommitted (sym is) tt) in
           let pictured : t.clock ≡ e.log.last = a.pictures.clock in
           let clock : t.clock ≡ suc s.clock = ap (λ (u : Session). u.clock) after in
           let low : r.number ≤ s.clock = below r has in
@@ -90,7 +91,7 @@ commit_flushed g d e s t x a name has = go (grown g.format g.changes s x.call x.
     go (Stays log clock never) = absurd (other x.answer never has)
     go (Changed entry number log clock never) = absurd (other x.answer never has)
     go (Committed after is) =
-        let all : e.log.flushed ≡ e.log.last = a.ring.committed (subst IsCommitted (sym is) tt) in
+        let all : e.log.flushed ≡ e.log.last = (keeps_ring x.answer x.call d e.log a.log).committed (subst IsCommitted (sym is) tt) in
         let pictured : t.clock ≡ e.log.last = a.pictures.clock in
         let clock : t.clock ≡ suc s.clock = ap (λ (u : Session). u.clock) after in
         let mine : Has name (committed_by (answer.Committed s.begun (committed s).clock)) = subst (λ (b : Answer). Has name (committed_by b)) is has in
@@ -108,6 +109,3 @@ executes_then g e0 e1 e2 s0 s1 s2 xs (y ∷ ys) first second = (second.0, second
 
 pub runs_then : (g : Opening) (xs ys zs : List Answered) (s : Session) → Runs g (zs ++ (ys ++ xs)) s → Runs g ((zs ++ ys) ++ xs) s
 runs_then g xs ys zs s run = subst (λ (us : List Answered). Runs g us s) (sym (append_assoc zs ys xs)) run
-
-pub same_ring : (a : Answer) (old new : Log) → KeepsRing a old new → SameRing old new
-same_ring a old new k = record { generation = k.generation; log = k.log; blocks = k.blocks; head = k.head }

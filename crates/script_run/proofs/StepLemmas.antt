@@ -24,7 +24,9 @@ use Rattle.worker_log.specs.Logs.{Account, IsInRange}
 use Rattle.worker_log.specs.Kept.{IsKept}
 use Rattle.lean_engine.specs.States.{State, Logs, Pictures}
 use Rattle.lean_engine.specs.Refusals.{IsRefused}
-use Rattle.lean_engine.specs.Calls.{Calls, GoesOn, IsWithin, KeepsRing, LogAfter}
+use Rattle.lean_engine.specs.Calls.{Calls, GoesOn, IsWithin}
+use Rattle.lean_engine.specs.Logged.{LogAfter}
+use Rattle.script_run.proofs.RingLemmas.{keeps_ring}
 use Rattle.lean_engine.specs.Crashes.{IsAround, LeavesPrefix}
 use Rattle.lean_engine.specs.Laws.{EveryRest}
 use Rattle.transcripts.specs.Told.{ask, asked_text, replies, names, Heard}
@@ -38,7 +40,7 @@ use Rattle.script_run.specs.Inside.{IsOfReading, PutLeaves, Says, Stepped}
 use Rattle.script_run.specs.declared.stop.Stop.{Stop}
 use Rattle.script_run.specs.declared.stop.Stop.TheVariants.{WriteFault, DiskFault}
 use Rattle.script_run.proofs.ListLemmas.{has_left, names_append, none_or_one}
-use Rattle.script_run.proofs.SessionLemmas.{all_below, StaysFlushed, stays_flushed, commit_flushed, same_ring}
+use Rattle.script_run.proofs.SessionLemmas.{all_below, StaysFlushed, stays_flushed, commit_flushed}
 use Rattle.script_run.proofs.PutLemmas.{holds_none}
 use Rattle.script_run.proofs.ReadLemmas.{reads_same, reads_putting, prints_none, of_no_sink, FirstOf, first_of}
 use Rattle.script_run.proofs.CrashLemmas.{Hand, LogLeft, left_back, at_rest}
@@ -172,14 +174,14 @@ module _ (rest : EveryRest) (g : Opening) (xs : List Answered) (s : Session) (e0
     fault_stepped e1 before start feed seen reader held few reading = record { run = fault_step e1 before start feed seen reader held few reading; count_is = λ none. let e : Some DiskFault ≡ None = none in cc }
 
     -- it was answered
-    module _ (a : Answer) (a_fits : AnswerFits a) (e1 : State) (range_1 : IsInRange e1.log) (is : Calls g s e0 e1 call a (Tells mid 2) (old.area 2) (mid.area 2)) (ring : KeepsRing a e0.log e1.log) (logged : LogAfter a e0 e1)
+    module _ (a : Answer) (a_fits : AnswerFits a) (e1 : State) (range_1 : IsInRange e1.log) (is : Calls g s e0 e1 call a (Tells mid 2) (old.area 2) (mid.area 2)) (logged : LogAfter a call e0 e1.log)
         (refused : (why : Refusal) → (a ≡ answer.Refused why → IsRefused e0 call why) × (IsRefused e0 call why → a ≡ answer.Refused why)) (same : (why : Refusal) → IsRefused e0 call why → e1 ≡ e0)
         (stop : Option Stop) (h0 h1 : Held) (new : Story) (said : Says a stop h0 h1 mid new) where
       abbrev x1 : Answered
       x1 = record { call = call; answer = a }
 
       answered : Answers g e0 s x1 e1 is.after
-      answered = record { does = is.does; pictures = is.pictures; refused = refused; same = same; ring = ring; log = logged }
+      answered = record { does = is.does; pictures = is.pictures; refused = refused; same = same; log = logged }
 
       after_runs : Runs g (x1 ∷ xs) is.after
       after_runs = (s, runs, is.does)
@@ -213,7 +215,7 @@ module _ (rest : EveryRest) (g : Opening) (xs : List Answered) (s : Session) (e0
           calls.is calls.heard
           (λ b other tell. p.writes b (frame.tells b ∙ tell) ∙ ap (λ (u : Area). u.writes) (frame.elsewhere b other))
           (λ b other tell. subst (λ (u : Area). Leaves u (c.image b)) (frame.elsewhere b other) (p.leaves b (frame.tells b ∙ tell)))
-          (left_back start (seen ++ asked_text calls.first) g (calls.first ++ xs) p.first s is.after e0.log e1.log (same_ring a e0.log e1.log ring) stays.each (told_durable p.later p.first p.split) (λ t. t ≡ is.after) (hand_of start seen asked calls.later calls.first calls.is) x y.y y.first y.older
+          (left_back start (seen ++ asked_text calls.first) g (calls.first ++ xs) p.first s is.after e0.log e1.log (keeps_ring a call e0 e1.log logged).ring stays.each (told_durable p.later p.first p.split) (λ t. t ≡ is.after) (hand_of start seen asked calls.later calls.first calls.is) x y.y y.first y.older
           (c.writes 2) (c.image 2) (at_rest rest is.after y.y e1.log mid is.pictures.log range_1 told y.logs (y.kept told kept) c (p.writes 2 told) (p.leaves 2 told)))
 
       answer_step : (before : ℕ) (start feed : Feed) (seen : List ℕ) (reader : Unread) → before + 1 < 2 ^ 40 → Reading start feed reader (seen ++ (ask call ++ 10 ∷ []))
@@ -242,7 +244,7 @@ module _ (rest : EveryRest) (g : Opening) (xs : List Answered) (s : Session) (e0
           area = λ b other. said.notes.area b ∙ frame.elsewhere b other;
           notes = λ counts fits. let n : mid.notes ≡ old.notes = frame.notes in let m : new.notes ≡ mid.notes + length said.told = said.notes.notes (frame.counts ∙ counts) (omega arith) in omega arith;
         };
-        ring = same_ring a e0.log e1.log ring;
+        ring = (keeps_ring a call e0 e1.log logged).ring;
         goes_on = λ never tells x logs kept.
             let y : GoesOn is.after x a e0.log e1.log (Tells mid 2) (old.area 2) (mid.area 2) = is.goes_on x logs in
             record { y = y.y; first = y.first; older = y.older; logs = y.logs; kept = subst (IsKept y.y e1.log) (sym (said.notes.area 2)) (y.kept (frame.tells 2 ∙ tells) kept) };

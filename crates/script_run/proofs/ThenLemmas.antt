@@ -18,7 +18,7 @@ use Rattle.core_state.specs.States.{Opening}
 use Rattle.session_model.specs.Sessions.{Session}
 use Rattle.session_model.specs.Calls.{Answered, Runs}
 use Rattle.worker_log.specs.Logs.{Account}
-use Rattle.worker_log.specs.Kept.{IsKept}
+use Rattle.worker_log.specs.Kept.{IsKept, IsOfGeneration}
 use Rattle.lean_engine.specs.States.{State, Logs, Pictures}
 use Rattle.transcripts.specs.Told.{asked_text, text_of, replies, names, committed, Heard}
 use Rattle.transcripts.proofs.AskedLemmas.{text_append, replies_append}
@@ -175,7 +175,7 @@ module _ (g : Opening) (xs : List Answered) (s : Session) (before : ℕ) (start 
       leaves = λ b other tell. subst (λ (u : Area). Leaves u (c.image b)) (a.others.area b other) (l.leaves b other (a.others.tells b ∙ tell));
       since = l.since;
       writes_are = l.writes_are ∙ ap (λ (ws : List Write). l.since ++ ws) y.older;
-      own = λ w has. l.own w has ∙ ring_first.generation;
+      own = λ w has. subst (λ (n : ℕ). IsOfGeneration n w) ring_first.generation (l.own w has);
       holds = λ fair. run_back l.heard l.first (c.image 2) (l.holds (subst (λ (bs : List ℕ). IsFair 2048 IsSealed bs l.since (c.image 2)) (sym y.first) fair));
     }
 

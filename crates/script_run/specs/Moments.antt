@@ -6,7 +6,7 @@ use Rattle.map_model.specs.Lists.{Has}
 use Rattle.image_model.specs.Entries.{Entry, is_commit}
 use Rattle.image_model.specs.Fair.{IsFair}
 use Rattle.log_record.specs.declared.record.Record.{Record}
-use Rattle.log_block.specs.Block.{IsSealed, generation_of}
+use Rattle.log_block.specs.Block.{IsSealed}
 use Rattle.lean_edge.specs.Outside.{Feed}
 use Rattle.script_lang.specs.Lines.{CallFits}
 use Rattle.script_lang.specs.Reading.{Unread, Reading}
@@ -17,7 +17,7 @@ use Rattle.core_state.specs.States.{Opening}
 use Rattle.session_model.specs.Sessions.{Session}
 use Rattle.session_model.specs.Calls.{Answered, Runs}
 use Rattle.worker_log.specs.Logs.{Log, Account, spelled_from, joined}
-use Rattle.worker_log.specs.Kept.{AllFitBlocks, run_of}
+use Rattle.worker_log.specs.Kept.{AllFitBlocks, run_of, IsOfGeneration}
 use Rattle.worker_log.specs.Laws.{entries_onto}
 use Rattle.transcripts.specs.Told.{ask, asked_text, Heard, names}
 
@@ -73,5 +73,5 @@ pub record ScriptLeaves (start : Feed) (seen : List ℕ) (g : Opening) (xs answe
   -- the log's area: its writes since the account began are blocks of the generation, and so it is in each fair image
   pub since : List Write
   pub writes_are : c.writes 2 ≡ since ++ x.older
-  pub own : (w : Write) → Has w since → generation_of w.1 ≡ log.generation
+  pub own : (w : Write) → Has w since → IsOfGeneration log.generation w
   pub holds : IsFair 2048 IsSealed x.first since (c.image 2) → HoldsRun start (seen ++ asked_text heard) g (heard ++ xs) first s log (c.image 2)

@@ -21,7 +21,7 @@ use Rattle.worker_log.specs.Logs.{Log, Account}
 use Rattle.worker_log.specs.Kept.{IsKept}
 use Rattle.lean_engine.specs.States.{State, Logs, Pictures}
 use Rattle.lean_engine.specs.Refusals.{IsRefused}
-use Rattle.lean_engine.specs.Calls.{KeepsRing, LogAfter}
+use Rattle.lean_engine.specs.Logged.{LogAfter}
 use Rattle.transcripts.specs.Told.{ask, asked_text, text_of, replies, committed, EachFits}
 use Rattle.script_run.specs.Moments.{HasCommit, ScriptLeaves}
 use Rattle.script_run.specs.declared.stop.Stop.{Stop}
@@ -35,8 +35,7 @@ pub record Answers (g : Opening) (d : State) (r : Session) (x : Answered) (e : S
   pub pictures : Pictures g s e
   pub refused : (why : Refusal) → (x.answer ≡ answer.Refused why) ↔ IsRefused d x.call why
   pub same : (why : Refusal) → IsRefused d x.call why → e ≡ d
-  pub ring : KeepsRing x.answer d.log e.log
-  pub log : LogAfter x.answer d e
+  pub log : LogAfter x.answer x.call d e.log
 
 -- so it answered call by call, the newest first
 abbrev pub Executes : Opening → State → Session → List Answered → State → Session → Type 0

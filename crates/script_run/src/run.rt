@@ -14,7 +14,8 @@ ghost use Rattle.worker_log.specs.Logs.{Account, IsInRange};
 ghost use Rattle.worker_log.specs.Kept.{IsKept};
 ghost use Rattle.lean_engine.specs.States.{Logs, Pictures};
 ghost use Rattle.lean_engine.specs.Refusals.{IsRefused};
-ghost use Rattle.lean_engine.specs.Calls.{Calls, IsWithin, KeepsRing, LogAfter};
+ghost use Rattle.lean_engine.specs.Calls.{Calls, IsWithin};
+ghost use Rattle.lean_engine.specs.Logged.{LogAfter};
 ghost use Rattle.lean_engine.specs.Crashes.{IsAround, LeavesPrefix};
 ghost use Rattle.script_run.specs.Runs.{ScriptRuns};
 ghost use Rattle.script_run.specs.Inside.{Stepped};
@@ -118,8 +119,7 @@ fn call_engine<D: Disk>(engine: &mut Engine, disk: &mut D, call: &Call) -> Resul
     requires range { IsWithin call.now }
     ensures does { IfOk result (λ a. (g : Opening) (s : Session) → g.changes ≡ 64 → Pictures g s engine.old
         → Calls g s engine.old engine.new call.now a (Tells (D.story disk.new) 2) ((D.story disk.old).area 2) ((D.story disk.new).area 2)) }
-    ensures ring { IfOk result (λ a. KeepsRing a engine.old.log engine.new.log) }
-    ensures log { IfOk result (λ a. LogAfter a engine.old engine.new) }
+    ensures log { IfOk result (λ a. LogAfter a call.now engine.old engine.new.log) }
     ensures same { (r : Refusal) → IsRefused engine.old call.now r → engine.new ≡ engine.old }
     ensures any_moment { (g : Opening) (s : Session) (x : Account) → g.changes ≡ 64 → Pictures g s engine.old → Logs s x
         → (Tells (D.story disk.old) 2 → IsKept x engine.old.log ((D.story disk.old).area 2))

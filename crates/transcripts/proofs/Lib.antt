@@ -5,3 +5,4 @@ pub mod PrefixLemmas
 pub mod AskedLemmas
 pub mod NextLemmas
 pub mod EndLemmas
+pub mod MoreLemmas

@@ -83,7 +83,7 @@ module _ (back : (reply : Reply) → Fits reply → (reply_of (reply_text reply)
       ∙ first_line no_line (notice_text (Opened g w u)) (text_of told ++ o.tail) (quiet (Opened g w u) o.opened).1
       ∙ ap (λ (ls : List (List ℕ)). notice_text (Opened g w u) ∷ ls) (whole_told told o.tail o.fit)
 
-  answers_one : (r : Reply) → Fits r → answers (reply_text r ∷ []) ≡ answer_in r
+  pub answers_one : (r : Reply) → Fits r → answers (reply_text r ∷ []) ≡ answer_in r
   answers_one r fit = ap (λ (o : Option Reply). answer_onto o []) (back r fit).0 ∙ one r
     where
       one : (r : Reply) → answer_onto (Some r) [] ≡ answer_in r

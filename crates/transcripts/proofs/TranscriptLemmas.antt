@@ -31,7 +31,7 @@ abbrev pub said_in : List Answered → List (ℕ × Answer)
 said_in [] = []
 said_in (x ∷ earlier) = said_in earlier ++ (1, x.answer) ∷ []
 
-ask_is_read : (call : Call) → CallFits call → line_of 1 (ask call) ≡ Some (record { session = 1; call = call })
+pub ask_is_read : (call : Call) → CallFits call → line_of 1 (ask call) ≡ Some (record { session = 1; call = call })
 ask_is_read call fits = line_read 1 (ask call) (record { session = 1; call = call }) (omega arith) (record { spelled = refl; first = omega arith; last = omega arith; call = fits })
 
 -- the lines that ask calls are read as these calls

@@ -2,16 +2,17 @@
 use Rattle.std.specs.Prelude.{IsTrue, ◌≡◌, ◌⊎◌, None, take, [], ◌∷◌, ◌≤◌, ◌++◌, ℕ, suc, List, length}
 use Rattle.map_model.specs.Transcripts as model
 use Rattle.script_lang.specs.Notices.{Notice, notice_text, NoticeFits}
-use Rattle.script_lang.specs.Replies.{Reply, reply_text, reply_line}
+use Rattle.script_lang.specs.Replies.{Reply, reply_text, reply_line, Fits}
 use Rattle.lean_edge.specs.Outside.{Feed}
 use Rattle.map_model.specs.declared.call.Call.{Call}
+use Rattle.map_model.specs.declared.call.Answer.{Answer}
 use Rattle.script_lang.specs.Lines.{CallFits, line_of}
 use Rattle.script_lang.specs.Reading.{Unread, Reading, LineIs, LineIsLong, AtEnd}
 use Rattle.script_lang.specs.Text.{script_lines}
 use Rattle.session_model.specs.Calls as session
 use Rattle.session_model.specs.Calls.{Answered}
-use Rattle.transcripts.specs.Told.{ask, IsCut, asked_lines, asked_text, replies, text_of, opened_line, names, committed, EachFits, EachReplyFits, Heard, IsOutput}
-use Rattle.transcripts.specs.Transcripts.{transcript, durables, first_lines, in_turn}
+use Rattle.transcripts.specs.Told.{ask, IsCut, asked_lines, asked_text, replies, text_of, opened_line, names, committed, EachFits, EachReplyFits, Heard, IsOutput, IsTail}
+use Rattle.transcripts.specs.Transcripts.{transcript, durables, first_lines, in_turn, IsQuiet}
 
 -- the calls that a script and its output tell of
 pub record TellsOf (xs : List Answered) (told : List Reply) (input output : List ℕ) : Type 0 where
@@ -97,11 +98,16 @@ abbrev pub EveryEnd : Type 0
 EveryEnd = (generation winners undone : ℕ) (told : List Reply) (output : List ℕ) (count : ℕ) → IsOutput generation winners undone told output → suc (length told) ≤ count →
     IsOutput generation winners undone told (first_lines count output)
 
--- a text in which no call is answered and nothing is told durable
-pub record IsQuiet (input output : List ℕ) : Type 0 where
-  pub transcript_is : transcript 1 input output ≡ []
-  pub durables_are : durables output ≡ []
-
 -- So it is with the first lines of a notice alone.
 abbrev pub EveryNotice : Type 0
 EveryNotice = (n : Notice) (input : List ℕ) (count : ℕ) → NoticeFits n → IsQuiet input (first_lines count (notice_text n ++ 10 ∷ []))
+
+-- Where the reply to the script's next call stands behind the first lines of an output, the two tell of that call too.
+abbrev pub EveryNextReply : Type 0
+EveryNextReply = (generation winners undone : ℕ) (xs : List Answered) (told : List Reply) (others : List (List ℕ)) (input output : List ℕ) (count : ℕ) (c : Call) (a : Answer) → EachFits xs →
+    CallFits c → Fits (Reply.Answered 1 a) → script_lines input ≡ asked_lines xs ++ ask c ∷ others → Heard xs told → IsOutput generation winners undone told (first_lines count output) →
+    transcript 1 input (first_lines count output ++ reply_line (Reply.Answered 1 a)) ≡ in_turn xs ++ (1, c, a) ∷ []
+
+-- A line that was cut off, or the line of a notice, tells of no call.
+abbrev pub EveryTail : Type 0
+EveryTail = (input tail : List ℕ) → IsTail tail → transcript 1 input tail ≡ []

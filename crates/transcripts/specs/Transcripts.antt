@@ -1,5 +1,5 @@
 -- What a script and its output tell.
-use Rattle.std.specs.Prelude.{ℕ, List, [], ◌∷◌, ◌++◌, take, Option, Some, None}
+use Rattle.std.specs.Prelude.{◌≡◌, ℕ, List, [], ◌∷◌, ◌++◌, take, Option, Some, None}
 use Rattle.map_model.specs.declared.call.Call.{Call}
 use Rattle.map_model.specs.declared.call.Answer.{Answer}
 use Rattle.map_model.specs.Journals.{Name}
@@ -64,3 +64,8 @@ first_lines count output = lines_text (take count (whole_lines output))
 abbrev pub in_turn : List Answered → List (ℕ × Call × Answer)
 in_turn [] = []
 in_turn (x ∷ earlier) = in_turn earlier ++ (1, x.call, x.answer) ∷ []
+
+-- a text in which no call is answered and nothing is told durable
+pub record IsQuiet (input output : List ℕ) : Type 0 where
+  pub transcript_is : transcript 1 input output ≡ []
+  pub durables_are : durables output ≡ []

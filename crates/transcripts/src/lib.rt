@@ -1,7 +1,7 @@
 //! The transactions that a script and its output tell of: definitions and their laws.
 #![tactic(auto)]
 
-ghost use Rattle.transcripts.specs.Laws.{EveryEnd, EveryPrefix, EveryMoment, EveryNext, EveryNotice, EveryPart, EveryReading, EveryTranscript};
+ghost use Rattle.transcripts.specs.Laws.{EveryEnd, EveryPrefix, EveryMoment, EveryNext, EveryNextReply, EveryNotice, EveryPart, EveryReading, EveryTail, EveryTranscript};
 
 /// A script and its output tell of the calls that were asked and answered.
 pub fn every_transcript()
@@ -51,5 +51,21 @@ pub fn every_end()
 pub fn every_notice()
     ensures { EveryNotice }
 {
+    script_lang::notices_are_no_replies();
+}
+
+/// The reply to the next call, behind the first lines of an output, tells of that call.
+pub fn every_next_reply()
+    ensures { EveryNextReply }
+{
+    script_lang::replies_are_read_back();
+    script_lang::notices_are_no_replies();
+}
+
+/// A line that was cut off tells of nothing, nor does a notice.
+pub fn every_tail()
+    ensures { EveryTail }
+{
+    script_lang::replies_are_read_back();
     script_lang::notices_are_no_replies();
 }

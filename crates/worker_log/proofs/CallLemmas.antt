@@ -18,7 +18,7 @@ use Rattle.disk_image.proofs.BlockInLemmas.{every_belongs}
 use Rattle.disk_image.proofs.RunLemmas.{belongs-text}
 use Rattle.worker_log.specs.Inside.{IsSized, closed_log}
 use Rattle.worker_log.specs.Logs.{Account, IsInRange, Log, spelled_from, used, with_current}
-use Rattle.worker_log.specs.Kept.{AllFitBlocks, AreLate, HasRoom, HoldsFirst, IsBlockWrite, IsKept, LeavesBlocks, RiseFrom, StagesTo, closed, flushed, staged}
+use Rattle.worker_log.specs.Kept.{AllFitBlocks, AreLate, HasRoom, HoldsFirst, IsBlockWrite, IsKept, LeavesBlocks, RiseFrom, StagesTo, closed, flushed, staged, IsOfGeneration}
 use Rattle.worker_log.proofs.ListLemmas.{block_of, fit_blocks-take, fit_blocks-with, joined-drop-more, joined-drop-with, joined-with, length-with, one_size, size_some, spelled-belongs, spelled-last, spelled-with, take-with, with_some}
 use Rattle.worker_log.proofs.CrashLemmas.{synced_stands, prefix_left}
 use Rattle.worker_log.proofs.KeptLemmas.{count_none, count_some, kept_closed, kept_put, kept_synced}
@@ -68,12 +68,17 @@ module _ (x : Account) (log : Log) (area : Area) (ranges : IsInRange log) (kept 
       }
 
   -- a block that was spelled is of the generation
-  own_generation : (w : Write) → Own w → generation_of w.1 ≡ log.generation
+  own_generation : (w : Write) → Own w → IsOfGeneration log.generation w
   own_generation w is =
       let b : Block = is.block in
       let its : Belongs log.generation log.log b.number b.bytes = (every_belongs log.generation log.log b.number b.bytes).0
       (spelled-belongs log.generation log.log ranges.generation log_fits log.head all (omega (arith, all_within, head_fits)) all_fit b is.has) in
-      ap (λ (v : Write). generation_of v.1) is.at ∙ its.of_generation
+      record {
+        place = b.number % log.blocks;
+        at = ap (λ (v : Write). v.0) is.at;
+        whole = ap (λ (v : Write). length v.1) is.at ∙ its.sealed.whole;
+        generation_is = ap (λ (v : Write). generation_of v.1) is.at ∙ its.of_generation;
+      }
 
   old_writes : (w : Write) → Has w kept.holds.since → Own w
   old_writes w has = let it = kept.holds.blocks w has in record { block = it.block; has = spelled-with log.generation log.log log.head x.written x.current it.block it.has; at = it.at }

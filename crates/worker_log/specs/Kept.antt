@@ -45,6 +45,13 @@ pub record IsBlockWrite (n : ℕ) (blocks : List Block) (w : Write) : Type 0 whe
   pub has : Has block blocks
   pub at : w ≡ write_of n block
 
+-- the write of one block of a generation
+pub record IsOfGeneration (generation : ℕ) (w : Write) : Type 0 where
+  pub place : ℕ
+  pub at : w.0 ≡ 2048 * place
+  pub whole : length w.1 ≡ 2048
+  pub generation_is : generation_of w.1 ≡ generation
+
 -- no block of the generation stands at a place of a ring of n blocks with these bytes
 abbrev pub HasNone : (generation n : ℕ) → List ℕ → Type 0
 HasNone generation n bytes = (p : ℕ) → p < n → IsSealed (piece 2048 p bytes) → generation_of (piece 2048 p bytes) ≡ generation → ⊥
@@ -101,12 +108,12 @@ pub record HoldsFirst (x : Account) (log : Log) (blocks : List (List Record)) (b
   pub numbers : (low : ℕ) × RiseFrom low (joined blocks) log.last
   pub above : (r : Record) → Has r (joined (drop k blocks)) → log.flushed < r.gsn
 
--- The writes since the account began are blocks of the log's generation; and so it is in each fair image: one in which each
+-- Each write since the account began is of one block of the log's generation; and so it is in each fair image: one in which each
 -- block whose seal fits is one of those writes, or stood there when the account began.
 pub record LeavesBlocks (x : Account) (log : Log) (writes : List Write) (bytes : List ℕ) : Type 0 where
   pub since : List Write
   pub writes_are : writes ≡ since ++ x.older
-  pub own : (w : Write) → Has w since → generation_of w.1 ≡ log.generation
+  pub own : (w : Write) → Has w since → IsOfGeneration log.generation w
   pub holds : IsFair 2048 IsSealed x.first since bytes → HoldsFirst x log (all_blocks x) bytes
 
 -- ## What calls make of an account

@@ -1,12 +1,17 @@
 -- How a run ends.
-use Rattle.std.proofs.Common.{◌≡◌, ◌⊎◌, inl, inr, ◌≤◌, ◌<◌, ◌++◌, ℕ, List, [], ◌∷◌, Some, IsTrue, refl, sym, ◌∙◌, ap, subst}
+use Rattle.std.proofs.Common.{◌≡◌, ◌⊎◌, inl, inr, ◌≤◌, ◌<◌, ◌++◌, ℕ, List, [], ◌∷◌, Some, IsTrue, drop, length, refl, sym, ◌∙◌, ap, subst, arith}
 use Rattle.std.proofs.lemmas.List.{append-nil}
 use mathlib.Core.List.{append_assoc}
 use Rattle.lean_disk.specs.Area.{Area}
 use Rattle.lean_disk.specs.Faults.{Rose}
 use Rattle.lean_disk.specs.Moments.{LeavesOnly}
 use Rattle.lean_disk.specs.Story.{IsLawful, Story}
-use Rattle.lean_edge.specs.Outside.{Feed, Held}
+use Rattle.lean_edge.specs.Outside.{Feed, Held, added}
+use Rattle.lean_disk.specs.Told.{TellsOn}
+use Rattle.lean_disk.proofs.MomentLemmas.{weaker}
+use Rattle.std.proofs.Math.Seq.{drop-append_seam}
+use Rattle.map_model.specs.Journals.{Journal, Serial}
+use Rattle.map_model.specs.Transcripts.{journal}
 use Rattle.lean_edge.specs.declared.sink.Put.{Put}
 use Rattle.script_lang.specs.Notices.{Notice, NoticeFits}
 use Rattle.script_lang.specs.Replies.{Reply, reply_text, Fits}
@@ -15,49 +20,72 @@ use Rattle.disk_slots.specs.declared.master.Master.{Master}
 use Rattle.disk_image.specs.Shown.{IsCleanDisk}
 use Rattle.recovery_scan.specs.Scans.{areas_of}
 use Rattle.recovery.specs.Crashes.{RecoveryLeaves}
-use Rattle.recovery.specs.Opened.{IsRefusal, IsUntouched, TellsAll}
+use Rattle.recovery.specs.Opened.{IsRefusal, IsUntouched, Keeps, TellsAll}
 use Rattle.recovery.specs.declared.opening.Unrecovered.{Unrecovered}
 use Rattle.core_state.specs.States.{Opening}
 use Rattle.session_model.specs.Calls.{Answered, Runs}
 use Rattle.session_model.specs.Sessions.{Session}
-use Rattle.transcripts.specs.Laws.{EveryPrefix, EveryNotice, IsQuiet}
+use Rattle.transcripts.specs.Laws.{EveryPrefix, EveryNotice, EveryTail}
 use Rattle.transcripts.specs.Told.{asked_lines, replies, EachReplyFits, Heard, IsCut, IsTail}
 use Rattle.transcripts.specs.Told.Heard.{Whole}
 use Rattle.transcripts.specs.Told.IsTail.{CutReply}
-use Rattle.transcripts.specs.Transcripts.{first_lines}
+use Rattle.transcripts.specs.Transcripts.{first_lines, IsQuiet}
 use Rattle.script_run.specs.Runs.{PrintsTo}
 use Rattle.script_run.specs.Texts.{LinesRead}
 use Rattle.script_run.specs.declared.stop.Stop.{Stop}
 use Rattle.script_run.specs.declared.stop.Stop.TheVariants as stops
-use Rattle.lean_shell.specs.Crashes.{IsYoung, RunLeaves, TellsCrashes}
+use Rattle.lean_shell.specs.Crashes.{IsYoung, MasterLeaves, TellsCrashes}
+use Rattle.lean_shell.specs.Headline.{Headline, RunLeaves}
 use Rattle.lean_shell.specs.Ends.{RunEnds}
 use Rattle.lean_shell.specs.Inside.Openings.{Refuses}
-use Rattle.lean_shell.specs.Lines.{IsPut, line_of}
+use Rattle.lean_shell.specs.Lines.{IsPut, OnlyNotes, line_of}
 use Rattle.lean_shell.specs.Runs.{Counts, IsFrom, Shows, first_line, notice_of, status_of}
 use Rattle.lean_shell.proofs.Runs.LastLemmas.{Last, PutText, put_text, went_out}
 use Rattle.lean_shell.proofs.Runs.MomentLemmas.{line_moments}
 use Rattle.lean_shell.proofs.Runs.NoteLemmas.{put_notes}
-use Rattle.lean_shell.proofs.Runs.OutputLemmas.{Out, asked_parts, no_tail, out_of}
+use Rattle.lean_shell.proofs.Runs.OutputLemmas.{Out, asked_parts, no_tail, notice_tail, out_of}
+use Rattle.lean_shell.proofs.Runs.SurviveLemmas.{LivesOn, master_leaves, run_leaves}
 
 -- ## A disk that was not opened, or a first line that was cut off
 
-module _ (notice_law : EveryNotice) (s0 old new : Story) (law : IsLawful old) (later : s0.moment ≤ old.moment) (notes : old.notes ≡ s0.notes)
+module _ (notice_law : EveryNotice) (s0 old new : Story) (law : IsLawful old) (keeps : Keeps s0 old)
     (any : (m : Master) → TellsAll s0 → IsCleanDisk m (areas_of s0) → LeavesOnly s0 old (RecoveryLeaves m s0)) (feed : Feed) (n : Notice) (fits : NoticeFits n) (answer : Put) (held0 held1 : Held)
     (p : IsPut (line_of n) answer held0 held1 old new) where
   abbrev pub line_text : PutText (line_of n) answer held0 held1
   line_text = put_text (line_of n) answer held0 held1 p.puts
 
-  pub line_leaves : IsTrue feed.tells → (m : Master) → TellsCrashes s0 → IsCleanDisk m (areas_of s0) → IsYoung m s0 → LeavesOnly s0 new (RunLeaves m s0 feed.left line_text.text)
-  line_leaves tells m all clean young = line_moments m s0 old new clean young.notes feed.left line_text.text answer (any m all.all clean) law later notes p.noted p.same
+  notes_put : OnlyNotes old new
+  notes_put = put_notes old new answer p.noted p.same
+
+  pub line_on : TellsOn s0 new
+  line_on = record {
+    counts = notes_put.counts ∙ keeps.counts;
+    tells = λ a. notes_put.tells a ∙ keeps.tells a;
+    areas = notes_put.areas ∙ keeps.areas;
+    later = let a = keeps.later in let b = notes_put.later in omega arith;
+  }
+
+  pub line_leaves : (m : Master) → TellsCrashes s0 → IsCleanDisk m (areas_of s0) → IsYoung m s0 → LeavesOnly s0 new (LivesOn m s0 feed.left line_text.text)
+  line_leaves m all clean young = line_moments m s0 old new clean young.notes feed.left line_text.text answer (any m all.all clean) law keeps.later keeps.notes p.noted p.same
       (notice_law n feed.left 0 fits)
       (λ is. subst (λ (t : List ℕ). IsQuiet feed.left (first_lines 1 t)) (sym (line_text.whole is)) (notice_law n feed.left 1 fits))
 
-pub refused_ends : EveryNotice → (status : ℕ) (s0 old new : Story) → IsLawful old → s0.moment ≤ old.moment → old.notes ≡ s0.notes → ((a : ℕ) → 2 < a → old.area a ≡ s0.area a)
+  pub line_masters : (m : Master) → TellsCrashes s0 → IsCleanDisk m (areas_of s0) → IsYoung m s0 → LeavesOnly s0 new (MasterLeaves m s0 feed.left line_text.text)
+  line_masters m all clean young = weaker s0 new (LivesOn m s0 feed.left line_text.text) (MasterLeaves m s0 feed.left line_text.text) (master_leaves m s0 feed.left line_text.text) (line_leaves m all clean young)
+
+  -- the line tells of no call
+  pub line_headline : EveryTail → IsTrue held0.tells → TellsAll s0 → Headline s0 new feed.left (added held0 held1)
+  line_headline tail_law sink_tells all = subst (Headline s0 new feed.left) (sym (ap (drop (length held0.bytes)) (line_text.holds sink_tells) ∙ drop-append_seam held0.bytes line_text.text)) (record {
+    serial = λ m map won stands. subst (λ (j : Journal). Serial map j) (sym (ap journal (tail_law feed.left line_text.text (subst IsTail (sym line_text.is_prefix) (notice_tail n fits line_text.prefix))))) tt;
+    any_moment = λ counts m clean young. weaker s0 new (LivesOn m s0 feed.left line_text.text) (RunLeaves m s0 feed.left line_text.text) (run_leaves m s0 feed.left line_text.text) (line_leaves m (record { all = all; counts = counts }) clean young);
+  })
+
+pub refused_ends : EveryNotice → (status : ℕ) (s0 old new : Story) → IsLawful old → Keeps s0 old → ((a : ℕ) → 2 < a → old.area a ≡ s0.area a)
     → ((m : Master) → TellsAll s0 → IsCleanDisk m (areas_of s0) → LeavesOnly s0 old (RecoveryLeaves m s0)) → (feed : Feed) (reason : Unrecovered) → status ≡ status_of reason → Shows s0 reason
     → (IsRefusal reason → (a : ℕ) → IsUntouched (s0.area a) (old.area a))
     → (held0 held1 : Held) (sink0 sink1 : ℕ) → Refuses reason held0 held1 sink0 sink1 old new → RunEnds status s0 new feed feed held0 held1 sink0 sink1
-refused_ends notice_law status s0 old new law later notes others any feed reason is shown left held0 held1 sink0 sink1 r =
-    let t = line_text notice_law s0 old new law later notes any feed (notice_of reason) r.fits r.answer held0 held1 r.line in record {
+refused_ends notice_law status s0 old new law keeps others any feed reason is shown left held0 held1 sink0 sink1 r =
+    let t = line_text notice_law s0 old new law keeps any feed (notice_of reason) r.fits r.answer held0 held1 r.line in record {
       put = t.text;
       holds = t.holds;
       how = inl (record {
@@ -69,21 +97,32 @@ refused_ends notice_law status s0 old new law later notes others any feed reason
         left = λ refused a. subst (λ (x : Area). IsUntouched (s0.area a) x) (sym ((put_notes old new r.answer r.line.noted r.line.same).area a)) (left refused a);
       });
       others = λ a lt. (put_notes old new r.answer r.line.noted r.line.same).area a ∙ others a lt;
-      any_moment = line_leaves notice_law s0 old new law later notes any feed (notice_of reason) r.fits r.answer held0 held1 r.line;
+      tells_on = line_on notice_law s0 old new law keeps any feed (notice_of reason) r.fits r.answer held0 held1 r.line;
+      masters = λ tells. line_masters notice_law s0 old new law keeps any feed (notice_of reason) r.fits r.answer held0 held1 r.line;
     }
 
-pub cut_ends : EveryNotice → (s0 old new : Story) → IsLawful old → s0.moment ≤ old.moment → old.notes ≡ s0.notes → ((a : ℕ) → 2 < a → old.area a ≡ s0.area a)
-    → ((m : Master) → TellsAll s0 → IsCleanDisk m (areas_of s0) → LeavesOnly s0 old (RecoveryLeaves m s0)) → (feed : Feed) (n : Counts) (g : Opening) → (TellsAll s0 → IsFrom g s0 n) → NoticeFits (Notice.Opened n.generation n.winners n.undone)
-    → (held0 held1 : Held) (sink0 sink1 : ℕ) (answer : Put) → IsPut (first_line n) answer held0 held1 old new → Rose sink0 sink1 → RunEnds 5 s0 new feed feed held0 held1 sink0 sink1
-cut_ends notice_law s0 old new law later notes others any feed n g from fits held0 held1 sink0 sink1 answer p rose =
-    let o : Notice = Notice.Opened n.generation n.winners n.undone in
-    let t = line_text notice_law s0 old new law later notes any feed o fits answer held0 held1 p in record {
-      put = t.text;
-      holds = t.holds;
-      how = inr (inl (record { status_is = refl; cause = rose; counts = n; opening = g; from = from; prefix = t.prefix; printed = t.is_prefix; unread = refl }));
-      others = λ a lt. (put_notes old new answer p.noted p.same).area a ∙ others a lt;
-      any_moment = line_leaves notice_law s0 old new law later notes any feed o fits answer held0 held1 p;
-    }
+pub refused_headline : EveryNotice → EveryTail → (s0 old new : Story) → IsLawful old → Keeps s0 old → ((m : Master) → TellsAll s0 → IsCleanDisk m (areas_of s0) → LeavesOnly s0 old (RecoveryLeaves m s0))
+    → (feed : Feed) (reason : Unrecovered) (held0 held1 : Held) (sink0 sink1 : ℕ) → Refuses reason held0 held1 sink0 sink1 old new → IsTrue held0.tells → TellsAll s0 → Headline s0 new feed.left (added held0 held1)
+refused_headline notice_law tail_law s0 old new law keeps any feed reason held0 held1 sink0 sink1 r = line_headline notice_law s0 old new law keeps any feed (notice_of reason) r.fits r.answer held0 held1 r.line tail_law
+
+module _ (notice_law : EveryNotice) (s0 old new : Story) (law : IsLawful old) (keeps : Keeps s0 old) (any : (m : Master) → TellsAll s0 → IsCleanDisk m (areas_of s0) → LeavesOnly s0 old (RecoveryLeaves m s0))
+    (feed : Feed) (n : Counts) (fits : NoticeFits (Notice.Opened n.generation n.winners n.undone)) (held0 held1 : Held) (answer : Put) (p : IsPut (first_line n) answer held0 held1 old new) where
+  abbrev opened : Notice
+  opened = Notice.Opened n.generation n.winners n.undone
+
+  pub cut_ends : ((a : ℕ) → 2 < a → old.area a ≡ s0.area a) → (g : Opening) → (TellsAll s0 → IsFrom g s0 n) → (sink0 sink1 : ℕ) → Rose sink0 sink1 → RunEnds 5 s0 new feed feed held0 held1 sink0 sink1
+  cut_ends others g from sink0 sink1 rose =
+      let t = line_text notice_law s0 old new law keeps any feed opened fits answer held0 held1 p in record {
+        put = t.text;
+        holds = t.holds;
+        how = inr (inl (record { status_is = refl; cause = rose; counts = n; opening = g; from = from; prefix = t.prefix; printed = t.is_prefix; unread = refl }));
+        others = λ a lt. (put_notes old new answer p.noted p.same).area a ∙ others a lt;
+        tells_on = line_on notice_law s0 old new law keeps any feed opened fits answer held0 held1 p;
+        masters = λ tells. line_masters notice_law s0 old new law keeps any feed opened fits answer held0 held1 p;
+      }
+
+  pub cut_headline : EveryTail → IsTrue held0.tells → TellsAll s0 → Headline s0 new feed.left (added held0 held1)
+  cut_headline = line_headline notice_law s0 old new law keeps any feed opened fits answer held0 held1 p
 
 -- ## What was read
 

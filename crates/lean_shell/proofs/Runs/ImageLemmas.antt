@@ -1,4 +1,6 @@
 -- The image that a crash leaves of a disk that was opened: by the pages of the opening and a prefix of the session's log.
+use Rattle.image_model.proofs.FairLemmas.{narrow}
+use Rattle.worker_log.specs.Kept.{IsOfGeneration}
 use Rattle.std.proofs.Common.{◌≡◌, ⊎_elim, ◌≤◌, ◌<◌, ◌*◌, ◌++◌, ℕ, suc, List, [], length, slice_index_or, Some, Option, refl, sym, ◌∙◌, ap, ap₂, subst, arith}
 use Rattle.map_model.specs.Lists.{Has}
 use Rattle.map_model.specs.Journals.{IsClosed, after}
@@ -99,8 +101,9 @@ module _ (laws : EverySession) (agrees : EveryAgreement) (reads_so : EveryRun) (
     closed = survives.closed
 
     -- the kept are those of the image
-    pub kept_is : kept_of g hand left ≡ kept 1 n.floor (found (image_by n image)) (journal hand)
+    pub kept_is : kept_of g hand left ≡ kept (length n.heads) n.floor (found (image_by n image)) (journal hand)
     kept_is = ap₂ (λ (f : ℕ) (z : List Entry). kept 1 f z (journal hand)) (sym rests.floor) (found_is ∙ ap (gathered (image_by n image).log) (sym logs))
+        ∙ ap (λ (w : ℕ). kept w n.floor (found (image_by n image)) (journal hand)) (sym logs)
       where
         found_is : left ++ [] ≡ gathered (image_by n image).log 1
         found_is = ap (λ (z : List Entry). z ++ []) (log_is 1 refl)
@@ -114,16 +117,16 @@ module _ (laws : EverySession) (agrees : EveryAgreement) (reads_so : EveryRun) (
     pub readable : (w : ℕ) → 0 < w → w ≤ length n.heads → AreReadable n.generation w (shown.run_of n w (image (suc w)))
     readable w low high = subst (λ (v : ℕ). AreReadable n.generation v (shown.run_of n v (image (suc v)))) (sym (one w low (let e = logs in omega arith))) reads.readable
 
-    module _ (since : List Write) (own : (w : Write) → Has w since → generation_of w.1 ≡ log.generation) (fair : IsFair 2048 IsSealed (s.area 2).bytes since (image 2)) where
+    module _ (since : List Write) (own : (w : Write) → Has w since → IsOfGeneration log.generation w) (fair : IsFair 2048 IsSealed (s.area 2).bytes since (image 2)) where
       -- a block is of no later generation than the master
       block : (x : ℕ) → Has x (sealed_in n.blocks (image 2)) → x ≤ n.generation
       block x h = let i = listed x n.blocks (image 2) h in
           ⊎_elim
           (λ (same : piece 2048 i.p (image 2) ≡ piece 2048 i.p (s.area 2).bytes). old i same)
           (λ (wrote : Has (2048 * i.p, piece 2048 i.p (image 2)) since).
-          let e = own (2048 * i.p, piece 2048 i.p (image 2)) wrote in
+          let e = (own (2048 * i.p, piece 2048 i.p (image 2)) wrote).generation_is in
           let f = i.generation in let h = rests.log_is.generation in omega arith)
-          (fair i.p ((seals (piece 2048 i.p (image 2))).0 i.seal))
+          (narrow 2048 IsSealed (s.area 2).bytes since (image 2) (λ w has. let o = own w has in record { slot = o.place; place = o.at; whole = o.whole }) fair i.p ((seals (piece 2048 i.p (image 2))).0 i.seal))
         where
           old : (i : IsSealedIn x n.blocks (image 2)) → piece 2048 i.p (image 2) ≡ piece 2048 i.p (s.area 2).bytes → x ≤ n.generation
           old i same =

@@ -15,6 +15,10 @@ has_prefix x [] ys h = absurd h
 has_prefix x (y ∷ xs) ys (inl e) = inl e
 has_prefix x (y ∷ xs) ys (inr h) = inr (has_prefix x xs ys h)
 
+pub has_behind : {A : Type 0} (x : A) (xs ys : List A) → Has x ys → Has x (xs ++ ys)
+has_behind x [] ys h = h
+has_behind x (y ∷ xs) ys h = inr (has_behind x xs ys h)
+
 pub has_cases : {A : Type 0} (x : A) (xs ys : List A) → Has x (xs ++ ys) → Has x xs ⊎ Has x ys
 has_cases x [] ys h = inr h
 has_cases x (y ∷ xs) ys (inl e) = inl (inl e)
@@ -45,7 +49,7 @@ only_cons true u t y ys rest ih (inr h) = ⊎_elim (λ i. inl (inr i)) inr (ih h
 only_cons false u t y ys rest ih (inl e) = inr e
 only_cons false u t y ys rest ih (inr h) = inl h
 
-only_inserted : (u t : Txn) (ys : Journal) → Has u (insert_by is_earlier t ys) → Has u ys ⊎ (u ≡ t)
+pub only_inserted : (u t : Txn) (ys : Journal) → Has u (insert_by is_earlier t ys) → Has u ys ⊎ (u ≡ t)
 only_inserted u t [] (inl e) = inr e
 only_inserted u t [] (inr h) = absurd h
 only_inserted u t (y ∷ ys) h = only_cons (is_earlier t y) u t y ys (insert_by is_earlier t ys) (only_inserted u t ys) h

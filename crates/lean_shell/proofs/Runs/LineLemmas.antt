@@ -1,8 +1,9 @@
--- A line in a buffer.
-use Rattle.std.proofs.Common.{◌≡◌, ℕ, List, length, take, drop, sym, ◌∙◌, ap}
-use Rattle.std.proofs.lemmas.List.{take_at}
-use Rattle.script_lang.specs.Pieces.{Holds}
+-- The program's own lines are one line each.
+use Rattle.std.proofs.Common.{◌≡◌, ℕ, List, None}
+use Rattle.lean_edge.specs.Outside.{IsLine, IsWholeLine}
+use Rattle.script_lang.specs.Notices.{Notice, notice_text, NoticeFits}
+use Rattle.script_lang.specs.Replies.{reply_of}
+use Rattle.lean_shell.specs.Lines.{line_of}
 
--- the bytes up to its end are the line
-pub held_line : {first now : List ℕ} {end : ℕ} (text : List ℕ) → Holds text first now end → take end now ≡ text
-held_line {first} {now} {end} text h = ap (take end) h.bytes ∙ take_at text (drop (length text) first) end (sym h.count)
+pub whole_line : ((n : Notice) → NoticeFits n → (reply_of (notice_text n) ≡ None) × IsLine (notice_text n)) → (n : Notice) → NoticeFits n → (bytes : List ℕ) → bytes ≡ line_of n → IsWholeLine bytes
+whole_line law n fits bytes is = record { line = notice_text n; is_line = (law n fits).1; is = is }

@@ -14,10 +14,10 @@ pub put_same : {D : Type 0} (story : D → Story) (old new : D) (r : Put) → (r
 put_same story old new r same is = subst (λ d. TellsSame (story old) (story d)) (sym (same is)) (tells_same (story old))
 
 no_notes : (old new : Story) → TellsSame old new → OnlyNotes old new
-no_notes old new t = record { area = t.area; tells = t.tells; counts = t.counts; later = (let e = t.moment in omega arith); nothing_else = λ m c left. inl (t.past m c left) }
+no_notes old new t = record { area = t.area; tells = t.tells; areas = t.areas; counts = t.counts; later = (let e = t.moment in omega arith); nothing_else = λ m c left. inl (t.past m c left) }
 
 a_note : (old new : Story) → Noted old new → OnlyNotes old new
-a_note old new n = record { area = n.area; tells = n.tells; counts = n.counts; later = n.later; nothing_else = n.nothing_else }
+a_note old new n = record { area = n.area; tells = n.tells; areas = n.areas; counts = n.counts; later = n.later; nothing_else = n.nothing_else }
 
 pub put_notes : (old new : Story) (r : Put) → (r ≡ Done → Noted old new) → (r ≡ Failed → TellsSame old new) → OnlyNotes old new
 put_notes old new Done noted same = a_note old new (noted refl)

@@ -120,15 +120,18 @@ module _ (r : Recovered) (whole : IsWhole r) where
           openable = openable;
           sound = subst (IsSoundDisk m) same is.sound;
           map = λ k. map_is k ∙ ap (λ (a : Areas). map_of (image_by m a) k) same;
-          format = ap format_of is.count;
-          pages = λ p lt. page_is p lt ∙ ap (λ (a : Areas). recovered_page (image_by m a) p) same;
-          base = subst (λ (a : Areas). IsGreatest (image_by m a) r.master.floor) same is.base;
+          starts = record {
+            format = ap format_of is.count;
+            logs = sym openable.one;
+            base = subst (λ (a : Areas). IsGreatest (image_by m a) r.master.floor) same is.base;
+            pages = λ p lt. page_is p lt ∙ ap (λ (a : Areas). recovered_page (image_by m a) p) same;
+          };
           generation = ap (λ (x : Master). x.generation) is.master;
           won = is.won ∙ ap (λ (a : Areas). length (Rattle.image_model.specs.Images.won_by (image_by m a))) same;
           lost = is.lost ∙ ap (λ (a : Areas). length (Rattle.image_model.specs.Images.lost_by (image_by m a))) same;
         }
 
-    module _ (s0 s1 : Story) (opened : IsOpened m area r s1) (log_same : IsUntouched (s0.area 2) (s1.area 2)) (log : Log) (log_is : IsLogOf r.master log) where
+    module _ (s0 s1 : Story) (area_is : area ≡ areas_of s0) (opened : IsOpened m area r s1) (log_same : IsUntouched (s0.area 2) (s1.area 2)) (log : Log) (log_is : IsLogOf r.master log) where
       next : r.master ≡ next_master m r.master.floor
       next = is.master
 
@@ -144,6 +147,7 @@ module _ (r : Recovered) (whole : IsWhole r) where
           blocks = ap (λ (x : Master). x.blocks) next;
           logs = ap (λ (x : Master). length x.heads) next ∙ sym openable.one;
         };
+        made = record { base = r.master.floor; greatest = subst (λ (a : Areas). IsGreatest (image_by m a) r.master.floor) area_is is.base; is = next };
         newer = let e = ap (λ (x : Master). x.generation) next in omega arith;
         one = ap (λ (x : Master). x.heads) next;
         master = opened.master;
@@ -212,5 +216,5 @@ module _ (r : Recovered) (whole : IsWhole r) where
           ∙ ap (λ (x : Master). first_log x r.master.floor) (same_one (sym (answer tells).2.sound.master ∙ there))));
       map = λ m tells clean k. map_is every_opening every_own m (so_opened tells m clean).0 (areas_of s0) (so_opened tells m clean).1 k;
       rests = λ m tells clean. subst (λ (l : Log). Rests m s0 s1 opening_on l) (sym (ap (λ (x : State). x.log) engine_is))
-          (rests every_opening every_own m (so_opened tells m clean).0 (areas_of s0) (so_opened tells m clean).1 s0 s1 (opened tells m clean) log_same log is_log);
+          (rests every_opening every_own m (so_opened tells m clean).0 (areas_of s0) (so_opened tells m clean).1 s0 s1 refl (opened tells m clean) log_same log is_log);
     }

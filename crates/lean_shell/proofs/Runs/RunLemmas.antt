@@ -1,5 +1,5 @@
 -- A script that was executed on a disk that was opened.
-use Rattle.std.proofs.Common.{◌≡◌, inr, ⊎_elim, ◌≤◌, ◌<◌, ◌+◌, ◌-◌, ◌^◌, ◌++◌, ℕ, suc, List, [], ◌∷◌, length, min, Some, IsTrue, refl, sym, ◌∙◌, ap, subst, arith}
+use Rattle.std.proofs.Common.{◌≡◌, inr, ⊎_elim, ◌≤◌, ◌<◌, ◌+◌, ◌-◌, ◌^◌, ◌++◌, ℕ, suc, List, [], ◌∷◌, length, drop, min, Some, IsTrue, refl, sym, ◌∙◌, ap, subst, arith}
 use Rattle.std.proofs.lemmas.List.{append-nil, append_cancel_right}
 use mathlib.Core.List.{append_assoc}
 use mathlib.Core.Path.{fun_ext}
@@ -15,11 +15,11 @@ use Rattle.lean_disk.specs.Faults.{HasCause}
 use Rattle.lean_disk.specs.Moments.{LeavesOnly}
 use Rattle.lean_disk.specs.Story.{Crash, IsLawful, LeavesNow, Story}
 use Rattle.lean_disk.proofs.MomentLemmas as moments
-use Rattle.lean_edge.specs.Outside.{Feed, Held}
+use Rattle.lean_edge.specs.Outside.{Feed, Held, added}
 use Rattle.lean_edge.specs.declared.sink.Put.TheVariants.{Done}
 use Rattle.script_lang.specs.Notices.{Notice, NoticeFits}
 use Rattle.script_lang.specs.Reading.{Unread}
-use Rattle.script_lang.specs.Replies.{Reply}
+use Rattle.script_lang.specs.Replies.{AnswerFits, Reply, reply_line}
 use Rattle.disk_slots.specs.declared.master.Master.{Master}
 use Rattle.disk_image.specs.Laws.{EveryAgreement, EverySealed}
 use Rattle.disk_image.specs.Shown.{DiskStandsFor, IsCleanDisk, image_by}
@@ -34,17 +34,21 @@ use Rattle.session_model.specs.Sessions.{Session, start}
 use Rattle.worker_log.specs.Laws.{EveryRun}
 use Rattle.worker_log.specs.Kept.{IsKept, fresh_account}
 use Rattle.lean_engine.specs.States.{State}
-use Rattle.transcripts.specs.Laws.{ComesNext, EveryEnd, EveryPrefix, EveryMoment, EveryNext, EveryTranscript, IsQuiet, TellsOf}
+use Rattle.transcripts.specs.Laws.{ComesNext, EveryEnd, EveryPrefix, EveryMoment, EveryNext, EveryNextReply, EveryTranscript, TellsOf}
 use Rattle.transcripts.specs.Told.{ask, asked_text, opened_line, replies, text_of, EachFits, EachReplyFits, Heard, IsOutput}
 use Rattle.map_model.specs.declared.call.Call.TheVariants as call
 use Rattle.transcripts.specs.Told.Heard.{Whole}
-use Rattle.transcripts.specs.Transcripts.{durables, first_lines, in_turn, transcript}
+use Rattle.transcripts.specs.Transcripts.{durables, first_lines, in_turn, transcript, IsQuiet}
 use Rattle.script_run.specs.Moments.{IsAsked, ScriptLeaves}
 use Rattle.script_run.specs.Runs.{PrintsTo, ScriptRuns, WentOn}
 use Rattle.script_run.specs.Texts.{EveryScript, LinesRead}
 use Rattle.script_run.specs.declared.stop.Stop.{Stop}
 use Rattle.script_run.specs.declared.stop.Stop.TheVariants as stops
-use Rattle.lean_shell.specs.Crashes.{IsFairCrash, IsYoung, RunLeaves, Survives, TellsCrashes, as_read}
+use Rattle.lean_shell.specs.Crashes.{IsYoung, MasterLeaves, TellsCrashes, as_read}
+use Rattle.lean_shell.specs.Headline.{Headline, RunLeaves, Survives}
+use Rattle.disk_image.specs.Fair.{IsFairCrash}
+use Rattle.std.proofs.Math.Seq.{drop-append_seam}
+use Rattle.map_model.specs.declared.call.Answer.{Answer}
 use Rattle.lean_shell.specs.Ends.{RunEnds}
 use Rattle.lean_shell.specs.Inside.Openings.{EndsWith, HasOpened, Rests, counts_of}
 use Rattle.lean_shell.specs.Lines.{IsPut}
@@ -55,6 +59,8 @@ use Rattle.lean_shell.proofs.Runs.MomentLemmas.{line_moments, put_moments, same_
 use Rattle.lean_shell.proofs.Runs.OutputLemmas.{Out, earlier_fit, few_replies, prefix_few, no_tail, older_fit, out_of, same_prefix}
 use Rattle.lean_shell.proofs.Runs.EndLemmas.{HasLines, HeardOf, final_tail, first_lines_of, heard_of, lines_of, runs_first}
 use Rattle.lean_shell.proofs.Runs.SurviveLemmas as survive
+use Rattle.lean_shell.proofs.Runs.SurviveLemmas.{Lives, LivesOn, master_leaves, run_leaves}
+use Rattle.lean_disk.proofs.MomentLemmas.{weaker}
 
 -- where the sink did not fail, the output has the replies that were noted and no other
 all_told : (stop : Stop) (calls : List Answered) (told : List Reply) (tail : List ℕ) (fits : EachReplyFits (replies calls)) (p : PrintsTo (Some stop) (replies calls) told tail) → (stop ≡ stops.WriteFault → ⊥) → (out_of stop calls told tail fits p).all ≡ told
@@ -64,7 +70,7 @@ all_told stops.ReadFault calls told tail fits p not_write = refl
 all_told stops.WriteFault calls told tail fits p not_write = absurd (not_write refl)
 all_told stops.DiskFault calls told tail fits p not_write = refl
 
-module _ (laws : EverySession) (tells_law : EveryTranscript) (moment_law : EveryMoment) (prefix_law : EveryPrefix) (script_law : EveryScript) (end_law : EveryEnd) (next_law : EveryNext)
+module _ (laws : EverySession) (tells_law : EveryTranscript) (moment_law : EveryMoment) (prefix_law : EveryPrefix) (script_law : EveryScript) (end_law : EveryEnd) (next_law : EveryNext) (reply_law : EveryNextReply)
     (agrees : EveryAgreement) (seals : EverySealed) (reads_so : EveryRun)
     (s0 sa sb sc s1 : Story) (law_a : IsLawful sa) (law_c : IsLawful sc) (law_1 : IsLawful s1) (op : Opened) (o : HasOpened s0 sa op) (keeps : Keeps s0 sa)
     (any : (m : Master) → TellsAll s0 → IsCleanDisk m (areas_of s0) → LeavesOnly s0 sa (RecoveryLeaves m s0))
@@ -194,7 +200,7 @@ module _ (laws : EverySession) (tells_law : EveryTranscript) (moment_law : Every
         no_pairs [] = refl
         no_pairs (c ∷ cs) = refl
 
-    before : LeavesOnly s0 sb (RunLeaves m s0 input put)
+    before : LeavesOnly s0 sb (LivesOn m s0 input put)
     before = line_moments m s0 sa sb clean young.notes input put Done (any m all.all clean) law_a keeps.later keeps.notes p.noted p.same quiet_none (λ e. quiet_one)
 
     -- in it
@@ -202,7 +208,7 @@ module _ (laws : EverySession) (tells_law : EveryTranscript) (moment_law : Every
     rests = o.rests m all.all clean
 
     abbrev P : Crash → Type 0
-    P = RunLeaves m s0 input put
+    P = LivesOn m s0 input put
 
     abbrev Q : Crash → Type 0
     Q = ScriptLeaves feed0 [] o.g [] calls r.told (start o.g) (fresh_account (sa.area 2)) op.engine.log sb
@@ -219,23 +225,32 @@ module _ (laws : EverySession) (tells_law : EveryTranscript) (moment_law : Every
     next_of : (c : Crash) (q : Q c) → IsAsked feed0 (asked_text q.heard) call.Commit → ComesNext q.heard (ask call.Commit) input
     next_of c q asked = (next_law feed0 asked.feed asked.reader q.heard (earlier_fit q.unheard q.heard (subst EachFits (sym q.calls) r.fits)) tells).asks call.Commit asked.fits asked.read
 
-    -- a crash with the writes and the bytes of one that the script leaves, as these lines were out
-    module _ (c d : Crash) (q : Q c) (same : survive.IsSameBut c d) (lines_out : ℕ) (notes : d.notes ≡ s0.notes + lines_out) (t : TellsOf q.heard q.first input (first_lines lines_out put)) where
-      fair_as : IsFairCrash s0 d → IsFair 2048 IsSealed (sa.area 2).bytes q.since (d.image 2)
-      fair_as = survive.fair_log laws agrees reads_so seals m s0 sa sb o.g op.engine.log o.alone rests clean all.all (o.map m all.all clean) noted.area told_b rests.writes feed0 input put
-          calls r.told c d q same lines_out notes t.journal_is t.durables_are t.transcript_is (next_of c q)
+    more_of : (c : Crash) (q : Q c) (lines_out : ℕ) → IsOutput op.generation op.winners op.undone q.first (first_lines lines_out put) → (a : Answer) → AnswerFits a → IsAsked feed0 (asked_text q.heard) call.Commit →
+        transcript 1 input (first_lines lines_out put ++ reply_line (Reply.Answered 1 a)) ≡ in_turn q.heard ++ (1, call.Commit, a) ∷ []
+    more_of c q lines_out is a fits asked =
+        let next : ComesNext q.heard (ask call.Commit) input = next_of c q asked in
+        reply_law op.generation op.winners op.undone q.heard q.first next.others input put lines_out call.Commit a (earlier_fit q.unheard q.heard (subst EachFits (sym q.calls) r.fits)) tt (omega arith, fits) next.lines q.hears is
 
-      survives_as : IsFair 2048 IsSealed (sa.area 2).bytes q.since (d.image 2) → Survives m s0 input put d
+    -- a crash with the writes and the bytes of one that the script leaves, as these lines were out
+    module _ (c d : Crash) (q : Q c) (same : survive.IsSameBut c d) (lines_out : ℕ) (notes : d.notes ≡ s0.notes + lines_out) (is : IsOutput op.generation op.winners op.undone q.first (first_lines lines_out put)) where
+      t : TellsOf q.heard q.first input (first_lines lines_out put)
+      t = tells_of tells q.unheard q.heard q.calls q.first (first_lines lines_out put) q.hears is
+
+      fair_as : IsFairCrash (length m.heads) s0 d → IsFair 2048 IsSealed (sa.area 2).bytes q.since (d.image 2)
+      fair_as = survive.fair_log laws agrees reads_so seals m s0 sa sb o.g op.engine.log o.alone rests clean all.all (o.map m all.all clean) noted.area told_b rests.writes feed0 input put
+          calls r.told c d q same lines_out notes t.journal_is t.durables_are t.transcript_is (more_of c q lines_out is)
+
+      survives_as : IsFair 2048 IsSealed (sa.area 2).bytes q.since (d.image 2) → Lives m s0 input put d
       survives_as = survive.survives laws agrees reads_so seals m s0 sa sb o.g op.engine.log o.alone rests clean all.all (o.map m all.all clean) noted.area told_b rests.writes feed0 input put
-          calls r.told c d q same lines_out notes t.journal_is t.durables_are t.transcript_is (next_of c q)
+          calls r.told c d q same lines_out notes t.journal_is t.durables_are t.transcript_is (more_of c q lines_out is)
 
     -- so it is in each image in which the log's blocks are fair, and they are in each fair image
     record IsSafe (since : List Write) (d : Crash) : Type 0 where
-      survives : IsFair 2048 IsSealed (sa.area 2).bytes since (d.image 2) → Survives m s0 input put d
-      fair : IsFairCrash s0 d → IsFair 2048 IsSealed (sa.area 2).bytes since (d.image 2)
+      survives : IsFair 2048 IsSealed (sa.area 2).bytes since (d.image 2) → Lives m s0 input put d
+      fair : IsFairCrash (length m.heads) s0 d → IsFair 2048 IsSealed (sa.area 2).bytes since (d.image 2)
 
-    safe_as : (c d : Crash) (q : Q c) → survive.IsSameBut c d → (lines_out : ℕ) → d.notes ≡ s0.notes + lines_out → TellsOf q.heard q.first input (first_lines lines_out put) → IsSafe q.since d
-    safe_as c d q same lines_out notes t = record { survives = survives_as c d q same lines_out notes t; fair = fair_as c d q same lines_out notes t }
+    safe_as : (c d : Crash) (q : Q c) → survive.IsSameBut c d → (lines_out : ℕ) → d.notes ≡ s0.notes + lines_out → IsOutput op.generation op.winners op.undone q.first (first_lines lines_out put) → IsSafe q.since d
+    safe_as c d q same lines_out notes is = record { survives = survives_as c d q same lines_out notes is; fair = fair_as c d q same lines_out notes is }
 
     is_left : (since : List Write) (d : Crash) → IsSafe since d → P d
     is_left since d s = inr (λ fair. s.survives (s.fair fair))
@@ -248,16 +263,16 @@ module _ (laws : EverySession) (tells_law : EveryTranscript) (moment_law : Every
         let few = first_few c q in let a = told_few in let b = notes_b in let y = young.notes in
         let e = q.notes counts_b (omega arith) in omega arith
 
-    first_tells : (c : Crash) (q : Q c) → TellsOf q.heard q.first input (first_lines (suc (length q.first)) put)
-    first_tells c q = tells_of tells q.unheard q.heard q.calls q.first (first_lines (suc (length q.first)) put) q.hears (first_output q.later q.first q.split)
+    first_out : (c : Crash) (q : Q c) → IsOutput op.generation op.winners op.undone q.first (first_lines (suc (length q.first)) put)
+    first_out c q = first_output q.later q.first q.split
 
     in_script : (c : Crash) → Q c → P c
-    in_script c q = is_left q.since c (safe_as c c q (record { writes = λ a. refl; image = λ a. refl }) (suc (length q.first)) (notes_of c q) (first_tells c q))
+    in_script c q = is_left q.since c (safe_as c c q (record { writes = λ a. refl; image = λ a. refl }) (suc (length q.first)) (notes_of c q) (first_out c q))
 
     -- behind it
     at_last : (c : Crash) → LeavesNow s1 c → (q : Q (then sc c)) → IsSafe q.since c
     at_last c now q = ⊎_elim
-        (λ (e : c.notes ≡ sc.notes). safe_as (then sc c) c q (same_but sc c) (suc (length q.first)) (e ∙ notes_of (then sc c) q) (first_tells (then sc c) q))
+        (λ (e : c.notes ≡ sc.notes). safe_as (then sc c) c q (same_but sc c) (suc (length q.first)) (e ∙ notes_of (then sc c) q) (first_out (then sc c) q))
         (λ (e : (c.notes ≡ sc.notes + 1) × (stop ≡ stops.WriteFault → ⊥)). whole e.0 e.1)
         (l.noted (let a = told_few in let b = notes_b in let y = young.notes in let n = notes_c in omega arith) c now)
       where
@@ -273,8 +288,7 @@ module _ (laws : EverySession) (tells_law : EveryTranscript) (moment_law : Every
             let size : length out.all ≡ length r.told = ap (λ (rs : List Reply). length rs) alls in
             let ended_out = end_law op.generation op.winners op.undone out.all put lines_out output (omega (arith, size)) in
             safe_as (then sc c) c q (same_but sc c) lines_out (omega (arith, e, n, b))
-            (tells_of tells q.unheard q.heard q.calls q.first (first_lines lines_out put) q.hears
-            (subst (λ (rs : List Reply). IsOutput op.generation op.winners op.undone rs (first_lines lines_out put)) (alls ∙ sym firsts) ended_out))
+            (subst (λ (rs : List Reply). IsOutput op.generation op.winners op.undone rs (first_lines lines_out put)) (alls ∙ sym firsts) ended_out)
 
     later_bc : sb.moment ≤ sc.moment
     later_bc = r.others.later
@@ -306,43 +320,36 @@ module _ (laws : EverySession) (tells_law : EveryTranscript) (moment_law : Every
           (subst (λ (b : List ℕ). IsFair 2048 IsSealed b k.since (sc.area 2).bytes) went_on.first k.fair))
 
       pub stands : Survives m s0 input put (as_read s1)
-      stands = (at_last (as_read s1) now left).survives fair_now
+      stands = ((at_last (as_read s1) now left).survives fair_now).survives
 
   pub run_ends : (status : ℕ) → status ≡ ended stop → (sink0 : ℕ) → HasCause sink0 sink_c (stop ≡ stops.WriteFault) → ((a : ℕ) → 2 < a → sa.area a ≡ s0.area a) → RunEnds status s0 s1 feed0 feed1 held0 held1 sink0 sink1
   run_ends status is sink0 sinks others = record {
     put = put;
     holds = holds;
     how = inr (inr (record {
-      counts = counts_of op;
-      opening = o.g;
-      alone = o.alone;
-      from = o.from;
       stop = stop;
       status_is = is;
-      e0 = op.engine;
-      e1 = r.state;
-      pictures = o.pictures;
-      log = o.log;
+      counts = counts_of op;
       calls = calls;
       few = let f = r.few in omega arith;
-      session = r.session;
-      executes = r.executes;
+      executed = record { opening = o.g; alone = o.alone; from = o.from; first = op.engine; pictures = o.pictures; log = o.log; last = r.state; session = r.session; executes = r.executes };
       read = read;
-      told = r.told;
-      tail = r.tail;
-      prints = r.prints;
-      cut = λ failed. r.cut (ap (λ (s : Stop). Some s) failed);
-      last = l.text;
-      last_is = l.went sink0 sinks;
-      put_is = refl;
-      heard = h.heard;
-      unheard = h.unheard;
-      calls_are = h.calls_are;
-      all_heard = h.all_heard;
-      transcript_is = λ tells. (all_tells tells).transcript_is;
-      serial = serial;
+      printed = record { told = r.told; tail = r.tail; prints = r.prints; cut = λ failed. r.cut (ap (λ (s : Stop). Some s) failed); last = l.text; last_is = l.went sink0 sinks; put_is = refl };
+      told = λ tells. record { heard = h.heard; unheard = h.unheard; calls_are = h.calls_are; all_heard = h.all_heard; transcript_is = (all_tells tells).transcript_is };
       stands = λ no_fault tells m all clean young. stands tells m all clean young no_fault;
     }));
     others = λ a lt. l.notes.area a ∙ (r.others.area a (λ e. omega arith) ∙ (noted.area a ∙ others a lt));
-    any_moment = leaves;
+    tells_on = record {
+      counts = l.notes.counts ∙ (r.others.counts ∙ (noted.counts ∙ keeps.counts));
+      tells = λ a. l.notes.tells a ∙ (r.others.tells a ∙ (noted.tells a ∙ keeps.tells a));
+      areas = l.notes.areas ∙ (r.others.areas ∙ (noted.areas ∙ keeps.areas));
+      later = let a = keeps.later in let b = noted.later in let c = r.others.later in let d = l.notes.later in omega arith;
+    };
+    masters = λ tells m all clean young. weaker s0 s1 (LivesOn m s0 input put) (MasterLeaves m s0 input put) (master_leaves m s0 input put) (leaves tells m all clean young);
   }
+
+  pub run_headline : IsTrue feed0.tells → IsTrue held0.tells → TellsAll s0 → Headline s0 s1 input (added held0 held1)
+  run_headline tells sink_tells all = subst (Headline s0 s1 input) (sym (ap (drop (length held0.bytes)) (holds sink_tells) ∙ drop-append_seam held0.bytes put)) (record {
+    serial = serial tells all;
+    any_moment = λ counts m clean young. weaker s0 s1 (LivesOn m s0 input put) (RunLeaves m s0 input put) (run_leaves m s0 input put) (leaves tells m (record { all = all; counts = counts }) clean young);
+  })

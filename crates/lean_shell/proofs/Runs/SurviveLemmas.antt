@@ -1,5 +1,5 @@
 -- What a crash leaves in a run: of a disk that stands still, and of one on which a script is executed.
-use Rattle.std.proofs.Common.{◌≡◌, ◌⊎◌, inl, inr, ⊎_elim, ◌<◌, ◌+◌, ◌++◌, ℕ, List, [], ◌∷◌, refl, sym, ◌∙◌, ap, subst, arith, codes}
+use Rattle.std.proofs.Common.{◌≡◌, ◌⊎◌, inl, inr, ⊎_elim, ◌≤◌, ◌<◌, ◌+◌, ◌++◌, ℕ, suc, true, List, [], ◌∷◌, length, Some, refl, sym, ◌∙◌, ap, subst, arith, codes}
 use mathlib.Core.Path.{fun_ext}
 use Rattle.std.proofs.lemmas.List.{append-nil}
 use Rattle.map_model.specs.Lists.{Has}
@@ -16,7 +16,7 @@ use Rattle.disk_slots.specs.declared.master.Master.{Master}
 use Rattle.disk_image.specs.Laws.{EveryAgreement, EverySealed}
 use Rattle.disk_image.specs.Shown.{Areas, DiskStandsFor, IsCleanDisk, image_by}
 use Rattle.recovery_scan.specs.Scans.{areas_of}
-use Rattle.recovery.specs.Crashes.{Lasts, RecoveryLeaves, StandsStill}
+use Rattle.recovery.specs.Crashes.{IsSameOrNext, Lasts, RecoveryLeaves, StandsStill}
 use Rattle.recovery.specs.Opened.{TellsAll}
 use Rattle.core_state.specs.States.{Opening}
 use Rattle.core_crash.specs.Crashes.{first_map}
@@ -25,25 +25,32 @@ use Rattle.session_model.specs.Calls as session
 use Rattle.session_model.specs.Laws.{EverySession, kept_of}
 use Rattle.session_model.specs.Sessions.{IsAlone, start}
 use Rattle.worker_log.specs.Laws.{EveryRun}
-use Rattle.script_lang.specs.Replies.{Reply}
+use Rattle.script_lang.specs.Replies.{AnswerFits, Reply, reply_line}
 use Rattle.worker_log.specs.Logs.{Log}
 use Rattle.worker_log.specs.Kept.{fresh_account}
 use Rattle.map_model.specs.declared.call.Call.TheVariants as call
 use Rattle.map_model.specs.declared.call.Answer.TheVariants as answer
-use Rattle.image_model.specs.Entries.{Entry}
+use Rattle.image_model.specs.Entries.{Entry, is_commit}
 use Rattle.lean_edge.specs.Outside.{Feed}
-use Rattle.transcripts.specs.Laws.{ComesNext, IsQuiet}
-use Rattle.transcripts.specs.Told.{ask, asked_text, names}
-use Rattle.transcripts.specs.Transcripts.{durables, first_lines, in_turn, transcript}
+use Rattle.transcripts.specs.Told.{asked_text, names}
+use Rattle.transcripts.specs.Transcripts.{durables, first_lines, in_turn, transcript, IsQuiet}
 use Rattle.transcripts.proofs.TranscriptLemmas.{journal_is}
 use Rattle.worker_log.specs.Laws.{entries_onto}
 use Rattle.worker_log.specs.Logs.{joined}
 use Rattle.script_run.specs.Moments.{HoldsRun, InHand, IsAsked, ScriptLeaves}
-use Rattle.lean_shell.specs.Crashes.{IsFairCrash, IsUnwritten, RunLeaves, Survives, WithOneInHand}
+use Rattle.lean_shell.specs.Crashes.{HasMasterOf, IsUnwritten, MasterLeaves}
+use Rattle.lean_shell.specs.Headline.{IsInHand, RunLeaves, Survives}
+use Rattle.disk_image.specs.Fair.{IsFairCrash}
+use Rattle.disk_image.specs.Masters.{IsOfRun}
+use Rattle.disk_image.specs.MasterSlots.{master_on}
+use Rattle.map_model.specs.declared.call.Call.{Call}
+use Rattle.map_model.specs.declared.call.Answer.{Answer}
 use Rattle.lean_shell.specs.Inside.Openings.{IsPrefix, Rests}
 use Rattle.lean_shell.proofs.Runs.ImageLemmas as image
-use Rattle.lean_shell.proofs.Runs.HandLemmas.{Settled, settle}
-use Rattle.lean_shell.proofs.Runs.JournalLemmas.{HasNamed, has_prefix, still_has, told_named}
+use Rattle.lean_shell.proofs.Runs.BoundLemmas.{IsBounded, bounded}
+use Rattle.lean_shell.proofs.Runs.HandLemmas.{CommitInHand, Settled, settle}
+use Rattle.lean_shell.proofs.Runs.NumberLemmas.{numbered}
+use Rattle.lean_shell.proofs.Runs.JournalLemmas.{HasNamed, has_behind, has_cases, has_prefix, still_has, told_named}
 
 -- ## Before a call is answered
 
@@ -51,6 +58,30 @@ use Rattle.lean_shell.proofs.Runs.JournalLemmas.{HasNamed, has_prefix, still_has
 pub record IsSameBut (c d : Crash) : Type 0 where
   pub writes : (a : ℕ) → d.writes a ≡ c.writes a
   pub image : (a : ℕ) → d.image a ≡ c.image a
+
+-- the image survives, by a master of the disk on entry
+pub record Lives (m : Master) (s : Story) (input put : List ℕ) (c : Crash) : Type 0 where
+  pub survives : Survives m s input put c
+  pub master : HasMasterOf m s c
+
+-- so it is once something is written
+abbrev pub LivesOn : (m : Master) (s : Story) (input put : List ℕ) (c : Crash) → Type 0
+LivesOn m s input put c = IsUnwritten s input put c ⊎ (IsFairCrash (length m.heads) s c → Lives m s input put c)
+
+pub run_leaves : (m : Master) (s : Story) (input put : List ℕ) (c : Crash) → LivesOn m s input put c → RunLeaves m s input put c
+run_leaves m s input put c (inl u) = inl u
+run_leaves m s input put c (inr l) = inr (λ fair. (l fair).survives)
+
+pub master_leaves : (m : Master) (s : Story) (input put : List ℕ) (c : Crash) → LivesOn m s input put c → MasterLeaves m s input put c
+master_leaves m s input put c (inl u) = inl u
+master_leaves m s input put c (inr l) = inr (λ fair. (l fair).master)
+
+-- the next master is of the run that began with the other
+of_run : (m n : Master) → IsSameOrNext m n → IsOfRun m n
+of_run m n same = ⊎_elim
+    (λ (e : n ≡ m). record { pages = same.pages; blocks = same.blocks; logs = same.logs; generation = inl (ap (λ (x : Master). x.generation) e); sequence = let q : n.sequence ≡ m.sequence = ap (λ (x : Master). x.sequence) e in omega arith })
+    (λ (e : (n.sequence ≡ suc m.sequence) × (n.generation ≡ suc m.generation)). record { pages = same.pages; blocks = same.blocks; logs = same.logs; generation = inr e.1; sequence = let q : n.sequence ≡ suc m.sequence = e.0 in omega arith })
+    same.numbers
 
 module _ (m : Master) (s : Story) (clean : IsCleanDisk m (areas_of s)) (input put : List ℕ) (lines : ℕ) (quiet : IsQuiet input (first_lines lines put)) where
   unwritten : (c d : Crash) → IsSameBut c d → d.notes ≡ s.notes + lines → AsAt s c → IsUnwritten s input put d
@@ -62,7 +93,7 @@ module _ (m : Master) (s : Story) (clean : IsCleanDisk m (areas_of s)) (input pu
     leaves = λ a told. subst (Leaves (s.area a)) (sym (same.image a)) (at.leaves a told);
   }
 
-  lasts : (c d : Crash) → IsSameBut c d → d.notes ≡ s.notes + lines → Lasts m s c → IsFairCrash s d → Survives m s input put d
+  lasts : (c d : Crash) → IsSameBut c d → d.notes ≡ s.notes + lines → Lasts m s c → IsFairCrash (length m.heads) s d → Lives m s input put d
   lasts c d same notes l fair =
       let masters = fair.masters l.masters (same.writes 0 ∙ l.masters_are) in
       let pages = fair.pages l.pages (same.writes 1 ∙ l.pages_are) in
@@ -71,14 +102,17 @@ module _ (m : Master) (s : Story) (clean : IsCleanDisk m (areas_of s)) (input pu
       let images : d.image ≡ c.image = fun_ext same.image in
       let none : model.journal (transcript 1 input (first_lines lines put)) ≡ [] = ap model.journal quiet.transcript_is in
       record {
+       master = record { n = still.next; counts = subst (λ (i : Areas). master_on (i 0) ≡ Some still.next) (sym images) still.clean.master; is = still.made };
+       survives = record {
         lines = lines;
         notes = notes;
         by_then = [];
         by_then_is = inl (sym none);
         serial = tt;
         falls = tt;
+        numbers = λ r has commit u there. absurd there;
         n = still.next;
-        same = still.same;
+        of_run = of_run m still.next still.same;
         clean = subst (IsCleanDisk still.next) (sym images) still.clean;
         kept_ones = [];
         kept_is = refl;
@@ -90,9 +124,10 @@ module _ (m : Master) (s : Story) (clean : IsCleanDisk m (areas_of s)) (input pu
               stands = record { sound = still.clean.clean.sound; map = λ k. sym (still.map k); won = refl };
             });
         reported = λ name h. absurd (subst (Has name) quiet.durables_are h);
+       };
       }
 
-  pub quiet_leaves : (c d : Crash) → IsSameBut c d → d.notes ≡ s.notes + lines → RecoveryLeaves m s c → RunLeaves m s input put d
+  pub quiet_leaves : (c d : Crash) → IsSameBut c d → d.notes ≡ s.notes + lines → RecoveryLeaves m s c → LivesOn m s input put d
   quiet_leaves c d same notes (inl at) = inl (unwritten c d same notes at)
   quiet_leaves c d same notes (inr l) = inr (lasts c d same notes l)
 
@@ -109,7 +144,8 @@ module _ (laws : EverySession) (agrees : EveryAgreement) (reads_so : EveryRun) (
 
   module _ (answered : List Answered) (told : List Reply) (c d : Crash) (l : ScriptLeaves feed0 [] g [] answered told (start g) (fresh_account (s.area 2)) log sb c) (same : IsSameBut c d) (lines : ℕ) (notes : d.notes ≡ s0.notes + lines)
       (said : model.journal (transcript 1 input (first_lines lines put)) ≡ session.journal l.heard) (durable : durables (first_lines lines put) ≡ names l.first)
-      (turn : transcript 1 input (first_lines lines put) ≡ in_turn l.heard) (next_of : IsAsked feed0 (asked_text l.heard) call.Commit → ComesNext l.heard (ask call.Commit) input) where
+      (turn : transcript 1 input (first_lines lines put) ≡ in_turn l.heard)
+      (more_of : (a : Answer) → AnswerFits a → IsAsked feed0 (asked_text l.heard) call.Commit → transcript 1 input (first_lines lines put ++ reply_line (Reply.Answered 1 a)) ≡ in_turn l.heard ++ (1, call.Commit, a) ∷ []) where
     tells_sb : (a : ℕ) → Tells s0 a → Tells sb a
     tells_sb a t = told_same a ∙ t
 
@@ -121,8 +157,11 @@ module _ (laws : EverySession) (agrees : EveryAgreement) (reads_so : EveryRun) (
     since_is : d.writes 2 ≡ l.since ++ (s0.area 2).writes
     since_is = same.writes 2 ∙ (l.writes_are ∙ ap (λ (ws : List Write). l.since ++ ws) writes_0)
 
-    pub fair_log : IsFairCrash s0 d → IsFair 2048 IsSealed (s.area 2).bytes l.since (d.image 2)
-    fair_log fair = subst (λ (b : List ℕ). IsFair 2048 IsSealed b l.since (d.image 2)) (sym rests.bytes) (fair.log l.since since_is)
+    one_log : 1 ≤ length m.heads
+    one_log = let a = rests.same.logs in let b : length rests.n.heads ≡ 1 = ap (λ (hs : List ℕ). length hs) rests.one in omega arith
+
+    pub fair_log : IsFairCrash (length m.heads) s0 d → IsFair 2048 IsSealed (s.area 2).bytes l.since (d.image 2)
+    fair_log fair = subst (λ (b : List ℕ). IsFair 2048 IsSealed b l.since (d.image 2)) (sym rests.bytes) (fair.log 1 (omega arith) one_log l.since since_is)
 
     module _ (fair_d : IsFair 2048 IsSealed (s.area 2).bytes l.since (d.image 2)) where
       fair_c : IsFair 2048 IsSealed (s.area 2).bytes l.since (c.image 2)
@@ -159,23 +198,44 @@ module _ (laws : EverySession) (agrees : EveryAgreement) (reads_so : EveryRun) (
             let sur = image.survives laws agrees reads_so seals m s0 s g log alone rests clean st.hand st.session st.runs d.image zero_is one_is prefix in
             (had.txn, sur.has had.txn e.entry has e.has e.commit (e.txn ∙ sym had.number), had.session, had.number)
 
-        in_hand_now : WithOneInHand input (first_lines lines put) (found (image_by rests.n d.image)) (session.journal st.hand)
-        in_hand_now = ⊎_elim
-            (λ e. inl (e ∙ sym said))
-            (λ c. let next : ComesNext l.heard (ask call.Commit) input = next_of c.asked in inr (record {
-              heard = l.heard;
-              told = turn;
-              others = next.others;
-              next = next.lines;
+        abbrev out : List ℕ
+        out = first_lines lines put
+
+        abbrev Now : Type 0
+        Now = (session.journal st.hand ≡ model.journal (transcript 1 input out)) ⊎ IsInHand input out (found (image_by rests.n d.image)) (session.journal st.hand)
+
+        found_is : left ++ [] ≡ found (image_by rests.n d.image)
+        found_is = image.found_left laws agrees reads_so seals m s0 s g log alone rests clean st.hand st.session st.runs d.image zero_is one_is prefix
+
+        committed_now : CommitInHand feed0 l.heard st.hand left → Now
+        committed_now c =
+            let b : IsBounded c.end = bounded is.blocks is.fit c.end c.has in
+            let a : Answer = answer.Committed c.end.txn c.end.number in
+            let more : transcript 1 input (out ++ reply_line (Reply.Answered 1 (answer.Committed c.end.txn c.end.number))) ≡ in_turn l.heard ++ (1, call.Commit, answer.Committed c.end.txn c.end.number) ∷ [] =
+            more_of (answer.Committed c.end.txn c.end.number) (b.txn, b.number) c.asked in
+            inr (record {
               end = c.end;
-              has = subst (Has c.end) (image.found_left laws agrees reads_so seals m s0 s g log alone rests clean st.hand st.session st.runs d.image zero_is one_is prefix) (has_prefix c.end left [] c.has);
+              has = subst (Has c.end) found_is (has_prefix c.end left [] c.has);
               commit = c.commit;
-              all_is = ap session.journal c.hand_is ∙ sym (journal_is (record { call = call.Commit; answer = answer.Committed c.end.txn c.end.number } ∷ l.heard));
-            }))
-            st.in_hand
+              reply = reply_line (Reply.Answered c.end.log (answer.Committed c.end.txn c.end.number));
+              reply_is = refl;
+              next = subst (λ (w : ℕ). transcript 1 input (out ++ reply_line (Reply.Answered w (answer.Committed c.end.txn c.end.number))) ≡ transcript 1 input out ++ (w, call.Commit, answer.Committed c.end.txn c.end.number) ∷ []) (sym b.log)
+                  (more ∙ ap (λ (ts : List (ℕ × Call × Answer)). ts ++ (1, call.Commit, answer.Committed c.end.txn c.end.number) ∷ []) (sym turn));
+              all_is = ap session.journal c.hand_is ∙ (sym (journal_is (record { call = call.Commit; answer = answer.Committed c.end.txn c.end.number } ∷ l.heard))
+                  ∙ ap model.journal (sym more ∙ ap (λ (w : ℕ). transcript 1 input (out ++ reply_line (Reply.Answered w (answer.Committed c.end.txn c.end.number)))) (sym b.log)));
+            })
+
+        in_hand_now : Now
+        in_hand_now = ⊎_elim (λ e. inl (e ∙ sym said)) committed_now st.in_hand
+
+        numbers_now : (r : Entry) → Has r (found (image_by rests.n d.image)) → is_commit r.kind ≡ true → (t : Txn) → Has t (session.journal st.hand) → t.session ≡ r.log → t.number ≡ r.txn → t.at ≡ r.number
+        numbers_now r has commit t there own same =
+            let z : Has r left = ⊎_elim (λ h. h) (λ none. absurd none) (has_cases r left [] (subst (Has r) (sym found_is) has)) in
+            (numbered g st.hand st.session st.runs).agree r (subst (Has r) st.prefix (has_behind r st.newer left z)) commit t there same
 
         pub survives_so : Survives m s0 input put d
         survives_so = record {
+          numbers = numbers_now;
           lines = lines;
           notes = notes;
           by_then = session.journal st.hand;
@@ -183,7 +243,7 @@ module _ (laws : EverySession) (agrees : EveryAgreement) (reads_so : EveryRun) (
           serial = subst (λ (mp : Map). Serial mp (session.journal st.hand)) maps (image.session laws agrees reads_so seals m s0 s g log alone rests clean st.hand st.session st.runs d.image zero_is one_is prefix).serial;
           falls = (image.session laws agrees reads_so seals m s0 s g log alone rests clean st.hand st.session st.runs d.image zero_is one_is prefix).falls;
           n = rests.n;
-          same = rests.same;
+          of_run = of_run m rests.n rests.same;
           clean = image.is_clean laws agrees reads_so seals m s0 s g log alone rests clean st.hand st.session st.runs d.image zero_is one_is prefix l.since l.own fair_d;
           kept_ones = kept_now;
           kept_is = image.kept_is laws agrees reads_so seals m s0 s g log alone rests clean st.hand st.session st.runs d.image zero_is one_is prefix;
@@ -193,5 +253,8 @@ module _ (laws : EverySession) (agrees : EveryAgreement) (reads_so : EveryRun) (
           reported = λ name h. named_kept name (subst (Has name) durable h);
         }
 
-      pub survives : Survives m s0 input put d
-      survives = survives_so zero_image one_image run
+      pub survives : Lives m s0 input put d
+      survives = record {
+        survives = survives_so zero_image one_image run;
+        master = record { n = rests.n; counts = ap master_on zero_image ∙ rests.master; is = inr rests.made };
+      }

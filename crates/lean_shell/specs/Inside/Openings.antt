@@ -19,7 +19,7 @@ use Rattle.disk_image.specs.Formats.{format_of}
 use Rattle.disk_image.specs.MasterSlots.{master_on}
 use Rattle.disk_image.specs.Shown.{image_by, shown_by, IsCleanDisk}
 use Rattle.recovery_scan.specs.Scans.{areas_of}
-use Rattle.recovery.specs.Crashes.{IsSameOrNext}
+use Rattle.recovery.specs.Crashes.{IsNextOf, IsSameOrNext}
 use Rattle.recovery.specs.Opened.{IsSettled, TellsAll}
 use Rattle.core_state.specs.States.{Opening, start_page}
 use Rattle.core_crash.specs.Crashes.{first_map}
@@ -48,6 +48,7 @@ pub record IsLogOf (n : Master) (log : Log) : Type 0 where
 pub record Rests (m : Master) (s0 s1 : Story) (g : Opening) (log : Log) : Type 0 where
   pub n : Master
   pub same : IsSameOrNext m n
+  pub made : IsNextOf m (areas_of s0) n
   pub newer : m.generation < n.generation
   pub one : n.heads ≡ 0 ∷ []
   pub master : master_on (s1.area 0).bytes ≡ Some n

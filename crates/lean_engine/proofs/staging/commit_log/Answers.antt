@@ -7,7 +7,8 @@ use Rattle.log_record.specs.declared.record.Record.{Record}
 use Rattle.worker_log.specs.Logs.{Account}
 use Rattle.worker_log.specs.Kept.{After, IsKept, LeavesBlocks, StagesTo, flushed}
 use Rattle.lean_engine.proofs.PrefixLemmas.{while_staged, while_committed}
-use Rattle.lean_engine.specs.Inside.{EndsTo, IsEnding, commit_of}
+use Rattle.lean_engine.specs.Inside.{EndsTo, IsEnding}
+use Rattle.lean_engine.specs.Logged.{commit_of}
 use Rattle.lean_engine.proofs.staging.commit_log.Goals as goal
 
 pub returns-in_err-stage_end-clause-any_moment : goal.returns-in_err-stage_end-clause-any_moment

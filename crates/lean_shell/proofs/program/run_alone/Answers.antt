@@ -1,6 +1,7 @@
 use Rattle.std.proofs.Common.{refl, subst}
-use Rattle.lean_shell.proofs.CommandLemmas.{of_format, of_none, of_run, usage_moments}
+use Rattle.lean_shell.proofs.CommandLemmas.{not_both, of_format, of_none, of_run, tells_on, usage_moments}
 use Rattle.lean_shell.specs.Words.{Asks, texts}
+use Rattle.lean_shell.specs.declared.words.Command.TheVariants.{Run}
 use Rattle.lean_shell.proofs.program.run_alone.Goals as goal
 
 pub returns-in-Some-Format-clause-ends : goal.returns-in-Some-Format-clause-ends
@@ -24,6 +25,16 @@ returns-in-None-clause-ends g c = of_none (texts c.args.words.now) c.fail.result
       status_is = c.fail.ensures.answer;
       printed = c.fail.ensures.printed;
       same = c.fail.ensures.noted.area;
+      tells_on = tells_on (g.D.Disk.story c.args.disk.now) (g.D.Disk.story c.fail.new.disk) c.fail.ensures.noted;
       faults = c.fail.ensures.faults;
       any_moment = usage_moments (g.D.Disk.story c.args.disk.now) (g.D.Disk.story c.fail.new.disk) ((g.met.D.Disk g.world.𝓛 g.world.𝓜 g.world.𝓡 ((λ s x. x), (λ x. x), (λ x. x), (λ x. x))).lawful c.args.disk.now) c.fail.ensures.noted;
     })
+
+pub returns-in-Some-Format-clause-headline : goal.returns-in-Some-Format-clause-headline
+returns-in-Some-Format-clause-headline g c = λ also. absurd (not_both (texts c.args.words.now) c.in-Some-Format.shape (subst (Asks (texts c.args.words.now)) c.in-Some-Format.field-0-is (c.in-Some-Format.ensures).some) also)
+
+pub returns-in-Some-Run-clause-headline : goal.returns-in-Some-Run-clause-headline
+returns-in-Some-Run-clause-headline g c = λ also. c.run_disk.ensures.headline
+
+pub returns-in-None-clause-headline : goal.returns-in-None-clause-headline
+returns-in-None-clause-headline g c = λ also. absurd ((c.in-None.ensures).none Run also)

@@ -33,7 +33,7 @@ returns-clause-runs g c o xs s start seen most runs pictures was =
     let few : c.args.number < 2 ^ 40 = (c.in-Ok.ensures).few in
     answer_stepped c.every_rest.ensures o xs s c.args.engine.now runs pictures (g.D.Disk.story c.args.disk.now) law c.ranges-2.ensures
     c.in-Ok.call (c.in-Ok.ensures).fits (g.D.Disk.story c.call_engine.new.disk) c.call_engine.ensures.frame (λ x logs kept. c.call_engine.ensures.any_moment o s x most pictures logs kept)
-    (c.in-Ok-call_engine).answer (c.in-Ok-call_engine.ensures).fits c.call_engine.new.engine c.ranges-3.ensures ((c.in-Ok-call_engine.ensures).does o s most pictures) (c.in-Ok-call_engine.ensures).ring (c.in-Ok-call_engine.ensures).log
+    (c.in-Ok-call_engine).answer (c.in-Ok-call_engine.ensures).fits c.call_engine.new.engine c.ranges-3.ensures ((c.in-Ok-call_engine.ensures).does o s most pictures) (c.in-Ok-call_engine.ensures).log
     (λ why. ((λ e. (c.call_engine.ensures.cause_refused why).0 ((c.in-Ok-call_engine).is ∙ ap (λ a. Ok a) e)), (λ r. ok_is c.call_engine.result (c.in-Ok-call_engine).answer (Refused why) (c.in-Ok-call_engine).is ((c.call_engine.ensures.cause_refused why).1 r)))) c.call_engine.ensures.same
     c.put_answer.result (g.K.Sink.held c.args.sink.now) (g.K.Sink.held c.put_answer.new.sink) (g.D.Disk.story c.put_answer.new.disk) c.put_answer.ensures.says
     (c.args.number - 1) start (g.S.Source.feed c.next_call.new.source) seen c.next_call.new.reader (omega arith) ((c.in-Ok.ensures).read start seen was)

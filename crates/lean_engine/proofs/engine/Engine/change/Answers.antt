@@ -1,7 +1,7 @@
 use Rattle.std.proofs.Common.{◌∙◌, ◌+◌, ◌<◌, ℕ, length, ap, sym, subst}
 use Rattle.log_record.specs.declared.record.Body.TheVariants.{Change}
 use Rattle.lean_engine.specs.contracts.engine.Engine.{the_view}
-use Rattle.lean_engine.specs.Inside.{change_of, word_of}
+use Rattle.lean_engine.specs.Logged.{change_of, word_of}
 use Rattle.lean_engine.specs.States.{State}
 use Rattle.node_tree.specs.Nodes.{nodes_of}
 use Rattle.lean_engine.proofs.StateLemmas.{change_is}

@@ -6,7 +6,8 @@ use Rattle.page_model.specs.Nodes.{Node, holds}
 use Rattle.lean_engine.specs.Refusals.{is_full_for}
 use Rattle.worker_log.specs.Kept.{IsKept}
 use Rattle.lean_engine.specs.contracts.engine.Engine.{the_view}
-use Rattle.lean_engine.specs.Inside.{MayPut, Puts, said, word_of}
+use Rattle.lean_engine.specs.Inside.{MayPut, Puts, said}
+use Rattle.lean_engine.specs.Logged.{word_of}
 use Rattle.lean_engine.specs.States.{State}
 use Rattle.node_tree.specs.Nodes.{nodes_of}
 use Rattle.node_tree.proofs.PairLemmas.{node_at}
