@@ -1,6 +1,7 @@
 -- Each event keeps the invariants.
 use Rattle.page_model.specs.Nodes as page_nodes
 use Rattle.page_model.specs.Records as page_records
+use Rattle.page_model.specs.Fits.{FitsAs}
 use Rattle.page_model.specs.Tree as page_tree
 use Rattle.page_model.specs.Pairs as pairs
 use Rattle.page_model.specs.Needs as record_needs
@@ -294,7 +295,7 @@ none_has : (k : ℕ) (n : Node) → pairs.find k n.pairs ≡ None → redo_of.ha
 none_has k n e = ap redo_of.is_some e
 
 -- a word that a leaf has, or says of an absent key
-before_le : (f : page_nodes.Format) (node : ℕ → Node) (r : Record) → IsTree f node → page_records.FitsAs f page_records.Kind.Change node r → r.before ≤ f.dead
+before_le : (f : page_nodes.Format) (node : ℕ → Node) (r : Record) → IsTree f node → FitsAs f page_records.Kind.Change node r → r.before ≤ f.dead
 before_le f node r t m =
     let d = page_needs.does page_records.Kind.Change f node r t m in
     let v = node r.left.page in
@@ -333,7 +334,7 @@ inv_change g s i w p k v m = inv_write g s i Change w p k v (λ r. r ∷ (s.work
     x : Entry
     x = write_entry g Change s w (at_pages s w (s.worker w) (p ∷ [])) p k v
 
-    fit : page_records.FitsAs g.format page_records.Kind.Change (nodes_of s) x.record_of
+    fit : FitsAs g.format page_records.Kind.Change (nodes_of s) x.record_of
     fit = (page_needs.every_need g.format (nodes_of s) (gsns_of s) (tree_now g s i)).change p k v (record {
       page = ltb-true p g.format.pages p3.0;
       leaf = p4.0;
@@ -440,7 +441,7 @@ at_shape s w a [] = refl
 at_shape s w a (p ∷ ps) = ap (λ (z : Worker). record z { clock = (at_pages s w a (p ∷ ps)).clock; debt = (at_pages s w a (p ∷ ps)).debt }) (at_shape s w a ps)
 
 pub inv_move : (g : Opening) (s : State) → Inv g s → (K : Kind) (w : ℕ) (ps : List ℕ) (y : Record) → (s.worker w).is_open ≡ true → is_move K ≡ true → refs_of s ps ≡ page_records.refs_as (page_kind K) y →
-    page_records.FitsAs g.format (page_kind K) (nodes_of s) y → (is_purge K ≡ true → (k : ℕ) → pairs.is_in k y.keys ≡ true → is_settled g s k ≡ true) → Inv g (moves s K w ps y)
+    FitsAs g.format (page_kind K) (nodes_of s) y → (is_purge K ≡ true → (k : ℕ) → pairs.is_in k y.keys ≡ true → is_settled g s k ≡ true) → Inv g (moves s K w ps y)
 inv_move g s i K w ps y op mx xr fm settled = subst (λ (z : Worker). Inv g (records_in s w z (page_entry K s w z ps y) z.changes)) (at_shape s w (s.worker w) ps) (
     inv_records g s i w ps a.clock a.debt x (s.worker w).changes op t.0 t.1 t.2 t.4 refl refl (omega arith) (move_no_end K mx) (move_is_record K mx) refl fit (λ c. absurd (true≢false (sym c ∙ move_no_call K mx))) (λ c. absurd (true≢false (sym c ∙ move_no_call K mx))) (λ c ic. ((i.workers w).changes op c ic, (i.workers w).words op c ic)) settled
     (λ j. undone_at (s.worker w).changes (values_of g (x ∷ s.entries)) (values_of g s.entries) j (history_off g (flushed_by_all g s) j x s.entries i.history (subst (λ (n : ℕ → Node). Fits g.format n x) (same_nodes g s i) fit) (and_left (is_write K) (0 == j) (move_no_write K mx)))))

@@ -3,7 +3,8 @@ use Rattle.std.specs.Prelude.{◌++◌, length, ◌≡◌, ◌<◌, ◌≤◌, �
 use Rattle.page_model.specs.Pairs.{Pair, find, onward, Span, is_in}
 use Rattle.page_model.specs.Nodes.{Format, Node, holds}
 use Rattle.page_model.specs.Tree.{Names, IsTree, word_or}
-use Rattle.page_model.specs.Records.{Kind, Ref, Record, Fits}
+use Rattle.page_model.specs.Records.{Kind, Ref, Record}
+use Rattle.page_model.specs.Fits.{Fits}
 use Rattle.page_model.specs.Records.Kind.{Change, Put_back, Split, Lift, Join, Drop, Purge}
 
 abbrev pub key_at : ℕ → List Pair → ℕ
@@ -13,9 +14,6 @@ key_at (suc i) (x ∷ xs) = key_at i xs
 
 abbrev pub ref : (ℕ → ℕ) → ℕ → Ref
 ref gsn p = record { page = p; prev = gsn p }
-
-abbrev pub nowhere : Ref
-nowhere = record { page = 0; prev = 0 }
 
 -- pages with their numbers
 abbrev pub write_record : Kind → Format → (ℕ → Node) → (ℕ → ℕ) → (p k v : ℕ) → Record

@@ -2,7 +2,7 @@
 use Rattle.std.specs.Prelude.{◌≡◌, ℕ, List, [], map, Option, Some, None}
 use Rattle.map_model.specs.Journals as journals
 use Rattle.page_model.specs.Records as records
-use Rattle.page_model.specs.Needs.{nowhere}
+use Rattle.page_model.specs.Records.{nowhere}
 use Rattle.image_model.specs.Entries.{Kind, Entry}
 use Rattle.image_model.specs.Ends as ends
 use Rattle.plain_recovery.specs.declared.found.Ending.{Ending}
