@@ -1,10 +1,9 @@
 -- What each event makes of the state.
-use Rattle.page_model.specs.Records as records
 use Rattle.page_model.specs.Needs as page_needs
 use Rattle.map_model.specs.Lists.{upd, keep}
 use Rattle.map_model.specs.Maps.{MapAnswer}
 use Rattle.image_model.specs.Entries.{Kind, Entry, is_write, is_call, page_kind, touches, word_in, Contents, written}
-use Rattle.page_model.specs.Records.{Ref, Record}
+use Rattle.page_model.specs.Records.{Ref, Record, no_record}
 use Rattle.rfa_model.specs.Stamps.{owed, debt_at_begin, need_of}
 use Rattle.core_state.specs.Lists.{without, at_end}
 use Rattle.core_state.specs.States.{Opening, Place, Row, Worker, State, flushed_by_all, nodes_of, gsns_of, frame_of, left_by}
@@ -51,10 +50,6 @@ unlocked o w end =
     else record { holder = o.holder; readers = others; number = o.number; log = o.log; read_end = max o.read_end end }
 
 -- ## Entries
-
--- what stands in an entry that changes no page
-abbrev pub no_record : Record
-no_record = record { kind = records.Kind.Purge; left = page_needs.nowhere; right = page_needs.nowhere; parent = page_needs.nowhere; key = 0; before = 0; after = 0; sep = 0; high = 0; level = 0; pairs = []; keys = [] }
 
 -- of a read, the need is 1 where its row is held alone
 abbrev pub read_entry : ℕ → Worker → ℕ → ℕ → Bool → Entry

@@ -19,7 +19,8 @@ use Rattle.image_model.specs.Entries.{Kind, Entry, Contents, word_in}
 use Rattle.image_model.specs.Histories as histories
 use Rattle.image_model.specs.Histories.{said, write_call, steps_of}
 use Rattle.core_state.specs.States.{Opening, State, Worker}
-use Rattle.core_state.specs.Steps.{no_record, read_entry, write_entry, end_entry}
+use Rattle.core_state.specs.Steps.{read_entry, write_entry, end_entry}
+use Rattle.page_model.specs.Records.{no_record}
 use Rattle.rfa_model.specs.Stamps.{need_of}
 use Rattle.core_crash.specs.Crashes.{log_of}
 use Rattle.session_model.specs.Sessions.{Session, begun, put, committed, change_of, commit_of}
