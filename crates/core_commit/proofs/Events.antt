@@ -23,18 +23,13 @@ use Rattle.core_state.specs.Steps.{claims, at_pages, refs_of, end_entry, read_en
 use Rattle.core_state.specs.Needs.{may_put, may_put_back, may_split, may_lift, may_join, may_drop, may_purge, is_single, is_dead, is_settled, holds_row, is_held_by, is_free, is_reader, may_read, needs}
 use Rattle.page_model.specs.Tree.{IsTree}
 use Rattle.image_model.specs.Entries.Kind.{Change, Put_back, Split, Lift, Join, Drop, Purge, Read, Commit, Abort}
-use Rattle.core_commit.proofs.Lists.{Within, any_has, upd_same, upd_other}
+use Rattle.core_commit.proofs.Lists.{Within}
+use Rattle.map_model.proofs.ListLemmas.{any_has, upd_same, upd_other, at_upd}
 use Rattle.core_commit.proofs.Nodes.{lookup_at, on_key, is_move, Fits, fits_before}
 use Rattle.core_commit.proofs.History.{SameTxn, Covered, EndOf, Entered, page_at, nodes, not_by, without, touch_ref, history_on, history_off, history_parted}
 use Rattle.core_commit.proofs.KindFacts.{write_claims, claims_call, write_is_no_end, write_is_call, write_is_record}
 use Rattle.core_commit.proofs.Invariants.{cuts_more, Holds, top_of, end_more, covered_more, AtMost, row_same, MayEnter, row_more, marker, undone, values_of, WorkerOk, pages_more, undone_at, worker_more, bound, tops, Inv, touch_covers, touch_debt, page_covers, stamp_flushed}
 use mathlib.Core.Path.{fun_ext}
-
-pub at_upd : {A : Type 0} (P : ℕ → A → Type 0) (f : ℕ → A) (i : ℕ) (a : A) (j : ℕ) → P i a → ((j ≡ i → ⊥) → P j (f j)) → P j (upd f i a j)
-at_upd P f i a j h k = elim (cases_eq j i) [
-  | inl e ↦ subst (λ x. P j x) (sym (upd_same f i a j e)) (subst (λ x. P x a) (sym e) h)
-  | inr n ↦ subst (λ x. P j x) (sym (upd_other f i a j n)) (k n)
-]
 
 pub upd_at_most : (f : Worker → ℕ) (worker : ℕ → Worker) (w : ℕ) (a : Worker) → f (worker w) ≤ f a → AtMost (λ v. f (worker v)) (λ v. f (upd worker w a v))
 upd_at_most f worker w a l v = elim (cases_eq v w) [

@@ -9,7 +9,8 @@ use Rattle.core_state.specs.Steps.{claims}
 use Rattle.core_state.specs.States.{Opening, start_page, first}
 use Rattle.page_model.specs.Nodes.{Node}
 use Rattle.page_model.specs.Tree.{lookup, IsTree}
-use Rattle.core_commit.proofs.Lists.{Within, Each, Before, pick, any_has, has_any, any_is}
+use Rattle.core_commit.proofs.Lists.{Within, Each, Before, pick, any_is}
+use Rattle.map_model.proofs.ListLemmas.{any_has, has_any}
 use Rattle.core_commit.proofs.Nodes.{on_key, Fits, moved_on, fits_parted, fits_on, fits_off}
 use mathlib.Core.Path.{fun_ext}
 

@@ -8,7 +8,8 @@ use Rattle.core_state.specs.States.{Opening, Row, Worker, State, flushed_by_all}
 use Rattle.core_state.specs.Steps.{claims, touch, end_entry}
 use Rattle.image_model.specs.Entries.Kind.{Commit}
 use Rattle.core_commit.proofs.KindFacts.{claims_call}
-use Rattle.core_commit.proofs.Lists.{Within, le_least, each_map, upd_same, upd_other}
+use Rattle.core_commit.proofs.Lists.{Within, le_least, each_map}
+use Rattle.map_model.proofs.ListLemmas.{upd_same, upd_other}
 use Rattle.core_commit.proofs.History.{Covered, PagesCovered, EndOf, Entered, IsHistory, page_at, page_hit, page_miss, number_le_gsn, nodes, history_value, history_on, history_off, not_by, without}
 use Rattle.core_commit.proofs.Nodes.{key_parts, on_key, Fits}
 

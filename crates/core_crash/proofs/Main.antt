@@ -12,7 +12,7 @@ use Rattle.image_model.specs.Ends.{reach}
 use Rattle.core_commit.proofs.KindFacts.{end_is_record}
 use Rattle.core_commit.proofs.Lists.{Within, has_before, before_has, each_at}
 use Rattle.core_state.specs.Steps.{HasBeen}
-use Rattle.core_crash.proofs.Order.{order_has}
+use Rattle.map_model.proofs.ListLemmas.{order_has}
 use Rattle.core_commit.proofs.History.{Entered, page_at}
 use Rattle.core_crash.proofs.Ends.{Cut, reach_all, F_reach, ended_from, found_from}
 use Rattle.core_crash.proofs.Redo.{Had}

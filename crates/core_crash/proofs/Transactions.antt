@@ -13,7 +13,7 @@ use Rattle.page_model.specs.Nodes.{Format}
 use Rattle.page_model.specs.Tree.{entry}
 use Rattle.core_state.specs.States.{Opening, first}
 use Rattle.core_crash.specs.Crashes.{first_map}
-use Rattle.core_commit.proofs.Lists.{upd_same, upd_other}
+use Rattle.map_model.proofs.ListLemmas.{upd_same, upd_other}
 use Rattle.core_commit.proofs.History.{answer}
 use Rattle.core_commit.proofs.Says.{said_word, write_here, write_else}
 use Rattle.core_crash.proofs.Words.{Done, calls_of, committed, done_earlier, journal, write_all, after, kept, wins, Lawful, Serial}

@@ -8,7 +8,7 @@ use Rattle.core_state.specs.States.Place.{Hot, Cooling, Cold}
 use Rattle.core_state.specs.Events.{Event}
 use Rattle.core_state.specs.Needs.{are_hot, pages_of, is_worker, is_inside, has_hot_parent, is_empty_frame, is_dirty, needs}
 use Rattle.core_state.specs.Steps.{put_back, follows, happens, step, run}
-use Rattle.core_commit.proofs.Lists.{upd_same, upd_other}
+use Rattle.map_model.proofs.ListLemmas.{upd_same, upd_other}
 use Rattle.core_commit.proofs.Copies.{at_place as at_upd}
 use Rattle.core_commit.proofs.Runs.{step_keeps}
 use Rattle.core_paging.specs.Paging.{leaves, Stays}

@@ -14,7 +14,7 @@ use Rattle.core_state.specs.States.Place.{Hot, Cooling, Cold}
 use Rattle.core_state.specs.Events.{Event}
 use Rattle.core_state.specs.Needs.{are_hot, pages_of, has_hot_parent, has_hot_child, is_empty_frame, is_dirty, is_inside, needs}
 use Rattle.core_state.specs.Steps.{at_pages, page_entry, write_entry, moves, put_back, follows, happens}
-use Rattle.core_commit.proofs.Lists.{upd_other}
+use Rattle.map_model.proofs.ListLemmas.{upd_other}
 use Rattle.core_commit.proofs.Events.{names_to, tree_now}
 use Rattle.core_commit.proofs.Copies.{at_place as at_upd, loaded, above_pages}
 use Rattle.core_commit.proofs.Runs.{Good}

@@ -16,7 +16,7 @@ use Rattle.image_model.specs.Redo.{Redone, mark, stands, at_prev, redo, names_pa
 use Rattle.image_model.specs.Undo.{undo, undo_node, nodes_of, values}
 use Rattle.image_model.specs.Images.{Image, gathered, found, sorted, has_base, page_or, bases, redone, lost, recovered, IsFalling, IsSound}
 use Rattle.disk_image.specs.Laws.{Agree, Agreement, EveryAgreement}
-use Rattle.disk_image.proofs.TestLemmas.{all_to, all_same}
+use Rattle.map_model.proofs.ListLemmas.{all_to, all_same}
 
 -- ## Logs
 

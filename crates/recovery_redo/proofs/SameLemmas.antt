@@ -4,7 +4,7 @@ use Rattle.std.proofs.Common.{◌≡◌, ◌<◌, ℕ, zero, suc, Bool, true, co
 use Rattle.std.proofs.lemmas.Bool.{and_parts, ltb-true, cases_Bool, cond-true, cond-false, ne_eqb}
 use Rattle.map_model.specs.Lists.{Has}
 use Rattle.page_model.specs.Pairs as pairs
-use Rattle.page_model.specs.Pairs.{Pair, Span, spans, first_key}
+use Rattle.page_model.specs.Pairs.{Span, spans, first_key}
 use Rattle.page_model.specs.Check as check
 use Rattle.page_model.proofs.Check.{all_has}
 use Rattle.page_model.proofs.Spans.{span_pair}
@@ -13,7 +13,7 @@ use Rattle.page_model.specs.Records.{Ref}
 use Rattle.page_model.specs.Redo.{can_be}
 use Rattle.image_model.specs.Entries.{Entry, Contents, is_page, page_kind, written}
 use Rattle.image_model.specs.Redo.{Redone, mark, stands, at_prev, redo, names_pages, is_sayable_as, can_change, passes, all_pass}
-use Rattle.disk_image.proofs.TestLemmas.{all_to, all_same}
+use Rattle.map_model.proofs.ListLemmas.{all_to, all_same}
 
 -- ## Records
 

@@ -19,7 +19,7 @@ use Rattle.core_crash.specs.Crashes.{IsPrefix, log_of, from_head, image_of, firs
 use Rattle.session_model.specs.Sessions.{Session, nodes_of, IsAlone}
 use Rattle.session_model.specs.Calls.{Answered, journal}
 use Rattle.session_model.specs.Laws.{image_left, kept_of, Survives, SessionLaws, EverySession}
-use Rattle.session_model.proofs.Lists.{has_cases, has_left, has_right, any_has, has_any, keep_has, has_keep}
+use Rattle.map_model.proofs.ListLemmas.{has_cases, has_left, has_right, any_has, has_any, keep_has, has_keep}
 use Rattle.session_model.proofs.Counts.{Logged, Ended, journal_is, falling}
 use Rattle.session_model.proofs.Entries.{txns, open_steps}
 use Rattle.session_model.proofs.Pictures.{Picture, tree_of}

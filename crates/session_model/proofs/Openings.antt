@@ -11,7 +11,7 @@ use Rattle.image_model.specs.Images.{Image, IsSound, IsFalling, gathered, found,
 use Rattle.image_model.specs.Laws.{UndoneLaws, EveryUndone}
 use Rattle.core_state.specs.States.{Opening}
 use Rattle.session_model.specs.Laws.{IsOwn, EveryOpening}
-use Rattle.session_model.proofs.Lists.{has_cases, insert_has, order_has}
+use Rattle.map_model.proofs.ListLemmas.{has_cases, insert_has, order_has}
 
 -- ## Marks
 

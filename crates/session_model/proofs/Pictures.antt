@@ -22,7 +22,7 @@ use Rattle.core_index.specs.Answers.{EveryTree}
 use Rattle.core_crash.specs.Crashes.{first_map}
 use Rattle.session_model.specs.Sessions.{Session, start, nodes_of}
 use Rattle.session_model.specs.Calls.{Answered}
-use Rattle.session_model.proofs.Lists.{upd_same}
+use Rattle.map_model.proofs.ListLemmas.{upd_same}
 use Rattle.session_model.proofs.Reaches.{Reached, reached_start, reached_more}
 use Rattle.session_model.proofs.Workers.{Worked, Rowed}
 use Rattle.session_model.proofs.Counts.{Counted, counted_start, Told}
