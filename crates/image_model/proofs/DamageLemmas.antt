@@ -8,7 +8,8 @@ use Rattle.page_model.proofs.Check.{none_bad, bad_none, every_check}
 use Rattle.image_model.specs.Entries.{Entry, Contents}
 use Rattle.image_model.specs.Redo.{redo, passes, all_pass}
 use Rattle.image_model.specs.Undo.{nodes_of}
-use Rattle.image_model.specs.Images.{Image, sorted, bases, redone, lost, has_base, has_entry, IsFalling, IsSound, Damage, page_damage, or_first, first_failing, first_in_logs, first_without, damage}
+use Rattle.image_model.specs.Images.{Image, sorted, bases, redone, lost, has_base, has_entry, IsFalling, IsSound}
+use Rattle.image_model.specs.Damage.{Damage, page_damage, or_first, first_failing, first_in_logs, first_without, damage}
 use Rattle.image_model.specs.Laws.{EveryDamage}
 use Rattle.map_model.proofs.ListLemmas.{all_to, all_of}
 

@@ -1,2 +1,5 @@
 pub mod DamageLemmas
+pub mod SameLemmas
+pub mod SetLemmas
 pub mod UndoLemmas
+pub mod WordLemmas

@@ -1,13 +1,14 @@
 -- Pages in frames: each page is hot in its own frame or cold as it was saved, and a page comes in below a hot parent.
-use Rattle.std.proofs.Common.{◌≡◌, ◌⊎◌, ◌<◌, ℕ, zero, suc, Bool, true, ◌&&◌, not, ltb, ◌==◌, List, [], ◌∷◌, refl, sym, ap, ◌∙◌, subst, inl, inr, arith, true≢false}
-use Rattle.std.proofs.lemmas.Bool.{ne_eqb, eqb-true, ltb-true, and_parts, and_from, or_cases}
+use Rattle.std.proofs.Common.{◌≡◌, ◌⊎◌, ◌<◌, ℕ, zero, suc, Bool, true, ◌&&◌, not, ltb, ◌==◌, refl, sym, ap, ◌∙◌, subst, inl, inr, arith, true≢false}
+use Rattle.std.proofs.lemmas.Bool.{ne_eqb, eqb-true, ltb-true, and_parts, and_from}
 use Rattle.map_model.specs.Lists.{upd}
-use Rattle.page_model.specs.Pairs.{Has, Span, spans}
+use Rattle.page_model.specs.Pairs.{Span, spans}
 use Rattle.page_model.specs.Nodes.{Format, Node}
 use Rattle.page_model.specs.Tree.{Names}
 use Rattle.page_model.specs.Laws.{TreeLaws}
 use Rattle.page_model.specs.Records.{any}
 use Rattle.page_model.specs.Check.{names_page}
+use Rattle.page_model.proofs.Check.{any_has}
 use Rattle.image_model.specs.Entries.{Contents}
 use Rattle.core_state.specs.Lists.{all_below}
 use Rattle.core_state.specs.States.{Opening, Place, start_page, is_hot, is_cold, in_frame}
@@ -62,11 +63,6 @@ empty_frame page saved place placed p c q = elim (placed q) [
   | inl e ↦ ap (λ (x : Place). not (in_frame x p)) e ∙ ap not (ne_eqb q p (λ z. true≢false (sym (subst (λ (i : ℕ). is_cold (place i) ≡ true) (sym z) c) ∙ ap is_cold e)))
   | inr e ↦ ap (λ (x : Place). not (in_frame x p)) e.0
 ]
-
--- the same word of the pages' crate
-any_has : {A : Type 0} (p : A → Bool) (xs : List A) → any p xs ≡ true → (x : A) × Has x xs × (p x ≡ true)
-any_has p [] h = absurd (true≢false (sym h))
-any_has p (x ∷ xs) h = elim (or_cases (p x) (any p xs) h) [ inl e ↦ (x, inl refl, e) | inr e ↦ let r = any_has p xs e in (r.0, inr r.1, r.2) ]
 
 names_to : (v : Node) (p : ℕ) → names_page v p ≡ true → (s : Span) × Names v s × (s.child ≡ p)
 names_to v p h =
