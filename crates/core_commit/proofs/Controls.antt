@@ -5,7 +5,8 @@ use Rattle.image_model.specs.Entries.{is_end, is_record, is_call, Entry, same_tx
 use Rattle.map_model.specs.Lists.{upd, keep, any, Has}
 use Rattle.rfa_model.specs.Reaches.{least}
 use Rattle.core_state.specs.Needs.{is_worker, is_ripe_end, is_ripe_up_to, is_saved_up_to, is_behind, holds_row, may_hold, is_held_by, is_free, is_reader, needs}
-use Rattle.core_state.specs.States.{first, Opening, Row, Worker, State, flushed_by_all, start}
+use Rattle.core_state.specs.States.{Row, Worker, State, flushed_by_all, start}
+use Rattle.core_state.specs.Openings.{first, Opening}
 use Rattle.core_state.specs.Lists.{most}
 use Rattle.core_state.specs.Events.{Event, Mode}
 use Rattle.core_state.specs.Steps.{claims, touch, at_pages, at_row, begun, locked, unlocked, looks, synced, happens}

@@ -16,7 +16,8 @@ use Rattle.image_model.specs.Entries.{Entry, Kind, is_call, is_write, is_end, is
 use Rattle.page_model.specs.Records.{Ref, Record}
 use Rattle.core_state.specs.Lists.{is_empty}
 use Rattle.page_model.specs.Pairs.{Pair}
-use Rattle.core_state.specs.States.{Opening, Row, Worker, State, flushed_by_all, nodes_of, gsns_of}
+use Rattle.core_state.specs.States.{Row, Worker, State, flushed_by_all, nodes_of, gsns_of}
+use Rattle.core_state.specs.Openings.{Opening}
 use Rattle.core_state.specs.Events.{Event}
 use Rattle.page_model.specs.Nodes.{Node, holds}
 use Rattle.core_state.specs.Steps.{claims, at_pages, refs_of, end_entry, read_entry, write_entry, page_entry, moves, finished, records_in, writes, put_back, reads, happens}

@@ -6,7 +6,7 @@ use Rattle.image_model.specs.Entries.{is_purge, Entry, is_call, is_write, is_end
 use Rattle.map_model.specs.Lists.{Has}
 use Rattle.page_model.specs.Records.{Ref}
 use Rattle.core_state.specs.Steps.{claims}
-use Rattle.core_state.specs.States.{Opening, start_page, first}
+use Rattle.core_state.specs.Openings.{Opening, start_page, first}
 use Rattle.page_model.specs.Nodes.{Node}
 use Rattle.page_model.specs.Tree.{lookup, IsTree}
 use Rattle.core_commit.proofs.Lists.{Within, Each, Before, pick, any_is}

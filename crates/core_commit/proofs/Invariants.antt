@@ -4,7 +4,8 @@ use Rattle.std.proofs.lemmas.Bool.{cases_Bool, cases_eq, cases_lt, ne_eqb, and_f
 use Rattle.map_model.specs.Lists.{upd, Has}
 use Rattle.image_model.specs.Entries.{Entry, touches, is_call, is_write, is_end, is_record, same_txn, Contents, written}
 use Rattle.rfa_model.specs.Stamps.{is_remote}
-use Rattle.core_state.specs.States.{Opening, Row, Worker, State, flushed_by_all}
+use Rattle.core_state.specs.States.{Row, Worker, State, flushed_by_all}
+use Rattle.core_state.specs.Openings.{Opening}
 use Rattle.core_state.specs.Steps.{claims, touch, end_entry}
 use Rattle.image_model.specs.Entries.Kind.{Commit}
 use Rattle.core_commit.proofs.KindFacts.{claims_call}

@@ -13,7 +13,7 @@ use Rattle.image_model.specs.Ends.{greatest, reach, ends, ended}
 use Rattle.core_commit.proofs.KindFacts.{end_is_record, write_is_no_end}
 use Rattle.page_model.specs.Nodes.{Node}
 use Rattle.page_model.specs.Tree.{IsTree}
-use Rattle.core_state.specs.States.{Opening, first}
+use Rattle.core_state.specs.Openings.{Opening, first}
 use Rattle.core_commit.proofs.Lists.{has_before, before_has, each_at, le_least}
 use Rattle.map_model.proofs.ListLemmas.{any_has, has_any, keep_has, has_keep, order_has}
 use Rattle.core_commit.proofs.History.{EndOf, SameTxn, same_to, Entered, IsHistory, nodes}

@@ -6,7 +6,7 @@ use Rattle.map_model.specs.Lists.{all, keep, Has}
 use Rattle.rfa_model.specs.Reaches.{least}
 use Rattle.image_model.specs.Entries.{Entry, touches, is_call, is_write, is_end, is_record, same_txn}
 use Rattle.core_state.specs.Steps.{claims}
-use Rattle.core_state.specs.States.{Opening}
+use Rattle.core_state.specs.Openings.{Opening}
 use Rattle.core_crash.proofs.Words.{found}
 use Rattle.core_commit.proofs.KindFacts.{write_claims, end_is_record, write_is_record, write_is_no_end, call_is_no_end}
 use Rattle.image_model.specs.Ends.{greatest, reach, ends, ended}

@@ -11,7 +11,8 @@ use Rattle.image_model.specs.Ends.{greatest, reach, ends, ended}
 use Rattle.image_model.specs.Redo.{Redone, redo}
 use Rattle.image_model.specs.Undo.{undo, values, is_lost}
 use Rattle.page_model.specs.Tree.{IsTree}
-use Rattle.core_state.specs.States.{Opening, State, start, first, flushed_by_all}
+use Rattle.core_state.specs.States.{State, start, flushed_by_all}
+use Rattle.core_state.specs.Openings.{Opening, first}
 use Rattle.core_state.specs.Events.{Event}
 use Rattle.core_state.specs.Steps.{run}
 use Rattle.core_crash.specs.Crashes.{log_of, IsPrefix, Leaves, from_head}

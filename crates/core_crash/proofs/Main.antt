@@ -3,7 +3,8 @@ use Rattle.std.proofs.Common.{◌≡◌, ℕ, ◌≤◌, true, List, [], ◌∷�
 use Rattle.std.proofs.lemmas.Bool.{leb-true}
 use Rattle.map_model.specs.Lists.{Has, keep}
 use Rattle.image_model.specs.Entries.{Entry, Contents}
-use Rattle.core_state.specs.States.{Opening, State, flushed_by_all, start}
+use Rattle.core_state.specs.States.{State, flushed_by_all, start}
+use Rattle.core_state.specs.Openings.{Opening}
 use Rattle.map_model.specs.Maps.{MapAnswer}
 use Rattle.core_state.specs.Events.{Event}
 use Rattle.core_state.specs.Steps.{follows, happens, step, run, put_back}

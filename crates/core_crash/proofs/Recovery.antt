@@ -8,7 +8,8 @@ use Rattle.image_model.specs.Images.{Image, StandsFor, IsFalling, found, sorted,
 use Rattle.page_model.specs.Redo.{is_some}
 use Rattle.page_model.specs.Tree.{entry}
 use Rattle.page_model.specs.Nodes.{Format}
-use Rattle.core_state.specs.States.{State, start, first, flushed_by_all}
+use Rattle.core_state.specs.States.{State, start, flushed_by_all}
+use Rattle.core_state.specs.Openings.{first, first_map}
 use Rattle.core_state.specs.Steps.{run}
 use Rattle.core_commit.proofs.Lists.{has_before, before_has}
 use Rattle.map_model.proofs.ListLemmas.{keep_has, has_keep, order_has}
@@ -16,7 +17,7 @@ use Rattle.core_commit.proofs.History.{SameTxn, same_from}
 use Rattle.core_commit.proofs.KindFacts.{write_claims, claims_call, call_is_no_end}
 use Rattle.core_commit.proofs.Invariants.{Inv}
 use Rattle.core_commit.proofs.Runs.{good_run, good_start}
-use Rattle.core_crash.specs.Crashes.{Follows, from_head, image_of, first_map, journal_in, kept_in, IsRipe, EveryCrash, EveryStored, EverySerial}
+use Rattle.core_crash.specs.Crashes.{Follows, from_head, image_of, journal_in, kept_in, IsRipe, EveryCrash, EveryStored, EverySerial}
 use Rattle.core_paging.proofs.Laws.{every_saved}
 use Rattle.core_crash.proofs.Words as words
 use Rattle.core_crash.proofs.Words.{Done, Stands, tested, journal, kept, committed, done_earlier, after}

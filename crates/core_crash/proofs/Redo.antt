@@ -12,7 +12,7 @@ use Rattle.image_model.specs.Redo.{passes, names_pages, is_sayable_as, Redone, m
 use Rattle.core_crash.proofs.Words.{found}
 use Rattle.image_model.specs.Undo.{values}
 use Rattle.page_model.specs.Records.{Ref, Record}
-use Rattle.core_state.specs.States.{Opening, start_page}
+use Rattle.core_state.specs.Openings.{Opening, start_page}
 use Rattle.page_model.specs.Nodes.{Format, Node}
 use Rattle.page_model.specs.Tree.{lookup, IsTree}
 use Rattle.core_commit.proofs.Lists.{Before, before_has, Each, each_map_has}

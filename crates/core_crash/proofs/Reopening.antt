@@ -8,7 +8,8 @@ use Rattle.image_model.specs.Redo.{is_sayable_as}
 use Rattle.image_model.specs.Images.{Image, found, sorted, recovered_page}
 use Rattle.image_model.proofs.UndoLemmas.{every_undone}
 use Rattle.image_model.specs.Laws.{UndoneLaws}
-use Rattle.core_state.specs.States.{Opening, State, start, flushed_by_all}
+use Rattle.core_state.specs.States.{State, start, flushed_by_all}
+use Rattle.core_state.specs.Openings.{Opening}
 use Rattle.core_state.specs.Steps.{run}
 use Rattle.core_commit.proofs.Lists.{has_before, each_at}
 use Rattle.map_model.proofs.ListLemmas.{keep_has, order_has, has_right}

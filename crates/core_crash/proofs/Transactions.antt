@@ -11,8 +11,7 @@ use Rattle.image_model.specs.Ends.{reach}
 use Rattle.image_model.specs.Entries.{Kind, Entry, is_write, is_call, is_commit, same_txn}
 use Rattle.page_model.specs.Nodes.{Format}
 use Rattle.page_model.specs.Tree.{entry}
-use Rattle.core_state.specs.States.{Opening, first}
-use Rattle.core_crash.specs.Crashes.{first_map}
+use Rattle.core_state.specs.Openings.{Opening, first, first_map}
 use Rattle.map_model.proofs.ListLemmas.{upd_same, upd_other}
 use Rattle.core_commit.proofs.History.{answer}
 use Rattle.core_commit.proofs.Says.{said_word, write_here, write_else}

@@ -11,7 +11,7 @@ use Rattle.map_model.specs.Lists.{in_order}
 use Rattle.image_model.specs.Ends.{reach, ended}
 use Rattle.image_model.specs.Undo.{undo_one, undo, values, is_lost}
 use Rattle.core_commit.proofs.KindFacts.{write_is_call, end_is_record, write_is_record, write_is_no_end}
-use Rattle.core_state.specs.States.{Opening, first}
+use Rattle.core_state.specs.Openings.{Opening, first}
 use Rattle.core_commit.proofs.Lists.{each_at, has_before, before_has, Each, Before, upd_comm, pick}
 use Rattle.map_model.proofs.ListLemmas.{keep_has, upd_same, upd_other, all_same}
 use Rattle.core_crash.proofs.Order.{fold_up, fold_down, Swaps, Apart, fold_up_order, fold_down_order}

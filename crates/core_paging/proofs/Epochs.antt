@@ -3,7 +3,8 @@ use Rattle.map_model.specs.Lists.{upd, any}
 use Rattle.map_model.specs.Maps.{MapAnswer}
 use Rattle.image_model.specs.Entries.{Entry}
 use Rattle.core_state.specs.Lists.{all_below}
-use Rattle.core_state.specs.States.{Opening, Place, State, is_hot, is_cooling, is_cold, in_frame, frame_of, epoch_of, waits_for, left_by}
+use Rattle.core_state.specs.States.{Place, State, is_hot, is_cooling, is_cold, in_frame, frame_of, epoch_of, waits_for, left_by}
+use Rattle.core_state.specs.Openings.{Opening}
 use Rattle.core_state.specs.States.Place.{Hot, Cooling, Cold}
 use Rattle.core_state.specs.Events.{Event}
 use Rattle.core_state.specs.Needs.{are_hot, pages_of, is_worker, is_inside, has_hot_parent, is_empty_frame, is_dirty, needs}

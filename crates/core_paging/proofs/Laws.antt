@@ -1,7 +1,8 @@
 -- Every run keeps all of it.
 use Rattle.page_model.specs.Check.{names_page}
 use Rattle.page_model.proofs.Tree.{ok}
-use Rattle.core_state.specs.States.{Opening, Place, State, start, nodes_of, is_hot, in_frame, waits_for}
+use Rattle.core_state.specs.States.{Place, State, start, nodes_of, is_hot, in_frame, waits_for}
+use Rattle.core_state.specs.Openings.{Opening}
 use Rattle.core_state.specs.States.Place.{Hot, Cold}
 use Rattle.core_state.specs.Events.{Event}
 use Rattle.core_state.specs.Needs.{are_hot, pages_of, is_worker, is_inside, may, needs}

@@ -4,7 +4,8 @@ use Rattle.map_model.specs.Maps.{MapAnswer}
 use Rattle.image_model.specs.Entries.{Kind, Entry}
 use Rattle.page_model.specs.Records.{Record}
 use Rattle.page_model.specs.Needs as page_needs
-use Rattle.core_state.specs.States.{Opening, Place, State, Worker, is_hot, is_cooling, frame_of, left_by, nodes_of, gsns_of}
+use Rattle.core_state.specs.States.{Place, State, Worker, is_hot, is_cooling, frame_of, left_by, nodes_of, gsns_of}
+use Rattle.core_state.specs.Openings.{Opening}
 use Rattle.core_state.specs.Events.{Event}
 use Rattle.core_state.specs.Steps.{at_pages, at_row, begun, finished, write_entry, moves, put_back, follows, happens}
 use Rattle.core_state.specs.Local.{publishes_row, publishes_page, is_of, is_sync, EveryLocal}

@@ -6,7 +6,8 @@ use Rattle.image_model.specs.Entries.{Kind, Entry, is_write, is_call, page_kind,
 use Rattle.page_model.specs.Records.{Ref, Record, no_record}
 use Rattle.rfa_model.specs.Stamps.{owed, debt_at_begin, need_of}
 use Rattle.core_state.specs.Lists.{without, at_end}
-use Rattle.core_state.specs.States.{Opening, Place, Row, Worker, State, flushed_by_all, nodes_of, gsns_of, frame_of, left_by}
+use Rattle.core_state.specs.States.{Place, Row, Worker, State, flushed_by_all, nodes_of, gsns_of, frame_of, left_by}
+use Rattle.core_state.specs.Openings.{Opening}
 use Rattle.core_state.specs.Events.{Event, Mode}
 use Rattle.core_state.specs.Needs.{is_held_by, is_reader, is_inside, may}
 use Rattle.std.specs.Prelude.{◌≡◌, ◌⊎◌, ℕ, suc, min, max, true, false, not, ◌==◌, List, [], ◌∷◌, Some, None, if◌then◌else◌, Bool, ◌&&◌, ◌||◌}
@@ -178,6 +179,11 @@ step g s e = if may g s e then happens g s e else s
 abbrev pub run : Opening → State → List Event → State
 run g s [] = s
 run g s (e ∷ es) = run g (step g s e) es
+
+-- the need of each event is met
+abbrev pub AllMet : Opening → State → List Event → Type 0
+AllMet g s [] = Unit {0}
+AllMet g s (e ∷ es) = (may g s e ≡ true) × AllMet g (step g s e) es
 
 -- at some moment of the run the page was this
 abbrev pub HasBeen : Opening → State → List Event → ℕ → Contents → Type 0

@@ -12,7 +12,7 @@ use Rattle.page_model.specs.Pairs.{find}
 use Rattle.page_model.specs.Records as records
 use Rattle.page_model.specs.Tree.{word_or}
 use Rattle.image_model.specs.Entries.{Kind, Entry, Contents, written}
-use Rattle.core_state.specs.States.{Opening}
+use Rattle.core_state.specs.Openings.{Opening}
 use Rattle.lean_disk.specs.Area.{Area}
 use Rattle.lean_disk.specs.Moments.{CrashIn, LeavesOnly}
 use Rattle.lean_disk.specs.Story.{IsLawful, Story, Tells}

@@ -5,7 +5,7 @@ use Rattle.map_model.specs.declared.call.Answer.{Answer}
 use Rattle.map_model.specs.Lists.{Has}
 use Rattle.image_model.specs.Entries.{Entry}
 use Rattle.image_model.specs.Fair.{IsFair}
-use Rattle.core_state.specs.States.{Opening}
+use Rattle.core_state.specs.Openings.{Opening}
 use Rattle.lean_disk.specs.Area.{Write}
 use Rattle.log_record.specs.declared.record.Record.{Record}
 use Rattle.log_block.specs.Block.{IsSealed, generation_of}

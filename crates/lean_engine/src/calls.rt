@@ -2,7 +2,7 @@
 ghost use Rattle.std.specs.Prelude.{◌≡◌, ◌<◌, ◌↔◌, suc, Bool, IfOk, IsErr, IsTrue, OnOk};
 ghost use Rattle.map_model.specs.Maps.{key_end};
 ghost use Rattle.map_model.specs.declared.call.Refusal.{Refusal};
-ghost use Rattle.core_state.specs.States.{Opening};
+ghost use Rattle.core_state.specs.Openings.{Opening};
 ghost use Rattle.lean_disk.specs.Area.{Area};
 ghost use Rattle.lean_disk.specs.Faults.{HasCause};
 ghost use Rattle.lean_disk.specs.Moments.{CrashIn, Framed, LeavesOnly};

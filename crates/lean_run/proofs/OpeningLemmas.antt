@@ -20,8 +20,7 @@ use Rattle.recovery.specs.Masters.{IsOpenable, next_master}
 use Rattle.recovery.specs.Opened.{IsGreatest, IsOpened, IsRecovered, IsUntouched, IsWhole, TellsAll}
 use Rattle.recovery.specs.Own.{EveryOwn}
 use Rattle.recovery.specs.declared.opening.Recovered.{Recovered}
-use Rattle.core_state.specs.States.{Opening, start_page}
-use Rattle.core_crash.specs.Crashes.{first_map}
+use Rattle.core_state.specs.Openings.{Opening, start_page, first_map}
 use Rattle.session_model.specs.Laws as laws
 use Rattle.session_model.specs.Laws.{EveryOpening, Opened}
 use Rattle.session_model.specs.Sessions.{IsAlone, start}

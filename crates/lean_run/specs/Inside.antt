@@ -21,8 +21,7 @@ use Rattle.disk_image.specs.Shown.{image_by, shown_by, IsCleanDisk}
 use Rattle.recovery_scan.specs.Scans.{areas_of}
 use Rattle.recovery.specs.Crashes.{IsSameOrNext}
 use Rattle.recovery.specs.Opened.{IsSettled, TellsAll}
-use Rattle.core_state.specs.States.{Opening, start_page}
-use Rattle.core_crash.specs.Crashes.{first_map}
+use Rattle.core_state.specs.Openings.{Opening, start_page, first_map}
 use Rattle.session_model.specs.Sessions.{Session, IsAlone, start}
 use Rattle.image_model.specs.Entries.{Entry}
 use Rattle.log_record.specs.declared.record.Record.{Record}

@@ -17,8 +17,7 @@ use Rattle.recovery.specs.Masters.{HasOpenable, IsOpenable}
 use Rattle.recovery.specs.Opened.{IsDamaged, IsGreatest, IsRefusal, IsUntouched, TellsAll}
 use Rattle.recovery.specs.declared.opening.Unrecovered.{Unrecovered}
 use Rattle.recovery.specs.declared.opening.Unrecovered.TheVariants as why
-use Rattle.core_state.specs.States.{Opening, start_page}
-use Rattle.core_crash.specs.Crashes.{first_map}
+use Rattle.core_state.specs.Openings.{Opening, start_page, first_map}
 use Rattle.session_model.specs.Sessions.{Session, IsAlone, start}
 use Rattle.worker_log.specs.Logs.{Log}
 use Rattle.lean_engine.specs.States.{State, Pictures}

@@ -10,7 +10,7 @@ use Rattle.lean_disk.specs.Area.{Write, Leaves}
 use Rattle.lean_disk.specs.Story.{Crash, Story, Tells}
 use Rattle.lean_edge.specs.Outside.{Feed}
 use Rattle.script_lang.specs.Replies.{Reply}
-use Rattle.core_state.specs.States.{Opening}
+use Rattle.core_state.specs.Openings.{Opening}
 use Rattle.session_model.specs.Sessions.{Session}
 use Rattle.session_model.specs.Calls.{Answered, Runs}
 use Rattle.worker_log.specs.Logs.{Log, Account, IsInRange, spelled_from}

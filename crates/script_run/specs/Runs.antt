@@ -13,7 +13,7 @@ use Rattle.script_lang.specs.Lines.{CallFits, Spells, line_of}
 use Rattle.script_lang.specs.Reading.{Unread, Reading, LineIs, LineIsLong, AtEnd}
 use Rattle.script_lang.specs.Replies.{Reply, reply_line}
 use Rattle.script_lang.specs.declared.line.Line.{Line}
-use Rattle.core_state.specs.States.{Opening}
+use Rattle.core_state.specs.Openings.{Opening}
 use Rattle.image_model.specs.Entries.{Entry}
 use Rattle.session_model.specs.Sessions.{Session}
 use Rattle.session_model.specs.Calls.{Answered, Does, Runs}

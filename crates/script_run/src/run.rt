@@ -1,7 +1,7 @@
 // Line by line: read, asked, printed.
 ghost use Rattle.std.specs.Prelude.{◌≡◌, ◌≤◌, ◌+◌, ◌^◌, ◌↔◌, ◌<◌, ◌-◌, ℕ, List, Ok, Some, None, IfOk, IsErr};
 ghost use Rattle.map_model.specs.declared.call.Refusal.{Refusal};
-ghost use Rattle.core_state.specs.States.{Opening};
+ghost use Rattle.core_state.specs.Openings.{Opening};
 ghost use Rattle.lean_disk.specs.Faults.{HasCause};
 ghost use Rattle.lean_disk.specs.Moments.{CrashIn, Framed, LeavesOnly};
 ghost use Rattle.lean_disk.specs.Story.{Tells};

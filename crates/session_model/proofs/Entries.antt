@@ -18,7 +18,8 @@ use Rattle.page_model.specs.Needs.{write_record}
 use Rattle.image_model.specs.Entries.{Kind, Entry, Contents, word_in}
 use Rattle.image_model.specs.Histories as histories
 use Rattle.image_model.specs.Histories.{said, write_call, steps_of}
-use Rattle.core_state.specs.States.{Opening, State, Worker}
+use Rattle.core_state.specs.States.{State, Worker}
+use Rattle.core_state.specs.Openings.{Opening}
 use Rattle.core_state.specs.Steps.{read_entry, write_entry, end_entry}
 use Rattle.page_model.specs.Records.{no_record}
 use Rattle.rfa_model.specs.Stamps.{need_of}

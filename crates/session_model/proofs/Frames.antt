@@ -11,7 +11,8 @@ use Rattle.page_model.specs.Check.{names_page}
 use Rattle.page_model.proofs.Check.{any_has}
 use Rattle.image_model.specs.Entries.{Contents}
 use Rattle.core_state.specs.Lists.{all_below}
-use Rattle.core_state.specs.States.{Opening, Place, start_page, is_hot, is_cold, in_frame}
+use Rattle.core_state.specs.States.{Place, is_hot, is_cold, in_frame}
+use Rattle.core_state.specs.Openings.{Opening, start_page}
 use Rattle.map_model.proofs.ListLemmas.{upd_other, at_upd}
 
 -- page p is hot in frame p, or cold as it was saved

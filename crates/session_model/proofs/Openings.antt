@@ -4,7 +4,7 @@ use Rattle.std.proofs.lemmas.Bool.{ltb-true, lt-ltb, cond-true}
 use Rattle.image_model.specs.Entries.{Contents}
 use Rattle.image_model.specs.Images.{recovered_page}
 use Rattle.image_model.specs.Laws.{UndoneLaws, EveryUndone}
-use Rattle.core_state.specs.States.{Opening}
+use Rattle.core_state.specs.Openings.{Opening}
 use Rattle.session_model.specs.Laws.{EveryOpening}
 use Rattle.image_model.proofs.WordLemmas.{words}
 
