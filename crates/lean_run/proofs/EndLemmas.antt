@@ -5,7 +5,7 @@ use mathlib.Core.List.{append_assoc}
 use Rattle.lean_disk.specs.Area.{Area}
 use Rattle.lean_disk.specs.Faults.{Rose}
 use Rattle.lean_disk.specs.Moments.{LeavesOnly}
-use Rattle.lean_disk.specs.Story.{IsLawful, Story}
+use Rattle.lean_disk.specs.Story.{IsLawful, Story, areas_of}
 use Rattle.lean_edge.specs.Outside.{Feed, Held}
 use Rattle.lean_edge.specs.declared.sink.Put.{Put}
 use Rattle.script_lang.specs.Notices.{Notice, NoticeFits}
@@ -13,7 +13,6 @@ use Rattle.script_lang.specs.Replies.{Reply, reply_text, Fits}
 use Rattle.script_lang.specs.Text.{script_lines}
 use Rattle.disk_slots.specs.declared.master.Master.{Master}
 use Rattle.disk_image.specs.Shown.{IsCleanDisk}
-use Rattle.recovery_scan.specs.Scans.{areas_of}
 use Rattle.recovery.specs.Crashes.{RecoveryLeaves}
 use Rattle.recovery.specs.Opened.{IsRefusal, IsUntouched, TellsAll}
 use Rattle.recovery.specs.declared.opening.Unrecovered.{Unrecovered}

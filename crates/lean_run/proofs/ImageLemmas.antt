@@ -9,7 +9,7 @@ use Rattle.image_model.specs.Images.{StandsFor, found, gathered, won_by}
 use Rattle.image_model.specs.Slots.{base_of, newer_page, valid, Slot}
 use Rattle.page_model.specs.Nodes.{Format}
 use Rattle.lean_disk.specs.Area.{Write}
-use Rattle.lean_disk.specs.Story.{Story}
+use Rattle.lean_disk.specs.Story.{Story, areas_of}
 use Rattle.log_block.specs.Block.{IsSealed, generation_of}
 use Rattle.disk_slots.specs.declared.master.Master.{Master}
 use Rattle.disk_image.specs.Blocks.{is_sealed}
@@ -19,7 +19,6 @@ use Rattle.disk_image.specs.Runs.{Block, AreReadable, entries_in, logged_onto, s
 use Rattle.disk_image.specs.Runs as runs
 use Rattle.disk_image.specs.Shown.{Areas, DiskStandsFor, IsCleanDisk, head_of, image_by, logged_in, page_slot_in, shown_by, slot_of}
 use Rattle.disk_image.specs.Shown as shown
-use Rattle.recovery_scan.specs.Scans.{areas_of}
 use Rattle.core_state.specs.Openings.{Opening, start_page, first_map}
 use Rattle.session_model.specs.Calls.{Answered, Runs, journal}
 use Rattle.session_model.specs.Laws.{EverySession, SessionLaws, Survives, image_left, kept_of}

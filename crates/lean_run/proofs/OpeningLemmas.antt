@@ -10,12 +10,11 @@ use Rattle.page_model.specs.Tree.{IsTree, entry, value_of}
 use Rattle.image_model.specs.Entries.{Contents}
 use Rattle.image_model.specs.Images.{Image, map_of, recovered_page}
 use Rattle.lean_disk.specs.Area.{Area}
-use Rattle.lean_disk.specs.Story.{Story}
+use Rattle.lean_disk.specs.Story.{Story, areas_of}
 use Rattle.disk_slots.specs.declared.master.Master.{Master}
 use Rattle.disk_image.specs.Formats.{format_of}
 use Rattle.disk_image.specs.Shown.{Areas, IsCleanDisk, IsSoundDisk, image_by}
 use Rattle.node_tree.specs.Nodes.{nodes_of, node_or}
-use Rattle.recovery_scan.specs.Scans.{areas_of}
 use Rattle.recovery.specs.Masters.{IsOpenable, next_master}
 use Rattle.recovery.specs.Opened.{IsGreatest, IsOpened, IsRecovered, IsUntouched, IsWhole, TellsAll}
 use Rattle.recovery.specs.Own.{EveryOwn}

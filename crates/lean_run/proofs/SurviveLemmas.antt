@@ -10,12 +10,11 @@ use Rattle.image_model.specs.Fair.{IsFair}
 use Rattle.image_model.specs.Images.{map_of, won_by, found}
 use Rattle.lean_disk.specs.Area.{Area, Leaves, Write}
 use Rattle.lean_disk.specs.Moments.{AsAt}
-use Rattle.lean_disk.specs.Story.{Crash, Story, Tells}
+use Rattle.lean_disk.specs.Story.{Crash, Story, Tells, areas_of}
 use Rattle.log_block.specs.Block.{IsSealed}
 use Rattle.disk_slots.specs.declared.master.Master.{Master}
 use Rattle.disk_image.specs.Laws.{EveryAgreement, EverySealed}
 use Rattle.disk_image.specs.Shown.{Areas, DiskStandsFor, IsCleanDisk, image_by}
-use Rattle.recovery_scan.specs.Scans.{areas_of}
 use Rattle.recovery.specs.Crashes.{Lasts, RecoveryLeaves, StandsStill}
 use Rattle.recovery.specs.Opened.{TellsAll}
 use Rattle.core_state.specs.Openings.{Opening, first_map}

@@ -11,12 +11,11 @@ use Rattle.image_model.specs.Entries.{Entry, is_commit}
 use Rattle.image_model.specs.Fair.{IsFair}
 use Rattle.image_model.specs.Images.{map_of, won_by, found}
 use Rattle.lean_disk.specs.Area.{Leaves, Write}
-use Rattle.lean_disk.specs.Story.{Crash, Story, Tells}
+use Rattle.lean_disk.specs.Story.{Crash, Story, Tells, areas_of}
 use Rattle.disk_slots.specs.Slots.{IsSealed}
 use Rattle.log_block.specs.Block as blocks
 use Rattle.disk_slots.specs.declared.master.Master.{Master}
 use Rattle.disk_image.specs.Shown.{image_by, DiskStandsFor, IsCleanDisk}
-use Rattle.recovery_scan.specs.Scans.{areas_of}
 use Rattle.recovery.specs.Crashes.{IsSameOrNext}
 use Rattle.recovery.specs.Opened.{TellsAll}
 use Rattle.script_lang.specs.Text.{script_lines}

@@ -1,11 +1,10 @@
 -- How a run ends, and what a crash at any moment of it leaves.
 use Rattle.std.specs.Prelude.{◌≡◌, ◌++◌, ◌<◌, ℕ, List, IsTrue}
 use Rattle.lean_disk.specs.Moments.{LeavesOnly}
-use Rattle.lean_disk.specs.Story.{Story}
+use Rattle.lean_disk.specs.Story.{Story, areas_of}
 use Rattle.lean_edge.specs.Outside.{Feed, Held}
 use Rattle.disk_slots.specs.declared.master.Master.{Master}
 use Rattle.disk_image.specs.Shown.{IsCleanDisk}
-use Rattle.recovery_scan.specs.Scans.{areas_of}
 use Rattle.lean_run.specs.Runs.{HowRun}
 use Rattle.lean_run.specs.Crashes.{IsYoung, RunLeaves, TellsCrashes}
 

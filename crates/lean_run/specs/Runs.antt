@@ -5,14 +5,13 @@ use Rattle.map_model.specs.Journals.{Name, Serial}
 use Rattle.map_model.specs.Transcripts.{journal}
 use Rattle.image_model.specs.Images.{won_by, lost_by, map_of, recovered_page}
 use Rattle.lean_disk.specs.Faults.{Rose}
-use Rattle.lean_disk.specs.Story.{Story}
+use Rattle.lean_disk.specs.Story.{Story, areas_of}
 use Rattle.lean_edge.specs.Outside.{Feed}
 use Rattle.script_lang.specs.Notices.{Notice}
 use Rattle.disk_slots.specs.declared.master.Master.{Master}
 use Rattle.disk_image.specs.Formats.{format_of}
 use Rattle.disk_image.specs.MasterSlots.{master_on}
 use Rattle.disk_image.specs.Shown.{image_by, DiskStandsFor, IsCleanDisk, IsSoundDisk}
-use Rattle.recovery_scan.specs.Scans.{areas_of}
 use Rattle.recovery.specs.Masters.{HasOpenable, IsOpenable}
 use Rattle.recovery.specs.Opened.{IsDamaged, IsGreatest, IsRefusal, IsUntouched, TellsAll}
 use Rattle.recovery.specs.declared.opening.Unrecovered.{Unrecovered}

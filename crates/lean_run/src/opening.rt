@@ -4,7 +4,7 @@ ghost use Rattle.lean_disk.specs.Faults.{HasCause};
 ghost use Rattle.lean_disk.specs.Moments.{LeavesOnly};
 ghost use Rattle.disk_slots.specs.declared.master.Master.{Master};
 ghost use Rattle.disk_image.specs.Shown.{IsCleanDisk};
-ghost use Rattle.recovery_scan.specs.Scans.{areas_of};
+ghost use Rattle.lean_disk.specs.Story.{areas_of};
 ghost use Rattle.recovery.specs.Crashes.{RecoveryLeaves};
 ghost use Rattle.recovery.specs.Opened.{IsRefusal, IsUntouched, Keeps, TellsAll};
 ghost use Rattle.recovery.specs.declared.opening.Unrecovered.{Unrecovered};

@@ -14,7 +14,7 @@ use Rattle.script_run.specs.declared.stop.Stop.TheVariants as stops
 use Rattle.lean_run.specs.Ends.{RunEnds}
 use Rattle.lean_run.specs.Runs.{HowRun, ended, status_of}
 use Rattle.lean_shell.specs.Endings.{FormatEnds, IsFormatStatus, IsStatus, Stays, UsageEnds}
-use Rattle.lean_shell.specs.Formatted.{OnlyNotes}
+use Rattle.lean_disk.specs.Told.{OnlyNotes}
 use Rattle.lean_shell.specs.Inside.{CommandEnds, Counts}
 use Rattle.lean_shell.specs.Words.{Asks, AsksFormat, AsksRun, IsNumberIn}
 use Rattle.lean_shell.specs.declared.words.Command.{Command}

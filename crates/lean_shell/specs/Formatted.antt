@@ -3,7 +3,7 @@ use Rattle.std.specs.Prelude.{◌≡◌, ◌⊎◌, ◌*◌, ◌-◌, ◌<◌, �
 use Rattle.image_model.specs.Fair.{piece, IsFair}
 use Rattle.lean_disk.specs.Area.{Area, Leaves, Write, torn}
 use Rattle.lean_disk.specs.Moments.{CrashIn, Framed, LeavesOnly}
-use Rattle.lean_disk.specs.Story.{Crash, LeavesNow, Story, Tells}
+use Rattle.lean_disk.specs.Story.{Crash, Story, Tells}
 use Rattle.disk_slots.specs.Masters.{IsMasterSlot}
 use Rattle.disk_slots.specs.Slots.{IsSealed}
 use Rattle.disk_slots.specs.declared.master.Master.{Master}
@@ -94,10 +94,3 @@ pub record StoodOr (bytes : List ℕ) (area : Area) (writes : List Write) (image
   pub writes_are : (writes ≡ area.writes) ⊎ (writes ≡ (0, bytes) ∷ area.writes)
   pub leaves : Leaves (torn 0 bytes area) image
 
--- A line may have been noted, and else nothing happened.
-pub record OnlyNotes (old new : Story) : Type 0 where
-  pub area : (a : ℕ) → new.area a ≡ old.area a
-  pub tells : (a : ℕ) → new.tells a ≡ old.tells a
-  pub counts : new.counts ≡ old.counts
-  pub later : old.moment ≤ new.moment
-  pub nothing_else : (m : ℕ) (c : Crash) → new.left_at m c → old.left_at m c ⊎ LeavesNow new c

@@ -3,7 +3,7 @@ ghost use Rattle.std.specs.Prelude.{◌≡◌, ◌↔◌, ◌≤◌};
 ghost use Rattle.lean_disk.specs.Faults.{HasCause, IsBlamed};
 ghost use Rattle.lean_run.specs.Ends.{RunEnds};
 ghost use Rattle.lean_shell.specs.Endings.{FinishedPut, FormatEnds, IsStatus, UsageEnds, WentOut, last_line, number_of};
-ghost use Rattle.lean_shell.specs.Formatted.{OnlyNotes};
+ghost use Rattle.lean_disk.specs.Told.{OnlyNotes};
 ghost use Rattle.lean_shell.specs.Inside.{CommandEnds};
 ghost use Rattle.lean_shell.specs.Words.{Asks, texts};
 ghost use Rattle.lean_shell.specs.declared.words.Command.{Command};

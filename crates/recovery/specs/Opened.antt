@@ -8,7 +8,7 @@ use Rattle.image_model.specs.Entries.{Entry}
 use Rattle.image_model.specs.Images.{Image, bases, sorted, won_by, lost_by, recovered_page}
 use Rattle.image_model.specs.Slots.{Shown, Slot, base_of}
 use Rattle.lean_disk.specs.Area.{Area}
-use Rattle.lean_disk.specs.Story.{Story, Tells}
+use Rattle.lean_disk.specs.Story.{Story, Tells, areas_of}
 use Rattle.log_block.specs.Block.{IsSealed, generation_of}
 use Rattle.disk_slots.specs.Masters.{IsMaster}
 use Rattle.disk_slots.specs.declared.master.Master.{Master}
@@ -17,7 +17,6 @@ use Rattle.disk_image.specs.Formats.{format_of}
 use Rattle.disk_image.specs.MasterSlots.{master_on}
 use Rattle.disk_image.specs.Shown.{Areas, shown_by, image_by, IsSoundDisk}
 use Rattle.node_tree.specs.Nodes.{nodes_of}
-use Rattle.recovery_scan.specs.Scans.{areas_of}
 use Rattle.recovery_redo.specs.Images.{page_of}
 use Rattle.recovery.specs.Masters.{next_master}
 use Rattle.recovery.specs.declared.opening.Recovered.{Recovered}
