@@ -14,7 +14,8 @@ use Rattle.script_lang.specs.Text.{script_lines}
 use Rattle.disk_slots.specs.declared.master.Master.{Master}
 use Rattle.disk_image.specs.Shown.{IsCleanDisk}
 use Rattle.recovery.specs.Crashes.{RecoveryLeaves}
-use Rattle.recovery.specs.Opened.{IsRefusal, IsUntouched, TellsAll}
+use Rattle.recovery.specs.Opened.{IsRefusal, IsUntouched}
+use Rattle.recovery.specs.Telling.{TellsAll}
 use Rattle.recovery.specs.declared.opening.Unrecovered.{Unrecovered}
 use Rattle.core_state.specs.Openings.{Opening}
 use Rattle.session_model.specs.Calls.{Answered, Runs}

@@ -24,7 +24,8 @@ use Rattle.disk_slots.specs.declared.master.Master.{Master}
 use Rattle.disk_image.specs.Laws.{EveryAgreement, EverySealed}
 use Rattle.disk_image.specs.Shown.{DiskStandsFor, IsCleanDisk, image_by}
 use Rattle.recovery.specs.Crashes.{RecoveryLeaves}
-use Rattle.recovery.specs.Opened.{Keeps, TellsAll}
+use Rattle.recovery.specs.Opened.{Keeps}
+use Rattle.recovery.specs.Telling.{TellsAll}
 use Rattle.core_state.specs.Openings.{first_map}
 use Rattle.session_model.specs.Calls.{Answered, Runs}
 use Rattle.session_model.specs.Calls as session

@@ -16,7 +16,7 @@ use Rattle.disk_slots.specs.declared.master.Master.{Master}
 use Rattle.disk_image.specs.Laws.{EveryAgreement, EverySealed}
 use Rattle.disk_image.specs.Shown.{Areas, DiskStandsFor, IsCleanDisk, image_by}
 use Rattle.recovery.specs.Crashes.{Lasts, RecoveryLeaves, StandsStill}
-use Rattle.recovery.specs.Opened.{TellsAll}
+use Rattle.recovery.specs.Telling.{TellsAll}
 use Rattle.core_state.specs.Openings.{Opening, first_map}
 use Rattle.session_model.specs.Calls.{Answered, Runs}
 use Rattle.session_model.specs.Calls as session

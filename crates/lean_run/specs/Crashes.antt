@@ -16,8 +16,8 @@ use Rattle.disk_slots.specs.Slots.{IsSealed}
 use Rattle.log_block.specs.Block as blocks
 use Rattle.disk_slots.specs.declared.master.Master.{Master}
 use Rattle.disk_image.specs.Shown.{image_by, DiskStandsFor, IsCleanDisk}
-use Rattle.recovery.specs.Crashes.{IsSameOrNext}
-use Rattle.recovery.specs.Opened.{TellsAll}
+use Rattle.recovery.specs.Masters.{IsSameOrNext}
+use Rattle.recovery.specs.Telling.{TellsAll}
 use Rattle.script_lang.specs.Text.{script_lines}
 use Rattle.session_model.specs.Calls.{Answered}
 use Rattle.transcripts.specs.Laws.{IsQuiet}

@@ -18,8 +18,9 @@ use Rattle.disk_slots.specs.declared.master.Master.{Master}
 use Rattle.disk_image.specs.Formats.{format_of}
 use Rattle.disk_image.specs.MasterSlots.{master_on}
 use Rattle.disk_image.specs.Shown.{image_by, shown_by, IsCleanDisk}
-use Rattle.recovery.specs.Crashes.{IsSameOrNext}
-use Rattle.recovery.specs.Opened.{IsSettled, TellsAll}
+use Rattle.recovery.specs.Masters.{IsSameOrNext}
+use Rattle.recovery.specs.Opened.{IsSettled}
+use Rattle.recovery.specs.Telling.{TellsAll}
 use Rattle.core_state.specs.Openings.{Opening, start_page, first_map}
 use Rattle.session_model.specs.Sessions.{Session, IsAlone, start}
 use Rattle.image_model.specs.Entries.{Entry}

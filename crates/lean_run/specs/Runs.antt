@@ -13,7 +13,9 @@ use Rattle.disk_image.specs.Formats.{format_of}
 use Rattle.disk_image.specs.MasterSlots.{master_on}
 use Rattle.disk_image.specs.Shown.{image_by, DiskStandsFor, IsCleanDisk, IsSoundDisk}
 use Rattle.recovery.specs.Masters.{HasOpenable, IsOpenable}
-use Rattle.recovery.specs.Opened.{IsDamaged, IsGreatest, IsRefusal, IsUntouched, TellsAll}
+use Rattle.recovery.specs.Opened.{IsGreatest, IsRefusal, IsUntouched}
+use Rattle.disk_image.specs.Breaks.{IsDamaged}
+use Rattle.recovery.specs.Telling.{TellsAll}
 use Rattle.recovery.specs.declared.opening.Unrecovered.{Unrecovered}
 use Rattle.recovery.specs.declared.opening.Unrecovered.TheVariants as why
 use Rattle.core_state.specs.Openings.{Opening, start_page, first_map}

@@ -3,7 +3,7 @@ use Rattle.std.specs.Prelude.{◌++◌, length, ◌≡◌, ◌<◌, ◌≤◌, �
 use Rattle.page_model.specs.Pairs.{Pair, find, onward, Span, is_in}
 use Rattle.page_model.specs.Nodes.{Format, Node, holds}
 use Rattle.page_model.specs.Tree.{Names, IsTree, word_or}
-use Rattle.page_model.specs.Records.{Kind, Ref, Record}
+use Rattle.page_model.specs.Records.{Kind, Ref, Record, nowhere}
 use Rattle.page_model.specs.Fits.{Fits}
 use Rattle.page_model.specs.Records.Kind.{Change, Put_back, Split, Lift, Join, Drop, Purge}
 

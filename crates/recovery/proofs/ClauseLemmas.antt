@@ -17,7 +17,8 @@ use Rattle.recovery_redo.specs.Images as redo_images
 use Rattle.recovery.specs.Crashes.{RecoveryLeaves}
 use Rattle.recovery.specs.Inside.{AreSettled, IsOfSlot, IsPrepared, IsReadied, OnlySettles, SavesAll, WritesOnce, saves_to}
 use Rattle.recovery.specs.Masters.{IsOpenable, next_master}
-use Rattle.recovery.specs.Opened.{IsOpened, IsRecovered, IsWhole, TellsAll, IsGreatest}
+use Rattle.recovery.specs.Opened.{IsOpened, IsRecovered, IsWhole, IsGreatest}
+use Rattle.recovery.specs.Telling.{TellsAll}
 use Rattle.recovery.specs.declared.opening.Recovered.{Recovered}
 use Rattle.recovery.specs.declared.prepare.Prepared.{Prepared}
 use Rattle.recovery.proofs.LastLemmas.{opened, saving, writing}

@@ -10,7 +10,9 @@ ghost use Rattle.disk_image.specs.Shown.{IsCleanDisk};
 ghost use Rattle.page_store.specs.Runs.{IsReady};
 ghost use Rattle.recovery.specs.Crashes.{RecoveryLeaves};
 ghost use Rattle.recovery.specs.Masters.{HasOpenable, IsOpenable};
-ghost use Rattle.recovery.specs.Opened.{IsDamaged, IsOpened, IsRecovered, IsRefusal, IsUntouched, IsWhole, Keeps, TellsAll};
+ghost use Rattle.recovery.specs.Opened.{IsOpened, IsRecovered, IsRefusal, IsUntouched, IsWhole, Keeps};
+ghost use Rattle.disk_image.specs.Breaks.{IsDamaged};
+ghost use Rattle.recovery.specs.Telling.{TellsAll};
 ghost use Rattle.recovery.specs.Inside.{AreFormed, AreOwn, IsReadied, SavesAll, SavesEach, WritesOnce, saves_to};
 
 use crate::master::{next_master, write_master};

@@ -11,7 +11,7 @@ use Rattle.lean_disk.specs.declared.mem_disk.MemDisk.{MemDisk}
 use Rattle.lean_disk.specs.declared.slot.Slot.{Slot}
 use Rattle.disk_slots.specs.declared.master.Master.{Master}
 use Rattle.disk_image.specs.Shown.{IsCleanDisk}
-use Rattle.recovery.specs.Crashes.{IsSameOrNext}
+use Rattle.recovery.specs.Masters.{IsSameOrNext}
 use Rattle.lean_run.specs.Crashes.{IsUnwritten, IsYoung, RunLeaves, Survives, TellsCrashes}
 use Rattle.run_tests.specs.Laws.{EveryNextRun, IsCutOff, IsReadyAgain}
 

@@ -7,7 +7,7 @@ use Rattle.lean_disk.specs.declared.mem_disk.MemDisk.{MemDisk}
 use Rattle.lean_edge.specs.Outside.{Feed, Held}
 use Rattle.disk_slots.specs.declared.master.Master.{Master}
 use Rattle.disk_image.specs.Shown.{IsCleanDisk}
-use Rattle.recovery.specs.Crashes.{IsSameOrNext}
+use Rattle.recovery.specs.Masters.{IsSameOrNext}
 use Rattle.lean_run.specs.Crashes.{IsFairCrash, IsYoung, TellsCrashes}
 use Rattle.lean_run.specs.Ends.{RunEnds}
 

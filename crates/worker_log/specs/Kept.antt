@@ -1,11 +1,11 @@
 -- What an account says of a log and of its area, and what a crash leaves of it.
 use Rattle.std.specs.Prelude.{◌≡◌, ◌≤◌, ◌<◌, ◌+◌, ◌*◌, ◌%◌, ◌==◌, ℕ, List, [], ◌∷◌, ◌++◌, length, take, drop, if◌then◌else◌}
 use Rattle.map_model.specs.Lists.{Has}
-use Rattle.image_model.specs.Fair.{piece, IsFair}
+use Rattle.image_model.specs.Fair.{IsFair}
 use Rattle.lean_disk.specs.Area.{Write, Area}
 use Rattle.log_record.specs.declared.record.Record.{Record}
 use Rattle.log_block.specs.Block.{AllFit, records_text, IsSealed, generation_of}
-use Rattle.disk_image.specs.Runs.{Block, run_in, block_at}
+use Rattle.disk_image.specs.Runs.{Block, run_in, block_at, HasNone}
 use Rattle.worker_log.specs.Logs.{Log, Account, all_blocks, spelled_from, joined, records_of}
 
 -- the run of the log in an area with these bytes
@@ -44,10 +44,6 @@ pub record IsBlockWrite (n : ℕ) (blocks : List Block) (w : Write) : Type 0 whe
   pub block : Block
   pub has : Has block blocks
   pub at : w ≡ write_of n block
-
--- no block of the generation stands at a place of a ring of n blocks with these bytes
-abbrev pub HasNone : (generation n : ℕ) → List ℕ → Type 0
-HasNone generation n bytes = (p : ℕ) → p < n → IsSealed (piece 2048 p bytes) → generation_of (piece 2048 p bytes) ≡ generation → ⊥
 
 -- The area of a ring of n blocks holds the blocks that were written since it had these first bytes and older writes, from
 -- number head on, so many of them synced; and nothing else of this generation.
