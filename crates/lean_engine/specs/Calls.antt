@@ -10,10 +10,11 @@ use Rattle.core_state.specs.Openings.{Opening}
 use Rattle.lean_disk.specs.Area.{Area}
 use Rattle.session_model.specs.Sessions.{Session}
 use Rattle.session_model.specs.Calls.{Does}
-use Rattle.worker_log.specs.Logs.{Log, Account}
+use Rattle.worker_log.specs.Logs.{Log}
+use Rattle.worker_log.specs.Accounts.{Account}
 use Rattle.worker_log.specs.Kept.{IsKept}
 use Rattle.lean_engine.specs.States.{State, Pictures, Logs}
-use Rattle.worker_log.specs.Kept.{After}
+use Rattle.worker_log.specs.Calls.{After}
 use Rattle.lean_engine.specs.Refusals.{IsRefused}
 use Rattle.lean_engine.specs.Inside.{Ends, change_of, commit_of}
 

@@ -11,7 +11,8 @@ use Rattle.log_record.specs.declared.record.Record.{Record}
 use Rattle.log_block.specs.Block.{IsSealed, generation_of}
 use Rattle.session_model.specs.Sessions.{Session}
 use Rattle.session_model.specs.Calls.{Does}
-use Rattle.worker_log.specs.Logs.{Log, Account, spelled_from, joined}
+use Rattle.worker_log.specs.Logs.{Log}
+use Rattle.worker_log.specs.Accounts.{Account, spelled_from, joined}
 use Rattle.worker_log.specs.Kept.{AllFitBlocks, run_of}
 use Rattle.worker_log.specs.Laws.{entries_onto}
 

@@ -24,7 +24,8 @@ use Rattle.session_model.specs.Calls.{Answered, Runs, journal}
 use Rattle.session_model.specs.Laws.{EverySession, SessionLaws, Survives, image_left, kept_of}
 use Rattle.session_model.specs.Sessions.{Session, IsAlone}
 use Rattle.worker_log.specs.Laws.{EveryRun, Reads, entries_onto}
-use Rattle.worker_log.specs.Logs.{Log, joined, spelled_from}
+use Rattle.worker_log.specs.Logs.{Log}
+use Rattle.worker_log.specs.Accounts.{joined, spelled_from}
 use Rattle.worker_log.specs.Kept as kept_log
 use Rattle.lean_run.specs.Inside.{IsPrefix, Rests}
 use Rattle.lean_run.proofs.SealedLemmas.{IsSealedIn, listed, lists}

@@ -35,7 +35,7 @@ use Rattle.transcripts.specs.Told.{ask, asked_text, names}
 use Rattle.transcripts.specs.Transcripts.{durables, first_lines, in_turn, transcript}
 use Rattle.transcripts.proofs.TranscriptLemmas.{journal_is}
 use Rattle.worker_log.specs.Laws.{entries_onto}
-use Rattle.worker_log.specs.Logs.{joined}
+use Rattle.worker_log.specs.Accounts.{joined}
 use Rattle.script_run.specs.Moments.{HoldsRun, InHand, IsAsked, ScriptLeaves}
 use Rattle.lean_run.specs.Crashes.{IsFairCrash, IsUnwritten, RunLeaves, Survives, WithOneInHand}
 use Rattle.lean_run.specs.Inside.{IsPrefix, Rests}

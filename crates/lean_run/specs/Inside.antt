@@ -25,7 +25,8 @@ use Rattle.core_state.specs.Openings.{Opening, start_page, first_map}
 use Rattle.session_model.specs.Sessions.{Session, IsAlone, start}
 use Rattle.image_model.specs.Entries.{Entry}
 use Rattle.log_record.specs.declared.record.Record.{Record}
-use Rattle.worker_log.specs.Logs.{Log, joined, spelled_from}
+use Rattle.worker_log.specs.Logs.{Log}
+use Rattle.worker_log.specs.Accounts.{joined, spelled_from}
 use Rattle.worker_log.specs.Kept.{AllFitBlocks, IsFresh, IsKept, fresh_account, run_of}
 use Rattle.worker_log.specs.Laws.{entries_onto}
 use Rattle.lean_engine.specs.States.{Pictures}

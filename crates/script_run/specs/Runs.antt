@@ -17,7 +17,8 @@ use Rattle.core_state.specs.Openings.{Opening}
 use Rattle.image_model.specs.Entries.{Entry}
 use Rattle.session_model.specs.Sessions.{Session}
 use Rattle.session_model.specs.Calls.{Answered, Does, Runs}
-use Rattle.worker_log.specs.Logs.{Log, Account}
+use Rattle.worker_log.specs.Logs.{Log}
+use Rattle.worker_log.specs.Accounts.{Account}
 use Rattle.worker_log.specs.Kept.{IsKept}
 use Rattle.lean_engine.specs.States.{State, Logs, Pictures}
 use Rattle.lean_engine.specs.Refusals.{IsRefused}
