@@ -3,7 +3,7 @@ use Rattle.page_model.specs.Needs as page_needs
 use Rattle.map_model.specs.Lists.{upd, keep}
 use Rattle.map_model.specs.Maps.{MapAnswer}
 use Rattle.image_model.specs.Entries.{Kind, Entry, is_write, is_call, page_kind, touches, word_in, Contents, written}
-use Rattle.page_model.specs.Records.{Ref, Record, no_record}
+use Rattle.page_model.specs.Records.{Ref, Record, no_record, write_record}
 use Rattle.rfa_model.specs.Stamps.{owed, debt_at_begin, need_of}
 use Rattle.core_state.specs.Lists.{without, at_end}
 use Rattle.core_state.specs.States.{Place, Row, Worker, State, flushed_by_all, nodes_of, gsns_of, frame_of, left_by}
@@ -71,7 +71,7 @@ refs_of s (p ∷ ps) = record { page = p; prev = (s.page p).gsn } ∷ refs_of s 
 
 -- a write of key k in page p takes the next number, and says the word before and after
 abbrev pub write_entry : Opening → Kind → State → ℕ → Worker → ℕ → ℕ → ℕ → Entry
-write_entry g kind s w a p k v = record { kind = kind; log = w; txn = a.txn; number = suc a.clock; key = k; before = word_in g.format (s.page p).node k; after = v; need = 0; refs = refs_of s (p ∷ []); record_of = page_needs.write_record (page_kind kind) g.format (nodes_of s) (gsns_of s) p k v }
+write_entry g kind s w a p k v = record { kind = kind; log = w; txn = a.txn; number = suc a.clock; key = k; before = word_in g.format (s.page p).node k; after = v; need = 0; refs = refs_of s (p ∷ []); record_of = write_record (page_kind kind) g.format (nodes_of s) (gsns_of s) p k v }
 
 -- a record of these pages that changes no value
 abbrev pub page_entry : Kind → State → ℕ → Worker → List ℕ → Record → Entry

@@ -8,7 +8,7 @@ use Rattle.page_model.specs.Nodes.{Format, Node, holds}
 use Rattle.page_model.specs.Tree.{IsTree, entry, word_or, lookup}
 use Rattle.page_model.specs.Records as records
 use Rattle.page_model.specs.Laws.{RecordLaws}
-use Rattle.page_model.specs.Needs.{write_record}
+use Rattle.page_model.specs.Records.{write_record}
 use Rattle.page_model.specs.Redo.{is_some}
 use Rattle.page_model.proofs.Tree.{leaf_of}
 use Rattle.page_model.proofs.Entries.{LeafWith, holds_to, holds_from, one_leaf, entry_at, entry_beyond}

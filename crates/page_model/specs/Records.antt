@@ -1,7 +1,8 @@
 -- The seven records of pages, and what each makes of its pages.
 use Rattle.std.specs.Prelude.{if◌then◌else◌, ◌++◌, ◌+◌, ℕ, suc, Bool, true, false, ◌||◌, not, ◌==◌, List, [], ◌∷◌}
-use Rattle.page_model.specs.Pairs.{Pair, put, keep, below, without, is_in}
-use Rattle.page_model.specs.Nodes.{Node, free}
+use Rattle.page_model.specs.Pairs.{Pair, find, put, keep, below, without, is_in}
+use Rattle.page_model.specs.Nodes.{Format, Node, free}
+use Rattle.page_model.specs.Tree.{word_or}
 
 pub data Kind : Type 0 where
   Change Put_back Split Lift Join Drop Purge : Kind
@@ -33,6 +34,14 @@ nowhere = record { page = 0; prev = 0 }
 -- what stands where there is no record of pages
 abbrev pub no_record : Record
 no_record = record { kind = Kind.Purge; left = nowhere; right = nowhere; parent = nowhere; key = 0; before = 0; after = 0; sep = 0; high = 0; level = 0; pairs = []; keys = [] }
+
+-- a page, with the number that it has
+abbrev pub ref : (ℕ → ℕ) → ℕ → Ref
+ref gsn p = record { page = p; prev = gsn p }
+
+-- the record of a write of a key in page p
+abbrev pub write_record : Kind → Format → (ℕ → Node) → (ℕ → ℕ) → (p k v : ℕ) → Record
+write_record kind f node gsn p k v = record { kind = kind; left = ref gsn p; right = nowhere; parent = nowhere; key = k; before = word_or f.dead (find k (node p).pairs); after = v; sep = 0; high = 0; level = 0; pairs = []; keys = [] }
 
 abbrev pub refs_as : Kind → Record → List Ref
 refs_as Split r = r.left ∷ r.right ∷ r.parent ∷ []

@@ -153,7 +153,7 @@ impl PageRecord {
 impl Core {
     // A page with its number.
     fn ref_to(&self, page: u64) -> Ref
-        ensures { ref_of result ≡ page_needs.ref (states.gsns_of (state_of self.now)) page }
+        ensures { ref_of result ≡ model_records.ref (states.gsns_of (state_of self.now)) page }
     {
         Ref {
             page,

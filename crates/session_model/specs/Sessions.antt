@@ -1,9 +1,8 @@
 -- One session on the pages of a disk: what it has in memory, and what it has logged.
 use Rattle.std.specs.Prelude.{◌≡◌, ◌≤◌, ◌==◌, ℕ, suc, Bool, true, false, List, [], ◌∷◌, if◌then◌else◌}
 use Rattle.page_model.specs.Nodes.{Format, Node}
-use Rattle.page_model.specs.Needs.{write_record}
+use Rattle.page_model.specs.Records.{write_record, Record, no_record}
 use Rattle.page_model.specs.Records as records
-use Rattle.page_model.specs.Records.{Record, no_record}
 use Rattle.image_model.specs.Entries.{Kind, Entry, Contents, word_in, written}
 use Rattle.core_state.specs.Openings.{Opening, start_page}
 
