@@ -1,4 +1,4 @@
--- What the events that write a record need of the pages, and the records of those that change the tree.
+-- What the events that write a record need of the pages, and the records that they write, but for those of writes.
 use Rattle.std.specs.Prelude.{◌++◌, length, ◌≡◌, ◌<◌, ◌≤◌, ◌+◌, ℕ, zero, suc, true, false, List, [], ◌∷◌, Some, None}
 use Rattle.page_model.specs.Pairs.{Pair, find, onward, Span, is_in}
 use Rattle.page_model.specs.Nodes.{Format, Node, holds}
