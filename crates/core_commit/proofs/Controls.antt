@@ -5,15 +5,17 @@ use Rattle.image_model.specs.Entries.{is_end, is_record, is_call, Entry, same_tx
 use Rattle.map_model.specs.Lists.{upd, keep, any, Has}
 use Rattle.rfa_model.specs.Reaches.{least}
 use Rattle.core_state.specs.Needs.{is_worker, is_ripe_end, is_ripe_up_to, is_saved_up_to, is_behind, holds_row, may_hold, is_held_by, is_free, is_reader, needs}
-use Rattle.core_state.specs.States.{first, Opening, Row, Worker, State, flushed_by_all, start}
+use Rattle.core_state.specs.States.{Row, Worker, State, flushed_by_all, start}
+use Rattle.core_state.specs.Openings.{first, Opening}
 use Rattle.core_state.specs.Lists.{most}
 use Rattle.core_state.specs.Events.{Event, Mode}
 use Rattle.core_state.specs.Steps.{claims, touch, at_pages, at_row, begun, locked, unlocked, looks, synced, happens}
-use Rattle.core_commit.proofs.Lists.{Within, has_before, each_at, any_has, has_any, keep_has, has_keep, upd_same, least_le, le_least, pick}
+use Rattle.core_commit.proofs.Lists.{Within, has_before, each_at, least_le, le_least, pick}
+use Rattle.map_model.proofs.ListLemmas.{any_has, has_any, keep_has, has_keep, upd_same, at_upd}
 use Rattle.core_commit.proofs.History.{same_to, Entered, Covered, EndOf, IsHistory, history_pick, history_value, not_by, without}
 use Rattle.core_commit.proofs.Nodes.{on_key}
 use Rattle.core_commit.proofs.Invariants.{Holds, top_of, RowOk, some_same, AtMost, row_same, marker, WorkerOk, pages_more, KeepsHolds, worker_same, bound, tops, Inv, touch_covers, touch_debt, history_same, stamp_flushed}
-use Rattle.core_commit.proofs.Events.{at_upd, upd_at_most, worker_raised, holds_to, held_to, free_to, open_top, shut_top, touched_all}
+use Rattle.core_commit.proofs.Events.{upd_at_most, worker_raised, holds_to, held_to, free_to, open_top, shut_top, touched_all}
 
 -- ## Begin
 

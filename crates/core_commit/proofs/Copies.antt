@@ -1,10 +1,11 @@
 -- What is saved of each page: a cold page, and one that is not dirty, is as it was saved.
 use Rattle.map_model.specs.Lists.{upd, all, Has}
 use Rattle.image_model.specs.Entries.{Entry, Contents, touches, written}
-use Rattle.core_state.specs.States.{Opening, Place, State, flushed_by_all, is_hot, is_cold, left_by, start}
+use Rattle.core_state.specs.States.{Place, State, flushed_by_all, is_hot, is_cold, left_by, start}
+use Rattle.core_state.specs.Openings.{Opening}
 use Rattle.core_state.specs.Needs.{are_hot}
 use Rattle.core_state.specs.Steps.{at_pages, refs_of}
-use Rattle.core_commit.proofs.Lists.{upd_same, upd_other}
+use Rattle.map_model.proofs.ListLemmas.{upd_same, upd_other}
 use Rattle.core_commit.proofs.Invariants.{Inv, stamp_flushed}
 use Rattle.core_commit.proofs.Events.{touch_has, touched_all}
 use Rattle.std.proofs.Common.{◌≡◌, ◌<◌, ◌≤◌, ℕ, suc, Bool, true, false, cond, List, [], ◌∷◌, refl, sym, ap, ◌∙◌, subst, inl, inr, arith, true≢false}

@@ -1,6 +1,7 @@
 -- Each event keeps the invariants.
 use Rattle.page_model.specs.Nodes as page_nodes
 use Rattle.page_model.specs.Records as page_records
+use Rattle.page_model.specs.Fits.{FitsAs}
 use Rattle.page_model.specs.Tree as page_tree
 use Rattle.page_model.specs.Pairs as pairs
 use Rattle.page_model.specs.Needs as record_needs
@@ -15,25 +16,21 @@ use Rattle.image_model.specs.Entries.{Entry, Kind, is_call, is_write, is_end, is
 use Rattle.page_model.specs.Records.{Ref, Record}
 use Rattle.core_state.specs.Lists.{is_empty}
 use Rattle.page_model.specs.Pairs.{Pair}
-use Rattle.core_state.specs.States.{Opening, Row, Worker, State, flushed_by_all, nodes_of, gsns_of}
+use Rattle.core_state.specs.States.{Row, Worker, State, flushed_by_all, nodes_of, gsns_of}
+use Rattle.core_state.specs.Openings.{Opening}
 use Rattle.core_state.specs.Events.{Event}
 use Rattle.page_model.specs.Nodes.{Node, holds}
 use Rattle.core_state.specs.Steps.{claims, at_pages, refs_of, end_entry, read_entry, write_entry, page_entry, moves, finished, records_in, writes, put_back, reads, happens}
 use Rattle.core_state.specs.Needs.{may_put, may_put_back, may_split, may_lift, may_join, may_drop, may_purge, is_single, is_dead, is_settled, holds_row, is_held_by, is_free, is_reader, may_read, needs}
 use Rattle.page_model.specs.Tree.{IsTree}
 use Rattle.image_model.specs.Entries.Kind.{Change, Put_back, Split, Lift, Join, Drop, Purge, Read, Commit, Abort}
-use Rattle.core_commit.proofs.Lists.{Within, any_has, upd_same, upd_other}
+use Rattle.core_commit.proofs.Lists.{Within}
+use Rattle.map_model.proofs.ListLemmas.{any_has, upd_same, upd_other, at_upd}
 use Rattle.core_commit.proofs.Nodes.{lookup_at, on_key, is_move, Fits, fits_before}
 use Rattle.core_commit.proofs.History.{SameTxn, Covered, EndOf, Entered, page_at, nodes, not_by, without, touch_ref, history_on, history_off, history_parted}
 use Rattle.core_commit.proofs.KindFacts.{write_claims, claims_call, write_is_no_end, write_is_call, write_is_record}
 use Rattle.core_commit.proofs.Invariants.{cuts_more, Holds, top_of, end_more, covered_more, AtMost, row_same, MayEnter, row_more, marker, undone, values_of, WorkerOk, pages_more, undone_at, worker_more, bound, tops, Inv, touch_covers, touch_debt, page_covers, stamp_flushed}
 use mathlib.Core.Path.{fun_ext}
-
-pub at_upd : {A : Type 0} (P : ℕ → A → Type 0) (f : ℕ → A) (i : ℕ) (a : A) (j : ℕ) → P i a → ((j ≡ i → ⊥) → P j (f j)) → P j (upd f i a j)
-at_upd P f i a j h k = elim (cases_eq j i) [
-  | inl e ↦ subst (λ x. P j x) (sym (upd_same f i a j e)) (subst (λ x. P x a) (sym e) h)
-  | inr n ↦ subst (λ x. P j x) (sym (upd_other f i a j n)) (k n)
-]
 
 pub upd_at_most : (f : Worker → ℕ) (worker : ℕ → Worker) (w : ℕ) (a : Worker) → f (worker w) ≤ f a → AtMost (λ v. f (worker v)) (λ v. f (upd worker w a v))
 upd_at_most f worker w a l v = elim (cases_eq v w) [
@@ -294,7 +291,7 @@ none_has : (k : ℕ) (n : Node) → pairs.find k n.pairs ≡ None → redo_of.ha
 none_has k n e = ap redo_of.is_some e
 
 -- a word that a leaf has, or says of an absent key
-before_le : (f : page_nodes.Format) (node : ℕ → Node) (r : Record) → IsTree f node → page_records.FitsAs f page_records.Kind.Change node r → r.before ≤ f.dead
+before_le : (f : page_nodes.Format) (node : ℕ → Node) (r : Record) → IsTree f node → FitsAs f page_records.Kind.Change node r → r.before ≤ f.dead
 before_le f node r t m =
     let d = page_needs.does page_records.Kind.Change f node r t m in
     let v = node r.left.page in
@@ -333,7 +330,7 @@ inv_change g s i w p k v m = inv_write g s i Change w p k v (λ r. r ∷ (s.work
     x : Entry
     x = write_entry g Change s w (at_pages s w (s.worker w) (p ∷ [])) p k v
 
-    fit : page_records.FitsAs g.format page_records.Kind.Change (nodes_of s) x.record_of
+    fit : FitsAs g.format page_records.Kind.Change (nodes_of s) x.record_of
     fit = (page_needs.every_need g.format (nodes_of s) (gsns_of s) (tree_now g s i)).change p k v (record {
       page = ltb-true p g.format.pages p3.0;
       leaf = p4.0;
@@ -440,7 +437,7 @@ at_shape s w a [] = refl
 at_shape s w a (p ∷ ps) = ap (λ (z : Worker). record z { clock = (at_pages s w a (p ∷ ps)).clock; debt = (at_pages s w a (p ∷ ps)).debt }) (at_shape s w a ps)
 
 pub inv_move : (g : Opening) (s : State) → Inv g s → (K : Kind) (w : ℕ) (ps : List ℕ) (y : Record) → (s.worker w).is_open ≡ true → is_move K ≡ true → refs_of s ps ≡ page_records.refs_as (page_kind K) y →
-    page_records.FitsAs g.format (page_kind K) (nodes_of s) y → (is_purge K ≡ true → (k : ℕ) → pairs.is_in k y.keys ≡ true → is_settled g s k ≡ true) → Inv g (moves s K w ps y)
+    FitsAs g.format (page_kind K) (nodes_of s) y → (is_purge K ≡ true → (k : ℕ) → pairs.is_in k y.keys ≡ true → is_settled g s k ≡ true) → Inv g (moves s K w ps y)
 inv_move g s i K w ps y op mx xr fm settled = subst (λ (z : Worker). Inv g (records_in s w z (page_entry K s w z ps y) z.changes)) (at_shape s w (s.worker w) ps) (
     inv_records g s i w ps a.clock a.debt x (s.worker w).changes op t.0 t.1 t.2 t.4 refl refl (omega arith) (move_no_end K mx) (move_is_record K mx) refl fit (λ c. absurd (true≢false (sym c ∙ move_no_call K mx))) (λ c. absurd (true≢false (sym c ∙ move_no_call K mx))) (λ c ic. ((i.workers w).changes op c ic, (i.workers w).words op c ic)) settled
     (λ j. undone_at (s.worker w).changes (values_of g (x ∷ s.entries)) (values_of g s.entries) j (history_off g (flushed_by_all g s) j x s.entries i.history (subst (λ (n : ℕ → Node). Fits g.format n x) (same_nodes g s i) fit) (and_left (is_write K) (0 == j) (move_no_write K mx)))))

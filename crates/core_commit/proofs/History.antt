@@ -6,10 +6,11 @@ use Rattle.image_model.specs.Entries.{is_purge, Entry, is_call, is_write, is_end
 use Rattle.map_model.specs.Lists.{Has}
 use Rattle.page_model.specs.Records.{Ref}
 use Rattle.core_state.specs.Steps.{claims}
-use Rattle.core_state.specs.States.{Opening, start_page, first}
+use Rattle.core_state.specs.Openings.{Opening, start_page, first}
 use Rattle.page_model.specs.Nodes.{Node}
 use Rattle.page_model.specs.Tree.{lookup, IsTree}
-use Rattle.core_commit.proofs.Lists.{Within, Each, Before, pick, any_has, has_any, any_is}
+use Rattle.core_commit.proofs.Lists.{Within, Each, Before, pick, any_is}
+use Rattle.map_model.proofs.ListLemmas.{any_has, has_any}
 use Rattle.core_commit.proofs.Nodes.{on_key, Fits, moved_on, fits_parted, fits_on, fits_off}
 use mathlib.Core.Path.{fun_ext}
 

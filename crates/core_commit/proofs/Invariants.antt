@@ -4,11 +4,13 @@ use Rattle.std.proofs.lemmas.Bool.{cases_Bool, cases_eq, cases_lt, ne_eqb, and_f
 use Rattle.map_model.specs.Lists.{upd, Has}
 use Rattle.image_model.specs.Entries.{Entry, touches, is_call, is_write, is_end, is_record, same_txn, Contents, written}
 use Rattle.rfa_model.specs.Stamps.{is_remote}
-use Rattle.core_state.specs.States.{Opening, Row, Worker, State, flushed_by_all}
+use Rattle.core_state.specs.States.{Row, Worker, State, flushed_by_all}
+use Rattle.core_state.specs.Openings.{Opening}
 use Rattle.core_state.specs.Steps.{claims, touch, end_entry}
 use Rattle.image_model.specs.Entries.Kind.{Commit}
 use Rattle.core_commit.proofs.KindFacts.{claims_call}
-use Rattle.core_commit.proofs.Lists.{Within, le_least, each_map, upd_same, upd_other}
+use Rattle.core_commit.proofs.Lists.{Within, le_least, each_map}
+use Rattle.map_model.proofs.ListLemmas.{upd_same, upd_other}
 use Rattle.core_commit.proofs.History.{Covered, PagesCovered, EndOf, Entered, IsHistory, page_at, page_hit, page_miss, number_le_gsn, nodes, history_value, history_on, history_off, not_by, without}
 use Rattle.core_commit.proofs.Nodes.{key_parts, on_key, Fits}
 

@@ -1,9 +1,10 @@
 -- Facts on the lists of the definitions.
 use Rattle.std.proofs.Common.{◌≡◌, ℕ, zero, suc, ◌≤◌, ◌<◌, Bool, true, false, cond, ◌||◌, List, [], ◌∷◌, ◌⊎◌, refl, sym, ap, ◌∙◌, subst, inl, inr, arith, true≢false}
-use Rattle.std.proofs.lemmas.Bool.{cases_Bool, cases_eq, eq-eqb, ne_eqb, or_cases, or_left, or_right}
+use Rattle.std.proofs.lemmas.Bool.{cases_Bool, cases_eq}
 use Rattle.page_model.specs.Records.{any as page_any}
-use Rattle.map_model.specs.Lists.{upd, keep, any, Has}
+use Rattle.map_model.specs.Lists.{upd, any, Has}
 use Rattle.rfa_model.specs.Reaches.{least}
+use Rattle.map_model.proofs.ListLemmas.{upd_same, upd_other}
 use mathlib.Core.Path.{fun_ext}
 
 -- each element, with those behind it, has P
@@ -40,43 +41,10 @@ behind_has x ys [] b y h = absurd b
 behind_has x ys (z ∷ zs) (inl e) y h = inr (subst (λ l. Has y l) e.1 h)
 behind_has x ys (z ∷ zs) (inr b) y h = inr (behind_has x ys zs b y h)
 
-pub any_has : {A : Type 0} (p : A → Bool) (xs : List A) → any p xs ≡ true → (x : A) × Has x xs × (p x ≡ true)
-any_has p [] h = absurd (true≢false (sym h))
-any_has p (x ∷ xs) h = elim (or_cases (p x) (any p xs) h) [ inl e ↦ (x, inl refl, e) | inr e ↦ let r = any_has p xs e in (r.0, inr r.1, r.2) ]
-
-pub has_any : {A : Type 0} (p : A → Bool) (xs : List A) (x : A) → Has x xs → p x ≡ true → any p xs ≡ true
-has_any p [] x h e = absurd h
-has_any p (y ∷ ys) x (inl q) e = or_left (p y) (any p ys) (ap p (sym q) ∙ e)
-has_any p (y ∷ ys) x (inr h) e = or_right (p y) (any p ys) (has_any p ys x h e)
-
 -- the same word of the pages' crate
 pub any_is : {A : Type 0} (p : A → Bool) (xs : List A) → page_any p xs ≡ any p xs
 any_is p [] = refl
 any_is p (x ∷ xs) = ap (λ (b : Bool). p x || b) (any_is p xs)
-
-pub keep_has : {A : Type 0} (p : A → Bool) (xs : List A) (x : A) → Has x (keep p xs) → Has x xs × (p x ≡ true)
-keep_has p [] x h = absurd h
-keep_has p (y ∷ ys) x h = go (keep_has p ys x) (p y) refl h
-  where
-    go : (Has x (keep p ys) → Has x ys × (p x ≡ true)) → (b : Bool) → p y ≡ b → Has x (cond b (y ∷ keep p ys) (keep p ys)) → Has x (y ∷ ys) × (p x ≡ true)
-    go ih true e (inl q) = (inl q, ap p q ∙ e)
-    go ih true e (inr h) = let r = ih h in (inr r.0, r.1)
-    go ih false e h = let r = ih h in (inr r.0, r.1)
-
-pub has_keep : {A : Type 0} (p : A → Bool) (xs : List A) (x : A) → Has x xs → p x ≡ true → Has x (keep p xs)
-has_keep p [] x h e = absurd h
-has_keep p (y ∷ ys) x (inl q) e = rw (ap p (sym q) ∙ e) (inl q)
-has_keep p (y ∷ ys) x (inr h) e = go (has_keep p ys x h e) (p y)
-  where
-    go : Has x (keep p ys) → (b : Bool) → Has x (cond b (y ∷ keep p ys) (keep p ys))
-    go rest true = inr rest
-    go rest false = rest
-
-pub upd_same : {A : Type 0} (f : ℕ → A) (i : ℕ) (a : A) (j : ℕ) → j ≡ i → upd f i a j ≡ a
-upd_same f i a j e = rw (eq-eqb j i e) refl
-
-pub upd_other : {A : Type 0} (f : ℕ → A) (i : ℕ) (a : A) (j : ℕ) → (j ≡ i → ⊥) → upd f i a j ≡ f j
-upd_other f i a j e = rw (ne_eqb j i e) refl
 
 pub upd_comm : {A : Type 0} (f : ℕ → A) (i k : ℕ) (a b : A) → (i ≡ k → ⊥) → upd (upd f i a) k b ≡ upd (upd f k b) i a
 upd_comm f i k a b ne = fun_ext (λ j. elim (cases_eq j i) [

@@ -6,7 +6,8 @@ use Rattle.page_model.proofs.Entries.{holds_to, holds_from}
 use Rattle.std.proofs.Common.{◌≡◌, ◌≤◌, ◌<◌, ℕ, suc, Bool, true, false, cond, ◌&&◌, leb, ltb, ◌==◌, List, [], ◌∷◌, Some, refl, sym, ap, ap₂, ◌∙◌, arith, true≢false}
 use Rattle.std.proofs.lemmas.Bool.{eq-eqb, ne_eqb, eqb-true, and_parts, leb-true, ltb-true, cond-true, cond-false}
 use Rattle.map_model.specs.Maps.{MapAnswer}
-use Rattle.core_state.specs.States.{Opening, State}
+use Rattle.core_state.specs.States.{State}
+use Rattle.core_state.specs.Openings.{Opening}
 use Rattle.core_state.specs.Events.{Event}
 use Rattle.core_state.specs.Needs.{is_following, following, holds_answer, is_leaf_of, needs}
 

@@ -1,5 +1,6 @@
 -- What each record makes of the pages' words.
 use Rattle.page_model.specs.Records as page_records
+use Rattle.page_model.specs.Fits.{FitsAs}
 use Rattle.page_model.specs.Tree as page_tree
 use Rattle.page_model.specs.Pairs as pairs
 use Rattle.page_model.specs.Laws as laws
@@ -37,7 +38,7 @@ is_move _ = false
 pub record FitsPage (f : Format) (node : ℕ → Node) (r : Entry) : Type 0 where
   pub refs : r.refs ≡ page_records.refs_as (page_kind r.kind) r.record_of
   pub key : is_write r.kind ≡ true → (r.key ≡ r.record_of.key) × (r.before ≡ r.record_of.before) × (r.after ≡ r.record_of.after)
-  pub fits : page_records.FitsAs f (page_kind r.kind) node r.record_of
+  pub fits : FitsAs f (page_kind r.kind) node r.record_of
 
 pub record Fits (f : Format) (node : ℕ → Node) (r : Entry) : Type 0 where
   pub page : is_page r.kind ≡ true → FitsPage f node r

@@ -5,7 +5,8 @@ use Rattle.image_model.specs.Entries.{Kind, Entry, is_record}
 use Rattle.page_model.specs.Records.{Record}
 use Rattle.page_model.specs.Needs as record_needs
 use Rattle.core_state.specs.Lists.{most}
-use Rattle.core_state.specs.States.{Opening, State, Worker, start, flushed_by_all, nodes_of, gsns_of}
+use Rattle.core_state.specs.States.{State, Worker, start, flushed_by_all, nodes_of, gsns_of}
+use Rattle.core_state.specs.Openings.{Opening}
 use Rattle.core_state.specs.Events.{Event}
 use Rattle.core_state.specs.Needs.{are_hot, pages_of, is_behind, needs}
 use Rattle.core_state.specs.Steps.{at_pages, at_row, begun, finished, write_entry, moves, put_back, follows, happens, step, run}

@@ -7,7 +7,8 @@ use Rattle.map_model.specs.Lists.{upd}
 use Rattle.map_model.specs.Maps.{MapAnswer}
 use Rattle.image_model.specs.Entries.{Kind, Entry, Contents}
 use Rattle.core_state.specs.Lists.{all_below, at_end, without}
-use Rattle.core_state.specs.States.{Opening, Place, State, nodes_of, gsns_of, is_cold, is_cooling, frame_of, left_by, waits_for, start}
+use Rattle.core_state.specs.States.{Place, State, nodes_of, gsns_of, is_cold, is_cooling, frame_of, left_by, waits_for, start}
+use Rattle.core_state.specs.Openings.{Opening}
 use Rattle.core_state.specs.Events.{Event}
 use Rattle.core_state.specs.Needs.{are_hot, pages_of, is_dirty, is_empty_frame, has_hot_parent, holds_answer, holds_row, is_following, is_inside, is_leaf_of, following, is_value, value_in, may_read, may, needs}
 use Rattle.core_state.specs.Steps.{at_pages, page_entry, write_entry, moves, put_back, follows, happens, step, run}

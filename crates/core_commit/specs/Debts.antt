@@ -2,7 +2,8 @@
 use Rattle.map_model.specs.Lists.{Has}
 use Rattle.rfa_model.specs.Stamps.{is_remote, need_of}
 use Rattle.image_model.specs.Entries.{Entry, is_write, is_end, same_txn, touches}
-use Rattle.core_state.specs.States.{Opening, State, start, flushed_by_all}
+use Rattle.core_state.specs.States.{State, start, flushed_by_all}
+use Rattle.core_state.specs.Openings.{Opening}
 use Rattle.core_state.specs.Events.{Event}
 use Rattle.core_state.specs.Needs.{holds_row, may}
 use Rattle.core_state.specs.Steps.{step, run}

@@ -1,5 +1,6 @@
 -- What never falls.
-use Rattle.core_state.specs.States.{Opening, State, start, flushed_by_all}
+use Rattle.core_state.specs.States.{State, start, flushed_by_all}
+use Rattle.core_state.specs.Openings.{Opening}
 use Rattle.core_state.specs.Events.{Event}
 use Rattle.core_state.specs.Steps.{run}
 use Rattle.std.specs.Prelude.{◌≤◌, ◌<◌, ℕ, List}

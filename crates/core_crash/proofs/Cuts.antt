@@ -13,9 +13,9 @@ use Rattle.image_model.specs.Ends.{greatest, reach, ends, ended}
 use Rattle.core_commit.proofs.KindFacts.{end_is_record, write_is_no_end}
 use Rattle.page_model.specs.Nodes.{Node}
 use Rattle.page_model.specs.Tree.{IsTree}
-use Rattle.core_state.specs.States.{Opening, first}
-use Rattle.core_commit.proofs.Lists.{has_before, before_has, any_has, has_any, keep_has, has_keep, each_at, le_least}
-use Rattle.core_crash.proofs.Order.{order_has}
+use Rattle.core_state.specs.Openings.{Opening, first}
+use Rattle.core_commit.proofs.Lists.{has_before, before_has, each_at, le_least}
+use Rattle.map_model.proofs.ListLemmas.{any_has, has_any, keep_has, has_keep, order_has}
 use Rattle.core_commit.proofs.History.{EndOf, SameTxn, same_to, Entered, IsHistory, nodes}
 use Rattle.core_crash.proofs.Ends.{Cut, is_ended, ended_from, behind_end, one_end}
 use Rattle.core_crash.proofs.Redo.{CountsAre, counts_are, entry_left, Had, Placed, placed_before, redo_passes, redoes, virtual, virtual_parted, redone, redone_found, redone_lost, at_prev_no, redo_stays, counts_here, counts_else}

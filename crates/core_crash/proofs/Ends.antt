@@ -1,16 +1,17 @@
 -- A transaction that is ended in what a crash leaves has all its records there, with all that stood before them,
 -- and what it met was ended too.
-use Rattle.std.proofs.Common.{◌≡◌, ℕ, ◌≤◌, max, Bool, true, false, cond, ◌&&◌, leb, List, [], ◌∷◌, ◌⊎◌, if◌then◌else◌, refl, sym, ap, ap₂, ◌∙◌, subst, inl, inr, arith, true≢false}
+use Rattle.std.proofs.Common.{◌≡◌, ℕ, ◌≤◌, max, Bool, true, false, cond, ◌&&◌, leb, List, [], ◌∷◌, ◌⊎◌, if◌then◌else◌, refl, sym, ap, ◌∙◌, subst, inl, inr, arith, true≢false}
 use Rattle.std.proofs.lemmas.Bool.{cases_Bool, cond-true, cond-false, cases_eq, eq-eqb, ne_eqb, and_parts, and_from, leb-true, le-leb}
 use Rattle.map_model.specs.Lists.{all, keep, Has}
 use Rattle.rfa_model.specs.Reaches.{least}
 use Rattle.image_model.specs.Entries.{Entry, touches, is_call, is_write, is_end, is_record, same_txn}
 use Rattle.core_state.specs.Steps.{claims}
-use Rattle.core_state.specs.States.{Opening}
+use Rattle.core_state.specs.Openings.{Opening}
 use Rattle.core_crash.proofs.Words.{found}
 use Rattle.core_commit.proofs.KindFacts.{write_claims, end_is_record, write_is_record, write_is_no_end, call_is_no_end}
 use Rattle.image_model.specs.Ends.{greatest, reach, ends, ended}
-use Rattle.core_commit.proofs.Lists.{Within, Before, has_before, before_has, behind_has, any_has, has_any, keep_has, has_keep, least_le, le_least, each_at}
+use Rattle.core_commit.proofs.Lists.{Within, Before, has_before, before_has, behind_has, least_le, le_least, each_at}
+use Rattle.map_model.proofs.ListLemmas.{any_has, has_any, keep_has, has_keep, all_of}
 use Rattle.core_commit.proofs.History.{SameTxn, same_from, same_to, Covered, EndOf, Closes, Entered, IsHistory, compare, PagesCovered, page_at, page_hit, page_miss, ref_touch, each_behind}
 
 -- What is known of a crash: F and the reach R, and that all records up to the reach are there.
@@ -103,19 +104,6 @@ whole up_to p (r ∷ h) = if touches p r then found up_to r && all (λ f. whole 
 abbrev pub counting : (ℕ → ℕ) → Entry → List Entry → Bool
 counting up_to r h = found up_to r && all (λ f. whole up_to f.page h) r.refs
 
-pub all_has : {A : Type 0} (p : A → Bool) (xs : List A) → all p xs ≡ true → (x : A) → Has x xs → p x ≡ true
-all_has p [] h x i = absurd i
-all_has {A} p (y ∷ ys) h x (inl e) = ap p e ∙ (and_parts (p y) (all p ys) h).0
-all_has p (y ∷ ys) h x (inr i) = all_has p ys (and_parts (p y) (all p ys) h).1 x i
-
-pub has_all : {A : Type 0} (p : A → Bool) (xs : List A) → ((x : A) → Has x xs → p x ≡ true) → all p xs ≡ true
-has_all p [] h = refl
-has_all p (y ∷ ys) h = and_from (p y) (all p ys) (h y (inl refl)) (has_all p ys (λ x i. h x (inr i)))
-
-pub all_same : {A : Type 0} (p q : A → Bool) (xs : List A) → ((x : A) → Has x xs → p x ≡ q x) → all p xs ≡ all q xs
-all_same p q [] h = refl
-all_same p q (y ∷ ys) h = ap₂ (λ a b. a && b) (h y (inl refl)) (all_same p q ys (λ x i. h x (inr i)))
-
 pub whole_hit : (up_to : ℕ → ℕ) (p : ℕ) (r : Entry) (h : List Entry) → touches p r ≡ true → whole up_to p (r ∷ h) ≡ counting up_to r h
 whole_hit up_to p r h o = cond-true (touches p r) (counting up_to r h) (whole up_to p h) o
 
@@ -131,7 +119,7 @@ whole_low g F R up_to (r ∷ h) hist a p le = go (whole_low g F R up_to h hist.1
     go ih (inl o) =
         let n : r.number ≤ R = rw (page_hit g p r h o) at le in
         whole_hit up_to p r h o ∙ and_from (found up_to r) (all (λ f. whole up_to f.page h) r.refs) (a r (inl refl) (hist.0.logged p o) n)
-        (has_all (λ f. whole up_to f.page h) r.refs (λ f i. ih f.page (let q = hist.0.rises f.page (ref_touch r f i) in omega arith)))
+        (all_of (λ f. whole up_to f.page h) r.refs (λ f i. ih f.page (let q = hist.0.rises f.page (ref_touch r f i) in omega arith)))
     go ih (inr o) = whole_miss up_to p r h o ∙ ih p (rw (page_miss g p r h o) at le)
 
 -- a page whose every record is safe is whole: one in log w, of which the end is there, or one up to the reach
@@ -145,9 +133,9 @@ whole_safe g F R up_to w x (r ∷ h) hist pc l a own p cov = go (whole_safe g F 
     go ih (inr o) = whole_miss up_to p r h o ∙ ih p (λ y i. cov y (inr i))
     go ih (inl o) = whole_hit up_to p r h o ∙ elim (cov r (inl refl) o) [
       | inl q ↦ and_from (found up_to r) (all (λ f. whole up_to f.page h) r.refs) (own r (inl refl) (hist.0.logged p o) q)
-          (has_all (λ f. whole up_to f.page h) r.refs (λ f i. ih f.page (pc.0 q f.page (ref_touch r f i))))
+          (all_of (λ f. whole up_to f.page h) r.refs (λ f i. ih f.page (pc.0 q f.page (ref_touch r f i))))
       | inr q ↦ and_from (found up_to r) (all (λ f. whole up_to f.page h) r.refs) (a r (inl refl) (hist.0.logged p o) (omega arith))
-          (has_all (λ f. whole up_to f.page h) r.refs (λ f i. whole_low g F R up_to h hist.1 (λ y j. a y (inr j)) f.page (let z = hist.0.rises f.page (ref_touch r f i) in omega arith)))
+          (all_of (λ f. whole up_to f.page h) r.refs (λ f i. whole_low g F R up_to h hist.1 (λ y j. a y (inr j)) f.page (let z = hist.0.rises f.page (ref_touch r f i) in omega arith)))
     ]
 
 -- a write of an ended transaction counts
@@ -162,7 +150,7 @@ ended_counts g F R up_to h c r b pr kr q =
     let mates = each_at (λ (r : Entry) (b : List Entry). r.log ≡ e.end.log → (p : ℕ) → touches p r ≡ true → (y : Entry) → Has y b → touches p y ≡ true → Covered e.end.log (max e.end.need F) y) e.behind r b cl.pages p (sym e.same.0) in
     let inner = each_behind (λ (r : Entry) (b : List Entry). r.log ≡ e.end.log → (p : ℕ) → touches p r ≡ true → (y : Entry) → Has y b → touches p y ≡ true → Covered e.end.log (max e.end.need F) y) e.behind r b cl.pages p in
     and_from (found up_to r) (all (λ f. whole up_to f.page b) r.refs) (ended_found g F R up_to h c r b pr kr q)
-    (has_all (λ f. whole up_to f.page b) r.refs (λ f i. whole_safe g F R up_to e.end.log (max e.end.need F) b (each_behind (Entered g F) h r b c.history pr) inner (omega arith)
+    (all_of (λ f. whole up_to f.page b) r.refs (λ f i. whole_safe g F R up_to e.end.log (max e.end.need F) b (each_behind (Entered g F) h r b c.history pr) inner (omega arith)
     (λ y iy. c.all y (behind_has r b h pr y iy))
     (λ y iy ky l. own_found g F up_to e.end e.behind en e.is_end e.found y (behind_has r b e.behind p y iy) ky l)
     f.page (mates f.page (ref_touch r f i))))

@@ -1,7 +1,7 @@
 -- The records of the logs, taken log by log, are those of the history.
 use Rattle.page_model.specs.Tree as page_tree
-use Rattle.std.proofs.Common.{◌≡◌, ℕ, zero, suc, ◌≤◌, ◌<◌, max, Bool, true, false, cond, ◌&&◌, ◌||◌, if◌then◌else◌, not, ltb, leb, ◌==◌, List, [], ◌∷◌, ◌++◌, ◌⊎◌, refl, sym, ap, ap₂, ◌∙◌, subst, inl, inr, arith, true≢false}
-use Rattle.std.proofs.lemmas.Bool.{cases_Bool, cases_eq, cases_lt, cases_order, eq-eqb, eqb-true, and_parts, or_cases, or_left, or_right, and_from, leb-true, le-leb, lt-ltb, cond-true, cond-false, false_from_ne_true, not_from_false, not-true}
+use Rattle.std.proofs.Common.{◌≡◌, ℕ, zero, suc, ◌≤◌, ◌<◌, max, Bool, true, false, cond, ◌&&◌, ◌||◌, not, ltb, leb, ◌==◌, List, [], ◌∷◌, ◌++◌, ◌⊎◌, refl, sym, ap, ap₂, ◌∙◌, subst, inl, inr, arith, true≢false}
+use Rattle.std.proofs.lemmas.Bool.{cases_eq, cases_lt, cases_order, eq-eqb, eqb-true, and_parts, or_cases, or_left, or_right, and_from, lt-ltb}
 use Rattle.map_model.specs.Lists.{any, keep, Has}
 use Rattle.rfa_model.specs.Reaches.{least}
 use Rattle.image_model.specs.Entries.{earlier, Entry, is_record, is_write, is_commit, same_txn, Contents}
@@ -11,13 +11,14 @@ use Rattle.image_model.specs.Ends.{greatest, reach, ends, ended}
 use Rattle.image_model.specs.Redo.{Redone, redo}
 use Rattle.image_model.specs.Undo.{undo, values, is_lost}
 use Rattle.page_model.specs.Tree.{IsTree}
-use Rattle.core_state.specs.States.{Opening, State, start, first, flushed_by_all}
+use Rattle.core_state.specs.States.{State, start, flushed_by_all}
+use Rattle.core_state.specs.Openings.{Opening, first}
 use Rattle.core_state.specs.Events.{Event}
 use Rattle.core_state.specs.Steps.{run}
 use Rattle.core_crash.specs.Crashes.{log_of, IsPrefix, Leaves, from_head}
 use Rattle.image_model.specs.Images.{gathered}
-use Rattle.core_commit.proofs.Lists.{Within, Each, has_before, any_has, has_any, keep_has, has_keep, each_at}
-use Rattle.core_crash.proofs.Order.{insert_has, order_has, has_order}
+use Rattle.core_commit.proofs.Lists.{Within, Each, has_before, each_at}
+use Rattle.map_model.proofs.ListLemmas.{any_has, has_any, keep_has, has_keep, insert_has, order_has, has_order, has_cases, has_left, has_right}
 use Rattle.core_commit.proofs.History.{Entered, IsHistory}
 use Rattle.core_crash.proofs.Ends.{le_greatest, found_from, found_to}
 use Rattle.core_crash.proofs.Cuts.{keep_same, same_bool}
@@ -168,24 +169,10 @@ module _ (a b : List Entry) (s : SameMembers a b) (da : Distinct a) (db : Distin
 
 -- ## The logs
 
-append_has : (x : Entry) (a b : List Entry) → Has x (a ++ b) → Has x a ⊎ Has x b
-append_has x [] b i = inr i
-append_has x (y ∷ a) b (inl e) = inl (inl e)
-append_has x (y ∷ a) b (inr i) = elim (append_has x a b i) [ inl j ↦ inl (inr j) | inr j ↦ inr j ]
-
-has_left : (x : Entry) (a b : List Entry) → Has x a → Has x (a ++ b)
-has_left x [] b i = absurd i
-has_left x (y ∷ a) b (inl e) = inl e
-has_left x (y ∷ a) b (inr i) = inr (has_left x a b i)
-
-pub has_right : (x : Entry) (a b : List Entry) → Has x b → Has x (a ++ b)
-has_right x [] b i = i
-has_right x (y ∷ a) b i = inr (has_right x a b i)
-
 distinct_append : (a b : List Entry) → Distinct a → Distinct b → ((x y : Entry) → Has x a → Has y b → Comparable x y) → Distinct (a ++ b)
 distinct_append [] b da db h = db
 distinct_append (x ∷ a) b da db h = (
-  λ y i. elim (append_has y a b i) [ inl j ↦ da.0 y j | inr j ↦ h x y (inl refl) j ],
+  λ y i. elim (has_cases y a b i) [ inl j ↦ da.0 y j | inr j ↦ h x y (inl refl) j ],
   distinct_append a b da.1 db (λ u v i j. h u v (inr i) j),
 )
 
@@ -199,7 +186,7 @@ distinct_keep p (x ∷ l) d = go (distinct_keep p l d.1) (p x)
 
 pub gathered_has : (f : ℕ → List Entry) (n : ℕ) (r : Entry) → Has r (gathered f n) → (w : ℕ) × Within n w × Has r (f w)
 gathered_has f zero r i = absurd i
-gathered_has f (suc n) r i = elim (append_has r (f (suc n)) (gathered f n) i) [
+gathered_has f (suc n) r i = elim (has_cases r (f (suc n)) (gathered f n) i) [
   | inl j ↦ (suc n, (omega arith, omega arith), j)
   | inr j ↦ let q = gathered_has f n r j in (q.0, (q.1.0, (let l = q.1.1 in omega arith)), q.2)
 ]
@@ -312,7 +299,7 @@ every_image g es logs page c = (
     filled : (r : Entry) → Has r s.entries → is_record r.kind ≡ true → Within g.workers r.log → r.number ≤ up_to r.log → Has r (logs r.log)
     filled r i k l n = elim (cases_lt (s.flushed r.log) r.number) [
       | inr q ↦ c.flushed r.log l.0 l.1 r mine q
-      | inl q ↦ elim (append_has r f.0 (logs r.log) (subst (λ (x : List Entry). Has r x) (sym f.1) mine)) [
+      | inl q ↦ elim (has_cases r f.0 (logs r.log) (subst (λ (x : List Entry). Has r x) (sym f.1) mine)) [
         | inr j ↦ j
         | inl j ↦ absurd (let u = greatest_upper r.log (Rattle.std.proofs.Common.pred r.number) (logs r.log) (λ y iy _. let z = numbers_across f.0 (logs r.log) nums r y j iy in omega arith) in omega arith)
       ]

@@ -8,9 +8,10 @@ use Rattle.core_commit.proofs.Nodes.{key_parts}
 use Rattle.image_model.specs.Entries.{Contents, earlier, Entry, is_call, is_write, is_commit, same_txn}
 use Rattle.map_model.specs.Lists.{upd, keep, any, Has}
 use Rattle.core_state.specs.Steps.{claims}
-use Rattle.core_state.specs.States.{first, Opening}
-use Rattle.core_commit.proofs.Lists.{Before, before_has, behind_has, any_has, keep_has, has_keep}
-use Rattle.core_crash.proofs.Order.{Swaps, Apart, fold_up_order, order_has}
+use Rattle.core_state.specs.Openings.{first, Opening}
+use Rattle.core_commit.proofs.Lists.{Before, before_has, behind_has}
+use Rattle.map_model.proofs.ListLemmas.{any_has, keep_has, has_keep, order_has}
+use Rattle.core_crash.proofs.Order.{Swaps, Apart, fold_up_order}
 use Rattle.core_commit.proofs.History.{SameTxn, same_to, compare}
 use Rattle.core_commit.proofs.Nodes.{on_key}
 use Rattle.core_crash.proofs.Ends.{Cut, is_ended, ended_to, ended_from, ended_rows, one_end, found_from}

@@ -3,7 +3,8 @@ use Rattle.std.proofs.Common.{◌≡◌, ℕ, ◌≤◌, true, List, [], ◌∷�
 use Rattle.std.proofs.lemmas.Bool.{leb-true}
 use Rattle.map_model.specs.Lists.{Has, keep}
 use Rattle.image_model.specs.Entries.{Entry, Contents}
-use Rattle.core_state.specs.States.{Opening, State, flushed_by_all, start}
+use Rattle.core_state.specs.States.{State, flushed_by_all, start}
+use Rattle.core_state.specs.Openings.{Opening}
 use Rattle.map_model.specs.Maps.{MapAnswer}
 use Rattle.core_state.specs.Events.{Event}
 use Rattle.core_state.specs.Steps.{follows, happens, step, run, put_back}
@@ -12,7 +13,7 @@ use Rattle.image_model.specs.Ends.{reach}
 use Rattle.core_commit.proofs.KindFacts.{end_is_record}
 use Rattle.core_commit.proofs.Lists.{Within, has_before, before_has, each_at}
 use Rattle.core_state.specs.Steps.{HasBeen}
-use Rattle.core_crash.proofs.Order.{order_has}
+use Rattle.map_model.proofs.ListLemmas.{order_has}
 use Rattle.core_commit.proofs.History.{Entered, page_at}
 use Rattle.core_crash.proofs.Ends.{Cut, reach_all, F_reach, ended_from, found_from}
 use Rattle.core_crash.proofs.Redo.{Had}

@@ -3,42 +3,7 @@ use Rattle.std.proofs.Common.{◌≡◌, Bool, true, false, cond, List, [], ◌�
 use Rattle.map_model.specs.Lists.{Has}
 use Rattle.map_model.specs.Lists.{insert_by, in_order}
 use Rattle.core_commit.proofs.Lists.{Each}
-
-pub insert_has : {A : Type 0} (lt : A → A → Bool) (x : A) (ys : List A) (z : A) → Has z (insert_by lt x ys) → Has z (x ∷ ys)
-insert_has lt x [] z h = h
-insert_has lt x (y ∷ ys) z h = go (insert_has lt x ys z) (lt x y) h
-  where
-    swap : Has z (x ∷ ys) → Has z (x ∷ y ∷ ys)
-    swap (inl e) = inl e
-    swap (inr k) = inr (inr k)
-
-    go : (Has z (insert_by lt x ys) → Has z (x ∷ ys)) → (b : Bool) → Has z (cond b (y ∷ insert_by lt x ys) (x ∷ y ∷ ys)) → Has z (x ∷ y ∷ ys)
-    go ih true (inl e) = inr (inl e)
-    go ih true (inr k) = swap (ih k)
-    go ih false k = k
-
-pub has_insert : {A : Type 0} (lt : A → A → Bool) (x : A) (ys : List A) (z : A) → Has z (x ∷ ys) → Has z (insert_by lt x ys)
-has_insert lt x [] z h = h
-has_insert lt x (y ∷ ys) z h = go (has_insert lt x ys z) (lt x y) h
-  where
-    go : (Has z (x ∷ ys) → Has z (insert_by lt x ys)) → (b : Bool) → Has z (x ∷ y ∷ ys) → Has z (cond b (y ∷ insert_by lt x ys) (x ∷ y ∷ ys))
-    go ih true (inl e) = inr (ih (inl e))
-    go ih true (inr (inl e)) = inl e
-    go ih true (inr (inr k)) = inr (ih (inr k))
-    go ih false k = k
-
-pub order_has : {A : Type 0} (lt : A → A → Bool) (xs : List A) (z : A) → Has z (in_order lt xs) → Has z xs
-order_has lt [] z h = h
-order_has lt (x ∷ xs) z h = go (order_has lt xs z) (insert_has lt x (in_order lt xs) z h)
-  where
-    go : (Has z (in_order lt xs) → Has z xs) → Has z (x ∷ in_order lt xs) → Has z (x ∷ xs)
-    go ih (inl e) = inl e
-    go ih (inr k) = inr (ih k)
-
-pub has_order : {A : Type 0} (lt : A → A → Bool) (xs : List A) (z : A) → Has z xs → Has z (in_order lt xs)
-has_order lt [] z h = h
-has_order lt (x ∷ xs) z (inl e) = has_insert lt x (in_order lt xs) z (inl e)
-has_order lt (x ∷ xs) z (inr k) = has_insert lt x (in_order lt xs) z (inr (has_order lt xs z k))
+use Rattle.map_model.proofs.ListLemmas.{order_has}
 
 -- the last of the list first
 abbrev pub fold_up : {A S : Type 0} → (S → A → S) → S → List A → S

@@ -2,25 +2,25 @@
 use Rattle.map_model.specs.Lists.{Has, keep}
 use Rattle.map_model.specs.Journals as maps
 use Rattle.map_model.specs.Journals.{Txn}
-use Rattle.image_model.specs.Histories as histories
 use Rattle.image_model.specs.Entries.{Entry, Contents, earlier, same_txn}
 use Rattle.image_model.specs.Redo.{redo, all_pass, passes, Redone}
 use Rattle.image_model.specs.Images.{Image, StandsFor, IsFalling, found, sorted, won_by}
 use Rattle.page_model.specs.Redo.{is_some}
 use Rattle.page_model.specs.Tree.{entry}
 use Rattle.page_model.specs.Nodes.{Format}
-use Rattle.core_state.specs.States.{State, start, first, flushed_by_all}
+use Rattle.core_state.specs.States.{State, start, flushed_by_all}
+use Rattle.core_state.specs.Openings.{first, first_map}
 use Rattle.core_state.specs.Steps.{run}
-use Rattle.core_commit.proofs.Lists.{has_before, before_has, keep_has, has_keep}
+use Rattle.core_commit.proofs.Lists.{has_before, before_has}
+use Rattle.map_model.proofs.ListLemmas.{keep_has, has_keep, order_has}
 use Rattle.core_commit.proofs.History.{SameTxn, same_from}
 use Rattle.core_commit.proofs.KindFacts.{write_claims, claims_call, call_is_no_end}
 use Rattle.core_commit.proofs.Invariants.{Inv}
 use Rattle.core_commit.proofs.Runs.{good_run, good_start}
-use Rattle.core_crash.specs.Crashes.{Follows, from_head, image_of, first_map, journal_in, kept_in, IsRipe, EveryCrash, EveryStored, EverySerial}
+use Rattle.core_crash.specs.Crashes.{Follows, from_head, image_of, journal_in, kept_in, IsRipe, EveryCrash, EveryStored, EverySerial}
 use Rattle.core_paging.proofs.Laws.{every_saved}
 use Rattle.core_crash.proofs.Words as words
-use Rattle.core_crash.proofs.Words.{Done, Stands, Tested, tested, test_one, journal, kept, committed, done_earlier, after}
-use Rattle.core_crash.proofs.Order.{order_has}
+use Rattle.core_crash.proofs.Words.{Done, Stands, tested, journal, kept, committed, done_earlier, after}
 use Rattle.core_crash.proofs.Ends.{behind_end, one_end}
 use Rattle.core_crash.proofs.Journal.{stood, commit_is_end}
 use Rattle.core_crash.proofs.Images as by_log

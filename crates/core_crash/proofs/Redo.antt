@@ -12,13 +12,14 @@ use Rattle.image_model.specs.Redo.{passes, names_pages, is_sayable_as, Redone, m
 use Rattle.core_crash.proofs.Words.{found}
 use Rattle.image_model.specs.Undo.{values}
 use Rattle.page_model.specs.Records.{Ref, Record}
-use Rattle.core_state.specs.States.{Opening, start_page}
+use Rattle.core_state.specs.Openings.{Opening, start_page}
 use Rattle.page_model.specs.Nodes.{Format, Node}
 use Rattle.page_model.specs.Tree.{lookup, IsTree}
-use Rattle.core_commit.proofs.Lists.{Before, before_has, Each, each_map_has, any_has, has_any, upd_same, upd_other}
+use Rattle.core_commit.proofs.Lists.{Before, before_has, Each, each_map_has}
+use Rattle.map_model.proofs.ListLemmas.{any_has, has_any, upd_same, upd_other, all_to, all_of, all_same}
 use Rattle.core_commit.proofs.Nodes.{fits_entry, entry_stays, on_key, Fits, moved_on, fits_local, fits_parted, fits_on, fits_off, fits_before}
 use Rattle.core_commit.proofs.History.{EndOf, Entered, IsHistory, page_at, page_hit, page_miss, gsn_rises, nodes, touch_ref, ref_touch, history_parted}
-use Rattle.core_crash.proofs.Ends.{whole, counting, all_has, has_all, all_same, whole_hit, whole_miss, whole_low}
+use Rattle.core_crash.proofs.Ends.{whole, counting, whole_hit, whole_miss, whole_low}
 use mathlib.Core.Path.{fun_ext}
 
 -- ## The pages after the counting records alone
@@ -40,7 +41,7 @@ virtual_cut g up_to p r h c = cond-false (touches p r && counting up_to r h) (wr
 pub counting_whole : (up_to : ℕ → ℕ) (p : ℕ) (r : Entry) (h : List Entry) → counting up_to r h ≡ true → touches p r ≡ true → whole up_to p h ≡ true
 counting_whole up_to p r h c o =
     let f = touch_ref p r o in
-    subst (λ (i : ℕ). whole up_to i h ≡ true) f.2 (all_has (λ f. whole up_to f.page h) r.refs (and_parts (found up_to r) (all (λ f. whole up_to f.page h) r.refs) c).1 f.0 f.1)
+    subst (λ (i : ℕ). whole up_to i h ≡ true) f.2 (all_to (λ f. whole up_to f.page h) r.refs (and_parts (found up_to r) (all (λ f. whole up_to f.page h) r.refs) c).1 f.0 f.1)
 
 -- a whole page is as it was
 pub virtual_whole : (g : Opening) (up_to : ℕ → ℕ) (h : List Entry) (p : ℕ) → whole up_to p h ≡ true → virtual g up_to h p ≡ page_at g h p
@@ -177,7 +178,7 @@ three f r h l =
 pages_named : (g : Opening) (F : ℕ) (r : Entry) (h : List Entry) → IsHistory g F h → Entered g F r h → names_pages g.format r ≡ true
 pages_named g F r h hist n = elim (cases_Bool (is_page r.kind)) [
   | inl k ↦ (let w = n.fits.page k in ap (λ (l : List Ref). all (λ x. ltb x.page g.format.pages) l) w.refs ∙ named (page_kind r.kind) g.format (nodes (page_at g h)) r.record_of (page_needs.does (page_kind r.kind) g.format (nodes (page_at g h)) r.record_of (history_parted g F h hist) w.fits))
-  | inr k ↦ has_all (λ x. ltb x.page g.format.pages) r.refs (λ x i. absurd (true≢false (sym (ref_touch r x i) ∙ n.fits.none k x.page)))
+  | inr k ↦ all_of (λ x. ltb x.page g.format.pages) r.refs (λ x i. absurd (true≢false (sym (ref_touch r x i) ∙ n.fits.none k x.page)))
 ]
 
 -- what redo tests of a record in a tree has in it what the record asks of itself

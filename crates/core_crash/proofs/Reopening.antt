@@ -3,21 +3,22 @@ use Rattle.map_model.specs.Lists.{Has}
 use Rattle.page_model.specs.Nodes.{Format}
 use Rattle.page_model.specs.Records as page_records
 use Rattle.page_model.proofs.Needs as page_needs
-use Rattle.image_model.specs.Entries.{Kind, Entry, Contents, is_write, is_page, is_record, page_kind}
+use Rattle.image_model.specs.Entries.{Kind, Entry, is_write, is_page, is_record, page_kind}
 use Rattle.image_model.specs.Redo.{is_sayable_as}
 use Rattle.image_model.specs.Images.{Image, found, sorted, recovered_page}
 use Rattle.image_model.proofs.UndoLemmas.{every_undone}
 use Rattle.image_model.specs.Laws.{UndoneLaws}
-use Rattle.core_state.specs.States.{Opening, State, start, flushed_by_all}
+use Rattle.core_state.specs.States.{State, start, flushed_by_all}
+use Rattle.core_state.specs.Openings.{Opening}
 use Rattle.core_state.specs.Steps.{run}
-use Rattle.core_commit.proofs.Lists.{has_before, keep_has, each_at}
+use Rattle.core_commit.proofs.Lists.{has_before, each_at}
+use Rattle.map_model.proofs.ListLemmas.{keep_has, order_has, has_right}
 use Rattle.core_commit.proofs.History.{Entered, IsHistory, page_at, nodes, history_parted, each_behind}
 use Rattle.core_commit.proofs.Invariants.{Inv}
 use Rattle.core_commit.proofs.Runs.{good_run, good_start}
 use Rattle.core_crash.specs.Crashes.{from_head, image_of, EveryReopening}
-use Rattle.core_crash.proofs.Order.{order_has}
 use Rattle.core_crash.proofs.Redo.{sayable}
-use Rattle.core_crash.proofs.Images.{gathered_has, has_right}
+use Rattle.core_crash.proofs.Images.{gathered_has}
 use Rattle.core_crash.proofs.Recovery.{every_crash}
 use Rattle.std.proofs.Common.{◌≡◌, ◌≤◌, ℕ, Bool, true, false, cond, ◌&&◌, not, leb, ltb, ◌==◌, List, if◌then◌else◌, refl, sym, subst, arith, true≢false}
 use Rattle.std.proofs.lemmas.Bool.{and_parts, leb-true, ltb-true, lt-ltb, cond-true}

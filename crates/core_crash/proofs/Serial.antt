@@ -8,10 +8,12 @@ use Rattle.core_crash.proofs.Words.{found, Lawful, Serial, Done, calls_of, commi
 use Rattle.core_commit.proofs.History.{answer, history_pick}
 use Rattle.core_commit.proofs.KindFacts.{write_claims, write_is_record, write_is_call, end_is_record}
 use Rattle.core_commit.proofs.Nodes.{key_parts}
-use Rattle.core_state.specs.States.{Opening, State, first, start, flushed_by_all}
+use Rattle.core_state.specs.States.{State, start, flushed_by_all}
+use Rattle.core_state.specs.Openings.{Opening, first}
 use Rattle.core_state.specs.Steps.{run}
-use Rattle.core_commit.proofs.Lists.{pick, Each, Before, has_before, before_has, behind_has, any_has, has_any, keep_has, each_at, Newest, NoneOf, newest, newest_before, newest_holds, newest_first, newest_from, pick_newest, pick_none}
-use Rattle.core_crash.proofs.Order.{fold_up, Swaps, Apart, fold_up_insert, fold_up_order, order_has}
+use Rattle.core_commit.proofs.Lists.{pick, Each, Before, has_before, before_has, behind_has, each_at, Newest, NoneOf, newest, newest_before, newest_holds, newest_first, newest_from, pick_newest, pick_none}
+use Rattle.map_model.proofs.ListLemmas.{any_has, has_any, keep_has, order_has}
+use Rattle.core_crash.proofs.Order.{fold_up, Swaps, Apart, fold_up_insert, fold_up_order}
 use Rattle.core_commit.proofs.Nodes.{on_key}
 use Rattle.core_commit.proofs.History.{SameTxn, same_to, same_from, EndOf, Entered, IsHistory, history_value, before_trans}
 use Rattle.core_crash.proofs.Ends.{Cut, is_ended, ended_to, ended_from, one_end, found_from}

@@ -11,14 +11,13 @@ use Rattle.image_model.specs.Ends.{reach}
 use Rattle.image_model.specs.Entries.{Kind, Entry, is_write, is_call, is_commit, same_txn}
 use Rattle.page_model.specs.Nodes.{Format}
 use Rattle.page_model.specs.Tree.{entry}
-use Rattle.core_state.specs.States.{Opening, first}
-use Rattle.core_crash.specs.Crashes.{first_map}
-use Rattle.core_commit.proofs.Lists.{upd_same, upd_other}
+use Rattle.core_state.specs.Openings.{Opening, first, first_map}
+use Rattle.map_model.proofs.ListLemmas.{upd_same, upd_other}
 use Rattle.core_commit.proofs.History.{answer}
 use Rattle.core_commit.proofs.Says.{said_word, write_here, write_else}
 use Rattle.core_crash.proofs.Words.{Done, calls_of, committed, done_earlier, journal, write_all, after, kept, wins, Lawful, Serial}
 use Rattle.core_crash.proofs.Cuts.{keep_same}
-use Rattle.std.proofs.Common.{◌≡◌, ℕ, Bool, true, false, cond, ◌&&◌, ◌||◌, leb, ltb, ◌==◌, List, [], ◌∷◌, Option, refl, sym, ap, ap₂, ◌∙◌, inl, inr, true≢false}
+use Rattle.std.proofs.Common.{◌≡◌, ℕ, Bool, true, false, cond, ◌&&◌, ◌||◌, leb, ltb, ◌==◌, List, [], ◌∷◌, ◌⊎◌, Option, refl, sym, ap, ap₂, ◌∙◌, inl, inr, true≢false}
 use Rattle.std.proofs.lemmas.Bool.{cases_eq, eqb-true}
 
 abbrev pub to_txn : Format → Done → Txn
@@ -151,61 +150,51 @@ UsedIn rs k = (r : Entry) × Has r rs × (is_call r.kind ≡ true) × (r.key ≡
 abbrev WroteIn : List Entry → ℕ → Type 0
 WroteIn rs k = (r : Entry) × Has r rs × (is_write r.kind ≡ true) × (r.key ≡ k)
 
-pub used_in : (f : Format) (k : ℕ) (rs : List Entry) (x : Step) → Has x (steps_of f rs) → uses_key x.call x.answer k ≡ true → UsedIn rs k
-used_in f k [] x i u = absurd i
-used_in f k (r ∷ rs) x i u = go (used_in f k rs x) r.kind refl i
+-- the step is that of a write, or of a read
+abbrev IsStepOf : Format → Entry → Step → Type 0
+IsStepOf f r x =
+    ((is_write r.kind ≡ true) × (a : MapAnswer) × (x ≡ record { session = r.log; call = write_call f r.key r.after; answer = a }))
+    ⊎ ((a : MapAnswer) × (x ≡ record { session = r.log; call = MapCall.Get r.key; answer = a }))
+
+-- a step of entries is that of one of them, a call
+step_has : (f : Format) (rs : List Entry) (x : Step) → Has x (steps_of f rs) → (r : Entry) × Has r rs × (is_call r.kind ≡ true) × IsStepOf f r x
+step_has f [] x i = absurd i
+step_has f (r ∷ rs) x i = go (step_has f rs x) r.kind refl i
   where
-    later : UsedIn rs k → UsedIn (r ∷ rs) k
+    later : (y : Entry) × Has y rs × (is_call y.kind ≡ true) × IsStepOf f y x → (y : Entry) × Has y (r ∷ rs) × (is_call y.kind ≡ true) × IsStepOf f y x
     later q = (q.0, inr q.1, q.2, q.3)
 
-    here : (K : Kind) → r.kind ≡ K → is_call K ≡ true → r.key ≡ k → UsedIn (r ∷ rs) k
-    here K e c q = (r, inl refl, ap is_call e ∙ c, q)
+    go : (Has x (steps_of f rs) → (y : Entry) × Has y rs × (is_call y.kind ≡ true) × IsStepOf f y x) → (K : Kind) → r.kind ≡ K → Has x (step_onto f K r (steps_of f rs)) →
+        (y : Entry) × Has y (r ∷ rs) × (is_call y.kind ≡ true) × IsStepOf f y x
+    go ih Kind.Change e (inl q) = (r, inl refl, ap is_call e, inl (ap is_write e, MapAnswer.Was (said f r.before), q))
+    go ih Kind.Put_back e (inl q) = (r, inl refl, ap is_call e, inl (ap is_write e, MapAnswer.Was (said f r.before), q))
+    go ih Kind.Read e (inl q) = (r, inl refl, ap is_call e, inr (MapAnswer.Value (said f r.after), q))
+    go ih Kind.Change e (inr i) = later (ih i)
+    go ih Kind.Put_back e (inr i) = later (ih i)
+    go ih Kind.Read e (inr i) = later (ih i)
+    go ih Kind.Split e i = later (ih i)
+    go ih Kind.Lift e i = later (ih i)
+    go ih Kind.Join e i = later (ih i)
+    go ih Kind.Drop e i = later (ih i)
+    go ih Kind.Purge e i = later (ih i)
+    go ih Kind.Commit e i = later (ih i)
+    go ih Kind.Abort e i = later (ih i)
 
-    written : (a : MapAnswer) → x ≡ record { session = r.log; call = write_call f r.key r.after; answer = a } → r.key ≡ k
-    written a e = write_uses f r.key r.after k a (sym (ap (λ (y : Step). uses_key y.call y.answer k) e) ∙ u)
-
-    go : (Has x (steps_of f rs) → uses_key x.call x.answer k ≡ true → UsedIn rs k) → (K : Kind) → r.kind ≡ K → Has x (step_onto f K r (steps_of f rs)) → UsedIn (r ∷ rs) k
-    go ih Kind.Change e (inl q) = here Kind.Change e refl (written (MapAnswer.Was (said f r.before)) q)
-    go ih Kind.Put_back e (inl q) = here Kind.Put_back e refl (written (MapAnswer.Was (said f r.before)) q)
-    go ih Kind.Read e (inl q) = here Kind.Read e refl (eqb-true r.key k (sym (ap (λ (y : Step). uses_key y.call y.answer k) q) ∙ u))
-    go ih Kind.Change e (inr i) = later (ih i u)
-    go ih Kind.Put_back e (inr i) = later (ih i u)
-    go ih Kind.Read e (inr i) = later (ih i u)
-    go ih Kind.Split e i = later (ih i u)
-    go ih Kind.Lift e i = later (ih i u)
-    go ih Kind.Join e i = later (ih i u)
-    go ih Kind.Drop e i = later (ih i u)
-    go ih Kind.Purge e i = later (ih i u)
-    go ih Kind.Commit e i = later (ih i u)
-    go ih Kind.Abort e i = later (ih i u)
+pub used_in : (f : Format) (k : ℕ) (rs : List Entry) (x : Step) → Has x (steps_of f rs) → uses_key x.call x.answer k ≡ true → UsedIn rs k
+used_in f k rs x i u =
+    let s = step_has f rs x i in
+    elim s.3 [
+      | inl w ↦ (s.0, s.1, s.2, write_uses f s.0.key s.0.after k w.1 (sym (ap (λ (y : Step). uses_key y.call y.answer k) w.2) ∙ u))
+      | inr q ↦ (s.0, s.1, s.2, eqb-true s.0.key k (sym (ap (λ (y : Step). uses_key y.call y.answer k) q.1) ∙ u))
+    ]
 
 pub wrote_in : (f : Format) (k : ℕ) (rs : List Entry) (x : Step) → Has x (steps_of f rs) → writes_key x.call k ≡ true → WroteIn rs k
-wrote_in f k [] x i u = absurd i
-wrote_in f k (r ∷ rs) x i u = go (wrote_in f k rs x) r.kind refl i
-  where
-    later : WroteIn rs k → WroteIn (r ∷ rs) k
-    later q = (q.0, inr q.1, q.2, q.3)
-
-    here : (K : Kind) → r.kind ≡ K → is_write K ≡ true → r.key ≡ k → WroteIn (r ∷ rs) k
-    here K e c q = (r, inl refl, ap is_write e ∙ c, q)
-
-    written : (a : MapAnswer) → x ≡ record { session = r.log; call = write_call f r.key r.after; answer = a } → r.key ≡ k
-    written a e = write_writes f r.key r.after k (sym (ap (λ (y : Step). writes_key y.call k) e) ∙ u)
-
-    go : (Has x (steps_of f rs) → writes_key x.call k ≡ true → WroteIn rs k) → (K : Kind) → r.kind ≡ K → Has x (step_onto f K r (steps_of f rs)) → WroteIn (r ∷ rs) k
-    go ih Kind.Change e (inl q) = here Kind.Change e refl (written (MapAnswer.Was (said f r.before)) q)
-    go ih Kind.Put_back e (inl q) = here Kind.Put_back e refl (written (MapAnswer.Was (said f r.before)) q)
-    go ih Kind.Read e (inl q) = absurd (true≢false (sym u ∙ ap (λ (y : Step). writes_key y.call k) q))
-    go ih Kind.Change e (inr i) = later (ih i u)
-    go ih Kind.Put_back e (inr i) = later (ih i u)
-    go ih Kind.Read e (inr i) = later (ih i u)
-    go ih Kind.Split e i = later (ih i u)
-    go ih Kind.Lift e i = later (ih i u)
-    go ih Kind.Join e i = later (ih i u)
-    go ih Kind.Drop e i = later (ih i u)
-    go ih Kind.Purge e i = later (ih i u)
-    go ih Kind.Commit e i = later (ih i u)
-    go ih Kind.Abort e i = later (ih i u)
+wrote_in f k rs x i u =
+    let s = step_has f rs x i in
+    elim s.3 [
+      | inl w ↦ (s.0, s.1, w.0, write_writes f s.0.key s.0.after k (sym (ap (λ (y : Step). writes_key y.call k) w.2) ∙ u))
+      | inr q ↦ absurd (true≢false (sym u ∙ ap (λ (y : Step). writes_key y.call k) q.1))
+    ]
 
 -- ## Answers
 

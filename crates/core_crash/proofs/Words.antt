@@ -6,7 +6,8 @@ use Rattle.image_model.specs.Redo.{Redone, redo_one, redo, passes}
 use Rattle.image_model.specs.Undo.{is_lost, undo, values}
 use Rattle.page_model.specs.Nodes.{Format}
 use Rattle.page_model.specs.Tree.{IsTree, entry}
-use Rattle.core_state.specs.States.{Opening, State, start, first, flushed_by_all}
+use Rattle.core_state.specs.States.{State, start, flushed_by_all}
+use Rattle.core_state.specs.Openings.{Opening, first}
 use Rattle.core_state.specs.Events.{Event}
 use Rattle.core_state.specs.Steps.{claims, run}
 use Rattle.core_state.specs.Steps.{HasBeen}

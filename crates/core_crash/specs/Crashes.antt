@@ -2,14 +2,13 @@
 -- transactions, which are closed and hold each one that was ripe.
 use Rattle.std.specs.Prelude.{◌≡◌, ◌≤◌, ◌<◌, ℕ, true, ◌&&◌, not, leb, ◌==◌, List, ◌++◌, Some}
 use Rattle.map_model.specs.Lists.{Has, keep}
-use Rattle.map_model.specs.Maps.{Map}
 use Rattle.map_model.specs.Journals.{Txn, Journal, is_earlier, Used, after, IsClosed, Serial}
-use Rattle.page_model.specs.Tree.{value}
 use Rattle.image_model.specs.Entries.{Entry, Contents, is_record, is_commit, touches}
 use Rattle.image_model.specs.Ends.{kept}
 use Rattle.image_model.specs.Images.{Image, StandsFor, found, won_by, recovered_page, map_of}
 use Rattle.image_model.specs.Histories.{journal}
-use Rattle.core_state.specs.States.{Opening, State, start, flushed_by_all}
+use Rattle.core_state.specs.States.{State, start, flushed_by_all}
+use Rattle.core_state.specs.Openings.{Opening, first_map}
 use Rattle.core_state.specs.Events.{Event}
 use Rattle.core_state.specs.Steps.{claims, run, HasBeen}
 
@@ -41,10 +40,6 @@ abbrev pub image_of : Opening → State → (ℕ → List Entry) → (ℕ → Co
 image_of g s logs page = record { format = g.format; logs = g.workers; floor = s.floor; log = λ w. from_head (s.head w) (logs w); base = λ p. Some (page p) }
 
 -- ## What recovery gives
-
--- the map that opening found
-abbrev pub first_map : Opening → Map
-first_map g k = value g.format g.node k
 
 -- the committed transactions of a state, by their commit numbers
 abbrev pub journal_in : Opening → State → Journal

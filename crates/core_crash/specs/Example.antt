@@ -6,11 +6,11 @@ use Rattle.map_model.specs.Journals.{Txn}
 use Rattle.image_model.specs.Entries.{Entry}
 use Rattle.image_model.specs.Ends.{reach}
 use Rattle.image_model.specs.Images.{Image, found, map_of}
-use Rattle.core_state.specs.States.{Opening, State, start, start_page}
+use Rattle.core_state.specs.States.{State, start}
+use Rattle.core_state.specs.Openings.{Opening, start_page, first_map}
 use Rattle.core_state.specs.Events.{Event, Mode}
-use Rattle.core_state.specs.Needs.{may}
-use Rattle.core_state.specs.Steps.{step, run}
-use Rattle.core_crash.specs.Crashes.{log_of, Leaves, image_of, first_map, kept_in}
+use Rattle.core_state.specs.Steps.{run, AllMet}
+use Rattle.core_crash.specs.Crashes.{log_of, Leaves, image_of, kept_in}
 
 -- the run
 abbrev pub events : List Event
@@ -19,11 +19,6 @@ events =
     ∷ Event.Begin 2 0 ∷ Event.Lock 2 6 Mode.Alone ∷ Event.Change 2 0 6 1 ∷ Event.Put_back 2 0 ∷ Event.End 2 false 0 ∷ Event.Unlock 2 6
     ∷ Event.Begin 2 0 ∷ Event.Lock 2 6 Mode.Alone ∷ Event.Change 2 0 6 2 ∷ Event.End 2 true 0 ∷ Event.Unlock 2 6
     ∷ Event.Flush 2 6 ∷ []
-
--- each event's need is met
-abbrev pub AllMet : Opening → State → List Event → Type 0
-AllMet g s [] = Unit {0}
-AllMet g s (e ∷ es) = (may g s e ≡ true) × AllMet g (step g s e) es
 
 -- a crash leaves log 2 whole, and log 1 empty or whole
 abbrev pub logs_left : State → Bool → ℕ → List Entry

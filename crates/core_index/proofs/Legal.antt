@@ -12,7 +12,8 @@ use Rattle.page_model.proofs.Entries.{holds_to, holds_from, entry_at, entry_beyo
 use Rattle.page_model.proofs.Tree.{below_top}
 use Rattle.image_model.specs.Entries.{Kind, Entry, Contents, is_write}
 use Rattle.image_model.specs.Histories.{said}
-use Rattle.core_state.specs.States.{Opening, State, start, nodes_of, gsns_of, flushed_by_all}
+use Rattle.core_state.specs.States.{State, start, nodes_of, gsns_of, flushed_by_all}
+use Rattle.core_state.specs.Openings.{Opening}
 use Rattle.core_state.specs.Events.{Event}
 use Rattle.core_state.specs.Needs.{is_value, is_following, following, holds_answer, is_leaf_of, is_held_by, holds_row, value_in, may_put, may_put_back, may_read, pages_of, are_hot, may, needs}
 use Rattle.core_state.specs.Steps.{at_pages, page_entry, write_entry, read_entry, moves, put_back, follows, happens, step, run}

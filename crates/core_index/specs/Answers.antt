@@ -4,7 +4,8 @@ use Rattle.map_model.specs.Histories.{Step, last_write, over, IsLegal}
 use Rattle.page_model.specs.Tree.{IsTree, value}
 use Rattle.image_model.specs.Entries.{Entry}
 use Rattle.image_model.specs.Histories.{write_call}
-use Rattle.core_state.specs.States.{Opening, State, start, nodes_of}
+use Rattle.core_state.specs.States.{State, start, nodes_of}
+use Rattle.core_state.specs.Openings.{Opening}
 use Rattle.core_state.specs.Events.{Event}
 use Rattle.core_state.specs.Needs.{value_in, may}
 use Rattle.core_state.specs.Steps.{step, run}

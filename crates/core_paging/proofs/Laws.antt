@@ -1,13 +1,13 @@
 -- Every run keeps all of it.
-use Rattle.page_model.specs.Tree.{IsTree}
 use Rattle.page_model.specs.Check.{names_page}
 use Rattle.page_model.proofs.Tree.{ok}
-use Rattle.core_state.specs.States.{Opening, Place, State, start, nodes_of, is_hot, in_frame, waits_for}
+use Rattle.core_state.specs.States.{Place, State, start, nodes_of, is_hot, in_frame, waits_for}
+use Rattle.core_state.specs.Openings.{Opening}
 use Rattle.core_state.specs.States.Place.{Hot, Cold}
 use Rattle.core_state.specs.Events.{Event}
 use Rattle.core_state.specs.Needs.{are_hot, pages_of, is_worker, is_inside, may, needs}
 use Rattle.core_state.specs.Steps.{happens, step, run}
-use Rattle.core_commit.proofs.Lists.{upd_same}
+use Rattle.map_model.proofs.ListLemmas.{upd_same}
 use Rattle.core_commit.proofs.Events.{tree_now}
 use Rattle.core_commit.proofs.Controls.{worker_to}
 use Rattle.core_commit.proofs.Copies.{at_place}
@@ -17,7 +17,7 @@ use Rattle.core_paging.proofs.Epochs.{Inside, inside_run, Kept, kept_run, Waits,
 use Rattle.core_paging.proofs.ResidenceKept.{PlacedIn, placed_event, placed_start}
 use Rattle.core_paging.proofs.Saves.{Saves, saves_event, saves_start, saved_run, now_been}
 use Rattle.std.proofs.Common.{◌≡◌, ◌<◌, ◌≤◌, ◌+◌, ℕ, zero, suc, Bool, true, false, cond, ◌&&◌, not, leb, ltb, ◌==◌, List, [], ◌∷◌, ◌⊎◌, Some, refl, sym, ap, ◌∙◌, inl, inr, arith, true≢false}
-use Rattle.std.proofs.lemmas.Bool.{cases_eq, cases_Bool, eq-eqb, and_parts, and_from, or_from, leb-true}
+use Rattle.std.proofs.lemmas.Bool.{cases_eq, cases_Bool, eq-eqb, and_parts, and_from}
 
 pub record Whole (g : Opening) (s : State) : Type 0 where
   pub good : Good g s
@@ -115,7 +115,7 @@ names_child : (g : Opening) (node : ℕ → Rattle.page_model.specs.Nodes.Node) 
 names_child g node q p z n e =
     and_from ((node q).live && ltb 0 (node q).level) (Rattle.page_model.specs.Records.any (λ s. s.child == p) (Rattle.page_model.specs.Pairs.spans (node q).pairs (node q).high))
     (and_from (node q).live (ltb 0 (node q).level) n.live (Rattle.std.proofs.lemmas.Bool.lt-ltb 0 (node q).level n.inner))
-    (Rattle.core_commit.proofs.Lists.has_any (λ s. s.child == p) (Rattle.page_model.specs.Pairs.spans (node q).pairs (node q).high) z n.has (eq-eqb z.child p e))
+    (Rattle.map_model.proofs.ListLemmas.has_any (λ s. s.child == p) (Rattle.page_model.specs.Pairs.spans (node q).pairs (node q).high) z n.has (eq-eqb z.child p e))
 
 -- a hot node is linked to the root, at most d levels above it
 climb : (g : Opening) (s : State) → Whole g s → (d p : ℕ) → p < g.format.pages → g.format.levels ≤ (nodes_of s p).level + d → (nodes_of s p).live ≡ true → is_hot (s.place p) ≡ true → (chain : List ℕ) × Linked s p chain

@@ -5,12 +5,14 @@ use Rattle.image_model.specs.Entries.{Kind, Entry, Contents, touches}
 use Rattle.page_model.specs.Records.{Record}
 use Rattle.page_model.specs.Needs as record_needs
 use Rattle.core_state.specs.Lists.{most}
-use Rattle.core_state.specs.States.{Opening, State, start, flushed_by_all, nodes_of, gsns_of, is_cold}
+use Rattle.core_state.specs.States.{State, start, flushed_by_all, nodes_of, gsns_of, is_cold}
+use Rattle.core_state.specs.Openings.{Opening}
 use Rattle.core_state.specs.Events.{Event}
 use Rattle.core_state.specs.Needs.{is_held_by, is_settled, may_put, may_put_back, may_split, may_lift, may_join, may_drop, may_purge, is_behind, is_ripe_up_to, is_saved_up_to, needs}
 use Rattle.core_state.specs.Steps.{at_pages, page_entry, write_entry, moves, put_back, follows, happens, step, run, HasBeen}
 use Rattle.page_model.specs.Redo.{all_keys}
-use Rattle.core_commit.proofs.Lists.{le_least, least_le, upd_same, upd_other}
+use Rattle.core_commit.proofs.Lists.{le_least, least_le}
+use Rattle.map_model.proofs.ListLemmas.{upd_same, upd_other}
 use Rattle.core_commit.proofs.History.{number_le_gsn, touch_ref}
 use Rattle.core_commit.proofs.Invariants.{Inv, stamp_flushed}
 use Rattle.core_commit.proofs.Events.{touched_all}

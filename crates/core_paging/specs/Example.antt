@@ -1,10 +1,10 @@
 -- A run by hand that meets each kind of need on pages and frames: a leaf of two entries is lifted, split, saved, cooled,
 -- evicted and loaded again; then the leaves are joined and the root is dropped; a tombstone is purged, and the log is cut.
 use Rattle.map_model.specs.Maps.{MapAnswer}
-use Rattle.core_state.specs.States.{Opening, State, start, nodes_of, is_cold}
+use Rattle.core_state.specs.States.{start, nodes_of, is_cold}
+use Rattle.core_state.specs.Openings.{Opening}
 use Rattle.core_state.specs.Events.{Event, Mode}
-use Rattle.core_state.specs.Needs.{may}
-use Rattle.core_state.specs.Steps.{step, run}
+use Rattle.core_state.specs.Steps.{run, AllMet}
 use Rattle.std.specs.Prelude.{◌≡◌, ◌^◌, true, List, [], ◌∷◌, Some}
 
 -- the first two entries, and room for them
@@ -27,11 +27,6 @@ shrunk =
     ∷ Event.Begin 1 5 ∷ Event.Lock 1 1 Mode.Alone ∷ Event.Change 1 1 1 (2 ^ 63) ∷ Event.End 1 true 5 ∷ Event.Unlock 1 1 ∷ Event.Flush 1 7 ∷ Event.Sync 7
     ∷ Event.Begin 2 7 ∷ Event.Purge 2 1 (1 ∷ []) ∷ Event.Join 2 1 2 0 ∷ Event.Drop 2 1 ∷ Event.End 2 true 7 ∷ Event.Flush 2 11 ∷ Event.Sync 11
     ∷ Event.Save 0 ∷ Event.Save 1 ∷ Event.Save 2 ∷ Event.Cut 11 (λ _. 11) ∷ []
-
--- each event's need is met
-abbrev pub AllMet : Opening → State → List Event → Type 0
-AllMet g s [] = Unit {0}
-AllMet g s (e ∷ es) = (may g s e ≡ true) × AllMet g (step g s e) es
 
 -- An opening with two workers, four frames and four pages of two entries; and what stands after each part.
 pub record WorkedExample : Type 0 where

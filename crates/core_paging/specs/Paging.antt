@@ -4,7 +4,8 @@ use Rattle.map_model.specs.Lists.{Has, any}
 use Rattle.image_model.specs.Entries.{Entry, touches}
 use Rattle.page_model.specs.Check.{names_page}
 use Rattle.core_state.specs.Lists.{times}
-use Rattle.core_state.specs.States.{Opening, Place, State, start, flushed_by_all, nodes_of, is_hot, is_cooling, is_cold, in_frame, epoch_of, waits_for}
+use Rattle.core_state.specs.States.{Place, State, start, flushed_by_all, nodes_of, is_hot, is_cooling, is_cold, in_frame, epoch_of, waits_for}
+use Rattle.core_state.specs.Openings.{Opening}
 use Rattle.core_state.specs.Events.{Event}
 use Rattle.core_state.specs.Needs.{may}
 use Rattle.core_state.specs.Steps.{step, run, HasBeen}

@@ -1,5 +1,6 @@
--- Read States, Events, Needs and Steps in this order, then Local; Lists has words that they use.
+-- Read Openings, States, Events, Needs and Steps in this order, then Local; Lists has words that they use.
 pub mod Lists
+pub mod Openings
 pub mod States
 pub mod Events
 pub mod Needs

@@ -1,6 +1,7 @@
 -- What an event may change: the rows that it publishes, and what is its worker's own.
 use Rattle.map_model.specs.Lists.{any}
-use Rattle.core_state.specs.States.{Opening, State, is_hot, is_cooling, frame_of}
+use Rattle.core_state.specs.States.{State, is_hot, is_cooling, frame_of}
+use Rattle.core_state.specs.Openings.{Opening}
 use Rattle.core_state.specs.Events.{Event}
 use Rattle.core_state.specs.Steps.{happens}
 use Rattle.std.specs.Prelude.{◌≡◌, ◌==◌, ℕ, Bool, true, false, List, [], ◌∷◌}

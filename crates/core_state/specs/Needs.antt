@@ -8,7 +8,8 @@ use Rattle.page_model.specs.Tree.{value_of}
 use Rattle.page_model.specs.Redo.{has_key, all_keys}
 use Rattle.page_model.specs.Check.{is_nil, names_page}
 use Rattle.core_state.specs.Lists.{is_empty, most, all_below, count_below}
-use Rattle.core_state.specs.States.{Opening, Row, State, flushed_by_all, nodes_of, is_hot, is_cooling, is_cold, in_frame, waits_for}
+use Rattle.core_state.specs.States.{Row, State, flushed_by_all, nodes_of, is_hot, is_cooling, is_cold, in_frame, waits_for}
+use Rattle.core_state.specs.Openings.{Opening}
 use Rattle.core_state.specs.Events.{Event, Mode}
 use Rattle.std.specs.Prelude.{◌+◌, ℕ, suc, Bool, true, false, ◌&&◌, ◌||◌, not, ltb, leb, ◌==◌, List, [], ◌∷◌, Option, Some, None, length, if◌then◌else◌}
 

@@ -1,37 +1,10 @@
 -- The state of the whole engine, apart from its bytes: pages, frames, locks, workers, logs and epochs.
 use Rattle.map_model.specs.Lists.{upd}
-use Rattle.map_model.specs.Maps.{key_end, value_end}
 use Rattle.rfa_model.specs.Reaches.{least}
 use Rattle.image_model.specs.Entries.{Entry, Contents}
-use Rattle.page_model.specs.Nodes.{Format, Node}
-use Rattle.page_model.specs.Tree.{IsTree, lookup}
-use Rattle.std.specs.Prelude.{◌<◌, ◌≤◌, ℕ, Bool, true, false, ◌==◌, List, [], Option, None}
-
--- What opening gives. Workers and their logs are 1 to `workers`; log 0 is none. Keys share lock rows. Clocks, floors
--- and flushed numbers begin at the base number; each page has a number up to it, and the contents form a tree.
--- A transaction makes at most `changes` changes; two pages are joined that have at most `joined` pairs together.
-pub record Opening : Type 0 where
-  pub workers : ℕ
-  pub frames : ℕ
-  pub row_of : ℕ → ℕ
-  pub changes : ℕ
-  pub joined : ℕ
-  pub base : ℕ
-  pub format : Format
-  pub gsn : ℕ → ℕ
-  pub last : ℕ → ℕ
-  pub node : ℕ → Node
-  pub some_worker : 0 < workers
-  pub some_frame : 0 < frames
-  pub fit : joined ≤ format.room
-  pub keys : format.top ≤ key_end
-  pub values : format.dead ≤ value_end
-  pub low : (p : ℕ) → gsn p ≤ base
-  pub tree : IsTree format node
-
--- the map at the start: each key's word, an absent one's a tombstone's
-abbrev pub first : Opening → ℕ → ℕ
-first g k = lookup g.format g.node k
+use Rattle.page_model.specs.Nodes.{Node}
+use Rattle.core_state.specs.Openings.{Opening, start_page}
+use Rattle.std.specs.Prelude.{ℕ, Bool, true, false, ◌==◌, List, [], Option, None}
 
 -- Hot: its parent names its frame. Cooling: in a frame, but its parent names the page; with the global epoch of its
 -- Cool, and which of the workers that were inside then have not left since. Cold: in no frame.
@@ -76,10 +49,6 @@ pub record State : Type 0 where
   pub posted : ℕ
   pub inside : ℕ → Option ℕ
   pub epoch : ℕ
-
--- a page as opening gives it
-abbrev pub start_page : Opening → ℕ → Contents
-start_page g p = record { gsn = g.gsn p; last = g.last p; node = g.node p }
 
 -- nothing is open, locked, owed or logged; page 0 alone is hot, in frame 0
 abbrev pub start : Opening → State

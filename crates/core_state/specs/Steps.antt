@@ -1,13 +1,13 @@
 -- What each event makes of the state.
-use Rattle.page_model.specs.Records as records
 use Rattle.page_model.specs.Needs as page_needs
 use Rattle.map_model.specs.Lists.{upd, keep}
 use Rattle.map_model.specs.Maps.{MapAnswer}
 use Rattle.image_model.specs.Entries.{Kind, Entry, is_write, is_call, page_kind, touches, word_in, Contents, written}
-use Rattle.page_model.specs.Records.{Ref, Record}
+use Rattle.page_model.specs.Records.{Ref, Record, no_record, write_record}
 use Rattle.rfa_model.specs.Stamps.{owed, debt_at_begin, need_of}
 use Rattle.core_state.specs.Lists.{without, at_end}
-use Rattle.core_state.specs.States.{Opening, Place, Row, Worker, State, flushed_by_all, nodes_of, gsns_of, frame_of, left_by}
+use Rattle.core_state.specs.States.{Place, Row, Worker, State, flushed_by_all, nodes_of, gsns_of, frame_of, left_by}
+use Rattle.core_state.specs.Openings.{Opening}
 use Rattle.core_state.specs.Events.{Event, Mode}
 use Rattle.core_state.specs.Needs.{is_held_by, is_reader, is_inside, may}
 use Rattle.std.specs.Prelude.{◌≡◌, ◌⊎◌, ℕ, suc, min, max, true, false, not, ◌==◌, List, [], ◌∷◌, Some, None, if◌then◌else◌, Bool, ◌&&◌, ◌||◌}
@@ -52,10 +52,6 @@ unlocked o w end =
 
 -- ## Entries
 
--- what stands in an entry that changes no page
-abbrev pub no_record : Record
-no_record = record { kind = records.Kind.Purge; left = page_needs.nowhere; right = page_needs.nowhere; parent = page_needs.nowhere; key = 0; before = 0; after = 0; sep = 0; high = 0; level = 0; pairs = []; keys = [] }
-
 -- of a read, the need is 1 where its row is held alone
 abbrev pub read_entry : ℕ → Worker → ℕ → ℕ → Bool → Entry
 read_entry w a k v alone = record { kind = Kind.Read; log = w; txn = a.txn; number = a.clock; key = k; before = 0; after = v; need = if alone then 1 else 0; refs = []; record_of = no_record }
@@ -75,7 +71,7 @@ refs_of s (p ∷ ps) = record { page = p; prev = (s.page p).gsn } ∷ refs_of s 
 
 -- a write of key k in page p takes the next number, and says the word before and after
 abbrev pub write_entry : Opening → Kind → State → ℕ → Worker → ℕ → ℕ → ℕ → Entry
-write_entry g kind s w a p k v = record { kind = kind; log = w; txn = a.txn; number = suc a.clock; key = k; before = word_in g.format (s.page p).node k; after = v; need = 0; refs = refs_of s (p ∷ []); record_of = page_needs.write_record (page_kind kind) g.format (nodes_of s) (gsns_of s) p k v }
+write_entry g kind s w a p k v = record { kind = kind; log = w; txn = a.txn; number = suc a.clock; key = k; before = word_in g.format (s.page p).node k; after = v; need = 0; refs = refs_of s (p ∷ []); record_of = write_record (page_kind kind) g.format (nodes_of s) (gsns_of s) p k v }
 
 -- a record of these pages that changes no value
 abbrev pub page_entry : Kind → State → ℕ → Worker → List ℕ → Record → Entry
@@ -183,6 +179,11 @@ step g s e = if may g s e then happens g s e else s
 abbrev pub run : Opening → State → List Event → State
 run g s [] = s
 run g s (e ∷ es) = run g (step g s e) es
+
+-- the need of each event is met
+abbrev pub AllMet : Opening → State → List Event → Type 0
+AllMet g s [] = Unit {0}
+AllMet g s (e ∷ es) = (may g s e ≡ true) × AllMet g (step g s e) es
 
 -- at some moment of the run the page was this
 abbrev pub HasBeen : Opening → State → List Event → ℕ → Contents → Type 0

@@ -14,7 +14,8 @@ use Rattle.disk_slots.proofs.PageLemmas.{page-words}
 use Rattle.disk_image.specs.Words.{words_in, are_words}
 use Rattle.disk_image.specs.PageSlots.{fits, is_word, is_storable, is_page, page_if}
 use Rattle.disk_image.specs.Laws.{EveryPageIn}
-use Rattle.disk_image.proofs.TestLemmas.{if_some, all_to, all_of, nil_to, rising_to, rising_from}
+use Rattle.disk_image.proofs.TestLemmas.{if_some, nil_to, rising_to, rising_from}
+use Rattle.map_model.proofs.ListLemmas.{all_to, all_of}
 use Rattle.disk_image.proofs.WordLemmas.{are_words_to, are_words_from, words_in-slot}
 
 -- ## What 126 words can say

@@ -1,7 +1,7 @@
 -- Tests, and options that hang on them.
-use Rattle.std.proofs.Common.{◌≡◌, ◌<◌, ℕ, zero, suc, Bool, true, false, cond, ◌&&◌, List, [], ◌∷◌, Option, Some, None, refl, ap, ◌∙◌, inl, inr, arith, true≢false, length, get_or, leb, sym}
+use Rattle.std.proofs.Common.{◌≡◌, ◌<◌, ℕ, zero, suc, Bool, true, false, cond, List, [], ◌∷◌, Option, Some, None, refl, ap, arith, true≢false, length, get_or, leb, sym}
 use Rattle.std.proofs.lemmas.Bool.{and_parts, and_from, le-leb, leb-true}
-use Rattle.map_model.specs.Lists.{Has, all}
+use Rattle.map_model.specs.Lists.{all}
 use Rattle.page_model.specs.Pairs.{Pair, Rising}
 use Rattle.page_model.specs.Check.{is_nil, is_rising}
 
@@ -27,15 +27,6 @@ if_some b x y e = let q = if_option b (Some x) y e in (q.0, some_is x y q.1)
 
 -- ## Lists
 
-pub all_to : {A : Type 0} (p : A → Bool) (xs : List A) → all p xs ≡ true → (x : A) → Has x xs → p x ≡ true
-all_to p [] h x m = absurd m
-all_to p (y ∷ ys) h x (inl e) = ap p e ∙ (and_parts (p y) (all p ys) h).0
-all_to p (y ∷ ys) h x (inr m) = all_to p ys (and_parts (p y) (all p ys) h).1 x m
-
-pub all_of : {A : Type 0} (p : A → Bool) (xs : List A) → ((x : A) → Has x xs → p x ≡ true) → all p xs ≡ true
-all_of p [] h = refl
-all_of p (y ∷ ys) h = and_from (p y) (all p ys) (h y (inl refl)) (all_of p ys (λ x m. h x (inr m)))
-
 -- by places
 pub all_at : (p : ℕ → Bool) (xs : List ℕ) → all p xs ≡ true → (k : ℕ) → k < length xs → p (get_or xs k 0) ≡ true
 all_at p [] h k l = absurd (omega arith)
@@ -45,11 +36,6 @@ all_at p (x ∷ xs) h (suc k) l = all_at p xs (and_parts (p x) (all p xs) h).1 k
 pub all_from_at : (p : ℕ → Bool) (xs : List ℕ) → ((k : ℕ) → k < length xs → p (get_or xs k 0) ≡ true) → all p xs ≡ true
 all_from_at p [] h = refl
 all_from_at p (x ∷ xs) h = and_from (p x) (all p xs) (h 0 (omega arith)) (all_from_at p xs (λ k l. h (suc k) (omega arith)))
-
--- two tests that agree on the elements
-pub all_same : {A : Type 0} (p q : A → Bool) (xs : List A) → ((x : A) → Has x xs → p x ≡ q x) → all p xs ≡ all q xs
-all_same p q [] h = refl
-all_same p q (x ∷ xs) h = ap (λ b. b && all p xs) (h x (inl refl)) ∙ ap (λ b. q x && b) (all_same p q xs (λ y m. h y (inr m)))
 
 pub nil_to : {A : Type 0} (xs : List A) → is_nil xs ≡ true → xs ≡ []
 nil_to [] h = refl

@@ -1,5 +1,5 @@
 -- Which place of a disk breaks a rule.
-use Rattle.std.specs.Prelude.{◌≡◌, ◌⊎◌, ◌<◌, ◌≤◌, ◌%◌, ℕ, suc, false, true, List, ◌∷◌, ◌++◌, length, None}
+use Rattle.std.specs.Prelude.{◌≡◌, ◌⊎◌, ◌<◌, ◌≤◌, ◌%◌, ℕ, suc, false, true, List, ◌∷◌, ◌++◌, length, None, Some}
 use Rattle.map_model.specs.Lists.{Has}
 use Rattle.page_model.specs.Check.{page_ok}
 use Rattle.image_model.specs.Entries.{Entry}
@@ -8,6 +8,7 @@ use Rattle.image_model.specs.Images.{bases, sorted, redone, lost, has_entry}
 use Rattle.image_model.specs.Undo.{nodes_of}
 use Rattle.image_model.specs.Slots.{base_of}
 use Rattle.disk_slots.specs.declared.master.Master.{Master}
+use Rattle.disk_image.specs.MasterSlots.{master_on}
 use Rattle.disk_image.specs.Blocks.{block_in}
 use Rattle.disk_image.specs.Runs.{Block, Logged, entries_in}
 use Rattle.disk_image.specs.Shown.{Areas, run_of, logged_in, shown_by, image_by}
@@ -71,3 +72,9 @@ BreaksLog m area w place = IsNoBlock m area w place ⊎ (IsUnordered m area w pl
 -- the place of the area breaks a rule
 abbrev pub Breaks : Master → Areas → (a place : ℕ) → Type 0
 Breaks m area a place = ((a ≡ 1) × (HasNoBase m area place ⊎ BreaksTree m area place)) ⊎ ((w : ℕ) × (a ≡ suc w) × BreaksLog m area w place)
+
+-- a place of the area of a disk that has a master breaks a rule
+pub record IsDamaged (area : Areas) (a place : ℕ) : Type 0 where
+  pub m : Master
+  pub master : master_on (area 0) ≡ Some m
+  pub breaks : Breaks m area a place

@@ -2,7 +2,7 @@
 use Rattle.std.specs.Prelude.{ℕ, List, [], ◌∷◌, Option, Some, None}
 use Rattle.page_model.specs.Records as records
 use Rattle.image_model.specs.Entries.{Kind, Entry}
-use Rattle.log_record.specs.Model.{model_of, model_ref, root_ref, no_ref}
+use Rattle.log_record.specs.Model.{model_of, model_ref, root_ref}
 use Rattle.log_record.specs.declared.record.Record.{Record}
 use Rattle.log_record.specs.declared.record.Body.{Body}
 use Rattle.log_record.specs.declared.record.Body.TheVariants as body
@@ -52,13 +52,10 @@ need_of (body.Commit need) = need
 need_of (body.Abort need) = need
 need_of _ = 0
 
--- what an end makes of pages: nothing
-abbrev pub no_record : records.Record
-no_record = record { kind = records.Kind.Purge; left = no_ref; right = no_ref; parent = no_ref; key = 0; before = 0; after = 0; sep = 0; high = 0; level = 0; pairs = []; keys = [] }
-
+-- an end makes nothing of pages
 abbrev pub record_or : Option records.Record → records.Record
 record_or (Some r) = r
-record_or None = no_record
+record_or None = records.no_record
 
 -- a record of a log
 abbrev pub entry_of : ℕ → Record → Entry

@@ -1,9 +1,9 @@
 -- The run with which a log begins, and its records.
-use Rattle.std.specs.Prelude.{◌≡◌, ◌%◌, ℕ, zero, suc, List, [], ◌∷◌, map, Option, Some, None, if◌then◌else◌}
+use Rattle.std.specs.Prelude.{◌≡◌, ◌<◌, ◌%◌, ℕ, zero, suc, List, [], ◌∷◌, map, Option, Some, None, if◌then◌else◌}
 use Rattle.image_model.specs.Fair.{piece}
 use Rattle.image_model.specs.Entries.{Entry}
 use Rattle.log_record.specs.declared.record.Record.{Record}
-use Rattle.log_block.specs.Block.{generation_of}
+use Rattle.log_block.specs.Block.{IsSealed, generation_of}
 use Rattle.disk_image.specs.Records.{entry_of}
 use Rattle.disk_image.specs.Blocks.{is_sealed, belongs, block_in}
 
@@ -53,3 +53,7 @@ AreReadable generation log (b ∷ bs) = ((records : List Record) × (block_in ge
 abbrev pub sealed_in : ℕ → List ℕ → List ℕ
 sealed_in zero area = []
 sealed_in (suc n) area = if is_sealed (piece 2048 n area) then generation_of (piece 2048 n area) ∷ sealed_in n area else sealed_in n area
+
+-- no block of the generation stands at a place of a ring of n blocks with these bytes
+abbrev pub HasNone : (generation n : ℕ) → List ℕ → Type 0
+HasNone generation n bytes = (p : ℕ) → p < n → IsSealed (piece 2048 p bytes) → generation_of (piece 2048 p bytes) ≡ generation → ⊥

@@ -1,5 +1,5 @@
 // An engine over one area of a disk in memory. The expected answers were written down by hand.
-ghost use Rattle.worker_log.specs.Logs.{IsInRange};
+ghost use Rattle.worker_log.specs.Kept.{IsInRange};
 
 use btree_node::Node;
 use lean_disk::{AreaOf, Disk, MemDisk, Part};

@@ -8,8 +8,10 @@ use Rattle.page_model.proofs.Check.{none_bad, bad_none, every_check}
 use Rattle.image_model.specs.Entries.{Entry, Contents}
 use Rattle.image_model.specs.Redo.{redo, passes, all_pass}
 use Rattle.image_model.specs.Undo.{nodes_of}
-use Rattle.image_model.specs.Images.{Image, sorted, bases, redone, lost, has_base, has_entry, IsFalling, IsSound, Damage, page_damage, or_first, first_failing, first_in_logs, first_without, damage}
+use Rattle.image_model.specs.Images.{Image, sorted, bases, redone, lost, has_base, has_entry, IsFalling, IsSound}
+use Rattle.image_model.specs.Damage.{Damage, page_damage, or_first, first_failing, first_in_logs, first_without, damage}
 use Rattle.image_model.specs.Laws.{EveryDamage}
+use Rattle.map_model.proofs.ListLemmas.{all_to, all_of}
 
 some_not : (d : Damage) → Some d ≡ None → ⊥
 some_not d e = cc
@@ -51,15 +53,6 @@ failing_from : (test : Entry → List Entry → Bool) (kind : ℕ → ℕ → Da
 failing_from test kind [] a = refl
 failing_from test kind (r ∷ z) a =
     none_both (first_failing test kind z) (cond (test r z) None (Some (kind r.log r.number))) (failing_from test kind z a.0) (none_if (test r z) (kind r.log r.number) a.1)
-
-all_to : (p : Entry → Bool) (z : List Entry) → all p z ≡ true → (x : Entry) → Has x z → p x ≡ true
-all_to p [] e x h = absurd h
-all_to p (y ∷ ys) e x (inl q) = ap p q ∙ (and_parts (p y) (all p ys) e).0
-all_to p (y ∷ ys) e x (inr h) = all_to p ys (and_parts (p y) (all p ys) e).1 x h
-
-all_of : (p : Entry → Bool) (z : List Entry) → ((x : Entry) → Has x z → p x ≡ true) → all p z ≡ true
-all_of p [] f = refl
-all_of p (y ∷ ys) f = and_from (p y) (all p ys) (f y (inl refl)) (all_of p ys (λ x h. f x (inr h)))
 
 abbrev is_above : Entry → List Entry → Bool
 is_above r z = all (λ x. ltb x.number r.number) z

@@ -3,7 +3,8 @@ use Rattle.std.specs.Prelude.{◌≡◌, ◌<◌, ◌≤◌, ℕ, true, None}
 use Rattle.map_model.specs.Lists.{Has}
 use Rattle.page_model.specs.Tree.{IsTree, value}
 use Rattle.image_model.specs.Entries.{Entry}
-use Rattle.image_model.specs.Images.{Image, sorted, lost, recovered_page, map_of, IsSound, damage}
+use Rattle.image_model.specs.Images.{Image, sorted, lost, recovered_page, map_of, IsSound}
+use Rattle.image_model.specs.Damage.{damage}
 
 -- There is a damage exactly where a rule is broken.
 pub record DamageLaws (i : Image) : Type 0 where

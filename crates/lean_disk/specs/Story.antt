@@ -26,6 +26,10 @@ pub record Story : Type 1 where
 abbrev pub Tells : Story → ℕ → Type 0
 Tells s a = IsTrue (s.tells a)
 
+-- the bytes that its areas hold
+abbrev pub areas_of : Story → ℕ → List ℕ
+areas_of s a = (s.area a).bytes
+
 -- there may be this crash now
 pub record LeavesNow (s : Story) (c : Crash) : Type 0 where
   pub counts : IsTrue s.counts

@@ -6,8 +6,9 @@ use Rattle.log_record.specs.declared.record.Record.{Record}
 use Rattle.log_block.specs.Block.{records_text}
 use Rattle.disk_image.specs.Records.{entry_of}
 use Rattle.session_model.specs.Sessions.{Session}
-use Rattle.worker_log.specs.Logs.{Log, Account, used}
-use Rattle.worker_log.specs.Kept.{After}
+use Rattle.worker_log.specs.Logs.{Log, used}
+use Rattle.worker_log.specs.Accounts.{Account}
+use Rattle.worker_log.specs.Calls.{After}
 use Rattle.worker_log.proofs.AccountLemmas.{every_staged}
 use Rattle.lean_engine.specs.States.{Logs}
 

@@ -5,7 +5,8 @@ use Rattle.std.proofs.lemmas.List.{get_or-set_other, get_or-set_same}
 use Rattle.std.proofs.lemmas.Option.{slice_get-get_or, slice_get_past, slice_get_within}
 use Rattle.std.proofs.Math.ListN.{length-set}
 use mathlib.Core.Path.{fun_ext}
-use Rattle.page_model.specs.Needs.{EveryNeed, NeedsChange, write_record}
+use Rattle.page_model.specs.Needs.{EveryNeed, NeedsChange}
+use Rattle.page_model.specs.Records.{write_record}
 use Rattle.page_model.specs.Laws.{EveryRecord}
 use Rattle.page_model.specs.Nodes.{Format, Node, NodeOk, covers, holds, is_leaf}
 use Rattle.page_model.specs.Page.{Page}

@@ -12,8 +12,10 @@ use Rattle.log_block.specs.Block.{IsSealed}
 use Rattle.disk_image.specs.Runs.{run_in}
 use Rattle.disk_image.specs.Records.{entry_of}
 use Rattle.session_model.specs.Sessions.{Session, committed}
-use Rattle.worker_log.specs.Logs.{Account, IsInRange, Log, all_blocks, joined, records_of, spelled_from}
-use Rattle.worker_log.specs.Kept.{After, HoldsFirst, IsKept, LeavesBlocks, StagesTo, run_of, IsOfGeneration}
+use Rattle.worker_log.specs.Accounts.{Account, all_blocks, joined, records_of, spelled_from}
+use Rattle.worker_log.specs.Kept.{IsInRange, HoldsFirst, IsKept, LeavesBlocks, StagesTo, run_of, IsOfGeneration}
+use Rattle.worker_log.specs.Logs.{Log}
+use Rattle.worker_log.specs.Calls.{After}
 use Rattle.worker_log.specs.Laws.{EveryPrefix, EveryKept, ReadsPrefix, StagesOnce, entries_onto}
 use Rattle.worker_log.proofs.CallLemmas.{crash_back}
 use Rattle.lean_engine.specs.States.{Logs}

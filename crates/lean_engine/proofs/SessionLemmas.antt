@@ -12,7 +12,7 @@ use Rattle.page_model.specs.Pairs.{find}
 use Rattle.page_model.specs.Records as records
 use Rattle.page_model.specs.Tree.{word_or}
 use Rattle.image_model.specs.Entries.{Kind, Entry, Contents, written}
-use Rattle.core_state.specs.States.{Opening}
+use Rattle.core_state.specs.Openings.{Opening}
 use Rattle.lean_disk.specs.Area.{Area}
 use Rattle.lean_disk.specs.Moments.{CrashIn, LeavesOnly}
 use Rattle.lean_disk.specs.Story.{IsLawful, Story, Tells}
@@ -23,8 +23,9 @@ use Rattle.node_tree.specs.Nodes.{node_or, nodes_of}
 use Rattle.session_model.specs.Sessions as session
 use Rattle.session_model.specs.Sessions.{Session}
 use Rattle.session_model.specs.Calls.{Does, IsLeafOf}
-use Rattle.worker_log.specs.Logs.{Account, IsInRange, Log}
-use Rattle.worker_log.specs.Kept.{IsKept, StagesTo, flushed}
+use Rattle.worker_log.specs.Logs.{Log}
+use Rattle.worker_log.specs.Kept.{IsInRange, IsKept, StagesTo, flushed}
+use Rattle.worker_log.specs.Accounts.{Account}
 use Rattle.worker_log.specs.Laws.{StagesOnce, entries_onto}
 use Rattle.worker_log.proofs.AccountLemmas.{every_flushed, every_staged}
 use Rattle.lean_engine.specs.States.{IsEngine, Logs, Pictures, State, gsn_or, last_or, page_of}

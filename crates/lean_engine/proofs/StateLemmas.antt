@@ -13,8 +13,9 @@ use Rattle.page_model.specs.Needs.{EveryNeed}
 use Rattle.page_model.specs.Page.{Page}
 use Rattle.page_model.specs.Tree.{IsTree}
 use Rattle.disk_image.specs.Formats.{format_of}
-use Rattle.worker_log.specs.Kept.{After}
-use Rattle.worker_log.specs.Logs.{IsInRange, Log}
+use Rattle.worker_log.specs.Kept.{IsInRange}
+use Rattle.worker_log.specs.Calls.{After}
+use Rattle.worker_log.specs.Logs.{Log}
 use Rattle.lean_engine.specs.States.{IsEngine, State, gsn_or}
 use Rattle.node_tree.specs.Nodes.{nodes_of}
 use Rattle.lean_engine.specs.Inside.{MayPut, Puts, changed}

@@ -5,13 +5,14 @@ use Rattle.map_model.specs.declared.call.Answer.{Answer}
 use Rattle.map_model.specs.Lists.{Has}
 use Rattle.image_model.specs.Entries.{Entry}
 use Rattle.image_model.specs.Fair.{IsFair}
-use Rattle.core_state.specs.States.{Opening}
+use Rattle.core_state.specs.Openings.{Opening}
 use Rattle.lean_disk.specs.Area.{Write}
 use Rattle.log_record.specs.declared.record.Record.{Record}
 use Rattle.log_block.specs.Block.{IsSealed}
 use Rattle.session_model.specs.Sessions.{Session}
 use Rattle.session_model.specs.Calls.{Does}
-use Rattle.worker_log.specs.Logs.{Log, Account, spelled_from, joined}
+use Rattle.worker_log.specs.Logs.{Log}
+use Rattle.worker_log.specs.Accounts.{Account, spelled_from, joined}
 use Rattle.worker_log.specs.Kept.{AllFitBlocks, run_of, IsOfGeneration}
 use Rattle.worker_log.specs.Laws.{entries_onto}
 

@@ -9,9 +9,11 @@ use Rattle.lean_disk.specs.Area.{Area}
 use Rattle.log_record.specs.declared.record.Record.{Record}
 use Rattle.node_tree.specs.Nodes.{nodes_of}
 use Rattle.session_model.specs.Sessions.{Session, committed}
-use Rattle.worker_log.specs.Logs.{Log, Account, limit, used}
-use Rattle.worker_log.specs.Kept.{After, IsKept, Staged, flushed, flushed_log}
-use Rattle.lean_engine.specs.States.{State}
+use Rattle.worker_log.specs.Logs.{Log, limit, used}
+use Rattle.worker_log.specs.Accounts.{Account}
+use Rattle.worker_log.specs.Calls.{After, flushed_log}
+use Rattle.worker_log.specs.Kept.{IsKept, Staged, flushed}
+use Rattle.lean_engine.specs.States.{State, gsn_or}
 use Rattle.lean_engine.specs.Logged.{change_of}
 use Rattle.lean_engine.specs.Refusals.{is_full_for}
 

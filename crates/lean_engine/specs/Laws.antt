@@ -2,8 +2,9 @@
 use Rattle.std.specs.Prelude.{◌≡◌, ℕ, List}
 use Rattle.lean_disk.specs.Area.{Area, Leaves}
 use Rattle.session_model.specs.Sessions.{Session}
-use Rattle.worker_log.specs.Logs.{Log, Account, IsInRange}
-use Rattle.worker_log.specs.Kept.{IsKept}
+use Rattle.worker_log.specs.Logs.{Log}
+use Rattle.worker_log.specs.Kept.{IsInRange, IsKept}
+use Rattle.worker_log.specs.Accounts.{Account}
 use Rattle.lean_engine.specs.States.{Logs}
 use Rattle.lean_engine.specs.Crashes.{LeavesPrefix}
 

@@ -11,7 +11,7 @@ use Rattle.log_record.specs.declared.record.Record.{Record}
 use Rattle.log_record.specs.declared.record.Body.TheVariants.{Change, Commit}
 use Rattle.node_tree.specs.Nodes.{nodes_of}
 use Rattle.worker_log.specs.Logs.{Log}
-use Rattle.worker_log.specs.Kept.{After, flushed_log}
+use Rattle.worker_log.specs.Calls.{After, flushed_log}
 use Rattle.lean_engine.specs.States.{State, gsn_or}
 
 -- a key's word in a leaf: an absent key has a tombstone's

@@ -3,11 +3,13 @@ use Rattle.std.specs.Prelude.{◌≡◌, ◌≤◌, ◌<◌, ◌+◌, ◌^◌, �
 use Rattle.page_model.specs.Page as stored
 use Rattle.page_model.specs.Tree.{IsTree}
 use Rattle.image_model.specs.Entries.{Contents}
-use Rattle.core_state.specs.States.{Opening}
+use Rattle.core_state.specs.Openings.{Opening}
 use Rattle.disk_image.specs.Formats.{format_of}
 use Rattle.node_tree.specs.Nodes.{nodes_of}
 use Rattle.session_model.specs.Sessions.{Session}
-use Rattle.worker_log.specs.Logs.{Log, Account, IsInRange, records_of, used}
+use Rattle.worker_log.specs.Logs.{Log, used}
+use Rattle.worker_log.specs.Kept.{IsInRange}
+use Rattle.worker_log.specs.Accounts.{Account, records_of}
 use Rattle.worker_log.specs.Laws.{entries_onto}
 
 -- Between two calls: the pages; the log, whose last number is the clock; whether a transaction is open, how many were begun,

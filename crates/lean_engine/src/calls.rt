@@ -2,15 +2,15 @@
 ghost use Rattle.std.specs.Prelude.{◌≡◌, ◌<◌, ◌↔◌, suc, Bool, IfOk, IsErr, IsTrue, OnOk};
 ghost use Rattle.map_model.specs.Maps.{key_end};
 ghost use Rattle.map_model.specs.declared.call.Refusal.{Refusal};
-ghost use Rattle.core_state.specs.States.{Opening};
+ghost use Rattle.core_state.specs.Openings.{Opening};
 ghost use Rattle.lean_disk.specs.Area.{Area};
 ghost use Rattle.lean_disk.specs.Faults.{HasCause};
 ghost use Rattle.lean_disk.specs.Moments.{CrashIn, Framed, LeavesOnly};
 ghost use Rattle.lean_disk.specs.Story.{Tells};
 ghost use Rattle.node_tree.specs.Nodes.{nodes_of};
 ghost use Rattle.session_model.specs.Sessions.{Session};
-ghost use Rattle.worker_log.specs.Logs.{Account, IsInRange};
-ghost use Rattle.worker_log.specs.Kept.{IsKept, StagesTo};
+ghost use Rattle.worker_log.specs.Kept.{IsInRange, IsKept, StagesTo};
+ghost use Rattle.worker_log.specs.Accounts.{Account};
 ghost use Rattle.lean_engine.specs.States.{Logs, Pictures};
 ghost use Rattle.lean_engine.specs.Refusals.{IsRefused, refusal_of};
 ghost use Rattle.lean_engine.specs.Calls.{Calls, IsCommitted, IsStill, IsWithin};

@@ -3,7 +3,7 @@ ghost use Rattle.std.specs.Prelude.{◌≡◌, ◌≤◌, length, false};
 ghost use Rattle.page_model.specs.Tree.{IsTree};
 ghost use Rattle.disk_image.specs.Formats.{format_of};
 ghost use Rattle.node_tree.specs.Nodes.{nodes_of};
-ghost use Rattle.worker_log.specs.Logs.{IsInRange};
+ghost use Rattle.worker_log.specs.Kept.{IsInRange};
 
 use btree_node::Node;
 use std::marker::Model;

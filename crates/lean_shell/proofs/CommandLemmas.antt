@@ -14,8 +14,7 @@ use Rattle.script_run.specs.declared.stop.Stop.TheVariants as stops
 use Rattle.lean_shell.specs.Ends.{RunEnds}
 use Rattle.lean_shell.specs.Runs.{HowRun, ended, status_of}
 use Rattle.lean_shell.specs.Endings.{FormatEnds, IsFormatStatus, IsStatus, Stays, UsageEnds}
-use Rattle.lean_disk.specs.Told.{TellsOn}
-use Rattle.lean_shell.specs.Lines.{OnlyNotes}
+use Rattle.lean_disk.specs.Told.{TellsOn, OnlyNotes}
 use Rattle.lean_shell.specs.Inside.Commands.{CommandEnds, Counts}
 use Rattle.lean_shell.specs.Words.{Asks, AsksFormat, AsksRun, IsNumberIn}
 use Rattle.lean_shell.specs.declared.words.Command.{Command}

@@ -8,8 +8,7 @@ use Rattle.image_model.proofs.FairLemmas.{IsOfOne, narrow}
 use Rattle.map_model.specs.Lists.{Has}
 use Rattle.lean_disk.specs.Area.{Leaves, Write}
 use Rattle.lean_disk.specs.Story.{Crash, Story, Tells}
-use Rattle.lean_shell.specs.Formatted.{HasMaster, HasPages, IsFormatted, writes_since, HasFairMasters, FormatLeaves}
-use Rattle.lean_shell.specs.Formatted.{IsMaster, IsSealedMaster}
+use Rattle.lean_shell.specs.Formatted.{HasMaster, HasPages, IsFormatted, writes_since, HasFairMasters, FormatLeaves, IsMaster, IsSealedMaster}
 use Rattle.lean_shell.specs.Fresh.{first_slot}
 use Rattle.lean_shell.proofs.FreshLemmas.{length-first_slot}
 use Rattle.lean_shell.specs.declared.words.Shape.{Shape}

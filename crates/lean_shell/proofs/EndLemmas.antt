@@ -9,9 +9,8 @@ use Rattle.lean_edge.specs.Outside.{Held}
 use Rattle.lean_edge.specs.declared.sink.Put.{Put}
 use Rattle.lean_edge.specs.declared.sink.Put.TheVariants as put
 use Rattle.lean_shell.specs.Endings.{FinishedPut, FormatEnds, IsFormatStatus, WentOut, finished, last_line, number_of}
-use Rattle.lean_disk.specs.Told.{TellsOn}
+use Rattle.lean_disk.specs.Told.{TellsOn, OnlyNotes}
 use Rattle.lean_shell.specs.Formatted.{FormatLeaves, HasMaster, HasPages, IsFormatted, IsMaster, IsNewDisk, IsUntouched, Keeps}
-use Rattle.lean_shell.specs.Lines.{OnlyNotes}
 use Rattle.lean_shell.specs.declared.failure.Failure.{Failure}
 use Rattle.lean_shell.specs.declared.failure.Failure.TheVariants.{Usage, DiskFault, Memory, AlreadyFormatted}
 use Rattle.lean_shell.specs.declared.words.Shape.{Shape}

@@ -15,8 +15,7 @@ use Rattle.lean_disk.specs.Moments.{LeavesOnly, CrashIn}
 use Rattle.lean_disk.specs.Story.{Story, IsLawful, Tells}
 use Rattle.lean_disk.specs.declared.disk.Did.{Did}
 use Rattle.lean_disk.proofs.MomentLemmas.{started, goes_on, framed, framed_wrote, framed_synced, crash_in}
-use Rattle.lean_shell.specs.Formatted.{HasMaster, IsSealedMaster, StandsStill, StoodOr}
-use Rattle.lean_shell.specs.Formatted.{IsMaster}
+use Rattle.lean_shell.specs.Formatted.{HasMaster, IsSealedMaster, StandsStill, StoodOr, IsMaster}
 
 -- a read of so many bytes gives what stands there, up to the end
 pub read_is : (size at n : ℕ) (bytes before after : List ℕ) → length before ≡ size → (n ≡ min (length before) (length bytes - at)) × (after ≡ take n (drop at bytes) ++ drop n before)

@@ -9,7 +9,7 @@ use Rattle.lean_edge.specs.declared.sink.Put.{Put}
 use Rattle.lean_edge.specs.declared.sink.Put.TheVariants.{Done, Failed}
 use Rattle.image_model.specs.Fair.{piece, IsFair}
 use Rattle.lean_shell.specs.Formatted.{FormatLeaves, HasFairMasters, HasMaster, HasPages, IsFormatted, IsMaster, IsSealedMaster, writes_since}
-use Rattle.lean_shell.specs.Lines.{OnlyNotes}
+use Rattle.lean_disk.specs.Told.{OnlyNotes}
 use Rattle.lean_shell.specs.declared.words.Shape.{Shape}
 
 no_notes : (s : Story) → OnlyNotes s s

@@ -1,13 +1,12 @@
 -- Crashes in a run: what a disk tells of them, and what they leave before the disk is opened.
 use Rattle.std.specs.Prelude.{◌≡◌, ◌⊎◌, ◌<◌, ◌+◌, ◌^◌, ℕ, List, length, IsTrue, Some}
 use Rattle.lean_disk.specs.Area.{Leaves}
-use Rattle.lean_disk.specs.Story.{Crash, Story, Tells}
+use Rattle.lean_disk.specs.Story.{Crash, Story, Tells, areas_of}
 use Rattle.disk_slots.specs.declared.master.Master.{Master}
 use Rattle.disk_image.specs.Fair.{IsFairCrash}
 use Rattle.disk_image.specs.MasterSlots.{master_on}
-use Rattle.recovery_scan.specs.Scans.{areas_of}
 use Rattle.recovery.specs.Crashes.{IsNextOf}
-use Rattle.recovery.specs.Opened.{TellsAll}
+use Rattle.recovery.specs.Telling.{TellsAll}
 use Rattle.transcripts.specs.Transcripts.{IsQuiet, first_lines}
 
 -- It tells of all three areas and, with none of them split off, of crashes.

@@ -3,7 +3,7 @@ use Rattle.std.specs.Prelude.{◌≡◌, ◌⊎◌, ◌*◌, ◌-◌, ◌<◌, �
 use Rattle.image_model.specs.Fair.{piece, IsFair}
 use Rattle.lean_disk.specs.Area.{Area, Leaves, Write, torn}
 use Rattle.lean_disk.specs.Moments.{CrashIn, Framed, LeavesOnly}
-use Rattle.lean_disk.specs.Story.{Crash, LeavesNow, Story, Tells}
+use Rattle.lean_disk.specs.Story.{Crash, Story, Tells}
 use Rattle.disk_slots.specs.Masters.{IsMasterSlot}
 use Rattle.disk_slots.specs.Slots.{IsSealed}
 use Rattle.disk_slots.specs.declared.master.Master.{Master}

@@ -13,12 +13,11 @@ use Rattle.image_model.specs.Ends.{kept}
 use Rattle.image_model.specs.Entries.{Entry, is_commit}
 use Rattle.image_model.specs.Images.{map_of, won_by, found}
 use Rattle.lean_disk.specs.Moments.{LeavesOnly}
-use Rattle.lean_disk.specs.Story.{Crash, Story}
+use Rattle.lean_disk.specs.Story.{Crash, Story, areas_of}
 use Rattle.disk_slots.specs.declared.master.Master.{Master}
 use Rattle.disk_image.specs.Fair.{IsFairCrash}
 use Rattle.disk_image.specs.Masters.{IsOfRun}
 use Rattle.disk_image.specs.Shown.{image_by, DiskStandsFor, IsCleanDisk}
-use Rattle.recovery_scan.specs.Scans.{areas_of}
 use Rattle.script_lang.specs.Replies.{Reply, reply_line}
 use Rattle.transcripts.specs.Transcripts.{transcript, durables, first_lines}
 use Rattle.lean_shell.specs.Crashes.{IsUnwritten, IsYoung}

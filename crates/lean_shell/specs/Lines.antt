@@ -1,9 +1,9 @@
 -- Lines that are put: whether they went out, and what that does to what a disk tells.
-use Rattle.std.specs.Prelude.{◌≡◌, ◌⊎◌, ◌≤◌, ◌++◌, ℕ, List, [], ◌∷◌, take}
+use Rattle.std.specs.Prelude.{◌≡◌, ◌⊎◌, ◌++◌, ℕ, List, [], ◌∷◌, take}
 use Rattle.script_lang.specs.Notices.{Notice, notice_text}
 use Rattle.lean_disk.specs.Calls.{Noted}
 use Rattle.lean_disk.specs.Faults.{Rose}
-use Rattle.lean_disk.specs.Story.{Crash, LeavesNow, Story}
+use Rattle.lean_disk.specs.Story.{Story}
 use Rattle.lean_disk.specs.Told.{TellsSame}
 use Rattle.lean_edge.specs.Outside.{Held, Puts}
 use Rattle.lean_edge.specs.declared.sink.Put.{Put}
@@ -16,15 +16,6 @@ line_of notice = notice_text notice ++ 10 ∷ []
 -- the line went out, and the sink's count of faults stands; or a prefix of it, and the count rose
 abbrev pub WentOut : (line put : List ℕ) (before now : ℕ) → Type 0
 WentOut line put before now = ((put ≡ line) × (now ≡ before)) ⊎ (((prefix : ℕ) × (put ≡ take prefix line)) × Rose before now)
-
--- A line may have been noted, and else nothing happened.
-pub record OnlyNotes (old new : Story) : Type 0 where
-  pub area : (a : ℕ) → new.area a ≡ old.area a
-  pub tells : (a : ℕ) → new.tells a ≡ old.tells a
-  pub areas : new.areas ≡ old.areas
-  pub counts : new.counts ≡ old.counts
-  pub later : old.moment ≤ new.moment
-  pub nothing_else : (m : ℕ) (c : Crash) → new.left_at m c → old.left_at m c ⊎ LeavesNow new c
 
 -- A line was put: it was noted if it went out, and else all is as it was.
 pub record IsPut (line : List ℕ) (answer : Put) (held0 held1 : Held) (s0 s1 : Story) : Type 0 where

@@ -2,7 +2,7 @@
 ghost use Rattle.std.specs.Prelude.{◌≡◌, ℕ, IsTrue};
 ghost use Rattle.lean_disk.specs.Faults.{HasCause, IsBlamed};
 ghost use Rattle.lean_edge.specs.Outside.{added};
-ghost use Rattle.recovery.specs.Opened.{TellsAll};
+ghost use Rattle.recovery.specs.Telling.{TellsAll};
 ghost use Rattle.lean_shell.specs.Ends.{RunEnds};
 ghost use Rattle.lean_shell.specs.Headline.{Headline};
 ghost use Rattle.lean_shell.specs.Inside.Openings.{Refuses};

@@ -2,11 +2,11 @@
 ghost use Rattle.std.specs.Prelude.{◌≡◌, ◌↔◌, ◌≤◌, IsTrue};
 ghost use Rattle.lean_disk.specs.Faults.{HasCause, IsBlamed};
 ghost use Rattle.lean_edge.specs.Outside.{added};
-ghost use Rattle.recovery.specs.Opened.{TellsAll};
+ghost use Rattle.recovery.specs.Telling.{TellsAll};
 ghost use Rattle.lean_shell.specs.Ends.{RunEnds};
 ghost use Rattle.lean_shell.specs.Headline.{Headline};
 ghost use Rattle.lean_shell.specs.Endings.{FinishedPut, FormatEnds, IsStatus, UsageEnds, WentOut, last_line, number_of};
-ghost use Rattle.lean_shell.specs.Lines.{OnlyNotes};
+ghost use Rattle.lean_disk.specs.Told.{OnlyNotes};
 ghost use Rattle.lean_shell.specs.Inside.Commands.{CommandEnds};
 ghost use Rattle.lean_shell.specs.Words.{Asks, texts};
 ghost use Rattle.lean_shell.specs.declared.words.Command.{Command};

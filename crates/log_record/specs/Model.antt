@@ -15,9 +15,6 @@ model_ref r = record { page = r.page; prev = r.prev }
 abbrev pub root_ref : ℕ → records.Ref
 root_ref prev = record { page = 0; prev = prev }
 
-abbrev pub no_ref : records.Ref
-no_ref = record { page = 0; prev = 0 }
-
 abbrev pub model_pair : Pair → model.Pair
 model_pair p = record { key = p.key; word = p.word }
 
@@ -31,8 +28,8 @@ abbrev pub model_write : records.Kind → PageRef → ℕ → ℕ → ℕ → re
 model_write kind leaf key before after = record {
   kind = kind;
   left = model_ref leaf;
-  right = no_ref;
-  parent = no_ref;
+  right = records.nowhere;
+  parent = records.nowhere;
   key = key;
   before = before;
   after = after;
@@ -65,10 +62,10 @@ model_of (Change leaf key before after) = Some (model_write records.Kind.Change 
 model_of (PutBack leaf key before after) = Some (model_write records.Kind.Put_back leaf key before after)
 model_of (Split left right parent separator high level pairs) =
     Some (model_change records.Kind.Split (model_ref left) (model_ref right) (model_ref parent) separator high level (model_pairs pairs) [])
-model_of (Lift prev page level pairs) = Some (model_change records.Kind.Lift (root_ref prev) (model_ref page) no_ref 0 (2 ^ 64 - 1) level (model_pairs pairs) [])
+model_of (Lift prev page level pairs) = Some (model_change records.Kind.Lift (root_ref prev) (model_ref page) records.nowhere 0 (2 ^ 64 - 1) level (model_pairs pairs) [])
 model_of (Join left right parent separator high pairs) =
     Some (model_change records.Kind.Join (model_ref left) (model_ref right) (model_ref parent) separator high 0 (model_pairs pairs) [])
-model_of (DropRoot prev child level pairs) = Some (model_change records.Kind.Drop (root_ref prev) (model_ref child) no_ref 0 0 level (model_pairs pairs) [])
-model_of (Purge leaf keys) = Some (model_change records.Kind.Purge (model_ref leaf) no_ref no_ref 0 0 0 [] (model_keys keys))
+model_of (DropRoot prev child level pairs) = Some (model_change records.Kind.Drop (root_ref prev) (model_ref child) records.nowhere 0 0 level (model_pairs pairs) [])
+model_of (Purge leaf keys) = Some (model_change records.Kind.Purge (model_ref leaf) records.nowhere records.nowhere 0 0 0 [] (model_keys keys))
 model_of (Commit need) = None
 model_of (Abort need) = None

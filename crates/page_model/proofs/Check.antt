@@ -17,11 +17,11 @@ pub all_from : {A : Type 0} (p : A → Bool) (xs : List A) → ((x : A) → Has 
 all_from p [] h = refl
 all_from p (y ∷ ys) h = and_from (p y) (all p ys) (h y (inl refl)) (all_from p ys (λ x m. h x (inr m)))
 
-any_has : {A : Type 0} (p : A → Bool) (xs : List A) → any p xs ≡ true → (x : A) × Has x xs × (p x ≡ true)
+pub any_has : {A : Type 0} (p : A → Bool) (xs : List A) → any p xs ≡ true → (x : A) × Has x xs × (p x ≡ true)
 any_has p [] h = absurd (true≢false (sym h))
 any_has p (x ∷ xs) h = elim (or_cases (p x) (any p xs) h) [ inl e ↦ (x, inl refl, e) | inr e ↦ let r = any_has p xs e in (r.0, inr r.1, r.2) ]
 
-has_any : {A : Type 0} (p : A → Bool) (xs : List A) (x : A) → Has x xs → p x ≡ true → any p xs ≡ true
+pub has_any : {A : Type 0} (p : A → Bool) (xs : List A) (x : A) → Has x xs → p x ≡ true → any p xs ≡ true
 has_any p [] x h e = absurd h
 has_any p (y ∷ ys) x (inl q) e = or_left (p y) (any p ys) (ap p (sym q) ∙ e)
 has_any p (y ∷ ys) x (inr h) e = or_right (p y) (any p ys) (has_any p ys x h e)

@@ -4,7 +4,8 @@ use Rattle.std.proofs.lemmas.Bool.{cases_eq, eq-eqb, ne_eqb}
 use Rattle.page_model.specs.Pairs.{Pair, Has, Rising, find, without, first_key, Span, spans}
 use Rattle.page_model.specs.Nodes.{Format, Node, free, NodeOk, WellFormed}
 use Rattle.page_model.specs.Tree.{Names, IsChild, Parent, IsTree, entry}
-use Rattle.page_model.specs.Records.{Record, applied_as, FitsJoin}
+use Rattle.page_model.specs.Records.{Record, applied_as}
+use Rattle.page_model.specs.Fits.{FitsJoin}
 use Rattle.page_model.specs.Records.Kind.{Join}
 use Rattle.page_model.proofs.Pairs.{has_append, append_left, append_right, size_append, rising_append, rising_keep, keep_has, size_keep, find_append_left, find_append_right}
 use Rattle.page_model.proofs.Spans.{Divided, without_divides, spans_append, first_append, first_any, first_without, some_if}

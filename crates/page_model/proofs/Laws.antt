@@ -4,7 +4,8 @@ use Rattle.std.proofs.lemmas.Bool.{cases_Bool, eq-eqb, eqb-true, ne_eqb, and_par
 use Rattle.page_model.specs.Pairs.{Pair, Has, onward, find, is_in}
 use Rattle.page_model.specs.Nodes.{Format, Node}
 use Rattle.page_model.specs.Tree.{Names, IsTree, entry, lookup, word_or}
-use Rattle.page_model.specs.Records.{Kind, Ref, Record, refs_as, any, applied_as, after, FitsWrite, FitsAs}
+use Rattle.page_model.specs.Records.{Kind, Ref, Record, refs_as, any, applied_as, after}
+use Rattle.page_model.specs.Fits.{FitsWrite, FitsAs}
 use Rattle.page_model.specs.Records.Kind.{Change, Put_back, Split, Lift, Join, Drop, Purge}
 use Rattle.page_model.specs.Laws.{is_write, is_purge, on_key, EveryTree, EveryRecord, EveryLocal}
 use Rattle.page_model.proofs.Tree.{only, leaf_of, route_lies}

@@ -4,7 +4,8 @@ use Rattle.std.proofs.lemmas.Bool.{cases_eq, eq-eqb, ne_eqb, cond-true, cond-fal
 use Rattle.page_model.specs.Pairs.{Pair, Has, Rising, find, put, keep, is_in, Span}
 use Rattle.page_model.specs.Nodes.{Format, Node, WellFormed}
 use Rattle.page_model.specs.Tree.{Names, IsChild, Parent, IsTree, entry, word_or}
-use Rattle.page_model.specs.Records.{Record, applied_as, FitsWrite, FitsChange, FitsBack, FitsPurge}
+use Rattle.page_model.specs.Records.{Record, applied_as}
+use Rattle.page_model.specs.Fits.{FitsWrite, FitsChange, FitsBack, FitsPurge}
 use Rattle.page_model.specs.Records.Kind.{Change, Put_back, Purge}
 use Rattle.page_model.proofs.Pairs.{rising_put, put_has, size_put, size_put_old, find_put_same, find_put_other, rising_keep, keep_has, size_keep, find_keep_on, find_keep_off, some_none, found_in}
 use Rattle.page_model.proofs.Tree.{ok, not_free}

@@ -4,9 +4,10 @@ use Rattle.std.proofs.lemmas.Bool.{cases_eq, eq-eqb, eqb-true, ne_eqb, and_from,
 use Rattle.page_model.specs.Pairs.{Pair, Has, find, first_key, is_in, Span, spans, Rising}
 use Rattle.page_model.specs.Nodes.{Format, Node, NodeOk}
 use Rattle.page_model.specs.Tree.{Names, IsChild, IsTree, word_or}
-use Rattle.page_model.specs.Records.{any, Ref, refs_as, Kind, Record, FitsWrite, FitsChange, FitsBack, FitsSplit, FitsLift, FitsJoin, FitsDrop, FitsPurge, FitsAs}
+use Rattle.page_model.specs.Records.{any, Ref, refs_as, Kind, Record, write_record}
+use Rattle.page_model.specs.Fits.{FitsWrite, FitsChange, FitsBack, FitsSplit, FitsLift, FitsJoin, FitsDrop, FitsPurge, FitsAs}
 use Rattle.page_model.specs.Records.Kind.{Change, Put_back, Split, Lift, Join, Drop, Purge}
-use Rattle.page_model.specs.Needs.{key_at, write_record, NeedsChange, NeedsBack, NeedsSplit, NeedsLift, NeedsJoin, NeedsDrop, NeedsPurge, NeedLaws, EveryNeed}
+use Rattle.page_model.specs.Needs.{key_at, NeedsChange, NeedsBack, NeedsSplit, NeedsLift, NeedsJoin, NeedsDrop, NeedsPurge, NeedLaws, EveryNeed}
 use Rattle.page_model.specs.Redo.{is_some, has_key, inside, within, all_keys, can_be, can_write, three_pages, doable_as, EveryDoable}
 use Rattle.page_model.proofs.Pairs.{rising_in, append_right, size_keep, some_none}
 use Rattle.page_model.proofs.Spans.{span_pair, spans_append}

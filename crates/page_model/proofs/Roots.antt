@@ -4,7 +4,8 @@ use Rattle.std.proofs.lemmas.Bool.{cases_eq, eq-eqb, ne_eqb, cond-true, cond-fal
 use Rattle.page_model.specs.Pairs.{Pair, Has, find, first_key, Span, spans}
 use Rattle.page_model.specs.Nodes.{Format, Node, free, WellFormed}
 use Rattle.page_model.specs.Tree.{Names, IsChild, Parent, IsTree, entry}
-use Rattle.page_model.specs.Records.{Record, applied_as, FitsLift, FitsDrop}
+use Rattle.page_model.specs.Records.{Record, applied_as}
+use Rattle.page_model.specs.Fits.{FitsLift, FitsDrop}
 use Rattle.page_model.specs.Records.Kind.{Lift, Drop}
 use Rattle.page_model.proofs.Tree.{ok, not_free, child_page, only}
 use Rattle.page_model.proofs.Entries.{LeafWith, same_entry}

@@ -4,7 +4,8 @@ use Rattle.std.proofs.lemmas.Bool.{cases_eq, cases_lt, eq-eqb, ne_eqb, lt-ltb, l
 use Rattle.page_model.specs.Pairs.{Pair, Has, find, put, below, onward, Span, spans}
 use Rattle.page_model.specs.Nodes.{Format, Node, NodeOk, WellFormed}
 use Rattle.page_model.specs.Tree.{Names, IsChild, Parent, IsTree, entry}
-use Rattle.page_model.specs.Records.{Record, applied_as, FitsSplit}
+use Rattle.page_model.specs.Records.{Record, applied_as}
+use Rattle.page_model.specs.Fits.{FitsSplit}
 use Rattle.page_model.specs.Records.Kind.{Split}
 use Rattle.page_model.proofs.Pairs.{has_append, append_left, append_right, rising_below, rising_onward, rising_put, keep_has, size_keep, put_has, size_put, find_keep_on}
 use Rattle.page_model.proofs.Spans.{Divided, put_divides, parts, spans_append, first_onward, first_below, first_put, some_if}

@@ -3,7 +3,8 @@ use Rattle.std.specs.Prelude.{◌≡◌, ◌<◌, ◌≤◌, ℕ, suc, Bool, tru
 use Rattle.page_model.specs.Pairs.{Span, route, is_in}
 use Rattle.page_model.specs.Nodes.{Format, Node, holds}
 use Rattle.page_model.specs.Tree.{Names, IsTree, entry, lookup}
-use Rattle.page_model.specs.Records.{Kind, Record, touches, after, Fits}
+use Rattle.page_model.specs.Records.{Kind, Record, touches, after}
+use Rattle.page_model.specs.Fits.{Fits}
 use Rattle.page_model.specs.Records.Kind.{Change, Put_back, Purge}
 
 abbrev pub is_write : Kind → Bool

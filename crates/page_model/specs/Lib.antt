@@ -1,6 +1,7 @@
 pub mod Nodes
 pub mod Pairs
 pub mod Records
+pub mod Fits
 pub mod Tree
 pub mod Laws
 pub mod Needs

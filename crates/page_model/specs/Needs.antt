@@ -1,25 +1,16 @@
--- What the events that write a record need of the pages, and the records that they write.
+-- What the events that write a record need of the pages, and the records that they write, but for those of writes.
 use Rattle.std.specs.Prelude.{◌++◌, length, ◌≡◌, ◌<◌, ◌≤◌, ◌+◌, ℕ, zero, suc, true, false, List, [], ◌∷◌, Some, None}
 use Rattle.page_model.specs.Pairs.{Pair, find, onward, Span, is_in}
 use Rattle.page_model.specs.Nodes.{Format, Node, holds}
-use Rattle.page_model.specs.Tree.{Names, IsTree, word_or}
-use Rattle.page_model.specs.Records.{Kind, Ref, Record, Fits}
+use Rattle.page_model.specs.Tree.{Names, IsTree}
+use Rattle.page_model.specs.Records.{Record, nowhere, ref, write_record}
+use Rattle.page_model.specs.Fits.{Fits}
 use Rattle.page_model.specs.Records.Kind.{Change, Put_back, Split, Lift, Join, Drop, Purge}
 
 abbrev pub key_at : ℕ → List Pair → ℕ
 key_at i [] = 0
 key_at zero (x ∷ xs) = x.key
 key_at (suc i) (x ∷ xs) = key_at i xs
-
-abbrev pub ref : (ℕ → ℕ) → ℕ → Ref
-ref gsn p = record { page = p; prev = gsn p }
-
-abbrev pub nowhere : Ref
-nowhere = record { page = 0; prev = 0 }
-
--- pages with their numbers
-abbrev pub write_record : Kind → Format → (ℕ → Node) → (ℕ → ℕ) → (p k v : ℕ) → Record
-write_record kind f node gsn p k v = record { kind = kind; left = ref gsn p; right = nowhere; parent = nowhere; key = k; before = word_or f.dead (find k (node p).pairs); after = v; sep = 0; high = 0; level = 0; pairs = []; keys = [] }
 
 -- at the pair i of left
 abbrev pub split_record : (ℕ → Node) → (ℕ → ℕ) → (l r q i : ℕ) → Record

@@ -1,8 +1,8 @@
--- The seven records of pages: what each asks of its pages, and what it makes of them.
-use Rattle.std.specs.Prelude.{if◌then◌else◌, ◌++◌, length, ◌≡◌, ◌<◌, ◌≤◌, ◌+◌, ℕ, suc, Bool, true, false, ◌||◌, not, ◌==◌, List, [], ◌∷◌, Some, None}
-use Rattle.page_model.specs.Pairs.{Pair, Has, find, put, keep, below, onward, without, is_in}
+-- The seven records of pages, and what each makes of its pages.
+use Rattle.std.specs.Prelude.{if◌then◌else◌, ◌++◌, ◌+◌, ℕ, suc, Bool, true, false, ◌||◌, not, ◌==◌, List, [], ◌∷◌}
+use Rattle.page_model.specs.Pairs.{Pair, find, put, keep, below, without, is_in}
 use Rattle.page_model.specs.Nodes.{Format, Node, free}
-use Rattle.page_model.specs.Tree.{Names, word_or}
+use Rattle.page_model.specs.Tree.{word_or}
 
 pub data Kind : Type 0 where
   Change Put_back Split Lift Join Drop Purge : Kind
@@ -27,6 +27,21 @@ pub record Record : Type 0 where
   pub level : ℕ
   pub pairs : List Pair
   pub keys : List ℕ
+
+abbrev pub nowhere : Ref
+nowhere = record { page = 0; prev = 0 }
+
+-- what stands where there is no record of pages
+abbrev pub no_record : Record
+no_record = record { kind = Kind.Purge; left = nowhere; right = nowhere; parent = nowhere; key = 0; before = 0; after = 0; sep = 0; high = 0; level = 0; pairs = []; keys = [] }
+
+-- a page, with the number that it has
+abbrev pub ref : (ℕ → ℕ) → ℕ → Ref
+ref gsn p = record { page = p; prev = gsn p }
+
+-- the record of a write of a key in page p
+abbrev pub write_record : Kind → Format → (ℕ → Node) → (ℕ → ℕ) → (p k v : ℕ) → Record
+write_record kind f node gsn p k v = record { kind = kind; left = ref gsn p; right = nowhere; parent = nowhere; key = k; before = word_or f.dead (find k (node p).pairs); after = v; sep = 0; high = 0; level = 0; pairs = []; keys = [] }
 
 abbrev pub refs_as : Kind → Record → List Ref
 refs_as Split r = r.left ∷ r.right ∷ r.parent ∷ []
@@ -73,71 +88,3 @@ applied_as Put_back r p v =
 -- the pages after the record
 abbrev pub after : (ℕ → Node) → Record → ℕ → Node
 after node r p = applied_as r.kind r p (node p)
-
-pub record FitsWrite (f : Format) (node : ℕ → Node) (r : Record) : Type 0 where
-  pub page : r.left.page < f.pages
-  pub live : (node r.left.page).live ≡ true
-  pub leaf : (node r.left.page).level ≡ 0
-  pub within : ((node r.left.page).low ≤ r.key) × (r.key < (node r.left.page).high)
-  pub before : r.before ≡ word_or f.dead (find r.key (node r.left.page).pairs)
-  pub after : r.after ≤ f.dead
-
-pub record FitsChange (f : Format) (node : ℕ → Node) (r : Record) : Type 0 where
-  pub write : FitsWrite f node r
-  pub room : find r.key (node r.left.page).pairs ≡ None → length (node r.left.page).pairs < f.room
-
-pub record FitsBack (f : Format) (node : ℕ → Node) (r : Record) : Type 0 where
-  pub write : FitsWrite f node r
-  pub entry : find r.key (node r.left.page).pairs ≡ None → ⊥
-
--- The parent names left; an inner left is split at a pair.
-pub record FitsSplit (f : Format) (node : ℕ → Node) (r : Record) : Type 0 where
-  pub right : r.right.page < f.pages
-  pub parent : r.parent.page < f.pages
-  pub empty : (node r.right.page).live ≡ false
-  pub names : Names (node r.parent.page) (record { child = r.left.page; low = (node r.left.page).low; high = r.high })
-  pub level : r.level ≡ (node r.left.page).level
-  pub inside : ((node r.left.page).low < r.sep) × (r.sep < r.high)
-  pub pair : 0 < (node r.left.page).level → (x : Pair) × Has x (node r.left.page).pairs × (x.key ≡ r.sep)
-  pub pairs : r.pairs ≡ onward r.sep (node r.left.page).pairs
-  pub room : length (node r.parent.page).pairs < f.room
-
-pub record FitsLift (f : Format) (node : ℕ → Node) (r : Record) : Type 0 where
-  pub right : r.right.page < f.pages
-  pub empty : (node r.right.page).live ≡ false
-  pub level : r.level ≡ (node 0).level
-  pub low : (node 0).level < f.levels
-  pub high : r.high ≡ (node 0).high
-  pub pairs : r.pairs ≡ (node 0).pairs
-
--- The parent names both, side by side.
-pub record FitsJoin (f : Format) (node : ℕ → Node) (r : Record) : Type 0 where
-  pub parent : r.parent.page < f.pages
-  pub left_named : Names (node r.parent.page) (record { child = r.left.page; low = (node r.left.page).low; high = r.sep })
-  pub right_named : Names (node r.parent.page) (record { child = r.right.page; low = r.sep; high = r.high })
-  pub pairs : r.pairs ≡ (node r.right.page).pairs
-  pub room : length (node r.left.page).pairs + length (node r.right.page).pairs ≤ f.room
-
-pub record FitsDrop (f : Format) (node : ℕ → Node) (r : Record) : Type 0 where
-  pub inner : 0 < (node 0).level
-  pub one : (k : ℕ) × ((node 0).pairs ≡ record { key = k; word = r.right.page } ∷ [])
-  pub level : r.level ≡ (node r.right.page).level
-  pub pairs : r.pairs ≡ (node r.right.page).pairs
-
-pub record FitsPurge (f : Format) (node : ℕ → Node) (r : Record) : Type 0 where
-  pub page : r.left.page < f.pages
-  pub live : (node r.left.page).live ≡ true
-  pub leaf : (node r.left.page).level ≡ 0
-  pub dead : (k : ℕ) → is_in k r.keys ≡ true → find k (node r.left.page).pairs ≡ Some f.dead
-
-abbrev pub FitsAs : Format → Kind → (ℕ → Node) → Record → Type 0
-FitsAs f Change node r = FitsChange f node r
-FitsAs f Put_back node r = FitsBack f node r
-FitsAs f Split node r = FitsSplit f node r
-FitsAs f Lift node r = FitsLift f node r
-FitsAs f Join node r = FitsJoin f node r
-FitsAs f Drop node r = FitsDrop f node r
-FitsAs f Purge node r = FitsPurge f node r
-
-abbrev pub Fits : Format → (ℕ → Node) → Record → Type 0
-Fits f node r = FitsAs f r.kind node r

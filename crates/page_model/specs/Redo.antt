@@ -3,7 +3,8 @@ use Rattle.std.specs.Prelude.{length, ◌≡◌, ◌+◌, ℕ, Bool, true, false
 use Rattle.page_model.specs.Pairs.{find}
 use Rattle.page_model.specs.Nodes.{Format, Node}
 use Rattle.page_model.specs.Tree.{IsTree}
-use Rattle.page_model.specs.Records.{Kind, Record, Fits}
+use Rattle.page_model.specs.Records.{Kind, Record}
+use Rattle.page_model.specs.Fits.{Fits}
 use Rattle.page_model.specs.Records.Kind.{Change, Put_back, Split, Lift, Join, Drop, Purge}
 
 abbrev pub is_some : Option ℕ → Bool

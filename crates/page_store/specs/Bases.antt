@@ -3,14 +3,9 @@ use Rattle.std.specs.Prelude.{◌≡◌, ◌<◌, ◌≤◌, ℕ, Some}
 use Rattle.page_model.specs.Page as memory
 use Rattle.image_model.specs.Entries.{Contents}
 use Rattle.image_model.specs.Slots.{base_of}
-use Rattle.lean_disk.specs.Story.{Story}
 use Rattle.disk_slots.specs.declared.master.Master.{Master}
 use Rattle.disk_image.specs.Shown.{Areas, page_slot_in, shown_by}
 use Rattle.page_store.specs.declared.base.Base.{Base}
-
--- what a disk tells that its areas hold
-abbrev pub areas_of : Story → Areas
-areas_of s a = (s.area a).bytes
 
 -- the page with the number and the log of its last record
 abbrev pub image_page : memory.Page → Contents

@@ -3,10 +3,10 @@ ghost use Rattle.std.specs.Prelude.{◌≡◌, ◌<◌, ◌≤◌, ◌+◌, ◌*
 ghost use Rattle.page_model.specs.Page.{Page};
 ghost use Rattle.lean_disk.specs.Faults.{HasCause};
 ghost use Rattle.lean_disk.specs.Moments.{OnlyReads};
-ghost use Rattle.lean_disk.specs.Story.{Tells};
+ghost use Rattle.lean_disk.specs.Story.{Tells, areas_of};
 ghost use Rattle.disk_image.specs.Breaks.{HasNoBase};
 ghost use Rattle.disk_image.specs.PageSlots.{page_in};
-ghost use Rattle.page_store.specs.Bases.{IsBase, IsOwn, areas_of};
+ghost use Rattle.page_store.specs.Bases.{IsBase, IsOwn};
 ghost use Rattle.page_store.specs.Inside.{IsNewest, IsOfSlot, is_older_page, valid_in, valid_page};
 
 use btree_node::Node;

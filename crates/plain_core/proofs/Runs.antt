@@ -10,6 +10,7 @@ use Rattle.plain_core.specs.Inside.{written_in, write_entry_in, write_kind, newe
 use Rattle.map_model.specs.Lists.{upd}
 use Rattle.image_model.specs.Entries as logged
 use Rattle.core_state.specs.States as model
+use Rattle.core_state.specs.Openings as openings
 use Rattle.core_state.specs.Events as events
 use Rattle.plain_core.specs.declared.state.Core.{Core}
 use Rattle.core_state.specs.Needs as needs
@@ -148,7 +149,7 @@ IsAbsent None = Unit {0}
 IsAbsent (Some x) = ⊥
 
 -- the newest change is put back
-pub put_back_is : (g : model.Opening) (s : model.State) (w p : ℕ) (es : List logged.Entry) (x : ℕ × ℕ) → newest_of es ≡ Some x →
+pub put_back_is : (g : openings.Opening) (s : model.State) (w p : ℕ) (es : List logged.Entry) (x : ℕ × ℕ) → newest_of es ≡ Some x →
     steps.writes g s logged.Kind.Put_back w p x.0 x.1 (λ _. tail es) ≡ steps.put_back g s w p es
 put_back_is g s w p [] x h = absurd (subst IsAbsent h tt)
 put_back_is g s w p (c ∷ cs) x h =
@@ -160,17 +161,17 @@ pub becomes : (old new : Core) (s t : model.State) → Becomes old new s → s �
 becomes old new s t h k = record { settings = h.settings; state = h.state ∙ k }
 
 -- the rest of the run is still to come
-pub record IsRun (g : model.Opening) (old new : Core) (all rest : List events.Event) : Type 0 where
+pub record IsRun (g : openings.Opening) (old new : Core) (all rest : List events.Event) : Type 0 where
   pub settings : new.settings ≡ old.settings
   pub state : steps.run g (state_of new) rest ≡ steps.run g (state_of old) all
   pub spent : IsSpentIn g (state_of new) rest → IsSpentIn g (state_of old) all
 
 -- all of the run is still to come
-pub run_start : (g : model.Opening) (old : Core) (all rest : List events.Event) → rest ≡ all → IsRun g old old all rest
+pub run_start : (g : openings.Opening) (old : Core) (all rest : List events.Event) → rest ≡ all → IsRun g old old all rest
 run_start g old all rest h = record { settings = refl; state = ap (steps.run g (state_of old)) h; spent = λ k. subst (IsSpentIn g (state_of old)) h k }
 
 -- the event happens
-pub happened : (g : model.Opening) (old new : Core) (e : events.Event) (b : Bool) → b ≡ true → b ≡ needs.may g (state_of old) e →
+pub happened : (g : openings.Opening) (old new : Core) (e : events.Event) (b : Bool) → b ≡ true → b ≡ needs.may g (state_of old) e →
     Becomes old new (steps.happens g (state_of old) e) → IsStep g old new e true
 happened g old new e b h k l =
     let m : true ≡ needs.may g (state_of old) e = sym h ∙ k in
@@ -187,7 +188,7 @@ pub run_step : (old cur new : Core) (x : Rest old.settings) (e : events.Event) (
     IsRun (opening old.settings x) old cur all rest → rest ≡ e ∷ later → ((y : Rest cur.settings) → IsStep (opening cur.settings y) cur new e b) →
     IsRun (opening old.settings x) old new all later
 run_step old cur new x e b all rest later h i f =
-    let g : model.Opening = opening old.settings x in
+    let g : openings.Opening = opening old.settings x in
     let k : Becomes cur new (steps.step g (state_of cur) e) = stepped cur new e b old.settings h.settings f x in
     record {
       settings = k.settings ∙ h.settings;
@@ -200,7 +201,7 @@ pub run_spent : (old cur : Core) (x : Rest old.settings) (e : events.Event) (all
     IsRun (opening old.settings x) old cur all rest → rest ≡ e ∷ later → ((y : Rest cur.settings) → IsSpent (opening cur.settings y) (state_of cur) e) →
     IsSpentIn (opening old.settings x) (state_of old) all
 run_spent old cur x e all rest later h i f =
-    let g : model.Opening = opening old.settings x in
+    let g : openings.Opening = opening old.settings x in
     let P : Settings → Type 0 = λ u. (z : Rest u) → IsSpent (opening u z) (state_of cur) e in
     h.spent (subst (IsSpentIn g (state_of cur)) (sym i) (inl (subst P h.settings f x)))
 
@@ -210,5 +211,5 @@ if_number refusals.Memory P Q f h = tt
 if_number refusals.Number P Q f h = f h
 
 -- the run is over
-pub run_done : (g : model.Opening) (old new : Core) (all rest : List events.Event) → IsRun g old new all rest → rest ≡ [] → Becomes old new (steps.run g (state_of old) all)
+pub run_done : (g : openings.Opening) (old new : Core) (all rest : List events.Event) → IsRun g old new all rest → rest ≡ [] → Becomes old new (steps.run g (state_of old) all)
 run_done g old new all rest h i = record { settings = h.settings; state = sym (ap (λ r. steps.run g (state_of new) r) i) ∙ h.state }

@@ -3,9 +3,10 @@ use Rattle.std.proofs.Common.{◌≡◌, ℕ, List, [], Option, None, ◌∙◌,
 use mathlib.Core.Path.{fun_ext}
 use Rattle.image_model.specs.Entries as logged
 use Rattle.core_state.specs.States as model
+use Rattle.core_state.specs.Openings as openings
 
 -- a state with the fields of a start
-pub record Starts (g : model.Opening) (s : model.State) : Type 0 where
+pub record Starts (g : openings.Opening) (s : model.State) : Type 0 where
   pub entries : s.entries ≡ []
   pub page : (p : ℕ) → s.page p ≡ (model.start g).page p
   pub saved : (p : ℕ) → s.saved p ≡ (model.start g).saved p
@@ -18,7 +19,7 @@ pub record Starts (g : model.Opening) (s : model.State) : Type 0 where
   pub inside : (w : ℕ) → s.inside w ≡ None
 
 -- is one, where its numbers are those
-pub started : (g : model.Opening) (s : model.State) → Starts g s → record s { floor = g.base; cut = 0; posted = 0; epoch = 0 } ≡ model.start g
+pub started : (g : openings.Opening) (s : model.State) → Starts g s → record s { floor = g.base; cut = 0; posted = 0; epoch = 0 } ≡ model.start g
 started g s h =
     let t : model.State = model.start g in
     let k : model.State = record s { floor = g.base; cut = 0; posted = 0; epoch = 0 } in

@@ -3,7 +3,7 @@ use Rattle.std.specs.Prelude.{ℕ, suc, max, Bool, true, false, ◌&&◌, ◌||�
 use Rattle.map_model.specs.Lists.{any, all as every}
 use Rattle.image_model.specs.Entries.{Kind, Entry, Contents, page_kind, is_record}
 use Rattle.page_model.specs.Records as records
-use Rattle.page_model.specs.Needs.{nowhere}
+use Rattle.page_model.specs.Records.{nowhere}
 use Rattle.page_model.specs.Pairs.{find, put}
 use Rattle.page_model.specs.Tree.{word_or}
 use Rattle.page_model.specs.Nodes.{Node, holds}

@@ -1,5 +1,6 @@
 -- When an event finds no further number.
-use Rattle.core_state.specs.States.{Opening, State}
+use Rattle.core_state.specs.States.{State}
+use Rattle.core_state.specs.Openings.{Opening}
 use Rattle.core_state.specs.Events.{Event}
 use Rattle.core_state.specs.Needs.{may}
 use Rattle.core_state.specs.Steps.{at_pages, step}

@@ -4,6 +4,7 @@ use Rattle.map_model.specs.Maps.{key_end, value_end}
 use Rattle.page_model.specs.Nodes as nodes
 use Rattle.page_model.specs.Tree.{IsTree}
 use Rattle.core_state.specs.States as model
+use Rattle.core_state.specs.Openings as openings
 use Rattle.core_state.specs.Events.{Event}
 use Rattle.core_state.specs.Needs.{may}
 use Rattle.core_state.specs.Steps.{step}
@@ -40,7 +41,7 @@ abbrev pub row_at : ℕ → ℕ → ℕ
 row_at rows k = if rows == 0 then k else k % rows
 
 -- the opening
-abbrev pub opening : (s : Settings) → Rest s → model.Opening
+abbrev pub opening : (s : Settings) → Rest s → openings.Opening
 opening s x = record { workers = s.workers; frames = s.frames; row_of = row_at s.rows; changes = s.changes; joined = s.joined; base = s.base; format = format_of s x; gsn = x.gsn; last = x.last; node = x.node; some_worker = x.some_worker; some_frame = x.some_frame; fit = x.fit; keys = x.keys; values = x.values; low = x.low; tree = x.tree }
 
 -- where a page stands
@@ -82,6 +83,6 @@ pub record Becomes (old new : Core) (s : model.State) : Type 0 where
   pub state : state_of new ≡ s
 
 -- it is said whether the event's need is met, and the state is that after a step
-pub record IsStep (g : model.Opening) (old new : Core) (e : Event) (is_met : Bool) : Type 0 where
+pub record IsStep (g : openings.Opening) (old new : Core) (e : Event) (is_met : Bool) : Type 0 where
   pub met : is_met ≡ may g (state_of old) e
   pub becomes : Becomes old new (step g (state_of old) e)

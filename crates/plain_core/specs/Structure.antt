@@ -7,7 +7,8 @@ use Rattle.page_model.specs.Nodes.{Node}
 use Rattle.page_model.specs.Records as records
 use Rattle.page_model.specs.Redo.{all_keys}
 use Rattle.page_model.specs.Check.{names_page}
-use Rattle.page_model.specs.Needs.{key_at, nowhere}
+use Rattle.page_model.specs.Needs.{key_at}
+use Rattle.page_model.specs.Records.{nowhere}
 use Rattle.core_state.specs.Lists.{is_empty}
 use Rattle.core_state.specs.States.{State, Worker}
 use Rattle.core_state.specs.Needs.{is_free}

@@ -2,6 +2,7 @@
 ghost use Rattle.std.specs.Prelude.{◌≡◌, ◌==◌, ◌∷◌, [], ℕ, false, None, suc, max, not, map, IfOk, Some, if◌then◌else◌};
 ghost use Rattle.map_model.specs.Lists.{upd, keep};
 ghost use Rattle.page_model.specs.Pairs as paired;
+ghost use Rattle.page_model.specs.Records as model_records;
 ghost use Rattle.page_model.specs.Tree.{word_or};
 ghost use Rattle.image_model.specs.Entries as logged;
 ghost use Rattle.rfa_model.specs.Stamps as stamps;
@@ -255,7 +256,7 @@ fn others(alloc: Global, readers: &[u64], worker: u64) -> Result<Vec<u64>, Alloc
 impl PageRecord {
     // What stands in an entry that changes no page.
     fn none(alloc: Global) -> PageRecord
-        ensures { record_of result ≡ steps.no_record }
+        ensures { record_of result ≡ model_records.no_record }
     {
         let nowhere = Ref {
             page: 0,

@@ -1,6 +1,7 @@
 // The records of what changes the tree.
 ghost use Rattle.std.specs.Prelude.{◌≡◌, map, IfOk};
 ghost use Rattle.page_model.specs.Needs as page_needs;
+ghost use Rattle.page_model.specs.Records as model_records;
 ghost use Rattle.core_state.specs.States as states;
 ghost use Rattle.core_state.specs.Steps as steps;
 ghost use Rattle.plain_core.specs.Structure.{split_record_in, lift_record_in, join_record_in, drop_record_in, purge_record_in, page_entry_in};
@@ -17,7 +18,7 @@ use std::alloc::{AllocError, Global};
 impl Ref {
     // No page.
     fn nowhere() -> Ref
-        ensures { ref_of result ≡ page_needs.nowhere }
+        ensures { ref_of result ≡ model_records.nowhere }
     {
         Ref {
             page: 0,
@@ -152,7 +153,7 @@ impl PageRecord {
 impl Core {
     // A page with its number.
     fn ref_to(&self, page: u64) -> Ref
-        ensures { ref_of result ≡ page_needs.ref (states.gsns_of (state_of self.now)) page }
+        ensures { ref_of result ≡ model_records.ref (states.gsns_of (state_of self.now)) page }
     {
         Ref {
             page,

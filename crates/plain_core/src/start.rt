@@ -1,6 +1,7 @@
 // What opening gives.
 ghost use Rattle.std.specs.Prelude.{◌≡◌, ℕ, [], None, false, IfOk};
 ghost use Rattle.core_state.specs.States as states;
+ghost use Rattle.core_state.specs.Openings as openings;
 ghost use Rattle.plain_core.specs.Tables.{at};
 ghost use Rattle.plain_core.specs.Records.{page_of};
 ghost use Rattle.plain_core.specs.States.{Rest, opening, row_of, worker_of, state_of};
@@ -45,7 +46,7 @@ impl Worker {
 impl Core {
     /// Nothing is open, locked, owed or logged; page 0 alone is hot, in frame 0.
     pub fn start(alloc: Global, settings: Settings, pages: Table<Page>) -> Result<Core, AllocError>
-        ensures { IfOk result (λ core. (core.settings ≡ settings) × ((x : Rest settings) → ((p : ℕ) → page_of (at pages p) ≡ states.start_page (opening settings x) p) → state_of core ≡ states.start (opening settings x))) }
+        ensures { IfOk result (λ core. (core.settings ≡ settings) × ((x : Rest settings) → ((p : ℕ) → page_of (at pages p) ≡ openings.start_page (opening settings x) p) → state_of core ≡ states.start (opening settings x))) }
     {
         let saved = pages.copy(alloc)?;
         let mut places = Table::new(alloc, Place::Cold);

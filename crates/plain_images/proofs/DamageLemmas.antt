@@ -10,6 +10,7 @@ use Rattle.page_model.specs.Check.{all, is_nil, word_ok, is_formed, is_node_ok, 
 use Rattle.image_model.specs.Entries.{Entry, Contents}
 use Rattle.image_model.specs.Redo.{Redone, redo, passes}
 use Rattle.image_model.specs.Images as images
+use Rattle.image_model.specs.Damage as rules
 use Rattle.plain_recovery.specs.declared.pages.Node as declared
 use Rattle.plain_recovery.specs.Pages.{node_of, nodes, format_of}
 use Rattle.plain_images.specs.declared.records.Record.{Record}
@@ -18,28 +19,28 @@ use Rattle.plain_images.specs.Damages.{undoable, undoable_in, without, without_i
 
 -- ## One more
 
-pub first_log_more : (g : ℕ → Option images.Damage) (i j : ℕ) (was other now : Option images.Damage) → j ≡ suc i → was ≡ images.first_in_logs g i → other ≡ g (suc i) → now ≡ images.or_first was other →
-    now ≡ images.first_in_logs g j
+pub first_log_more : (g : ℕ → Option rules.Damage) (i j : ℕ) (was other now : Option rules.Damage) → j ≡ suc i → was ≡ rules.first_in_logs g i → other ≡ g (suc i) → now ≡ rules.or_first was other →
+    now ≡ rules.first_in_logs g j
 first_log_more g i j was other now e before here step =
-    step ∙ ap (λ o. images.or_first o other) before ∙ ap (images.or_first (images.first_in_logs g i)) here ∙ ap (images.first_in_logs g) (sym e)
+    step ∙ ap (λ o. rules.or_first o other) before ∙ ap (rules.or_first (rules.first_in_logs g i)) here ∙ ap (rules.first_in_logs g) (sym e)
 
 rest_of : (records : List Record) (k : ℕ) → take (length records - k) (drop k records) ≡ drop k records
 rest_of records k = let l = length-drop k records in take_all (length records - k) (drop k records) (omega arith)
 
-pub undoable_more : (f : Format) (page : ℕ → Contents) (records : List Record) (i j : ℕ) (x : Record) (was other now : Option images.Damage) → j ≡ suc i → i < length records → x ≡ get_or records i x →
-    was ≡ undoable_in f page (entries_of (drop j records)) → other ≡ undoable f page (entry_of x) (entries_of (take (length records - (i + 1)) (drop (i + 1) records))) → now ≡ images.or_first was other →
+pub undoable_more : (f : Format) (page : ℕ → Contents) (records : List Record) (i j : ℕ) (x : Record) (was other now : Option rules.Damage) → j ≡ suc i → i < length records → x ≡ get_or records i x →
+    was ≡ undoable_in f page (entries_of (drop j records)) → other ≡ undoable f page (entry_of x) (entries_of (take (length records - (i + 1)) (drop (i + 1) records))) → now ≡ rules.or_first was other →
     now ≡ undoable_in f page (entries_of (drop i records))
 undoable_more f page records i j x was other now e lt at before here step =
-    step ∙ ap (λ o. images.or_first o other) before ∙ ap (images.or_first (undoable_in f page (entries_of (drop j records)))) (here ∙ ap (λ ys. undoable f page (entry_of x) (entries_of ys)) (rest_of records (i + 1)) ∙ ap (λ n. undoable f page (entry_of x) (entries_of (drop n records))) (add-one i ∙ sym e))
+    step ∙ ap (λ o. rules.or_first o other) before ∙ ap (rules.or_first (undoable_in f page (entries_of (drop j records)))) (here ∙ ap (λ ys. undoable f page (entry_of x) (entries_of ys)) (rest_of records (i + 1)) ∙ ap (λ n. undoable f page (entry_of x) (entries_of (drop n records))) (add-one i ∙ sym e))
     ∙ ap (λ n. undoable_in f page (entry_of x ∷ entries_of (drop n records))) e
     ∙ ap (λ y. undoable_in f page (entry_of y ∷ entries_of (drop (suc i) records))) at
     ∙ ap (λ ys. undoable_in f page (entries_of ys)) (sym (drop-cons records i x lt))
 
-pub without_more : (lost : Entry → Bool) (has : ℕ → Bool) (records : List Record) (i j : ℕ) (x : Record) (was other now : Option images.Damage) → j ≡ suc i → i < length records → x ≡ get_or records i x →
-    was ≡ without_in lost has (entries_of (drop j records)) → other ≡ without lost has (entry_of x) → now ≡ images.or_first other was →
+pub without_more : (lost : Entry → Bool) (has : ℕ → Bool) (records : List Record) (i j : ℕ) (x : Record) (was other now : Option rules.Damage) → j ≡ suc i → i < length records → x ≡ get_or records i x →
+    was ≡ without_in lost has (entries_of (drop j records)) → other ≡ without lost has (entry_of x) → now ≡ rules.or_first other was →
     now ≡ without_in lost has (entries_of (drop i records))
 without_more lost has records i j x was other now e lt at before here step =
-    step ∙ ap (λ o. images.or_first o was) here ∙ ap (images.or_first (without lost has (entry_of x))) before
+    step ∙ ap (λ o. rules.or_first o was) here ∙ ap (rules.or_first (without lost has (entry_of x))) before
     ∙ ap (λ n. without_in lost has (entry_of x ∷ entries_of (drop n records))) e
     ∙ ap (λ y. without_in lost has (entry_of y ∷ entries_of (drop (suc i) records))) at
     ∙ ap (λ ys. without_in lost has (entries_of ys)) (sym (drop-cons records i x lt))
@@ -47,9 +48,9 @@ without_more lost has records i j x was other now e lt at before here step =
 -- ## Whether a record is undoable
 
 pub is_undoable : (f : Format) (page pages : ℕ → Contents) (r : Entry) (z : List Entry) (d : Redone) (b : Bool) → pages ≡ d.page → d ≡ redo page z → b ≡ passes f pages r →
-    cond b None (Some (images.Damage.Undoable r.log r.number)) ≡ undoable f page r z
+    cond b None (Some (rules.Damage.Undoable r.log r.number)) ≡ undoable f page r z
 is_undoable f page pages r z d b ep ed e =
-    ap (λ c. cond c None (Some (images.Damage.Undoable r.log r.number))) (e ∙ ap (λ (g : ℕ → Contents). passes f g r) (ep ∙ ap (λ (x : Redone). x.page) ed))
+    ap (λ c. cond c None (Some (rules.Damage.Undoable r.log r.number))) (e ∙ ap (λ (g : ℕ → Contents). passes f g r) (ep ∙ ap (λ (x : Redone). x.page) ed))
 
 -- ## Pages that are the same below the number of pages
 
@@ -165,6 +166,6 @@ break_taken n node vs e =
 
 -- ## All of them
 
-pub first_without_is : (i : images.Image) (z : List Entry) → images.first_without i z ≡ without_in (images.lost i) (images.has_entry i) z
+pub first_without_is : (i : images.Image) (z : List Entry) → rules.first_without i z ≡ without_in (images.lost i) (images.has_entry i) z
 first_without_is i [] = refl
-first_without_is i (r ∷ z) = ap (images.or_first (without (images.lost i) (images.has_entry i) r)) (first_without_is i z)
+first_without_is i (r ∷ z) = ap (rules.or_first (without (images.lost i) (images.has_entry i) r)) (first_without_is i z)

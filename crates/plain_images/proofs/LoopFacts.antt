@@ -13,7 +13,7 @@ use Rattle.plain_images.specs.declared.redone.Placed.{Placed}
 use Rattle.plain_images.specs.Records.{entries_of}
 use Rattle.plain_images.specs.Images.{Placing, placings_of, bases_of}
 use Rattle.plain_images.specs.Places.{sorted_into}
-use Rattle.image_model.specs.Images as images
+use Rattle.image_model.specs.Damage as rules
 use Rattle.plain_images.specs.Words.{leaf_onto}
 
 -- the pairs so far, with those of the rest, are all
@@ -50,6 +50,6 @@ pub record IsLeafOnto (v : Node) (xs : List Pair) (others : List pairs.Pair) (le
   pub is : so_far ≡ leaf_onto v (pairs_of (drop left xs)) others
 
 -- the damage among the records from a place on
-pub record IsFirst (whole : ℕ) (left : ℕ) (so_far rest : Option images.Damage) : Type 0 where
+pub record IsFirst (whole : ℕ) (left : ℕ) (so_far rest : Option rules.Damage) : Type 0 where
   pub within : left ≤ whole
   pub is : so_far ≡ rest

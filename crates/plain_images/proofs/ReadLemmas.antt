@@ -11,6 +11,7 @@ use Rattle.page_model.specs.Pairs as pairs
 use Rattle.page_model.specs.Tree.{value_of}
 use Rattle.image_model.specs.Images.{gathered}
 use Rattle.image_model.specs.Images as images
+use Rattle.image_model.specs.Damage as rules
 use Rattle.plain_recovery.specs.Pages.{format_of, pairs_of}
 use Rattle.plain_recovery.specs.declared.pages.Pair.{Pair}
 use Rattle.plain_images.specs.declared.records.Record.{Record}
@@ -96,10 +97,10 @@ module _ (image : Image) (logs : List Log) (bases : List (Option Page)) (sorted 
           e ∙ ap (λ (t : List Pair). listed.values_in f (pairs_of t)) es ∙ ap (listed.values_in f) eu
           ∙ ap (λ (t : List pairs.Pair). listed.values_in f (listed.undo_words (is_lost_by far (entries_of records) (counted ms)) (entries_of records) t)) ew
 
-  abbrev lacking : ℕ → List Entry → redoing.Redone → Option images.Damage
+  abbrev lacking : ℕ → List Entry → redoing.Redone → Option rules.Damage
   lacking n z t = without_in (is_lost_by n z t.counts) (λ k. is_some (tree.entry (length bases) (nodes_of t) k)) z
 
-  lacking_read : lacking far (entries_of records) (redone_of bases d) ≡ images.first_without i (images.sorted i)
+  lacking_read : lacking far (entries_of records) (redone_of bases d) ≡ rules.first_without i (images.sorted i)
   lacking_read =
       ap (λ n. lacking n (entries_of records) (redone_of bases d)) x.same_far
       ∙ ap (λ (t : redoing.Redone). lacking (ends.reach (length logs) image.floor (entries_of records)) (entries_of records) t) x.same_redone
@@ -107,24 +108,24 @@ module _ (image : Image) (logs : List Log) (bases : List (Option Page)) (sorted 
       ∙ ap (λ (l : Entry → Bool). without_in l (images.has_entry i) (images.sorted i)) (lost_same (length logs) image.floor (images.found i) (images.redone i))
       ∙ sym (first_without_is i (images.sorted i))
 
-  pub damage_read : (missing unordered undoable torn lack late later latest out : Option images.Damage) →
-      missing ≡ missing_base (length bases) (base_of bases) → unordered ≡ images.first_in_logs (λ w. unordered_in (log_of logs w)) (length logs) →
+  pub damage_read : (missing unordered undoable torn lack late later latest out : Option rules.Damage) →
+      missing ≡ missing_base (length bases) (base_of bases) → unordered ≡ rules.first_in_logs (λ w. unordered_in (log_of logs w)) (length logs) →
       undoable ≡ undoable_in (format_of (length bases)) (bases_of bases) (entries_of records) → torn ≡ broken (format_of (length bases)) (nodes_of (redone_of bases d)) →
       lack ≡ lacking far (entries_of records) (redone_of bases d) →
-      late ≡ images.or_first torn lack → later ≡ images.or_first undoable late → latest ≡ images.or_first unordered later → out ≡ images.or_first missing latest → out ≡ images.damage (image_of image)
+      late ≡ rules.or_first torn lack → later ≡ rules.or_first undoable late → latest ≡ rules.or_first unordered later → out ≡ rules.or_first missing latest → out ≡ rules.damage (image_of image)
   damage_read missing unordered undoable torn lack late later latest out em eo eu et el e1 e2 e3 e4 =
-      e4 ∙ ap (λ o. images.or_first o latest) em
-      ∙ ap (images.or_first m) (e3 ∙ ap (λ o. images.or_first o later) eo
-      ∙ ap (images.or_first u) (e2 ∙ ap (λ o. images.or_first o late) (eu ∙ ap (undoable_in (format_of (length bases)) (bases_of bases)) z_same)
-      ∙ ap (images.or_first v) (e1 ∙ ap (λ o. images.or_first o lack) (et ∙ ap (λ (t : redoing.Redone). broken (format_of (length bases)) (nodes_of t)) (x.same_redone ∙ ap (redo (bases_of bases)) z_same))
-      ∙ ap (images.or_first (broken (format_of (length bases)) (nodes_of (images.redone i)))) (el ∙ lacking_read))))
-      ∙ ap images.damage same
+      e4 ∙ ap (λ o. rules.or_first o latest) em
+      ∙ ap (rules.or_first m) (e3 ∙ ap (λ o. rules.or_first o later) eo
+      ∙ ap (rules.or_first u) (e2 ∙ ap (λ o. rules.or_first o late) (eu ∙ ap (undoable_in (format_of (length bases)) (bases_of bases)) z_same)
+      ∙ ap (rules.or_first v) (e1 ∙ ap (λ o. rules.or_first o lack) (et ∙ ap (λ (t : redoing.Redone). broken (format_of (length bases)) (nodes_of t)) (x.same_redone ∙ ap (redo (bases_of bases)) z_same))
+      ∙ ap (rules.or_first (broken (format_of (length bases)) (nodes_of (images.redone i)))) (el ∙ lacking_read))))
+      ∙ ap rules.damage same
     where
-      m : Option images.Damage
+      m : Option rules.Damage
       m = missing_base (length bases) (base_of bases)
 
-      u : Option images.Damage
-      u = images.first_in_logs (λ w. unordered_in (log_of logs w)) (length logs)
+      u : Option rules.Damage
+      u = rules.first_in_logs (λ w. unordered_in (log_of logs w)) (length logs)
 
-      v : Option images.Damage
+      v : Option rules.Damage
       v = undoable_in (format_of (length bases)) (bases_of bases) (images.sorted i)

@@ -2,6 +2,7 @@
 ghost use Rattle.std.specs.Prelude.{◌≡◌, ℕ, suc, length, map, Some, None, IfOk};
 ghost use Rattle.page_model.specs.Check as check;
 ghost use Rattle.image_model.specs.Images as images;
+ghost use Rattle.image_model.specs.Damage as rules;
 ghost use Rattle.image_model.specs.Undo as undoing;
 ghost use Rattle.page_model.specs.Tree as tree;
 ghost use Rattle.page_model.specs.Redo.{is_some};
@@ -42,7 +43,7 @@ pub enum Damage {
 /// # Errors
 /// Where memory runs out.
 pub fn first_damage(alloc: Global, image: &Image) -> Result<Option<Damage>, AllocError>
-    ensures { IfOk result (λ o. told o ≡ images.damage (image_of image.now)) }
+    ensures { IfOk result (λ o. told o ≡ rules.damage (image_of image.now)) }
 {
     let logs = image.logs.as_slice();
     let bases = image.bases.as_slice();
@@ -58,7 +59,7 @@ pub fn first_damage(alloc: Global, image: &Image) -> Result<Option<Damage>, Allo
 }
 
 fn or_first(first: Option<Damage>, other: Option<Damage>) -> Option<Damage>
-    ensures { told result ≡ images.or_first (told first) (told other) }
+    ensures { told result ≡ rules.or_first (told first) (told other) }
 {
     match first {
         Some(damage) => Some(damage),
@@ -105,7 +106,7 @@ fn is_there(base: &Option<Page>) -> bool
 
 // The logs in turn.
 fn first_unordered(logs: &[Log]) -> Option<Damage>
-    ensures { told result ≡ images.first_in_logs (λ w. unordered_in (log_of logs.now w)) (length logs.now) }
+    ensures { told result ≡ rules.first_in_logs (λ w. unordered_in (log_of logs.now w)) (length logs.now) }
 {
     let mut first: Option<Damage> = None;
     for place in 0..logs.len() {

@@ -1,8 +1,7 @@
 -- What the program's records and names stand for.
 use Rattle.std.specs.Prelude.{◌≡◌, ℕ, List, [], map, Option, Some, None}
 use Rattle.map_model.specs.Journals as journals
-use Rattle.page_model.specs.Records as records
-use Rattle.page_model.specs.Needs.{nowhere}
+use Rattle.page_model.specs.Records.{no_record}
 use Rattle.image_model.specs.Entries.{Kind, Entry}
 use Rattle.image_model.specs.Ends as ends
 use Rattle.plain_recovery.specs.declared.found.Ending.{Ending}
@@ -19,9 +18,6 @@ abbrev pub need_of : Option Ending → ℕ
 need_of (Some (ending.Commit need)) = need
 need_of (Some (ending.Abort need)) = need
 need_of None = 0
-
-abbrev pub no_record : records.Record
-no_record = record { kind = records.Kind.Change; left = nowhere; right = nowhere; parent = nowhere; key = 0; before = 0; after = 0; sep = 0; high = 0; level = 0; pairs = []; keys = [] }
 
 -- A record of which no more is told than its log, its numbers and how it ends its transaction; one that ends none stands as a change.
 abbrev pub entry_of : Found → Entry

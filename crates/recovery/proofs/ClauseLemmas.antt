@@ -4,7 +4,7 @@ use Rattle.std.proofs.lemmas.Option.{slice_get_within}
 use Rattle.page_model.specs.Tree.{IsTree}
 use Rattle.lean_disk.specs.Area.{synced, written}
 use Rattle.lean_disk.specs.Moments.{AsAt, CrashIn, Framed, LeavesOnly}
-use Rattle.lean_disk.specs.Story.{Story, Tells}
+use Rattle.lean_disk.specs.Story.{Story, Tells, areas_of}
 use Rattle.lean_disk.specs.declared.disk.Did.{Did}
 use Rattle.lean_disk.specs.declared.disk.Did.TheVariants.{Done}
 use Rattle.lean_disk.proofs.MomentLemmas.{then, weaker}
@@ -13,12 +13,12 @@ use Rattle.disk_slots.specs.declared.master.Master.{Master}
 use Rattle.disk_image.specs.Shown.{IsCleanDisk, image_by}
 use Rattle.page_store.specs.Runs.{IsReady}
 use Rattle.page_store.specs.Saved.{LeavesSaves, Save}
-use Rattle.recovery_scan.specs.Scans.{areas_of}
 use Rattle.recovery_redo.specs.Images as redo_images
 use Rattle.recovery.specs.Crashes.{RecoveryLeaves}
 use Rattle.recovery.specs.Inside.{AreSettled, IsOfSlot, IsPrepared, IsReadied, OnlySettles, SavesAll, WritesOnce, saves_to}
 use Rattle.recovery.specs.Masters.{IsOpenable, next_master}
-use Rattle.recovery.specs.Opened.{IsOpened, IsRecovered, IsWhole, TellsAll, IsGreatest}
+use Rattle.recovery.specs.Opened.{IsOpened, IsRecovered, IsWhole, IsGreatest}
+use Rattle.recovery.specs.Telling.{TellsAll}
 use Rattle.recovery.specs.declared.opening.Recovered.{Recovered}
 use Rattle.recovery.specs.declared.prepare.Prepared.{Prepared}
 use Rattle.recovery.proofs.LastLemmas.{opened, saving, writing}

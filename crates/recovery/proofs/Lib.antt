@@ -1,5 +1,4 @@
 pub mod OwnLemmas
-pub mod UndoLemmas
 pub mod NextLemmas
 pub mod BaseLemmas
 pub mod MasterLemmas

@@ -1,34 +1,25 @@
 -- What recovery gives, and the disk that it leaves.
-use Rattle.std.specs.Prelude.{◌≡◌, ◌⊎◌, ◌<◌, ◌≤◌, ℕ, suc, List, [], length, slice_get, Some}
+use Rattle.std.specs.Prelude.{◌≡◌, ◌⊎◌, ◌<◌, ◌≤◌, ℕ, suc, [], length, slice_get, Some}
 use Rattle.map_model.specs.Lists.{Has}
 use Rattle.page_model.specs.Page.{Page}
 use Rattle.page_model.specs.Tree.{IsTree}
-use Rattle.image_model.specs.Fair.{piece}
 use Rattle.image_model.specs.Entries.{Entry}
 use Rattle.image_model.specs.Images.{Image, bases, sorted, won_by, lost_by, recovered_page}
 use Rattle.image_model.specs.Slots.{Shown, Slot, base_of}
 use Rattle.lean_disk.specs.Area.{Area}
-use Rattle.lean_disk.specs.Story.{Story, Tells}
-use Rattle.log_block.specs.Block.{IsSealed, generation_of}
+use Rattle.lean_disk.specs.Story.{Story, areas_of}
 use Rattle.disk_slots.specs.Masters.{IsMaster}
 use Rattle.disk_slots.specs.declared.master.Master.{Master}
-use Rattle.disk_image.specs.Breaks.{Breaks}
 use Rattle.disk_image.specs.Formats.{format_of}
 use Rattle.disk_image.specs.MasterSlots.{master_on}
 use Rattle.disk_image.specs.Shown.{Areas, shown_by, image_by, IsSoundDisk}
 use Rattle.node_tree.specs.Nodes.{nodes_of}
-use Rattle.recovery_scan.specs.Scans.{areas_of}
 use Rattle.recovery_redo.specs.Images.{page_of}
 use Rattle.recovery.specs.Masters.{next_master}
 use Rattle.recovery.specs.declared.opening.Recovered.{Recovered}
 use Rattle.recovery.specs.declared.opening.Unrecovered.{Unrecovered}
 use Rattle.recovery.specs.declared.opening.Unrecovered.TheVariants as why
-
--- it tells of the areas of the master, of the pages and of the log
-pub record TellsAll (s : Story) : Type 0 where
-  pub master : Tells s 0
-  pub pages : Tells s 1
-  pub log : Tells s 2
+use Rattle.disk_image.specs.Runs.{HasNone}
 
 -- this is page p as recovery gives it, saved by the generation or one before
 pub record IsPageOf (i : Image) (generation p : ℕ) (v : Page) : Type 0 where
@@ -70,10 +61,6 @@ pub record IsSettled (area : Area) : Type 0 where
   pub clean : area.unsynced ≡ []
   pub end : area.end ≡ length area.bytes
 
--- no block of the generation stands among the first n
-abbrev pub HasNone : (generation n : ℕ) → List ℕ → Type 0
-HasNone generation n bytes = (p : ℕ) → p < n → IsSealed (piece 2048 p bytes) → generation_of (piece 2048 p bytes) ≡ generation → ⊥
-
 -- What is in memory of page p is what one of its slots holds, by the same generation. Where a slot of it is of a later one, that is the
 -- master's, and the page is the same.
 pub record IsHeld (i : Shown) (p : ℕ) (v : Page) : Type 0 where
@@ -92,12 +79,6 @@ pub record IsOpened (m : Master) (area : Areas) (r : Recovered) (s : Story) : Ty
   pub slots : (p i : ℕ) (x : Slot) → p < m.pages → i < 2 → (shown_by r.master (areas_of s)).slot p i ≡ Some x → x.generation ≤ r.master.generation
   pub blocks : HasNone r.master.generation m.blocks (s.area 2).bytes
   pub settled : (a : ℕ) → a < 3 → IsSettled (s.area a)
-
--- a place of the area breaks a rule
-pub record IsDamaged (area : Areas) (a place : ℕ) : Type 0 where
-  pub m : Master
-  pub master : master_on (area 0) ≡ Some m
-  pub breaks : Breaks m area a place
 
 -- what a run of calls keeps, whatever it writes
 pub record Keeps (old new : Story) : Type 0 where

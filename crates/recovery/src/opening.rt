@@ -3,15 +3,16 @@ ghost use Rattle.std.specs.Prelude.{◌≡◌, ◌<◌, ◌*◌, ◌%◌, ◌^�
 ghost use Rattle.lean_disk.specs.Area.{synced, written};
 ghost use Rattle.lean_disk.specs.Faults.{HasCause};
 ghost use Rattle.lean_disk.specs.Moments.{CrashIn, Framed, LeavesOnly};
-ghost use Rattle.lean_disk.specs.Story.{Tells};
+ghost use Rattle.lean_disk.specs.Story.{Tells, areas_of};
 ghost use Rattle.disk_slots.specs.Masters.{master_slot};
 ghost use Rattle.disk_slots.specs.declared.master.Master.{Master};
 ghost use Rattle.disk_image.specs.Shown.{IsCleanDisk};
 ghost use Rattle.page_store.specs.Runs.{IsReady};
-ghost use Rattle.recovery_scan.specs.Scans.{areas_of};
 ghost use Rattle.recovery.specs.Crashes.{RecoveryLeaves};
 ghost use Rattle.recovery.specs.Masters.{HasOpenable, IsOpenable};
-ghost use Rattle.recovery.specs.Opened.{IsDamaged, IsOpened, IsRecovered, IsRefusal, IsUntouched, IsWhole, Keeps, TellsAll};
+ghost use Rattle.recovery.specs.Opened.{IsOpened, IsRecovered, IsRefusal, IsUntouched, IsWhole, Keeps};
+ghost use Rattle.disk_image.specs.Breaks.{IsDamaged};
+ghost use Rattle.recovery.specs.Telling.{TellsAll};
 ghost use Rattle.recovery.specs.Inside.{AreFormed, AreOwn, IsReadied, SavesAll, SavesEach, WritesOnce, saves_to};
 
 use crate::master::{next_master, write_master};

@@ -35,8 +35,9 @@ use Rattle.recovery_redo.specs.Inside as inside
 use Rattle.recovery_redo.specs.Inside.{entry_of, entries_of, has, AreEnded, IsRedone, IsUndone, FailsAt, LacksAt, BreaksAt, IsAtop}
 use Rattle.recovery_redo.proofs.LogLemmas.{entries_split, logged_has, has_entry_of}
 use Rattle.recovery_redo.proofs.PageLemmas.{node_at}
-use Rattle.recovery_redo.proofs.SetLemmas.{entry_same}
-use Rattle.recovery_redo.proofs.SameLemmas.{SameRedone, redo_same, passes_same, page_ok_same}
+use Rattle.page_model.proofs.Same.{entry_same}
+use Rattle.recovery_redo.proofs.SameLemmas.{page_ok_same}
+use Rattle.image_model.proofs.SameLemmas.{SameRedone, redo_same, passes_same}
 use Rattle.recovery_redo.proofs.CountLemmas.{in_order_falling, redone_pages, redone_pass, counts_at}
 use Rattle.recovery_redo.proofs.ImageLemmas.{image_in, lost_from, base_from, won_is, undone_is, recovered_is, sound_is}
 

@@ -22,7 +22,7 @@ use Rattle.recovery_redo.specs.Inside as inside
 use Rattle.recovery_redo.specs.Inside.{entry_of, entries_of, has, AreEnded, IsRedone, IsUndone, TellsLost, IsAtop, SameNumbers}
 use Rattle.recovery_redo.proofs.LogLemmas.{entry_at, At}
 use Rattle.recovery_redo.proofs.PageLemmas.{node_at}
-use Rattle.recovery_redo.proofs.SetLemmas.{tree_same, entry_same}
+use Rattle.page_model.proofs.Same.{tree_same, entry_same}
 use Rattle.recovery_redo.proofs.CountLemmas.{in_order_falling, redone_pages, redone_pass, counts_at}
 
 -- the image in memory: its bases are the pages as they were

@@ -18,7 +18,8 @@ use Rattle.recovery_redo.specs.Inside.{entry_of, entries_of, lost_by, AreWords, 
 use Rattle.recovery_redo.proofs.LogLemmas.{entries_at, entries_all, has_entry_of}
 use Rattle.recovery_redo.proofs.PageLemmas.{node_at, keeps_all, keeps_both}
 use Rattle.recovery_redo.proofs.MarkLemmas.{marks_none, holds_same, leaves_more}
-use Rattle.recovery_redo.proofs.SetLemmas.{tree_same, entry_same, put_tree, put_entries}
+use Rattle.image_model.proofs.SetLemmas.{set_tree, set_entries}
+use Rattle.page_model.proofs.Same.{tree_same, entry_same}
 
 -- the last records are undone, and the pages are still a tree with the same keys
 pub record IsUndoing (start now : List Page) (was marks : List Bool) (found : List Found) (counted : List Bool) (ended : BTreeSet ℕ) (left : ℕ) : Type 0 where
@@ -64,13 +65,13 @@ module _ (pages next : List Page) (key w : ℕ) (t : IsTree (format_of (length p
   next_tree : (b : Bool) → pages_of next ≡ set_back b key w (pages_of pages) → (b ≡ true → (has pages key ≡ true) × (w ≤ 2 ^ 63)) → IsTree (format_of (length next)) (nodes_of next)
   next_tree false e h = subst (λ n. IsTree (format_of n) (nodes_of next)) (sym long) (tree_same (format_of (length pages)) (nodes_of pages) (nodes_of next) t (λ p l. nodes_next false e p))
   next_tree true e h = subst (λ n. IsTree (format_of n) (nodes_of next)) (sym long)
-      (tree_same (format_of (length pages)) (λ p. set_in key w (nodes_of pages p)) (nodes_of next) (put_tree (format_of (length pages)) (nodes_of pages) t key w (h refl).0 (h refl).1) (λ p l. nodes_next true e p))
+      (tree_same (format_of (length pages)) (λ p. set_in key w (nodes_of pages p)) (nodes_of next) (set_tree (format_of (length pages)) (nodes_of pages) t key w (h refl).0 (h refl).1) (λ p l. nodes_next true e p))
 
   next_keys : (b : Bool) → pages_of next ≡ set_back b key w (pages_of pages) → (b ≡ true → (has pages key ≡ true) × (w ≤ 2 ^ 63)) → (q : ℕ) → has next q ≡ has pages q
   next_keys false e h q = ap (λ n. is_some (entry n (nodes_of next) q)) long ∙ ap is_some (sym (entry_same (length pages) (nodes_of pages) (nodes_of next) q (λ p l. nodes_next false e p)))
   next_keys true e h q = ap (λ n. is_some (entry n (nodes_of next) q)) long
       ∙ ap is_some (sym (entry_same (length pages) (λ p. set_in key w (nodes_of pages p)) (nodes_of next) q (λ p l. nodes_next true e p)))
-      ∙ put_entries (format_of (length pages)) (nodes_of pages) t key w (h refl).0 (h refl).1 q
+      ∙ set_entries (format_of (length pages)) (nodes_of pages) t key w (h refl).0 (h refl).1 q
 
 module _ (start now : List Page) (was marks : List Bool) (found : List Found) (counted : List Bool) (ended : BTreeSet ℕ) (left k : ℕ) (x d : Found)
     (after : left ≡ suc k) (l : k < length found) (is : x ≡ get_or found k d) (before : IsUndoing start now was marks found counted ended left) where

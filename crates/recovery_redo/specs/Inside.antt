@@ -14,7 +14,7 @@ use Rattle.image_model.specs.Ends as ends
 use Rattle.image_model.specs.Redo.{redo, redo_one, stands, passes, all_pass}
 use Rattle.image_model.specs.Undo.{set_in, undo_node}
 use Rattle.disk_image.specs.Formats.{format_of}
-use Rattle.disk_image.specs.Records.{no_record}
+use Rattle.page_model.specs.Records.{no_record}
 use Rattle.node_tree.specs.Nodes.{nodes_of}
 use Rattle.recovery_scan.specs.declared.found.Found.{Found}
 use Rattle.recovery_scan.specs.declared.found.What.{What}

@@ -1,17 +1,12 @@
 -- What the scan of a log found.
 use Rattle.std.specs.Prelude.{◌≡◌, ◌⊎◌, ℕ, suc, List, []}
 use Rattle.image_model.specs.Images.{IsFalling}
-use Rattle.lean_disk.specs.Story.{Story}
 use Rattle.disk_slots.specs.declared.master.Master.{Master}
 use Rattle.disk_image.specs.Runs.{AreReadable, entries_in}
 use Rattle.disk_image.specs.Shown.{Areas, run_of, logged_in}
 use Rattle.disk_image.specs.Breaks.{IsNoBlock, IsUnordered}
 use Rattle.recovery_scan.specs.declared.found.Found.{Found}
 use Rattle.recovery_scan.specs.Records.{logged_onto}
-
--- what a disk tells that its areas hold
-abbrev pub areas_of : Story → Areas
-areas_of s a = (s.area a).bytes
 
 -- these are the records of log w, whose blocks are all readable, and whose numbers rise
 pub record IsScan (m : Master) (w : ℕ) (area : Areas) (found : List Found) : Type 0 where

@@ -2,12 +2,12 @@
 ghost use Rattle.std.specs.Prelude.{◌≡◌, ◌<◌, ◌≤◌, ◌^◌, ℕ, suc, true, Err, IfOk, IsErr, length};
 ghost use Rattle.lean_disk.specs.Faults.{HasCause};
 ghost use Rattle.lean_disk.specs.Moments.{OnlyReads};
-ghost use Rattle.lean_disk.specs.Story.{Tells};
+ghost use Rattle.lean_disk.specs.Story.{Tells, areas_of};
 ghost use Rattle.disk_slots.specs.Masters.{IsMaster};
 ghost use Rattle.log_block.specs.Block.{Belongs};
 ghost use Rattle.disk_image.specs.Blocks.{belongs};
 ghost use Rattle.disk_image.specs.Runs.{block_at};
-ghost use Rattle.recovery_scan.specs.Scans.{IsBadLog, IsScan, areas_of};
+ghost use Rattle.recovery_scan.specs.Scans.{IsBadLog, IsScan};
 
 use crate::block::{Bad, take_block};
 use crate::found::Found;

@@ -5,15 +5,15 @@ use mathlib.Core.Path.{fun_ext}
 use Rattle.lean_disk.specs.Area.{Area}
 use Rattle.lean_disk.specs.Memory.{all_here, view_at}
 use Rattle.lean_disk.specs.MemDisk.{disk_story}
-use Rattle.lean_disk.specs.Story.{Crash, Story, Tells}
+use Rattle.lean_disk.specs.Story.{Crash, Story, Tells, areas_of}
 use Rattle.lean_disk.specs.Told.{Begins}
 use Rattle.lean_disk.specs.declared.mem_disk.MemDisk.{MemDisk}
 use Rattle.lean_disk.specs.declared.slot.Slot.{Slot}
 use Rattle.disk_slots.specs.declared.master.Master.{Master}
 use Rattle.disk_image.specs.Shown.{IsCleanDisk}
-use Rattle.recovery_scan.specs.Scans.{areas_of}
-use Rattle.recovery.specs.Crashes.{IsSameOrNext}
-use Rattle.lean_shell.specs.Crashes.{IsUnwritten, IsYoung, RunLeaves, Survives, TellsCrashes}
+use Rattle.recovery.specs.Masters.{IsSameOrNext}
+use Rattle.lean_shell.specs.Crashes.{IsUnwritten, IsYoung, TellsCrashes}
+use Rattle.lean_shell.specs.Headline.{RunLeaves, Survives}
 use Rattle.run_tests.specs.Laws.{EveryNextRun, IsCutOff, IsReadyAgain}
 
 -- where nothing is split off, each area is here

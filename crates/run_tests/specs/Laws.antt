@@ -1,15 +1,15 @@
 -- What the next run may rest on, where a crash cut off a run on a disk in memory.
 use Rattle.std.specs.Prelude.{◌<◌, ◌+◌, ◌^◌, ℕ, List, IsTrue}
 use Rattle.lean_disk.specs.MemDisk.{disk_story}
-use Rattle.lean_disk.specs.Story.{Crash, Story}
+use Rattle.lean_disk.specs.Story.{Crash, Story, areas_of}
 use Rattle.lean_disk.specs.Told.{Begins, BeginsAfter}
 use Rattle.lean_disk.specs.declared.mem_disk.MemDisk.{MemDisk}
 use Rattle.lean_edge.specs.Outside.{Feed, Held}
 use Rattle.disk_slots.specs.declared.master.Master.{Master}
 use Rattle.disk_image.specs.Shown.{IsCleanDisk}
-use Rattle.recovery_scan.specs.Scans.{areas_of}
-use Rattle.recovery.specs.Crashes.{IsSameOrNext}
-use Rattle.lean_shell.specs.Crashes.{IsFairCrash, IsYoung, TellsCrashes}
+use Rattle.recovery.specs.Masters.{IsSameOrNext}
+use Rattle.disk_image.specs.Fair.{IsFairCrash}
+use Rattle.lean_shell.specs.Crashes.{IsYoung, TellsCrashes}
 use Rattle.lean_shell.specs.Ends.{RunEnds}
 
 -- A run on a clean disk on which no call was made yet, and the disk that a crash at some moment of it left, an image that is fair.

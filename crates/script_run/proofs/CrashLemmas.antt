@@ -10,11 +10,12 @@ use Rattle.lean_disk.specs.Area.{Write, Leaves}
 use Rattle.lean_disk.specs.Story.{Crash, Story, Tells}
 use Rattle.lean_edge.specs.Outside.{Feed}
 use Rattle.script_lang.specs.Replies.{Reply}
-use Rattle.core_state.specs.States.{Opening}
+use Rattle.core_state.specs.Openings.{Opening}
 use Rattle.session_model.specs.Sessions.{Session}
 use Rattle.session_model.specs.Calls.{Answered, Runs}
-use Rattle.worker_log.specs.Logs.{Log, Account, IsInRange, spelled_from}
-use Rattle.worker_log.specs.Kept.{IsKept, run_of, IsOfGeneration}
+use Rattle.worker_log.specs.Logs.{Log}
+use Rattle.worker_log.specs.Accounts.{Account, spelled_from}
+use Rattle.worker_log.specs.Kept.{IsInRange, IsKept, run_of, IsOfGeneration}
 use Rattle.lean_engine.specs.States.{Logs}
 use Rattle.lean_engine.specs.Crashes.{HoldsPrefix, LeavesPrefix}
 use Rattle.lean_engine.specs.Laws.{EveryRest}

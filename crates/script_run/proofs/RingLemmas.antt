@@ -8,7 +8,7 @@ use Rattle.map_model.specs.declared.call.Answer.TheVariants as answer
 use Rattle.log_record.specs.declared.record.Record.{Record}
 use Rattle.log_block.specs.Block.{records_text}
 use Rattle.worker_log.specs.Logs.{Log}
-use Rattle.worker_log.specs.Kept.{After, HasRoom}
+use Rattle.worker_log.specs.Calls.{After, HasRoom}
 use Rattle.lean_engine.specs.States.{State}
 use Rattle.lean_engine.specs.Calls.{IsCommitted}
 use Rattle.lean_engine.specs.Logged.{Ends, LogAfter, LogsPut, change_of, commit_of}

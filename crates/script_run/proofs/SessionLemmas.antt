@@ -9,7 +9,7 @@ use Rattle.map_model.specs.Journals.{Name}
 use Rattle.map_model.specs.Lists.{Has}
 use Rattle.page_model.specs.Nodes.{Format}
 use Rattle.image_model.specs.Entries.{Entry}
-use Rattle.core_state.specs.States.{Opening}
+use Rattle.core_state.specs.Openings.{Opening}
 use Rattle.session_model.specs.Sessions.{Session, committed, change_of, commit_of}
 use Rattle.session_model.specs.Calls.{Answered, Refuses, Does, Runs}
 use Rattle.worker_log.specs.Logs.{Log}

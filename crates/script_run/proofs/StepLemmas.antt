@@ -17,11 +17,11 @@ use Rattle.map_model.specs.Lists.{Has}
 use Rattle.script_lang.specs.Lines.{CallFits}
 use Rattle.script_lang.specs.Reading.{Unread, Reading}
 use Rattle.script_lang.specs.Replies.{Reply, AnswerFits}
-use Rattle.core_state.specs.States.{Opening}
+use Rattle.core_state.specs.Openings.{Opening}
 use Rattle.session_model.specs.Sessions.{Session}
 use Rattle.session_model.specs.Calls.{Answered, Runs}
-use Rattle.worker_log.specs.Logs.{Account, IsInRange}
-use Rattle.worker_log.specs.Kept.{IsKept}
+use Rattle.worker_log.specs.Kept.{IsInRange, IsKept}
+use Rattle.worker_log.specs.Accounts.{Account}
 use Rattle.lean_engine.specs.States.{State, Logs, Pictures}
 use Rattle.lean_engine.specs.Refusals.{IsRefused}
 use Rattle.lean_engine.specs.Calls.{Calls, GoesOn, IsWithin}

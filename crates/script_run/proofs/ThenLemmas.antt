@@ -14,10 +14,10 @@ use Rattle.map_model.specs.Journals.{Name}
 use Rattle.map_model.specs.Lists.{Has}
 use Rattle.script_lang.specs.Reading.{Unread, Reading}
 use Rattle.script_lang.specs.Replies.{Reply}
-use Rattle.core_state.specs.States.{Opening}
+use Rattle.core_state.specs.Openings.{Opening}
 use Rattle.session_model.specs.Sessions.{Session}
 use Rattle.session_model.specs.Calls.{Answered, Runs}
-use Rattle.worker_log.specs.Logs.{Account}
+use Rattle.worker_log.specs.Accounts.{Account}
 use Rattle.worker_log.specs.Kept.{IsKept, IsOfGeneration}
 use Rattle.lean_engine.specs.States.{State, Logs, Pictures}
 use Rattle.transcripts.specs.Told.{asked_text, text_of, replies, names, committed, Heard}

@@ -9,7 +9,7 @@ use Rattle.lean_disk.specs.Story.{Crash, Story, Tells}
 use Rattle.script_lang.specs.Lines.{CallFits}
 use Rattle.script_lang.specs.Reading.{Unread, Reading}
 use Rattle.script_lang.specs.Replies.{Reply}
-use Rattle.core_state.specs.States.{Opening}
+use Rattle.core_state.specs.Openings.{Opening}
 use Rattle.session_model.specs.Sessions.{Session}
 use Rattle.session_model.specs.Calls.{Answered}
 use Rattle.lean_engine.specs.States.{State}

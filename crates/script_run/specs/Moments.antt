@@ -13,10 +13,11 @@ use Rattle.script_lang.specs.Reading.{Unread, Reading}
 use Rattle.script_lang.specs.Replies.{Reply}
 use Rattle.lean_disk.specs.Area.{Write, Leaves}
 use Rattle.lean_disk.specs.Story.{Crash, Story, Tells}
-use Rattle.core_state.specs.States.{Opening}
+use Rattle.core_state.specs.Openings.{Opening}
 use Rattle.session_model.specs.Sessions.{Session}
 use Rattle.session_model.specs.Calls.{Answered, Runs}
-use Rattle.worker_log.specs.Logs.{Log, Account, spelled_from, joined}
+use Rattle.worker_log.specs.Logs.{Log}
+use Rattle.worker_log.specs.Accounts.{Account, spelled_from, joined}
 use Rattle.worker_log.specs.Kept.{AllFitBlocks, run_of, IsOfGeneration}
 use Rattle.worker_log.specs.Laws.{entries_onto}
 use Rattle.transcripts.specs.Told.{ask, asked_text, Heard, names}

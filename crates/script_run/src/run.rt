@@ -1,7 +1,7 @@
 // Line by line: read, asked, printed.
 ghost use Rattle.std.specs.Prelude.{◌≡◌, ◌≤◌, ◌+◌, ◌^◌, ◌↔◌, ◌<◌, ◌-◌, ℕ, List, Ok, Some, None, IfOk, IsErr};
 ghost use Rattle.map_model.specs.declared.call.Refusal.{Refusal};
-ghost use Rattle.core_state.specs.States.{Opening};
+ghost use Rattle.core_state.specs.Openings.{Opening};
 ghost use Rattle.lean_disk.specs.Faults.{HasCause};
 ghost use Rattle.lean_disk.specs.Moments.{CrashIn, Framed, LeavesOnly};
 ghost use Rattle.lean_disk.specs.Story.{Tells};
@@ -10,8 +10,8 @@ ghost use Rattle.script_lang.specs.Reading.{Reading};
 ghost use Rattle.script_lang.specs.Replies.{AnswerFits};
 ghost use Rattle.session_model.specs.Sessions.{Session};
 ghost use Rattle.session_model.specs.Calls.{Answered, Runs};
-ghost use Rattle.worker_log.specs.Logs.{Account, IsInRange};
-ghost use Rattle.worker_log.specs.Kept.{IsKept};
+ghost use Rattle.worker_log.specs.Kept.{IsInRange, IsKept};
+ghost use Rattle.worker_log.specs.Accounts.{Account};
 ghost use Rattle.lean_engine.specs.States.{Logs, Pictures};
 ghost use Rattle.lean_engine.specs.Refusals.{IsRefused};
 ghost use Rattle.lean_engine.specs.Calls.{Calls, IsWithin};

@@ -1,5 +1,5 @@
 // Scripts on a fresh engine, over devices in memory. The expected lines were written down by hand.
-ghost use Rattle.worker_log.specs.Logs.{IsInRange};
+ghost use Rattle.worker_log.specs.Kept.{IsInRange};
 
 use btree_node::Node;
 use lean_disk::MemDisk;

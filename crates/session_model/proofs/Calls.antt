@@ -11,9 +11,8 @@ use Rattle.page_model.specs.Tree.{value_of}
 use Rattle.page_model.specs.Laws as page_laws
 use Rattle.image_model.specs.Entries.{word_in}
 use Rattle.image_model.specs.Histories.{said}
-use Rattle.core_state.specs.States.{Opening}
+use Rattle.core_state.specs.Openings.{Opening, first_map}
 use Rattle.core_index.specs.Answers.{EveryTree}
-use Rattle.core_crash.specs.Crashes.{first_map}
 use Rattle.session_model.specs.Sessions.{Session, IsAlone, begun, put, committed}
 use Rattle.session_model.specs.Calls.{Answered, Runs, Does, Refuses}
 use Rattle.session_model.proofs.Entries.{txns, entered_refused, refused_steps}

@@ -6,7 +6,7 @@ use Rattle.map_model.specs.Journals.{Txn, is_earlier, journal_of}
 use Rattle.map_model.specs.Laws.{IsFalling}
 use Rattle.page_model.specs.Nodes.{Format}
 use Rattle.image_model.specs.Entries.{Entry, Contents, written}
-use Rattle.core_state.specs.States.{Opening}
+use Rattle.core_state.specs.Openings.{Opening}
 use Rattle.session_model.specs.Sessions.{Session, start, begun, put, committed, change_of, commit_of}
 use Rattle.session_model.proofs.Workers.{IsNear}
 

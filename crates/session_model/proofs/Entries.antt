@@ -14,12 +14,13 @@ use Rattle.map_model.specs.Transcripts.{map_call, lines_in, told, txn_of}
 use Rattle.page_model.specs.Nodes.{Format}
 use Rattle.page_model.specs.Tree.{value_of, word_or}
 use Rattle.page_model.specs.Records as records
-use Rattle.page_model.specs.Needs.{write_record}
+use Rattle.page_model.specs.Records.{write_record, no_record}
 use Rattle.image_model.specs.Entries.{Kind, Entry, Contents, word_in}
 use Rattle.image_model.specs.Histories as histories
 use Rattle.image_model.specs.Histories.{said, write_call, steps_of}
-use Rattle.core_state.specs.States.{Opening, State, Worker}
-use Rattle.core_state.specs.Steps.{no_record, read_entry, write_entry, end_entry}
+use Rattle.core_state.specs.States.{State, Worker}
+use Rattle.core_state.specs.Openings.{Opening}
+use Rattle.core_state.specs.Steps.{read_entry, write_entry, end_entry}
 use Rattle.rfa_model.specs.Stamps.{need_of}
 use Rattle.core_crash.specs.Crashes.{log_of}
 use Rattle.session_model.specs.Sessions.{Session, begun, put, committed, change_of, commit_of}

@@ -12,12 +12,12 @@ use Rattle.page_model.specs.Tree.{value_of}
 use Rattle.page_model.specs.Redo.{is_some, has_key}
 use Rattle.image_model.specs.Entries.{Kind, Entry, Contents, touches, written, word_in}
 use Rattle.image_model.specs.Histories.{said, write_call}
-use Rattle.core_state.specs.States.{Opening, State, Place, is_hot, flushed_by_all}
+use Rattle.core_state.specs.States.{State, Place, is_hot, flushed_by_all}
+use Rattle.core_state.specs.Openings.{Opening, first_map}
 use Rattle.core_state.specs.Events.{Event, Mode}
 use Rattle.core_state.specs.Needs.{is_worker, is_held_by, is_reader, holds_row, is_value, value_in, may_read, may_put, are_hot, may}
 use Rattle.core_state.specs.Steps as steps
 use Rattle.core_state.specs.Steps.{touch, at_row, at_pages, read_entry, write_entry, end_entry, happens}
-use Rattle.core_crash.specs.Crashes.{first_map}
 use Rattle.session_model.specs.Sessions.{Session, IsAlone, begun, put, committed, change_of}
 use Rattle.session_model.specs.Calls.{Answered, IsLeafOf}
 use Rattle.session_model.proofs.Reaches.{reached_more}

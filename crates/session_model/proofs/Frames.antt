@@ -1,17 +1,19 @@
 -- Pages in frames: each page is hot in its own frame or cold as it was saved, and a page comes in below a hot parent.
-use Rattle.std.proofs.Common.{◌≡◌, ◌⊎◌, ◌<◌, ℕ, zero, suc, Bool, true, ◌&&◌, not, ltb, ◌==◌, List, [], ◌∷◌, refl, sym, ap, ◌∙◌, subst, inl, inr, arith, true≢false}
-use Rattle.std.proofs.lemmas.Bool.{ne_eqb, eqb-true, ltb-true, and_parts, and_from, or_cases}
+use Rattle.std.proofs.Common.{◌≡◌, ◌⊎◌, ◌<◌, ℕ, zero, suc, Bool, true, ◌&&◌, not, ltb, ◌==◌, refl, sym, ap, ◌∙◌, subst, inl, inr, arith, true≢false}
+use Rattle.std.proofs.lemmas.Bool.{ne_eqb, eqb-true, ltb-true, and_parts, and_from}
 use Rattle.map_model.specs.Lists.{upd}
-use Rattle.page_model.specs.Pairs.{Has, Span, spans}
+use Rattle.page_model.specs.Pairs.{Span, spans}
 use Rattle.page_model.specs.Nodes.{Format, Node}
 use Rattle.page_model.specs.Tree.{Names}
 use Rattle.page_model.specs.Laws.{TreeLaws}
 use Rattle.page_model.specs.Records.{any}
 use Rattle.page_model.specs.Check.{names_page}
+use Rattle.page_model.proofs.Check.{any_has}
 use Rattle.image_model.specs.Entries.{Contents}
 use Rattle.core_state.specs.Lists.{all_below}
-use Rattle.core_state.specs.States.{Opening, Place, start_page, is_hot, is_cold, in_frame}
-use Rattle.session_model.proofs.Lists.{upd_other, at_place}
+use Rattle.core_state.specs.States.{Place, is_hot, is_cold, in_frame}
+use Rattle.core_state.specs.Openings.{Opening, start_page}
+use Rattle.map_model.proofs.ListLemmas.{upd_other, at_upd}
 
 -- page p is hot in frame p, or cold as it was saved
 abbrev pub IsPlaced : (page saved : Contents) → ℕ → Place → Type 0
@@ -27,7 +29,7 @@ pub paged_start : (g : Opening) → Paged g (start_page g) (start_page g) (upd (
 paged_start g = record {
   same = λ p. refl;
   first = λ p. refl;
-  placed = at_place (λ p x. IsPlaced (start_page g p) (start_page g p) p x) (λ _. Place.Cold) 0 (Place.Hot 0) (inl refl) (λ p n. inr (refl, refl));
+  placed = λ p. at_upd (λ p x. IsPlaced (start_page g p) (start_page g p) p x) (λ _. Place.Cold) 0 (Place.Hot 0) p (inl refl) (λ n. inr (refl, refl));
   root = refl;
 }
 
@@ -40,17 +42,17 @@ hot_or_cold page saved p x (inr e) = inr (ap is_cold e.0, e.0, e.1)
 pub paged_load : (g : Opening) (page saved : ℕ → Contents) (place : ℕ → Place) (now : ℕ → Contents) → Paged g page saved place now → (p : ℕ) → is_cold (place p) ≡ true → page p ≡ saved p →
     Paged g (upd page p (saved p)) saved (upd place p (Place.Hot p)) now
 paged_load g page saved place now h p c e = record {
-  same = at_place (λ q x. x ≡ now q) page p (saved p) (sym e ∙ h.same p) (λ q n. h.same q);
+  same = λ q. at_upd (λ q x. x ≡ now q) page p (saved p) q (sym e ∙ h.same p) (λ n. h.same q);
   first = h.first;
   placed = placed;
   root = upd_other place p (Place.Hot p) 0 (λ z. true≢false (sym (subst (λ (i : ℕ). is_cold (place i) ≡ true) (sym z) c) ∙ ap is_cold h.root)) ∙ h.root;
 }
   where
     same : (q : ℕ) → upd page p (saved p) q ≡ page q
-    same = at_place (λ q x. x ≡ page q) page p (saved p) (sym e) (λ q n. refl)
+    same q = at_upd (λ q x. x ≡ page q) page p (saved p) q (sym e) (λ n. refl)
 
     placed : (q : ℕ) → IsPlaced (upd page p (saved p) q) (saved q) q (upd place p (Place.Hot p) q)
-    placed q = subst (λ (x : Contents). IsPlaced x (saved q) q (upd place p (Place.Hot p) q)) (sym (same q)) (at_place (λ q x. IsPlaced (page q) (saved q) q x) place p (Place.Hot p) (inl refl) (λ q n. h.placed q) q)
+    placed q = subst (λ (x : Contents). IsPlaced x (saved q) q (upd place p (Place.Hot p) q)) (sym (same q)) (at_upd (λ q x. IsPlaced (page q) (saved q) q x) place p (Place.Hot p) q (inl refl) (λ n. h.placed q))
 
 pub all_below_from : (n : ℕ) (P : ℕ → Bool) → ((q : ℕ) → q < n → P q ≡ true) → all_below n P ≡ true
 all_below_from zero P h = refl
@@ -62,11 +64,6 @@ empty_frame page saved place placed p c q = elim (placed q) [
   | inl e ↦ ap (λ (x : Place). not (in_frame x p)) e ∙ ap not (ne_eqb q p (λ z. true≢false (sym (subst (λ (i : ℕ). is_cold (place i) ≡ true) (sym z) c) ∙ ap is_cold e)))
   | inr e ↦ ap (λ (x : Place). not (in_frame x p)) e.0
 ]
-
--- the same word of the pages' crate
-any_has : {A : Type 0} (p : A → Bool) (xs : List A) → any p xs ≡ true → (x : A) × Has x xs × (p x ≡ true)
-any_has p [] h = absurd (true≢false (sym h))
-any_has p (x ∷ xs) h = elim (or_cases (p x) (any p xs) h) [ inl e ↦ (x, inl refl, e) | inr e ↦ let r = any_has p xs e in (r.0, inr r.1, r.2) ]
 
 names_to : (v : Node) (p : ℕ) → names_page v p ≡ true → (s : Span) × Names v s × (s.child ≡ p)
 names_to v p h =

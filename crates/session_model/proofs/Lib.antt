@@ -1,4 +1,3 @@
-pub mod Lists
 pub mod Reaches
 pub mod Workers
 pub mod Counts

@@ -12,14 +12,15 @@ use Rattle.page_model.specs.Laws as page_laws
 use Rattle.image_model.specs.Entries.{Entry, Contents, is_commit}
 use Rattle.image_model.specs.Ends.{reach, wins, is_kept, kept}
 use Rattle.image_model.specs.Images.{Image, StandsFor, found, won_by}
-use Rattle.core_state.specs.States.{Opening, State}
+use Rattle.core_state.specs.States.{State}
+use Rattle.core_state.specs.Openings.{Opening, first_map}
 use Rattle.core_index.specs.Answers as answers
 use Rattle.core_index.specs.Answers.{EveryTree, EveryMap}
-use Rattle.core_crash.specs.Crashes.{IsPrefix, log_of, from_head, image_of, first_map, journal_in, kept_in, Recovers, EverySerial, EveryStored}
+use Rattle.core_crash.specs.Crashes.{IsPrefix, log_of, from_head, image_of, journal_in, kept_in, Recovers, EverySerial, EveryStored}
 use Rattle.session_model.specs.Sessions.{Session, nodes_of, IsAlone}
 use Rattle.session_model.specs.Calls.{Answered, journal}
 use Rattle.session_model.specs.Laws.{image_left, kept_of, Survives, SessionLaws, EverySession}
-use Rattle.session_model.proofs.Lists.{has_cases, has_left, has_right, any_has, has_any, keep_has, has_keep}
+use Rattle.map_model.proofs.ListLemmas.{has_cases, has_left, has_right, any_has, has_any, keep_has, has_keep}
 use Rattle.session_model.proofs.Counts.{Logged, Ended, journal_is, falling}
 use Rattle.session_model.proofs.Entries.{txns, open_steps}
 use Rattle.session_model.proofs.Pictures.{Picture, tree_of}

@@ -14,15 +14,15 @@ use Rattle.page_model.specs.Laws.{TreeLaws}
 use Rattle.page_model.specs.Check.{names_page}
 use Rattle.image_model.specs.Entries.{Contents}
 use Rattle.core_state.specs.States as states
-use Rattle.core_state.specs.States.{Opening, State, Place, is_hot, is_cold, in_frame}
+use Rattle.core_state.specs.States.{State, Place, is_hot, is_cold, in_frame}
+use Rattle.core_state.specs.Openings.{Opening, first_map}
 use Rattle.core_state.specs.Events.{Event}
 use Rattle.core_state.specs.Needs.{has_hot_parent, is_empty_frame}
 use Rattle.core_state.specs.Steps.{happens}
 use Rattle.core_index.specs.Answers.{EveryTree}
-use Rattle.core_crash.specs.Crashes.{first_map}
 use Rattle.session_model.specs.Sessions.{Session, start, nodes_of}
 use Rattle.session_model.specs.Calls.{Answered}
-use Rattle.session_model.proofs.Lists.{upd_same}
+use Rattle.map_model.proofs.ListLemmas.{upd_same}
 use Rattle.session_model.proofs.Reaches.{Reached, reached_start, reached_more}
 use Rattle.session_model.proofs.Workers.{Worked, Rowed}
 use Rattle.session_model.proofs.Counts.{Counted, counted_start, Told}

@@ -2,7 +2,8 @@
 use Rattle.std.proofs.Common.{◌≡◌, cond, List, [], ◌∷◌, ◌++◌, true, refl, ap, ◌∙◌}
 use Rattle.std.proofs.lemmas.Bool.{cond-true}
 use Rattle.map_model.specs.Histories.{Step}
-use Rattle.core_state.specs.States.{Opening, State, start}
+use Rattle.core_state.specs.States.{State, start}
+use Rattle.core_state.specs.Openings.{Opening}
 use Rattle.core_state.specs.Events.{Event}
 use Rattle.core_state.specs.Needs.{may}
 use Rattle.core_state.specs.Steps.{happens, step, run}

@@ -12,7 +12,7 @@ use Rattle.page_model.specs.Nodes.{Format, holds}
 use Rattle.page_model.specs.Tree.{value_of}
 use Rattle.image_model.specs.Entries.{word_in}
 use Rattle.image_model.specs.Histories.{said}
-use Rattle.core_state.specs.States.{Opening}
+use Rattle.core_state.specs.Openings.{Opening}
 use Rattle.session_model.specs.Sessions.{Session, start, begun, put, committed}
 
 -- p is the leaf with the key in its fences

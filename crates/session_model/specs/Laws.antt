@@ -11,8 +11,7 @@ use Rattle.page_model.specs.Tree.{IsTree, value}
 use Rattle.image_model.specs.Entries.{Entry, is_write, is_commit}
 use Rattle.image_model.specs.Ends.{kept}
 use Rattle.image_model.specs.Images.{Image, IsSound, StandsFor, map_of, won_by, recovered_page}
-use Rattle.core_state.specs.States.{Opening, start_page}
-use Rattle.core_crash.specs.Crashes.{first_map}
+use Rattle.core_state.specs.Openings.{Opening, start_page, first_map}
 use Rattle.session_model.specs.Sessions.{Session, nodes_of, IsAlone}
 use Rattle.session_model.specs.Calls.{Answered, Runs, lines, journal}
 

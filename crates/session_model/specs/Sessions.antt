@@ -1,12 +1,10 @@
 -- One session on the pages of a disk: what it has in memory, and what it has logged.
 use Rattle.std.specs.Prelude.{◌≡◌, ◌≤◌, ◌==◌, ℕ, suc, Bool, true, false, List, [], ◌∷◌, if◌then◌else◌}
 use Rattle.page_model.specs.Nodes.{Format, Node}
-use Rattle.page_model.specs.Needs.{write_record}
+use Rattle.page_model.specs.Records.{write_record, Record, no_record}
 use Rattle.page_model.specs.Records as records
-use Rattle.page_model.specs.Records.{Record}
 use Rattle.image_model.specs.Entries.{Kind, Entry, Contents, word_in, written}
-use Rattle.core_state.specs.States.{Opening, start_page}
-use Rattle.core_state.specs.Steps.{no_record}
+use Rattle.core_state.specs.Openings.{Opening, start_page}
 
 -- Between two calls: the pages; whether a transaction is open; how many it has begun; the number of its last record;
 -- how many changes the open transaction has made; and its records, the newest first.

@@ -6,11 +6,10 @@ use mathlib.Core.List.{append_assoc}
 use Rattle.script_lang.specs.Notices.{Notice, notice_text, NoticeFits}
 use Rattle.script_lang.specs.Notices.Notice.{Opened}
 use Rattle.script_lang.specs.Replies.{Reply, reply_of, reply_text, Fits}
-use Rattle.script_lang.specs.Text.{no_line, whole_lines, IsLine}
+use Rattle.script_lang.specs.Text.{no_line, whole_lines, IsLine, script_lines}
 use Rattle.transcripts.specs.Told.{opened_line, text_of, IsTail, IsOutput}
 use Rattle.transcripts.specs.Told.IsTail.{CutReply, CutNotice, WholeNotice}
 use Rattle.transcripts.specs.Transcripts.{answers, answer_onto, asked, durables_in, name_onto, first_lines, lines_text, paired, IsQuiet}
-use Rattle.script_lang.specs.Text.{script_lines}
 use Rattle.transcripts.proofs.LineLemmas.{first_line, cut_is_no_line, lines_text_append}
 use Rattle.transcripts.proofs.ReplyLemmas.{texts, text_is, length_texts, whole_output}
 

@@ -17,8 +17,10 @@ use Rattle.disk_image.specs.Runs.{Block}
 use Rattle.disk_image.proofs.BlockInLemmas.{every_belongs}
 use Rattle.disk_image.proofs.RunLemmas.{belongs-text}
 use Rattle.worker_log.specs.Inside.{IsSized, closed_log}
-use Rattle.worker_log.specs.Logs.{Account, IsInRange, Log, spelled_from, used, with_current}
-use Rattle.worker_log.specs.Kept.{AllFitBlocks, AreLate, HasRoom, HoldsFirst, IsBlockWrite, IsKept, LeavesBlocks, RiseFrom, StagesTo, closed, flushed, staged, IsOfGeneration}
+use Rattle.worker_log.specs.Accounts.{Account, spelled_from, with_current}
+use Rattle.worker_log.specs.Kept.{IsInRange, AllFitBlocks, AreLate, HoldsFirst, IsBlockWrite, IsKept, LeavesBlocks, RiseFrom, StagesTo, closed, flushed, staged, IsOfGeneration}
+use Rattle.worker_log.specs.Logs.{Log, used}
+use Rattle.worker_log.specs.Calls.{HasRoom}
 use Rattle.worker_log.proofs.ListLemmas.{block_of, fit_blocks-take, fit_blocks-with, joined-drop-more, joined-drop-with, joined-with, length-with, one_size, size_some, spelled-belongs, spelled-last, spelled-with, take-with, with_some}
 use Rattle.worker_log.proofs.CrashLemmas.{synced_stands, prefix_left}
 use Rattle.worker_log.proofs.KeptLemmas.{count_none, count_some, kept_closed, kept_put, kept_synced}

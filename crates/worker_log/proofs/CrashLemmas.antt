@@ -9,10 +9,10 @@ use Rattle.lean_disk.specs.Area.{Area, Write, IsApart}
 use Rattle.log_record.specs.declared.record.Record.{Record}
 use Rattle.log_block.specs.Block.{Belongs, IsSealed, block_of}
 use Rattle.disk_image.specs.Blocks.{belongs}
-use Rattle.disk_image.specs.Runs.{Block, block_at}
+use Rattle.disk_image.specs.Runs.{Block, block_at, HasNone}
 use Rattle.disk_image.proofs.BlockInLemmas.{every_belongs}
-use Rattle.worker_log.specs.Logs.{spelled_from}
-use Rattle.worker_log.specs.Kept.{AllFitBlocks, AreLate, HasNone, HoldsBlocks, IsBlockWrite}
+use Rattle.worker_log.specs.Accounts.{spelled_from}
+use Rattle.worker_log.specs.Kept.{AllFitBlocks, AreLate, HoldsBlocks, IsBlockWrite}
 use Rattle.worker_log.proofs.ListLemmas.{spelled-number, spelled-at, spelled-take, spelled-belongs}
 use Rattle.worker_log.proofs.RingLemmas.{same_piece, piece_within, block_apart}
 use Rattle.worker_log.proofs.PrefixLemmas.{Prefix, found, prefix}

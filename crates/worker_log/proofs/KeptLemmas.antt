@@ -14,8 +14,10 @@ use Rattle.disk_image.specs.Runs.{Block, block_at}
 use Rattle.disk_image.proofs.BlockInLemmas.{every_belongs}
 use Rattle.disk_image.proofs.RunLemmas.{belongs-text}
 use Rattle.worker_log.specs.Inside.{IsSized, closed_log}
-use Rattle.worker_log.specs.Logs.{Account, Log, joined, spelled, spelled_from, with_current}
-use Rattle.worker_log.specs.Kept.{AllFitBlocks, FitsBlock, HasRoom, HoldsBlocks, IsKept, RiseFrom, closed, flushed, staged}
+use Rattle.worker_log.specs.Logs.{Log}
+use Rattle.worker_log.specs.Accounts.{Account, joined, spelled, spelled_from, with_current}
+use Rattle.worker_log.specs.Kept.{AllFitBlocks, FitsBlock, HoldsBlocks, IsKept, RiseFrom, closed, flushed, staged}
+use Rattle.worker_log.specs.Calls.{HasRoom}
 use Rattle.worker_log.proofs.ListLemmas.{block_of, fit-push, fit_blocks-drop, fit_blocks-with, has_first, has_prefix, has_split, joined-drop-with, joined-dropped, joined-with, none_left, rise-has, rise-push, spelled-last, spelled-more, spelled-number, spelled-push, spelled-take, take-with, with_none, with_some}
 use Rattle.worker_log.proofs.RingLemmas.{rem_apart, rem_next, write_here, write_other, write_size}
 use Rattle.worker_log.proofs.CrashLemmas.{written_within}

@@ -6,7 +6,7 @@ use Rattle.log_record.specs.declared.record.Record.{Record}
 use Rattle.disk_image.specs.Blocks.{belongs}
 use Rattle.disk_image.specs.Runs.{Block, run_in, block_at}
 use Rattle.disk_image.proofs.RunLemmas.{run_in-more, run_in-end}
-use Rattle.worker_log.specs.Logs.{spelled, spelled_from}
+use Rattle.worker_log.specs.Accounts.{spelled, spelled_from}
 use Rattle.worker_log.proofs.ListLemmas.{spelled-number}
 
 -- the run from number q on is the first k of the blocks, and at least so many

@@ -1,12 +1,22 @@
 -- What an account says of a log and of its area, and what a crash leaves of it.
-use Rattle.std.specs.Prelude.{◌≡◌, ◌≤◌, ◌<◌, ◌+◌, ◌*◌, ◌%◌, ◌==◌, ℕ, List, [], ◌∷◌, ◌++◌, length, take, drop, if◌then◌else◌}
+use Rattle.std.specs.Prelude.{◌≡◌, ◌≤◌, ◌<◌, ◌+◌, ◌^◌, ◌*◌, ◌%◌, ℕ, List, [], ◌∷◌, ◌++◌, length, take, drop}
 use Rattle.map_model.specs.Lists.{Has}
-use Rattle.image_model.specs.Fair.{piece, IsFair}
+use Rattle.image_model.specs.Fair.{IsFair}
 use Rattle.lean_disk.specs.Area.{Write, Area}
 use Rattle.log_record.specs.declared.record.Record.{Record}
 use Rattle.log_block.specs.Block.{AllFit, records_text, IsSealed, generation_of}
-use Rattle.disk_image.specs.Runs.{Block, run_in, block_at}
-use Rattle.worker_log.specs.Logs.{Log, Account, all_blocks, spelled_from, joined, records_of}
+use Rattle.disk_image.specs.Runs.{Block, run_in, block_at, HasNone}
+use Rattle.worker_log.specs.Logs.{Log, used}
+use Rattle.worker_log.specs.Accounts.{Account, all_blocks, spelled_from, joined, records_of}
+use Rattle.worker_log.specs.Calls.{HasRoom}
+
+-- its numbers are in their ranges, and it uses no more blocks than the ring has
+pub record IsInRange (log : Log) : Type 0 where
+  pub generation : log.generation < 2 ^ 64
+  pub number : (1 ≤ log.log) × (log.log ≤ 16)
+  pub some : (64 ≤ log.blocks) × (log.blocks ≤ 4096)
+  pub head : log.head < 2 ^ 63
+  pub ring : used log ≤ log.blocks
 
 -- the run of the log in an area with these bytes
 abbrev pub run_of : Log → List ℕ → List Block
@@ -51,10 +61,6 @@ pub record IsOfGeneration (generation : ℕ) (w : Write) : Type 0 where
   pub at : w.0 ≡ 2048 * place
   pub whole : length w.1 ≡ 2048
   pub generation_is : generation_of w.1 ≡ generation
-
--- no block of the generation stands at a place of a ring of n blocks with these bytes
-abbrev pub HasNone : (generation n : ℕ) → List ℕ → Type 0
-HasNone generation n bytes = (p : ℕ) → p < n → IsSealed (piece 2048 p bytes) → generation_of (piece 2048 p bytes) ≡ generation → ⊥
 
 -- The area of a ring of n blocks holds the blocks that were written since it had these first bytes and older writes, from
 -- number head on, so many of them synced; and nothing else of this generation.
@@ -130,10 +136,6 @@ flushed x = record x { written = all_blocks x; synced = length (all_blocks x); c
 abbrev pub staged : Account → Record → Account
 staged x r = record x { current = x.current ++ r ∷ [] }
 
--- The record fits in the block in hand.
-abbrev pub HasRoom : Log → Record → Type 0
-HasRoom log r = length log.payload + length (records_text (r ∷ [])) ≤ 2000
-
 -- a record was put into the block in hand, which was written first where it had no room
 pub record Staged (r : Record) (x y : Account) (old : Log) : Type 0 where
   pub room : HasRoom old r → y ≡ staged x r
@@ -144,14 +146,3 @@ pub record StagesTo (r : Record) (x : Account) (old new : Log) (area : Area) : T
   pub y : Account
   pub staged : Staged r x y old
   pub kept : IsKept y new area
-
--- ## What calls make of a log, whatever the account
-
--- with the record
-pub record After (r : Record) (old new : Log) : Type 0 where
-  pub room : HasRoom old r → new ≡ record old { payload = old.payload ++ records_text (r ∷ []); count = old.count + 1; last = r.gsn }
-  pub full : (HasRoom old r → ⊥) → new ≡ record old { next = old.next + 1; payload = records_text (r ∷ []); count = 1; last = r.gsn }
-
--- the block in hand was written, if it held a record, and all is synced
-abbrev pub flushed_log : Log → Log
-flushed_log log = record log { next = log.next + (if log.count == 0 then 0 else 1); payload = []; count = 0; flushed = log.last }

@@ -7,8 +7,9 @@ use Rattle.lean_disk.specs.Area.{Area, Leaves}
 use Rattle.log_record.specs.declared.record.Record.{Record}
 use Rattle.disk_image.specs.Records.{entry_of}
 use Rattle.disk_image.specs.Runs.{Block, logged_onto, entries_in, AreReadable}
-use Rattle.worker_log.specs.Logs.{Log, Account, IsInRange, all_blocks, spelled_from, joined, records_of}
-use Rattle.worker_log.specs.Kept.{AllFitBlocks, HoldsFirst, IsKept, LeavesBlocks, Staged, flushed, run_of}
+use Rattle.worker_log.specs.Logs.{Log}
+use Rattle.worker_log.specs.Kept.{IsInRange, AllFitBlocks, HoldsFirst, IsKept, LeavesBlocks, Staged, flushed, run_of}
+use Rattle.worker_log.specs.Accounts.{Account, all_blocks, spelled_from, joined, records_of}
 
 -- a crash between two calls leaves what one in a call does
 abbrev pub EveryKept : Type 0

@@ -7,9 +7,10 @@ ghost use Rattle.lean_disk.specs.Moments.{CrashIn, Framed, LeavesOnly};
 ghost use Rattle.lean_disk.specs.Story.{Tells};
 ghost use Rattle.log_record.specs.Spelling.{Fits, HasCome, record_text};
 ghost use Rattle.log_block.specs.Block.{block_text, records_text};
-ghost use Rattle.worker_log.specs.Logs.{Log, Account, IsInRange, limit, used};
-ghost use Rattle.worker_log.specs.Kept.{After, HasRoom, IsFresh, IsKept, LeavesBlocks, StagesTo, closed, flushed_log, fresh_account};
-ghost use Rattle.worker_log.specs.Kept.{flushed as flushed_account};
+ghost use Rattle.worker_log.specs.Logs.{Log, limit, used};
+ghost use Rattle.worker_log.specs.Kept.{IsInRange, IsFresh, IsKept, LeavesBlocks, StagesTo, closed, fresh_account, flushed as flushed_account};
+ghost use Rattle.worker_log.specs.Calls.{After, HasRoom, flushed_log};
+ghost use Rattle.worker_log.specs.Accounts.{Account};
 
 use lean_disk::{Did, Part};
 use log_block::{BLOCK, PAYLOAD, block_bytes};

@@ -5,7 +5,7 @@ use Rattle.image_model.specs.Entries.{Entry}
 use Rattle.log_record.specs.Spelling.{Fits}
 use Rattle.log_record.specs.declared.record.Record.{Record}
 use Rattle.log_block.specs.Block.{AllFit}
-use Rattle.worker_log.specs.Logs.{joined}
+use Rattle.worker_log.specs.Accounts.{joined}
 use Rattle.worker_log.specs.Kept.{AllFitBlocks}
 use Rattle.worker_log.specs.Laws.{entries_onto}
 use Rattle.worker_log.proofs.ReadLemmas.{stands}

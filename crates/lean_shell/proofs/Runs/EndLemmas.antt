@@ -5,9 +5,9 @@ use mathlib.Core.List.{append_assoc}
 use Rattle.lean_disk.specs.Area.{Area}
 use Rattle.lean_disk.specs.Faults.{Rose}
 use Rattle.lean_disk.specs.Moments.{LeavesOnly}
-use Rattle.lean_disk.specs.Story.{IsLawful, Story}
+use Rattle.lean_disk.specs.Story.{IsLawful, Story, areas_of}
 use Rattle.lean_edge.specs.Outside.{Feed, Held, added}
-use Rattle.lean_disk.specs.Told.{TellsOn}
+use Rattle.lean_disk.specs.Told.{TellsOn, OnlyNotes}
 use Rattle.lean_disk.proofs.MomentLemmas.{weaker}
 use Rattle.std.proofs.Math.Seq.{drop-append_seam}
 use Rattle.map_model.specs.Journals.{Journal, Serial}
@@ -18,16 +18,16 @@ use Rattle.script_lang.specs.Replies.{Reply, reply_text, Fits}
 use Rattle.script_lang.specs.Text.{script_lines}
 use Rattle.disk_slots.specs.declared.master.Master.{Master}
 use Rattle.disk_image.specs.Shown.{IsCleanDisk}
-use Rattle.recovery_scan.specs.Scans.{areas_of}
 use Rattle.recovery.specs.Crashes.{RecoveryLeaves}
-use Rattle.recovery.specs.Opened.{IsRefusal, IsUntouched, Keeps, TellsAll}
+use Rattle.recovery.specs.Opened.{IsRefusal, IsUntouched, Keeps}
+use Rattle.recovery.specs.Telling.{TellsAll}
 use Rattle.recovery.specs.declared.opening.Unrecovered.{Unrecovered}
-use Rattle.core_state.specs.States.{Opening}
+use Rattle.core_state.specs.Openings.{Opening}
 use Rattle.session_model.specs.Calls.{Answered, Runs}
 use Rattle.session_model.specs.Sessions.{Session}
 use Rattle.transcripts.specs.Laws.{EveryPrefix, EveryNotice, EveryTail}
 use Rattle.transcripts.specs.Told.{asked_lines, replies, EachReplyFits, Heard, IsCut, IsTail}
-use Rattle.transcripts.specs.Told.Heard.{Whole}
+use Rattle.core_paging.proofs.Laws.{Whole}
 use Rattle.transcripts.specs.Told.IsTail.{CutReply}
 use Rattle.transcripts.specs.Transcripts.{first_lines, IsQuiet}
 use Rattle.script_run.specs.Runs.{PrintsTo}
@@ -38,7 +38,7 @@ use Rattle.lean_shell.specs.Crashes.{IsYoung, MasterLeaves, TellsCrashes}
 use Rattle.lean_shell.specs.Headline.{Headline, RunLeaves}
 use Rattle.lean_shell.specs.Ends.{RunEnds}
 use Rattle.lean_shell.specs.Inside.Openings.{Refuses}
-use Rattle.lean_shell.specs.Lines.{IsPut, OnlyNotes, line_of}
+use Rattle.lean_shell.specs.Lines.{IsPut, line_of}
 use Rattle.lean_shell.specs.Runs.{Counts, IsFrom, Shows, first_line, notice_of, status_of}
 use Rattle.lean_shell.proofs.Runs.LastLemmas.{Last, PutText, put_text, went_out}
 use Rattle.lean_shell.proofs.Runs.MomentLemmas.{line_moments}

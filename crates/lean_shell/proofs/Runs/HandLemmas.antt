@@ -7,7 +7,7 @@ use Rattle.map_model.specs.declared.call.Answer.TheVariants as answer
 use Rattle.map_model.specs.Lists.{Has}
 use Rattle.page_model.specs.Nodes.{Format}
 use Rattle.image_model.specs.Entries.{Entry, is_commit}
-use Rattle.core_state.specs.States.{Opening}
+use Rattle.core_state.specs.Openings.{Opening}
 use Rattle.lean_edge.specs.Outside.{Feed}
 use Rattle.session_model.specs.Sessions.{Session, commit_of}
 use Rattle.session_model.specs.Calls.{Answered, Does, Runs, journal}

@@ -11,7 +11,7 @@ use Rattle.image_model.specs.Images.{StandsFor, found, gathered, won_by}
 use Rattle.image_model.specs.Slots.{base_of, newer_page, valid, Slot}
 use Rattle.page_model.specs.Nodes.{Format}
 use Rattle.lean_disk.specs.Area.{Write}
-use Rattle.lean_disk.specs.Story.{Story}
+use Rattle.lean_disk.specs.Story.{Story, areas_of}
 use Rattle.log_block.specs.Block.{IsSealed, generation_of}
 use Rattle.disk_slots.specs.declared.master.Master.{Master}
 use Rattle.disk_image.specs.Blocks.{is_sealed}
@@ -21,14 +21,13 @@ use Rattle.disk_image.specs.Runs.{Block, AreReadable, entries_in, logged_onto, s
 use Rattle.disk_image.specs.Runs as runs
 use Rattle.disk_image.specs.Shown.{Areas, DiskStandsFor, IsCleanDisk, head_of, image_by, logged_in, page_slot_in, shown_by, slot_of}
 use Rattle.disk_image.specs.Shown as shown
-use Rattle.recovery_scan.specs.Scans.{areas_of}
-use Rattle.core_state.specs.States.{Opening, start_page}
-use Rattle.core_crash.specs.Crashes.{first_map}
+use Rattle.core_state.specs.Openings.{Opening, start_page, first_map}
 use Rattle.session_model.specs.Calls.{Answered, Runs, journal}
 use Rattle.session_model.specs.Laws.{EverySession, SessionLaws, Survives, image_left, kept_of}
 use Rattle.session_model.specs.Sessions.{Session, IsAlone}
 use Rattle.worker_log.specs.Laws.{EveryRun, Reads, entries_onto}
-use Rattle.worker_log.specs.Logs.{Log, joined, spelled_from}
+use Rattle.worker_log.specs.Logs.{Log}
+use Rattle.worker_log.specs.Accounts.{joined, spelled_from}
 use Rattle.worker_log.specs.Kept as kept_log
 use Rattle.lean_shell.specs.Inside.Openings.{IsPrefix, Rests}
 use Rattle.lean_shell.proofs.Runs.SealedLemmas.{IsSealedIn, listed, lists}

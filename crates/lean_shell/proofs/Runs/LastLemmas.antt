@@ -4,7 +4,7 @@ use Rattle.std.proofs.lemmas.List.{append-nil}
 use Rattle.std.proofs.Math.Seq.{take-length}
 use Rattle.lean_disk.specs.Faults.{HasCause, Rose}
 use Rattle.lean_disk.specs.Story.{Crash, LeavesNow, Story}
-use Rattle.lean_disk.specs.Told.{TellsSame}
+use Rattle.lean_disk.specs.Told.{TellsSame, OnlyNotes}
 use Rattle.lean_edge.specs.Outside.{Held, Puts}
 use Rattle.lean_edge.specs.declared.sink.Put.{Put}
 use Rattle.lean_edge.specs.declared.sink.Put.TheVariants.{Done, Failed}
@@ -12,7 +12,7 @@ use Rattle.script_lang.specs.Notices.{Notice, NoticeFits}
 use Rattle.transcripts.specs.Told.{IsTail}
 use Rattle.script_run.specs.declared.stop.Stop.{Stop}
 use Rattle.script_run.specs.declared.stop.Stop.TheVariants as stops
-use Rattle.lean_shell.specs.Lines.{IsPut, OnlyNotes, WentOut, line_of}
+use Rattle.lean_shell.specs.Lines.{IsPut, WentOut, line_of}
 use Rattle.lean_shell.specs.Inside.Openings.{EndsWith}
 use Rattle.lean_shell.specs.Runs.{WentLast, last_line}
 use Rattle.lean_shell.proofs.Runs.MomentLemmas.{noted_more}

@@ -3,19 +3,18 @@ use Rattle.std.proofs.Common.{◌≡◌, inl, inr, ◌≤◌, ◌<◌, ◌+◌, 
 use Rattle.lean_disk.specs.Area.{Area, Leaves}
 use Rattle.lean_disk.specs.Calls.{Noted}
 use Rattle.lean_disk.specs.Moments.{LeavesOnly}
-use Rattle.lean_disk.specs.Story.{Crash, IsLawful, LeavesNow, Story}
-use Rattle.lean_disk.specs.Told.{TellsSame}
+use Rattle.lean_disk.specs.Story.{Crash, IsLawful, LeavesNow, Story, areas_of}
+use Rattle.lean_disk.specs.Told.{TellsSame, OnlyNotes}
 use Rattle.lean_disk.proofs.MomentLemmas.{goes_on_by, weaker, started}
 use Rattle.lean_edge.specs.declared.sink.Put.{Put}
 use Rattle.lean_edge.specs.declared.sink.Put.TheVariants.{Done, Failed}
 use Rattle.disk_slots.specs.declared.master.Master.{Master}
 use Rattle.disk_image.specs.Shown.{IsCleanDisk}
-use Rattle.recovery_scan.specs.Scans.{areas_of}
 use Rattle.recovery.specs.Crashes.{RecoveryLeaves}
 use Rattle.transcripts.specs.Transcripts.{first_lines, IsQuiet}
-use Rattle.lean_shell.specs.Lines.{OnlyNotes}
 use Rattle.lean_shell.proofs.Runs.NoteLemmas.{put_notes}
 use Rattle.lean_shell.proofs.Runs.SurviveLemmas.{IsSameBut, LivesOn, quiet_leaves}
+use Rattle.lean_shell.specs.Headline.{RunLeaves}
 
 -- the same crash, with the notes of another moment
 abbrev pub then : Story → Crash → Crash

@@ -12,7 +12,7 @@ use Rattle.page_model.specs.Pairs.{find}
 use Rattle.page_model.specs.Tree.{value_of}
 use Rattle.image_model.specs.Entries.{Entry, is_commit, word_in}
 use Rattle.image_model.specs.Histories.{said}
-use Rattle.core_state.specs.States.{Opening}
+use Rattle.core_state.specs.Openings.{Opening}
 use Rattle.session_model.specs.Sessions.{Session, begun, change_of, commit_of, committed, put, start}
 use Rattle.session_model.specs.Calls.{Answered, Begins, Commits, Does, Gets, Puts, Refuses, Runs, journal, lines}
 use Rattle.lean_shell.proofs.Runs.JournalLemmas.{only_inserted, with_answer}

@@ -1,6 +1,5 @@
 -- An opening on the pages that recovery gives.
-use Rattle.std.proofs.Common.{◌≡◌, ◌⊎◌, inl, inr, ⊎_elim, ◌≤◌, ◌<◌, ◌+◌, ◌*◌, ◌%◌, ◌^◌, ℕ, zero, suc, Bool, true, false, cond, List, [], ◌∷◌, length, Some, None, Option, slice_get, refl, sym, ◌∙◌, ap, ap₂, subst, arith}
-use Rattle.std.proofs.Common.{lit<}
+use Rattle.std.proofs.Common.{◌≡◌, ◌⊎◌, inl, inr, ⊎_elim, ◌≤◌, ◌<◌, ◌+◌, ◌*◌, ◌%◌, ◌^◌, ℕ, zero, suc, Bool, true, false, cond, List, [], ◌∷◌, length, Some, None, Option, slice_get, refl, sym, ◌∙◌, ap, ap₂, subst, arith, lit<}
 use Rattle.std.proofs.lemmas.Option.{slice_get_cases}
 use Rattle.std.proofs.Math.Nat.{zero-mod}
 use Rattle.page_model.specs.Page as stored
@@ -10,18 +9,17 @@ use Rattle.page_model.specs.Tree.{IsTree, entry, value_of}
 use Rattle.image_model.specs.Entries.{Contents}
 use Rattle.image_model.specs.Images.{Image, map_of, recovered_page}
 use Rattle.lean_disk.specs.Area.{Area}
-use Rattle.lean_disk.specs.Story.{Story}
+use Rattle.lean_disk.specs.Story.{Story, areas_of}
 use Rattle.disk_slots.specs.declared.master.Master.{Master}
 use Rattle.disk_image.specs.Formats.{format_of}
 use Rattle.disk_image.specs.Shown.{Areas, IsCleanDisk, IsSoundDisk, image_by}
 use Rattle.node_tree.specs.Nodes.{nodes_of, node_or}
-use Rattle.recovery_scan.specs.Scans.{areas_of}
 use Rattle.recovery.specs.Masters.{IsOpenable, next_master}
-use Rattle.recovery.specs.Opened.{IsGreatest, IsOpened, IsRecovered, IsUntouched, IsWhole, TellsAll}
+use Rattle.recovery.specs.Opened.{IsGreatest, IsOpened, IsRecovered, IsUntouched, IsWhole}
+use Rattle.recovery.specs.Telling.{TellsAll}
 use Rattle.recovery.specs.Own.{EveryOwn}
 use Rattle.recovery.specs.declared.opening.Recovered.{Recovered}
-use Rattle.core_state.specs.States.{Opening, start_page}
-use Rattle.core_crash.specs.Crashes.{first_map}
+use Rattle.core_state.specs.Openings.{Opening, start_page, first_map}
 use Rattle.session_model.specs.Laws as laws
 use Rattle.session_model.specs.Laws.{EveryOpening, Opened}
 use Rattle.session_model.specs.Sessions.{IsAlone, start}

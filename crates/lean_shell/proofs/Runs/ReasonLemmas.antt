@@ -1,9 +1,9 @@
 -- Why a disk was not opened.
 use Rattle.std.proofs.Common.{◌≡◌, ℕ, Result, Err}
-use Rattle.lean_disk.specs.Story.{Story}
-use Rattle.recovery_scan.specs.Scans.{areas_of}
+use Rattle.lean_disk.specs.Story.{Story, areas_of}
 use Rattle.recovery.specs.Masters.{HasOpenable}
-use Rattle.recovery.specs.Opened.{IsDamaged, TellsAll}
+use Rattle.disk_image.specs.Breaks.{IsDamaged}
+use Rattle.recovery.specs.Telling.{TellsAll}
 use Rattle.recovery.specs.declared.opening.Recovered.{Recovered}
 use Rattle.recovery.specs.declared.opening.Unrecovered.{Unrecovered}
 use Rattle.recovery.specs.declared.opening.Unrecovered.TheVariants as why

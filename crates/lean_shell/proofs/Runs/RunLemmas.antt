@@ -13,7 +13,7 @@ use Rattle.lean_disk.specs.Area.{Area, Write}
 use Rattle.lean_disk.specs.Calls.{Noted}
 use Rattle.lean_disk.specs.Faults.{HasCause}
 use Rattle.lean_disk.specs.Moments.{LeavesOnly}
-use Rattle.lean_disk.specs.Story.{Crash, IsLawful, LeavesNow, Story}
+use Rattle.lean_disk.specs.Story.{Crash, IsLawful, LeavesNow, Story, areas_of}
 use Rattle.lean_disk.proofs.MomentLemmas as moments
 use Rattle.lean_edge.specs.Outside.{Feed, Held, added}
 use Rattle.lean_edge.specs.declared.sink.Put.TheVariants.{Done}
@@ -23,10 +23,10 @@ use Rattle.script_lang.specs.Replies.{AnswerFits, Reply, reply_line}
 use Rattle.disk_slots.specs.declared.master.Master.{Master}
 use Rattle.disk_image.specs.Laws.{EveryAgreement, EverySealed}
 use Rattle.disk_image.specs.Shown.{DiskStandsFor, IsCleanDisk, image_by}
-use Rattle.recovery_scan.specs.Scans.{areas_of}
 use Rattle.recovery.specs.Crashes.{RecoveryLeaves}
-use Rattle.recovery.specs.Opened.{Keeps, TellsAll}
-use Rattle.core_crash.specs.Crashes.{first_map}
+use Rattle.recovery.specs.Opened.{Keeps}
+use Rattle.recovery.specs.Telling.{TellsAll}
+use Rattle.core_state.specs.Openings.{first_map}
 use Rattle.session_model.specs.Calls.{Answered, Runs}
 use Rattle.session_model.specs.Calls as session
 use Rattle.session_model.specs.Laws.{EverySession}

@@ -10,21 +10,20 @@ use Rattle.image_model.specs.Fair.{IsFair}
 use Rattle.image_model.specs.Images.{map_of, won_by, found}
 use Rattle.lean_disk.specs.Area.{Area, Leaves, Write}
 use Rattle.lean_disk.specs.Moments.{AsAt}
-use Rattle.lean_disk.specs.Story.{Crash, Story, Tells}
+use Rattle.lean_disk.specs.Story.{Crash, Story, Tells, areas_of}
 use Rattle.log_block.specs.Block.{IsSealed}
 use Rattle.disk_slots.specs.declared.master.Master.{Master}
 use Rattle.disk_image.specs.Laws.{EveryAgreement, EverySealed}
 use Rattle.disk_image.specs.Shown.{Areas, DiskStandsFor, IsCleanDisk, image_by}
-use Rattle.recovery_scan.specs.Scans.{areas_of}
-use Rattle.recovery.specs.Crashes.{IsSameOrNext, Lasts, RecoveryLeaves, StandsStill}
-use Rattle.recovery.specs.Opened.{TellsAll}
-use Rattle.core_state.specs.States.{Opening}
-use Rattle.core_crash.specs.Crashes.{first_map}
+use Rattle.recovery.specs.Masters.{IsSameOrNext}
+use Rattle.recovery.specs.Crashes.{Lasts, RecoveryLeaves, StandsStill}
+use Rattle.recovery.specs.Telling.{TellsAll}
+use Rattle.core_state.specs.Openings.{Opening, first_map}
 use Rattle.session_model.specs.Calls.{Answered, Runs}
 use Rattle.session_model.specs.Calls as session
 use Rattle.session_model.specs.Laws.{EverySession, kept_of}
 use Rattle.session_model.specs.Sessions.{IsAlone, start}
-use Rattle.worker_log.specs.Laws.{EveryRun}
+use Rattle.worker_log.specs.Laws.{EveryRun, entries_onto}
 use Rattle.script_lang.specs.Replies.{AnswerFits, Reply, reply_line}
 use Rattle.worker_log.specs.Logs.{Log}
 use Rattle.worker_log.specs.Kept.{fresh_account}
@@ -35,8 +34,7 @@ use Rattle.lean_edge.specs.Outside.{Feed}
 use Rattle.transcripts.specs.Told.{asked_text, names}
 use Rattle.transcripts.specs.Transcripts.{durables, first_lines, in_turn, transcript, IsQuiet}
 use Rattle.transcripts.proofs.TranscriptLemmas.{journal_is}
-use Rattle.worker_log.specs.Laws.{entries_onto}
-use Rattle.worker_log.specs.Logs.{joined}
+use Rattle.worker_log.specs.Accounts.{joined}
 use Rattle.script_run.specs.Moments.{HoldsRun, InHand, IsAsked, ScriptLeaves}
 use Rattle.lean_shell.specs.Crashes.{HasMasterOf, IsUnwritten, MasterLeaves}
 use Rattle.lean_shell.specs.Headline.{IsInHand, RunLeaves, Survives}

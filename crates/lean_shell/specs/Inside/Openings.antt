@@ -3,7 +3,7 @@ use Rattle.std.specs.Prelude.{◌≡◌, ◌++◌, ◌<◌, ◌≤◌, ℕ, List
 use Rattle.image_model.specs.Images.{map_of}
 use Rattle.image_model.specs.Slots.{Slot, base_of}
 use Rattle.lean_disk.specs.Area.{Area}
-use Rattle.lean_disk.specs.Story.{Story}
+use Rattle.lean_disk.specs.Story.{Story, areas_of}
 use Rattle.lean_disk.specs.Told.{TellsSame}
 use Rattle.lean_edge.specs.Outside.{Held}
 use Rattle.lean_edge.specs.declared.sink.Put.{Put}
@@ -18,15 +18,16 @@ use Rattle.disk_slots.specs.declared.master.Master.{Master}
 use Rattle.disk_image.specs.Formats.{format_of}
 use Rattle.disk_image.specs.MasterSlots.{master_on}
 use Rattle.disk_image.specs.Shown.{image_by, shown_by, IsCleanDisk}
-use Rattle.recovery_scan.specs.Scans.{areas_of}
-use Rattle.recovery.specs.Crashes.{IsNextOf, IsSameOrNext}
-use Rattle.recovery.specs.Opened.{IsSettled, TellsAll}
-use Rattle.core_state.specs.States.{Opening, start_page}
-use Rattle.core_crash.specs.Crashes.{first_map}
+use Rattle.recovery.specs.Crashes.{IsNextOf}
+use Rattle.recovery.specs.Masters.{IsSameOrNext}
+use Rattle.recovery.specs.Opened.{IsSettled}
+use Rattle.recovery.specs.Telling.{TellsAll}
+use Rattle.core_state.specs.Openings.{Opening, start_page, first_map}
 use Rattle.session_model.specs.Sessions.{Session, IsAlone, start}
 use Rattle.image_model.specs.Entries.{Entry}
 use Rattle.log_record.specs.declared.record.Record.{Record}
-use Rattle.worker_log.specs.Logs.{Log, joined, spelled_from}
+use Rattle.worker_log.specs.Logs.{Log}
+use Rattle.worker_log.specs.Accounts.{joined, spelled_from}
 use Rattle.worker_log.specs.Kept.{AllFitBlocks, IsFresh, IsKept, fresh_account, run_of}
 use Rattle.worker_log.specs.Laws.{entries_onto}
 use Rattle.lean_engine.specs.States.{Pictures}

@@ -4,8 +4,9 @@ use Rattle.std.proofs.lemmas.Result.{on_ok_weaker}
 use Rattle.std.specs.Result.{OnOk}
 use Rattle.lean_disk.specs.Moments.{CrashIn, Framed, LeavesOnly}
 use Rattle.log_record.specs.declared.record.Record.{Record}
-use Rattle.worker_log.specs.Logs.{Account}
-use Rattle.worker_log.specs.Kept.{After, IsKept, LeavesBlocks, StagesTo, flushed}
+use Rattle.worker_log.specs.Accounts.{Account}
+use Rattle.worker_log.specs.Kept.{IsKept, LeavesBlocks, StagesTo, flushed}
+use Rattle.worker_log.specs.Calls.{After}
 use Rattle.lean_engine.proofs.PrefixLemmas.{while_staged, while_committed}
 use Rattle.lean_engine.specs.Inside.{EndsTo, IsEnding}
 use Rattle.lean_engine.specs.Logged.{commit_of}

@@ -2,10 +2,9 @@ use Rattle.std.proofs.Common.{◌≡◌, ℕ, Option, refl, ◌∙◌, ap, subst
 use Rattle.page_model.specs.Page.{Page}
 use Rattle.lean_disk.specs.Area.{Area}
 use Rattle.lean_disk.specs.Moments.{OnlyReads}
-use Rattle.lean_disk.specs.Story.{Seat, Story, Tells}
+use Rattle.lean_disk.specs.Story.{Seat, Story, Tells, areas_of}
 use Rattle.lean_disk.proofs.MomentLemmas.{reads_none, reads_then}
 use Rattle.disk_slots.specs.declared.master.Master.{Master}
-use Rattle.page_store.specs.Bases.{areas_of}
 use Rattle.page_store.specs.Inside.{valid_in}
 use Rattle.page_store.proofs.BaseLemmas.{base_found, newest_own, none_found}
 use Rattle.page_store.proofs.base.fetch.Goals as goal

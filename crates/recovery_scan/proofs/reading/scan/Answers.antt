@@ -1,13 +1,13 @@
 use Rattle.std.proofs.Common.{◌≡◌, ◌+◌, ℕ, suc, true, false, List, Err, is_err, true≢false, refl, sym, ◌∙◌, ap, subst, arith}
 use Rattle.lean_disk.specs.Area.{Area}
-use Rattle.lean_disk.specs.Story.{Seat, Story, Tells}
+use Rattle.lean_disk.specs.Story.{Seat, Story, Tells, areas_of}
 use Rattle.lean_disk.proofs.MomentLemmas.{reads_then}
 use Rattle.disk_image.specs.Blocks.{belongs}
 use Rattle.disk_image.specs.Runs.{block_at}
 use Rattle.std.specs.declared.result.Result.{Result}
 use Rattle.recovery_scan.specs.declared.reading.Unread.{Unread}
 use Rattle.recovery_scan.specs.declared.reading.Unread.TheVariants.{Damaged}
-use Rattle.recovery_scan.specs.Scans.{IsBadLog, areas_of}
+use Rattle.recovery_scan.specs.Scans.{IsBadLog}
 use Rattle.recovery_scan.proofs.RunLemmas.{at-end, goes-on, is-bad}
 use Rattle.recovery_scan.proofs.reading.scan.Goals as goal
 

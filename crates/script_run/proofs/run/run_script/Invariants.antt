@@ -1,5 +1,5 @@
 use Rattle.std.proofs.Common.{◌≡◌, ◌-◌, ℕ, List, None}
-use Rattle.core_state.specs.States.{Opening}
+use Rattle.core_state.specs.Openings.{Opening}
 use Rattle.lean_edge.specs.Outside.{Feed}
 use Rattle.script_lang.specs.Reading.{Reading}
 use Rattle.session_model.specs.Sessions.{Session}

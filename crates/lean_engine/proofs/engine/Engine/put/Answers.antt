@@ -2,7 +2,7 @@ use Rattle.std.proofs.Common.{◌≡◌, sym, subst}
 use Rattle.map_model.specs.declared.call.Answer.{Answer}
 use Rattle.map_model.specs.declared.call.Answer.TheVariants.{Was}
 use Rattle.map_model.specs.declared.call.Call.TheVariants.{Put}
-use Rattle.core_state.specs.States.{Opening}
+use Rattle.core_state.specs.Openings.{Opening}
 use Rattle.lean_disk.specs.Story.{Tells}
 use Rattle.node_tree.specs.Nodes.{nodes_of}
 use Rattle.session_model.specs.Sessions.{Session}
