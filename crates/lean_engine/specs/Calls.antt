@@ -14,15 +14,16 @@ use Rattle.worker_log.specs.Logs.{Log, Account}
 use Rattle.worker_log.specs.Kept.{IsKept}
 use Rattle.lean_engine.specs.States.{State, Pictures, Logs}
 use Rattle.worker_log.specs.Kept.{After}
-use Rattle.lean_engine.specs.Refusals.{IsRefused}
+use Rattle.lean_engine.specs.Refusals.{IsRefused, RefusalHasCome}
 use Rattle.lean_engine.specs.Inside.{Ends, change_of, commit_of}
 
--- a call's key and value are in their ranges
+-- the engine takes the call by now, and its key and value are in their ranges
 abbrev pub IsWithin : Call → Type 0
 IsWithin call.Begin = Unit {0}
 IsWithin (call.Get key) = key < key_end
 IsWithin (call.Put key value) = (key < key_end) × (value < value_end)
 IsWithin call.Commit = Unit {0}
+IsWithin _ = ⊥
 
 -- the call touches no device
 abbrev pub IsStill : State → Call → Type 0
@@ -33,6 +34,15 @@ IsStill e c = (r : Refusal) × IsRefused e c r
 abbrev pub IsCommitted : Answer → Type 0
 IsCommitted (answer.Committed number at) = Unit {0}
 IsCommitted _ = ⊥
+
+-- the answers that the engine gives by now
+abbrev pub HasCome : Answer → Type 0
+HasCome (answer.Begun number) = Unit {0}
+HasCome (answer.Value value) = Unit {0}
+HasCome (answer.Was value) = Unit {0}
+HasCome (answer.Committed number at) = Unit {0}
+HasCome (answer.Refused refusal) = RefusalHasCome refusal
+HasCome _ = ⊥
 
 -- all blocks are synced, and the one in hand holds no record
 pub record IsAllSynced (x : Account) : Type 0 where
@@ -52,9 +62,7 @@ pub record KeepsRing (a : Answer) (old new : Log) : Type 0 where
 abbrev pub LogAfter : Answer → State → State → Type 0
 LogAfter (answer.Was value) d e = (page key word : ℕ) × After (change_of d page key word) d.log e.log
 LogAfter (answer.Committed number at) d e = Ends (commit_of d.begun d.log) d.log e.log
-LogAfter (answer.Begun number) d e = e.log ≡ d.log
-LogAfter (answer.Value value) d e = e.log ≡ d.log
-LogAfter (answer.Refused refusal) d e = e.log ≡ d.log
+LogAfter _ d e = e.log ≡ d.log
 
 -- The account after a call that was answered, whatever the device tells: it has the same beginning, its records are those that
 -- the session has logged, and after a commit all its blocks are synced. Where the device tells of the log's area, it is right

@@ -13,7 +13,7 @@ ghost use Rattle.worker_log.specs.Logs.{Account, IsInRange};
 ghost use Rattle.worker_log.specs.Kept.{IsKept, StagesTo};
 ghost use Rattle.lean_engine.specs.States.{Logs, Pictures};
 ghost use Rattle.lean_engine.specs.Refusals.{IsRefused, refusal_of};
-ghost use Rattle.lean_engine.specs.Calls.{Calls, IsCommitted, IsStill, IsWithin, KeepsRing, LogAfter};
+ghost use Rattle.lean_engine.specs.Calls.{Calls, HasCome, IsCommitted, IsStill, IsWithin, KeepsRing, LogAfter};
 ghost use Rattle.lean_engine.specs.Crashes.{IsAround, LeavesPrefix};
 ghost use Rattle.lean_engine.specs.Inside.{IsEnding, IsValue, IsWas, MayPut, Puts, change_of, said, word_of};
 
@@ -35,6 +35,7 @@ impl Engine {
         ensures does { IfOk result (λ a. (g : Opening) (s : Session) → g.changes ≡ 64 → Pictures g s self.old
             → Calls g s self.old self.new call.now a (Tells (P.story dev.new) (P.seat dev.old).area)
             ((P.story dev.old).area (P.seat dev.old).area) ((P.story dev.new).area (P.seat dev.old).area)) }
+        ensures come { IfOk result HasCome }
         ensures ring { IfOk result (λ a. KeepsRing a self.old.log self.new.log) }
         ensures log { IfOk result (λ a. LogAfter a self.old self.new) }
         ensures ranges { IsInRange self.new.log }
@@ -62,6 +63,7 @@ impl Engine {
             Call::Get { key } => Ok(self.get(key)),
             Call::Put { key, value } => self.put(dev, key, value),
             Call::Commit => self.commit(dev),
+            _ => unreachable!(),
         }
     }
 
