@@ -3,7 +3,7 @@ ghost use Rattle.std.specs.Prelude.{◌≡◌, Some};
 ghost use Rattle.lean_disk.specs.Calls.{Noted};
 ghost use Rattle.lean_disk.specs.Faults.{HasCause};
 ghost use Rattle.lean_edge.specs.Outside.{Puts};
-ghost use Rattle.script_lang.specs.Replies.{Reply, reply_line};
+ghost use Rattle.script_lang.specs.Replies.{AnswerFits, Reply, reply_line};
 ghost use Rattle.script_run.specs.Inside.{Says};
 
 use crate::stop::Stop;
@@ -18,6 +18,7 @@ pub(crate) fn put_answer<K: Sink<D>, D: Disk>(
     disk: &mut D,
     answer: &Answer,
 ) -> Option<Stop>
+    requires { AnswerFits answer.now }
     ensures says { Says answer.now result (K.held sink.old) (K.held sink.new) (D.story disk.old) (D.story disk.new) }
     ensures same { D.faults disk.new ≡ D.faults disk.old }
 
@@ -37,6 +38,7 @@ pub(crate) fn put_answer<K: Sink<D>, D: Disk>(
 
 // Puts the line of an answer.
 fn put_reply<K: Sink<D>, D: Disk>(sink: &mut K, disk: &mut D, answer: &Answer) -> Put
+    requires { AnswerFits answer.now }
     ensures put { Puts (reply_line (Reply.Answered 1 answer.now)) result (K.held sink.old) (K.held sink.new) }
     ensures noted { result ≡ Put.Done → Noted (D.story disk.old) (D.story disk.new) }
     ensures not_noted { result ≡ Put.Failed → disk.new ≡ disk.old }
