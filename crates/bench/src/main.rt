@@ -3,6 +3,7 @@
 #![tactic(auto)]
 
 ghost use Rattle.std.specs.Prelude.{◌≤◌, IfOk};
+ghost use Rattle.script_lang.specs.Replies.{AnswerFits};
 
 use btree_node::Node;
 use log_block::{BLOCK, block_bytes};
@@ -40,18 +41,24 @@ fn replies(times: u64) -> u64 {
     let mut into = [0u8; REPLY];
     let mut sum = 0u64;
     for i in 0..times {
-        let answers = [
-            Answer::Begun { number: i },
-            Answer::Was(Some(i)),
-            Answer::Value(None),
-            Answer::Committed { number: i, at: i },
-        ];
-        for answer in answers.iter() {
-            let n = reply_bytes(1, answer, &mut into);
-            sum = sum.wrapping_add(n as u64).wrapping_add(into[2] as u64);
-        }
+        let begun = Answer::Begun { number: i };
+        sum = sum.wrapping_add(reply(&begun, &mut into));
+        let was = Answer::Was(Some(i));
+        sum = sum.wrapping_add(reply(&was, &mut into));
+        let none = Answer::Value(None);
+        sum = sum.wrapping_add(reply(&none, &mut into));
+        let committed = Answer::Committed { number: i, at: i };
+        sum = sum.wrapping_add(reply(&committed, &mut into));
     }
     sum
+}
+
+// One reply: how many bytes it takes, and its third byte.
+fn reply(answer: &Answer, into: &mut [u8; REPLY]) -> u64
+    requires { AnswerFits answer.now }
+{
+    let n = reply_bytes(1, answer, into);
+    (n as u64).wrapping_add(into[2] as u64)
 }
 
 // Not inlined, so that each record is written and read whole.

@@ -2,6 +2,7 @@
 // Python script over a regular expression.
 ghost use Rattle.std.specs.Prelude.{ℕ, [], false};
 ghost use Rattle.lean_edge.specs.Outside.{Feed};
+ghost use Rattle.script_lang.specs.Replies.{AnswerFits};
 
 use lean_edge::{Next, Source};
 use map_model::{Answer, Call, Refusal};
@@ -153,7 +154,9 @@ fn other_lines_are_refused(rt: HostRuntime) {
     }
 }
 
-fn says(rt: &impl Abort, session: u32, answer: Answer, line: &[u8]) {
+fn says(rt: &impl Abort, session: u32, answer: Answer, line: &[u8])
+    requires { AnswerFits answer }
+{
     let mut into = [b'x'; REPLY];
     let n = reply_bytes(session, &answer, &mut into);
     assert!(rt; n == line.len() && n < REPLY);

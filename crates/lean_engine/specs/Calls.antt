@@ -14,15 +14,15 @@ use Rattle.worker_log.specs.Logs.{Log}
 use Rattle.worker_log.specs.Accounts.{Account}
 use Rattle.worker_log.specs.Kept.{IsKept}
 use Rattle.lean_engine.specs.States.{State, Pictures, Logs}
-use Rattle.worker_log.specs.Calls.{After}
-use Rattle.lean_engine.specs.Refusals.{IsRefused}
+use Rattle.lean_engine.specs.Refusals.{IsRefused, RefusalHasCome}
 
--- a call's key and value are in their ranges
+-- the engine takes the call by now, and its key and value are in their ranges
 abbrev pub IsWithin : Call → Type 0
 IsWithin call.Begin = Unit {0}
 IsWithin (call.Get key) = key < key_end
 IsWithin (call.Put key value) = (key < key_end) × (value < value_end)
 IsWithin call.Commit = Unit {0}
+IsWithin _ = ⊥
 
 -- the call touches no device
 abbrev pub IsStill : State → Call → Type 0
@@ -33,6 +33,15 @@ IsStill e c = (r : Refusal) × IsRefused e c r
 abbrev pub IsCommitted : Answer → Type 0
 IsCommitted (answer.Committed number at) = Unit {0}
 IsCommitted _ = ⊥
+
+-- the answers that the engine gives by now
+abbrev pub HasCome : Answer → Type 0
+HasCome (answer.Begun number) = Unit {0}
+HasCome (answer.Value value) = Unit {0}
+HasCome (answer.Was value) = Unit {0}
+HasCome (answer.Committed number at) = Unit {0}
+HasCome (answer.Refused refusal) = RefusalHasCome refusal
+HasCome _ = ⊥
 
 -- all blocks are synced, and the one in hand holds no record
 pub record IsAllSynced (x : Account) : Type 0 where

@@ -30,6 +30,17 @@ refusal_of e (call.Get key) = if e.is_open then None else Some NoTransaction
 refusal_of e (call.Put key value) =
     if e.is_open then (if e.changes == 64 then Some TooLong else log_refusal e.log (if is_full e.pages key then Some Full else None)) else Some NoTransaction
 refusal_of e call.Commit = if e.is_open then None else Some NoTransaction
+refusal_of e _ = None
+
+-- what the tests answer by now
+abbrev pub RefusalHasCome : Refusal → Type 0
+RefusalHasCome InTransaction = Unit {0}
+RefusalHasCome NoTransaction = Unit {0}
+RefusalHasCome TooLong = Unit {0}
+RefusalHasCome (LogFull used limit) = Unit {0}
+RefusalHasCome ClockSpent = Unit {0}
+RefusalHasCome Full = Unit {0}
+RefusalHasCome _ = ⊥
 
 abbrev pub IsRefused : State → Call → Refusal → Type 0
 IsRefused e c r = refusal_of e c ≡ Some r

@@ -13,7 +13,7 @@ ghost use Rattle.worker_log.specs.Kept.{IsInRange, IsKept, StagesTo};
 ghost use Rattle.worker_log.specs.Accounts.{Account};
 ghost use Rattle.lean_engine.specs.States.{Logs, Pictures};
 ghost use Rattle.lean_engine.specs.Refusals.{IsRefused, refusal_of};
-ghost use Rattle.lean_engine.specs.Calls.{Calls, IsCommitted, IsStill, IsWithin};
+ghost use Rattle.lean_engine.specs.Calls.{Calls, HasCome, IsCommitted, IsStill, IsWithin};
 ghost use Rattle.lean_engine.specs.Logged.{LogAfter, change_of, word_of};
 ghost use Rattle.lean_engine.specs.Crashes.{IsAround, LeavesPrefix};
 ghost use Rattle.lean_engine.specs.Inside.{IsEnding, IsValue, IsWas, MayPut, Puts, said};
@@ -36,6 +36,7 @@ impl Engine {
         ensures does { IfOk result (λ a. (g : Opening) (s : Session) → g.changes ≡ 64 → Pictures g s self.old
             → Calls g s self.old self.new call.now a (Tells (P.story dev.new) (P.seat dev.old).area)
             ((P.story dev.old).area (P.seat dev.old).area) ((P.story dev.new).area (P.seat dev.old).area)) }
+        ensures come { IfOk result HasCome }
         ensures log { IfOk result (λ a. LogAfter a call.now self.old self.new.log) }
         ensures ranges { IsInRange self.new.log }
         ensures same { (r : Refusal) → IsRefused self.old call.now r → self.new ≡ self.old }
@@ -62,6 +63,7 @@ impl Engine {
             Call::Get { key } => Ok(self.get(key)),
             Call::Put { key, value } => self.put(dev, key, value),
             Call::Commit => self.commit(dev),
+            _ => unreachable!(),
         }
     }
 

@@ -25,6 +25,7 @@ impl Engine {
             Call::Begin => self.begin_refusal(),
             Call::Get { .. } | Call::Commit => self.closed_refusal(),
             Call::Put { key, .. } => self.put_refusal(key),
+            _ => unreachable!(),
         }
     }
 

@@ -38,6 +38,7 @@ call_read (Put k v) h =
       number_is v fits,
       ranged_is 0 (2 ^ 63) v (omega arith) value,
     ) refl
+call_read _ h = absurd h
 
 call_short : (call : Call) → CallFits call → length (call_text call) ≤ 50
 call_short Begin h = omega arith
@@ -49,6 +50,7 @@ call_short (Put k v) h =
     let l = length-decimal-le 20 k (omega arith) (omega arith) (omega arith) in
     let m = length-decimal-le 20 v (omega arith) (omega arith) (omega arith) in
     let e = length-append (decimal k) (32 ∷ decimal v) in omega arith
+call_short _ h = absurd h
 
 pub line_read : (workers : ℕ) (bytes : List ℕ) (line : Line) → workers < 2 ^ 32 → Spells workers bytes line → line_of workers bytes ≡ Some line
 line_read workers bytes line many is =

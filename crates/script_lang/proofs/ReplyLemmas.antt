@@ -50,6 +50,8 @@ said_back s (Refused (LogFull u l)) small h =
     rw (word_before (decimal u) (decimal l) d, after_before (decimal u) (decimal l) d, number_is u used, word_last (decimal l) e, number_is l limit, after_last (decimal l) e) refl
 said_back s (Refused ClockSpent) small h = refl
 said_back s (Refused Full) small h = refl
+said_back s (Refused _) small h = absurd h
+said_back s _ small h = absurd h
 
 pub read_back : (r : Reply) → Fits r → reply_of (reply_text r) ≡ Some r
 read_back (Answered s a) h =
@@ -105,6 +107,8 @@ answer_line s (Refused (LogFull u l)) small h =
     search (rules, t)
 answer_line s (Refused ClockSpent) small h = search rules
 answer_line s (Refused Full) small h = search rules
+answer_line s (Refused _) small h = absurd h
+answer_line s _ small h = absurd h
 
 pub one_line : (r : Reply) → Fits r → IsLine (reply_text r)
 one_line (Answered s a) h =

@@ -1,5 +1,5 @@
 -- The lines of a script, each without its newline: how a line is spelled, and the line that bytes spell.
-use Rattle.std.specs.Prelude.{◌≡◌, ◌^◌, ◌-◌, ◌+◌, ◌++◌, ◌<◌, ◌≤◌, ℕ, List, ◌∷◌, Option, Some, None, if◌then◌else◌, codes, length, nat_lt}
+use Rattle.std.specs.Prelude.{◌≡◌, ◌^◌, ◌-◌, ◌+◌, ◌++◌, ◌<◌, ◌≤◌, ℕ, List, [], ◌∷◌, Option, Some, None, if◌then◌else◌, codes, length, nat_lt}
 use Rattle.std.specs.Str.{bytes_eq}
 use Rattle.std.specs.Fmt.{decimal}
 use Rattle.script_lang.specs.Words.{word, rest, number_of, ranged, ends, with_one, with_two}
@@ -7,22 +7,25 @@ use Rattle.script_lang.specs.declared.line.Line.{Line}
 use Rattle.map_model.specs.declared.call.Call.{Call}
 use Rattle.map_model.specs.declared.call.Call.TheVariants.{Begin, Get, Put, Commit}
 
--- what is asked, as it is spelled
+-- what is asked, as it is spelled; a call with no line yet has no text
 abbrev pub call_text : Call → List ℕ
 call_text Begin = codes "begin"
 call_text (Get key) = codes "get " ++ decimal key
 call_text (Put key value) = codes "put " ++ (decimal key ++ 32 ∷ decimal value)
 call_text Commit = codes "commit"
+call_text _ = []
 
 -- a line, as it is spelled
 abbrev pub line_text : Line → List ℕ
 line_text line = decimal line.session ++ 32 ∷ call_text line.call
 
--- keys are below 2 ^ 64 - 1, values below 2 ^ 63
+-- the call has a line by now, keys are below 2 ^ 64 - 1, values below 2 ^ 63
 abbrev pub CallFits : Call → Type 0
+CallFits Begin = Unit {0}
 CallFits (Get key) = key < 2 ^ 64 - 1
 CallFits (Put key value) = (key < 2 ^ 64 - 1) × (value < 2 ^ 63)
-CallFits _ = Unit {0}
+CallFits Commit = Unit {0}
+CallFits _ = ⊥
 
 -- the bytes spell this line of a script for so many workers
 pub record Spells (workers : ℕ) (bytes : List ℕ) (line : Line) : Type 0 where

@@ -14,6 +14,7 @@ pub data Reply : Type 0 where
   Answered : ℕ → Answer → Reply
   Durable : ℕ → ℕ → Reply
 
+-- A refusal or an answer with no line yet has no text.
 abbrev pub refusal_text : Refusal → List ℕ
 refusal_text InTransaction = codes "in-transaction"
 refusal_text NoTransaction = codes "no-transaction"
@@ -21,6 +22,7 @@ refusal_text TooLong = codes "too-long"
 refusal_text (LogFull used limit) = codes "log-full " ++ (decimal used ++ 32 ∷ decimal limit)
 refusal_text ClockSpent = codes "clock-spent"
 refusal_text Full = codes "full"
+refusal_text _ = []
 
 -- an answer, behind the session
 abbrev pub answer_text : ℕ → Answer → List ℕ
@@ -31,6 +33,7 @@ answer_text s (Was (Some v)) = codes "was " ++ decimal v
 answer_text s (Was None) = codes "was none"
 answer_text s (Committed n g) = codes "committed " ++ (name s n ++ (codes " at " ++ decimal g))
 answer_text s (Refused r) = refusal_text r
+answer_text s _ = []
 
 abbrev pub reply_text : Reply → List ℕ
 reply_text (Answered s a) = decimal s ++ 32 ∷ answer_text s a
@@ -84,18 +87,25 @@ said_by None words = None
 abbrev pub reply_of : List ℕ → Option Reply
 reply_of line = said_by (number_of (word (Some line))) (rest (Some line))
 
--- numbers fit their types
+-- it has a line by now, and numbers fit their types
 abbrev pub RefusalFits : Refusal → Type 0
+RefusalFits InTransaction = Unit {0}
+RefusalFits NoTransaction = Unit {0}
+RefusalFits TooLong = Unit {0}
 RefusalFits (LogFull used limit) = (used < 2 ^ 32) × (limit < 2 ^ 32)
-RefusalFits _ = Unit {0}
+RefusalFits ClockSpent = Unit {0}
+RefusalFits Full = Unit {0}
+RefusalFits _ = ⊥
 
 abbrev pub AnswerFits : Answer → Type 0
 AnswerFits (Begun n) = n < 2 ^ 64
 AnswerFits (Value (Some v)) = v < 2 ^ 64
+AnswerFits (Value None) = Unit {0}
 AnswerFits (Was (Some v)) = v < 2 ^ 64
+AnswerFits (Was None) = Unit {0}
 AnswerFits (Committed n g) = (n < 2 ^ 64) × (g < 2 ^ 64)
 AnswerFits (Refused r) = RefusalFits r
-AnswerFits _ = Unit {0}
+AnswerFits _ = ⊥
 
 abbrev pub Fits : Reply → Type 0
 Fits (Answered s a) = (s < 2 ^ 32) × AnswerFits a

@@ -1,7 +1,7 @@
 // The lines of output that name a session.
 ghost use Rattle.std.specs.Prelude.{◌≡◌, ◌≤◌, ◌+◌, ◌++◌, ◌∷◌, [], ℕ, List, Some, length};
 ghost use Rattle.script_lang.specs.Pieces.{Holds};
-ghost use Rattle.script_lang.specs.Replies.{Reply, reply_text, reply_of, answer_text, refusal_text, Fits};
+ghost use Rattle.script_lang.specs.Replies.{Reply, reply_text, reply_of, answer_text, refusal_text, Fits, AnswerFits, RefusalFits};
 ghost use Rattle.script_lang.specs.Text.{IsLine};
 ghost use Rattle.script_lang.specs.Replies.Reply.{Answered, Durable};
 ghost use Rattle.script_lang.specs.declared.reply.TheConstants.{REPLY};
@@ -12,9 +12,10 @@ use map_model::{Answer, Refusal};
 /// The bytes that any line of output fits in, its newline counted.
 pub const REPLY: usize = 128;
 
-/// Writes the line of a session's answer. The answer is how many bytes that are.
+/// Writes the line of a session's answer, which has one by now. The answer is how many bytes that are.
 pub fn reply_bytes(session: u32, answer: &Answer, into: &mut [u8]) -> usize
-    requires { REPLY ≤ length into.old }
+    requires fits { AnswerFits answer.now }
+    requires room { REPLY ≤ length into.old }
     ensures { Holds (reply_text (Answered session answer.now) ++ 10 ∷ []) into.old into.new result }
 {
     let at = put_number(into, 0, session as u64);
@@ -33,7 +34,8 @@ pub fn durable_bytes(session: u32, number: u64, into: &mut [u8]) -> usize
 }
 
 fn put_answer(into: &mut [u8], at: usize, session: u32, answer: &Answer) -> usize
-    requires { at + 80 ≤ length into.old }
+    requires fits { AnswerFits answer.now }
+    requires room { at + 80 ≤ length into.old }
     ensures end { result ≤ at + 80 }
     ensures written { (prefix first : List ℕ) → Holds prefix first into.old at → Holds (prefix ++ 32 ∷ answer_text session answer.now) first into.new result }
 {
@@ -47,6 +49,7 @@ fn put_answer(into: &mut [u8], at: usize, session: u32, answer: &Answer) -> usiz
             into, at, session, *number, *commit,
         ),
         Answer::Refused(refusal) => put_refusal(into, at, refusal),
+        _ => unreachable!(),
     }
 }
 
@@ -60,7 +63,8 @@ fn put_committed(into: &mut [u8], at: usize, session: u32, number: u64, commit: 
 }
 
 fn put_refusal(into: &mut [u8], at: usize, refusal: &Refusal) -> usize
-    requires { at + 80 ≤ length into.old }
+    requires fits { RefusalFits refusal.now }
+    requires room { at + 80 ≤ length into.old }
     ensures end { result ≤ at + 80 }
     ensures written { (prefix first : List ℕ) → Holds prefix first into.old at → Holds (prefix ++ 32 ∷ refusal_text refusal.now) first into.new result }
 {
@@ -71,6 +75,7 @@ fn put_refusal(into: &mut [u8], at: usize, refusal: &Refusal) -> usize
         Refusal::LogFull { used, limit } => put_log_full(into, at, *used, *limit),
         Refusal::ClockSpent => put_text(into, at, b" clock-spent"),
         Refusal::Full => put_text(into, at, b" full"),
+        _ => unreachable!(),
     }
 }
 

@@ -89,10 +89,7 @@ holds_prefix told r h0 h1 h2 so_far p =
 -- an answer that is no commit is not told to be durable
 pub not_durable : (a : Answer) → ((number at : ℕ) → a ≡ answer.Committed number at → ⊥) → durable_of a ≡ []
 not_durable (answer.Committed number at) never = absurd (never number at refl)
-not_durable (answer.Begun n) never = refl
-not_durable (answer.Value v) never = refl
-not_durable (answer.Was v) never = refl
-not_durable (answer.Refused r) never = refl
+not_durable _ never = refl
 
 module _ (a : Answer) (h0 h1 h2 : Held) (s0 s1 s2 : Story) (law : IsLawful s0) where
   abbrev first : Reply

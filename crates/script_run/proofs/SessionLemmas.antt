@@ -41,6 +41,7 @@ grown f most s (call.Put k v) a t (inl p) = Changed (change_of f s p.page k v) r
 grown f most s (call.Put k v) a t (inr r) = refusal_grown s t a r
 grown f most s call.Commit a t (inl m) = Committed m.after m.answer_is
 grown f most s call.Commit a t (inr r) = refusal_grown s t a r
+grown f most s _ a t d = absurd d
 
 below_more : (s t : Session) (e : Entry) → AllBelow s → e.number ≡ suc s.clock → t.log ≡ e ∷ s.log → t.clock ≡ suc s.clock → AllBelow t
 below_more s t e below number log clock r has =
@@ -82,10 +83,7 @@ commit_flushed g d e s t x a name has = go (grown g.format g.changes s x.call x.
   where
     other : (a : Answer) → (IsCommitted a → ⊥) → Has name (committed_by a) → ⊥
     other (answer.Committed n at) never h = never tt
-    other (answer.Begun n) never h = h
-    other (answer.Value v) never h = h
-    other (answer.Was v) never h = h
-    other (answer.Refused r) never h = h
+    other _ never h = h
 
     go : Grown s x.answer t → IsFlushed name t e.log
     go (Stays log clock never) = absurd (other x.answer never has)

@@ -76,6 +76,7 @@ within call.Begin fits = tt
 within (call.Get key) fits = fits
 within (call.Put key value) fits = fits
 within call.Commit fits = tt
+within _ fits = absurd fits
 
 others_same : (s : Story) → OthersStand [] s s
 others_same s = record { later = omega arith; counts = refl; tells = λ a. refl; areas = refl; area = λ a other. refl; notes = λ counts fits. omega arith }

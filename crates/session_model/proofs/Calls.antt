@@ -59,6 +59,7 @@ module _ (trees : EveryTree) (laws : page_laws.EveryTree) (g : Opening) (changes
   called xs s call.Commit a t (inl d) p = move g xs call.Commit a (answer.Committed s.begun (committed s).clock) (committed s) t d.answer_is d.after
       (pictured_committed g changes alone xs s d.is_open p)
   called xs s call.Commit a t (inr r) p = refused g xs call.Commit a s t r p
+  called xs s _ a t d p = absurd d
 
   pub pictured : (xs : List Answered) (t : Session) → Runs g xs t → Pictured g xs t
   pictured [] t e = subst (λ (y : Session). Pictured g [] y) (sym e) (pictured_start g)

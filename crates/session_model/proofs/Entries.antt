@@ -159,9 +159,7 @@ entered_committed f h xs t o e = record {
 
 pub refused_steps : (c : Call) (r : Refusal) (xs : List Answered) → open_steps (record { call = c; answer = answer.Refused r } ∷ xs) ≡ open_steps xs
 refused_steps call.Begin r xs = refl
-refused_steps (call.Get k) r xs = refl
-refused_steps (call.Put k v) r xs = refl
-refused_steps call.Commit r xs = refl
+refused_steps _ r xs = refl
 
 pub entered_refused : (f : Format) (h : List Entry) (xs : List Answered) (t : Session) (c : Call) (r : Refusal) → Entered f h xs t → Entered f h (record { call = c; answer = answer.Refused r } ∷ xs) t
 entered_refused f h xs t c r e = record {

@@ -57,11 +57,13 @@ pub record Refuses (s : Session) (a : Answer) (t : Session) : Type 0 where
   pub answer_is : a ≡ answer.Refused refusal
   pub after : t ≡ s
 
+-- a call that has not come does nothing
 abbrev pub Does : Format → ℕ → Session → Call → Answer → Session → Type 0
 Does f most s call.Begin a t = Begins s a t ⊎ Refuses s a t
 Does f most s (call.Get k) a t = Gets f s k a t ⊎ Refuses s a t
 Does f most s (call.Put k v) a t = Puts f most s k v a t ⊎ Refuses s a t
 Does f most s call.Commit a t = Commits s a t ⊎ Refuses s a t
+Does f most s _ a t = ⊥
 
 -- A call and its answer.
 pub record Answered : Type 0 where

@@ -43,6 +43,7 @@ call_line (call.Put key value) fits =
     let second : IsLine (32 ∷ decimal value) = search (rules, last) in
     let first = line_with_number key (32 ∷ decimal value) key_64 second in
     search (rules, first)
+call_line _ fits = absurd fits
 
 pub ask_line : (c : Call) → CallFits c → IsLine (ask c)
 ask_line c fits = let rest = call_line c fits in let spaced : IsLine (32 ∷ call_text c) = search (rules, rest) in line_with_number 1 (32 ∷ call_text c) (omega arith) spaced

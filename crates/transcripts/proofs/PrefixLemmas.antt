@@ -65,10 +65,7 @@ module _ (back : (reply : Reply) → Fits reply → (reply_of (reply_text reply)
 -- the replies to calls fit
 durable_fits : (a : Answer) (earlier : List Reply) → Fits (Reply.Answered 1 a) → EachReplyFits earlier → EachReplyFits (durable_of a ++ Reply.Answered 1 a ∷ earlier)
 durable_fits (answer.Committed n g) earlier fits before = ((before, fits), (fits.0, fits.1.0))
-durable_fits (answer.Begun n) earlier fits before = (before, fits)
-durable_fits (answer.Value v) earlier fits before = (before, fits)
-durable_fits (answer.Was v) earlier fits before = (before, fits)
-durable_fits (answer.Refused r) earlier fits before = (before, fits)
+durable_fits _ earlier fits before = (before, fits)
 
 pub replies_fit : (xs : List Answered) → EachFits xs → EachReplyFits (replies xs)
 replies_fit [] fit = tt
@@ -130,10 +127,7 @@ first_calls (x ∷ earlier) newer told e = step x.call x.answer newer e (first_c
         (λ h. further x earlier told (more h.0 told h.1))
         k)
         (peel_two a (Reply.Durable 1 n) (replies earlier) newer told e)
-    step call (answer.Begun n) newer e more = one call (answer.Begun n) refl newer e more
-    step call (answer.Value v) newer e more = one call (answer.Value v) refl newer e more
-    step call (answer.Was v) newer e more = one call (answer.Was v) refl newer e more
-    step call (answer.Refused r) newer e more = one call (answer.Refused r) refl newer e more
+    step call a newer e more = one call a refl newer e more
 
 pub prefix : (xs : List Answered) (newer told : List Reply) → newer ++ told ≡ replies xs → Prefix xs told
 prefix xs newer told e =

@@ -21,7 +21,7 @@ texts (r ∷ earlier) = texts earlier ++ reply_text r ∷ []
 -- the answers among them, the oldest first
 abbrev pub answer_in : Reply → List (ℕ × Answer)
 answer_in (Reply.Answered session a) = (session, a) ∷ []
-answer_in (Reply.Durable session number) = []
+answer_in _ = []
 
 abbrev pub answers_in : List Reply → List (ℕ × Answer)
 answers_in [] = []
@@ -49,18 +49,16 @@ answers_append [] bs = refl
 answers_append (a ∷ ls) bs = onto (reply_of a) (answers_append ls bs)
   where
     onto : (r : Option Reply) → answers (ls ++ bs) ≡ answers ls ++ answers bs → answer_onto r (answers (ls ++ bs)) ≡ answer_onto r (answers ls) ++ answers bs
-    onto None e = e
     onto (Some (Reply.Answered s x)) e = ap (λ (more : List (ℕ × Answer)). (s, x) ∷ more) e
-    onto (Some (Reply.Durable s n)) e = e
+    onto _ e = e
 
 pub durables_append : (ls bs : List (List ℕ)) → durables_in (ls ++ bs) ≡ durables_in ls ++ durables_in bs
 durables_append [] bs = refl
 durables_append (a ∷ ls) bs = onto (reply_of a) (durables_append ls bs)
   where
     onto : (r : Option Reply) → durables_in (ls ++ bs) ≡ durables_in ls ++ durables_in bs → name_onto r (durables_in (ls ++ bs)) ≡ name_onto r (durables_in ls) ++ durables_in bs
-    onto None e = e
-    onto (Some (Reply.Answered s x)) e = e
     onto (Some (Reply.Durable s n)) e = ap (λ (more : List Name). record { session = s; number = n } ∷ more) e
+    onto _ e = e
 
 -- how replies and notices are read
 module _ (back : (reply : Reply) → Fits reply → (reply_of (reply_text reply) ≡ Some reply) × IsLine (reply_text reply)) (quiet : (line : Notice) → NoticeFits line → (reply_of (notice_text line) ≡ None) × IsLine (notice_text line)) where
@@ -88,14 +86,14 @@ module _ (back : (reply : Reply) → Fits reply → (reply_of (reply_text reply)
     where
       one : (r : Reply) → answer_onto (Some r) [] ≡ answer_in r
       one (Reply.Answered s a) = refl
-      one (Reply.Durable s n) = refl
+      one _ = refl
 
   durables_one : (r : Reply) → Fits r → durables_in (reply_text r ∷ []) ≡ name_of r
   durables_one r fit = ap (λ (o : Option Reply). name_onto o []) (back r fit).0 ∙ one r
     where
       one : (r : Reply) → name_onto (Some r) [] ≡ name_of r
-      one (Reply.Answered s a) = refl
       one (Reply.Durable s n) = refl
+      one _ = refl
 
   pub answers_texts : (told : List Reply) → EachReplyFits told → answers (texts told) ≡ answers_in told
   answers_texts [] fit = refl

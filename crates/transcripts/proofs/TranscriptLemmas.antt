@@ -55,10 +55,7 @@ paired_first (x ∷ earlier) calls more =
 -- the answers among the replies to calls
 answers_durable : (a : Answer) (earlier : List Reply) → answers_in (durable_of a ++ earlier) ≡ answers_in earlier
 answers_durable (answer.Committed n g) earlier = append-nil (answers_in earlier)
-answers_durable (answer.Begun n) earlier = refl
-answers_durable (answer.Value v) earlier = refl
-answers_durable (answer.Was v) earlier = refl
-answers_durable (answer.Refused r) earlier = refl
+answers_durable _ earlier = refl
 
 pub answers_are : (xs : List Answered) → answers_in (replies xs) ≡ said_in xs
 answers_are [] = refl
@@ -72,10 +69,7 @@ heard_answers xs told (Lacking l) =
 -- the transactions that the replies to calls tell to be durable are those that the calls commit
 names_durable : (a : Answer) (earlier : List Reply) → names (durable_of a ++ Reply.Answered 1 a ∷ earlier) ≡ names earlier ++ committed_by a
 names_durable (answer.Committed n g) earlier = ap (λ (more : List Name). more ++ record { session = 1; number = n } ∷ []) (append-nil (names earlier))
-names_durable (answer.Begun n) earlier = refl
-names_durable (answer.Value v) earlier = refl
-names_durable (answer.Was v) earlier = refl
-names_durable (answer.Refused r) earlier = refl
+names_durable _ earlier = refl
 
 pub names_are : (xs : List Answered) → names (replies xs) ≡ committed xs
 names_are [] = refl

@@ -31,10 +31,7 @@ asked_text (x ∷ earlier) = asked_text earlier ++ (ask x.call ++ 10 ∷ [])
 -- a commit is reported durable
 abbrev pub durable_of : Answer → List Reply
 durable_of (answer.Committed number at) = Reply.Durable 1 number ∷ []
-durable_of (answer.Begun number) = []
-durable_of (answer.Value value) = []
-durable_of (answer.Was value) = []
-durable_of (answer.Refused refusal) = []
+durable_of _ = []
 
 -- the replies to calls, the newest first: each answer, and that a commit is durable
 abbrev pub replies : List Answered → List Reply
@@ -56,8 +53,8 @@ lines_before xs = length (replies xs)
 
 -- the transactions that replies tell to be durable, the oldest first
 abbrev pub name_of : Reply → List Name
-name_of (Reply.Answered session a) = []
 name_of (Reply.Durable session number) = record { session = session; number = number } ∷ []
+name_of _ = []
 
 abbrev pub names : List Reply → List Name
 names [] = []
@@ -66,10 +63,7 @@ names (r ∷ earlier) = names earlier ++ name_of r
 -- the transactions that calls commit, the oldest first
 abbrev pub committed_by : Answer → List Name
 committed_by (answer.Committed number at) = record { session = 1; number = number } ∷ []
-committed_by (answer.Begun number) = []
-committed_by (answer.Value value) = []
-committed_by (answer.Was value) = []
-committed_by (answer.Refused refusal) = []
+committed_by _ = []
 
 abbrev pub committed : List Answered → List Name
 committed [] = []
@@ -77,7 +71,7 @@ committed (x ∷ earlier) = committed earlier ++ committed_by x.answer
 
 -- ## What a run prints
 
--- the calls are in a script's grammar, and the numbers of their answers fit their types
+-- the calls are in a script's grammar, and their answers in that of its replies
 abbrev pub EachFits : List Answered → Type 0
 EachFits [] = Unit {0}
 EachFits (x ∷ earlier) = EachFits earlier × CallFits x.call × Fits (Reply.Answered 1 x.answer)

@@ -20,9 +20,8 @@ asked workers (l ∷ ls) = asked_onto (line_of workers l) (asked workers ls)
 
 -- the answers among the lines of an output
 abbrev pub answer_onto : Option Reply → List (ℕ × Answer) → List (ℕ × Answer)
-answer_onto None behind = behind
 answer_onto (Some (Reply.Answered session a)) behind = (session, a) ∷ behind
-answer_onto (Some (Reply.Durable session number)) behind = behind
+answer_onto _ behind = behind
 
 abbrev pub answers : List (List ℕ) → List (ℕ × Answer)
 answers [] = []
@@ -40,9 +39,8 @@ transcript workers input output = paired (asked workers (script_lines input)) (a
 
 -- the transactions that an output tells to be durable
 abbrev pub name_onto : Option Reply → List Name → List Name
-name_onto None behind = behind
-name_onto (Some (Reply.Answered session a)) behind = behind
 name_onto (Some (Reply.Durable session number)) behind = record { session = session; number = number } ∷ behind
+name_onto _ behind = behind
 
 abbrev pub durables_in : List (List ℕ) → List Name
 durables_in [] = []

@@ -24,17 +24,11 @@ pub record IsCommit (s : Session) (c : Call) (n at : ℕ) (t : Session) : Type 0
 
 abbrev number_in : Answer → ℕ
 number_in (answer.Committed n at) = n
-number_in (answer.Begun n) = n
-number_in (answer.Value v) = 0
-number_in (answer.Was v) = 0
-number_in (answer.Refused r) = 0
+number_in _ = 0
 
 abbrev at_in : Answer → ℕ
 at_in (answer.Committed n at) = at
-at_in (answer.Begun n) = 0
-at_in (answer.Value v) = 0
-at_in (answer.Was v) = 0
-at_in (answer.Refused r) = 0
+at_in _ = 0
 
 commits : (f : Format) (most : ℕ) (s : Session) (c : Call) (n at : ℕ) (t : Session) → Does f most s c (answer.Committed n at) t → IsCommit s c n at t
 commits f most s call.Begin n at t (inl b) = let e = b.answer_is in absurd (cc)
@@ -45,6 +39,7 @@ commits f most s (call.Put k v) n at t (inl b) = let e = b.answer_is in absurd (
 commits f most s (call.Put k v) n at t (inr r) = let e = r.answer_is in absurd (cc)
 commits f most s call.Commit n at t (inl m) = record { call_is = refl; log_is = ap (λ (u : Session). u.log) m.after; number_is = ap number_in m.answer_is; at_is = ap at_in m.answer_is }
 commits f most s call.Commit n at t (inr r) = let e = r.answer_is in absurd (cc)
+commits f most s _ n at t d = absurd d
 
 -- the commit in hand, whose record is left
 pub record CommitInHand (start : Feed) (heard hand : List Answered) (left : List Entry) : Type 0 where
@@ -98,7 +93,4 @@ settle start g heard hand session left newer runs prefix (inr p) = by_answer p.0
 
     by_answer : (a : Answer) → p.0.answer ≡ a → Settled start g heard left
     by_answer (answer.Committed n at) e = by_prefix n at e (commits g.format g.changes runs_x.0 p.0.call n at session (subst (λ (a : Answer). Does g.format g.changes runs_x.0 p.0.call a session) e runs_x.2)) newer prefix
-    by_answer (answer.Begun n) e = quiet (ap journal p.1 ∙ ap (with_answer p.0 heard) e)
-    by_answer (answer.Value v) e = quiet (ap journal p.1 ∙ ap (with_answer p.0 heard) e)
-    by_answer (answer.Was v) e = quiet (ap journal p.1 ∙ ap (with_answer p.0 heard) e)
-    by_answer (answer.Refused r) e = quiet (ap journal p.1 ∙ ap (with_answer p.0 heard) e)
+    by_answer _ e = quiet (ap journal p.1 ∙ ap (with_answer p.0 heard) e)

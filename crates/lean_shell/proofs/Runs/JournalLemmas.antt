@@ -75,10 +75,7 @@ one_more x earlier (answer.Committed n at) = inr (record {
   has = λ t h. has_still t (txn_of (record { session = 1; number = n; at = at; lines = lines_in 1 (lines earlier) })) (journal earlier) h;
   only = λ t h. only_inserted t (txn_of (record { session = 1; number = n; at = at; lines = lines_in 1 (lines earlier) })) (journal earlier) h;
 })
-one_more x earlier (answer.Begun n) = inl refl
-one_more x earlier (answer.Value v) = inl refl
-one_more x earlier (answer.Was v) = inl refl
-one_more x earlier (answer.Refused r) = inl refl
+one_more x earlier _ = inl refl
 
 pub with_hand : (calls hand : List Answered) → (hand ≡ calls) ⊎ ((x : Answered) × (hand ≡ x ∷ calls)) → Grows (journal calls) (journal hand)
 with_hand calls hand (inl e) = inl (ap journal e)
@@ -115,10 +112,7 @@ named_by name x earlier (answer.Committed n at) ih h = ⊎_elim
       number = sym (ap (λ (m : Name). m.number) e);
     }
     new (inr k) = absurd k
-named_by name x earlier (answer.Begun n) ih h = still_named name x earlier (answer.Begun n) (ih (⊎_elim (λ j. j) (λ j. absurd j) (has_cases name (names (replies earlier)) [] h)))
-named_by name x earlier (answer.Value v) ih h = still_named name x earlier (answer.Value v) (ih (⊎_elim (λ j. j) (λ j. absurd j) (has_cases name (names (replies earlier)) [] h)))
-named_by name x earlier (answer.Was v) ih h = still_named name x earlier (answer.Was v) (ih (⊎_elim (λ j. j) (λ j. absurd j) (has_cases name (names (replies earlier)) [] h)))
-named_by name x earlier (answer.Refused r) ih h = still_named name x earlier (answer.Refused r) (ih (⊎_elim (λ j. j) (λ j. absurd j) (has_cases name (names (replies earlier)) [] h)))
+named_by name x earlier a ih h = still_named name x earlier a (ih (⊎_elim (λ j. j) (λ j. absurd j) (has_cases name (names (replies earlier)) [] h)))
 
 named : (name : Name) (calls : List Answered) → Has name (names (replies calls)) → HasNamed name (journal calls)
 named name [] h = absurd h

@@ -39,10 +39,7 @@ no_tail n fits = CutNotice n fits (record { more = notice_text n; is = refl })
 
 durable_few : (a : Answer) → length (durable_of a) ≤ 1
 durable_few (answer.Committed n at) = omega arith
-durable_few (answer.Begun n) = omega arith
-durable_few (answer.Value v) = omega arith
-durable_few (answer.Was v) = omega arith
-durable_few (answer.Refused r) = omega arith
+durable_few _ = omega arith
 
 pub few_replies : (xs : List Answered) → length (replies xs) ≤ 2 * length xs
 few_replies [] = omega arith
