@@ -10,7 +10,7 @@ use std::thread::Threads;
 
 const FORMAT: &str = "lean format --workers 1 --pages 16 --blocks 64";
 
-pub const CHOICES: [Choice; 4] = [
+pub(crate) const CHOICES: [Choice; 4] = [
     Choice::NoBytes,
     Choice::AllBytes,
     Choice::FirstHalf,
@@ -18,7 +18,7 @@ pub const CHOICES: [Choice; 4] = [
 ];
 
 /// How many calls of an area a sweep goes through at most.
-pub const MANY: u64 = 1000;
+pub(crate) const MANY: u64 = 1000;
 
 // Holds no worker.
 struct Open;
@@ -31,20 +31,20 @@ impl Gate for Open {
 
 /// A status, a disk, and what was printed.
 #[derive(Drop)]
-pub struct Outcome {
+pub(crate) struct Outcome {
     pub status: u8,
     pub disk: MemDisk,
     pub sink: MemSink,
 }
 
 impl Outcome {
-    pub fn printed(&self) -> &str {
+    pub(crate) fn printed(&self) -> &str {
         str::from_utf8(self.sink.bytes()).unwrap_or("no text")
     }
 }
 
 /// Lines, where a `;` stands for each newline.
-pub fn lines_of(alloc: Global, text: &str) -> Result<String, AllocError> {
+pub(crate) fn lines_of(alloc: Global, text: &str) -> Result<String, AllocError> {
     text.replace(alloc, ';', "\n")
 }
 
@@ -72,18 +72,18 @@ fn run_words<R: Threads + Wait + Sync>(
 }
 
 /// A new disk of 16 pages and 64 blocks, on which no call was made.
-pub fn formatted<R: Threads + Wait + Sync>(rt: &R, alloc: Global) -> Result<MemDisk, Fail> {
+pub(crate) fn formatted<R: Threads + Wait + Sync>(rt: &R, alloc: Global) -> Result<MemDisk, Fail> {
     let disk = MemDisk::new(alloc, 3)?;
     let Outcome { disk, .. } = run_words(rt, alloc, FORMAT, "", disk, MemSink::new(alloc))?;
     Ok(disk.crash(disk.moment(), Choice::AllBytes)?)
 }
 
 /// The same disk once more, where no call was made on it.
-pub fn copy_of(disk: &MemDisk) -> Result<MemDisk, AllocError> {
+pub(crate) fn copy_of(disk: &MemDisk) -> Result<MemDisk, AllocError> {
     disk.crash(0, Choice::AllBytes)
 }
 
-pub fn run_script<R: Threads + Wait + Sync>(
+pub(crate) fn run_script<R: Threads + Wait + Sync>(
     rt: &R,
     alloc: Global,
     disk: MemDisk,
@@ -93,7 +93,7 @@ pub fn run_script<R: Threads + Wait + Sync>(
 }
 
 /// A run in which a call of an area of the disk fails.
-pub fn run_failing<R: Threads + Wait + Sync>(
+pub(crate) fn run_failing<R: Threads + Wait + Sync>(
     rt: &R,
     alloc: Global,
     disk: &MemDisk,
@@ -107,7 +107,7 @@ pub fn run_failing<R: Threads + Wait + Sync>(
 }
 
 /// A run that ends as the line of this number is put, which does not go out.
-pub fn run_up_to<R: Threads + Wait + Sync>(
+pub(crate) fn run_up_to<R: Threads + Wait + Sync>(
     rt: &R,
     alloc: Global,
     disk: &MemDisk,
@@ -120,7 +120,7 @@ pub fn run_up_to<R: Threads + Wait + Sync>(
 }
 
 /// The moments at which the lines of a run went out, one after another.
-pub fn out_at<R: Threads + Wait + Sync>(
+pub(crate) fn out_at<R: Threads + Wait + Sync>(
     rt: &R,
     alloc: Global,
     disk: &MemDisk,
@@ -136,33 +136,22 @@ pub fn out_at<R: Threads + Wait + Sync>(
 }
 
 /// How many of these moments have come.
-pub fn out_by(moments: &[u64], moment: u64) -> u64 {
+pub(crate) fn out_by(moments: &[u64], moment: u64) -> u64 {
     moments.iter().filter(|out| **out <= moment).count() as u64
 }
 
-pub fn count_lines(text: &str) -> u64 {
+pub(crate) fn count_lines(text: &str) -> u64 {
     text.bytes().filter(|byte| *byte == b'\n').count() as u64
 }
 
-/// The first line of a run that opened its disk.
-pub fn first_line(
-    alloc: Global,
-    generation: u64,
-    winners: u64,
-    undone: u64,
-) -> Result<String, AllocError> {
-    format!(in alloc; "open {generation} winners {winners} undone {undone}\n")
-}
-
-/// The lines of a run: its first one, and those behind it.
-pub fn whole_lines(
+/// The lines of a run that opened its disk: the first one, and those behind it.
+pub(crate) fn whole_lines(
     alloc: Global,
     generation: u64,
     winners: u64,
     undone: u64,
     rest: &str,
 ) -> Result<String, AllocError> {
-    let mut lines = first_line(alloc, generation, winners, undone)?;
-    lines.push_str(&lines_of(alloc, rest)?)?;
-    Ok(lines)
+    let rest = lines_of(alloc, rest)?;
+    format!(in alloc; "open {generation} winners {winners} undone {undone}\n{rest}")
 }
