@@ -2,6 +2,7 @@
 ghost use Rattle.worker_log.specs.Logs.{IsInRange};
 ghost use Rattle.lean_engine.specs.Calls.{IsWithin};
 
+use crate::cases::expect;
 use btree_node::Node;
 use lean_disk::{AreaOf, Disk, MemDisk, Part};
 use lean_engine::{DiskFault, Engine};
@@ -10,10 +11,10 @@ use node_tree::first_break;
 use page_model::every_check;
 use std::alloc::{AllocError, Global};
 use std::process::Abort;
-use std::test::Fail;
 use worker_log::WorkerLog;
 
 // What is asked.
+#[derive(Drop)]
 enum Asked {
     Begin,
     Get(u32),
@@ -281,23 +282,22 @@ fn is_done<P: Part>(engine: &mut Engine, dev: &mut P, step: &Step) -> bool {
     }
 }
 
-#[test]
-fn each_call_is_answered_as_is_written(rt: HostRuntime) -> Result<(), Fail> {
-    let alloc = rt.alloc();
-    for case in &CASES {
-        let mut disk = MemDisk::new(alloc, 3)?;
-        disk.fail_at(2, Vec::from_slice(alloc, case.failing)?);
-        let mut dev = AreaOf::new(&mut disk, 2);
-        let mut engine = engine_at(&rt, alloc, case.clock)?;
-        for (place, step) in case.steps.iter().enumerate() {
-            assert!(rt;
-                is_done(&mut engine, &mut dev, step),
-                "{}, step {place}",
-                case.name
-            );
+fn is_met(rt: &impl Abort, alloc: Global, case: &Case) -> Result<bool, AllocError> {
+    let mut disk = MemDisk::new(alloc, 3)?;
+    disk.fail_at(2, Vec::from_slice(alloc, case.failing)?);
+    let mut dev = AreaOf::new(&mut disk, 2);
+    let mut engine = engine_at(rt, alloc, case.clock)?;
+    for step in case.steps {
+        if !is_done(&mut engine, &mut dev, step) {
+            return Ok(false);
         }
-        assert_eq!(rt; disk.bytes(2).len(), case.bytes, "{}", case.name);
-        assert_eq!(rt; disk.moment(), case.moment, "{}", case.name);
     }
-    Ok(())
+    Ok(disk.bytes(2).len() == case.bytes && disk.moment() == case.moment)
+}
+
+#[test]
+fn each_call_is_answered_as_is_written(rt: HostRuntime) {
+    for case in &CASES {
+        expect(&rt, case.name, is_met(&rt, rt.alloc(), case));
+    }
 }

@@ -1,8 +1,9 @@
 // A log over a disk in memory. The bytes of blocks are Python's, by struct.pack and hashlib.
+use crate::cases::expect;
 use lean_disk::{AreaOf, Disk, MemDisk, Part};
 use log_record::{Body, PageRef, Record};
+use std::alloc::{AllocError, Global};
 use std::process::Abort;
-use std::test::Fail;
 use worker_log::{DiskFault, Staging, WorkerLog};
 
 enum Step {
@@ -244,37 +245,48 @@ fn is_done<P: Part>(rt: &impl Abort, log: &mut WorkerLog, dev: &mut P, step: &St
 
 // Whether the bytes stand at their place, and the zeros behind them.
 fn holds(area: &[u8], part: &Bytes) -> bool {
-    match area.get(part.at..) {
-        Some(rest) => match rest.strip_prefix(part.bytes) {
-            Some(behind) => behind.iter().take(part.zeros).all(|byte| *byte == 0),
-            None => false,
-        },
-        None => false,
+    let Some(rest) = area.get(part.at..) else {
+        return false;
+    };
+    let Some(behind) = rest.strip_prefix(part.bytes) else {
+        return false;
+    };
+    for byte in behind.iter().take(part.zeros) {
+        if *byte != 0 {
+            return false;
+        }
     }
+    true
+}
+
+fn is_met(rt: &impl Abort, alloc: Global, case: &Case) -> Result<bool, AllocError> {
+    let mut disk = MemDisk::new(alloc, 3)?;
+    disk.fail_at(2, Vec::from_slice(alloc, case.failing)?);
+    let mut dev = AreaOf::new(&mut disk, 2);
+    if case.log < 1 || case.log > 16 || case.head > 63 {
+        return Ok(false);
+    }
+    let mut log = WorkerLog::new(alloc, case.generation, case.log, 64, case.head, 0)?;
+    for step in case.steps {
+        if !is_done(rt, &mut log, &mut dev, step) {
+            return Ok(false);
+        }
+    }
+    for part in case.bytes {
+        if !holds(disk.bytes(2), part) {
+            return Ok(false);
+        }
+    }
+    Ok(
+        log.close() == case.flushed
+            && disk.bytes(2).len() == case.len
+            && disk.moment() == case.moment,
+    )
 }
 
 #[test]
-fn a_log_stages_records_and_writes_blocks(rt: HostRuntime) -> Result<(), Fail> {
-    let alloc = rt.alloc();
+fn a_log_stages_records_and_writes_blocks(rt: HostRuntime) {
     for case in &CASES {
-        let mut disk = MemDisk::new(alloc, 3)?;
-        disk.fail_at(2, Vec::from_slice(alloc, case.failing)?);
-        let mut dev = AreaOf::new(&mut disk, 2);
-        assert!(rt; 1 <= case.log && case.log <= 16 && case.head < 64);
-        let mut log = WorkerLog::new(alloc, case.generation, case.log, 64, case.head, 0)?;
-        for (place, step) in case.steps.iter().enumerate() {
-            assert!(rt;
-                is_done(&rt, &mut log, &mut dev, step),
-                "{}, step {place}",
-                case.name
-            );
-        }
-        assert_eq!(rt; log.close(), case.flushed, "{}", case.name);
-        assert_eq!(rt; disk.bytes(2).len(), case.len, "{}", case.name);
-        assert_eq!(rt; disk.moment(), case.moment, "{}", case.name);
-        for part in case.bytes {
-            assert!(rt; holds(disk.bytes(2), part), "{}, at {}", case.name, part.at);
-        }
+        expect(&rt, case.name, is_met(&rt, rt.alloc(), case));
     }
-    Ok(())
 }

@@ -1,13 +1,13 @@
 // Disks in memory that are opened, and opened again after each crash and each failed call.
 ghost use Rattle.std.specs.Prelude.{◌≤◌, length};
 
+use crate::cases::expect;
 use btree_node::Node;
 use disk_slots::{Heads, Master, master_bytes, page_bytes};
 use lean_disk::{Choice, Did, Disk, MemDisk};
 use log_block::block_bytes;
 use recovery::{Recovered, Unrecovered, recover};
 use std::alloc::{AllocError, Global};
-use std::test::Fail;
 
 // A change of key 5 in page 0, from none to 7, and its commit.
 const RECORDS: [u8; 78] = [
@@ -170,59 +170,71 @@ fn is_done(alloc: Global, disk: &mut MemDisk, step: &Step) -> bool {
     true
 }
 
+fn is_met(alloc: Global, case: &Case) -> Result<bool, AllocError> {
+    let mut disk = MemDisk::new(alloc, 3)?;
+    for step in case.steps {
+        if !is_done(alloc, &mut disk, step) {
+            return Ok(false);
+        }
+    }
+    Ok(true)
+}
+
+// Whether it opens with the same map after each call of an area that failed.
+fn is_same_after_faults(alloc: Global, area: u32) -> Result<bool, AllocError> {
+    for call in 1..40 {
+        let mut disk = used(alloc)?;
+        disk.fail_at(area, vec![in alloc; call]?);
+        let found = value_on(alloc, &mut disk);
+        if found != Ok(Some(7)) && found != Err(Unrecovered::DiskFault) {
+            return Ok(false);
+        }
+        disk.fail_at(area, Vec::new(alloc));
+        if value_on(alloc, &mut disk) != Ok(Some(7)) {
+            return Ok(false);
+        }
+    }
+    Ok(true)
+}
+
+// Whether it opens with the same map after a crash of an opening at each moment.
+fn is_same_after_crashes(alloc: Global, choice: Choice) -> Result<bool, AllocError> {
+    let mut disk = used(alloc)?;
+    if value_on(alloc, &mut disk) != Ok(Some(7)) {
+        return Ok(false);
+    }
+    for moment in 0..disk.moment() {
+        let mut left = disk.crash(moment, choice)?;
+        if value_on(alloc, &mut left) != Ok(Some(7)) {
+            return Ok(false);
+        }
+    }
+    Ok(true)
+}
+
+static FAULTS: [(&str, u32); 3] = [
+    ("calls on the masters fail", 0),
+    ("calls on the pages fail", 1),
+    ("calls on the log fail", 2),
+];
+
+static CRASHES: [(&str, Choice); 4] = [
+    ("crashes leave no bytes", Choice::NoBytes),
+    ("crashes leave all bytes", Choice::AllBytes),
+    ("crashes leave halves", Choice::FirstHalf),
+    ("crashes leave zeros", Choice::Zeros),
+];
+
 #[test]
-fn each_disk_is_opened_as_is_written(rt: HostRuntime) -> Result<(), Fail> {
+fn each_disk_opens_with_the_map_of_its_log(rt: HostRuntime) {
     let alloc = rt.alloc();
     for case in &CASES {
-        let mut disk = MemDisk::new(alloc, 3)?;
-        for (place, step) in case.steps.iter().enumerate() {
-            assert!(rt;
-                is_done(alloc, &mut disk, step),
-                "{}, step {place}",
-                case.name
-            );
-        }
+        expect(&rt, case.name, is_met(alloc, case));
     }
-    Ok(())
-}
-
-#[test]
-fn after_each_failed_call_it_opens_with_the_same_map(rt: HostRuntime) -> Result<(), Fail> {
-    let alloc = rt.alloc();
-    for area in 0..3 {
-        for call in 1..40 {
-            let mut disk = used(alloc)?;
-            disk.fail_at(area, vec![in alloc; call]?);
-            match value_on(alloc, &mut disk) {
-                Ok(found) => assert_eq!(rt; found, Some(7), "area {area}, call {call}"),
-                Err(error) => {
-                    assert_eq!(rt; error, Unrecovered::DiskFault, "area {area}, call {call}");
-                }
-            }
-            disk.fail_at(area, Vec::new(alloc));
-            let found = value_on(alloc, &mut disk);
-            assert_eq!(rt; found, Ok(Some(7)), "area {area}, call {call}");
-        }
+    for (name, area) in &FAULTS {
+        expect(&rt, name, is_same_after_faults(alloc, *area));
     }
-    Ok(())
-}
-
-#[test]
-fn after_each_crash_it_opens_with_the_same_map(rt: HostRuntime) -> Result<(), Fail> {
-    let alloc = rt.alloc();
-    let mut disk = used(alloc)?;
-    assert_eq!(rt; value_on(alloc, &mut disk), Ok(Some(7)));
-    for moment in 0..disk.moment() {
-        for choice in [
-            Choice::NoBytes,
-            Choice::AllBytes,
-            Choice::FirstHalf,
-            Choice::Zeros,
-        ] {
-            let mut left = disk.crash(moment, choice)?;
-            let found = value_on(alloc, &mut left);
-            assert_eq!(rt; found, Ok(Some(7)), "at {moment}, by {choice:?}");
-        }
+    for (name, choice) in &CRASHES {
+        expect(&rt, name, is_same_after_crashes(alloc, *choice));
     }
-    Ok(())
 }

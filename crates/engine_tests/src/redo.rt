@@ -1,8 +1,10 @@
 // Pages and records, and what recovery makes of them, were written down by hand.
-use crate::trees::{FREE, LEVEL, LIVE, Page, TOMBSTONE, TOP, node_of};
+use crate::cases::expect;
+use crate::trees::{FREE, LEVEL, LIVE, Page, TOMBSTONE, TOP, node_of, nodes_of};
 use btree_node::Node;
 use recovery_redo::{Failed, Outcome, recover_pages};
 use recovery_scan::{Found, What};
+use std::alloc::Global;
 use std::process::Abort;
 
 macro_rules! change {
@@ -58,7 +60,7 @@ struct Case {
     left: Left,
 }
 
-static RECOVERED: [Case; 8] = [
+static CASES: [Case; 8] = [
     Case {
         name: "a winner stays and a loser leaves a tombstone",
         pages: Pages {
@@ -210,92 +212,102 @@ static RECOVERED: [Case; 8] = [
     },
 ];
 
-// The number of page 1, a record that can't be done, and one of a key that can't be put back.
-static DAMAGED: [(u64, Found); 9] = [
-    (0, change!(1, 11, 4, 0, 4, 40, 41)),
-    (0, change!(1, 11, 0, 0, 4, 40, 41)),
-    (0, change!(1, 11, 3, 0, 4, 40, 41)),
-    (0, change!(1, 11, 1, 0, 10, 40, 41)),
-    (0, change!(1, 11, 1, 0, 4, TOMBSTONE + 1, 41)),
-    (0, change!(1, 11, 1, 0, 4, 40, TOMBSTONE + 1)),
-    (20, change!(1, 11, 1, 0, 5, 40, 41)),
-    (20, change!(1, 11, 1, 0, 15, 40, 41)),
-    (20, change!(1, 11, 1, 0, TOP, 40, 41)),
+// The number of page 1, and a record that can't be done, or one of a key that can't be put back.
+static DAMAGED: [(&str, u64, Found); 9] = [
+    (
+        "a page that there is not",
+        0,
+        change!(1, 11, 4, 0, 4, 40, 41),
+    ),
+    ("the root", 0, change!(1, 11, 0, 0, 4, 40, 41)),
+    ("a free page", 0, change!(1, 11, 3, 0, 4, 40, 41)),
+    ("a key of another page", 0, change!(1, 11, 1, 0, 10, 40, 41)),
+    (
+        "a word before that is no value",
+        0,
+        change!(1, 11, 1, 0, 4, TOMBSTONE + 1, 41),
+    ),
+    (
+        "a word after that is no value",
+        0,
+        change!(1, 11, 1, 0, 4, 40, TOMBSTONE + 1),
+    ),
+    (
+        "a key that the page has not",
+        20,
+        change!(1, 11, 1, 0, 5, 40, 41),
+    ),
+    (
+        "a key above the page's",
+        20,
+        change!(1, 11, 1, 0, 15, 40, 41),
+    ),
+    ("the greatest key", 20, change!(1, 11, 1, 0, TOP, 40, 41)),
 ];
 
-fn nodes_of(rt: &impl Abort, pages: &Pages) -> [Node; 4] {
-    let Pages { number, word } = pages;
-    [
-        node_of(
-            rt,
-            &Page([0, 0, 7, 2 + LEVEL + LIVE], 0, TOP, [0, 1, 10, 2]),
-        ),
-        node_of(
-            rt,
-            &Page([1, *number, 7, 1 + LIVE], 0, 10, [4, *word, 0, 0]),
-        ),
-        node_of(rt, &Page([2, 0, 7, LIVE], 10, TOP, [0; 4])),
-        node_of(rt, &Page([3, 0, 7, FREE], 0, 0, [0; 4])),
-    ]
+fn nodes_at(rt: &impl Abort, number: u64, word: u64) -> [Node; 4] {
+    nodes_of(
+        rt,
+        &[
+            Page([0, 0, 7, 2 + LEVEL + LIVE], 0, TOP, [0, 1, 10, 2]),
+            Page([1, number, 7, 1 + LIVE], 0, 10, [4, word, 0, 0]),
+            Page([2, 0, 7, LIVE], 10, TOP, [0; 4]),
+            Page([3, 0, 7, FREE], 0, 0, [0; 4]),
+        ],
+    )
 }
 
-fn is_left(outcome: &Outcome, nodes: &[Node; 4], left: &Left) -> bool {
+fn is_left(outcome: &Outcome, leaf: &Node, left: &Left) -> bool {
     outcome.winners == left.winners
         && outcome.undone == left.undone
         && outcome.base == left.base
         && outcome.changed.as_slice() == left.changed.as_slice()
-        && nodes[1].gsn() == left.number
-        && nodes[1].find(4) == Some(left.word)
+        && leaf.gsn() == left.number
+        && leaf.find(4) == Some(left.word)
+        && leaf.number() == 1
+        && leaf.generation() == 7
+}
+
+fn is_recovered(rt: &impl Abort, alloc: Global, case: &Case) -> bool {
+    let mut nodes = nodes_at(rt, case.pages.number, case.pages.word);
+    let Ok(outcome) = recover_pages(alloc, &mut nodes, case.found, case.floor) else {
+        return false;
+    };
+    // Of the first case alone: the log of the change, and the loser's page.
+    if case.found.len() == 3 {
+        let stamped = nodes[1].last_log() == 1 && nodes[2].gsn() == 12;
+        if !stamped || nodes[2].find(17) != Some(TOMBSTONE) {
+            return false;
+        }
+    }
+    is_left(&outcome, &nodes[1], &case.left)
+}
+
+// Whether it fails at this place of an area.
+fn is_damage(alloc: Global, nodes: &mut [Node], found: &[Found], area: u32, place: u64) -> bool {
+    match recover_pages(alloc, nodes, found, 0) {
+        Ok(_) => false,
+        Err(failed) => failed == Failed::Damaged { area, place },
+    }
 }
 
 #[test]
 fn a_winner_stays_and_a_loser_is_undone(rt: HostRuntime) {
     let alloc = rt.alloc();
-    for case in &RECOVERED {
-        let mut nodes = nodes_of(&rt, &case.pages);
-        let outcome = recover_pages(alloc, &mut nodes, case.found, case.floor).expect(
-            &rt,
-            "these pages and records are sound",
-        );
-        assert!(rt; is_left(&outcome, &nodes, &case.left), "{}", case.name);
-        assert_eq!(rt; nodes[1].number(), 1, "{}", case.name);
-        assert_eq!(rt; nodes[1].generation(), 7, "{}", case.name);
-        // Of the first case alone: the log of the change, and the loser's page.
-        if case.found.len() == 3 {
-            assert_eq!(rt; nodes[1].last_log(), 1);
-            assert_eq!(rt; nodes[2].find(17), Some(TOMBSTONE));
-            assert_eq!(rt; nodes[2].gsn(), 12);
-        }
+    for case in &CASES {
+        expect(&rt, case.name, Ok(is_recovered(&rt, alloc, case)));
     }
 }
 
 #[test]
 fn what_can_not_be_done_or_is_no_tree_is_damage(rt: HostRuntime) {
     let alloc = rt.alloc();
-    for (number, entry) in &DAMAGED {
-        let mut nodes = nodes_of(
-            &rt,
-            &Pages {
-                number: *number,
-                word: 40,
-            },
-        );
-        let failed = recover_pages(alloc, &mut nodes, &[*entry], 0).err();
-        assert_eq!(rt;
-            failed,
-            Some(Failed::Damaged { area: 2, place: 5 }),
-            "{entry:?}"
-        );
+    for (name, number, entry) in &DAMAGED {
+        let mut nodes = nodes_at(&rt, *number, 40);
+        expect(&rt, name, Ok(is_damage(alloc, &mut nodes, &[*entry], 2, 5)));
     }
-    let damaged = Some(Failed::Damaged { area: 1, place: 0 });
-    let mut nodes = nodes_of(
-        &rt,
-        &Pages {
-            number: 0,
-            word: 40,
-        },
-    );
+    let mut nodes = nodes_at(&rt, 0, 40);
     nodes[2] = node_of(&rt, &Page([2, 0, 7, LIVE], 11, TOP, [0; 4]));
-    assert_eq!(rt; recover_pages(alloc, &mut nodes, &[], 0).err(), damaged);
-    assert_eq!(rt; recover_pages(alloc, &mut [], &[], 0).err(), damaged);
+    expect(&rt, "no tree", Ok(is_damage(alloc, &mut nodes, &[], 1, 0)));
+    expect(&rt, "no pages", Ok(is_damage(alloc, &mut [], &[], 1, 0)));
 }

@@ -1,10 +1,10 @@
 // The scan of one log on a disk in memory. The records' bytes were written down by hand.
+use crate::cases::expect;
 use disk_slots::{Heads, Master, master_bytes, read_master};
 use lean_disk::{AreaOf, Disk, MemDisk};
 use log_block::block_bytes;
 use recovery_scan::{Found, Unread, What, scan};
-use std::alloc::Global;
-use std::test::Fail;
+use std::alloc::{AllocError, Global};
 
 const NONE: u64 = 9223372036854775808;
 
@@ -113,25 +113,22 @@ fn put_block(disk: &mut MemDisk, generation: u64, number: u64, gsn: u8) {
     disk.write(2, 2048 * (number % 64), &block);
 }
 
-fn is_found(found: &Result<Vec<Found>, Unread>, want: &Result<&[Found], Unread>) -> bool {
-    match (found, want) {
-        (Ok(found), Ok(want)) => found.as_slice() == *want,
-        (Err(why), Err(want)) => why == want,
-        _ => false,
+fn is_found(alloc: Global, case: &Case) -> Result<bool, AllocError> {
+    let mut disk = MemDisk::new(alloc, 3)?;
+    for (generation, number, gsn) in case.blocks {
+        put_block(&mut disk, *generation, *number, *gsn);
+    }
+    disk.fail_at(2, Vec::from_slice(alloc, case.failing)?);
+    match (scan_log(alloc, &mut disk), &case.want) {
+        (Ok(found), Ok(want)) => Ok(found.as_slice() == *want),
+        (Err(why), Err(want)) => Ok(why == *want),
+        _ => Ok(false),
     }
 }
 
 #[test]
-fn a_scan_finds_the_records_of_its_run(rt: HostRuntime) -> Result<(), Fail> {
-    let alloc = rt.alloc();
+fn a_scan_finds_the_records_of_its_run(rt: HostRuntime) {
     for case in &CASES {
-        let mut disk = MemDisk::new(alloc, 3)?;
-        for (generation, number, gsn) in case.blocks {
-            put_block(&mut disk, *generation, *number, *gsn);
-        }
-        disk.fail_at(2, Vec::from_slice(alloc, case.failing)?);
-        let found = scan_log(alloc, &mut disk);
-        assert!(rt; is_found(&found, &case.want), "{}", case.name);
+        expect(&rt, case.name, is_found(rt.alloc(), case));
     }
-    Ok(())
 }

@@ -1,8 +1,9 @@
 // The pages and the least page that breaks the rule were written down by hand.
+use crate::cases::expect;
 use btree_node::Node;
 use node_tree::{first_break, is_leaf_with, leaf_of};
 use page_model::every_check;
-use std::alloc::Global;
+use std::alloc::{AllocError, Global};
 use std::process::Abort;
 
 pub(crate) const TOP: u64 = u64::MAX;
@@ -16,6 +17,7 @@ pub(crate) const FREE: u64 = 2 << 24;
 pub(crate) const LEVEL: u64 = 1 << 8;
 
 /// A page: its first four words, its fences, and its keys and words in turn.
+#[derive(Drop)]
 pub(crate) struct Page(pub [u64; 4], pub u64, pub u64, pub [u64; 4]);
 
 // One of which only the packed word, the fences, and the keys and words count.
@@ -44,113 +46,118 @@ static PAGES: [Page; 4] = [
     page!(FREE, 0, 0, [0; 4]),
 ];
 
-// What is broken, the pages that stand in the place of some, and the least page that breaks the rule.
+// What is broken, if anything, the pages that stand in the place of some, and the least page that breaks the rule.
 struct Case {
     name: &'static str,
     instead: &'static [(usize, Page)],
-    least: usize,
+    least: Option<usize>,
 }
 
-static BROKEN: [Case; 21] = [
+static CASES: [Case; 22] = [
+    Case {
+        name: "a tree",
+        instead: &[],
+        least: None,
+    },
     Case {
         name: "the root is free",
         instead: &[(0, page!(FREE, 0, 0, [0; 4]))],
-        least: 0,
+        least: Some(0),
     },
     Case {
         name: "the root has not all keys above",
         instead: &[(0, page!(2 + LEVEL + LIVE, 0, TOP - 1, [0, 1, 10, 2]))],
-        least: 0,
+        least: Some(0),
     },
     Case {
         name: "the root has not all keys below",
         instead: &[(0, page!(1 + LEVEL + LIVE, 10, TOP, [10, 2, 0, 0]))],
-        least: 0,
+        least: Some(0),
     },
     Case {
         name: "a child is two levels below",
         instead: &[(0, page!(2 + 2 * LEVEL + LIVE, 0, TOP, [0, 1, 10, 2]))],
-        least: 0,
+        least: Some(0),
     },
     Case {
         name: "a child begins before its fence",
         instead: &[(0, page!(2 + LEVEL + LIVE, 0, TOP, [0, 1, 11, 2]))],
-        least: 0,
+        least: Some(0),
     },
     Case {
         name: "a child twice",
         instead: &[(0, page!(2 + LEVEL + LIVE, 0, TOP, [0, 1, 10, 1]))],
-        least: 0,
+        least: Some(0),
     },
     Case {
         name: "a free child",
         instead: &[(0, page!(2 + LEVEL + LIVE, 0, TOP, [0, 1, 10, 3]))],
-        least: 0,
+        least: Some(0),
     },
     Case {
         name: "a child that ends before its fence",
         instead: &[(0, page!(1 + LEVEL + LIVE, 0, TOP, [0, 1, 0, 0]))],
-        least: 0,
+        least: Some(0),
     },
     Case {
         name: "the root is a child",
         instead: &[(0, page!(2 + LEVEL + LIVE, 0, TOP, [0, 1, 10, 0]))],
-        least: 0,
+        least: Some(0),
     },
     Case {
         name: "the child 4 of pages up to 3",
         instead: &[(0, page!(2 + LEVEL + LIVE, 0, TOP, [0, 1, 10, 4]))],
-        least: 0,
+        least: Some(0),
     },
     Case {
         name: "the child 5 of pages up to 3",
         instead: &[(0, page!(2 + LEVEL + LIVE, 0, TOP, [0, 1, 10, 5]))],
-        least: 0,
+        least: Some(0),
     },
     Case {
         name: "a tombstone for a child",
         instead: &[(0, page!(2 + LEVEL + LIVE, 0, TOP, [0, 1, 10, TOMBSTONE]))],
-        least: 0,
+        least: Some(0),
     },
     Case {
         name: "the greatest word for a child",
         instead: &[(0, page!(2 + LEVEL + LIVE, 0, TOP, [0, 1, 10, TOP]))],
-        least: 0,
+        least: Some(0),
     },
     Case {
         name: "a leaf with a word that is no value",
         instead: &[(1, page!(1 + LIVE, 0, 10, [4, TOMBSTONE + 1, 0, 0]))],
-        least: 1,
+        least: Some(1),
     },
     Case {
         name: "outside the tree is a leaf with no keys",
         instead: &[(3, page!(LIVE, 7, 5, [0; 4]))],
-        least: 3,
+        least: Some(3),
     },
     Case {
         name: "outside the tree is a leaf",
         instead: &[(3, page!(LIVE, 10, TOP, [0; 4]))],
-        least: 3,
+        least: Some(3),
     },
     Case {
         name: "a free page with a lower fence",
         instead: &[(3, page!(FREE, 7, 0, [0; 4]))],
-        least: 3,
+        least: Some(3),
     },
     Case {
         name: "a free page with an upper fence",
         instead: &[(3, page!(FREE, 0, 7, [0; 4]))],
-        least: 3,
+        least: Some(3),
     },
     Case {
         name: "a free page with a level",
         instead: &[(3, page!(LEVEL + FREE, 0, 0, [0; 4]))],
-        least: 3,
+        least: Some(3),
     },
     Case {
         name: "a free page with a pair",
         instead: &[(3, page!(1 + FREE, 0, 7, [4, 1, 0, 0]))],
-        least: 3,
+        least: Some(3),
     },
     Case {
         name: "the least of several is named",
@@ -159,7 +166,7 @@ static BROKEN: [Case; 21] = [
             (2, page!(LIVE, 12, 11, [0; 4])),
             (0, page!(1 + LIVE, 0, TOP, [4, 1, 0, 0])),
         ],
-        least: 1,
+        least: Some(1),
     },
 ];
 
@@ -175,17 +182,14 @@ static HOLDS: [(usize, u64, bool); 5] = [
     (4, 9, false),
 ];
 
-fn pages(rt: &impl Abort) -> [Node; 4] {
+/// The nodes that they spell.
+pub(crate) fn nodes_of(rt: &impl Abort, pages: &[Page; 4]) -> [Node; 4] {
     [
-        node_of(rt, &PAGES[0]),
-        node_of(rt, &PAGES[1]),
-        node_of(rt, &PAGES[2]),
-        node_of(rt, &PAGES[3]),
+        node_of(rt, &pages[0]),
+        node_of(rt, &pages[1]),
+        node_of(rt, &pages[2]),
+        node_of(rt, &pages[3]),
     ]
-}
-
-fn least(rt: &impl Abort, alloc: Global, pages: &[Node]) -> Option<usize> {
-    first_break(alloc, pages).expect(rt, "memory for the marks")
 }
 
 // The page of a key's leaf, where the pages are a tree.
@@ -200,37 +204,38 @@ fn leaf_in(alloc: Global, pages: &[Node], key: u64) -> Option<usize> {
     }
 }
 
-#[test]
-fn a_tree_keeps_the_rule_and_leads_to_each_leaf(rt: HostRuntime) {
-    let pages = pages(&rt);
-    assert_eq!(rt; least(&rt, rt.alloc(), &pages), None);
-    assert_eq!(rt; least(&rt, rt.alloc(), &[]), None);
+fn leads_to_leaves(alloc: Global, pages: &[Node]) -> bool {
     for (key, page) in &LEAVES {
-        assert_eq!(rt; leaf_in(rt.alloc(), &pages, *key), Some(*page), "key {key}");
+        if leaf_in(alloc, pages, *key) != Some(*page) {
+            return false;
+        }
     }
     for (page, key, holds) in &HOLDS {
-        assert_eq!(rt;
-            is_leaf_with(&pages, *page, *key),
-            *holds,
-            "page {page}, key {key}"
-        );
+        if is_leaf_with(pages, *page, *key) != *holds {
+            return false;
+        }
     }
+    true
+}
+
+fn is_least(rt: &impl Abort, alloc: Global, case: &Case) -> Result<bool, AllocError> {
+    let mut nodes = nodes_of(rt, &PAGES);
+    for (place, page) in case.instead {
+        if let Some(node) = nodes.get_mut(*place) {
+            *node = node_of(rt, page);
+        }
+    }
+    Ok(first_break(alloc, &nodes)? == case.least)
 }
 
 #[test]
-fn the_least_page_that_breaks_the_rule_is_named(rt: HostRuntime) {
-    for case in &BROKEN {
-        let mut pages = pages(&rt);
-        for (place, page) in case.instead {
-            if let Some(node) = pages.get_mut(*place) {
-                *node = node_of(&rt, page);
-            }
-        }
-        assert_eq!(rt;
-            least(&rt, rt.alloc(), &pages),
-            Some(case.least),
-            "{}",
-            case.name
-        );
+fn a_tree_keeps_the_rule_and_leads_to_each_leaf(rt: HostRuntime) {
+    let alloc = rt.alloc();
+    for case in &CASES {
+        expect(&rt, case.name, is_least(&rt, alloc, case));
     }
+    let nodes = nodes_of(&rt, &PAGES);
+    expect(&rt, "the leaves", Ok(leads_to_leaves(alloc, &nodes)));
+    let none = matches!(first_break(alloc, &[]), Ok(None));
+    expect(&rt, "no pages", Ok(none));
 }

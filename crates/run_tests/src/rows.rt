@@ -1,11 +1,11 @@
 // Rows of openings: what a crash or damage left, and every line that comes of it, written down by hand.
+use crate::cases::expect;
 use crate::runs::{copy_of, formatted, lines_of, run_script, run_up_to};
 use crate::scripts::PUT;
 use lean_disk::{Choice, Disk, MemDisk};
 use log_block::block_bytes;
 use std::alloc::{AllocError, Global};
 use std::sync::Wait;
-use std::test::Fail;
 use std::thread::Threads;
 
 // What is left.
@@ -155,9 +155,9 @@ static ROWS: [Row; 20] = [
 ];
 
 // What a put leaves, with all that was written.
-fn disk_of_put<R: Threads + Wait + Sync>(rt: &R, alloc: Global) -> Result<MemDisk, Fail> {
+fn disk_of_put<R: Threads + Wait + Sync>(rt: &R, alloc: Global) -> Result<MemDisk, AllocError> {
     let disk = run_script(rt, alloc, formatted(rt, alloc)?, PUT.text)?.disk;
-    Ok(disk.crash(disk.moment(), Choice::AllBytes)?)
+    disk.crash(disk.moment(), Choice::AllBytes)
 }
 
 // The moment of the block's write is that of the call after the answer of the put, which is the third line.
@@ -165,11 +165,11 @@ fn crashed_at_block<R: Threads + Wait + Sync>(
     rt: &R,
     alloc: Global,
     choice: Choice,
-) -> Result<MemDisk, Fail> {
+) -> Result<MemDisk, AllocError> {
     let new = formatted(rt, alloc)?;
     let moment = run_up_to(rt, alloc, &new, PUT.text, 3)?.disk.moment();
     let disk = run_script(rt, alloc, copy_of(&new)?, PUT.text)?.disk;
-    Ok(disk.crash(moment.saturating_add(2), choice)?)
+    disk.crash(moment.saturating_add(2), choice)
 }
 
 // The master's write is the last call of an opening but one, and its sync the last.
@@ -177,10 +177,10 @@ fn crashed_at_master<R: Threads + Wait + Sync>(
     rt: &R,
     alloc: Global,
     choice: Choice,
-) -> Result<MemDisk, Fail> {
+) -> Result<MemDisk, AllocError> {
     let put = disk_of_put(rt, alloc)?;
     let disk = run_up_to(rt, alloc, &put, "", 1)?.disk;
-    Ok(disk.crash(disk.moment().saturating_sub(1), choice)?)
+    disk.crash(disk.moment().saturating_sub(1), choice)
 }
 
 // The disk, where these bytes stand at a place of an area.
@@ -198,34 +198,40 @@ fn without_master(alloc: Global, put: &MemDisk) -> Result<MemDisk, AllocError> {
     MemDisk::from_areas(alloc, areas)
 }
 
-fn disk_of<R: Threads + Wait + Sync>(rt: &R, alloc: Global, left: &Left) -> Result<MemDisk, Fail> {
+fn disk_of<R: Threads + Wait + Sync>(
+    rt: &R,
+    alloc: Global,
+    left: &Left,
+) -> Result<MemDisk, AllocError> {
     match left {
         Left::Block(choice) => crashed_at_block(rt, alloc, *choice),
         Left::Master(choice) => crashed_at_master(rt, alloc, *choice),
         Left::Bytes(area, at, byte, count) => {
             let bytes = vec![in alloc; *byte; *count]?;
-            Ok(written(disk_of_put(rt, alloc)?, *area, *at, &bytes)?)
+            written(disk_of_put(rt, alloc)?, *area, *at, &bytes)
         }
         Left::Sealed(generation, block, place) => {
             let mut bytes = [0; 2048];
             block_bytes(*generation, 1, *block, 1, b"no record", &mut bytes);
             let at = place.saturating_mul(2048);
-            Ok(written(disk_of_put(rt, alloc)?, 2, at, &bytes)?)
+            written(disk_of_put(rt, alloc)?, 2, at, &bytes)
         }
-        Left::NoMaster => Ok(without_master(alloc, &disk_of_put(rt, alloc)?)?),
-        Left::Empty => Ok(MemDisk::new(alloc, 3)?),
+        Left::NoMaster => without_master(alloc, &disk_of_put(rt, alloc)?),
+        Left::Empty => MemDisk::new(alloc, 3),
     }
 }
 
+// Whether a run of a get ends and prints as is written.
+fn is_met<R: Threads + Wait + Sync>(rt: &R, alloc: Global, row: &Row) -> Result<bool, AllocError> {
+    let disk = disk_of(rt, alloc, &row.left)?;
+    let next = run_script(rt, alloc, disk, PUT.gets)?;
+    let want = lines_of(alloc, row.lines)?;
+    Ok(next.status == row.status && next.printed() == want.as_str())
+}
+
 #[test]
-fn each_disk_is_opened_as_is_written(rt: HostRuntime) -> Result<(), Fail> {
-    let alloc = rt.alloc();
+fn each_disk_is_opened_as_is_written(rt: HostRuntime) {
     for row in &ROWS {
-        let disk = disk_of(&rt, alloc, &row.left)?;
-        let next = run_script(&rt, alloc, disk, PUT.gets)?;
-        let want = lines_of(alloc, row.lines)?;
-        assert_eq!(rt; next.printed(), want.as_str(), "{}", row.name);
-        assert_eq!(rt; next.status, row.status, "{}", row.name);
+        expect(&rt, row.name, is_met(&rt, rt.alloc(), row));
     }
-    Ok(())
 }

@@ -5,7 +5,6 @@ use lean_shell::{Ended, Gate, run};
 use std::alloc::{AllocError, Global};
 use std::str;
 use std::sync::Wait;
-use std::test::Fail;
 use std::thread::Threads;
 
 const FORMAT: &str = "lean format --workers 1 --pages 16 --blocks 64";
@@ -64,7 +63,7 @@ fn run_words<R: Threads + Wait + Sync>(
     text: &str,
     disk: MemDisk,
     mut sink: MemSink,
-) -> Result<Outcome, Fail> {
+) -> Result<Outcome, AllocError> {
     let words = words_of(alloc, words)?;
     let mut source = MemSource::new(alloc, lines_of(alloc, text)?.as_bytes(), 7)?;
     let Ended { status, disk } = run(rt, alloc, &words, &mut source, &mut sink, disk, &Open);
@@ -72,10 +71,13 @@ fn run_words<R: Threads + Wait + Sync>(
 }
 
 /// A new disk of 16 pages and 64 blocks, on which no call was made.
-pub(crate) fn formatted<R: Threads + Wait + Sync>(rt: &R, alloc: Global) -> Result<MemDisk, Fail> {
+pub(crate) fn formatted<R: Threads + Wait + Sync>(
+    rt: &R,
+    alloc: Global,
+) -> Result<MemDisk, AllocError> {
     let disk = MemDisk::new(alloc, 3)?;
     let Outcome { disk, .. } = run_words(rt, alloc, FORMAT, "", disk, MemSink::new(alloc))?;
-    Ok(disk.crash(disk.moment(), Choice::AllBytes)?)
+    disk.crash(disk.moment(), Choice::AllBytes)
 }
 
 /// The same disk once more, where no call was made on it.
@@ -88,7 +90,7 @@ pub(crate) fn run_script<R: Threads + Wait + Sync>(
     alloc: Global,
     disk: MemDisk,
     text: &str,
-) -> Result<Outcome, Fail> {
+) -> Result<Outcome, AllocError> {
     run_words(rt, alloc, "lean run", text, disk, MemSink::new(alloc))
 }
 
@@ -100,7 +102,7 @@ pub(crate) fn run_failing<R: Threads + Wait + Sync>(
     text: &str,
     area: u32,
     call: u64,
-) -> Result<Outcome, Fail> {
+) -> Result<Outcome, AllocError> {
     let mut disk = copy_of(disk)?;
     disk.fail_at(area, [call].to_vec(alloc)?);
     run_script(rt, alloc, disk, text)
@@ -113,7 +115,7 @@ pub(crate) fn run_up_to<R: Threads + Wait + Sync>(
     disk: &MemDisk,
     text: &str,
     line: u64,
-) -> Result<Outcome, Fail> {
+) -> Result<Outcome, AllocError> {
     let mut sink = MemSink::new(alloc);
     sink.fail_at([line].to_vec(alloc)?);
     run_words(rt, alloc, "lean run", text, copy_of(disk)?, sink)
@@ -126,7 +128,7 @@ pub(crate) fn out_at<R: Threads + Wait + Sync>(
     disk: &MemDisk,
     text: &str,
     count: u64,
-) -> Result<Vec<u64>, Fail> {
+) -> Result<Vec<u64>, AllocError> {
     let mut moments = Vec::new(alloc);
     for line in 1..=count {
         let cut = run_up_to(rt, alloc, disk, text, line)?;
@@ -135,13 +137,19 @@ pub(crate) fn out_at<R: Threads + Wait + Sync>(
     Ok(moments)
 }
 
-/// How many of these moments have come.
-pub(crate) fn out_by(moments: &[u64], moment: u64) -> u64 {
-    moments.iter().filter(|out| **out <= moment).count() as u64
+/// How many of the numbers are at most this.
+pub(crate) fn count_up_to(numbers: &[u64], most: u64) -> u64 {
+    numbers.iter().filter(|number| **number <= most).count() as u64
 }
 
 pub(crate) fn count_lines(text: &str) -> u64 {
-    text.bytes().filter(|byte| *byte == b'\n').count() as u64
+    let mut count = 0u64;
+    for byte in text.bytes() {
+        if byte == b'\n' {
+            count = count.saturating_add(1);
+        }
+    }
+    count
 }
 
 /// The lines of a run that opened its disk: the first one, and those behind it.

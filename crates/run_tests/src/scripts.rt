@@ -1,7 +1,6 @@
 // The scripts of the tables, and what comes of them, written down by hand from the rules. A `;` stands for each newline.
 
 /// A script of one session on a new disk.
-#[derive(Clone, Copy)]
 pub(crate) struct Script {
     pub text: &'static str,
     /// Every line of its run.
@@ -10,7 +9,7 @@ pub(crate) struct Script {
     pub gets: &'static str,
     /// What this one answers after the first k of the transactions, for k from 0.
     pub maps: &'static [&'static str],
-    /// How many lines are out as each commit begins. The commit's own two follow: it is committed, and it is durable.
+    /// How many lines are out as each commit begins. Its own two follow: it is committed, and it is durable.
     pub commits: &'static [u64],
 }
 
@@ -40,19 +39,6 @@ pub(crate) const SIX: Script = Script {
 };
 
 impl Script {
-    /// How many transactions are told durable by so many lines.
-    pub(crate) fn told(&self, out: u64) -> u64 {
-        self.commits
-            .iter()
-            .filter(|begins| begins.saturating_add(2) <= out)
-            .count() as u64
-    }
-
-    /// How many commits have begun after so many lines.
-    pub(crate) fn begun(&self, out: u64) -> u64 {
-        self.commits.iter().filter(|begins| **begins <= out).count() as u64
-    }
-
     /// What the gets answer after the first k transactions.
     pub(crate) fn map(&self, k: u64) -> &str {
         match self.maps.get(k as usize) {

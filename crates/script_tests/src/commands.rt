@@ -1,11 +1,11 @@
 // Commands over a disk, a source and a sink in memory. Seals were computed by another SHA-256.
+use crate::cases::expect;
 use lean_disk::{Choice, MemDisk};
 use lean_edge::{MemSink, MemSource};
 use lean_shell::{Ended, Gate, run};
 use std::alloc::{AllocError, Global};
 use std::str;
 use std::sync::Wait;
-use std::test::Fail;
 use std::thread::Threads;
 
 /// Sixteen pages, for what is done over and over.
@@ -94,63 +94,77 @@ static OTHER_WORDS: [&str; 23] = [
     "lean format --workers=1 --pages=64 --blocks=64",
 ];
 
-#[test]
-fn other_words_are_no_command(rt: HostRuntime) -> Result<(), Fail> {
-    let alloc = rt.alloc();
-    for words in &OTHER_WORDS {
-        let disk = MemDisk::new(alloc, 3)?;
-        let done = run_alone(&rt, alloc, words, disk, MemSink::new(alloc))?;
-        assert_eq!(rt; done.status, 2, "at {words}");
-        assert_eq!(rt; done.printed(), "lean: usage\n", "at {words}");
-        assert_eq!(rt; done.disk.bytes(1).len(), 0, "at {words}");
-    }
-    Ok(())
+// Whether the words end as ones that are no command, and leave the disk.
+fn is_no_command<R: Threads + Wait + Sync>(
+    rt: &R,
+    alloc: Global,
+    words: &str,
+) -> Result<bool, AllocError> {
+    let disk = MemDisk::new(alloc, 3)?;
+    let done = run_alone(rt, alloc, words, disk, MemSink::new(alloc))?;
+    Ok(done.status == 2 && done.printed() == "lean: usage\n" && done.disk.bytes(1).is_empty())
 }
 
-#[test]
-fn a_sink_that_fails_ends_with_its_status_and_changes_no_other(
-    rt: HostRuntime,
-) -> Result<(), Fail> {
-    let alloc = rt.alloc();
-    let mut disk = MemDisk::new(alloc, 3)?;
+// Whether a format whose line does not go out, and one behind it, end with their statuses.
+fn is_unchanged_by_a_line<R: Threads + Wait + Sync>(
+    rt: &R,
+    alloc: Global,
+) -> Result<bool, AllocError> {
     let mut sink = MemSink::new(alloc);
     sink.fail_at([1, 2].to_vec(alloc)?);
-    for status in [5, 9] {
-        let done = run_alone(&rt, alloc, FORMAT, disk, sink)?;
-        assert_eq!(rt; done.status, status);
-        assert_eq!(rt; done.printed(), "");
-        disk = done.disk;
-        sink = done.sink;
+    let disk = MemDisk::new(alloc, 3)?;
+    let Outcome { status, disk, sink } = run_alone(rt, alloc, FORMAT, disk, sink)?;
+    let second = run_alone(rt, alloc, FORMAT, disk, sink)?;
+    Ok(status == 5 && second.status == 9 && second.printed().is_empty())
+}
+
+// Whether so many crashes of a format leave a formatted disk, and the others no master.
+fn is_formatted_by<R: Threads + Wait + Sync>(
+    rt: &R,
+    alloc: Global,
+    choice: Choice,
+    count: u32,
+) -> Result<bool, AllocError> {
+    let disk = MemDisk::new(alloc, 3)?;
+    let whole = run_alone(rt, alloc, FORMAT, disk, MemSink::new(alloc))?.disk;
+    let mut formatted = 0u32;
+    for moment in 0..=whole.moment() {
+        let left = whole.crash(moment, choice)?;
+        let has_pages = left.bytes(1) == whole.bytes(1);
+        let status = run_alone(rt, alloc, FORMAT, left, MemSink::new(alloc))?.status;
+        if status == 9 && has_pages {
+            formatted = formatted.saturating_add(1);
+        } else if status != 0 {
+            return Ok(false);
+        }
     }
-    Ok(())
+    Ok(formatted == count)
+}
+
+// All bytes of the master's write, and each choice at its sync and at the line's note.
+static FORMATTED: [(&str, Choice, u32); 4] = [
+    ("crashes that leave no bytes", Choice::NoBytes, 2),
+    ("crashes that leave all bytes", Choice::AllBytes, 3),
+    ("crashes that leave halves", Choice::FirstHalf, 2),
+    ("crashes that leave zeros", Choice::Zeros, 2),
+];
+
+#[test]
+fn other_words_are_no_command(rt: HostRuntime) {
+    for words in &OTHER_WORDS {
+        expect(&rt, words, is_no_command(&rt, rt.alloc(), words));
+    }
 }
 
 #[test]
-fn a_crash_leaves_no_master_or_a_whole_disk(rt: HostRuntime) -> Result<(), Fail> {
+fn a_format_that_fails_or_crashes_leaves_no_master_or_a_whole_disk(rt: HostRuntime) {
     let alloc = rt.alloc();
-    let disk = MemDisk::new(alloc, 3)?;
-    let whole = run_alone(&rt, alloc, FORMAT, disk, MemSink::new(alloc))?.disk;
-    let mut formatted = 0u32;
-    for moment in 0..=whole.moment() {
-        for choice in [
-            Choice::NoBytes,
-            Choice::AllBytes,
-            Choice::FirstHalf,
-            Choice::Zeros,
-        ] {
-            let left = whole.crash(moment, choice)?;
-            let has_pages = left.bytes(1) == whole.bytes(1);
-            let status = run_alone(&rt, alloc, FORMAT, left, MemSink::new(alloc))?.status;
-            assert!(rt;
-                status == 0 || (status == 9 && has_pages),
-                "at {moment}, by {choice:?}"
-            );
-            if status == 9 {
-                formatted = formatted.saturating_add(1);
-            }
-        }
+    expect(
+        &rt,
+        "a line that does not go out",
+        is_unchanged_by_a_line(&rt, alloc),
+    );
+    for (name, choice, count) in &FORMATTED {
+        expect(&rt, name, is_formatted_by(&rt, alloc, *choice, *count));
     }
-    // All bytes of the master's write, and each choice at its sync and at the line's note.
-    assert_eq!(rt; formatted, 9);
-    Ok(())
 }

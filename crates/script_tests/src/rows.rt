@@ -1,12 +1,11 @@
 // Rows of commands and scripts, and every line that comes of them, on a disk in memory. The lines were written down by hand, a
 // `;` for each newline. Seals were computed by another SHA-256.
+use crate::cases::expect;
 use crate::commands::{FORMAT, Outcome, run_alone, run_words};
 use lean_disk::{Choice, MemDisk};
 use lean_edge::{MemSink, MemSource};
 use std::alloc::{AllocError, Global};
-use std::fmt::Write;
 use std::sync::Wait;
-use std::test::Fail;
 use std::thread::Threads;
 
 const RUN: &str = "lean run";
@@ -343,7 +342,7 @@ struct Sweep {
     status: u8,
     before: &'static [Text],
     last: &'static str,
-    calls: u32,
+    calls: u64,
 }
 
 macro_rules! sweep {
@@ -420,15 +419,18 @@ static SWEEPS: [Sweep; 7] = [
 // How many calls of a device a sweep goes through at most.
 const MANY: u64 = 2000;
 
-fn spelled(alloc: Global, texts: &[Text]) -> Result<String, Fail> {
+fn spelled(alloc: Global, texts: &[Text]) -> Result<String, AllocError> {
     let mut all = String::new(alloc);
     for Text(text, first, last) in texts {
         for number in *first..=*last {
+            let double = number.saturating_mul(2);
+            let number = format!(in alloc; "{number}")?;
+            let double = format!(in alloc; "{double}")?;
             for letter in text.chars() {
                 match letter {
                     ';' => all.push('\n')?,
-                    '#' => write!(all, "{number}")?,
-                    '@' => write!(all, "{}", number.saturating_mul(2))?,
+                    '#' => all.push_str(&number)?,
+                    '@' => all.push_str(&double)?,
                     _ => all.push(letter)?,
                 }
             }
@@ -437,42 +439,68 @@ fn spelled(alloc: Global, texts: &[Text]) -> Result<String, Fail> {
     Ok(all)
 }
 
-fn source_of(alloc: Global, texts: &[Text]) -> Result<MemSource, Fail> {
-    Ok(MemSource::new(alloc, spelled(alloc, texts)?.as_bytes(), 7)?)
+// A run of a command that reads this script.
+fn run_text<R: Threads + Wait + Sync>(
+    rt: &R,
+    alloc: Global,
+    words: &str,
+    disk: MemDisk,
+    script: &[Text],
+    sink: MemSink,
+) -> Result<Outcome, AllocError> {
+    let source = MemSource::new(alloc, spelled(alloc, script)?.as_bytes(), 7)?;
+    run_words(rt, alloc, words, disk, source, sink)
 }
 
 // Whether the bytes stand at their place, and the zeros behind them.
 fn holds(disk: &MemDisk, part: &Bytes) -> bool {
-    match disk.bytes(part.area).get(part.at..) {
-        Some(rest) => match rest.strip_prefix(part.bytes) {
-            Some(behind) => behind.iter().take(part.zeros).all(|byte| *byte == 0),
-            None => false,
-        },
-        None => false,
+    let Some(rest) = disk.bytes(part.area).get(part.at..) else {
+        return false;
+    };
+    let Some(behind) = rest.strip_prefix(part.bytes) else {
+        return false;
+    };
+    for byte in behind.iter().take(part.zeros) {
+        if *byte != 0 {
+            return false;
+        }
     }
+    true
+}
+
+// Whether each run ends and prints as is written, and the disk is so then.
+fn is_met<R: Threads + Wait + Sync>(
+    rt: &R,
+    alloc: Global,
+    case: &Case,
+) -> Result<bool, AllocError> {
+    let mut disk = MemDisk::new(alloc, 3)?;
+    for run in case.runs {
+        let done = run_text(rt, alloc, run.words, disk, run.script, MemSink::new(alloc))?;
+        let want = spelled(alloc, run.printed)?;
+        if done.status != run.status || done.printed() != want.as_str() {
+            return Ok(false);
+        }
+        disk = done.disk;
+    }
+    for (area, len) in case.lens {
+        if disk.bytes(*area).len() != *len {
+            return Ok(false);
+        }
+    }
+    for part in case.bytes {
+        if !holds(&disk, part) {
+            return Ok(false);
+        }
+    }
+    Ok(true)
 }
 
 #[test]
-fn each_run_ends_and_prints_as_is_written(rt: HostRuntime) -> Result<(), Fail> {
-    let alloc = rt.alloc();
+fn each_run_ends_and_prints_as_is_written(rt: HostRuntime) {
     for case in &CASES {
-        let mut disk = MemDisk::new(alloc, 3)?;
-        for run in case.runs {
-            let source = source_of(alloc, run.script)?;
-            let done = run_words(&rt, alloc, run.words, disk, source, MemSink::new(alloc))?;
-            let want = spelled(alloc, run.printed)?;
-            assert_eq!(rt; done.printed(), want.as_str(), "{}", case.name);
-            assert_eq!(rt; done.status, run.status, "{}", case.name);
-            disk = done.disk;
-        }
-        for (area, len) in case.lens {
-            assert_eq!(rt; disk.bytes(*area).len(), *len, "{}", case.name);
-        }
-        for part in case.bytes {
-            assert!(rt; holds(&disk, part), "{}, at {}", case.name, part.at);
-        }
+        expect(&rt, case.name, is_met(&rt, rt.alloc(), case));
     }
-    Ok(())
 }
 
 // A formatted disk of 16 pages, on which no call was made yet.
@@ -482,21 +510,16 @@ fn formatted<R: Threads + Wait + Sync>(rt: &R, alloc: Global) -> Result<MemDisk,
     disk.crash(disk.moment(), Choice::AllBytes)
 }
 
-// The same disk once more, where no call was made on it.
-fn copy_of(disk: &MemDisk) -> Result<MemDisk, AllocError> {
-    disk.crash(0, Choice::AllBytes)
-}
-
-// A run in which a call of the device fails.
+// A run on the disk as it was at first, in which a call of the device fails.
 fn run_failing<R: Threads + Wait + Sync>(
     rt: &R,
     alloc: Global,
     sweep: &Sweep,
     disk: &MemDisk,
     call: u64,
-) -> Result<Outcome, Fail> {
-    let mut disk = copy_of(disk)?;
-    let mut source = source_of(alloc, sweep.script)?;
+) -> Result<Outcome, AllocError> {
+    let mut disk = disk.crash(0, Choice::AllBytes)?;
+    let mut source = MemSource::new(alloc, spelled(alloc, sweep.script)?.as_bytes(), 7)?;
     let mut sink = MemSink::new(alloc);
     let failing = [call].to_vec(alloc)?;
     match sweep.device {
@@ -504,7 +527,7 @@ fn run_failing<R: Threads + Wait + Sync>(
         Device::Source => source.fail_at(failing),
         Device::Sink => sink.fail_at(failing),
     }
-    Ok(run_words(rt, alloc, sweep.words, disk, source, sink)?)
+    run_words(rt, alloc, sweep.words, disk, source, sink)
 }
 
 // Whether the output is whole lines of these, and then this line.
@@ -515,43 +538,49 @@ fn is_cut_off(lines: &str, output: &str, last: &str) -> bool {
     }
 }
 
-#[test]
-fn each_call_that_fails_ends_a_run(rt: HostRuntime) -> Result<(), Fail> {
-    let alloc = rt.alloc();
-    let empty = MemDisk::new(alloc, 3)?;
-    let new = formatted(&rt, alloc)?;
-    for sweep in &SWEEPS {
-        let disk = if sweep.is_formatted { &new } else { &empty };
-        let printed = spelled(alloc, sweep.printed)?;
-        let before = spelled(alloc, sweep.before)?;
-        let mut failures = 0u32;
-        for call in 1..MANY {
-            let done = run_failing(&rt, alloc, sweep, disk, call)?;
-            if done.status == 0 {
-                assert_eq!(rt; done.printed(), printed.as_str(), "{}", sweep.name);
-                break;
-            }
-            assert_eq!(rt; done.status, sweep.status, "{}, call {call}", sweep.name);
-            assert!(rt;
-                is_cut_off(&before, done.printed(), sweep.last),
-                "{}, call {call}",
-                sweep.name
-            );
-            failures = failures.saturating_add(1);
-        }
-        assert_eq!(rt; failures, sweep.calls, "{}", sweep.name);
-    }
-    Ok(())
-}
-
-fn run_text<R: Threads + Wait + Sync>(
+// Whether a run in which the call fails ends as is written, or is a whole one; and which of these.
+fn ends_so<R: Threads + Wait + Sync>(
     rt: &R,
     alloc: Global,
-    disk: MemDisk,
-    script: &[Text],
-    sink: MemSink,
-) -> Result<Outcome, Fail> {
-    Ok(run_words(rt, alloc, RUN, disk, source_of(alloc, script)?, sink)?)
+    sweep: &Sweep,
+    disk: &MemDisk,
+    call: u64,
+) -> Result<(bool, bool), AllocError> {
+    let done = run_failing(rt, alloc, sweep, disk, call)?;
+    if done.status == 0 {
+        let printed = spelled(alloc, sweep.printed)?;
+        return Ok((done.printed() == printed.as_str(), true));
+    }
+    let before = spelled(alloc, sweep.before)?;
+    let is_cut_off = is_cut_off(&before, done.printed(), sweep.last);
+    Ok((done.status == sweep.status && is_cut_off, false))
+}
+
+// Whether each call of the device ends the run, and there are so many.
+fn is_ended_by_each<R: Threads + Wait + Sync>(
+    rt: &R,
+    alloc: Global,
+    sweep: &Sweep,
+) -> Result<bool, AllocError> {
+    let disk = if sweep.is_formatted {
+        formatted(rt, alloc)?
+    } else {
+        MemDisk::new(alloc, 3)?
+    };
+    for call in 1..MANY {
+        let (is_so, is_whole) = ends_so(rt, alloc, sweep, &disk, call)?;
+        if !is_so || is_whole {
+            return Ok(is_so && call - 1 == sweep.calls);
+        }
+    }
+    Ok(false)
+}
+
+#[test]
+fn each_call_that_fails_ends_a_run(rt: HostRuntime) {
+    for sweep in &SWEEPS {
+        expect(&rt, sweep.name, is_ended_by_each(&rt, rt.alloc(), sweep));
+    }
 }
 
 // Whether a disk is opened, and key 5 has its value or none, and its value where that was told.
@@ -560,41 +589,56 @@ fn is_well<R: Threads + Wait + Sync>(
     alloc: Global,
     left: MemDisk,
     is_told: bool,
-) -> Result<bool, Fail> {
+) -> Result<bool, AllocError> {
     let script = once!("1 begin;1 get 5;");
-    let done = run_text(rt, alloc, left, script, MemSink::new(alloc))?;
+    let done = run_text(rt, alloc, RUN, left, script, MemSink::new(alloc))?;
     let is_there = done.printed().ends_with("1 begun 1.1\n1 value 7\n");
     let is_none = done.printed().ends_with("1 begun 1.1\n1 none\n");
     Ok(done.status == 0 && (is_there || is_none && !is_told))
 }
 
-#[test]
-fn a_crash_keeps_what_was_told(rt: HostRuntime) -> Result<(), Fail> {
-    let alloc = rt.alloc();
-    let new = formatted(&rt, alloc)?;
-    // Up to this moment the fifth line, that the put is durable, is not out yet: a run ends as it is put.
+// The disk of a put whose fifth line, that it is durable, goes out or not.
+fn disk_of_put<R: Threads + Wait + Sync>(
+    rt: &R,
+    alloc: Global,
+    is_told: bool,
+) -> Result<MemDisk, AllocError> {
     let mut sink = MemSink::new(alloc);
-    sink.fail_at([5].to_vec(alloc)?);
-    let untold = run_text(&rt, alloc, copy_of(&new)?, once!(PUT), sink)?
-        .disk
-        .moment();
-    let disk = run_text(&rt, alloc, new, once!(PUT), MemSink::new(alloc))?.disk;
-    assert!(rt; untold < disk.moment());
-    for choice in [
-        Choice::NoBytes,
-        Choice::AllBytes,
-        Choice::FirstHalf,
-        Choice::Zeros,
-    ] {
-        for moment in 0..=disk.moment() {
-            let left = disk.crash(moment, choice)?;
-            assert!(rt;
-                is_well(&rt, alloc, left, untold < moment)?,
-                "at {moment}, by {choice:?}"
-            );
+    if !is_told {
+        sink.fail_at([5].to_vec(alloc)?);
+    }
+    let disk = formatted(rt, alloc)?;
+    Ok(run_text(rt, alloc, RUN, disk, once!(PUT), sink)?.disk)
+}
+
+// Whether each crash of a put keeps it or not, and keeps it behind the moment at which it was told; a crash before it does not.
+fn is_kept<R: Threads + Wait + Sync>(
+    rt: &R,
+    alloc: Global,
+    choice: Choice,
+) -> Result<bool, AllocError> {
+    let untold = disk_of_put(rt, alloc, false)?.moment();
+    let disk = disk_of_put(rt, alloc, true)?;
+    for moment in 0..=disk.moment() {
+        let left = disk.crash(moment, choice)?;
+        if !is_well(rt, alloc, left, untold < moment)? {
+            return Ok(false);
         }
     }
-    // A crash before the put leaves none.
-    assert!(rt; !is_well(&rt, alloc, disk.crash(0, Choice::AllBytes)?, true)?);
-    Ok(())
+    let before = disk.crash(0, Choice::AllBytes)?;
+    Ok(untold < disk.moment() && !is_well(rt, alloc, before, true)?)
+}
+
+static CRASHES: [(&str, Choice); 4] = [
+    ("crashes that leave no bytes", Choice::NoBytes),
+    ("crashes that leave all bytes", Choice::AllBytes),
+    ("crashes that leave halves", Choice::FirstHalf),
+    ("crashes that leave zeros", Choice::Zeros),
+];
+
+#[test]
+fn a_crash_keeps_what_was_told(rt: HostRuntime) {
+    for (name, choice) in &CRASHES {
+        expect(&rt, name, is_kept(&rt, rt.alloc(), *choice));
+    }
 }

@@ -1,11 +1,11 @@
 // Scripts on disks in memory. The expected lines were written down by hand.
+use crate::cases::expect;
 use btree_node::Node;
 use disk_slots::{Heads, Master, master_bytes, page_bytes};
 use lean_disk::MemDisk;
 use lean_edge::{MemSink, MemSource};
 use lean_run::run_disk;
 use std::alloc::{AllocError, Global};
-use std::test::Fail;
 
 // A script, its status, and what is printed.
 struct Run {
@@ -110,24 +110,23 @@ fn disk_of(alloc: Global, case: &Case) -> Result<MemDisk, AllocError> {
     MemDisk::from_areas(alloc, areas)
 }
 
-// The status, and what was printed.
-fn execute(alloc: Global, script: &[u8], disk: &mut MemDisk) -> Result<(u8, MemSink), AllocError> {
-    let mut source = MemSource::new(alloc, script, 7)?;
-    let mut sink = MemSink::new(alloc);
-    let status = run_disk(alloc, &mut source, &mut sink, disk);
-    Ok((status, sink))
+// Whether each script ends and prints as is written.
+fn is_met(alloc: Global, case: &Case) -> Result<bool, AllocError> {
+    let mut disk = disk_of(alloc, case)?;
+    for run in case.runs {
+        let mut source = MemSource::new(alloc, run.script, 7)?;
+        let mut sink = MemSink::new(alloc);
+        let status = run_disk(alloc, &mut source, &mut sink, &mut disk);
+        if status != run.status || sink.bytes() != run.printed {
+            return Ok(false);
+        }
+    }
+    Ok(true)
 }
 
 #[test]
-fn each_disk_is_opened_and_used_as_is_written(rt: HostRuntime) -> Result<(), Fail> {
-    let alloc = rt.alloc();
+fn each_disk_is_opened_and_used_as_is_written(rt: HostRuntime) {
     for case in &CASES {
-        let mut disk = disk_of(alloc, case)?;
-        for run in case.runs {
-            let (status, sink) = execute(alloc, run.script, &mut disk)?;
-            assert_eq!(rt; status, run.status, "{}", case.name);
-            assert_eq!(rt; sink.bytes(), run.printed, "{}", case.name);
-        }
+        expect(&rt, case.name, is_met(rt.alloc(), case));
     }
-    Ok(())
 }

@@ -1,6 +1,7 @@
 // Scripts on a fresh engine, over devices in memory. The expected lines were written down by hand.
 ghost use Rattle.worker_log.specs.Logs.{IsInRange};
 
+use crate::cases::expect;
 use btree_node::Node;
 use lean_disk::MemDisk;
 use lean_edge::{MemSink, MemSource};
@@ -11,7 +12,6 @@ use script_lang::LineReader;
 use script_run::{Stop, run_script};
 use std::alloc::{AllocError, Global};
 use std::process::Abort;
-use std::test::Fail;
 use worker_log::WorkerLog;
 
 // A script, the reads and puts that fail, of which a put leaves three bytes; how the script ends, and what is printed.
@@ -83,18 +83,11 @@ fn engine_on(alloc: Global, pages: Vec<Node>, log: WorkerLog) -> Option<Engine>
     }
 }
 
-fn fresh_engine(rt: &impl Abort, alloc: Global) -> Result<Engine, AllocError> {
+// Whether the script on a fresh engine ends and prints as is written.
+fn is_met(rt: &impl Abort, alloc: Global, case: &Case) -> Result<bool, AllocError> {
     let log = WorkerLog::new(alloc, 1, 1, 64, 0, 0)?;
     let pages = fresh_pages(alloc)?;
-    Ok(engine_on(alloc, pages, log).expect(rt, "the pages are a tree"))
-}
-
-// How the script ends on this engine, and what is printed.
-fn executed(
-    alloc: Global,
-    engine: &mut Engine,
-    case: &Case,
-) -> Result<(Stop, MemSink), AllocError> {
+    let mut engine = engine_on(alloc, pages, log).expect(rt, "the pages are a tree");
     let mut reader = LineReader::new(alloc)?;
     let mut source = MemSource::new(alloc, case.script, 7)?;
     source.fail_at(Vec::from_slice(alloc, case.failing_reads)?);
@@ -102,18 +95,13 @@ fn executed(
     sink.fail_at(Vec::from_slice(alloc, case.failing_puts)?);
     sink.keep_prefix(3);
     let mut disk = MemDisk::new(alloc, 3)?;
-    let stop = run_script(engine, &mut reader, &mut source, &mut sink, &mut disk);
-    Ok((stop, sink))
+    let stop = run_script(&mut engine, &mut reader, &mut source, &mut sink, &mut disk);
+    Ok(stop == case.stop && sink.bytes() == case.printed)
 }
 
 #[test]
-fn each_script_ends_and_prints_as_is_written(rt: HostRuntime) -> Result<(), Fail> {
-    let alloc = rt.alloc();
+fn each_script_ends_and_prints_as_is_written(rt: HostRuntime) {
     for case in &CASES {
-        let mut engine = fresh_engine(&rt, alloc)?;
-        let (stop, sink) = executed(alloc, &mut engine, case)?;
-        assert_eq!(rt; stop, case.stop, "{}", case.name);
-        assert_eq!(rt; sink.bytes(), case.printed, "{}", case.name);
+        expect(&rt, case.name, is_met(&rt, rt.alloc(), case));
     }
-    Ok(())
 }
