@@ -1,6 +1,8 @@
 // An engine over one area of a disk in memory. The expected answers were written down by hand.
 ghost use Rattle.worker_log.specs.Kept.{IsInRange};
+ghost use Rattle.lean_engine.specs.Calls.{IsWithin};
 
+use crate::cases::expect;
 use btree_node::Node;
 use lean_disk::{AreaOf, Disk, MemDisk, Part};
 use lean_engine::{DiskFault, Engine};
@@ -9,8 +11,182 @@ use node_tree::first_break;
 use page_model::every_check;
 use std::alloc::{AllocError, Global};
 use std::process::Abort;
-use std::test::Fail;
 use worker_log::WorkerLog;
+
+// What is asked.
+#[derive(Drop)]
+enum Asked {
+    Begin,
+    Get(u32),
+    Put(u32, u32),
+    Commit,
+}
+
+// Calls, and what each is answered.
+enum Step {
+    Begun(u64),
+    Call(Asked, Result<Answer, DiskFault>),
+    /// The same call so many times.
+    Again(u32, Asked, Result<Answer, DiskFault>),
+    /// A put of 7 at each of the first so many keys, which have no value.
+    Keys(u32),
+    /// So many transactions that change nothing, the first ones of all.
+    Transactions(u64),
+}
+
+struct Case {
+    name: &'static str,
+    /// What the clock shows at first.
+    clock: u64,
+    /// The calls of the log's area that fail.
+    failing: &'static [u64],
+    steps: &'static [Step],
+    /// How many bytes are in the log's area then, and how many calls were made.
+    bytes: usize,
+    moment: u64,
+}
+
+const WAS_NONE: Result<Answer, DiskFault> = Ok(Answer::Was(None));
+
+const WAS_7: Result<Answer, DiskFault> = Ok(Answer::Was(Some(7)));
+
+const VALUE_8: Result<Answer, DiskFault> = Ok(Answer::Value(Some(8)));
+
+const NO_VALUE: Result<Answer, DiskFault> = Ok(Answer::Value(None));
+
+const NO_TRANSACTION: Result<Answer, DiskFault> = Ok(Answer::Refused(Refusal::NoTransaction));
+
+const CLOCK_SPENT: Result<Answer, DiskFault> = Ok(Answer::Refused(Refusal::ClockSpent));
+
+macro_rules! refused {
+    ($refusal:expr) => {
+        Ok(Answer::Refused($refusal))
+    };
+}
+
+macro_rules! committed {
+    ($number:expr, $at:expr) => {
+        Step::Call(
+            Asked::Commit,
+            Ok(Answer::Committed {
+                number: $number,
+                at: $at,
+            }),
+        )
+    };
+}
+
+static CASES: [Case; 7] = [
+    Case {
+        name: "a put is read and committed",
+        clock: 0,
+        failing: &[],
+        steps: &[
+            Step::Begun(1),
+            Step::Call(Asked::Get(5), NO_VALUE),
+            Step::Call(Asked::Put(5, 7), WAS_NONE),
+            Step::Call(Asked::Put(5, 8), WAS_7),
+            Step::Call(Asked::Get(5), VALUE_8),
+            Step::Call(Asked::Get(6), NO_VALUE),
+            committed!(1, 3),
+            Step::Begun(2),
+            Step::Call(Asked::Get(5), VALUE_8),
+        ],
+        // One block, one sync.
+        bytes: 2048,
+        moment: 2,
+    },
+    Case {
+        name: "calls want a transaction and begin wants none",
+        clock: 0,
+        failing: &[],
+        steps: &[
+            Step::Call(Asked::Get(5), NO_TRANSACTION),
+            Step::Call(Asked::Put(5, 7), NO_TRANSACTION),
+            Step::Call(Asked::Commit, NO_TRANSACTION),
+            Step::Begun(1),
+            Step::Call(Asked::Begin, refused!(Refusal::InTransaction)),
+            committed!(1, 1),
+            Step::Call(Asked::Commit, NO_TRANSACTION),
+        ],
+        bytes: 2048,
+        moment: 2,
+    },
+    Case {
+        name: "the sixty-fifth change is too long",
+        clock: 0,
+        failing: &[],
+        steps: &[
+            Step::Begun(1),
+            Step::Call(Asked::Put(5, 7), WAS_NONE),
+            Step::Again(63, Asked::Put(5, 7), WAS_7),
+            Step::Call(Asked::Put(5, 7), refused!(Refusal::TooLong)),
+            committed!(1, 65),
+        ],
+        // 37 changes in the first block.
+        bytes: 4096,
+        moment: 3,
+    },
+    Case {
+        name: "the log is full after forty-eight commits",
+        clock: 0,
+        failing: &[],
+        steps: &[
+            Step::Transactions(48),
+            Step::Call(
+                Asked::Begin,
+                refused!(Refusal::LogFull {
+                    used: 48,
+                    limit: 48,
+                }),
+            ),
+            Step::Call(Asked::Put(5, 7), NO_TRANSACTION),
+        ],
+        bytes: 98304,
+        moment: 96,
+    },
+    Case {
+        name: "a leaf has room for sixty keys",
+        clock: 0,
+        failing: &[],
+        steps: &[
+            Step::Begun(1),
+            Step::Keys(60),
+            Step::Call(Asked::Put(60, 7), refused!(Refusal::Full)),
+            Step::Call(Asked::Put(59, 8), WAS_7),
+            Step::Call(Asked::Get(59), VALUE_8),
+            committed!(1, 62),
+        ],
+        bytes: 4096,
+        moment: 3,
+    },
+    Case {
+        name: "the clock ends",
+        clock: 4611686018427387903,
+        failing: &[],
+        steps: &[
+            Step::Begun(1),
+            Step::Call(Asked::Put(5, 7), WAS_NONE),
+            Step::Call(Asked::Put(5, 7), CLOCK_SPENT),
+            committed!(1, 4611686018427387905),
+            Step::Call(Asked::Begin, CLOCK_SPENT),
+        ],
+        bytes: 2048,
+        moment: 2,
+    },
+    Case {
+        name: "a commit whose sync fails is a disk fault",
+        clock: 0,
+        failing: &[2],
+        steps: &[
+            Step::Begun(1),
+            Step::Call(Asked::Put(5, 7), WAS_NONE),
+            Step::Call(Asked::Commit, Err(DiskFault)),
+        ],
+        bytes: 2048,
+        moment: 2,
+    },
+];
 
 // Sixteen pages: an empty leaf with all keys, and free ones.
 fn fresh_pages(alloc: Global) -> Result<Vec<Node>, AllocError> {
@@ -43,189 +219,85 @@ fn engine_at(rt: &impl Abort, alloc: Global, clock: u64) -> Result<Engine, Alloc
     Ok(engine_on(alloc, pages, log).expect(rt, "the pages are a tree"))
 }
 
-fn begin<P: Part>(engine: &mut Engine, dev: &mut P) -> Result<Answer, DiskFault> {
-    engine.call(dev, &Call::Begin)
+fn call_of(asked: &Asked) -> Call
+    ensures { IsWithin result }
+{
+    match asked {
+        Asked::Begin => Call::Begin,
+        Asked::Get(key) => Call::Get { key: *key as u64 },
+        Asked::Put(key, value) => Call::Put {
+            key: *key as u64,
+            value: *value as u64,
+        },
+        Asked::Commit => Call::Commit,
+    }
 }
 
-fn commit<P: Part>(engine: &mut Engine, dev: &mut P) -> Result<Answer, DiskFault> {
-    engine.call(dev, &Call::Commit)
-}
-
-fn get<P: Part>(engine: &mut Engine, dev: &mut P, key: u32) -> Result<Answer, DiskFault> {
-    engine.call(dev, &Call::Get { key: key as u64 })
-}
-
-fn put<P: Part>(
+// Whether a call is answered so.
+fn answers<P: Part>(
     engine: &mut Engine,
     dev: &mut P,
-    key: u32,
-    value: u32,
-) -> Result<Answer, DiskFault> {
-    engine.call(
-        dev,
-        &Call::Put {
-            key: key as u64,
-            value: value as u64,
-        },
-    )
+    asked: &Asked,
+    want: &Result<Answer, DiskFault>,
+) -> bool {
+    engine.call(dev, &call_of(asked)) == *want
 }
 
-const WAS_NONE: Result<Answer, DiskFault> = Ok(Answer::Was(None));
-
-fn refused(refusal: Refusal) -> Result<Answer, DiskFault> {
-    Ok(Answer::Refused(refusal))
-}
-
-fn committed(number: u64, at: u64) -> Result<Answer, DiskFault> {
-    Ok(Answer::Committed { number, at })
-}
-
-#[test]
-fn a_put_is_read_and_committed(rt: HostRuntime) -> Result<(), Fail> {
-    let alloc = rt.alloc();
-    let mut disk = MemDisk::new(alloc, 3)?;
-    let mut dev = AreaOf::new(&mut disk, 2);
-    let mut engine = engine_at(&rt, alloc, 0)?;
-    assert_eq!(rt;
-        begin(&mut engine, &mut dev),
-        Ok(Answer::Begun { number: 1 })
-    );
-    assert_eq!(rt; get(&mut engine, &mut dev, 5), Ok(Answer::Value(None)));
-    assert_eq!(rt; put(&mut engine, &mut dev, 5, 7), WAS_NONE);
-    assert_eq!(rt; put(&mut engine, &mut dev, 5, 8), Ok(Answer::Was(Some(7))));
-    assert_eq!(rt; get(&mut engine, &mut dev, 5), Ok(Answer::Value(Some(8))));
-    assert_eq!(rt; get(&mut engine, &mut dev, 6), Ok(Answer::Value(None)));
-    assert_eq!(rt; commit(&mut engine, &mut dev), committed(1, 3));
-    assert_eq!(rt;
-        begin(&mut engine, &mut dev),
-        Ok(Answer::Begun { number: 2 })
-    );
-    assert_eq!(rt; get(&mut engine, &mut dev, 5), Ok(Answer::Value(Some(8))));
-    // One block, one sync.
-    assert_eq!(rt; disk.bytes(2).len(), 2048);
-    assert_eq!(rt; disk.moment(), 2);
-    Ok(())
-}
-
-#[test]
-fn calls_want_a_transaction_and_begin_wants_none(rt: HostRuntime) -> Result<(), Fail> {
-    let alloc = rt.alloc();
-    let mut disk = MemDisk::new(alloc, 3)?;
-    let mut dev = AreaOf::new(&mut disk, 2);
-    let mut engine = engine_at(&rt, alloc, 0)?;
-    let none = refused(Refusal::NoTransaction);
-    assert_eq!(rt; get(&mut engine, &mut dev, 5), none);
-    assert_eq!(rt; put(&mut engine, &mut dev, 5, 7), none);
-    assert_eq!(rt; commit(&mut engine, &mut dev), none);
-    assert_eq!(rt;
-        begin(&mut engine, &mut dev),
-        Ok(Answer::Begun { number: 1 })
-    );
-    assert_eq!(rt;
-        begin(&mut engine, &mut dev),
-        refused(Refusal::InTransaction)
-    );
-    assert_eq!(rt; commit(&mut engine, &mut dev), committed(1, 1));
-    assert_eq!(rt; commit(&mut engine, &mut dev), none);
-    Ok(())
-}
-
-#[test]
-fn the_sixty_fifth_change_is_too_long(rt: HostRuntime) -> Result<(), Fail> {
-    let alloc = rt.alloc();
-    let mut disk = MemDisk::new(alloc, 3)?;
-    let mut dev = AreaOf::new(&mut disk, 2);
-    let mut engine = engine_at(&rt, alloc, 0)?;
-    assert_eq!(rt;
-        begin(&mut engine, &mut dev),
-        Ok(Answer::Begun { number: 1 })
-    );
-    for _ in 0..64 {
-        assert!(rt; put(&mut engine, &mut dev, 5, 7).is_ok());
+// Whether the calls of a step are answered as is written.
+fn is_done<P: Part>(engine: &mut Engine, dev: &mut P, step: &Step) -> bool {
+    match step {
+        Step::Begun(number) => {
+            let want = Ok(Answer::Begun { number: *number });
+            answers(engine, dev, &Asked::Begin, &want)
+        }
+        Step::Call(asked, want) => answers(engine, dev, asked, want),
+        Step::Again(count, asked, want) => {
+            for _ in 0..*count {
+                if !answers(engine, dev, asked, want) {
+                    return false;
+                }
+            }
+            true
+        }
+        Step::Keys(count) => {
+            for key in 0..*count {
+                if !answers(engine, dev, &Asked::Put(key, 7), &WAS_NONE) {
+                    return false;
+                }
+            }
+            true
+        }
+        Step::Transactions(count) => {
+            for number in 1..=*count {
+                let begun = Ok(Answer::Begun { number });
+                let committed = Ok(Answer::Committed { number, at: number });
+                if !answers(engine, dev, &Asked::Begin, &begun)
+                    || !answers(engine, dev, &Asked::Commit, &committed)
+                {
+                    return false;
+                }
+            }
+            true
+        }
     }
-    assert_eq!(rt; put(&mut engine, &mut dev, 5, 7), refused(Refusal::TooLong));
-    assert_eq!(rt; commit(&mut engine, &mut dev), committed(1, 65));
-    Ok(())
 }
 
-#[test]
-fn the_log_is_full_after_forty_eight_commits(rt: HostRuntime) -> Result<(), Fail> {
-    let alloc = rt.alloc();
+fn is_met(rt: &impl Abort, alloc: Global, case: &Case) -> Result<bool, AllocError> {
     let mut disk = MemDisk::new(alloc, 3)?;
+    disk.fail_at(2, Vec::from_slice(alloc, case.failing)?);
     let mut dev = AreaOf::new(&mut disk, 2);
-    let mut engine = engine_at(&rt, alloc, 0)?;
-    for number in 1..49 {
-        assert_eq!(rt; begin(&mut engine, &mut dev), Ok(Answer::Begun { number }));
-        assert_eq!(rt; commit(&mut engine, &mut dev), committed(number, number));
+    let mut engine = engine_at(rt, alloc, case.clock)?;
+    for step in case.steps {
+        if !is_done(&mut engine, &mut dev, step) {
+            return Ok(false);
+        }
     }
-    let full = refused(Refusal::LogFull {
-        used: 48,
-        limit: 48,
-    });
-    assert_eq!(rt; begin(&mut engine, &mut dev), full);
-    assert_eq!(rt;
-        put(&mut engine, &mut dev, 5, 7),
-        refused(Refusal::NoTransaction)
-    );
-    assert_eq!(rt; disk.bytes(2).len(), 98304);
-    Ok(())
+    Ok(disk.bytes(2).len() == case.bytes && disk.moment() == case.moment)
 }
 
 #[test]
-fn a_leaf_has_room_for_sixty_keys(rt: HostRuntime) -> Result<(), Fail> {
-    let alloc = rt.alloc();
-    let mut disk = MemDisk::new(alloc, 3)?;
-    let mut dev = AreaOf::new(&mut disk, 2);
-    let mut engine = engine_at(&rt, alloc, 0)?;
-    assert_eq!(rt;
-        begin(&mut engine, &mut dev),
-        Ok(Answer::Begun { number: 1 })
-    );
-    for key in 0..60 {
-        assert_eq!(rt; put(&mut engine, &mut dev, key, 7), WAS_NONE);
+fn each_call_is_answered_as_is_written(rt: HostRuntime) {
+    for case in &CASES {
+        expect(&rt, case.name, is_met(&rt, rt.alloc(), case));
     }
-    assert_eq!(rt; put(&mut engine, &mut dev, 60, 7), refused(Refusal::Full));
-    assert_eq!(rt; put(&mut engine, &mut dev, 59, 8), Ok(Answer::Was(Some(7))));
-    assert_eq!(rt; get(&mut engine, &mut dev, 59), Ok(Answer::Value(Some(8))));
-    assert_eq!(rt; commit(&mut engine, &mut dev), committed(1, 62));
-    Ok(())
-}
-
-#[test]
-fn the_clock_ends(rt: HostRuntime) -> Result<(), Fail> {
-    let alloc = rt.alloc();
-    let mut disk = MemDisk::new(alloc, 3)?;
-    let mut dev = AreaOf::new(&mut disk, 2);
-    let mut engine = engine_at(&rt, alloc, 4611686018427387903)?;
-    assert_eq!(rt;
-        begin(&mut engine, &mut dev),
-        Ok(Answer::Begun { number: 1 })
-    );
-    assert_eq!(rt; put(&mut engine, &mut dev, 5, 7), WAS_NONE);
-    assert_eq!(rt;
-        put(&mut engine, &mut dev, 5, 7),
-        refused(Refusal::ClockSpent)
-    );
-    assert_eq!(rt;
-        commit(&mut engine, &mut dev),
-        committed(1, 4611686018427387905)
-    );
-    assert_eq!(rt; begin(&mut engine, &mut dev), refused(Refusal::ClockSpent));
-    Ok(())
-}
-
-#[test]
-fn a_commit_whose_sync_fails_is_a_disk_fault(rt: HostRuntime) -> Result<(), Fail> {
-    let alloc = rt.alloc();
-    let mut disk = MemDisk::new(alloc, 3)?;
-    disk.fail_at(2, [2].to_vec(alloc)?);
-    let mut dev = AreaOf::new(&mut disk, 2);
-    let mut engine = engine_at(&rt, alloc, 0)?;
-    assert_eq!(rt;
-        begin(&mut engine, &mut dev),
-        Ok(Answer::Begun { number: 1 })
-    );
-    assert_eq!(rt; put(&mut engine, &mut dev, 5, 7), WAS_NONE);
-    assert_eq!(rt; commit(&mut engine, &mut dev), Err(DiskFault));
-    Ok(())
 }

@@ -1,34 +1,186 @@
 // A log over a disk in memory. The bytes of blocks are Python's, by struct.pack and hashlib.
+use crate::cases::expect;
 use lean_disk::{AreaOf, Disk, MemDisk, Part};
 use log_record::{Body, PageRef, Record};
 use std::alloc::{AllocError, Global};
 use std::process::Abort;
-use std::test::Fail;
 use worker_log::{DiskFault, Staging, WorkerLog};
 
-// The block of a change of key 5 from none to 7 and of its commit: generation 1, log 1, number 0.
-const HEADER: [u8; 32] = [
-    1, 0, 0, 0, 0, 0, 0, 0, 1, 0, 0, 0, 0, 0, 0, 0, 0, 0, 0, 0, 0, 0, 0, 0, 78, 0, 0, 0, 2, 0, 0, 0,
-];
-
-const PAYLOAD: [u8; 78] = [
-    1, 1, 0, 0, 0, 0, 0, 0, 0, 1, 0, 0, 0, 0, 0, 0, 0, 0, 0, 0, 0, 0, 0, 0, 0, 0, 0, 0, 0, 5, 0, 0,
-    0, 0, 0, 0, 0, 0, 0, 0, 0, 0, 0, 0, 128, 7, 0, 0, 0, 0, 0, 0, 0, 8, 1, 0, 0, 0, 0, 0, 0, 0, 2,
-    0, 0, 0, 0, 0, 0, 0, 0, 0, 0, 0, 0, 0, 0, 0,
-];
-
-const SEAL: [u8; 16] = [
-    102, 226, 156, 186, 148, 31, 161, 121, 19, 173, 224, 181, 88, 18, 40, 45,
-];
-
-fn worked_block(alloc: Global) -> Result<Vec<u8>, AllocError> {
-    let mut bytes = HEADER.to_vec(alloc)?;
-    bytes.extend_from_slice(&PAYLOAD)?;
-    let zeros = vec![in alloc; 0; 1922]?;
-    bytes.extend_from_slice(&zeros)?;
-    bytes.extend_from_slice(&SEAL)?;
-    Ok(bytes)
+enum Step {
+    /// A change of key 5 from none to 7 of this number.
+    Change(u64, Result<(), Staging>),
+    /// The changes of these numbers.
+    Changes(u64, u64),
+    /// The same, each flushed.
+    Flushes(u64, u64),
+    Commit(u64, Result<(), DiskFault>),
+    Flush(Result<u64, DiskFault>),
+    Room(Result<(), Staging>),
+    /// So many blocks are used, and up to this number it is flushed.
+    Stands(u32, u64),
+    Last(u64),
 }
+
+// Bytes of the log's area at a place, and so many zeros behind them.
+struct Bytes {
+    at: usize,
+    bytes: &'static [u8],
+    zeros: usize,
+}
+
+struct Case {
+    name: &'static str,
+    generation: u64,
+    log: u32,
+    /// The first block.
+    head: u64,
+    /// The calls of the log's area that fail.
+    failing: &'static [u64],
+    steps: &'static [Step],
+    /// The number up to which it is flushed when it is closed.
+    flushed: u64,
+    /// How many bytes are there then, and how many calls were made.
+    len: usize,
+    moment: u64,
+    bytes: &'static [Bytes],
+}
+
+static CASES: [Case; 4] = [
+    Case {
+        name: "a change and its commit are one block",
+        generation: 1,
+        log: 1,
+        head: 0,
+        failing: &[],
+        steps: &[
+            Step::Change(1, Ok(())),
+            Step::Commit(2, Ok(())),
+            Step::Stands(1, 0),
+            Step::Flush(Ok(2)),
+            Step::Stands(1, 2),
+            Step::Flush(Ok(2)),
+        ],
+        flushed: 2,
+        len: 2048,
+        moment: 2,
+        // Generation 1, log 1, number 0; the change and the commit; the seal.
+        bytes: &[
+            Bytes {
+                at: 0,
+                bytes: &[
+                    1, 0, 0, 0, 0, 0, 0, 0, 1, 0, 0, 0, 0, 0, 0, 0, 0, 0, 0, 0, 0, 0, 0, 0, 78, 0,
+                    0, 0, 2, 0, 0, 0,
+                ],
+                zeros: 0,
+            },
+            Bytes {
+                at: 32,
+                bytes: &[
+                    1, 1, 0, 0, 0, 0, 0, 0, 0, 1, 0, 0, 0, 0, 0, 0, 0, 0, 0, 0, 0, 0, 0, 0, 0, 0,
+                    0, 0, 0, 5, 0, 0, 0, 0, 0, 0, 0, 0, 0, 0, 0, 0, 0, 0, 128, 7, 0, 0, 0, 0, 0, 0,
+                    0, 8, 1, 0, 0, 0, 0, 0, 0, 0, 2, 0, 0, 0, 0, 0, 0, 0, 0, 0, 0, 0, 0, 0, 0, 0,
+                ],
+                zeros: 1922,
+            },
+            Bytes {
+                at: 2032,
+                bytes: &[
+                    102, 226, 156, 186, 148, 31, 161, 121, 19, 173, 224, 181, 88, 18, 40, 45,
+                ],
+                zeros: 0,
+            },
+        ],
+    },
+    Case {
+        name: "a record that does not fit begins the next block",
+        generation: 3,
+        log: 2,
+        head: 63,
+        failing: &[],
+        steps: &[
+            Step::Changes(1, 37),
+            Step::Stands(1, 0),
+            Step::Change(38, Ok(())),
+            Step::Stands(2, 0),
+            Step::Flush(Ok(38)),
+        ],
+        flushed: 38,
+        len: 131072,
+        moment: 3,
+        // Block 64 with one change, and block 63 with 37: number, bytes and records, and the seal.
+        bytes: &[
+            Bytes {
+                at: 16,
+                bytes: &[64, 0, 0, 0, 0, 0, 0, 0, 53, 0, 0, 0, 1, 0, 0, 0],
+                zeros: 0,
+            },
+            Bytes {
+                at: 2032,
+                bytes: &[
+                    23, 254, 194, 241, 95, 131, 195, 47, 170, 85, 12, 210, 16, 183, 155, 198,
+                ],
+                zeros: 0,
+            },
+            Bytes {
+                at: 129040,
+                bytes: &[63, 0, 0, 0, 0, 0, 0, 0, 169, 7, 0, 0, 37, 0, 0, 0],
+                zeros: 0,
+            },
+            Bytes {
+                at: 131056,
+                bytes: &[
+                    71, 137, 228, 79, 3, 225, 81, 106, 171, 26, 178, 98, 105, 27, 233, 52,
+                ],
+                zeros: 0,
+            },
+        ],
+    },
+    Case {
+        name: "changes leave sixteen blocks to ends",
+        generation: 1,
+        log: 1,
+        head: 0,
+        failing: &[],
+        steps: &[
+            Step::Flushes(1, 48),
+            Step::Room(Err(Staging::LogFull {
+                used: 48,
+                limit: 48,
+            })),
+            Step::Change(
+                49,
+                Err(Staging::LogFull {
+                    used: 48,
+                    limit: 48,
+                }),
+            ),
+            Step::Last(48),
+            Step::Commit(49, Ok(())),
+            Step::Stands(49, 48),
+            Step::Flush(Ok(49)),
+        ],
+        flushed: 49,
+        len: 100352,
+        moment: 98,
+        bytes: &[],
+    },
+    Case {
+        name: "a flush that fails leaves the number",
+        generation: 1,
+        log: 1,
+        head: 0,
+        failing: &[2],
+        steps: &[
+            Step::Change(1, Ok(())),
+            Step::Flush(Err(DiskFault)),
+            Step::Stands(1, 0),
+        ],
+        flushed: 0,
+        len: 2048,
+        moment: 2,
+        bytes: &[],
+    },
+];
 
 fn change<P: Part>(
     rt: &impl Abort,
@@ -60,98 +212,81 @@ fn commit<P: Part>(
     log.stage_end(dev, &Record { txn: 1, gsn, body })
 }
 
-#[test]
-fn a_change_and_its_commit_are_one_block(rt: HostRuntime) -> Result<(), Fail> {
-    let alloc = rt.alloc();
-    let mut disk = MemDisk::new(alloc, 3)?;
-    let mut dev = AreaOf::new(&mut disk, 2);
-    let mut log = WorkerLog::new(alloc, 1, 1, 64, 0, 0)?;
-    assert_eq!(rt; change(&rt, &mut log, &mut dev, 1), Ok(()));
-    assert_eq!(rt; commit(&rt, &mut log, &mut dev, 2), Ok(()));
-    assert_eq!(rt; log.used(), 1);
-    assert_eq!(rt; log.flushed(), 0);
-    assert_eq!(rt; log.flush(&mut dev), Ok(2));
-    assert_eq!(rt; log.flushed(), 2);
-    assert_eq!(rt; log.used(), 1);
-    assert_eq!(rt; log.flush(&mut dev), Ok(2));
-    assert_eq!(rt; log.close(), 2);
-    assert_eq!(rt; disk.bytes(2), worked_block(alloc)?.as_slice());
-    assert_eq!(rt; disk.moment(), 2);
-    Ok(())
+// Whether a step is answered as is written.
+fn is_done<P: Part>(rt: &impl Abort, log: &mut WorkerLog, dev: &mut P, step: &Step) -> bool {
+    match step {
+        Step::Change(gsn, want) => change(rt, log, dev, *gsn) == *want,
+        Step::Changes(first, last) => {
+            for gsn in *first..=*last {
+                if change(rt, log, dev, gsn).is_err() {
+                    return false;
+                }
+            }
+            true
+        }
+        Step::Flushes(first, last) => {
+            for gsn in *first..=*last {
+                if log.room().is_err()
+                    || change(rt, log, dev, gsn).is_err()
+                    || log.flush(dev) != Ok(gsn)
+                {
+                    return false;
+                }
+            }
+            true
+        }
+        Step::Commit(gsn, want) => commit(rt, log, dev, *gsn) == *want,
+        Step::Flush(want) => log.flush(dev) == *want,
+        Step::Room(want) => log.room() == *want,
+        Step::Stands(used, flushed) => log.used() == *used && log.flushed() == *flushed,
+        Step::Last(last) => log.last() == *last,
+    }
 }
 
-// Block 63 of generation 3 and log 2, with 37 changes, and block 64 with one.
-const LAST_SEAL: [u8; 16] = [
-    71, 137, 228, 79, 3, 225, 81, 106, 171, 26, 178, 98, 105, 27, 233, 52,
-];
-
-const FIRST_SEAL: [u8; 16] = [
-    23, 254, 194, 241, 95, 131, 195, 47, 170, 85, 12, 210, 16, 183, 155, 198,
-];
-
-#[test]
-fn a_record_that_does_not_fit_begins_the_next_block(rt: HostRuntime) -> Result<(), Fail> {
-    let alloc = rt.alloc();
-    let mut disk = MemDisk::new(alloc, 3)?;
-    let mut dev = AreaOf::new(&mut disk, 2);
-    let mut log = WorkerLog::new(alloc, 3, 2, 64, 63, 0)?;
-    for gsn in 1..38 {
-        assert_eq!(rt; change(&rt, &mut log, &mut dev, gsn), Ok(()));
-    }
-    assert_eq!(rt; log.used(), 1);
-    assert_eq!(rt; change(&rt, &mut log, &mut dev, 38), Ok(()));
-    assert_eq!(rt; log.used(), 2);
-    assert_eq!(rt; log.flush(&mut dev), Ok(38));
-    let bytes = disk.bytes(2);
-    assert_eq!(rt; bytes.len(), 131072);
-    assert_eq!(rt;
-        &bytes[16..32],
-        [64, 0, 0, 0, 0, 0, 0, 0, 53, 0, 0, 0, 1, 0, 0, 0].as_slice()
-    );
-    assert_eq!(rt; &bytes[2032..2048], FIRST_SEAL.as_slice());
-    assert_eq!(rt;
-        &bytes[129040..129056],
-        [63, 0, 0, 0, 0, 0, 0, 0, 169, 7, 0, 0, 37, 0, 0, 0].as_slice()
-    );
-    assert_eq!(rt; &bytes[131056..], LAST_SEAL.as_slice());
-    assert_eq!(rt; disk.moment(), 3);
-    Ok(())
-}
-
-#[test]
-fn changes_leave_sixteen_blocks_to_ends(rt: HostRuntime) -> Result<(), Fail> {
-    let alloc = rt.alloc();
-    let mut disk = MemDisk::new(alloc, 3)?;
-    let mut dev = AreaOf::new(&mut disk, 2);
-    let mut log = WorkerLog::new(alloc, 1, 1, 64, 0, 0)?;
-    for gsn in 1..49 {
-        assert_eq!(rt; log.room(), Ok(()));
-        assert_eq!(rt; change(&rt, &mut log, &mut dev, gsn), Ok(()));
-        assert_eq!(rt; log.flush(&mut dev), Ok(gsn));
-    }
-    let full = Staging::LogFull {
-        used: 48,
-        limit: 48,
+// Whether the bytes stand at their place, and the zeros behind them.
+fn holds(area: &[u8], part: &Bytes) -> bool {
+    let Some(rest) = area.get(part.at..) else {
+        return false;
     };
-    assert_eq!(rt; log.room(), Err(full));
-    assert_eq!(rt; change(&rt, &mut log, &mut dev, 49), Err(full));
-    assert_eq!(rt; log.last(), 48);
-    assert_eq!(rt; commit(&rt, &mut log, &mut dev, 49), Ok(()));
-    assert_eq!(rt; log.used(), 49);
-    assert_eq!(rt; log.flush(&mut dev), Ok(49));
-    assert_eq!(rt; disk.bytes(2).len(), 100352);
-    Ok(())
+    let Some(behind) = rest.strip_prefix(part.bytes) else {
+        return false;
+    };
+    for byte in behind.iter().take(part.zeros) {
+        if *byte != 0 {
+            return false;
+        }
+    }
+    true
+}
+
+fn is_met(rt: &impl Abort, alloc: Global, case: &Case) -> Result<bool, AllocError> {
+    let mut disk = MemDisk::new(alloc, 3)?;
+    disk.fail_at(2, Vec::from_slice(alloc, case.failing)?);
+    let mut dev = AreaOf::new(&mut disk, 2);
+    if case.log < 1 || case.log > 16 || case.head > 63 {
+        return Ok(false);
+    }
+    let mut log = WorkerLog::new(alloc, case.generation, case.log, 64, case.head, 0)?;
+    for step in case.steps {
+        if !is_done(rt, &mut log, &mut dev, step) {
+            return Ok(false);
+        }
+    }
+    for part in case.bytes {
+        if !holds(disk.bytes(2), part) {
+            return Ok(false);
+        }
+    }
+    Ok(
+        log.close() == case.flushed
+            && disk.bytes(2).len() == case.len
+            && disk.moment() == case.moment,
+    )
 }
 
 #[test]
-fn a_flush_that_fails_leaves_the_number(rt: HostRuntime) -> Result<(), Fail> {
-    let alloc = rt.alloc();
-    let mut disk = MemDisk::new(alloc, 3)?;
-    disk.fail_at(2, [2].to_vec(alloc)?);
-    let mut dev = AreaOf::new(&mut disk, 2);
-    let mut log = WorkerLog::new(alloc, 1, 1, 64, 0, 0)?;
-    assert_eq!(rt; change(&rt, &mut log, &mut dev, 1), Ok(()));
-    assert_eq!(rt; log.flush(&mut dev), Err(DiskFault));
-    assert_eq!(rt; log.flushed(), 0);
-    Ok(())
+fn a_log_stages_records_and_writes_blocks(rt: HostRuntime) {
+    for case in &CASES {
+        expect(&rt, case.name, is_met(&rt, rt.alloc(), case));
+    }
 }

@@ -1,11 +1,13 @@
 // Disks in memory that are opened, and opened again after each crash and each failed call.
+ghost use Rattle.std.specs.Prelude.{◌≤◌, length};
+
+use crate::cases::expect;
 use btree_node::Node;
 use disk_slots::{Heads, Master, master_bytes, page_bytes};
 use lean_disk::{Choice, Did, Disk, MemDisk};
 use log_block::block_bytes;
 use recovery::{Recovered, Unrecovered, recover};
 use std::alloc::{AllocError, Global};
-use std::test::Fail;
 
 // A change of key 5 in page 0, from none to 7, and its commit.
 const RECORDS: [u8; 78] = [
@@ -38,7 +40,69 @@ fn first_page(number: u32) -> Node {
     Node::free(number)
 }
 
-fn put_pages<D: Disk>(disk: &mut D, count: u32) {
+// What is done with a disk.
+enum Step {
+    /// So many pages are written into their first slots.
+    Pages(u32),
+    Master,
+    /// A block with a change, or with the change and its commit.
+    Change,
+    Transaction,
+    /// It is opened: winners, undone, sequence number, generation, floor, and the value of key 5.
+    Open(Result<([u64; 5], Option<u64>), Unrecovered>),
+}
+
+// Each on an empty disk.
+struct Case {
+    name: &'static str,
+    steps: &'static [Step],
+}
+
+static CASES: [Case; 4] = [
+    Case {
+        name: "a formatted disk opens with generation 1",
+        steps: &[
+            Step::Pages(16),
+            Step::Master,
+            Step::Open(Ok(([0, 0, 1, 1, 0], None))),
+            Step::Open(Ok(([0, 0, 2, 2, 0], None))),
+        ],
+    },
+    Case {
+        name: "a committed transaction is there from then on",
+        steps: &[
+            Step::Pages(16),
+            Step::Master,
+            Step::Transaction,
+            Step::Open(Ok(([1, 0, 1, 1, 2], Some(7)))),
+            Step::Open(Ok(([0, 0, 2, 2, 2], Some(7)))),
+        ],
+    },
+    Case {
+        name: "a transaction without an end is undone",
+        steps: &[
+            Step::Pages(16),
+            Step::Master,
+            Step::Change,
+            Step::Open(Ok(([0, 1, 1, 1, 1], Some(9223372036854775808)))),
+            Step::Open(Ok(([0, 0, 2, 2, 1], Some(9223372036854775808)))),
+        ],
+    },
+    Case {
+        name: "a disk without a master or a page is refused",
+        steps: &[
+            Step::Open(Err(Unrecovered::NotFormatted)),
+            Step::Pages(15),
+            Step::Open(Err(Unrecovered::NotFormatted)),
+            Step::Master,
+            Step::Open(Err(Unrecovered::Damaged { area: 1, place: 15 })),
+            Step::Pages(16),
+            Step::Open(Ok(([0, 0, 1, 1, 0], None))),
+        ],
+    },
+];
+
+fn put_pages(disk: &mut MemDisk, count: u32) {
     let mut bytes = [0; 1024];
     for page in 0..count {
         page_bytes(&first_page(page), &mut bytes);
@@ -46,35 +110,26 @@ fn put_pages<D: Disk>(disk: &mut D, count: u32) {
     }
 }
 
-fn put_master<D: Disk>(disk: &mut D) {
+fn put_master(disk: &mut MemDisk) {
     let mut bytes = [0; 1024];
     master_bytes(&first_master(), &mut bytes);
     disk.write(0, 0, &bytes);
 }
 
-fn put_change<D: Disk>(disk: &mut D) {
+fn put_block(disk: &mut MemDisk, count: u32, records: &[u8])
+    requires { length records.now ≤ 2000 }
+{
     let mut bytes = [0; 2048];
-    block_bytes(0, 1, 0, 1, &CHANGE, &mut bytes);
+    block_bytes(0, 1, 0, count, records, &mut bytes);
     disk.write(2, 0, &bytes);
 }
 
-fn put_transaction<D: Disk>(disk: &mut D) {
-    let mut bytes = [0; 2048];
-    block_bytes(0, 1, 0, 2, &RECORDS, &mut bytes);
-    disk.write(2, 0, &bytes);
-}
-
-fn formatted(alloc: Global) -> Result<MemDisk, AllocError> {
+// With one transaction that is committed, and no call made yet.
+fn used(alloc: Global) -> Result<MemDisk, AllocError> {
     let mut disk = MemDisk::new(alloc, 3)?;
     put_pages(&mut disk, 16);
     put_master(&mut disk);
-    Ok(disk)
-}
-
-// With one transaction that is committed.
-fn used(alloc: Global) -> Result<MemDisk, AllocError> {
-    let mut disk = formatted(alloc)?;
-    put_transaction(&mut disk);
+    put_block(&mut disk, 2, &RECORDS);
     disk.crash(disk.moment(), Choice::AllBytes)
 }
 
@@ -86,119 +141,100 @@ fn value(it: &Recovered) -> Option<u64> {
     }
 }
 
-// Winners, undone, sequence number, generation, floor and the value of key 5.
-fn told(it: &Recovered) -> ([u64; 5], Option<u64>) {
+fn value_on(alloc: Global, disk: &mut MemDisk) -> Result<Option<u64>, Unrecovered> {
+    Ok(value(&recover(alloc, disk)?))
+}
+
+fn opened(alloc: Global, disk: &mut MemDisk) -> Result<([u64; 5], Option<u64>), Unrecovered> {
+    let it = recover(alloc, disk)?;
     let master = &it.master;
-    (
-        [
-            it.winners,
-            it.undone,
-            master.sequence,
-            master.generation,
-            master.floor,
-        ],
-        value(it),
-    )
+    let counts = [
+        it.winners,
+        it.undone,
+        master.sequence,
+        master.generation,
+        master.floor,
+    ];
+    Ok((counts, value(&it)))
 }
 
-fn opened<D: Disk>(alloc: Global, disk: &mut D) -> Result<([u64; 5], Option<u64>), Unrecovered> {
-    match recover(alloc, disk) {
-        Ok(it) => Ok(told(&it)),
-        Err(error) => Err(error),
+// Whether an opening finds what is written; what else is done is not answered.
+fn is_done(alloc: Global, disk: &mut MemDisk, step: &Step) -> bool {
+    match step {
+        Step::Pages(count) => put_pages(disk, *count),
+        Step::Master => put_master(disk),
+        Step::Change => put_block(disk, 1, &CHANGE),
+        Step::Transaction => put_block(disk, 2, &RECORDS),
+        Step::Open(want) => return opened(alloc, disk) == *want,
     }
+    true
 }
 
-fn value_on<D: Disk>(alloc: Global, disk: &mut D) -> Result<Option<u64>, Unrecovered> {
-    match recover(alloc, disk) {
-        Ok(it) => Ok(value(&it)),
-        Err(error) => Err(error),
-    }
-}
-
-#[test]
-fn a_formatted_disk_opens_with_generation_1(rt: HostRuntime) -> Result<(), Fail> {
-    let alloc = rt.alloc();
-    let mut disk = formatted(alloc)?;
-    assert_eq!(rt; opened(alloc, &mut disk), Ok(([0, 0, 1, 1, 0], None)));
-    assert_eq!(rt; opened(alloc, &mut disk), Ok(([0, 0, 2, 2, 0], None)));
-    Ok(())
-}
-
-#[test]
-fn a_committed_transaction_is_there_from_then_on(rt: HostRuntime) -> Result<(), Fail> {
-    let alloc = rt.alloc();
-    let mut disk = used(alloc)?;
-    assert_eq!(rt; opened(alloc, &mut disk), Ok(([1, 0, 1, 1, 2], Some(7))));
-    assert_eq!(rt; opened(alloc, &mut disk), Ok(([0, 0, 2, 2, 2], Some(7))));
-    Ok(())
-}
-
-#[test]
-fn a_transaction_without_an_end_is_undone(rt: HostRuntime) -> Result<(), Fail> {
-    let alloc = rt.alloc();
-    let mut disk = formatted(alloc)?;
-    put_change(&mut disk);
-    assert_eq!(rt;
-        opened(alloc, &mut disk),
-        Ok(([0, 1, 1, 1, 1], Some(9223372036854775808)))
-    );
-    assert_eq!(rt;
-        opened(alloc, &mut disk),
-        Ok(([0, 0, 2, 2, 1], Some(9223372036854775808)))
-    );
-    Ok(())
-}
-
-#[test]
-fn a_disk_without_a_master_or_a_page_is_refused(rt: HostRuntime) -> Result<(), Fail> {
-    let alloc = rt.alloc();
+fn is_met(alloc: Global, case: &Case) -> Result<bool, AllocError> {
     let mut disk = MemDisk::new(alloc, 3)?;
-    assert_eq!(rt; opened(alloc, &mut disk), Err(Unrecovered::NotFormatted));
-    put_pages(&mut disk, 15);
-    assert_eq!(rt; opened(alloc, &mut disk), Err(Unrecovered::NotFormatted));
-    put_master(&mut disk);
-    assert_eq!(rt;
-        opened(alloc, &mut disk),
-        Err(Unrecovered::Damaged { area: 1, place: 15 })
-    );
-    put_pages(&mut disk, 16);
-    assert_eq!(rt; opened(alloc, &mut disk), Ok(([0, 0, 1, 1, 0], None)));
-    Ok(())
-}
-
-#[test]
-fn after_each_failed_call_it_opens_with_the_same_map(rt: HostRuntime) -> Result<(), Fail> {
-    let alloc = rt.alloc();
-    for area in 0..3 {
-        for call in 1..40 {
-            let mut disk = used(alloc)?;
-            disk.fail_at(area, vec![in alloc; call]?);
-            match value_on(alloc, &mut disk) {
-                Ok(found) => assert_eq!(rt; found, Some(7)),
-                Err(error) => assert_eq!(rt; error, Unrecovered::DiskFault),
-            }
-            disk.fail_at(area, Vec::new(alloc));
-            assert_eq!(rt; value_on(alloc, &mut disk), Ok(Some(7)));
+    for step in case.steps {
+        if !is_done(alloc, &mut disk, step) {
+            return Ok(false);
         }
     }
-    Ok(())
+    Ok(true)
 }
 
-#[test]
-fn after_each_crash_it_opens_with_the_same_map(rt: HostRuntime) -> Result<(), Fail> {
-    let alloc = rt.alloc();
+// Whether it opens with the same map after each call of an area that failed.
+fn is_same_after_faults(alloc: Global, area: u32) -> Result<bool, AllocError> {
+    for call in 1..40 {
+        let mut disk = used(alloc)?;
+        disk.fail_at(area, vec![in alloc; call]?);
+        let found = value_on(alloc, &mut disk);
+        if found != Ok(Some(7)) && found != Err(Unrecovered::DiskFault) {
+            return Ok(false);
+        }
+        disk.fail_at(area, Vec::new(alloc));
+        if value_on(alloc, &mut disk) != Ok(Some(7)) {
+            return Ok(false);
+        }
+    }
+    Ok(true)
+}
+
+// Whether it opens with the same map after a crash of an opening at each moment.
+fn is_same_after_crashes(alloc: Global, choice: Choice) -> Result<bool, AllocError> {
     let mut disk = used(alloc)?;
-    assert_eq!(rt; value_on(alloc, &mut disk), Ok(Some(7)));
+    if value_on(alloc, &mut disk) != Ok(Some(7)) {
+        return Ok(false);
+    }
     for moment in 0..disk.moment() {
-        for choice in [
-            Choice::NoBytes,
-            Choice::AllBytes,
-            Choice::FirstHalf,
-            Choice::Zeros,
-        ] {
-            let mut left = disk.crash(moment, choice)?;
-            assert_eq!(rt; value_on(alloc, &mut left), Ok(Some(7)));
+        let mut left = disk.crash(moment, choice)?;
+        if value_on(alloc, &mut left) != Ok(Some(7)) {
+            return Ok(false);
         }
     }
-    Ok(())
+    Ok(true)
+}
+
+static FAULTS: [(&str, u32); 3] = [
+    ("calls on the masters fail", 0),
+    ("calls on the pages fail", 1),
+    ("calls on the log fail", 2),
+];
+
+static CRASHES: [(&str, Choice); 4] = [
+    ("crashes leave no bytes", Choice::NoBytes),
+    ("crashes leave all bytes", Choice::AllBytes),
+    ("crashes leave halves", Choice::FirstHalf),
+    ("crashes leave zeros", Choice::Zeros),
+];
+
+#[test]
+fn each_disk_opens_with_the_map_of_its_log(rt: HostRuntime) {
+    let alloc = rt.alloc();
+    for case in &CASES {
+        expect(&rt, case.name, is_met(alloc, case));
+    }
+    for (name, area) in &FAULTS {
+        expect(&rt, name, is_same_after_faults(alloc, *area));
+    }
+    for (name, choice) in &CRASHES {
+        expect(&rt, name, is_same_after_crashes(alloc, *choice));
+    }
 }

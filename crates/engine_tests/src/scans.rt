@@ -1,10 +1,10 @@
 // The scan of one log on a disk in memory. The records' bytes were written down by hand.
+use crate::cases::expect;
 use disk_slots::{Heads, Master, master_bytes, read_master};
 use lean_disk::{AreaOf, Disk, MemDisk};
 use log_block::block_bytes;
 use recovery_scan::{Found, Unread, What, scan};
 use std::alloc::{AllocError, Global};
-use std::test::Fail;
 
 const NONE: u64 = 9223372036854775808;
 
@@ -15,8 +15,78 @@ const RECORDS: [u8; 78] = [
     0, 0, 0, 0, 0, 0, 0, 0, 0, 0, 0, 0, 0, 0, 0,
 ];
 
-// The master of generation 4 with a ring of 64 blocks, whose log begins at its start.
-fn master_slot(slot: &mut [u8; 1024]) {
+macro_rules! change {
+    ($place:expr, $number:expr) => {
+        Found {
+            place: $place,
+            txn: 1,
+            number: $number,
+            what: What::Change {
+                page: 0,
+                prev: 0,
+                key: 5,
+                before: NONE,
+                after: 7,
+            },
+        }
+    };
+}
+
+macro_rules! commit {
+    ($place:expr, $number:expr) => {
+        Found {
+            place: $place,
+            txn: 1,
+            number: $number,
+            what: What::Commit { need: 0 },
+        }
+    };
+}
+
+// Blocks by their generation, their number, and the number of their change; the commit has the next one. Then the calls of
+// the log's area that fail, and what the scan finds.
+struct Case {
+    name: &'static str,
+    blocks: &'static [(u64, u64, u8)],
+    failing: &'static [u64],
+    want: Result<&'static [Found], Unread>,
+}
+
+static CASES: [Case; 5] = [
+    Case {
+        name: "a run ends at the first gap",
+        blocks: &[(4, 0, 1), (4, 1, 3), (4, 3, 7)],
+        failing: &[],
+        want: Ok(&[change!(0, 1), commit!(0, 2), change!(1, 3), commit!(1, 4)]),
+    },
+    Case {
+        name: "a block of another generation does not count",
+        blocks: &[(4, 0, 1), (3, 1, 3)],
+        failing: &[],
+        want: Ok(&[change!(0, 1), commit!(0, 2)]),
+    },
+    Case {
+        name: "blocks of another generation do not count",
+        blocks: &[(4, 0, 1), (3, 1, 3), (3, 0, 1)],
+        failing: &[],
+        want: Ok(&[]),
+    },
+    Case {
+        name: "a number that does not rise is damage at its block",
+        blocks: &[(4, 0, 1), (4, 1, 2)],
+        failing: &[],
+        want: Err(Unread::Damaged { place: 1 }),
+    },
+    Case {
+        name: "a read that fails is told",
+        blocks: &[(4, 0, 1)],
+        failing: &[2],
+        want: Err(Unread::DiskFault),
+    },
+];
+
+// By the master of generation 4 with a ring of 64 blocks, whose log begins at its start.
+fn scan_log(alloc: Global, disk: &mut MemDisk) -> Result<Vec<Found>, Unread> {
     let master = Master {
         sequence: 4,
         generation: 4,
@@ -25,12 +95,8 @@ fn master_slot(slot: &mut [u8; 1024]) {
         blocks: 64,
         heads: Heads::new(1),
     };
-    master_bytes(&master, slot);
-}
-
-fn scan_log(alloc: Global, disk: &mut MemDisk) -> Result<Vec<Found>, Unread> {
     let mut slot = [0; 1024];
-    master_slot(&mut slot);
+    master_bytes(&master, &mut slot);
     let Ok(master) = read_master(0, &slot) else {
         return Err(Unread::Memory);
     };
@@ -47,82 +113,22 @@ fn put_block(disk: &mut MemDisk, generation: u64, number: u64, gsn: u8) {
     disk.write(2, 2048 * (number % 64), &block);
 }
 
-fn found(place: u32, number: u64) -> [Found; 2] {
-    let change = What::Change {
-        page: 0,
-        prev: 0,
-        key: 5,
-        before: NONE,
-        after: 7,
-    };
-    let commit = What::Commit { need: 0 };
-    let after = number.saturating_add(1);
-    [
-        Found {
-            place,
-            txn: 1,
-            number,
-            what: change,
-        },
-        Found {
-            place,
-            txn: 1,
-            number: after,
-            what: commit,
-        },
-    ]
-}
-
-#[test]
-fn a_run_ends_at_the_first_gap(rt: HostRuntime) -> Result<(), Fail> {
-    let alloc = rt.alloc();
+fn is_found(alloc: Global, case: &Case) -> Result<bool, AllocError> {
     let mut disk = MemDisk::new(alloc, 3)?;
-    put_block(&mut disk, 4, 0, 1);
-    put_block(&mut disk, 4, 1, 3);
-    put_block(&mut disk, 4, 3, 7);
-    match scan_log(alloc, &mut disk) {
-        Ok(records) => {
-            assert_eq!(rt; records.len(), 4);
-            assert!(rt; &records[..2] == found(0, 1).as_slice());
-            assert!(rt; &records[2..] == found(1, 3).as_slice());
-        }
-        Err(why) => assert_eq!(rt; Some(why), None),
+    for (generation, number, gsn) in case.blocks {
+        put_block(&mut disk, *generation, *number, *gsn);
     }
-    Ok(())
+    disk.fail_at(2, Vec::from_slice(alloc, case.failing)?);
+    match (scan_log(alloc, &mut disk), &case.want) {
+        (Ok(found), Ok(want)) => Ok(found.as_slice() == *want),
+        (Err(why), Err(want)) => Ok(why == *want),
+        _ => Ok(false),
+    }
 }
 
 #[test]
-fn blocks_of_another_generation_do_not_count(rt: HostRuntime) -> Result<(), Fail> {
-    let alloc = rt.alloc();
-    let mut disk = MemDisk::new(alloc, 3)?;
-    put_block(&mut disk, 4, 0, 1);
-    put_block(&mut disk, 3, 1, 3);
-    let records = scan_log(alloc, &mut disk);
-    assert!(rt; matches!(&records, Ok(found) if found.len() == 2));
-    put_block(&mut disk, 3, 0, 1);
-    let records = scan_log(alloc, &mut disk);
-    assert!(rt; matches!(&records, Ok(found) if found.len() == 0));
-    Ok(())
-}
-
-#[test]
-fn a_number_that_does_not_rise_is_damage_at_its_block(rt: HostRuntime) -> Result<(), Fail> {
-    let alloc = rt.alloc();
-    let mut disk = MemDisk::new(alloc, 3)?;
-    put_block(&mut disk, 4, 0, 1);
-    put_block(&mut disk, 4, 1, 2);
-    let records = scan_log(alloc, &mut disk);
-    assert!(rt; matches!(records, Err(Unread::Damaged { place: 1 })));
-    Ok(())
-}
-
-#[test]
-fn a_read_that_fails_is_told(rt: HostRuntime) -> Result<(), Fail> {
-    let alloc = rt.alloc();
-    let mut disk = MemDisk::new(alloc, 3)?;
-    put_block(&mut disk, 4, 0, 1);
-    disk.fail_at(2, vec![in alloc; 2]?);
-    let records = scan_log(alloc, &mut disk);
-    assert!(rt; matches!(records, Err(Unread::DiskFault)));
-    Ok(())
+fn a_scan_finds_the_records_of_its_run(rt: HostRuntime) {
+    for case in &CASES {
+        expect(&rt, case.name, is_found(rt.alloc(), case));
+    }
 }

@@ -1,84 +1,123 @@
 // Pages that are saved on a disk in memory and fetched again.
 ghost use Rattle.std.specs.Prelude.{◌≡◌, ◌<◌};
 
+use crate::cases::expect;
 use btree_node::Node;
 use disk_slots::{Heads, Master};
 use lean_disk::{AreaOf, Did, Disk, MemDisk};
-use page_store::{Base, Unread, fetch, save, spare};
-use std::test::Fail;
+use page_store::{Unread, fetch, save, spare};
+use std::alloc::{AllocError, Global};
 
-fn leaf(gsn: u64, generation: u64) -> Node
-    ensures { result.number ≡ 3 }
+// What is done with page 3.
+enum Step {
+    /// Saved into this slot, the first or its spare, with this number and generation.
+    First(u64, u64, Did),
+    Spare(u64, u64, Did),
+    /// Fetched by a master of this generation: its number and its slot.
+    Fetch(u64, Result<(u64, u32), Unread>),
+}
+
+struct Case {
+    name: &'static str,
+    /// The first slot, and the calls of the pages' area that fail.
+    slot: u32,
+    failing: &'static [u64],
+    steps: &'static [Step],
+    bytes: usize,
+}
+
+static CASES: [Case; 3] = [
+    Case {
+        name: "the newest slot up to the master's generation is the base",
+        slot: 0,
+        failing: &[],
+        steps: &[
+            Step::Fetch(9, Err(Unread::Damaged)),
+            Step::First(5, 1, Did::Done),
+            Step::Fetch(9, Ok((5, 0))),
+            Step::Spare(4, 2, Did::Done),
+            Step::Fetch(2, Ok((4, 1))),
+            Step::Fetch(1, Ok((5, 0))),
+            Step::Fetch(0, Err(Unread::Damaged)),
+        ],
+        bytes: 8192,
+    },
+    Case {
+        name: "of one generation the greater number counts",
+        slot: 1,
+        failing: &[],
+        steps: &[
+            Step::First(7, 1, Did::Done),
+            Step::Spare(6, 1, Did::Done),
+            Step::Fetch(1, Ok((7, 1))),
+        ],
+        bytes: 8192,
+    },
+    Case {
+        name: "a failed call is a fault of the disk",
+        slot: 0,
+        failing: &[1, 3],
+        steps: &[
+            Step::First(5, 1, Did::Failed),
+            Step::First(5, 1, Did::Done),
+            Step::Fetch(1, Err(Unread::DiskFault)),
+            Step::Fetch(1, Ok((5, 0))),
+        ],
+        bytes: 7168,
+    },
+];
+
+fn save_at(disk: &mut MemDisk, slot: u32, gsn: u64, generation: u64) -> Did
+    requires { slot < 2 }
 {
     let mut node = Node::empty_leaf(3, 0, u64::MAX);
     node.set_gsn(gsn);
     node.set_generation(generation);
-    node
+    let mut buffer = [0; 1024];
+    save(&mut AreaOf::new(disk, 1), slot, &node, &mut buffer)
 }
 
-fn master(generation: u64) -> Master
-    ensures { result.pages ≡ 16 }
-{
-    Master {
+fn fetch_by(disk: &mut MemDisk, generation: u64) -> Result<(u64, u32), Unread> {
+    let master = Master {
         sequence: 0,
         generation,
         floor: 0,
         pages: 16,
         blocks: 64,
         heads: Heads::new(1),
-    }
+    };
+    let base = fetch(&mut AreaOf::new(disk, 1), &master, 3)?;
+    Ok((base.node.gsn(), base.slot))
 }
 
-fn save_at<D: Disk>(disk: &mut D, slot: u32, node: &Node) -> Did
-    requires half { slot < 2 }
-    requires page { node.now.number ≡ 3 }
+// Whether a step is answered as is written.
+fn is_done(disk: &mut MemDisk, slot: u32, step: &Step) -> bool
+    requires { slot < 2 }
 {
-    let mut buffer = [0; 1024];
-    save(&mut AreaOf::new(disk, 1), slot, node, &mut buffer)
-}
-
-fn base<D: Disk>(disk: &mut D, generation: u64) -> Result<Base, Unread> {
-    fetch(&mut AreaOf::new(disk, 1), &master(generation), 3)
-}
-
-// The number of the base, and its slot.
-fn number_and_slot<D: Disk>(disk: &mut D, generation: u64) -> Result<(u64, u32), Unread> {
-    match base(disk, generation) {
-        Ok(base) => Ok((base.node.gsn(), base.slot)),
-        Err(unread) => Err(unread),
+    match step {
+        Step::First(gsn, generation, did) => save_at(disk, slot, *gsn, *generation) == *did,
+        Step::Spare(gsn, generation, did) => save_at(disk, spare(slot), *gsn, *generation) == *did,
+        Step::Fetch(generation, want) => fetch_by(disk, *generation) == *want,
     }
 }
 
-#[test]
-fn the_newest_slot_up_to_the_masters_generation_is_the_base(rt: HostRuntime) -> Result<(), Fail> {
-    let mut disk = MemDisk::new(rt.alloc(), 2)?;
-    assert_eq!(rt; number_and_slot(&mut disk, 9), Err(Unread::Damaged));
-    assert_eq!(rt; save_at(&mut disk, 0, &leaf(5, 1)), Did::Done);
-    assert_eq!(rt; number_and_slot(&mut disk, 9), Ok((5, 0)));
-    assert_eq!(rt; save_at(&mut disk, spare(0), &leaf(4, 2)), Did::Done);
-    assert_eq!(rt; number_and_slot(&mut disk, 2), Ok((4, 1)));
-    assert_eq!(rt; number_and_slot(&mut disk, 1), Ok((5, 0)));
-    assert_eq!(rt; number_and_slot(&mut disk, 0), Err(Unread::Damaged));
-    assert_eq!(rt; disk.bytes(1).len(), 8192);
-    Ok(())
+fn is_met(alloc: Global, case: &Case) -> Result<bool, AllocError> {
+    let mut disk = MemDisk::new(alloc, 2)?;
+    disk.fail_at(1, Vec::from_slice(alloc, case.failing)?);
+    if case.slot > 1 {
+        return Ok(false);
+    }
+    for step in case.steps {
+        if !is_done(&mut disk, case.slot, step) {
+            return Ok(false);
+        }
+    }
+    Ok(disk.bytes(1).len() == case.bytes)
 }
 
 #[test]
-fn of_one_generation_the_greater_number_counts(rt: HostRuntime) -> Result<(), Fail> {
-    let mut disk = MemDisk::new(rt.alloc(), 2)?;
-    assert_eq!(rt; save_at(&mut disk, 1, &leaf(7, 1)), Did::Done);
-    assert_eq!(rt; save_at(&mut disk, spare(1), &leaf(6, 1)), Did::Done);
-    assert_eq!(rt; number_and_slot(&mut disk, 1), Ok((7, 1)));
-    Ok(())
-}
-
-#[test]
-fn a_failed_call_is_a_fault_of_the_disk(rt: HostRuntime) -> Result<(), Fail> {
-    let mut disk = MemDisk::new(rt.alloc(), 2)?;
-    disk.fail_at(1, vec![in rt.alloc(); 1, 3]?);
-    assert_eq!(rt; save_at(&mut disk, 0, &leaf(5, 1)), Did::Failed);
-    assert_eq!(rt; save_at(&mut disk, 0, &leaf(5, 1)), Did::Done);
-    assert_eq!(rt; number_and_slot(&mut disk, 1), Err(Unread::DiskFault));
-    assert_eq!(rt; number_and_slot(&mut disk, 1), Ok((5, 0)));
-    Ok(())
+fn a_page_is_fetched_from_its_newest_slot(rt: HostRuntime) {
+    for case in &CASES {
+        expect(&rt, case.name, is_met(rt.alloc(), case));
+    }
 }

@@ -1,45 +1,198 @@
 // The pages and the least page that breaks the rule were written down by hand.
+use crate::cases::expect;
 use btree_node::Node;
 use node_tree::{first_break, is_leaf_with, leaf_of};
 use page_model::every_check;
-use std::alloc::Global;
+use std::alloc::{AllocError, Global};
 use std::process::Abort;
 
-const TOP: u64 = u64::MAX;
+pub(crate) const TOP: u64 = u64::MAX;
 
-const TOMBSTONE: u64 = 9223372036854775808;
+pub(crate) const TOMBSTONE: u64 = 9223372036854775808;
 
-const LIVE: u64 = 1 << 24;
+pub(crate) const LIVE: u64 = 1 << 24;
 
-const FREE: u64 = 2 << 24;
+pub(crate) const FREE: u64 = 2 << 24;
 
-const LEVEL: u64 = 1 << 8;
+pub(crate) const LEVEL: u64 = 1 << 8;
 
-/// The page with this packed word, these fences, and these keys and words in turn.
-fn page(rt: &impl Abort, packed: u64, low: u64, high: u64, pairs: [u64; 4]) -> Node {
+/// A page: its first four words, its fences, and its keys and words in turn.
+#[derive(Drop)]
+pub(crate) struct Page(pub [u64; 4], pub u64, pub u64, pub [u64; 4]);
+
+// One of which only the packed word, the fences, and the keys and words count.
+macro_rules! page {
+    ($packed:expr, $low:expr, $high:expr, $pairs:expr) => {
+        Page([0, 0, 0, $packed], $low, $high, $pairs)
+    };
+}
+
+/// The node that it spells.
+pub(crate) fn node_of(rt: &impl Abort, page: &Page) -> Node {
+    let Page(first, low, high, pairs) = page;
     let mut words = [0; 126];
-    words[3] = packed;
-    words[4] = low;
-    words[5] = high;
-    words[6..10].copy_from_slice(&pairs);
+    words[..4].copy_from_slice(first);
+    words[4] = *low;
+    words[5] = *high;
+    words[6..10].copy_from_slice(pairs);
     Node::from_words(words).expect(rt, "these words spell a page")
 }
 
-/// A root over the pages 1 and 2, and a page that no node names.
-fn pages(rt: &impl Abort) -> [Node; 4] {
+// A root over the pages 1 and 2, and a page that no node names.
+static PAGES: [Page; 4] = [
+    page!(2 + LEVEL + LIVE, 0, TOP, [0, 1, 10, 2]),
+    page!(1 + LIVE, 0, 10, [4, TOMBSTONE, 0, 0]),
+    page!(LIVE, 10, TOP, [0; 4]),
+    page!(FREE, 0, 0, [0; 4]),
+];
+
+// What is broken, if anything, the pages that stand in the place of some, and the least page that breaks the rule.
+struct Case {
+    name: &'static str,
+    instead: &'static [(usize, Page)],
+    least: Option<usize>,
+}
+
+static CASES: [Case; 22] = [
+    Case {
+        name: "a tree",
+        instead: &[],
+        least: None,
+    },
+    Case {
+        name: "the root is free",
+        instead: &[(0, page!(FREE, 0, 0, [0; 4]))],
+        least: Some(0),
+    },
+    Case {
+        name: "the root has not all keys above",
+        instead: &[(0, page!(2 + LEVEL + LIVE, 0, TOP - 1, [0, 1, 10, 2]))],
+        least: Some(0),
+    },
+    Case {
+        name: "the root has not all keys below",
+        instead: &[(0, page!(1 + LEVEL + LIVE, 10, TOP, [10, 2, 0, 0]))],
+        least: Some(0),
+    },
+    Case {
+        name: "a child is two levels below",
+        instead: &[(0, page!(2 + 2 * LEVEL + LIVE, 0, TOP, [0, 1, 10, 2]))],
+        least: Some(0),
+    },
+    Case {
+        name: "a child begins before its fence",
+        instead: &[(0, page!(2 + LEVEL + LIVE, 0, TOP, [0, 1, 11, 2]))],
+        least: Some(0),
+    },
+    Case {
+        name: "a child twice",
+        instead: &[(0, page!(2 + LEVEL + LIVE, 0, TOP, [0, 1, 10, 1]))],
+        least: Some(0),
+    },
+    Case {
+        name: "a free child",
+        instead: &[(0, page!(2 + LEVEL + LIVE, 0, TOP, [0, 1, 10, 3]))],
+        least: Some(0),
+    },
+    Case {
+        name: "a child that ends before its fence",
+        instead: &[(0, page!(1 + LEVEL + LIVE, 0, TOP, [0, 1, 0, 0]))],
+        least: Some(0),
+    },
+    Case {
+        name: "the root is a child",
+        instead: &[(0, page!(2 + LEVEL + LIVE, 0, TOP, [0, 1, 10, 0]))],
+        least: Some(0),
+    },
+    Case {
+        name: "the child 4 of pages up to 3",
+        instead: &[(0, page!(2 + LEVEL + LIVE, 0, TOP, [0, 1, 10, 4]))],
+        least: Some(0),
+    },
+    Case {
+        name: "the child 5 of pages up to 3",
+        instead: &[(0, page!(2 + LEVEL + LIVE, 0, TOP, [0, 1, 10, 5]))],
+        least: Some(0),
+    },
+    Case {
+        name: "a tombstone for a child",
+        instead: &[(0, page!(2 + LEVEL + LIVE, 0, TOP, [0, 1, 10, TOMBSTONE]))],
+        least: Some(0),
+    },
+    Case {
+        name: "the greatest word for a child",
+        instead: &[(0, page!(2 + LEVEL + LIVE, 0, TOP, [0, 1, 10, TOP]))],
+        least: Some(0),
+    },
+    Case {
+        name: "a leaf with a word that is no value",
+        instead: &[(1, page!(1 + LIVE, 0, 10, [4, TOMBSTONE + 1, 0, 0]))],
+        least: Some(1),
+    },
+    Case {
+        name: "outside the tree is a leaf with no keys",
+        instead: &[(3, page!(LIVE, 7, 5, [0; 4]))],
+        least: Some(3),
+    },
+    Case {
+        name: "outside the tree is a leaf",
+        instead: &[(3, page!(LIVE, 10, TOP, [0; 4]))],
+        least: Some(3),
+    },
+    Case {
+        name: "a free page with a lower fence",
+        instead: &[(3, page!(FREE, 7, 0, [0; 4]))],
+        least: Some(3),
+    },
+    Case {
+        name: "a free page with an upper fence",
+        instead: &[(3, page!(FREE, 0, 7, [0; 4]))],
+        least: Some(3),
+    },
+    Case {
+        name: "a free page with a level",
+        instead: &[(3, page!(LEVEL + FREE, 0, 0, [0; 4]))],
+        least: Some(3),
+    },
+    Case {
+        name: "a free page with a pair",
+        instead: &[(3, page!(1 + FREE, 0, 7, [4, 1, 0, 0]))],
+        least: Some(3),
+    },
+    Case {
+        name: "the least of several is named",
+        instead: &[
+            (3, page!(LIVE, 0, 10, [0; 4])),
+            (2, page!(LIVE, 12, 11, [0; 4])),
+            (0, page!(1 + LIVE, 0, TOP, [4, 1, 0, 0])),
+        ],
+        least: Some(1),
+    },
+];
+
+// The keys, and the pages of their leaves.
+static LEAVES: [(u64, usize); 4] = [(0, 1), (9, 1), (10, 2), (TOP - 1, 2)];
+
+// Whether a page is a leaf that has a key between its fences.
+static HOLDS: [(usize, u64, bool); 5] = [
+    (1, 9, true),
+    (1, 10, false),
+    (0, 9, false),
+    (3, 0, false),
+    (4, 9, false),
+];
+
+/// The nodes that they spell.
+pub(crate) fn nodes_of(rt: &impl Abort, pages: &[Page; 4]) -> [Node; 4] {
     [
-        page(rt, 2 + LEVEL + LIVE, 0, TOP, [0, 1, 10, 2]),
-        page(rt, 1 + LIVE, 0, 10, [4, TOMBSTONE, 0, 0]),
-        page(rt, LIVE, 10, TOP, [0; 4]),
-        page(rt, FREE, 0, 0, [0; 4]),
+        node_of(rt, &pages[0]),
+        node_of(rt, &pages[1]),
+        node_of(rt, &pages[2]),
+        node_of(rt, &pages[3]),
     ]
 }
 
-fn least(rt: &impl Abort, alloc: Global, pages: &[Node]) -> Option<usize> {
-    first_break(alloc, pages).expect(rt, "memory for the marks")
-}
-
-/// The page of a key's leaf, where the pages are a tree.
+// The page of a key's leaf, where the pages are a tree.
 fn leaf_in(alloc: Global, pages: &[Node], key: u64) -> Option<usize> {
     every_check();
     if pages.is_empty() || key == TOP {
@@ -51,94 +204,38 @@ fn leaf_in(alloc: Global, pages: &[Node], key: u64) -> Option<usize> {
     }
 }
 
+fn leads_to_leaves(alloc: Global, pages: &[Node]) -> bool {
+    for (key, page) in &LEAVES {
+        if leaf_in(alloc, pages, *key) != Some(*page) {
+            return false;
+        }
+    }
+    for (page, key, holds) in &HOLDS {
+        if is_leaf_with(pages, *page, *key) != *holds {
+            return false;
+        }
+    }
+    true
+}
+
+fn is_least(rt: &impl Abort, alloc: Global, case: &Case) -> Result<bool, AllocError> {
+    let mut nodes = nodes_of(rt, &PAGES);
+    for (place, page) in case.instead {
+        if let Some(node) = nodes.get_mut(*place) {
+            *node = node_of(rt, page);
+        }
+    }
+    Ok(first_break(alloc, &nodes)? == case.least)
+}
+
 #[test]
 fn a_tree_keeps_the_rule_and_leads_to_each_leaf(rt: HostRuntime) {
-    let pages = pages(&rt);
-    assert_eq!(rt; least(&rt, rt.alloc(), &pages), None);
-    assert_eq!(rt; leaf_in(rt.alloc(), &pages, 0), Some(1));
-    assert_eq!(rt; leaf_in(rt.alloc(), &pages, 9), Some(1));
-    assert_eq!(rt; leaf_in(rt.alloc(), &pages, 10), Some(2));
-    assert_eq!(rt; leaf_in(rt.alloc(), &pages, TOP - 1), Some(2));
-    assert!(rt; is_leaf_with(&pages, 1, 9));
-    assert!(rt; !is_leaf_with(&pages, 1, 10));
-    assert!(rt; !is_leaf_with(&pages, 0, 9));
-    assert!(rt; !is_leaf_with(&pages, 3, 0));
-    assert!(rt; !is_leaf_with(&pages, 4, 9));
-}
-
-#[test]
-fn no_pages_break_no_rule(rt: HostRuntime) {
-    assert_eq!(rt; least(&rt, rt.alloc(), &[]), None);
-}
-
-#[test]
-fn the_root_is_a_node_with_all_keys(rt: HostRuntime) {
-    let roots = [
-        page(&rt, FREE, 0, 0, [0; 4]),
-        page(&rt, 2 + LEVEL + LIVE, 0, TOP - 1, [0, 1, 10, 2]),
-        page(&rt, 1 + LEVEL + LIVE, 10, TOP, [10, 2, 0, 0]),
-    ];
-    for root in roots {
-        let mut pages = pages(&rt);
-        pages[0] = root;
-        assert_eq!(rt; least(&rt, rt.alloc(), &pages), Some(0));
+    let alloc = rt.alloc();
+    for case in &CASES {
+        expect(&rt, case.name, is_least(&rt, alloc, case));
     }
-}
-
-#[test]
-fn a_child_is_one_level_below_between_its_fences(rt: HostRuntime) {
-    let roots = [
-        page(&rt, 2 + 2 * LEVEL + LIVE, 0, TOP, [0, 1, 10, 2]),
-        page(&rt, 2 + LEVEL + LIVE, 0, TOP, [0, 1, 11, 2]),
-        page(&rt, 2 + LEVEL + LIVE, 0, TOP, [0, 1, 10, 1]),
-        page(&rt, 2 + LEVEL + LIVE, 0, TOP, [0, 1, 10, 3]),
-        page(&rt, 1 + LEVEL + LIVE, 0, TOP, [0, 1, 0, 0]),
-    ];
-    for root in roots {
-        let mut pages = pages(&rt);
-        pages[0] = root;
-        assert_eq!(rt; least(&rt, rt.alloc(), &pages), Some(0));
-    }
-}
-
-#[test]
-fn the_words_of_an_inner_node_are_pages_but_the_root(rt: HostRuntime) {
-    for word in [0, 4, 5, TOMBSTONE, TOP] {
-        let mut pages = pages(&rt);
-        pages[0] = page(&rt, 2 + LEVEL + LIVE, 0, TOP, [0, 1, 10, word]);
-        assert_eq!(rt; least(&rt, rt.alloc(), &pages), Some(0), "{word}");
-    }
-}
-
-#[test]
-fn a_leaf_has_values_and_tombstones(rt: HostRuntime) {
-    let mut pages = pages(&rt);
-    pages[1] = page(&rt, 1 + LIVE, 0, 10, [4, TOMBSTONE + 1, 0, 0]);
-    assert_eq!(rt; least(&rt, rt.alloc(), &pages), Some(1));
-}
-
-#[test]
-fn a_page_outside_the_tree_is_free_and_holds_nothing(rt: HostRuntime) {
-    let others = [
-        page(&rt, LIVE, 7, 5, [0; 4]),
-        page(&rt, LIVE, 10, TOP, [0; 4]),
-        page(&rt, FREE, 7, 0, [0; 4]),
-        page(&rt, FREE, 0, 7, [0; 4]),
-        page(&rt, LEVEL + FREE, 0, 0, [0; 4]),
-        page(&rt, 1 + FREE, 0, 7, [4, 1, 0, 0]),
-    ];
-    for other in others {
-        let mut pages = pages(&rt);
-        pages[3] = other;
-        assert_eq!(rt; least(&rt, rt.alloc(), &pages), Some(3));
-    }
-}
-
-#[test]
-fn the_least_of_two_pages_is_named(rt: HostRuntime) {
-    let mut pages = pages(&rt);
-    pages[3] = page(&rt, LIVE, 0, 10, [0; 4]);
-    pages[2] = page(&rt, LIVE, 12, 11, [0; 4]);
-    pages[0] = page(&rt, 1 + LIVE, 0, TOP, [4, 1, 0, 0]);
-    assert_eq!(rt; least(&rt, rt.alloc(), &pages), Some(1));
+    let nodes = nodes_of(&rt, &PAGES);
+    expect(&rt, "the leaves", Ok(leads_to_leaves(alloc, &nodes)));
+    let none = matches!(first_break(alloc, &[]), Ok(None));
+    expect(&rt, "no pages", Ok(none));
 }

@@ -1,168 +1,138 @@
 // Each crash of a run of a script: what the next run finds.
+use crate::cases::expect;
 use crate::runs::{
-    CHOICES, copy_of, count_lines, formatted, lines_of, out_at, out_by, run_script, whole_lines,
+    copy_of, count_lines, count_up_to, formatted, lines_of, out_at, run_script, whole_lines,
 };
 use crate::scripts::{PUT, SIX, Script};
 use lean_disk::{Choice, MemDisk};
 use std::alloc::{AllocError, Global};
 use std::sync::Wait;
-use std::test::Fail;
 use std::thread::Threads;
 
-/// The numbers of transactions of which a crash may keep: those that were told, and at most those whose commits had begun.
-/// The first line is out, or the new master may not be written yet.
-#[derive(Clone, Copy, Debug)]
-pub struct Bounds {
-    pub is_open: bool,
-    pub told: u64,
-    pub begun: u64,
+// A script that is crashed at each moment by a choice, and how many of the crashes keep no transaction, one, two, and so on.
+struct Sweep {
+    name: &'static str,
+    script: Script,
+    choice: Choice,
+    kept: [u64; 7],
 }
 
-/// The bounds after so many lines, of which so many were out before the last call.
-pub fn bounds_after(script: &Script, out: u64, out_before: u64) -> Bounds {
-    Bounds {
-        is_open: out > 0,
-        told: script.told(out),
-        begun: script.begun(out_before),
-    }
-}
+// A put is one block. It is kept from its sync on, at each choice, and from its write on where that leaves all bytes.
+static SWEEPS: [Sweep; 8] = [
+    Sweep {
+        name: "a crash of PUT leaves no bytes",
+        script: PUT,
+        choice: Choice::NoBytes,
+        kept: [46, 3, 0, 0, 0, 0, 0],
+    },
+    Sweep {
+        name: "a crash of PUT leaves all bytes",
+        script: PUT,
+        choice: Choice::AllBytes,
+        kept: [45, 4, 0, 0, 0, 0, 0],
+    },
+    Sweep {
+        name: "a crash of PUT leaves halves",
+        script: PUT,
+        choice: Choice::FirstHalf,
+        kept: [46, 3, 0, 0, 0, 0, 0],
+    },
+    Sweep {
+        name: "a crash of PUT leaves zeros",
+        script: PUT,
+        choice: Choice::Zeros,
+        kept: [46, 3, 0, 0, 0, 0, 0],
+    },
+    Sweep {
+        name: "a crash of SIX leaves no bytes",
+        script: SIX,
+        choice: Choice::NoBytes,
+        kept: [47, 7, 6, 7, 9, 6, 3],
+    },
+    Sweep {
+        name: "a crash of SIX leaves all bytes",
+        script: SIX,
+        choice: Choice::AllBytes,
+        kept: [46, 7, 6, 7, 9, 6, 4],
+    },
+    Sweep {
+        name: "a crash of SIX leaves halves",
+        script: SIX,
+        choice: Choice::FirstHalf,
+        kept: [47, 7, 6, 7, 9, 6, 3],
+    },
+    Sweep {
+        name: "a crash of SIX leaves zeros",
+        script: SIX,
+        choice: Choice::Zeros,
+        kept: [47, 7, 6, 7, 9, 6, 3],
+    },
+];
 
-fn prints(
+/// How many of the script's transactions a disk has kept that a crash left, where the map is theirs: at least those that were
+/// told by so many lines, and at most those whose commits had begun, by the lines before the last call. The first line is out,
+/// or the new master may not be written yet.
+pub(crate) fn kept_on<R: Threads + Wait + Sync>(
+    rt: &R,
     alloc: Global,
     script: &Script,
-    printed: &str,
-    generation: u64,
-    kept: u64,
-) -> Result<bool, AllocError> {
-    let want = whole_lines(alloc, generation, kept, 0, script.map(kept))?;
-    Ok(printed == want.as_str())
-}
-
-// How many of the script's transactions a run of the gets has found, where that is within the bounds.
-fn kept_by(
-    alloc: Global,
-    script: &Script,
-    printed: &str,
-    bounds: Bounds,
+    left: MemDisk,
+    out: u64,
+    out_before: u64,
 ) -> Result<Option<u64>, AllocError> {
-    for kept in bounds.told..=bounds.begun {
-        if prints(alloc, script, printed, 2, kept)? {
+    let next = run_script(rt, alloc, left, script.gets)?;
+    if next.status != 0 {
+        return Ok(None);
+    }
+    let told = count_up_to(script.commits, out.saturating_sub(2));
+    let begun = count_up_to(script.commits, out_before);
+    for kept in told..=begun {
+        let want = whole_lines(alloc, 2, kept, 0, script.map(kept))?;
+        if next.printed() == want.as_str() {
             return Ok(Some(kept));
         }
     }
-    if !bounds.is_open && prints(alloc, script, printed, 1, 0)? {
+    let want = whole_lines(alloc, 1, 0, 0, script.map(0))?;
+    if out == 0 && next.printed() == want.as_str() {
         return Ok(Some(0));
     }
     Ok(None)
 }
 
-/// How many of the script's transactions a disk has kept that a crash left, where that is within the bounds and the map is
-/// theirs.
-pub fn kept_on<R: Threads + Wait + Sync>(
-    rt: &R,
-    alloc: Global,
-    script: &Script,
-    left: MemDisk,
-    bounds: Bounds,
-) -> Result<Option<u64>, Fail> {
-    let next = run_script(rt, alloc, left, script.gets)?;
-    if next.status != 0 {
-        return Ok(None);
-    }
-    Ok(kept_by(alloc, script, next.printed(), bounds)?)
-}
-
 /// Counts one at a place.
-pub fn add_one(tally: &mut [u64], place: u64) {
+pub(crate) fn add_one(tally: &mut [u64], place: u64) {
     if let Some(count) = tally.get_mut(place as usize) {
         *count = count.saturating_add(1);
     }
 }
 
-// How many crashes there are that keep no transaction, one, two, and so on; and the first moment at which one is out of bounds.
-#[derive(Clone, Copy, Debug, PartialEq, Eq)]
-struct Sweep {
-    kept: [u64; 7],
-    wrong: Option<u64>,
-}
-
-// Crashes the run of a script at each moment.
-fn sweep_of<R: Threads + Wait + Sync>(
+// Whether a crash at each moment keeps a prefix with all that was told, and so many keep each.
+fn is_met<R: Threads + Wait + Sync>(
     rt: &R,
     alloc: Global,
-    script: &Script,
-    choice: Choice,
-) -> Result<Sweep, Fail> {
+    sweep: &Sweep,
+) -> Result<bool, AllocError> {
+    let script = &sweep.script;
     let new = formatted(rt, alloc)?;
     let count = count_lines(&lines_of(alloc, script.lines)?);
     let moments = out_at(rt, alloc, &new, script.text, count)?;
-    let done = run_script(rt, alloc, copy_of(&new)?, script.text)?;
+    let disk = run_script(rt, alloc, copy_of(&new)?, script.text)?.disk;
     let mut kept = [0; 7];
-    for moment in 0..=done.disk.moment() {
-        let out = out_by(&moments, moment);
-        let out_before = out_by(&moments, moment.saturating_sub(1));
-        let left = done.disk.crash(moment, choice)?;
-        match kept_on(
-            rt,
-            alloc,
-            script,
-            left,
-            bounds_after(script, out, out_before),
-        )? {
+    for moment in 0..=disk.moment() {
+        let out = count_up_to(&moments, moment);
+        let out_before = count_up_to(&moments, moment.saturating_sub(1));
+        let left = disk.crash(moment, sweep.choice)?;
+        match kept_on(rt, alloc, script, left, out, out_before)? {
             Some(count) => add_one(&mut kept, count),
-            None => {
-                return Ok(Sweep {
-                    kept,
-                    wrong: Some(moment),
-                });
-            }
+            None => return Ok(false),
         }
     }
-    Ok(Sweep { kept, wrong: None })
+    Ok(kept == sweep.kept)
 }
 
-// A sweep without a crash out of bounds.
-fn all_well(kept: [u64; 7]) -> Sweep {
-    Sweep { kept, wrong: None }
-}
-
-// A put is one block. It is kept from its sync on, at each choice, and from its write on where that leaves all bytes.
 #[test]
-fn a_crash_keeps_a_put_or_not_and_keeps_it_once_it_is_told(rt: HostRuntime) -> Result<(), Fail> {
-    let alloc = rt.alloc();
-    for choice in CHOICES {
-        let written = if choice == Choice::AllBytes { 1 } else { 0 };
-        let found = sweep_of(&rt, alloc, &PUT, choice)?;
-        let want = all_well([46 - written, 3 + written, 0, 0, 0, 0, 0]);
-        assert_eq!(rt; found, want, "by {choice:?}");
+fn a_crash_keeps_a_prefix_with_all_that_was_told(rt: HostRuntime) {
+    for sweep in &SWEEPS {
+        expect(&rt, sweep.name, is_met(&rt, rt.alloc(), sweep));
     }
-    Ok(())
-}
-
-#[test]
-fn a_crash_that_leaves_none_keeps_a_prefix_of_six(rt: HostRuntime) -> Result<(), Fail> {
-    let found = sweep_of(&rt, rt.alloc(), &SIX, Choice::NoBytes)?;
-    assert_eq!(rt; found, all_well([47, 7, 6, 7, 9, 6, 3]));
-    Ok(())
-}
-
-#[test]
-fn a_crash_that_leaves_all_keeps_a_prefix_of_six(rt: HostRuntime) -> Result<(), Fail> {
-    let found = sweep_of(&rt, rt.alloc(), &SIX, Choice::AllBytes)?;
-    assert_eq!(rt; found, all_well([46, 7, 6, 7, 9, 6, 4]));
-    Ok(())
-}
-
-#[test]
-fn a_crash_that_leaves_halves_keeps_a_prefix_of_six(rt: HostRuntime) -> Result<(), Fail> {
-    let found = sweep_of(&rt, rt.alloc(), &SIX, Choice::FirstHalf)?;
-    assert_eq!(rt; found, all_well([47, 7, 6, 7, 9, 6, 3]));
-    Ok(())
-}
-
-#[test]
-fn a_crash_that_leaves_zeros_keeps_a_prefix_of_six(rt: HostRuntime) -> Result<(), Fail> {
-    let found = sweep_of(&rt, rt.alloc(), &SIX, Choice::Zeros)?;
-    assert_eq!(rt; found, all_well([47, 7, 6, 7, 9, 6, 3]));
-    Ok(())
 }

@@ -1,55 +1,81 @@
 // Each call of the disk fails once: how the run ends, and what the next run finds after a crash there.
-use crate::crashes::{add_one, bounds_after, kept_on};
+use crate::cases::expect;
+use crate::crashes::{add_one, kept_on};
 use crate::runs::{CHOICES, MANY, Outcome, count_lines, formatted, lines_of, run_failing};
 use crate::scripts::{PUT, SIX, Script};
-use lean_disk::MemDisk;
-use std::alloc::Global;
+use std::alloc::{AllocError, Global};
 use std::sync::Wait;
-use std::test::Fail;
 use std::thread::Threads;
 
 const FAULT: &str = "lean: disk fault\n";
 
-// How many calls there are to fail, how many crashes behind them keep no transaction, one, two, and so on; and the first call
-// whose run or crash is not as it must be.
-#[derive(Clone, Copy, Debug, PartialEq, Eq)]
+// A script, an area, how many calls of it there are to fail, and how many crashes behind them keep no transaction, one, two, and
+// so on.
 struct Failures {
+    name: &'static str,
+    script: Script,
+    area: u32,
     calls: u64,
     kept: [u64; 7],
-    wrong: Option<u64>,
 }
+
+static FAILURES: [Failures; 6] = [
+    // The opening syncs, reads two slots, writes and syncs.
+    Failures {
+        name: "PUT, calls on the masters",
+        script: PUT,
+        area: 0,
+        calls: 5,
+        kept: [20, 0, 0, 0, 0, 0, 0],
+    },
+    Failures {
+        name: "SIX, calls on the masters",
+        script: SIX,
+        area: 0,
+        calls: 5,
+        kept: [20, 0, 0, 0, 0, 0, 0],
+    },
+    // It syncs, reads two slots of each page, and syncs.
+    Failures {
+        name: "PUT, calls on the pages",
+        script: PUT,
+        area: 1,
+        calls: 34,
+        kept: [136, 0, 0, 0, 0, 0, 0],
+    },
+    Failures {
+        name: "SIX, calls on the pages",
+        script: SIX,
+        area: 1,
+        calls: 34,
+        kept: [136, 0, 0, 0, 0, 0, 0],
+    },
+    // It syncs and reads one block; each commit writes one and syncs. Where one of these fails, a crash that leaves all bytes
+    // keeps the commit.
+    Failures {
+        name: "PUT, calls on the log",
+        script: PUT,
+        area: 2,
+        calls: 4,
+        kept: [14, 2, 0, 0, 0, 0, 0],
+    },
+    Failures {
+        name: "SIX, calls on the log",
+        script: SIX,
+        area: 2,
+        calls: 14,
+        kept: [14, 8, 8, 8, 8, 8, 2],
+    },
+];
 
 // The lines that went out before that of the fault, where they are a prefix of the whole lines.
 fn prefix_of<'a>(whole: &str, printed: &'a str) -> Option<&'a str> {
-    match printed.strip_suffix(FAULT) {
-        Some(prefix) => {
-            if whole.starts_with(prefix) && (prefix.is_empty() || prefix.ends_with('\n')) {
-                Some(prefix)
-            } else {
-                None
-            }
-        }
-        None => None,
+    let prefix = printed.strip_suffix(FAULT)?;
+    if whole.starts_with(prefix) && (prefix.is_empty() || prefix.ends_with('\n')) {
+        Some(prefix)
+    } else {
+        None
     }
-}
-
-// Crashes the disk of a run that ended by a fault, after so many lines. Whether the next run always finds what was told.
-fn crash_behind<R: Threads + Wait + Sync>(
-    rt: &R,
-    alloc: Global,
-    script: &Script,
-    disk: &MemDisk,
-    out: u64,
-    kept: &mut [u64],
-) -> Result<bool, Fail> {
-    for choice in CHOICES {
-        let left = disk.crash(disk.moment(), choice)?;
-        match kept_on(rt, alloc, script, left, bounds_after(script, out, out))? {
-            Some(count) => add_one(kept, count),
-            None => return Ok(false),
-        }
-    }
-    Ok(true)
 }
 
 // Whether a run ended as one whose disk has failed, and what it told is found after each crash.
@@ -57,112 +83,50 @@ fn is_well<R: Threads + Wait + Sync>(
     rt: &R,
     alloc: Global,
     script: &Script,
-    failed: &Outcome,
+    run: &Outcome,
     kept: &mut [u64],
-) -> Result<bool, Fail> {
+) -> Result<bool, AllocError> {
     let whole = lines_of(alloc, script.lines)?;
-    match prefix_of(&whole, failed.printed()) {
-        Some(prefix) => {
-            let out = count_lines(prefix);
-            let is_found = crash_behind(rt, alloc, script, &failed.disk, out, kept)?;
-            Ok(failed.status == 6 && is_found)
+    let Some(prefix) = prefix_of(&whole, run.printed()) else {
+        return Ok(false);
+    };
+    let out = count_lines(prefix);
+    for choice in CHOICES {
+        let left = run.disk.crash(run.disk.moment(), choice)?;
+        match kept_on(rt, alloc, script, left, out, out)? {
+            Some(count) => add_one(kept, count),
+            None => return Ok(false),
         }
-        None => Ok(false),
     }
+    Ok(run.status == 6)
 }
 
-// Whether a run was not disturbed.
-fn is_whole(alloc: Global, script: &Script, done: &Outcome) -> Result<bool, Fail> {
-    Ok(done.printed() == lines_of(alloc, script.lines)?.as_str())
-}
-
-// Each call of an area fails, from the first one until none does.
-fn failures_of<R: Threads + Wait + Sync>(
+// Whether each call fails as it must, up to the first one that no run makes, whose run is whole.
+fn is_met<R: Threads + Wait + Sync>(
     rt: &R,
     alloc: Global,
-    script: &Script,
-    area: u32,
-) -> Result<Failures, Fail> {
+    failures: &Failures,
+) -> Result<bool, AllocError> {
+    let script = &failures.script;
     let new = formatted(rt, alloc)?;
     let mut kept = [0; 7];
-    let mut calls = 0u64;
     for call in 1..MANY {
-        let failed = run_failing(rt, alloc, &new, script.text, area, call)?;
-        if failed.status == 0 {
-            let wrong = if is_whole(alloc, script, &failed)? {
-                None
-            } else {
-                Some(call)
-            };
-            return Ok(Failures { calls, kept, wrong });
+        let run = run_failing(rt, alloc, &new, script.text, failures.area, call)?;
+        if run.status == 0 {
+            let whole = lines_of(alloc, script.lines)?;
+            let is_whole = run.printed() == whole.as_str();
+            return Ok(is_whole && call - 1 == failures.calls && kept == failures.kept);
         }
-        if !is_well(rt, alloc, script, &failed, &mut kept)? {
-            return Ok(Failures {
-                calls,
-                kept,
-                wrong: Some(call),
-            });
+        if !is_well(rt, alloc, script, &run, &mut kept)? {
+            return Ok(false);
         }
-        calls = calls.saturating_add(1);
     }
-    Ok(Failures {
-        calls,
-        kept,
-        wrong: Some(MANY),
-    })
+    Ok(false)
 }
 
-// Failures of which each is as it must be.
-fn all_well(calls: u64, kept: [u64; 7]) -> Failures {
-    Failures {
-        calls,
-        kept,
-        wrong: None,
-    }
-}
-
-// The opening syncs, reads two slots, writes and syncs.
 #[test]
-fn each_call_on_the_masters_that_fails_loses_nothing(rt: HostRuntime) -> Result<(), Fail> {
-    let alloc = rt.alloc();
-    for script in [&PUT, &SIX] {
-        let found = failures_of(&rt, alloc, script, 0)?;
-        assert_eq!(rt;
-            found,
-            all_well(5, [20, 0, 0, 0, 0, 0, 0]),
-            "at {}",
-            script.text
-        );
+fn each_call_that_fails_loses_nothing_that_was_told(rt: HostRuntime) {
+    for failures in &FAILURES {
+        expect(&rt, failures.name, is_met(&rt, rt.alloc(), failures));
     }
-    Ok(())
-}
-
-// The opening syncs, reads two slots of each page, and syncs.
-#[test]
-fn each_call_on_the_pages_that_fails_loses_nothing(rt: HostRuntime) -> Result<(), Fail> {
-    let alloc = rt.alloc();
-    for script in [&PUT, &SIX] {
-        let found = failures_of(&rt, alloc, script, 1)?;
-        assert_eq!(rt;
-            found,
-            all_well(34, [136, 0, 0, 0, 0, 0, 0]),
-            "at {}",
-            script.text
-        );
-    }
-    Ok(())
-}
-
-// The opening syncs and reads one block; each commit writes one and syncs. Where one of these fails, a crash that leaves all
-// bytes keeps the commit.
-#[test]
-fn each_call_on_the_log_that_fails_loses_nothing_that_was_told(
-    rt: HostRuntime,
-) -> Result<(), Fail> {
-    let alloc = rt.alloc();
-    let found = failures_of(&rt, alloc, &PUT, 2)?;
-    assert_eq!(rt; found, all_well(4, [14, 2, 0, 0, 0, 0, 0]));
-    let found = failures_of(&rt, alloc, &SIX, 2)?;
-    assert_eq!(rt; found, all_well(14, [14, 8, 8, 8, 8, 8, 2]));
-    Ok(())
 }

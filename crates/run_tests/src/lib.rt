@@ -9,6 +9,8 @@ pub fn every_next_run()
 {}
 
 #[cfg(test)]
+mod cases;
+#[cfg(test)]
 mod crashes;
 #[cfg(test)]
 mod faults;

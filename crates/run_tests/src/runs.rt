@@ -5,12 +5,11 @@ use lean_shell::{Ended, Gate, run};
 use std::alloc::{AllocError, Global};
 use std::str;
 use std::sync::Wait;
-use std::test::Fail;
 use std::thread::Threads;
 
 const FORMAT: &str = "lean format --workers 1 --pages 16 --blocks 64";
 
-pub const CHOICES: [Choice; 4] = [
+pub(crate) const CHOICES: [Choice; 4] = [
     Choice::NoBytes,
     Choice::AllBytes,
     Choice::FirstHalf,
@@ -18,7 +17,7 @@ pub const CHOICES: [Choice; 4] = [
 ];
 
 /// How many calls of an area a sweep goes through at most.
-pub const MANY: u64 = 1000;
+pub(crate) const MANY: u64 = 1000;
 
 // Holds no worker.
 struct Open;
@@ -31,20 +30,20 @@ impl Gate for Open {
 
 /// A status, a disk, and what was printed.
 #[derive(Drop)]
-pub struct Outcome {
+pub(crate) struct Outcome {
     pub status: u8,
     pub disk: MemDisk,
     pub sink: MemSink,
 }
 
 impl Outcome {
-    pub fn printed(&self) -> &str {
+    pub(crate) fn printed(&self) -> &str {
         str::from_utf8(self.sink.bytes()).unwrap_or("no text")
     }
 }
 
 /// Lines, where a `;` stands for each newline.
-pub fn lines_of(alloc: Global, text: &str) -> Result<String, AllocError> {
+pub(crate) fn lines_of(alloc: Global, text: &str) -> Result<String, AllocError> {
     text.replace(alloc, ';', "\n")
 }
 
@@ -64,7 +63,7 @@ fn run_words<R: Threads + Wait + Sync>(
     text: &str,
     disk: MemDisk,
     mut sink: MemSink,
-) -> Result<Outcome, Fail> {
+) -> Result<Outcome, AllocError> {
     let words = words_of(alloc, words)?;
     let mut source = MemSource::new(alloc, lines_of(alloc, text)?.as_bytes(), 7)?;
     let Ended { status, disk } = run(rt, alloc, &words, &mut source, &mut sink, disk, &Open);
@@ -72,61 +71,64 @@ fn run_words<R: Threads + Wait + Sync>(
 }
 
 /// A new disk of 16 pages and 64 blocks, on which no call was made.
-pub fn formatted<R: Threads + Wait + Sync>(rt: &R, alloc: Global) -> Result<MemDisk, Fail> {
+pub(crate) fn formatted<R: Threads + Wait + Sync>(
+    rt: &R,
+    alloc: Global,
+) -> Result<MemDisk, AllocError> {
     let disk = MemDisk::new(alloc, 3)?;
     let Outcome { disk, .. } = run_words(rt, alloc, FORMAT, "", disk, MemSink::new(alloc))?;
-    Ok(disk.crash(disk.moment(), Choice::AllBytes)?)
+    disk.crash(disk.moment(), Choice::AllBytes)
 }
 
 /// The same disk once more, where no call was made on it.
-pub fn copy_of(disk: &MemDisk) -> Result<MemDisk, AllocError> {
+pub(crate) fn copy_of(disk: &MemDisk) -> Result<MemDisk, AllocError> {
     disk.crash(0, Choice::AllBytes)
 }
 
-pub fn run_script<R: Threads + Wait + Sync>(
+pub(crate) fn run_script<R: Threads + Wait + Sync>(
     rt: &R,
     alloc: Global,
     disk: MemDisk,
     text: &str,
-) -> Result<Outcome, Fail> {
+) -> Result<Outcome, AllocError> {
     run_words(rt, alloc, "lean run", text, disk, MemSink::new(alloc))
 }
 
 /// A run in which a call of an area of the disk fails.
-pub fn run_failing<R: Threads + Wait + Sync>(
+pub(crate) fn run_failing<R: Threads + Wait + Sync>(
     rt: &R,
     alloc: Global,
     disk: &MemDisk,
     text: &str,
     area: u32,
     call: u64,
-) -> Result<Outcome, Fail> {
+) -> Result<Outcome, AllocError> {
     let mut disk = copy_of(disk)?;
     disk.fail_at(area, [call].to_vec(alloc)?);
     run_script(rt, alloc, disk, text)
 }
 
 /// A run that ends as the line of this number is put, which does not go out.
-pub fn run_up_to<R: Threads + Wait + Sync>(
+pub(crate) fn run_up_to<R: Threads + Wait + Sync>(
     rt: &R,
     alloc: Global,
     disk: &MemDisk,
     text: &str,
     line: u64,
-) -> Result<Outcome, Fail> {
+) -> Result<Outcome, AllocError> {
     let mut sink = MemSink::new(alloc);
     sink.fail_at([line].to_vec(alloc)?);
     run_words(rt, alloc, "lean run", text, copy_of(disk)?, sink)
 }
 
 /// The moments at which the lines of a run went out, one after another.
-pub fn out_at<R: Threads + Wait + Sync>(
+pub(crate) fn out_at<R: Threads + Wait + Sync>(
     rt: &R,
     alloc: Global,
     disk: &MemDisk,
     text: &str,
     count: u64,
-) -> Result<Vec<u64>, Fail> {
+) -> Result<Vec<u64>, AllocError> {
     let mut moments = Vec::new(alloc);
     for line in 1..=count {
         let cut = run_up_to(rt, alloc, disk, text, line)?;
@@ -135,34 +137,29 @@ pub fn out_at<R: Threads + Wait + Sync>(
     Ok(moments)
 }
 
-/// How many of these moments have come.
-pub fn out_by(moments: &[u64], moment: u64) -> u64 {
-    moments.iter().filter(|out| **out <= moment).count() as u64
+/// How many of the numbers are at most this.
+pub(crate) fn count_up_to(numbers: &[u64], most: u64) -> u64 {
+    numbers.iter().filter(|number| **number <= most).count() as u64
 }
 
-pub fn count_lines(text: &str) -> u64 {
-    text.bytes().filter(|byte| *byte == b'\n').count() as u64
+pub(crate) fn count_lines(text: &str) -> u64 {
+    let mut count = 0u64;
+    for byte in text.bytes() {
+        if byte == b'\n' {
+            count = count.saturating_add(1);
+        }
+    }
+    count
 }
 
-/// The first line of a run that opened its disk.
-pub fn first_line(
-    alloc: Global,
-    generation: u64,
-    winners: u64,
-    undone: u64,
-) -> Result<String, AllocError> {
-    format!(in alloc; "open {generation} winners {winners} undone {undone}\n")
-}
-
-/// The lines of a run: its first one, and those behind it.
-pub fn whole_lines(
+/// The lines of a run that opened its disk: the first one, and those behind it.
+pub(crate) fn whole_lines(
     alloc: Global,
     generation: u64,
     winners: u64,
     undone: u64,
     rest: &str,
 ) -> Result<String, AllocError> {
-    let mut lines = first_line(alloc, generation, winners, undone)?;
-    lines.push_str(&lines_of(alloc, rest)?)?;
-    Ok(lines)
+    let rest = lines_of(alloc, rest)?;
+    format!(in alloc; "open {generation} winners {winners} undone {undone}\n{rest}")
 }

@@ -1,317 +1,586 @@
-// Rows of `run`: a script, and every line that comes of it, on a disk in memory. The lines were written down by hand, a `;` for
-// each newline.
-use crate::commands::{Open, part, run_words, words_of};
+// Rows of commands and scripts, and every line that comes of them, on a disk in memory. The lines were written down by hand, a
+// `;` for each newline. Seals were computed by another SHA-256.
+use crate::cases::expect;
+use crate::commands::{FORMAT, Outcome, run_alone, run_words};
 use lean_disk::{Choice, MemDisk};
 use lean_edge::{MemSink, MemSource};
-use lean_shell::{Ended, run};
 use std::alloc::{AllocError, Global};
-use std::fmt::Write;
-use std::str;
 use std::sync::Wait;
-use std::test::Fail;
 use std::thread::Threads;
 
-const FORMAT: &str = "lean format --workers 1 --pages 64 --blocks 64";
+const RUN: &str = "lean run";
 
-// Fewer pages, for what is done over and over.
-const SMALL: &str = "lean format --workers 1 --pages 16 --blocks 64";
+// Text so many times, for each number from the first to the last: `#` stands for it, `@` for its double.
+struct Text(&'static str, u32, u32);
 
-const OPEN: &str = "open 1 winners 0 undone 0;";
+macro_rules! once {
+    ($text:expr) => {
+        &[Text($text, 1, 1)]
+    };
+}
+
+// A command and its script; its status, and what is printed.
+struct Run {
+    words: &'static str,
+    script: &'static [Text],
+    status: u8,
+    printed: &'static [Text],
+}
+
+// Bytes of an area at a place, and so many zeros behind them.
+struct Bytes {
+    area: u32,
+    at: usize,
+    bytes: &'static [u8],
+    zeros: usize,
+}
+
+// Runs on an empty disk, one after another, and what the disk holds then: how many bytes of an area, and some of them.
+struct Case {
+    name: &'static str,
+    runs: &'static [Run],
+    lens: &'static [(u32, usize)],
+    bytes: &'static [Bytes],
+}
+
+const FORMATTED: Run = Run {
+    words: "lean format --workers 1 --pages 64 --blocks 64",
+    script: &[],
+    status: 0,
+    printed: once!("formatted 1 64 64;"),
+};
+
+// A run of this script, of these lines.
+macro_rules! script {
+    ($script:expr, $status:expr, $printed:expr) => {
+        Run {
+            words: RUN,
+            script: once!($script),
+            status: $status,
+            printed: once!($printed),
+        }
+    };
+}
 
 const PUT: &str = "1 begin;1 put 5 7;1 commit;";
 
-const PUT_LINES: &str = "1 begun 1.1;1 was none;1 committed 1.1 at 2;1 durable 1.1;";
+const PUT_LINES: &str =
+    "open 1 winners 0 undone 0;1 begun 1.1;1 was none;1 committed 1.1 at 2;1 durable 1.1;";
 
-// What `PUT` leaves in the log, up to the zeros: generation, log, number, bytes and records; the change; the commit.
-const BLOCK: [u8; 110] = [
-    1, 0, 0, 0, 0, 0, 0, 0, 1, 0, 0, 0, 0, 0, 0, 0, 0, 0, 0, 0, 0, 0, 0, 0, 78, 0, 0, 0, 2, 0, 0,
-    0, 1, 1, 0, 0, 0, 0, 0, 0, 0, 1, 0, 0, 0, 0, 0, 0, 0, 0, 0, 0, 0, 0, 0, 0, 0, 0, 0, 0, 0, 5, 0,
-    0, 0, 0, 0, 0, 0, 0, 0, 0, 0, 0, 0, 0, 128, 7, 0, 0, 0, 0, 0, 0, 0, 8, 1, 0, 0, 0, 0, 0, 0, 0,
-    2, 0, 0, 0, 0, 0, 0, 0, 0, 0, 0, 0, 0, 0, 0, 0,
+static CASES: [Case; 14] = [
+    Case {
+        name: "a new disk holds every page and the first master",
+        runs: &[
+            Run {
+                words: FORMAT,
+                script: &[],
+                status: 0,
+                printed: once!("formatted 1 16 64;"),
+            },
+            Run {
+                words: FORMAT,
+                script: &[],
+                status: 9,
+                printed: once!("lean: already formatted;"),
+            },
+        ],
+        lens: &[(0, 1024), (1, 32768), (2, 0)],
+        // The seals of the master, of page 0 and of page 15.
+        bytes: &[
+            Bytes {
+                area: 0,
+                at: 1008,
+                bytes: &[
+                    79, 87, 210, 244, 236, 251, 97, 254, 91, 105, 225, 125, 41, 116, 104, 134,
+                ],
+                zeros: 0,
+            },
+            Bytes {
+                area: 1,
+                at: 1008,
+                bytes: &[
+                    70, 195, 208, 9, 61, 252, 124, 71, 33, 181, 53, 161, 93, 140, 52, 243,
+                ],
+                zeros: 0,
+            },
+            Bytes {
+                area: 1,
+                at: 31728,
+                bytes: &[
+                    201, 49, 23, 16, 42, 13, 98, 182, 219, 180, 251, 161, 186, 253, 214, 229,
+                ],
+                zeros: 0,
+            },
+        ],
+    },
+    Case {
+        name: "no line",
+        runs: &[FORMATTED, script!("", 0, "open 1 winners 0 undone 0;")],
+        lens: &[],
+        bytes: &[],
+    },
+    Case {
+        name: "a put",
+        runs: &[FORMATTED, script!(PUT, 0, PUT_LINES)],
+        lens: &[(2, 2048)],
+        bytes: &[
+            // Generation, log, number, bytes and records; the change; the commit.
+            Bytes {
+                area: 2,
+                at: 0,
+                bytes: &[
+                    1, 0, 0, 0, 0, 0, 0, 0, 1, 0, 0, 0, 0, 0, 0, 0, 0, 0, 0, 0, 0, 0, 0, 0, 78, 0,
+                    0, 0, 2, 0, 0, 0, 1, 1, 0, 0, 0, 0, 0, 0, 0, 1, 0, 0, 0, 0, 0, 0, 0, 0, 0, 0,
+                    0, 0, 0, 0, 0, 0, 0, 0, 0, 5, 0, 0, 0, 0, 0, 0, 0, 0, 0, 0, 0, 0, 0, 0, 128, 7,
+                    0, 0, 0, 0, 0, 0, 0, 8, 1, 0, 0, 0, 0, 0, 0, 0, 2, 0, 0, 0, 0, 0, 0, 0, 0, 0,
+                    0, 0, 0, 0, 0, 0,
+                ],
+                zeros: 1922,
+            },
+        ],
+    },
+    Case {
+        name: "the greatest key and value",
+        runs: &[
+            FORMATTED,
+            script!(
+                "1 begin;1 put 0 1;1 put 18446744073709551614 9223372036854775807;1 get 18446744073709551614;1 commit;",
+                0,
+                "open 1 winners 0 undone 0;1 begun 1.1;1 was none;1 was none;1 value 9223372036854775807;1 committed 1.1 at 3;1 durable 1.1;"
+            ),
+        ],
+        lens: &[],
+        bytes: &[],
+    },
+    Case {
+        name: "a key that is too great",
+        runs: &[
+            FORMATTED,
+            script!(
+                "1 begin;1 put 18446744073709551615 1;1 commit;",
+                3,
+                "open 1 winners 0 undone 0;1 begun 1.1;lean: line 2 refused;"
+            ),
+        ],
+        lens: &[],
+        bytes: &[],
+    },
+    Case {
+        name: "a value that is too great",
+        runs: &[
+            FORMATTED,
+            script!(
+                "1 begin;1 put 5 9223372036854775808;1 commit;",
+                3,
+                "open 1 winners 0 undone 0;1 begun 1.1;lean: line 2 refused;"
+            ),
+        ],
+        lens: &[],
+        bytes: &[],
+    },
+    Case {
+        name: "a last line without its newline",
+        runs: &[
+            FORMATTED,
+            script!(
+                "1 begin;1 get 5",
+                0,
+                "open 1 winners 0 undone 0;1 begun 1.1;1 none;"
+            ),
+        ],
+        lens: &[],
+        bytes: &[],
+    },
+    Case {
+        name: "a last line that is cut off",
+        runs: &[
+            FORMATTED,
+            script!(
+                "1 begin;1 put 5",
+                3,
+                "open 1 winners 0 undone 0;1 begun 1.1;lean: line 2 refused;"
+            ),
+        ],
+        lens: &[],
+        bytes: &[],
+    },
+    Case {
+        name: "calls that are refused",
+        runs: &[
+            FORMATTED,
+            script!(
+                "1 begin;1 begin;1 commit;1 commit;",
+                0,
+                "open 1 winners 0 undone 0;1 begun 1.1;1 in-transaction;1 committed 1.1 at 1;1 durable 1.1;1 no-transaction;"
+            ),
+        ],
+        lens: &[],
+        bytes: &[],
+    },
+    Case {
+        name: "a session that there is not",
+        runs: &[
+            FORMATTED,
+            script!(
+                "2 begin;",
+                3,
+                "open 1 winners 0 undone 0;lean: line 1 refused;"
+            ),
+        ],
+        lens: &[],
+        bytes: &[],
+    },
+    Case {
+        name: "a second run finds what the first committed",
+        runs: &[
+            FORMATTED,
+            script!(PUT, 0, PUT_LINES),
+            script!(
+                "1 begin;1 get 5;1 commit;",
+                0,
+                "open 2 winners 1 undone 0;1 begun 1.1;1 value 7;1 committed 1.1 at 3;1 durable 1.1;"
+            ),
+        ],
+        lens: &[],
+        bytes: &[],
+    },
+    Case {
+        name: "a transaction makes 64 changes",
+        runs: &[
+            FORMATTED,
+            Run {
+                words: RUN,
+                script: &[
+                    Text("1 begin;", 1, 1),
+                    Text("1 put 5 #;", 1, 65),
+                    Text("1 commit;", 1, 1),
+                ],
+                status: 0,
+                printed: &[
+                    Text("open 1 winners 0 undone 0;1 begun 1.1;1 was none;", 1, 1),
+                    Text("1 was #;", 1, 63),
+                    Text("1 too-long;1 committed 1.1 at 65;1 durable 1.1;", 1, 1),
+                ],
+            },
+        ],
+        lens: &[],
+        bytes: &[],
+    },
+    Case {
+        name: "a leaf has room for 60 keys",
+        runs: &[
+            FORMATTED,
+            Run {
+                words: RUN,
+                script: &[
+                    Text("1 begin;", 1, 1),
+                    Text("1 put # 1;", 0, 60),
+                    Text("1 put 59 2;1 get 60;1 commit;", 1, 1),
+                ],
+                status: 0,
+                printed: &[
+                    Text("open 1 winners 0 undone 0;1 begun 1.1;", 1, 1),
+                    Text("1 was none;", 0, 59),
+                    Text(
+                        "1 full;1 was 1;1 none;1 committed 1.1 at 62;1 durable 1.1;",
+                        1,
+                        1,
+                    ),
+                ],
+            },
+        ],
+        lens: &[],
+        bytes: &[],
+    },
+    Case {
+        name: "a log of 64 blocks takes 48 of them",
+        runs: &[
+            FORMATTED,
+            Run {
+                words: RUN,
+                script: &[
+                    Text("1 begin;1 put 5 7;1 commit;", 1, 48),
+                    Text("1 begin;", 1, 1),
+                ],
+                status: 0,
+                printed: &[
+                    Text(
+                        "open 1 winners 0 undone 0;1 begun 1.1;1 was none;1 committed 1.1 at 2;1 durable 1.1;",
+                        1,
+                        1,
+                    ),
+                    Text(
+                        "1 begun 1.#;1 was 7;1 committed 1.# at @;1 durable 1.#;",
+                        2,
+                        48,
+                    ),
+                    Text("1 log-full 48 48;", 1, 1),
+                ],
+            },
+        ],
+        lens: &[],
+        bytes: &[],
+    },
 ];
 
-// How many calls of a device, a source or a sink a sweep goes through at most.
+// What fails: a call of an area of the disk, of the source, or of the sink.
+enum Device {
+    Area(u32),
+    Source,
+    Sink,
+}
+
+// A command and its script, on a disk that is formatted or empty, and what is printed. Each call of the device fails once. The
+// run ends with this status, and prints whole lines of these and then its last line. There are so many calls.
+struct Sweep {
+    name: &'static str,
+    words: &'static str,
+    script: &'static [Text],
+    is_formatted: bool,
+    printed: &'static [Text],
+    device: Device,
+    status: u8,
+    before: &'static [Text],
+    last: &'static str,
+    calls: u64,
+}
+
+macro_rules! sweep {
+    (format, $name:expr, $area:expr, $calls:expr) => {
+        Sweep {
+            name: $name,
+            words: FORMAT,
+            script: &[],
+            is_formatted: false,
+            printed: once!("formatted 1 16 64;"),
+            device: Device::Area($area),
+            status: 6,
+            before: &[],
+            last: "lean: disk fault\n",
+            calls: $calls,
+        }
+    };
+    (put, $name:expr, $device:expr, $status:expr, $last:expr, $calls:expr) => {
+        Sweep {
+            name: $name,
+            words: RUN,
+            script: once!(PUT),
+            is_formatted: true,
+            printed: once!(PUT_LINES),
+            device: $device,
+            status: $status,
+            before: once!(PUT_LINES),
+            last: $last,
+            calls: $calls,
+        }
+    };
+}
+
+static SWEEPS: [Sweep; 7] = [
+    // Two reads of slots, a write and a sync.
+    sweep!(format, "the masters at a format", 0, 4),
+    sweep!(format, "the pages at a format", 1, 2),
+    sweep!(
+        put,
+        "the masters at a put",
+        Device::Area(0),
+        6,
+        "lean: disk fault\n",
+        5
+    ),
+    sweep!(
+        put,
+        "the pages at a put",
+        Device::Area(1),
+        6,
+        "lean: disk fault\n",
+        34
+    ),
+    sweep!(
+        put,
+        "the log at a put",
+        Device::Area(2),
+        6,
+        "lean: disk fault\n",
+        4
+    ),
+    // Four pieces, and the end.
+    sweep!(
+        put,
+        "the source at a put",
+        Device::Source,
+        4,
+        "lean: read fault\n",
+        5
+    ),
+    sweep!(put, "the sink at a put", Device::Sink, 5, "", 5),
+];
+
+// How many calls of a device a sweep goes through at most.
 const MANY: u64 = 2000;
 
-fn lines(alloc: Global, text: &str) -> Result<String, AllocError> {
-    text.replace(alloc, ';', "\n")
+fn spelled(alloc: Global, texts: &[Text]) -> Result<String, AllocError> {
+    let mut all = String::new(alloc);
+    for Text(text, first, last) in texts {
+        for number in *first..=*last {
+            let double = number.saturating_mul(2);
+            let number = format!(in alloc; "{number}")?;
+            let double = format!(in alloc; "{double}")?;
+            for letter in text.chars() {
+                match letter {
+                    ';' => all.push('\n')?,
+                    '#' => all.push_str(&number)?,
+                    '@' => all.push_str(&double)?,
+                    _ => all.push(letter)?,
+                }
+            }
+        }
+    }
+    Ok(all)
 }
 
-// The lines of a run on a new disk.
-fn first_lines(alloc: Global, text: &str) -> Result<String, AllocError> {
-    let mut first = lines(alloc, OPEN)?;
-    first.push_str(&lines(alloc, text)?)?;
-    Ok(first)
-}
-
-fn printed(sink: &MemSink) -> &str {
-    str::from_utf8(sink.bytes()).unwrap_or("no text")
-}
-
-fn script_of(alloc: Global, text: &str) -> Result<MemSource, AllocError> {
-    MemSource::new(alloc, lines(alloc, text)?.as_bytes(), 7)
-}
-
-// A formatted disk on which no call was made yet.
-fn formatted<R: Threads + Wait + Sync>(
+// A run of a command that reads this script.
+fn run_text<R: Threads + Wait + Sync>(
     rt: &R,
     alloc: Global,
     words: &str,
-) -> Result<MemDisk, Fail> {
-    let words = words_of(alloc, words)?;
+    disk: MemDisk,
+    script: &[Text],
+    sink: MemSink,
+) -> Result<Outcome, AllocError> {
+    let source = MemSource::new(alloc, spelled(alloc, script)?.as_bytes(), 7)?;
+    run_words(rt, alloc, words, disk, source, sink)
+}
+
+// Whether the bytes stand at their place, and the zeros behind them.
+fn holds(disk: &MemDisk, part: &Bytes) -> bool {
+    let Some(rest) = disk.bytes(part.area).get(part.at..) else {
+        return false;
+    };
+    let Some(behind) = rest.strip_prefix(part.bytes) else {
+        return false;
+    };
+    for byte in behind.iter().take(part.zeros) {
+        if *byte != 0 {
+            return false;
+        }
+    }
+    true
+}
+
+// Whether each run ends and prints as is written, and the disk is so then.
+fn is_met<R: Threads + Wait + Sync>(
+    rt: &R,
+    alloc: Global,
+    case: &Case,
+) -> Result<bool, AllocError> {
+    let mut disk = MemDisk::new(alloc, 3)?;
+    for run in case.runs {
+        let done = run_text(rt, alloc, run.words, disk, run.script, MemSink::new(alloc))?;
+        let want = spelled(alloc, run.printed)?;
+        if done.status != run.status || done.printed() != want.as_str() {
+            return Ok(false);
+        }
+        disk = done.disk;
+    }
+    for (area, len) in case.lens {
+        if disk.bytes(*area).len() != *len {
+            return Ok(false);
+        }
+    }
+    for part in case.bytes {
+        if !holds(&disk, part) {
+            return Ok(false);
+        }
+    }
+    Ok(true)
+}
+
+#[test]
+fn each_run_ends_and_prints_as_is_written(rt: HostRuntime) {
+    for case in &CASES {
+        expect(&rt, case.name, is_met(&rt, rt.alloc(), case));
+    }
+}
+
+// A formatted disk of 16 pages, on which no call was made yet.
+fn formatted<R: Threads + Wait + Sync>(rt: &R, alloc: Global) -> Result<MemDisk, AllocError> {
     let disk = MemDisk::new(alloc, 3)?;
-    let (_, disk, _) = run_words(rt, alloc, &words, disk, MemSink::new(alloc))?;
-    Ok(disk.crash(disk.moment(), Choice::AllBytes)?)
+    let disk = run_alone(rt, alloc, FORMAT, disk, MemSink::new(alloc))?.disk;
+    disk.crash(disk.moment(), Choice::AllBytes)
 }
 
-// The same disk once more, where no call was made on it.
-fn copy_of(disk: &MemDisk) -> Result<MemDisk, AllocError> {
-    disk.crash(0, Choice::AllBytes)
-}
-
-// The status, the disk and what was printed.
-fn run_on<R: Threads + Wait + Sync>(
+// A run on the disk as it was at first, in which a call of the device fails.
+fn run_failing<R: Threads + Wait + Sync>(
     rt: &R,
     alloc: Global,
-    disk: MemDisk,
-    mut source: MemSource,
-    mut sink: MemSink,
-) -> Result<(u8, MemDisk, MemSink), Fail> {
-    let words = words_of(alloc, "lean run")?;
-    let Ended { status, disk } = run(rt, alloc, &words, &mut source, &mut sink, disk, &Open);
-    Ok((status, disk, sink))
-}
-
-fn run_script<R: Threads + Wait + Sync>(
-    rt: &R,
-    alloc: Global,
-    disk: MemDisk,
-    text: &str,
-) -> Result<(u8, MemDisk, MemSink), Fail> {
-    run_on(
-        rt,
-        alloc,
-        disk,
-        script_of(alloc, text)?,
-        MemSink::new(alloc),
-    )
-}
-
-#[test]
-fn each_line_of_a_script_is_answered(rt: HostRuntime) -> Result<(), Fail> {
-    let alloc = rt.alloc();
-    let new = formatted(&rt, alloc, FORMAT)?;
-    for (script, want, answers) in [
-        ("", 0, ""),
-        (PUT, 0, PUT_LINES),
-        (
-            "1 begin;1 put 0 1;1 put 18446744073709551614 9223372036854775807;1 get 18446744073709551614;1 commit;",
-            0,
-            "1 begun 1.1;1 was none;1 was none;1 value 9223372036854775807;1 committed 1.1 at 3;1 durable 1.1;",
-        ),
-        (
-            "1 begin;1 put 18446744073709551615 1;1 commit;",
-            3,
-            "1 begun 1.1;lean: line 2 refused;",
-        ),
-        (
-            "1 begin;1 put 5 9223372036854775808;1 commit;",
-            3,
-            "1 begun 1.1;lean: line 2 refused;",
-        ),
-        ("1 begin;1 get 5", 0, "1 begun 1.1;1 none;"),
-        ("1 begin;1 put 5", 3, "1 begun 1.1;lean: line 2 refused;"),
-        (
-            "1 begin;1 begin;1 commit;1 commit;",
-            0,
-            "1 begun 1.1;1 in-transaction;1 committed 1.1 at 1;1 durable 1.1;1 no-transaction;",
-        ),
-        ("2 begin;", 3, "lean: line 1 refused;"),
-    ] {
-        let (status, _, sink) = run_script(&rt, alloc, copy_of(&new)?, script)?;
-        assert_eq!(rt;
-            printed(&sink),
-            first_lines(alloc, answers)?.as_str(),
-            "at {script}"
-        );
-        assert_eq!(rt; status, want, "at {script}");
+    sweep: &Sweep,
+    disk: &MemDisk,
+    call: u64,
+) -> Result<Outcome, AllocError> {
+    let mut disk = disk.crash(0, Choice::AllBytes)?;
+    let mut source = MemSource::new(alloc, spelled(alloc, sweep.script)?.as_bytes(), 7)?;
+    let mut sink = MemSink::new(alloc);
+    let failing = [call].to_vec(alloc)?;
+    match sweep.device {
+        Device::Area(area) => disk.fail_at(area, failing),
+        Device::Source => source.fail_at(failing),
+        Device::Sink => sink.fail_at(failing),
     }
-    Ok(())
+    run_words(rt, alloc, sweep.words, disk, source, sink)
 }
 
-#[test]
-fn a_second_run_finds_what_the_first_committed(rt: HostRuntime) -> Result<(), Fail> {
-    let alloc = rt.alloc();
-    let (_, disk, _) = run_script(&rt, alloc, formatted(&rt, alloc, FORMAT)?, PUT)?;
-    let (status, _, sink) = run_script(&rt, alloc, disk, "1 begin;1 get 5;1 commit;")?;
-    let want =
-        "open 2 winners 1 undone 0;1 begun 1.1;1 value 7;1 committed 1.1 at 3;1 durable 1.1;";
-    assert_eq!(rt; printed(&sink), lines(alloc, want)?.as_str());
-    assert_eq!(rt; status, 0);
-    Ok(())
-}
-
-#[test]
-fn a_transaction_makes_64_changes(rt: HostRuntime) -> Result<(), Fail> {
-    let alloc = rt.alloc();
-    let mut script = String::from_str(alloc, "1 begin;1 put 5 1;")?;
-    let mut answers = String::from_str(alloc, "1 begun 1.1;1 was none;")?;
-    for before in 1..64u32 {
-        write!(script, "1 put 5 {};", before + 1)?;
-        write!(answers, "1 was {before};")?;
-    }
-    script.push_str("1 put 5 65;1 commit;")?;
-    answers.push_str("1 too-long;1 committed 1.1 at 65;1 durable 1.1;")?;
-    let (status, _, sink) = run_script(&rt, alloc, formatted(&rt, alloc, FORMAT)?, &script)?;
-    assert_eq!(rt; printed(&sink), first_lines(alloc, &answers)?.as_str());
-    assert_eq!(rt; status, 0);
-    Ok(())
-}
-
-#[test]
-fn a_leaf_has_room_for_60_keys(rt: HostRuntime) -> Result<(), Fail> {
-    let alloc = rt.alloc();
-    let mut script = String::from_str(alloc, "1 begin;")?;
-    let mut answers = String::from_str(alloc, "1 begun 1.1;")?;
-    for key in 0..60u32 {
-        write!(script, "1 put {key} 1;")?;
-        answers.push_str("1 was none;")?;
-    }
-    script.push_str("1 put 60 1;1 put 59 2;1 get 60;1 commit;")?;
-    answers.push_str("1 full;1 was 1;1 none;1 committed 1.1 at 62;1 durable 1.1;")?;
-    let (status, _, sink) = run_script(&rt, alloc, formatted(&rt, alloc, FORMAT)?, &script)?;
-    assert_eq!(rt; printed(&sink), first_lines(alloc, &answers)?.as_str());
-    assert_eq!(rt; status, 0);
-    Ok(())
-}
-
-#[test]
-fn a_log_of_64_blocks_takes_48_of_them(rt: HostRuntime) -> Result<(), Fail> {
-    let alloc = rt.alloc();
-    let mut script = String::new(alloc);
-    let mut answers = String::new(alloc);
-    for number in 1..49u32 {
-        let was = if number == 1 { "none" } else { "7" };
-        script.push_str(PUT)?;
-        write!(answers, "1 begun 1.{number};1 was {was};")?;
-        write!(
-            answers,
-            "1 committed 1.{number} at {};1 durable 1.{number};",
-            2 * number
-        )?;
-    }
-    script.push_str("1 begin;")?;
-    answers.push_str("1 log-full 48 48;")?;
-    let (status, _, sink) = run_script(&rt, alloc, formatted(&rt, alloc, FORMAT)?, &script)?;
-    assert_eq!(rt; printed(&sink), first_lines(alloc, &answers)?.as_str());
-    assert_eq!(rt; status, 0);
-    Ok(())
-}
-
-#[test]
-fn a_put_and_its_commit_are_one_block_of_the_log(rt: HostRuntime) -> Result<(), Fail> {
-    let alloc = rt.alloc();
-    let (_, disk, _) = run_script(&rt, alloc, formatted(&rt, alloc, FORMAT)?, PUT)?;
-    assert_eq!(rt; disk.bytes(2).len(), 2048);
-    assert_eq!(rt; part(disk.bytes(2), 0, 110), BLOCK.as_slice());
-    assert!(rt; part(disk.bytes(2), 110, 1922).iter().all(|byte| *byte == 0));
-    Ok(())
-}
-
-// Whether the output is a prefix of the whole lines, and then this line.
-fn is_cut_off(whole: &str, output: &str, last: &str) -> bool {
+// Whether the output is whole lines of these, and then this line.
+fn is_cut_off(lines: &str, output: &str, last: &str) -> bool {
     match output.strip_suffix(last) {
-        Some(prefix) => whole.starts_with(prefix) && (prefix.is_empty() || prefix.ends_with('\n')),
+        Some(prefix) => lines.starts_with(prefix) && (prefix.is_empty() || prefix.ends_with('\n')),
         None => false,
     }
 }
 
-#[test]
-fn each_call_of_the_disk_that_fails_ends_a_run(rt: HostRuntime) -> Result<(), Fail> {
-    let alloc = rt.alloc();
-    let new = formatted(&rt, alloc, SMALL)?;
-    let whole = first_lines(alloc, PUT_LINES)?;
-    for area in 0..3u32 {
-        let mut failures = 0u32;
-        for call in 1..MANY {
-            let mut disk = copy_of(&new)?;
-            disk.fail_at(area, [call].to_vec(alloc)?);
-            let (status, _, sink) = run_script(&rt, alloc, disk, PUT)?;
-            if status == 0 {
-                assert_eq!(rt; printed(&sink), whole.as_str());
-                break;
-            }
-            assert_eq!(rt; status, 6, "at call {call} of area {area}");
-            assert!(rt;
-                is_cut_off(&whole, printed(&sink), "lean: disk fault\n"),
-                "at call {call} of area {area}"
-            );
-            failures = failures.saturating_add(1);
-        }
-        assert!(rt; failures > 0 && (failures as u64) < MANY - 1);
-    }
-    Ok(())
-}
-
-#[test]
-fn each_call_of_the_source_that_fails_ends_a_run(rt: HostRuntime) -> Result<(), Fail> {
-    let alloc = rt.alloc();
-    let new = formatted(&rt, alloc, SMALL)?;
-    let whole = first_lines(alloc, PUT_LINES)?;
-    let mut failures = 0u32;
-    for call in 1..MANY {
-        let mut source = script_of(alloc, PUT)?;
-        source.fail_at([call].to_vec(alloc)?);
-        let (status, _, sink) = run_on(&rt, alloc, copy_of(&new)?, source, MemSink::new(alloc))?;
-        if status == 0 {
-            assert_eq!(rt; printed(&sink), whole.as_str());
-            break;
-        }
-        assert_eq!(rt; status, 4, "at call {call}");
-        assert!(rt;
-            is_cut_off(&whole, printed(&sink), "lean: read fault\n"),
-            "at call {call}"
-        );
-        failures = failures.saturating_add(1);
-    }
-    // Four pieces, and the end.
-    assert_eq!(rt; failures, 5);
-    Ok(())
-}
-
-#[test]
-fn each_line_that_does_not_go_out_ends_a_run(rt: HostRuntime) -> Result<(), Fail> {
-    let alloc = rt.alloc();
-    let new = formatted(&rt, alloc, SMALL)?;
-    let whole = first_lines(alloc, PUT_LINES)?;
-    let mut failures = 0u32;
-    for call in 1..MANY {
-        let mut sink = MemSink::new(alloc);
-        sink.fail_at([call].to_vec(alloc)?);
-        let (status, _, sink) = run_on(&rt, alloc, copy_of(&new)?, script_of(alloc, PUT)?, sink)?;
-        if status == 0 {
-            assert_eq!(rt; printed(&sink), whole.as_str());
-            break;
-        }
-        assert_eq!(rt; status, 5, "at call {call}");
-        assert!(rt; is_cut_off(&whole, printed(&sink), ""), "at call {call}");
-        failures = failures.saturating_add(1);
-    }
-    assert_eq!(rt; failures, 5);
-    Ok(())
-}
-
-// The moment up to which the line of this number is not out yet: a run ends as it is put.
-fn moment_before<R: Threads + Wait + Sync>(
+// Whether a run in which the call fails ends as is written, or is a whole one; and which of these.
+fn ends_so<R: Threads + Wait + Sync>(
     rt: &R,
     alloc: Global,
-    disk: MemDisk,
-    line: u64,
-) -> Result<u64, Fail> {
-    let mut sink = MemSink::new(alloc);
-    sink.fail_at([line].to_vec(alloc)?);
-    let (_, disk, _) = run_on(rt, alloc, disk, script_of(alloc, PUT)?, sink)?;
-    Ok(disk.moment())
+    sweep: &Sweep,
+    disk: &MemDisk,
+    call: u64,
+) -> Result<(bool, bool), AllocError> {
+    let done = run_failing(rt, alloc, sweep, disk, call)?;
+    if done.status == 0 {
+        let printed = spelled(alloc, sweep.printed)?;
+        return Ok((done.printed() == printed.as_str(), true));
+    }
+    let before = spelled(alloc, sweep.before)?;
+    let is_cut_off = is_cut_off(&before, done.printed(), sweep.last);
+    Ok((done.status == sweep.status && is_cut_off, false))
+}
+
+// Whether each call of the device ends the run, and there are so many.
+fn is_ended_by_each<R: Threads + Wait + Sync>(
+    rt: &R,
+    alloc: Global,
+    sweep: &Sweep,
+) -> Result<bool, AllocError> {
+    let disk = if sweep.is_formatted {
+        formatted(rt, alloc)?
+    } else {
+        MemDisk::new(alloc, 3)?
+    };
+    for call in 1..MANY {
+        let (is_so, is_whole) = ends_so(rt, alloc, sweep, &disk, call)?;
+        if !is_so || is_whole {
+            return Ok(is_so && call - 1 == sweep.calls);
+        }
+    }
+    Ok(false)
+}
+
+#[test]
+fn each_call_that_fails_ends_a_run(rt: HostRuntime) {
+    for sweep in &SWEEPS {
+        expect(&rt, sweep.name, is_ended_by_each(&rt, rt.alloc(), sweep));
+    }
 }
 
 // Whether a disk is opened, and key 5 has its value or none, and its value where that was told.
@@ -320,59 +589,56 @@ fn is_well<R: Threads + Wait + Sync>(
     alloc: Global,
     left: MemDisk,
     is_told: bool,
-) -> Result<bool, Fail> {
-    let (status, _, sink) = run_script(rt, alloc, left, "1 begin;1 get 5;")?;
-    let is_there = printed(&sink).ends_with("1 begun 1.1\n1 value 7\n");
-    let is_none = printed(&sink).ends_with("1 begun 1.1\n1 none\n");
-    Ok(status == 0 && (is_there || is_none && !is_told))
+) -> Result<bool, AllocError> {
+    let script = once!("1 begin;1 get 5;");
+    let done = run_text(rt, alloc, RUN, left, script, MemSink::new(alloc))?;
+    let is_there = done.printed().ends_with("1 begun 1.1\n1 value 7\n");
+    let is_none = done.printed().ends_with("1 begun 1.1\n1 none\n");
+    Ok(done.status == 0 && (is_there || is_none && !is_told))
 }
 
-// The first moment at which a crash does not leave a disk that is well, or the moment behind the last one. Up to `untold` the
-// value is not told durable.
-fn first_ill<R: Threads + Wait + Sync>(
+// The disk of a put whose fifth line, that it is durable, goes out or not.
+fn disk_of_put<R: Threads + Wait + Sync>(
     rt: &R,
     alloc: Global,
-    disk: &MemDisk,
-    untold: u64,
+    is_told: bool,
+) -> Result<MemDisk, AllocError> {
+    let mut sink = MemSink::new(alloc);
+    if !is_told {
+        sink.fail_at([5].to_vec(alloc)?);
+    }
+    let disk = formatted(rt, alloc)?;
+    Ok(run_text(rt, alloc, RUN, disk, once!(PUT), sink)?.disk)
+}
+
+// Whether each crash of a put keeps it or not, and keeps it behind the moment at which it was told; a crash before it does not.
+fn is_kept<R: Threads + Wait + Sync>(
+    rt: &R,
+    alloc: Global,
     choice: Choice,
-) -> Result<u64, Fail> {
-    let end = disk.moment().saturating_add(1);
-    for moment in 0..end {
+) -> Result<bool, AllocError> {
+    let untold = disk_of_put(rt, alloc, false)?.moment();
+    let disk = disk_of_put(rt, alloc, true)?;
+    for moment in 0..=disk.moment() {
         let left = disk.crash(moment, choice)?;
         if !is_well(rt, alloc, left, untold < moment)? {
-            return Ok(moment);
+            return Ok(false);
         }
     }
-    Ok(end)
+    let before = disk.crash(0, Choice::AllBytes)?;
+    Ok(untold < disk.moment() && !is_well(rt, alloc, before, true)?)
 }
 
-#[test]
-fn a_crash_that_leaves_none_or_all_keeps_what_was_told(rt: HostRuntime) -> Result<(), Fail> {
-    let alloc = rt.alloc();
-    let new = formatted(&rt, alloc, SMALL)?;
-    let untold = moment_before(&rt, alloc, copy_of(&new)?, 5)?;
-    let (_, disk, _) = run_script(&rt, alloc, copy_of(&new)?, PUT)?;
-    let last = disk.moment();
-    assert!(rt; untold < last);
-    for choice in [Choice::NoBytes, Choice::AllBytes] {
-        let ill = first_ill(&rt, alloc, &disk, untold, choice)?;
-        assert_eq!(rt; ill, last.saturating_add(1), "by {choice:?}");
-    }
-    // A crash before the put leaves none.
-    assert!(rt; !is_well(&rt, alloc, disk.crash(0, Choice::AllBytes)?, true)?);
-    Ok(())
-}
+static CRASHES: [(&str, Choice); 4] = [
+    ("crashes that leave no bytes", Choice::NoBytes),
+    ("crashes that leave all bytes", Choice::AllBytes),
+    ("crashes that leave halves", Choice::FirstHalf),
+    ("crashes that leave zeros", Choice::Zeros),
+];
 
 #[test]
-fn a_crash_that_leaves_halves_or_zeros_keeps_what_was_told(rt: HostRuntime) -> Result<(), Fail> {
-    let alloc = rt.alloc();
-    let new = formatted(&rt, alloc, SMALL)?;
-    let untold = moment_before(&rt, alloc, copy_of(&new)?, 5)?;
-    let (_, disk, _) = run_script(&rt, alloc, copy_of(&new)?, PUT)?;
-    let last = disk.moment();
-    for choice in [Choice::FirstHalf, Choice::Zeros] {
-        let ill = first_ill(&rt, alloc, &disk, untold, choice)?;
-        assert_eq!(rt; ill, last.saturating_add(1), "by {choice:?}");
+fn a_crash_keeps_what_was_told(rt: HostRuntime) {
+    for (name, choice) in &CRASHES {
+        expect(&rt, name, is_kept(&rt, rt.alloc(), *choice));
     }
-    Ok(())
 }

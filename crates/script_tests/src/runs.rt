@@ -1,12 +1,66 @@
 // Scripts on disks in memory. The expected lines were written down by hand.
-
+use crate::cases::expect;
 use btree_node::Node;
 use disk_slots::{Heads, Master, master_bytes, page_bytes};
 use lean_disk::MemDisk;
 use lean_edge::{MemSink, MemSource};
 use lean_shell::run_disk;
 use std::alloc::{AllocError, Global};
-use std::test::Fail;
+
+// A script, its status, and what is printed.
+struct Run {
+    script: &'static [u8],
+    status: u8,
+    printed: &'static [u8],
+}
+
+// What holds the disk: a master, and the pages but one.
+struct Case {
+    name: &'static str,
+    is_formatted: bool,
+    left_out: Option<u32>,
+    runs: &'static [Run],
+}
+
+static CASES: [Case; 3] = [
+    Case {
+        name: "what is committed is there at the next opening",
+        is_formatted: true,
+        left_out: None,
+        runs: &[
+            Run {
+                script: b"1 begin\n1 put 5 7\n1 commit\n",
+                status: 0,
+                printed: b"open 1 winners 0 undone 0\n1 begun 1.1\n1 was none\n1 committed 1.1 at 2\n1 durable 1.1\n",
+            },
+            Run {
+                script: b"1 begin\n1 get 5\n2 begin\n",
+                status: 3,
+                printed: b"open 2 winners 1 undone 0\n1 begun 1.1\n1 value 7\nlean: line 3 refused\n",
+            },
+        ],
+    },
+    Case {
+        name: "an empty disk is not formatted",
+        is_formatted: false,
+        left_out: None,
+        runs: &[Run {
+            script: b"1 begin\n",
+            status: 7,
+            printed: b"lean: not formatted\n",
+        }],
+    },
+    Case {
+        name: "a page that is missing is damaged",
+        is_formatted: true,
+        left_out: Some(5),
+        runs: &[Run {
+            script: b"1 begin\n",
+            status: 7,
+            printed: b"lean: damaged area 1 place 5\n",
+        }],
+    },
+];
 
 // The first master of a disk of sixteen pages and one log.
 fn master_area(alloc: Global) -> Result<Vec<u8>, AllocError> {
@@ -44,53 +98,35 @@ fn page_area(alloc: Global, left_out: Option<u32>) -> Result<Vec<u8>, AllocError
     Ok(area)
 }
 
-fn new_disk(alloc: Global, left_out: Option<u32>) -> Result<MemDisk, AllocError> {
+fn disk_of(alloc: Global, case: &Case) -> Result<MemDisk, AllocError> {
+    if !case.is_formatted {
+        return MemDisk::new(alloc, 3);
+    }
     let areas = vec![in alloc;
         master_area(alloc)?,
-        page_area(alloc, left_out)?,
+        page_area(alloc, case.left_out)?,
         Vec::new(alloc),
     ]?;
     MemDisk::from_areas(alloc, areas)
 }
 
-// The status, and what was printed.
-fn execute(alloc: Global, script: &[u8], disk: &mut MemDisk) -> Result<(u8, MemSink), AllocError> {
-    let mut source = MemSource::new(alloc, script, 7)?;
-    let mut sink = MemSink::new(alloc);
-    let status = run_disk(alloc, &mut source, &mut sink, disk);
-    Ok((status, sink))
+// Whether each script ends and prints as is written.
+fn is_met(alloc: Global, case: &Case) -> Result<bool, AllocError> {
+    let mut disk = disk_of(alloc, case)?;
+    for run in case.runs {
+        let mut source = MemSource::new(alloc, run.script, 7)?;
+        let mut sink = MemSink::new(alloc);
+        let status = run_disk(alloc, &mut source, &mut sink, &mut disk);
+        if status != run.status || sink.bytes() != run.printed {
+            return Ok(false);
+        }
+    }
+    Ok(true)
 }
 
 #[test]
-fn what_is_committed_is_there_at_the_next_opening(rt: HostRuntime) -> Result<(), Fail> {
-    let alloc = rt.alloc();
-    let mut disk = new_disk(alloc, None)?;
-    let (status, sink) = execute(alloc, b"1 begin\n1 put 5 7\n1 commit\n", &mut disk)?;
-    let printed =
-        b"open 1 winners 0 undone 0\n1 begun 1.1\n1 was none\n1 committed 1.1 at 2\n1 durable 1.1\n";
-    assert_eq!(rt; status, 0);
-    assert!(rt; sink.bytes() == printed.as_slice());
-    let (status, sink) = execute(alloc, b"1 begin\n1 get 5\n2 begin\n", &mut disk)?;
-    let printed = b"open 2 winners 1 undone 0\n1 begun 1.1\n1 value 7\nlean: line 3 refused\n";
-    assert_eq!(rt; status, 3);
-    assert!(rt; sink.bytes() == printed.as_slice());
-    Ok(())
-}
-
-#[test]
-fn an_empty_disk_is_not_formatted(rt: HostRuntime) -> Result<(), Fail> {
-    let alloc = rt.alloc();
-    let (status, sink) = execute(alloc, b"1 begin\n", &mut MemDisk::new(alloc, 3)?)?;
-    assert_eq!(rt; status, 7);
-    assert!(rt; sink.bytes() == b"lean: not formatted\n".as_slice());
-    Ok(())
-}
-
-#[test]
-fn a_page_that_is_missing_is_damaged(rt: HostRuntime) -> Result<(), Fail> {
-    let alloc = rt.alloc();
-    let (status, sink) = execute(alloc, b"1 begin\n", &mut new_disk(alloc, Some(5))?)?;
-    assert_eq!(rt; status, 7);
-    assert!(rt; sink.bytes() == b"lean: damaged area 1 place 5\n".as_slice());
-    Ok(())
+fn each_disk_is_opened_and_used_as_is_written(rt: HostRuntime) {
+    for case in &CASES {
+        expect(&rt, case.name, is_met(rt.alloc(), case));
+    }
 }

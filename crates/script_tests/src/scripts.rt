@@ -1,6 +1,7 @@
 // Scripts on a fresh engine, over devices in memory. The expected lines were written down by hand.
 ghost use Rattle.worker_log.specs.Kept.{IsInRange};
 
+use crate::cases::expect;
 use btree_node::Node;
 use lean_disk::MemDisk;
 use lean_edge::{MemSink, MemSource};
@@ -11,8 +12,52 @@ use script_lang::LineReader;
 use script_run::{Stop, run_script};
 use std::alloc::{AllocError, Global};
 use std::process::Abort;
-use std::test::Fail;
 use worker_log::WorkerLog;
+
+// A script, the reads and puts that fail, of which a put leaves three bytes; how the script ends, and what is printed.
+struct Case {
+    name: &'static str,
+    script: &'static [u8],
+    failing_reads: &'static [u64],
+    failing_puts: &'static [u64],
+    stop: Stop,
+    printed: &'static [u8],
+}
+
+static CASES: [Case; 4] = [
+    Case {
+        name: "each line is answered up to a refused one",
+        script: b"1 begin\n1 get 5\n1 put 5 7\n1 put 5 8\n1 commit\n1 begin\n1 get 5\n1 begin\n1 drop 5\n1 get 5\n",
+        failing_reads: &[],
+        failing_puts: &[],
+        stop: Stop::Refused { line: 9 },
+        printed: b"1 begun 1.1\n1 none\n1 was none\n1 was 7\n1 committed 1.1 at 3\n1 durable 1.1\n1 begun 1.2\n1 value 8\n1 in-transaction\n",
+    },
+    Case {
+        name: "the last line may lack its newline",
+        script: b"1 get 5\n1 begin",
+        failing_reads: &[],
+        failing_puts: &[],
+        stop: Stop::End,
+        printed: b"1 no-transaction\n1 begun 1.1\n",
+    },
+    Case {
+        name: "a failed put ends the script within its line",
+        script: b"1 begin\n1 commit\n1 begin\n",
+        failing_reads: &[],
+        failing_puts: &[3],
+        stop: Stop::WriteFault,
+        printed: b"1 begun 1.1\n1 committed 1.1 at 1\n1 d",
+    },
+    Case {
+        name: "a failed read ends the script behind whole lines",
+        script: b"1 begin\n1 commit\n1 begin\n",
+        failing_reads: &[3],
+        failing_puts: &[],
+        stop: Stop::ReadFault,
+        printed: b"1 begun 1.1\n",
+    },
+];
 
 // Sixteen pages: an empty leaf with all keys, and free ones.
 fn fresh_pages(alloc: Global) -> Result<Vec<Node>, AllocError> {
@@ -38,70 +83,25 @@ fn engine_on(alloc: Global, pages: Vec<Node>, log: WorkerLog) -> Option<Engine>
     }
 }
 
-fn fresh_engine(rt: &impl Abort, alloc: Global) -> Result<Engine, AllocError> {
+// Whether the script on a fresh engine ends and prints as is written.
+fn is_met(rt: &impl Abort, alloc: Global, case: &Case) -> Result<bool, AllocError> {
     let log = WorkerLog::new(alloc, 1, 1, 64, 0, 0)?;
     let pages = fresh_pages(alloc)?;
-    Ok(engine_on(alloc, pages, log).expect(rt, "the pages are a tree"))
-}
-
-// How a script ended, and what was printed, where the calls with these numbers fail.
-#[derive(Drop)]
-struct Ran {
-    stop: Stop,
-    sink: MemSink,
-}
-
-fn executed(
-    rt: &impl Abort,
-    alloc: Global,
-    script: &[u8],
-    failing_reads: &[u64],
-    failing_puts: &[u64],
-) -> Result<Ran, AllocError> {
-    let mut engine = fresh_engine(rt, alloc)?;
+    let mut engine = engine_on(alloc, pages, log).expect(rt, "the pages are a tree");
     let mut reader = LineReader::new(alloc)?;
-    let mut source = MemSource::new(alloc, script, 7)?;
-    source.fail_at(Vec::from_slice(alloc, failing_reads)?);
+    let mut source = MemSource::new(alloc, case.script, 7)?;
+    source.fail_at(Vec::from_slice(alloc, case.failing_reads)?);
     let mut sink = MemSink::new(alloc);
-    sink.fail_at(Vec::from_slice(alloc, failing_puts)?);
+    sink.fail_at(Vec::from_slice(alloc, case.failing_puts)?);
     sink.keep_prefix(3);
     let mut disk = MemDisk::new(alloc, 3)?;
     let stop = run_script(&mut engine, &mut reader, &mut source, &mut sink, &mut disk);
-    Ok(Ran { stop, sink })
+    Ok(stop == case.stop && sink.bytes() == case.printed)
 }
 
 #[test]
-fn each_line_is_answered_up_to_a_refused_one(rt: HostRuntime) -> Result<(), Fail> {
-    let script =
-        b"1 begin\n1 get 5\n1 put 5 7\n1 put 5 8\n1 commit\n1 begin\n1 get 5\n1 begin\n1 drop 5\n1 get 5\n";
-    let ran = executed(&rt, rt.alloc(), script, &[], &[])?;
-    assert_eq!(rt; ran.stop, Stop::Refused { line: 9 });
-    let printed =
-        b"1 begun 1.1\n1 none\n1 was none\n1 was 7\n1 committed 1.1 at 3\n1 durable 1.1\n1 begun 1.2\n1 value 8\n1 in-transaction\n";
-    assert!(rt; ran.sink.bytes() == printed.as_slice());
-    Ok(())
-}
-
-#[test]
-fn the_last_line_may_lack_its_newline(rt: HostRuntime) -> Result<(), Fail> {
-    let ran = executed(&rt, rt.alloc(), b"1 get 5\n1 begin", &[], &[])?;
-    assert_eq!(rt; ran.stop, Stop::End);
-    assert!(rt; ran.sink.bytes() == b"1 no-transaction\n1 begun 1.1\n".as_slice());
-    Ok(())
-}
-
-#[test]
-fn a_failed_put_ends_the_script_within_its_line(rt: HostRuntime) -> Result<(), Fail> {
-    let ran = executed(&rt, rt.alloc(), b"1 begin\n1 commit\n1 begin\n", &[], &[3])?;
-    assert_eq!(rt; ran.stop, Stop::WriteFault);
-    assert!(rt; ran.sink.bytes() == b"1 begun 1.1\n1 committed 1.1 at 1\n1 d".as_slice());
-    Ok(())
-}
-
-#[test]
-fn a_failed_read_ends_the_script_behind_whole_lines(rt: HostRuntime) -> Result<(), Fail> {
-    let ran = executed(&rt, rt.alloc(), b"1 begin\n1 commit\n1 begin\n", &[3], &[])?;
-    assert_eq!(rt; ran.stop, Stop::ReadFault);
-    assert!(rt; ran.sink.bytes() == b"1 begun 1.1\n".as_slice());
-    Ok(())
+fn each_script_ends_and_prints_as_is_written(rt: HostRuntime) {
+    for case in &CASES {
+        expect(&rt, case.name, is_met(&rt, rt.alloc(), case));
+    }
 }
