@@ -2,7 +2,6 @@
 use crate::crashes::{Picked, is_in_log};
 use crate::runs::{Run, Version};
 use plain_images::{Image, Log, Record};
-use plain_recovery::{Ending, Found};
 use std::alloc::{AllocError, Global};
 
 /// The floor, of each log the records that are left from its head on, and of each page the contents that are left.
@@ -50,7 +49,7 @@ fn page_of(alloc: Global, page: &plain_core::Page) -> Result<plain_images::Page,
     Ok(plain_images::Page {
         number: page.number,
         log: small(page.log),
-        node: plain_recovery::Node {
+        node: plain_images::Node {
             live: page.node.live,
             level: page.node.level,
             low: page.node.low,
@@ -112,10 +111,10 @@ fn ref_of(one: plain_core::Ref) -> plain_images::Ref {
 fn pairs_of(
     alloc: Global,
     pairs: &[plain_core::Pair],
-) -> Result<Vec<plain_recovery::Pair>, AllocError> {
+) -> Result<Vec<plain_images::Pair>, AllocError> {
     let mut copies = Vec::new(alloc);
     for pair in pairs {
-        copies.push(plain_recovery::Pair {
+        copies.push(plain_images::Pair {
             key: pair.key,
             word: pair.word,
         })?;
@@ -126,35 +125,4 @@ fn pairs_of(
 // Logs and levels of the lists are small.
 fn small(number: u64) -> u32 {
     u32::try_from(number).unwrap_or(u32::MAX)
-}
-
-/// How many logs the image has.
-pub fn logs_of(image: &Image) -> u32 {
-    small(image.logs.len() as u64)
-}
-
-/// What the image's records tell of their ends.
-pub fn found_in(alloc: Global, image: &Image) -> Result<Vec<Found>, AllocError> {
-    let mut found = Vec::new(alloc);
-    for log in &image.logs {
-        for entry in &log.records {
-            found.push(found_of(entry))?;
-        }
-    }
-    Ok(found)
-}
-
-fn found_of(entry: &Record) -> Found {
-    let need = entry.need;
-    let ending = match entry.kind {
-        plain_images::Kind::Commit => Some(Ending::Commit { need }),
-        plain_images::Kind::Abort => Some(Ending::Abort { need }),
-        _ => None,
-    };
-    Found {
-        log: entry.log,
-        txn: entry.txn,
-        number: entry.number,
-        ending,
-    }
 }

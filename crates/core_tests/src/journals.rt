@@ -2,7 +2,7 @@
 use crate::maps::{copy_of, value_of, write};
 use map_model::{Answer, Call};
 use plain_core::{Core, Entry, Kind};
-use plain_recovery::Name;
+use plain_images::Name;
 use std::alloc::{AllocError, Global};
 use std::collections::BTreeMap;
 

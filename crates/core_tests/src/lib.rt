@@ -1,4 +1,4 @@
-//! Twenty small lists of events by the plain core, and every crash of the state that each leaves by the plain programs of images.
+//! Small lists of events by the plain core, and every crash of the states that some leave, by the plain programs of images.
 #![tactic(auto)]
 
 #[cfg(test)]
@@ -18,6 +18,10 @@ mod openings;
 #[cfg(test)]
 mod runs;
 #[cfg(test)]
+mod small_images;
+#[cfg(test)]
 mod steps;
 #[cfg(test)]
 mod tests;
+#[cfg(test)]
+mod walks;

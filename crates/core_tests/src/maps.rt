@@ -1,7 +1,7 @@
 // Maps, and the map of leaves.
 use crate::openings::DEAD;
 use plain_core::Core;
-use plain_recovery::{Node, Pair};
+use plain_images::{Node, Pair};
 use std::alloc::{AllocError, Global};
 use std::collections::BTreeMap;
 

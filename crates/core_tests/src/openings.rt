@@ -15,12 +15,31 @@ pub enum Contents {
     Node(u64, u64, u64, &'static [(u64, u64)]),
 }
 
-/// The numbers of workers and frames, the base number, which is that of each page, and the pages.
+/// How many pairs two pages that are joined have at most together, the root's greatest level, the word of a tombstone, and the
+/// root's high fence.
+#[derive(Clone, Copy)]
+pub struct Limits {
+    pub joined: u64,
+    pub levels: u64,
+    pub dead: u64,
+    pub top: u64,
+}
+
+/// Those that the programs of images know.
+pub const OF_IMAGES: Limits = Limits {
+    joined: 4,
+    levels: 3,
+    dead: DEAD,
+    top: TOP,
+};
+
+/// The numbers of workers and frames, the base number, which is that of each page, the limits, and the pages.
 #[derive(Clone, Copy)]
 pub struct Opening {
     pub workers: u64,
     pub frames: u64,
     pub base: u64,
+    pub limits: Limits,
     pub pages: &'static [Contents],
 }
 
@@ -29,6 +48,7 @@ pub const EMPTY: Opening = Opening {
     workers: 2,
     frames: 2,
     base: 0,
+    limits: OF_IMAGES,
     pages: &[Contents::Node(0, 0, TOP, &[]), Contents::Free],
 };
 
@@ -37,6 +57,7 @@ pub const LEAF: Opening = Opening {
     workers: 2,
     frames: 2,
     base: 0,
+    limits: OF_IMAGES,
     pages: &[Contents::Node(0, 0, TOP, &[(5, 50)]), Contents::Free],
 };
 
@@ -45,6 +66,7 @@ pub const SPARSE: Opening = Opening {
     workers: 2,
     frames: 2,
     base: 0,
+    limits: OF_IMAGES,
     pages: &[
         Contents::Node(0, 0, TOP, &[(3, DEAD), (5, 50)]),
         Contents::Free,
@@ -56,6 +78,7 @@ pub const FULL: Opening = Opening {
     workers: 2,
     frames: 3,
     base: 0,
+    limits: OF_IMAGES,
     pages: &[
         Contents::Node(0, 0, TOP, &[(1, 11), (2, 12), (3, 13), (4, 14)]),
         Contents::Free,
@@ -68,6 +91,7 @@ pub const CHAIN: Opening = Opening {
     workers: 2,
     frames: 3,
     base: 0,
+    limits: OF_IMAGES,
     pages: &[
         Contents::Node(2, 0, TOP, &[(0, 1)]),
         Contents::Node(1, 0, TOP, &[(0, 2)]),
@@ -81,6 +105,7 @@ pub const WIDE: Opening = Opening {
     workers: 3,
     frames: 9,
     base: 0,
+    limits: OF_IMAGES,
     pages: &[
         Contents::Node(2, 0, TOP, &[(0, 1), (100, 2), (200, 9), (300, 10)]),
         Contents::Node(1, 0, 100, &[(0, 3), (50, 4), (70, 7)]),
@@ -105,13 +130,13 @@ pub fn opened(alloc: Global, opening: Opening) -> Result<Core, AllocError> {
         frames: opening.frames,
         rows: 0,
         changes: 3,
-        joined: 4,
+        joined: opening.limits.joined,
         base: opening.base,
         pages: opening.pages.len() as u64,
         room: 4,
-        levels: 3,
-        dead: DEAD,
-        top: TOP,
+        levels: opening.limits.levels,
+        dead: opening.limits.dead,
+        top: opening.limits.top,
     };
     let free = page_of(alloc, opening.base, Contents::Free)?;
     let mut pages = Table::new(alloc, free);

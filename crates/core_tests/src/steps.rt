@@ -34,6 +34,8 @@ pub enum Step {
     Evict(u64),
     Tick,
     Cut(u64, &'static [u64]),
+    Ask(u64),
+    Refused(u64, u64, u64),
 }
 
 /// The event.
@@ -117,6 +119,12 @@ pub fn event_of(alloc: Global, step: Step) -> Result<Event, AllocError> {
         Step::Cut(number, heads) => Ok(Event::Cut {
             number,
             heads: heads_of(alloc, heads)?,
+        }),
+        Step::Ask(worker) => Ok(Event::Ask { worker }),
+        Step::Refused(worker, cause, pages) => Ok(Event::Refused {
+            worker,
+            cause,
+            pages,
         }),
     }
 }

@@ -1,17 +1,20 @@
 // Each list is run, and each of its crashes looked at.
 use crate::crashes::{Choices, Picked, admits_saved, all_choices};
 use crate::expectations::{Crash, End, Fault, Findings, List};
-use crate::images::{found_in, image_of, logs_of};
+use crate::images::image_of;
 use crate::journals::{
     Committed, after, has_ripe, is_closed, is_serial, journal_of, kept_of, transcript_of,
 };
 use crate::lists::lists;
 use crate::maps::{copy_of, has_pairs, is_map, is_same, map_of_leaves, write_leaf};
 use crate::runs::{Run, started};
+use crate::small_images::{SMALL, TREES, break_of, stands};
+use crate::walks::{first_wrong, walks};
 use map_model::Replay;
 use plain_core::{Core, Entry, Kind, Refusal};
-use plain_images::{Image, first_damage, map, recovered_page};
-use plain_recovery::{Node, Pair, first_break, reach, winners};
+use plain_images::{
+    Image, Node, Pair, first_break, first_damage, map, reach, recovered_page, sorted, winners,
+};
 use std::alloc::{AllocError, Global};
 use std::collections::BTreeMap;
 
@@ -31,6 +34,34 @@ fn each_list_answers_as_is_written_and_each_crash_is_recovered(rt: HostRuntime) 
         }
     }
     assert!(rt; as_written);
+}
+
+#[test]
+fn each_walk_goes_as_is_written(rt: HostRuntime) {
+    let alloc = rt.alloc();
+    let mut as_written = true;
+    for walk in &walks() {
+        let wrong = first_wrong(alloc, walk);
+        assert!(rt; wrong.is_ok());
+        if let Ok(Some(place)) = wrong {
+            as_written = false;
+            let _ = eprintln!(rt; "{}: turn {place}", walk.name);
+        }
+    }
+    assert!(rt; as_written);
+}
+
+#[test]
+fn each_small_image_and_each_tree_is_as_is_written(rt: HostRuntime) {
+    let alloc = rt.alloc();
+    for small in &SMALL {
+        assert!(rt; matches!(stands(alloc, small), Ok(true)), "{}", small.name);
+    }
+    for (place, (shapes, expected)) in TREES.iter().enumerate() {
+        let found = break_of(alloc, shapes);
+        assert!(rt; found.is_ok());
+        assert_eq!(rt; found.unwrap_or(None), *expected, "tree {place}");
+    }
 }
 
 // All that is written of the list, and all rules.
@@ -183,9 +214,9 @@ fn recovered_of(
     journal: &[Committed],
     image: &Image,
 ) -> Result<Recovered, AllocError> {
-    let found = found_in(alloc, image)?;
-    let reach = reach(logs_of(image), image.floor, &found);
-    let winners = winners(alloc, reach, &found)?;
+    let records = sorted(alloc, &image.logs)?;
+    let reach = reach(image.logs.len(), image.floor, &records);
+    let winners = winners(alloc, reach, &records)?;
     Ok(Recovered {
         reach,
         kept: kept_of(alloc, journal, image.floor, &winners)?,

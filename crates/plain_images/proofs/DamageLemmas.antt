@@ -11,8 +11,8 @@ use Rattle.image_model.specs.Entries.{Entry, Contents}
 use Rattle.image_model.specs.Redo.{Redone, redo, passes}
 use Rattle.image_model.specs.Images as images
 use Rattle.image_model.specs.Damage as rules
-use Rattle.plain_recovery.specs.declared.pages.Node as declared
-use Rattle.plain_recovery.specs.Pages.{node_of, nodes, format_of}
+use Rattle.plain_images.specs.declared.pages.Node as declared
+use Rattle.plain_images.specs.Pages.{node_of, nodes, format_of}
 use Rattle.plain_images.specs.declared.records.Record.{Record}
 use Rattle.plain_images.specs.Records.{entry_of, entries_of}
 use Rattle.plain_images.specs.Damages.{undoable, undoable_in, without, without_in, taken}

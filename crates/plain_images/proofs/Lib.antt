@@ -5,3 +5,4 @@ pub mod UndoLemmas
 pub mod ReadLemmas
 pub mod WordsLemmas
 pub mod DamageLemmas
+pub mod ToldLemmas

@@ -1,15 +1,19 @@
 -- What the loops keep.
-use Rattle.std.proofs.Common.{◌≡◌, ◌≤◌, ℕ, Bool, true, false, List, ◌++◌, length, drop, Option}
+use Rattle.std.proofs.Common.{◌≡◌, ◌≤◌, ℕ, Bool, true, false, not, List, ◌++◌, length, drop, Option}
+use Rattle.map_model.specs.Lists.{keep}
+use Rattle.map_model.specs.Journals as journals
 use Rattle.page_model.specs.Pairs as pairs
 use Rattle.page_model.specs.Nodes.{Node}
 use Rattle.image_model.specs.Entries.{Entry}
 use Rattle.image_model.specs.Ends as ends
 use Rattle.image_model.specs.Redo as redoing
-use Rattle.plain_recovery.specs.declared.pages.Pair.{Pair}
-use Rattle.plain_recovery.specs.Pages.{pairs_of}
+use Rattle.plain_images.specs.declared.pages.Pair.{Pair}
+use Rattle.plain_images.specs.Pages.{pairs_of}
+use Rattle.plain_images.specs.declared.ends.Name.{Name}
 use Rattle.plain_images.specs.declared.records.Record.{Record}
 use Rattle.plain_images.specs.declared.records.Page.{Page}
 use Rattle.plain_images.specs.declared.redone.Placed.{Placed}
+use Rattle.plain_images.specs.Names.{names_of}
 use Rattle.plain_images.specs.Records.{entries_of}
 use Rattle.plain_images.specs.Images.{Placing, placings_of, bases_of}
 use Rattle.plain_images.specs.Places.{sorted_into}
@@ -43,6 +47,14 @@ pub record IsRedone (bases : List (Option Page)) (records : List Record) (left :
 pub record IsGreatest (log : ℕ) (records : List Record) (left so_far : ℕ) : Type 0 where
   pub within : left ≤ length records
   pub most : so_far ≡ ends.greatest log (entries_of (drop left records))
+
+-- the names of those before a place, with those of the rest, are all
+abbrev pub HasNamed : List Name → List journals.Name → List journals.Name → Type 0
+HasNamed so_far rest whole = names_of so_far ++ rest ≡ whole
+
+-- the losers among the rest, as the whole ends them
+abbrev pub lost_among : ℕ → List Entry → List Entry → List journals.Name
+lost_among far whole z = ends.names_of (keep (λ r. not (ends.ended far whole r)) (ends.firsts z))
 
 -- the leaf's pairs from a place on stand over the others
 pub record IsLeafOnto (v : Node) (xs : List Pair) (others : List pairs.Pair) (left : ℕ) (so_far : List pairs.Pair) : Type 0 where

@@ -5,7 +5,7 @@ use Rattle.image_model.specs.Entries.{Entry, written}
 use Rattle.image_model.specs.Entries as entries
 use Rattle.image_model.specs.Redo as redo
 use Rattle.image_model.specs.Images as images
-use Rattle.plain_recovery.specs.Pages.{format_of}
+use Rattle.plain_images.specs.Pages.{format_of}
 use Rattle.plain_images.specs.declared.records.Page.{Page}
 use Rattle.plain_images.specs.declared.records.Log.{Log}
 use Rattle.plain_images.specs.declared.records.Image.{Image}

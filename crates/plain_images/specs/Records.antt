@@ -2,7 +2,7 @@
 use Rattle.std.specs.Prelude.{List, map}
 use Rattle.page_model.specs.Records as records
 use Rattle.image_model.specs.Entries as entries
-use Rattle.plain_recovery.specs.Pages.{node_of, pairs_of}
+use Rattle.plain_images.specs.Pages.{node_of, pairs_of}
 use Rattle.plain_images.specs.declared.records.Kind.{Kind}
 use Rattle.plain_images.specs.declared.records.Kind.TheVariants as kind
 use Rattle.plain_images.specs.declared.records.Ref.{Ref}

@@ -3,12 +3,12 @@ ghost use Rattle.std.specs.Prelude.{◌≡◌, IfOk};
 ghost use Rattle.page_model.specs.Nodes as nodes;
 ghost use Rattle.page_model.specs.Records as records;
 ghost use Rattle.image_model.specs.Entries as entries;
-ghost use Rattle.plain_recovery.specs.Pages.{node_of};
+ghost use Rattle.plain_images.specs.Pages.{node_of};
 ghost use Rattle.plain_images.specs.Records.{kind_of, record_of, entry_of};
 
+use crate::pages::{Node, Pair};
 use crate::pairs::{below, joined, others, put, without};
 use crate::records::{Kind, Record};
-use plain_recovery::{Node, Pair};
 use std::alloc::{AllocError, Global};
 
 /// What the record makes of its page, a node or a free one. A page that it does not change stays as it is.

@@ -4,21 +4,15 @@ ghost use Rattle.page_model.specs.Records as records;
 ghost use Rattle.page_model.specs.Redo as page_redo;
 ghost use Rattle.image_model.specs.Entries as entries;
 ghost use Rattle.image_model.specs.Redo as redoing;
-ghost use Rattle.plain_recovery.specs.Pages.{node_of, format_of};
+ghost use Rattle.plain_images.specs.Pages.{node_of, format_of};
 ghost use Rattle.plain_images.specs.Records.{kind_of, record_of, entry_of};
 ghost use Rattle.plain_images.specs.Images.{pages_of};
 
-use crate::leaves::{DEAD, find};
+use crate::leaves::find;
+use crate::pages::{DEAD, LEVELS, Node, ROOM};
 use crate::records::{Kind, Page, Record};
 use crate::redone::{Placed, number_of, page_at, stands};
-use plain_recovery::Node;
 use std::alloc::{AllocError, Global};
-
-/// The pairs that a node has room for.
-const ROOM: usize = 60;
-
-/// The greatest level of a node.
-const LEVELS: u32 = 7;
 
 // The record names pages that there are and, if it counts, can be done.
 pub(crate) fn passes(
@@ -69,7 +63,7 @@ fn is_sayable(entry: &Record) -> bool
             && entry.left.page != entry.parent.page
             && entry.right.page != entry.parent.page
             && entry.pairs.len() <= ROOM,
-        Kind::Lift => entry.right.page != 0 && entry.level < LEVELS && entry.pairs.len() <= ROOM,
+        Kind::Lift => entry.right.page != 0 && u64::from(entry.level) < LEVELS && entry.pairs.len() <= ROOM,
         Kind::Drop => entry.right.page != 0 && entry.pairs.len() <= ROOM,
         Kind::Purge | Kind::Commit | Kind::Abort => true,
     }

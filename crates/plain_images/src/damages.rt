@@ -7,19 +7,19 @@ ghost use Rattle.image_model.specs.Undo as undoing;
 ghost use Rattle.page_model.specs.Tree as tree;
 ghost use Rattle.page_model.specs.Redo.{is_some};
 ghost use Rattle.image_model.specs.Entries as entries;
-ghost use Rattle.plain_recovery.specs.Pages.{node_of, format_of};
+ghost use Rattle.plain_images.specs.Pages.{node_of, format_of};
 ghost use Rattle.plain_images.specs.Records.{entry_of, entries_of};
 ghost use Rattle.plain_images.specs.Images.{base_or, base_of, bases_of, log_of, image_of, redone_of};
-ghost use Rattle.plain_images.specs.Undo.{is_lost_by};
+ghost use Rattle.plain_images.specs.Replayed.{lost_in};
 ghost use Rattle.plain_images.specs.Damages.{told, missing_base, is_above, unordered, unordered_in, undoable, undoable_in, broken, without, without_in, taken};
 
 use crate::checks::passes;
-use crate::ends::{is_lost, reach};
 use crate::leaves::entry;
-use crate::order::sorted;
+use crate::pages::Node;
 use crate::records::{Image, Log, Page, Record};
 use crate::redone::{Redone, page_at, redo};
-use plain_recovery::{Node, first_break};
+use crate::replayed::{Replayed, is_lost, replay};
+use crate::tree::first_break;
 use std::alloc::{AllocError, Global};
 
 /// What breaks a rule of an image.
@@ -45,15 +45,12 @@ pub enum Damage {
 pub fn first_damage(alloc: Global, image: &Image) -> Result<Option<Damage>, AllocError>
     ensures { IfOk result (λ o. told o ≡ rules.damage (image_of image.now)) }
 {
+    let replayed = replay(alloc, image)?;
     let logs = image.logs.as_slice();
     let bases = image.bases.as_slice();
-    let sorted = sorted(alloc, logs)?;
-    let records = sorted.as_slice();
-    let far = reach(logs.len(), image.floor, records);
-    let redone = redo(alloc, bases, records)?;
-    let undoable = first_undoable(alloc, bases, records)?;
-    let broken = first_broken(alloc, bases, &redone)?;
-    let lacking = first_lacking(alloc, far, bases, records, &redone)?;
+    let undoable = first_undoable(alloc, bases, &replayed.records)?;
+    let broken = first_broken(alloc, bases, &replayed.redone)?;
+    let lacking = first_lacking(alloc, bases, &replayed)?;
     let late = or_first(undoable, or_first(broken, lacking));
     Ok(or_first(first_missing(bases), or_first(first_unordered(logs), late)))
 }
@@ -227,18 +224,16 @@ fn nodes_in(alloc: Global, bases: &[Option<Page>], redone: &Redone) -> Result<Ve
 // The first in the list that can't be put back.
 fn first_lacking(
     alloc: Global,
-    far: u64,
     bases: &[Option<Page>],
-    records: &[Record],
-    redone: &Redone,
+    replayed: &Replayed,
 ) -> Result<Option<Damage>, AllocError>
-    ensures { let z = entries_of records.now in let d = redone_of bases.now redone.now in IfOk result (λ o. told o ≡ without_in (is_lost_by far z d.counts) (λ k. is_some (tree.entry (length bases.now) (undoing.nodes_of d) k)) z) }
+    ensures { let d = redone_of bases.now replayed.now.redone in IfOk result (λ o. told o ≡ without_in (lost_in replayed.now) (λ k. is_some (tree.entry (length bases.now) (undoing.nodes_of d) k)) (entries_of replayed.now.records.items)) }
 {
     let mut first: Option<Damage> = None;
-    let mut left = records.len();
+    let mut left = replayed.records.len();
     while left > 0 {
         left -= 1;
-        let found = unless_back(alloc, far, bases, records, redone, &records[left])?;
+        let found = unless_back(alloc, bases, replayed, &replayed.records[left])?;
         first = or_first(found, first);
     }
     Ok(first)
@@ -246,16 +241,14 @@ fn first_lacking(
 
 fn unless_back(
     alloc: Global,
-    far: u64,
     bases: &[Option<Page>],
-    records: &[Record],
-    redone: &Redone,
+    replayed: &Replayed,
     entry: &Record,
 ) -> Result<Option<Damage>, AllocError>
-    ensures { let z = entries_of records.now in let d = redone_of bases.now redone.now in IfOk result (λ o. told o ≡ without (is_lost_by far z d.counts) (λ k. is_some (tree.entry (length bases.now) (undoing.nodes_of d) k)) (entry_of entry.now)) }
+    ensures { let d = redone_of bases.now replayed.now.redone in IfOk result (λ o. told o ≡ without (lost_in replayed.now) (λ k. is_some (tree.entry (length bases.now) (undoing.nodes_of d) k)) (entry_of entry.now)) }
 {
-    let lost = is_lost(far, records, &redone.marks, entry);
-    let there = has_entry(alloc, bases, redone, entry.key)?;
+    let lost = is_lost(replayed, entry);
+    let there = has_entry(alloc, bases, &replayed.redone, entry.key)?;
     Ok(unless_there(lost, there, entry))
 }
 

@@ -1,16 +1,22 @@
-// How far the logs reach, and which records are lost.
-ghost use Rattle.std.specs.Prelude.{◌≡◌};
+// How far the logs reach, who won and who lost. Records stand with the newest of each log before those behind it.
+ghost use Rattle.std.specs.Prelude.{◌≡◌, ◌∷◌, [], IfOk};
 ghost use Rattle.image_model.specs.Ends as ends;
 ghost use Rattle.image_model.specs.Entries as entries;
 ghost use Rattle.plain_images.specs.Records.{kind_of, entry_of, entries_of};
-ghost use Rattle.plain_images.specs.Images.{counted};
-ghost use Rattle.plain_images.specs.Undo.{is_lost_by};
+ghost use Rattle.plain_images.specs.Names.{names_of};
 
 use crate::records::{Kind, Record};
-use crate::redone::{Mark, counts};
+use std::alloc::{AllocError, Global};
 
-// The least, over the logs, of the greater of the floor and the log's greatest number.
-pub(crate) fn reach(logs: usize, floor: u64, records: &[Record]) -> u64
+/// A transaction's name: its session, and its number among the session's.
+#[derive(Clone, Copy, Debug, PartialEq, Eq)]
+pub struct Name {
+    pub session: u32,
+    pub number: u64,
+}
+
+/// The least, over the logs 1 to `logs`, of the greater of the floor and the log's greatest number.
+pub fn reach(logs: usize, floor: u64, records: &[Record]) -> u64
     ensures { result ≡ ends.reach logs floor (entries_of records.now) }
 {
     let mut least = floor.max(greatest(1, records));
@@ -37,17 +43,52 @@ fn greatest(log: usize, records: &[Record]) -> u64
     most
 }
 
-// A write that counts, of a transaction that is not ended.
-pub(crate) fn is_lost(far: u64, records: &[Record], marks: &[Mark], entry: &Record) -> bool
-    ensures { result ≡ is_lost_by far (entries_of records.now) (counted marks.now) (entry_of entry.now) }
+/// The transactions that are ended by commit, where all logs reach up to `far`.
+///
+/// # Errors
+/// Where memory runs out.
+pub fn winners(alloc: Global, far: u64, records: &[Record]) -> Result<Vec<Name>, AllocError>
+    ensures { IfOk result (λ winners. names_of winners.items ≡ ends.winners far (entries_of records.now)) }
 {
-    is_write(entry.kind) && counts(marks, entry.log, entry.number) && !is_ended(far, records, entry)
+    let mut winners = Vec::new(alloc);
+    for entry in records {
+        if wins(far, entry) {
+            winners.push(name_of(entry))?;
+        }
+    }
+    Ok(winners)
 }
 
-fn is_write(kind: Kind) -> bool
-    ensures { result ≡ entries.is_write (kind_of kind) }
+/// The other transactions with records that are not ended.
+///
+/// # Errors
+/// Where memory runs out.
+pub fn losers(alloc: Global, far: u64, records: &[Record]) -> Result<Vec<Name>, AllocError>
+    ensures { IfOk result (λ losers. names_of losers.items ≡ ends.losers far (entries_of records.now)) }
 {
-    matches!(kind, Kind::Change | Kind::PutBack)
+    let mut losers = Vec::new(alloc);
+    for place in 0..records.len() {
+        let entry = &records[place];
+        if is_first(entry, &records[place + 1..]) && !is_ended(far, records, entry) {
+            losers.push(name_of(entry))?;
+        }
+    }
+    Ok(losers)
+}
+
+fn name_of(entry: &Record) -> Name
+    ensures { names_of (result ∷ []) ≡ ends.names_of (entries_of (entry.now ∷ [])) }
+{
+    Name {
+        session: entry.log,
+        number: entry.txn,
+    }
+}
+
+fn wins(far: u64, entry: &Record) -> bool
+    ensures { result ≡ ends.wins far (entry_of entry.now) }
+{
+    entry.kind == Kind::Commit && entry.need <= far
 }
 
 fn is_end(kind: Kind) -> bool
@@ -56,7 +97,8 @@ fn is_end(kind: Kind) -> bool
     matches!(kind, Kind::Commit | Kind::Abort)
 }
 
-fn is_ended(far: u64, records: &[Record], entry: &Record) -> bool
+// The record's transaction is ended.
+pub(crate) fn is_ended(far: u64, records: &[Record], entry: &Record) -> bool
     ensures { result ≡ ends.ended far (entries_of records.now) (entry_of entry.now) }
 {
     for end in records {
@@ -70,5 +112,24 @@ fn is_ended(far: u64, records: &[Record], entry: &Record) -> bool
 fn ends_it(far: u64, end: &Record, entry: &Record) -> bool
     ensures { result ≡ ends.ends far (entry_of entry.now) (entry_of end.now) }
 {
-    is_end(end.kind) && end.log == entry.log && end.txn == entry.txn && end.need <= far
+    is_end(end.kind) && is_same(end, entry) && end.need <= far
+}
+
+// Both are of one transaction.
+fn is_same(a: &Record, b: &Record) -> bool
+    ensures { result ≡ entries.same_txn (entry_of a.now) (entry_of b.now) }
+{
+    a.log == b.log && a.txn == b.txn
+}
+
+// None of these is of the record's transaction.
+fn is_first(entry: &Record, earlier: &[Record]) -> bool
+    ensures { result ≡ ends.is_first (entries_of earlier.now) (entry_of entry.now) }
+{
+    for other in earlier {
+        if is_same(entry, other) {
+            return false;
+        }
+    }
+    true
 }

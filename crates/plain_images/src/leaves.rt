@@ -4,18 +4,15 @@ ghost use Rattle.page_model.specs.Pairs as page_pairs;
 ghost use Rattle.page_model.specs.Nodes as nodes;
 ghost use Rattle.page_model.specs.Tree as tree;
 ghost use Rattle.image_model.specs.Undo as undoing;
-ghost use Rattle.plain_recovery.specs.Pages.{node_of, pairs_of, format_of};
+ghost use Rattle.plain_images.specs.Pages.{node_of, pairs_of, format_of};
 ghost use Rattle.plain_images.specs.Images.{redone_of};
 
 use crate::changes::with_pairs;
+use crate::pages::{DEAD, Node, Pair};
 use crate::pairs::put;
 use crate::records::Page;
 use crate::redone::{Redone, page_at};
-use plain_recovery::{Node, Pair};
 use std::alloc::{AllocError, Global};
-
-/// The word of a tombstone.
-pub(crate) const DEAD: u64 = 1 << 63;
 
 // A leaf with the key between its fences.
 pub(crate) fn holds(node: &Node, key: u64) -> bool

@@ -1,9 +1,9 @@
 // Lists of pairs with rising keys.
 ghost use Rattle.std.specs.Prelude.{◌≡◌, ◌++◌, ◌==◌, ltb, not, IfOk};
 ghost use Rattle.page_model.specs.Pairs as page_pairs;
-ghost use Rattle.plain_recovery.specs.Pages.{pairs_of};
+ghost use Rattle.plain_images.specs.Pages.{pairs_of};
 
-use plain_recovery::Pair;
+use crate::pages::Pair;
 use std::alloc::{AllocError, Global};
 
 // The pair with the key gets the word, and is put in where there is none.

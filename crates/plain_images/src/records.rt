@@ -1,5 +1,5 @@
 // Records and pages as the plain program has them.
-use plain_recovery::{Node, Pair};
+use crate::pages::{Node, Pair};
 
 /// The kinds of record that stand in a log.
 #[derive(Clone, Copy, Debug, PartialEq, Eq)]

@@ -4,19 +4,18 @@ ghost use Rattle.page_model.specs.Pairs as page_pairs;
 ghost use Rattle.page_model.specs.Nodes as nodes;
 ghost use Rattle.image_model.specs.Images as images;
 ghost use Rattle.image_model.specs.Undo as undoing;
-ghost use Rattle.plain_recovery.specs.Pages.{node_of, pairs_of, format_of};
+ghost use Rattle.plain_images.specs.Pages.{node_of, pairs_of, format_of};
 ghost use Rattle.plain_images.specs.Records.{entries_of};
-ghost use Rattle.plain_images.specs.Images.{image_of, counted, redone_of};
-ghost use Rattle.plain_images.specs.Undo.{is_lost_by};
+ghost use Rattle.plain_images.specs.Images.{image_of, redone_of};
+ghost use Rattle.plain_images.specs.Replayed.{lost_in};
 ghost use Rattle.plain_images.specs.Words as listed;
 
-use crate::ends::{is_lost, reach};
-use crate::leaves::{DEAD, holds};
-use crate::order::sorted;
+use crate::leaves::holds;
+use crate::pages::{DEAD, Node, Pair};
 use crate::pairs::put;
-use crate::records::{Image, Page, Record};
-use crate::redone::{Mark, Redone, page_at, redo};
-use plain_recovery::{Node, Pair};
+use crate::records::{Image, Page};
+use crate::redone::{Redone, page_at};
+use crate::replayed::{Replayed, is_lost, replay};
 use std::alloc::{AllocError, Global};
 
 /// The map for which the image stands: its keys with their values, in rising order.
@@ -27,14 +26,9 @@ pub fn map(alloc: Global, image: &Image) -> Result<Vec<Pair>, AllocError>
     ensures values { IfOk result (λ v. (k : ℕ) → page_pairs.find k (pairs_of v.items) ≡ images.map_of (image_of image.now) k) }
     ensures rising { IfOk result (λ v. listed.IsRising 0 (pairs_of v.items)) }
 {
-    let logs = image.logs.as_slice();
-    let bases = image.bases.as_slice();
-    let sorted = sorted(alloc, logs)?;
-    let records = sorted.as_slice();
-    let far = reach(logs.len(), image.floor, records);
-    let redone = redo(alloc, bases, records)?;
-    let words = words_in(alloc, bases, &redone)?;
-    let undone = undo_words(alloc, far, records, &redone.marks, words)?;
+    let replayed = replay(alloc, image)?;
+    let words = words_in(alloc, &image.bases, &replayed.redone)?;
+    let undone = undo_words(alloc, &replayed, words)?;
     let values = values_in(alloc, &undone)?;
     Ok(values)
 }
@@ -83,16 +77,14 @@ fn beyond(alloc: Global, node: &Node, words: &[Pair]) -> Result<Vec<Pair>, Alloc
 // The words after the lost writes were set back.
 fn undo_words(
     alloc: Global,
-    far: u64,
-    records: &[Record],
-    marks: &[Mark],
+    replayed: &Replayed,
     words: Vec<Pair>,
 ) -> Result<Vec<Pair>, AllocError>
-    ensures { let z = entries_of records.now in IfOk result (λ v. pairs_of v.items ≡ listed.undo_words (is_lost_by far z (counted marks.now)) z (pairs_of words.items)) }
+    ensures { IfOk result (λ v. pairs_of v.items ≡ listed.undo_words (lost_in replayed.now) (entries_of replayed.now.records.items) (pairs_of words.items)) }
 {
     let mut undone = words;
-    for entry in records {
-        if is_lost(far, records, marks, entry) {
+    for entry in &replayed.records {
+        if is_lost(replayed, entry) {
             undone = put(alloc, &undone, entry.key, entry.before)?;
         }
     }

@@ -4,7 +4,7 @@ use Rattle.page_model.specs.Records as records
 use Rattle.page_model.specs.Redo.{can_be}
 use Rattle.image_model.specs.Entries.{page_kind}
 use Rattle.image_model.specs.Redo.{at_prev}
-use Rattle.plain_recovery.specs.Pages.{format_of}
+use Rattle.plain_images.specs.Pages.{format_of}
 use Rattle.plain_images.specs.Records.{kind_of, record_of, entry_of, refs_of}
 use Rattle.plain_images.specs.Images.{pages_of}
 use Rattle.plain_images.proofs.checks.can_change.Given as goal

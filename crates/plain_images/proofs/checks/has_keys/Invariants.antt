@@ -1,6 +1,6 @@
 use Rattle.std.proofs.Common.{◌≡◌, ℕ, drop}
 use Rattle.page_model.specs.Redo.{all_keys, has_key}
-use Rattle.plain_recovery.specs.Pages.{node_of}
+use Rattle.plain_images.specs.Pages.{node_of}
 use Rattle.plain_images.proofs.checks.has_keys.Given as goal
 
 abbrev pub invariant-loop-key : goal.invariant-loop-key

@@ -2,8 +2,8 @@ use Rattle.std.proofs.Common.{ap, ◌∙◌, List, length}
 use Rattle.page_model.specs.Check.{first_break}
 use Rattle.image_model.specs.Damage as rules
 use Rattle.image_model.specs.Undo.{nodes_of}
-use Rattle.plain_recovery.specs.declared.pages.Node.{Node}
-use Rattle.plain_recovery.specs.Pages.{nodes, format_of}
+use Rattle.plain_images.specs.declared.pages.Node.{Node}
+use Rattle.plain_images.specs.Pages.{nodes, format_of}
 use Rattle.plain_images.specs.Images.{redone_of}
 use Rattle.plain_images.proofs.DamageLemmas.{break_taken}
 use Rattle.plain_images.proofs.damages.first_broken.Goals as goal

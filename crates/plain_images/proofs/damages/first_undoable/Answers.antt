@@ -1,5 +1,5 @@
 use Rattle.std.proofs.Common.{◌-◌, arith, length}
-use Rattle.plain_recovery.specs.Pages.{format_of}
+use Rattle.plain_images.specs.Pages.{format_of}
 use Rattle.plain_images.specs.Images.{bases_of}
 use Rattle.plain_images.specs.Damages.{told}
 use Rattle.plain_images.proofs.DamageLemmas.{undoable_more}

@@ -1,5 +1,5 @@
 use Rattle.std.proofs.Common.{length, drop}
-use Rattle.plain_recovery.specs.Pages.{format_of}
+use Rattle.plain_images.specs.Pages.{format_of}
 use Rattle.plain_images.specs.Records.{entries_of}
 use Rattle.plain_images.specs.Images.{bases_of}
 use Rattle.plain_images.specs.Damages.{told, undoable_in}

@@ -1,6 +1,6 @@
 use Rattle.std.proofs.Common.{◌≡◌, map}
 use Rattle.image_model.specs.Undo.{nodes_of}
-use Rattle.plain_recovery.specs.Pages.{node_of}
+use Rattle.plain_images.specs.Pages.{node_of}
 use Rattle.plain_images.specs.Images.{redone_of}
 use Rattle.plain_images.specs.Damages.{taken}
 use Rattle.plain_images.proofs.damages.nodes_in.Given as goal

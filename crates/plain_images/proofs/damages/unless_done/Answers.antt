@@ -1,6 +1,7 @@
 use Rattle.std.proofs.Common.{ap, ◌∙◌, sym, cond, Some, None}
+use Rattle.image_model.specs.Images as images
 use Rattle.image_model.specs.Damage as rules
-use Rattle.plain_recovery.specs.Pages.{format_of}
+use Rattle.plain_images.specs.Pages.{format_of}
 use Rattle.std.proofs.Common.{length}
 use Rattle.plain_images.specs.Records.{entry_of, entries_of}
 use Rattle.plain_images.specs.Images.{bases_of, pages_of, redone_of}

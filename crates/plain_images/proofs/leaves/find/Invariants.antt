@@ -1,6 +1,6 @@
 use Rattle.std.proofs.Common.{◌≡◌, drop}
 use Rattle.page_model.specs.Pairs.{find}
-use Rattle.plain_recovery.specs.Pages.{pairs_of}
+use Rattle.plain_images.specs.Pages.{pairs_of}
 use Rattle.plain_images.proofs.leaves.find.Given as goal
 
 abbrev pub invariant-loop-pair : goal.invariant-loop-pair

@@ -1,6 +1,6 @@
 use Rattle.std.proofs.Common.{drop}
 use Rattle.page_model.specs.Pairs as pairs
-use Rattle.plain_recovery.specs.Pages.{pairs_of}
+use Rattle.plain_images.specs.Pages.{pairs_of}
 use Rattle.plain_images.proofs.LoopFacts.{HasMade}
 use Rattle.plain_images.proofs.pairs.below.Given as goal
 

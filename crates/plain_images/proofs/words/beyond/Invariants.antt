@@ -1,7 +1,7 @@
 use Rattle.std.proofs.Common.{drop, not, ℕ}
 use Rattle.page_model.specs.Pairs as pairs
 use Rattle.page_model.specs.Nodes.{holds}
-use Rattle.plain_recovery.specs.Pages.{node_of, pairs_of}
+use Rattle.plain_images.specs.Pages.{node_of, pairs_of}
 use Rattle.plain_images.proofs.LoopFacts.{HasMade}
 use Rattle.plain_images.proofs.words.beyond.Given as goal
 

@@ -1,5 +1,5 @@
 use Rattle.std.proofs.Common.{drop}
-use Rattle.plain_recovery.specs.Pages.{pairs_of, format_of}
+use Rattle.plain_images.specs.Pages.{pairs_of, format_of}
 use Rattle.plain_images.specs.Words as listed
 use Rattle.plain_images.proofs.LoopFacts.{HasMade}
 use Rattle.plain_images.proofs.words.values_in.Given as goal

@@ -1,7 +1,7 @@
 use Rattle.std.proofs.Common.{ℕ, not}
 use Rattle.page_model.specs.Pairs.{keep}
 use Rattle.page_model.specs.Nodes.{holds}
-use Rattle.plain_recovery.specs.Pages.{node_of, pairs_of}
+use Rattle.plain_images.specs.Pages.{node_of, pairs_of}
 use Rattle.plain_images.proofs.LoopFacts.{IsLeafOnto}
 use Rattle.plain_images.proofs.words.with_leaf.Given as goal
 

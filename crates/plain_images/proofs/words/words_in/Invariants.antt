@@ -1,6 +1,6 @@
 use Rattle.std.proofs.Common.{◌≡◌}
 use Rattle.image_model.specs.Undo.{nodes_of}
-use Rattle.plain_recovery.specs.Pages.{pairs_of}
+use Rattle.plain_images.specs.Pages.{pairs_of}
 use Rattle.plain_images.specs.Images.{redone_of}
 use Rattle.plain_images.specs.Words as listed
 use Rattle.plain_images.proofs.words.words_in.Given as goal

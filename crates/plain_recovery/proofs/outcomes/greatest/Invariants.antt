@@ -1,8 +1,0 @@
-use Rattle.plain_recovery.proofs.LoopFacts.{IsGreatest}
-use Rattle.plain_recovery.proofs.outcomes.greatest.Given as goal
-
-abbrev pub invariant-loop-left : goal.invariant-loop-left
-invariant-loop-left l = IsGreatest l.log l.found l.left l.most
-
-abbrev pub decreases-loop-left : goal.decreases-loop-left
-decreases-loop-left l = l.left
