@@ -125,12 +125,19 @@ fn write_by_part<P: Part>(part: &mut P, bytes: &[u8]) -> Did {
     }
 }
 
+fn has_bytes(disk: &MemDisk, area: u32, wanted: &[u8]) -> bool {
+    disk.bytes(area) == wanted
+}
+
+fn write_by_area(disk: &mut MemDisk, area: u32, bytes: &[u8]) -> Did {
+    let mut area = AreaOf::new(disk, area);
+    write_by_part(&mut area, bytes)
+}
+
 fn goes(disk: &mut MemDisk, step: &Step) -> Result<bool, Fail> {
     match step {
         Step::Write(area, at, bytes, wanted) => Ok(disk.write(*area, *at, bytes) == *wanted),
-        Step::WriteByPart(area, bytes, wanted) => {
-            Ok(write_by_part(&mut AreaOf::new(disk, *area), bytes) == *wanted)
-        }
+        Step::WriteByPart(area, bytes, wanted) => Ok(write_by_area(disk, *area, bytes) == *wanted),
         Step::Sync(area, wanted) => Ok(disk.sync(*area) == *wanted),
         Step::Read(area, at, wanted, bytes) => {
             Ok(read_into(disk, *area, *at, [0; 4]) == (*wanted, *bytes))
@@ -140,7 +147,7 @@ fn goes(disk: &mut MemDisk, step: &Step) -> Result<bool, Fail> {
             Ok(true)
         }
         Step::Moment(wanted) => Ok(disk.moment() == *wanted),
-        Step::Bytes(area, wanted) => Ok(disk.bytes(*area) == *wanted),
+        Step::Bytes(area, wanted) => Ok(has_bytes(disk, *area, wanted)),
         Step::Crash(moment, choice, area, wanted) => {
             let mut left = disk.crash(*moment, *choice)?;
             Ok(read_into(&mut left, *area, 0, [9; 4]).1 == *wanted)
@@ -169,6 +176,13 @@ fn disks_in_memory_go_as_they_are_told(rt: HostRuntime) -> Result<(), Fail> {
     Ok(())
 }
 
+// What is seen of the disk behind a write and a sync of a part.
+static BEHIND_A_PART: [Step; 3] = [
+    Step::Moment(1),
+    Step::Crash(0, Choice::NoBytes, 1, [9; 4]),
+    Step::Crash(1, Choice::NoBytes, 1, *b"part"),
+];
+
 #[test]
 fn what_a_part_wrote_is_the_disks_when_it_is_back(rt: HostRuntime) -> Result<(), Fail> {
     let mut disk = MemDisk::new(rt.alloc(), 2)?;
@@ -178,11 +192,6 @@ fn what_a_part_wrote_is_the_disks_when_it_is_back(rt: HostRuntime) -> Result<(),
     disk.rejoin(1, part);
     assert_eq!(rt; wrote, Did::Done);
     assert_eq!(rt; synced, Did::Done);
-    let steps = [
-        Step::Moment(1),
-        Step::Crash(0, Choice::NoBytes, 1, [9; 4]),
-        Step::Crash(1, Choice::NoBytes, 1, *b"part"),
-    ];
-    assert_eq!(rt; first_wrong(&mut disk, &steps)?, None);
+    assert_eq!(rt; first_wrong(&mut disk, &BEHIND_A_PART)?, None);
     Ok(())
 }
