@@ -3,10 +3,119 @@ use lean_disk::{AreaOf, Choice, Did, Disk, MemDisk, Part, Read};
 use std::alloc::Global;
 use std::test::Fail;
 
-fn prefix<D: Disk>(disk: &mut D, area: u32) -> [u8; 4] {
-    let mut into = [9u8; 4];
-    let _ = disk.read(area, 0, &mut into);
-    into
+// What a disk begins with: so many empty areas, or areas of these bytes.
+enum First {
+    Empty(u32),
+    Areas(&'static [&'static [u8]]),
+}
+
+// A call, and its answer; or what is seen of the disk.
+#[derive(Debug)]
+enum Step {
+    Write(u32, u64, &'static [u8], Did),
+    /// It and the sync go through a part.
+    WriteByPart(u32, &'static [u8], Did),
+    Sync(u32, Did),
+    /// Into four zeros.
+    Read(u32, u64, Read, [u8; 4]),
+    Note,
+    Moment(u64),
+    Bytes(u32, &'static [u8]),
+    /// The first bytes of an area, read into four nines after a crash at a moment.
+    Crash(u64, Choice, u32, [u8; 4]),
+}
+
+struct Case {
+    name: &'static str,
+    first: First,
+    /// The calls of area 1 that fail.
+    failing: &'static [u64],
+    steps: &'static [Step],
+}
+
+static CASES: [Case; 5] = [
+    Case {
+        name: "a crash leaves what was synced and the choice of the rest",
+        first: First::Empty(2),
+        failing: &[],
+        steps: &[
+            Step::Write(1, 0, b"abcd", Did::Done),
+            Step::Sync(1, Did::Done),
+            Step::Note,
+            Step::Write(1, 0, b"wxyz", Did::Done),
+            Step::Moment(4),
+            Step::Crash(4, Choice::NoBytes, 1, *b"abcd"),
+            Step::Crash(4, Choice::AllBytes, 1, *b"wxyz"),
+            Step::Crash(4, Choice::FirstHalf, 1, *b"wxcd"),
+            Step::Crash(4, Choice::Zeros, 1, [0; 4]),
+            Step::Crash(3, Choice::Zeros, 1, *b"abcd"),
+            Step::Crash(1, Choice::NoBytes, 1, [9; 4]),
+        ],
+    },
+    Case {
+        name: "a write behind the end is filled up with zeros",
+        first: First::Empty(1),
+        failing: &[],
+        steps: &[
+            Step::Write(0, 2, b"abcd", Did::Done),
+            Step::Write(0, 3, b"x", Did::Done),
+            Step::Bytes(0, b"\0\0axcd"),
+            Step::Read(0, 4, Read::Got(2), *b"cd\0\0"),
+        ],
+    },
+    Case {
+        name: "a listed call fails and the one after it does not",
+        first: First::Empty(2),
+        failing: &[2],
+        steps: &[
+            Step::Write(1, 0, b"abcd", Did::Done),
+            Step::Sync(1, Did::Failed),
+            Step::Sync(1, Did::Done),
+            Step::Write(5, 0, b"abcd", Did::Failed),
+        ],
+    },
+    Case {
+        name: "a disk begins with the bytes that it is given",
+        first: First::Areas(&[b"head", b"page"]),
+        failing: &[],
+        steps: &[
+            Step::Bytes(0, b"head"),
+            Step::Bytes(1, b"page"),
+            Step::Bytes(2, b""),
+            Step::Crash(0, Choice::Zeros, 1, *b"page"),
+        ],
+    },
+    Case {
+        name: "an area of a borrowed disk is the disk's",
+        first: First::Empty(2),
+        failing: &[],
+        steps: &[
+            Step::WriteByPart(1, b"part", Did::Done),
+            Step::Bytes(1, b"part"),
+        ],
+    },
+];
+
+fn disk_of(alloc: Global, first: &First) -> Result<MemDisk, Fail> {
+    match first {
+        First::Empty(areas) => Ok(MemDisk::new(alloc, (*areas).max(1))?),
+        First::Areas(all) => {
+            let mut areas = Vec::new(alloc);
+            for bytes in *all {
+                areas.push(bytes.to_vec(alloc)?)?;
+            }
+            if areas.is_empty() {
+                return Ok(MemDisk::new(alloc, 1)?);
+            }
+            Ok(MemDisk::from_areas(alloc, areas)?)
+        }
+    }
+}
+
+fn read_into<D: Disk>(disk: &mut D, area: u32, at: u64, into: [u8; 4]) -> (Read, [u8; 4]) {
+    let mut into = into;
+    let read = disk.read(area, at, &mut into);
+    (read, into)
 }
 
 fn write_by_part<P: Part>(part: &mut P, bytes: &[u8]) -> Did {
@@ -16,69 +125,63 @@ fn write_by_part<P: Part>(part: &mut P, bytes: &[u8]) -> Did {
     }
 }
 
-// Four bytes that are synced, a note, and four that are not.
-fn written_twice(alloc: Global) -> Result<MemDisk, Fail> {
-    let mut disk = MemDisk::new(alloc, 2)?;
-    let _ = disk.write(1, 0, b"abcd");
-    let _ = disk.sync(1);
-    disk.note();
-    let _ = disk.write(1, 0, b"wxyz");
-    Ok(disk)
+fn has_bytes(disk: &MemDisk, area: u32, wanted: &[u8]) -> bool {
+    disk.bytes(area) == wanted
 }
 
-#[test]
-fn a_crash_leaves_what_was_synced_and_the_choice_of_the_rest(rt: HostRuntime) -> Result<(), Fail> {
-    let disk = written_twice(rt.alloc())?;
-    assert_eq!(rt; disk.moment(), 4);
-    assert_eq!(rt; prefix(&mut disk.crash(4, Choice::NoBytes)?, 1), *b"abcd");
-    assert_eq!(rt; prefix(&mut disk.crash(4, Choice::AllBytes)?, 1), *b"wxyz");
-    assert_eq!(rt; prefix(&mut disk.crash(4, Choice::FirstHalf)?, 1), *b"wxcd");
-    assert_eq!(rt; prefix(&mut disk.crash(4, Choice::Zeros)?, 1), [0u8; 4]);
-    assert_eq!(rt; prefix(&mut disk.crash(3, Choice::Zeros)?, 1), *b"abcd");
-    assert_eq!(rt; prefix(&mut disk.crash(1, Choice::NoBytes)?, 1), [9u8; 4]);
-    Ok(())
+fn write_by_area(disk: &mut MemDisk, area: u32, bytes: &[u8]) -> Did {
+    let mut area = AreaOf::new(disk, area);
+    write_by_part(&mut area, bytes)
 }
 
-#[test]
-fn a_write_behind_the_end_is_filled_up_with_zeros(rt: HostRuntime) -> Result<(), Fail> {
-    let mut disk = MemDisk::new(rt.alloc(), 1)?;
-    assert_eq!(rt; disk.write(0, 2, b"abcd"), Did::Done);
-    assert_eq!(rt; disk.write(0, 3, b"x"), Did::Done);
-    assert_eq!(rt; disk.bytes(0), b"\0\0axcd".as_slice());
-    let mut into = [0u8; 4];
-    assert_eq!(rt; disk.read(0, 4, &mut into), Read::Got(2));
-    assert_eq!(rt; into, *b"cd\0\0");
-    Ok(())
-}
-
-#[test]
-fn a_listed_call_fails_and_the_one_after_it_does_not(rt: HostRuntime) -> Result<(), Fail> {
-    let alloc = rt.alloc();
-    let mut disk = MemDisk::new(alloc, 2)?;
-    disk.fail_at(1, [2].to_vec(alloc)?);
-    assert_eq!(rt; disk.write(1, 0, b"abcd"), Did::Done);
-    assert_eq!(rt; disk.sync(1), Did::Failed);
-    assert_eq!(rt; disk.sync(1), Did::Done);
-    assert_eq!(rt; disk.write(5, 0, b"abcd"), Did::Failed);
-    Ok(())
-}
-
-#[test]
-fn a_disk_begins_with_the_bytes_that_it_is_given(rt: HostRuntime) -> Result<(), Fail> {
-    let alloc = rt.alloc();
-    let mut areas = Vec::new(alloc);
-    let _ = areas.push(b"head".to_vec(alloc)?);
-    let _ = areas.push(b"page".to_vec(alloc)?);
-    if areas.is_empty() {
-        return Ok(());
+fn goes(disk: &mut MemDisk, step: &Step) -> Result<bool, Fail> {
+    match step {
+        Step::Write(area, at, bytes, wanted) => Ok(disk.write(*area, *at, bytes) == *wanted),
+        Step::WriteByPart(area, bytes, wanted) => Ok(write_by_area(disk, *area, bytes) == *wanted),
+        Step::Sync(area, wanted) => Ok(disk.sync(*area) == *wanted),
+        Step::Read(area, at, wanted, bytes) => {
+            Ok(read_into(disk, *area, *at, [0; 4]) == (*wanted, *bytes))
+        }
+        Step::Note => {
+            disk.note();
+            Ok(true)
+        }
+        Step::Moment(wanted) => Ok(disk.moment() == *wanted),
+        Step::Bytes(area, wanted) => Ok(has_bytes(disk, *area, wanted)),
+        Step::Crash(moment, choice, area, wanted) => {
+            let mut left = disk.crash(*moment, *choice)?;
+            Ok(read_into(&mut left, *area, 0, [9; 4]).1 == *wanted)
+        }
     }
-    let disk = MemDisk::from_areas(alloc, areas)?;
-    assert_eq!(rt; disk.bytes(0), b"head".as_slice());
-    assert_eq!(rt; disk.bytes(1), b"page".as_slice());
-    assert_eq!(rt; disk.bytes(2), b"".as_slice());
-    assert_eq!(rt; prefix(&mut disk.crash(0, Choice::Zeros)?, 1), *b"page");
+}
+
+// The first step that goes otherwise.
+fn first_wrong(disk: &mut MemDisk, steps: &[Step]) -> Result<Option<usize>, Fail> {
+    for (place, step) in steps.iter().enumerate() {
+        if !goes(disk, step)? {
+            return Ok(Some(place));
+        }
+    }
+    Ok(None)
+}
+
+#[test]
+fn disks_in_memory_go_as_they_are_told(rt: HostRuntime) -> Result<(), Fail> {
+    let alloc = rt.alloc();
+    for case in &CASES {
+        let mut disk = disk_of(alloc, &case.first)?;
+        disk.fail_at(1, case.failing.to_vec(alloc)?);
+        assert_eq!(rt; first_wrong(&mut disk, case.steps)?, None, "{}", case.name);
+    }
     Ok(())
 }
+
+// What is seen of the disk behind a write and a sync of a part.
+static BEHIND_A_PART: [Step; 3] = [
+    Step::Moment(1),
+    Step::Crash(0, Choice::NoBytes, 1, [9; 4]),
+    Step::Crash(1, Choice::NoBytes, 1, *b"part"),
+];
 
 #[test]
 fn what_a_part_wrote_is_the_disks_when_it_is_back(rt: HostRuntime) -> Result<(), Fail> {
@@ -89,17 +192,6 @@ fn what_a_part_wrote_is_the_disks_when_it_is_back(rt: HostRuntime) -> Result<(),
     disk.rejoin(1, part);
     assert_eq!(rt; wrote, Did::Done);
     assert_eq!(rt; synced, Did::Done);
-    assert_eq!(rt; disk.moment(), 1);
-    assert_eq!(rt; prefix(&mut disk.crash(0, Choice::NoBytes)?, 1), [9u8; 4]);
-    assert_eq!(rt; prefix(&mut disk.crash(1, Choice::NoBytes)?, 1), *b"part");
-    Ok(())
-}
-
-#[test]
-fn an_area_of_a_borrowed_disk_is_the_disks(rt: HostRuntime) -> Result<(), Fail> {
-    let mut disk = MemDisk::new(rt.alloc(), 2)?;
-    let mut area = AreaOf::new(&mut disk, 1);
-    assert_eq!(rt; write_by_part(&mut area, b"part"), Did::Done);
-    assert_eq!(rt; disk.bytes(1), b"part".as_slice());
+    assert_eq!(rt; first_wrong(&mut disk, &BEHIND_A_PART)?, None);
     Ok(())
 }

@@ -7,6 +7,19 @@ use std::io;
 use std::io::{ErrorKind, Read, Write};
 use std::test::Fail;
 
+// The answers of a source of `abcde` that gives two bytes at a time and fails at calls 2 and 7, and what stands then in four bytes
+// that were zeros.
+static NEXTS: [(Next, [u8; 4]); 8] = [
+    (Next::Got(2), *b"ab\0\0"),
+    (Next::Failed, *b"ab\0\0"),
+    (Next::Got(2), *b"cd\0\0"),
+    (Next::Got(1), *b"ed\0\0"),
+    (Next::End, *b"ed\0\0"),
+    (Next::End, *b"ed\0\0"),
+    (Next::Failed, *b"ed\0\0"),
+    (Next::End, *b"ed\0\0"),
+];
+
 #[test]
 fn a_source_in_memory_gives_pieces_and_fails_where_it_was_told(
     rt: HostRuntime,
@@ -15,21 +28,20 @@ fn a_source_in_memory_gives_pieces_and_fails_where_it_was_told(
     let mut source = MemSource::new(alloc, b"abcde", 2)?;
     source.fail_at(vec![in alloc; 2, 7]?);
     let mut into = [0u8; 4];
-    for (want, bytes) in [
-        (Next::Got(2), b"ab\0\0"),
-        (Next::Failed, b"ab\0\0"),
-        (Next::Got(2), b"cd\0\0"),
-        (Next::Got(1), b"ed\0\0"),
-        (Next::End, b"ed\0\0"),
-        (Next::End, b"ed\0\0"),
-        (Next::Failed, b"ed\0\0"),
-        (Next::End, b"ed\0\0"),
-    ] {
-        assert_eq!(rt; source.next(&mut into), want);
-        assert_eq!(rt; into.as_slice(), bytes.as_slice());
+    for (place, (want, bytes)) in NEXTS.iter().enumerate() {
+        assert_eq!(rt; source.next(&mut into), *want, "at {place}");
+        assert_eq!(rt; into, *bytes, "at {place}");
     }
     Ok(())
 }
+
+// Lines that are put into a sink that keeps two bytes where it fails, at calls 2 and 3, and what it holds then.
+static PUTS: [(&[u8], Put, &str); 4] = [
+    (b"one\n", Put::Done, "one\n"),
+    (b"two\n", Put::Failed, "one\ntw"),
+    (b"six\n", Put::Failed, "one\ntwsi"),
+    (b"ten\n", Put::Done, "one\ntwsiten\n"),
+];
 
 #[test]
 fn a_sink_in_memory_holds_the_prefix_of_a_piece_that_failed(rt: HostRuntime) -> Result<(), Fail> {
@@ -38,14 +50,9 @@ fn a_sink_in_memory_holds_the_prefix_of_a_piece_that_failed(rt: HostRuntime) -> 
     let mut sink = MemSink::new(alloc);
     sink.fail_at(vec![in alloc; 2, 3]?);
     sink.keep_prefix(2);
-    for (piece, want, bytes) in [
-        (b"one\n", Put::Done, "one\n"),
-        (b"two\n", Put::Failed, "one\ntw"),
-        (b"six\n", Put::Failed, "one\ntwsi"),
-        (b"ten\n", Put::Done, "one\ntwsiten\n"),
-    ] {
-        assert_eq!(rt; sink.put(&mut disk, piece), want);
-        assert_eq!(rt; sink.bytes(), bytes.as_bytes());
+    for (line, want, held) in &PUTS {
+        assert_eq!(rt; sink.put(&mut disk, line), *want, "at {held}");
+        assert_eq!(rt; sink.bytes(), held.as_bytes(), "at {held}");
     }
     Ok(())
 }
@@ -100,46 +107,58 @@ impl Write for Stream<'_> {
     }
 }
 
+static READ_TURNS: [Turn; 8] = [
+    Turn::IsInterrupted,
+    Turn::Moves(2),
+    Turn::Fails,
+    Turn::IsInterrupted,
+    Turn::IsInterrupted,
+    Turn::Moves(9),
+    Turn::Moves(0),
+    Turn::Moves(1),
+];
+
+// The answers, and what stands then in four bytes that were zeros.
+static READS: [(Next, [u8; 4]); 5] = [
+    (Next::Got(2), *b"xx\0\0"),
+    (Next::Failed, *b"xx\0\0"),
+    (Next::Got(4), *b"xxxx"),
+    (Next::End, *b"xxxx"),
+    (Next::End, *b"xxxx"),
+];
+
 #[test]
 fn a_reader_is_read_again_where_it_was_interrupted_and_ends_for_good(rt: HostRuntime) {
-    let turns = [
-        Turn::IsInterrupted,
-        Turn::Moves(2),
-        Turn::Fails,
-        Turn::IsInterrupted,
-        Turn::IsInterrupted,
-        Turn::Moves(9),
-        Turn::Moves(0),
-        Turn::Moves(1),
-    ];
-    let mut source = StdSource::new(Stream { turns: &turns });
+    let mut source = StdSource::new(Stream { turns: &READ_TURNS });
     let mut into = [0u8; 4];
     assert_eq!(rt; source.next(&mut []), Next::Got(0));
-    assert_eq!(rt; source.next(&mut into), Next::Got(2));
-    assert_eq!(rt; into.as_slice(), b"xx\0\0".as_slice());
-    assert_eq!(rt; source.next(&mut into), Next::Failed);
-    assert_eq!(rt; source.next(&mut into), Next::Got(4));
-    assert_eq!(rt; source.next(&mut into), Next::End);
-    assert_eq!(rt; source.next(&mut into), Next::End);
+    for (place, (want, bytes)) in READS.iter().enumerate() {
+        assert_eq!(rt; source.next(&mut into), *want, "at {place}");
+        assert_eq!(rt; into, *bytes, "at {place}");
+    }
 }
+
+static WRITE_TURNS: [Turn; 8] = [
+    Turn::Moves(9),
+    Turn::Moves(1),
+    Turn::IsInterrupted,
+    Turn::Moves(3),
+    Turn::Moves(1),
+    Turn::Fails,
+    Turn::Moves(4),
+    Turn::Moves(0),
+];
+
+static WRITES: [Put; 5] = [Put::Done, Put::Done, Put::Failed, Put::Done, Put::Failed];
 
 #[test]
 fn a_writer_is_written_to_until_it_has_all(rt: HostRuntime) -> Result<(), Fail> {
-    let alloc = rt.alloc();
-    let mut disk = MemDisk::new(alloc, 1)?;
-    let turns = [
-        Turn::Moves(9),
-        Turn::Moves(1),
-        Turn::IsInterrupted,
-        Turn::Moves(3),
-        Turn::Moves(1),
-        Turn::Fails,
-        Turn::Moves(4),
-        Turn::Moves(0),
-    ];
-    let mut sink = StdSink::new(Stream { turns: &turns });
-    for want in [Put::Done, Put::Done, Put::Failed, Put::Done, Put::Failed] {
-        assert_eq!(rt; sink.put(&mut disk, b"line"), want);
+    let mut disk = MemDisk::new(rt.alloc(), 1)?;
+    let mut sink = StdSink::new(Stream {
+        turns: &WRITE_TURNS,
+    });
+    for (place, want) in WRITES.iter().enumerate() {
+        assert_eq!(rt; sink.put(&mut disk, b"one\n"), *want, "at {place}");
     }
     Ok(())
 }

@@ -2,7 +2,6 @@
 // Python script over a regular expression.
 ghost use Rattle.std.specs.Prelude.{ℕ, [], false};
 ghost use Rattle.lean_edge.specs.Outside.{Feed};
-ghost use Rattle.script_lang.specs.Replies.{AnswerFits};
 
 use lean_edge::{Next, Source};
 use map_model::{Answer, Call, Refusal};
@@ -11,12 +10,11 @@ use script_lang::{
     REPLY, USAGE, damaged_bytes, durable_bytes, formatted_bytes, opened_bytes, read_line,
     refused_bytes, reply_bytes,
 };
-use std::alloc::AllocError;
-use std::process::Abort;
+use std::alloc::{AllocError, Global};
 
 const WORKERS: u32 = 16;
 
-const GOOD: [(&[u8], u32, Call); 11] = [
+static GOOD: [(&[u8], u32, Call); 11] = [
     (b"1 begin", 1, Call::Begin),
     (b"16 begin", 16, Call::Begin),
     (b"2 commit", 2, Call::Commit),
@@ -57,7 +55,7 @@ const GOOD: [(&[u8], u32, Call); 11] = [
     ),
 ];
 
-const BAD: [&[u8]; 77] = [
+static BAD: [&[u8]; 77] = [
     b"",
     b" ",
     b"1",
@@ -137,123 +135,150 @@ const BAD: [&[u8]; 77] = [
     b"000000000000000000000000000000000000000000000000000000000000000000000000000000000",
 ];
 
-#[test]
-fn lines_of_the_grammar_are_read(rt: HostRuntime) {
-    for (bytes, session, call) in GOOD.iter() {
-        match read_line(WORKERS, bytes) {
-            Ok(line) => assert!(rt; line.session == *session && line.call == *call),
-            Err(_) => assert!(rt; false),
-        }
+fn is_read(bytes: &[u8], session: u32, call: Call) -> bool {
+    match read_line(WORKERS, bytes) {
+        Ok(line) => line.session == session && line.call == call,
+        Err(_) => false,
     }
 }
 
 #[test]
-fn other_lines_are_refused(rt: HostRuntime) {
-    for bytes in BAD.iter() {
-        assert!(rt; read_line(WORKERS, bytes).is_err());
+fn lines_of_the_grammar_are_read_and_others_are_refused(rt: HostRuntime) {
+    for (bytes, session, call) in &GOOD {
+        assert!(rt; is_read(bytes, *session, *call), "{bytes:?}");
+    }
+    for bytes in &BAD {
+        assert!(rt; read_line(WORKERS, bytes).is_err(), "{bytes:?}");
     }
 }
 
-fn says(rt: &impl Abort, session: u32, answer: Answer, line: &[u8])
-    requires { AnswerFits answer }
-{
-    let mut into = [b'x'; REPLY];
-    let n = reply_bytes(session, &answer, &mut into);
-    assert!(rt; n == line.len() && n < REPLY);
-    assert!(rt; &into[..n] == line);
-    assert_eq!(rt; into[n], b'x');
+// A line of output that is no fixed one.
+enum Said {
+    Reply(u32, Answer),
+    Durable(u32, u64),
+    Opened(u64, u64, u64),
+    Formatted(u32, u32, u32),
+    Refused(u64),
+    Damaged(u32, u64),
 }
 
-#[test]
-fn replies_are_spelled(rt: HostRuntime) {
-    says(&rt, 1, Answer::Begun { number: 1 }, b"1 begun 1.1\n");
-    says(&rt, 1, Answer::Value(Some(7)), b"1 value 7\n");
-    says(&rt, 1, Answer::Value(None), b"1 none\n");
-    says(
-        &rt,
-        2,
-        Answer::Was(Some(9223372036854775807)),
+static LINES: [(Said, &[u8]); 19] = [
+    (
+        Said::Reply(1, Answer::Begun { number: 1 }),
+        b"1 begun 1.1\n",
+    ),
+    (Said::Reply(1, Answer::Value(Some(7))), b"1 value 7\n"),
+    (Said::Reply(1, Answer::Value(None)), b"1 none\n"),
+    (
+        Said::Reply(2, Answer::Was(Some(9223372036854775807))),
         b"2 was 9223372036854775807\n",
-    );
-    says(&rt, 2, Answer::Was(None), b"2 was none\n");
-    says(&rt, 3, Answer::Was(Some(0)), b"3 was 0\n");
-    says(
-        &rt,
-        1,
-        Answer::Committed { number: 1, at: 2 },
+    ),
+    (Said::Reply(2, Answer::Was(None)), b"2 was none\n"),
+    (Said::Reply(3, Answer::Was(Some(0))), b"3 was 0\n"),
+    (
+        Said::Reply(1, Answer::Committed { number: 1, at: 2 }),
         b"1 committed 1.1 at 2\n",
-    );
-}
-
-#[test]
-fn refusals_are_spelled(rt: HostRuntime) {
-    says(
-        &rt,
-        1,
-        Answer::Refused(Refusal::InTransaction),
+    ),
+    (
+        Said::Reply(1, Answer::Refused(Refusal::InTransaction)),
         b"1 in-transaction\n",
-    );
-    says(
-        &rt,
-        2,
-        Answer::Refused(Refusal::NoTransaction),
+    ),
+    (
+        Said::Reply(2, Answer::Refused(Refusal::NoTransaction)),
         b"2 no-transaction\n",
-    );
-    says(&rt, 1, Answer::Refused(Refusal::TooLong), b"1 too-long\n");
-    says(
-        &rt,
-        1,
-        Answer::Refused(Refusal::LogFull {
-            used: 48,
-            limit: 48,
-        }),
+    ),
+    (
+        Said::Reply(1, Answer::Refused(Refusal::TooLong)),
+        b"1 too-long\n",
+    ),
+    (
+        Said::Reply(
+            1,
+            Answer::Refused(Refusal::LogFull {
+                used: 48,
+                limit: 48,
+            }),
+        ),
         b"1 log-full 48 48\n",
-    );
-    says(
-        &rt,
-        1,
-        Answer::Refused(Refusal::ClockSpent),
+    ),
+    (
+        Said::Reply(1, Answer::Refused(Refusal::ClockSpent)),
         b"1 clock-spent\n",
-    );
-    says(&rt, 1, Answer::Refused(Refusal::Full), b"1 full\n");
-}
-
-#[test]
-fn the_longest_reply_fits(rt: HostRuntime) {
-    says(
-        &rt,
-        4294967295,
-        Answer::Committed {
-            number: 18446744073709551615,
-            at: 18446744073709551615,
-        },
+    ),
+    (Said::Reply(1, Answer::Refused(Refusal::Full)), b"1 full\n"),
+    // The longest one.
+    (
+        Said::Reply(
+            4294967295,
+            Answer::Committed {
+                number: 18446744073709551615,
+                at: 18446744073709551615,
+            },
+        ),
         b"4294967295 committed 4294967295.18446744073709551615 at 18446744073709551615\n",
-    );
+    ),
+    (Said::Durable(1, 1), b"1 durable 1.1\n"),
+    (Said::Opened(2, 1, 0), b"open 2 winners 1 undone 0\n"),
+    (Said::Formatted(1, 64, 64), b"formatted 1 64 64\n"),
+    (Said::Refused(2), b"lean: line 2 refused\n"),
+    (Said::Damaged(2, 63), b"lean: damaged area 2 place 63\n"),
+];
+
+static FIXED: [(&[u8], &[u8]); 6] = [
+    (USAGE, b"lean: usage\n"),
+    (READ_FAULT, b"lean: read fault\n"),
+    (DISK_FAULT, b"lean: disk fault\n"),
+    (NO_MEMORY, b"lean: no memory\n"),
+    (NOT_FORMATTED, b"lean: not formatted\n"),
+    (ALREADY_FORMATTED, b"lean: already formatted\n"),
+];
+
+// Writes the line, and answers how many bytes it has.
+fn line_of(said: &Said, into: &mut [u8; REPLY]) -> usize {
+    match said {
+        Said::Reply(session, answer) => match answer {
+            Answer::Begun { .. }
+            | Answer::Value(_)
+            | Answer::Was(_)
+            | Answer::Committed { .. }
+            | Answer::Refused(
+                Refusal::InTransaction
+                | Refusal::NoTransaction
+                | Refusal::TooLong
+                | Refusal::LogFull { .. }
+                | Refusal::ClockSpent
+                | Refusal::Full,
+            ) => reply_bytes(*session, answer, into),
+            // The others have no line yet.
+            _ => 0,
+        },
+        Said::Durable(session, number) => durable_bytes(*session, *number, into),
+        Said::Opened(generation, winners, undone) => {
+            opened_bytes(*generation, *winners, *undone, into)
+        }
+        Said::Formatted(workers, pages, blocks) => {
+            formatted_bytes(*workers, *pages, *blocks, into)
+        }
+        Said::Refused(line) => refused_bytes(*line, into),
+        Said::Damaged(area, place) => damaged_bytes(*area, *place, into),
+    }
+}
+
+// It is the line, and what is behind it in the buffer stands.
+fn is_spelled(said: &Said, line: &[u8]) -> bool {
+    let mut into = [b'x'; REPLY];
+    let n = line_of(said, &mut into);
+    n == line.len() && into.get(..n) == Some(line) && into.get(n) == Some(&b'x')
 }
 
 #[test]
-fn other_lines_of_output_are_spelled(rt: HostRuntime) {
-    let mut into = [0u8; REPLY];
-    let n = durable_bytes(1, 1, &mut into);
-    assert!(rt; n <= REPLY && &into[..n] == b"1 durable 1.1\n".as_slice());
-    let n = opened_bytes(2, 1, 0, &mut into);
-    assert!(rt; n <= REPLY && &into[..n] == b"open 2 winners 1 undone 0\n".as_slice());
-    let n = formatted_bytes(1, 64, 64, &mut into);
-    assert!(rt; n <= REPLY && &into[..n] == b"formatted 1 64 64\n".as_slice());
-    let n = refused_bytes(2, &mut into);
-    assert!(rt; n <= REPLY && &into[..n] == b"lean: line 2 refused\n".as_slice());
-    let n = damaged_bytes(2, 63, &mut into);
-    assert!(rt; n <= REPLY && &into[..n] == b"lean: damaged area 2 place 63\n".as_slice());
-}
-
-#[test]
-fn fixed_lines_are_spelled(rt: HostRuntime) {
-    assert!(rt; USAGE == b"lean: usage\n".as_slice());
-    assert!(rt; READ_FAULT == b"lean: read fault\n".as_slice());
-    assert!(rt; DISK_FAULT == b"lean: disk fault\n".as_slice());
-    assert!(rt; NO_MEMORY == b"lean: no memory\n".as_slice());
-    assert!(rt; NOT_FORMATTED == b"lean: not formatted\n".as_slice());
-    assert!(rt; ALREADY_FORMATTED == b"lean: already formatted\n".as_slice());
+fn lines_of_output_are_spelled(rt: HostRuntime) {
+    for (said, line) in &LINES {
+        assert!(rt; is_spelled(said, line), "{line:?}");
+    }
+    for (line, wanted) in &FIXED {
+        assert!(rt; line == wanted, "{wanted:?}");
+    }
 }
 
 // A source of one text, so many times over, which gives pieces of one size, and fails at one call.
@@ -297,112 +322,156 @@ impl Source for Pieces {
     }
 }
 
-fn in_pieces(text: &'static [u8], piece: usize) -> Pieces {
-    Pieces {
-        text,
+const EIGHTY: &[u8] =
+    b"12345678901234567890123456789012345678901234567890123456789012345678901234567890";
+
+// A text that is so many times over, in pieces of each of these sizes, where each of these calls of the source fails, or none
+// for 0. The lines, and then what the reader answers.
+struct Case {
+    name: &'static str,
+    text: &'static [u8],
+    times: usize,
+    pieces: &'static [usize],
+    fails: &'static [usize],
+    lines: &'static [&'static [u8]],
+    ends: &'static [NextLine],
+}
+
+static CASES: [Case; 7] = [
+    Case {
+        name: "a text is cut into lines whatever its pieces",
+        text: b"1 begin\n\n1 get 5\r\n12345678901234567890123456789012345678901234567890123456789012345678901234567890\n1 commit",
         times: 1,
+        pieces: &[1, 2, 3, 7, 64, 100000],
+        fails: &[0],
+        lines: &[b"1 begin", b"", b"1 get 5\r", EIGHTY, b"1 commit"],
+        ends: &[NextLine::End, NextLine::End],
+    },
+    Case {
+        name: "a last newline begins no line",
+        text: b"1 begin\n",
+        times: 1,
+        pieces: &[1, 8, 9],
+        fails: &[0],
+        lines: &[b"1 begin"],
+        ends: &[NextLine::End],
+    },
+    Case {
+        name: "no byte is no line",
+        text: b"",
+        times: 1,
+        pieces: &[1, 8, 9],
+        fails: &[0],
+        lines: &[],
+        ends: &[NextLine::End],
+    },
+    Case {
+        name: "a line of 81 bytes is too long",
+        text: b"1 begin\n123456789012345678901234567890123456789012345678901234567890123456789012345678901\n1 commit\n",
+        times: 1,
+        pieces: &[1, 7, 80, 81, 100],
+        fails: &[0],
+        lines: &[b"1 begin"],
+        ends: &[NextLine::TooLong, NextLine::TooLong],
+    },
+    Case {
+        name: "a last line of 80 bytes may lack its newline",
+        text: EIGHTY,
+        times: 1,
+        pieces: &[1, 80, 100],
+        fails: &[0],
+        lines: &[EIGHTY],
+        ends: &[NextLine::End],
+    },
+    Case {
+        name: "a fault in mid line loses no byte",
+        text: b"1 begin\n1 commit\n",
+        times: 1,
+        pieces: &[2],
+        fails: &[1, 2, 3, 4],
+        lines: &[b"1 begin", b"1 commit"],
+        ends: &[NextLine::End],
+    },
+    Case {
+        name: "a text longer than a block is read to its end",
+        text: b"1 put 5 7\n12 get 9\n",
+        times: 4000,
+        pieces: &[1000, 65536, 100000],
+        fails: &[0],
+        lines: &[b"1 put 5 7", b"12 get 9"],
+        ends: &[NextLine::End],
+    },
+];
+
+fn source_of(case: &Case, piece: usize, fail_in: usize) -> Pieces {
+    Pieces {
+        text: case.text,
+        times: case.times,
         piece,
-        fail_in: 0,
+        fail_in,
         at: 0,
         faults: 0,
     }
 }
 
-fn next_is(rt: &impl Abort, reader: &mut LineReader, source: &mut Pieces, line: &[u8]) {
-    assert_eq!(rt; reader.next_line(source), NextLine::Got);
-    assert!(rt; reader.line() == line);
-}
-
-const EIGHTY: &[u8] =
-    b"12345678901234567890123456789012345678901234567890123456789012345678901234567890";
-
-#[test]
-fn a_text_is_cut_into_lines_whatever_its_pieces(rt: HostRuntime) -> Result<(), AllocError> {
-    for piece in [1usize, 2, 3, 7, 64, 100000] {
-        let mut reader = LineReader::new(rt.alloc())?;
-        let mut source = in_pieces(
-            b"1 begin\n\n1 get 5\r\n12345678901234567890123456789012345678901234567890123456789012345678901234567890\n1 commit",
-            piece,
-        );
-        next_is(&rt, &mut reader, &mut source, b"1 begin");
-        next_is(&rt, &mut reader, &mut source, b"");
-        next_is(&rt, &mut reader, &mut source, b"1 get 5\r");
-        next_is(&rt, &mut reader, &mut source, EIGHTY);
-        next_is(&rt, &mut reader, &mut source, b"1 commit");
-        assert_eq!(rt; reader.next_line(&mut source), NextLine::End);
-        assert_eq!(rt; reader.next_line(&mut source), NextLine::End);
+// Where a call of the source is to fail, the first line fails, by one fault.
+fn fails_first(reader: &mut LineReader, source: &mut Pieces) -> bool {
+    if source.fail_in == 0 {
+        return true;
     }
-    Ok(())
+    reader.next_line(source) == NextLine::Failed && source.faults == 1
 }
 
-#[test]
-fn a_last_newline_begins_no_line(rt: HostRuntime) -> Result<(), AllocError> {
-    for piece in [1usize, 8, 9] {
-        let mut reader = LineReader::new(rt.alloc())?;
-        let mut source = in_pieces(b"1 begin\n", piece);
-        next_is(&rt, &mut reader, &mut source, b"1 begin");
-        assert_eq!(rt; reader.next_line(&mut source), NextLine::End);
-        let mut nothing = LineReader::new(rt.alloc())?;
-        assert_eq!(rt;
-            nothing.next_line(&mut in_pieces(b"", piece)),
-            NextLine::End
-        );
-    }
-    Ok(())
-}
-
-#[test]
-fn a_line_of_81_bytes_is_too_long(rt: HostRuntime) -> Result<(), AllocError> {
-    for piece in [1usize, 7, 80, 81, 100] {
-        let mut reader = LineReader::new(rt.alloc())?;
-        let mut source = in_pieces(
-            b"1 begin\n123456789012345678901234567890123456789012345678901234567890123456789012345678901\n1 commit\n",
-            piece,
-        );
-        next_is(&rt, &mut reader, &mut source, b"1 begin");
-        assert_eq!(rt; reader.next_line(&mut source), NextLine::TooLong);
-        assert_eq!(rt; reader.next_line(&mut source), NextLine::TooLong);
-    }
-    Ok(())
-}
-
-#[test]
-fn a_last_line_of_80_bytes_may_lack_its_newline(rt: HostRuntime) -> Result<(), AllocError> {
-    for piece in [1usize, 80, 100] {
-        let mut reader = LineReader::new(rt.alloc())?;
-        let mut source = in_pieces(EIGHTY, piece);
-        next_is(&rt, &mut reader, &mut source, EIGHTY);
-        assert_eq!(rt; reader.next_line(&mut source), NextLine::End);
-    }
-    Ok(())
-}
-
-#[test]
-fn a_fault_in_mid_line_loses_no_byte(rt: HostRuntime) -> Result<(), AllocError> {
-    for fail_in in 1..5usize {
-        let mut reader = LineReader::new(rt.alloc())?;
-        let mut source = in_pieces(b"1 begin\n1 commit\n", 2);
-        source.fail_in = fail_in;
-        assert_eq!(rt; reader.next_line(&mut source), NextLine::Failed);
-        assert_eq!(rt; source.faults, 1);
-        next_is(&rt, &mut reader, &mut source, b"1 begin");
-        next_is(&rt, &mut reader, &mut source, b"1 commit");
-        assert_eq!(rt; reader.next_line(&mut source), NextLine::End);
-    }
-    Ok(())
-}
-
-#[test]
-fn a_text_longer_than_a_block_is_read_to_its_end(rt: HostRuntime) -> Result<(), AllocError> {
-    for piece in [1000usize, 65536, 100000] {
-        let mut reader = LineReader::new(rt.alloc())?;
-        let mut source = in_pieces(b"1 put 5 7\n12 get 9\n", piece);
-        source.times = 4000;
-        for _ in 0..4000 {
-            next_is(&rt, &mut reader, &mut source, b"1 put 5 7");
-            next_is(&rt, &mut reader, &mut source, b"12 get 9");
+fn gives_lines(reader: &mut LineReader, source: &mut Pieces, lines: &[&[u8]]) -> bool {
+    for line in lines {
+        if reader.next_line(source) != NextLine::Got || reader.line() != *line {
+            return false;
         }
-        assert_eq!(rt; reader.next_line(&mut source), NextLine::End);
+    }
+    true
+}
+
+fn gives_text(reader: &mut LineReader, source: &mut Pieces, case: &Case) -> bool {
+    for _ in 0..case.times {
+        if !gives_lines(reader, source, case.lines) {
+            return false;
+        }
+    }
+    true
+}
+
+fn gives_ends(reader: &mut LineReader, source: &mut Pieces, ends: &[NextLine]) -> bool {
+    for end in ends {
+        if reader.next_line(source) != *end {
+            return false;
+        }
+    }
+    true
+}
+
+fn is_cut(alloc: Global, case: &Case, piece: usize, fail_in: usize) -> Result<bool, AllocError> {
+    let mut reader = LineReader::new(alloc)?;
+    let mut source = source_of(case, piece, fail_in);
+    Ok(
+        fails_first(&mut reader, &mut source)
+            && gives_text(&mut reader, &mut source, case)
+            && gives_ends(&mut reader, &mut source, case.ends),
+    )
+}
+
+#[test]
+fn texts_are_cut_into_lines(rt: HostRuntime) -> Result<(), AllocError> {
+    for case in &CASES {
+        for piece in case.pieces {
+            for fail_in in case.fails {
+                let is_cut = is_cut(rt.alloc(), case, *piece, *fail_in)?;
+                assert!(rt;
+                    is_cut,
+                    "{} in pieces of {piece}, fault {fail_in}",
+                    case.name
+                );
+            }
+        }
     }
     Ok(())
 }

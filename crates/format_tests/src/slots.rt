@@ -4,7 +4,9 @@ use disk_slots::{
     Heads, Master, Refusal, SLOT, master_bytes, page_bytes, read_master, read_page, read_valid,
 };
 
-/// Page 5: GSN 77, generation 3, a leaf with two pairs, log 2, all keys; the pairs (1, 10) and (9, a tombstone).
+const TOP: u64 = 18446744073709551615;
+
+// Page 5: GSN 77, generation 3, a leaf with two pairs, log 2, all keys; the pairs (1, 10) and (9, a tombstone).
 const PAGE: [u8; 80] = [
     5, 0, 0, 0, 0, 0, 0, 0, 77, 0, 0, 0, 0, 0, 0, 0, 3, 0, 0, 0, 0, 0, 0, 0, 2, 0, 2, 1, 0, 0, 0,
     0, 0, 0, 0, 0, 0, 0, 0, 0, 255, 255, 255, 255, 255, 255, 255, 255, 1, 0, 0, 0, 0, 0, 0, 0, 10,
@@ -15,7 +17,7 @@ const PAGE_SEAL: [u8; 16] = [
     108, 182, 236, 232, 234, 228, 24, 143, 94, 2, 67, 45, 26, 160, 0, 59,
 ];
 
-/// Sequence number 12, generation 3, floor 400, 32 pages, 64 blocks, two logs with the heads 70 and 71.
+// Sequence number 12, generation 3, floor 400, 32 pages, 64 blocks, two logs with the heads 70 and 71.
 const MASTER: [u8; 72] = [
     1, 0, 0, 0, 0, 0, 0, 0, 12, 0, 0, 0, 0, 0, 0, 0, 3, 0, 0, 0, 0, 0, 0, 0, 144, 1, 0, 0, 0, 0, 0,
     0, 32, 0, 0, 0, 0, 0, 0, 0, 64, 0, 0, 0, 0, 0, 0, 0, 2, 0, 0, 0, 0, 0, 0, 0, 70, 0, 0, 0, 0, 0,
@@ -26,6 +28,7 @@ const MASTER_SEAL: [u8; 16] = [
     169, 220, 125, 107, 174, 61, 4, 203, 114, 183, 116, 244, 69, 67, 163, 198,
 ];
 
+// The bytes of a slot: these, zeros, and the seal.
 fn slot_of(prefix: &[u8], seal: &[u8; 16]) -> [u8; 1024] {
     let mut bytes = [0; 1024];
     if prefix.len() <= 1008 {
@@ -36,73 +39,422 @@ fn slot_of(prefix: &[u8], seal: &[u8; 16]) -> [u8; 1024] {
     bytes
 }
 
-#[test]
-fn a_page_slot_is_read_and_written_to_the_byte(rt: HostRuntime) {
-    let bytes = slot_of(&PAGE, &PAGE_SEAL);
-    match read_page(5, 32, &bytes) {
-        Ok(node) => {
-            assert_eq!(rt; node.number(), 5);
-            assert_eq!(rt; node.gsn(), 77);
-            assert_eq!(rt; node.generation(), 3);
-            assert_eq!(rt; node.last_log(), 2);
-            assert!(rt; node.is_live());
-            assert_eq!(rt; node.level(), 0);
-            assert_eq!(rt; node.high(), 18446744073709551615);
-            assert_eq!(rt; node.count(), 2);
-            let mut written = [7; SLOT];
-            page_bytes(&node, &mut written);
-            assert!(rt; written == bytes);
+// A page, and its slot.
+struct PageRow {
+    name: &'static str,
+    number: u32,
+    gsn: u64,
+    generation: u64,
+    last_log: u32,
+    is_live: bool,
+    level: u8,
+    low: u64,
+    high: u64,
+    pairs: &'static [(u64, u64)],
+    prefix: &'static [u8],
+    seal: &'static [u8; 16],
+}
+
+static PAGES: [PageRow; 5] = [
+    PageRow {
+        name: "a leaf with an entry and a tombstone",
+        number: 5,
+        gsn: 77,
+        generation: 3,
+        last_log: 2,
+        is_live: true,
+        level: 0,
+        low: 0,
+        high: TOP,
+        pairs: &[(1, 10), (9, 9223372036854775808)],
+        prefix: &PAGE,
+        seal: &PAGE_SEAL,
+    },
+    PageRow {
+        name: "a leaf with two entries and a tombstone",
+        number: 5,
+        gsn: 77,
+        generation: 3,
+        last_log: 2,
+        is_live: true,
+        level: 0,
+        low: 0,
+        high: TOP,
+        pairs: &[(1, 10), (5, 7), (9, 9223372036854775808)],
+        prefix: &[
+            5, 0, 0, 0, 0, 0, 0, 0, 77, 0, 0, 0, 0, 0, 0, 0, 3, 0, 0, 0, 0, 0, 0, 0, 3, 0, 2, 1, 0,
+            0, 0, 0, 0, 0, 0, 0, 0, 0, 0, 0, 255, 255, 255, 255, 255, 255, 255, 255, 1, 0, 0, 0, 0,
+            0, 0, 0, 10, 0, 0, 0, 0, 0, 0, 0, 5, 0, 0, 0, 0, 0, 0, 0, 7, 0, 0, 0, 0, 0, 0, 0, 9, 0,
+            0, 0, 0, 0, 0, 0, 0, 0, 0, 0, 0, 0, 0, 128,
+        ],
+        seal: &[
+            43, 15, 3, 237, 39, 123, 27, 144, 99, 18, 169, 242, 76, 44, 220, 110,
+        ],
+    },
+    PageRow {
+        name: "an inner page",
+        number: 0,
+        gsn: 77,
+        generation: 3,
+        last_log: 2,
+        is_live: true,
+        level: 1,
+        low: 0,
+        high: TOP,
+        pairs: &[(0, 4), (100, 9), (200, 2)],
+        prefix: &[
+            0, 0, 0, 0, 0, 0, 0, 0, 77, 0, 0, 0, 0, 0, 0, 0, 3, 0, 0, 0, 0, 0, 0, 0, 3, 1, 2, 1, 0,
+            0, 0, 0, 0, 0, 0, 0, 0, 0, 0, 0, 255, 255, 255, 255, 255, 255, 255, 255, 0, 0, 0, 0, 0,
+            0, 0, 0, 4, 0, 0, 0, 0, 0, 0, 0, 100, 0, 0, 0, 0, 0, 0, 0, 9, 0, 0, 0, 0, 0, 0, 0, 200,
+            0, 0, 0, 0, 0, 0, 0, 2, 0, 0, 0, 0, 0, 0, 0,
+        ],
+        seal: &[
+            48, 188, 88, 130, 169, 205, 99, 38, 117, 163, 174, 13, 206, 49, 67, 185,
+        ],
+    },
+    PageRow {
+        name: "a free page of a new disk",
+        number: 15,
+        gsn: 0,
+        generation: 0,
+        last_log: 0,
+        is_live: false,
+        level: 0,
+        low: 0,
+        high: 0,
+        pairs: &[],
+        prefix: &[
+            15, 0, 0, 0, 0, 0, 0, 0, 0, 0, 0, 0, 0, 0, 0, 0, 0, 0, 0, 0, 0, 0, 0, 0, 0, 0, 0, 2, 0,
+            0, 0, 0, 0, 0, 0, 0, 0, 0, 0, 0, 0, 0, 0, 0, 0, 0, 0, 0,
+        ],
+        seal: &[
+            201, 49, 23, 16, 42, 13, 98, 182, 219, 180, 251, 161, 186, 253, 214, 229,
+        ],
+    },
+    PageRow {
+        name: "page 0 of a new disk",
+        number: 0,
+        gsn: 0,
+        generation: 0,
+        last_log: 0,
+        is_live: true,
+        level: 0,
+        low: 0,
+        high: TOP,
+        pairs: &[],
+        prefix: &[
+            0, 0, 0, 0, 0, 0, 0, 0, 0, 0, 0, 0, 0, 0, 0, 0, 0, 0, 0, 0, 0, 0, 0, 0, 0, 0, 0, 1, 0,
+            0, 0, 0, 0, 0, 0, 0, 0, 0, 0, 0, 255, 255, 255, 255, 255, 255, 255, 255,
+        ],
+        seal: &[
+            70, 195, 208, 9, 61, 252, 124, 71, 33, 181, 53, 161, 93, 140, 52, 243,
+        ],
+    },
+];
+
+fn has_pairs(node: &Node, pairs: &[(u64, u64)]) -> bool {
+    for (key, word) in pairs {
+        if node.find(*key) != Some(*word) {
+            return false;
         }
-        Err(_) => assert!(rt; false),
+    }
+    node.count() == pairs.len()
+}
+
+fn has_numbers(node: &Node, row: &PageRow) -> bool {
+    node.number() == row.number as u64
+        && node.gsn() == row.gsn
+        && node.generation() == row.generation
+        && node.last_log() == row.last_log
+}
+
+fn has_fences(node: &Node, row: &PageRow) -> bool {
+    node.is_live() == row.is_live
+        && node.level() == row.level
+        && node.low() == row.low
+        && node.high() == row.high
+}
+
+fn is_written(node: &Node, bytes: &[u8; 1024]) -> bool {
+    let mut written = [7; SLOT];
+    page_bytes(node, &mut written);
+    written == *bytes
+}
+
+fn is_read_and_written(row: &PageRow) -> bool {
+    let bytes = slot_of(row.prefix, row.seal);
+    match read_page(row.number, 32, &bytes) {
+        Ok(node) => {
+            has_numbers(&node, row)
+                && has_fences(&node, row)
+                && has_pairs(&node, row.pairs)
+                && is_written(&node, &bytes)
+        }
+        Err(_) => false,
     }
 }
 
 #[test]
-fn a_page_slot_is_refused_where_a_byte_differs_or_the_page_is_another(rt: HostRuntime) {
-    let mut bytes = slot_of(&PAGE, &PAGE_SEAL);
-    assert!(rt; matches!(read_page(6, 32, &bytes), Err(Refusal::Malformed)));
-    assert!(rt; matches!(read_page(5, 32, &bytes[1..]), Err(Refusal::NoSeal)));
-    assert!(rt; matches!(read_page(5, 32, &[0; 1024]), Err(Refusal::NoSeal)));
-    assert!(rt; read_valid(5, 32, 3, &bytes).is_some());
-    assert!(rt; read_valid(5, 32, 2, &bytes).is_none());
-    bytes[1007] = 1;
-    assert!(rt; matches!(read_page(5, 32, &bytes), Err(Refusal::NoSeal)));
+fn page_slots_are_read_and_written_to_the_byte(rt: HostRuntime) {
+    for row in &PAGES {
+        assert!(rt; is_read_and_written(row), "{}", row.name);
+    }
 }
 
-#[test]
-fn a_master_slot_is_read_and_written_to_the_byte(rt: HostRuntime) {
-    let mut heads = Heads::new(2);
-    heads.set_head(1, 70);
-    heads.set_head(2, 71);
-    let master = Master {
+// A master, and its slot.
+struct MasterRow {
+    name: &'static str,
+    sequence: u64,
+    generation: u64,
+    floor: u64,
+    pages: u32,
+    blocks: u32,
+    heads: &'static [u64],
+    prefix: &'static [u8],
+    seal: &'static [u8; 16],
+}
+
+static MASTERS: [MasterRow; 2] = [
+    MasterRow {
+        name: "a master of two logs",
         sequence: 12,
         generation: 3,
         floor: 400,
         pages: 32,
         blocks: 64,
-        heads,
-    };
-    let mut bytes = [7; SLOT];
-    master_bytes(&master, &mut bytes);
-    assert!(rt; bytes == slot_of(&MASTER, &MASTER_SEAL));
-    match read_master(0, &bytes) {
-        Ok(read) => {
-            assert_eq!(rt; read.sequence, 12);
-            assert_eq!(rt; read.generation, 3);
-            assert_eq!(rt; read.floor, 400);
-            assert_eq!(rt; read.pages, 32);
-            assert_eq!(rt; read.blocks, 64);
-            assert_eq!(rt; read.heads.logs(), 2);
-            assert!(rt; read.heads.logs() == 2 && read.heads.head(2) == 71);
+        heads: &[70, 71],
+        prefix: &MASTER,
+        seal: &MASTER_SEAL,
+    },
+    MasterRow {
+        name: "the first master of a new disk",
+        sequence: 0,
+        generation: 0,
+        floor: 0,
+        pages: 16,
+        blocks: 64,
+        heads: &[0],
+        prefix: &[
+            1, 0, 0, 0, 0, 0, 0, 0, 0, 0, 0, 0, 0, 0, 0, 0, 0, 0, 0, 0, 0, 0, 0, 0, 0, 0, 0, 0, 0,
+            0, 0, 0, 16, 0, 0, 0, 0, 0, 0, 0, 64, 0, 0, 0, 0, 0, 0, 0, 1, 0, 0, 0, 0, 0, 0, 0, 0,
+            0, 0, 0, 0, 0, 0, 0,
+        ],
+        seal: &[
+            79, 87, 210, 244, 236, 251, 97, 254, 91, 105, 225, 125, 41, 116, 104, 134,
+        ],
+    },
+];
+
+fn set_head_within(heads: &mut Heads, log: u32, block: u64) {
+    if 0 < log && log <= heads.logs() {
+        heads.set_head(log, block);
+    }
+}
+
+fn heads_of(blocks: &[u64]) -> Heads {
+    let mut heads = Heads::new(blocks.len().min(16) as u32);
+    let mut log: u32 = 0;
+    for block in blocks {
+        log = log.saturating_add(1);
+        set_head_within(&mut heads, log, *block);
+    }
+    heads
+}
+
+fn head_within(heads: &Heads, log: u32) -> Option<u64> {
+    if 0 < log && log <= heads.logs() {
+        Some(heads.head(log))
+    } else {
+        None
+    }
+}
+
+fn has_heads(heads: &Heads, blocks: &[u64]) -> bool {
+    let mut log: u32 = 0;
+    for block in blocks {
+        log = log.saturating_add(1);
+        if head_within(heads, log) != Some(*block) {
+            return false;
         }
-        Err(_) => assert!(rt; false),
+    }
+    heads.logs() == log
+}
+
+fn master_of(row: &MasterRow) -> Master {
+    Master {
+        sequence: row.sequence,
+        generation: row.generation,
+        floor: row.floor,
+        pages: row.pages,
+        blocks: row.blocks,
+        heads: heads_of(row.heads),
+    }
+}
+
+fn is_master(master: &Master, row: &MasterRow) -> bool {
+    master.sequence == row.sequence
+        && master.generation == row.generation
+        && master.floor == row.floor
+        && master.pages == row.pages
+        && master.blocks == row.blocks
+        && has_heads(&master.heads, row.heads)
+}
+
+fn is_master_read_and_written(row: &MasterRow) -> bool {
+    let bytes = slot_of(row.prefix, row.seal);
+    let mut written = [7; SLOT];
+    master_bytes(&master_of(row), &mut written);
+    match read_master(0, &bytes) {
+        Ok(read) => is_master(&read, row) && written == bytes,
+        Err(_) => false,
     }
 }
 
 #[test]
-fn a_master_slot_is_refused_in_the_other_place(rt: HostRuntime) {
-    let bytes = slot_of(&MASTER, &MASTER_SEAL);
-    assert!(rt; matches!(read_master(1, &bytes), Err(Refusal::Malformed)));
-    assert!(rt; matches!(read_page(0, 32, &bytes), Err(Refusal::NoSeal)));
-    assert!(rt; matches!(read_master(0, &[]), Err(Refusal::NoSeal)));
+fn master_slots_are_read_and_written_to_the_byte(rt: HostRuntime) {
+    for row in &MASTERS {
+        assert!(rt; is_master_read_and_written(row), "{}", row.name);
+    }
+}
+
+// As what bytes are read: page n of 32, page n of a generation, master slot n.
+enum Reading {
+    Page(u32),
+    Valid(u32, u64),
+    Master(u32),
+}
+
+#[derive(Clone, Copy, Debug, PartialEq, Eq)]
+enum Outcome {
+    Read,
+    NoSeal,
+    Malformed,
+    NotValid,
+}
+
+fn outcome_of<T: Drop>(read: Result<T, Refusal>) -> Outcome {
+    match read {
+        Ok(_) => Outcome::Read,
+        Err(Refusal::NoSeal) => Outcome::NoSeal,
+        Err(Refusal::Malformed) => Outcome::Malformed,
+    }
+}
+
+fn outcome_as(reading: &Reading, bytes: &[u8]) -> Outcome {
+    match reading {
+        Reading::Page(page) => outcome_of(read_page(*page, 32, bytes)),
+        Reading::Valid(page, generation) => match read_valid(*page, 32, *generation, bytes) {
+            Some(_) => Outcome::Read,
+            None => Outcome::NotValid,
+        },
+        Reading::Master(slot) => outcome_of(read_master(*slot, bytes)),
+    }
+}
+
+// A slot in which byte 1,007 is another one and from which the first bytes are gone, and as what it is read.
+struct ReadRow {
+    name: &'static str,
+    prefix: &'static [u8],
+    seal: &'static [u8; 16],
+    last: u8,
+    from: usize,
+    reading: Reading,
+    outcome: Outcome,
+}
+
+static READS: [ReadRow; 9] = [
+    ReadRow {
+        name: "another page",
+        prefix: &PAGE,
+        seal: &PAGE_SEAL,
+        last: 0,
+        from: 0,
+        reading: Reading::Page(6),
+        outcome: Outcome::Malformed,
+    },
+    ReadRow {
+        name: "without its first byte",
+        prefix: &PAGE,
+        seal: &PAGE_SEAL,
+        last: 0,
+        from: 1,
+        reading: Reading::Page(5),
+        outcome: Outcome::NoSeal,
+    },
+    ReadRow {
+        name: "zeros",
+        prefix: &[],
+        seal: &[0; 16],
+        last: 0,
+        from: 0,
+        reading: Reading::Page(5),
+        outcome: Outcome::NoSeal,
+    },
+    ReadRow {
+        name: "of its own generation",
+        prefix: &PAGE,
+        seal: &PAGE_SEAL,
+        last: 0,
+        from: 0,
+        reading: Reading::Valid(5, 3),
+        outcome: Outcome::Read,
+    },
+    ReadRow {
+        name: "of the generation before",
+        prefix: &PAGE,
+        seal: &PAGE_SEAL,
+        last: 0,
+        from: 0,
+        reading: Reading::Valid(5, 2),
+        outcome: Outcome::NotValid,
+    },
+    ReadRow {
+        name: "with another byte",
+        prefix: &PAGE,
+        seal: &PAGE_SEAL,
+        last: 1,
+        from: 0,
+        reading: Reading::Page(5),
+        outcome: Outcome::NoSeal,
+    },
+    ReadRow {
+        name: "a master in the other place",
+        prefix: &MASTER,
+        seal: &MASTER_SEAL,
+        last: 0,
+        from: 0,
+        reading: Reading::Master(1),
+        outcome: Outcome::Malformed,
+    },
+    ReadRow {
+        name: "a master as a page",
+        prefix: &MASTER,
+        seal: &MASTER_SEAL,
+        last: 0,
+        from: 0,
+        reading: Reading::Page(0),
+        outcome: Outcome::NoSeal,
+    },
+    ReadRow {
+        name: "no byte as a master",
+        prefix: &[],
+        seal: &[0; 16],
+        last: 0,
+        from: 1024,
+        reading: Reading::Master(0),
+        outcome: Outcome::NoSeal,
+    },
+];
+
+fn read_row(row: &ReadRow) -> Outcome {
+    let mut bytes = slot_of(row.prefix, row.seal);
+    bytes[1007] = row.last;
+    outcome_as(&row.reading, bytes.get(row.from..).unwrap_or(&[]))
+}
+
+#[test]
+fn slots_are_refused_where_a_byte_differs_or_the_place_is_another(rt: HostRuntime) {
+    for row in &READS {
+        assert_eq!(rt; read_row(row), row.outcome, "{}", row.name);
+    }
 }
