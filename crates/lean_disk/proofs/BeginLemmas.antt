@@ -47,10 +47,10 @@ pub log_begun : (log : AreaLog) (bytes : List ℕ) → log.first.items ≡ bytes
 log_begun log bytes first calls i = record { here = true; first = first i; line = calls i }
 
 module _ (areas : List Slot) (number : ℕ) (bytes : ℕ → List ℕ) (whole : all_here areas ≡ true) (size : length areas ≡ number) (each : (a : ℕ) → view_at areas a ≡ begun (bytes a)) where
-  pub begin_dated : AreDated 0 0 areas
+  pub begin_dated : AreDated true areas 0 0
   begin_dated a = subst (λ (v : View). AllByRecursion (IsDated 0 (late (all_here areas)) 0) v.line) (sym (each a)) tt
 
-  pub story_begins : Begins number bytes (areas_story areas 0 0)
+  pub story_begins : Begins number bytes (areas_story true areas 0 0)
   story_begins = record {
     counts = whole;
     areas = size;

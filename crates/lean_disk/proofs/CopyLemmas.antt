@@ -1,7 +1,7 @@
 -- Disks that are made area by area, from a list of bytes or from another disk.
 use Rattle.std.specs.Prelude.{Vec}
 use Rattle.std.specs.declared.alloc.Global.{Global}
-use Rattle.std.proofs.Common.{◌≡◌, ℕ, zero, suc, List, [], ◌∷◌, ◌++◌, length, map, refl, sym, ◌∙◌, ap, subst, arith}
+use Rattle.std.proofs.Common.{◌≡◌, ℕ, Bool, true, zero, suc, List, [], ◌∷◌, ◌++◌, length, map, refl, sym, ◌∙◌, ap, subst, arith}
 use Rattle.lean_disk.specs.Told.{Begins, BeginsAfter}
 use Rattle.lean_disk.specs.Area.{Leaves}
 use Rattle.lean_disk.specs.Memory.{View, Was, areas_story, area_now, area_after, begun, slot_view, view_at}
@@ -32,10 +32,10 @@ crashed_more choice m (x ∷ olds) (y ∷ news) o n same all here zero = all zer
 crashed_more choice m (x ∷ olds) (y ∷ news) o n same all here (suc a) = crashed_more choice m olds news o n (omega arith) (λ b. all (suc b)) here a
 
 -- it begins after a crash
-pub begins_after : (choice : Choice) (m made notes : ℕ) (olds news : List Slot) → ((a : ℕ) → view_at news a ≡ begun (left_by choice m (view_at olds a)))
-    → Begins (length olds) (λ a. left_by choice m (view_at olds a)) (areas_story news 0 0) → BeginsAfter m (areas_story olds made notes) (areas_story news 0 0)
-begins_after choice m made notes olds news each begins =
-    let bytes_is : (a : ℕ) → ((areas_story news 0 0).area a).bytes ≡ left_by choice m (view_at olds a) = λ a. ap (λ (v : View). (area_now v).bytes) (each a) in
+pub begins_after : (own : Bool) (choice : Choice) (m made notes : ℕ) (olds news : List Slot) → ((a : ℕ) → view_at news a ≡ begun (left_by choice m (view_at olds a)))
+    → Begins (length olds) (λ a. left_by choice m (view_at olds a)) (areas_story true news 0 0) → BeginsAfter m (areas_story own olds made notes) (areas_story true news 0 0)
+begins_after own choice m made notes olds news each begins =
+    let bytes_is : (a : ℕ) → ((areas_story true news 0 0).area a).bytes ≡ left_by choice m (view_at olds a) = λ a. ap (λ (v : View). (area_now v).bytes) (each a) in
     record {
       begins = record {
         counts = begins.counts;

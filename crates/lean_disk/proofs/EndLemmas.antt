@@ -4,7 +4,7 @@ use Rattle.std.specs.List.{AllByRecursion}
 use Rattle.std.proofs.lemmas.Bool.{cases_lt}
 use Rattle.lean_disk.specs.Story.{Crash, LeavesNow}
 use Rattle.lean_disk.specs.Replay.{last_number}
-use Rattle.lean_disk.specs.Memory.{View, WasAt, Was, IsAround, IsDated, AreDated, kept_story, view_at, slot_view, all_here, late}
+use Rattle.lean_disk.specs.Memory.{View, WasAt, Was, IsAround, IsDated, AreDated, kept_story, view_at, slot_view, all_own, late}
 use Rattle.lean_disk.specs.Inside.Kept.{now_was}
 use Rattle.lean_disk.specs.Inside.Lists.{all_weaker, all_both}
 use Rattle.lean_disk.specs.Inside.Newest.{Last, last_of}
@@ -36,18 +36,18 @@ newest_more made n n' xs x is more =
           (cases_lt n (last_number (slot_view x).line));
     }
 
-module _ (areas : List Slot) (number made notes n : ℕ) (dated : (b : ℕ) → AllByRecursion (IsDated made 1 notes) (view_at areas b).line) (newest : IsNewest made areas n) where
+module _ (own : Bool) (areas : List Slot) (number made notes n : ℕ) (dated : (b : ℕ) → AllByRecursion (IsDated made 1 notes) (view_at areas b).line) (newest : IsNewest made areas n) where
   all_made : (b : ℕ) → AllByRecursion (λ d. d.number ≤ n) (view_at areas b).line
   all_made b = let le : last_number (view_at areas b).line ≤ n = newest.most b in
       all_weaker (λ d. d.number ≤ last_number (view_at areas b).line) (λ d. d.number ≤ n) (λ d is. omega (arith, is, le)) (view_at areas b).line (ordered_at areas b)
 
-  pub over_dated : all_here areas ≡ true → AreDated n notes areas
+  pub over_dated : all_own own areas ≡ true → AreDated own areas n notes
   over_dated whole b = subst (λ (w : Bool). AllByRecursion (IsDated n (late w) notes) (view_at areas b).line) (sym whole)
-      (all_both (λ d. d.number ≤ n) (IsDated made 1 notes) (IsDated n 0 notes) (λ d le is. record { number = omega (arith, le); early = is.early; next = λ lt. absurd (omega (arith, lt, le)) })
+      (all_both (λ d. d.number ≤ n) (IsDated made 1 notes) (IsDated n 0 notes) (λ d le is. record { first = is.first; number = omega (arith, le); early = is.early; next = λ lt. absurd (omega (arith, lt, le)) })
       (view_at areas b).line (all_made b) (dated b))
 
   -- a moment after those before the round has all its calls, and the notes of then
-  pub over_now : all_here areas ≡ true → (m : ℕ) (c : Crash) → (w : Was (view_at areas) n notes m c) → made < w.k → LeavesNow (kept_story (view_at areas) (all_here areas) number n notes) c
+  pub over_now : all_own own areas ≡ true → (m : ℕ) (c : Crash) → (w : Was (view_at areas) n notes m c) → made < w.k → LeavesNow (kept_story (view_at areas) (all_own own areas) number n notes) c
   over_now whole m c w lt = ⊎_elim
       (λ (is : n ≡ made). absurd (omega (arith, is, lt, w.made)))
       (λ (r : Reached areas n).

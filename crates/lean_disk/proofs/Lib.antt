@@ -5,9 +5,11 @@ pub mod CrashLemmas
 pub mod DiskLemmas
 pub mod EndLemmas
 pub mod FaultLemmas
+pub mod LawLemmas
 pub mod LoanLemmas
 pub mod MomentLemmas
 pub mod NoteLemmas
 pub mod PartLemmas
 pub mod RoundLemmas
+pub mod StepLemmas
 pub mod TellingLemmas

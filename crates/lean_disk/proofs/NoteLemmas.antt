@@ -50,4 +50,4 @@ module _ (views : ℕ → View) (whole : Bool) (areas made notes : ℕ) (dated :
   noted_dated more le b =
       let on_time : late whole ≡ 0 = is_not_late whole is_whole in
       all_weaker (IsDated made (late whole) notes) (IsDated made (late whole) more)
-      (λ c is. record { number = is.number; early = omega (arith, is.early, le); next = λ lt. absurd (omega (arith, lt, is.number, on_time)) }) (views b).line (dated b)
+      (λ c is. record { first = is.first; number = is.number; early = omega (arith, is.early, le); next = λ lt. absurd (omega (arith, lt, is.number, on_time)) }) (views b).line (dated b)

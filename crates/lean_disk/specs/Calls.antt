@@ -78,7 +78,7 @@ pub record Split (a : ℕ) (old new part : Story) : Type 0 where
   pub before : (m : ℕ) (c : Crash) → new.left_at m c → m ≤ part.moment
   pub keeps : (m : ℕ) (c : Crash) → old.left_at m c → new.left_at m c × part.left_at m c
 
--- The area a is back, as the part has it. If no other is split off, crashes are told of again from now on.
+-- The area a is back, as the part has it. If no other is split off, crashes may be told of again from now on.
 pub record Rejoined (a : ℕ) (old part new : Story) : Type 0 where
   pub here : Tells part a → Tells new a × (new.area a ≡ part.area a)
   pub tells : (b : ℕ) → (b ≡ a → ⊥) → new.tells b ≡ old.tells b

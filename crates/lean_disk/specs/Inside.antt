@@ -7,4 +7,5 @@ pub mod Lists
 pub mod Newest
 pub mod Over
 pub mod Slots
+pub mod Steps
 pub mod Synced

@@ -9,4 +9,5 @@ pub mod Memory
 pub mod Told
 pub mod Crashed
 pub mod MemDisk
+pub mod Laws
 pub mod Inside

@@ -8,7 +8,7 @@ use Rattle.lean_disk.specs.declared.crash.Choice.{Choice}
 use Rattle.lean_disk.specs.declared.mem_disk.MemDisk.{MemDisk}
 
 abbrev pub disk_story : MemDisk → Story
-disk_story d = areas_story d.areas.items d.made d.notes
+disk_story d = areas_story d.own d.areas.items d.made d.notes
 
 -- what the choice leaves of an area at a moment
 abbrev pub crashed_bytes : MemDisk → ℕ → Choice → ℕ → List ℕ

@@ -56,6 +56,23 @@ abbrev pub all_here : List Slot → Bool
 all_here [] = true
 all_here (x ∷ xs) = if (slot_view x).here then all_here xs else false
 
+-- Crashes are told of: nothing is split off, and each part that came back is the disk's own, as far as its calls show.
+abbrev pub all_own : Bool → List Slot → Bool
+all_own own areas = if own then all_here areas else false
+
+-- Of two calls of one disk, the one with the greater number has no fewer notes before it.
+pub record IsInStep (x y : Call) : Type 0 where
+  pub up : x.number ≤ y.number → x.notes ≤ y.notes
+  pub down : y.number ≤ x.number → y.notes ≤ x.notes
+
+-- each call of the one list with each of the other
+abbrev pub LinesInStep : List Call → List Call → Type 0
+LinesInStep xs ys = AllByRecursion (λ x. AllByRecursion (IsInStep x) ys) xs
+
+-- each two calls, of any areas
+abbrev pub AreInStep : (ℕ → View) → Type 0
+AreInStep views = (a b : ℕ) → LinesInStep (views a).line (views b).line
+
 -- After k calls of the disk and i notes: the calls up to number k had at most i notes before them, the others at least i.
 abbrev pub IsAround : ℕ → ℕ → Call → Type 0
 IsAround k i call = (call.number ≤ k → call.notes ≤ i) × (k < call.number → i ≤ call.notes)
@@ -74,7 +91,7 @@ pub record Was (views : ℕ → View) (calls notes m : ℕ) (c : Crash) : Type 0
   pub noted : c.notes ≤ notes
   pub each : (a : ℕ) → WasAt (views a) k c.notes (c.writes a) (c.image a)
 
--- While something is split off, the clock shows one more, which is no moment: all calls until it is back are the next call.
+-- While the disk tells of no crash, the clock shows one more, which is no moment: all calls until then are the next call.
 abbrev pub late : Bool → ℕ
 late true = 0
 late false = 1
@@ -90,18 +107,19 @@ kept_story views whole areas made notes = record {
   left_at = Was views made notes;
 }
 
--- A call was made by then. While something is split off, it may be the next one, with these notes before it.
+-- A call was made by then. While no crash is told of, it may be the next one, with these notes before it.
 pub record IsDated (made more notes : ℕ) (call : Call) : Type 0 where
+  pub first : 0 < call.number
   pub number : call.number ≤ made + more
   pub early : call.notes ≤ notes
   pub next : made < call.number → notes ≤ call.notes
 
 -- each call of each area was made by then
-abbrev pub AreDated : ℕ → ℕ → List Slot → Type 0
-AreDated made notes areas = (a : ℕ) → AllByRecursion (IsDated made (late (all_here areas)) notes) (view_at areas a).line
+abbrev pub AreDated : Bool → List Slot → ℕ → ℕ → Type 0
+AreDated own areas made notes = (a : ℕ) → AllByRecursion (IsDated made (late (all_own own areas)) notes) (view_at areas a).line
 
-abbrev pub areas_story : List Slot → ℕ → ℕ → Story
-areas_story areas made notes = kept_story (view_at areas) (all_here areas) (length areas) made notes
+abbrev pub areas_story : Bool → List Slot → ℕ → ℕ → Story
+areas_story own areas made notes = kept_story (view_at areas) (all_own own areas) (length areas) made notes
 
 -- a part tells of its area alone, and of no moment until it is back
 abbrev pub part_story : ℕ → AreaLog → ℕ → ℕ → Story

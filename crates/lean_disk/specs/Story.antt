@@ -10,7 +10,7 @@ pub record Crash : Type 0 where
 
 -- What an object tells. Where it doesn't tell of an area, nothing is said of that area's bytes.
 pub record Story : Type 1 where
-  -- whether this is a moment at which crashes are told of: nothing is split off
+  -- whether this is a moment at which crashes are told of: none is while something is split off
   pub counts : Bool
   pub tells : ℕ → Bool
   -- how many areas it has that can be split off, none where it tells nothing

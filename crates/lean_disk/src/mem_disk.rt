@@ -1,25 +1,29 @@
 // A disk in memory, which keeps each of its calls and tells everything.
-ghost use Rattle.std.specs.Prelude.{◌≡◌, ◌<◌, ◌+◌, ◌-◌, ◌^◌, ℕ, min, [], vec_len, IfOk};
+ghost use Rattle.std.specs.Prelude.{◌≡◌, ◌<◌, ◌+◌, ◌-◌, ◌^◌, ℕ, min, [], vec_len, IfOk, true};
 ghost use Rattle.std.proofs.Props.{props};
-ghost use Rattle.lean_disk.specs.Memory.{AreDated, areas_story, all_here, late};
+ghost use Rattle.lean_disk.specs.Memory.{AreDated, AreInStep, all_own, areas_story, late, view_at};
 ghost use Rattle.lean_disk.specs.Inside.Laws.{areas_lawful, areas_whole};
 
-use crate::slots::{is_whole, newest};
+use crate::order::stays_own;
+use crate::slots::{is_told, newest};
 use crate::{AreaLog, Choice, Did, Disk, MemPart, Read, Slot};
 use std::alloc::{AllocError, Global};
 use std::mem;
 
-/// Its areas, how many calls were made, how often it was noted, and how often it failed.
-/// While an area is split off, all calls until it is back are the next call.
+/// Its areas, whether they are its own as far as their calls show, how many calls were made, how often it was noted, and how often it failed.
+/// While an area is split off, all calls until it is back are the next call. A part of another disk may come back in place of the disk's own:
+/// where its calls and the others can't be calls of one disk, no crash is told of any more.
 #[derive(Drop)]
 pub struct MemDisk {
     alloc: Global,
     areas: Vec<Slot>,
+    own: bool,
     made: u64,
     notes: u64,
     faults: u64,
     ghost some: { 0 < vec_len areas },
-    ghost dated: { AreDated made notes areas.items } by { Prim.hlevel props },
+    ghost dated: { AreDated own areas.items made notes } by { Prim.hlevel props },
+    ghost in_step: { own ≡ true → AreInStep (view_at areas.items) } by { Prim.hlevel props },
 }
 
 impl MemDisk {
@@ -41,6 +45,7 @@ impl MemDisk {
         Ok(MemDisk {
             alloc,
             areas: list,
+            own: true,
             made: 0,
             notes: 0,
             faults: 0,
@@ -63,6 +68,7 @@ impl MemDisk {
         Ok(MemDisk {
             alloc,
             areas: list,
+            own: true,
             made: 0,
             notes: 0,
             faults: 0,
@@ -94,7 +100,7 @@ impl MemDisk {
         ensures { result ≡ min (disk_story self.now).moment (2 ^ 64 - 1) }
     {
         let called = self.made.saturating_add(self.notes);
-        if is_whole(&self.areas) {
+        if is_told(self.own, &self.areas) {
             called
         } else {
             called.saturating_add(1)
@@ -117,6 +123,7 @@ impl MemDisk {
         Ok(MemDisk {
             alloc: self.alloc,
             areas: list,
+            own: true,
             made: 0,
             notes: 0,
             faults: 0,
@@ -126,9 +133,9 @@ impl MemDisk {
     // How many calls there are after the next one.
     fn next_made(&self) -> u64
         requires { self.now.made + 1 < 2 ^ 64 }
-        ensures { result + late (all_here self.now.areas.items) ≡ self.now.made + 1 }
+        ensures { result + late (all_own self.now.own self.now.areas.items) ≡ self.now.made + 1 }
     {
-        if is_whole(&self.areas) {
+        if is_told(self.own, &self.areas) {
             self.made + 1
         } else {
             self.made
@@ -139,13 +146,13 @@ impl MemDisk {
 impl Disk for MemDisk {
     type Part = MemPart;
 
-    ghost story = { λ d. areas_story d.areas.items d.made d.notes };
+    ghost story = { λ d. areas_story d.own d.areas.items d.made d.notes };
 
     ghost faults = { λ d. d.faults };
 
-    ghost lawful = { λ d. areas_lawful d.areas.items d.made d.notes d.dated };
+    ghost lawful = { λ d. areas_lawful d.own d.areas.items d.made d.notes d.dated };
 
-    ghost whole = { λ d a counts. areas_whole d.areas.items d.made d.notes a counts };
+    ghost whole = { λ d a counts. areas_whole d.own d.areas.items d.made d.notes a counts };
 
     fn read(&mut self, area: u32, at: u64, into: &mut [u8]) -> Read {
         if area as usize >= self.areas.len() || self.made == u64::MAX {
@@ -218,7 +225,7 @@ impl Disk for MemDisk {
 
     /// While an area is split off it counts for nothing.
     fn note(&mut self) {
-        if is_whole(&self.areas) {
+        if is_told(self.own, &self.areas) {
             self.notes = self.notes.saturating_add(1);
         }
     }
@@ -240,8 +247,9 @@ impl Disk for MemDisk {
     /// The round ends with the last area that comes back. If a call was made in it, it was the next call.
     fn rejoin(&mut self, area: u32, part: MemPart) {
         self.faults = self.faults.saturating_add(part.faults);
+        self.own = stays_own(self.own, &part.log.calls, &self.areas);
         self.areas[area as usize] = Slot::Here(part.log);
-        if !is_whole(&self.areas) {
+        if !is_told(self.own, &self.areas) {
             return;
         }
         self.made = newest(&self.areas, self.made);

@@ -8,7 +8,7 @@ ghost use Rattle.lean_disk.specs.Crashed.{left_by};
 ghost use Rattle.lean_disk.specs.Inside.Grown.{Grew};
 
 use crate::crash::left_of;
-use crate::{AreaLog, Choice, Did, Read};
+use crate::{AreaLog, Call, Choice, Did, Read};
 use std::alloc::{AllocError, Global};
 
 #[derive(Drop)]
@@ -120,6 +120,16 @@ impl Slot {
                 AreaLog::from_bytes(alloc, bytes)
             }
             Slot::Out => Ok(AreaLog::new(alloc)),
+        }
+    }
+
+    /// The calls that were made; none if it is split off.
+    pub fn calls(&self) -> &[Call]
+        ensures { result.now ≡ (slot_view self.now).line }
+    {
+        match self {
+            Slot::Here(log) => &log.calls,
+            Slot::Out => &[],
         }
     }
 

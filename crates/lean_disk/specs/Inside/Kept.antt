@@ -120,10 +120,10 @@ module _ (views : ℕ → View) (whole : Bool) (areas made notes : ℕ) (dated :
     dated_on b =
         let bound : late whole ≤ 1 = late_most whole in
         let old = all_weaker (IsDated made (late whole) notes) (IsDated after (late whole) notes)
-        (λ d is. record { number = omega (arith, is.number, counted); early = is.early; next = λ lt. is.next (omega (arith, lt, is.number, counted)) }) (views b).line (dated b) in
+        (λ d is. record { first = is.first; number = omega (arith, is.number, counted); early = is.early; next = λ lt. is.next (omega (arith, lt, is.number, counted)) }) (views b).line (dated b) in
         ⊎_elim
         (λ e. subst (λ (v : View). AllByRecursion (IsDated after (late whole) notes) v.line) (sym e)
-        (all_push (IsDated after (late whole) notes) (views b).line c old (record { number = omega (arith, is_number, counted); early = omega (arith, is_notes); next = λ lt. omega (arith, is_notes) })))
+        (all_push (IsDated after (late whole) notes) (views b).line c old (record { first = omega (arith, is_number); number = omega (arith, is_number, counted); early = omega (arith, is_notes); next = λ lt. omega (arith, is_notes) })))
         (λ e. subst (λ (v : View). AllByRecursion (IsDated after (late whole) notes) v.line) (sym e) old) (view_of b)
 
     past_of : (m : ℕ) (x : Crash) → (w : Was views' after notes m x) → w.k ≤ made → Was views made notes m x

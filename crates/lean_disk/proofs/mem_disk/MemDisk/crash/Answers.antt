@@ -6,6 +6,7 @@ use Rattle.lean_disk.specs.declared.slot.Slot.{Slot}
 use Rattle.lean_disk.specs.declared.slot.Slot.TheVariants.{Here}
 use Rattle.lean_disk.proofs.BeginLemmas.{whole_push, begin_dated, story_begins}
 use Rattle.lean_disk.proofs.CopyLemmas.{crashed_more, begins_after}
+use Rattle.lean_disk.proofs.StepLemmas.{begin_in_step}
 use Rattle.lean_disk.proofs.mem_disk.MemDisk.crash.Goals as goal
 
 pub loop-slot-preserved : goal.loop-slot-preserved
@@ -40,6 +41,7 @@ invariant_of-result c =
     record {
       some = some;
       dated = begin_dated c.loop-slot.list.items (length c.loop-slot.list.items) (λ a. left_by c.args.choice c.args.moment (view_at (take c.loop-slot.slot-index areas) a)) c.loop-slot.invariant.whole refl c.loop-slot.invariant.each;
+      in_step = λ is. begin_in_step (view_at c.loop-slot.list.items) (λ a. left_by c.args.choice c.args.moment (view_at (take c.loop-slot.slot-index areas) a)) c.loop-slot.invariant.each;
     }
 
 pub returns-clause-after : goal.returns-clause-after
@@ -53,7 +55,7 @@ returns-clause-after c =
     let size : length news ≡ length areas = omega (arith, c.loop-slot.invariant.size, all) in
     let taken : take c.loop-slot.slot-index areas ≡ areas = take_all c.loop-slot.slot-index areas (omega (arith, all)) in
     let each : (a : ℕ) → view_at news a ≡ begun (left_by choice m (view_at areas a)) = λ a. subst (λ (xs : List Slot). view_at news a ≡ begun (left_by choice m (view_at xs a))) taken (c.loop-slot.invariant.each a) in
-    begins_after choice m d.made d.notes areas news each (story_begins news (length areas) (λ a. left_by choice m (view_at areas a)) c.loop-slot.invariant.whole size each)
+    begins_after d.own choice m d.made d.notes areas news each (story_begins news (length areas) (λ a. left_by choice m (view_at areas a)) c.loop-slot.invariant.whole size each)
 
 pub returns-clause-left : goal.returns-clause-left
 returns-clause-left c a =

@@ -8,6 +8,7 @@ use Rattle.lean_disk.specs.declared.slot.Slot.{Slot}
 use Rattle.lean_disk.specs.declared.slot.Slot.TheVariants.{Here}
 use Rattle.lean_disk.proofs.BeginLemmas.{whole_push, log_begun, begin_dated, story_begins}
 use Rattle.lean_disk.proofs.CopyLemmas.{bytes_more, map_same}
+use Rattle.lean_disk.proofs.StepLemmas.{begin_in_step}
 use Rattle.lean_disk.proofs.mem_disk.MemDisk.from_areas.Goals as goal
 
 pub loop-bytes-preserved : goal.loop-bytes-preserved
@@ -29,7 +30,7 @@ invariant_of-result c =
     let seen = YieldsList-end (YieldsList-from_vec c.args.areas.items items size) c.loop-bytes.yielded c.loop-bytes.bytes-iterator c.loop-bytes.yielded_by c.next.result c.next.new.self c.in-None.is c.next.ensures.steps in
     let all : c.loop-bytes.yielded ≡ c.args.areas.items = sym (map_same c.loop-bytes.yielded) ∙ seen.0 in
     let some : 0 < vec_len c.loop-bytes.list = omega (arith, ap length all, c.loop-bytes.invariant.size) in
-    record { some = some; dated = begin_dated c.loop-bytes.list.items (length c.loop-bytes.list.items) (bytes_at c.loop-bytes.yielded) c.loop-bytes.invariant.whole refl c.loop-bytes.invariant.each }
+    record { some = some; dated = begin_dated c.loop-bytes.list.items (length c.loop-bytes.list.items) (bytes_at c.loop-bytes.yielded) c.loop-bytes.invariant.whole refl c.loop-bytes.invariant.each; in_step = λ is. begin_in_step (view_at c.loop-bytes.list.items) (bytes_at c.loop-bytes.yielded) c.loop-bytes.invariant.each }
 
 pub returns : goal.returns
 returns c =

@@ -3,6 +3,7 @@ use Rattle.lean_disk.specs.Memory.{view_at, all_here, never}
 use Rattle.lean_disk.specs.declared.slot.Slot.{Slot}
 use Rattle.lean_disk.specs.declared.slot.Slot.TheVariants.{Here}
 use Rattle.lean_disk.proofs.BeginLemmas.{each_push, whole_push, log_begun, begin_dated, story_begins}
+use Rattle.lean_disk.proofs.StepLemmas.{begin_in_step}
 use Rattle.lean_disk.proofs.mem_disk.MemDisk.new.Goals as goal
 
 pub loop-init : goal.loop-init
@@ -27,7 +28,7 @@ pub invariant_of-result : goal.invariant_of-result
 invariant_of-result c =
     let size : length c.loop.list.items ≡ c.loop.counter = c.loop.invariant.size in
     let some : 0 < vec_len c.loop.list = omega arith in
-    record { some = some; dated = begin_dated c.loop.list.items (length c.loop.list.items) (λ a. []) c.loop.invariant.whole refl c.loop.invariant.each }
+    record { some = some; dated = begin_dated c.loop.list.items (length c.loop.list.items) (λ a. []) c.loop.invariant.whole refl c.loop.invariant.each; in_step = λ is. begin_in_step (view_at c.loop.list.items) (λ a. []) c.loop.invariant.each }
 
 pub returns : goal.returns
 returns c =
