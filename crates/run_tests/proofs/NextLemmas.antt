@@ -1,8 +1,9 @@
 -- The next run's premises, by the clauses of the run before it.
-use Rattle.std.proofs.Common.{◌≡◌, inl, inr, ◌+◌, ◌<◌, ◌≤◌, ◌^◌, ℕ, suc, zero, refl, sym, ap, subst, arith}
+use Rattle.std.proofs.Common.{◌≡◌, ◌⊎◌, inl, inr, ◌+◌, ◌<◌, ◌≤◌, ◌^◌, ℕ, suc, zero, Some, refl, sym, ◌∙◌, ap, subst, arith}
 use Rattle.std.specs.Prelude.{true, List, [], ◌∷◌, IsTrue}
 use mathlib.Core.Path.{fun_ext}
 use Rattle.lean_disk.specs.Area.{Area}
+use Rattle.lean_disk.specs.Laws.{EveryMoment, HasCrash}
 use Rattle.lean_disk.specs.Memory.{all_here, view_at}
 use Rattle.lean_disk.specs.MemDisk.{disk_story}
 use Rattle.lean_disk.specs.Story.{Crash, Story, Tells, areas_of}
@@ -10,11 +11,12 @@ use Rattle.lean_disk.specs.Told.{Begins}
 use Rattle.lean_disk.specs.declared.mem_disk.MemDisk.{MemDisk}
 use Rattle.lean_disk.specs.declared.slot.Slot.{Slot}
 use Rattle.disk_slots.specs.declared.master.Master.{Master}
-use Rattle.disk_image.specs.Shown.{IsCleanDisk}
-use Rattle.recovery.specs.Masters.{IsSameOrNext}
-use Rattle.lean_shell.specs.Crashes.{IsUnwritten, IsYoung, TellsCrashes}
+use Rattle.disk_image.specs.MasterSlots.{master_on}
+use Rattle.disk_image.specs.Shown.{Areas, IsCleanDisk}
+use Rattle.recovery.specs.Crashes.{IsNextOf}
+use Rattle.lean_shell.specs.Crashes.{HasMasterOf, IsUnwritten, IsYoung, MasterLeaves, TellsCrashes}
 use Rattle.lean_shell.specs.Headline.{RunLeaves, Survives}
-use Rattle.run_tests.specs.Laws.{EveryNextRun, IsCutOff, IsReadyAgain}
+use Rattle.run_tests.specs.Laws.{EveryNextRun, IsCutOff, IsOfMap, IsReadyAgain}
 
 -- where nothing is split off, each area is here
 each_here : (xs : List Slot) → all_here xs ≡ true → (a : ℕ) → IsTrue (view_at xs a).here
@@ -23,57 +25,73 @@ each_here (x ∷ xs) all zero = grind arith
 each_here (x ∷ xs) all (suc a) = each_here xs (grind arith) a
 
 -- a disk that begins tells of all areas
-tells_of : (d : MemDisk) (areas : ℕ) (bytes : ℕ → List ℕ) → Begins areas bytes (disk_story d) → (a : ℕ) → Tells (disk_story d) a
+tells_of : (d : MemDisk) (areas : ℕ) (bytes : Areas) → Begins areas bytes (disk_story d) → (a : ℕ) → Tells (disk_story d) a
 tells_of d areas bytes b = each_here d.areas.items b.counts
 
 -- and of crashes
-tells_crashes : (d : MemDisk) (areas : ℕ) (bytes : ℕ → List ℕ) → Begins areas bytes (disk_story d) → TellsCrashes (disk_story d)
+tells_crashes : (d : MemDisk) (areas : ℕ) (bytes : Areas) → Begins areas bytes (disk_story d) → TellsCrashes (disk_story d)
 tells_crashes d areas bytes b = record {
   all = record { master = tells_of d areas bytes b 0; pages = tells_of d areas bytes b 1; log = tells_of d areas bytes b 2 };
   counts = b.counts;
 }
 
 -- the next master's numbers are far from their ends too
-young_again : (m n : Master) (s : Story) → IsSameOrNext m n → m.sequence + 1 < 2 ^ 62 → m.generation + 1 < 2 ^ 62 → s.notes ≡ 0 → IsYoung n s
-young_again m n s same sequence generation notes = elim same.numbers [
-  | inl is ↦ let a : n.sequence ≡ m.sequence = ap (λ (x : Master). x.sequence) is in let b : n.generation ≡ m.generation = ap (λ (x : Master). x.generation) is in
+young_again : (m n : Master) (area : Areas) (s : Story) → (n ≡ m) ⊎ IsNextOf m area n → m.sequence + 1 < 2 ^ 62 → m.generation + 1 < 2 ^ 62 → s.notes ≡ 0 → IsYoung n s
+young_again m n area s is sequence generation notes = elim is [
+  | inl same ↦ let a : n.sequence ≡ m.sequence = ap (λ (x : Master). x.sequence) same in let b : n.generation ≡ m.generation = ap (λ (x : Master). x.generation) same in
       record { sequence = omega (arith, a, sequence); generation = omega (arith, b, generation); notes = omega (arith, notes) }
-  | inr is ↦ let a : n.sequence ≡ suc m.sequence = is.0 in let b : n.generation ≡ suc m.generation = is.1 in
+  | inr next ↦ let a : n.sequence ≡ suc m.sequence = ap (λ (x : Master). x.sequence) next.is in let b : n.generation ≡ suc m.generation = ap (λ (x : Master). x.generation) next.is in
       record { sequence = omega (arith, a, sequence); generation = omega (arith, b, generation); notes = omega (arith, notes) }
 ]
 
--- what a crash leaves where nothing was written yet
-unwritten_stands : (m : Master) (first : MemDisk) (areas : ℕ) (bytes : ℕ → List ℕ) (input put : List ℕ) (c : Crash) → Begins areas bytes (disk_story first) →
-    IsUnwritten (disk_story first) input put c → IsCleanDisk m (areas_of (disk_story first)) → IsCleanDisk m c.image
-unwritten_stands m first areas bytes input put c begins u clean =
-    let same : (a : ℕ) → areas_of (disk_story first) a ≡ c.image a = λ a. sym ((u.leaves a (tells_of first areas bytes begins a)).clean (ap (λ (z : Area). z.unsynced) (begins.area a))) in
-    subst (λ (image : ℕ → List ℕ). IsCleanDisk m image) (fun_ext same) clean
+-- where nothing was written yet, a crash leaves what stood there
+unwritten_image : (first : MemDisk) (areas : ℕ) (bytes : Areas) (input put : List ℕ) (c : Crash) → Begins areas bytes (disk_story first) → IsUnwritten (disk_story first) input put c →
+    c.image ≡ areas_of (disk_story first)
+unwritten_image first areas bytes input put c begins u =
+    fun_ext (λ a. (u.leaves a (tells_of first areas bytes begins a)).clean (ap (λ (z : Area). z.unsynced) (begins.area a)))
 
-ready_again : (m n : Master) (left : MemDisk) (areas : ℕ) (bytes : ℕ → List ℕ) → Begins areas bytes (disk_story left) → IsSameOrNext m n → m.sequence + 1 < 2 ^ 62 → m.generation + 1 < 2 ^ 62 →
-    IsCleanDisk n (areas_of (disk_story left)) → IsReadyAgain m (disk_story left)
-ready_again m n left areas bytes begins same sequence generation clean = record {
-  n = n;
-  same = same;
-  tells = tells_crashes left areas bytes begins;
-  clean = clean;
-  young = young_again m n (disk_story left) same sequence generation begins.notes;
-}
+-- two masters that count are one
+one_master : (m n : Master) (bytes : List ℕ) → master_on bytes ≡ Some m → master_on bytes ≡ Some n → n ≡ m
+one_master m n bytes one other = grind (one, other)
 
--- a master is the same as itself
-same_master : (m : Master) → IsSameOrNext m m
-same_master m = record { numbers = inl refl; pages = refl; blocks = refl; logs = refl }
+private section (m : Master) (first last left : MemDisk) (x : IsCutOff m first last left) (c : Crash) (image : c.image ≡ areas_of (disk_story left)) (fair : IsFairCrash (length m.heads) (disk_story first) c) where
+  Ready : Type 0
+  Ready = IsReadyAgain m (disk_story first) (disk_story left) x.feed.left x.ends.put
 
-ready_by : (m : Master) (first last left : MemDisk) (x : IsCutOff m first last left) → RunLeaves m (disk_story first) x.feed.left x.ends.put (record x.crash { image = areas_of (disk_story left) }) → IsReadyAgain m (disk_story left)
-ready_by m first last left x leaves = elim leaves [
-  | inl u ↦ ready_again m m left (disk_story last).areas (areas_of (disk_story left)) x.after.begins (same_master m) x.sequence x.generation
-      (unwritten_stands m first x.areas x.bytes x.feed.left x.ends.put (record x.crash { image = areas_of (disk_story left) }) x.begins u x.clean)
-  | inr survives ↦ let s : Survives m (disk_story first) x.feed.left x.ends.put (record x.crash { image = areas_of (disk_story left) }) = survives x.fair in
-      ready_again m s.n left (disk_story last).areas (areas_of (disk_story left)) x.after.begins s.same x.sequence x.generation s.clean
-]
+  ready : (n : Master) → (n ≡ m) ⊎ IsNextOf m (areas_of (disk_story first)) n → IsCleanDisk n c.image → IsOfMap m (disk_story first) x.feed.left x.ends.put c.image → Ready
+  ready n is clean map = record {
+    n = n;
+    is = is;
+    tells = tells_crashes left (disk_story last).areas (areas_of (disk_story left)) x.after.begins;
+    clean = subst (IsCleanDisk n) image clean;
+    young = young_again m n (areas_of (disk_story first)) (disk_story left) is x.sequence x.generation x.after.begins.notes;
+    map = subst (IsOfMap m (disk_story first) x.feed.left x.ends.put) image map;
+  }
 
-pub every_next_run : EveryNextRun
-every_next_run m first last left x =
-    let moments = x.ends.any_moment x.script m (tells_crashes first x.areas x.bytes x.begins) x.clean
-    (young_again m m (disk_story first) (same_master m) x.sequence x.generation x.begins.notes) in
+  stands : c.image ≡ areas_of (disk_story first) → Ready
+  stands same = ready m (inl refl) (subst (IsCleanDisk m) (sym same) x.clean) (inl same)
+
+  by_map : HasMasterOf m (disk_story first) c → RunLeaves m (disk_story first) x.feed.left x.ends.put c → Ready
+  by_map h leaves = elim leaves [
+    | inl u ↦ stands (unwritten_image first x.areas x.bytes x.feed.left x.ends.put c x.begins u)
+    | inr survives ↦ let s : Survives m (disk_story first) x.feed.left x.ends.put c = survives fair in
+        ready h.n h.is (subst (λ n. IsCleanDisk n c.image) (one_master h.n s.n (c.image 0) h.counts s.clean.master) s.clean) (inr (c, refl, s))
+  ]
+
+  pub ready_by : MasterLeaves m (disk_story first) x.feed.left x.ends.put c → RunLeaves m (disk_story first) x.feed.left x.ends.put c → Ready
+  ready_by masters leaves = elim masters [
+    | inl u ↦ stands (unwritten_image first x.areas x.bytes x.feed.left x.ends.put c x.begins u)
+    | inr h ↦ by_map (h fair) leaves
+  ]
+
+pub every_next_run : EveryMoment → EveryNextRun
+every_next_run every m first last left x =
+    let tells : TellsCrashes (disk_story first) = tells_crashes first x.areas x.bytes x.begins in
+    let young : IsYoung m (disk_story first) = young_again m m (areas_of (disk_story first)) (disk_story first) (inl refl) x.sequence x.generation x.begins.notes in
+    let here : HasCrash (disk_story last) x.moment = every last x.moment (x.ends.tells_on.counts ∙ x.begins.counts) x.by_now in
+    let there : (disk_story last).left_at x.moment (record here.crash { image = areas_of (disk_story left) }) = x.after.left here.crash here.there in
     let later : (disk_story first).moment ≤ x.moment = subst (λ k. k ≤ x.moment) (sym x.begins.moment) (omega arith) in
-    ready_by m first last left x (moments.each x.moment (record x.crash { image = areas_of (disk_story left) }) later (x.after.left x.crash x.there))
+    let c : Crash = record here.crash { image = areas_of (disk_story left) } in
+    ready_by m first last left x c refl (x.fair c there refl)
+      ((x.ends.masters x.script m tells x.clean young).each x.moment c later there)
+      ((x.headline.any_moment tells.counts m x.clean young).each x.moment c later there)

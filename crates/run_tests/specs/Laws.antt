@@ -1,21 +1,22 @@
 -- What the next run may rest on, where a crash cut off a run on a disk in memory.
-use Rattle.std.specs.Prelude.{◌<◌, ◌+◌, ◌^◌, ℕ, List, IsTrue}
+use Rattle.std.specs.Prelude.{◌≡◌, ◌⊎◌, ◌≤◌, ◌<◌, ◌+◌, ◌^◌, ℕ, List, length, IsTrue}
 use Rattle.lean_disk.specs.MemDisk.{disk_story}
 use Rattle.lean_disk.specs.Story.{Crash, Story, areas_of}
 use Rattle.lean_disk.specs.Told.{Begins, BeginsAfter}
 use Rattle.lean_disk.specs.declared.mem_disk.MemDisk.{MemDisk}
 use Rattle.lean_edge.specs.Outside.{Feed, Held}
 use Rattle.disk_slots.specs.declared.master.Master.{Master}
-use Rattle.disk_image.specs.Shown.{IsCleanDisk}
-use Rattle.recovery.specs.Masters.{IsSameOrNext}
 use Rattle.disk_image.specs.Fair.{IsFairCrash}
+use Rattle.disk_image.specs.Shown.{Areas, IsCleanDisk}
+use Rattle.recovery.specs.Crashes.{IsNextOf}
 use Rattle.lean_shell.specs.Crashes.{IsYoung, TellsCrashes}
 use Rattle.lean_shell.specs.Ends.{RunEnds}
+use Rattle.lean_shell.specs.Headline.{Headline, Survives}
 
 -- A run on a clean disk on which no call was made yet, and the disk that a crash at some moment of it left, an image that is fair.
 pub record IsCutOff (m : Master) (first last left : MemDisk) : Type 0 where
   pub areas : ℕ
-  pub bytes : ℕ → List ℕ
+  pub bytes : Areas
   pub begins : Begins areas bytes (disk_story first)
   pub clean : IsCleanDisk m (areas_of (disk_story first))
   pub sequence : m.sequence + 1 < 2 ^ 62
@@ -30,21 +31,26 @@ pub record IsCutOff (m : Master) (first last left : MemDisk) : Type 0 where
   pub sink_after : ℕ
   pub ends : RunEnds status (disk_story first) (disk_story last) feed feed_after held held_after sink sink_after
   pub script : IsTrue feed.tells
+  pub headline : Headline (disk_story first) (disk_story last) feed.left ends.put
   -- the crash
   pub moment : ℕ
-  pub crash : Crash
-  pub there : (disk_story last).left_at moment crash
+  pub by_now : moment ≤ (disk_story last).moment
   pub after : BeginsAfter moment (disk_story last) (disk_story left)
-  pub fair : IsFairCrash (disk_story first) (record crash { image = areas_of (disk_story left) })
+  pub fair : (c : Crash) → (disk_story last).left_at moment c → c.image ≡ areas_of (disk_story left) → IsFairCrash (length m.heads) (disk_story first) c
 
--- What a run asks of its disk holds, by the same master or the next one.
-pub record IsReadyAgain (m : Master) (s : Story) : Type 0 where
+-- The disk stands for what it stood for, or for what the headline says of a crash.
+abbrev pub IsOfMap : (m : Master) (first : Story) (input output : List ℕ) (area : Areas) → Type 0
+IsOfMap m first input output area = (area ≡ areas_of first) ⊎ ((c : Crash) × (c.image ≡ area) × Survives m first input output c)
+
+-- What a run asks of its disk holds, by the same master or the one that the run before wrote.
+pub record IsReadyAgain (m : Master) (first left : Story) (input output : List ℕ) : Type 0 where
   pub n : Master
-  pub same : IsSameOrNext m n
-  pub tells : TellsCrashes s
-  pub clean : IsCleanDisk n (areas_of s)
-  pub young : IsYoung n s
+  pub is : (n ≡ m) ⊎ IsNextOf m (areas_of first) n
+  pub tells : TellsCrashes left
+  pub clean : IsCleanDisk n (areas_of left)
+  pub young : IsYoung n left
+  pub map : IsOfMap m first input output (areas_of left)
 
 -- After a crash of a run the next run's premises hold.
 abbrev pub EveryNextRun : Type 0
-EveryNextRun = (m : Master) (first last left : MemDisk) → IsCutOff m first last left → IsReadyAgain m (disk_story left)
+EveryNextRun = (m : Master) (first last left : MemDisk) (x : IsCutOff m first last left) → IsReadyAgain m (disk_story first) (disk_story left) x.feed.left x.ends.put

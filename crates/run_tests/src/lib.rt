@@ -6,7 +6,9 @@ ghost use Rattle.run_tests.specs.Laws.{EveryNextRun};
 /// What a run asks of its disk holds after a crash of the run before it.
 pub fn every_next_run()
     ensures { EveryNextRun }
-{}
+{
+    lean_disk::every_moment();
+}
 
 #[cfg(test)]
 mod cases;
