@@ -3,12 +3,11 @@ use Rattle.std.proofs.Common.{◌≡◌, inl, inr, ◌+◌, ◌<◌, ◌≤◌, 
 use Rattle.std.specs.Prelude.{true, List, [], ◌∷◌, IsTrue}
 use mathlib.Core.Path.{fun_ext}
 use Rattle.lean_disk.specs.Area.{Area}
-use Rattle.lean_disk.specs.Memory.{all_here, view_at}
+use Rattle.lean_disk.specs.Inside.Laws.{areas_whole}
 use Rattle.lean_disk.specs.MemDisk.{disk_story}
 use Rattle.lean_disk.specs.Story.{Crash, Story, Tells}
 use Rattle.lean_disk.specs.Told.{Begins}
 use Rattle.lean_disk.specs.declared.mem_disk.MemDisk.{MemDisk}
-use Rattle.lean_disk.specs.declared.slot.Slot.{Slot}
 use Rattle.disk_slots.specs.declared.master.Master.{Master}
 use Rattle.disk_image.specs.Shown.{IsCleanDisk}
 use Rattle.recovery_scan.specs.Scans.{areas_of}
@@ -16,15 +15,9 @@ use Rattle.recovery.specs.Crashes.{IsSameOrNext}
 use Rattle.lean_run.specs.Crashes.{IsUnwritten, IsYoung, RunLeaves, Survives, TellsCrashes}
 use Rattle.run_tests.specs.Laws.{EveryNextRun, IsCutOff, IsReadyAgain}
 
--- where nothing is split off, each area is here
-each_here : (xs : List Slot) → all_here xs ≡ true → (a : ℕ) → IsTrue (view_at xs a).here
-each_here [] all a = grind arith
-each_here (x ∷ xs) all zero = grind arith
-each_here (x ∷ xs) all (suc a) = each_here xs (grind arith) a
-
 -- a disk that begins tells of all areas
 tells_of : (d : MemDisk) (areas : ℕ) (bytes : ℕ → List ℕ) → Begins areas bytes (disk_story d) → (a : ℕ) → Tells (disk_story d) a
-tells_of d areas bytes b = each_here d.areas.items b.counts
+tells_of d areas bytes b a = areas_whole d.own d.areas.items d.made d.notes a b.counts
 
 -- and of crashes
 tells_crashes : (d : MemDisk) (areas : ℕ) (bytes : ℕ → List ℕ) → Begins areas bytes (disk_story d) → TellsCrashes (disk_story d)
