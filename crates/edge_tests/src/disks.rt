@@ -185,6 +185,7 @@ static BEHIND_A_PART: [Step; 3] = [
 
 #[test]
 fn what_a_part_wrote_is_the_disks_when_it_is_back(rt: HostRuntime) -> Result<(), Fail> {
+    lean_disk::every_area();
     let mut disk = MemDisk::new(rt.alloc(), 2)?;
     let mut part = disk.split(1);
     let wrote = part.write(0, b"part");

@@ -17,7 +17,7 @@ pub use area_log::{AreaLog, Call, What};
 pub use area_of::AreaOf;
 pub use crash::Choice;
 pub use disk::{Did, Disk, Part, Read};
-pub use laws::every_moment;
+pub use laws::{every_area, every_moment};
 pub use mem_disk::MemDisk;
 pub use mem_part::MemPart;
 pub use slot::{Refused, Slot};

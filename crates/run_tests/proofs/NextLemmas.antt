@@ -1,15 +1,13 @@
 -- The next run's premises, by the clauses of the run before it.
-use Rattle.std.proofs.Common.{◌≡◌, ◌⊎◌, inl, inr, ◌+◌, ◌<◌, ◌≤◌, ◌^◌, ℕ, suc, zero, Some, refl, sym, ◌∙◌, ap, subst, arith}
-use Rattle.std.specs.Prelude.{true, List, [], ◌∷◌, IsTrue}
+use Rattle.std.proofs.Common.{◌≡◌, ◌⊎◌, inl, inr, ◌+◌, ◌<◌, ◌≤◌, ◌^◌, ℕ, suc, Some, refl, sym, ◌∙◌, ap, subst, arith}
+use Rattle.std.specs.Prelude.{List}
 use mathlib.Core.Path.{fun_ext}
 use Rattle.lean_disk.specs.Area.{Area}
-use Rattle.lean_disk.specs.Laws.{EveryMoment, HasCrash}
-use Rattle.lean_disk.specs.Memory.{all_here, view_at}
+use Rattle.lean_disk.specs.Laws.{EveryArea, EveryMoment, HasCrash}
 use Rattle.lean_disk.specs.MemDisk.{disk_story}
-use Rattle.lean_disk.specs.Story.{Crash, Story, Tells, areas_of}
+use Rattle.lean_disk.specs.Story.{Crash, Story, areas_of}
 use Rattle.lean_disk.specs.Told.{Begins}
 use Rattle.lean_disk.specs.declared.mem_disk.MemDisk.{MemDisk}
-use Rattle.lean_disk.specs.declared.slot.Slot.{Slot}
 use Rattle.disk_slots.specs.declared.master.Master.{Master}
 use Rattle.disk_image.specs.MasterSlots.{master_on}
 use Rattle.disk_image.specs.Shown.{Areas, IsCleanDisk}
@@ -18,20 +16,10 @@ use Rattle.lean_shell.specs.Crashes.{HasMasterOf, IsUnwritten, IsYoung, MasterLe
 use Rattle.lean_shell.specs.Headline.{RunLeaves, Survives}
 use Rattle.run_tests.specs.Laws.{EveryNextRun, IsCutOff, IsOfMap, IsReadyAgain}
 
--- where nothing is split off, each area is here
-each_here : (xs : List Slot) → all_here xs ≡ true → (a : ℕ) → IsTrue (view_at xs a).here
-each_here [] all a = grind arith
-each_here (x ∷ xs) all zero = grind arith
-each_here (x ∷ xs) all (suc a) = each_here xs (grind arith) a
-
--- a disk that begins tells of all areas
-tells_of : (d : MemDisk) (areas : ℕ) (bytes : Areas) → Begins areas bytes (disk_story d) → (a : ℕ) → Tells (disk_story d) a
-tells_of d areas bytes b = each_here d.areas.items b.counts
-
--- and of crashes
-tells_crashes : (d : MemDisk) (areas : ℕ) (bytes : Areas) → Begins areas bytes (disk_story d) → TellsCrashes (disk_story d)
-tells_crashes d areas bytes b = record {
-  all = record { master = tells_of d areas bytes b 0; pages = tells_of d areas bytes b 1; log = tells_of d areas bytes b 2 };
+-- a disk that begins tells of crashes
+tells_crashes : EveryArea → (d : MemDisk) (areas : ℕ) (bytes : Areas) → Begins areas bytes (disk_story d) → TellsCrashes (disk_story d)
+tells_crashes tells d areas bytes b = record {
+  all = record { master = tells d 0 b.counts; pages = tells d 1 b.counts; log = tells d 2 b.counts };
   counts = b.counts;
 }
 
@@ -45,16 +33,16 @@ young_again m n area s is sequence generation notes = elim is [
 ]
 
 -- where nothing was written yet, a crash leaves what stood there
-unwritten_image : (first : MemDisk) (areas : ℕ) (bytes : Areas) (input put : List ℕ) (c : Crash) → Begins areas bytes (disk_story first) → IsUnwritten (disk_story first) input put c →
+unwritten_image : EveryArea → (first : MemDisk) (areas : ℕ) (bytes : Areas) (input put : List ℕ) (c : Crash) → Begins areas bytes (disk_story first) → IsUnwritten (disk_story first) input put c →
     c.image ≡ areas_of (disk_story first)
-unwritten_image first areas bytes input put c begins u =
-    fun_ext (λ a. (u.leaves a (tells_of first areas bytes begins a)).clean (ap (λ (z : Area). z.unsynced) (begins.area a)))
+unwritten_image tells first areas bytes input put c begins u =
+    fun_ext (λ a. (u.leaves a (tells first a begins.counts)).clean (ap (λ (z : Area). z.unsynced) (begins.area a)))
 
 -- two masters that count are one
 one_master : (m n : Master) (bytes : List ℕ) → master_on bytes ≡ Some m → master_on bytes ≡ Some n → n ≡ m
 one_master m n bytes one other = grind (one, other)
 
-private section (m : Master) (first last left : MemDisk) (x : IsCutOff m first last left) (c : Crash) (image : c.image ≡ areas_of (disk_story left)) (fair : IsFairCrash (length m.heads) (disk_story first) c) where
+private section (told : EveryArea) (m : Master) (first last left : MemDisk) (x : IsCutOff m first last left) (c : Crash) (image : c.image ≡ areas_of (disk_story left)) (fair : IsFairCrash (length m.heads) (disk_story first) c) where
   Ready : Type 0
   Ready = IsReadyAgain m (disk_story first) (disk_story left) x.feed.left x.ends.put
 
@@ -62,7 +50,7 @@ private section (m : Master) (first last left : MemDisk) (x : IsCutOff m first l
   ready n is clean map = record {
     n = n;
     is = is;
-    tells = tells_crashes left (disk_story last).areas (areas_of (disk_story left)) x.after.begins;
+    tells = tells_crashes told left (disk_story last).areas (areas_of (disk_story left)) x.after.begins;
     clean = subst (IsCleanDisk n) image clean;
     young = young_again m n (areas_of (disk_story first)) (disk_story left) is x.sequence x.generation x.after.begins.notes;
     map = subst (IsOfMap m (disk_story first) x.feed.left x.ends.put) image map;
@@ -73,25 +61,25 @@ private section (m : Master) (first last left : MemDisk) (x : IsCutOff m first l
 
   by_map : HasMasterOf m (disk_story first) c → RunLeaves m (disk_story first) x.feed.left x.ends.put c → Ready
   by_map h leaves = elim leaves [
-    | inl u ↦ stands (unwritten_image first x.areas x.bytes x.feed.left x.ends.put c x.begins u)
+    | inl u ↦ stands (unwritten_image told first x.areas x.bytes x.feed.left x.ends.put c x.begins u)
     | inr survives ↦ let s : Survives m (disk_story first) x.feed.left x.ends.put c = survives fair in
         ready h.n h.is (subst (λ n. IsCleanDisk n c.image) (one_master h.n s.n (c.image 0) h.counts s.clean.master) s.clean) (inr (c, refl, s))
   ]
 
   pub ready_by : MasterLeaves m (disk_story first) x.feed.left x.ends.put c → RunLeaves m (disk_story first) x.feed.left x.ends.put c → Ready
   ready_by masters leaves = elim masters [
-    | inl u ↦ stands (unwritten_image first x.areas x.bytes x.feed.left x.ends.put c x.begins u)
+    | inl u ↦ stands (unwritten_image told first x.areas x.bytes x.feed.left x.ends.put c x.begins u)
     | inr h ↦ by_map (h fair) leaves
   ]
 
-pub every_next_run : EveryMoment → EveryNextRun
-every_next_run every m first last left x =
-    let tells : TellsCrashes (disk_story first) = tells_crashes first x.areas x.bytes x.begins in
+pub every_next_run : EveryArea → EveryMoment → EveryNextRun
+every_next_run told every m first last left x =
+    let tells : TellsCrashes (disk_story first) = tells_crashes told first x.areas x.bytes x.begins in
     let young : IsYoung m (disk_story first) = young_again m m (areas_of (disk_story first)) (disk_story first) (inl refl) x.sequence x.generation x.begins.notes in
     let here : HasCrash (disk_story last) x.moment = every last x.moment (x.ends.tells_on.counts ∙ x.begins.counts) x.by_now in
     let there : (disk_story last).left_at x.moment (record here.crash { image = areas_of (disk_story left) }) = x.after.left here.crash here.there in
     let later : (disk_story first).moment ≤ x.moment = subst (λ k. k ≤ x.moment) (sym x.begins.moment) (omega arith) in
     let c : Crash = record here.crash { image = areas_of (disk_story left) } in
-    ready_by m first last left x c refl (x.fair c there refl)
+    ready_by told m first last left x c refl (x.fair c there refl)
       ((x.ends.masters x.script m tells x.clean young).each x.moment c later there)
       ((x.headline.any_moment tells.counts m x.clean young).each x.moment c later there)

@@ -7,6 +7,7 @@ ghost use Rattle.run_tests.specs.Laws.{EveryNextRun};
 pub fn every_next_run()
     ensures { EveryNextRun }
 {
+    lean_disk::every_area();
     lean_disk::every_moment();
 }
 
