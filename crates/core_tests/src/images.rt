@@ -54,7 +54,7 @@ fn page_of(alloc: Global, page: &plain_core::Page) -> Result<plain_images::Page,
             level: page.node.level,
             low: page.node.low,
             high: page.node.high,
-            pairs: pairs_of(alloc, &page.node.pairs)?,
+            pairs: Vec::from_slice(alloc, &page.node.pairs)?,
         },
     })
 }
@@ -81,7 +81,7 @@ fn record_of(alloc: Global, entry: &plain_core::Entry) -> Result<Record, AllocEr
         sep: made.separator,
         high: made.high,
         level: small(made.level),
-        pairs: pairs_of(alloc, &made.pairs)?,
+        pairs: Vec::from_slice(alloc, &made.pairs)?,
         keys: Vec::from_slice(alloc, &made.keys)?,
     })
 }
@@ -106,20 +106,6 @@ fn ref_of(one: plain_core::Ref) -> plain_images::Ref {
         page: one.page,
         prev: one.previous,
     }
-}
-
-fn pairs_of(
-    alloc: Global,
-    pairs: &[plain_core::Pair],
-) -> Result<Vec<plain_images::Pair>, AllocError> {
-    let mut copies = Vec::new(alloc);
-    for pair in pairs {
-        copies.push(plain_images::Pair {
-            key: pair.key,
-            word: pair.word,
-        })?;
-    }
-    Ok(copies)
 }
 
 // Logs and levels of the lists are small.

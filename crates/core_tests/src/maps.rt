@@ -66,7 +66,17 @@ pub fn is_map(map: &BTreeMap<u64, u64>, pairs: &[(u64, u64)]) -> bool {
     map.len() == pairs.len()
 }
 
-/// The same of the pairs that a program of images answers.
+/// The pairs are those that are said.
+pub fn are_pairs(pairs: &[Pair], said: &[(u64, u64)]) -> bool {
+    for (pair, (key, word)) in pairs.iter().zip(said) {
+        if pair.key != *key || pair.word != *word {
+            return false;
+        }
+    }
+    pairs.len() == said.len()
+}
+
+/// The map has the pairs that a program of images answers, and no other.
 pub fn has_pairs(map: &BTreeMap<u64, u64>, pairs: &[Pair]) -> bool {
     for pair in pairs {
         if map.get(&pair.key).copied() != Some(pair.word) {

@@ -1,5 +1,6 @@
 // What the lists begin with.
-use plain_core::{Core, Node, Page, Pair, Settings, Table};
+use plain_core::{Core, Node, Page, Settings, Table};
+use plain_images::Pair;
 use std::alloc::{AllocError, Global};
 
 /// The word of a tombstone, as the programs of images have it.
@@ -173,7 +174,8 @@ fn node_of(alloc: Global, contents: Contents) -> Result<Node, AllocError> {
     }
 }
 
-fn pairs_of(alloc: Global, said: &[(u64, u64)]) -> Result<Vec<Pair>, AllocError> {
+/// The pairs that are said.
+pub fn pairs_of(alloc: Global, said: &[(u64, u64)]) -> Result<Vec<Pair>, AllocError> {
     let mut pairs = Vec::new(alloc);
     for (key, word) in said {
         pairs.push(Pair {

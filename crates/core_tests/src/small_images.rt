@@ -1,7 +1,8 @@
 // Small images written by hand, each by a sentence, with what they stand for.
-use crate::openings::{DEAD, TOP};
+use crate::maps::are_pairs;
+use crate::openings::{DEAD, TOP, pairs_of};
 use plain_images::{
-    Damage, Image, Kind, Log, Name, Node, Page, Pair, Record, Ref, first_break, first_damage,
+    Damage, Image, Kind, Log, Name, Node, Page, Record, Ref, first_break, first_damage,
     losers, map, reach, recovered_page, sorted, value, winners,
 };
 use std::alloc::{AllocError, Global};
@@ -292,17 +293,6 @@ fn bare(alloc: Global, kind: Kind, log: u32, txn: u64, number: u64) -> Record {
     }
 }
 
-fn pairs_of(alloc: Global, said: &[(u64, u64)]) -> Result<Vec<Pair>, AllocError> {
-    let mut pairs = Vec::new(alloc);
-    for (key, word) in said {
-        pairs.push(Pair {
-            key: *key,
-            word: *word,
-        })?;
-    }
-    Ok(pairs)
-}
-
 fn are_named(names: &[Name], said: &[(u32, u64)]) -> bool {
     for (name, (session, number)) in names.iter().zip(said) {
         if name.session != *session || name.number != *number {
@@ -310,15 +300,6 @@ fn are_named(names: &[Name], said: &[(u32, u64)]) -> bool {
         }
     }
     names.len() == said.len()
-}
-
-fn are_pairs(pairs: &[Pair], said: &[(u64, u64)]) -> bool {
-    for (pair, (key, word)) in pairs.iter().zip(said) {
-        if pair.key != *key || pair.word != *word {
-            return false;
-        }
-    }
-    pairs.len() == said.len()
 }
 
 // Of the keys 5, 6 and 7, one by one.

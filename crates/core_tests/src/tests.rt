@@ -6,7 +6,7 @@ use crate::journals::{
     Committed, after, has_ripe, is_closed, is_serial, journal_of, kept_of, transcript_of,
 };
 use crate::lists::lists;
-use crate::maps::{copy_of, has_pairs, is_map, is_same, map_of_leaves, write_leaf};
+use crate::maps::{are_pairs, copy_of, has_pairs, is_map, is_same, map_of_leaves, write_leaf};
 use crate::runs::{Run, started};
 use crate::small_images::{SMALL, TREES, break_of, stands};
 use crate::walks::{first_wrong, walks};
@@ -310,13 +310,4 @@ fn are_named(kept: &[Committed], names: &[(u64, u64)]) -> bool {
         }
     }
     kept.len() == names.len()
-}
-
-fn are_pairs(map: &[Pair], pairs: &[(u64, u64)]) -> bool {
-    for (pair, (key, word)) in map.iter().zip(pairs) {
-        if pair.key != *key || pair.word != *word {
-            return false;
-        }
-    }
-    map.len() == pairs.len()
 }

@@ -3,9 +3,10 @@ mod frames;
 mod structure;
 mod transactions;
 
+use crate::maps::are_pairs;
 use crate::openings::{Contents, Opening, opened};
 use crate::steps::{Step, event_of};
-use plain_core::{Core, Entry, Kind, Page, Pair, Place, Refusal, Table};
+use plain_core::{Core, Entry, Kind, Page, Place, Refusal, Table};
 use std::alloc::Global;
 
 /// What is done or looked at in turn, after an opening.
@@ -189,15 +190,6 @@ fn is_page(page: &Page, number: u64, contents: Contents) -> bool {
                 && are_pairs(&node.pairs, pairs)
         }
     }
-}
-
-fn are_pairs(found: &[Pair], pairs: &[(u64, u64)]) -> bool {
-    for (pair, (key, word)) in found.iter().zip(pairs) {
-        if pair.key != *key || pair.word != *word {
-            return false;
-        }
-    }
-    found.len() == pairs.len()
 }
 
 fn word_of(core: &Core, word: Word) -> u64 {

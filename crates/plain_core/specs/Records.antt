@@ -1,10 +1,9 @@
 -- What the program's pages and entries stand for.
 use Rattle.std.specs.Prelude.{List, map}
-use Rattle.page_model.specs.Pairs as pairs
 use Rattle.page_model.specs.Nodes as nodes
 use Rattle.page_model.specs.Records as records
 use Rattle.image_model.specs.Entries as model
-use Rattle.plain_core.specs.declared.records.Pair.{Pair}
+use Rattle.plain_images.specs.Pages.{pair_of}
 use Rattle.plain_core.specs.declared.records.Node.{Node}
 use Rattle.plain_core.specs.declared.records.Page.{Page}
 use Rattle.plain_core.specs.declared.records.Ref.{Ref}
@@ -14,10 +13,6 @@ use Rattle.plain_core.specs.declared.records.PageRecord.{PageRecord}
 use Rattle.plain_core.specs.declared.records.Kind.{Kind}
 use Rattle.plain_core.specs.declared.records.Kind.TheVariants as kinds
 use Rattle.plain_core.specs.declared.records.Entry.{Entry}
-
--- a key and its word
-abbrev pub pair_of : Pair → pairs.Pair
-pair_of x = record { key = x.key; word = x.word }
 
 -- a node, or a free page
 abbrev pub node_of : Node → nodes.Node

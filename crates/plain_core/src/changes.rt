@@ -5,10 +5,11 @@ ghost use Rattle.page_model.specs.Records as records;
 ghost use Rattle.image_model.specs.Entries as logged;
 ghost use Rattle.plain_core.specs.Records.{node_of, page_of, record_of, kind_of, entry_of};
 
-use crate::effects::{next, put};
-use crate::pairs::{apart_from, below, joined, without};
-use crate::records::{Entry, Kind, Node, Page, PageRecord, Pair};
+use crate::effects::next;
+use crate::records::{Entry, Kind, Node, Page, PageRecord};
 use crate::refusal::Refusal;
+use plain_images::Pair;
+use plain_images::pairs::{below, joined, others, put, without};
 use std::alloc::{AllocError, Global};
 
 impl Page {
@@ -182,7 +183,7 @@ impl Node {
         ensures { IfOk result (λ v. node_of v ≡ records.applied_as records.Kind.Purge (record_of change.now) page (node_of self.now)) }
     {
         if page == change.left.page {
-            let pairs = apart_from(alloc, &self.pairs, &change.keys)?;
+            let pairs = others(alloc, &self.pairs, &change.keys)?;
             return Ok(self.with_pairs(pairs));
         }
         self.copy(alloc)

@@ -12,15 +12,16 @@ ghost use Rattle.core_state.specs.Steps as steps;
 ghost use Rattle.core_state.specs.Events as events;
 ghost use Rattle.plain_core.specs.Inside.{tail, newest_of, raised, written_in, write_entry_in, write_record_in, write_kind};
 ghost use Rattle.plain_core.specs.Tables.{at};
-ghost use Rattle.plain_core.specs.Records.{pair_of, node_of, page_of, ref_of, record_of, kind_of, entry_of, entries_of};
+ghost use Rattle.plain_core.specs.Records.{node_of, page_of, ref_of, record_of, kind_of, entry_of, entries_of};
 ghost use Rattle.plain_core.specs.States.{place_of, Rest, Becomes, IsStep, format_of, opening, row_at, row_of, worker_of, state_of};
 ghost use Rattle.plain_core.specs.Events.{event_of, events_of, mode_of};
 
 use crate::event::{Event, Mode};
-use crate::records::{Entry, Kind, Node, Page, PageKind, PageRecord, Pair, Ref, copy_entries};
+use crate::records::{Entry, Kind, Node, Page, PageKind, PageRecord, Ref, copy_entries};
 use crate::refusal::Refusal;
 use crate::state::{Core, Place, Row, Worker};
 use crate::table::{Placed, Table};
+use plain_images::pairs::put;
 use std::alloc::{AllocError, Global};
 
 pub(crate) fn next(number: u64) -> Result<u64, Refusal>
@@ -365,35 +366,6 @@ impl Page {
             },
         })
     }
-}
-
-// The pairs, in which the key has the word.
-pub(crate) fn put(
-    alloc: Global,
-    pairs: &[Pair],
-    key: u64,
-    word: u64,
-) -> Result<Vec<Pair>, AllocError>
-    ensures { IfOk result (λ v. map pair_of v.items ≡ paired.put key word (map pair_of pairs.now)) }
-{
-    let mut all = Vec::new(alloc);
-    let mut is_put = false;
-    for pair in pairs {
-        if !is_put && key < pair.key {
-            all.push(Pair { key, word })?;
-            all.push(*pair)?;
-            is_put = true;
-        } else if !is_put && pair.key == key {
-            all.push(Pair { key, word })?;
-            is_put = true;
-        } else {
-            all.push(*pair)?;
-        }
-    }
-    if !is_put {
-        all.push(Pair { key, word })?;
-    }
-    Ok(all)
 }
 
 // A write of a key takes the next number, and says the word before and after.

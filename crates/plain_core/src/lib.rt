@@ -20,7 +20,7 @@ mod structure;
 mod table;
 
 pub use event::{Event, Following, Mode};
-pub use records::{Entry, Kind, Node, Page, PageKind, PageRecord, Pair, Ref};
+pub use records::{Entry, Kind, Node, Page, PageKind, PageRecord, Ref};
 pub use refusal::Refusal;
 pub use state::{Core, Place, Row, Settings, Worker};
 pub use table::Table;

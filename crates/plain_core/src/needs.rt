@@ -12,14 +12,15 @@ ghost use Rattle.core_state.specs.Needs as needs;
 ghost use Rattle.core_state.specs.Events as events;
 ghost use Rattle.plain_core.specs.Inside.{value_at, is_worker_of, may_put_in, may_put_back_in, may_look};
 ghost use Rattle.plain_core.specs.Tables.{at};
-ghost use Rattle.plain_core.specs.Records.{pair_of, node_of, page_of, kind_of, entry_of, entries_of};
+ghost use Rattle.plain_core.specs.Records.{node_of, page_of, kind_of, entry_of, entries_of};
 ghost use Rattle.plain_core.specs.States.{Rest, format_of, opening, row_at, row_of, place_of, worker_of, state_of};
 ghost use Rattle.plain_core.specs.Events.{event_of, mode_of};
 
 use crate::event::{Event, Mode};
-use crate::records::{Entry, Kind, Node, Pair};
+use crate::records::{Entry, Kind, Node};
 use crate::state::{Core, Place, Row, Settings};
 use crate::table::Table;
+use plain_images::pairs::find;
 
 impl Row {
     pub fn is_held_by(&self, worker: u64) -> bool
@@ -126,17 +127,6 @@ impl Node {
                 && (word <= settings.dead
                     && (self.has_key(key) || (self.pairs.len() as u64) < settings.room)))
     }
-}
-
-fn find(pairs: &[Pair], key: u64) -> Option<u64>
-    ensures { result ≡ paired.find key (map pair_of pairs.now) }
-{
-    for pair in pairs {
-        if pair.key == key {
-            return Some(pair.word);
-        }
-    }
-    None
 }
 
 fn value_of(dead: u64, word: u64) -> Option<u64>

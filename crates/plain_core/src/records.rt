@@ -3,14 +3,8 @@ ghost use Rattle.std.specs.Prelude.{◌≡◌, ◌∷◌, map, IfOk};
 ghost use Rattle.plain_core.specs.Records.{node_of, page_of, record_of, entry_of, entries_of};
 
 use crate::refusal::Refusal;
+use plain_images::Pair;
 use std::alloc::{AllocError, Global};
-
-/// A key and its word.
-#[derive(Clone, Copy, Debug, PartialEq, Eq)]
-pub struct Pair {
-    pub key: u64,
-    pub word: u64,
-}
 
 /// A node, or a free page, which is not live and has nothing else.
 #[derive(Debug, Drop)]

@@ -3,14 +3,14 @@ ghost use Rattle.std.specs.Prelude.{◌≡◌, map, IfOk};
 ghost use Rattle.core_state.specs.Needs as needs;
 ghost use Rattle.core_state.specs.Steps as steps;
 ghost use Rattle.core_state.specs.Events as events;
-ghost use Rattle.plain_core.specs.Records.{pair_of};
+ghost use Rattle.plain_images.specs.Pages.{pair_of};
 ghost use Rattle.plain_core.specs.States.{Rest, Becomes, format_of, opening, state_of};
 ghost use Rattle.plain_core.specs.Events.{answer_of};
 
 use crate::event::Following;
-use crate::records::Pair;
 use crate::refusal::Refusal;
 use crate::state::{Core, Settings};
+use plain_images::Pair;
 use std::alloc::Global;
 
 // The least live pair at or above the key, or that there is none up to the high fence.

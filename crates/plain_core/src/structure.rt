@@ -8,11 +8,13 @@ ghost use Rattle.core_state.specs.States as states;
 ghost use Rattle.core_state.specs.Needs as needs;
 ghost use Rattle.core_state.specs.Events as events;
 ghost use Rattle.plain_core.specs.Structure.{is_inner_place, may_part, may_split_in, may_lift_in, are_few, may_join_in, is_dead_in, may_purge_in, is_settled_in};
-ghost use Rattle.plain_core.specs.Records.{pair_of, node_of};
+ghost use Rattle.plain_images.specs.Pages.{pair_of};
+ghost use Rattle.plain_core.specs.Records.{node_of};
 ghost use Rattle.plain_core.specs.States.{Rest, opening, row_of, state_of};
 
-use crate::records::{Node, Pair};
+use crate::records::Node;
 use crate::state::{Core, Row, Settings};
+use plain_images::Pair;
 
 impl Row {
     fn has_no_reader(&self) -> bool

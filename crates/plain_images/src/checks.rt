@@ -8,8 +8,8 @@ ghost use Rattle.plain_images.specs.Pages.{node_of, format_of};
 ghost use Rattle.plain_images.specs.Records.{kind_of, record_of, entry_of};
 ghost use Rattle.plain_images.specs.Images.{pages_of};
 
-use crate::leaves::find;
 use crate::pages::{DEAD, LEVELS, Node, ROOM};
+use crate::pairs::find;
 use crate::records::{Kind, Page, Record};
 use crate::redone::{Placed, number_of, page_at, stands};
 use std::alloc::{AllocError, Global};

@@ -8,8 +8,8 @@ ghost use Rattle.plain_images.specs.Pages.{node_of, pairs_of, format_of};
 ghost use Rattle.plain_images.specs.Images.{redone_of};
 
 use crate::changes::with_pairs;
-use crate::pages::{DEAD, Node, Pair};
-use crate::pairs::put;
+use crate::pages::{DEAD, Node};
+use crate::pairs::{find, put};
 use crate::records::Page;
 use crate::redone::{Redone, page_at};
 use std::alloc::{AllocError, Global};
@@ -19,17 +19,6 @@ pub(crate) fn holds(node: &Node, key: u64) -> bool
     ensures { result ≡ nodes.holds (node_of node.now) key }
 {
     node.live && node.level == 0 && node.low <= key && key < node.high
-}
-
-pub(crate) fn find(pairs: &[Pair], key: u64) -> Option<u64>
-    ensures { result ≡ page_pairs.find key (pairs_of pairs.now) }
-{
-    for pair in pairs {
-        if pair.key == key {
-            return Some(pair.word);
-        }
-    }
-    None
 }
 
 // The word of the key in the leaf that has it; an absent key has a tombstone's.

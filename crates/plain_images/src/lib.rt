@@ -11,7 +11,7 @@ mod ends;
 mod leaves;
 mod order;
 mod pages;
-mod pairs;
+pub mod pairs;
 mod records;
 mod recovered;
 mod redone;

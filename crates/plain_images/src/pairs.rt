@@ -1,4 +1,4 @@
-// Lists of pairs with rising keys.
+// Lists of pairs with rising keys, as both plain programs have them.
 ghost use Rattle.std.specs.Prelude.{◌≡◌, ◌++◌, ◌==◌, ltb, not, IfOk};
 ghost use Rattle.page_model.specs.Pairs as page_pairs;
 ghost use Rattle.plain_images.specs.Pages.{pairs_of};
@@ -6,8 +6,23 @@ ghost use Rattle.plain_images.specs.Pages.{pairs_of};
 use crate::pages::Pair;
 use std::alloc::{AllocError, Global};
 
-// The pair with the key gets the word, and is put in where there is none.
-pub(crate) fn put(
+/// The word of the key.
+pub fn find(pairs: &[Pair], key: u64) -> Option<u64>
+    ensures { result ≡ page_pairs.find key (pairs_of pairs.now) }
+{
+    for pair in pairs {
+        if pair.key == key {
+            return Some(pair.word);
+        }
+    }
+    None
+}
+
+/// The pair with the key gets the word, and is put in where there is none.
+///
+/// # Errors
+/// Where memory runs out.
+pub fn put(
     alloc: Global,
     pairs: &[Pair],
     key: u64,
@@ -34,8 +49,11 @@ pub(crate) fn put(
     Ok(put)
 }
 
-// The pairs with keys below the separator.
-pub(crate) fn below(alloc: Global, pairs: &[Pair], sep: u64) -> Result<Vec<Pair>, AllocError>
+/// The pairs with keys below the separator.
+///
+/// # Errors
+/// Where memory runs out.
+pub fn below(alloc: Global, pairs: &[Pair], sep: u64) -> Result<Vec<Pair>, AllocError>
     ensures { IfOk result (λ v. pairs_of v.items ≡ page_pairs.below sep (pairs_of pairs.now)) }
 {
     let mut below = Vec::new(alloc);
@@ -47,8 +65,11 @@ pub(crate) fn below(alloc: Global, pairs: &[Pair], sep: u64) -> Result<Vec<Pair>
     Ok(below)
 }
 
-// The pairs with other keys than the separator.
-pub(crate) fn without(alloc: Global, pairs: &[Pair], sep: u64) -> Result<Vec<Pair>, AllocError>
+/// The pairs with other keys than the separator.
+///
+/// # Errors
+/// Where memory runs out.
+pub fn without(alloc: Global, pairs: &[Pair], sep: u64) -> Result<Vec<Pair>, AllocError>
     ensures { IfOk result (λ v. pairs_of v.items ≡ page_pairs.without sep (pairs_of pairs.now)) }
 {
     let mut without = Vec::new(alloc);
@@ -60,8 +81,11 @@ pub(crate) fn without(alloc: Global, pairs: &[Pair], sep: u64) -> Result<Vec<Pai
     Ok(without)
 }
 
-// The pairs whose keys are not among these.
-pub(crate) fn others(alloc: Global, pairs: &[Pair], keys: &[u64]) -> Result<Vec<Pair>, AllocError>
+/// The pairs whose keys are not among these.
+///
+/// # Errors
+/// Where memory runs out.
+pub fn others(alloc: Global, pairs: &[Pair], keys: &[u64]) -> Result<Vec<Pair>, AllocError>
     ensures { IfOk result (λ v. pairs_of v.items ≡ page_pairs.keep (λ k. not (page_pairs.is_in k keys.now)) (pairs_of pairs.now)) }
 {
     let mut others = Vec::new(alloc);
@@ -84,8 +108,11 @@ fn is_in(key: u64, keys: &[u64]) -> bool
     false
 }
 
-// The pairs of both lists.
-pub(crate) fn joined(alloc: Global, left: &[Pair], right: &[Pair]) -> Result<Vec<Pair>, AllocError>
+/// The pairs of both lists.
+///
+/// # Errors
+/// Where memory runs out.
+pub fn joined(alloc: Global, left: &[Pair], right: &[Pair]) -> Result<Vec<Pair>, AllocError>
     ensures { IfOk result (λ v. pairs_of v.items ≡ pairs_of left.now ++ pairs_of right.now) }
 {
     let mut joined = Vec::from_slice(alloc, left)?;

@@ -1,6 +1,6 @@
 use Rattle.std.proofs.Common.{◌∙◌, ap, map}
 use Rattle.std.proofs.lemmas.List.{drop_more}
-use Rattle.plain_core.specs.Records.{pair_of}
+use Rattle.plain_images.specs.Pages.{pair_of}
 use Rattle.plain_core.proofs.Placings.{key_more}
 use Rattle.plain_core.proofs.pairs.key_at.Goals as goal
 

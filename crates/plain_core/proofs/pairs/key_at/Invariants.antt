@@ -1,6 +1,6 @@
 use Rattle.std.proofs.Common.{◌≡◌, map, drop}
 use Rattle.page_model.specs.Needs.{key_at}
-use Rattle.plain_core.specs.Records.{pair_of}
+use Rattle.plain_images.specs.Pages.{pair_of}
 use Rattle.plain_core.proofs.pairs.key_at.Given as goal
 
 abbrev pub invariant-loop-pair : goal.invariant-loop-pair

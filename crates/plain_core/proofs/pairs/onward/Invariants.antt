@@ -1,6 +1,6 @@
 use Rattle.std.proofs.Common.{◌≡◌, ◌++◌, map, drop}
 use Rattle.page_model.specs.Pairs as paired
-use Rattle.plain_core.specs.Records.{pair_of}
+use Rattle.plain_images.specs.Pages.{pair_of}
 use Rattle.plain_core.proofs.pairs.onward.Given as goal
 
 abbrev pub invariant-loop-pair : goal.invariant-loop-pair

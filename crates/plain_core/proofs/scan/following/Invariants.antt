@@ -1,6 +1,6 @@
 use Rattle.std.proofs.Common.{◌≡◌, map, drop}
 use Rattle.core_state.specs.Needs as needs
-use Rattle.plain_core.specs.Records.{pair_of}
+use Rattle.plain_images.specs.Pages.{pair_of}
 use Rattle.plain_core.specs.States.{Rest, format_of}
 use Rattle.plain_core.proofs.scan.following.Given as goal
 

@@ -1,7 +1,7 @@
 use Rattle.std.proofs.Common.{◌≡◌, ◌==◌, map, drop}
 use Rattle.page_model.specs.Pairs as paired
 use Rattle.page_model.specs.Records.{any}
-use Rattle.plain_core.specs.Records.{pair_of}
+use Rattle.plain_images.specs.Pages.{pair_of}
 use Rattle.plain_core.proofs.records.Node.names_page.Given as goal
 
 abbrev pub invariant-loop-pair : goal.invariant-loop-pair

@@ -1,7 +1,0 @@
-use Rattle.std.proofs.Common.{◌≡◌, ◌++◌, map, drop}
-use Rattle.page_model.specs.Pairs as paired
-use Rattle.plain_core.specs.Records.{pair_of}
-use Rattle.plain_core.proofs.pairs.without.Given as goal
-
-abbrev pub invariant-loop-pair : goal.invariant-loop-pair
-invariant-loop-pair l = map pair_of l.without.items ++ paired.without l.separator (map pair_of (drop l.pair-index l.pairs)) ≡ paired.without l.separator (map pair_of l.pairs)
