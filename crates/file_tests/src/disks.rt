@@ -3,8 +3,6 @@ use crate::files::{FileRow, is_so};
 use disk_file::FileDisk;
 use lean_disk::{Did, Disk, Part, Read};
 use std::fs;
-use std::fs::File;
-use std::rt::Files;
 use std::test::Fail;
 
 // A call and its answer, or what is seen of a file.
@@ -94,32 +92,23 @@ fn read_into<D: Disk>(disk: &mut D, area: u32, at: u64) -> (Read, [u8; 4]) {
     (read, into)
 }
 
-fn write_by_part<P: Part>(part: &mut P, at: u64, bytes: &[u8]) -> (Did, Did, Read, [u8; 4]) {
-    let mut into = [9; 4];
-    let wrote = part.write(at, bytes);
-    let synced = part.sync();
-    let read = part.read(0, &mut into);
-    (wrote, synced, read, into)
-}
-
-fn goes_by_part<R: Files<File = File> + Sync>(
-    disk: &mut FileDisk<'_, R>,
+fn goes_by_part(
+    disk: &mut FileDisk<'_, HostRuntime>,
     area: u32,
     at: u64,
     bytes: &[u8],
     wanted: [u8; 4],
 ) -> bool {
+    let mut into = [9; 4];
     let mut part = disk.split(area);
-    let did = write_by_part(&mut part, at, bytes);
+    let wrote = part.write(at, bytes);
+    let synced = part.sync();
+    let read = part.read(0, &mut into);
     disk.rejoin(area, part);
-    did == (Did::Done, Did::Done, Read::Got(4), wanted)
+    wrote == Did::Done && synced == Did::Done && read == Read::Got(4) && into == wanted
 }
 
-fn goes<R: Files<File = File> + AllocGlobal + Sync>(
-    rt: &R,
-    disk: &mut FileDisk<'_, R>,
-    step: &Step,
-) -> Result<bool, Fail> {
+fn goes(rt: &HostRuntime, disk: &mut FileDisk<'_, HostRuntime>, step: &Step) -> Result<bool, Fail> {
     match step {
         Step::Read(area, at, wanted, bytes) => {
             Ok(read_into(disk, *area, *at) == (*wanted, *bytes))
@@ -137,10 +126,7 @@ fn goes<R: Files<File = File> + AllocGlobal + Sync>(
 }
 
 // The first step that goes otherwise.
-fn first_wrong<R: Files<File = File> + AllocGlobal + Sync>(
-    rt: &R,
-    case: &Case,
-) -> Result<Option<usize>, Fail> {
+fn first_wrong(rt: &HostRuntime, case: &Case) -> Result<Option<usize>, Fail> {
     let mut disk = FileDisk::new(rt, rt.alloc());
     for (place, step) in case.steps.iter().enumerate() {
         if !goes(rt, &mut disk, step)? {
@@ -151,9 +137,7 @@ fn first_wrong<R: Files<File = File> + AllocGlobal + Sync>(
 }
 
 /// The first case that goes otherwise, with the place of the step.
-pub fn first_wrong_case<R: Files<File = File> + AllocGlobal + Sync>(
-    rt: &R,
-) -> Result<Option<(&'static str, usize)>, Fail> {
+pub fn first_wrong_case(rt: &HostRuntime) -> Result<Option<(&'static str, usize)>, Fail> {
     for case in &CASES {
         if let Some(place) = first_wrong(rt, case)? {
             return Ok(Some((case.name, place)));

@@ -5,8 +5,6 @@ use lean_edge::{MemSink, MemSource};
 use lean_shell::{Ended, Gate, run};
 use std::alloc::{AllocError, Global};
 use std::fs;
-use std::fs::File;
-use std::rt::Files;
 use std::sync::Wait;
 use std::test::Fail;
 use std::thread::Threads;
@@ -140,8 +138,9 @@ fn words_of(alloc: Global, text: &str) -> Result<Vec<String>, AllocError> {
 }
 
 // Whether it ends with its status and prints its lines.
-fn runs<R: Files<File = File> + AllocGlobal + Threads + Wait + Sync>(
-    rt: &R,
+fn runs<T: Threads + Wait + Sync>(
+    threads: &T,
+    rt: &HostRuntime,
     command: &Command,
 ) -> Result<bool, Fail> {
     let alloc = rt.alloc();
@@ -152,15 +151,12 @@ fn runs<R: Files<File = File> + AllocGlobal + Threads + Wait + Sync>(
     let Ended {
         status,
         disk: _disk,
-    } = run(rt, alloc, &words, &mut source, &mut sink, disk, &Open);
+    } = run(threads, alloc, &words, &mut source, &mut sink, disk, &Open);
     Ok(status == command.status && sink.bytes() == command.printed)
 }
 
 // The first of its files that is otherwise.
-fn first_other_file<R: Files + AllocGlobal>(
-    rt: &R,
-    command: &Command,
-) -> Result<Option<&'static str>, Fail> {
+fn first_other_file(rt: &HostRuntime, command: &Command) -> Result<Option<&'static str>, Fail> {
     for row in command.files {
         if !is_so(rt, row)? {
             return Ok(Some(row.0));
@@ -175,11 +171,12 @@ fn first_other_file<R: Files + AllocGlobal>(
 }
 
 /// The place of the first command that ends or prints otherwise, or leaves this file otherwise.
-pub fn first_wrong_command<R: Files<File = File> + AllocGlobal + Threads + Wait + Sync>(
-    rt: &R,
+pub fn first_wrong_command<T: Threads + Wait + Sync>(
+    threads: &T,
+    rt: &HostRuntime,
 ) -> Result<Option<(usize, &'static str)>, Fail> {
     for (place, command) in COMMANDS.iter().enumerate() {
-        if !runs(rt, command)? {
+        if !runs(threads, rt, command)? {
             return Ok(Some((place, command.words)));
         }
         if let Some(name) = first_other_file(rt, command)? {
@@ -190,7 +187,7 @@ pub fn first_wrong_command<R: Files<File = File> + AllocGlobal + Threads + Wait 
 }
 
 /// Takes the files away that the commands leave.
-pub fn remove_files<R: Files>(rt: &R) -> Result<(), Fail> {
+pub fn remove_files(rt: &HostRuntime) -> Result<(), Fail> {
     fs::remove_file(rt, "lean.master")?;
     fs::remove_file(rt, "lean.pages")?;
     fs::remove_file(rt, "lean.log.1")?;

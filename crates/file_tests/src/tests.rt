@@ -6,7 +6,7 @@ use std::test::Fail;
 #[test]
 fn files_hold_what_the_disk_and_the_program_wrote(rt: HostRuntime) -> Result<(), Fail> {
     assert_eq!(rt; first_wrong_case(&rt)?, None);
-    assert_eq!(rt; first_wrong_command(&rt)?, None);
+    assert_eq!(rt; first_wrong_command(&rt, &rt)?, None);
     remove_files(&rt)?;
     Ok(())
 }
