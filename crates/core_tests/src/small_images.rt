@@ -2,8 +2,8 @@
 use crate::maps::are_pairs;
 use crate::openings::{DEAD, TOP, pairs_of};
 use plain_images::{
-    Damage, Image, Kind, Log, Name, Node, Page, Record, Ref, first_break, first_damage,
-    losers, map, reach, recovered_page, sorted, value, winners,
+    Damage, Image, Kind, Log, Name, Node, Page, Record, Ref, first_break, first_damage, losers,
+    map, reach, recovered_page, sorted, value, winners,
 };
 use std::alloc::{AllocError, Global};
 
@@ -46,6 +46,7 @@ const IN_TURN: [&[Logged]; 2] = [
 
 // Session 1 puts key 5 and does not end; session 2 puts 6, and commits if the logs reach 1.
 const FIRST: &[Logged] = &[Logged::Write(1, 1, 1, 0, 5, DEAD, 50)];
+
 const SECOND: &[Logged] = &[
     Logged::Commit(2, 1, 3, 1),
     Logged::Write(2, 1, 2, 1, 6, DEAD, 60),
@@ -195,14 +196,16 @@ pub fn stands(alloc: Global, small: &Small) -> Result<bool, AllocError> {
     let records = sorted(alloc, &image.logs)?;
     let far = reach(image.logs.len(), image.floor, &records);
     let page = recovered_page(alloc, &image, 0)?;
-    Ok(far == small.reach
-        && are_named(&winners(alloc, far, &records)?, small.winners)
-        && are_named(&losers(alloc, far, &records)?, small.losers)
-        && page.number == small.left
-        && are_pairs(&page.node.pairs, small.pairs)
-        && are_pairs(&map(alloc, &image)?, small.map)
-        && has_values(alloc, &image, small.map)?
-        && first_damage(alloc, &image)? == small.damage)
+    Ok(
+        far == small.reach
+            && are_named(&winners(alloc, far, &records)?, small.winners)
+            && are_named(&losers(alloc, far, &records)?, small.losers)
+            && page.number == small.left
+            && are_pairs(&page.node.pairs, small.pairs)
+            && are_pairs(&map(alloc, &image)?, small.map)
+            && has_values(alloc, &image, small.map)?
+            && first_damage(alloc, &image)? == small.damage,
+    )
 }
 
 fn image_of(alloc: Global, small: &Small) -> Result<Image, AllocError> {

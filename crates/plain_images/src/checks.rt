@@ -63,7 +63,9 @@ fn is_sayable(entry: &Record) -> bool
             && entry.left.page != entry.parent.page
             && entry.right.page != entry.parent.page
             && entry.pairs.len() <= ROOM,
-        Kind::Lift => entry.right.page != 0 && u64::from(entry.level) < LEVELS && entry.pairs.len() <= ROOM,
+        Kind::Lift => entry.right.page != 0
+            && u64::from(entry.level) < LEVELS
+            && entry.pairs.len() <= ROOM,
         Kind::Drop => entry.right.page != 0 && entry.pairs.len() <= ROOM,
         Kind::Purge | Kind::Commit | Kind::Abort => true,
     }

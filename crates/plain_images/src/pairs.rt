@@ -22,12 +22,7 @@ pub fn find(pairs: &[Pair], key: u64) -> Option<u64>
 ///
 /// # Errors
 /// Where memory runs out.
-pub fn put(
-    alloc: Global,
-    pairs: &[Pair],
-    key: u64,
-    word: u64,
-) -> Result<Vec<Pair>, AllocError>
+pub fn put(alloc: Global, pairs: &[Pair], key: u64, word: u64) -> Result<Vec<Pair>, AllocError>
     ensures { IfOk result (λ v. pairs_of v.items ≡ page_pairs.put key word (pairs_of pairs.now)) }
 {
     let mut put = Vec::new(alloc);

@@ -75,11 +75,7 @@ fn beyond(alloc: Global, node: &Node, words: &[Pair]) -> Result<Vec<Pair>, Alloc
 }
 
 // The words after the lost writes were set back.
-fn undo_words(
-    alloc: Global,
-    replayed: &Replayed,
-    words: Vec<Pair>,
-) -> Result<Vec<Pair>, AllocError>
+fn undo_words(alloc: Global, replayed: &Replayed, words: Vec<Pair>) -> Result<Vec<Pair>, AllocError>
     ensures { IfOk result (λ v. pairs_of v.items ≡ listed.undo_words (lost_in replayed.now) (entries_of replayed.now.records.items) (pairs_of words.items)) }
 {
     let mut undone = words;
