@@ -1,5 +1,5 @@
 -- The seven records of pages, and what each makes of its pages.
-use Rattle.std.specs.Prelude.{if◌then◌else◌, ◌++◌, ◌+◌, ℕ, suc, Bool, true, false, ◌||◌, not, ◌==◌, List, [], ◌∷◌}
+use Rattle.std.specs.Prelude.{if◌then◌else◌, ◌++◌, ℕ, suc, Bool, true, false, ◌||◌, not, ◌==◌, List, [], ◌∷◌}
 use Rattle.page_model.specs.Pairs.{Pair, find, put, keep, below, without, is_in}
 use Rattle.page_model.specs.Nodes.{Format, Node, free}
 use Rattle.page_model.specs.Tree.{word_or}
