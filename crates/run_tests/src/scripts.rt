@@ -1,6 +1,7 @@
 // The scripts of the tables, and what comes of them, written down by hand from the rules. A `;` stands for each newline.
 
 /// A script of one session on a new disk.
+#[derive(Drop)]
 pub(crate) struct Script {
     pub text: &'static str,
     /// Every line of its run.
