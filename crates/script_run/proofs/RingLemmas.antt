@@ -49,9 +49,7 @@ as_was a old new never is = let s = by old new old is (record { ring = record { 
 changed : (w : Answer) (c : Call) (d : State) (log : Log) → (IsCommitted w → ⊥) → LogsPut c d log → KeepsRing w d.log log
 changed w (call.Put key value) d log never p = let s = after_ring (change_of d p.page key value) d.log log p.after in
     record { ring = s.ring; committed = λ e. absurd (never e); other = λ e. s.flushed }
-changed w call.Begin d log never p = absurd p
-changed w (call.Get key) d log never p = absurd p
-changed w call.Commit d log never p = absurd p
+changed w _ d log never p = absurd p
 
 ended : (n at : ℕ) (d : State) (log : Log) → Ends (commit_of d.begun d.log) d.log log → KeepsRing (answer.Committed n at) d.log log
 ended n at d log e =
@@ -70,6 +68,4 @@ ended n at d log e =
 pub keeps_ring : (a : Answer) (c : Call) (d : State) (log : Log) → LogAfter a c d log → KeepsRing a d.log log
 keeps_ring (answer.Was value) c d log l = changed (answer.Was value) c d log (λ e. e) l
 keeps_ring (answer.Committed n at) c d log l = ended n at d log l
-keeps_ring (answer.Begun number) c d log l = as_was (answer.Begun number) d.log log (λ e. e) l
-keeps_ring (answer.Value value) c d log l = as_was (answer.Value value) d.log log (λ e. e) l
-keeps_ring (answer.Refused refusal) c d log l = as_was (answer.Refused refusal) d.log log (λ e. e) l
+keeps_ring a c d log l = as_was a d.log log (λ e. e) l

@@ -109,6 +109,7 @@ call_goes f most s t call.Begin x earlier d n = begin_goes s t x earlier d n
 call_goes f most s t (call.Get k) x earlier d n = get_goes f k s t x earlier d n
 call_goes f most s t (call.Put k v) x earlier d n = put_goes f most k v s t x earlier d n
 call_goes f most s t call.Commit x earlier d n = commit_goes s t x earlier d n
+call_goes f most s t _ x earlier d n = absurd d
 
 pub numbered : (g : Opening) (xs : List Answered) (s : Session) → Runs g xs s → Numbered s (journal xs)
 numbered g [] s e = as_was (start g) s [] e (record { records = λ r has. absurd has; told = λ t has. absurd has; agree = λ r has. absurd has })
