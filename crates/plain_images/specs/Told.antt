@@ -1,7 +1,6 @@
 -- What an image tells of its transactions depends on what its records say of their ends alone.
 use Rattle.std.specs.Prelude.{◌≡◌, ℕ, List, [], map}
-use Rattle.page_model.specs.Records as records
-use Rattle.page_model.specs.Needs.{nowhere}
+use Rattle.page_model.specs.Records.{no_record}
 use Rattle.image_model.specs.Entries.{Kind, Entry}
 use Rattle.image_model.specs.Ends as ends
 
@@ -15,9 +14,6 @@ abbrev pub need_of : Kind → ℕ → ℕ
 need_of Kind.Commit need = need
 need_of Kind.Abort need = need
 need_of _ need = 0
-
-abbrev pub no_record : records.Record
-no_record = record { kind = records.Kind.Change; left = nowhere; right = nowhere; parent = nowhere; key = 0; before = 0; after = 0; sep = 0; high = 0; level = 0; pairs = []; keys = [] }
 
 -- a record of which no more is told than its log, its numbers and how it ends its transaction
 abbrev pub told_of : Entry → Entry
