@@ -27,7 +27,7 @@ use Rattle.session_model.specs.Calls.{Answered, Runs}
 use Rattle.session_model.specs.Sessions.{Session}
 use Rattle.transcripts.specs.Laws.{EveryPrefix, EveryNotice, EveryTail}
 use Rattle.transcripts.specs.Told.{asked_lines, replies, EachReplyFits, Heard, IsCut, IsTail}
-use Rattle.core_paging.proofs.Laws.{Whole}
+use Rattle.transcripts.specs.Told.Heard.{Whole}
 use Rattle.transcripts.specs.Told.IsTail.{CutReply}
 use Rattle.transcripts.specs.Transcripts.{first_lines, IsQuiet}
 use Rattle.script_run.specs.Runs.{PrintsTo}
