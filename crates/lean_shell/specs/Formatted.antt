@@ -93,4 +93,3 @@ pub record StandsStill (a : ℕ) (old new : Story) : Type 0 where
 pub record StoodOr (bytes : List ℕ) (area : Area) (writes : List Write) (image : List ℕ) : Type 0 where
   pub writes_are : (writes ≡ area.writes) ⊎ (writes ≡ (0, bytes) ∷ area.writes)
   pub leaves : Leaves (torn 0 bytes area) image
-
