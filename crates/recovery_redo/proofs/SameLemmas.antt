@@ -2,7 +2,6 @@
 use Rattle.std.specs.Prelude.{if◌then◌else◌}
 use Rattle.std.proofs.Common.{◌≡◌, ◌<◌, ℕ, zero, suc, Bool, true, ◌&&◌, ◌||◌, not, leb, ltb, ◌==◌, List, [], ◌∷◌, length, refl, sym, ap, ◌∙◌, inl, inr, arith}
 use Rattle.std.proofs.lemmas.Bool.{and_parts, ltb-true, cases_Bool, cond-true, cond-false, ne_eqb}
-use Rattle.map_model.specs.Lists.{Has}
 use Rattle.page_model.specs.Pairs as pairs
 use Rattle.page_model.specs.Pairs.{Span, spans, first_key}
 use Rattle.page_model.specs.Check as check
