@@ -2,6 +2,7 @@
 // Python script over a regular expression.
 ghost use Rattle.std.specs.Prelude.{ℕ, [], false};
 ghost use Rattle.lean_edge.specs.Outside.{Feed};
+ghost use Rattle.script_lang.specs.Replies.{AnswerFits};
 
 use lean_edge::{Next, Source};
 use map_model::{Answer, Call, Refusal};
@@ -11,6 +12,7 @@ use script_lang::{
     refused_bytes, reply_bytes,
 };
 use std::alloc::{AllocError, Global};
+use std::process::Abort;
 
 const WORKERS: u32 = 16;
 
@@ -154,7 +156,6 @@ fn lines_of_the_grammar_are_read_and_others_are_refused(rt: HostRuntime) {
 
 // A line of output that is no fixed one.
 enum Said {
-    Reply(u32, Answer),
     Durable(u32, u64),
     Opened(u64, u64, u64),
     Formatted(u32, u32, u32),
@@ -162,61 +163,7 @@ enum Said {
     Damaged(u32, u64),
 }
 
-static LINES: [(Said, &[u8]); 19] = [
-    (
-        Said::Reply(1, Answer::Begun { number: 1 }),
-        b"1 begun 1.1\n",
-    ),
-    (Said::Reply(1, Answer::Value(Some(7))), b"1 value 7\n"),
-    (Said::Reply(1, Answer::Value(None)), b"1 none\n"),
-    (
-        Said::Reply(2, Answer::Was(Some(9223372036854775807))),
-        b"2 was 9223372036854775807\n",
-    ),
-    (Said::Reply(2, Answer::Was(None)), b"2 was none\n"),
-    (Said::Reply(3, Answer::Was(Some(0))), b"3 was 0\n"),
-    (
-        Said::Reply(1, Answer::Committed { number: 1, at: 2 }),
-        b"1 committed 1.1 at 2\n",
-    ),
-    (
-        Said::Reply(1, Answer::Refused(Refusal::InTransaction)),
-        b"1 in-transaction\n",
-    ),
-    (
-        Said::Reply(2, Answer::Refused(Refusal::NoTransaction)),
-        b"2 no-transaction\n",
-    ),
-    (
-        Said::Reply(1, Answer::Refused(Refusal::TooLong)),
-        b"1 too-long\n",
-    ),
-    (
-        Said::Reply(
-            1,
-            Answer::Refused(Refusal::LogFull {
-                used: 48,
-                limit: 48,
-            }),
-        ),
-        b"1 log-full 48 48\n",
-    ),
-    (
-        Said::Reply(1, Answer::Refused(Refusal::ClockSpent)),
-        b"1 clock-spent\n",
-    ),
-    (Said::Reply(1, Answer::Refused(Refusal::Full)), b"1 full\n"),
-    // The longest one.
-    (
-        Said::Reply(
-            4294967295,
-            Answer::Committed {
-                number: 18446744073709551615,
-                at: 18446744073709551615,
-            },
-        ),
-        b"4294967295 committed 4294967295.18446744073709551615 at 18446744073709551615\n",
-    ),
+static LINES: [(Said, &[u8]); 5] = [
     (Said::Durable(1, 1), b"1 durable 1.1\n"),
     (Said::Opened(2, 1, 0), b"open 2 winners 1 undone 0\n"),
     (Said::Formatted(1, 64, 64), b"formatted 1 64 64\n"),
@@ -236,22 +183,6 @@ static FIXED: [(&[u8], &[u8]); 6] = [
 // Writes the line, and answers how many bytes it has.
 fn line_of(said: &Said, into: &mut [u8; REPLY]) -> usize {
     match said {
-        Said::Reply(session, answer) => match answer {
-            Answer::Begun { .. }
-            | Answer::Value(_)
-            | Answer::Was(_)
-            | Answer::Committed { .. }
-            | Answer::Refused(
-                Refusal::InTransaction
-                | Refusal::NoTransaction
-                | Refusal::TooLong
-                | Refusal::LogFull { .. }
-                | Refusal::ClockSpent
-                | Refusal::Full,
-            ) => reply_bytes(*session, answer, into),
-            // The others have no line yet.
-            _ => 0,
-        },
         Said::Durable(session, number) => durable_bytes(*session, *number, into),
         Said::Opened(generation, winners, undone) => {
             opened_bytes(*generation, *winners, *undone, into)
@@ -269,6 +200,34 @@ fn is_spelled(said: &Said, line: &[u8]) -> bool {
     let mut into = [b'x'; REPLY];
     let n = line_of(said, &mut into);
     n == line.len() && into.get(..n) == Some(line) && into.get(n) == Some(&b'x')
+}
+
+// The reply is the line, and what is behind it in the buffer stands.
+fn says(rt: &impl Abort, session: u32, answer: Answer, line: &[u8])
+    requires { AnswerFits answer }
+{
+    let mut into = [b'x'; REPLY];
+    let n = reply_bytes(session, &answer, &mut into);
+    let spelled = n == line.len() && into.get(..n) == Some(line) && into.get(n) == Some(&b'x');
+    assert!(rt; spelled, "{line:?}");
+}
+
+#[test]
+fn replies_are_spelled(rt: HostRuntime) {
+    says(&rt, 1, Answer::Begun { number: 1 }, b"1 begun 1.1\n");
+    says(&rt, 1, Answer::Value(Some(7)), b"1 value 7\n");
+    says(&rt, 1, Answer::Value(None), b"1 none\n");
+    says(&rt, 2, Answer::Was(Some(9223372036854775807)), b"2 was 9223372036854775807\n");
+    says(&rt, 2, Answer::Was(None), b"2 was none\n");
+    says(&rt, 3, Answer::Was(Some(0)), b"3 was 0\n");
+    says(&rt, 1, Answer::Committed { number: 1, at: 2 }, b"1 committed 1.1 at 2\n");
+    says(&rt, 1, Answer::Refused(Refusal::InTransaction), b"1 in-transaction\n");
+    says(&rt, 2, Answer::Refused(Refusal::NoTransaction), b"2 no-transaction\n");
+    says(&rt, 1, Answer::Refused(Refusal::TooLong), b"1 too-long\n");
+    says(&rt, 1, Answer::Refused(Refusal::LogFull { used: 48, limit: 48, }), b"1 log-full 48 48\n");
+    says(&rt, 1, Answer::Refused(Refusal::ClockSpent), b"1 clock-spent\n");
+    says(&rt, 1, Answer::Refused(Refusal::Full), b"1 full\n");
+    says(&rt, 4294967295, Answer::Committed { number: 18446744073709551615, at: 18446744073709551615, }, b"4294967295 committed 4294967295.18446744073709551615 at 18446744073709551615\n");
 }
 
 #[test]

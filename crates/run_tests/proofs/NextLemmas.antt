@@ -1,5 +1,5 @@
 -- The next run's premises, by the clauses of the run before it.
-use Rattle.std.proofs.Common.{◌≡◌, ◌⊎◌, inl, inr, ◌+◌, ◌<◌, ◌≤◌, ◌^◌, ℕ, suc, Some, refl, sym, ◌∙◌, ap, subst, arith}
+use Rattle.std.proofs.Common.{◌≡◌, ◌⊎◌, inl, inr, ◌+◌, ◌<◌, ◌≤◌, ◌^◌, ℕ, suc, length, Some, refl, sym, ◌∙◌, ap, subst, arith}
 use Rattle.std.specs.Prelude.{List}
 use mathlib.Core.Path.{fun_ext}
 use Rattle.lean_disk.specs.Area.{Area}
@@ -9,6 +9,7 @@ use Rattle.lean_disk.specs.Story.{Crash, Story, areas_of}
 use Rattle.lean_disk.specs.Told.{Begins}
 use Rattle.lean_disk.specs.declared.mem_disk.MemDisk.{MemDisk}
 use Rattle.disk_slots.specs.declared.master.Master.{Master}
+use Rattle.disk_image.specs.Fair.{IsFairCrash}
 use Rattle.disk_image.specs.MasterSlots.{master_on}
 use Rattle.disk_image.specs.Shown.{Areas, IsCleanDisk}
 use Rattle.recovery.specs.Crashes.{IsNextOf}
@@ -40,10 +41,11 @@ unwritten_image tells first areas bytes input put c begins u =
 
 -- two masters that count are one
 one_master : (m n : Master) (bytes : List ℕ) → master_on bytes ≡ Some m → master_on bytes ≡ Some n → n ≡ m
-one_master m n bytes one other = grind (one, other)
+one_master m n bytes one other = grind (arith, one, other)
 
-private section (told : EveryArea) (m : Master) (first last left : MemDisk) (x : IsCutOff m first last left) (c : Crash) (image : c.image ≡ areas_of (disk_story left)) (fair : IsFairCrash (length m.heads) (disk_story first) c) where
-  Ready : Type 0
+module _ (told : EveryArea) (m : Master) (first last left : MemDisk) (x : IsCutOff m first last left) (c : Crash) (image : c.image ≡ areas_of (disk_story left))
+    (fair : IsFairCrash (length m.heads) (disk_story first) c) where
+  abbrev Ready : Type 0
   Ready = IsReadyAgain m (disk_story first) (disk_story left) x.feed.left x.ends.put
 
   ready : (n : Master) → (n ≡ m) ⊎ IsNextOf m (areas_of (disk_story first)) n → IsCleanDisk n c.image → IsOfMap m (disk_story first) x.feed.left x.ends.put c.image → Ready
