@@ -1,23 +1,22 @@
 -- What the records of a run rule out.
-use Rattle.std.proofs.Common.{◌≡◌, ◌⊎◌, inl, inr, ◌<◌, ◌≤◌, ◌+◌, ◌-◌, ◌^◌, ◌++◌, ℕ, suc, Bool, true, false, cond, ◌&&◌, leb, ◌==◌, List, [], ◌∷◌, Option, Some, None, refl, sym, ◌∙◌, ap, subst, arith}
+use Rattle.std.proofs.Common.{◌≡◌, ◌⊎◌, inl, inr, ◌<◌, ◌≤◌, ◌-◌, ◌^◌, ◌++◌, ℕ, suc, Bool, true, false, cond, ◌&&◌, leb, ltb, ◌==◌, List, [], ◌∷◌, Option, Some, None, refl, sym, ◌∙◌, ap, subst, arith}
 use Rattle.std.proofs.lemmas.Bool.{and_parts, or_cases, leb-true, lt-leb, eqb-true}
 use Rattle.std.specs.Prelude.{length}
 use Rattle.map_model.specs.declared.call.Call.{Call}
 use Rattle.map_model.specs.declared.call.Call.TheVariants as call
 use Rattle.map_model.specs.declared.call.Answer.TheVariants as answer
 use Rattle.map_model.specs.declared.call.Refusal.{Refusal}
-use Rattle.map_model.specs.declared.call.Refusal.TheVariants.{InTransaction, NoTransaction}
+use Rattle.map_model.specs.declared.call.Refusal.TheVariants.{ClockSpent, InTransaction, LogFull, NoTransaction}
 use Rattle.map_model.specs.Lists.{Has, any}
 use Rattle.map_model.specs.Maps.{Map, MapCall, write_of, writes_key}
 use Rattle.map_model.specs.Histories.{Step, first_of, last_write, write_or}
-use Rattle.map_model.specs.Journals.{Journal, Name, Txn, Wrote, after}
+use Rattle.map_model.specs.Journals.{Journal, Txn, after}
 use Rattle.map_model.proofs.ListLemmas.{any_has, keep_has}
 use Rattle.image_model.specs.Ends.{is_kept, reach, wins}
 use Rattle.image_model.specs.Entries.{Entry, is_commit}
 use Rattle.image_model.specs.Fair.{piece}
 use Rattle.image_model.specs.Images.{Image, found, map_of}
 use Rattle.lean_disk.specs.Story.{Crash, Story, areas_of}
-use Rattle.disk_slots.specs.Masters.{IsMaster}
 use Rattle.disk_slots.specs.declared.master.Master.{Master}
 use Rattle.disk_image.specs.Laws.{EveryMasterIn}
 use Rattle.disk_image.specs.MasterSlots.{master_in, master_on, newer}
@@ -25,15 +24,14 @@ use Rattle.disk_image.specs.Shown.{image_by}
 use Rattle.recovery.specs.Opened.{IsGreatest}
 use Rattle.core_state.specs.Openings.{Opening}
 use Rattle.session_model.specs.Sessions.{Session, begun, start}
-use Rattle.session_model.specs.Calls.{Answered, Begins, Commits, Does, Refuses}
-use Rattle.worker_log.specs.Logs.{limit, used}
+use Rattle.session_model.specs.Calls.{Answered, Begins, Commits, Does}
 use Rattle.lean_engine.specs.States.{State, Pictures}
 use Rattle.lean_engine.specs.Refusals.{log_refusal, refusal_of}
-use Rattle.transcripts.specs.Transcripts.{durables, first_lines}
+use Rattle.transcripts.specs.Transcripts.{first_lines}
 use Rattle.script_run.specs.Runs.{Answers, Executes}
 use Rattle.lean_shell.specs.Headline.{Survives}
 use Rattle.lean_shell.specs.Runs.{Counts, Executed, IsFrom, first_log}
-use Rattle.run_tests.specs.RuledOut.{BeginsAt, EveryDurableIsFound, EveryFirstBegin, EveryFirstCommit, EveryKeyStands, EveryOtherKeyStands, HasItsCommit, IsFound, NoneWrites}
+use Rattle.run_tests.specs.RuledOut.{BeginsAt, EveryDurableIsFound, EveryFirstBegin, EveryFirstCommit, EveryKeyStands, EveryOtherKeyStands, HasItsCommit, NoneWrites}
 use Rattle.run_tests.proofs.KeyLemmas.{asks_to_write}
 
 -- ## Keys
@@ -124,7 +122,7 @@ some_or m None = m
 newer_one : (a b : Option Master) (m : Master) → newer a b ≡ Some m → (a ≡ Some m) ⊎ (b ≡ Some m)
 newer_one None b m e = inr e
 newer_one (Some x) None m e = inl e
-newer_one (Some x) (Some y) m e = go (Rattle.std.specs.Prelude.ltb x.sequence y.sequence) e
+newer_one (Some x) (Some y) m e = go (ltb x.sequence y.sequence) e
   where
     go : (b : Bool) → cond b (Some y) (Some x) ≡ Some m → (Some x ≡ Some m) ⊎ (Some y ≡ Some m)
     go true q = inr q
@@ -194,8 +192,8 @@ module _ (master : EveryMasterIn) (s : Story) (base : ℕ) (at : BeginsAt s base
       let room : leb (at.m.blocks - 16) 0 ≡ false = lt-leb (at.m.blocks - 16) 0 (omega (arith, many)) in
       let clock : leb (2 ^ 62) y.opening.base ≡ false = lt-leb (2 ^ 62) y.opening.base low in
       ap (λ l. log_refusal l None) log_is
-      ∙ (ap (λ (b : Bool). cond b (Some (Rattle.map_model.specs.declared.call.Refusal.TheVariants.LogFull 0 (at.m.blocks - 16))) (cond (leb (2 ^ 62) y.opening.base) (Some Rattle.map_model.specs.declared.call.Refusal.TheVariants.ClockSpent) None)) room
-      ∙ ap (λ (b : Bool). cond b (Some Rattle.map_model.specs.declared.call.Refusal.TheVariants.ClockSpent) None) clock)
+      ∙ (ap (λ (b : Bool). cond b (Some (LogFull 0 (at.m.blocks - 16))) (cond (leb (2 ^ 62) y.opening.base) (Some ClockSpent) None)) room
+      ∙ ap (λ (b : Bool). cond b (Some ClockSpent) None) clock)
 
   begin_open : refusal_of y.first call.Begin ≡ None
   begin_open = ap (λ (b : Bool). cond b (Some InTransaction) (log_refusal y.first.log None)) (sym y.pictures.is_open) ∙ open_log

@@ -1,10 +1,10 @@
 -- What an area holds after one write over several whole slots or blocks.
-use Rattle.std.proofs.Common.{◌≡◌, ◌⊎◌, inl, inr, ◌<◌, ◌≤◌, ◌+◌, ◌-◌, ◌*◌, ◌++◌, ℕ, suc, List, [], ◌∷◌, length, take, drop, replicate, refl, sym, ◌∙◌, ap, subst, arith, append_assoc}
+use Rattle.std.proofs.Common.{◌≡◌, ◌⊎◌, inl, inr, ◌<◌, ◌≤◌, ◌+◌, ◌-◌, ◌*◌, ◌++◌, ℕ, List, [], ◌∷◌, length, take, drop, replicate, refl, sym, ◌∙◌, ap, subst, arith, append_assoc}
 use Rattle.std.proofs.Math.Nat.{mul-le-mul_left}
 use Rattle.std.proofs.Math.Seq.{drop-append-add}
 use Rattle.std.proofs.lemmas.Bool.{cases_lt}
 use Rattle.std.proofs.lemmas.List.{append-nil, drop-append-le, drop-drop, drop-take, length-drop, length-take-le, take-append-le, take-take}
-use Rattle.image_model.specs.Fair.{Fills, IsWritten, piece}
+use Rattle.image_model.specs.Fair.{IsWritten, piece}
 use Rattle.lean_disk.specs.Area.{put_over}
 use Rattle.run_tests.specs.RuledOut.{EveryWideWrite}
 
@@ -23,7 +23,7 @@ module _ (at : ℕ) (bytes old : List ℕ) (within : at + length bytes ≤ lengt
   in_parts : put_over at bytes old ≡ before ++ (bytes ++ rest)
   in_parts =
       let none : at - length old ≡ 0 = omega (arith, within) in
-      ap (λ (n : ℕ). (take at old ++ replicate n 0) ++ bytes ++ rest) none 
+      ap (λ (n : ℕ). (take at old ++ replicate n 0) ++ bytes ++ rest) none
       ∙ (ap (λ (l : List ℕ). l ++ bytes ++ rest) (append-nil before) ∙ append_assoc before bytes rest)
 
   -- before it
@@ -96,7 +96,7 @@ module _ (size place count : ℕ) (bytes old : List ℕ) (whole : length bytes �
       let m : size * count ≤ size * k = mul-le-mul_left size le in
       let at : size * (place + k) ≡ size * place + size * k = omega arith in
       inl (ap (λ (n : ℕ). take size (drop n image)) at
-          ∙ (ap (λ (l : List ℕ). take size l) (behind (size * place) bytes old within (size * k) (omega (arith, m, whole))) ∙ ap (λ (n : ℕ). take size (drop n old)) (sym at)))
+      ∙ (ap (λ (l : List ℕ). take size l) (behind (size * place) bytes old within (size * k) (omega (arith, m, whole))) ∙ ap (λ (n : ℕ). take size (drop n old)) (sym at)))
 
   each : (p : ℕ) → Holds p
   each p = elim (cases_lt p place) [

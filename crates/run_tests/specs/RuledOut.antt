@@ -6,7 +6,7 @@ use Rattle.map_model.specs.declared.call.Answer.TheVariants as answer
 use Rattle.map_model.specs.Lists.{Has}
 use Rattle.map_model.specs.Journals.{Journal, Name, Txn, Wrote}
 use Rattle.image_model.specs.Entries.{Entry, is_commit}
-use Rattle.image_model.specs.Fair.{piece, IsFair}
+use Rattle.image_model.specs.Fair.{IsFair}
 use Rattle.image_model.specs.Images.{found, map_of}
 use Rattle.lean_disk.specs.Area.{put_over}
 use Rattle.lean_disk.specs.Story.{Crash, Story, areas_of}
