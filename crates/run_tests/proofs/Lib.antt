@@ -1,4 +1,4 @@
 mod NextLemmas
 pub mod KeyLemmas
 mod RuledOutLemmas
-mod WideLemmas
+mod ReadLemmas

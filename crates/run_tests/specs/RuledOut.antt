@@ -6,9 +6,9 @@ use Rattle.map_model.specs.declared.call.Answer.TheVariants as answer
 use Rattle.map_model.specs.Lists.{Has}
 use Rattle.map_model.specs.Journals.{Journal, Name, Txn, Wrote}
 use Rattle.image_model.specs.Entries.{Entry, is_commit}
-use Rattle.image_model.specs.Fair.{IsFair}
+use Rattle.image_model.specs.Fair.{IsFair, after_writes}
 use Rattle.image_model.specs.Images.{found, map_of}
-use Rattle.lean_disk.specs.Area.{put_over}
+use Rattle.lean_disk.specs.Area.{Write}
 use Rattle.lean_disk.specs.Story.{Crash, Story, areas_of}
 use Rattle.disk_slots.specs.declared.master.Master.{Master}
 use Rattle.disk_image.specs.MasterSlots.{master_on}
@@ -95,9 +95,9 @@ abbrev pub EveryFirstCommit : Story → Type 0
 EveryFirstCommit s = (base : ℕ) (counts : Counts) (later : List Answered) (commit begin : Answered) → BeginsAt s base → Executed s counts (later ++ commit ∷ begin ∷ []) →
     begin.call ≡ call.Begin → commit.call ≡ call.Commit → commit.answer ≡ answer.Committed 1 (suc base)
 
--- ## Wide writes
+-- ## What a disk holds
 
--- An area over which several whole slots or blocks were put by one write is a fair image.
-abbrev pub EveryWideWrite : (size : ℕ) → (List ℕ → Type 0) → Type 0
-EveryWideWrite size IsSealed = (first bytes : List ℕ) (place count : ℕ) → length bytes ≡ size * count → size * place + length bytes ≤ length first →
-    IsFair size IsSealed first ((size * place, bytes) ∷ []) (put_over (size * place) bytes first)
+-- What a read gives of an area after writes that are within it is a fair image, whatever their places and lengths: a write of several slots or
+-- blocks, or several writes of one, leave no image that is not.
+abbrev pub EveryReadIsFair : (size : ℕ) → (List ℕ → Type 0) → Type 0
+EveryReadIsFair size IsSealed = (first : List ℕ) (writes : List Write) → ((w : Write) → Has w writes → w.0 + length w.1 ≤ length first) → IsFair size IsSealed first writes (after_writes first writes)

@@ -5,7 +5,7 @@ ghost use Rattle.std.specs.Prelude.{codes};
 ghost use Rattle.disk_slots.specs.Slots as slots;
 ghost use Rattle.log_block.specs.Block as blocks;
 ghost use Rattle.run_tests.specs.Laws.{EveryNextRun};
-ghost use Rattle.run_tests.specs.RuledOut.{EveryDurableIsFound, EveryFirstBegin, EveryFirstCommit, EveryKeyStands, EveryOtherKeyStands, EveryWideWrite};
+ghost use Rattle.run_tests.specs.RuledOut.{EveryDurableIsFound, EveryFirstBegin, EveryFirstCommit, EveryKeyStands, EveryOtherKeyStands, EveryReadIsFair};
 
 use lean_disk::Disk;
 
@@ -46,11 +46,11 @@ pub fn every_first_commit<D: Disk>(disk: &D)
     disk_image::every_master_in();
 }
 
-/// A body that writes several slots or blocks by one call leaves fair images too.
-pub fn every_wide_write()
-    ensures masters { EveryWideWrite 1024 (slots.IsSealed (codes "LEANMAST")) }
-    ensures pages { EveryWideWrite 1024 (slots.IsSealed (codes "LEANPAGE")) }
-    ensures log { EveryWideWrite 2048 blocks.IsSealed }
+/// What an area holds after writes of any places and lengths in it is a fair image.
+pub fn every_read_is_fair()
+    ensures masters { EveryReadIsFair 1024 (slots.IsSealed (codes "LEANMAST")) }
+    ensures pages { EveryReadIsFair 1024 (slots.IsSealed (codes "LEANPAGE")) }
+    ensures log { EveryReadIsFair 2048 blocks.IsSealed }
 {}
 
 #[cfg(test)]
