@@ -1,5 +1,5 @@
 -- The numbers of records that were read back are within their bounds.
-use Rattle.std.proofs.Common.{◌≡◌, ⊎_elim, ◌<◌, ◌^◌, ℕ, List, [], ◌∷◌, ap, sym, ◌∙◌, subst, arith}
+use Rattle.std.proofs.Common.{◌≡◌, ⊎_elim, ◌<◌, ◌^◌, List, [], ◌∷◌, ap, sym, subst, arith}
 use Rattle.map_model.specs.Lists.{Has}
 use Rattle.image_model.specs.Entries.{Entry}
 use Rattle.log_record.specs.Spelling.{Fits}

@@ -100,29 +100,29 @@ module _ (m : Master) (s : Story) (clean : IsCleanDisk m (areas_of s)) (input pu
       let images : d.image ≡ c.image = fun_ext same.image in
       let none : model.journal (transcript 1 input (first_lines lines put)) ≡ [] = ap model.journal quiet.transcript_is in
       record {
-       master = record { n = still.next; counts = subst (λ (i : Areas). master_on (i 0) ≡ Some still.next) (sym images) still.clean.master; is = still.made };
-       survives = record {
-        lines = lines;
-        notes = notes;
-        by_then = [];
-        by_then_is = inl (sym none);
-        serial = tt;
-        falls = tt;
-        numbers = λ r has commit u there. absurd there;
-        n = still.next;
-        of_run = of_run m still.next still.same;
-        clean = subst (IsCleanDisk still.next) (sym images) still.clean;
-        kept_ones = [];
-        kept_is = refl;
-        closed = λ t u h. absurd h;
-        stands = subst (λ (i : Areas). DiskStandsFor still.next i (map_of (image_by m (areas_of s))) (won_by (image_by still.next i))) (sym images)
-            (record {
-              master = still.clean.master;
-              readable = still.clean.readable;
-              stands = record { sound = still.clean.clean.sound; map = λ k. sym (still.map k); won = refl };
-            });
-        reported = λ name h. absurd (subst (Has name) quiet.durables_are h);
-       };
+        master = record { n = still.next; counts = subst (λ (i : Areas). master_on (i 0) ≡ Some still.next) (sym images) still.clean.master; is = still.made };
+        survives = record {
+          lines = lines;
+          notes = notes;
+          by_then = [];
+          by_then_is = inl (sym none);
+          serial = tt;
+          falls = tt;
+          numbers = λ r has commit u there. absurd there;
+          n = still.next;
+          of_run = of_run m still.next still.same;
+          clean = subst (IsCleanDisk still.next) (sym images) still.clean;
+          kept_ones = [];
+          kept_is = refl;
+          closed = λ t u h. absurd h;
+          stands = subst (λ (i : Areas). DiskStandsFor still.next i (map_of (image_by m (areas_of s))) (won_by (image_by still.next i))) (sym images)
+              (record {
+                master = still.clean.master;
+                readable = still.clean.readable;
+                stands = record { sound = still.clean.clean.sound; map = λ k. sym (still.map k); won = refl };
+              });
+          reported = λ name h. absurd (subst (Has name) quiet.durables_are h);
+        };
       }
 
   pub quiet_leaves : (c d : Crash) → IsSameBut c d → d.notes ≡ s.notes + lines → RecoveryLeaves m s c → LivesOn m s input put d
