@@ -83,5 +83,5 @@ every_next_run told every m first last left x =
     let later : (disk_story first).moment ≤ x.moment = subst (λ k. k ≤ x.moment) (sym x.begins.moment) (omega arith) in
     let c : Crash = record here.crash { image = areas_of (disk_story left) } in
     ready_by told m first last left x c refl (x.fair c there refl)
-      ((x.ends.masters x.script m tells x.clean young).each x.moment c later there)
-      ((x.headline.any_moment tells.counts m x.clean young).each x.moment c later there)
+    ((x.ends.masters x.script m tells x.clean young).each x.moment c later there)
+    ((x.headline.any_moment tells.counts m x.clean young).each x.moment c later there)
