@@ -217,17 +217,58 @@ fn replies_are_spelled(rt: HostRuntime) {
     says(&rt, 1, Answer::Begun { number: 1 }, b"1 begun 1.1\n");
     says(&rt, 1, Answer::Value(Some(7)), b"1 value 7\n");
     says(&rt, 1, Answer::Value(None), b"1 none\n");
-    says(&rt, 2, Answer::Was(Some(9223372036854775807)), b"2 was 9223372036854775807\n");
+    says(
+        &rt,
+        2,
+        Answer::Was(Some(9223372036854775807)),
+        b"2 was 9223372036854775807\n",
+    );
     says(&rt, 2, Answer::Was(None), b"2 was none\n");
     says(&rt, 3, Answer::Was(Some(0)), b"3 was 0\n");
-    says(&rt, 1, Answer::Committed { number: 1, at: 2 }, b"1 committed 1.1 at 2\n");
-    says(&rt, 1, Answer::Refused(Refusal::InTransaction), b"1 in-transaction\n");
-    says(&rt, 2, Answer::Refused(Refusal::NoTransaction), b"2 no-transaction\n");
+    says(
+        &rt,
+        1,
+        Answer::Committed { number: 1, at: 2 },
+        b"1 committed 1.1 at 2\n",
+    );
+    says(
+        &rt,
+        1,
+        Answer::Refused(Refusal::InTransaction),
+        b"1 in-transaction\n",
+    );
+    says(
+        &rt,
+        2,
+        Answer::Refused(Refusal::NoTransaction),
+        b"2 no-transaction\n",
+    );
     says(&rt, 1, Answer::Refused(Refusal::TooLong), b"1 too-long\n");
-    says(&rt, 1, Answer::Refused(Refusal::LogFull { used: 48, limit: 48, }), b"1 log-full 48 48\n");
-    says(&rt, 1, Answer::Refused(Refusal::ClockSpent), b"1 clock-spent\n");
+    says(
+        &rt,
+        1,
+        Answer::Refused(Refusal::LogFull {
+            used: 48,
+            limit: 48,
+        }),
+        b"1 log-full 48 48\n",
+    );
+    says(
+        &rt,
+        1,
+        Answer::Refused(Refusal::ClockSpent),
+        b"1 clock-spent\n",
+    );
     says(&rt, 1, Answer::Refused(Refusal::Full), b"1 full\n");
-    says(&rt, 4294967295, Answer::Committed { number: 18446744073709551615, at: 18446744073709551615, }, b"4294967295 committed 4294967295.18446744073709551615 at 18446744073709551615\n");
+    says(
+        &rt,
+        4294967295,
+        Answer::Committed {
+            number: 18446744073709551615,
+            at: 18446744073709551615,
+        },
+        b"4294967295 committed 4294967295.18446744073709551615 at 18446744073709551615\n",
+    );
 }
 
 #[test]

@@ -1,5 +1,5 @@
 -- How `format` ends, from what it did and what went out.
-use Rattle.std.proofs.Common.{◌≡◌, ◌⊎◌, inl, inr, ⊎_elim, ◌≤◌, ◌<◌, ℕ, refl, sym, ◌∙◌, ap, subst, arith}
+use Rattle.std.proofs.Common.{◌≡◌, ◌⊎◌, inl, inr, ⊎_elim, ◌<◌, ℕ, refl, sym, ◌∙◌, ap, subst, arith}
 use Rattle.image_model.specs.Fair.{piece}
 use Rattle.lean_disk.specs.Area.{Area}
 use Rattle.lean_disk.specs.Faults.{HasCause}

@@ -1,5 +1,5 @@
 -- How a run of a script ended.
-use Rattle.std.specs.Prelude.{◌≡◌, ◌⊎◌, ◌++◌, ◌<◌, ◌^◌, ℕ, suc, List, [], ◌∷◌, length, take, IsTrue, Some}
+use Rattle.std.specs.Prelude.{◌≡◌, ◌⊎◌, ◌++◌, ◌<◌, ◌^◌, ℕ, suc, List, [], length, take, IsTrue, Some}
 use Rattle.image_model.specs.Images.{won_by, lost_by, map_of, recovered_page}
 use Rattle.lean_disk.specs.Faults.{Rose}
 use Rattle.lean_disk.specs.Story.{Story, areas_of}
@@ -8,7 +8,7 @@ use Rattle.script_lang.specs.Notices.{Notice}
 use Rattle.disk_slots.specs.declared.master.Master.{Master}
 use Rattle.disk_image.specs.Formats.{format_of}
 use Rattle.disk_image.specs.MasterSlots.{master_on}
-use Rattle.disk_image.specs.Shown.{Areas, image_by, IsCleanDisk, IsSoundDisk, DiskStandsFor}
+use Rattle.disk_image.specs.Shown.{Areas, image_by, IsCleanDisk, IsSoundDisk}
 use Rattle.recovery.specs.Masters.{HasOpenable, IsOpenable}
 use Rattle.recovery.specs.Opened.{IsGreatest, IsRefusal, IsUntouched}
 use Rattle.disk_image.specs.Breaks.{IsDamaged}

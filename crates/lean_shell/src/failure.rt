@@ -3,7 +3,9 @@ ghost use Rattle.std.specs.Prelude.{◌≡◌};
 ghost use Rattle.lean_edge.specs.Outside.{IsWholeLine};
 ghost use Rattle.lean_shell.specs.Endings.{last_line, number_of};
 
-use script_lang::{ALREADY_FORMATTED, DISK_FAULT, NO_MEMORY, USAGE, fixed_lines, notices_are_no_replies};
+use script_lang::{
+    ALREADY_FORMATTED, DISK_FAULT, NO_MEMORY, USAGE, fixed_lines, notices_are_no_replies,
+};
 
 /// How a command ended, other than well.
 #[derive(Clone, Copy, Debug, PartialEq, Eq)]

@@ -14,8 +14,7 @@ use lean_edge::{Put, Sink};
 use recovery::Unrecovered;
 use script_lang::{
     DISK_FAULT, NO_MEMORY, NOT_FORMATTED, READ_FAULT, REPLY, damaged_bytes, fixed_lines,
-    notices_are_no_replies,
-    opened_bytes, refused_bytes,
+    notices_are_no_replies, opened_bytes, refused_bytes,
 };
 use script_run::Stop;
 

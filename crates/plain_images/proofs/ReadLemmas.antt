@@ -110,9 +110,9 @@ module _ (image : Image) (d : Replayed) (x : IsReplayed image d) where
       e4 ∙ ap (λ o. rules.or_first o latest) (em ∙ ap (λ (t : List (Option Page)). missing_base (length t) (base_of t)) eb)
       ∙ ap (rules.or_first m) (e3 ∙ ap (λ o. rules.or_first o later) (eo ∙ ap (λ (t : List Log). rules.first_in_logs (λ w. unordered_in (log_of t w)) (length t)) el)
       ∙ ap (rules.or_first u) (e2 ∙ ap (λ o. rules.or_first o late) (eu ∙ ap (λ (t : List (Option Page)). undoable_in (format_of (length t)) (bases_of t) (entries_of records)) eb
-          ∙ ap (undoable_in (format_of (length own)) (bases_of own)) (ap entries_of er ∙ x.sorted))
+      ∙ ap (undoable_in (format_of (length own)) (bases_of own)) (ap entries_of er ∙ x.sorted))
       ∙ ap (rules.or_first v) (e1 ∙ ap (λ o. rules.or_first o lack) (et ∙ ap (λ (t : List (Option Page)). broken (format_of (length t)) (nodes_of (made t))) eb
-          ∙ ap (λ (t : redoing.Redone). broken (format_of (length own)) (nodes_of t)) (x.made ∙ ap (redo (bases_of own)) x.sorted))
+      ∙ ap (λ (t : redoing.Redone). broken (format_of (length own)) (nodes_of t)) (x.made ∙ ap (redo (bases_of own)) x.sorted))
       ∙ ap (rules.or_first (broken (format_of (length own)) (nodes_of (images.redone i)))) (ek ∙ ap (λ (t : List (Option Page)). without_in lost (λ k. is_some (tree.entry (length t) (nodes_of (made t)) k)) z) eb ∙ lacking_read))))
     where
       m : Damaged

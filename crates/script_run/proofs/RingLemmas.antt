@@ -37,9 +37,9 @@ by old new made is s = record {
 after_ring : (r : Record) (old new : Log) → After r old new → SameFlushed old new
 after_ring r old new a = ⊎_elim
     (λ (more : 2000 < length old.payload + length (records_text (r ∷ []))). by old new (record old { next = old.next + 1; payload = records_text (r ∷ []); count = 1; last = r.gsn }) (a.full (λ (room : HasRoom old r). omega arith))
-        (record { ring = record { generation = refl; log = refl; blocks = refl; head = refl }; flushed = refl }))
+    (record { ring = record { generation = refl; log = refl; blocks = refl; head = refl }; flushed = refl }))
     (λ (room : length old.payload + length (records_text (r ∷ [])) ≤ 2000). by old new (record old { payload = old.payload ++ records_text (r ∷ []); count = old.count + 1; last = r.gsn }) (a.room room)
-        (record { ring = record { generation = refl; log = refl; blocks = refl; head = refl }; flushed = refl }))
+    (record { ring = record { generation = refl; log = refl; blocks = refl; head = refl }; flushed = refl }))
     (cases_lt 2000 (length old.payload + length (records_text (r ∷ []))))
 
 as_was : (a : Answer) (old new : Log) → (IsCommitted a → ⊥) → new ≡ old → KeepsRing a old new

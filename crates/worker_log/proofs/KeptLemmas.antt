@@ -3,6 +3,7 @@ use Rattle.std.proofs.Common.{◌≡◌, inl, inr, ⊎_elim, ℕ, ◌+◌, ◌*�
 use Rattle.std.proofs.lemmas.Bool.{cases_eq, cases_lt, eq-eqb, ne_eqb}
 use Rattle.std.proofs.lemmas.List.{append-nil, length-drop, nil_from_length, take-append-le, take_all, drop_all}
 use Rattle.std.proofs.lemmas.List.Concat.{flat_map-append}
+use Rattle.map_model.proofs.ListLemmas.{has_cases, has_left}
 use Rattle.map_model.specs.Lists.{Has}
 use Rattle.image_model.specs.Fair.{piece, IsFair, IsWritten}
 use Rattle.image_model.proofs.FairLemmas.{among_more, exactly}
@@ -18,7 +19,7 @@ use Rattle.worker_log.specs.Logs.{Log}
 use Rattle.worker_log.specs.Accounts.{Account, joined, spelled, spelled_from, with_current}
 use Rattle.worker_log.specs.Kept.{AllFitBlocks, FitsBlock, HoldsBlocks, IsKept, RiseFrom, closed, flushed, staged}
 use Rattle.worker_log.specs.Calls.{HasRoom}
-use Rattle.worker_log.proofs.ListLemmas.{block_of, fit-push, fit_blocks-drop, fit_blocks-with, has_first, has_prefix, has_split, joined-drop-with, joined-dropped, joined-with, none_left, rise-has, rise-push, spelled-last, spelled-more, spelled-number, spelled-push, spelled-take, take-with, with_none, with_some}
+use Rattle.worker_log.proofs.ListLemmas.{block_of, fit-push, fit_blocks-drop, fit_blocks-with, has_first, joined-drop-with, joined-dropped, joined-with, none_left, rise-has, rise-push, spelled-last, spelled-more, spelled-number, spelled-push, spelled-take, take-with, with_none, with_some}
 use Rattle.worker_log.proofs.RingLemmas.{rem_apart, rem_next, write_here, write_other, write_size}
 use Rattle.worker_log.proofs.CrashLemmas.{written_within}
 
@@ -196,8 +197,8 @@ module _ (x : Account) (log : Log) (area : Area) (sized : IsSized log) (kept : I
       (λ (lt : 0 < length (joined (drop x.synced x.written))).
       let it = has_first (joined (drop x.synced x.written)) lt in
       let r : Record = it.0 in
-      let late : log.flushed < r.gsn = kept.above r (has_prefix r (joined (drop x.synced x.written)) x.current it.1) in
-      let early : r.gsn ≤ log.last = rise-has kept.numbers.0 (joined x.written ++ x.current) log.last kept.numbers.1 r (has_prefix r (joined x.written) x.current (joined-dropped x.synced x.written r it.1)) in
+      let late : log.flushed < r.gsn = kept.above r (has_left r (joined (drop x.synced x.written)) x.current it.1) in
+      let early : r.gsn ≤ log.last = rise-has kept.numbers.0 (joined x.written ++ x.current) log.last kept.numbers.1 r (has_left r (joined x.written) x.current (joined-dropped x.synced x.written r it.1)) in
       absurd (omega (arith, late, early, all_of)))
       (λ (le : length (joined (drop x.synced x.written)) ≤ 0). omega (arith, le)) (cases_lt 0 (length (joined (drop x.synced x.written)))) in
       let dropped : length (drop x.synced x.written) ≡ 0 = none_left (drop x.synced x.written) (fit_blocks-drop x.synced x.written kept.fit.0) left in
@@ -221,7 +222,7 @@ module _ (x : Account) (log : Log) (area : Area) (sized : IsSized log) (kept : I
         below = kept.below;
         above = λ y has. ⊎_elim (kept.above y)
             (λ last. ⊎_elim (λ (is : y ≡ r). let e : y.gsn ≡ r.gsn = ap (λ (z : Record). z.gsn) is in omega (arith, e, rises, sized.flushed)) (λ no_more. absurd no_more) last)
-            (has_split y (joined (drop x.synced x.written) ++ x.current) (r ∷ []) (subst (Has y) (sym (append_assoc (joined (drop x.synced x.written)) x.current (r ∷ []))) has));
+            (has_cases y (joined (drop x.synced x.written) ++ x.current) (r ∷ []) (subst (Has y) (sym (append_assoc (joined (drop x.synced x.written)) x.current (r ∷ []))) has));
         holds = kept.holds;
       }
 
@@ -237,7 +238,7 @@ module _ (first : List ℕ) (older : List Write) (ws : List (List Record)) (done
     ring = kept.ring;
     numbers = kept.numbers;
     synced = omega arith;
-    below = λ r has. rise-has kept.numbers.0 (joined ws ++ []) log.last kept.numbers.1 r (has_prefix r (joined ws) [] (subst (λ (l : List (List Record)). Has r (joined l)) (take_all (length ws) ws (omega arith)) has));
+    below = λ r has. rise-has kept.numbers.0 (joined ws ++ []) log.last kept.numbers.1 r (has_left r (joined ws) [] (subst (λ (l : List (List Record)). Has r (joined l)) (take_all (length ws) ws (omega arith)) has));
     above = λ r has. absurd (subst (λ (l : List (List Record)). Has r (joined l ++ [])) (drop_all (length ws) ws (omega arith)) has);
     holds = holds_synced log.generation log.log log.blocks log.head first older ws done area sized.ranges.generation (omega (arith, sized.ranges.number.1)) (omega (arith, sized.ranges.head, sized.ranges.some.1)) kept.synced kept.ring kept.fit.0 kept.holds;
   }

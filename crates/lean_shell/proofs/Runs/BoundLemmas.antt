@@ -1,5 +1,6 @@
 -- The numbers of records that were read back are within their bounds.
-use Rattle.std.proofs.Common.{◌≡◌, ⊎_elim, ◌<◌, ◌^◌, ℕ, List, [], ◌∷◌, ap, sym, ◌∙◌, subst, arith}
+use Rattle.std.proofs.Common.{◌≡◌, ⊎_elim, ◌<◌, ◌^◌, List, [], ◌∷◌, ap, sym, subst, arith}
+use Rattle.map_model.proofs.ListLemmas.{has_cases}
 use Rattle.map_model.specs.Lists.{Has}
 use Rattle.image_model.specs.Entries.{Entry}
 use Rattle.log_record.specs.Spelling.{Fits}
@@ -9,7 +10,6 @@ use Rattle.worker_log.specs.Accounts.{joined}
 use Rattle.worker_log.specs.Kept.{AllFitBlocks}
 use Rattle.worker_log.specs.Laws.{entries_onto}
 use Rattle.worker_log.proofs.ReadLemmas.{stands}
-use Rattle.lean_shell.proofs.Runs.JournalLemmas.{has_cases}
 
 each_fits : (rs : List Record) → AllFit rs → (r : Record) → Has r rs → Fits r
 each_fits [] fit r has = absurd has

@@ -1,5 +1,6 @@
 -- The transactions of calls, and those that replies tell to be durable.
 use Rattle.std.proofs.Common.{◌≡◌, ◌⊎◌, inl, inr, ⊎_elim, ◌++◌, ℕ, Bool, true, false, List, [], ◌∷◌, map, refl, sym, ◌∙◌, ap, subst}
+use Rattle.map_model.proofs.ListLemmas.{has_cases}
 use Rattle.map_model.specs.declared.call.Answer.{Answer}
 use Rattle.map_model.specs.declared.call.Answer.TheVariants as answer
 use Rattle.map_model.specs.Lists.{Has, insert_by}
@@ -9,20 +10,6 @@ use Rattle.script_lang.specs.Replies.{Reply}
 use Rattle.session_model.specs.Calls.{Answered, journal, lines}
 use Rattle.transcripts.specs.Told.{durable_of, names, replies, Heard}
 use Rattle.transcripts.specs.Told.Heard.{Whole, Lacking}
-
-pub has_prefix : {A : Type 0} (x : A) (xs ys : List A) → Has x xs → Has x (xs ++ ys)
-has_prefix x [] ys h = absurd h
-has_prefix x (y ∷ xs) ys (inl e) = inl e
-has_prefix x (y ∷ xs) ys (inr h) = inr (has_prefix x xs ys h)
-
-pub has_behind : {A : Type 0} (x : A) (xs ys : List A) → Has x ys → Has x (xs ++ ys)
-has_behind x [] ys h = h
-has_behind x (y ∷ xs) ys h = inr (has_behind x xs ys h)
-
-pub has_cases : {A : Type 0} (x : A) (xs ys : List A) → Has x (xs ++ ys) → Has x xs ⊎ Has x ys
-has_cases x [] ys h = inr h
-has_cases x (y ∷ xs) ys (inl e) = inl (inl e)
-has_cases x (y ∷ xs) ys (inr h) = ⊎_elim (λ i. inl (inr i)) inr (has_cases x xs ys h)
 
 -- ## A journal has its transactions
 

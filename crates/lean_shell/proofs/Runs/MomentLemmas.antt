@@ -14,7 +14,6 @@ use Rattle.recovery.specs.Crashes.{RecoveryLeaves}
 use Rattle.transcripts.specs.Transcripts.{first_lines, IsQuiet}
 use Rattle.lean_shell.proofs.Runs.NoteLemmas.{put_notes}
 use Rattle.lean_shell.proofs.Runs.SurviveLemmas.{IsSameBut, LivesOn, quiet_leaves}
-use Rattle.lean_shell.specs.Headline.{RunLeaves}
 
 -- the same crash, with the notes of another moment
 abbrev pub then : Story → Crash → Crash

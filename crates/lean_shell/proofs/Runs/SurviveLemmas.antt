@@ -2,6 +2,7 @@
 use Rattle.std.proofs.Common.{◌≡◌, ◌⊎◌, inl, inr, ⊎_elim, ◌≤◌, ◌<◌, ◌+◌, ◌++◌, ℕ, suc, true, List, [], ◌∷◌, length, Some, refl, sym, ◌∙◌, ap, subst, arith, codes}
 use mathlib.Core.Path.{fun_ext}
 use Rattle.std.proofs.lemmas.List.{append-nil}
+use Rattle.map_model.proofs.ListLemmas.{has_cases, has_left, has_right}
 use Rattle.map_model.specs.Lists.{Has}
 use Rattle.map_model.specs.Maps.{Map}
 use Rattle.map_model.specs.Journals.{Journal, Name, Txn, Serial, after}
@@ -48,7 +49,7 @@ use Rattle.lean_shell.proofs.Runs.ImageLemmas as image
 use Rattle.lean_shell.proofs.Runs.BoundLemmas.{IsBounded, bounded}
 use Rattle.lean_shell.proofs.Runs.HandLemmas.{CommitInHand, Settled, settle}
 use Rattle.lean_shell.proofs.Runs.NumberLemmas.{numbered}
-use Rattle.lean_shell.proofs.Runs.JournalLemmas.{HasNamed, has_behind, has_cases, has_prefix, still_has, told_named}
+use Rattle.lean_shell.proofs.Runs.JournalLemmas.{HasNamed, still_has, told_named}
 
 -- ## Before a call is answered
 
@@ -100,29 +101,29 @@ module _ (m : Master) (s : Story) (clean : IsCleanDisk m (areas_of s)) (input pu
       let images : d.image ≡ c.image = fun_ext same.image in
       let none : model.journal (transcript 1 input (first_lines lines put)) ≡ [] = ap model.journal quiet.transcript_is in
       record {
-       master = record { n = still.next; counts = subst (λ (i : Areas). master_on (i 0) ≡ Some still.next) (sym images) still.clean.master; is = still.made };
-       survives = record {
-        lines = lines;
-        notes = notes;
-        by_then = [];
-        by_then_is = inl (sym none);
-        serial = tt;
-        falls = tt;
-        numbers = λ r has commit u there. absurd there;
-        n = still.next;
-        of_run = of_run m still.next still.same;
-        clean = subst (IsCleanDisk still.next) (sym images) still.clean;
-        kept_ones = [];
-        kept_is = refl;
-        closed = λ t u h. absurd h;
-        stands = subst (λ (i : Areas). DiskStandsFor still.next i (map_of (image_by m (areas_of s))) (won_by (image_by still.next i))) (sym images)
-            (record {
-              master = still.clean.master;
-              readable = still.clean.readable;
-              stands = record { sound = still.clean.clean.sound; map = λ k. sym (still.map k); won = refl };
-            });
-        reported = λ name h. absurd (subst (Has name) quiet.durables_are h);
-       };
+        master = record { n = still.next; counts = subst (λ (i : Areas). master_on (i 0) ≡ Some still.next) (sym images) still.clean.master; is = still.made };
+        survives = record {
+          lines = lines;
+          notes = notes;
+          by_then = [];
+          by_then_is = inl (sym none);
+          serial = tt;
+          falls = tt;
+          numbers = λ r has commit u there. absurd there;
+          n = still.next;
+          of_run = of_run m still.next still.same;
+          clean = subst (IsCleanDisk still.next) (sym images) still.clean;
+          kept_ones = [];
+          kept_is = refl;
+          closed = λ t u h. absurd h;
+          stands = subst (λ (i : Areas). DiskStandsFor still.next i (map_of (image_by m (areas_of s))) (won_by (image_by still.next i))) (sym images)
+              (record {
+                master = still.clean.master;
+                readable = still.clean.readable;
+                stands = record { sound = still.clean.clean.sound; map = λ k. sym (still.map k); won = refl };
+              });
+          reported = λ name h. absurd (subst (Has name) quiet.durables_are h);
+        };
       }
 
   pub quiet_leaves : (c d : Crash) → IsSameBut c d → d.notes ≡ s.notes + lines → RecoveryLeaves m s c → LivesOn m s input put d
@@ -213,7 +214,7 @@ module _ (laws : EverySession) (agrees : EveryAgreement) (reads_so : EveryRun) (
             more_of (answer.Committed c.end.txn c.end.number) (b.txn, b.number) c.asked in
             inr (record {
               end = c.end;
-              has = subst (Has c.end) found_is (has_prefix c.end left [] c.has);
+              has = subst (Has c.end) found_is (has_left c.end left [] c.has);
               commit = c.commit;
               reply = reply_line (Reply.Answered c.end.log (answer.Committed c.end.txn c.end.number));
               reply_is = refl;
@@ -229,7 +230,7 @@ module _ (laws : EverySession) (agrees : EveryAgreement) (reads_so : EveryRun) (
         numbers_now : (r : Entry) → Has r (found (image_by rests.n d.image)) → is_commit r.kind ≡ true → (t : Txn) → Has t (session.journal st.hand) → t.session ≡ r.log → t.number ≡ r.txn → t.at ≡ r.number
         numbers_now r has commit t there own same =
             let z : Has r left = ⊎_elim (λ h. h) (λ none. absurd none) (has_cases r left [] (subst (Has r) (sym found_is) has)) in
-            (numbered g st.hand st.session st.runs).agree r (subst (Has r) st.prefix (has_behind r st.newer left z)) commit t there same
+            (numbered g st.hand st.session st.runs).agree r (subst (Has r) st.prefix (has_right r st.newer left z)) commit t there same
 
         pub survives_so : Survives m s0 input put d
         survives_so = record {

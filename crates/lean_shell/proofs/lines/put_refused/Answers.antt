@@ -1,4 +1,4 @@
-use Rattle.std.proofs.Common.{List, ℕ, subst, arith}
+use Rattle.std.proofs.Common.{List, ℕ, subst}
 use Rattle.script_lang.specs.Notices.{Notice, notice_text}
 use Rattle.lean_shell.specs.Lines.{IsPut, line_of}
 use Rattle.script_lang.proofs.PieceLemmas.{held_text, one_whole_line}
