@@ -92,24 +92,24 @@ module _ (size : ℕ) (some : 0 < size) (first : List ℕ) (p : ℕ) where
       ⊎_elim
       (λ (lt : slot < p). let m : size * (slot + 1) ≤ size * p = mul-le-mul_left size (omega (arith, lt)) in absurd (omega (arith, m, b, whole, place)))
       (λ (ge : p ≤ slot). ⊎_elim
-        (λ (lt : p < slot). let m : size * (p + 1) ≤ size * slot = mul-le-mul_left size (omega (arith, lt)) in absurd (omega (arith, m, a, place)))
-        (λ (le : slot ≤ p). differs (omega (arith, ge, le)))
-        (cases_lt p slot))
+      (λ (lt : p < slot). let m : size * (p + 1) ≤ size * slot = mul-le-mul_left size (omega (arith, lt)) in absurd (omega (arith, m, a, place)))
+      (λ (le : slot ≤ p). differs (omega (arith, ge, le)))
+      (cases_lt p slot))
       (cases_lt slot p)
 
   -- a write elsewhere leaves the slot
   elsewhere : (w : Write) (old : List ℕ) → IsOfOne size w → (slot : ℕ) → w.0 ≡ size * slot → (slot ≡ p → ⊥) → size * p + size ≤ length old → piece size p (put_over w.0 w.1 old) ≡ piece size p old
   elsewhere w old one slot place differs long = ⊎_elim
       (λ (lt : slot < p).
-        let m : size * (slot + 1) ≤ size * p = mul-le-mul_left size (omega (arith, lt)) in
-        let whole : length w.1 ≡ size = one.whole in
-        let k : w.0 + (size * p - w.0) ≡ size * p = omega (arith, m, place) in
-        ap (λ (n : ℕ). take size (drop n (put_over w.0 w.1 old))) (sym k)
-        ∙ (ap (λ (l : List ℕ). take size l) (behind w.0 w.1 old (size * p - w.0) (omega (arith, m, whole, place))) ∙ ap (λ (n : ℕ). take size (drop n old)) k))
+      let m : size * (slot + 1) ≤ size * p = mul-le-mul_left size (omega (arith, lt)) in
+      let whole : length w.1 ≡ size = one.whole in
+      let k : w.0 + (size * p - w.0) ≡ size * p = omega (arith, m, place) in
+      ap (λ (n : ℕ). take size (drop n (put_over w.0 w.1 old))) (sym k)
+      ∙ (ap (λ (l : List ℕ). take size l) (behind w.0 w.1 old (size * p - w.0) (omega (arith, m, whole, place))) ∙ ap (λ (n : ℕ). take size (drop n old)) k))
       (λ (ge : p ≤ slot). ⊎_elim
-        (λ (lt : p < slot). let m : size * (p + 1) ≤ size * slot = mul-le-mul_left size (omega (arith, lt)) in ahead w.0 w.1 old (size * p) size (omega (arith, m, place)) long)
-        (λ (le : slot ≤ p). absurd (differs (omega (arith, ge, le))))
-        (cases_lt p slot))
+      (λ (lt : p < slot). let m : size * (p + 1) ≤ size * slot = mul-le-mul_left size (omega (arith, lt)) in ahead w.0 w.1 old (size * p) size (omega (arith, m, place)) long)
+      (λ (le : slot ≤ p). absurd (differs (omega (arith, ge, le))))
+      (cases_lt p slot))
       (cases_lt slot p)
 
   stands : (ws : List Write) → ((w : Write) → Has w ws → IsOfOne size w) → Touches size p ws → Stands ws
@@ -125,17 +125,17 @@ module _ (size : ℕ) (some : 0 < size) (first : List ℕ) (p : ℕ) where
           let whole : length w.1 ≡ size = one.whole in
           let zero : w.0 + 0 ≡ size * p = omega (arith, place) in
           let is : piece size p (put_over w.0 w.1 (after_writes first older)) ≡ w.1 =
-              ap (λ (n : ℕ). take size (drop n (put_over w.0 w.1 (after_writes first older)))) (sym zero)
-              ∙ (inside w.0 w.1 (after_writes first older) 0 size (omega (arith, whole)) ∙ (ap (λ (n : ℕ). take n w.1) (sym whole) ∙ take-length w.1)) in
+          ap (λ (n : ℕ). take size (drop n (put_over w.0 w.1 (after_writes first older)))) (sym zero)
+          ∙ (inside w.0 w.1 (after_writes first older) 0 size (omega (arith, whole)) ∙ (ap (λ (n : ℕ). take n w.1) (sym whole) ∙ take-length w.1)) in
           let long = long_after w.0 w.1 (after_writes first older) in
           record { has = inl (λ i. (sym place i, is i)); long = omega (arith, long, place, whole) }
 
       other : (Touches size p older → Stands older) → (one.slot ≡ p → ⊥) → Stands (w ∷ older)
       other hyp ne =
           let before : Touches size p older = ⊎_elim
-              (λ (e : t.write ≡ w). absurd (apart w one (subst (λ (x : Write). x.0 < size * p + size) e t.begins) (subst (λ (x : Write). size * p < x.0 + length x.1) e t.ends) one.slot one.place ne))
-              (λ (h : Has t.write older). record { write = t.write; has = h; begins = t.begins; ends = t.ends })
-              t.has in
+          (λ (e : t.write ≡ w). absurd (apart w one (subst (λ (x : Write). x.0 < size * p + size) e t.begins) (subst (λ (x : Write). size * p < x.0 + length x.1) e t.ends) one.slot one.place ne))
+          (λ (h : Has t.write older). record { write = t.write; has = h; begins = t.begins; ends = t.ends })
+          t.has in
           let s : Stands older = hyp before in
           let l : size * p + size ≤ length (after_writes first older) = s.long in
           let long = long_after w.0 w.1 (after_writes first older) in
@@ -188,7 +188,7 @@ pub narrow : (size : ℕ) (IsSealed : List ℕ → Type 0) (first : List ℕ) (w
 narrow size IsSealed first writes bytes some ones fair p sealed = ⊎_elim
     (λ (stood : piece size p bytes ≡ piece size p first). inl stood)
     (λ (l : IsWritten size p (piece size p bytes) first writes).
-      let up : (w : Write) → Has w l.older → Has w writes = λ w h. subst (λ (ws : List Write). Has w ws) l.split (has_behind w l.newer l.older h) in
-      let s : Stands size some first p l.older = stands size some first p l.older (λ w h. ones w (up w h)) l.touched in
-      inr (subst (λ (b : List ℕ). Has (size * p, b) writes) (sym l.same) (up (size * p, piece size p (after_writes first l.older)) s.has)))
+    let up : (w : Write) → Has w l.older → Has w writes = λ w h. subst (λ (ws : List Write). Has w ws) l.split (has_behind w l.newer l.older h) in
+    let s : Stands size some first p l.older = stands size some first p l.older (λ w h. ones w (up w h)) l.touched in
+    inr (subst (λ (b : List ℕ). Has (size * p, b) writes) (sym l.same) (up (size * p, piece size p (after_writes first l.older)) s.has)))
     (fair p sealed)
