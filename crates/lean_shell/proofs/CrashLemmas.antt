@@ -4,7 +4,7 @@ use Rattle.std.proofs.lemmas.Bool.{cases_Bool, true≢false}
 use Rattle.std.proofs.lemmas.Slice.Eq.{bytes_eq-Decides}
 use Rattle.std.specs.Str.{bytes_eq}
 use Rattle.image_model.specs.Fair.{piece, IsWritten}
-use Rattle.image_model.proofs.FairLemmas.{IsOfOne, narrow}
+use Rattle.image_model.proofs.FairLemmas.{IsOfOne, narrow, not_written}
 use Rattle.map_model.specs.Lists.{Has}
 use Rattle.lean_disk.specs.Area.{Leaves, Write}
 use Rattle.lean_disk.specs.Story.{Crash, Story, Tells}
@@ -29,11 +29,11 @@ module _ (s : Story) (c : Crash) (fair : HasFairMasters s c) where
   pub stood_master : c.writes 0 ≡ (s.area 0).writes → HasMaster (c.image 0) → HasMaster (s.area 0).bytes
   stood_master same (inl m) = ⊎_elim
       (λ (e : piece 1024 0 (c.image 0) ≡ piece 1024 0 (s.area 0).bytes). inl (subst (IsMaster 0) e m))
-      (λ (h : IsWritten 1024 0 (piece 1024 0 (c.image 0)) (writes_since s 0 c)). absurd (subst (Has h.write) (none_since s 0 c same) h.has))
+      (λ (h : IsWritten 1024 0 (piece 1024 0 (c.image 0)) (s.area 0).bytes (writes_since s 0 c)). absurd (not_written 1024 0 (piece 1024 0 (c.image 0)) (s.area 0).bytes (writes_since s 0 c) (none_since s 0 c same) h))
       (fair 0 m.sealed)
   stood_master same (inr m) = ⊎_elim
       (λ (e : piece 1024 1 (c.image 0) ≡ piece 1024 1 (s.area 0).bytes). inr (subst (IsMaster 1) e m))
-      (λ (h : IsWritten 1024 1 (piece 1024 1 (c.image 0)) (writes_since s 0 c)). absurd (subst (Has h.write) (none_since s 0 c same) h.has))
+      (λ (h : IsWritten 1024 1 (piece 1024 1 (c.image 0)) (s.area 0).bytes (writes_since s 0 c)). absurd (not_written 1024 1 (piece 1024 1 (c.image 0)) (s.area 0).bytes (writes_since s 0 c) (none_since s 0 c same) h))
       (fair 1 m.sealed)
 
   module _ (slot : List ℕ) (long : length slot ≡ 1024) (one : c.writes 0 ≡ (0, slot) ∷ (s.area 0).writes) where
@@ -44,7 +44,7 @@ module _ (s : Story) (c : Crash) (fair : HasFairMasters s c) where
         (subst (Has w) (one_since s 0 c (0, slot) one) has)
 
     just : (p : ℕ) → IsSealedMaster (piece 1024 p (c.image 0)) → (piece 1024 p (c.image 0) ≡ piece 1024 p (s.area 0).bytes) ⊎ Has (1024 * p, piece 1024 p (c.image 0)) (writes_since s 0 c)
-    just = narrow 1024 IsSealedMaster (s.area 0).bytes (writes_since s 0 c) (c.image 0) of_one fair
+    just = narrow 1024 IsSealedMaster (s.area 0).bytes (writes_since s 0 c) (c.image 0) (omega arith) of_one fair
 
     -- where one slot was written, what is sealed in it is what was written or what stood there
     pub written_0 : IsSealedMaster (piece 1024 0 (c.image 0)) → (piece 1024 0 (c.image 0) ≡ piece 1024 0 (s.area 0).bytes) ⊎ (piece 1024 0 (c.image 0) ≡ slot)

@@ -117,7 +117,7 @@ module _ (pages : ℕ) (start : Area) (saves : List Save) (are : AreSaves pages 
   stood_or_saved p i half page has = ⊎_elim
       (λ (stood : piece 1024 (2 * p + i) c ≡ piece 1024 (2 * p + i) start.bytes). inl (ap (page_in p pages) stood))
       (λ (wrote : Has (1024 * (2 * p + i), piece 1024 (2 * p + i) c) since). inr (its_save p i half wrote))
-      (narrow 1024 (IsSealed (codes "LEANPAGE")) start.bytes since c of_one fair (2 * p + i) (page_sealed pages p i c page has))
+      (narrow 1024 (IsSealed (codes "LEANPAGE")) start.bytes since c (omega arith) of_one fair (2 * p + i) (page_sealed pages p i c page has))
 
   each : (p i : ℕ) → i < 2 → (o : Option Page) → page_slot_in pages p i c ≡ o → (page_slot_in pages p i c ≡ page_slot_in pages p i start.bytes) ⊎ (HoldsOne pages saves p i c ⊎ (page_slot_in pages p i c ≡ None))
   each p i half (Some page) is = ⊎_elim (λ stood. inl stood) (λ one. inr (inl one)) (stood_or_saved p i half page is)

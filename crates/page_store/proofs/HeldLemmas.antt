@@ -106,11 +106,11 @@ module _ (pages : ℕ) (start : Area) (reaches : Reaches pages start.bytes) wher
       let bytes : piece 1024 r (saved (s ∷ saves) start).bytes ≡ page_slot s.node = ap (λ (k : ℕ). piece 1024 k (saved (s ∷ saves) start).bytes) e ∙ here s saves (are s (inl refl)) in
       let place : 1024 * r ≡ place_of s.page s.slot = omega (arith, e) in
       let same : ◌≡◌ {A = Write} (1024 * r, piece 1024 r (saved (s ∷ saves) start).bytes) (write_of s) = λ k. (place k, bytes k) in
-      inr (exactly 1024 r (piece 1024 r (saved (s ∷ saves) start).bytes) (map write_of (s ∷ saves)) (ap (λ (b : List ℕ). length b) bytes ∙ slot_size pages s.page s.node (are s (inl refl)).stored) (inl same)))
+      inr (exactly 1024 r (piece 1024 r (saved (s ∷ saves) start).bytes) start.bytes (map write_of (s ∷ saves)) (omega arith) (ap (λ (b : List ℕ). length b) bytes ∙ slot_size pages s.page s.node (are s (inl refl)).stored) (inl same)))
       (λ (ne : r ≡ 2 * s.page + s.slot → ⊥).
       let same : piece 1024 r (saved (s ∷ saves) start).bytes ≡ piece 1024 r (saved saves start).bytes = other s saves (are s (inl refl)) r ne in
       ⊎_elim (λ old. inl (same ∙ old))
-      (λ has. inr (among_more 1024 r (piece 1024 r (saved (s ∷ saves) start).bytes) (write_of s) (map write_of saves) (subst (λ (b : List ℕ). IsWritten 1024 r b (map write_of saves)) (sym same) has)))
+      (λ has. inr (among_more 1024 r (piece 1024 r (saved (s ∷ saves) start).bytes) start.bytes (write_of s) (map write_of saves) (subst (λ (b : List ℕ). IsWritten 1024 r b start.bytes (map write_of saves)) (sym same) has)))
       (reads_fair saves (λ t has. are t (inr has)) r (subst (IsSealed (codes "LEANPAGE")) same sealed)))
       (cases_eq r (2 * s.page + s.slot))
 

@@ -1,1 +1,4 @@
 mod NextLemmas
+pub mod KeyLemmas
+mod RuledOutLemmas
+mod ReadLemmas

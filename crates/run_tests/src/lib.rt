@@ -1,7 +1,13 @@
 //! Tables of faults and crashes over the program's one call, on a disk in memory.
 #![tactic(auto)]
 
+ghost use Rattle.std.specs.Prelude.{codes};
+ghost use Rattle.disk_slots.specs.Slots as slots;
+ghost use Rattle.log_block.specs.Block as blocks;
 ghost use Rattle.run_tests.specs.Laws.{EveryNextRun};
+ghost use Rattle.run_tests.specs.RuledOut.{EveryDurableIsFound, EveryFirstBegin, EveryFirstCommit, EveryKeyStands, EveryOtherKeyStands, EveryReadIsFair};
+
+use lean_disk::Disk;
 
 /// What a run asks of its disk holds after a crash of the run before it.
 pub fn every_next_run()
@@ -10,6 +16,42 @@ pub fn every_next_run()
     lean_disk::every_area();
     lean_disk::every_moment();
 }
+
+/// A crash leaves each key as it was on entry, if no transaction that is kept wrote it.
+pub fn every_key_stands<D: Disk>(disk: &D)
+    ensures { EveryKeyStands (D.story disk.now) }
+{}
+
+/// A crash leaves each key as it was on entry, if no line of the script asks to write it.
+pub fn every_other_key_stands<D: Disk>(disk: &D)
+    ensures { EveryOtherKeyStands (D.story disk.now) }
+{}
+
+/// A crash leaves the commit of each transaction that was told durable.
+pub fn every_durable_is_found<D: Disk>(disk: &D)
+    ensures { EveryDurableIsFound (D.story disk.now) }
+{}
+
+/// A run's first begin is not refused.
+pub fn every_first_begin<D: Disk>(disk: &D)
+    ensures { EveryFirstBegin (D.story disk.now) }
+{
+    disk_image::every_master_in();
+}
+
+/// A run's first commit has the number behind the greatest of the disk.
+pub fn every_first_commit<D: Disk>(disk: &D)
+    ensures { EveryFirstCommit (D.story disk.now) }
+{
+    disk_image::every_master_in();
+}
+
+/// What an area holds after writes of any places and lengths in it is a fair image.
+pub fn every_read_is_fair()
+    ensures masters { EveryReadIsFair 1024 (slots.IsSealed (codes "LEANMAST")) }
+    ensures pages { EveryReadIsFair 1024 (slots.IsSealed (codes "LEANPAGE")) }
+    ensures log { EveryReadIsFair 2048 blocks.IsSealed }
+{}
 
 #[cfg(test)]
 mod cases;

@@ -77,7 +77,7 @@ module _ (g s n h : ℕ) (first : List ℕ) (ws : List (List Record)) (synced : 
       let number : r ≡ b.number = sym is.of_block ∙ ap block_of bytes ∙ its.of_block in
       let same : b ≡ found g s n c r = ap (λ (x : ℕ). record { number = x; bytes = b.bytes }) (sym number) ∙ ap (λ (x : List ℕ). record { number = r; bytes = x }) (sym bytes) in
       subst (λ (x : Block). Has x (spelled_from g s h ws)) same one.has)
-      (narrow 2048 IsSealed first since c of_one fair (r % n) is.sealed)
+      (narrow 2048 IsSealed first since c (omega arith) of_one fair (r % n) is.sealed)
 
   synced_belongs : (r : ℕ) → h ≤ r → r < h + synced → belongs g s r (block_at n r c) ≡ true
   synced_belongs r low high =

@@ -58,10 +58,10 @@ module _ (g s n h : ℕ) (first : List ℕ) (older : List Write) (ws : List (Lis
         (λ (e : r ≡ p).
         let there : piece 2048 r after ≡ bytes = ap (λ (k : ℕ). piece 2048 k after) e ∙ here in
         let same : ◌≡◌ {A = Write} (2048 * r, piece 2048 r after) wrote = λ i. (2048 * e i, there i) in
-        inr (exactly 2048 r (piece 2048 r after) (wrote ∷ holds.since) (ap (λ (b : List ℕ). length b) there ∙ whole) (inl same)))
+        inr (exactly 2048 r (piece 2048 r after) first (wrote ∷ holds.since) (omega arith) (ap (λ (b : List ℕ). length b) there ∙ whole) (inl same)))
         (λ (ne : r ≡ p → ⊥).
         let same : piece 2048 r after ≡ piece 2048 r area.bytes = other r ne in
-        ⊎_elim (λ old. inl (same ∙ old)) (λ has. inr (among_more 2048 r (piece 2048 r after) wrote holds.since (subst (λ (b : List ℕ). IsWritten 2048 r b holds.since) (sym same) has))) (holds.fair r (subst IsSealed same sealed)))
+        ⊎_elim (λ old. inl (same ∙ old)) (λ has. inr (among_more 2048 r (piece 2048 r after) first wrote holds.since (subst (λ (b : List ℕ). IsWritten 2048 r b first holds.since) (sym same) has))) (holds.fair r (subst IsSealed same sealed)))
         (cases_eq r p)
 
     size : length (ws ++ rs ∷ []) ≡ length ws + 1

@@ -125,7 +125,7 @@ module _ (laws : EverySession) (agrees : EveryAgreement) (reads_so : EveryRun) (
           (λ (wrote : Has (2048 * i.p, piece 2048 i.p (image 2)) since).
           let e = (own (2048 * i.p, piece 2048 i.p (image 2)) wrote).generation_is in
           let f = i.generation in let h = rests.log_is.generation in omega arith)
-          (narrow 2048 IsSealed (s.area 2).bytes since (image 2) (λ w has. let o = own w has in record { slot = o.place; place = o.at; whole = o.whole }) fair i.p ((seals (piece 2048 i.p (image 2))).0 i.seal))
+          (narrow 2048 IsSealed (s.area 2).bytes since (image 2) (omega arith) (λ w has. let o = own w has in record { slot = o.place; place = o.at; whole = o.whole }) fair i.p ((seals (piece 2048 i.p (image 2))).0 i.seal))
         where
           old : (i : IsSealedIn x n.blocks (image 2)) → piece 2048 i.p (image 2) ≡ piece 2048 i.p (s.area 2).bytes → x ≤ n.generation
           old i same =

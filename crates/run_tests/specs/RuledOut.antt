@@ -1,0 +1,103 @@
+-- What a run can't have done, by what its records say of the disk that it began on.
+use Rattle.std.specs.Prelude.{◌≡◌, ◌⊎◌, ◌<◌, ◌≤◌, ◌+◌, ◌*◌, ◌^◌, ◌++◌, ℕ, suc, true, List, [], ◌∷◌, length, Some}
+use Rattle.map_model.specs.declared.call.Call.{Call}
+use Rattle.map_model.specs.declared.call.Call.TheVariants as call
+use Rattle.map_model.specs.declared.call.Answer.TheVariants as answer
+use Rattle.map_model.specs.Lists.{Has}
+use Rattle.map_model.specs.Journals.{Journal, Name, Txn, Wrote}
+use Rattle.image_model.specs.Entries.{Entry, is_commit}
+use Rattle.image_model.specs.Fair.{IsFair, after_writes}
+use Rattle.image_model.specs.Images.{found, map_of}
+use Rattle.lean_disk.specs.Area.{Write}
+use Rattle.lean_disk.specs.Story.{Crash, Story, areas_of}
+use Rattle.disk_slots.specs.declared.master.Master.{Master}
+use Rattle.disk_image.specs.MasterSlots.{master_on}
+use Rattle.disk_image.specs.Shown.{Areas, image_by}
+use Rattle.recovery.specs.Opened.{IsGreatest}
+use Rattle.recovery.specs.Telling.{TellsAll}
+use Rattle.script_lang.specs.Lines.{line_of}
+use Rattle.script_lang.specs.Text.{script_lines}
+use Rattle.script_lang.specs.declared.line.Line.{Line}
+use Rattle.session_model.specs.Calls.{Answered}
+use Rattle.transcripts.specs.Transcripts.{durables, first_lines}
+use Rattle.lean_shell.specs.Headline.{Survives}
+use Rattle.lean_shell.specs.Runs.{Counts, Executed}
+
+-- ## A crash loses nothing
+
+-- none of these transactions writes the key
+abbrev pub NoneWrites : Journal → (key : ℕ) → Type 0
+NoneWrites j key = (t : Txn) → Has t j → Wrote t key → ⊥
+
+-- A key that none of the kept transactions wrote, and so each that none wrote at all, has the value that it had on entry.
+abbrev pub EveryKeyStands : Story → Type 0
+EveryKeyStands s = (m : Master) (input output : List ℕ) (c : Crash) (x : Survives m s input output c) (key : ℕ) → NoneWrites x.by_then key ⊎ NoneWrites x.kept_ones key →
+    map_of (image_by x.n c.image) key ≡ map_of (image_by m (areas_of s)) key
+
+-- the call writes at the key
+abbrev pub Writes : Call → ℕ → Type 0
+Writes (call.Put k value) key = k ≡ key
+Writes (call.Del k) key = k ≡ key
+Writes _ key = ⊥
+
+-- a line of the script asks for it
+pub record AsksToWrite (input : List ℕ) (key : ℕ) : Type 0 where
+  pub text : List ℕ
+  pub has : Has text (script_lines input)
+  pub line : Line
+  pub is : line_of 1 text ≡ Some line
+  pub writes : Writes line.call key
+
+-- A key that no line of the script asks to write has the value that it had on entry, wherever the crash falls.
+abbrev pub EveryOtherKeyStands : Story → Type 0
+EveryOtherKeyStands s = (m : Master) (input output : List ℕ) (c : Crash) (x : Survives m s input output c) (key : ℕ) → (AsksToWrite input key → ⊥) →
+    map_of (image_by x.n c.image) key ≡ map_of (image_by m (areas_of s)) key
+
+-- among these records is the transaction's commit, with its number
+pub record HasItsCommit (records : List Entry) (t : Txn) : Type 0 where
+  pub entry : Entry
+  pub has : Has entry records
+  pub commit : is_commit entry.kind ≡ true
+  pub session : entry.log ≡ t.session
+  pub txn : entry.txn ≡ t.number
+  pub at : entry.number ≡ t.at
+
+-- A transaction of this name was committed by then, at or below the master's floor, or its commit is found in the image.
+pub record IsFound (n : Master) (image : Areas) (by_then : Journal) (name : Name) : Type 0 where
+  pub txn : Txn
+  pub has : Has txn by_then
+  pub session : txn.session ≡ name.session
+  pub number : txn.number ≡ name.number
+  pub commit : (txn.at ≤ n.floor) ⊎ HasItsCommit (found (image_by n image)) txn
+
+-- So is each transaction that was told durable.
+abbrev pub EveryDurableIsFound : Story → Type 0
+EveryDurableIsFound s = (m : Master) (input output : List ℕ) (c : Crash) (x : Survives m s input output c) (name : Name) → Has name (durables (first_lines x.lines output)) →
+    IsFound x.n c.image x.by_then name
+
+-- ## The first calls
+
+-- The disk tells of its areas, and by its master no number is greater than this one, which is below the end of the clock.
+pub record BeginsAt (s : Story) (base : ℕ) : Type 0 where
+  pub tells : TellsAll s
+  pub m : Master
+  pub master : master_on (areas_of s 0) ≡ Some m
+  pub greatest : IsGreatest (image_by m (areas_of s)) base
+  pub below : base < 2 ^ 62
+
+-- A begin that comes first is answered by number 1: it is not refused, whatever comes later.
+abbrev pub EveryFirstBegin : Story → Type 0
+EveryFirstBegin s = (base : ℕ) (counts : Counts) (later : List Answered) (begin : Answered) → BeginsAt s base → Executed s counts (later ++ begin ∷ []) → begin.call ≡ call.Begin →
+    begin.answer ≡ answer.Begun 1
+
+-- A commit behind it has the number behind the greatest.
+abbrev pub EveryFirstCommit : Story → Type 0
+EveryFirstCommit s = (base : ℕ) (counts : Counts) (later : List Answered) (commit begin : Answered) → BeginsAt s base → Executed s counts (later ++ commit ∷ begin ∷ []) →
+    begin.call ≡ call.Begin → commit.call ≡ call.Commit → commit.answer ≡ answer.Committed 1 (suc base)
+
+-- ## What a disk holds
+
+-- What a read gives of an area after writes that are within it is a fair image, whatever their places and lengths: a write of several slots or
+-- blocks, or several writes of one, leave no image that is not.
+abbrev pub EveryReadIsFair : (size : ℕ) → (List ℕ → Type 0) → Type 0
+EveryReadIsFair size IsSealed = (first : List ℕ) (writes : List Write) → ((w : Write) → Has w writes → w.0 + length w.1 ≤ length first) → IsFair size IsSealed first writes (after_writes first writes)
