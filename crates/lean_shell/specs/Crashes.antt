@@ -5,7 +5,7 @@ use Rattle.lean_disk.specs.Story.{Crash, Story, Tells, areas_of}
 use Rattle.disk_slots.specs.declared.master.Master.{Master}
 use Rattle.disk_image.specs.Fair.{IsFairCrash}
 use Rattle.disk_image.specs.MasterSlots.{master_on}
-use Rattle.recovery.specs.Crashes.{IsNextOf}
+use Rattle.recovery.specs.Crashes.{IsNextOf, ShowsStill}
 use Rattle.recovery.specs.Telling.{TellsAll}
 use Rattle.transcripts.specs.Transcripts.{IsQuiet, first_lines}
 use Rattle.lean_shell.specs.Starts.{IsLeft}
@@ -34,18 +34,19 @@ pub record IsUnwritten (s : Story) (input output : List ℕ) (c : Crash) : Type 
   pub writes : (a : ℕ) → Tells s a → c.writes a ≡ (s.area a).writes
   pub leaves : (a : ℕ) → Tells s a → Leaves (s.area a) (c.image a)
 
--- No line that was out answers a call or tells of a transaction.
-pub record IsNoneTold (s : Story) (input output : List ℕ) (c : Crash) : Type 0 where
+-- No line that was out answers a call or tells of a transaction, and the disk shows what it showed on entry, or what recovery gave of it.
+pub record IsNoneTold (m : Master) (s : Story) (input output : List ℕ) (n : Master) (c : Crash) : Type 0 where
   pub lines : ℕ
   pub notes : c.notes ≡ s.notes + lines
   pub quiet : IsQuiet input (first_lines lines output)
+  pub shows : ShowsStill m (areas_of s) n c.image
 
 -- The master that counts is that of the disk on entry, or the one that its opening writes; and what stands of the run's calls.
 pub record HasMasterOf (m : Master) (s : Story) (input output : List ℕ) (c : Crash) : Type 0 where
   pub n : Master
   pub counts : master_on (c.image 0) ≡ Some n
   pub is : (n ≡ m) ⊎ IsNextOf m (areas_of s) n
-  pub left : IsNoneTold s input output c ⊎ IsLeft m s input output c
+  pub left : IsNoneTold m s input output n c ⊎ IsLeft m s input output c
 
 -- so it is in a crash that leaves a fair image, once something is written
 abbrev pub MasterLeaves : (m : Master) (s : Story) (input output : List ℕ) (c : Crash) → Type 0

@@ -17,7 +17,7 @@ use Rattle.disk_slots.specs.declared.master.Master.{Master}
 use Rattle.disk_image.specs.Laws.{EveryAgreement, EverySealed}
 use Rattle.disk_image.specs.Shown.{Areas, DiskStandsFor, IsCleanDisk, image_by, shown_by}
 use Rattle.recovery.specs.Masters.{IsSameOrNext}
-use Rattle.recovery.specs.Crashes.{Lasts, RecoveryLeaves, StandsStill}
+use Rattle.recovery.specs.Crashes.{IsNextOf, Lasts, RecoveryLeaves, ShowsStill, StandsStill}
 use Rattle.recovery.specs.Telling.{TellsAll}
 use Rattle.core_state.specs.Openings.{Opening, first_map}
 use Rattle.session_model.specs.Calls.{Answered, Runs}
@@ -77,6 +77,11 @@ pub master_leaves : (m : Master) (s : Story) (input put : List ℕ) (c : Crash) 
 master_leaves m s input put c (inl u) = inl u
 master_leaves m s input put c (inr l) = inr (λ fair. (l fair).master)
 
+-- what the disk shows is by the same master or the next one
+made_of : (m n : Master) (area image : Areas) → ShowsStill m area n image → (n ≡ m) ⊎ IsNextOf m area n
+made_of m n area image (inl same) = inl same.0
+made_of m n area image (inr next) = inr next.is
+
 -- the next master is of the run that began with the other
 of_run : (m n : Master) → IsSameOrNext m n → IsOfRun m n
 of_run m n same = ⊎_elim
@@ -103,7 +108,7 @@ module _ (m : Master) (s : Story) (clean : IsCleanDisk m (areas_of s)) (input pu
       let images : d.image ≡ c.image = fun_ext same.image in
       let none : model.journal (transcript 1 input (first_lines lines put)) ≡ [] = ap model.journal quiet.transcript_is in
       record {
-        master = record { n = still.next; counts = subst (λ (i : Areas). master_on (i 0) ≡ Some still.next) (sym images) still.clean.master; is = still.made; left = inl (record { lines = lines; notes = notes; quiet = quiet }) };
+        master = record { n = still.next; counts = subst (λ (i : Areas). master_on (i 0) ≡ Some still.next) (sym images) still.clean.master; is = made_of m still.next (areas_of s) c.image still.shows; left = inl (record { lines = lines; notes = notes; quiet = quiet; shows = subst (λ (i : Areas). ShowsStill m (areas_of s) still.next i) (sym images) still.shows }) };
         survives = record {
           lines = lines;
           notes = notes;
