@@ -5,9 +5,10 @@ use Rattle.lean_disk.specs.Story.{Crash, Story, Tells, areas_of}
 use Rattle.disk_slots.specs.declared.master.Master.{Master}
 use Rattle.disk_image.specs.Fair.{IsFairCrash}
 use Rattle.disk_image.specs.MasterSlots.{master_on}
-use Rattle.recovery.specs.Crashes.{IsNextOf}
+use Rattle.recovery.specs.Crashes.{IsNextOf, ShowsStill}
 use Rattle.recovery.specs.Telling.{TellsAll}
 use Rattle.transcripts.specs.Transcripts.{IsQuiet, first_lines}
+use Rattle.lean_shell.specs.Starts.{IsLeft}
 
 -- It tells of all three areas and, with none of them split off, of crashes.
 pub record TellsCrashes (s : Story) : Type 0 where
@@ -33,12 +34,20 @@ pub record IsUnwritten (s : Story) (input output : List ℕ) (c : Crash) : Type 
   pub writes : (a : ℕ) → Tells s a → c.writes a ≡ (s.area a).writes
   pub leaves : (a : ℕ) → Tells s a → Leaves (s.area a) (c.image a)
 
--- The master that counts is that of the disk on entry, or the one that its opening writes.
-pub record HasMasterOf (m : Master) (s : Story) (c : Crash) : Type 0 where
+-- No line that was out answers a call or tells of a transaction, and the disk shows what it showed on entry, or what recovery gave of it.
+pub record IsNoneTold (m : Master) (s : Story) (input output : List ℕ) (n : Master) (c : Crash) : Type 0 where
+  pub lines : ℕ
+  pub notes : c.notes ≡ s.notes + lines
+  pub quiet : IsQuiet input (first_lines lines output)
+  pub shows : ShowsStill m (areas_of s) n c.image
+
+-- The master that counts is that of the disk on entry, or the one that its opening writes; and what stands of the run's calls.
+pub record HasMasterOf (m : Master) (s : Story) (input output : List ℕ) (c : Crash) : Type 0 where
   pub n : Master
   pub counts : master_on (c.image 0) ≡ Some n
   pub is : (n ≡ m) ⊎ IsNextOf m (areas_of s) n
+  pub left : IsNoneTold m s input output n c ⊎ IsLeft m s input output c
 
 -- so it is in a crash that leaves a fair image, once something is written
 abbrev pub MasterLeaves : (m : Master) (s : Story) (input output : List ℕ) (c : Crash) → Type 0
-MasterLeaves m s input output c = IsUnwritten s input output c ⊎ (IsFairCrash (length m.heads) s c → HasMasterOf m s c)
+MasterLeaves m s input output c = IsUnwritten s input output c ⊎ (IsFairCrash (length m.heads) s c → HasMasterOf m s input output c)

@@ -9,5 +9,6 @@ pub mod Lines
 pub mod Crashes
 pub mod Headline
 pub mod Runs
+pub mod Starts
 pub mod Ends
 pub mod Inside

@@ -30,6 +30,7 @@ use Rattle.script_run.specs.declared.stop.Stop.TheVariants as stops
 use Rattle.lean_shell.specs.Crashes.{IsYoung, TellsCrashes, as_read}
 use Rattle.lean_shell.specs.Headline.{Survives}
 use Rattle.lean_shell.specs.Lines.{line_of, WentOut}
+use Rattle.lean_shell.specs.Starts.{IsLeft, IsStartOf}
 
 -- ## A disk that was not opened
 
@@ -71,14 +72,6 @@ pub record Counts : Type 0 where
 
 abbrev pub first_line : Counts → List ℕ
 first_line n = opened_line n.generation n.winners n.undone
-
--- The opening is the start that a disk gives by its master: its format and logs, the pages that recovery of its image gives, and the greatest number
--- there as base number.
-pub record IsStartOf (m : Master) (area : Areas) (g : Opening) : Type 0 where
-  pub format : g.format ≡ format_of m.pages
-  pub logs : g.workers ≡ length m.heads
-  pub base : IsGreatest (image_by m area) g.base
-  pub pages : (p : ℕ) → p < m.pages → start_page g p ≡ recovered_page (image_by m area) p
 
 -- The opening is the start that the disk on entry gives, with the map for which it stands, and the counts are those of its image.
 pub record IsFrom (g : Opening) (s : Story) (n : Counts) : Type 0 where
@@ -178,6 +171,7 @@ pub record Ran (status : ℕ) (s0 s1 : Story) (feed0 feed1 : Feed) (put : List �
   pub told : IsTrue feed0.tells → AreTold stop calls feed0.left put
   -- unless the disk failed, it stands as a crash would have left it
   pub stands : (stop ≡ stops.DiskFault → ⊥) → IsTrue feed0.tells → (m : Master) → TellsCrashes s0 → IsCleanDisk m (areas_of s0) → IsYoung m s0 → Survives m s0 feed0.left put (as_read s1)
+  pub left : (stop ≡ stops.DiskFault → ⊥) → IsTrue feed0.tells → (m : Master) → TellsCrashes s0 → IsCleanDisk m (areas_of s0) → IsYoung m s0 → IsLeft m s0 feed0.left put (as_read s1)
 
 -- How a run ended, on a disk that told s0 and tells s1, with a source that told feed0 and tells feed1, and a sink into which these bytes were put; and
 -- how often the sink had failed before and has now.

@@ -61,7 +61,7 @@ module _ (told : EveryArea) (m : Master) (first last left : MemDisk) (x : IsCutO
   stands : c.image ≡ areas_of (disk_story first) → Ready
   stands same = ready m (inl refl) (subst (IsCleanDisk m) (sym same) x.clean) (inl same)
 
-  by_map : HasMasterOf m (disk_story first) c → RunLeaves m (disk_story first) x.feed.left x.ends.put c → Ready
+  by_map : HasMasterOf m (disk_story first) x.feed.left x.ends.put c → RunLeaves m (disk_story first) x.feed.left x.ends.put c → Ready
   by_map h leaves = elim leaves [
     | inl u ↦ stands (unwritten_image told first x.areas x.bytes x.feed.left x.ends.put c x.begins u)
     | inr survives ↦ let s : Survives m (disk_story first) x.feed.left x.ends.put c = survives fair in

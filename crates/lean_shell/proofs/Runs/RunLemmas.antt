@@ -53,6 +53,7 @@ use Rattle.lean_shell.specs.Ends.{RunEnds}
 use Rattle.lean_shell.specs.Inside.Openings.{EndsWith, HasOpened, Rests, counts_of}
 use Rattle.lean_shell.specs.Lines.{IsPut}
 use Rattle.lean_shell.specs.Runs.{ended, first_line}
+use Rattle.lean_shell.specs.Starts.{IsLeft, IsStartOf}
 use Rattle.lean_shell.specs.declared.opening.Opened.{Opened}
 use Rattle.lean_shell.proofs.Runs.LastLemmas.{Last, last_of}
 use Rattle.lean_shell.proofs.Runs.MomentLemmas.{line_moments, put_moments, same_but, then, was_then}
@@ -207,6 +208,12 @@ module _ (laws : EverySession) (tells_law : EveryTranscript) (moment_law : Every
     abbrev rests : Rests m s0 sa o.g op.engine.log
     rests = o.rests m all.all clean
 
+    starts : IsStartOf m (areas_of s0) o.g
+    starts = let f = o.from all.all in subst (λ (x : Master). IsStartOf x (areas_of s0) o.g) (one_master (sym f.sound.master ∙ clean.master)) f.starts
+      where
+        one_master : {x y : Master} → Some x ≡ Some y → x ≡ y
+        one_master e = cc
+
     abbrev P : Crash → Type 0
     P = LivesOn m s0 input put
 
@@ -237,20 +244,25 @@ module _ (laws : EverySession) (tells_law : EveryTranscript) (moment_law : Every
       t = tells_of tells q.unheard q.heard q.calls q.first (first_lines lines_out put) q.hears is
 
       fair_as : IsFairCrash (length m.heads) s0 d → IsFair 2048 IsSealed (sa.area 2).bytes q.since (d.image 2)
-      fair_as = survive.fair_log laws agrees reads_so seals m s0 sa sb o.g op.engine.log o.alone rests clean all.all (o.map m all.all clean) noted.area told_b rests.writes feed0 input put
+      fair_as = survive.fair_log laws agrees reads_so seals m s0 sa sb o.g op.engine.log o.alone rests clean all.all (o.map m all.all clean) noted.area told_b rests.writes starts feed0 input put
           calls r.told c d q same lines_out notes t.journal_is t.durables_are t.transcript_is (more_of c q lines_out is)
 
       survives_as : IsFair 2048 IsSealed (sa.area 2).bytes q.since (d.image 2) → Lives m s0 input put d
-      survives_as = survive.survives laws agrees reads_so seals m s0 sa sb o.g op.engine.log o.alone rests clean all.all (o.map m all.all clean) noted.area told_b rests.writes feed0 input put
+      survives_as = survive.survives laws agrees reads_so seals m s0 sa sb o.g op.engine.log o.alone rests clean all.all (o.map m all.all clean) noted.area told_b rests.writes starts feed0 input put
+          calls r.told c d q same lines_out notes t.journal_is t.durables_are t.transcript_is (more_of c q lines_out is)
+
+      left_as : IsFair 2048 IsSealed (sa.area 2).bytes q.since (d.image 2) → IsLeft m s0 input put d
+      left_as = survive.left_by laws agrees reads_so seals m s0 sa sb o.g op.engine.log o.alone rests clean all.all (o.map m all.all clean) noted.area told_b rests.writes starts feed0 input put
           calls r.told c d q same lines_out notes t.journal_is t.durables_are t.transcript_is (more_of c q lines_out is)
 
     -- so it is in each image in which the log's blocks are fair, and they are in each fair image
     record IsSafe (since : List Write) (d : Crash) : Type 0 where
       survives : IsFair 2048 IsSealed (sa.area 2).bytes since (d.image 2) → Lives m s0 input put d
+      left : IsFair 2048 IsSealed (sa.area 2).bytes since (d.image 2) → IsLeft m s0 input put d
       fair : IsFairCrash (length m.heads) s0 d → IsFair 2048 IsSealed (sa.area 2).bytes since (d.image 2)
 
     safe_as : (c d : Crash) (q : Q c) → survive.IsSameBut c d → (lines_out : ℕ) → d.notes ≡ s0.notes + lines_out → IsOutput op.generation op.winners op.undone q.first (first_lines lines_out put) → IsSafe q.since d
-    safe_as c d q same lines_out notes is = record { survives = survives_as c d q same lines_out notes is; fair = fair_as c d q same lines_out notes is }
+    safe_as c d q same lines_out notes is = record { survives = survives_as c d q same lines_out notes is; left = left_as c d q same lines_out notes is; fair = fair_as c d q same lines_out notes is }
 
     is_left : (since : List Write) (d : Crash) → IsSafe since d → P d
     is_left since d s = inr (λ fair. s.survives (s.fair fair))
@@ -322,6 +334,9 @@ module _ (laws : EverySession) (tells_law : EveryTranscript) (moment_law : Every
       pub stands : Survives m s0 input put (as_read s1)
       stands = ((at_last (as_read s1) now left).survives fair_now).survives
 
+      pub left_now : IsLeft m s0 input put (as_read s1)
+      left_now = (at_last (as_read s1) now left).left fair_now
+
   pub run_ends : (status : ℕ) → status ≡ ended stop → (sink0 : ℕ) → HasCause sink0 sink_c (stop ≡ stops.WriteFault) → ((a : ℕ) → 2 < a → sa.area a ≡ s0.area a) → RunEnds status s0 s1 feed0 feed1 held0 held1 sink0 sink1
   run_ends status is sink0 sinks others = record {
     put = put;
@@ -337,6 +352,7 @@ module _ (laws : EverySession) (tells_law : EveryTranscript) (moment_law : Every
       printed = record { told = r.told; tail = r.tail; prints = r.prints; cut = λ failed. r.cut (ap (λ (s : Stop). Some s) failed); last = l.text; last_is = l.went sink0 sinks; put_is = refl };
       told = λ tells. record { heard = h.heard; unheard = h.unheard; calls_are = h.calls_are; all_heard = h.all_heard; transcript_is = (all_tells tells).transcript_is };
       stands = λ no_fault tells m all clean young. stands tells m all clean young no_fault;
+      left = λ no_fault tells m all clean young. left_now tells m all clean young no_fault;
     }));
     others = λ a lt. l.notes.area a ∙ (r.others.area a (λ e. omega arith) ∙ (noted.area a ∙ others a lt));
     tells_on = record {

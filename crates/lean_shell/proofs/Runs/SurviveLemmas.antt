@@ -1,5 +1,5 @@
 -- What a crash leaves in a run: of a disk that stands still, and of one on which a script is executed.
-use Rattle.std.proofs.Common.{◌≡◌, ◌⊎◌, inl, inr, ⊎_elim, ◌≤◌, ◌<◌, ◌+◌, ◌++◌, ℕ, suc, true, List, [], ◌∷◌, length, Some, refl, sym, ◌∙◌, ap, subst, arith, codes}
+use Rattle.std.proofs.Common.{◌≡◌, ◌⊎◌, inl, inr, ⊎_elim, ◌≤◌, ◌<◌, ◌+◌, ◌++◌, ℕ, suc, true, List, [], ◌∷◌, length, Option, Some, refl, sym, ◌∙◌, ap, subst, arith, codes}
 use mathlib.Core.Path.{fun_ext}
 use Rattle.std.proofs.lemmas.List.{append-nil}
 use Rattle.map_model.proofs.ListLemmas.{has_cases, has_left, has_right}
@@ -15,9 +15,9 @@ use Rattle.lean_disk.specs.Story.{Crash, Story, Tells, areas_of}
 use Rattle.log_block.specs.Block.{IsSealed}
 use Rattle.disk_slots.specs.declared.master.Master.{Master}
 use Rattle.disk_image.specs.Laws.{EveryAgreement, EverySealed}
-use Rattle.disk_image.specs.Shown.{Areas, DiskStandsFor, IsCleanDisk, image_by}
+use Rattle.disk_image.specs.Shown.{Areas, DiskStandsFor, IsCleanDisk, image_by, shown_by}
 use Rattle.recovery.specs.Masters.{IsSameOrNext}
-use Rattle.recovery.specs.Crashes.{Lasts, RecoveryLeaves, StandsStill}
+use Rattle.recovery.specs.Crashes.{IsNextOf, Lasts, RecoveryLeaves, ShowsStill, StandsStill}
 use Rattle.recovery.specs.Telling.{TellsAll}
 use Rattle.core_state.specs.Openings.{Opening, first_map}
 use Rattle.session_model.specs.Calls.{Answered, Runs}
@@ -30,7 +30,7 @@ use Rattle.worker_log.specs.Logs.{Log}
 use Rattle.worker_log.specs.Kept.{fresh_account}
 use Rattle.map_model.specs.declared.call.Call.TheVariants as call
 use Rattle.map_model.specs.declared.call.Answer.TheVariants as answer
-use Rattle.image_model.specs.Entries.{Entry, is_commit}
+use Rattle.image_model.specs.Entries.{Contents, Entry, is_commit}
 use Rattle.lean_edge.specs.Outside.{Feed}
 use Rattle.transcripts.specs.Told.{asked_text, names}
 use Rattle.transcripts.specs.Transcripts.{durables, first_lines, in_turn, transcript, IsQuiet}
@@ -45,6 +45,8 @@ use Rattle.disk_image.specs.MasterSlots.{master_on}
 use Rattle.map_model.specs.declared.call.Call.{Call}
 use Rattle.map_model.specs.declared.call.Answer.{Answer}
 use Rattle.lean_shell.specs.Inside.Openings.{IsPrefix, Rests}
+use Rattle.lean_shell.specs.Starts.{IsLeft, IsStartOf}
+use Rattle.image_model.specs.Slots.{base_of}
 use Rattle.lean_shell.proofs.Runs.ImageLemmas as image
 use Rattle.lean_shell.proofs.Runs.BoundLemmas.{IsBounded, bounded}
 use Rattle.lean_shell.proofs.Runs.HandLemmas.{CommitInHand, Settled, settle}
@@ -61,7 +63,7 @@ pub record IsSameBut (c d : Crash) : Type 0 where
 -- the image survives, by a master of the disk on entry
 pub record Lives (m : Master) (s : Story) (input put : List ℕ) (c : Crash) : Type 0 where
   pub survives : Survives m s input put c
-  pub master : HasMasterOf m s c
+  pub master : HasMasterOf m s input put c
 
 -- so it is once something is written
 abbrev pub LivesOn : (m : Master) (s : Story) (input put : List ℕ) (c : Crash) → Type 0
@@ -74,6 +76,11 @@ run_leaves m s input put c (inr l) = inr (λ fair. (l fair).survives)
 pub master_leaves : (m : Master) (s : Story) (input put : List ℕ) (c : Crash) → LivesOn m s input put c → MasterLeaves m s input put c
 master_leaves m s input put c (inl u) = inl u
 master_leaves m s input put c (inr l) = inr (λ fair. (l fair).master)
+
+-- what the disk shows is by the same master or the next one
+made_of : (m n : Master) (area image : Areas) → ShowsStill m area n image → (n ≡ m) ⊎ IsNextOf m area n
+made_of m n area image (inl same) = inl same.0
+made_of m n area image (inr next) = inr next.is
 
 -- the next master is of the run that began with the other
 of_run : (m n : Master) → IsSameOrNext m n → IsOfRun m n
@@ -101,7 +108,7 @@ module _ (m : Master) (s : Story) (clean : IsCleanDisk m (areas_of s)) (input pu
       let images : d.image ≡ c.image = fun_ext same.image in
       let none : model.journal (transcript 1 input (first_lines lines put)) ≡ [] = ap model.journal quiet.transcript_is in
       record {
-        master = record { n = still.next; counts = subst (λ (i : Areas). master_on (i 0) ≡ Some still.next) (sym images) still.clean.master; is = still.made };
+        master = record { n = still.next; counts = subst (λ (i : Areas). master_on (i 0) ≡ Some still.next) (sym images) still.clean.master; is = made_of m still.next (areas_of s) c.image still.shows; left = inl (record { lines = lines; notes = notes; quiet = quiet; shows = subst (λ (i : Areas). ShowsStill m (areas_of s) still.next i) (sym images) still.shows }) };
         survives = record {
           lines = lines;
           notes = notes;
@@ -137,7 +144,7 @@ module _ (laws : EverySession) (agrees : EveryAgreement) (reads_so : EveryRun) (
     (m : Master) (s0 s sb : Story) (g : Opening) (log : Log) (alone : IsAlone 64 g) (rests : Rests m s0 s g log) (clean : IsCleanDisk m (areas_of s0)) (tells : TellsAll s0)
     (map_is : (k : ℕ) → first_map g k ≡ map_of (image_by m (areas_of s0)) k)
     (areas : (a : ℕ) → sb.area a ≡ s.area a) (told_same : (a : ℕ) → sb.tells a ≡ s0.tells a) (writes_0 : (s.area 2).writes ≡ (s0.area 2).writes)
-    (feed0 : Feed) (input put : List ℕ) where
+    (starts : IsStartOf m (areas_of s0) g) (feed0 : Feed) (input put : List ℕ) where
   maps : first_map g ≡ map_of (image_by m (areas_of s0))
   maps = fun_ext map_is
 
@@ -232,6 +239,30 @@ module _ (laws : EverySession) (agrees : EveryAgreement) (reads_so : EveryRun) (
             let z : Has r left = ⊎_elim (λ h. h) (λ none. absurd none) (has_cases r left [] (subst (Has r) (sym found_is) has)) in
             (numbered g st.hand st.session st.runs).agree r (subst (Has r) st.prefix (has_right r st.newer left z)) commit t there same
 
+        -- a page's base depends on the pages' area alone
+        abbrev base_in : (p : ℕ) → List ℕ → Option Contents
+        base_in p bytes = base_of (shown_by rests.n (λ (a : ℕ). bytes)) p
+
+        pub left_so : IsLeft m s0 input put d
+        left_so = record {
+          lines = lines;
+          notes = notes;
+          n = rests.n;
+          counts = ap master_on zero_is ∙ rests.master;
+          next = rests.made;
+          opening = g;
+          starts = starts;
+          base = λ p lt. ap (base_in p) one_is ∙ rests.base p lt;
+          heard = l.heard;
+          told = turn;
+          calls = is.hand;
+          calls_are = ⊎_elim (λ e. inl (e ∙ append-nil l.heard)) (λ h. inr (h.0, h.1 ∙ ap (λ (xs : List Answered). h.0 ∷ xs) (append-nil l.heard))) is.in_hand;
+          session = is.session;
+          runs = is.runs;
+          newer = is.newer;
+          records = ap (λ (z : List Entry). is.newer ++ z) (sym found_is ∙ append-nil left) ∙ is.prefix;
+        }
+
         pub survives_so : Survives m s0 input put d
         survives_so = record {
           numbers = numbers_now;
@@ -252,8 +283,11 @@ module _ (laws : EverySession) (agrees : EveryAgreement) (reads_so : EveryRun) (
           reported = λ name h. named_kept name (subst (Has name) durable h);
         }
 
+      pub left_by : IsLeft m s0 input put d
+      left_by = left_so zero_image one_image run
+
       pub survives : Lives m s0 input put d
       survives = record {
         survives = survives_so zero_image one_image run;
-        master = record { n = rests.n; counts = ap master_on zero_image ∙ rests.master; is = inr rests.made };
+        master = record { n = rests.n; counts = ap master_on zero_image ∙ rests.master; is = inr rests.made; left = inr left_by };
       }
