@@ -1,4 +1,4 @@
--- Of `format` read Words, Fresh, Formatted and Endings, then Laws; of `run` Headline first, with Crashes; then Lines, Runs and Ends. Inside has the words of private functions.
+-- Of `format` read Words, Fresh, Formatted and Endings, then Laws; of `run` Headline first, with Crashes; then Lines, Starts, Runs and Ends. Inside has the words of private functions.
 pub mod Words
 pub mod Pieces
 pub mod Fresh
