@@ -1,21 +1,20 @@
 -- How a run of a script ended.
 use Rattle.std.specs.Prelude.{◌≡◌, ◌⊎◌, ◌++◌, ◌<◌, ◌^◌, ℕ, suc, List, [], length, take, IsTrue, Some}
-use Rattle.image_model.specs.Images.{won_by, lost_by, map_of, recovered_page}
+use Rattle.image_model.specs.Images.{won_by, lost_by, map_of}
 use Rattle.lean_disk.specs.Faults.{Rose}
 use Rattle.lean_disk.specs.Story.{Story, areas_of}
 use Rattle.lean_edge.specs.Outside.{Feed}
 use Rattle.script_lang.specs.Notices.{Notice}
 use Rattle.disk_slots.specs.declared.master.Master.{Master}
-use Rattle.disk_image.specs.Formats.{format_of}
 use Rattle.disk_image.specs.MasterSlots.{master_on}
-use Rattle.disk_image.specs.Shown.{Areas, image_by, IsCleanDisk, IsSoundDisk}
+use Rattle.disk_image.specs.Shown.{image_by, IsCleanDisk, IsSoundDisk}
 use Rattle.recovery.specs.Masters.{HasOpenable, IsOpenable}
-use Rattle.recovery.specs.Opened.{IsGreatest, IsRefusal, IsUntouched}
+use Rattle.recovery.specs.Opened.{IsRefusal, IsUntouched}
 use Rattle.disk_image.specs.Breaks.{IsDamaged}
 use Rattle.recovery.specs.Telling.{TellsAll}
 use Rattle.recovery.specs.declared.opening.Unrecovered.{Unrecovered}
 use Rattle.recovery.specs.declared.opening.Unrecovered.TheVariants as why
-use Rattle.core_state.specs.Openings.{Opening, start_page, first_map}
+use Rattle.core_state.specs.Openings.{Opening, first_map}
 use Rattle.session_model.specs.Sessions.{Session, IsAlone, start}
 use Rattle.worker_log.specs.Logs.{Log}
 use Rattle.lean_engine.specs.States.{State, Pictures}

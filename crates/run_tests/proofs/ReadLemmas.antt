@@ -1,5 +1,5 @@
 -- What a read gives of an area after writes within it.
-use Rattle.std.proofs.Common.{◌≡◌, ◌⊎◌, inl, inr, ◌<◌, ◌≤◌, ◌+◌, ◌-◌, ◌*◌, ℕ, List, [], ◌∷◌, length, take, drop, refl, sym, ◌∙◌, ap, arith}
+use Rattle.std.proofs.Common.{◌≡◌, ◌⊎◌, inl, inr, ◌≤◌, ◌+◌, ◌-◌, ◌*◌, ℕ, List, [], ◌∷◌, length, take, drop, refl, sym, ◌∙◌, ap, arith}
 use Rattle.std.proofs.lemmas.Bool.{cases_lt}
 use Rattle.map_model.specs.Lists.{Has}
 use Rattle.image_model.specs.Fair.{Touches, after_writes, piece}
@@ -13,16 +13,19 @@ module _ (size p : ℕ) (first : List ℕ) where
   Stands ws = (length (after_writes first ws) ≡ length first) × (Touches size p ws ⊎ (piece size p (after_writes first ws) ≡ piece size p first))
 
   more : (w : Write) (older : List Write) → w.0 + length w.1 ≤ length first → Stands older → Stands (w ∷ older)
-  more w older within s = (same, elim s.1 [
-    | inl t ↦ inl (record { write = t.write; has = inr t.has; begins = t.begins; ends = t.ends })
-    | inr stood ↦ elim (cases_lt w.0 (size * p + size)) [
-      | inl begins ↦ elim (cases_lt (size * p) (w.0 + length w.1)) [
-        | inl ends ↦ inl (record { write = w; has = inl refl; begins = begins; ends = ends })
-        | inr before ↦ inr (by_place (omega (arith, before)) before ∙ stood)
+  more w older within s = (
+    same,
+    elim s.1 [
+      | inl t ↦ inl (record { write = t.write; has = inr t.has; begins = t.begins; ends = t.ends })
+      | inr stood ↦ elim (cases_lt w.0 (size * p + size)) [
+        | inl begins ↦ elim (cases_lt (size * p) (w.0 + length w.1)) [
+          | inl ends ↦ inl (record { write = w; has = inl refl; begins = begins; ends = ends })
+          | inr before ↦ inr (by_place (omega (arith, before)) before ∙ stood)
+        ]
+        | inr after ↦ inr (ahead w.0 w.1 (after_writes first older) (size * p) size after (omega (arith, after, within, old)) ∙ stood)
       ]
-      | inr after ↦ inr (ahead w.0 w.1 (after_writes first older) (size * p) size after (omega (arith, after, within, old)) ∙ stood)
-    ]
-  ])
+    ],
+  )
     where
       old : length (after_writes first older) ≡ length first
       old = s.0
