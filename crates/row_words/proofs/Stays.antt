@@ -1,0 +1,303 @@
+-- An event changes the rows alone that it publishes.
+use Rattle.std.proofs.Common.{◌≡◌, ◌≢◌, ◌==◌, ◌||◌, ◌&&◌, not, ltb, ◌<◌, ◌+◌, ◌-◌, ◌^◌, ℕ, zero, suc, Bool, true, false, List, [], ◌∷◌, Some, None, refl, sym, ap, subst, ◌∙◌, true≢false, arith, ◌⊎◌, inl, inr, cond}
+use Rattle.std.specs.Prelude.{slice_index}
+use Rattle.std.proofs.lemmas.Bool.{cond-false, cond-true, ne_eqb, eqb-false}
+use Rattle.std.proofs.lemmas.Bool.Decides.{nat_tests}
+use Rattle.map_model.specs.Lists.{upd, any}
+use Rattle.map_model.specs.Maps.{MapAnswer}
+use Rattle.image_model.specs.Entries.{Entry}
+use Rattle.page_model.specs.Pairs.{Pair, Span, spans}
+use Rattle.page_model.specs.Nodes.{Node}
+use Rattle.page_model.specs.Check.{names_page}
+use Rattle.btree_node.specs.Words.{words_of}
+use Rattle.core_state.specs.Lists.{all_below}
+use Rattle.core_state.specs.Openings.{Opening}
+use Rattle.core_state.specs.States.{Place, State, is_hot, is_cooling, is_cold, frame_of, in_frame, left_by, waits_for}
+use Rattle.core_state.specs.Events.{Event}
+use Rattle.core_state.specs.Needs.{may, are_hot, pages_of, needs, has_hot_child, has_hot_parent, is_dirty, is_inside, is_empty_frame}
+use Rattle.core_state.specs.Steps.{happens, follows, put_back}
+use Rattle.core_state.specs.Steps as steps
+use Rattle.core_state.specs.Local.{published, publishes_page, publishes_row}
+use Rattle.core_state.proofs.Locality.{every_local}
+use Rattle.row_words.specs.Words.{swip, swips, is_inner, framed, framed_page, ShowsPage, ShowsFrame, Shows, lock_words, relinks, relinked, fills, has_parent_in, publishes_frame, publishes}
+
+pub or_false : (a b : Bool) → (a || b) ≡ false → (a ≡ false) × (b ≡ false)
+or_false true b e = absurd (true≢false e)
+or_false false b e = (refl, e)
+
+pub and_true : (a b : Bool) → (a && b) ≡ true → (a ≡ true) × (b ≡ true)
+and_true true b e = (refl, e)
+and_true false b e = absurd (true≢false (sym e))
+
+pub cases : {P : Type 0} (b : Bool) → (b ≡ true → P) → (b ≡ false → P) → P
+cases true f g = f refl
+cases false f g = g refl
+
+-- an update at i leaves j
+pub kept : {A : Type 0} (f : ℕ → A) (i : ℕ) (a : A) (j : ℕ) → (i == j) ≡ false → upd f i a j ≡ f j
+kept f i a j h = cond-false (j == i) a (f j) (ne_eqb j i (λ e. eqb-false i j h (sym e)))
+
+-- and is a at i
+pub here : {A : Type 0} (f : ℕ → A) (i : ℕ) (a : A) (j : ℕ) → (i == j) ≡ true → upd f i a j ≡ a
+here f i a j h = let e : (j == i) ≡ true = grind (arith, nat_tests) in cond-true (j == i) a (f j) e
+
+same_place : (i j : ℕ) → (i == j) ≡ true → i ≡ j
+same_place i j h = grind (arith, nat_tests)
+
+in_left : (w : ℕ) (x : Place) (f : ℕ) → in_frame (left_by w x) f ≡ in_frame x f
+in_left w (Place.Hot f) i = refl
+in_left w (Place.Cooling f e v) i = refl
+in_left w Place.Cold i = refl
+
+swip_left : (w : ℕ) (x : Place) (p : ℕ) → swip (left_by w x) p ≡ swip x p
+swip_left w (Place.Hot f) p = refl
+swip_left w (Place.Cooling f e v) p = refl
+swip_left w Place.Cold p = refl
+
+in_hot : (x : Place) (f : ℕ) → is_hot x ≡ true → (frame_of x == f) ≡ true → in_frame x f ≡ true
+in_hot (Place.Hot f) i h e = e
+in_hot (Place.Cooling f e v) i h d = d
+in_hot Place.Cold i h e = absurd (true≢false (sym h))
+
+in_cooling : (x : Place) (f : ℕ) → is_cooling x ≡ true → (frame_of x == f) ≡ true → in_frame x f ≡ true
+in_cooling (Place.Hot f) i h e = e
+in_cooling (Place.Cooling f e v) i h d = d
+in_cooling Place.Cold i h e = absurd (true≢false (sym h))
+
+swip_cooling : (x : Place) (p : ℕ) → is_cooling x ≡ true → swip x p ≡ p
+swip_cooling (Place.Hot f) p h = absurd (true≢false (sym h))
+swip_cooling (Place.Cooling f e v) p h = refl
+swip_cooling Place.Cold p h = refl
+
+-- the page of a place that is not in a list of those in the frame
+unpublished : (place : ℕ → Place) (f p : ℕ) (l : List ℕ) → any (λ q. in_frame (place q) f) l ≡ false → in_frame (place p) f ≡ true → any (λ q. q == p) l ≡ false
+unpublished place f p [] off i = refl
+unpublished place f p (q ∷ l) off i =
+    let o = or_false (in_frame (place q) f) (any (λ q. in_frame (place q) f) l) off in
+    let ih = unpublished place f p l o.1 i in
+    let ne : (q == p) ≡ false = cases (q == p) (λ t. absurd (true≢false (sym i ∙ (ap (λ z. in_frame (place z) f) (sym (same_place q p t)) ∙ o.0)))) (λ n. n) in
+    rw ne ih
+
+-- no page below n
+pub below_false : (n : ℕ) (P : ℕ → Bool) → all_below n P ≡ true → (q : ℕ) → q < n → P q ≡ true
+below_false zero P h q lt = absurd (omega arith)
+below_false (suc n) P h q lt =
+    let a = and_true (P n) (all_below n P) h in
+    cases (q == n) (λ t. ap P (same_place q n t) ∙ a.0) (λ t. below_false n P a.1 q (let d : q ≢ n = eqb-false q n t in omega arith))
+
+pub not_false : (b : Bool) → not b ≡ false → b ≡ true
+not_false true e = refl
+not_false false e = absurd (true≢false e)
+
+pub not_true : (b : Bool) → not b ≡ true → b ≡ false
+not_true true e = absurd (true≢false (sym e))
+not_true false e = refl
+
+all_mono : (n : ℕ) (P Q : ℕ → Bool) → ((p : ℕ) → P p ≡ true → Q p ≡ true) → all_below n P ≡ true → all_below n Q ≡ true
+all_mono zero P Q f h = refl
+all_mono (suc n) P Q f h = let a = and_true (P n) (all_below n P) h in rw (f n a.0, all_mono n P Q f a.1) refl
+
+in_parts : (x : Place) (f : ℕ) → in_frame x f ≡ ((is_hot x || is_cooling x) && (frame_of x == f))
+in_parts (Place.Hot f) i = refl
+in_parts (Place.Cooling f e v) i = refl
+in_parts Place.Cold i = refl
+
+in_same : (x y : Place) (f : ℕ) → is_hot x ≡ is_hot y → is_cooling x ≡ is_cooling y → frame_of x ≡ frame_of y → in_frame x f ≡ in_frame y f
+in_same x y f a b c = in_parts x f ∙ ((λ i. (a i || b i) && (c i == f)) ∙ sym (in_parts y f))
+
+one_hot : (x : Place) (f : ℕ) → is_hot x ≡ true → frame_of x ≡ f → x ≡ Place.Hot f
+one_hot (Place.Hot i) f h e = ap Place.Hot e
+one_hot (Place.Cooling i e v) f h d = absurd (true≢false (sym h))
+one_hot Place.Cold f h e = absurd (true≢false (sym h))
+
+module _ (g : Opening) (s : State) where
+  -- a page stands in a frame after an event only if it did before, or if the event fills the frame
+  in_before : (e : Event) (p f : ℕ) → may g s e ≡ true → fills e f ≡ false → in_frame ((happens g s e).place p) f ≡ true → in_frame (s.place p) f ≡ true
+  in_before (Event.Leave w) p f m off i = sym (in_left w (s.place p) f) ∙ i
+  in_before (Event.Load q h) p f m off i = cases (q == p)
+      (λ t. absurd (true≢false (sym i ∙ (ap (λ z. in_frame z f) (here s.place q (Place.Hot h) p t) ∙ off))))
+      (λ n. ap (λ z. in_frame z f) (sym (kept s.place q (Place.Hot h) p n)) ∙ i)
+  in_before (Event.Cool q) p f m off i =
+      let x = Place.Cooling (frame_of (s.place q)) s.epoch (λ w. is_inside (s.inside w)) in cases (q == p)
+      (λ t. let j : in_frame x f ≡ true = ap (λ z. in_frame z f) (sym (here s.place q x p t)) ∙ i in
+      let hot = (and_true (is_hot (s.place q)) true (and_true (is_hot (s.place q) && true) (needs g s (Event.Cool q)) m).0).0 in
+      ap (λ z. in_frame (s.place z) f) (sym (same_place q p t)) ∙ in_hot (s.place q) f hot j)
+      (λ n. ap (λ z. in_frame z f) (sym (kept s.place q x p n)) ∙ i)
+  in_before (Event.Rescue q) p f m off i =
+      let x = Place.Hot (frame_of (s.place q)) in cases (q == p)
+      (λ t. let j : in_frame x f ≡ true = ap (λ z. in_frame z f) (sym (here s.place q x p t)) ∙ i in
+      let cool = (and_true (is_cooling (s.place q)) (has_hot_parent g s q) m).0 in
+      ap (λ z. in_frame (s.place z) f) (sym (same_place q p t)) ∙ in_cooling (s.place q) f cool j)
+      (λ n. ap (λ z. in_frame z f) (sym (kept s.place q x p n)) ∙ i)
+  in_before (Event.Evict q) p f m off i = cases (q == p)
+      (λ t. absurd (true≢false (sym i ∙ ap (λ z. in_frame z f) (here s.place q Place.Cold p t))))
+      (λ n. ap (λ z. in_frame z f) (sym (kept s.place q Place.Cold p n)) ∙ i)
+  in_before (Event.Put_back w q) p f m off i = go (s.worker w).changes i
+    where
+      go : (cs : List Entry) → in_frame ((put_back g s w q cs).place p) f ≡ true → in_frame (s.place p) f ≡ true
+      go [] i = i
+      go (c ∷ cs) i = i
+  in_before (Event.Next w q k a) p f m off i = go a i
+    where
+      go : (a : MapAnswer) → in_frame ((follows g s w q a).place p) f ≡ true → in_frame (s.place p) f ≡ true
+      go (MapAnswer.Pair at word) i = i
+      go (MapAnswer.Gap b) i = i
+      go (MapAnswer.Value b) i = i
+      go (MapAnswer.Was b) i = i
+  in_before _ p f m off i = i
+
+  -- the swip of a page, unless the event changes it
+  swip_same : (e : Event) (c : ℕ) → may g s e ≡ true → relinks e c ≡ false → swip ((happens g s e).place c) c ≡ swip (s.place c) c
+  swip_same (Event.Leave w) c m off = swip_left w (s.place c) c
+  swip_same (Event.Load q h) c m off = ap (λ z. swip z c) (kept s.place q (Place.Hot h) c off)
+  swip_same (Event.Cool q) c m off = ap (λ z. swip z c) (kept s.place q (Place.Cooling (frame_of (s.place q)) s.epoch (λ w. is_inside (s.inside w))) c off)
+  swip_same (Event.Rescue q) c m off = ap (λ z. swip z c) (kept s.place q (Place.Hot (frame_of (s.place q))) c off)
+  swip_same (Event.Evict q) c m off = cases (q == c)
+      (λ t. let cool = (and_true (is_cooling (s.place q)) (not (is_dirty s q) && all_below (suc g.workers) (λ w. not (waits_for (s.place q) w))) m).0 in
+      ap (λ z. swip z c) (here s.place q Place.Cold c t) ∙ (sym (swip_cooling (s.place q) c cool) ∙ ap (λ z. swip (s.place z) c) (same_place q c t)))
+      (λ n. ap (λ z. swip z c) (kept s.place q Place.Cold c n))
+  swip_same (Event.Put_back w q) c m off = go (s.worker w).changes
+    where
+      go : (cs : List Entry) → swip ((put_back g s w q cs).place c) c ≡ swip (s.place c) c
+      go [] = refl
+      go (x ∷ xs) = refl
+  swip_same (Event.Next w q k a) c m off = go a
+    where
+      go : (a : MapAnswer) → swip ((follows g s w q a).place c) c ≡ swip (s.place c) c
+      go (MapAnswer.Pair at word) = refl
+      go (MapAnswer.Gap b) = refl
+      go (MapAnswer.Value b) = refl
+      go (MapAnswer.Was b) = refl
+  swip_same _ c m off = refl
+
+  -- of a page whose swip the event changes no parent stands in a frame that is not published
+  no_parent : (e : Event) (f c : ℕ) → any (has_parent_in g s f) (relinked e) ≡ false → relinks e c ≡ true → has_parent_in g s f c ≡ false
+  no_parent (Event.Load q h) f c off r = ap (has_parent_in g s f) (sym (same_place q c r)) ∙ (or_false (has_parent_in g s f q) false off).0
+  no_parent (Event.Cool q) f c off r = ap (has_parent_in g s f) (sym (same_place q c r)) ∙ (or_false (has_parent_in g s f q) false off).0
+  no_parent (Event.Rescue q) f c off r = ap (has_parent_in g s f) (sym (same_place q c r)) ∙ (or_false (has_parent_in g s f q) false off).0
+  no_parent (Event.Enter w e) f c off r = absurd (true≢false (sym r))
+  no_parent (Event.Leave w) f c off r = absurd (true≢false (sym r))
+  no_parent (Event.Begin w x) f c off r = absurd (true≢false (sym r))
+  no_parent (Event.Lock w i mode) f c off r = absurd (true≢false (sym r))
+  no_parent (Event.Read w p k a) f c off r = absurd (true≢false (sym r))
+  no_parent (Event.Next w p k a) f c off r = absurd (true≢false (sym r))
+  no_parent (Event.Peek w p k a) f c off r = absurd (true≢false (sym r))
+  no_parent (Event.Change w p k v) f c off r = absurd (true≢false (sym r))
+  no_parent (Event.Put_back w p) f c off r = absurd (true≢false (sym r))
+  no_parent (Event.Split w l m q i) f c off r = absurd (true≢false (sym r))
+  no_parent (Event.Lift w n) f c off r = absurd (true≢false (sym r))
+  no_parent (Event.Join w l m q) f c off r = absurd (true≢false (sym r))
+  no_parent (Event.Drop w n) f c off r = absurd (true≢false (sym r))
+  no_parent (Event.Purge w p keys) f c off r = absurd (true≢false (sym r))
+  no_parent (Event.End w commit x) f c off r = absurd (true≢false (sym r))
+  no_parent (Event.Unlock w i) f c off r = absurd (true≢false (sym r))
+  no_parent (Event.Flush w n) f c off r = absurd (true≢false (sym r))
+  no_parent (Event.Sync n) f c off r = absurd (true≢false (sym r))
+  no_parent (Event.Post w n) f c off r = absurd (true≢false (sym r))
+  no_parent (Event.Save p) f c off r = absurd (true≢false (sym r))
+  no_parent (Event.Evict p) f c off r = absurd (true≢false (sym r))
+  no_parent Event.Tick f c off r = absurd (true≢false (sym r))
+  no_parent (Event.Cut x heads) f c off r = absurd (true≢false (sym r))
+  no_parent (Event.Ask w) f c off r = absurd (true≢false (sym r))
+  no_parent (Event.Refused w n m) f c off r = absurd (true≢false (sym r))
+  no_parent (Event.Miss w) f c off r = absurd (true≢false (sym r))
+
+  not_named : (f p c : ℕ) → has_parent_in g s f c ≡ false → p < g.format.pages → in_frame (s.place p) f ≡ true → names_page (s.page p).node c ≡ false
+  not_named f p c off lt i =
+      let all = not_false (all_below g.format.pages (λ q. not (names_page (s.page q).node c && in_frame (s.place q) f))) off in
+      let n = not_true (names_page (s.page p).node c && in_frame (s.place p) f) (below_false g.format.pages (λ q. not (names_page (s.page q).node c && in_frame (s.place q) f)) all p lt) in
+      cases (names_page (s.page p).node c) (λ y. absurd (true≢false (sym (rw y i) ∙ n))) (λ z. z)
+
+  abbrev OneSwip : (ℕ → Place) → ℕ → Type 0
+  OneSwip place c = swip (place c) c ≡ swip (s.place c) c
+
+  pairs_same : (place : ℕ → Place) (xs : List Pair) (high : ℕ) → ((c : ℕ) → any (λ (x : Span). x.child == c) (spans xs high) ≡ true → OneSwip place c) → swips place xs ≡ swips s.place xs
+  pairs_same place [] high h = refl
+  pairs_same place (x ∷ xs) high h =
+      let it : (x.word == x.word) ≡ true = grind (arith, nat_tests) in
+      let first : OneSwip place x.word = h x.word (rw it refl) in
+      let rest = pairs_same place xs high (λ c t. h c (or_right (x.word == c) t)) in
+      (λ i. record { key = x.key; word = first i } ∷ rest i)
+    where
+      or_right : (a : Bool) {b : Bool} → b ≡ true → (a || b) ≡ true
+      or_right true e = refl
+      or_right false e = e
+
+  framed_same : (place : ℕ → Place) (v : Node) → ((c : ℕ) → names_page v c ≡ true → OneSwip place c) → framed place v ≡ framed s.place v
+  framed_same place v h = go (is_inner v) refl
+    where
+      go : (b : Bool) → is_inner v ≡ b → Rattle.std.specs.Prelude.if◌then◌else◌ b (record v { pairs = swips place v.pairs }) v ≡ Rattle.std.specs.Prelude.if◌then◌else◌ b (record v { pairs = swips s.place v.pairs }) v
+      go true e = ap (λ z. record v { pairs = z }) (pairs_same place v.pairs v.high (λ c t. h c (rw e t)))
+      go false e = refl
+
+  -- a page in a frame that the event does not publish
+  pub not_published : (e : Event) (f p : ℕ) → publishes_frame g s e f ≡ false → in_frame (s.place p) f ≡ true → publishes_page e p ≡ false
+  not_published e f p off before = unpublished s.place f p (published e) (or_false (any (λ p. in_frame (s.place p) f) (published e)) (fills e f || any (has_parent_in g s f) (relinked e)) off).0 before
+
+  -- a page that stands hot in a frame that the event does not publish stands there as it was
+  pub hot_stays : (e : Event) (f p : ℕ) → publishes_frame g s e f ≡ false → s.place p ≡ Place.Hot f → ((happens g s e).place p ≡ Place.Hot f) × ((happens g s e).page p ≡ s.page p)
+  hot_stays e f p off hot =
+      let it : (f == f) ≡ true = grind (arith, nat_tests) in
+      let un = not_published e f p off (ap (λ z. in_frame z f) hot ∙ it) in
+      let l = every_local g s e in
+      (one_hot ((happens g s e).place p) f (l.hot p un ∙ ap is_hot hot) (l.frame p un ∙ ap frame_of hot), l.pages p un)
+
+  -- a frame that the event does not publish is empty after it only if it was before
+  empty_before : (e : Event) (f : ℕ) → publishes_frame g s e f ≡ false → is_empty_frame g (happens g s e) f ≡ true → is_empty_frame g s f ≡ true
+  empty_before e f off h = all_mono g.format.pages (λ p. not (in_frame ((happens g s e).place p) f)) (λ p. not (in_frame (s.place p) f)) each h
+    where
+      each : (p : ℕ) → not (in_frame ((happens g s e).place p) f) ≡ true → not (in_frame (s.place p) f) ≡ true
+      each p none = cases (in_frame (s.place p) f)
+          (λ y. let un = not_published e f p off y in let l = every_local g s e in
+          let same = in_same ((happens g s e).place p) (s.place p) f (l.hot p un) (l.cooling p un) (l.frame p un) in
+          absurd (true≢false (sym (same ∙ y) ∙ not_true (in_frame ((happens g s e).place p) f) none)))
+          (λ n. ap not n)
+
+  -- the words of a frame that the event does not publish
+  frame_stays : (e : Event) (f i x : ℕ) → may g s e ≡ true → publishes_frame g s e f ≡ false
+      → ShowsFrame g s f i x
+      → (p : ℕ) → p < g.format.pages → in_frame ((happens g s e).place p) f ≡ true → ShowsPage (happens g s e) p i x
+  frame_stays e f i x m off shows p lt after =
+      let parts = or_false (any (λ p. in_frame (s.place p) f) (published e)) (fills e f || any (has_parent_in g s f) (relinked e)) off in
+      let more = or_false (fills e f) (any (has_parent_in g s f) (relinked e)) parts.1 in
+      let before = in_before e p f m more.0 after in
+      let un : publishes_page e p ≡ false = unpublished s.place f p (published e) parts.0 before in
+      let local = every_local g s e in
+      let page = local.pages p un in
+      let old = shows.page p lt before in
+      let node : framed (happens g s e).place (s.page p).node ≡ framed s.place (s.page p).node =
+      framed_same (happens g s e).place (s.page p).node (λ c named. cases (relinks e c)
+      (λ y. absurd (true≢false (sym named ∙ not_named f p c (no_parent e f c more.1 y) lt before)))
+      (λ n. swip_same e c m n)) in
+      record {
+        page = λ l. let o = old.page l in (o.0, o.1 ∙ ap (λ z. slice_index (words_of z) i) (sym (λ j. record { number = p; gsn = (page j).gsn; generation = o.0; last_log = (page j).last; node = (ap (λ z. framed (happens g s e).place z.node) page ∙ node) j })));
+        marked = λ l c. old.marked l (sym (local.cooling p un) ∙ c);
+        hint = λ l c. old.hint l (sym (local.cooling p un) ∙ c);
+        saved = λ l. old.saved l ∙ ap (λ z. z.gsn) (sym (local.saved p un));
+      }
+
+  pub hot_kept : (e : Event) (row p : ℕ) → ltb row g.frames ≡ true → publishes g s e row ≡ false → s.place p ≡ Place.Hot row → ((steps.step g s e).place p ≡ Place.Hot row) × ((steps.step g s e).page p ≡ s.page p)
+  hot_kept e row p lt off hot = go (may g s e)
+    where
+      go : (b : Bool) → ((Rattle.std.specs.Prelude.if◌then◌else◌ b (happens g s e) s).place p ≡ Place.Hot row) × ((Rattle.std.specs.Prelude.if◌then◌else◌ b (happens g s e) s).page p ≡ s.page p)
+      go true = hot_stays e row p (sym (cond-true (ltb row g.frames) (publishes_frame g s e row) (publishes_row e (row - g.frames)) lt) ∙ off) hot
+      go false = (hot, refl)
+
+  pub stays : (e : Event) (row i x : ℕ) → publishes g s e row ≡ false → Shows g s row i x → Shows g (steps.step g s e) row i x
+  stays e row i x off shows = go (may g s e) refl
+    where
+      framing : ltb row g.frames ≡ true → publishes_frame g s e row ≡ false
+      framing t = sym (cond-true (ltb row g.frames) (publishes_frame g s e row) (publishes_row e (row - g.frames)) t) ∙ off
+
+      locking : ltb row g.frames ≡ false → publishes_row e (row - g.frames) ≡ false
+      locking t = sym (cond-false (ltb row g.frames) (publishes_frame g s e row) (publishes_row e (row - g.frames)) t) ∙ off
+
+      go : (b : Bool) → may g s e ≡ b → Shows g (Rattle.std.specs.Prelude.if◌then◌else◌ b (happens g s e) s) row i x
+      go true m = record {
+        frame = λ t. record {
+          page = frame_stays e row i x m (framing t) (shows.frame t);
+          empty = λ l h. (shows.frame t).empty l (empty_before e row (framing t) h);
+        };
+        lock = λ t. shows.lock t ∙ ap (λ z. slice_index (lock_words g.workers z) i) (sym ((every_local g s e).rows (row - g.frames) (locking t)));
+      }
+      go false m = shows
