@@ -1,0 +1,11 @@
+pub mod Cells
+pub mod Holds
+pub mod EventLemmas
+pub mod Memory
+pub mod Keeping
+pub mod Steps
+pub mod Runs
+pub mod OneSeat
+pub mod First
+pub mod Causes
+pub mod Syncs

@@ -1,0 +1,29 @@
+use Rattle.std.proofs.Common.{◌≡◌, ◌≢◌, ℕ, Bool, ◌+◌, ◌*◌, ◌∷◌, ◌++◌, [], List, true, false, cond, nat_eq, refl, sym, ap, subst, ◌∙◌, arith, eqb, ne_eqb, eq-eqb}
+use Rattle.std.specs.Prelude.{max}
+use Rattle.row_words.specs.declared.event.Event.{Event}
+use Rattle.rows_trait.specs.declared.view.View.{View}
+use Rattle.rows_trait.specs.Layout.{width, row_at, control_at}
+use Rattle.rows_trait.specs.Plain.{sizes}
+use Rattle.rows_trait.specs.Views.{Shape, no_place, held_at}
+use Rattle.rows_trait.specs.Inside.{tried}
+use Rattle.rows_trait.specs.Turns.{Looked, Loaded, Tried, Taken, Refused, Stored, Published, Released, Heard, Turned}
+use Rattle.rows_trait.specs.Rule.{Plan, plan, IsPicture}
+use Rattle.rows_trait.specs.declared.rows.Latch.TheVariants.{Held, Found}
+use Rattle.rows_trait.proofs.OneSeat.{plain_look, plain_load, plain_store, plain_take, plain_publish, plain_release, plain_latch, plain_hear, plain_turn, plain_small, settled_view, word_at, picture_at, written_at}
+use Rattle.rows_trait.proofs.plain.PlainRowsRows.load_word.Goals as goal
+
+pub returns-clause-fits : goal.returns-clause-fits
+returns-clause-fits c =
+    let z = sizes c.args.self.now.frames c.args.self.now.locks c.args.self.now.workers in
+    let k = plan z c.args.seat.now.view.given in
+    let words = c.args.self.now.words.items in
+    let v = c.args.seat.now.view in
+    picture_at z _ c.turned.result.view _ c.turned.ensures (plain_load k words v c.requires.fits c.args.row c.args.word c.index-found.result.now c.requires.place.0 c.requires.place.1 (word_at words c.place.result (row_at z c.args.row (c.args.word + 1)) c.index-found.result.now c.index-found.ensures c.place.ensures.1 c.place.ensures.0)).0
+
+pub returns-clause-step : goal.returns-clause-step
+returns-clause-step c =
+    let z = sizes c.args.self.now.frames c.args.self.now.locks c.args.self.now.workers in
+    let k = plan z c.args.seat.now.view.given in
+    let words = c.args.self.now.words.items in
+    let v = c.args.seat.now.view in
+    let P : View → Type 0 = λ w. Loaded (record { sizes = z; alone = true; place = no_place }) c.args.row c.args.word v c.index-found.result.now w in subst P (sym c.turned.ensures) (plain_load k words v c.requires.fits c.args.row c.args.word c.index-found.result.now c.requires.place.0 c.requires.place.1 (word_at words c.place.result (row_at z c.args.row (c.args.word + 1)) c.index-found.result.now c.index-found.ensures c.place.ensures.1 c.place.ensures.0)).1
