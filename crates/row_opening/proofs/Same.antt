@@ -1,0 +1,154 @@
+-- A step reads of an opening its sizes alone.
+use Rattle.std.proofs.Common.{◌≡◌, ◌<◌, ◌≤◌, ℕ, Bool, true, false, List, [], ◌∷◌, ◌++◌, refl, sym, ap, subst, ◌∙◌}
+use Rattle.std.specs.Prelude.{if◌then◌else◌}
+use Rattle.map_model.specs.Maps.{MapAnswer, key_end, value_end}
+use Rattle.image_model.specs.Entries.{Entry}
+use Rattle.page_model.specs.Nodes.{Format, Node}
+use Rattle.page_model.specs.Tree.{IsTree}
+use Rattle.core_state.specs.Openings.{Opening}
+use Rattle.core_state.specs.States.{State, start, nodes_of}
+use Rattle.core_state.specs.Events as happening
+use Rattle.core_state.specs.Needs.{may, may_put_back}
+use Rattle.core_state.specs.Steps.{happens, follows, put_back}
+use Rattle.core_state.specs.Steps as steps
+use Rattle.core_paging.specs.Paging.{Residence}
+use Rattle.core_paging.proofs.Laws as paging
+use Rattle.core_index.proofs.Legal as index
+use Rattle.row_words.specs.declared.event.Event.{Event}
+use Rattle.row_words.specs.declared.given.Given.{Given}
+use Rattle.row_words.specs.Moments.{Moment, event_of, events_of, first_state, first_moment}
+use Rattle.row_words.specs.Moments as moments
+use Rattle.row_words.specs.Openings as rows
+use Rattle.row_words.specs.Sealed.{begun, stepped, run}
+use Rattle.rows_trait.specs.Views.{after_all}
+use Rattle.row_opening.specs.Openings.{Opens, Opened, EveryOpened}
+
+-- what a step reads
+record Sizes : Type 0 where
+  workers : ℕ
+  frames : ℕ
+  changes : ℕ
+  joined : ℕ
+  row_of : ℕ → ℕ
+  format : Format
+
+abbrev sizes_of : Opening → Sizes
+sizes_of x = record { workers = x.workers; frames = x.frames; changes = x.changes; joined = x.joined; row_of = x.row_of; format = x.format }
+
+-- the rest of an opening of these sizes
+record Rest (z : Sizes) : Type 0 where
+  node : ℕ → Node
+  tree : IsTree z.format node
+  some_worker : 0 < z.workers
+  some_frame : 0 < z.frames
+  fit : z.joined ≤ z.format.room
+  keys : z.format.top ≤ key_end
+  values : z.format.dead ≤ value_end
+  base : ℕ
+  gsn : ℕ → ℕ
+  last : ℕ → ℕ
+  low : (p : ℕ) → gsn p ≤ base
+
+abbrev make : (z : Sizes) → Rest z → Opening
+make z r = record {
+  workers = z.workers;
+  frames = z.frames;
+  row_of = z.row_of;
+  changes = z.changes;
+  joined = z.joined;
+  base = r.base;
+  format = z.format;
+  gsn = r.gsn;
+  last = r.last;
+  node = r.node;
+  some_worker = r.some_worker;
+  some_frame = r.some_frame;
+  fit = r.fit;
+  keys = r.keys;
+  values = r.values;
+  low = r.low;
+  tree = r.tree;
+}
+
+abbrev rest_of : (x : Opening) → Rest (record { workers = x.workers; frames = x.frames; changes = x.changes; joined = x.joined; row_of = x.row_of; format = x.format })
+rest_of x = record { node = x.node; tree = x.tree; some_worker = x.some_worker; some_frame = x.some_frame; fit = x.fit; keys = x.keys; values = x.values; base = x.base; gsn = x.gsn; last = x.last; low = x.low }
+
+module _ (z : Sizes) (a b : Rest z) (s : State) where
+  back_may : (n : Node) (p : ℕ) (cs : List Entry) → may_put_back (make z a) n p cs ≡ may_put_back (make z b) n p cs
+  back_may n p [] = refl
+  back_may n p (c ∷ cs) = refl
+
+  same_may : (e : happening.Event) → may (make z a) s e ≡ may (make z b) s e
+  same_may (happening.Event.Put_back w p) = go (s.worker w).changes
+    where
+      go : (cs : List Entry) → Rattle.std.specs.Prelude.◌&&◌ (Rattle.core_state.specs.Needs.are_hot s (p ∷ [])) (Rattle.std.specs.Prelude.◌&&◌ (s.worker w).is_open (may_put_back (make z a) (s.page p).node p cs)) ≡ Rattle.std.specs.Prelude.◌&&◌ (Rattle.core_state.specs.Needs.are_hot s (p ∷ [])) (Rattle.std.specs.Prelude.◌&&◌ (s.worker w).is_open (may_put_back (make z b) (s.page p).node p cs))
+      go cs = ap (λ y. Rattle.std.specs.Prelude.◌&&◌ (Rattle.core_state.specs.Needs.are_hot s (p ∷ [])) (Rattle.std.specs.Prelude.◌&&◌ (s.worker w).is_open y)) (back_may (s.page p).node p cs)
+  same_may (happening.Event.Next w p k (MapAnswer.Pair q x)) = refl
+  same_may (happening.Event.Next w p k (MapAnswer.Gap h)) = refl
+  same_may (happening.Event.Next w p k (MapAnswer.Value x)) = refl
+  same_may (happening.Event.Next w p k (MapAnswer.Was x)) = refl
+  same_may _ = refl
+
+  same_happens : (e : happening.Event) → happens (make z a) s e ≡ happens (make z b) s e
+  same_happens (happening.Event.Put_back w p) = go (s.worker w).changes
+    where
+      go : (cs : List Entry) → put_back (make z a) s w p cs ≡ put_back (make z b) s w p cs
+      go [] = refl
+      go (c ∷ cs) = refl
+  same_happens (happening.Event.Next w p k (MapAnswer.Pair q x)) = refl
+  same_happens (happening.Event.Next w p k (MapAnswer.Gap h)) = refl
+  same_happens (happening.Event.Next w p k (MapAnswer.Value x)) = refl
+  same_happens (happening.Event.Next w p k (MapAnswer.Was x)) = refl
+  same_happens _ = refl
+
+  same_step : (e : happening.Event) → steps.step (make z a) s e ≡ steps.step (make z b) s e
+  same_step e = λ i. if same_may e i then same_happens e i else s
+
+-- openings of the same sizes
+of_sizes : (x y : Opening) (s : State) (e : happening.Event) → sizes_of x ≡ sizes_of y → steps.step x s e ≡ steps.step y s e
+of_sizes x y s e same = go (rest_of x)
+  where
+    go : (r : Rest (sizes_of x)) → steps.step (make (sizes_of x) r) s e ≡ steps.step y s e
+    go = subst (λ z. (r : Rest z) → steps.step (make z r) s e ≡ steps.step y s e) (sym same) (λ r. same_step (sizes_of y) r (rest_of y) s e)
+
+module _ (x : Opening) (v : Given) (o : Opens x v) where
+  sizes_same : sizes_of x ≡ sizes_of (rows.opening v)
+  sizes_same = λ i. record { workers = o.workers i; frames = o.frames i; changes = o.changes i; joined = o.joined i; row_of = o.locks i; format = o.format i }
+
+  runs : (es : List Event) (m : Moment) → (run v m es).core ≡ steps.run x m.core (events_of es)
+  unfolding stepped
+  runs [] m = refl
+  runs (e ∷ es) m = runs es (moments.step (rows.opening v) m e) ∙ ap (λ s. steps.run x s (events_of es)) (sym (of_sizes x (rows.opening v) m.core (event_of e) sizes_same))
+
+  before : (es : List Event) (m : Moment) → (moments.run (rows.opening v) m es).core ≡ steps.run x m.core (events_of es)
+  before [] m = refl
+  before (e ∷ es) m = before es (moments.step (rows.opening v) m e) ∙ ap (λ s. steps.run x s (events_of es)) (sym (of_sizes x (rows.opening v) m.core (event_of e) sizes_same))
+
+  run_more : (s : State) (es fs : List happening.Event) → steps.run x (steps.run x s es) fs ≡ steps.run x s (es ++ fs)
+  run_more s [] fs = refl
+  run_more s (e ∷ es) fs = run_more (steps.step x s e) es fs
+
+  reached : (es : List Event) → (after_all v es).core ≡ steps.run x (start x) (events_of v.before ++ events_of es)
+  unfolding begun
+  reached es = runs es (first_moment (rows.opening v) v)
+      ∙ (ap (λ s. steps.run x s (events_of es)) (before v.before (record { core = first_state v; answer = λ q. 0 }) ∙ ap (λ s. steps.run x s (events_of v.before)) (sym o.first))
+      ∙ run_more (start x) (events_of v.before) (events_of es))
+
+  residence : (s : State) → Residence x s → Residence (rows.opening v) s
+  residence s r = record {
+    one = r.one;
+    within = λ p f h. let a = r.within p f h in (subst (λ z. p < z) (ap (λ z. z.pages) o.format) a.0, subst (λ z. f < z) o.frames a.1);
+    root = r.root;
+    parent = λ q p lt. r.parent q p (subst (λ z. q < z) (ap (λ z. z.pages) (sym o.format)) lt);
+    queue = r.queue;
+    cold = r.cold;
+  }
+
+  pub opened : (es : List Event) → Opened v es
+  opened es = let all = events_of v.before ++ events_of es in record {
+    tree = subst (λ s. IsTree (rows.opening v).format (nodes_of s)) (sym (reached es)) (subst (λ f. IsTree f (nodes_of (steps.run x (start x) all))) o.format (index.every_tree x all));
+    places = subst (λ s. Residence (rows.opening v) s) (sym (reached es)) (residence (steps.run x (start x) all) (paging.every_residence x all));
+  }
+
+pub every_opened : EveryOpened
+every_opened x v o = opened x v o

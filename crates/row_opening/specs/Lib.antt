@@ -1,0 +1,2 @@
+-- Read Openings.
+pub mod Openings

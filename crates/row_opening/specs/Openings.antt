@@ -1,0 +1,30 @@
+-- Rows that begin as an opening gives them.
+use Rattle.std.specs.Prelude.{◌≡◌, List}
+use Rattle.page_model.specs.Tree.{IsTree}
+use Rattle.core_state.specs.Openings.{Opening}
+use Rattle.core_state.specs.States.{nodes_of, start}
+use Rattle.core_paging.specs.Paging.{Residence}
+use Rattle.row_words.specs.declared.event.Event.{Event}
+use Rattle.row_words.specs.declared.given.Given.{Given}
+use Rattle.row_words.specs.Moments.{first_state}
+use Rattle.row_words.specs.Openings as rows
+use Rattle.rows_trait.specs.Views.{after_all}
+
+-- the opening has these sizes, and its start is what is given
+pub record Opens (x : Opening) (v : Given) : Type 0 where
+  pub workers : x.workers ≡ (rows.opening v).workers
+  pub frames : x.frames ≡ (rows.opening v).frames
+  pub locks : x.row_of ≡ (rows.opening v).row_of
+  pub changes : x.changes ≡ 64
+  pub joined : x.joined ≡ 45
+  pub format : x.format ≡ (rows.opening v).format
+  pub first : start x ≡ first_state v
+
+-- at that moment the pages are a tree, and places are in order
+pub record Opened (v : Given) (es : List Event) : Type 0 where
+  pub tree : IsTree (rows.opening v).format (nodes_of (after_all v es).core)
+  pub places : Residence (rows.opening v) (after_all v es).core
+
+-- so it is after every list of events
+abbrev pub EveryOpened : Type 0
+EveryOpened = (x : Opening) (v : Given) → Opens x v → (es : List Event) → Opened v es

@@ -1,0 +1,10 @@
+//! Rows that begin as an opening gives them: the laws of the core hold of each moment of such rows.
+#![tactic(auto)]
+
+ghost use Rattle.row_opening.specs.Openings.{EveryOpened};
+
+/// After every list of events the pages are a tree, and where pages stand in frames is in order: one page a frame, the root hot,
+/// the parent of a hot page hot.
+pub fn every_opened()
+    ensures { EveryOpened }
+{}
