@@ -1,17 +1,14 @@
 -- What a call's steps append, and what stays over them.
-use Rattle.std.proofs.Common.{◌≡◌, ◌≢◌, ◌==◌, ◌||◌, ◌<◌, ◌≤◌, ◌%◌, ◌++◌, ℕ, Bool, true, false, List, [], ◌∷◌, Option, Some, None, refl, sym, ap, subst, ◌∙◌, true≢false, arith, append-nil, cond, eq-eqb, ne_eqb}
+use Rattle.std.proofs.Common.{◌≡◌, ◌≢◌, ◌==◌, ◌||◌, ◌<◌, ◌%◌, ◌++◌, ℕ, Bool, true, false, List, [], ◌∷◌, Option, refl, sym, ap, subst, ◌∙◌, arith, append-nil, eq-eqb, ne_eqb}
 use Rattle.std.specs.Prelude.{if◌then◌else◌}
-use Rattle.std.proofs.lemmas.Bool.Decides.{nat_tests}
 use Rattle.row_words.specs.declared.event.Event.{Event}
 use Rattle.row_words.specs.declared.event.Event.TheVariants.{Read, Miss}
 use Rattle.row_words.specs.declared.given.Given.{Given}
-use Rattle.row_words.specs.Moments.{Moment, actor_of, is_sync}
+use Rattle.row_words.specs.Moments.{actor_of}
 use Rattle.row_words.specs.Openings.{opening}
-use Rattle.row_words.specs.Sealed.{Shown, changes, sets}
 use Rattle.row_words.proofs.SealedLemmas.{is_silent, silent_changes, silent_sets, silent_part}
 use Rattle.rows_trait.specs.declared.view.View.{View}
-use Rattle.rows_trait.specs.declared.view.Act.{Act}
-use Rattle.rows_trait.specs.Views.{Shape, IsEven, IsSilent, AreSilent, after_all, state, Knows, may, latest}
+use Rattle.rows_trait.specs.Views.{Shape, IsEven, AreSilent, after_all, state, Knows, may}
 use Rattle.rows_trait.specs.Turns.{Goes, Looked, Ran}
 use Rattle.rows_trait.proofs.Runs.{AreOwn, ran_goes, ran_append}
 use Rattle.btree_descent.specs.declared.descent.Answer.{Answer}
@@ -19,9 +16,9 @@ use Rattle.btree_descent.specs.declared.descent.Answer.TheVariants as answer
 use Rattle.btree_descent.specs.declared.descent.Step.{Step}
 use Rattle.btree_descent.specs.declared.descent.Step.TheVariants as step
 use Rattle.btree_descent.specs.Known.{IsSound, Sound, said}
-use Rattle.btree_descent.specs.Inside.{Kept, OnWay, IsHead, Missed, Down, GoesDown}
+use Rattle.btree_descent.specs.Inside.{OnWay, IsHead, Missed, GoesDown}
 use Rattle.btree_descent.specs.Named.{missed, checked, read_at}
-use Rattle.btree_descent.specs.Descents.{Sized, Answered, Went}
+use Rattle.btree_descent.specs.Descents.{Sized, Went}
 
 one_silent : (p : ℕ → Bool) (v : Given) (e : Event) → p (actor_of e) ≡ true → is_silent e ≡ true → AreSilent p v (e ∷ [])
 one_silent p v e a s = (record { own = a; part = silent_part e s; rows = λ m q. silent_changes v m e q s; words = λ c i. silent_sets e c i s }, tt)

@@ -1,6 +1,5 @@
 -- Looking at rows changes nothing.
-use Rattle.std.proofs.Common.{◌≡◌, ◌≢◌, ◌<◌, ◌≤◌, ◌+◌, ◌*◌, ℕ, Bool, true, false, List, [], ◌∷◌, length, get_or, refl, sym, ap, subst, ◌∙◌, arith, inl, inr}
-use Rattle.std.specs.Prelude.{slice_index}
+use Rattle.std.proofs.Common.{◌≡◌, ◌≢◌, ◌<◌, ◌≤◌, ◌+◌, ◌*◌, ℕ, Bool, List, [], refl, sym, ap, subst, ◌∙◌, arith, inr}
 use Rattle.page_model.specs.Page as stored
 use Rattle.page_model.specs.Needs.{key_at}
 use Rattle.page_model.specs.Page.{word_at}
@@ -9,13 +8,12 @@ use Rattle.btree_node.specs.Inside.{place, IsAt, IsGap}
 use Rattle.btree_node.proofs.PlaceLemmas.{node-at, node-gap}
 use Rattle.btree_node.proofs.SpellingLemmas.{spells-key, spells-word}
 use Rattle.rows_trait.specs.declared.view.Act.{Act}
-use Rattle.rows_trait.specs.declared.view.Act.TheVariants.{Look, Load}
 use Rattle.rows_trait.specs.declared.view.View.{View}
 use Rattle.rows_trait.specs.Views.{Shape, Has, Knows, latest}
-use Rattle.rows_trait.specs.Turns.{Loaded, Ran}
+use Rattle.rows_trait.specs.Turns.{Loaded}
 use Rattle.rows_trait.proofs.Runs.{ran_goes, ran_none, ran_append}
 use Rattle.rows_trait.proofs.Causes.{loads_none, loads_then, loaded_loads}
-use Rattle.btree_descent.specs.Inside.{Agrees, IsSeen, Kept}
+use Rattle.btree_descent.specs.Inside.{IsSeen, Kept}
 
 pub kept_none : (alone : Bool) (v : View) → Kept alone v v
 kept_none alone v = record { ran = ran_none alone v; held = refl; loads = loads_none v; has = λ row s h. h; knows = λ row s i x h. h; latest = λ row. refl }

@@ -1,28 +1,26 @@
 -- What words that a row shows say of the page that stands in it.
-use Rattle.std.proofs.Common.{◌≡◌, ◌≢◌, ◌==◌, ◌||◌, ◌&&◌, not, ltb, leb, ◌<◌, ◌≤◌, ◌+◌, ◌-◌, ◌*◌, ◌/◌, ◌%◌, ◌^◌, ℕ, zero, suc, min, Bool, true, false, List, [], ◌∷◌, ◌++◌, append_assoc, append-nil, Option, Some, None, length, get_or, refl, sym, ap, subst, ◌∙◌, true≢false, arith, cond}
+use Rattle.std.proofs.Common.{◌≡◌, ◌≢◌, ◌==◌, ◌&&◌, not, ltb, leb, ◌<◌, ◌≤◌, ◌+◌, ◌-◌, ◌/◌, ◌%◌, ◌^◌, ℕ, zero, suc, Bool, true, false, List, [], ◌∷◌, ◌++◌, append_assoc, append-nil, Option, Some, None, length, refl, sym, ap, subst, ◌∙◌, true≢false, arith}
 use Rattle.std.specs.Prelude.{slice_index, if◌then◌else◌}
-use Rattle.std.proofs.lemmas.Bool.{cond-true, cond-false, ltb-true, lt-ltb, le-leb, le-ltb, eq-eqb}
+use Rattle.std.proofs.lemmas.Bool.{cond-true, cond-false, lt-ltb, le-leb, le-ltb, eq-eqb}
 use Rattle.std.proofs.lemmas.Bool.Decides.{nat_tests}
-use Rattle.page_model.specs.Pairs.{Pair, Rising, find, route, first_key, Has}
-use Rattle.page_model.specs.Nodes.{Format, Node, NodeOk, WellFormed, free, holds, is_leaf, covers}
+use Rattle.page_model.specs.Pairs.{Pair, Rising, find, route, first_key}
+use Rattle.page_model.specs.Nodes.{Format, Node, NodeOk, WellFormed}
 use Rattle.page_model.specs.Needs.{key_at}
 use Rattle.page_model.specs.Page as stored
-use Rattle.page_model.specs.Tree.{IsTree, value_of}
-use Rattle.page_model.specs.Laws.{TreeLaws}
+use Rattle.page_model.specs.Tree.{value_of}
 use Rattle.page_model.proofs.Laws.{every_tree}
-use Rattle.btree_node.specs.Words.{words_of, page_of, Fits, Spells, IsOrdered}
+use Rattle.btree_node.specs.Words.{words_of, Fits}
 use Rattle.btree_node.proofs.SpellingLemmas.{page_of-words_of, spells-count}
 use Rattle.btree_node.proofs.PlaceLemmas.{rising-ordered}
 use Rattle.core_state.specs.Lists.{all_below}
 use Rattle.core_state.specs.Openings.{Opening}
 use Rattle.core_state.specs.States.{Place, State, is_hot, is_cooling, in_frame, nodes_of}
-use Rattle.core_state.specs.Needs.{is_empty_frame, value_in}
-use Rattle.core_paging.specs.Paging.{Residence}
+use Rattle.core_state.specs.Needs.{is_empty_frame}
 use Rattle.row_words.specs.declared.given.Given.{Given}
 use Rattle.row_words.specs.Moments.{Moment}
 use Rattle.row_words.specs.Openings.{opening}
 use Rattle.row_words.specs.Sealed.{Shown, stepped, run, begun}
-use Rattle.row_words.specs.Words.{swip, swips, is_inner, framed, framed_page, ShowsPage, ShowsFrame, Shows}
+use Rattle.row_words.specs.Words.{swip, swips, is_inner, framed, framed_page, ShowsFrame}
 use Rattle.rows_trait.specs.declared.view.Act.{Act}
 use Rattle.row_words.specs.declared.event.Event.{Event}
 use Rattle.row_words.proofs.SealedLemmas.{run_append, hot_kept}

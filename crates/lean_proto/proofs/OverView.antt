@@ -1,13 +1,11 @@
 -- A seat that has stored the words of an entry may publish the change.
-use Rattle.std.proofs.Common.{◌≡◌, ◌≢◌, ◌==◌, ◌||◌, ◌&&◌, not, ltb, ◌<◌, ◌≤◌, ◌+◌, ◌-◌, ◌*◌, ◌/◌, ◌%◌, ◌^◌, ℕ, zero, suc, max, Bool, true, false, List, [], ◌∷◌, ◌++◌, length, set, append-nil, refl, sym, ap, subst, ◌∙◌, true≢false, arith}
+use Rattle.std.proofs.Common.{◌≡◌, ◌==◌, ◌||◌, ◌&&◌, ltb, ◌<◌, ◌+◌, ◌-◌, ◌*◌, ◌/◌, ◌%◌, ℕ, Bool, true, false, List, [], ◌∷◌, ◌++◌, length, set, append-nil, refl, sym, ap, subst, ◌∙◌, arith}
 use Rattle.std.specs.Prelude.{slice_index}
 use Rattle.std.proofs.lemmas.Bool.{lt-ltb}
 use Rattle.std.proofs.lemmas.Bool.Decides.{nat_tests}
 use Rattle.image_model.specs.Entries.{Contents}
-use Rattle.page_model.specs.Nodes.{Node}
 use Rattle.btree_node.specs.Words.{words_of, Fits, packed, kind_of}
-use Rattle.core_state.specs.Openings.{Opening}
-use Rattle.core_state.specs.States.{Place, State, Worker, is_hot, in_frame}
+use Rattle.core_state.specs.States.{Worker, is_hot, in_frame}
 use Rattle.core_state.specs.Events as happening
 use Rattle.core_state.specs.Needs as core
 use Rattle.core_state.specs.Needs.{is_held_by, may_put}
@@ -18,13 +16,12 @@ use Rattle.row_words.specs.declared.given.Given.{Given}
 use Rattle.row_words.specs.Moments.{Moment}
 use Rattle.row_words.specs.Openings.{opening}
 use Rattle.row_words.specs.Sealed.{begun, run, Shown}
-use Rattle.row_words.specs.Words.{framed, framed_page, ShowsPage, ShowsFrame, Shows}
+use Rattle.row_words.specs.Words.{ShowsPage}
 use Rattle.row_words.proofs.Stays as words
 use Rattle.row_words.proofs.SealedLemmas.{run_append}
 use Rattle.rows_trait.specs.declared.view.View.{View}
 use Rattle.rows_trait.specs.declared.view.Hold.{Hold}
-use Rattle.rows_trait.specs.Layout.{width}
-use Rattle.rows_trait.specs.Views.{Shape, after_all, state, Spells, may, hold, holds, held_at, write}
+use Rattle.rows_trait.specs.Views.{Shape, after_all, state, may, hold, holds, held_at, write}
 use Rattle.rows_trait.specs.Turns.{Goes, Stored, MayPublish}
 use Rattle.lean_proto.specs.Changes.{changed, IsChange}
 use Rattle.lean_proto.specs.Over.{IsOver}

@@ -1,16 +1,15 @@
 -- The words of a leaf of which one entry has another word.
-use Rattle.std.proofs.Common.{◌≡◌, ◌≢◌, ◌==◌, ◌<◌, ◌≤◌, ◌+◌, ◌-◌, ◌*◌, ◌/◌, ◌%◌, ℕ, zero, suc, max, Bool, true, false, List, [], ◌∷◌, length, set, get_or, refl, sym, ap, subst, ◌∙◌, arith}
+use Rattle.std.proofs.Common.{◌≡◌, ◌≢◌, ◌==◌, ◌<◌, ◌+◌, ◌-◌, ◌*◌, ◌/◌, ◌%◌, ℕ, zero, suc, max, Bool, true, false, List, length, set, refl, sym, ap, ◌∙◌, arith}
 use Rattle.std.specs.Prelude.{slice_index}
 use Rattle.std.proofs.lemmas.List.{get_or-set_other, get_or-set_same}
 use Rattle.std.proofs.Math.ListN.{length-set}
 use Rattle.std.proofs.lemmas.Bool.Decides.{nat_tests}
 use Rattle.image_model.specs.Entries.{Contents}
 use Rattle.page_model.specs.Page.{with_pairs}
-use Rattle.page_model.specs.Nodes.{Node}
-use Rattle.page_model.specs.Pairs.{Pair, put}
+use Rattle.page_model.specs.Pairs.{put}
 use Rattle.page_model.specs.Needs.{key_at}
 use Rattle.page_model.specs.Page as stored
-use Rattle.btree_node.specs.Words.{words_of, Fits, Spells, packed, kind_of}
+use Rattle.btree_node.specs.Words.{words_of, Fits, packed, kind_of}
 use Rattle.btree_node.specs.Inside.{IsAt, pair}
 use Rattle.btree_node.proofs.SpellingLemmas.{spells-view, kind-small}
 use Rattle.btree_node.proofs.ChangeLemmas.{node-set_word}

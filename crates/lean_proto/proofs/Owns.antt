@@ -1,5 +1,5 @@
 -- What a worker knows of itself stays.
-use Rattle.std.proofs.Common.{◌≡◌, ◌≢◌, ◌==◌, ℕ, Bool, true, false, List, [], ◌∷◌, ◌++◌, refl, sym, ap, subst, ◌∙◌, true≢false, arith, cond}
+use Rattle.std.proofs.Common.{◌≡◌, ◌≢◌, ◌==◌, ℕ, Bool, true, false, List, [], ◌∷◌, refl, sym, ap, ◌∙◌, true≢false, arith, cond}
 use Rattle.std.proofs.lemmas.Bool.{cond-true, cond-false}
 use Rattle.std.proofs.lemmas.Bool.Decides.{nat_tests}
 use Rattle.core_state.specs.Needs as core
@@ -7,7 +7,7 @@ use Rattle.core_state.specs.Needs.{is_held_by}
 use Rattle.core_state.specs.Steps.{happens}
 use Rattle.row_words.specs.declared.event.Event.{Event}
 use Rattle.row_words.specs.declared.given.Given.{Given}
-use Rattle.row_words.specs.Moments.{Moment, event_of, actor_of, by, is_sync}
+use Rattle.row_words.specs.Moments.{Moment, event_of, actor_of, by}
 use Rattle.row_words.specs.Openings.{opening}
 use Rattle.row_words.specs.Sealed.{begun, stepped, run}
 use Rattle.row_words.proofs.Controls.{every_own}
@@ -15,7 +15,7 @@ use Rattle.row_words.proofs.SealedLemmas.{run_append}
 use Rattle.rows_trait.specs.declared.view.View.{View}
 use Rattle.rows_trait.specs.Views.{after_all, state, NoSync}
 use Rattle.rows_trait.specs.Turns.{Ran}
-use Rattle.lean_proto.specs.Kept.{OwnKept, EveryKept}
+use Rattle.lean_proto.specs.Kept.{EveryKept}
 use Rattle.lean_proto.proofs.Publishing.{held_on}
 
 none_of : (a : ℕ) (e : Event) (es : List Event) → by a (e ∷ es) ≡ [] → (actor_of e ≢ a) × (by a es ≡ [])

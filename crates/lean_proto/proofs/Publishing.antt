@@ -1,16 +1,13 @@
 -- A change may be published, whatever others did meanwhile.
-use Rattle.std.proofs.Common.{◌≡◌, ◌≢◌, ◌==◌, ◌||◌, ◌&&◌, not, ltb, ◌<◌, ◌≤◌, ◌+◌, ◌-◌, ◌^◌, ℕ, zero, suc, max, Bool, true, false, List, [], ◌∷◌, ◌++◌, Option, Some, None, length, append-nil, refl, sym, ap, subst, ◌∙◌, true≢false, arith}
+use Rattle.std.proofs.Common.{◌≡◌, ◌≢◌, ◌==◌, ◌||◌, ◌&&◌, not, ltb, ◌<◌, ◌-◌, ℕ, suc, max, Bool, true, false, List, [], ◌∷◌, ◌++◌, Option, Some, None, length, append-nil, refl, sym, ap, subst, ◌∙◌, true≢false, arith}
 use Rattle.std.specs.Prelude.{slice_index, if◌then◌else◌}
-use Rattle.std.proofs.lemmas.Bool.{cond-true, cond-false, ltb-true, lt-ltb, le-ltb, eq-eqb, ne_eqb}
+use Rattle.std.proofs.lemmas.Bool.{cond-true, cond-false, lt-ltb, le-ltb, ne_eqb}
 use Rattle.std.proofs.lemmas.Bool.Decides.{nat_tests}
-use Rattle.map_model.specs.Lists.{upd, any}
-use Rattle.map_model.specs.Maps.{MapAnswer}
+use Rattle.map_model.specs.Lists.{upd}
 use Rattle.image_model.specs.Entries.{Contents, Entry}
 use Rattle.page_model.specs.Nodes.{Node}
 use Rattle.page_model.specs.Pairs.{put}
-use Rattle.page_model.specs.Page as stored
 use Rattle.btree_node.specs.Words.{words_of}
-use Rattle.core_state.specs.Lists.{all_below}
 use Rattle.core_state.specs.Openings.{Opening}
 use Rattle.core_state.specs.States.{Place, State, Row, Worker, is_hot, is_cooling, frame_of, in_frame}
 use Rattle.core_state.specs.Events as happening
@@ -19,25 +16,24 @@ use Rattle.core_state.specs.Needs as core
 use Rattle.core_state.specs.Needs.{is_held_by, is_free, may_hold, holds_row, is_empty_frame, may_put}
 use Rattle.core_state.specs.Steps.{happens, locked, unlocked, follows, put_back}
 use Rattle.core_state.specs.Steps as steps
-use Rattle.core_state.specs.Local.{publishes_page, publishes_row, published}
+use Rattle.core_state.specs.Local.{publishes_page, publishes_row}
 use Rattle.core_state.proofs.Locality.{every_local}
 use Rattle.core_paging.specs.Paging.{Residence}
 use Rattle.row_words.specs.declared.event.Event.{Event}
 use Rattle.row_words.specs.declared.event.Event.TheVariants as told
 use Rattle.row_words.specs.declared.event.Mode.TheVariants as mode
 use Rattle.row_words.specs.declared.event.Met.TheVariants as met
-use Rattle.row_words.specs.declared.given.Given.{Given}
 use Rattle.row_words.specs.Moments.{Moment, event_of, actor_of, is_sync}
 use Rattle.row_words.specs.Openings.{opening}
 use Rattle.row_words.specs.Sealed.{begun, stepped, run, Shown, changes, sets}
-use Rattle.row_words.specs.Words.{framed, framed_page, is_inner, swips, ShowsPage, ShowsFrame, Shows, publishes, publishes_frame, relinked, has_parent_in, fills, lock_words}
+use Rattle.row_words.specs.Words.{framed, framed_page, is_inner, swips, ShowsPage, Shows, publishes, publishes_frame}
 use Rattle.row_words.proofs.Stays as words
 use Rattle.row_words.proofs.Stays.{cases}
 use Rattle.row_words.proofs.Controls.{every_own}
 use Rattle.row_words.proofs.SealedLemmas.{run_append}
 use Rattle.rows_trait.specs.declared.view.View.{View}
 use Rattle.rows_trait.specs.Layout.{width}
-use Rattle.rows_trait.specs.Views.{Shape, after_all, state, Spells, IsApart, AreApart, may, holds, held_at}
+use Rattle.rows_trait.specs.Views.{Shape, after_all, state, Spells, IsApart, AreApart, holds, held_at}
 use Rattle.rows_trait.specs.Turns.{Leaves, MayPublish}
 use Rattle.lean_proto.specs.Changes.{changed, IsChange, EveryChange}
 

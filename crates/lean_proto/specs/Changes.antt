@@ -1,5 +1,5 @@
 -- When a change may be published.
-use Rattle.std.specs.Prelude.{◌≡◌, ◌≤◌, ◌<◌, ℕ, suc, max, true, false, List, [], ◌∷◌, slice_index}
+use Rattle.std.specs.Prelude.{◌≡◌, ◌≤◌, ◌<◌, ℕ, suc, max, true, List, slice_index}
 use Rattle.image_model.specs.Entries.{Contents}
 use Rattle.page_model.specs.Pairs.{put}
 use Rattle.page_model.specs.Page as stored

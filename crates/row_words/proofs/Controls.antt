@@ -1,5 +1,5 @@
 -- An event changes the control words alone that it publishes, and of workers its own.
-use Rattle.std.proofs.Common.{◌≡◌, ◌≢◌, ◌==◌, ◌||◌, ◌&&◌, ℕ, zero, suc, Bool, true, false, List, [], ◌∷◌, refl, sym, ap, ◌∙◌, true≢false, arith, ◌⊎◌, inl, inr, ⊎_elim}
+use Rattle.std.proofs.Common.{◌≡◌, ◌≢◌, ◌==◌, ◌&&◌, ℕ, zero, suc, Bool, true, false, List, [], ◌∷◌, refl, sym, ap, ◌∙◌, true≢false, arith, ◌⊎◌, inl, inr, ⊎_elim}
 use Rattle.std.proofs.lemmas.Bool.Decides.{nat_tests}
 use Rattle.std.specs.Prelude.{slice_index}
 use Rattle.map_model.specs.Lists.{upd}
@@ -15,9 +15,9 @@ use Rattle.core_state.proofs.Locality.{every_local}
 use Rattle.row_words.specs.declared.event.Event.{Event}
 use Rattle.row_words.specs.declared.event.Event.TheVariants as told
 use Rattle.row_words.specs.declared.event.Met.TheVariants as met
-use Rattle.row_words.specs.Moments.{Moment, event_of, answered, actor_of, is_sync, step}
-use Rattle.row_words.specs.Words.{control, control_words, epoch_word}
-use Rattle.row_words.specs.Laws.{sets, Own, EveryControl, EveryOwn}
+use Rattle.row_words.specs.Moments.{event_of, answered, actor_of, is_sync}
+use Rattle.row_words.specs.Words.{epoch_word}
+use Rattle.row_words.specs.Laws.{sets, EveryControl, EveryOwn}
 use Rattle.row_words.proofs.Stays.{cases, kept, here}
 
 -- a step, from what happens where it may

@@ -1,5 +1,5 @@
 -- An event changes the rows alone that it publishes.
-use Rattle.std.proofs.Common.{◌≡◌, ◌≢◌, ◌==◌, ◌||◌, ◌&&◌, not, ltb, ◌<◌, ◌+◌, ◌-◌, ◌^◌, ℕ, zero, suc, Bool, true, false, List, [], ◌∷◌, Some, None, refl, sym, ap, subst, ◌∙◌, true≢false, arith, ◌⊎◌, inl, inr, cond}
+use Rattle.std.proofs.Common.{◌≡◌, ◌≢◌, ◌==◌, ◌||◌, ◌&&◌, not, ltb, ◌<◌, ◌-◌, ℕ, zero, suc, Bool, true, false, List, [], ◌∷◌, refl, sym, ap, ◌∙◌, true≢false, arith}
 use Rattle.std.specs.Prelude.{slice_index}
 use Rattle.std.proofs.lemmas.Bool.{cond-false, cond-true, ne_eqb, eqb-false}
 use Rattle.std.proofs.lemmas.Bool.Decides.{nat_tests}
@@ -12,14 +12,14 @@ use Rattle.page_model.specs.Check.{names_page}
 use Rattle.btree_node.specs.Words.{words_of}
 use Rattle.core_state.specs.Lists.{all_below}
 use Rattle.core_state.specs.Openings.{Opening}
-use Rattle.core_state.specs.States.{Place, State, is_hot, is_cooling, is_cold, frame_of, in_frame, left_by, waits_for}
+use Rattle.core_state.specs.States.{Place, State, is_hot, is_cooling, frame_of, in_frame, left_by, waits_for}
 use Rattle.core_state.specs.Events.{Event}
-use Rattle.core_state.specs.Needs.{may, are_hot, pages_of, needs, has_hot_child, has_hot_parent, is_dirty, is_inside, is_empty_frame}
+use Rattle.core_state.specs.Needs.{may, needs, has_hot_parent, is_dirty, is_inside, is_empty_frame}
 use Rattle.core_state.specs.Steps.{happens, follows, put_back}
 use Rattle.core_state.specs.Steps as steps
 use Rattle.core_state.specs.Local.{published, publishes_page, publishes_row}
 use Rattle.core_state.proofs.Locality.{every_local}
-use Rattle.row_words.specs.Words.{swip, swips, is_inner, framed, framed_page, ShowsPage, ShowsFrame, Shows, lock_words, relinks, relinked, fills, has_parent_in, publishes_frame, publishes}
+use Rattle.row_words.specs.Words.{swip, swips, is_inner, framed, ShowsPage, ShowsFrame, Shows, lock_words, relinks, relinked, fills, has_parent_in, publishes_frame, publishes}
 
 pub or_false : (a b : Bool) → (a || b) ≡ false → (a ≡ false) × (b ≡ false)
 or_false true b e = absurd (true≢false e)

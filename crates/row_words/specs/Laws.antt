@@ -1,5 +1,5 @@
 -- An event changes only the rows that it publishes, the control words that it sets, and of the workers its own.
-use Rattle.std.specs.Prelude.{◌≡◌, ◌≢◌, ℕ, suc, Bool, true, false, ◌&&◌, ◌||◌, not, ◌==◌}
+use Rattle.std.specs.Prelude.{◌≡◌, ◌≢◌, ℕ, Bool, false, ◌&&◌, not, ◌==◌}
 use Rattle.core_state.specs.Openings.{Opening}
 use Rattle.row_words.specs.declared.event.Event.{Event}
 use Rattle.row_words.specs.declared.event.Event.TheVariants as told

@@ -1,13 +1,13 @@
 -- A moment: a state of the core, and the pager's last answer to each worker; and how it goes on by events that are plain data.
 -- A ghost field may hold neither functions nor proofs, so what rows begin with and what happened are data, and a state is what
 -- they lead to.
-use Rattle.std.specs.Prelude.{◌-◌, ◌^◌, ◌%◌, ℕ, zero, suc, true, false, Bool, ◌==◌, List, [], ◌∷◌, Option, Some, None, slice_index, if◌then◌else◌}
+use Rattle.std.specs.Prelude.{◌-◌, ◌^◌, ℕ, zero, suc, true, false, Bool, ◌==◌, List, [], ◌∷◌, None, slice_index, if◌then◌else◌}
 use Rattle.std.proofs.Common.{lit<}
 use Rattle.map_model.specs.Lists.{upd}
 use Rattle.map_model.specs.Maps.{MapAnswer}
 use Rattle.image_model.specs.Entries.{Contents}
 use Rattle.page_model.specs.Pairs.{Pair}
-use Rattle.page_model.specs.Nodes.{Format, Node, free}
+use Rattle.page_model.specs.Nodes.{Format, free}
 use Rattle.core_state.specs.Openings.{Opening}
 use Rattle.core_state.specs.States as core
 use Rattle.core_state.specs.Events as happening

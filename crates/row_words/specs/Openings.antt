@@ -1,10 +1,10 @@
 -- The core's opening for what rows begin with. A step reads of an opening its sizes alone (row_opening proves it), so the tree
 -- of this one is the least: page 0 is an empty leaf, and all else is free.
-use Rattle.std.specs.Prelude.{◌≡◌, ◌-◌, ◌<◌, ◌%◌, ℕ, zero, suc, true, false, List, [], length}
+use Rattle.std.specs.Prelude.{◌≡◌, ◌-◌, ◌<◌, ◌%◌, ℕ, zero, suc, true, [], length}
 use Rattle.std.proofs.Common.{lit≤, refl, sym, true≢false}
 use Rattle.std.proofs.Math.Nat.{zero-lt-suc}
 use Rattle.std.proofs.Math.Bridge.{no_suc-le-zero}
-use Rattle.page_model.specs.Nodes.{Format, Node, NodeOk, WellFormed, free}
+use Rattle.page_model.specs.Nodes.{Format, Node, WellFormed, free}
 use Rattle.page_model.specs.Tree.{Names, IsTree}
 use Rattle.core_state.specs.Openings.{Opening}
 use Rattle.row_words.specs.declared.given.Given.{Given}

@@ -1,6 +1,5 @@
 -- The same words, sealed: of them the trait of rows and its rule know the laws of proofs/SealedLemmas.antt alone.
 use Rattle.std.specs.Prelude.{ℕ, Bool, List, [], ◌∷◌}
-use Rattle.core_state.specs.Local as local
 use Rattle.row_words.specs.declared.event.Event.{Event}
 use Rattle.row_words.specs.declared.given.Given.{Given}
 use Rattle.row_words.specs.Moments.{Moment, event_of, step, first_moment}

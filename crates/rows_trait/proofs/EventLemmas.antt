@@ -1,13 +1,13 @@
 -- Events that change nothing for a view.
-use Rattle.std.proofs.Common.{◌≡◌, ◌≢◌, ℕ, Bool, true, false, ◌||◌, List, [], ◌∷◌, ◌++◌, ◌<◌, cond, append-nil, refl, sym, ap, subst, ◌∙◌, arith, ◌==◌, append_assoc}
+use Rattle.std.proofs.Common.{◌≡◌, ◌≢◌, ℕ, Bool, true, false, List, [], ◌∷◌, ◌++◌, ◌<◌, cond, append-nil, refl, sym, ap, subst, ◌∙◌, arith, ◌==◌, append_assoc}
 use Rattle.std.proofs.lemmas.Bool.Decides.{nat_tests}
 use Rattle.row_words.specs.declared.event.Event.{Event}
 use Rattle.row_words.specs.declared.given.Given.{Given}
-use Rattle.row_words.specs.Moments.{Moment, actor_of, by, is_sync}
-use Rattle.row_words.specs.Sealed.{begun, stepped, run, Shown, changes, heard, sets}
+use Rattle.row_words.specs.Moments.{Moment, actor_of, by}
+use Rattle.row_words.specs.Sealed.{begun, stepped, run, Shown, changes, heard}
 use Rattle.row_words.proofs.SealedLemmas.{shown_stays, heard_stays, run_append, by_append}
 use Rattle.rows_trait.specs.declared.view.View.{View}
-use Rattle.rows_trait.specs.Views.{after_all, holds, IsApart, AreApart, IsSilent, AreSilent, NoSync, may, AreBelow, AreStill, IsStill}
+use Rattle.rows_trait.specs.Views.{after_all, holds, AreApart, AreSilent, NoSync, may, AreBelow, AreStill, IsStill}
 use Rattle.rows_trait.specs.Inside.{NoneBy}
 
 pub apart_append : (v : View) (m : Moment) (es fs : List Event) → AreApart v m es → AreApart v (run v.given m es) fs → AreApart v m (es ++ fs)

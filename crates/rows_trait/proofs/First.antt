@@ -1,13 +1,13 @@
 -- Rows whose words are those of an opening are a picture of no events.
-use Rattle.std.proofs.Common.{◌≡◌, ◌≢◌, ℕ, zero, suc, take, ◌-◌, ◌+◌, ◌*◌, ◌<◌, ◌≤◌, ◌%◌, Bool, true, false, true≢false, List, [], ◌∷◌, ◌++◌, length, get_or, replicate, refl, sym, ap, subst, ◌∙◌, arith}
+use Rattle.std.proofs.Common.{◌≡◌, ℕ, zero, suc, take, ◌-◌, true≢false, List, [], ◌∷◌, ◌++◌, replicate, refl, sym, ap, subst, ◌∙◌, arith}
 use mathlib.Core.Option.{some, some-ne-none, some-injective}
 use lib.ListN.{get_elem?}
 use Rattle.row_words.specs.declared.given.Given.{Given}
 use Rattle.rows_trait.specs.declared.view.View.{View}
-use Rattle.rows_trait.specs.Layout.{Sizes, rows_of}
+use Rattle.rows_trait.specs.Layout.{Sizes}
 use Rattle.rows_trait.specs.Plain.{IsOpening}
-use Rattle.rows_trait.specs.Views.{IsEven, holds, Ends, first_plain}
-use Rattle.rows_trait.specs.Rule.{Plan, plan, Remembers, Fits, Keeps, IsPicture}
+use Rattle.rows_trait.specs.Views.{Ends, first_plain}
+use Rattle.rows_trait.specs.Rule.{plan, Fits, IsPicture}
 
 module _ (z : Sizes) (v : Given) (words : List ℕ) (o : IsOpening z v words) where
   abbrev first : View

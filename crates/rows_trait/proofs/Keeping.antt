@@ -1,19 +1,17 @@
 -- When a step keeps the rule.
-use Rattle.std.proofs.Common.{◌≡◌, ◌≢◌, ℕ, ◌+◌, ◌*◌, ◌%◌, ◌<◌, ◌≤◌, Bool, true, false, true≢false, ◌⊎◌, inl, inr, ⊎_elim, List, [], ◌∷◌, ◌++◌, length, set, refl, sym, ap, subst, ◌∙◌, arith, append_assoc}
+use Rattle.std.proofs.Common.{◌≡◌, ◌≢◌, ℕ, ◌+◌, ◌<◌, ◌≤◌, true, false, true≢false, ◌⊎◌, ⊎_elim, List, ◌++◌, length, set, refl, sym, ap, subst, ◌∙◌, arith, append_assoc}
 use Rattle.std.specs.Prelude.{slice_index}
 use mathlib.Core.Option.{some}
 use lib.ListN.{get_elem?}
 use Rattle.atomic_table.proofs.Lists.{at_set, set_here, set_else}
 use Rattle.row_words.specs.declared.event.Event.{Event}
-use Rattle.row_words.specs.declared.given.Given.{Given}
-use Rattle.row_words.specs.Moments.{Moment, by}
 use Rattle.row_words.specs.Sealed.{begun, run, Shown, heard}
 use Rattle.row_words.proofs.SealedLemmas.{run_append}
-use Rattle.rows_trait.specs.Layout.{Sizes, rows_of, width, cell, count_of, control_at}
+use Rattle.rows_trait.specs.Layout.{rows_of, width, cell, count_of, control_at}
 use Rattle.rows_trait.specs.declared.view.Hold.{Hold}
 use Rattle.rows_trait.specs.declared.view.Ended.{Ended}
 use Rattle.rows_trait.specs.declared.view.View.{View}
-use Rattle.rows_trait.specs.Views.{IsEven, after_all, Spells, Has, Since, Knows, holds, held_at, AreApart, AreStill, IsStill, AreBelow, Ends}
+use Rattle.rows_trait.specs.Views.{IsEven, after_all, Since, holds, held_at, AreApart, AreStill, IsStill, AreBelow, Ends}
 use Rattle.rows_trait.specs.Inside.{NoneBy}
 use Rattle.rows_trait.specs.Rule.{Plan, moment, Remembers, IsHeld, Fits, Keeps}
 use Rattle.rows_trait.proofs.Cells.{bool_cases}

@@ -1,21 +1,17 @@
 -- Each step of the one seat of plain rows.
-use Rattle.std.proofs.Common.{◌≡◌, ◌≢◌, ℕ, zero, suc, get_or, ◌+◌, ◌*◌, ◌<◌, ◌≤◌, Bool, true, false, cond, List, [], ◌∷◌, ◌++◌, length, set, refl, sym, ap, subst, ◌∙◌, arith, append-nil}
+use Rattle.std.proofs.Common.{◌≡◌, ℕ, zero, suc, get_or, ◌+◌, ◌<◌, ◌≤◌, true, false, cond, List, [], ◌∷◌, ◌++◌, length, set, refl, sym, ap, subst, ◌∙◌, arith, append-nil}
 use Rattle.std.specs.Prelude.{slice_index}
-use mathlib.Core.Option.{some}
-use lib.ListN.{get_elem?}
 use Rattle.row_words.specs.declared.event.Event.{Event}
 use Rattle.row_words.specs.declared.event.Event.TheVariants.{Miss}
-use Rattle.row_words.specs.declared.given.Given.{Given}
-use Rattle.row_words.specs.Sealed.{begun, run, heard}
+use Rattle.row_words.specs.Sealed.{heard}
 use Rattle.rows_trait.specs.Layout.{Sizes, rows_of, width, row_at, cell, count_of, control_at}
 use Rattle.rows_trait.specs.Inside.{row_cells, flushed_words, after, look_at, first_of}
-use Rattle.rows_trait.specs.declared.view.Act.{Act}
-use Rattle.rows_trait.specs.declared.view.Act.TheVariants.{Look, Load, Store, Set, Hear, Turn}
+use Rattle.rows_trait.specs.declared.view.Act.TheVariants.{Load, Store, Set, Hear, Turn}
 use Rattle.rows_trait.specs.declared.view.View.{View}
 use Rattle.rows_trait.specs.Views.{IsEven, after_all, state, no_place, Shape, hold, holds, held_at, without, write, settle, AreApart, AreSilent, may}
-use Rattle.rows_trait.specs.Turns.{Looked, Loaded, Taken, Refused, Stored, MayPublish, Published, Released, Heard, MayTurn, Turned, MaySync, Synced}
+use Rattle.rows_trait.specs.Turns.{Looked, Loaded, Taken, Stored, MayPublish, Published, Released, Heard, MayTurn, Turned, MaySync, Synced}
 use Rattle.rows_trait.specs.Rule.{Plan, plan, Keeps, IsAlone, IsPicture}
-use Rattle.rows_trait.proofs.Steps.{looks, loads, stores, takes, refuses, publishing, releases, latch_of, hears, turns, syncs}
+use Rattle.rows_trait.proofs.Steps.{looks, loads, stores, takes, publishing, releases, latch_of, hears, turns, syncs}
 
 module _ (k : Plan) (words : List ℕ) (v : View) (p : IsPicture k words v) where
   whole : p.happened ≡ v.seen ++ []

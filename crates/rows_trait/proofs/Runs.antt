@@ -1,11 +1,10 @@
 -- Several steps, one after another.
-use Rattle.std.proofs.Common.{◌≡◌, ◌≢◌, ℕ, Bool, true, false, true≢false, cond, ◌||◌, List, [], ◌∷◌, ◌++◌, refl, sym, ap, subst, ◌∙◌, arith, append_assoc, append-nil, ◌==◌}
-use Rattle.std.proofs.lemmas.Bool.Decides.{nat_tests}
+use Rattle.std.proofs.Common.{◌≡◌, ℕ, Bool, true, false, cond, List, [], ◌∷◌, ◌++◌, refl, sym, ap, subst, ◌∙◌, append_assoc, append-nil, ◌==◌}
 use Rattle.row_words.specs.declared.event.Event.{Event}
 use Rattle.row_words.specs.Moments.{actor_of, by}
 use Rattle.row_words.proofs.SealedLemmas.{by_append}
 use Rattle.rows_trait.specs.declared.view.View.{View}
-use Rattle.rows_trait.specs.Views.{Shape, state, AreApart, may}
+use Rattle.rows_trait.specs.Views.{Shape, state, may}
 use Rattle.rows_trait.specs.Turns.{Goes, Ran}
 use Rattle.rows_trait.proofs.EventLemmas.{by_none, none_apart, apart_sync, sync_append}
 

@@ -1,6 +1,6 @@
 -- Each step of a seat keeps the rule, and makes of the seat's view what it says.
-use Rattle.std.proofs.Common.{◌≡◌, ◌≢◌, ℕ, zero, suc, ◌+◌, ◌*◌, ◌%◌, ◌^◌, ◌<◌, ◌≤◌, Bool, true, false, true≢false, cond, ◌||◌, ◌⊎◌, inl, inr, ⊎_elim, List, [], ◌∷◌, ◌++◌, length, get_or, set, refl, sym, ap, subst, ◌∙◌, arith, append_assoc, append-nil, length-append, ◌==◌, Option, Some, None}
-use Rattle.std.specs.Prelude.{slice_index, max}
+use Rattle.std.proofs.Common.{◌≡◌, ◌≢◌, ℕ, zero, suc, ◌+◌, ◌%◌, ◌^◌, ◌<◌, ◌≤◌, Bool, true, false, true≢false, cond, ◌||◌, ◌⊎◌, inl, inr, ⊎_elim, List, [], ◌∷◌, ◌++◌, length, set, refl, sym, ap, subst, ◌∙◌, arith, append-nil, length-append, ◌==◌, Some}
+use Rattle.std.specs.Prelude.{slice_index}
 use Rattle.std.proofs.lemmas.Bool.Decides.{nat_tests}
 use Rattle.std.proofs.lemmas.List.{get_or-set_other, get_or-set_same}
 use Rattle.std.proofs.Math.ListN.{length-set}
@@ -10,24 +10,24 @@ use Rattle.atomic_table.specs.Seated.{TableId}
 use Rattle.row_words.specs.declared.event.Event.{Event}
 use Rattle.row_words.specs.declared.event.Event.TheVariants.{Miss}
 use Rattle.row_words.specs.declared.given.Given.{Given}
-use Rattle.row_words.specs.Moments.{Moment, actor_of, is_sync}
-use Rattle.row_words.specs.Sealed.{begun, stepped, run, Shown, changes, heard, sets}
+use Rattle.row_words.specs.Moments.{Moment, actor_of}
+use Rattle.row_words.specs.Sealed.{begun, stepped, run, Shown, changes, heard}
 use Rattle.row_words.proofs.SealedLemmas.{run_append, shown_stays, heard_stays, miss_changes, miss_sets}
-use Rattle.rows_trait.specs.Layout.{Sizes, rows_of, width, row_at, cell, count_of, control_at}
+use Rattle.rows_trait.specs.Layout.{rows_of, width, row_at, cell, count_of, control_at}
 use Rattle.rows_trait.specs.Inside.{row_cells, flushed_words, after, look_at, NoneBy}
 use Rattle.rows_trait.specs.declared.view.Act.{Act}
 use Rattle.rows_trait.specs.declared.view.Act.TheVariants.{Look, Load, Store, Set, Hear, Turn}
 use Rattle.rows_trait.specs.declared.view.Hold.{Hold}
 use Rattle.rows_trait.specs.declared.view.Ended.{Ended}
 use Rattle.rows_trait.specs.declared.view.View.{View}
-use Rattle.rows_trait.specs.Views.{Shape, IsEven, after_all, state, Spells, Has, Since, AreStill, IsStill, Knows, latest, hold, holds, held_at, without, write, settle, IsApart, AreApart, IsSilent, AreSilent, NoSync, may, AreBelow, Ends}
-use Rattle.rows_trait.specs.Turns.{Goes, Looked, Loaded, Taken, Refused, Stored, Leaves, MayPublish, Published, Released, Heard, IsTurning, AreTurning, MayTurn, Turned, AreSyncing, MaySync, Synced}
+use Rattle.rows_trait.specs.Views.{Shape, IsEven, after_all, state, Spells, Since, AreStill, IsStill, Knows, latest, hold, holds, held_at, without, write, settle, AreApart, AreSilent, NoSync, may, AreBelow, Ends}
+use Rattle.rows_trait.specs.Turns.{Goes, Looked, Loaded, Taken, Refused, Stored, Leaves, MayPublish, Published, Released, Heard, AreTurning, MayTurn, Turned, AreSyncing, MaySync, Synced}
 use Rattle.rows_trait.specs.Rule.{Plan, moment, Remembers, IsHeld, Fits, Keeps, IsAlone}
 use Rattle.rows_trait.proofs.Cells.{bool_cases, inside, control_inside, set_here, set_row_apart, set_word_apart, set_control_apart, set_cell_apart, same_control, cells_length, row_cells_at, flushed_length, flushed_cell, flushed_other, flushed_here}
-use Rattle.rows_trait.proofs.Holds.{row_is, holds_write, write_apart, write_here, holds_without_here, holds_without, without_apart, settled, holds_settle, settle_at}
-use Rattle.rows_trait.proofs.EventLemmas.{silent_sync, apart_append, silent_shown, silent_heard, silent_apart, silent_none, silent_below, silent_still, still_none}
+use Rattle.rows_trait.proofs.Holds.{holds_write, write_apart, write_here, holds_without_here, holds_without, without_apart, settled, holds_settle, settle_at}
+use Rattle.rows_trait.proofs.EventLemmas.{silent_sync, silent_shown, silent_heard, silent_apart, silent_none, silent_below, silent_still, still_none}
 use Rattle.rows_trait.proofs.Memory.{Moves, moves_not, remembers_on, remembers_look, remembers_load, remembers_store, remembers_set, remembers_hear, remembers_turn}
-use Rattle.rows_trait.proofs.Keeping.{shown_on, still_on, Step, odd_of, advances}
+use Rattle.rows_trait.proofs.Keeping.{still_on, Step, odd_of, advances}
 
 none_of_length : {A : Type 0} (xs : List A) → length xs ≡ 0 → xs ≡ []
 none_of_length [] e = refl

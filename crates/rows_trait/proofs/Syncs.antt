@@ -1,5 +1,5 @@
 -- A sync may turn all flushed words, where its need is met.
-use Rattle.std.proofs.Common.{◌≡◌, ◌<◌, ◌≤◌, ℕ, true, List, [], ◌∷◌, ◌++◌, ap, ◌∙◌}
+use Rattle.std.proofs.Common.{◌≡◌, ℕ, true, [], ◌∷◌, ap, ◌∙◌}
 use Rattle.row_words.specs.declared.event.Event.TheVariants.{Sync}
 use Rattle.row_words.specs.Moments.{event_of}
 use Rattle.row_words.specs.Openings.{opening}

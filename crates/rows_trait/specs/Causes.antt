@@ -1,5 +1,5 @@
 -- Why a call refused: what it has loaded since it began.
-use Rattle.std.specs.Prelude.{◌≡◌, ◌≢◌, ℕ, ◌+◌, ◌%◌, ◌⊎◌, List, [], ◌∷◌, ◌++◌}
+use Rattle.std.specs.Prelude.{◌≡◌, ◌≢◌, ℕ, ◌%◌, ◌⊎◌, List, [], ◌∷◌, ◌++◌}
 use Rattle.rows_trait.specs.declared.view.Act.{Act}
 use Rattle.rows_trait.specs.declared.view.Act.TheVariants.{Look, Load, Store, Set, Hear, Turn}
 use Rattle.rows_trait.specs.declared.view.View.{View}

@@ -4,7 +4,7 @@ use Rattle.row_words.specs.declared.event.Event.{Event}
 use Rattle.row_words.specs.declared.event.Event.TheVariants.{Miss}
 use Rattle.row_words.specs.declared.given.Given.{Given}
 use Rattle.row_words.specs.Moments.{actor_of}
-use Rattle.rows_trait.specs.Layout.{Sizes, width, base, row_at, control_at}
+use Rattle.rows_trait.specs.Layout.{Sizes, width, row_at, control_at}
 use Rattle.rows_trait.specs.declared.view.Act.{Act}
 use Rattle.rows_trait.specs.declared.view.Act.TheVariants.{Look, Set}
 use Rattle.rows_trait.specs.declared.view.Hold.{Hold}

@@ -1,11 +1,11 @@
 -- The rule between any two steps: what the words, the views and what has happened have to do with one another.
-use Rattle.std.specs.Prelude.{◌≡◌, ◌≢◌, ℕ, ◌+◌, ◌*◌, ◌<◌, ◌≤◌, Bool, true, false, List, [], ◌∷◌, ◌++◌, length, slice_index, Some}
+use Rattle.std.specs.Prelude.{◌≡◌, ◌≢◌, ℕ, ◌+◌, ◌<◌, ◌≤◌, true, List, [], ◌∷◌, ◌++◌, length, slice_index, Some}
 use mathlib.Core.Option.{some}
 use lib.ListN.{get_elem?}
 use Rattle.row_words.specs.declared.event.Event.{Event}
 use Rattle.row_words.specs.declared.given.Given.{Given}
-use Rattle.row_words.specs.Moments.{Moment, actor_of, by}
-use Rattle.row_words.specs.Sealed.{begun, run, Shown, changes, heard}
+use Rattle.row_words.specs.Moments.{Moment, by}
+use Rattle.row_words.specs.Sealed.{Shown, heard}
 use Rattle.rows_trait.specs.Layout.{Sizes, rows_of, width, cell, count_of, control_at, size_of}
 use Rattle.rows_trait.specs.declared.view.Act.{Act}
 use Rattle.rows_trait.specs.declared.view.Hold.{Hold}

@@ -1,16 +1,15 @@
 -- What each step makes of a view: the clauses of the trait. In each, v is what the seat knew before and w what it knows after.
-use Rattle.std.specs.Prelude.{◌≡◌, ◌≢◌, ℕ, ◌+◌, ◌<◌, ◌≤◌, ◌^◌, Bool, true, false, cond, List, [], ◌∷◌, ◌++◌, length, slice_index, Option, Some}
+use Rattle.std.specs.Prelude.{◌≡◌, ◌≢◌, ℕ, ◌+◌, ◌<◌, ◌≤◌, ◌^◌, Bool, true, false, cond, List, [], ◌∷◌, ◌++◌, length, slice_index, Some}
 use Rattle.row_words.specs.declared.event.Event.{Event}
 use Rattle.row_words.specs.declared.event.Event.TheVariants.{Miss}
 use Rattle.row_words.specs.declared.given.Given.{Given}
 use Rattle.row_words.specs.Moments.{Moment, actor_of, by, is_sync}
-use Rattle.row_words.specs.Sealed.{stepped, run, Shown, changes, heard, sets}
-use Rattle.rows_trait.specs.declared.view.Act.{Act}
+use Rattle.row_words.specs.Sealed.{stepped, Shown, changes, heard, sets}
 use Rattle.rows_trait.specs.declared.view.Act.TheVariants.{Look, Load, Store, Set, Hear, Turn}
 use Rattle.rows_trait.specs.declared.view.View.{View}
 use Rattle.rows_trait.specs.declared.rows.Latch.{Latch}
 use Rattle.rows_trait.specs.declared.rows.Latch.TheVariants.{Held, Found}
-use Rattle.rows_trait.specs.Layout.{Sizes, width}
+use Rattle.rows_trait.specs.Layout.{width}
 use Rattle.rows_trait.specs.Views.{IsEven, after_all, state, Spells, Has, Since, IsStill, Knows, latest, hold, holds, held_at, without, write, settle, AreApart, NoSync, may, Shape}
 
 -- the view has seen what others did, and then these events of its own

@@ -1,19 +1,13 @@
-use Rattle.std.proofs.Common.{◌+◌, ◌-◌, ◌*◌, ◌%◌, ◌/◌, ◌<◌, ◌≤◌, ◌≡◌, ◌∙◌, Some, None, ap, sym, refl, subst, ℕ, Bool, true, List, [], ◌∷◌, length, arith, append-nil}
-use Rattle.row_words.specs.declared.event.Event.TheVariants.{Read, Miss}
-use Rattle.rows_trait.specs.Views.{may, latest, Has, state, Since}
+use Rattle.std.proofs.Common.{◌≡◌, ◌∙◌, Some, ap, sym, refl, subst, Bool, [], ◌∷◌, arith, append-nil}
+use Rattle.row_words.specs.declared.event.Event.TheVariants.{Miss}
+use Rattle.rows_trait.specs.Views.{may, latest, Has, state}
 use Rattle.rows_trait.specs.Causes.{HasFound}
-use Rattle.rows_trait.specs.Turns.{Ran}
-use Rattle.btree_descent.specs.Named.{missed, checked, read_at}
-use Rattle.btree_descent.specs.Inside.{Kept, IsSeen, Follows, OnWay, Down}
-use Rattle.btree_descent.specs.Known.{said, IsCold, Sound}
-use Rattle.btree_descent.proofs.Keeping.{kept_none, kept_load, kept_more, kept_then, kept_next, seen_before}
-use Rattle.btree_descent.proofs.Nodes.{leaf_says, way_node, way_down, way_root, follows_after, follows_way, follows_here, way_cold}
-use Rattle.btree_descent.proofs.Calls.{missed_silent, checked_silent, read_silent, missed_even, missed_odd, checked_same, checked_other, read_same, read_other, looked_ran, looked_after, may_ran, may_shape, sound_after, frames_after, seen_still, way_still, head_after, went_after, missed_went, goes_after, sound_given, sized_after}
+use Rattle.btree_descent.specs.Named.{missed}
+use Rattle.btree_descent.specs.Inside.{Follows, Down}
+use Rattle.btree_descent.proofs.Nodes.{way_root, follows_here}
+use Rattle.btree_descent.proofs.Calls.{missed_silent, missed_even, missed_odd, looked_ran, may_ran, may_shape, sound_after, went_after, sound_given, sized_after}
 use Rattle.rows_trait.proofs.Runs.{ran_append}
 use Rattle.btree_descent.specs.Descents.{Went}
-use Rattle.rows_trait.proofs.Causes.{loads_none, loads_then, looked_loads, looked_found, since_after, found_after, found_before, latched_before}
-use Rattle.rows_trait.specs.declared.view.View.{View}
-use Rattle.row_words.specs.declared.given.Given.{Given}
 use Rattle.btree_descent.proofs.descent.find.Goals as goal
 
 pub start-requires-clause-event : goal.start-requires-clause-event

@@ -1,4 +1,4 @@
-use Rattle.std.proofs.Common.{◌≡◌, ◌+◌, ◌<◌, ℕ, Bool, true, [], Some}
+use Rattle.std.proofs.Common.{◌≡◌, ◌+◌, ◌<◌, ℕ, true, [], Some}
 use Rattle.rows_trait.specs.Views.{IsEven, Has, latest}
 use Rattle.rows_trait.specs.Causes.{HasFound}
 use Rattle.rows_trait.specs.Turns.{Ran}

@@ -1,18 +1,10 @@
-use Rattle.std.proofs.Common.{◌+◌, ◌-◌, ◌*◌, ◌%◌, ◌/◌, ◌<◌, ◌≤◌, ◌≡◌, ◌∙◌, Some, None, ap, sym, refl, subst, ℕ, Bool, true, List, [], ◌∷◌, length, arith, ◌^◌}
-use Rattle.row_words.specs.declared.event.Event.TheVariants.{Read, Miss}
-use Rattle.rows_trait.specs.Views.{may, latest, state, Since}
-use Rattle.rows_trait.specs.Causes.{HasFound}
-use Rattle.rows_trait.specs.Turns.{Ran}
-use Rattle.btree_descent.specs.Named.{missed, checked, read_at}
+use Rattle.std.proofs.Common.{◌-◌, ◌<◌, ◌≤◌, ◌≡◌, ◌∙◌, ap, sym, subst, Bool, [], arith, ◌^◌}
+use Rattle.rows_trait.specs.Views.{state}
 use Rattle.btree_descent.specs.Inside.{Kept, IsSeen, Follows, OnWay}
-use Rattle.btree_descent.specs.Known.{said, IsCold, Sound}
-use Rattle.btree_descent.proofs.Keeping.{kept_none, kept_load, kept_more, kept_then, kept_next, seen_before}
-use Rattle.btree_descent.proofs.Nodes.{leaf_says, way_node, way_down, way_root, follows_after, follows_way, follows_here, way_cold}
-use Rattle.btree_descent.proofs.Calls.{missed_silent, checked_silent, read_silent, missed_even, missed_odd, checked_same, checked_other, read_same, read_other, looked_ran, looked_after, may_ran, may_shape, sound_after, frames_after, seen_still, way_still, head_after, went_after, missed_went, goes_after, sound_given, sized_after}
+use Rattle.btree_descent.proofs.Nodes.{way_down, follows_after, follows_way, follows_here, way_cold}
+use Rattle.btree_descent.proofs.Calls.{sound_after, frames_after, head_after, went_after, missed_went, sound_given}
 use Rattle.rows_trait.proofs.Runs.{ran_append}
-use Rattle.rows_trait.proofs.Causes.{loads_none, loads_then, looked_loads, looked_found, since_after, found_after, found_before, latched_before}
-use Rattle.rows_trait.specs.declared.view.View.{View}
-use Rattle.row_words.specs.declared.given.Given.{Given}
+use Rattle.rows_trait.proofs.Causes.{found_after, found_before}
 use Rattle.btree_descent.proofs.descent.inner.Goals as goal
 
 pub cold-requires-clause-seen : goal.cold-requires-clause-seen

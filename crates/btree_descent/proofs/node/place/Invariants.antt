@@ -1,4 +1,4 @@
-use Rattle.std.proofs.Common.{◌≡◌, ◌-◌, ◌≤◌, length}
+use Rattle.std.proofs.Common.{◌≡◌, ◌-◌, ◌≤◌}
 use Rattle.page_model.specs.Page as stored
 use Rattle.btree_node.specs.Inside.{place}
 use Rattle.btree_descent.specs.Inside.{Kept, IsSeen}

@@ -1,4 +1,4 @@
-use Rattle.std.proofs.Common.{◌≡◌, ◌≤◌, ◌+◌, ◌*◌, length}
+use Rattle.std.proofs.Common.{◌≡◌, length}
 use Rattle.rows_trait.specs.Inside.{flushed_words}
 use Rattle.rows_trait.proofs.plain.set_flushed.Given as goal
 

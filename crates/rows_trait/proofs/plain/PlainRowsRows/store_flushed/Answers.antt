@@ -1,8 +1,8 @@
-use Rattle.std.proofs.Common.{◌≡◌, ℕ, List, [], true, refl, sym, ap, subst, ◌∙◌, arith}
+use Rattle.std.proofs.Common.{ℕ, List, [], true, sym, subst}
 use Rattle.rows_trait.specs.declared.view.View.{View}
-use Rattle.rows_trait.specs.Inside.{flushed_words, after}
+use Rattle.rows_trait.specs.Inside.{after}
 use Rattle.rows_trait.specs.Plain.{sizes}
-use Rattle.rows_trait.specs.Views.{Shape, no_place}
+use Rattle.rows_trait.specs.Views.{no_place}
 use Rattle.rows_trait.specs.Turns.{Synced}
 use Rattle.rows_trait.specs.Rule.{plan, IsPicture}
 use Rattle.rows_trait.proofs.OneSeat.{plain_sync, picture_at}

@@ -1,15 +1,12 @@
-use Rattle.std.proofs.Common.{◌≡◌, ◌≢◌, ℕ, Bool, ◌+◌, ◌*◌, ◌∷◌, ◌++◌, [], List, true, false, cond, nat_eq, refl, sym, ap, subst, ◌∙◌, arith, eqb, ne_eqb, eq-eqb}
-use Rattle.std.specs.Prelude.{max}
-use Rattle.row_words.specs.declared.event.Event.{Event}
+use Rattle.std.proofs.Common.{◌≡◌, ◌≢◌, ◌+◌, true, refl, sym, ap, subst, ◌∙◌, ne_eqb, eq-eqb}
 use Rattle.rows_trait.specs.declared.view.View.{View}
 use Rattle.rows_trait.specs.Inside.{row_cells, tried}
-use Rattle.rows_trait.specs.Layout.{width, row_at, control_at}
+use Rattle.rows_trait.specs.Layout.{row_at}
 use Rattle.rows_trait.specs.Plain.{sizes}
-use Rattle.rows_trait.specs.Views.{Shape, no_place, held_at}
-use Rattle.rows_trait.specs.Turns.{Looked, Loaded, Tried, Taken, Refused, Stored, Published, Released, Heard, Turned}
-use Rattle.rows_trait.specs.Rule.{Plan, plan, IsPicture}
-use Rattle.rows_trait.specs.declared.rows.Latch.TheVariants.{Held, Found}
-use Rattle.rows_trait.proofs.OneSeat.{plain_look, plain_load, plain_store, plain_take, plain_publish, plain_release, plain_latch, plain_hear, plain_turn, plain_small, settled_view, word_at, picture_at, written_at}
+use Rattle.rows_trait.specs.Views.{no_place}
+use Rattle.rows_trait.specs.Turns.{Looked, Taken}
+use Rattle.rows_trait.specs.Rule.{plan}
+use Rattle.rows_trait.proofs.OneSeat.{plain_look, plain_take, word_at, picture_at, written_at}
 use Rattle.rows_trait.proofs.plain.PlainRowsRows.try_latch.Goals as goal
 
 pub returns-then-found-version-clause-fits : goal.returns-then-found-version-clause-fits

@@ -1,9 +1,6 @@
-use Rattle.std.proofs.Common.{◌+◌, [], ◌∷◌, ◌++◌, cond, nat_eq, true, false, ◌==◌}
-use Rattle.row_words.specs.declared.event.Event.TheVariants.{Miss}
-use Rattle.rows_trait.specs.declared.view.Act.TheVariants.{Look, Load, Store, Set, Hear, Turn}
-use Rattle.rows_trait.specs.Inside.{row_cells, after, first_of, tried}
+use Rattle.std.proofs.Common.{nat_eq}
+use Rattle.rows_trait.specs.Inside.{row_cells, tried}
 use Rattle.rows_trait.specs.Plain.{sizes}
-use Rattle.rows_trait.specs.Views.{after_all, hold, held_at, without, write, settle}
 use Rattle.rows_trait.proofs.plain.PlainRowsRows.try_latch.Given as goal
 
 abbrev pub ghosts-taken : goal.ghosts-taken
