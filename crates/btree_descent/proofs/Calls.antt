@@ -76,15 +76,6 @@ sound_after v w same s = subst (λ (g : Given). Sound g (after_all g w.seen)) (s
 pub frames_after : (z : Shape) (v w : View) (frames row : ℕ) → w.given ≡ v.given → Sized z v frames → row < frames → row < (opening w.given).frames
 frames_after z v w frames row same s lt = let e : (opening w.given).frames ≡ frames = ap (λ (g : Given). (opening g).frames) same ∙ s.given in omega arith
 
--- where nobody else steps and nothing was appended, all is as it was
-pub seen_still : (v w : View) → Ran true v [] w → w.seen ≡ v.seen
-seen_still v w r = r.seen ∙ (ap (λ z. v.seen ++ z) (r.all refl) ∙ append-nil v.seen)
-
-pub way_still : (alone : Bool) (v w : View) (row key far : ℕ) → alone ≡ true → Ran alone v [] w → OnWay v.given (state v) row key far → OnWay w.given (state w) row key far
-way_still alone v w row key far y r way =
-    let t : Ran true v [] w = subst (λ (b : Bool). Ran b v [] w) y r in
-    subst (λ (p : Given × List Event). OnWay p.0 (after_all p.0 p.1) row key far) (λ i. (sym t.given i, sym (seen_still v w t) i)) way
-
 pub head_after : (row version p k l h m : ℕ) (v w : View) → ((r s i x : ℕ) → Knows r s i x v.steps → Knows r s i x w.steps) → IsHead row version p k l h m v.steps → IsHead row version p k l h m w.steps
 head_after row version p k l h m v w more e = record { page = more row version 0 p e.page; packed = more row version 3 k e.packed; low = more row version 4 l e.low; high = more row version 5 h e.high; hint = more row version 126 m e.hint }
 

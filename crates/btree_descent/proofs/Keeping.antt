@@ -56,9 +56,6 @@ seen_word row version count i x acts p s small lt kn = let e = s.size in s.agree
 pub kept_more : (z y : Shape) (row i n : ℕ) (u v w : View) → z ≡ y → Kept y.alone u v → Loaded z row i v n w → Kept y.alone u w
 kept_more z y row i n u v w same k l = kept_then y.alone u v w k (subst (λ (s : Shape). Kept s.alone v w) same (kept_load z row i n v w l))
 
-pub kept_next : (z y : Shape) (u v w : View) → z ≡ y → Kept y.alone u v → Kept z.alone v w → Kept y.alone u w
-kept_next z y u v w same k l = kept_then y.alone u v w k (subst (λ (s : Shape). Kept s.alone v w) same l)
-
 -- the place of a key, by its word there
 pub seen_at : (row version count i x : ℕ) (acts : List Act) (p : stored.Page) (key : ℕ) → IsSeen row version count acts p → count ≤ 60 → i < count → Knows row version (6 + 2 * i) x acts → i ≡ place key p.node.pairs → x ≡ key → IsAt key p.node.pairs i
 seen_at row version count i x acts p key s small lt kn at is =

@@ -77,9 +77,6 @@ found_before row n u v w o f = record { loads = loads_then u v w o f.loads; find
 pub latched_before : (row word : ℕ) (u v w : View) → OnlyLoads u v → IsLatched row word v w → IsLatched row word u w
 latched_before row word u v w o l = record { odd = l.odd; found = found_before row word u v w o l.found }
 
-pub moved_before : (row seen found : ℕ) (u v w : View) → OnlyLoads u v → HasMoved row seen found v w → HasMoved row seen found u w
-moved_before row seen found u v w o m = record { unequal = m.unequal; loads = loads_then u v w o m.loads; first = finds_newer row seen m.loads.acts o.acts m.first; last = finds_newer row found m.loads.acts o.acts m.last }
-
 pub looked_latched : (z : Shape) (row n : ℕ) (names : ℕ → List Event) (v w : View) → n % 2 ≡ 1 → Looked z row names v n w → IsLatched row n v w
 looked_latched z row n names v w odd l = record { odd = odd; found = looked_found z row n names v w l }
 

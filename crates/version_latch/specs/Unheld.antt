@@ -7,8 +7,9 @@ use Rattle.rows_trait.specs.Causes.{HasFound, HasMoved}
 use Rattle.rows_trait.specs.Turns.{Refused}
 use Rattle.version_latch.specs.declared.glimpse.Unheld.{Unheld}
 use Rattle.version_latch.specs.declared.glimpse.Unheld.TheVariants.{Moved, RowSpent}
+use Rattle.version_latch.specs.declared.glimpse.TheConstants.{LAST}
 
 -- the row is not held: its latch was another number, or its version has come to the last one, and then nothing was done
 abbrev pub NotHeld : Shape → ℕ → ℕ → (ℕ → List Event) → View → Unheld → View → Type 0
 NotHeld z row version names v (Moved m) w = (m.row ≡ row) × (m.seen ≡ version) × Refused z row version names v m.found w × ((u : View) → HasFound row version u v → HasMoved m.row m.seen m.found u w)
-NotHeld z row version names v RowSpent w = (4611686018427387904 ≤ version) × (w ≡ v)
+NotHeld z row version names v RowSpent w = (LAST ≤ version) × (w ≡ v)
