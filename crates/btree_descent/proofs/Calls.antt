@@ -1,5 +1,5 @@
 -- What a call's steps append, and what stays over them.
-use Rattle.std.proofs.Common.{◌≡◌, ◌≢◌, ◌==◌, ◌||◌, ◌<◌, ◌%◌, ◌++◌, ℕ, Bool, true, false, List, [], ◌∷◌, Option, refl, sym, ap, subst, ◌∙◌, arith, append-nil, eq-eqb, ne_eqb}
+use Rattle.std.proofs.Common.{◌≡◌, ◌≢◌, ◌==◌, ◌||◌, ◌<◌, ◌%◌, ℕ, Bool, true, false, List, [], ◌∷◌, Option, refl, sym, ap, subst, ◌∙◌, arith, eq-eqb, ne_eqb}
 use Rattle.std.specs.Prelude.{if◌then◌else◌}
 use Rattle.row_words.specs.declared.event.Event.{Event}
 use Rattle.row_words.specs.declared.event.Event.TheVariants.{Read, Miss}
@@ -16,7 +16,7 @@ use Rattle.btree_descent.specs.declared.descent.Answer.TheVariants as answer
 use Rattle.btree_descent.specs.declared.descent.Step.{Step}
 use Rattle.btree_descent.specs.declared.descent.Step.TheVariants as step
 use Rattle.btree_descent.specs.Known.{IsSound, Sound, said}
-use Rattle.btree_descent.specs.Inside.{OnWay, IsHead, Missed, GoesDown}
+use Rattle.btree_descent.specs.Inside.{IsHead, Missed, GoesDown}
 use Rattle.btree_descent.specs.Named.{missed, checked, read_at}
 use Rattle.btree_descent.specs.Descents.{Sized, Went}
 
