@@ -6,7 +6,9 @@ use Rattle.lean_disk.specs.Told.{TellsOn}
 use Rattle.lean_edge.specs.Outside.{Feed, Held}
 use Rattle.disk_slots.specs.declared.master.Master.{Master}
 use Rattle.disk_image.specs.Shown.{IsCleanDisk}
+use Rattle.recovery.specs.Telling.{TellsAll}
 use Rattle.lean_shell.specs.Crashes.{IsYoung, MasterLeaves, TellsCrashes}
+use Rattle.lean_shell.specs.Headline.{Headline}
 use Rattle.lean_shell.specs.Runs.{HowRun}
 
 -- A run put these bytes into the sink.
@@ -17,5 +19,7 @@ pub record RunEnds (status : ℕ) (s0 s1 : Story) (feed0 feed1 : Feed) (held0 he
   -- no other area is touched, and the disk tells on
   pub others : (a : ℕ) → 2 < a → s1.area a ≡ s0.area a
   pub tells_on : TellsOn s0 s1
-  -- at every moment the master is that of the entry, or the next one
+  -- the headline holds of what was put, also where the sink does not tell what it holds
+  pub headline : IsTrue feed0.tells → TellsAll s0 → Headline s0 s1 feed0.left put
+  -- at every moment the master is that of the entry, or the next one; and what stands of the run's calls
   pub masters : IsTrue feed0.tells → (m : Master) → TellsCrashes s0 → IsCleanDisk m (areas_of s0) → IsYoung m s0 → LeavesOnly s0 s1 (MasterLeaves m s0 feed0.left put)

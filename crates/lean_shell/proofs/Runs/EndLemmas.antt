@@ -74,17 +74,21 @@ module _ (notice_law : EveryNotice) (s0 old new : Story) (law : IsLawful old) (k
   line_masters m all clean young = weaker s0 new (LivesOn m s0 feed.left line_text.text) (MasterLeaves m s0 feed.left line_text.text) (master_leaves m s0 feed.left line_text.text) (line_leaves m all clean young)
 
   -- the line tells of no call
-  pub line_headline : EveryTail → IsTrue held0.tells → TellsAll s0 → Headline s0 new feed.left (added held0 held1)
-  line_headline tail_law sink_tells all = subst (Headline s0 new feed.left) (sym (ap (drop (length held0.bytes)) (line_text.holds sink_tells) ∙ drop-append_seam held0.bytes line_text.text)) (record {
+  pub line_says : EveryTail → TellsAll s0 → Headline s0 new feed.left line_text.text
+  line_says tail_law all = record {
     serial = λ m map won stands. subst (λ (j : Journal). Serial map j) (sym (ap journal (tail_law feed.left line_text.text (subst IsTail (sym line_text.is_prefix) (notice_tail n fits line_text.prefix))))) tt;
     any_moment = λ counts m clean young. weaker s0 new (LivesOn m s0 feed.left line_text.text) (RunLeaves m s0 feed.left line_text.text) (run_leaves m s0 feed.left line_text.text) (line_leaves m (record { all = all; counts = counts }) clean young);
-  })
+  }
 
-pub refused_ends : EveryNotice → (status : ℕ) (s0 old new : Story) → IsLawful old → Keeps s0 old → ((a : ℕ) → 2 < a → old.area a ≡ s0.area a)
+  pub line_headline : EveryTail → IsTrue held0.tells → TellsAll s0 → Headline s0 new feed.left (added held0 held1)
+  line_headline tail_law sink_tells all =
+      subst (Headline s0 new feed.left) (sym (ap (drop (length held0.bytes)) (line_text.holds sink_tells) ∙ drop-append_seam held0.bytes line_text.text)) (line_says tail_law all)
+
+pub refused_ends : EveryNotice → EveryTail → (status : ℕ) (s0 old new : Story) → IsLawful old → Keeps s0 old → ((a : ℕ) → 2 < a → old.area a ≡ s0.area a)
     → ((m : Master) → TellsAll s0 → IsCleanDisk m (areas_of s0) → LeavesOnly s0 old (RecoveryLeaves m s0)) → (feed : Feed) (reason : Unrecovered) → status ≡ status_of reason → Shows s0 reason
     → (IsRefusal reason → (a : ℕ) → IsUntouched (s0.area a) (old.area a))
     → (held0 held1 : Held) (sink0 sink1 : ℕ) → Refuses reason held0 held1 sink0 sink1 old new → RunEnds status s0 new feed feed held0 held1 sink0 sink1
-refused_ends notice_law status s0 old new law keeps others any feed reason is shown left held0 held1 sink0 sink1 r =
+refused_ends notice_law tail_law status s0 old new law keeps others any feed reason is shown left held0 held1 sink0 sink1 r =
     let t = line_text notice_law s0 old new law keeps any feed (notice_of reason) r.fits r.answer held0 held1 r.line in record {
       put = t.text;
       holds = t.holds;
@@ -98,6 +102,7 @@ refused_ends notice_law status s0 old new law keeps others any feed reason is sh
       });
       others = λ a lt. (put_notes old new r.answer r.line.noted r.line.same).area a ∙ others a lt;
       tells_on = line_on notice_law s0 old new law keeps any feed (notice_of reason) r.fits r.answer held0 held1 r.line;
+      headline = λ tells. line_says notice_law s0 old new law keeps any feed (notice_of reason) r.fits r.answer held0 held1 r.line tail_law;
       masters = λ tells. line_masters notice_law s0 old new law keeps any feed (notice_of reason) r.fits r.answer held0 held1 r.line;
     }
 
@@ -110,14 +115,15 @@ module _ (notice_law : EveryNotice) (s0 old new : Story) (law : IsLawful old) (k
   abbrev opened : Notice
   opened = Notice.Opened n.generation n.winners n.undone
 
-  pub cut_ends : ((a : ℕ) → 2 < a → old.area a ≡ s0.area a) → (g : Opening) → (TellsAll s0 → IsFrom g s0 n) → (sink0 sink1 : ℕ) → Rose sink0 sink1 → RunEnds 5 s0 new feed feed held0 held1 sink0 sink1
-  cut_ends others g from sink0 sink1 rose =
+  pub cut_ends : EveryTail → ((a : ℕ) → 2 < a → old.area a ≡ s0.area a) → (g : Opening) → (TellsAll s0 → IsFrom g s0 n) → (sink0 sink1 : ℕ) → Rose sink0 sink1 → RunEnds 5 s0 new feed feed held0 held1 sink0 sink1
+  cut_ends tail_law others g from sink0 sink1 rose =
       let t = line_text notice_law s0 old new law keeps any feed opened fits answer held0 held1 p in record {
         put = t.text;
         holds = t.holds;
         how = inr (inl (record { status_is = refl; cause = rose; counts = n; opening = g; from = from; prefix = t.prefix; printed = t.is_prefix; unread = refl }));
         others = λ a lt. (put_notes old new answer p.noted p.same).area a ∙ others a lt;
         tells_on = line_on notice_law s0 old new law keeps any feed opened fits answer held0 held1 p;
+        headline = λ tells. line_says notice_law s0 old new law keeps any feed opened fits answer held0 held1 p tail_law;
         masters = λ tells. line_masters notice_law s0 old new law keeps any feed opened fits answer held0 held1 p;
       }
 

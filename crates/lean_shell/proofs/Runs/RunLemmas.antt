@@ -337,6 +337,12 @@ module _ (laws : EverySession) (tells_law : EveryTranscript) (moment_law : Every
       pub left_now : IsLeft m s0 input put (as_read s1)
       left_now = (at_last (as_read s1) now left).left fair_now
 
+  pub run_says : IsTrue feed0.tells → TellsAll s0 → Headline s0 s1 input put
+  run_says tells all = record {
+    serial = serial tells all;
+    any_moment = λ counts m clean young. weaker s0 s1 (LivesOn m s0 input put) (RunLeaves m s0 input put) (run_leaves m s0 input put) (leaves tells m (record { all = all; counts = counts }) clean young);
+  }
+
   pub run_ends : (status : ℕ) → status ≡ ended stop → (sink0 : ℕ) → HasCause sink0 sink_c (stop ≡ stops.WriteFault) → ((a : ℕ) → 2 < a → sa.area a ≡ s0.area a) → RunEnds status s0 s1 feed0 feed1 held0 held1 sink0 sink1
   run_ends status is sink0 sinks others = record {
     put = put;
@@ -361,11 +367,9 @@ module _ (laws : EverySession) (tells_law : EveryTranscript) (moment_law : Every
       areas = l.notes.areas ∙ (r.others.areas ∙ (noted.areas ∙ keeps.areas));
       later = let a = keeps.later in let b = noted.later in let c = r.others.later in let d = l.notes.later in omega arith;
     };
+    headline = run_says;
     masters = λ tells m all clean young. weaker s0 s1 (LivesOn m s0 input put) (MasterLeaves m s0 input put) (master_leaves m s0 input put) (leaves tells m all clean young);
   }
 
   pub run_headline : IsTrue feed0.tells → IsTrue held0.tells → TellsAll s0 → Headline s0 s1 input (added held0 held1)
-  run_headline tells sink_tells all = subst (Headline s0 s1 input) (sym (ap (drop (length held0.bytes)) (holds sink_tells) ∙ drop-append_seam held0.bytes put)) (record {
-    serial = serial tells all;
-    any_moment = λ counts m clean young. weaker s0 s1 (LivesOn m s0 input put) (RunLeaves m s0 input put) (run_leaves m s0 input put) (leaves tells m (record { all = all; counts = counts }) clean young);
-  })
+  run_headline tells sink_tells all = subst (Headline s0 s1 input) (sym (ap (drop (length held0.bytes)) (holds sink_tells) ∙ drop-append_seam held0.bytes put)) (run_says tells all)

@@ -15,7 +15,7 @@ pub returns-in_default-clause-ends : goal.returns-in_default-clause-ends
 returns-in_default-clause-ends g c =
     let s0 = g.D.Disk.story c.args.disk.now in
     let law = ((g.met.D.Disk g.world.𝓛 g.world.𝓜 g.world.𝓡 ((λ s x. x), (λ x. x), (λ x. x), (λ x. x))).lawful c.args.disk.now) in
-    refused_ends c.every_notice.ensures c.refuse.result s0 s0 (g.D.Disk.story c.refuse.new.disk) law (record { notes = refl; tells = λ a. refl; areas = refl; counts = refl; later = omega arith }) (λ a lt. refl) (λ m tells clean. unmoved m s0 law) (g.S.Source.feed c.args.source.now) Memory c.refuse.ensures.status tt (λ refused a. absurd refused)
+    refused_ends c.every_notice.ensures c.every_tail.ensures c.refuse.result s0 s0 (g.D.Disk.story c.refuse.new.disk) law (record { notes = refl; tells = λ a. refl; areas = refl; counts = refl; later = omega arith }) (λ a lt. refl) (λ m tells clean. unmoved m s0 law) (g.S.Source.feed c.args.source.now) Memory c.refuse.ensures.status tt (λ refused a. absurd refused)
     (g.K.Sink.held c.args.sink.now) (g.K.Sink.held c.refuse.new.sink) (g.K.Sink.faults c.args.sink.now) (g.K.Sink.faults c.refuse.new.sink) c.refuse.ensures.put
 
 pub returns-in-Err-clause-ends : goal.returns-in-Err-clause-ends
@@ -23,7 +23,7 @@ returns-in-Err-clause-ends g c =
     let s0 = g.D.Disk.story c.args.disk.now in
     let sa = g.D.Disk.story c.open.new.disk in
     let law = ((g.met.D.Disk g.world.𝓛 g.world.𝓜 g.world.𝓡 ((λ s x. x), (λ x. x), (λ x. x), (λ x. x))).lawful c.open.new.disk) in
-    refused_ends c.every_notice.ensures c.refuse-in-Err.result s0 sa (g.D.Disk.story c.refuse-in-Err.new.disk) law c.open.ensures.keeps c.open.ensures.others c.open.ensures.any_moment (g.S.Source.feed c.args.source.now) c.in-Err.reason c.refuse-in-Err.ensures.status c.in-Err.ensures.shown c.in-Err.ensures.left
+    refused_ends c.every_notice.ensures c.every_tail.ensures c.refuse-in-Err.result s0 sa (g.D.Disk.story c.refuse-in-Err.new.disk) law c.open.ensures.keeps c.open.ensures.others c.open.ensures.any_moment (g.S.Source.feed c.args.source.now) c.in-Err.reason c.refuse-in-Err.ensures.status c.in-Err.ensures.shown c.in-Err.ensures.left
     (g.K.Sink.held c.args.sink.now) (g.K.Sink.held c.refuse-in-Err.new.sink) (g.K.Sink.faults c.args.sink.now) (g.K.Sink.faults c.refuse-in-Err.new.sink) c.refuse-in-Err.ensures.put
 
 pub returns-in_default-put_opened-clause-ends : goal.returns-in_default-put_opened-clause-ends
@@ -32,7 +32,7 @@ returns-in_default-put_opened-clause-ends g c =
     let sa = g.D.Disk.story c.open.new.disk in
     let law = ((g.met.D.Disk g.world.𝓛 g.world.𝓜 g.world.𝓡 ((λ s x. x), (λ x. x), (λ x. x), (λ x. x))).lawful c.open.new.disk) in
     cut_ends c.every_notice.ensures s0 sa (g.D.Disk.story c.put_opened.new.disk) law c.open.ensures.keeps c.open.ensures.any_moment (g.S.Source.feed c.args.source.now) (counts_of c.in-Ok-open.opened) c.put_opened.ensures.fits
-    (g.K.Sink.held c.args.sink.now) (g.K.Sink.held c.put_opened.new.sink) c.put_opened.result c.put_opened.ensures.put c.open.ensures.others c.in-Ok-open.ensures.opened.g c.in-Ok-open.ensures.opened.from
+    (g.K.Sink.held c.args.sink.now) (g.K.Sink.held c.put_opened.new.sink) c.put_opened.result c.put_opened.ensures.put c.every_tail.ensures c.open.ensures.others c.in-Ok-open.ensures.opened.g c.in-Ok-open.ensures.opened.from
     (g.K.Sink.faults c.args.sink.now) (g.K.Sink.faults c.put_opened.new.sink) (c.put_opened.ensures.cause.cause (put_not_done c.put_opened.result c.in_default-put_opened.not-Done))
 
 pub returns-clause-ends : goal.returns-clause-ends
