@@ -167,7 +167,7 @@ stamped h o X T w tw cw y d u e = rw e (d.0, (let q = d.1 in omega arith), go cw
     go (inl l) c = subst (λ (j : ℕ). Covered j (X j) d.0.end) l c
     go (inr n) c = inr (let q = d.1 in omega arith)
 
-or_second : (x y : Bool) → x ≡ false → (x || y) ≡ true → y ≡ true
+pub or_second : (x y : Bool) → x ≡ false → (x || y) ≡ true → y ≡ true
 or_second true y e h = absurd (true≢false e)
 or_second false y e h = h
 

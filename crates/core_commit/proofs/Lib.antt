@@ -11,3 +11,4 @@ pub mod Runs
 pub mod Debts
 pub mod Says
 pub mod RiseLemmas
+pub mod HolderLemmas

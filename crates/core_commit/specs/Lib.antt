@@ -1,2 +1,3 @@
 pub mod Debts
 pub mod Rises
+pub mod Holders

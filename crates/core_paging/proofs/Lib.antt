@@ -3,4 +3,5 @@ pub mod ResidenceKept
 pub mod Saves
 pub mod Epochs
 pub mod Laws
+pub mod LogLemmas
 pub mod ByHand

@@ -2,6 +2,7 @@
 #![tactic(auto)]
 
 ghost use Rattle.core_paging.specs.Paging.{EveryResidence, EverySaved, EpochRule, EveryRipe, EveryHot};
+ghost use Rattle.core_paging.specs.Logs.{EveryLastLog};
 ghost use Rattle.core_paging.specs.Example.{WorkedExample};
 
 /// A frame has one page and a page one frame; page 0 and the parent of each hot page are hot; the queue has each cooling
@@ -30,6 +31,11 @@ pub fn every_ripe()
 /// Each hot node is reachable from page 0 by frame swips.
 pub fn every_hot()
     ensures { EveryHot }
+{}
+
+/// Each page's last log, and that of its saved contents, is at most the number of workers, where it is so of what opening gives.
+pub fn every_last_log()
+    ensures { EveryLastLog }
 {}
 
 /// A run by hand in which each event's need is met: a leaf is lifted, split, evicted and loaded, the leaves are joined, the

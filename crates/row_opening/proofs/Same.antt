@@ -1,5 +1,5 @@
 -- A step reads of an opening its sizes alone.
-use Rattle.std.proofs.Common.{◌≡◌, ◌<◌, ◌≤◌, ℕ, List, [], ◌∷◌, ◌++◌, refl, sym, ap, subst, ◌∙◌}
+use Rattle.std.proofs.Common.{◌≡◌, ◌<◌, ◌≤◌, ℕ, true, ◌&&◌, ltb, leb, List, [], ◌∷◌, ◌++◌, refl, sym, ap, subst, ◌∙◌}
 use Rattle.std.specs.Prelude.{if◌then◌else◌}
 use Rattle.map_model.specs.Maps.{MapAnswer, key_end, value_end}
 use Rattle.image_model.specs.Entries.{Entry}
@@ -8,11 +8,15 @@ use Rattle.page_model.specs.Tree.{IsTree}
 use Rattle.core_state.specs.Openings.{Opening}
 use Rattle.core_state.specs.States.{State, start, nodes_of}
 use Rattle.core_state.specs.Events as happening
-use Rattle.core_state.specs.Needs.{may, may_put_back}
+use Rattle.core_state.specs.Needs.{is_worker, may, may_put_back}
 use Rattle.core_state.specs.Steps.{happens, follows, put_back}
 use Rattle.core_state.specs.Steps as steps
 use Rattle.core_paging.specs.Paging.{Residence}
+use Rattle.core_commit.specs.Holders.{HeldByWorkers}
+use Rattle.core_commit.proofs.HolderLemmas as commit
 use Rattle.core_paging.proofs.Laws as paging
+use Rattle.core_paging.proofs.LogLemmas as logs
+use Rattle.core_paging.specs.Logs.{LogsWithin}
 use Rattle.core_index.proofs.Legal as index
 use Rattle.row_words.specs.declared.event.Event.{Event}
 use Rattle.row_words.specs.declared.given.Given.{Given}
@@ -144,10 +148,22 @@ module _ (x : Opening) (v : Given) (o : Opens x v) where
     cold = r.cold;
   }
 
+  worker_same : (w : ℕ) → is_worker x w ≡ true → is_worker (rows.opening v) w ≡ true
+  worker_same w h = subst (λ n. (ltb 0 w && leb w n) ≡ true) o.workers h
+
+  holders : (s : State) → HeldByWorkers x s → HeldByWorkers (rows.opening v) s
+  holders s r = record { holder = λ j w h. worker_same w (r.holder j w h); reader = λ j w h. worker_same w (r.reader j w h); apart = r.apart; log = λ j. subst (λ n. (s.row j).log ≤ n) o.workers (r.log j) }
+
+  within : (es : List happening.Event) → LogsWithin x (steps.run x (start x) es)
+  within es = logs.every_last_log x o.logs es
+
   pub opened : (es : List Event) → Opened v es
   opened es = let all = events_of v.before ++ events_of es in record {
     tree = subst (λ s. IsTree (rows.opening v).format (nodes_of s)) (sym (reached es)) (subst (λ f. IsTree f (nodes_of (steps.run x (start x) all))) o.format (index.every_tree x all));
     places = subst (λ s. Residence (rows.opening v) s) (sym (reached es)) (residence (steps.run x (start x) all) (paging.every_residence x all));
+    logs = λ p. subst (λ s. (s.page p).last ≤ (rows.opening v).workers) (sym (reached es)) (subst (λ n. ((steps.run x (start x) all).page p).last ≤ n) o.workers ((within all).page p));
+    saved = λ p. subst (λ s. (s.saved p).last ≤ (rows.opening v).workers) (sym (reached es)) (subst (λ n. ((steps.run x (start x) all).saved p).last ≤ n) o.workers ((within all).saved p));
+    locks = subst (λ s. HeldByWorkers (rows.opening v) s) (sym (reached es)) (holders (steps.run x (start x) all) (commit.every_holder x all));
   }
 
 pub every_opened : EveryOpened

@@ -1,8 +1,9 @@
 -- Rows that begin as an opening gives them.
-use Rattle.std.specs.Prelude.{◌≡◌, List}
+use Rattle.std.specs.Prelude.{◌≡◌, ◌≤◌, ℕ, List}
 use Rattle.page_model.specs.Tree.{IsTree}
 use Rattle.core_state.specs.Openings.{Opening}
 use Rattle.core_state.specs.States.{nodes_of, start}
+use Rattle.core_commit.specs.Holders.{HeldByWorkers}
 use Rattle.core_paging.specs.Paging.{Residence}
 use Rattle.row_words.specs.declared.event.Event.{Event}
 use Rattle.row_words.specs.declared.given.Given.{Given}
@@ -10,7 +11,7 @@ use Rattle.row_words.specs.Moments.{first_state}
 use Rattle.row_words.specs.Openings as rows
 use Rattle.rows_trait.specs.Views.{after_all}
 
--- the opening has these sizes, and its start is what is given
+-- the opening has these sizes, its start is what is given, and each page's last log is at most the number of workers
 pub record Opens (x : Opening) (v : Given) : Type 0 where
   pub workers : x.workers ≡ (rows.opening v).workers
   pub frames : x.frames ≡ (rows.opening v).frames
@@ -19,11 +20,16 @@ pub record Opens (x : Opening) (v : Given) : Type 0 where
   pub joined : x.joined ≡ 45
   pub format : x.format ≡ (rows.opening v).format
   pub first : start x ≡ first_state v
+  pub logs : (p : ℕ) → x.last p ≤ x.workers
 
--- at that moment the pages are a tree, and places are in order
+-- at that moment the pages are a tree, places are in order, no last log is above the workers, and workers hold the lock rows
 pub record Opened (v : Given) (es : List Event) : Type 0 where
   pub tree : IsTree (rows.opening v).format (nodes_of (after_all v es).core)
   pub places : Residence (rows.opening v) (after_all v es).core
+  -- each page's last log is at most the number of workers, and so is that of its saved contents
+  pub logs : (p : ℕ) → ((after_all v es).core.page p).last ≤ (rows.opening v).workers
+  pub saved : (p : ℕ) → ((after_all v es).core.saved p).last ≤ (rows.opening v).workers
+  pub locks : HeldByWorkers (rows.opening v) (after_all v es).core
 
 -- so it is after every list of events
 abbrev pub EveryOpened : Type 0

@@ -4,7 +4,8 @@
 ghost use Rattle.row_opening.specs.Openings.{EveryOpened};
 
 /// After every list of events the pages are a tree, and where pages stand in frames is in order: one page a frame, the root hot,
-/// the parent of a hot page hot.
+/// the parent of a hot page hot; each page's last log is at most the number of workers; whoever holds a lock row is a worker, and a
+/// row that is held alone has no readers.
 pub fn every_opened()
     ensures { EveryOpened }
 {}
