@@ -1,7 +1,7 @@
 -- Numbers behind one another in a buffer.
 use Rattle.std.proofs.Common.{◌≡◌, ◌++◌, ◌∷◌, [], ℕ, List, ◌+◌, length, take, drop, refl, ap, sym, subst, ◌∙◌, arith}
 use mathlib.Core.List.{append_assoc}
-use Rattle.std.proofs.lemmas.List.{length-append, take_at, drop_at, drop-drop}
+use Rattle.std.proofs.lemmas.List.{length-append, take_at, drop_at, append-nil, drop-drop}
 use Rattle.log_record.specs.Spelling.{Holds}
 
 -- a buffer in which nothing was written
@@ -26,8 +26,8 @@ holds_more prefix first now after piece at n long was is =
       bytes = is ∙ ap (λ (u : List ℕ). u ++ (piece ++ drop (at + n) now)) kept ∙ ap (λ (u : List ℕ). prefix ++ (piece ++ u)) rest ∙ sym (append_assoc prefix piece (drop (length (prefix ++ piece)) first));
     }
 
-pub change_pieces : (k : ℕ) (t g p q e b a : List ℕ) → (((((k ∷ (t ++ g)) ++ p) ++ q) ++ e) ++ b) ++ a ≡ k ∷ (t ++ (g ++ ((p ++ q) ++ (e ++ (b ++ a)))))
-change_pieces k t g p q e b a = ap (λ (u : List ℕ). k ∷ u) (simp append_assoc)
-
 pub end_pieces : (k : ℕ) (t g n : List ℕ) → (k ∷ (t ++ g)) ++ n ≡ k ∷ (t ++ (g ++ n))
 end_pieces k t g n = ap (λ (u : List ℕ). k ∷ u) (append_assoc t g n)
+
+pub siblings_pieces : (prefix l r p s h : List ℕ) → ((((prefix ++ l) ++ r) ++ p) ++ s) ++ h ≡ prefix ++ (l ++ (r ++ (p ++ (s ++ (h ++ [])))))
+siblings_pieces prefix l r p s h = simp (append_assoc, append-nil)

@@ -1,3 +1,5 @@
--- Read Spelling; Model maps a record to that of the model of pages.
+-- Read Spelling, then Kinds; Model maps a record to that of the model of pages. Inside is of private functions alone.
 pub mod Spelling
+pub mod Kinds
 pub mod Model
+pub mod Inside

@@ -1,5 +1,5 @@
 -- The bytes of a record.
-use Rattle.std.specs.Prelude.{◌≡◌, ◌<◌, ◌^◌, ◌+◌, ◌*◌, ◌++◌, ◌∷◌, ℕ, List, length, slice_index, take, drop}
+use Rattle.std.specs.Prelude.{◌≡◌, ◌<◌, ◌^◌, ◌+◌, ◌*◌, ◌++◌, ◌∷◌, ℕ, List, length, take, drop}
 use Rattle.std.specs.List.{flat_map}
 use Rattle.lean_bytes.specs.Numbers.{number_bytes}
 use Rattle.log_record.specs.declared.record.Record.{Record}
@@ -98,8 +98,3 @@ pub record Begins (bytes : List ℕ) (r : Record) (n : ℕ) : Type 0 where
   pub count : n ≡ length (record_text r)
   pub rest : List ℕ
   pub spelled : bytes ≡ record_text r ++ rest
-
--- this byte stands first
-pub record Starts (kind : ℕ) (bytes : List ℕ) : Type 0 where
-  pub some : 0 < length bytes
-  pub first : slice_index bytes 0 ≡ kind

@@ -55,3 +55,13 @@ pub fn split_word(bytes: &[u8]) -> (u64, &[u8])
 {
     (LittleEndian::read_u64(bytes), &bytes[8..])
 }
+
+/// The first byte, and the bytes behind it.
+pub(crate) fn split_byte(bytes: &[u8]) -> (u8, &[u8])
+    requires { 1 ≤ length bytes.now }
+    ensures prefix { bytes.now ≡ result.0 ∷ result.1.now }
+    ensures rest { length result.1.now + 1 ≡ length bytes.now }
+    ensures fits { result.0 < 2 ^ 8 }
+{
+    (bytes[0], &bytes[1..])
+}

@@ -22,11 +22,27 @@ pub struct Pairs {
     pub pairs: [Pair; MOST],
 }
 
+impl Pairs {
+    /// No pairs.
+    pub const NONE: Pairs = Pairs {
+        count: 0,
+        pairs: [Pair { key: 0, word: 0 }; MOST],
+    };
+}
+
 /// The first `count` of these keys, at most `MOST`. The others are 0.
 #[derive(Clone, Copy, Debug)]
 pub struct Keys {
     pub count: u8,
     pub keys: [u64; MOST],
+}
+
+impl Keys {
+    /// No keys.
+    pub const NONE: Keys = Keys {
+        count: 0,
+        keys: [0; MOST],
+    };
 }
 
 /// A record: its transaction, its number, and what it does.

@@ -1,0 +1,15 @@
+use Rattle.std.proofs.Common.{ap, sym, ◌∙◌}
+use Rattle.log_record.proofs.KindLemmas.{no_short, no_join, join_stands, with_pairs}
+use Rattle.log_record.proofs.bodies.read_join.Goals as goal
+
+pub returns-then-bytes-clause-cause : goal.returns-then-bytes-clause-cause
+returns-then-bytes-clause-cause c = no_short 5 c.args.bytes.now c.if-bytes.true
+
+pub returns-in-Some-clause-answer : goal.returns-in-Some-clause-answer
+returns-in-Some-clause-answer c =
+    join_stands c.args.bytes.now c.split_siblings.result.1.now c.split_siblings.result.0 c.read_pairs.new.into _ c.in-Some.size (ap (with_pairs c.read_pairs.new.into) (sym c.set_join.ensures.is ∙ c.in-Join.is))
+    c.split_siblings.ensures.prefix c.split_siblings.ensures.fits c.in-Some.ensures.answer
+
+pub returns-in-None-clause-cause : goal.returns-in-None-clause-cause
+returns-in-None-clause-cause c =
+    no_join c.args.bytes.now c.split_siblings.result.1.now c.split_siblings.result.0 c.split_siblings.ensures.prefix c.split_siblings.ensures.fits c.in-None.ensures.cause
