@@ -1,12 +1,12 @@
 -- The places of keys in pairs whose keys rise.
-use Rattle.std.proofs.Common.{◌≡◌, ℕ, ◌+◌, ◌-◌, ◌*◌, ◌<◌, ◌≤◌, ◌==◌, inl, inr, suc, zero, ltb, leb, List, [], ◌∷◌, length, set, take, drop, Some, None, refl, sym, ap, ◌∙◌, arith, get_or}
+use Rattle.std.proofs.Common.{◌≡◌, ℕ, ◌+◌, ◌-◌, ◌*◌, ◌<◌, ◌≤◌, ◌==◌, inl, inr, suc, zero, ltb, leb, List, [], ◌∷◌, length, set, take, drop, Some, None, refl, sym, ap, ◌∙◌, subst, arith, get_or}
 use Rattle.std.proofs.lemmas.Bool.{cases_lt, cases_eq, cond-true, cond-false, lt-ltb, le-ltb, lt-leb, le-leb, eq-eqb, ne_eqb}
 use Rattle.std.proofs.lemmas.Bool.Decides.{nat_tests}
 use Rattle.std.specs.List.{insert}
 use Rattle.page_model.specs.Pairs.{Pair, Rising, find, put, below, onward, route}
 use Rattle.page_model.specs.Needs.{key_at}
 use Rattle.page_model.specs.Page.{Page, word_at}
-use Rattle.page_model.proofs.Pairs.{rising_put, rising_le, find_out, put_prefix, put_here, put_back}
+use Rattle.page_model.proofs.Pairs.{rising_put, rising_le, rising_below, find_out, put_prefix, put_here, put_back}
 use Rattle.btree_node.specs.Words.{IsOrdered, Spells}
 use Rattle.btree_node.specs.Inside.{pair, place, IsAt, IsGap}
 use Rattle.btree_node.proofs.SpellingLemmas.{spells-key}
@@ -261,3 +261,24 @@ pub key-within : (low high : ℕ) (ps : List Pair) (i : ℕ) → Rising low ps h
 key-within low high [] i r h = absurd (omega arith)
 key-within low high (p ∷ ps) zero r h = let e = rising_le (suc p.key) ps high r.1 in (r.0, omega arith)
 key-within low high (p ∷ ps) (suc i) r h = let e = key-within (suc p.key) high ps i r.1 (omega arith) in let a = e.0 in let b = r.0 in (omega arith, e.1)
+
+-- what stands before a key's place
+rising-place : (low high sep : ℕ) (ps : List Pair) → Rising low ps high → take (place sep ps) ps ≡ below sep ps
+rising-place low high sep [] r = refl
+rising-place low high sep (p ∷ ps) r = elim (cases_lt p.key sep) [
+  | inl lt ↦
+      ap (λ j. take j (p ∷ ps)) (place-past sep p ps lt) ∙ ap (λ (qs : List Pair). p ∷ qs) (rising-place (suc p.key) high sep ps r.1)
+      ∙ sym (cond-true (ltb p.key sep) (p ∷ below sep ps) (below sep ps) (lt-ltb p.key sep lt))
+  | inr ge ↦ ap (λ j. take j (p ∷ ps)) (place-here sep p ps ge) ∙ sym (none-below p.key sep high (p ∷ ps) (omega arith, r.1) ge)
+]
+
+pub take-place : (low high sep : ℕ) (ps : List Pair) → IsOrdered low ps high → take (place sep ps) ps ≡ below sep ps
+take-place low high sep [] o = refl
+take-place low high sep (p ∷ ps) o = rising-place low high sep (p ∷ ps) o
+
+pub below-ordered : (low high sep : ℕ) (ps : List Pair) → IsOrdered low ps high → IsOrdered low (below sep ps) sep
+below-ordered low high sep [] o = tt
+below-ordered low high sep (p ∷ ps) o = elim (cases_lt p.key sep) [
+  | inl lt ↦ let f = o.0 in rising-ordered low (below sep (p ∷ ps)) sep (rising_below low sep high (p ∷ ps) o (omega arith))
+  | inr ge ↦ subst (λ (qs : List Pair). IsOrdered low qs sep) (sym (none-below p.key sep high (p ∷ ps) (omega arith, o.1) ge)) tt
+]

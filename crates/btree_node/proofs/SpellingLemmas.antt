@@ -1,7 +1,7 @@
 -- Which words spell a page, and that they spell one page.
 use Rattle.std.proofs.Common.{◌≡◌, ℕ, ◌+◌, ◌-◌, ◌*◌, ◌/◌, ◌%◌, ◌<◌, ◌≤◌, ◌⊎◌, ◌==◌, inl, inr, suc, zero, ltb, leb, Bool, true, false, ◌&&◌, List, [], ◌∷◌, ◌++◌, length, get_or, take, drop, replicate, refl, sym, ap, ◌∙◌, subst, arith, length-drop}
 use Rattle.std.proofs.lemmas.Bool.Decides.{nat_tests}
-use Rattle.std.proofs.lemmas.List.{drop_more, drop-drop, take-append-drop, drop_at, take_at}
+use Rattle.std.proofs.lemmas.List.{length-append, length-replicate, drop_more, drop-drop, take-append-drop, drop_at, take_at}
 use Rattle.page_model.specs.Pairs.{Pair, Rising}
 use Rattle.page_model.specs.Needs.{key_at}
 use Rattle.page_model.specs.Page.{Page, word_at}
@@ -42,6 +42,15 @@ page_of-words_of v f =
 
 pub one-page : (ws : List ℕ) (v : Page) → Spells ws v → page_of ws ≡ v
 one-page ws v s = ap page_of s.spelled ∙ page_of-words_of v s.fits
+
+pub length-words : (v : Page) → length v.node.pairs ≤ 60 → length (words_of v) ≡ 126
+length-words v room =
+    let ps = v.node.pairs in
+    let Z : List ℕ = replicate (120 - 2 * length ps) 0 in
+    let a = length-append (flat ps) Z in
+    let b = length-flat ps in
+    let c : length Z ≡ 120 - 2 * length ps = length-replicate (120 - 2 * length ps) 0 in
+    omega arith
 
 pub is-page : (ws : List ℕ) (v : Page) → Spells ws v → IsPage ws
 is-page ws v s = subst (Spells ws) (sym (one-page ws v s)) s
@@ -104,7 +113,7 @@ zeros-are : (n : ℕ) → all_zero (replicate n 0) ≡ true
 zeros-are zero = refl
 zeros-are (suc n) = zeros-are n
 
-rising-true : (low high : ℕ) (ps : List Pair) → Rising low ps high → rises low high (flat ps) ≡ true
+pub rising-true : (low high : ℕ) (ps : List Pair) → Rising low ps high → rises low high (flat ps) ≡ true
 rising-true low high [] r = refl
 rising-true low high (p ∷ ps) r =
     let a = r.0 in
@@ -112,7 +121,7 @@ rising-true low high (p ∷ ps) r =
     let e : rises (p.key + 1) high (flat ps) ≡ true = ap (λ j. rises j high (flat ps)) (omega arith) ∙ rising-true (suc p.key) high ps r.1 in
     grind (arith, nat_tests)
 
-rising-from_true : (low high : ℕ) (ps : List Pair) → low ≤ high → rises low high (flat ps) ≡ true → Rising low ps high
+pub rising-from_true : (low high : ℕ) (ps : List Pair) → low ≤ high → rises low high (flat ps) ≡ true → Rising low ps high
 rising-from_true low high [] h e = h
 rising-from_true low high (p ∷ ps) h e =
     let a : low ≤ p.key = grind (arith, nat_tests) in
@@ -120,11 +129,11 @@ rising-from_true low high (p ∷ ps) h e =
     let c : rises (p.key + 1) high (flat ps) ≡ true = grind (arith, nat_tests) in
     (a, rising-from_true (suc p.key) high ps (omega arith) (ap (λ j. rises j high (flat ps)) (omega arith) ∙ c))
 
-ordered-true : (low high : ℕ) (ps : List Pair) → IsOrdered low ps high → rises low high (flat ps) ≡ true
+pub ordered-true : (low high : ℕ) (ps : List Pair) → IsOrdered low ps high → rises low high (flat ps) ≡ true
 ordered-true low high [] r = refl
 ordered-true low high (p ∷ ps) r = rising-true low high (p ∷ ps) r
 
-ordered-from_true : (low high : ℕ) (ps : List Pair) → rises low high (flat ps) ≡ true → IsOrdered low ps high
+pub ordered-from_true : (low high : ℕ) (ps : List Pair) → rises low high (flat ps) ≡ true → IsOrdered low ps high
 ordered-from_true low high [] e = tt
 ordered-from_true low high (p ∷ ps) e =
     let a : low ≤ p.key = grind (arith, nat_tests) in

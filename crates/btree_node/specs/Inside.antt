@@ -1,7 +1,8 @@
 -- Words of private functions: tests of words, places of keys, and moves of words.
-use Rattle.std.specs.Prelude.{◌≡◌, ℕ, ◌+◌, ◌<◌, ◌≤◌, ◌==◌, suc, nat_lt, nat_le, List, [], ◌∷◌, ◌++◌, length, drop, take, Bool, true, ◌&&◌, None, if◌then◌else◌}
-use Rattle.page_model.specs.Pairs.{Pair, find}
+use Rattle.std.specs.Prelude.{◌≡◌, ℕ, ◌+◌, ◌-◌, ◌<◌, ◌≤◌, ◌==◌, not, replicate, suc, nat_lt, nat_le, List, [], ◌∷◌, ◌++◌, length, drop, take, Bool, true, ◌&&◌, None, if◌then◌else◌}
+use Rattle.page_model.specs.Pairs.{Pair, find, is_in}
 use Rattle.page_model.specs.Needs.{key_at}
+use Rattle.page_model.specs.Page.{Page}
 
 abbrev pub all_zero : List ℕ → Bool
 all_zero [] = true
@@ -32,6 +33,18 @@ pub record IsGap (k : ℕ) (pairs : List Pair) (i : ℕ) : Type 0 where
   pub before : i ≡ place k pairs
   pub within : i ≤ length pairs
   pub none : find k pairs ≡ None
+
+-- a key that is none of these stays
+abbrev pub stays : List ℕ → ℕ → Bool
+stays keys k = not (is_in k keys)
+
+-- the first words, then these, then zeros up to 126
+abbrev pub ended : ℕ → List ℕ → List ℕ → List ℕ
+ended at ws pairs = take at ws ++ (pairs ++ replicate (126 - (at + length pairs)) 0)
+
+-- the page with its first pairs alone, and this high fence
+abbrev pub shortened : Page → ℕ → ℕ → Page
+shortened p kept high = record p { node = record p.node { high = high; pairs = take kept p.node.pairs } }
 
 -- words with a gap of two from a place on: those from there up to `end` stand two further
 abbrev pub spread : List ℕ → ℕ → ℕ → List ℕ

@@ -1,6 +1,6 @@
--- What a split and a join leave.
-use Rattle.std.specs.Prelude.{ℕ, true, ◌++◌}
-use Rattle.page_model.specs.Pairs.{below, onward}
+-- What is left of pages whose pairs move as a whole.
+use Rattle.std.specs.Prelude.{ℕ, suc, true, List, [], ◌∷◌, ◌++◌}
+use Rattle.page_model.specs.Pairs.{Pair, below, onward}
 use Rattle.page_model.specs.Nodes.{free}
 use Rattle.page_model.specs.Page.{Page}
 
@@ -19,3 +19,19 @@ joined p q = record p { node = record p.node { high = q.node.high; pairs = (p.no
 -- the page holds nothing
 abbrev pub freed : Page → Page
 freed p = record p { node = free }
+
+-- the page is a node of this level, with these fences and pairs
+abbrev pub filled : Page → (level low high : ℕ) → List Pair → Page
+filled p level low high pairs = record p { node = record { live = true; level = level; low = low; high = high; pairs = pairs } }
+
+-- the node gains pairs behind its own, and has this high fence
+abbrev pub extended : Page → List Pair → ℕ → Page
+extended p pairs high = record p { node = record p.node { high = high; pairs = (p.node.pairs ++ pairs) } }
+
+-- the root is one level higher, with one pair: key 0 and the word of its child
+abbrev pub lifted : Page → ℕ → Page
+lifted p word = record p { node = record p.node { level = suc p.node.level; pairs = record { key = 0; word = word } ∷ [] } }
+
+-- the root has the level and the pairs of its child q
+abbrev pub lowered : Page → Page → Page
+lowered p q = record p { node = record p.node { level = q.node.level; pairs = q.node.pairs } }

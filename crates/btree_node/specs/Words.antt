@@ -50,6 +50,10 @@ abbrev pub pairs_in : ℕ → List ℕ → List Pair
 pairs_in zero ws = []
 pairs_in (suc n) ws = record { key = slice_index ws 0; word = slice_index ws 1 } ∷ pairs_in n (drop 2 ws)
 
+-- the pairs whose words these are
+abbrev pub pairs_of : List ℕ → List Pair
+pairs_of ws = pairs_in (length ws / 2) ws
+
 -- the page that words spell, if they spell one
 abbrev pub page_of : List ℕ → Page
 page_of ws = record {

@@ -1,12 +1,14 @@
-// Entries are put in and written over in place.
-ghost use Rattle.std.specs.Prelude.{◌≡◌, ◌+◌, ◌*◌, ◌^◌, ◌<◌, ◌≤◌, length, slice_set, None, IsSome};
-ghost use Rattle.page_model.specs.Pairs.{find, put};
+// Entries are put in, written over and taken out in place.
+ghost use Rattle.std.specs.Prelude.{◌≡◌, ◌+◌, ◌*◌, ◌^◌, ◌++◌, ◌<◌, ◌≤◌, length, slice_set, take, drop, not, true, None, IsSome};
+ghost use Rattle.std.specs.List.Sorted.{IsNonDecreasing};
+ghost use Rattle.page_model.specs.Pairs.{find, put, keep, without, is_in};
 ghost use Rattle.page_model.specs.Needs.{key_at};
 ghost use Rattle.page_model.specs.Page.{with_pairs};
-ghost use Rattle.btree_node.specs.Words.{Fits};
-ghost use Rattle.btree_node.specs.Inside.{pair, spread, IsGap};
+ghost use Rattle.btree_node.specs.Words.{Fits, flat, pairs_in};
+ghost use Rattle.btree_node.specs.Inside.{spread, stays, IsGap};
 
 use super::Node;
+use crate::fill::end_with;
 
 /// What a put did: nothing where the node is full.
 #[derive(Clone, Copy, Debug, PartialEq, Eq)]
@@ -30,7 +32,7 @@ impl Node {
     {
         match self.search(key) {
             Ok(at) => {
-                self.set_word(at, word);
+                self.set_word_at(at, word);
                 Put::Done
             }
             Err(at) => {
@@ -50,18 +52,37 @@ impl Node {
         ensures kept { Fits self.new }
     {
         if let Ok(at) = self.search(key) {
-            self.set_word(at, 1 << 63);
+            self.set_word_at(at, 1 << 63);
         }
     }
 
-    /// Writes over the word of pair `i`.
-    fn set_word(&mut self, i: usize, word: u64)
+    /// The word of pair `i` is written over: a value word in a leaf, a child's word in an inner node.
+    pub fn set_word_at(&mut self, i: usize, word: u64)
         requires { i < length self.old.node.pairs }
-        ensures after { self.new ≡ with_pairs self.old (slice_set self.old.node.pairs i (pair (key_at i self.old.node.pairs) word)) }
+        ensures after { self.new ≡ with_pairs self.old (slice_set self.old.node.pairs i (record { key = key_at i self.old.node.pairs; word = word })) }
         ensures kept { Fits self.new }
     {
         let words = &mut self.words;
         words[7 + 2 * i] = word;
+    }
+
+    /// The entries of these keys go. The keys may come in any order, and one without an entry changes nothing.
+    pub fn purge(&mut self, keys: &[u64])
+        ensures after { self.new ≡ with_pairs self.old (keep (λ k. not (is_in k keys.now)) self.old.node.pairs) }
+        ensures kept { Fits self.new }
+    {
+        let count = (self.words[3] % 256) as usize;
+        let kept = close_gaps(&mut self.words, count, keys);
+        end_with(&mut self.words, 6 + 2 * kept, &[]);
+        self.words[3] = self.words[3] - count as u64 + kept as u64;
+    }
+
+    /// The pair of this key goes, if there is one.
+    pub fn remove(&mut self, key: u64)
+        ensures after { self.new ≡ with_pairs self.old (without key self.old.node.pairs) }
+        ensures kept { Fits self.new }
+    {
+        self.purge(&[key]);
     }
 
     /// An entry comes to stand at `at`.
@@ -91,5 +112,44 @@ fn open_gap(words: &mut [u64; 126], from: usize, end: usize)
     while from < i {
         i -= 1;
         words[i + 2] = words[i];
+    }
+}
+
+/// Of the first `count` pairs those without one of these keys move together. The answer is how many they are.
+fn close_gaps(words: &mut [u64; 126], count: usize, keys: &[u64]) -> usize
+    requires room { count ≤ 60 }
+    ensures within { result ≤ count }
+    ensures long { length (keep (stays keys.now) (pairs_in count (drop 6 words.old))) ≡ result }
+    ensures closed { take (6 + 2 * result) words.new ≡ take 6 words.old ++ flat (keep (stays keys.now) (pairs_in count (drop 6 words.old))) }
+{
+    let rise = are_rising(keys);
+    let mut kept = 0;
+    for i in 0..count {
+        let key = words[6 + 2 * i];
+        let word = words[7 + 2 * i];
+        if !has(keys, rise, key) {
+            words[6 + 2 * kept] = key;
+            words[7 + 2 * kept] = word;
+            kept += 1;
+        }
+    }
+    kept
+}
+
+fn are_rising(keys: &[u64]) -> bool
+    ensures { result ≡ true → IsNonDecreasing keys.now }
+{
+    keys.is_sorted()
+}
+
+/// Whether the key is one of these. Keys that rise are searched by halves.
+fn has(keys: &[u64], rise: bool, key: u64) -> bool
+    requires { rise ≡ true → IsNonDecreasing keys.now }
+    ensures { result ≡ is_in key keys.now }
+{
+    if rise {
+        keys.binary_search(&key).is_ok()
+    } else {
+        keys.contains(&key)
     }
 }

@@ -1,8 +1,9 @@
 // The fields of a page.
-ghost use Rattle.std.specs.Prelude.{◌≡◌, ◌<◌, ◌≤◌, length};
+ghost use Rattle.std.specs.Prelude.{◌≡◌, ◌<◌, ◌≤◌, length, drop};
 ghost use Rattle.page_model.specs.Nodes.{free};
 ghost use Rattle.page_model.specs.Needs.{key_at};
 ghost use Rattle.page_model.specs.Page.{new_page, empty_leaf, word_at};
+ghost use Rattle.btree_node.specs.Words.{flat, Fits};
 
 use super::Node;
 
@@ -131,5 +132,26 @@ impl Node {
     {
         let words = &self.words;
         words[7 + 2 * i]
+    }
+
+    /// The words of the pairs, key and word in turn.
+    pub fn pairs(&self) -> &[u64]
+        ensures answer { result.now ≡ flat self.now.node.pairs }
+        ensures bound { length result.now ≤ 120 }
+        ensures fits { Fits self.now }
+    {
+        self.pairs_from(0)
+    }
+
+    /// The words of the pairs from pair `i` on.
+    pub fn pairs_from(&self, i: usize) -> &[u64]
+        requires { i ≤ length self.now.node.pairs }
+        ensures answer { result.now ≡ flat (drop i self.now.node.pairs) }
+        ensures bound { length result.now ≤ 120 }
+        ensures fits { Fits self.now }
+    {
+        let words = &self.words;
+        let end = 6 + 2 * (words[3] % 256) as usize;
+        &words[6 + 2 * i..end]
     }
 }

@@ -4,11 +4,15 @@
 
 mod change;
 mod fields;
+mod fill;
 mod search;
 mod spelling;
 mod structure;
 
+ghost use Rattle.btree_node.specs.Redo.{EveryRedo};
+
 pub use change::Put;
+pub use spelling::are_ordered;
 use std::marker::Model;
 
 /// A page: a node of the tree, or a free page.
@@ -27,3 +31,8 @@ impl Model for Node {
 
     ghost invariant = { λ n. IsPage n.words };
 }
+
+/// What each record makes of its pages is what the calls make of them.
+pub fn every_redo()
+    ensures { EveryRedo }
+{}

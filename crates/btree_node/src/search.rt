@@ -57,9 +57,10 @@ impl Node {
     }
 
     /// How many keys stand before this one.
-    fn place(&self, key: u64) -> usize
+    pub(crate) fn place(&self, key: u64) -> usize
         ensures before { result ≡ place key self.now.node.pairs }
         ensures within { result ≤ length self.now.node.pairs }
+        ensures fits { Fits self.now }
     {
         let words = &self.words;
         let mut low = 0;

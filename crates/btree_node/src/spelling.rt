@@ -1,7 +1,7 @@
 // The words of a page, both ways.
-ghost use Rattle.std.specs.Prelude.{◌≡◌, ◌↔◌, length, IfSome, IfNone, IsTrue};
+ghost use Rattle.std.specs.Prelude.{◌≡◌, ◌↔◌, ◌%◌, length, Some, IfSome, IfNone, IsTrue};
 ghost use Rattle.page_model.specs.Page.{Page};
-ghost use Rattle.btree_node.specs.Words.{words_of, Fits, Spells, IsPage};
+ghost use Rattle.btree_node.specs.Words.{pairs_of, IsOrdered, Spells, IsPage};
 ghost use Rattle.btree_node.specs.Inside.{all_zero, rises};
 
 use super::Node;
@@ -18,6 +18,7 @@ impl Node {
     /// The page that words spell; none exactly where they spell none.
     pub fn from_words(words: [u64; 126]) -> Option<Node>
         ensures answer { IfSome result (λ page. Spells words page) }
+        ensures same { (page : Page) → Spells words page → result ≡ Some page }
         ensures cause { IfNone result ((page : Page) → Spells words page → ⊥) }
     {
         if is_page(&words) {
@@ -60,8 +61,17 @@ fn is_zero(words: &[u64]) -> bool
     true
 }
 
-/// Whether the keys of these pairs rise strictly, from `low` on and below `high`.
-fn is_rising(low: u64, high: u64, words: &[u64]) -> bool
+/// Whether these pairs, as words, may stand in a node with these fences: their keys rise strictly, from `low` on and
+/// below `high`. No pairs may stand in any node.
+pub fn are_ordered(low: u64, high: u64, pairs: &[u64]) -> bool
+    requires { length pairs.now % 2 ≡ 0 }
+    ensures { IsTrue result ↔ IsOrdered low (pairs_of pairs.now) high }
+{
+    is_rising(low, high, pairs)
+}
+
+/// The same, as the words say it.
+pub(crate) fn is_rising(low: u64, high: u64, words: &[u64]) -> bool
     ensures { result ≡ rises low high words.now }
 {
     let mut next = low;

@@ -1,8 +1,8 @@
-// Splits and joins of neighbours.
-ghost use Rattle.std.specs.Prelude.{◌≡◌, ◌++◌, ◌+◌, ◌≤◌, length, take, drop, replicate};
+// Pairs move as a whole between two pages.
+ghost use Rattle.std.specs.Prelude.{◌≡◌, ◌+◌, ◌≤◌, ◌<◌, length, true};
 ghost use Rattle.page_model.specs.Nodes.{free};
 ghost use Rattle.page_model.specs.Needs.{key_at};
-ghost use Rattle.btree_node.specs.Structure.{left_half, right_half, joined, freed};
+ghost use Rattle.btree_node.specs.Structure.{left_half, right_half, joined, freed, filled, lifted, lowered};
 
 use super::Node;
 
@@ -16,17 +16,10 @@ impl Node {
         ensures left { self.new ≡ left_half self.old result }
         ensures right { right.new ≡ right_half self.old right.old result }
     {
-        let half = (self.words[3] % 256) as usize / 2;
-        let separator = self.words[6 + 2 * half];
-        let level = self.words[3] / 256 % 256;
-        let log = right.words[3] / 65536 % 256;
-        copy_words(&mut right.words, 6, &self.words, 6 + 2 * half, 2 * half);
-        right.words[3] = half as u64 + 256 * level + 65536 * log + 16777216;
-        right.words[4] = separator;
-        right.words[5] = self.words[5];
-        clear_words(&mut self.words, 6 + 2 * half, 2 * half);
-        self.words[3] -= half as u64;
-        self.words[5] = separator;
+        let half = self.count() / 2;
+        let separator = self.key_at(half);
+        right.fill(self.level(), separator, self.high(), self.pairs_from(half));
+        self.keep_first(half, separator);
         separator
     }
 
@@ -39,31 +32,36 @@ impl Node {
         ensures left { self.new ≡ joined self.old right.old }
         ensures right { right.new ≡ freed right.old }
     {
-        let count = (self.words[3] % 256) as usize;
-        let gained = (right.words[3] % 256) as usize;
-        copy_words(&mut self.words, 6 + 2 * count, &right.words, 6, 2 * gained);
-        self.words[3] += gained as u64;
-        self.words[5] = right.words[5];
-        clear_words(&mut right.words, 6, 2 * gained);
-        right.words[3] = 65536 * (right.words[3] / 65536 % 256) + 33554432;
-        right.words[4] = 0;
-        right.words[5] = 0;
+        let _ = &self.words;
+        self.append(right.pairs(), right.high());
+        right.set_free();
     }
-}
 
-/// Writes zeros over n words.
-fn clear_words(words: &mut [u64; 126], from: usize, n: usize)
-    requires { from + n ≤ 126 }
-    ensures { words.new ≡ take from words.old ++ (replicate n 0 ++ drop (from + n) words.old) }
-{
-    words[from..from + n].fill(0);
-}
+    /// The root's pairs go into a new child of the root's level, and the root is one level higher, with one pair: key 0
+    /// and `word`, by which it names the child.
+    pub fn lift(&mut self, child: &mut Node, word: u64)
+        requires live { self.old.node.live ≡ true }
+        requires level { self.old.node.level < 7 }
+        requires low { self.old.node.low ≡ 0 }
+        requires high { 0 < self.old.node.high }
+        ensures root { self.new ≡ lifted self.old word }
+        ensures child { child.new ≡ filled child.old self.old.node.level 0 self.old.node.high self.old.node.pairs }
+    {
+        let level = self.level();
+        let high = self.high();
+        child.fill(level, 0, high, self.pairs());
+        self.fill(level + 1, 0, high, &[0, word]);
+    }
 
-/// Copies n words of another page.
-fn copy_words(words: &mut [u64; 126], at: usize, other: &[u64; 126], from: usize, n: usize)
-    requires into { at + n ≤ 126 }
-    requires from { from + n ≤ 126 }
-    ensures { words.new ≡ take at words.old ++ (take n (drop from other.now) ++ drop (at + n) words.old) }
-{
-    words[at..at + n].copy_from_slice(&other[from..from + n]);
+    /// The root takes the level and the pairs of its one child, which becomes free.
+    pub fn drop_root(&mut self, child: &mut Node)
+        requires live { self.old.node.live ≡ true }
+        requires low { child.old.node.low ≡ self.old.node.low }
+        requires high { child.old.node.high ≡ self.old.node.high }
+        ensures root { self.new ≡ lowered self.old child.old }
+        ensures child { child.new ≡ freed child.old }
+    {
+        self.fill(child.level(), self.low(), self.high(), child.pairs());
+        child.set_free();
+    }
 }

@@ -1,15 +1,28 @@
+use Rattle.std.proofs.Common.{length, ap, ◌∙◌, arith}
+use Rattle.btree_node.specs.Structure.{extended}
+use Rattle.btree_node.proofs.FlatLemmas.{length-flat, words-pairs_of, words-whole}
 use Rattle.btree_node.proofs.SpellingLemmas.{spells-view}
-use Rattle.btree_node.proofs.StructureLemmas.{join-left, join-right}
+use Rattle.btree_node.proofs.StructureLemmas.{joined-ordered}
 use Rattle.btree_node.proofs.Node.join.Goals as goal
 
-pub invariant_of-self : goal.invariant_of-self
-invariant_of-self c = (join-left c.self.inside.words c.right.inside.words c.copy_words.new.words c.args.self.now c.args.right.now (spells-view _ _ c.self.view_is c.self.invariant) (spells-view _ _ c.right.view_is c.right.invariant) c.requires.room c.requires.neighbours c.requires.fences c.requires.right_fences c.copy_words.ensures).page
+pub append-requires-clause-room : goal.append-requires-clause-room
+append-requires-clause-room c =
+    let l = length-flat c.args.right.now.node.pairs in
+    let e = ap length c.pairs.ensures.answer in
+    let r = c.requires.room in
+    omega arith
+
+pub append-requires-clause-whole : goal.append-requires-clause-whole
+append-requires-clause-whole c = words-whole c.pairs.result.now c.args.right.now.node.pairs c.pairs.ensures.answer
+
+pub append-requires-clause-ordered : goal.append-requires-clause-ordered
+append-requires-clause-ordered c =
+    joined-ordered c.args.self.now c.args.right.now c.pairs.result.now c.high.result (spells-view _ _ c.self.view_is c.self.invariant).fits c.pairs.ensures.fits c.requires.neighbours c.requires.fences c.requires.right_fences c.pairs.ensures.answer c.high.ensures
 
 pub returns-clause-left : goal.returns-clause-left
-returns-clause-left c = (join-left c.self.inside.words c.right.inside.words c.copy_words.new.words c.args.self.now c.args.right.now (spells-view _ _ c.self.view_is c.self.invariant) (spells-view _ _ c.right.view_is c.right.invariant) c.requires.room c.requires.neighbours c.requires.fences c.requires.right_fences c.copy_words.ensures).same
-
-pub invariant_of-right : goal.invariant_of-right
-invariant_of-right c = (join-right c.right.inside.words c.clear_words.new.words c.args.right.now (spells-view _ _ c.right.view_is c.right.invariant) c.clear_words.ensures).page
-
-pub returns-clause-right : goal.returns-clause-right
-returns-clause-right c = (join-right c.right.inside.words c.clear_words.new.words c.args.right.now (spells-view _ _ c.right.view_is c.right.invariant) c.clear_words.ensures).same
+returns-clause-left c =
+    let v = c.args.self.now in
+    let u = c.args.right.now in
+    c.append.ensures
+    ∙ ap (extended v _) c.high.ensures
+    ∙ ap (λ qs. extended v qs u.node.high) (words-pairs_of c.pairs.result.now u.node.pairs c.pairs.ensures.answer)

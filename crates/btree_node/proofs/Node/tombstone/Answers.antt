@@ -4,4 +4,4 @@ use Rattle.btree_node.proofs.PlaceLemmas.{at-put}
 use Rattle.btree_node.proofs.Node.tombstone.Goals as goal
 
 pub returns-in-Ok-clause-after : goal.returns-in-Ok-clause-after
-returns-in-Ok-clause-after c = c.set_word.ensures.after ∙ ap (with_pairs c.args.self.now) (at-put c.args.key 9223372036854775808 c.args.self.now.node.pairs c.in-Ok.at c.in-Ok.ensures.found)
+returns-in-Ok-clause-after c = c.set_word_at.ensures.after ∙ ap (with_pairs c.args.self.now) (at-put c.args.key 9223372036854775808 c.args.self.now.node.pairs c.in-Ok.at c.in-Ok.ensures.found)

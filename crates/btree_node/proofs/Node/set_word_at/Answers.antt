@@ -1,6 +1,6 @@
 use Rattle.btree_node.proofs.SpellingLemmas.{spells-view}
 use Rattle.btree_node.proofs.ChangeLemmas.{node-set_word}
-use Rattle.btree_node.proofs.Node.set_word.Goals as goal
+use Rattle.btree_node.proofs.Node.set_word_at.Goals as goal
 
 pub invariant_of-self : goal.invariant_of-self
 invariant_of-self c = (node-set_word c.self.inside.words c.args.self.now c.args.i c.args.word (spells-view _ _ c.self.view_is c.self.invariant) c.requires).page

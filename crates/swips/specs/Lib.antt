@@ -1,0 +1,2 @@
+-- Read Swips: the words of swips, and which words they are.
+pub mod Swips

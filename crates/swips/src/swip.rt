@@ -1,0 +1,47 @@
+// A swip, and the word that spells it.
+ghost use Rattle.std.specs.Prelude.{◌≡◌, ℕ, Some, IfSome, IfNone};
+ghost use Rattle.core_state.specs.States.{Place};
+ghost use Rattle.row_words.specs.Words.{swip};
+ghost use Rattle.swips.specs.declared.swip.Swip.{Swip};
+ghost use Rattle.swips.specs.Swips.{word_of, swip_of, Spells, IsSpelling};
+
+/// What an inner node names a child by: the frame where the child is hot, else the number of its page.
+#[derive(Clone, Copy, Debug, PartialEq, Eq)]
+pub enum Swip {
+    Frame(u32),
+    Page(u32),
+}
+
+/// The bit of a frame's word.
+const FRAME: u64 = 1 << 63;
+
+impl Swip {
+    /// The word of a pair with this swip.
+    pub fn word(self) -> u64
+        ensures answer { result ≡ word_of self }
+        ensures places { (place : Place) (page : ℕ) → swip_of place page ≡ self → result ≡ swip place page }
+    {
+        match self {
+            Swip::Frame(frame) => FRAME + u64::from(frame),
+            Swip::Page(page) => u64::from(page),
+        }
+    }
+
+    /// The swip that a word spells; none exactly where it spells none.
+    pub fn from_word(word: u64) -> Option<Swip>
+        ensures answer { IfSome result (Spells word) }
+        ensures every { (s : Swip) → Spells word s → result ≡ Some s }
+        ensures cause { IfNone result (IsSpelling word → ⊥) }
+    {
+        if word < FRAME {
+            return match u32::try_from(word) {
+                Ok(page) => Some(Swip::Page(page)),
+                Err(_) => None,
+            };
+        }
+        match u32::try_from(word - FRAME) {
+            Ok(frame) => Some(Swip::Frame(frame)),
+            Err(_) => None,
+        }
+    }
+}
