@@ -1,4 +1,7 @@
--- Read Changes, Over and Kept in this order.
+-- Read Ready, Changes, Over, Met and Kept in this order; Inside has words of private functions.
+pub mod Ready
 pub mod Changes
 pub mod Over
+pub mod Met
 pub mod Kept
+pub mod Inside

@@ -1,10 +1,21 @@
-//! When a change of an entry may be published, and the stores and the publish of one.
+//! When an event may be published whatever others do meanwhile, and the stores and the publish of a change of an entry.
 #![tactic(auto)]
 
+pub mod change;
+pub mod new;
 pub mod over;
 
 ghost use Rattle.lean_proto.specs.Changes.{EveryChange};
 ghost use Rattle.lean_proto.specs.Kept.{EveryKept};
+ghost use Rattle.lean_proto.specs.Ready.{EveryReady};
+
+/// Who is ready to publish a steady event may publish it: its need is met at the state that the seat has seen, and its rows, all
+/// held, have the words that it leaves there. Whatever others did meanwhile, the need is met still, and the words are right. Steady
+/// are the lock and the unlock of a row, the change of a key and a change that is put back, the split of a page, the lift of the
+/// root, and the load of a page.
+pub fn every_ready()
+    ensures { EveryReady }
+{}
 
 /// A worker that holds the lock of a key and the row of its leaf may publish the change of the key, once the words of the changed
 /// page are stored in the row. Whatever others did meanwhile, the event makes of the page what the words say.

@@ -1,3 +1,4 @@
+pub mod Frames
 pub mod Stays
 pub mod Controls
 pub mod SealedLemmas

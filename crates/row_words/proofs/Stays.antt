@@ -1,25 +1,24 @@
 -- An event changes the rows alone that it publishes.
-use Rattle.std.proofs.Common.{◌≡◌, ◌≢◌, ◌==◌, ◌||◌, ◌&&◌, not, ltb, ◌<◌, ◌-◌, ℕ, zero, suc, Bool, true, false, List, [], ◌∷◌, refl, sym, ap, ◌∙◌, true≢false, arith}
+use Rattle.std.proofs.Common.{◌≡◌, ◌≢◌, ◌==◌, ◌||◌, ◌&&◌, not, ltb, ◌<◌, ◌-◌, ℕ, zero, suc, Bool, true, false, List, [], ◌∷◌, refl, sym, ap, subst, ◌∙◌, true≢false, arith}
 use Rattle.std.specs.Prelude.{slice_index}
-use Rattle.std.proofs.lemmas.Bool.{cond-false, cond-true, ne_eqb, eqb-false}
+use Rattle.std.proofs.lemmas.Bool.{cond-false, cond-true, ne_eqb, eqb-false, eqb-true}
 use Rattle.std.proofs.lemmas.Bool.Decides.{nat_tests}
 use Rattle.map_model.specs.Lists.{upd, any}
 use Rattle.map_model.specs.Maps.{MapAnswer}
 use Rattle.image_model.specs.Entries.{Entry}
-use Rattle.page_model.specs.Pairs.{Pair, Span, spans}
-use Rattle.page_model.specs.Nodes.{Node}
 use Rattle.page_model.specs.Check.{names_page}
 use Rattle.btree_node.specs.Words.{words_of}
 use Rattle.core_state.specs.Lists.{all_below}
 use Rattle.core_state.specs.Openings.{Opening}
-use Rattle.core_state.specs.States.{Place, State, is_hot, is_cooling, frame_of, in_frame, left_by, waits_for}
+use Rattle.core_state.specs.States.{Place, State, is_hot, is_cooling, frame_of, in_frame, waits_for}
 use Rattle.core_state.specs.Events.{Event}
 use Rattle.core_state.specs.Needs.{may, needs, has_hot_parent, is_dirty, is_inside, is_empty_frame}
 use Rattle.core_state.specs.Steps.{happens, follows, put_back}
 use Rattle.core_state.specs.Steps as steps
 use Rattle.core_state.specs.Local.{published, publishes_page, publishes_row}
 use Rattle.core_state.proofs.Locality.{every_local}
-use Rattle.row_words.specs.Words.{swip, swips, is_inner, framed, ShowsPage, ShowsFrame, Shows, lock_words, relinks, relinked, fills, has_parent_in, publishes_frame, publishes}
+use Rattle.row_words.specs.Words.{swip, framed, ShowsPage, ShowsFrame, Shows, lock_words, relinks, relinked, fills, has_parent_in, publishes_frame, publishes}
+use Rattle.row_words.proofs.Frames.{one_hot, in_left, swip_left, swip_cooling, framed_same}
 
 pub or_false : (a b : Bool) → (a || b) ≡ false → (a ≡ false) × (b ≡ false)
 or_false true b e = absurd (true≢false e)
@@ -41,19 +40,6 @@ kept f i a j h = cond-false (j == i) a (f j) (ne_eqb j i (λ e. eqb-false i j h 
 pub here : {A : Type 0} (f : ℕ → A) (i : ℕ) (a : A) (j : ℕ) → (i == j) ≡ true → upd f i a j ≡ a
 here f i a j h = let e : (j == i) ≡ true = grind (arith, nat_tests) in cond-true (j == i) a (f j) e
 
-same_place : (i j : ℕ) → (i == j) ≡ true → i ≡ j
-same_place i j h = grind (arith, nat_tests)
-
-in_left : (w : ℕ) (x : Place) (f : ℕ) → in_frame (left_by w x) f ≡ in_frame x f
-in_left w (Place.Hot f) i = refl
-in_left w (Place.Cooling f e v) i = refl
-in_left w Place.Cold i = refl
-
-swip_left : (w : ℕ) (x : Place) (p : ℕ) → swip (left_by w x) p ≡ swip x p
-swip_left w (Place.Hot f) p = refl
-swip_left w (Place.Cooling f e v) p = refl
-swip_left w Place.Cold p = refl
-
 in_hot : (x : Place) (f : ℕ) → is_hot x ≡ true → (frame_of x == f) ≡ true → in_frame x f ≡ true
 in_hot (Place.Hot f) i h e = e
 in_hot (Place.Cooling f e v) i h d = d
@@ -64,18 +50,13 @@ in_cooling (Place.Hot f) i h e = e
 in_cooling (Place.Cooling f e v) i h d = d
 in_cooling Place.Cold i h e = absurd (true≢false (sym h))
 
-swip_cooling : (x : Place) (p : ℕ) → is_cooling x ≡ true → swip x p ≡ p
-swip_cooling (Place.Hot f) p h = absurd (true≢false (sym h))
-swip_cooling (Place.Cooling f e v) p h = refl
-swip_cooling Place.Cold p h = refl
-
 -- the page of a place that is not in a list of those in the frame
 unpublished : (place : ℕ → Place) (f p : ℕ) (l : List ℕ) → any (λ q. in_frame (place q) f) l ≡ false → in_frame (place p) f ≡ true → any (λ q. q == p) l ≡ false
 unpublished place f p [] off i = refl
 unpublished place f p (q ∷ l) off i =
     let o = or_false (in_frame (place q) f) (any (λ q. in_frame (place q) f) l) off in
     let ih = unpublished place f p l o.1 i in
-    let ne : (q == p) ≡ false = cases (q == p) (λ t. absurd (true≢false (sym i ∙ (ap (λ z. in_frame (place z) f) (sym (same_place q p t)) ∙ o.0)))) (λ n. n) in
+    let ne : (q == p) ≡ false = cases (q == p) (λ t. absurd (true≢false (sym i ∙ (ap (λ z. in_frame (place z) f) (sym (eqb-true q p t)) ∙ o.0)))) (λ n. n) in
     rw ne ih
 
 -- no page below n
@@ -83,7 +64,14 @@ pub below_false : (n : ℕ) (P : ℕ → Bool) → all_below n P ≡ true → (q
 below_false zero P h q lt = absurd (omega arith)
 below_false (suc n) P h q lt =
     let a = and_true (P n) (all_below n P) h in
-    cases (q == n) (λ t. ap P (same_place q n t) ∙ a.0) (λ t. below_false n P a.1 q (let d : q ≢ n = eqb-false q n t in omega arith))
+    cases (q == n) (λ t. ap P (eqb-true q n t) ∙ a.0) (λ t. below_false n P a.1 q (let d : q ≢ n = eqb-false q n t in omega arith))
+
+-- some number below n passes
+pub some_below : (n : ℕ) (P : ℕ → Bool) → not (all_below n (λ q. not (P q))) ≡ true → (q : ℕ) × (q < n) × (P q ≡ true)
+some_below zero P h = absurd (true≢false (sym h))
+some_below (suc n) P h = cases (P n)
+    (λ y. (n, omega arith, y))
+    (λ no. let ih = some_below n P (subst (λ (b : Bool). not (not b && all_below n (λ q. not (P q))) ≡ true) no h) in (ih.0, (let l = ih.1 in omega arith), ih.2))
 
 pub not_false : (b : Bool) → not b ≡ false → b ≡ true
 not_false true e = refl
@@ -105,10 +93,12 @@ in_parts Place.Cold i = refl
 in_same : (x y : Place) (f : ℕ) → is_hot x ≡ is_hot y → is_cooling x ≡ is_cooling y → frame_of x ≡ frame_of y → in_frame x f ≡ in_frame y f
 in_same x y f a b c = in_parts x f ∙ ((λ i. (a i || b i) && (c i == f)) ∙ sym (in_parts y f))
 
-one_hot : (x : Place) (f : ℕ) → is_hot x ≡ true → frame_of x ≡ f → x ≡ Place.Hot f
-one_hot (Place.Hot i) f h e = ap Place.Hot e
-one_hot (Place.Cooling i e v) f h d = absurd (true≢false (sym h))
-one_hot Place.Cold f h e = absurd (true≢false (sym h))
+-- what holds of none of the pages that the event relinks
+pub at_relinked : (P : ℕ → Bool) (e : Event) (c : ℕ) → any P (relinked e) ≡ false → relinks e c ≡ true → P c ≡ false
+at_relinked P (Event.Load p f) c off r = ap P (sym (eqb-true p c r)) ∙ (or_false (P p) false off).0
+at_relinked P (Event.Cool p) c off r = ap P (sym (eqb-true p c r)) ∙ (or_false (P p) false off).0
+at_relinked P (Event.Rescue p) c off r = ap P (sym (eqb-true p c r)) ∙ (or_false (P p) false off).0
+at_relinked P _ c off r = absurd (true≢false (sym r))
 
 module _ (g : Opening) (s : State) where
   -- a page stands in a frame after an event only if it did before, or if the event fills the frame
@@ -121,13 +111,13 @@ module _ (g : Opening) (s : State) where
       let x = Place.Cooling (frame_of (s.place q)) s.epoch (λ w. is_inside (s.inside w)) in cases (q == p)
       (λ t. let j : in_frame x f ≡ true = ap (λ z. in_frame z f) (sym (here s.place q x p t)) ∙ i in
       let hot = (and_true (is_hot (s.place q)) true (and_true (is_hot (s.place q) && true) (needs g s (Event.Cool q)) m).0).0 in
-      ap (λ z. in_frame (s.place z) f) (sym (same_place q p t)) ∙ in_hot (s.place q) f hot j)
+      ap (λ z. in_frame (s.place z) f) (sym (eqb-true q p t)) ∙ in_hot (s.place q) f hot j)
       (λ n. ap (λ z. in_frame z f) (sym (kept s.place q x p n)) ∙ i)
   in_before (Event.Rescue q) p f m off i =
       let x = Place.Hot (frame_of (s.place q)) in cases (q == p)
       (λ t. let j : in_frame x f ≡ true = ap (λ z. in_frame z f) (sym (here s.place q x p t)) ∙ i in
       let cool = (and_true (is_cooling (s.place q)) (has_hot_parent g s q) m).0 in
-      ap (λ z. in_frame (s.place z) f) (sym (same_place q p t)) ∙ in_cooling (s.place q) f cool j)
+      ap (λ z. in_frame (s.place z) f) (sym (eqb-true q p t)) ∙ in_cooling (s.place q) f cool j)
       (λ n. ap (λ z. in_frame z f) (sym (kept s.place q x p n)) ∙ i)
   in_before (Event.Evict q) p f m off i = cases (q == p)
       (λ t. absurd (true≢false (sym i ∙ ap (λ z. in_frame z f) (here s.place q Place.Cold p t))))
@@ -147,14 +137,14 @@ module _ (g : Opening) (s : State) where
   in_before _ p f m off i = i
 
   -- the swip of a page, unless the event changes it
-  swip_same : (e : Event) (c : ℕ) → may g s e ≡ true → relinks e c ≡ false → swip ((happens g s e).place c) c ≡ swip (s.place c) c
+  pub swip_same : (e : Event) (c : ℕ) → may g s e ≡ true → relinks e c ≡ false → swip ((happens g s e).place c) c ≡ swip (s.place c) c
   swip_same (Event.Leave w) c m off = swip_left w (s.place c) c
   swip_same (Event.Load q h) c m off = ap (λ z. swip z c) (kept s.place q (Place.Hot h) c off)
   swip_same (Event.Cool q) c m off = ap (λ z. swip z c) (kept s.place q (Place.Cooling (frame_of (s.place q)) s.epoch (λ w. is_inside (s.inside w))) c off)
   swip_same (Event.Rescue q) c m off = ap (λ z. swip z c) (kept s.place q (Place.Hot (frame_of (s.place q))) c off)
   swip_same (Event.Evict q) c m off = cases (q == c)
       (λ t. let cool = (and_true (is_cooling (s.place q)) (not (is_dirty s q) && all_below (suc g.workers) (λ w. not (waits_for (s.place q) w))) m).0 in
-      ap (λ z. swip z c) (here s.place q Place.Cold c t) ∙ (sym (swip_cooling (s.place q) c cool) ∙ ap (λ z. swip (s.place z) c) (same_place q c t)))
+      ap (λ z. swip z c) (here s.place q Place.Cold c t) ∙ (sym (swip_cooling (s.place q) c cool) ∙ ap (λ z. swip (s.place z) c) (eqb-true q c t)))
       (λ n. ap (λ z. swip z c) (kept s.place q Place.Cold c n))
   swip_same (Event.Put_back w q) c m off = go (s.worker w).changes
     where
@@ -170,65 +160,12 @@ module _ (g : Opening) (s : State) where
       go (MapAnswer.Was b) = refl
   swip_same _ c m off = refl
 
-  -- of a page whose swip the event changes no parent stands in a frame that is not published
-  no_parent : (e : Event) (f c : ℕ) → any (has_parent_in g s f) (relinked e) ≡ false → relinks e c ≡ true → has_parent_in g s f c ≡ false
-  no_parent (Event.Load q h) f c off r = ap (has_parent_in g s f) (sym (same_place q c r)) ∙ (or_false (has_parent_in g s f q) false off).0
-  no_parent (Event.Cool q) f c off r = ap (has_parent_in g s f) (sym (same_place q c r)) ∙ (or_false (has_parent_in g s f q) false off).0
-  no_parent (Event.Rescue q) f c off r = ap (has_parent_in g s f) (sym (same_place q c r)) ∙ (or_false (has_parent_in g s f q) false off).0
-  no_parent (Event.Enter w e) f c off r = absurd (true≢false (sym r))
-  no_parent (Event.Leave w) f c off r = absurd (true≢false (sym r))
-  no_parent (Event.Begin w x) f c off r = absurd (true≢false (sym r))
-  no_parent (Event.Lock w i mode) f c off r = absurd (true≢false (sym r))
-  no_parent (Event.Read w p k a) f c off r = absurd (true≢false (sym r))
-  no_parent (Event.Next w p k a) f c off r = absurd (true≢false (sym r))
-  no_parent (Event.Peek w p k a) f c off r = absurd (true≢false (sym r))
-  no_parent (Event.Change w p k v) f c off r = absurd (true≢false (sym r))
-  no_parent (Event.Put_back w p) f c off r = absurd (true≢false (sym r))
-  no_parent (Event.Split w l m q i) f c off r = absurd (true≢false (sym r))
-  no_parent (Event.Lift w n) f c off r = absurd (true≢false (sym r))
-  no_parent (Event.Join w l m q) f c off r = absurd (true≢false (sym r))
-  no_parent (Event.Drop w n) f c off r = absurd (true≢false (sym r))
-  no_parent (Event.Purge w p keys) f c off r = absurd (true≢false (sym r))
-  no_parent (Event.End w commit x) f c off r = absurd (true≢false (sym r))
-  no_parent (Event.Unlock w i) f c off r = absurd (true≢false (sym r))
-  no_parent (Event.Flush w n) f c off r = absurd (true≢false (sym r))
-  no_parent (Event.Sync n) f c off r = absurd (true≢false (sym r))
-  no_parent (Event.Post w n) f c off r = absurd (true≢false (sym r))
-  no_parent (Event.Save p) f c off r = absurd (true≢false (sym r))
-  no_parent (Event.Evict p) f c off r = absurd (true≢false (sym r))
-  no_parent Event.Tick f c off r = absurd (true≢false (sym r))
-  no_parent (Event.Cut x heads) f c off r = absurd (true≢false (sym r))
-  no_parent (Event.Ask w) f c off r = absurd (true≢false (sym r))
-  no_parent (Event.Refused w n m) f c off r = absurd (true≢false (sym r))
-  no_parent (Event.Miss w) f c off r = absurd (true≢false (sym r))
-
-  not_named : (f p c : ℕ) → has_parent_in g s f c ≡ false → p < g.format.pages → in_frame (s.place p) f ≡ true → names_page (s.page p).node c ≡ false
+  -- a page names none that has no parent in its frame
+  pub not_named : (f p c : ℕ) → has_parent_in g s f c ≡ false → p < g.format.pages → in_frame (s.place p) f ≡ true → names_page (s.page p).node c ≡ false
   not_named f p c off lt i =
       let all = not_false (all_below g.format.pages (λ q. not (names_page (s.page q).node c && in_frame (s.place q) f))) off in
       let n = not_true (names_page (s.page p).node c && in_frame (s.place p) f) (below_false g.format.pages (λ q. not (names_page (s.page q).node c && in_frame (s.place q) f)) all p lt) in
       cases (names_page (s.page p).node c) (λ y. absurd (true≢false (sym (rw y i) ∙ n))) (λ z. z)
-
-  abbrev OneSwip : (ℕ → Place) → ℕ → Type 0
-  OneSwip place c = swip (place c) c ≡ swip (s.place c) c
-
-  pairs_same : (place : ℕ → Place) (xs : List Pair) (high : ℕ) → ((c : ℕ) → any (λ (x : Span). x.child == c) (spans xs high) ≡ true → OneSwip place c) → swips place xs ≡ swips s.place xs
-  pairs_same place [] high h = refl
-  pairs_same place (x ∷ xs) high h =
-      let it : (x.word == x.word) ≡ true = grind (arith, nat_tests) in
-      let first : OneSwip place x.word = h x.word (rw it refl) in
-      let rest = pairs_same place xs high (λ c t. h c (or_right (x.word == c) t)) in
-      (λ i. record { key = x.key; word = first i } ∷ rest i)
-    where
-      or_right : (a : Bool) {b : Bool} → b ≡ true → (a || b) ≡ true
-      or_right true e = refl
-      or_right false e = e
-
-  framed_same : (place : ℕ → Place) (v : Node) → ((c : ℕ) → names_page v c ≡ true → OneSwip place c) → framed place v ≡ framed s.place v
-  framed_same place v h = go (is_inner v) refl
-    where
-      go : (b : Bool) → is_inner v ≡ b → Rattle.std.specs.Prelude.if◌then◌else◌ b (record v { pairs = swips place v.pairs }) v ≡ Rattle.std.specs.Prelude.if◌then◌else◌ b (record v { pairs = swips s.place v.pairs }) v
-      go true e = ap (λ z. record v { pairs = z }) (pairs_same place v.pairs v.high (λ c t. h c (rw e t)))
-      go false e = refl
 
   -- a page in a frame that the event does not publish
   pub not_published : (e : Event) (f p : ℕ) → publishes_frame g s e f ≡ false → in_frame (s.place p) f ≡ true → publishes_page e p ≡ false
@@ -266,8 +203,8 @@ module _ (g : Opening) (s : State) where
       let page = local.pages p un in
       let old = shows.page p lt before in
       let node : framed (happens g s e).place (s.page p).node ≡ framed s.place (s.page p).node =
-      framed_same (happens g s e).place (s.page p).node (λ c named. cases (relinks e c)
-      (λ y. absurd (true≢false (sym named ∙ not_named f p c (no_parent e f c more.1 y) lt before)))
+      framed_same s.place (happens g s e).place (s.page p).node (λ c named. cases (relinks e c)
+      (λ y. absurd (true≢false (sym named ∙ not_named f p c (at_relinked (has_parent_in g s f) e c more.1 y) lt before)))
       (λ n. swip_same e c m n)) in
       record {
         page = λ l. let o = old.page l in (o.0, o.1 ∙ ap (λ z. slice_index (words_of z) i) (sym (λ j. record { number = p; gsn = (page j).gsn; generation = o.0; last_log = (page j).last; node = (ap (λ z. framed (happens g s e).place z.node) page ∙ node) j })));

@@ -4,6 +4,7 @@
 //! A `Glimpse` is what a reader has of a row, a `Hold` what a writer has. Both are on any rows (`rows_trait::rows::Rows`).
 #![tactic(auto)]
 
+pub mod events;
 mod glimpse;
 mod hold;
 

@@ -1,0 +1,42 @@
+-- When an event may be published whatever others did meanwhile: its need is met at the state that the seat has seen, and its rows,
+-- all held, have the words that it leaves there. What it rests on stays under events apart from it.
+use Rattle.std.specs.Prelude.{◌≡◌, ℕ, Bool, true, false, List}
+use Rattle.page_model.specs.Tree.{IsTree}
+use Rattle.core_state.specs.States.{nodes_of}
+use Rattle.core_state.specs.Needs as core
+use Rattle.core_paging.specs.Paging.{Residence}
+use Rattle.row_words.specs.declared.event.Event.{Event}
+use Rattle.row_words.specs.declared.event.Event.TheVariants.{Lock, Unlock, Change, PutBack, Split, Lift, Load}
+use Rattle.row_words.specs.Moments.{event_of, actor_of}
+use Rattle.row_words.specs.Openings.{opening}
+use Rattle.rows_trait.specs.declared.view.View.{View}
+use Rattle.rows_trait.specs.Views.{Shape, after_all, state, may}
+use Rattle.rows_trait.specs.Turns.{Leaves, MayPublish}
+
+-- its need and what it makes of its rows hang on these rows, on its worker and on the locks that the worker holds; a load's on
+-- where pages are, which the pager alone changes
+abbrev pub is_steady : Event → Bool
+is_steady (Lock w i mode) = true
+is_steady (Unlock w i) = true
+is_steady (Change w p k x) = true
+is_steady (PutBack w p) = true
+is_steady (Split w l r q i) = true
+is_steady (Lift w c) = true
+is_steady (Load p f) = true
+is_steady _ = false
+
+-- at every moment that can come the pages are a tree, and places are in order
+pub record InOrder (v : View) (es : List Event) : Type 0 where
+  pub tree : IsTree (opening v.given).format (nodes_of (after_all v.given es).core)
+  pub places : Residence (opening v.given) (after_all v.given es).core
+
+-- what the publisher knows at the state that it has seen
+pub record IsReady (z : Shape) (v : View) (row : ℕ) (e : Event) : Type 0 where
+  pub actor : may z.alone v (actor_of e) ≡ true
+  pub order : (es : List Event) → InOrder v es
+  pub met : core.may (opening v.given) (state v).core (event_of e) ≡ true
+  pub leaves : Leaves z row e v (state v)
+
+-- who knows this may publish the event
+abbrev pub EveryReady : Type 0
+EveryReady = (z : Shape) (v : View) (row : ℕ) (e : Event) → is_steady e ≡ true → IsReady z v row e → MayPublish z row e v
