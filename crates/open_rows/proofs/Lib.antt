@@ -1,0 +1,5 @@
+mod Links
+mod Tiles
+mod Loads
+mod Openings
+mod Shows

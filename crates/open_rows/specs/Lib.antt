@@ -1,0 +1,3 @@
+-- Read Opened. Inside has the words of private functions.
+pub mod Opened
+pub mod Inside
