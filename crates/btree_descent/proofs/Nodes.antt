@@ -1,10 +1,10 @@
 -- What words that a row shows say of the page that stands in it.
-use Rattle.std.proofs.Common.{◌≡◌, ◌≢◌, ◌==◌, ◌&&◌, not, ltb, leb, ◌<◌, ◌≤◌, ◌+◌, ◌-◌, ◌/◌, ◌%◌, ◌^◌, ℕ, zero, suc, Bool, true, false, List, [], ◌∷◌, ◌++◌, append_assoc, append-nil, Option, Some, None, length, refl, sym, ap, subst, ◌∙◌, true≢false, arith}
-use Rattle.std.specs.Prelude.{slice_index, if◌then◌else◌}
-use Rattle.std.proofs.lemmas.Bool.{cond-true, cond-false, lt-ltb, le-leb, le-ltb, eq-eqb}
+use Rattle.std.proofs.Common.{◌≡◌, ◌≢◌, ◌==◌, not, ltb, ◌<◌, ◌≤◌, ◌+◌, ◌-◌, ◌/◌, ◌%◌, ◌^◌, ℕ, suc, Bool, true, false, List, [], ◌∷◌, ◌++◌, append_assoc, append-nil, Option, Some, None, length, refl, sym, ap, subst, ◌∙◌, true≢false, arith}
+use Rattle.std.specs.Prelude.{if◌then◌else◌}
+use Rattle.std.proofs.lemmas.Bool.{lt-ltb, le-leb, eq-eqb}
 use Rattle.std.proofs.lemmas.Bool.Decides.{nat_tests}
-use Rattle.page_model.specs.Pairs.{Pair, Rising, find, route, first_key}
-use Rattle.page_model.specs.Nodes.{Format, Node, NodeOk, WellFormed}
+use Rattle.page_model.specs.Pairs.{Pair, find, route, first_key}
+use Rattle.page_model.specs.Nodes.{Format, Node, NodeOk, WellFormed, holds}
 use Rattle.page_model.specs.Needs.{key_at}
 use Rattle.page_model.specs.Page as stored
 use Rattle.page_model.specs.Tree.{value_of}
@@ -12,7 +12,6 @@ use Rattle.page_model.proofs.Laws.{every_tree}
 use Rattle.btree_node.specs.Words.{words_of, Fits}
 use Rattle.btree_node.proofs.SpellingLemmas.{page_of-words_of, spells-count}
 use Rattle.btree_node.proofs.PlaceLemmas.{rising-ordered}
-use Rattle.core_state.specs.Lists.{all_below}
 use Rattle.core_state.specs.Openings.{Opening}
 use Rattle.core_state.specs.States.{Place, State, is_hot, is_cooling, in_frame, nodes_of}
 use Rattle.core_state.specs.Needs.{is_empty_frame}
@@ -24,18 +23,17 @@ use Rattle.row_words.specs.Words.{swip, swips, is_inner, framed, framed_page, Sh
 use Rattle.rows_trait.specs.declared.view.Act.{Act}
 use Rattle.row_words.specs.declared.event.Event.{Event}
 use Rattle.row_words.proofs.SealedLemmas.{run_append, hot_kept}
+use Rattle.row_words.proofs.Frames.{hot_place, hot_swip, cold_swip, one_word, framed_live, framed_level, framed_low, framed_high, framed_leaf, framed_inner, swips_length, swips_rising, swips_first, swips_routed}
+use Rattle.row_words.proofs.Stays.{cases, some_below}
 use Rattle.rows_trait.specs.declared.view.View.{View}
 use Rattle.rows_trait.specs.Views.{Knows, Since, after_all, state, AreStill, IsStill}
 use Rattle.rows_trait.specs.Causes.{OnlyLoads}
 use Rattle.rows_trait.specs.Turns.{Ran}
 use Rattle.rows_trait.proofs.EventLemmas.{still_rest}
 use Rattle.rows_trait.proofs.Causes.{since_after}
+use Rattle.btree_descent.specs.declared.descent.Head.{Head}
 use Rattle.btree_descent.specs.Inside.{Agrees, IsSeen, mark, IsHead, IsNode, OnWay, Follows}
 use Rattle.btree_descent.specs.Known.{Sound, said, Says, IsCold}
-
-pub cases : {P : Type 0} (b : Bool) → (b ≡ true → P) → (b ≡ false → P) → P
-cases true f g = f refl
-cases false f g = g refl
 
 -- a frame row shows a frame
 pub shown_frame : (v : Given) (m : Moment) (row i x : ℕ) → row < (opening v).frames → Shown v m row i x → ShowsFrame (opening v) m.core row i x
@@ -43,12 +41,6 @@ unfolding Shown
 shown_frame v m row i x lt s = s.frame (lt-ltb row (opening v).frames lt)
 
 -- ## Pages in frames
-
-some_below : (n : ℕ) (P : ℕ → Bool) → all_below n (λ p. not (P p)) ≡ false → (p : ℕ) × (p < n) × (P p ≡ true)
-some_below zero P h = absurd (true≢false h)
-some_below (suc n) P h = cases (P n)
-    (λ y. (n, omega arith, y))
-    (λ z. let r = some_below n P (sym (rw z refl) ∙ h) in (r.0, (let a = r.1 in omega arith), r.2))
 
 hot_of : (x : Place) (f : ℕ) → in_frame x f ≡ true → (is_cooling x ≡ true → ⊥) → is_hot x ≡ true
 hot_of (Place.Hot f) i h c = refl
@@ -59,86 +51,15 @@ hot_of Place.Cold i h c = absurd (true≢false (sym h))
 pub stands : (g : Opening) (s : State) (f x : ℕ) → ShowsFrame g s f 126 x → x ≢ mark → (p : ℕ) × (p < g.format.pages) × (in_frame (s.place p) f ≡ true) × (is_hot (s.place p) ≡ true)
 stands g s f x shows ne = cases (is_empty_frame g s f)
     (λ y. absurd (ne (shows.empty refl y)))
-    (λ n. let r = some_below g.format.pages (λ p. in_frame (s.place p) f) n in
+    (λ n. let r = some_below g.format.pages (λ p. in_frame (s.place p) f) (ap not n) in
     (r.0, r.1, r.2, hot_of (s.place r.0) f r.2 (λ c. ne ((shows.page r.0 r.1 r.2).marked refl c))))
 
--- the generation's word aside, words don't hang on it
-one_word : (s : State) (p a b i : ℕ) → i ≢ 2 → slice_index (words_of (framed_page s p a)) i ≡ slice_index (words_of (framed_page s p b)) i
-one_word s p a b zero ne = refl
-one_word s p a b (suc zero) ne = refl
-one_word s p a b (suc (suc zero)) ne = absurd (ne refl)
-one_word s p a b (suc (suc (suc i))) ne = refl
-
 -- all that was loaded of a row agrees with the page that stands there
-pub agreeing : (g : Opening) (s : State) (row version p : ℕ) (acts : List Act) → ((i x : ℕ) → Knows row version i x acts → ShowsFrame g s row i x) → p < g.format.pages → in_frame (s.place p) row ≡ true
+pub agreeing : (g : Opening) (s : State) (row version p : ℕ) (acts : List Act) → ((i x : ℕ) → i < 128 → Knows row version i x acts → ShowsFrame g s row i x) → p < g.format.pages → in_frame (s.place p) row ≡ true
     → Agrees row version (framed_page s p 0) acts
-agreeing g s row version p acts shown lt i j x l ne kn = let w = ((shown j x kn).page p lt i).page l in w.1 ∙ one_word s p w.0 0 j ne
+agreeing g s row version p acts shown lt i j x l ne kn = let w = ((shown j x (omega arith) kn).page p lt i).page l in w.1 ∙ one_word s p w.0 0 j ne
 
--- ## Nodes in frames
-
-framed_live : (place : ℕ → Place) (v : Node) → (framed place v).live ≡ v.live
-framed_live place v = go (is_inner v)
-  where
-    go : (b : Bool) → (if b then (record v { pairs = swips place v.pairs }) else v).live ≡ v.live
-    go true = refl
-    go false = refl
-
-framed_level : (place : ℕ → Place) (v : Node) → (framed place v).level ≡ v.level
-framed_level place v = go (is_inner v)
-  where
-    go : (b : Bool) → (if b then (record v { pairs = swips place v.pairs }) else v).level ≡ v.level
-    go true = refl
-    go false = refl
-
-framed_low : (place : ℕ → Place) (v : Node) → (framed place v).low ≡ v.low
-framed_low place v = go (is_inner v)
-  where
-    go : (b : Bool) → (if b then (record v { pairs = swips place v.pairs }) else v).low ≡ v.low
-    go true = refl
-    go false = refl
-
-framed_high : (place : ℕ → Place) (v : Node) → (framed place v).high ≡ v.high
-framed_high place v = go (is_inner v)
-  where
-    go : (b : Bool) → (if b then (record v { pairs = swips place v.pairs }) else v).high ≡ v.high
-    go true = refl
-    go false = refl
-
-framed_leaf : (place : ℕ → Place) (v : Node) → v.level ≡ 0 → framed place v ≡ v
-framed_leaf place v z = let f : is_inner v ≡ false = no_inner v.live in cond-false (is_inner v) (record v { pairs = swips place v.pairs }) v f
-  where
-    no_inner : (b : Bool) → (b && ltb 0 v.level) ≡ false
-    no_inner true = le-ltb 0 v.level (omega arith)
-    no_inner false = refl
-
-framed_inner : (place : ℕ → Place) (v : Node) → v.live ≡ true → 0 < v.level → framed place v ≡ record v { pairs = swips place v.pairs }
-framed_inner place v l up = cond-true (is_inner v) (record v { pairs = swips place v.pairs }) v (rw (l, lt-ltb 0 v.level up) refl)
-
-swips_length : (place : ℕ → Place) (xs : List Pair) → length (swips place xs) ≡ length xs
-swips_length place [] = refl
-swips_length place (x ∷ xs) = let e = swips_length place xs in omega arith
-
-swips_rising : (place : ℕ → Place) (low : ℕ) (xs : List Pair) (high : ℕ) → Rising low xs high → Rising low (swips place xs) high
-swips_rising place low [] high r = r
-swips_rising place low (x ∷ xs) high r = (r.0, swips_rising place (suc x.key) xs high r.1)
-
-swips_first : (place : ℕ → Place) (xs : List Pair) → key_at 0 (swips place xs) ≡ key_at 0 xs
-swips_first place [] = refl
-swips_first place (x ∷ xs) = refl
-
-swips_route : (place : ℕ → Place) (xs : List Pair) (k w : ℕ) → route (swips place xs) k (swip (place w) w) ≡ swip (place (route xs k w)) (route xs k w)
-swips_route place [] k w = refl
-swips_route place (x ∷ xs) k w = go (leb x.key k) (swips_route place xs k x.word)
-  where
-    go : (b : Bool) → route (swips place xs) k (swip (place x.word) x.word) ≡ swip (place (route xs k x.word)) (route xs k x.word)
-        → (if b then route (swips place xs) k (swip (place x.word) x.word) else swip (place w) w) ≡ swip (place (if b then route xs k x.word else w)) (if b then route xs k x.word else w)
-    go true ih = ih
-    go false ih = refl
-
--- where a key is above the first one, the word before it doesn't matter
-swips_routed : (place : ℕ → Place) (xs : List Pair) (k : ℕ) → 0 < length xs → key_at 0 xs ≤ k → route (swips place xs) k 0 ≡ swip (place (route xs k 0)) (route xs k 0)
-swips_routed place [] k some le = absurd (omega arith)
-swips_routed place (x ∷ xs) k some le = rw (le-leb x.key k le) (swips_route place xs k x.word)
+-- ## The page in a frame
 
 -- a page in a frame can be spelled
 pub fits : (v : Given) (m : Moment) (p : ℕ) → Sound v m → p < (opening v).format.pages → Fits (framed_page m.core p 0)
@@ -162,95 +83,115 @@ fits v m p sound lt = go (m.core.page p).node.live refl
 -- ## The head's words
 
 -- what the words of a page's head are
-pub record Heads (p k l h : ℕ) (page : stored.Page) : Type 0 where
-  pub number : p ≡ page.number
-  pub count : k % 256 ≡ length page.node.pairs
-  pub level : k / 256 % 256 ≡ page.node.level
-  pub live : (k / 16777216 == 1) ≡ page.node.live
-  pub low : l ≡ page.node.low
-  pub high : h ≡ page.node.high
+pub record Heads (h : Head) (page : stored.Page) : Type 0 where
+  pub number : h.page ≡ page.number
+  pub count : h.packed % 256 ≡ length page.node.pairs
+  pub level : h.packed / 256 % 256 ≡ page.node.level
+  pub live : (h.packed / 16777216 == 1) ≡ page.node.live
+  pub low : h.low ≡ page.node.low
+  pub high : h.high ≡ page.node.high
+  pub log : h.packed / 65536 % 256 ≡ page.last_log
 
-pub heads : (row version p k l h m : ℕ) (acts : List Act) (page : stored.Page) → IsHead row version p k l h m acts → Fits page → Agrees row version page acts → Heads p k l h page
-heads row version p k l h m acts page head f agrees =
-    let packed = agrees 3 k (omega arith) (λ z. omega arith) head.packed in
+pub heads : (row version : ℕ) (h : Head) (acts : List Act) (page : stored.Page) → IsHead row version h acts → Fits page → Agrees row version page acts → Heads h page
+heads row version h acts page head f agrees =
+    let packed = agrees 3 h.packed (omega arith) (λ z. omega arith) head.packed in
     let same = page_of-words_of page f in record {
-      number = agrees 0 p (omega arith) (λ z. omega arith) head.page;
+      number = agrees 0 h.page (omega arith) (λ z. omega arith) head.page;
       count = ap (λ z. z % 256) packed ∙ spells-count (words_of page) page (record { spelled = refl; fits = f });
       level = ap (λ z. z / 256 % 256) packed ∙ ap (λ (q : stored.Page). q.node.level) same;
       live = ap (λ z. z / 16777216 == 1) packed ∙ ap (λ (q : stored.Page). q.node.live) same;
-      low = agrees 4 l (omega arith) (λ z. omega arith) head.low;
-      high = agrees 5 h (omega arith) (λ z. omega arith) head.high;
+      low = agrees 4 h.low (omega arith) (λ z. omega arith) head.low;
+      high = agrees 5 h.high (omega arith) (λ z. omega arith) head.high;
+      log = ap (λ z. z / 65536 % 256) packed ∙ ap (λ (q : stored.Page). q.last_log) same;
     }
 
 said_value : (f : Format) (a : Option ℕ) → f.dead ≡ 2 ^ 63 → said a ≡ value_of f a
 said_value f None e = refl
 said_value f (Some w) e = ap (λ d. if ltb w d then Some w else None) (sym e)
 
--- The leaf that stands in a row says this of the key.
-pub leaf_says : (v : Given) (m : Moment) (row version key p k l h mk : ℕ) (a : Option ℕ) (acts : List Act) → row < (opening v).frames → Sound v m
-    → ((i x : ℕ) → Knows row version i x acts → Shown v m row i x)
-    → IsHead row version p k l h mk acts → IsNode key p k l h mk → k / 256 % 256 ≡ 0
-    → ((page : stored.Page) → IsSeen row version (k % 256) acts page → a ≡ find key page.node.pairs)
-    → Says v m p key (said a)
-leaf_says v m row version key p k l h mk a acts lt sound shown head node zero_level entry =
+-- the leaf p stands hot in a row, with the key in its fences, and agrees with the words that were loaded
+pub record IsLeafIn (v : Given) (m : Moment) (row version key : ℕ) (h : Head) (acts : List Act) : Type 0 where
+  pub below : h.page < (opening v).format.pages
+  pub hot : m.core.place h.page ≡ Place.Hot row
+  pub live : (m.core.page h.page).node.live ≡ true
+  pub level : (m.core.page h.page).node.level ≡ 0
+  pub leaf : holds (m.core.page h.page).node key ≡ true
+  pub fits : Fits (framed_page m.core h.page 0)
+  pub seen : IsSeen row version (h.packed % 256) acts (framed_page m.core h.page 0)
+  pub log : h.packed / 65536 % 256 ≡ (m.core.page h.page).last
+  pub bare : framed m.core.place (m.core.page h.page).node ≡ (m.core.page h.page).node
+
+hot_frame : (x : Place) (f : ℕ) → in_frame x f ≡ true → is_hot x ≡ true → x ≡ Place.Hot f
+hot_frame (Place.Hot f) i h t = ap (λ z. Place.Hot z) (let e : (f == i) ≡ true = h in grind (arith, nat_tests))
+hot_frame (Place.Cooling f e v) i h t = absurd (true≢false (sym t))
+hot_frame Place.Cold i h t = absurd (true≢false (sym t))
+
+pub leaf_in : (v : Given) (m : Moment) (row version key : ℕ) (h : Head) (acts : List Act) → row < (opening v).frames → Sound v m
+    → ((i x : ℕ) → i < 128 → Knows row version i x acts → Shown v m row i x)
+    → IsHead row version h acts → IsNode key h → h.packed / 256 % 256 ≡ 0 → IsLeafIn v m row version key h acts
+leaf_in v m row version key h acts lt sound shown head node zero_level =
     let g = opening v in
     let s = m.core in
-    let frame = λ (i x : ℕ) (kn : Knows row version i x acts). shown_frame v m row i x lt (shown i x kn) in
-    let it = stands g s row mk (frame 126 mk head.hint) node.hot in
+    let frame = λ (i x : ℕ) (small : i < 128) (kn : Knows row version i x acts). shown_frame v m row i x lt (shown i x small kn) in
+    let it = stands g s row h.hint (frame 126 h.hint (omega arith) head.hint) node.hot in
     let page = framed_page s it.0 0 in
     let f = fits v m it.0 sound it.1 in
     let agrees = agreeing g s row version it.0 acts frame it.1 it.2 in
-    let w = heads row version p k l h mk acts page head f agrees in
+    let w = heads row version h acts page head f agrees in
     let level : (s.page it.0).node.level ≡ 0 = sym (framed_level s.place (s.page it.0).node) ∙ (sym w.level ∙ zero_level) in
-    let live : (s.page it.0).node.live ≡ true = sym (framed_live s.place (s.page it.0).node) ∙ (sym w.live ∙ eq-eqb (k / 16777216) 1 node.live) in
-    let low : l ≡ (s.page it.0).node.low = w.low ∙ framed_low s.place (s.page it.0).node in
-    let high : h ≡ (s.page it.0).node.high = w.high ∙ framed_high s.place (s.page it.0).node in
+    let live : (s.page it.0).node.live ≡ true = sym (framed_live s.place (s.page it.0).node) ∙ (sym w.live ∙ eq-eqb (h.packed / 16777216) 1 node.live) in
+    let low : h.low ≡ (s.page it.0).node.low = w.low ∙ framed_low s.place (s.page it.0).node in
+    let high : h.high ≡ (s.page it.0).node.high = w.high ∙ framed_high s.place (s.page it.0).node in
     let above : (s.page it.0).node.low ≤ key = (let n = node.above in omega arith) in
     let under : key < (s.page it.0).node.high = (let n = node.under in omega arith) in
-    let value : a ≡ find key (s.page it.0).node.pairs = entry page (record { fits = f; agrees = agrees; size = sym w.count }) ∙ ap (λ (n : Node). find key n.pairs) (framed_leaf s.place (s.page it.0).node level) in
-    subst (λ q. Says v m q key (said a)) (sym w.number) (record {
-      below = it.1;
-      hot = it.3;
-      leaf = rw (live, eq-eqb (s.page it.0).node.level 0 level, le-leb (s.page it.0).node.low key above, lt-ltb key (s.page it.0).node.high under) refl;
-      value = ap said value ∙ said_value g.format (find key (s.page it.0).node.pairs) refl;
-    })
+    there it.0 (sym w.number) it.1 (hot_frame (s.place it.0) row it.2 it.3) live level
+    (rw (live, eq-eqb (s.page it.0).node.level 0 level, le-leb (s.page it.0).node.low key above, lt-ltb key (s.page it.0).node.high under) refl)
+    f (record { fits = f; agrees = agrees; size = sym w.count }) w.log (framed_leaf s.place (s.page it.0).node level)
+  where
+    there : (q : ℕ) → q ≡ h.page → q < (opening v).format.pages → m.core.place q ≡ Place.Hot row → (m.core.page q).node.live ≡ true → (m.core.page q).node.level ≡ 0 → holds (m.core.page q).node key ≡ true
+        → Fits (framed_page m.core q 0) → IsSeen row version (h.packed % 256) acts (framed_page m.core q 0) → h.packed / 65536 % 256 ≡ (m.core.page q).last
+        → framed m.core.place (m.core.page q).node ≡ (m.core.page q).node → IsLeafIn v m row version key h acts
+    there q e below hot live level leaf f seen log bare =
+        let P : ℕ → Type 0 = λ p. (p < (opening v).format.pages) × (m.core.place p ≡ Place.Hot row) × ((m.core.page p).node.live ≡ true) × ((m.core.page p).node.level ≡ 0) × (holds (m.core.page p).node key ≡ true)
+        × Fits (framed_page m.core p 0) × IsSeen row version (h.packed % 256) acts (framed_page m.core p 0) × (h.packed / 65536 % 256 ≡ (m.core.page p).last) × (framed m.core.place (m.core.page p).node ≡ (m.core.page p).node) in
+        let t = subst P e (below, hot, live, level, leaf, f, seen, log, bare) in
+        record { below = t.0; hot = t.1; live = t.2; level = t.3; leaf = t.4; fits = t.5; seen = t.6; log = t.7; bare = t.8 }
+
+-- it says this of the key
+pub leaf_says : (v : Given) (m : Moment) (row version key : ℕ) (h : Head) (a : Option ℕ) (acts : List Act) → IsLeafIn v m row version key h acts
+    → ((page : stored.Page) → IsSeen row version (h.packed % 256) acts page → a ≡ find key page.node.pairs)
+    → Says v m h.page key (said a)
+leaf_says v m row version key h a acts l entry =
+    let value : a ≡ find key (m.core.page h.page).node.pairs = entry (framed_page m.core h.page 0) l.seen ∙ ap (λ (n : Node). find key n.pairs) l.bare in record {
+      below = l.below;
+      hot = ap is_hot l.hot;
+      leaf = l.leaf;
+      value = ap said value ∙ said_value (opening v).format (find key (m.core.page h.page).node.pairs) refl;
+    }
 
 -- ## The way, where nobody else steps
 
-one_place : (x : Place) (f : ℕ) → x ≡ Place.Hot f → in_frame x f ≡ true
-one_place x f e = ap (λ z. in_frame z f) e ∙ (let t : (f == f) ≡ true = grind (arith, nat_tests) in t)
-
 -- the page on the way, as the words say it
-pub way_heads : (v : Given) (m : Moment) (row version key far p k l h mk : ℕ) (acts : List Act) → row < (opening v).frames → Sound v m → (way : OnWay v m row key far)
-    → ((i x : ℕ) → Knows row version i x acts → Shown v m row i x) → IsHead row version p k l h mk acts → Heads p k l h (framed_page m.core way.page 0)
-way_heads v m row version key far p k l h mk acts lt sound way shown head =
-    heads row version p k l h mk acts (framed_page m.core way.page 0) head (fits v m way.page sound way.below)
-    (agreeing (opening v) m.core row version way.page acts (λ i x kn. shown_frame v m row i x lt (shown i x kn)) way.below (one_place (m.core.place way.page) row way.hot))
+pub way_heads : (v : Given) (m : Moment) (row version key far : ℕ) (h : Head) (acts : List Act) → row < (opening v).frames → Sound v m → (way : OnWay v m row key far)
+    → ((i x : ℕ) → Knows row version i x acts → Shown v m row i x) → IsHead row version h acts → Heads h (framed_page m.core way.page 0)
+way_heads v m row version key far h acts lt sound way shown head =
+    heads row version h acts (framed_page m.core way.page 0) head (fits v m way.page sound way.below)
+    (agreeing (opening v) m.core row version way.page acts (λ i x small kn. shown_frame v m row i x lt (shown i x kn)) way.below (hot_place (m.core.place way.page) row way.hot))
 
-pub way_node : (v : Given) (m : Moment) (row version key far p k l h mk : ℕ) (acts : List Act) → row < (opening v).frames → Sound v m → OnWay v m row key far
-    → ((i x : ℕ) → Knows row version i x acts → Shown v m row i x) → IsHead row version p k l h mk acts → IsNode key p k l h mk
-way_node v m row version key far p k l h mk acts lt sound way shown head =
-    let w = way_heads v m row version key far p k l h mk acts lt sound way shown head in
+pub way_node : (v : Given) (m : Moment) (row version key far : ℕ) (h : Head) (acts : List Act) → row < (opening v).frames → Sound v m → OnWay v m row key far
+    → ((i x : ℕ) → Knows row version i x acts → Shown v m row i x) → IsHead row version h acts → IsNode key h
+way_node v m row version key far h acts lt sound way shown head =
+    let w = way_heads v m row version key far h acts lt sound way shown head in
     let f = fits v m way.page sound way.below in
     let n = (m.core.page way.page).node in
-    let shows = (shown_frame v m row 126 mk lt (shown 126 mk head.hint)).page way.page way.below (one_place (m.core.place way.page) row way.hot) in record {
+    let shows = (shown_frame v m row 126 h.hint lt (shown 126 h.hint head.hint)).page way.page way.below (hot_place (m.core.place way.page) row way.hot) in record {
       room = (let r = f.room in let e = w.count in omega arith);
       hot = shows.hint refl (ap is_cooling way.hot);
-      live = (let t : (k / 16777216 == 1) ≡ true = w.live ∙ (framed_live m.core.place n ∙ way.live) in grind (arith, nat_tests));
+      live = (let t : (h.packed / 16777216 == 1) ≡ true = w.live ∙ (framed_live m.core.place n ∙ way.live) in grind (arith, nat_tests));
       above = (let e = w.low ∙ framed_low m.core.place n in let a = way.above in omega arith);
       under = (let e = w.high ∙ framed_high m.core.place n in let a = way.under in omega arith);
       small = (let e = w.number in let a = way.below in let b = sound.few in omega arith);
     }
-
-hot_swip : (x : Place) (c : ℕ) → c < 2 ^ 63 → 2 ^ 63 ≤ swip x c → (f : ℕ) × (x ≡ Place.Hot f) × (swip x c ≡ 2 ^ 63 + f)
-hot_swip (Place.Hot f) c lt up = (f, refl, refl)
-hot_swip (Place.Cooling f e v) c lt up = absurd (omega arith)
-hot_swip Place.Cold c lt up = absurd (omega arith)
-
-cold_swip : (x : Place) (c : ℕ) → swip x c < 2 ^ 63 → (is_hot x ≡ false) × (swip x c ≡ c)
-cold_swip (Place.Hot f) c lt = absurd (omega arith)
-cold_swip (Place.Cooling f e v) c lt = (refl, refl)
-cold_swip Place.Cold c lt = (refl, refl)
 
 -- the page to which a page leads with the key, and the word that names it
 pub record IsChild (v : Given) (m : Moment) (page key x : ℕ) : Type 0 where
@@ -263,20 +204,20 @@ pub record IsChild (v : Given) (m : Moment) (page key x : ℕ) : Type 0 where
   pub under : key < (m.core.page child).node.high
   pub level : suc (m.core.page child).node.level ≡ (m.core.page page).node.level
 
-module _ (v : Given) (m : Moment) (row version key far p k l h mk x : ℕ) (acts : List Act) (lt : row < (opening v).frames) (sound : Sound v m) (way : OnWay v m row key far)
-    (shown : (i x : ℕ) → Knows row version i x acts → Shown v m row i x) (head : IsHead row version p k l h mk acts) (up_level : 0 < k / 256 % 256)
-    (routed : (page : stored.Page) → IsSeen row version (k % 256) acts page → 0 < length page.node.pairs → key_at 0 page.node.pairs ≤ key → x ≡ route page.node.pairs key 0) where
+module _ (v : Given) (m : Moment) (row version key far : ℕ) (h : Head) (x : ℕ) (acts : List Act) (lt : row < (opening v).frames) (sound : Sound v m) (way : OnWay v m row key far)
+    (shown : (i x : ℕ) → Knows row version i x acts → Shown v m row i x) (head : IsHead row version h acts) (up_level : 0 < h.packed / 256 % 256)
+    (routed : (page : stored.Page) → IsSeen row version (h.packed % 256) acts page → 0 < length page.node.pairs → key_at 0 page.node.pairs ≤ key → x ≡ route page.node.pairs key 0) where
   up_page : 0 < (m.core.page way.page).node.level
-  up_page = let w = way_heads v m row version key far p k l h mk acts lt sound way shown head in let e = w.level ∙ framed_level m.core.place (m.core.page way.page).node in omega arith
+  up_page = let w = way_heads v m row version key far h acts lt sound way shown head in let e = w.level ∙ framed_level m.core.place (m.core.page way.page).node in omega arith
 
   way_child : IsChild v m way.page key x
   way_child =
       let g = opening v in
       let s = m.core in
       let n = (s.page way.page).node in
-      let w = way_heads v m row version key far p k l h mk acts lt sound way shown head in
+      let w = way_heads v m row version key far h acts lt sound way shown head in
       let fit = fits v m way.page sound way.below in
-      let agrees = agreeing g s row version way.page acts (λ i x kn. shown_frame v m row i x lt (shown i x kn)) way.below (one_place (s.place way.page) row way.hot) in
+      let agrees = agreeing g s row version way.page acts (λ i x small kn. shown_frame v m row i x lt (shown i x kn)) way.below (hot_place (s.place way.page) row way.hot) in
       let up : 0 < n.level = up_page in
       let node_is = framed_inner s.place n way.live up in
       let ok = (sound.tree.formed way.page way.below).node way.live in
@@ -314,7 +255,7 @@ module _ (v : Given) (m : Moment) (row version key far p k l h mk x : ℕ) (acts
       let s = m.core in
       let c = way_child in
       let hot = hot_swip (s.place c.child) c.child (let a = c.below in let b = sound.few in omega arith) (let e = c.word in omega arith) in
-      let inside = sound.residence.within c.child hot.0 (one_place (s.place c.child) hot.0 hot.1) in (
+      let inside = sound.residence.within c.child hot.0 (hot_place (s.place c.child) hot.0 hot.1) in (
         hot.0,
         c.word ∙ hot.2,
         inside.1,

@@ -1,20 +1,21 @@
-//! The way to a key's leaf, node by node.
-ghost use Rattle.std.specs.Prelude.{◌≡◌, ◌≢◌, ◌<◌, ◌≤◌, ◌%◌, ◌/◌, ◌^◌, ◌-◌, ℕ, true, false, [], ◌∷◌, Some, IfOk, IfErr};
+//! The way to a key's leaf, node by node, and the search that ends there.
+ghost use Rattle.std.specs.Prelude.{◌≡◌, ◌<◌, ◌≤◌, ◌%◌, ◌/◌, ◌^◌, ◌-◌, ℕ, true, false, [], Some, IfOk, IfErr};
 ghost use Rattle.page_model.specs.Page as stored;
 ghost use Rattle.rows_trait.specs.Layout.{rows_of, width};
 ghost use Rattle.row_words.specs.Sealed.{Shown};
 ghost use Rattle.row_words.specs.Moments.{Moment};
 ghost use Rattle.rows_trait.specs.declared.view.View.{View};
-ghost use Rattle.rows_trait.specs.Views.{IsEven, Has, Since, IsStill, Knows, latest, may, state};
+ghost use Rattle.rows_trait.specs.Views.{Has, Knows, latest, may};
 ghost use Rattle.rows_trait.specs.Causes.{HasFound};
-ghost use Rattle.rows_trait.specs.Turns.{Ran};
-ghost use Rattle.btree_descent.specs.Inside.{Kept, IsHead, IsNode, IsSeen, OnWay, Follows, Down, Missed, GoesDown, Nears, Settles, Causes};
+ghost use Rattle.version_latch.specs.Kept.{Kept};
+ghost use Rattle.btree_descent.specs.Inside.{IsHead, IsNode, OnWay, IsOn, AtLeaf, IsAgain, answer_of, IsStopped, IsBeside, IsDown, Steps, Reached, FellShort};
 ghost use Rattle.btree_descent.specs.Known.{IsSound, Sound, IsCold, said};
 ghost use Rattle.btree_descent.specs.Descents.{Sized, Went, IsSettled, Caused};
 
-use crate::events::{Checks, Misses, Reads};
+use crate::events::Reads;
 use crate::node::{entry, route};
 use rows_trait::rows::Rows;
+use version_latch::events::{Checks, Misses};
 use version_latch::{Glimpse, Latched, Moved};
 
 /// The hint of a frame row in which no hot page stands: the page there is cooling, or the frame is empty.
@@ -36,11 +37,20 @@ pub enum Answer {
     Latched(Latched),
 }
 
+// Why a descent ended short of the leaf: as an answer has it.
+#[derive(Clone, Copy)]
+pub(crate) enum Stop {
+    Cold(u64),
+    Moved(Moved),
+    Latched(Latched),
+}
+
 // What one node leads to.
 #[derive(Clone, Copy)]
 pub(crate) enum Step {
     Child(Glimpse),
-    End(Answer),
+    Leaf(Head),
+    End(Stop),
 }
 
 // The words of a node's head.
@@ -53,13 +63,21 @@ pub(crate) struct Head {
     pub hint: u64,
 }
 
+// The key's leaf, as it was looked at.
+#[derive(Clone, Copy)]
+pub(crate) struct Leaf {
+    pub glimpse: Glimpse,
+    pub head: Head,
+}
+
+#[inline(always)]
 fn load_head<R: Rows>(rows: &mut R, seat: &mut R::Seat, glimpse: &Glimpse) -> Head
     requires fits { R.fits rows.old seat.old }
     requires row { (glimpse.now.row < rows_of (R.shape rows.old).sizes) × (width (R.shape rows.old).sizes glimpse.now.row ≡ 128) }
     requires seen { Has glimpse.now.row glimpse.now.version (R.view seat.old).steps }
     ensures fits { R.fits rows.new seat.new × (R.shape rows.new ≡ R.shape rows.old) }
     ensures kept { Kept (R.shape rows.old).alone (R.view seat.old) (R.view seat.new) }
-    ensures head { IsHead glimpse.now.row glimpse.now.version result.page result.packed result.low result.high result.hint (R.view seat.new).steps }
+    ensures head { IsHead glimpse.now.row glimpse.now.version result (R.view seat.new).steps }
 {
     let page = glimpse.word(rows, seat, 0);
     let packed = glimpse.word(rows, seat, 3);
@@ -77,8 +95,8 @@ fn load_head<R: Rows>(rows: &mut R, seat: &mut R::Seat, glimpse: &Glimpse) -> He
 
 // Whether the head is that of a node that may hold the key.
 fn is_node(head: &Head, key: u64) -> bool
-    ensures yes { result ≡ true → IsNode key head.now.page head.now.packed head.now.low head.now.high head.now.hint }
-    ensures no { result ≡ false → IsNode key head.now.page head.now.packed head.now.low head.now.high head.now.hint → ⊥ }
+    ensures yes { result ≡ true → IsNode key head.now }
+    ensures no { result ≡ false → IsNode key head.now → ⊥ }
 {
     head.packed % 256 <= 60
         && head.hint != MARK
@@ -98,45 +116,29 @@ fn said(word: Option<u64>) -> Option<u64>
     }
 }
 
-// The node has the key, and is a leaf.
-fn leaf<R: Rows>(
+// Sees whether the node's row has its version still.
+pub(crate) fn again<R: Rows>(
     rows: &mut R,
     seat: &mut R::Seat,
     glimpse: &Glimpse,
     worker: u32,
     frames: u32,
     key: u64,
-    head: &Head,
-) -> Answer
+) -> Result<(), Moved>
     requires fits { R.fits rows.old seat.old }
-    requires sized { Sized (R.shape rows.old) (R.view seat.old) frames }
-    requires row { glimpse.now.row < frames }
-    requires seen { IsEven glimpse.now.version × Has glimpse.now.row glimpse.now.version (R.view seat.old).steps }
-    requires actor { may (R.shape rows.old).alone (R.view seat.old) worker ≡ true }
-    requires sound { IsSound (R.view seat.old).given }
-    requires head { IsHead glimpse.now.row glimpse.now.version head.now.page head.now.packed head.now.low head.now.high head.now.hint (R.view seat.old).steps }
-    requires node { IsNode key head.now.page head.now.packed head.now.low head.now.high head.now.hint }
-    requires leaf { head.now.packed / 256 % 256 ≡ 0 }
-    ensures fits { R.fits rows.new seat.new × (R.shape rows.new ≡ R.shape rows.old) × ((R.view seat.new).held ≡ (R.view seat.old).held) }
-    ensures went { Went (R.shape rows.old).alone worker key (R.view seat.old) result (R.view seat.new) }
-    ensures cause { (u : View) → HasFound glimpse.now.row glimpse.now.version u (R.view seat.old) → Caused u result (R.view seat.new) }
-    ensures quiet { (R.shape rows.old).alone ≡ true → latest glimpse.now.row (R.view seat.old).steps ≡ Some glimpse.now.version → IsSettled result }
+    requires on { IsOn (R.shape rows.old) (R.view seat.old) worker frames key glimpse.now }
+    ensures fits { R.fits rows.new seat.new × (R.shape rows.new ≡ R.shape rows.old) }
+    ensures ok { IfOk result (λ _. IsAgain (R.shape rows.old) worker key glimpse.now (R.view seat.old) (R.view seat.new)) }
+    ensures err { IfErr result (λ m. IsStopped (R.shape rows.old).alone worker key glimpse.now (R.view seat.old) (Stop.Moved m) (R.view seat.new)) }
 {
-    let word = entry(rows, seat, glimpse, (head.packed % 256) as u32, key);
-    let reads = Reads {
+    let checks = Checks {
         worker,
-        page: head.page as u32,
-        key,
-        answer: said(word),
         version: glimpse.version,
     };
-    match glimpse.check(rows, seat, &reads) {
-        Ok(()) => Answer::Found(word),
-        Err(moved) => Answer::Moved(moved),
-    }
+    glimpse.check(rows, seat, &checks)
 }
 
-// The words are no node with the key.
+// The words are no node with the key: they were torn.
 fn lost<R: Rows>(
     rows: &mut R,
     seat: &mut R::Seat,
@@ -145,36 +147,26 @@ fn lost<R: Rows>(
     frames: u32,
     key: u64,
     head: &Head,
-) -> Answer
+) -> Stop
     requires fits { R.fits rows.old seat.old }
-    requires sized { Sized (R.shape rows.old) (R.view seat.old) frames }
-    requires row { glimpse.now.row < frames }
-    requires seen { IsEven glimpse.now.version × Has glimpse.now.row glimpse.now.version (R.view seat.old).steps }
-    requires actor { may (R.shape rows.old).alone (R.view seat.old) worker ≡ true }
-    requires sound { IsSound (R.view seat.old).given }
-    requires head { IsHead glimpse.now.row glimpse.now.version head.now.page head.now.packed head.now.low head.now.high head.now.hint (R.view seat.old).steps }
-    requires way { (far : ℕ) × Follows (R.view seat.old) glimpse.now.row glimpse.now.version key far }
-    requires node { IsNode key head.now.page head.now.packed head.now.low head.now.high head.now.hint → ⊥ }
-    ensures fits { R.fits rows.new seat.new × (R.shape rows.new ≡ R.shape rows.old) × ((R.view seat.new).held ≡ (R.view seat.old).held) }
-    ensures went { Went (R.shape rows.old).alone worker key (R.view seat.old) result (R.view seat.new) }
-    ensures cause { (u : View) → HasFound glimpse.now.row glimpse.now.version u (R.view seat.old) → Caused u result (R.view seat.new) }
-    ensures quiet { (R.shape rows.old).alone ≡ true → latest glimpse.now.row (R.view seat.old).steps ≡ Some glimpse.now.version → IsSettled result }
+    requires on { IsOn (R.shape rows.old) (R.view seat.old) worker frames key glimpse.now }
+    requires head { IsHead glimpse.now.row glimpse.now.version head.now (R.view seat.old).steps }
+    requires node { IsNode key head.now → ⊥ }
+    ensures fits { R.fits rows.new seat.new × (R.shape rows.new ≡ R.shape rows.old) }
+    ensures stop { IsStopped (R.shape rows.old).alone worker key glimpse.now (R.view seat.old) result (R.view seat.new) }
 {
-    let checks = Checks {
-        worker,
-        version: glimpse.version,
-    };
-    match glimpse.check(rows, seat, &checks) {
+    match again(rows, seat, glimpse, worker, frames, key) {
         Ok(()) => unreachable!(),
-        Err(moved) => Answer::Moved(moved),
+        Err(moved) => Stop::Moved(moved),
     }
 }
 
 /// The bit of a swip that names a frame: the others are the frame's number. Without it the swip is the number of a page.
 pub const FRAME: u64 = 1 << 63;
 
-// The row of a frame's word. Words that count name a frame that is there.
-fn row_of(word: u64, frames: u32) -> u32
+/// The row of a swip that names a frame, 0 where no row is that frame's. A swip of a node that has not moved names a frame that is
+/// there.
+pub fn row_of(word: u64, frames: u32) -> u32
     requires some { 0 < frames }
     requires frame { 2 ^ 63 ≤ word }
     ensures within { result < frames }
@@ -197,27 +189,16 @@ fn cold<R: Rows>(
     frames: u32,
     key: u64,
     page: u64,
-) -> Answer
+) -> Stop
     requires fits { R.fits rows.old seat.old }
-    requires sized { Sized (R.shape rows.old) (R.view seat.old) frames }
-    requires row { glimpse.now.row < frames }
-    requires seen { IsEven glimpse.now.version × Has glimpse.now.row glimpse.now.version (R.view seat.old).steps }
-    requires actor { may (R.shape rows.old).alone (R.view seat.old) worker ≡ true }
-    requires way { (far : ℕ) × Follows (R.view seat.old) glimpse.now.row glimpse.now.version key far }
-    requires sound { IsSound (R.view seat.old).given }
+    requires on { IsOn (R.shape rows.old) (R.view seat.old) worker frames key glimpse.now }
     requires cold { (m : Moment) (far : ℕ) → Sound (R.view seat.old).given m → ((i x : ℕ) → Knows glimpse.now.row glimpse.now.version i x (R.view seat.old).steps → Shown (R.view seat.old).given m glimpse.now.row i x) → OnWay (R.view seat.old).given m glimpse.now.row key far → IsCold (R.view seat.old).given m key page }
-    ensures fits { R.fits rows.new seat.new × (R.shape rows.new ≡ R.shape rows.old) × ((R.view seat.new).held ≡ (R.view seat.old).held) }
-    ensures went { Went (R.shape rows.old).alone worker key (R.view seat.old) result (R.view seat.new) }
-    ensures cause { (u : View) → HasFound glimpse.now.row glimpse.now.version u (R.view seat.old) → Caused u result (R.view seat.new) }
-    ensures quiet { (R.shape rows.old).alone ≡ true → latest glimpse.now.row (R.view seat.old).steps ≡ Some glimpse.now.version → IsSettled result }
+    ensures fits { R.fits rows.new seat.new × (R.shape rows.new ≡ R.shape rows.old) }
+    ensures stop { IsStopped (R.shape rows.old).alone worker key glimpse.now (R.view seat.old) result (R.view seat.new) }
 {
-    let checks = Checks {
-        worker,
-        version: glimpse.version,
-    };
-    match glimpse.check(rows, seat, &checks) {
-        Ok(()) => Answer::Cold(page),
-        Err(moved) => Answer::Moved(moved),
+    match again(rows, seat, glimpse, worker, frames, key) {
+        Ok(()) => Stop::Cold(page),
+        Err(moved) => Stop::Moved(moved),
     }
 }
 
@@ -228,39 +209,30 @@ fn child<R: Rows>(
     glimpse: &Glimpse,
     worker: u32,
     frames: u32,
+    key: u64,
     row: u32,
-) -> Result<Glimpse, Answer>
+) -> Result<Glimpse, Stop>
     requires fits { R.fits rows.old seat.old }
-    requires sized { Sized (R.shape rows.old) (R.view seat.old) frames }
-    requires row { (glimpse.now.row < frames) × (row < frames) }
-    requires seen { IsEven glimpse.now.version }
-    requires actor { may (R.shape rows.old).alone (R.view seat.old) worker ≡ true }
-    ensures fits { R.fits rows.new seat.new × (R.shape rows.new ≡ R.shape rows.old) × ((R.view seat.new).held ≡ (R.view seat.old).held) }
-    ensures ok { IfOk result (λ g. (g.row ≡ row) × Down (R.shape rows.old).alone frames (R.view seat.old) g.row g.version (R.view seat.new)) }
-    ensures valid { IfOk result (λ g. (i x : ℕ) → Knows glimpse.now.row glimpse.now.version i x (R.view seat.old).steps → Shown (R.view seat.new).given (state (R.view seat.new)) glimpse.now.row i x) }
-    ensures still { IfOk result (λ g. (at : _) → Since glimpse.now.row glimpse.now.version at (R.view seat.old).steps → IsStill (R.view seat.new).given glimpse.now.row at (R.view seat.new).seen) }
-    ensures found { IfOk result (λ g. HasFound g.row g.version (R.view seat.old) (R.view seat.new)) }
-    ensures cause { IfErr result (λ a. (u : View) → HasFound glimpse.now.row glimpse.now.version u (R.view seat.old) → Caused u a (R.view seat.new)) }
-    ensures last { IfOk result (λ g. (R.shape rows.old).alone ≡ true → latest g.row (R.view seat.new).steps ≡ Some g.version) }
-    ensures err { IfErr result (λ a. Missed (R.shape rows.old).alone worker (R.view seat.old) a (R.view seat.new)) }
-    ensures quiet { IfErr result (λ a. (R.shape rows.old).alone ≡ true → (R.view seat.old).held ≡ [] → latest glimpse.now.row (R.view seat.old).steps ≡ Some glimpse.now.version → ⊥) }
+    requires on { IsOn (R.shape rows.old) (R.view seat.old) worker frames key glimpse.now }
+    requires row { row < frames }
+    ensures fits { R.fits rows.new seat.new × (R.shape rows.new ≡ R.shape rows.old) }
+    ensures row { IfOk result (λ g. g.row ≡ row) }
+    ensures ok { IfOk result (λ g. IsBeside (R.shape rows.old) frames key glimpse.now (R.view seat.old) g (R.view seat.new)) }
+    ensures err { IfErr result (λ s. IsStopped (R.shape rows.old).alone worker key glimpse.now (R.view seat.old) s (R.view seat.new)) }
 {
     match Glimpse::start(rows, seat, row, &Misses { worker }) {
-        Err(latched) => Err(Answer::Latched(latched)),
+        Err(latched) => Err(Stop::Latched(latched)),
         Ok(found) => {
-            let checks = Checks {
-                worker,
-                version: glimpse.version,
-            };
-            match glimpse.check(rows, seat, &checks) {
+            match again(rows, seat, glimpse, worker, frames, key) {
                 Ok(()) => Ok(found),
-                Err(moved) => Err(Answer::Moved(moved)),
+                Err(moved) => Err(Stop::Moved(moved)),
             }
         }
     }
 }
 
 // An inner node leads to a child.
+#[inline(always)]
 fn inner<R: Rows>(
     rows: &mut R,
     seat: &mut R::Seat,
@@ -271,32 +243,26 @@ fn inner<R: Rows>(
     head: &Head,
 ) -> Step
     requires fits { R.fits rows.old seat.old }
-    requires sized { Sized (R.shape rows.old) (R.view seat.old) frames }
-    requires row { glimpse.now.row < frames }
-    requires seen { IsEven glimpse.now.version × Has glimpse.now.row glimpse.now.version (R.view seat.old).steps }
-    requires actor { may (R.shape rows.old).alone (R.view seat.old) worker ≡ true }
-    requires sound { IsSound (R.view seat.old).given }
-    requires head { IsHead glimpse.now.row glimpse.now.version head.now.page head.now.packed head.now.low head.now.high head.now.hint (R.view seat.old).steps }
+    requires on { IsOn (R.shape rows.old) (R.view seat.old) worker frames key glimpse.now }
+    requires head { IsHead glimpse.now.row glimpse.now.version head.now (R.view seat.old).steps }
     requires room { head.now.packed % 256 ≤ 60 }
     requires inner { 0 < head.now.packed / 256 % 256 }
-    requires way { (far : ℕ) × Follows (R.view seat.old) glimpse.now.row glimpse.now.version key far }
-    ensures fits { R.fits rows.new seat.new × (R.shape rows.new ≡ R.shape rows.old) × ((R.view seat.new).held ≡ (R.view seat.old).held) }
-    ensures goes { GoesDown (R.shape rows.old).alone worker key frames (R.view seat.old) result (R.view seat.new) }
-    ensures down { (far : ℕ) → Follows (R.view seat.old) glimpse.now.row glimpse.now.version key far → Nears key far result (R.view seat.new) }
-    ensures cause { (u : View) → HasFound glimpse.now.row glimpse.now.version u (R.view seat.old) → Causes u result (R.view seat.new) }
-    ensures quiet { (R.shape rows.old).alone ≡ true → (R.view seat.old).held ≡ [] → latest glimpse.now.row (R.view seat.old).steps ≡ Some glimpse.now.version → Settles result (R.view seat.new) }
+    ensures fits { R.fits rows.new seat.new × (R.shape rows.new ≡ R.shape rows.old) }
+    ensures steps { Steps (R.shape rows.old) worker frames key glimpse.now (R.view seat.old) result (R.view seat.new) }
 {
     let word = route(rows, seat, glimpse, (head.packed % 256) as u32, key);
     if word < FRAME {
         return Step::End(cold(rows, seat, glimpse, worker, frames, key, word));
     }
-    match child(rows, seat, glimpse, worker, frames, row_of(word, frames)) {
+    let row = row_of(word, frames);
+    match child(rows, seat, glimpse, worker, frames, key, row) {
         Ok(found) => Step::Child(found),
-        Err(answer) => Step::End(answer),
+        Err(stop) => Step::End(stop),
     }
 }
 
 // One node of the way.
+#[inline(always)]
 fn look_at<R: Rows>(
     rows: &mut R,
     seat: &mut R::Seat,
@@ -306,26 +272,92 @@ fn look_at<R: Rows>(
     key: u64,
 ) -> Step
     requires fits { R.fits rows.old seat.old }
-    requires sized { Sized (R.shape rows.old) (R.view seat.old) frames }
-    requires row { glimpse.now.row < frames }
-    requires seen { IsEven glimpse.now.version × Has glimpse.now.row glimpse.now.version (R.view seat.old).steps }
-    requires actor { may (R.shape rows.old).alone (R.view seat.old) worker ≡ true }
-    requires sound { IsSound (R.view seat.old).given }
-    requires way { (far : ℕ) × Follows (R.view seat.old) glimpse.now.row glimpse.now.version key far }
-    ensures fits { R.fits rows.new seat.new × (R.shape rows.new ≡ R.shape rows.old) × ((R.view seat.new).held ≡ (R.view seat.old).held) }
-    ensures goes { GoesDown (R.shape rows.old).alone worker key frames (R.view seat.old) result (R.view seat.new) }
-    ensures down { (far : ℕ) → Follows (R.view seat.old) glimpse.now.row glimpse.now.version key far → Nears key far result (R.view seat.new) }
-    ensures cause { (u : View) → HasFound glimpse.now.row glimpse.now.version u (R.view seat.old) → Causes u result (R.view seat.new) }
-    ensures quiet { (R.shape rows.old).alone ≡ true → (R.view seat.old).held ≡ [] → latest glimpse.now.row (R.view seat.old).steps ≡ Some glimpse.now.version → Settles result (R.view seat.new) }
+    requires on { IsOn (R.shape rows.old) (R.view seat.old) worker frames key glimpse.now }
+    ensures fits { R.fits rows.new seat.new × (R.shape rows.new ≡ R.shape rows.old) }
+    ensures steps { Steps (R.shape rows.old) worker frames key glimpse.now (R.view seat.old) result (R.view seat.new) }
 {
     let head = load_head(rows, seat, glimpse);
     if !is_node(&head, key) {
         return Step::End(lost(rows, seat, glimpse, worker, frames, key, &head));
     }
     if head.packed / 256 % 256 == 0 {
-        return Step::End(leaf(rows, seat, glimpse, worker, frames, key, &head));
+        return Step::Leaf(head);
     }
     inner(rows, seat, glimpse, worker, frames, key, &head)
+}
+
+// The way from the root to the key's leaf. What was loaded of the leaf is still to be checked.
+#[inline(always)]
+pub(crate) fn way<R: Rows>(
+    rows: &mut R,
+    seat: &mut R::Seat,
+    worker: u32,
+    frames: u32,
+    key: u64,
+) -> Result<Leaf, Stop>
+    requires fits { R.fits rows.old seat.old }
+    requires sized { Sized (R.shape rows.old) (R.view seat.old) frames }
+    requires actor { may (R.shape rows.old).alone (R.view seat.old) worker ≡ true }
+    requires sound { IsSound (R.view seat.old).given }
+    requires key { key < 2 ^ 64 - 1 }
+    ensures fits { R.fits rows.new seat.new × (R.shape rows.new ≡ R.shape rows.old) }
+    ensures leaf { IfOk result (λ l. Reached (R.shape rows.old) worker frames key (R.view seat.old) l.glimpse l.head (R.view seat.new)) }
+    ensures stop { IfErr result (λ s. FellShort (R.shape rows.old).alone worker key (R.view seat.old) s (R.view seat.new)) }
+{
+    let mut glimpse = match Glimpse::start(rows, seat, 0, &Misses { worker }) {
+        Err(latched) => return Err(Stop::Latched(latched)),
+        Ok(found) => found,
+    };
+    for i in 0..8u32 {
+        match look_at(rows, seat, &glimpse, worker, frames, key) {
+            Step::Child(found) => glimpse = found,
+            Step::Leaf(head) => return Ok(Leaf { glimpse, head }),
+            Step::End(stop) => return Err(stop),
+        }
+    }
+    unreachable!()
+}
+
+// What the leaf says of the key.
+fn read<R: Rows>(
+    rows: &mut R,
+    seat: &mut R::Seat,
+    leaf: &Leaf,
+    worker: u32,
+    frames: u32,
+    key: u64,
+) -> Answer
+    requires fits { R.fits rows.old seat.old }
+    requires leaf { AtLeaf (R.shape rows.old) (R.view seat.old) worker frames key leaf.now.glimpse leaf.now.head }
+    ensures fits { R.fits rows.new seat.new × (R.shape rows.new ≡ R.shape rows.old) × ((R.view seat.new).held ≡ (R.view seat.old).held) }
+    ensures went { Went (R.shape rows.old).alone worker key (R.view seat.old) result (R.view seat.new) }
+    ensures cause { (u : View) → HasFound leaf.now.glimpse.row leaf.now.glimpse.version u (R.view seat.old) → Caused u result (R.view seat.new) }
+    ensures quiet { (R.shape rows.old).alone ≡ true → latest leaf.now.glimpse.row (R.view seat.old).steps ≡ Some leaf.now.glimpse.version → IsSettled result }
+{
+    let glimpse = leaf.glimpse;
+    let head = leaf.head;
+    let word = entry(rows, seat, &glimpse, (head.packed % 256) as u32, key);
+    let reads = Reads {
+        worker,
+        page: head.page as u32,
+        key,
+        answer: said(word),
+        version: glimpse.version,
+    };
+    match glimpse.check(rows, seat, &reads) {
+        Ok(()) => Answer::Found(word),
+        Err(moved) => Answer::Moved(moved),
+    }
+}
+
+fn answer_of(stop: Stop) -> Answer
+    ensures { result ≡ answer_of stop }
+{
+    match stop {
+        Stop::Cold(page) => Answer::Cold(page),
+        Stop::Moved(moved) => Answer::Moved(moved),
+        Stop::Latched(latched) => Answer::Latched(latched),
+    }
 }
 
 /// What the key's leaf says of it, for `worker`, over rows whose first `frames` are frames. The descent goes from the root, in
@@ -345,15 +377,8 @@ pub fn find<R: Rows>(rows: &mut R, seat: &mut R::Seat, worker: u32, frames: u32,
     ensures cause { Caused (R.view seat.old) result (R.view seat.new) }
     ensures quiet { (R.shape rows.old).alone ≡ true → (R.view seat.old).held ≡ [] → IsSettled result }
 {
-    let mut glimpse = match Glimpse::start(rows, seat, 0, &Misses { worker }) {
-        Err(latched) => return Answer::Latched(latched),
-        Ok(found) => found,
-    };
-    for i in 0..8u32 {
-        match look_at(rows, seat, &glimpse, worker, frames, key) {
-            Step::Child(found) => glimpse = found,
-            Step::End(answer) => return answer,
-        }
+    match way(rows, seat, worker, frames, key) {
+        Ok(leaf) => read(rows, seat, &leaf, worker, frames, key),
+        Err(stop) => answer_of(stop),
     }
-    unreachable!()
 }

@@ -1,41 +1,24 @@
-use Rattle.std.proofs.Common.{◌∙◌, sym, subst, ℕ, [], ◌∷◌}
-use Rattle.row_words.specs.declared.event.Event.TheVariants.{Miss}
-use Rattle.rows_trait.specs.Views.{may, latest, state, Since}
-use Rattle.btree_descent.specs.Named.{checked}
+use Rattle.std.proofs.Common.{ℕ, sym, subst}
+use Rattle.row_words.specs.declared.given.Given.{Given}
+use Rattle.row_words.specs.Sealed.{Shown}
+use Rattle.rows_trait.specs.Views.{state, Knows}
 use Rattle.btree_descent.specs.Inside.{OnWay}
 use Rattle.btree_descent.specs.Known.{IsCold, Sound}
-use Rattle.btree_descent.proofs.Nodes.{follows_way}
-use Rattle.btree_descent.proofs.Calls.{checked_silent, checked_same, checked_other, looked_ran, sound_after, frames_after}
-use Rattle.row_words.specs.declared.given.Given.{Given}
+use Rattle.btree_descent.proofs.Calls.{sound_after}
 use Rattle.btree_descent.proofs.descent.cold.Goals as goal
 
-pub check-requires-clause-event : goal.check-requires-clause-event
-check-requires-clause-event g c n =
-    let y = g.R.Rows.shape c.args.rows.now in
+pub returns-in-Ok-clause-stop : goal.returns-in-Ok-clause-stop
+returns-in-Ok-clause-stop g c =
     let v = g.R.Rows.view c.args.seat.now in
-    checked_silent (may y.alone v) v.given c.args.worker c.args.glimpse.now.version n c.requires.actor
-
-pub returns-in-Ok-clause-went : goal.returns-in-Ok-clause-went
-returns-in-Ok-clause-went g c =
-    let z = g.R.Rows.shape c.args.rows.now in
-    let v = g.R.Rows.view c.args.seat.now in
-    let w = g.R.Rows.view c.check.new.seat in
+    let w = g.R.Rows.view c.again.new.seat in
     let row = c.args.glimpse.now.row in
     let version = c.args.glimpse.now.version in
-    let far = c.requires.way.0 in
-    let f = c.requires.way.1 in
-    let ran = looked_ran z row version (checked c.args.worker version) v w [] c.in-Ok.ensures.ok (checked_same c.args.worker version) tt in
-    let lt = frames_after z v w c.args.frames row ran.given c.requires.sized c.requires.row in
-    let way = follows_way v w row version c.args.key far ran.more ran.seen ran.given lt f (c.in-Ok.ensures.still f.at f.since) in
+    let on = c.requires.on in
+    let it = c.in-Ok.ensures.ok in
     let m = state w in
-    let Q : Given → Type 0 = λ q. Sound q m → ((i x : ℕ) → Rattle.rows_trait.specs.Views.Knows row version i x v.steps → Rattle.row_words.specs.Sealed.Shown q m row i x) → OnWay q m row c.args.key far → IsCold q m c.args.key c.args.page in
-    record { ran = ran; cold = subst Q (sym ran.given) (c.requires.cold m far) (sound_after v w ran.given c.requires.sound) c.in-Ok.ensures.valid way }
-
-pub returns-in-Err-clause-went : goal.returns-in-Err-clause-went
-returns-in-Err-clause-went g c =
-    let e = c.in-Err.ensures.err in
-    looked_ran (g.R.Rows.shape c.args.rows.now) c.args.glimpse.now.row c.in-Err.moved.found (checked c.args.worker c.args.glimpse.now.version) (g.R.Rows.view c.args.seat.now) (g.R.Rows.view c.check.new.seat) (Miss c.args.worker ∷ []) e.3
-    (checked_other c.args.worker c.args.glimpse.now.version c.in-Err.moved.found (λ x. e.2 (x ∙ sym e.1))) (c.requires.actor, tt)
-
-pub returns-in-Err-clause-cause : goal.returns-in-Err-clause-cause
-returns-in-Err-clause-cause g c a f = c.in-Err.ensures.cause a f
+    let Q : Given → Type 0 = λ q. Sound q m → ((i x : ℕ) → Knows row version i x v.steps → Shown q m row i x) → OnWay q m row c.args.key on.far → IsCold q m c.args.key c.args.page in record {
+      held = it.looked.held;
+      went = record { ran = it.ran; cold = subst Q (sym it.ran.given) (c.requires.cold m on.far) (sound_after v w it.ran.given on.sound) it.shown (it.way on.far on.way) };
+      cause = λ a f. tt;
+      quiet = λ alone none last. tt;
+    }

@@ -1,19 +1,17 @@
-use Rattle.std.proofs.Common.{◌≡◌, ◌+◌, ◌<◌, ℕ, true, [], Some}
-use Rattle.rows_trait.specs.Views.{IsEven, Has, latest}
+use Rattle.std.proofs.Common.{◌≡◌, ◌+◌, true, [], Some}
+use Rattle.rows_trait.specs.Views.{latest}
 use Rattle.rows_trait.specs.Causes.{HasFound}
 use Rattle.rows_trait.specs.Turns.{Ran}
-use Rattle.btree_descent.specs.Inside.{Follows}
-use Rattle.btree_descent.proofs.descent.find.Given as goal
+use Rattle.btree_descent.specs.Inside.{IsOn}
+use Rattle.btree_descent.proofs.descent.way.Given as goal
 
 abbrev pub invariant-loop-i : goal.invariant-loop-i
 invariant-loop-i g l = record {
   fits : g.R.Rows.fits l.rows l.seat × (g.R.Rows.shape l.rows ≡ g.R.Rows.shape l.fn.rows);
   held : (g.R.Rows.view l.seat).held ≡ (g.R.Rows.view l.fn.seat).held;
   ran : Ran (g.R.Rows.shape l.fn.rows).alone (g.R.Rows.view l.fn.seat) [] (g.R.Rows.view l.seat);
-  within : l.glimpse.row < l.frames;
-  even : IsEven l.glimpse.version;
-  has : Has l.glimpse.row l.glimpse.version (g.R.Rows.view l.seat).steps;
-  way : (far : ℕ) × (far + l.i ≡ 7) × Follows (g.R.Rows.view l.seat) l.glimpse.row l.glimpse.version l.key far;
+  on : IsOn (g.R.Rows.shape l.rows) (g.R.Rows.view l.seat) l.worker l.frames l.key l.glimpse;
+  left : on.far + l.i ≡ 7;
   found : HasFound l.glimpse.row l.glimpse.version (g.R.Rows.view l.fn.seat) (g.R.Rows.view l.seat);
   quiet : (g.R.Rows.shape l.fn.rows).alone ≡ true → (g.R.Rows.view l.fn.seat).held ≡ [] → latest l.glimpse.row (g.R.Rows.view l.seat).steps ≡ Some l.glimpse.version;
 }

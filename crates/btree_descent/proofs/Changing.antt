@@ -1,0 +1,191 @@
+-- What a put has appended and staged.
+use Rattle.std.proofs.Common.{◌≡◌, ◌==◌, ◌/◌, ◌%◌, ◌^◌, ℕ, suc, Bool, true, false, cond, List, [], ◌∷◌, ◌++◌, refl, sym, ap, subst, ◌∙◌, eq-eqb, append-nil, append_assoc, Result}
+use Rattle.std.proofs.lemmas.Bool.{cond-true}
+use Rattle.map_model.proofs.ListLemmas.{upd_same}
+use Rattle.page_model.specs.Pairs.{find}
+use Rattle.page_model.specs.Tree.{word_or}
+use Rattle.image_model.specs.Entries.{Contents}
+use Rattle.core_state.specs.States.{Worker, State}
+use Rattle.core_state.specs.Events as happening
+use Rattle.core_state.specs.Needs as core
+use Rattle.core_state.specs.Steps.{touch, happens}
+use Rattle.row_words.specs.declared.event.Event.{Event}
+use Rattle.row_words.specs.declared.event.Event.TheVariants as event
+use Rattle.row_words.specs.declared.given.Given.{Given}
+use Rattle.row_words.specs.Moments.{Moment}
+use Rattle.row_words.specs.Openings.{opening}
+use Rattle.row_words.specs.Sealed.{begun, stepped}
+use Rattle.row_words.proofs.SealedLemmas.{run_append}
+use Rattle.rows_trait.specs.declared.view.View.{View}
+use Rattle.rows_trait.specs.Views.{Shape, after_all, state, may, hold, held_at}
+use Rattle.rows_trait.specs.Turns.{Goes, Released, Ran}
+use Rattle.rows_trait.proofs.Runs.{ran_goes, ran_append}
+use Rattle.lean_proto.specs.declared.change.Changes.{Changes}
+use Rattle.lean_proto.specs.Met.{WasMet}
+use Rattle.log_record.specs.declared.record.Record.{Record}
+use Rattle.log_record.specs.declared.record.Body.TheVariants as body
+use Rattle.draw_trait.specs.Clocks.{Clock, touched, drawn}
+use Rattle.draw_trait.specs.declared.draw.Unstaged.{Unstaged as Reason}
+use Rattle.btree_descent.specs.declared.put.Put.{Put}
+use Rattle.btree_descent.specs.declared.put.Put.TheVariants.{Done, Full, Cold, Moved, Latched, RowSpent, ClockSpent, Unstaged}
+use Rattle.btree_descent.specs.declared.put.Spot.{Spot}
+use Rattle.btree_descent.specs.Puts.{clock_in, drawn_at, change_of, Onward, Changed, NotStaged, Refused, Wrote, Drew}
+use Rattle.btree_descent.specs.Spots.{IsUndrawn, record_of, IsPutting}
+use Rattle.btree_descent.proofs.Spots.{place_find}
+
+-- the record of a change by a worker in this state, of a page with these contents
+abbrev change_in : Worker → Contents → (w p k x : ℕ) → Record
+change_in a page w p k x =
+    let b = touch w a page.gsn page.last in record { txn = b.txn; gsn = suc b.clock; body = body.Change (record { page = p; prev = page.gsn }) k (word_or (2 ^ 63) (find k page.node.pairs)) x }
+
+change_is : (v : Given) (s : State) (w p k x : ℕ) → change_of (opening v) s w p k x ≡ change_in (s.worker w) (s.page p) w p k x
+change_is v s w p k x = refl
+
+-- the clock of a worker after its change
+clock_after : (v : Given) (m : Moment) (w p k x : ℕ) → core.may (opening v) m.core (happening.Event.Change w p k x) ≡ true → clock_in ((stepped v m (event.Change w p k x)).core.worker w) ≡ drawn_at w p m
+unfolding stepped
+clock_after v m w p k x ok =
+    let e = happening.Event.Change w p k x in
+    ap (λ (s : State). clock_in (s.worker w)) (cond-true (core.may (opening v) m.core e) (happens (opening v) m.core e) m.core ok) ∙ ap clock_in (upd_same m.core.worker w _ w refl)
+
+-- a change that was drawn for, staged, and met
+pub changed_at : (z : Shape) (u w : View) (row : ℕ) (c : Changes) (s : Spot) (l t : ℕ) (d : Clock) (n last : ℕ) (rs ys : List Record) (e : Clock) → IsPutting z u row c s l t d last
+    → Ran z.alone u (event.Change c.worker c.page c.key c.word ∷ []) w → WasMet z u row c.worker c.page c.key c.word w
+    → e ≡ drawn (touched l d s.prev (s.leaf.head.packed / 65536 % 256)) → n ≡ (drawn (touched l d s.prev (s.leaf.head.packed / 65536 % 256))).clock → ys ≡ record_of t n c.page s.prev c.key s.before c.word ∷ rs
+    → Changed z.alone c.worker c.key c.word s.before u rs w e ys
+changed_at z u w row c s l t d n last rs ys e it ran met clock number staged = record {
+  page = c.page;
+  past = past;
+  onward = record { between = met.before; whole = refl; quiet = met.quiet };
+  ran = ran;
+  seen = met.seen;
+  met = subst (λ (q : Given). core.may (opening q) (after_all q past).core (happening.Event.Change c.worker c.page c.key c.word) ≡ true) (sym ran.given) met.met.may;
+  told = subst (λ (q : Given). s.before ≡ find c.key ((after_all q past).core.page c.page).node.pairs) (sym ran.given) (sym found ∙ ap (λ (y : Contents). find c.key y.node.pairs) (sym met.met.page));
+  staged = subst (λ (q : Given). ys ≡ change_of (opening q) (after_all q past).core c.worker c.page c.key c.word ∷ rs) (sym ran.given) (staged ∙ ap (λ r. r ∷ rs) same_record);
+  clock = clock ∙ (same_clock ∙ sym (ap (λ (q : Moment). clock_in (q.core.worker c.worker)) reached ∙ clock_after u.given m c.worker c.page c.key c.word met.met.may));
+}
+  where
+    past : List Event
+    past = u.seen ++ met.before
+
+    m : Moment
+    m = after_all u.given (u.seen ++ met.before)
+
+    found : find c.key ((state u).core.page c.page).node.pairs ≡ s.before
+    found = place_find c.key ((state u).core.page c.page).node s.at s.before it.place
+
+    reached : state w ≡ stepped u.given m (event.Change c.worker c.page c.key c.word)
+    reached = (λ i. after_all (ran.given i) (met.seen i)) ∙ run_append u.given (begun u.given) (u.seen ++ met.before) (event.Change c.worker c.page c.key c.word ∷ [])
+
+    same_clock : drawn (touched l d s.prev (s.leaf.head.packed / 65536 % 256)) ≡ drawn_at c.worker c.page m
+    same_clock =
+        let a = it.draws.clock ∙ ap clock_in (sym met.met.worker) in
+        let b = it.prev ∙ ap (λ (y : Contents). y.gsn) (sym met.met.page) in
+        let o = it.last ∙ ap (λ (y : Contents). y.last) (sym met.met.page) in
+        λ i. drawn (touched (it.draws.log i) (a i) (b i) (o i))
+
+    same_record : record_of t n c.page s.prev c.key s.before c.word ≡ change_of (opening u.given) m.core c.worker c.page c.key c.word
+    same_record =
+        let txn = it.draws.txn ∙ ap (λ (y : Worker). y.txn) (sym met.met.worker) in
+        let gsn = number ∙ ap (λ (y : Clock). y.clock) same_clock in
+        let prev = it.prev ∙ ap (λ (y : Contents). y.gsn) (sym met.met.page) in
+        let word = ap (word_or (2 ^ 63)) (sym found ∙ ap (λ (y : Contents). find c.key y.node.pairs) (sym met.met.page)) in
+        (λ i. record { txn = txn i; gsn = gsn i; body = body.Change (record { page = c.page; prev = prev i }) c.key (word i) c.word }) ∙ sym (change_is u.given m.core c.worker c.page c.key c.word)
+
+own_miss : (alone : Bool) (u : View) → may alone u u.actor ≡ true
+own_miss true u = refl
+own_miss false u = eq-eqb u.actor u.actor refl
+
+-- a leaf that was given up as it stood
+pub not_staged : (z : Shape) (u w : View) (row : ℕ) (c : Changes) (s : Spot) (l t : ℕ) (d : Clock) (last : ℕ) (rs ys : List Record) (e : Clock) → IsPutting z u row c s l t d last → Released z row u w
+    → e ≡ drawn (touched l d s.prev (s.leaf.head.packed / 65536 % 256)) → ys ≡ rs → NotStaged z.alone c.worker c.key c.word u rs w e ys
+not_staged z u w row c s l t d last rs ys e it r clock same = record {
+  page = c.page;
+  past = u.seen;
+  onward = record { between = []; whole = sym (append-nil u.seen); quiet = λ y. refl };
+  later = ran.more;
+  ran = ran;
+  seen = ran.seen;
+  met = subst (λ (q : Given). core.may (opening q) (after_all q u.seen).core (happening.Event.Change c.worker c.page c.key c.word) ≡ true) (sym ran.given) it.leaf.met;
+  staged = same;
+  clock = subst (λ (q : Given). e ≡ drawn_at c.worker c.page (after_all q u.seen)) (sym ran.given) (clock ∙ (λ i. drawn (touched (it.draws.log i) (it.draws.clock i) (it.prev i) (it.last i))));
+}
+  where
+    at : held_at u.held row ≡ hold row it.leaf.version it.leaf.was it.leaf.was false
+    at = ap (λ h. held_at h row) it.leaf.held ∙ cond-true (row == row) (hold row it.leaf.version it.leaf.was it.leaf.was false) (hold row 0 [] [] false) (eq-eqb row row refl)
+
+    ran : Ran z.alone u (event.Miss u.actor ∷ []) w
+    ran = ran_goes z u (event.Miss u.actor ∷ []) w (own_miss z.alone u, tt) (subst (λ es. Goes z u es w) (ap (λ h. cond h.done [] (event.Miss u.actor ∷ [])) at) r.goes)
+
+-- ## After the way
+
+onward_after : (alone : Bool) (v u : View) (past : List Event) → Ran alone v [] u → Onward alone u past → Onward alone v past
+onward_after alone v u past r o = record {
+  between = r.more ++ o.between;
+  whole = o.whole ∙ (ap (λ es. es ++ o.between) r.seen ∙ append_assoc v.seen r.more o.between);
+  quiet = λ y i. r.all y i ++ o.quiet y i;
+}
+
+pub refused_after : (alone : Bool) (worker key : ℕ) (v u w : View) (put : Put) → Ran alone v [] u → Refused alone worker key u put w → Refused alone worker key v put w
+refused_after alone worker key v u w (Done before) r d = absurd d
+refused_after alone worker key v u w (Full row) r d = record { ran = ran_append alone v [] u [] w r d.ran; page = d.page; leaf = d.leaf; none = d.none; full = d.full }
+refused_after alone worker key v u w (Cold page) r d = record { ran = ran_append alone v [] u [] w r d.ran; cold = d.cold }
+refused_after alone worker key v u w (Moved m) r d = ran_append alone v [] u (event.Miss worker ∷ []) w r d
+refused_after alone worker key v u w (Latched l) r d = ran_append alone v [] u (event.Miss worker ∷ []) w r d
+refused_after alone worker key v u w (RowSpent row) r d = ran_append alone v [] u [] w r d
+refused_after alone worker key v u w ClockSpent r d = record { ran = ran_append alone v [] u [] w r d.ran; page = d.page; row = d.row; leaf = d.leaf; spent = d.spent }
+refused_after alone worker key v u w (Unstaged x) r d = absurd d
+
+-- a put that refused wrote nothing
+pub refused_wrote : (alone : Bool) (worker key word : ℕ) (v w : View) (rs now : List Record) (c : Clock) (put : Put) → Refused alone worker key v put w → Wrote alone worker key word v rs put w c now
+refused_wrote alone worker key word v w rs now c (Done before) d = absurd d
+refused_wrote alone worker key word v w rs now c (Full row) d = d
+refused_wrote alone worker key word v w rs now c (Cold page) d = d
+refused_wrote alone worker key word v w rs now c (Moved m) d = d
+refused_wrote alone worker key word v w rs now c (Latched l) d = d
+refused_wrote alone worker key word v w rs now c (RowSpent row) d = d
+refused_wrote alone worker key word v w rs now c ClockSpent d = d
+refused_wrote alone worker key word v w rs now c (Unstaged x) d = absurd d
+
+pub wrote_after : (alone : Bool) (worker key word : ℕ) (v u w : View) (rs now : List Record) (c : Clock) (put : Put) → Ran alone v [] u → Wrote alone worker key word u rs put w c now → Wrote alone worker key word v rs put w c now
+wrote_after alone worker key word v u w rs now c (Done before) r d = record {
+  page = d.page;
+  past = d.past;
+  onward = onward_after alone v u d.past r d.onward;
+  ran = ran_append alone v [] u (event.Change worker d.page key word ∷ []) w r d.ran;
+  seen = d.seen;
+  met = d.met;
+  told = d.told;
+  staged = d.staged;
+  clock = d.clock;
+}
+wrote_after alone worker key word v u w rs now c (Full row) r d = refused_after alone worker key v u w (Full row) r d
+wrote_after alone worker key word v u w rs now c (Cold page) r d = refused_after alone worker key v u w (Cold page) r d
+wrote_after alone worker key word v u w rs now c (Moved m) r d = refused_after alone worker key v u w (Moved m) r d
+wrote_after alone worker key word v u w rs now c (Latched l) r d = refused_after alone worker key v u w (Latched l) r d
+wrote_after alone worker key word v u w rs now c (RowSpent row) r d = refused_after alone worker key v u w (RowSpent row) r d
+wrote_after alone worker key word v u w rs now c ClockSpent r d = refused_after alone worker key v u w ClockSpent r d
+wrote_after alone worker key word v u w rs now c (Unstaged x) r d = record {
+  page = d.page;
+  past = d.past;
+  onward = onward_after alone v u d.past r d.onward;
+  later = d.later;
+  ran = ran_append alone v [] u (event.Miss v.actor ∷ []) w r (subst (λ a. Ran alone u (event.Miss a ∷ []) w) r.actor d.ran);
+  seen = d.seen;
+  met = d.met;
+  staged = d.staged;
+  clock = d.clock;
+}
+
+-- ## The draw
+
+-- a put that drew nothing left it as it was
+pub undrawn_same : (on : Result (Unit {0}) Reason → Type 0) (same : Type 0) (put : Put) → IsUndrawn put → same → Drew put on same
+undrawn_same on same (Done before) u s = absurd u
+undrawn_same on same (Full row) u s = s
+undrawn_same on same (Cold page) u s = s
+undrawn_same on same (Moved m) u s = s
+undrawn_same on same (Latched l) u s = s
+undrawn_same on same (RowSpent row) u s = s
+undrawn_same on same ClockSpent u s = s
+undrawn_same on same (Unstaged x) u s = absurd u

@@ -1,0 +1,83 @@
+use Rattle.std.proofs.Common.{ℕ, sym, subst, [], ◌∷◌}
+use Rattle.row_words.specs.declared.event.Event.TheVariants.{Miss}
+use Rattle.rows_trait.specs.Views.{Shape, may}
+use Rattle.rows_trait.specs.Turns.{Ran}
+use Rattle.rows_trait.proofs.Runs.{ran_none}
+use Rattle.btree_descent.specs.declared.put.Put.TheVariants.{Done, Unstaged}
+use Rattle.version_latch.specs.Unheld.{NotHeld}
+use Rattle.version_latch.specs.declared.glimpse.Unheld.TheVariants.{Moved, RowSpent}
+use Rattle.version_latch.specs.Named.{checked}
+use Rattle.btree_descent.specs.Puts.{Changed, NotStaged}
+use Rattle.btree_descent.specs.Spots.{IsPutting}
+use Rattle.version_latch.proofs.Naming.{checked_silent, checked_other}
+use Rattle.version_latch.proofs.Keeping.{looked_ran}
+use Rattle.btree_descent.proofs.Spots.{taken_ran, putting}
+use Rattle.btree_descent.proofs.Changing.{wrote_after}
+use Rattle.btree_descent.proofs.put.put_at.Goals as goal
+
+pub upgrade-requires-clause-event : goal.upgrade-requires-clause-event
+upgrade-requires-clause-event g c n =
+    let v = g.R.Rows.view c.args.seat.now in
+    checked_silent (may (g.R.Rows.shape c.args.rows.now).alone v) v.given c.args.worker c.args.spot.now.leaf.glimpse.version n c.requires.spot.leaf.on.actor
+
+pub put_held-requires-clause-putting : goal.put_held-requires-clause-putting
+put_held-requires-clause-putting g c =
+    let y = g.R.Rows.shape c.args.rows.now in
+    let v = g.R.Rows.view c.args.seat.now in
+    let u = g.R.Rows.view c.upgrade.new.seat in
+    let s = c.args.spot.now in
+    let d = c.args.draw.now in
+    let t = c.in-Ok.ensures.ok in
+    let same = c.in-Ok.ensures.fits.1 in
+    let At : Shape × ℕ → Type 0 = λ q. IsPutting q.0 u q.1 (record { worker = c.args.worker; page = s.leaf.head.page; key = c.args.key; word = c.args.word }) s (g.D.Draw.log_of d) (g.D.Draw.txn_of d) (g.D.Draw.clock_of d) (g.D.Draw.last_of d) in
+    subst At (λ i. (sym same i, sym t.0 i))
+    (putting y v u c.args.worker c.args.frames c.args.key c.args.word s (g.D.Draw.log_of d) (g.D.Draw.txn_of d) (g.D.Draw.clock_of d) (g.D.Draw.last_of d) c.requires.spot c.requires.room c.requires.prev c.requires.held c.requires.may c.requires.draws t.1)
+
+pub returns-in-Ok-put_held-clause-put : goal.returns-in-Ok-put_held-clause-put
+returns-in-Ok-put_held-clause-put g c =
+    let y = g.R.Rows.shape c.args.rows.now in
+    let v = g.R.Rows.view c.args.seat.now in
+    let u = g.R.Rows.view c.upgrade.new.seat in
+    let w = g.R.Rows.view c.put_held.new.seat in
+    let glimpse = c.args.spot.now.leaf.glimpse in
+    let before = c.args.spot.now.before in
+    let rs = g.D.Draw.staged_of c.args.draw.now in
+    let now = g.D.Draw.staged_of c.put_held.new.draw in
+    let clock = g.D.Draw.clock_of c.put_held.new.draw in
+    wrote_after y.alone c.args.worker c.args.key c.args.word v u w rs now clock (Done before) (taken_ran y v u glimpse.row glimpse.version c.args.worker c.in-Ok.ensures.ok.1)
+    (subst (λ (z : Shape). Changed z.alone c.args.worker c.args.key c.args.word before u rs w clock now) c.in-Ok.ensures.fits.1 c.in-Ok-put_held.ensures.ok)
+
+pub returns-in-Err-clause-put : goal.returns-in-Err-clause-put
+returns-in-Err-clause-put g c =
+    let y = g.R.Rows.shape c.args.rows.now in
+    let v = g.R.Rows.view c.args.seat.now in
+    let u = g.R.Rows.view c.upgrade.new.seat in
+    let w = g.R.Rows.view c.put_held.new.seat in
+    let glimpse = c.args.spot.now.leaf.glimpse in
+    let rs = g.D.Draw.staged_of c.args.draw.now in
+    let now = g.D.Draw.staged_of c.put_held.new.draw in
+    let clock = g.D.Draw.clock_of c.put_held.new.draw in
+    wrote_after y.alone c.args.worker c.args.key c.args.word v u w rs now clock (Unstaged c.in-Err.unstaged) (taken_ran y v u glimpse.row glimpse.version c.args.worker c.in-Ok.ensures.ok.1)
+    (subst (λ (z : Shape). NotStaged z.alone c.args.worker c.args.key c.args.word u rs w clock now) c.in-Ok.ensures.fits.1 c.in-Err.ensures.err)
+
+pub returns-in-Err-Moved-clause-put : goal.returns-in-Err-Moved-clause-put
+returns-in-Err-Moved-clause-put g c =
+    let y = g.R.Rows.shape c.args.rows.now in
+    let v = g.R.Rows.view c.args.seat.now in
+    let w = g.R.Rows.view c.upgrade.new.seat in
+    let glimpse = c.args.spot.now.leaf.glimpse in
+    let m = c.in-Err-Moved.moved in
+    let names = checked c.args.worker glimpse.version in
+    let e : NotHeld y glimpse.row glimpse.version names v (Moved m) w = subst (λ q. NotHeld y glimpse.row glimpse.version names v q w) c.in-Err-Moved.field-0-is c.in-Err-Moved.ensures.err in
+    let r = e.2 in
+    looked_ran y glimpse.row m.found (checked c.args.worker glimpse.version) v w (Miss c.args.worker ∷ []) r.looked (checked_other c.args.worker glimpse.version m.found r.other) (c.requires.spot.leaf.on.actor, tt)
+
+pub returns-in-Err-RowSpent-clause-put : goal.returns-in-Err-RowSpent-clause-put
+returns-in-Err-RowSpent-clause-put g c =
+    let y = g.R.Rows.shape c.args.rows.now in
+    let v = g.R.Rows.view c.args.seat.now in
+    let w = g.R.Rows.view c.upgrade.new.seat in
+    let glimpse = c.args.spot.now.leaf.glimpse in
+    let names = checked c.args.worker glimpse.version in
+    let e : NotHeld y glimpse.row glimpse.version names v RowSpent w = subst (λ q. NotHeld y glimpse.row glimpse.version names v q w) c.in-Err-RowSpent.field-0-is c.in-Err-RowSpent.ensures.err in
+    subst (λ u. Ran y.alone v [] u) (sym e.1) (ran_none y.alone v)

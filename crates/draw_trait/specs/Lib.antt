@@ -1,0 +1,2 @@
+-- Read Clocks.
+pub mod Clocks
