@@ -1,0 +1,11 @@
+//! Why a page was not taken from its row.
+use version_latch::{Latched, Moved};
+
+/// A row was not as it has to be. A miss was appended: try again.
+#[derive(Clone, Copy)]
+pub enum Unseen {
+    /// The row of the page or of a child had another version at the second look than at the first.
+    Moved(Moved),
+    /// The row of the page or of a child was held.
+    Latched(Latched),
+}
