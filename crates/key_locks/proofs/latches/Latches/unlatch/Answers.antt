@@ -1,0 +1,34 @@
+use Rattle.std.proofs.Common.{◌≡◌, ◌+◌, ℕ, Bool, List, [], ◌∷◌, cond, set, refl, sym, subst, true, false}
+use Rattle.std.proofs.lemmas.Bool.{cond-false}
+use Rattle.row_words.specs.declared.event.Event.TheVariants.{Miss}
+use Rattle.rows_trait.specs.Views.{held_at, without}
+use Rattle.key_locks.specs.Latching.{AreLatched}
+use Rattle.version_latch.proofs.Keeping.{goes_ran, may_self}
+use Rattle.key_locks.proofs.Marking.{marked_at, unmarking}
+use Rattle.key_locks.proofs.latches.Latches.unlatch.Goals as goal
+
+pub returns-clause-tied : goal.returns-clause-tied
+returns-clause-tied g c =
+    let marks = c.args.self.now in
+    let hs = (g.R.Rows.view c.args.seat.now).held in
+    let ks = (g.R.Rows.view c.release.new.seat).held in
+    subst (λ (l : List Bool). AreLatched c.args.frames (set l c.place-place.result false) ks) (sym c.self.view_is)
+    (unmarking c.args.frames c.place-place.result marks hs ks c.place-place.ensures.1 c.release.ensures.step.held c.requires.tied).0
+
+pub returns-clause-rest : goal.returns-clause-rest
+returns-clause-rest g c =
+    let marks = c.args.self.now in
+    let hs = (g.R.Rows.view c.args.seat.now).held in
+    let ks = (g.R.Rows.view c.release.new.seat).held in
+    subst (λ (i : ℕ). without ks (c.args.frames + i) ≡ without hs (c.args.frames + i)) c.place-place.ensures.0
+    (unmarking c.args.frames c.place-place.result marks hs ks c.place-place.ensures.1 c.release.ensures.step.held c.requires.tied).1
+
+pub returns-clause-ran : goal.returns-clause-ran
+returns-clause-ran g c m =
+    let z = g.R.Rows.shape c.args.rows.now in
+    let v = g.R.Rows.view c.args.seat.now in
+    let w = g.R.Rows.view c.release.new.seat in
+    let row = c.args.frames + c.place-place.result in
+    let mark = marked_at c.self.inside.marks.items c.args.self.now c.place-place.result c.place-place.result c.index.result.now true c.self.view_is refl c.place-place.ensures.1 c.index.ensures c.if-not-index.false in
+    let fresh = (c.requires.tied.marked c.place-place.result mark).fresh in
+    goes_ran z (cond (held_at v.held row).done [] (Miss v.actor ∷ [])) (Miss v.actor ∷ []) v w c.release.ensures.step.goes (cond-false (held_at v.held row).done [] (Miss v.actor ∷ []) fresh) (may_self z.alone v, tt)

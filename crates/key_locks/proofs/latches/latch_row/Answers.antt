@@ -1,0 +1,91 @@
+use Rattle.std.proofs.Common.{◌∙◌, ℕ, [], ◌∷◌, refl, sym, ap, subst, false}
+use Rattle.rows_trait.specs.declared.view.View.{View}
+use Rattle.rows_trait.specs.Views.{Shape, may, hold, holds}
+use Rattle.rows_trait.specs.Causes.{HasFound}
+use Rattle.rows_trait.specs.Turns.{Taken, Ran}
+use Rattle.rows_trait.proofs.Runs.{ran_append}
+use Rattle.version_latch.specs.declared.glimpse.Unheld.{Unheld}
+use Rattle.version_latch.specs.Unheld.{NotHeld}
+use Rattle.version_latch.specs.Named.{missed, checked}
+use Rattle.version_latch.proofs.Naming.{missed_silent, checked_silent}
+use Rattle.version_latch.proofs.Keeping.{may_ran, may_shape, looked_latest}
+use Rattle.key_locks.proofs.Taking.{taken_by, looked_ran, checked_ran, moved_after}
+use Rattle.key_locks.proofs.latches.latch_row.Goals as goal
+
+pub start-requires-clause-event : goal.start-requires-clause-event
+start-requires-clause-event g c n =
+    let v = g.R.Rows.view c.args.seat.now in missed_silent (may (g.R.Rows.shape c.args.rows.now).alone v) v.given c.args.worker n c.requires.actor
+
+pub returns-in-Err-clause-err : goal.returns-in-Err-clause-err
+returns-in-Err-clause-err g c =
+    let e = c.in-Err.ensures.err in
+    taken_by (g.R.Rows.shape c.args.rows.now) c.args.worker c.args.row (g.R.Rows.view c.args.seat.now) (g.R.Rows.view c.start.new.seat) c.in-Err.latched c.requires.actor e.0 e.1 e.2 c.in-Err.ensures.cause
+
+pub upgrade-requires-clause-event : goal.upgrade-requires-clause-event
+upgrade-requires-clause-event g c n =
+    let z = g.R.Rows.shape c.args.rows.now in
+    let y = g.R.Rows.shape c.start.new.rows in
+    let v = g.R.Rows.view c.args.seat.now in
+    let u = g.R.Rows.view c.start.new.seat in
+    let o = c.in-Ok.ensures.ok in
+    let ran = looked_ran z c.args.worker c.args.row c.in-Ok.glimpse.version v u o.1 o.3 in
+    checked_silent (may y.alone u) u.given c.args.worker c.in-Ok.glimpse.version n (may_shape y z u c.args.worker c.in-Ok.ensures.fits.1 (may_ran z.alone v u [] c.args.worker ran c.requires.actor))
+
+pub returns-in-Ok-upgrade-clause-ok : goal.returns-in-Ok-upgrade-clause-ok
+returns-in-Ok-upgrade-clause-ok g c =
+    let z = g.R.Rows.shape c.args.rows.now in
+    let v = g.R.Rows.view c.args.seat.now in
+    let u = g.R.Rows.view c.start.new.seat in
+    let w = g.R.Rows.view c.upgrade.new.seat in
+    let o = c.in-Ok.ensures.ok in
+    let n = c.in-Ok.glimpse.version in
+    let Q : Shape × ℕ → Type 0 = λ s. Taken s.0 s.1 n (checked c.args.worker n) u w in
+    let t = subst Q (λ j. (c.in-Ok.ensures.fits.1 j, o.0 j)) c.in-Ok-upgrade.ensures.ok.1 in record {
+      ran = ran_append z.alone v [] u [] w (looked_ran z c.args.worker c.args.row n v u o.1 o.3) (checked_ran z c.args.worker n u w t.goes);
+      version = n;
+      was = t.was;
+      held = t.held ∙ ap (λ hs. hold c.args.row n t.was t.was false ∷ hs) o.3.held;
+      size = t.size;
+      free = ap (λ hs. holds hs c.args.row) (sym o.3.held) ∙ t.fresh;
+    }
+
+pub returns-in-Err-Moved-clause-err : goal.returns-in-Err-Moved-clause-err
+returns-in-Err-Moved-clause-err g c =
+    let z = g.R.Rows.shape c.args.rows.now in
+    let v = g.R.Rows.view c.args.seat.now in
+    let u = g.R.Rows.view c.start.new.seat in
+    let w = g.R.Rows.view c.upgrade.new.seat in
+    let o = c.in-Ok.ensures.ok in
+    let n = c.in-Ok.glimpse.version in
+    let ran = looked_ran z c.args.worker c.args.row n v u o.1 o.3 in
+    let Q : Shape × ℕ × Unheld → Type 0 = λ s. NotHeld s.0 s.1 n (checked c.args.worker n) u s.2 w in
+    let e = subst Q (λ j. (c.in-Ok.ensures.fits.1 j, o.0 j, c.in-Err-Moved.field-0-is j)) c.in-Err-Moved.ensures.err in
+    moved_after z c.args.worker c.args.row n v u w c.in-Err-Moved.moved ran c.in-Ok.ensures.since.1 (may_ran z.alone v u [] c.args.worker ran c.requires.actor) e
+
+pub returns-in-Err-Moved-clause-quiet : goal.returns-in-Err-Moved-clause-quiet
+returns-in-Err-Moved-clause-quiet g c alone free =
+    let z = g.R.Rows.shape c.args.rows.now in
+    let u = g.R.Rows.view c.start.new.seat in
+    let w = g.R.Rows.view c.upgrade.new.seat in
+    let o = c.in-Ok.ensures.ok in
+    let n = c.in-Ok.glimpse.version in
+    let Q : Shape × ℕ × Unheld → Type 0 = λ s. NotHeld s.0 s.1 n (checked c.args.worker n) u s.2 w in
+    let e = subst Q (λ j. (c.in-Ok.ensures.fits.1 j, o.0 j, c.in-Err-Moved.field-0-is j)) c.in-Err-Moved.ensures.err in
+    e.2.other (e.2.looked.steady alone n (looked_latest z c.args.row n (missed c.args.worker) (g.R.Rows.view c.args.seat.now) u o.3))
+
+pub returns-in-Err-RowSpent-clause-err : goal.returns-in-Err-RowSpent-clause-err
+returns-in-Err-RowSpent-clause-err g c =
+    let z = g.R.Rows.shape c.args.rows.now in
+    let v = g.R.Rows.view c.args.seat.now in
+    let u = g.R.Rows.view c.start.new.seat in
+    let w = g.R.Rows.view c.upgrade.new.seat in
+    let o = c.in-Ok.ensures.ok in
+    let n = c.in-Ok.glimpse.version in
+    let Q : Unheld → Type 0 = λ s. NotHeld (g.R.Rows.shape c.start.new.rows) c.in-Ok.glimpse.row n (checked c.args.worker n) u s w in
+    let e = subst Q c.in-Err-RowSpent.field-0-is c.in-Err-RowSpent.ensures.err in record {
+      at = refl;
+      ran = subst (λ (x : View). Ran z.alone v [] x) (sym e.1) (looked_ran z c.args.worker c.args.row n v u o.1 o.3);
+      version = n;
+      last = e.0;
+      found = subst (λ (x : View). HasFound c.args.row n v x) (sym e.1) c.in-Ok.ensures.since.1;
+    }

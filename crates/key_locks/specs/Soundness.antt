@@ -1,0 +1,22 @@
+-- Rows are sound where their holders and readers are workers: the log of a stamp is a holder's.
+use Rattle.std.specs.Prelude.{◌≡◌, ℕ, true, List, []}
+use Rattle.core_state.specs.States.{Row}
+use Rattle.core_state.specs.Needs.{is_held_by, is_reader}
+use Rattle.row_words.specs.declared.event.Event.{Event}
+use Rattle.row_words.specs.declared.given.Given.{Given}
+use Rattle.row_words.specs.Openings.{opening}
+use Rattle.rows_trait.specs.Views.{after_all}
+use Rattle.key_locks.specs.Rows.{IsWorker, IsSound}
+
+-- holders and readers are workers
+pub record AreWorkers (n : ℕ) (o : Row) : Type 0 where
+  pub holder : (w : ℕ) → is_held_by o.holder w ≡ true → IsWorker n w
+  pub reader : (w : ℕ) → is_reader w o.readers ≡ true → IsWorker n w
+
+-- what was given, before anything happened
+abbrev pub unbegun : Given → Given
+unbegun v = record v { before = [] }
+
+-- if so it is with each row at each moment from then on, rows are sound at each moment that can come
+abbrev pub EverySound : Type 0
+EverySound = (v : Given) → ((es : List Event) (i : ℕ) → AreWorkers (opening v).workers ((after_all (unbegun v) es).core.row i)) → IsSound v
