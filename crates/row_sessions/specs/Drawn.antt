@@ -1,0 +1,7 @@
+-- A session as a draw has it.
+use Rattle.draw_trait.specs.Clocks.{Clock}
+use Rattle.row_sessions.specs.declared.session.Session.{Session}
+
+-- its clock, its floor and what it owes
+abbrev pub clock_of : Session → Clock
+clock_of s = record { clock = s.clock; floor = s.floor; debt = s.debt }

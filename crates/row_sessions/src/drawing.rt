@@ -1,0 +1,120 @@
+//! What a put draws from its session: numbers, and a record that is written to a buffer.
+ghost use Rattle.std.specs.Prelude.{◌≡◌, List};
+ghost use Rattle.std.specs.Borrow.{ftrue};
+ghost use Rattle.log_record.specs.declared.record.Record.{Record};
+ghost use Rattle.row_sessions.specs.Drawn.{clock_of};
+
+use crate::session::Session;
+use draw_trait::draw::{Draw, Unstaged};
+use log_record::{Record, record_bytes};
+use std::marker::{Brand, Model, PhantomData};
+
+/// Records that take no bytes.
+#[derive(Drop)]
+pub struct Staged {
+    of: PhantomData<Record>,
+    pub ghost list: { List Record },
+}
+
+impl Model for Staged {
+    ghost also_owns = { λ _. ftrue };
+}
+
+/// Which records those are.
+pub trait Which {
+    ghost use Rattle.std.specs.Prelude.{List};
+    ghost use Rattle.log_record.specs.declared.record.Record.{Record};
+
+    ghost which: { List Record };
+}
+
+impl Which for Brand {
+    ghost use Rattle.std.specs.Prelude.{[]};
+
+    ghost which = { [] };
+}
+
+impl Staged {
+    /// Those records.
+    pub fn of<K: Which>() -> Staged
+        ensures { result.list ≡ K.which }
+    {
+        Staged { of: PhantomData }
+    }
+}
+
+// The records with one more, which stands here for the proof alone.
+fn one_more<K: Which>(before: &Staged, entry: &Record) -> Staged
+    ensures { result.list ≡ K.which }
+{
+    Staged::of::<K>()
+}
+
+/// A worker's session as its put goes on, and the bytes of the last record.
+#[derive(Drop)]
+pub struct Drawing {
+    pub worker: u32,
+    pub session: Session,
+    pub buffer: [u8; 64],
+    pub staged: Staged,
+}
+
+impl Drawing {
+    /// Of no worker yet.
+    pub fn new() -> Drawing {
+        Drawing {
+            worker: 0,
+            session: Session::first(0),
+            buffer: [0; 64],
+            staged: Staged::of::<Brand>(),
+        }
+    }
+
+    /// Begins with a worker's session.
+    pub fn start(&mut self, worker: u32, session: &Session)
+        ensures worker { self.new.worker ≡ worker }
+        ensures session { self.new.session ≡ session.now }
+    {
+        self.worker = worker;
+        self.session = *session;
+    }
+}
+
+impl Draw for Drawing {
+    ghost use Rattle.row_sessions.specs.Drawn.{clock_of};
+
+    ghost log_of = { λ d. d.worker };
+
+    ghost txn_of = { λ d. d.session.txn };
+
+    ghost clock_of = { λ d. clock_of d.session };
+
+    ghost last_of = { λ d. d.session.last };
+
+    ghost staged_of = { λ d. d.staged.list };
+
+    fn log(&self) -> u32 {
+        self.worker
+    }
+
+    fn txn(&self) -> u64 {
+        self.session.txn
+    }
+
+    fn touch(&mut self, number: u64, log: u32) {
+        self.session = self.session.touched(self.worker, number, log);
+    }
+
+    fn next(&mut self) -> u64 {
+        let number = self.session.clock + 1;
+        self.session.clock = number;
+        number
+    }
+
+    fn stage(&mut self, entry: &Record) -> Result<(), Unstaged> {
+        let _ = record_bytes(entry, &mut self.buffer);
+        self.staged = one_more::<Brand>(&self.staged, entry);
+        self.session.last = entry.gsn;
+        Ok(())
+    }
+}

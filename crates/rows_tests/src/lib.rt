@@ -1,0 +1,13 @@
+//! Sessions of several workers over plain rows, against plain maps and lists.
+#![tactic(auto)]
+
+#[cfg(test)]
+mod answers;
+#[cfg(test)]
+mod cases;
+#[cfg(test)]
+mod model;
+#[cfg(test)]
+mod random;
+#[cfg(test)]
+mod stores;
