@@ -26,11 +26,14 @@ use Rattle.log_record.specs.declared.record.Record.{Record}
 use Rattle.log_record.specs.declared.record.Body.TheVariants as body
 use Rattle.draw_trait.specs.Clocks.{Clock, touched, drawn}
 use Rattle.draw_trait.specs.declared.draw.Unstaged.{Unstaged as Reason}
+use Rattle.btree_descent.specs.Inside.{FellShort}
+use Rattle.btree_descent.specs.declared.descent.Stop.{Stop}
+use Rattle.btree_descent.specs.declared.descent.Stop.TheVariants as stop
 use Rattle.btree_descent.specs.declared.put.Put.{Put}
 use Rattle.btree_descent.specs.declared.put.Put.TheVariants.{Done, Full, Cold, Moved, Latched, RowSpent, ClockSpent, Unstaged}
 use Rattle.btree_descent.specs.declared.put.Spot.{Spot}
-use Rattle.btree_descent.specs.Puts.{clock_in, drawn_at, change_of, Onward, Changed, NotStaged, Refused, Wrote, Drew}
-use Rattle.btree_descent.specs.Spots.{IsUndrawn, record_of, IsPutting}
+use Rattle.btree_descent.specs.Puts.{clock_in, drawn_at, change_of, Onward, Changed, NotStaged, Refused, Wrote, Drew, last_after, PutCaused, IsUndisturbed}
+use Rattle.btree_descent.specs.Spots.{IsUndrawn, record_of, IsPutting, put_of}
 use Rattle.btree_descent.proofs.Spots.{place_find}
 
 -- the record of a change by a worker in this state, of a page with these contents
@@ -189,3 +192,41 @@ undrawn_same on same (Latched l) u s = s
 undrawn_same on same (RowSpent row) u s = s
 undrawn_same on same ClockSpent u s = s
 undrawn_same on same (Unstaged x) u s = absurd u
+
+pub undrawn_last : (last clock : ℕ) (put : Put) → IsUndrawn put → last ≡ last_after put last clock
+undrawn_last last clock (Done before) u = absurd u
+undrawn_last last clock _ u = refl
+
+-- ## A way that fell short
+
+undrawn_stop : (s : Stop) → IsUndrawn (put_of s)
+undrawn_stop (stop.Cold page) = tt
+undrawn_stop (stop.Moved m) = tt
+undrawn_stop (stop.Latched l) = tt
+
+pub stop_undrawn : {put : Put} (s : Stop) → put ≡ put_of s → IsUndrawn put
+stop_undrawn s is = subst IsUndrawn (sym is) (undrawn_stop s)
+
+wrote_stop : {alone : Bool} {worker key : ℕ} {v w : View} (word : ℕ) (rs : List Record) (clock : Clock) (s : Stop) → FellShort alone worker key v s w → Wrote alone worker key word v rs (put_of s) w clock rs
+wrote_stop word rs clock (stop.Cold page) f = f.went
+wrote_stop word rs clock (stop.Moved m) f = f.went
+wrote_stop word rs clock (stop.Latched l) f = f.went
+
+pub fell_wrote : {alone : Bool} {worker key : ℕ} {v w : View} {put : Put} (word : ℕ) (rs : List Record) (clock : Clock) (s : Stop) → put ≡ put_of s → FellShort alone worker key v s w → Wrote alone worker key word v rs put w clock rs
+fell_wrote {alone} {worker} {key} {v} {w} word rs clock s is f = subst (λ p. Wrote alone worker key word v rs p w clock rs) (sym is) (wrote_stop word rs clock s f)
+
+caused_stop : {alone : Bool} {worker key : ℕ} {v w : View} (s : Stop) → FellShort alone worker key v s w → PutCaused v (put_of s) w
+caused_stop (stop.Cold page) f = tt
+caused_stop (stop.Moved m) f = f.cause
+caused_stop (stop.Latched l) f = f.cause
+
+pub fell_caused : {alone : Bool} {worker key : ℕ} {v w : View} {put : Put} (s : Stop) → put ≡ put_of s → FellShort alone worker key v s w → PutCaused v put w
+fell_caused {v} {w} s is f = subst (λ p. PutCaused v p w) (sym is) (caused_stop s f)
+
+quiet_stop : {alone : Bool} {worker key : ℕ} {v w : View} (s : Stop) → FellShort alone worker key v s w → alone ≡ true → v.held ≡ [] → IsUndisturbed (put_of s)
+quiet_stop (stop.Cold page) f a h = tt
+quiet_stop (stop.Moved m) f a h = f.quiet a h
+quiet_stop (stop.Latched l) f a h = f.quiet a h
+
+pub fell_quiet : {alone : Bool} {worker key : ℕ} {v w : View} {put : Put} (s : Stop) → put ≡ put_of s → FellShort alone worker key v s w → alone ≡ true → v.held ≡ [] → IsUndisturbed put
+fell_quiet s is f a h = subst IsUndisturbed (sym is) (quiet_stop s f a h)

@@ -1,9 +1,10 @@
-use Rattle.std.proofs.Common.{◌≡◌, refl, sym, subst}
+use Rattle.std.proofs.Common.{◌≡◌, ◌∙◌, refl, ap, sym, subst}
 use Rattle.rows_trait.specs.Views.{Shape}
+use Rattle.btree_descent.specs.Inside.{IsOn}
 use Rattle.btree_descent.specs.Puts.{Refused, Wrote}
 use Rattle.btree_descent.specs.Spots.{AtSpot}
 use Rattle.btree_descent.proofs.Spots.{not_some, met_full, met_spent, may_after, draws_after}
-use Rattle.btree_descent.proofs.Changing.{undrawn_same, refused_after, refused_wrote, wrote_after}
+use Rattle.btree_descent.proofs.Changing.{undrawn_same, undrawn_last, stop_undrawn, fell_wrote, fell_caused, fell_quiet, refused_after, refused_wrote, wrote_after}
 use Rattle.btree_descent.proofs.put.leaf_put.Goals as goal
 
 pub refuse-requires-clause-why : goal.refuse-requires-clause-why
@@ -70,3 +71,110 @@ returns-then-spot-eq-ROOM-clause-drew g c = undrawn_same (λ r. g.D.Draw.stages 
 
 pub returns-then-spot-ge-LAST_NUMBER-clause-drew : goal.returns-then-spot-ge-LAST_NUMBER-clause-drew
 returns-then-spot-ge-LAST_NUMBER-clause-drew g c = undrawn_same (λ r. g.D.Draw.stages c.args.draw.now r c.args.draw.now) (c.args.draw.now ≡ c.args.draw.now) c.refuse-then-spot-ge-LAST_NUMBER.result c.refuse-then-spot-ge-LAST_NUMBER.ensures.undrawn refl
+
+pub locate-requires-clause-fits : goal.locate-requires-clause-fits
+locate-requires-clause-fits g c = c.requires.fits
+
+pub locate-requires-clause-sized : goal.locate-requires-clause-sized
+locate-requires-clause-sized g c = c.requires.sized
+
+pub locate-requires-clause-actor : goal.locate-requires-clause-actor
+locate-requires-clause-actor g c = c.requires.actor
+
+pub locate-requires-clause-sound : goal.locate-requires-clause-sound
+locate-requires-clause-sound g c = c.requires.sound
+
+pub locate-requires-clause-key : goal.locate-requires-clause-key
+locate-requires-clause-key g c = c.requires.key
+
+pub returns-in-Err-clause-fits : goal.returns-in-Err-clause-fits
+returns-in-Err-clause-fits g c = (c.in-Err.ensures.fits.0, c.in-Err.ensures.fits.1, c.in-Err.ensures.stop.held ∙ c.requires.held)
+
+pub returns-in-Err-clause-put : goal.returns-in-Err-clause-put
+returns-in-Err-clause-put g c =
+    let d = c.args.draw.now in
+    fell_wrote c.args.word (g.D.Draw.staged_of d) (g.D.Draw.clock_of d) c.in-Err.stop c.put_of.ensures c.in-Err.ensures.stop
+
+pub returns-in-Err-clause-drew : goal.returns-in-Err-clause-drew
+returns-in-Err-clause-drew g c = undrawn_same (λ r. g.D.Draw.stages c.args.draw.now r c.args.draw.now) (c.args.draw.now ≡ c.args.draw.now) c.put_of.result (stop_undrawn c.in-Err.stop c.put_of.ensures) refl
+
+pub returns-in-Err-clause-last : goal.returns-in-Err-clause-last
+returns-in-Err-clause-last g c = undrawn_last (g.D.Draw.last_of c.args.draw.now) (g.D.Draw.clock_of c.args.draw.now).clock c.put_of.result (stop_undrawn c.in-Err.stop c.put_of.ensures)
+
+pub returns-in-Err-clause-kept : goal.returns-in-Err-clause-kept
+returns-in-Err-clause-kept g c = (refl, refl, refl)
+
+pub returns-in-Err-clause-cause : goal.returns-in-Err-clause-cause
+returns-in-Err-clause-cause g c = fell_caused c.in-Err.stop c.put_of.ensures c.in-Err.ensures.stop
+
+pub returns-in-Err-clause-quiet : goal.returns-in-Err-clause-quiet
+returns-in-Err-clause-quiet g c alone = fell_quiet c.in-Err.stop c.put_of.ensures c.in-Err.ensures.stop alone c.requires.held
+
+pub refuse-requires-clause-fits : goal.refuse-requires-clause-fits
+refuse-requires-clause-fits g c = c.in-Ok.ensures.fits.0
+
+pub refuse-requires-clause-on : goal.refuse-requires-clause-on
+refuse-requires-clause-on g c = subst (λ (z : Shape). IsOn z (g.R.Rows.view c.locate.new.seat) c.args.worker c.args.frames c.args.key c.in-Ok.spot.leaf.glimpse) (sym c.in-Ok.ensures.fits.1) c.in-Ok.ensures.spot.spot.leaf.on
+
+pub returns-then-spot-eq-ROOM-clause-fits : goal.returns-then-spot-eq-ROOM-clause-fits
+returns-then-spot-eq-ROOM-clause-fits g c = (c.refuse.ensures.fits.0, c.refuse.ensures.fits.1 ∙ c.in-Ok.ensures.fits.1, c.refuse.ensures.refused.held ∙ c.in-Ok.ensures.spot.held ∙ c.requires.held)
+
+pub returns-then-spot-eq-ROOM-clause-last : goal.returns-then-spot-eq-ROOM-clause-last
+returns-then-spot-eq-ROOM-clause-last g c = undrawn_last (g.D.Draw.last_of c.args.draw.now) (g.D.Draw.clock_of c.args.draw.now).clock c.refuse.result c.refuse.ensures.undrawn
+
+pub returns-then-spot-eq-ROOM-clause-kept : goal.returns-then-spot-eq-ROOM-clause-kept
+returns-then-spot-eq-ROOM-clause-kept g c = (refl, refl, refl)
+
+pub returns-then-spot-eq-ROOM-clause-cause : goal.returns-then-spot-eq-ROOM-clause-cause
+returns-then-spot-eq-ROOM-clause-cause g c = c.refuse.ensures.refused.cause (g.R.Rows.view c.args.seat.now) c.in-Ok.ensures.spot.found
+
+pub returns-then-spot-eq-ROOM-clause-quiet : goal.returns-then-spot-eq-ROOM-clause-quiet
+returns-then-spot-eq-ROOM-clause-quiet g c alone = c.refuse.ensures.refused.quiet (ap (λ (z : Shape). z.alone) c.in-Ok.ensures.fits.1 ∙ alone) (c.in-Ok.ensures.spot.held ∙ c.requires.held) (c.in-Ok.ensures.spot.latest alone c.requires.held)
+
+pub refuse-requires-then-spot-ge-LAST_NUMBER-clause-fits : goal.refuse-requires-then-spot-ge-LAST_NUMBER-clause-fits
+refuse-requires-then-spot-ge-LAST_NUMBER-clause-fits g c = c.in-Ok.ensures.fits.0
+
+pub refuse-requires-then-spot-ge-LAST_NUMBER-clause-on : goal.refuse-requires-then-spot-ge-LAST_NUMBER-clause-on
+refuse-requires-then-spot-ge-LAST_NUMBER-clause-on g c = subst (λ (z : Shape). IsOn z (g.R.Rows.view c.locate.new.seat) c.args.worker c.args.frames c.args.key c.in-Ok.spot.leaf.glimpse) (sym c.in-Ok.ensures.fits.1) c.in-Ok.ensures.spot.spot.leaf.on
+
+pub returns-then-spot-ge-LAST_NUMBER-clause-fits : goal.returns-then-spot-ge-LAST_NUMBER-clause-fits
+returns-then-spot-ge-LAST_NUMBER-clause-fits g c = (c.refuse-then-spot-ge-LAST_NUMBER.ensures.fits.0, c.refuse-then-spot-ge-LAST_NUMBER.ensures.fits.1 ∙ c.in-Ok.ensures.fits.1, c.refuse-then-spot-ge-LAST_NUMBER.ensures.refused.held ∙ c.in-Ok.ensures.spot.held ∙ c.requires.held)
+
+pub returns-then-spot-ge-LAST_NUMBER-clause-last : goal.returns-then-spot-ge-LAST_NUMBER-clause-last
+returns-then-spot-ge-LAST_NUMBER-clause-last g c = undrawn_last (g.D.Draw.last_of c.args.draw.now) (g.D.Draw.clock_of c.args.draw.now).clock c.refuse-then-spot-ge-LAST_NUMBER.result c.refuse-then-spot-ge-LAST_NUMBER.ensures.undrawn
+
+pub returns-then-spot-ge-LAST_NUMBER-clause-kept : goal.returns-then-spot-ge-LAST_NUMBER-clause-kept
+returns-then-spot-ge-LAST_NUMBER-clause-kept g c = (refl, refl, refl)
+
+pub returns-then-spot-ge-LAST_NUMBER-clause-cause : goal.returns-then-spot-ge-LAST_NUMBER-clause-cause
+returns-then-spot-ge-LAST_NUMBER-clause-cause g c = c.refuse-then-spot-ge-LAST_NUMBER.ensures.refused.cause (g.R.Rows.view c.args.seat.now) c.in-Ok.ensures.spot.found
+
+pub returns-then-spot-ge-LAST_NUMBER-clause-quiet : goal.returns-then-spot-ge-LAST_NUMBER-clause-quiet
+returns-then-spot-ge-LAST_NUMBER-clause-quiet g c alone = c.refuse-then-spot-ge-LAST_NUMBER.ensures.refused.quiet (ap (λ (z : Shape). z.alone) c.in-Ok.ensures.fits.1 ∙ alone) (c.in-Ok.ensures.spot.held ∙ c.requires.held) (c.in-Ok.ensures.spot.latest alone c.requires.held)
+
+pub put_at-requires-clause-fits : goal.put_at-requires-clause-fits
+put_at-requires-clause-fits g c = c.in-Ok.ensures.fits.0
+
+pub put_at-requires-clause-spot : goal.put_at-requires-clause-spot
+put_at-requires-clause-spot g c = subst (λ (z : Shape). AtSpot z (g.R.Rows.view c.locate.new.seat) c.args.worker c.args.frames c.args.key c.in-Ok.spot) (sym c.in-Ok.ensures.fits.1) c.in-Ok.ensures.spot.spot
+
+pub put_at-requires-clause-held : goal.put_at-requires-clause-held
+put_at-requires-clause-held g c = c.in-Ok.ensures.spot.held ∙ c.requires.held
+
+pub returns-clause-fits : goal.returns-clause-fits
+returns-clause-fits g c = (c.put_at.ensures.fits.0, c.put_at.ensures.fits.1 ∙ c.in-Ok.ensures.fits.1, c.put_at.ensures.fits.2)
+
+pub returns-clause-drew : goal.returns-clause-drew
+returns-clause-drew g c = c.put_at.ensures.drew
+
+pub returns-clause-last : goal.returns-clause-last
+returns-clause-last g c = c.put_at.ensures.last
+
+pub returns-clause-kept : goal.returns-clause-kept
+returns-clause-kept g c = c.put_at.ensures.kept
+
+pub returns-clause-cause : goal.returns-clause-cause
+returns-clause-cause g c = c.put_at.ensures.cause (g.R.Rows.view c.args.seat.now) c.in-Ok.ensures.spot.found
+
+pub returns-clause-quiet : goal.returns-clause-quiet
+returns-clause-quiet g c alone = c.put_at.ensures.quiet (ap (λ (z : Shape). z.alone) c.in-Ok.ensures.fits.1 ∙ alone) (c.in-Ok.ensures.spot.latest alone c.requires.held)

@@ -1,6 +1,8 @@
-use Rattle.std.proofs.Common.{ℕ, sym, subst, [], ◌∷◌}
+use Rattle.std.proofs.Common.{ℕ, ◌∙◌, refl, ap, sym, subst, [], ◌∷◌}
 use Rattle.row_words.specs.declared.event.Event.TheVariants.{Miss}
+use Rattle.rows_trait.specs.declared.view.View.{View}
 use Rattle.rows_trait.specs.Views.{Shape, may}
+use Rattle.rows_trait.specs.Causes.{HasFound}
 use Rattle.rows_trait.specs.Turns.{Ran}
 use Rattle.rows_trait.proofs.Runs.{ran_none}
 use Rattle.btree_descent.specs.declared.put.Put.TheVariants.{Done, Unstaged}
@@ -81,3 +83,92 @@ returns-in-Err-RowSpent-clause-put g c =
     let names = checked c.args.worker glimpse.version in
     let e : NotHeld y glimpse.row glimpse.version names v RowSpent w = subst (λ q. NotHeld y glimpse.row glimpse.version names v q w) c.in-Err-RowSpent.field-0-is c.in-Err-RowSpent.ensures.err in
     subst (λ u. Ran y.alone v [] u) (sym e.1) (ran_none y.alone v)
+
+pub upgrade-requires-clause-fits : goal.upgrade-requires-clause-fits
+upgrade-requires-clause-fits g c = c.requires.fits
+
+pub upgrade-requires-clause-version : goal.upgrade-requires-clause-version
+upgrade-requires-clause-version g c = c.requires.spot.leaf.on.even
+
+pub put_held-requires-clause-fits : goal.put_held-requires-clause-fits
+put_held-requires-clause-fits g c = c.in-Ok.ensures.fits.0
+
+pub returns-in-Ok-put_held-clause-fits : goal.returns-in-Ok-put_held-clause-fits
+returns-in-Ok-put_held-clause-fits g c = let f = c.in-Ok-put_held.ensures.fits in (f.0, f.1 ∙ c.in-Ok.ensures.fits.1, f.2)
+
+pub returns-in-Ok-put_held-clause-drew : goal.returns-in-Ok-put_held-clause-drew
+returns-in-Ok-put_held-clause-drew g c = c.in-Ok-put_held.ensures.stages
+
+pub returns-in-Ok-put_held-clause-last : goal.returns-in-Ok-put_held-clause-last
+returns-in-Ok-put_held-clause-last g c = c.in-Ok-put_held.ensures.last
+
+pub returns-in-Ok-put_held-clause-kept : goal.returns-in-Ok-put_held-clause-kept
+returns-in-Ok-put_held-clause-kept g c = c.in-Ok-put_held.ensures.kept
+
+pub returns-in-Err-clause-fits : goal.returns-in-Err-clause-fits
+returns-in-Err-clause-fits g c = let f = c.in-Err.ensures.fits in (f.0, f.1 ∙ c.in-Ok.ensures.fits.1, f.2)
+
+pub returns-in-Err-clause-drew : goal.returns-in-Err-clause-drew
+returns-in-Err-clause-drew g c = c.in-Err.ensures.stages
+
+pub returns-in-Err-clause-last : goal.returns-in-Err-clause-last
+returns-in-Err-clause-last g c = c.in-Err.ensures.same_last
+
+pub returns-in-Err-clause-kept : goal.returns-in-Err-clause-kept
+returns-in-Err-clause-kept g c = c.in-Err.ensures.kept
+
+pub returns-in-Err-Moved-clause-fits : goal.returns-in-Err-Moved-clause-fits
+returns-in-Err-Moved-clause-fits g c =
+    let y = g.R.Rows.shape c.args.rows.now in
+    let v = g.R.Rows.view c.args.seat.now in
+    let w = g.R.Rows.view c.upgrade.new.seat in
+    let glimpse = c.args.spot.now.leaf.glimpse in
+    let names = checked c.args.worker glimpse.version in
+    let e : NotHeld y glimpse.row glimpse.version names v (Moved c.in-Err-Moved.moved) w = subst (λ q. NotHeld y glimpse.row glimpse.version names v q w) c.in-Err-Moved.field-0-is c.in-Err-Moved.ensures.err in
+    (c.in-Err-Moved.ensures.fits.0, c.in-Err-Moved.ensures.fits.1, e.2.looked.held ∙ c.requires.held)
+
+pub returns-in-Err-Moved-clause-kept : goal.returns-in-Err-Moved-clause-kept
+returns-in-Err-Moved-clause-kept g c = (refl, refl, refl)
+
+pub returns-in-Err-Moved-clause-cause : goal.returns-in-Err-Moved-clause-cause
+returns-in-Err-Moved-clause-cause g c u found =
+    let y = g.R.Rows.shape c.args.rows.now in
+    let v = g.R.Rows.view c.args.seat.now in
+    let w = g.R.Rows.view c.upgrade.new.seat in
+    let glimpse = c.args.spot.now.leaf.glimpse in
+    let names = checked c.args.worker glimpse.version in
+    let e : NotHeld y glimpse.row glimpse.version names v (Moved c.in-Err-Moved.moved) w = subst (λ q. NotHeld y glimpse.row glimpse.version names v q w) c.in-Err-Moved.field-0-is c.in-Err-Moved.ensures.err in
+    e.3 u found
+
+pub returns-in-Err-Moved-clause-quiet : goal.returns-in-Err-Moved-clause-quiet
+returns-in-Err-Moved-clause-quiet g c alone last =
+    let y = g.R.Rows.shape c.args.rows.now in
+    let v = g.R.Rows.view c.args.seat.now in
+    let w = g.R.Rows.view c.upgrade.new.seat in
+    let glimpse = c.args.spot.now.leaf.glimpse in
+    let names = checked c.args.worker glimpse.version in
+    let e : NotHeld y glimpse.row glimpse.version names v (Moved c.in-Err-Moved.moved) w = subst (λ q. NotHeld y glimpse.row glimpse.version names v q w) c.in-Err-Moved.field-0-is c.in-Err-Moved.ensures.err in
+    e.2.other (e.2.looked.steady alone glimpse.version last)
+
+pub returns-in-Err-RowSpent-clause-fits : goal.returns-in-Err-RowSpent-clause-fits
+returns-in-Err-RowSpent-clause-fits g c =
+    let y = g.R.Rows.shape c.args.rows.now in
+    let v = g.R.Rows.view c.args.seat.now in
+    let w = g.R.Rows.view c.upgrade.new.seat in
+    let glimpse = c.args.spot.now.leaf.glimpse in
+    let names = checked c.args.worker glimpse.version in
+    let e : NotHeld y glimpse.row glimpse.version names v RowSpent w = subst (λ q. NotHeld y glimpse.row glimpse.version names v q w) c.in-Err-RowSpent.field-0-is c.in-Err-RowSpent.ensures.err in
+    (c.in-Err-RowSpent.ensures.fits.0, c.in-Err-RowSpent.ensures.fits.1, ap (λ (u : View). u.held) e.1 ∙ c.requires.held)
+
+pub returns-in-Err-RowSpent-clause-kept : goal.returns-in-Err-RowSpent-clause-kept
+returns-in-Err-RowSpent-clause-kept g c = (refl, refl, refl)
+
+pub returns-in-Err-RowSpent-clause-cause : goal.returns-in-Err-RowSpent-clause-cause
+returns-in-Err-RowSpent-clause-cause g c u found =
+    let y = g.R.Rows.shape c.args.rows.now in
+    let v = g.R.Rows.view c.args.seat.now in
+    let w = g.R.Rows.view c.upgrade.new.seat in
+    let glimpse = c.args.spot.now.leaf.glimpse in
+    let names = checked c.args.worker glimpse.version in
+    let e : NotHeld y glimpse.row glimpse.version names v RowSpent w = subst (λ q. NotHeld y glimpse.row glimpse.version names v q w) c.in-Err-RowSpent.field-0-is c.in-Err-RowSpent.ensures.err in
+    record { version = glimpse.version; spent = e.0; found = subst (λ x. HasFound glimpse.row glimpse.version u x) (sym e.1) found }

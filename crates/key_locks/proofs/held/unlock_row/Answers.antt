@@ -42,3 +42,21 @@ returns-clause-published g c =
     let Q : Shape × Row → Type 0 = λ y. IsPublished y.0.alone (Unlock w i) i y.1 (unlocked y.1 w c.args.«end») u x in
     let o = (state v).core.row i in
     published_before z.alone (Unlock w i) i o (unlocked o w c.args.«end») v u x stayed.ran (subst Q (λ j. (c.load-words.ensures.fits.1 j, stayed.same i c.requires.at.place j)) c.publish_unlock.ensures.published)
+
+pub load-words-requires-clause-fits : goal.load-words-requires-clause-fits
+load-words-requires-clause-fits g c = c.requires.fits
+
+pub load-words-requires-clause-at : goal.load-words-requires-clause-at
+load-words-requires-clause-at g c = c.requires.at
+
+pub load-words-requires-clause-held : goal.load-words-requires-clause-held
+load-words-requires-clause-held g c = c.requires.held
+
+pub publish_unlock-requires-clause-fits : goal.publish_unlock-requires-clause-fits
+publish_unlock-requires-clause-fits g c = c.load-words.ensures.fits.0
+
+pub publish_unlock-requires-clause-held : goal.publish_unlock-requires-clause-held
+publish_unlock-requires-clause-held g c = c.load-words.ensures.held
+
+pub publish_unlock-requires-clause-said : goal.publish_unlock-requires-clause-said
+publish_unlock-requires-clause-said g c = c.load-words.ensures.said

@@ -1,6 +1,7 @@
-use Rattle.std.proofs.Common.{◌∙◌, ℕ, [], ◌∷◌, refl, sym, ap, subst, false}
+use Rattle.std.proofs.Common.{◌∙◌, ◌<◌, ℕ, [], ◌∷◌, refl, sym, ap, subst, false, arith}
 use Rattle.rows_trait.specs.declared.view.View.{View}
 use Rattle.rows_trait.specs.Views.{Shape, may, hold, holds}
+use Rattle.rows_trait.specs.Layout.{rows_of}
 use Rattle.rows_trait.specs.Causes.{HasFound}
 use Rattle.rows_trait.specs.Turns.{Taken, Ran}
 use Rattle.rows_trait.proofs.Runs.{ran_append}
@@ -89,3 +90,60 @@ returns-in-Err-RowSpent-clause-err g c =
       last = e.0;
       found = subst (λ (x : View). HasFound c.args.row n v x) (sym e.1) c.in-Ok.ensures.since.1;
     }
+
+pub start-requires-clause-fits : goal.start-requires-clause-fits
+start-requires-clause-fits g c = c.requires.fits
+
+pub start-requires-clause-row : goal.start-requires-clause-row
+start-requires-clause-row g c = c.requires.row
+
+pub returns-in-Err-clause-fits : goal.returns-in-Err-clause-fits
+returns-in-Err-clause-fits g c = c.in-Err.ensures.fits
+
+pub returns-in-Err-clause-same : goal.returns-in-Err-clause-same
+returns-in-Err-clause-same g c = c.in-Err.ensures.err.2.held
+
+pub returns-in-Err-clause-quiet : goal.returns-in-Err-clause-quiet
+returns-in-Err-clause-quiet g c alone free = let even = c.in-Err.ensures.err.2.free alone free in let odd = c.in-Err.ensures.err.1 in omega arith
+
+pub upgrade-requires-clause-fits : goal.upgrade-requires-clause-fits
+upgrade-requires-clause-fits g c = c.in-Ok.ensures.fits.0
+
+pub upgrade-requires-clause-row : goal.upgrade-requires-clause-row
+upgrade-requires-clause-row g c =
+    let Q : Shape × ℕ → Type 0 = λ s. s.1 < rows_of s.0.sizes in
+    let o = c.in-Ok.ensures.ok in
+    let same = c.in-Ok.ensures.fits.1 in
+    subst Q (λ j. (sym same j, sym o.0 j)) c.requires.row
+
+pub upgrade-requires-clause-version : goal.upgrade-requires-clause-version
+upgrade-requires-clause-version g c = c.in-Ok.ensures.ok.1
+
+pub returns-in-Ok-upgrade-clause-fits : goal.returns-in-Ok-upgrade-clause-fits
+returns-in-Ok-upgrade-clause-fits g c = (c.in-Ok-upgrade.ensures.fits.0, c.in-Ok-upgrade.ensures.fits.1 ∙ c.in-Ok.ensures.fits.1)
+
+pub returns-in-Err-Moved-clause-fits : goal.returns-in-Err-Moved-clause-fits
+returns-in-Err-Moved-clause-fits g c = (c.in-Err-Moved.ensures.fits.0, c.in-Err-Moved.ensures.fits.1 ∙ c.in-Ok.ensures.fits.1)
+
+pub returns-in-Err-Moved-clause-same : goal.returns-in-Err-Moved-clause-same
+returns-in-Err-Moved-clause-same g c =
+    let z = g.R.Rows.shape c.args.rows.now in
+    let u = g.R.Rows.view c.start.new.seat in
+    let w = g.R.Rows.view c.upgrade.new.seat in
+    let o = c.in-Ok.ensures.ok in
+    let n = c.in-Ok.glimpse.version in
+    let Q : Shape × ℕ × Unheld → Type 0 = λ s. NotHeld s.0 s.1 n (checked c.args.worker n) u s.2 w in
+    let e = subst Q (λ j. (c.in-Ok.ensures.fits.1 j, o.0 j, c.in-Err-Moved.field-0-is j)) c.in-Err-Moved.ensures.err in
+    e.2.looked.held ∙ o.3.held
+
+pub returns-in-Err-RowSpent-clause-fits : goal.returns-in-Err-RowSpent-clause-fits
+returns-in-Err-RowSpent-clause-fits g c = (c.in-Err-RowSpent.ensures.fits.0, c.in-Err-RowSpent.ensures.fits.1 ∙ c.in-Ok.ensures.fits.1)
+
+pub returns-in-Err-RowSpent-clause-same : goal.returns-in-Err-RowSpent-clause-same
+returns-in-Err-RowSpent-clause-same g c =
+    let u = g.R.Rows.view c.start.new.seat in
+    let w = g.R.Rows.view c.upgrade.new.seat in
+    let n = c.in-Ok.glimpse.version in
+    let Q : Unheld → Type 0 = λ s. NotHeld (g.R.Rows.shape c.start.new.rows) c.in-Ok.glimpse.row n (checked c.args.worker n) u s w in
+    let e = subst Q c.in-Err-RowSpent.field-0-is c.in-Err-RowSpent.ensures.err in
+    ap (λ (x : View). x.held) e.1 ∙ c.in-Ok.ensures.ok.3.held

@@ -21,3 +21,24 @@ returns-clause-kept g c =
     let k3 = kept_more (g.R.Rows.shape c.word-holder.new.rows) z row 2 c.word-number.result v u2 u3 s2 k2 c.word-number.ensures.step in
     let k4 = kept_more (g.R.Rows.shape c.word-number.new.rows) z row 3 c.word-log.result v u3 u4 s3 k3 c.word-log.ensures.step in
     kept_more (g.R.Rows.shape c.word-log.new.rows) z row 4 c.word-ends.result v u4 u5 s4 k4 c.word-ends.ensures.step
+
+pub word-readers-requires-clause-fits : goal.word-readers-requires-clause-fits
+word-readers-requires-clause-fits g c = c.requires.fits
+
+pub word-holder-requires-clause-fits : goal.word-holder-requires-clause-fits
+word-holder-requires-clause-fits g c = c.word-readers.ensures.fits.0
+
+pub word-number-requires-clause-fits : goal.word-number-requires-clause-fits
+word-number-requires-clause-fits g c = c.word-holder.ensures.fits.0
+
+pub word-log-requires-clause-fits : goal.word-log-requires-clause-fits
+word-log-requires-clause-fits g c = c.word-number.ensures.fits.0
+
+pub word-ends-requires-clause-fits : goal.word-ends-requires-clause-fits
+word-ends-requires-clause-fits g c = c.word-log.ensures.fits.0
+
+pub returns-clause-fits : goal.returns-clause-fits
+returns-clause-fits g c = (c.word-ends.ensures.fits.0, c.word-ends.ensures.fits.1 ∙ c.word-log.ensures.fits.1 ∙ c.word-number.ensures.fits.1 ∙ c.word-holder.ensures.fits.1 ∙ c.word-readers.ensures.fits.1)
+
+pub word-readers-requires-clause-seen : goal.word-readers-requires-clause-seen
+word-readers-requires-clause-seen g c = c.requires.seen
