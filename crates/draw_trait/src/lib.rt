@@ -5,5 +5,3 @@
 #![tactic(auto)]
 
 pub mod draw;
-#[cfg(test)]
-mod tests;

@@ -3,8 +3,6 @@
 #![tactic(auto)]
 
 mod frame;
-#[cfg(test)]
-mod tests;
 mod worker;
 
 ghost use Rattle.std.specs.Prelude.{◌≡◌, ◌+◌, ◌<◌, ◌≤◌, ◌^◌, length, IfOk};

@@ -224,6 +224,11 @@ fn argument(rt: &HostRuntime) -> io::Result<u64>
     Ok(times.min(1000))
 }
 
+// What was done, what it adds up to, and its milliseconds.
+fn report(rt: &HostRuntime, done: &str, sum: u64, took: u128) -> io::Result<()> {
+    println!(rt; "{done} {sum} {took} ms")
+}
+
 fn handful(rt: &HostRuntime) -> io::Result<()> {
     let alloc = rt.alloc();
     let mut sessions = opened(alloc, 60)?;
@@ -245,20 +250,20 @@ fn main(rt: HostRuntime) -> io::Result<()> {
     let alloc = rt.alloc();
     let nodes = pages(alloc, 60)?;
     let (sum, took) = over_nodes(&rt, &nodes, times)?;
-    println!(rt; "finds over nodes {sum} {took} ms")?;
+    report(&rt, "finds over nodes", sum, took)?;
     let mut sessions = opened(alloc, 60)?;
     let start = Instant::now(&rt)?;
     let sum = finds(&mut sessions, times);
     let took = start.elapsed(&rt)?.as_millis();
-    println!(rt; "finds over rows {sum} {took} ms")?;
+    report(&rt, "finds over rows", sum, took)?;
     let start = Instant::now(&rt)?;
     let sum = puts(&mut sessions, times);
     let took = start.elapsed(&rt)?.as_millis();
-    println!(rt; "puts over entries {sum} {took} ms")?;
+    report(&rt, "puts over entries", sum, took)?;
     let start = Instant::now(&rt)?;
     let sum = locks(&mut sessions, times);
     let took = start.elapsed(&rt)?.as_millis();
-    println!(rt; "locks and unlocks {sum} {took} ms")?;
+    report(&rt, "locks and unlocks", sum, took)?;
     new_entries(&rt, times)
 }
 
@@ -274,5 +279,5 @@ fn new_entries(rt: &HostRuntime, times: u64) -> io::Result<()>
         sum = sum.wrapping_add(fills(&mut sessions));
         took = took.wrapping_add(start.elapsed(rt)?.as_micros());
     }
-    println!(rt; "new entries {sum} {} ms", took / 1000)
+    report(rt, "new entries", sum, took / 1000)
 }

@@ -1,21 +1,35 @@
-// What calls of sessions answer, as far as it is compared.
+// Calls of sessions, and what they answer, as far as it is compared.
+ghost use Rattle.std.specs.Prelude.{◌≡◌, ◌<◌, ◌≤◌};
+ghost use Rattle.row_sessions.specs.Standing.{Stands, workers_of};
+
 use btree_descent::descent::Answer;
 use btree_descent::put::Put;
 use key_locks::locking::Refusal;
+use key_locks::mode::Mode;
 use row_sessions::locking::Unlocked;
 use row_sessions::puts::Unput;
+use row_sessions::sessions::Sessions;
 
-/// What came of a find.
-pub fn found(answer: Answer) -> Told {
-    match answer {
-        Answer::Found(word) => Told::Word(word),
-        _ => Told::Other,
-    }
+/// The word of a tombstone, the greatest that there is.
+pub const TOMBSTONE: u64 = 1 << 63;
+
+/// What a worker calls, with a key and a word.
+#[derive(Clone, Copy)]
+pub enum Call {
+    Begin,
+    End,
+    /// By the main actor, whoever the worker is.
+    Find(u32),
+    Lock(u32, Mode),
+    Put(u32, u64),
+    Unlock(u32),
 }
 
 /// What came of a call.
-#[derive(Clone, Copy, Debug, PartialEq, Eq)]
+#[derive(Clone, Copy, PartialEq, Eq)]
 pub enum Told {
+    /// Whether it was done.
+    Did(bool),
     /// The lock was taken.
     Locked,
     /// The key's word, or the word that it had.
@@ -30,6 +44,30 @@ pub enum Told {
     Other,
 }
 
+/// Makes a worker's call.
+pub fn answer(sessions: &mut Sessions, worker: u32, call: Call) -> Told
+    requires stands { Stands sessions.old }
+    requires worker { (0 < worker) × (worker ≤ workers_of sessions.old) }
+    ensures stands { Stands sessions.new }
+    ensures same { workers_of sessions.new ≡ workers_of sessions.old }
+{
+    match call {
+        Call::Begin => Told::Did(sessions.begin(worker)),
+        Call::End => Told::Did(sessions.end(worker)),
+        Call::Find(key) => found(sessions.find(u64::from(key))),
+        Call::Lock(key, mode) => locked(sessions.lock(worker, u64::from(key), mode)),
+        Call::Put(key, word) => put(sessions.put(worker, u64::from(key), word.min(TOMBSTONE))),
+        Call::Unlock(key) => Told::Did(sessions.unlock(worker, u64::from(key))),
+    }
+}
+
+fn found(answer: Answer) -> Told {
+    match answer {
+        Answer::Found(word) => Told::Word(word),
+        _ => Told::Other,
+    }
+}
+
 fn refused(unlocked: Unlocked) -> Told {
     match unlocked {
         Unlocked::NotOpen => Told::NotOpen,
@@ -38,14 +76,14 @@ fn refused(unlocked: Unlocked) -> Told {
     }
 }
 
-pub fn locked(outcome: Result<(), Unlocked>) -> Told {
+fn locked(outcome: Result<(), Unlocked>) -> Told {
     match outcome {
         Ok(()) => Told::Locked,
         Err(unlocked) => refused(unlocked),
     }
 }
 
-pub fn put(outcome: Result<Option<u64>, Unput>) -> Told {
+fn put(outcome: Result<Option<u64>, Unput>) -> Told {
     match outcome {
         Ok(before) => Told::Word(before),
         Err(Unput::Spent) => Told::NotOpen,

@@ -2,14 +2,87 @@
 ghost use Rattle.std.specs.Prelude.{◌≤◌, IfOk};
 ghost use Rattle.row_sessions.specs.Standing.{Stands, workers_of};
 
-use crate::answers::{Told, found, locked, put};
+use crate::answers::{Call, TOMBSTONE, Told, answer};
 use key_locks::mode::Mode;
 use row_sessions::pages::two_levels;
 use row_sessions::sessions::{Sessions, Unopened};
 use std::alloc::Global;
 use std::process::Abort;
 
-const TOMBSTONE: u64 = 1 << 63;
+/// A worker's call, and what it is to be told.
+#[derive(Clone, Copy)]
+pub struct Case(pub u32, pub Call, pub Told);
+
+/// What is called, one after the other.
+struct Scenario {
+    name: &'static str,
+    cases: &'static [Case],
+}
+
+static SCENARIOS: [Scenario; 4] = [
+    Scenario {
+        name: "a full leaf takes a key that it has and no other",
+        cases: &[
+            Case(1, Call::Begin, Told::Did(true)),
+            Case(1, Call::Put(5, 1), Told::Full),
+            Case(1, Call::Put(599, 1), Told::Full),
+            Case(1, Call::Put(590, 1), Told::Word(Some(59))),
+            Case(1, Call::Put(0, 2), Told::Word(Some(0))),
+            Case(1, Call::Find(590), Told::Word(Some(1))),
+            Case(1, Call::Find(0), Told::Word(Some(2))),
+            Case(1, Call::Find(5), Told::Word(None)),
+        ],
+    },
+    Scenario {
+        name: "a tombstone's word is told as it stands",
+        cases: &[
+            Case(1, Call::Begin, Told::Did(true)),
+            Case(1, Call::Put(10, TOMBSTONE), Told::Word(Some(1))),
+            Case(1, Call::Find(10), Told::Word(Some(TOMBSTONE))),
+            Case(1, Call::Put(10, 3), Told::Word(Some(TOMBSTONE))),
+            Case(1, Call::Find(10), Told::Word(Some(3))),
+        ],
+    },
+    Scenario {
+        name: "two keys of one row, alike modulo eight, are one lock",
+        cases: &[
+            Case(1, Call::Begin, Told::Did(true)),
+            Case(2, Call::Begin, Told::Did(true)),
+            Case(1, Call::Put(80, 5), Told::Word(Some(8))),
+            Case(1, Call::Put(160, 6), Told::Word(Some(16))),
+            Case(2, Call::Put(240, 6), Told::Conflict(1)),
+            Case(1, Call::End, Told::Did(true)),
+            Case(1, Call::Unlock(80), Told::Did(true)),
+            Case(1, Call::Unlock(160), Told::Did(false)),
+            Case(2, Call::Put(240, 6), Told::Word(Some(24))),
+        ],
+    },
+    Scenario {
+        name: "a sole reader becomes the holder, and the least other reader is named",
+        cases: &[
+            Case(1, Call::Begin, Told::Did(true)),
+            Case(2, Call::Begin, Told::Did(true)),
+            Case(3, Call::Begin, Told::Did(true)),
+            Case(2, Call::Lock(80, Mode::Shared), Told::Locked),
+            Case(3, Call::Lock(80, Mode::Shared), Told::Locked),
+            Case(1, Call::Lock(80, Mode::Alone), Told::Conflict(2)),
+            Case(2, Call::Lock(80, Mode::Alone), Told::Conflict(3)),
+            Case(3, Call::End, Told::Did(true)),
+            Case(3, Call::Unlock(80), Told::Did(true)),
+            Case(2, Call::Lock(80, Mode::Alone), Told::Locked),
+            Case(2, Call::Lock(80, Mode::Shared), Told::Locked),
+            Case(1, Call::Lock(80, Mode::Shared), Told::Conflict(2)),
+        ],
+    },
+];
+
+// Behind sixty-four changes of key 1000, the last one to the word 63.
+static A_TRANSACTION_MAKES_NO_MORE_CHANGES: [Case; 4] = [
+    Case(1, Call::Put(1000, 64), Told::NotOpen),
+    Case(1, Call::End, Told::Did(true)),
+    Case(1, Call::Begin, Told::Did(true)),
+    Case(1, Call::Put(1000, 64), Told::Word(Some(63))),
+];
 
 // Three workers and eight lock rows over two leaves, which begin at 0 and 1000, with entries ten apart.
 fn opened(alloc: Global, entries: u64) -> Result<Sessions, Unopened>
@@ -32,79 +105,45 @@ pub fn sessions(rt: &impl Abort, alloc: Global, entries: u64) -> Sessions
     }
 }
 
-#[test]
-fn a_full_leaf_takes_a_key_that_it_has_and_no_other(rt: HostRuntime) {
-    let mut sessions = sessions(&rt, rt.alloc(), 60);
-    assert!(rt; sessions.begin(1));
-    assert_eq!(rt; put(sessions.put(1, 5, 1)), Told::Full);
-    assert_eq!(rt; put(sessions.put(1, 599, 1)), Told::Full);
-    assert_eq!(rt; put(sessions.put(1, 590, 1)), Told::Word(Some(59)));
-    assert_eq!(rt; put(sessions.put(1, 0, 2)), Told::Word(Some(0)));
-    assert_eq!(rt; found(sessions.find(590)), Told::Word(Some(1)));
-    assert_eq!(rt; found(sessions.find(0)), Told::Word(Some(2)));
-    assert_eq!(rt; found(sessions.find(5)), Told::Word(None));
+// Whether a call of one of the three workers is told what it is to be.
+pub fn is_told(sessions: &mut Sessions, case: &Case) -> bool
+    requires { Stands sessions.old × (3 ≤ workers_of sessions.old) }
+    ensures { Stands sessions.new × (3 ≤ workers_of sessions.new) }
+{
+    let Case(worker, call, told) = *case;
+    1 <= worker && worker <= 3 && answer(sessions, worker, call) == told
+}
+
+// The place of the first row that is not told what it is to be.
+fn first_wrong(sessions: &mut Sessions, cases: &[Case]) -> Option<usize>
+    requires { Stands sessions.old × (3 ≤ workers_of sessions.old) }
+    ensures { Stands sessions.new × (3 ≤ workers_of sessions.new) }
+{
+    for (place, case) in cases.iter().enumerate() {
+        if !is_told(sessions, case) {
+            return Some(place);
+        }
+    }
+    None
 }
 
 #[test]
-fn a_tombstones_word_is_told_as_it_stands(rt: HostRuntime) {
-    let mut sessions = sessions(&rt, rt.alloc(), 60);
-    assert!(rt; sessions.begin(1));
-    assert_eq!(rt; put(sessions.put(1, 10, TOMBSTONE)), Told::Word(Some(1)));
-    assert_eq!(rt; found(sessions.find(10)), Told::Word(Some(TOMBSTONE)));
-    assert_eq!(rt; put(sessions.put(1, 10, 3)), Told::Word(Some(TOMBSTONE)));
-    assert_eq!(rt; found(sessions.find(10)), Told::Word(Some(3)));
-}
-
-#[test]
-fn two_keys_of_one_row_are_one_lock(rt: HostRuntime) {
-    let mut sessions = sessions(&rt, rt.alloc(), 60);
-    assert!(rt; sessions.begin(1) && sessions.begin(2));
-    // keys that are alike modulo eight
-    assert_eq!(rt; put(sessions.put(1, 80, 5)), Told::Word(Some(8)));
-    assert_eq!(rt; put(sessions.put(1, 160, 6)), Told::Word(Some(16)));
-    assert_eq!(rt; put(sessions.put(2, 240, 6)), Told::Conflict(1));
-    assert!(rt; sessions.end(1));
-    assert!(rt; sessions.unlock(1, 80));
-    assert!(rt; !sessions.unlock(1, 160));
-    assert_eq!(rt; put(sessions.put(2, 240, 6)), Told::Word(Some(24)));
-}
-
-#[test]
-fn a_sole_reader_becomes_the_holder_and_the_least_other_reader_is_named(rt: HostRuntime) {
-    let mut sessions = sessions(&rt, rt.alloc(), 60);
-    assert!(rt; sessions.begin(1) && sessions.begin(2) && sessions.begin(3));
-    assert_eq!(rt; locked(sessions.lock(2, 80, Mode::Shared)), Told::Locked);
-    assert_eq!(rt; locked(sessions.lock(3, 80, Mode::Shared)), Told::Locked);
-    assert_eq!(rt;
-        locked(sessions.lock(1, 80, Mode::Alone)),
-        Told::Conflict(2)
-    );
-    assert_eq!(rt;
-        locked(sessions.lock(2, 80, Mode::Alone)),
-        Told::Conflict(3)
-    );
-    assert!(rt; sessions.end(3) && sessions.unlock(3, 80));
-    assert_eq!(rt; locked(sessions.lock(2, 80, Mode::Alone)), Told::Locked);
-    assert_eq!(rt; locked(sessions.lock(2, 80, Mode::Shared)), Told::Locked);
-    assert_eq!(rt;
-        locked(sessions.lock(1, 80, Mode::Shared)),
-        Told::Conflict(2)
-    );
+fn each_call_is_told_what_its_row_says(rt: HostRuntime) {
+    for scenario in &SCENARIOS {
+        let mut sessions = sessions(&rt, rt.alloc(), 60);
+        let wrong = first_wrong(&mut sessions, scenario.cases);
+        assert!(rt; wrong.is_none(), "{}: row {wrong:?}", scenario.name);
+    }
 }
 
 #[test]
 fn a_transaction_makes_sixty_four_changes(rt: HostRuntime) {
     let mut sessions = sessions(&rt, rt.alloc(), 60);
-    assert!(rt; sessions.begin(1));
+    let mut goes = is_told(&mut sessions, &Case(1, Call::Begin, Told::Did(true)));
     for change in 0..64u64 {
         // the entry that is there has the word 0
-        let before = change.saturating_sub(1);
-        assert_eq!(rt;
-            put(sessions.put(1, 1000, change)),
-            Told::Word(Some(before))
-        );
+        let before = Told::Word(Some(change.saturating_sub(1)));
+        goes &= is_told(&mut sessions, &Case(1, Call::Put(1000, change), before));
     }
-    assert_eq!(rt; put(sessions.put(1, 1000, 64)), Told::NotOpen);
-    assert!(rt; sessions.end(1) && sessions.begin(1));
-    assert_eq!(rt; put(sessions.put(1, 1000, 64)), Told::Word(Some(63)));
+    assert!(rt; goes && first_wrong(&mut sessions, &A_TRANSACTION_MAKES_NO_MORE_CHANGES).is_none());
 }

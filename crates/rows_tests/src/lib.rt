@@ -6,7 +6,11 @@ mod answers;
 #[cfg(test)]
 mod cases;
 #[cfg(test)]
+mod draws;
+#[cfg(test)]
 mod model;
+#[cfg(test)]
+mod openings;
 #[cfg(test)]
 mod random;
 #[cfg(test)]

@@ -1,7 +1,7 @@
 // What sessions over rows have to answer: a word for each key, and for each lock row who holds it.
 ghost use Rattle.std.specs.Prelude.{◌<◌};
 
-use crate::answers::Told;
+use crate::answers::{Call, Told};
 use key_locks::mode::Mode;
 use std::alloc::{AllocError, Global};
 
@@ -26,6 +26,14 @@ pub struct Model {
     rows: Vec<Holders>,
     is_open: [bool; 17],
     changes: [u32; 17],
+}
+
+/// Where a key has its lock and its word: the lock row, the leaf, and the slot there.
+#[derive(Clone, Copy)]
+pub struct Place {
+    pub row: usize,
+    pub leaf: usize,
+    pub slot: usize,
 }
 
 // The least worker but one that reads.
@@ -72,12 +80,26 @@ impl Model {
         })
     }
 
-    pub fn is_open(&self, worker: u32) -> bool {
+    /// What a worker's call has to answer.
+    pub fn answer(&mut self, worker: u32, place: Place, call: Call) -> Told
+        requires { worker < 17 }
+    {
+        match call {
+            Call::Begin => Told::Did(self.begin(worker)),
+            Call::End => Told::Did(self.end(worker)),
+            Call::Find(_) => Told::Word(self.word(place.leaf, place.slot)),
+            Call::Lock(_, mode) => self.lock(worker, place.row, mode),
+            Call::Put(_, word) => self.put(worker, place, word),
+            Call::Unlock(_) => Told::Did(self.unlock(worker, place.row)),
+        }
+    }
+
+    fn is_open(&self, worker: u32) -> bool {
         self.is_open.get(worker as usize) == Some(&true)
     }
 
-    /// The word of a slot.
-    pub fn word(&self, leaf: usize, slot: usize) -> Option<u64> {
+    // The word of a slot.
+    fn word(&self, leaf: usize, slot: usize) -> Option<u64> {
         let at = leaf.saturating_mul(self.slots).saturating_add(slot);
         match self.words.get(at) {
             Some(word) => *word,
@@ -96,7 +118,7 @@ impl Model {
         count
     }
 
-    pub fn begin(&mut self, worker: u32) -> bool {
+    fn begin(&mut self, worker: u32) -> bool {
         if self.is_open(worker) {
             return false;
         }
@@ -104,7 +126,7 @@ impl Model {
         true
     }
 
-    pub fn end(&mut self, worker: u32) -> bool {
+    fn end(&mut self, worker: u32) -> bool {
         if !self.is_open(worker) {
             return false;
         }
@@ -137,7 +159,7 @@ impl Model {
         }
     }
 
-    pub fn lock(&mut self, worker: u32, row: usize, mode: Mode) -> Told
+    fn lock(&mut self, worker: u32, row: usize, mode: Mode) -> Told
         requires { worker < 17 }
     {
         if !self.is_open(worker) {
@@ -165,12 +187,13 @@ impl Model {
         Told::Locked
     }
 
-    pub fn put(&mut self, worker: u32, row: usize, leaf: usize, slot: usize, word: u64) -> Told
+    fn put(&mut self, worker: u32, place: Place, word: u64) -> Told
         requires { worker < 17 }
     {
         if !self.is_open(worker) || self.changes[worker as usize] >= CHANGES {
             return Told::NotOpen;
         }
+        let Place { row, leaf, slot } = place;
         let told = self.lock(worker, row, Mode::Alone);
         if told != Told::Locked {
             return told;
@@ -187,7 +210,7 @@ impl Model {
         Told::Word(before)
     }
 
-    pub fn unlock(&mut self, worker: u32, row: usize) -> bool
+    fn unlock(&mut self, worker: u32, row: usize) -> bool
         requires { worker < 17 }
     {
         if self.is_open(worker) {

@@ -1,17 +1,14 @@
 // The words of two openings, written down by hand.
-ghost use Rattle.std.specs.Prelude.{◌≡◌, ◌-◌, ◌^◌, true, [], ◌∷◌, IfSome};
-
-use crate::open_rows;
 use btree_node::Node;
-use rows_trait::plain::PlainRows;
+use row_sessions::sessions::Sessions;
 use std::process::Abort;
 
-/// A word of the rows: where it lies, and what it is.
+/// A word: where it lies, and what it is.
 struct Word(usize, u64);
 
-const FRAME: u64 = 9223372036854775808;
+const FRAME: u64 = 1 << 63;
 
-const MARK: u64 = 9223372036854775809;
+const MARK: u64 = FRAME + 1;
 
 /// The words of a frame row, its latch with them.
 const ROW: usize = 129;
@@ -70,54 +67,65 @@ static TWO_LEAVES: [Word; 21] = [
     Word(10 + 5 * ROW + 127, MARK),
 ];
 
-fn expect_words(rt: &impl Abort, rows: &PlainRows, words: &[Word]) {
+// Page 0: level 1, all keys, its last change by log 1, and two pairs.
+static ROOT: [Word; 6] = [
+    Word(1, 9),
+    Word(3, 2 + (1 << 8) + (1 << 16) + (1 << 24)),
+    Word(5, u64::MAX),
+    Word(7, 1),
+    Word(8, 10),
+    Word(9, 3),
+];
+
+// Page 1: the keys below 10, its last change by log 2, and one entry.
+static LEFT_LEAF: [Word; 6] = [
+    Word(0, 1),
+    Word(1, 4),
+    Word(3, 1 + (2 << 16) + (1 << 24)),
+    Word(5, 10),
+    Word(6, 5),
+    Word(7, 7),
+];
+
+fn node(rt: &impl Abort, words: &[Word]) -> Node {
+    let mut spelled = [0; 126];
     for Word(at, value) in words {
-        assert!(rt; rows.words.get(*at) == Some(value));
+        if let Some(word) = spelled.get_mut(*at) {
+            *word = *value;
+        }
     }
+    Node::from_words(spelled).expect(rt, "the words of a node")
 }
 
-fn root() -> Option<Node>
-    ensures { IfSome result (λ page. page ≡ record { number = 0; gsn = 9; generation = 0; last_log = 1; node = record { live = true; level = 1; low = 0; high = 2 ^ 64 - 1; pairs = record { key = 0; word = 1 } ∷ record { key = 10; word = 3 } ∷ [] } }) }
-{
-    let mut words = [0; 126];
-    words[1] = 9;
-    words[3] = 2 + (1 << 8) + (1 << 16) + (1 << 24);
-    words[5] = u64::MAX;
-    words[7] = 1;
-    words[8] = 10;
-    words[9] = 3;
-    Node::from_words(words)
-}
-
-fn left_leaf() -> Option<Node>
-    ensures { IfSome result (λ page. page ≡ record { number = 1; gsn = 4; generation = 0; last_log = 2; node = record { live = true; level = 0; low = 0; high = 10; pairs = record { key = 5; word = 7 } ∷ [] } }) }
-{
-    let mut words = [0; 126];
-    words[0] = 1;
-    words[1] = 4;
-    words[3] = 1 + (2 << 16) + (1 << 24);
-    words[5] = 10;
-    words[6] = 5;
-    words[7] = 7;
-    Node::from_words(words)
+// The place of the first of these words that is not there.
+fn first_missing(words: &[u64], expected: &[Word]) -> Option<usize> {
+    for Word(at, value) in expected {
+        if words.get(*at) != Some(value) {
+            return Some(*at);
+        }
+    }
+    None
 }
 
 #[test]
 fn an_empty_tree_is_one_leaf_in_the_first_frame(rt: HostRuntime) {
     let pages = [Node::empty_leaf(0, 0, u64::MAX)];
-    let Ok((rows, _seat)) = open_rows(rt.alloc(), &pages, 2, 1, 1, 5) else {
-        panic!(&rt; "no memory");
+    let Ok(sessions) = Sessions::open(rt.alloc(), &pages, 2, 1, 1, 5) else {
+        panic!(&rt; "not opened");
     };
-    expect_words(&rt, &rows, &ONE_LEAF);
+    assert!(rt; first_missing(sessions.words(), &ONE_LEAF).is_none());
 }
 
 #[test]
 fn a_root_names_the_frames_of_its_leaves(rt: HostRuntime) {
-    let root = root().expect(&rt, "the words of a node");
-    let left = left_leaf().expect(&rt, "the words of a node");
-    let pages = [root, left, Node::free(2), Node::empty_leaf(3, 10, u64::MAX)];
-    let Ok((rows, _seat)) = open_rows(rt.alloc(), &pages, 6, 1, 2, 9) else {
-        panic!(&rt; "no memory");
+    let pages = [
+        node(&rt, &ROOT),
+        node(&rt, &LEFT_LEAF),
+        Node::free(2),
+        Node::empty_leaf(3, 10, u64::MAX),
+    ];
+    let Ok(sessions) = Sessions::open(rt.alloc(), &pages, 6, 1, 2, 9) else {
+        panic!(&rt; "not opened");
     };
-    expect_words(&rt, &rows, &TWO_LEAVES);
+    assert!(rt; first_missing(sessions.words(), &TWO_LEAVES).is_none());
 }
