@@ -4,7 +4,7 @@ use Rattle.page_model.specs.Tree as page_tree
 use Rattle.page_model.specs.Redo as page_redo
 use Rattle.page_model.proofs.Pairs.{some_none}
 use Rattle.page_model.proofs.Needs as page_needs
-use Rattle.std.proofs.Common.{◌≡◌, ℕ, ◌≤◌, ◌<◌, Bool, true, false, ◌&&◌, ◌||◌, not, if◌then◌else◌, ltb, leb, ◌+◌, length, ◌==◌, List, [], ◌∷◌, ◌⊎◌, None, refl, sym, ap, ◌∙◌, subst, inl, inr, arith, true≢false}
+use Rattle.std.proofs.Common.{◌≡◌, ℕ, ◌≤◌, ◌<◌, ◌++◌, Bool, true, false, ◌&&◌, ◌||◌, not, if◌then◌else◌, ltb, leb, ◌+◌, length, ◌==◌, List, [], ◌∷◌, ◌⊎◌, None, refl, sym, ap, ◌∙◌, subst, inl, inr, arith, true≢false}
 use Rattle.std.proofs.lemmas.Bool.{cases_Bool, cases_eq, eq-eqb, ne_eqb, eqb-true, and_parts, and_from, or_left, or_right, or_from, leb-true, ltb-true, lt-ltb, le-leb, lt-leb, and_left, and_right, cond-true, cond-false, false_from_ne_true}
 use Rattle.map_model.specs.Lists.{upd, keep, any, all, Has}
 use Rattle.image_model.specs.Entries.{is_page, page_kind, Entry, is_write, is_record, applied_as, touches, Contents, written}
@@ -144,12 +144,18 @@ named page_records.Kind.Put_back f node r h =
     named_one f r.left.page (and_parts (ltb r.left.page f.pages) (v.live && ((v.level == 0) && (page_redo.within r.key v && (leb r.before f.dead && leb r.after f.dead)))) w.0).0
 named page_records.Kind.Split f node r h =
     let l = node r.left.page in let q = node r.parent.page in
-    named_three f r (and_parts (page_redo.three_pages f r) (l.live && (page_redo.inside r.sep l && (q.live && (page_redo.inside r.sep q && (ltb (length q.pairs) f.room && leb (length r.pairs) f.room))))) h).0
+    let made = leb (length r.pairs) f.room && (leb r.level f.levels && page_redo.is_ordered r.sep r.pairs r.high) in
+    named_three f r (and_parts (page_redo.three_pages f r) (l.live && (page_redo.inside r.sep l && (q.live && (page_redo.inside r.sep q && (ltb (length q.pairs) f.room && made))))) h).0
 named page_records.Kind.Join f node r h =
     let l = node r.left.page in let q = node r.parent.page in
-    named_three f r (and_parts (page_redo.three_pages f r) (l.live && (q.live && (page_redo.has_key r.sep q && leb (length l.pairs + length r.pairs) f.room))) h).0
-named page_records.Kind.Lift f node r h = named_root f r.right.page (and_parts (ltb r.right.page f.pages) (not (r.right.page == 0) && ((node 0).live && (ltb r.level f.levels && leb (length r.pairs) f.room))) h).0
-named page_records.Kind.Drop f node r h = named_root f r.right.page (and_parts (ltb r.right.page f.pages) (not (r.right.page == 0) && ((node 0).live && leb (length r.pairs) f.room)) h).0
+    let fits = leb (length l.pairs + length r.pairs) f.room && page_redo.is_ordered l.low (l.pairs ++ r.pairs) r.high in
+    named_three f r (and_parts (page_redo.three_pages f r) (l.live && (q.live && (page_redo.has_key r.sep q && fits))) h).0
+named page_records.Kind.Lift f node r h =
+    let made = ltb r.level f.levels && (leb (length r.pairs) f.room && page_redo.is_ordered 0 r.pairs r.high) in
+    named_root f r.right.page (and_parts (ltb r.right.page f.pages) (not (r.right.page == 0) && ((node 0).live && (page_redo.within 0 (node 0) && made))) h).0
+named page_records.Kind.Drop f node r h =
+    let made = page_redo.is_ordered (node 0).low r.pairs (node 0).high && (leb (length r.pairs) f.room && leb r.level f.levels) in
+    named_root f r.right.page (and_parts (ltb r.right.page f.pages) (not (r.right.page == 0) && ((node 0).live && made)) h).0
 named page_records.Kind.Purge f node r h =
     let v = node r.left.page in
     named_one f r.left.page (and_parts (ltb r.left.page f.pages) (v.live && ((v.level == 0) && page_redo.all_keys (λ k. page_redo.has_key k v) r.keys)) h).0
@@ -162,17 +168,17 @@ writable f node r h =
     let c = and_parts (v.level == 0) (page_redo.within r.key v && (leb r.before f.dead && leb r.after f.dead)) b.1 in
     (and_parts (page_redo.within r.key v) (leb r.before f.dead && leb r.after f.dead) c.1).1
 
-three : (f : Format) (r : Record) → page_redo.three_pages f r ≡ true → leb (length r.pairs) f.room ≡ true → (not (r.left.page == r.right.page) && (not (r.left.page == r.parent.page) && (not (r.right.page == r.parent.page) && leb (length r.pairs) f.room))) ≡ true
-three f r h l =
+three : (f : Format) (r : Record) (rest : Bool) → page_redo.three_pages f r ≡ true → rest ≡ true → (not (r.left.page == r.right.page) && (not (r.left.page == r.parent.page) && (not (r.right.page == r.parent.page) && rest))) ≡ true
+three f r rest h l =
     let apart = not (r.left.page == r.right.page) && (not (r.left.page == r.parent.page) && not (r.right.page == r.parent.page)) in
     let a = and_parts (ltb r.left.page f.pages) (ltb r.right.page f.pages && (ltb r.parent.page f.pages && apart)) h in
     let b = and_parts (ltb r.right.page f.pages) (ltb r.parent.page f.pages && apart) a.1 in
     let c = and_parts (ltb r.parent.page f.pages) apart b.1 in
     let d = and_parts (not (r.left.page == r.right.page)) (not (r.left.page == r.parent.page) && not (r.right.page == r.parent.page)) c.1 in
     let e = and_parts (not (r.left.page == r.parent.page)) (not (r.right.page == r.parent.page)) d.1 in
-    and_from (not (r.left.page == r.right.page)) (not (r.left.page == r.parent.page) && (not (r.right.page == r.parent.page) && leb (length r.pairs) f.room)) d.0
-    (and_from (not (r.left.page == r.parent.page)) (not (r.right.page == r.parent.page) && leb (length r.pairs) f.room) e.0
-    (and_from (not (r.right.page == r.parent.page)) (leb (length r.pairs) f.room) e.1 l))
+    and_from (not (r.left.page == r.right.page)) (not (r.left.page == r.parent.page) && (not (r.right.page == r.parent.page) && rest)) d.0
+    (and_from (not (r.left.page == r.parent.page)) (not (r.right.page == r.parent.page) && rest) e.0
+    (and_from (not (r.right.page == r.parent.page)) rest e.1 l))
 
 -- a record that was entered names pages that there are
 pages_named : (g : Opening) (F : ℕ) (r : Entry) (h : List Entry) → IsHistory g F h → Entered g F r h → names_pages g.format r ≡ true
@@ -187,27 +193,39 @@ sayable page_records.Kind.Change f node r h = writable f node r (and_parts (page
 sayable page_records.Kind.Put_back f node r h = writable f node r (and_parts (page_redo.can_write f node r) (page_redo.has_key r.key (node r.left.page)) h).0
 sayable page_records.Kind.Split f node r h =
     let l = node r.left.page in let q = node r.parent.page in
-    let a = and_parts (page_redo.three_pages f r) (l.live && (page_redo.inside r.sep l && (q.live && (page_redo.inside r.sep q && (ltb (length q.pairs) f.room && leb (length r.pairs) f.room))))) h in
-    let b = and_parts l.live (page_redo.inside r.sep l && (q.live && (page_redo.inside r.sep q && (ltb (length q.pairs) f.room && leb (length r.pairs) f.room)))) a.1 in
-    let c = and_parts (page_redo.inside r.sep l) (q.live && (page_redo.inside r.sep q && (ltb (length q.pairs) f.room && leb (length r.pairs) f.room))) b.1 in
-    let d = and_parts q.live (page_redo.inside r.sep q && (ltb (length q.pairs) f.room && leb (length r.pairs) f.room)) c.1 in
-    let e = and_parts (page_redo.inside r.sep q) (ltb (length q.pairs) f.room && leb (length r.pairs) f.room) d.1 in
-    three f r a.0 (and_parts (ltb (length q.pairs) f.room) (leb (length r.pairs) f.room) e.1).1
+    let made = leb (length r.pairs) f.room && (leb r.level f.levels && page_redo.is_ordered r.sep r.pairs r.high) in
+    let room = ltb (length q.pairs) f.room && made in
+    let parent = q.live && (page_redo.inside r.sep q && room) in
+    let a = and_parts (page_redo.three_pages f r) (l.live && (page_redo.inside r.sep l && parent)) h in
+    let b = and_parts l.live (page_redo.inside r.sep l && parent) a.1 in
+    let c = and_parts (page_redo.inside r.sep l) parent b.1 in
+    let d = and_parts q.live (page_redo.inside r.sep q && room) c.1 in
+    let e = and_parts (page_redo.inside r.sep q) room d.1 in
+    three f r made a.0 (and_parts (ltb (length q.pairs) f.room) made e.1).1
 sayable page_records.Kind.Join f node r h =
     let l = node r.left.page in let q = node r.parent.page in
-    let a = and_parts (page_redo.three_pages f r) (l.live && (q.live && (page_redo.has_key r.sep q && leb (length l.pairs + length r.pairs) f.room))) h in
-    let b = and_parts l.live (q.live && (page_redo.has_key r.sep q && leb (length l.pairs + length r.pairs) f.room)) a.1 in
-    let c = and_parts q.live (page_redo.has_key r.sep q && leb (length l.pairs + length r.pairs) f.room) b.1 in
-    let d = leb-true (length l.pairs + length r.pairs) f.room (and_parts (page_redo.has_key r.sep q) (leb (length l.pairs + length r.pairs) f.room) c.1).1 in
-    three f r a.0 (le-leb (length r.pairs) f.room (omega arith))
+    let ordered = page_redo.is_ordered l.low (l.pairs ++ r.pairs) r.high in
+    let fits = leb (length l.pairs + length r.pairs) f.room && ordered in
+    let a = and_parts (page_redo.three_pages f r) (l.live && (q.live && (page_redo.has_key r.sep q && fits))) h in
+    let b = and_parts l.live (q.live && (page_redo.has_key r.sep q && fits)) a.1 in
+    let c = and_parts q.live (page_redo.has_key r.sep q && fits) b.1 in
+    let d = and_parts (page_redo.has_key r.sep q) fits c.1 in
+    let e = leb-true (length l.pairs + length r.pairs) f.room (and_parts (leb (length l.pairs + length r.pairs) f.room) ordered d.1).0 in
+    three f r (leb (length r.pairs) f.room) a.0 (le-leb (length r.pairs) f.room (omega arith))
 sayable page_records.Kind.Lift f node r h =
-    let a = and_parts (ltb r.right.page f.pages) (not (r.right.page == 0) && ((node 0).live && (ltb r.level f.levels && leb (length r.pairs) f.room))) h in
-    let b = and_parts (not (r.right.page == 0)) ((node 0).live && (ltb r.level f.levels && leb (length r.pairs) f.room)) a.1 in
-    and_from (not (r.right.page == 0)) (ltb r.level f.levels && leb (length r.pairs) f.room) b.0 (and_parts (node 0).live (ltb r.level f.levels && leb (length r.pairs) f.room) b.1).1
+    let made = ltb r.level f.levels && (leb (length r.pairs) f.room && page_redo.is_ordered 0 r.pairs r.high) in
+    let root = (node 0).live && (page_redo.within 0 (node 0) && made) in
+    let a = and_parts (ltb r.right.page f.pages) (not (r.right.page == 0) && root) h in
+    let b = and_parts (not (r.right.page == 0)) root a.1 in
+    let c = and_parts (node 0).live (page_redo.within 0 (node 0) && made) b.1 in
+    and_from (not (r.right.page == 0)) made b.0 (and_parts (page_redo.within 0 (node 0)) made c.1).1
 sayable page_records.Kind.Drop f node r h =
-    let a = and_parts (ltb r.right.page f.pages) (not (r.right.page == 0) && ((node 0).live && leb (length r.pairs) f.room)) h in
-    let b = and_parts (not (r.right.page == 0)) ((node 0).live && leb (length r.pairs) f.room) a.1 in
-    and_from (not (r.right.page == 0)) (leb (length r.pairs) f.room) b.0 (and_parts (node 0).live (leb (length r.pairs) f.room) b.1).1
+    let made = leb (length r.pairs) f.room && leb r.level f.levels in
+    let ordered = page_redo.is_ordered (node 0).low r.pairs (node 0).high in
+    let a = and_parts (ltb r.right.page f.pages) (not (r.right.page == 0) && ((node 0).live && (ordered && made))) h in
+    let b = and_parts (not (r.right.page == 0)) ((node 0).live && (ordered && made)) a.1 in
+    let c = and_parts (node 0).live (ordered && made) b.1 in
+    and_from (not (r.right.page == 0)) made b.0 (and_parts ordered made c.1).1
 sayable page_records.Kind.Purge f node r h = refl
 
 -- ## Redo

@@ -365,6 +365,10 @@ pub static TREES: [(&[Shape], Option<usize>); 3] = [
 
 /// The least page that breaks the rule.
 pub fn break_of(alloc: Global, shapes: &[Shape]) -> Result<Option<usize>, AllocError> {
+    Ok(first_break(&nodes_of(alloc, shapes)?))
+}
+
+fn nodes_of(alloc: Global, shapes: &[Shape]) -> Result<Vec<Node>, AllocError> {
     let mut nodes = Vec::new(alloc);
     for Shape(live, level, low, high, pairs) in shapes {
         nodes.push(Node {
@@ -375,5 +379,170 @@ pub fn break_of(alloc: Global, shapes: &[Shape]) -> Result<Option<usize>, AllocE
             pairs: pairs_of(alloc, pairs)?,
         })?;
     }
-    Ok(first_break(&nodes))
+    Ok(nodes)
+}
+
+/// Pages that all have number 0, and one record, by its kind, its separator, its level and its pairs. It has log 1, number 1 and the
+/// greatest high fence; its right page is 2. A split and a join have page 1 as left and page 0 as parent. Then: the rule that is broken.
+pub struct Redone {
+    pub name: &'static str,
+    pub pages: &'static [Shape],
+    pub kind: Kind,
+    pub sep: u64,
+    pub level: u32,
+    pub pairs: &'static [(u64, u64)],
+    pub damage: Option<Damage>,
+}
+
+const UNDOABLE: Option<Damage> = Some(Damage::Undoable { log: 1, number: 1 });
+
+// A root over one leaf, and a free page.
+const ONE_LEAF: &[Shape] = &[
+    Shape(true, 1, 0, TOP, &[(0, 1)]),
+    Shape(true, 0, 0, TOP, &[(1, 1), (3, 1), (5, 1)]),
+    Shape(false, 0, 0, 0, &[]),
+];
+
+const TWO_LEAVES: &[Shape] = &[
+    Shape(true, 1, 0, TOP, &[(0, 1), (3, 2)]),
+    Shape(true, 0, 0, 3, &[(1, 1)]),
+    Shape(true, 0, 3, TOP, &[(5, 1)]),
+];
+
+// A root over one leaf, behind a free page.
+const LAST_LEAF: &[Shape] = &[
+    Shape(true, 1, 0, TOP, &[(0, 2)]),
+    Shape(false, 0, 0, 0, &[]),
+    Shape(true, 0, 0, TOP, &[(1, 1)]),
+];
+
+pub static REDONE: [Redone; 9] = [
+    Redone {
+        name: "a split",
+        pages: ONE_LEAF,
+        kind: Kind::Split,
+        sep: 3,
+        level: 0,
+        pairs: &[(3, 1), (5, 1)],
+        damage: None,
+    },
+    Redone {
+        name: "a split whose pairs are out of order",
+        pages: ONE_LEAF,
+        kind: Kind::Split,
+        sep: 3,
+        level: 0,
+        pairs: &[(5, 1), (3, 1)],
+        damage: UNDOABLE,
+    },
+    Redone {
+        name: "a split of level 8",
+        pages: ONE_LEAF,
+        kind: Kind::Split,
+        sep: 3,
+        level: 8,
+        pairs: &[(3, 1), (5, 1)],
+        damage: UNDOABLE,
+    },
+    Redone {
+        name: "a lift",
+        pages: ONE_LEAF,
+        kind: Kind::Lift,
+        sep: 0,
+        level: 1,
+        pairs: &[(0, 1)],
+        damage: None,
+    },
+    Redone {
+        name: "a lift over a root whose low fence is not 0",
+        pages: &[
+            Shape(true, 1, 1, TOP, &[(1, 1)]),
+            Shape(true, 0, 1, TOP, &[]),
+            Shape(false, 0, 0, 0, &[]),
+        ],
+        kind: Kind::Lift,
+        sep: 0,
+        level: 1,
+        pairs: &[(1, 1)],
+        damage: UNDOABLE,
+    },
+    Redone {
+        name: "a join",
+        pages: TWO_LEAVES,
+        kind: Kind::Join,
+        sep: 3,
+        level: 0,
+        pairs: &[(5, 1)],
+        damage: None,
+    },
+    Redone {
+        name: "a join whose pairs do not follow those of left",
+        pages: TWO_LEAVES,
+        kind: Kind::Join,
+        sep: 3,
+        level: 0,
+        pairs: &[(1, 1)],
+        damage: UNDOABLE,
+    },
+    Redone {
+        name: "a drop",
+        pages: LAST_LEAF,
+        kind: Kind::Drop,
+        sep: 0,
+        level: 0,
+        pairs: &[(1, 1)],
+        damage: None,
+    },
+    Redone {
+        name: "a drop whose pairs pass the root's high fence",
+        pages: LAST_LEAF,
+        kind: Kind::Drop,
+        sep: 0,
+        level: 0,
+        pairs: &[(1, 1), (TOP, 1)],
+        damage: UNDOABLE,
+    },
+];
+
+/// The record counts, and the rule that is broken is as is written.
+pub fn is_redone(alloc: Global, redone: &Redone) -> Result<bool, AllocError> {
+    let mut bases = Vec::new(alloc);
+    for node in nodes_of(alloc, redone.pages)? {
+        bases.push(Some(Page {
+            number: 0,
+            log: 1,
+            node,
+        }))?;
+    }
+    let mut records = Vec::new(alloc);
+    records.push(structure_of(alloc, redone)?)?;
+    let mut logs = Vec::new(alloc);
+    logs.push(Log { records })?;
+    let image = Image {
+        floor: 0,
+        logs,
+        bases,
+    };
+    let root = recovered_page(alloc, &image, 0)?;
+    Ok(root.number == 1 && first_damage(alloc, &image)? == redone.damage)
+}
+
+fn structure_of(alloc: Global, redone: &Redone) -> Result<Record, AllocError> {
+    let root = Ref { page: 0, prev: 0 };
+    let left = Ref { page: 1, prev: 0 };
+    let right = Ref { page: 2, prev: 0 };
+    let mut record = bare(alloc, redone.kind, 1, 1, 1);
+    record.right = right;
+    if matches!(redone.kind, Kind::Split | Kind::Join) {
+        record.refs = Vec::from_slice(alloc, &[left, right, root])?;
+        record.left = left;
+        record.parent = root;
+    } else {
+        record.refs = Vec::from_slice(alloc, &[root, right])?;
+    }
+    record.sep = redone.sep;
+    record.high = TOP;
+    record.level = redone.level;
+    record.pairs = pairs_of(alloc, redone.pairs)?;
+    Ok(record)
 }

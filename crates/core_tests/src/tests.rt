@@ -8,7 +8,7 @@ use crate::journals::{
 use crate::lists::lists;
 use crate::maps::{are_pairs, copy_of, has_pairs, is_map, is_same, map_of_leaves, write_leaf};
 use crate::runs::{Run, started};
-use crate::small_images::{SMALL, TREES, break_of, stands};
+use crate::small_images::{REDONE, SMALL, TREES, break_of, is_redone, stands};
 use crate::walks::{first_wrong, walks};
 use map_model::Replay;
 use plain_core::{Core, Entry, Kind, Refusal};
@@ -56,6 +56,13 @@ fn each_small_image_and_each_tree_is_as_is_written(rt: HostRuntime) {
     let alloc = rt.alloc();
     for small in &SMALL {
         assert!(rt; matches!(stands(alloc, small), Ok(true)), "{}", small.name);
+    }
+    for redone in &REDONE {
+        assert!(rt;
+            matches!(is_redone(alloc, redone), Ok(true)),
+            "{}",
+            redone.name
+        );
     }
     for (place, (shapes, expected)) in TREES.iter().enumerate() {
         let found = break_of(alloc, shapes);

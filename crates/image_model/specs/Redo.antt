@@ -4,7 +4,7 @@ use Rattle.map_model.specs.Lists.{any, all, upd}
 use Rattle.page_model.specs.Nodes.{Format}
 use Rattle.page_model.specs.Records as records
 use Rattle.page_model.specs.Records.{Record}
-use Rattle.page_model.specs.Redo.{can_be}
+use Rattle.page_model.specs.Redo.{can_be, is_ordered}
 use Rattle.image_model.specs.Entries.{Entry, Contents, is_page, page_kind, written}
 
 -- pages, and which records (by log and number) counted
@@ -40,14 +40,15 @@ redo page (r ∷ z) = redo_one (redo page z) r
 abbrev pub names_pages : Format → Entry → Bool
 names_pages f r = all (λ x. ltb x.page f.pages) r.refs
 
--- what a record asks of itself: words that a leaf can have, pages of which no two are the same, pairs that fit in a node
+-- what a record asks of itself: words that a leaf can have, pages of which no two are the same, a level, and pairs that fit in a node of it
 abbrev pub is_sayable_as : Format → records.Kind → Record → Bool
 is_sayable_as f records.Kind.Change r = leb r.before f.dead && leb r.after f.dead
 is_sayable_as f records.Kind.Put_back r = leb r.before f.dead && leb r.after f.dead
-is_sayable_as f records.Kind.Split r = not (r.left.page == r.right.page) && (not (r.left.page == r.parent.page) && (not (r.right.page == r.parent.page) && leb (length r.pairs) f.room))
+is_sayable_as f records.Kind.Split r = not (r.left.page == r.right.page) && (not (r.left.page == r.parent.page) && (not (r.right.page == r.parent.page) && (
+    leb (length r.pairs) f.room && (leb r.level f.levels && is_ordered r.sep r.pairs r.high))))
 is_sayable_as f records.Kind.Join r = not (r.left.page == r.right.page) && (not (r.left.page == r.parent.page) && (not (r.right.page == r.parent.page) && leb (length r.pairs) f.room))
-is_sayable_as f records.Kind.Lift r = not (r.right.page == 0) && (ltb r.level f.levels && leb (length r.pairs) f.room)
-is_sayable_as f records.Kind.Drop r = not (r.right.page == 0) && leb (length r.pairs) f.room
+is_sayable_as f records.Kind.Lift r = not (r.right.page == 0) && (ltb r.level f.levels && (leb (length r.pairs) f.room && is_ordered 0 r.pairs r.high))
+is_sayable_as f records.Kind.Drop r = not (r.right.page == 0) && (leb (length r.pairs) f.room && leb r.level f.levels)
 is_sayable_as f records.Kind.Purge r = true
 
 -- what it asks of each page that it changes

@@ -73,7 +73,7 @@ rising_to : (a : ℕ) (xs : List Pair) (b : ℕ) → is_rising a xs b ≡ true �
 rising_to a [] b h = leb-true a b h
 rising_to a (x ∷ xs) b h = let q = and_parts (leb a x.key) (is_rising (suc x.key) xs b) h in (leb-true a x.key q.0, rising_to (suc x.key) xs b q.1)
 
-rising_from : (a : ℕ) (xs : List Pair) (b : ℕ) → Rising a xs b → is_rising a xs b ≡ true
+pub rising_from : (a : ℕ) (xs : List Pair) (b : ℕ) → Rising a xs b → is_rising a xs b ≡ true
 rising_from a [] b h = le-leb a b h
 rising_from a (x ∷ xs) b h = and_from (leb a x.key) (is_rising (suc x.key) xs b) (le-leb a x.key h.0) (rising_from (suc x.key) xs b h.1)
 

@@ -1,15 +1,17 @@
 -- The needs of events make their records fit, and records that fit can be done.
 use Rattle.std.proofs.Common.{◌++◌, length, ◌≡◌, ◌<◌, ◌≤◌, ◌+◌, ℕ, zero, suc, Bool, true, false, ◌&&◌, ◌||◌, not, leb, ltb, ◌==◌, List, [], ◌∷◌, Option, Some, None, if◌then◌else◌, refl, sym, ap, ◌∙◌, subst, inl, inr, arith, true≢false}
 use Rattle.std.proofs.lemmas.Bool.{cases_eq, eq-eqb, eqb-true, ne_eqb, and_from, and_parts, or_cases, or_left, or_right, le-leb, lt-ltb, cond-true, cond-false}
-use Rattle.page_model.specs.Pairs.{Pair, Has, find, first_key, is_in, Span, spans, Rising}
+use Rattle.page_model.specs.Pairs.{Pair, Has, find, first_key, is_in, Span, spans, Rising, onward}
 use Rattle.page_model.specs.Nodes.{Format, Node, NodeOk}
 use Rattle.page_model.specs.Tree.{Names, IsChild, IsTree, word_or}
 use Rattle.page_model.specs.Records.{any, Ref, refs_as, Kind, Record, write_record}
 use Rattle.page_model.specs.Fits.{FitsWrite, FitsChange, FitsBack, FitsSplit, FitsLift, FitsJoin, FitsDrop, FitsPurge, FitsAs}
 use Rattle.page_model.specs.Records.Kind.{Change, Put_back, Split, Lift, Join, Drop, Purge}
 use Rattle.page_model.specs.Needs.{key_at, NeedsChange, NeedsBack, NeedsSplit, NeedsLift, NeedsJoin, NeedsDrop, NeedsPurge, NeedLaws, EveryNeed}
-use Rattle.page_model.specs.Redo.{is_some, has_key, inside, within, all_keys, can_be, can_write, three_pages, doable_as, EveryDoable}
-use Rattle.page_model.proofs.Pairs.{rising_in, append_right, size_keep, some_none}
+use Rattle.page_model.specs.Redo.{is_some, has_key, inside, within, all_keys, can_be, can_write, three_pages, is_ordered, doable_as, EveryDoable}
+use Rattle.page_model.specs.Check.{is_nil, is_rising}
+use Rattle.page_model.proofs.Pairs.{rising_in, rising_append, rising_onward, append_right, size_keep, some_none}
+use Rattle.page_model.proofs.Check.{rising_from}
 use Rattle.page_model.proofs.Spans.{span_pair, spans_append}
 use Rattle.page_model.proofs.Tree.{ok, span_eq, not_free, child_page, span_fences}
 use Rattle.page_model.proofs.Entries.{LeafWith, holds_to}
@@ -139,6 +141,9 @@ find_pair (y ∷ ys) x (inr h) e = go (find_pair ys x h) (y.key == x.key) refl
 ne_not : (a b : ℕ) → (a ≡ b → ⊥) → not (a == b) ≡ true
 ne_not a b n = ap not (ne_eqb a b n)
 
+ordered : (low : ℕ) (xs : List Pair) (high : ℕ) → Rising low xs high → is_ordered low xs high ≡ true
+ordered low xs high h = or_right (is_nil xs) (is_rising low xs high) (rising_from low xs high h)
+
 module _ (f : Format) (node : ℕ → Node) (r : Record) (t : IsTree f node) where
   does_write : FitsWrite f node r → can_write f node r ≡ true
   does_write w =
@@ -188,42 +193,70 @@ module _ (f : Format) (node : ℕ → Node) (r : Record) (t : IsTree f node) whe
           go j e false = e
 
   does_lift : FitsLift f node r → doable_as f Lift node r ≡ true
-  does_lift m = let o = ok f node t 0 t.some t.root.0 in let e = m.level in let lo = m.low in
-      and_from (ltb r.right.page f.pages) (not (r.right.page == 0) && ((node 0).live && (ltb r.level f.levels && leb (length r.pairs) f.room))) (lt-ltb r.right.page f.pages m.right)
-      (and_from (not (r.right.page == 0)) ((node 0).live && (ltb r.level f.levels && leb (length r.pairs) f.room)) (ne_not r.right.page 0 (λ z. not_free (node 0).live t.root.0 (ap (λ (i : ℕ). (node i).live) (sym z) ∙ m.empty)))
-      (and_from (node 0).live (ltb r.level f.levels && leb (length r.pairs) f.room) t.root.0
-      (and_from (ltb r.level f.levels) (leb (length r.pairs) f.room) (lt-ltb r.level f.levels (omega arith)) (le-leb (length r.pairs) f.room (subst (λ (z : List Pair). length z ≤ f.room) (sym m.pairs) o.sized)))))
+  does_lift m =
+      let o = ok f node t 0 t.some t.root.0 in let e = m.level in let lo = m.low in
+      let low = t.root.1 in let high = t.root.2 in let wide = f.wide in
+      let rises = subst (λ (xs : List Pair). Rising 0 xs r.high) (sym m.pairs) (subst (λ (i : ℕ). Rising 0 (node 0).pairs i) (sym m.high) (subst (λ (i : ℕ). Rising i (node 0).pairs (node 0).high) low o.rising)) in
+      let sized = leb (length r.pairs) f.room && is_ordered 0 r.pairs r.high in
+      let tall = ltb r.level f.levels && sized in
+      let root = (node 0).live && (within 0 (node 0) && tall) in
+      and_from (ltb r.right.page f.pages) (not (r.right.page == 0) && root) (lt-ltb r.right.page f.pages m.right)
+      (and_from (not (r.right.page == 0)) root (ne_not r.right.page 0 (λ z. not_free (node 0).live t.root.0 (ap (λ (i : ℕ). (node i).live) (sym z) ∙ m.empty)))
+      (and_from (node 0).live (within 0 (node 0) && tall) t.root.0
+      (and_from (within 0 (node 0)) tall (and_from (leb (node 0).low 0) (ltb 0 (node 0).high) (le-leb (node 0).low 0 (omega arith)) (lt-ltb 0 (node 0).high (omega arith)))
+      (and_from (ltb r.level f.levels) sized (lt-ltb r.level f.levels (omega arith))
+      (and_from (leb (length r.pairs) f.room) (is_ordered 0 r.pairs r.high) (le-leb (length r.pairs) f.room (subst (λ (z : List Pair). length z ≤ f.room) (sym m.pairs) o.sized)) (ordered 0 r.pairs r.high rises))))))
 
   does_drop : FitsDrop f node r → doable_as f Drop node r ≡ true
   does_drop m =
       let single : Span = record { child = r.right.page; low = m.one.0; high = (node 0).high } in
       let n : Names (node 0) single = record { live = t.root.0; inner = m.inner; has = subst (λ (z : List Pair). Has single (spans z (node 0).high)) (sym m.one.1) (inl refl) } in
       let p = child_page f node t 0 single t.some n in let p0 = p.0 in
-      let o = ok f node t r.right.page p.1 (t.down 0 t.some single n).live in
-      and_from (ltb r.right.page f.pages) (not (r.right.page == 0) && ((node 0).live && leb (length r.pairs) f.room)) (lt-ltb r.right.page f.pages p.1)
-      (and_from (not (r.right.page == 0)) ((node 0).live && leb (length r.pairs) f.room) (ne_not r.right.page 0 (λ z. omega arith))
-      (and_from (node 0).live (leb (length r.pairs) f.room) t.root.0 (le-leb (length r.pairs) f.room (subst (λ (z : List Pair). length z ≤ f.room) (sym m.pairs) o.sized))))
+      let c = t.down 0 t.some single n in
+      let o = ok f node t r.right.page p.1 c.live in
+      let e = m.level in let tall = o.tall in
+      let first : m.one.0 ≡ (node 0).low = sym (ap (λ (z : List Pair). first_key z (node 0).high) m.one.1) ∙ ((ok f node t 0 t.some t.root.0).first m.inner).1 in
+      let rises = subst (λ (xs : List Pair). Rising (node 0).low xs (node 0).high) (sym m.pairs)
+      (subst (λ (i : ℕ). Rising (node 0).low (node r.right.page).pairs i) c.high (subst (λ (i : ℕ). Rising i (node r.right.page).pairs (node r.right.page).high) (c.low ∙ first) o.rising)) in
+      let sized = leb (length r.pairs) f.room && leb r.level f.levels in
+      let root = is_ordered (node 0).low r.pairs (node 0).high && sized in
+      and_from (ltb r.right.page f.pages) (not (r.right.page == 0) && ((node 0).live && root)) (lt-ltb r.right.page f.pages p.1)
+      (and_from (not (r.right.page == 0)) ((node 0).live && root) (ne_not r.right.page 0 (λ z. omega arith))
+      (and_from (node 0).live root t.root.0
+      (and_from (is_ordered (node 0).low r.pairs (node 0).high) sized (ordered (node 0).low r.pairs (node 0).high rises)
+      (and_from (leb (length r.pairs) f.room) (leb r.level f.levels) (le-leb (length r.pairs) f.room (subst (λ (z : List Pair). length z ≤ f.room) (sym m.pairs) o.sized)) (le-leb r.level f.levels (omega arith))))))
 
   does_split : FitsSplit f node r → doable_as f Split node r ≡ true
   does_split m =
+      let v = node r.left.page in let q = node r.parent.page in
       let s : Span = record { child = r.left.page; low = (node r.left.page).low; high = r.high } in
       let d = t.down r.parent.page m.parent s m.names in let dh : (node r.left.page).high ≡ r.high = d.high in let dl : suc (node r.left.page).level ≡ (node r.parent.page).level = d.level in
       let p = child_page f node t r.parent.page s m.parent m.names in
       let b = span_fences f node t r.parent.page s m.parent m.names in let b0 : (node r.parent.page).low ≤ (node r.left.page).low = b.0 in let b2 : r.high ≤ (node r.parent.page).high = b.2 in
       let i0 = m.inside.0 in let i1 = m.inside.1 in
-      let o = ok f node t r.left.page p.1 d.live in let oz = o.sized in
+      let o = ok f node t r.left.page p.1 d.live in let oz = o.sized in let tall = o.tall in let e = m.level in
       let k = size_keep (λ (j : ℕ). leb r.sep j) (node r.left.page).pairs in
       let z = ap (λ (w : List Pair). length w) m.pairs in
-      and_from (three_pages f r) ((node r.left.page).live && (inside r.sep (node r.left.page) && ((node r.parent.page).live && (inside r.sep (node r.parent.page) && (ltb (length (node r.parent.page).pairs) f.room && leb (length r.pairs) f.room)))))
+      let rises = subst (λ (xs : List Pair). Rising r.sep xs r.high) (sym m.pairs)
+      (subst (λ (i : ℕ). Rising r.sep (onward r.sep (node r.left.page).pairs) i) dh (rising_onward (node r.left.page).low r.sep (node r.left.page).high (node r.left.page).pairs o.rising (omega arith))) in
+      let high = leb r.level f.levels && is_ordered r.sep r.pairs r.high in
+      let sized = leb (length r.pairs) f.room && high in
+      let room = ltb (length q.pairs) f.room && sized in
+      let parent = q.live && (inside r.sep q && room) in
+      let left = v.live && (inside r.sep v && parent) in
+      and_from (three_pages f r) left
       (three p.1 m.right m.parent (λ e. not_free (node r.left.page).live d.live (ap (λ (i : ℕ). (node i).live) e ∙ m.empty)) (λ e. (let w = ap (λ (i : ℕ). (node i).level) e in omega arith)) (λ e. not_free (node r.parent.page).live m.names.live (ap (λ (i : ℕ). (node i).live) (sym e) ∙ m.empty)))
-      (and_from (node r.left.page).live (inside r.sep (node r.left.page) && ((node r.parent.page).live && (inside r.sep (node r.parent.page) && (ltb (length (node r.parent.page).pairs) f.room && leb (length r.pairs) f.room)))) d.live
-      (and_from (inside r.sep (node r.left.page)) ((node r.parent.page).live && (inside r.sep (node r.parent.page) && (ltb (length (node r.parent.page).pairs) f.room && leb (length r.pairs) f.room))) (strictly r.sep (node r.left.page) i0 (omega arith))
-      (and_from (node r.parent.page).live (inside r.sep (node r.parent.page) && (ltb (length (node r.parent.page).pairs) f.room && leb (length r.pairs) f.room)) m.names.live
-      (and_from (inside r.sep (node r.parent.page)) (ltb (length (node r.parent.page).pairs) f.room && leb (length r.pairs) f.room) (strictly r.sep (node r.parent.page) (omega arith) (omega arith))
-      (and_from (ltb (length (node r.parent.page).pairs) f.room) (leb (length r.pairs) f.room) (lt-ltb (length (node r.parent.page).pairs) f.room m.room) (le-leb (length r.pairs) f.room (omega arith)))))))
+      (and_from v.live (inside r.sep v && parent) d.live
+      (and_from (inside r.sep v) parent (strictly r.sep (node r.left.page) i0 (omega arith))
+      (and_from q.live (inside r.sep q && room) m.names.live
+      (and_from (inside r.sep q) room (strictly r.sep (node r.parent.page) (omega arith) (omega arith))
+      (and_from (ltb (length q.pairs) f.room) sized (lt-ltb (length (node r.parent.page).pairs) f.room m.room)
+      (and_from (leb (length r.pairs) f.room) high (le-leb (length r.pairs) f.room (omega arith))
+      (and_from (leb r.level f.levels) (is_ordered r.sep r.pairs r.high) (le-leb r.level f.levels (omega arith)) (ordered r.sep r.pairs r.high rises))))))))
 
   does_join : FitsJoin f node r → doable_as f Join node r ≡ true
   does_join m =
+      let v = node r.left.page in let q = node r.parent.page in
       let s : Span = record { child = r.left.page; low = (node r.left.page).low; high = r.sep } in
       let u : Span = record { child = r.right.page; low = r.sep; high = r.high } in
       let d = t.down r.parent.page m.parent s m.left_named in let dl : suc (node r.left.page).level ≡ (node r.parent.page).level = d.level in
@@ -233,12 +266,20 @@ module _ (f : Format) (node : ℕ → Node) (r : Record) (t : IsTree f node) whe
       let b = (span_fences f node t r.parent.page s m.parent m.left_named).1 in let b1 : (node r.left.page).low < r.sep = b in
       let x = span_pair (node r.parent.page).pairs (node r.parent.page).high u m.right_named.has in
       let k = m.room in let z = ap (λ (w : List Pair). length w) m.pairs in
-      and_from (three_pages f r) ((node r.left.page).live && ((node r.parent.page).live && (has_key r.sep (node r.parent.page) && leb (length (node r.left.page).pairs + length r.pairs) f.room)))
+      let lo = ok f node t r.left.page p.1 d.live in let ro = ok f node t r.right.page w.1 e.live in
+      let left_rises = subst (λ (i : ℕ). Rising (node r.left.page).low (node r.left.page).pairs i) d.high lo.rising in
+      let right_rises = subst (λ (xs : List Pair). Rising r.sep xs r.high) (sym m.pairs)
+      (subst (λ (i : ℕ). Rising i (node r.right.page).pairs r.high) e.low (subst (λ (i : ℕ). Rising (node r.right.page).low (node r.right.page).pairs i) e.high ro.rising)) in
+      let rises = rising_append (node r.left.page).low r.sep r.high (node r.left.page).pairs r.pairs left_rises right_rises in
+      let fits = leb (length v.pairs + length r.pairs) f.room && is_ordered v.low (v.pairs ++ r.pairs) r.high in
+      let parent = q.live && (has_key r.sep q && fits) in
+      and_from (three_pages f r) (v.live && parent)
       (three p.1 w.1 m.parent (λ g. (let y = ap (λ (i : ℕ). (node i).low) g in omega arith)) (λ g. (let y = ap (λ (i : ℕ). (node i).level) g in omega arith)) (λ g. (let y = ap (λ (i : ℕ). (node i).level) g in omega arith)))
-      (and_from (node r.left.page).live ((node r.parent.page).live && (has_key r.sep (node r.parent.page) && leb (length (node r.left.page).pairs + length r.pairs) f.room)) d.live
-      (and_from (node r.parent.page).live (has_key r.sep (node r.parent.page) && leb (length (node r.left.page).pairs + length r.pairs) f.room) m.left_named.live
-      (and_from (has_key r.sep (node r.parent.page)) (leb (length (node r.left.page).pairs + length r.pairs) f.room) (has_some r.sep (node r.parent.page).pairs (subst (λ (i : ℕ). find i (node r.parent.page).pairs ≡ None → ⊥) x.3 (find_pair (node r.parent.page).pairs x.0 x.1)))
-      (le-leb (length (node r.left.page).pairs + length r.pairs) f.room (omega arith)))))
+      (and_from v.live parent d.live
+      (and_from q.live (has_key r.sep q && fits) m.left_named.live
+      (and_from (has_key r.sep q) fits (has_some r.sep (node r.parent.page).pairs (subst (λ (i : ℕ). find i (node r.parent.page).pairs ≡ None → ⊥) x.3 (find_pair (node r.parent.page).pairs x.0 x.1)))
+      (and_from (leb (length v.pairs + length r.pairs) f.room) (is_ordered v.low (v.pairs ++ r.pairs) r.high) (le-leb (length (node r.left.page).pairs + length r.pairs) f.room (omega arith))
+      (ordered (node r.left.page).low ((node r.left.page).pairs ++ r.pairs) r.high rises)))))
 
 pub does : (K : Kind) (f : Format) (node : ℕ → Node) (r : Record) → IsTree f node → FitsAs f K node r → doable_as f K node r ≡ true
 does Change f node r t m = does_change f node r t m
@@ -287,26 +328,35 @@ can_do Purge f node r h p o = subst (λ (i : ℕ). can_be f Purge r i (node i) �
     let v = node r.left.page in (and_parts (ltb r.left.page f.pages) (v.live && ((v.level == 0) && all_keys (λ k. has_key k v) r.keys)) h).1)
 can_do Lift f node r h p o = elim (cases_eq p 0) [
   | inl e ↦ subst (λ (i : ℕ). can_be f Lift r i (node i) ≡ true) (sym e) (
-      let a = and_parts (ltb r.right.page f.pages) (not (r.right.page == 0) && ((node 0).live && (ltb r.level f.levels && leb (length r.pairs) f.room))) h in
-      let b = and_parts (not (r.right.page == 0)) ((node 0).live && (ltb r.level f.levels && leb (length r.pairs) f.room)) a.1 in
-      (and_parts (node 0).live (ltb r.level f.levels && leb (length r.pairs) f.room) b.1).0)
-  | inr n ↦ cond-false (p == 0) (node p).live true (ne_eqb p 0 n)
+      let tall = ltb r.level f.levels && (leb (length r.pairs) f.room && is_ordered 0 r.pairs r.high) in
+      let root = (node 0).live && (within 0 (node 0) && tall) in
+      let a = and_parts (ltb r.right.page f.pages) (not (r.right.page == 0) && root) h in
+      let b = and_parts (not (r.right.page == 0)) root a.1 in
+      let c = and_parts (node 0).live (within 0 (node 0) && tall) b.1 in
+      and_from (node 0).live (within 0 (node 0)) c.0 (and_parts (within 0 (node 0)) tall c.1).0)
+  | inr n ↦ cond-false (p == 0) ((node p).live && within 0 (node p)) true (ne_eqb p 0 n)
 ]
 can_do Drop f node r h p o = elim (cases_eq p 0) [
   | inl e ↦ subst (λ (i : ℕ). can_be f Drop r i (node i) ≡ true) (sym e) (
-      let a = and_parts (ltb r.right.page f.pages) (not (r.right.page == 0) && ((node 0).live && leb (length r.pairs) f.room)) h in
-      let b = and_parts (not (r.right.page == 0)) ((node 0).live && leb (length r.pairs) f.room) a.1 in
-      (and_parts (node 0).live (leb (length r.pairs) f.room) b.1).0)
-  | inr n ↦ cond-false (p == 0) (node p).live true (ne_eqb p 0 n)
+      let sized = leb (length r.pairs) f.room && leb r.level f.levels in
+      let rises = is_ordered (node 0).low r.pairs (node 0).high in
+      let a = and_parts (ltb r.right.page f.pages) (not (r.right.page == 0) && ((node 0).live && (rises && sized))) h in
+      let b = and_parts (not (r.right.page == 0)) ((node 0).live && (rises && sized)) a.1 in
+      let c = and_parts (node 0).live (rises && sized) b.1 in
+      and_from (node 0).live rises c.0 (and_parts rises sized c.1).0)
+  | inr n ↦ cond-false (p == 0) ((node p).live && is_ordered (node p).low r.pairs (node p).high) true (ne_eqb p 0 n)
 ]
 can_do Split f node r h p o =
     let v = node r.left.page in let q = node r.parent.page in
-    let a = and_parts (three_pages f r) (v.live && (inside r.sep v && (q.live && (inside r.sep q && (ltb (length q.pairs) f.room && leb (length r.pairs) f.room))))) h in
-    let b = and_parts v.live (inside r.sep v && (q.live && (inside r.sep q && (ltb (length q.pairs) f.room && leb (length r.pairs) f.room)))) a.1 in
-    let c = and_parts (inside r.sep v) (q.live && (inside r.sep q && (ltb (length q.pairs) f.room && leb (length r.pairs) f.room))) b.1 in
-    let d = and_parts q.live (inside r.sep q && (ltb (length q.pairs) f.room && leb (length r.pairs) f.room)) c.1 in
-    let e = and_parts (inside r.sep q) (ltb (length q.pairs) f.room && leb (length r.pairs) f.room) d.1 in
-    let g = and_parts (ltb (length q.pairs) f.room) (leb (length r.pairs) f.room) e.1 in
+    let sized = leb (length r.pairs) f.room && (leb r.level f.levels && is_ordered r.sep r.pairs r.high) in
+    let room = ltb (length q.pairs) f.room && sized in
+    let parent = q.live && (inside r.sep q && room) in
+    let a = and_parts (three_pages f r) (v.live && (inside r.sep v && parent)) h in
+    let b = and_parts v.live (inside r.sep v && parent) a.1 in
+    let c = and_parts (inside r.sep v) parent b.1 in
+    let d = and_parts q.live (inside r.sep q && room) c.1 in
+    let e = and_parts (inside r.sep q) room d.1 in
+    let g = and_parts (ltb (length q.pairs) f.room) sized e.1 in
     elim (cases_eq p r.left.page) [
       | inl z ↦ rw (eq-eqb p r.left.page z) (subst (λ (i : ℕ). ((node i).live && inside r.sep (node i)) ≡ true) (sym z) (and_from v.live (inside r.sep v) b.0 c.0))
       | inr x ↦ elim (cases_eq p r.right.page) [
@@ -317,12 +367,13 @@ can_do Split f node r h p o =
     ]
 can_do Join f node r h p o =
     let v = node r.left.page in let q = node r.parent.page in
-    let a = and_parts (three_pages f r) (v.live && (q.live && (has_key r.sep q && leb (length v.pairs + length r.pairs) f.room))) h in
-    let b = and_parts v.live (q.live && (has_key r.sep q && leb (length v.pairs + length r.pairs) f.room)) a.1 in
-    let c = and_parts q.live (has_key r.sep q && leb (length v.pairs + length r.pairs) f.room) b.1 in
-    let d = and_parts (has_key r.sep q) (leb (length v.pairs + length r.pairs) f.room) c.1 in
+    let fits = leb (length v.pairs + length r.pairs) f.room && is_ordered v.low (v.pairs ++ r.pairs) r.high in
+    let a = and_parts (three_pages f r) (v.live && (q.live && (has_key r.sep q && fits))) h in
+    let b = and_parts v.live (q.live && (has_key r.sep q && fits)) a.1 in
+    let c = and_parts q.live (has_key r.sep q && fits) b.1 in
+    let d = and_parts (has_key r.sep q) fits c.1 in
     elim (cases_eq p r.left.page) [
-      | inl z ↦ rw (eq-eqb p r.left.page z) (subst (λ (i : ℕ). ((node i).live && leb (length (node i).pairs + length r.pairs) f.room) ≡ true) (sym z) (and_from v.live (leb (length v.pairs + length r.pairs) f.room) b.0 d.1))
+      | inl z ↦ rw (eq-eqb p r.left.page z) (subst (λ (i : ℕ). ((node i).live && (leb (length (node i).pairs + length r.pairs) f.room && is_ordered (node i).low ((node i).pairs ++ r.pairs) r.high)) ≡ true) (sym z) (and_from v.live fits b.0 d.1))
       | inr x ↦ elim (cases_eq p r.right.page) [
         | inl z ↦ rw (ne_eqb p r.left.page x, eq-eqb p r.right.page z) refl
         | inr y ↦ rw (ne_eqb p r.left.page x, ne_eqb p r.right.page y) (subst (λ (i : ℕ). ((node i).live && has_key r.sep (node i)) ≡ true) (sym (touch_third r.left r.right r.parent p o x y)) (and_from q.live (has_key r.sep q) c.0 d.0))

@@ -1,17 +1,19 @@
 // Whether a record could be done.
-ghost use Rattle.std.specs.Prelude.{◌≡◌, length, IfOk};
+ghost use Rattle.std.specs.Prelude.{◌≡◌, ◌++◌, ◌&&◌, ◌==◌, not, length, IfOk};
+ghost use Rattle.page_model.specs.Check as check;
 ghost use Rattle.page_model.specs.Records as records;
 ghost use Rattle.page_model.specs.Redo as page_redo;
 ghost use Rattle.image_model.specs.Entries as entries;
 ghost use Rattle.image_model.specs.Redo as redoing;
-ghost use Rattle.plain_images.specs.Pages.{node_of, format_of};
+ghost use Rattle.plain_images.specs.Pages.{node_of, pairs_of, format_of};
 ghost use Rattle.plain_images.specs.Records.{kind_of, record_of, entry_of};
 ghost use Rattle.plain_images.specs.Images.{pages_of};
 
-use crate::pages::{DEAD, LEVELS, Node, ROOM};
+use crate::pages::{DEAD, LEVELS, Node, Pair, ROOM};
 use crate::pairs::find;
 use crate::records::{Kind, Page, Record};
 use crate::redone::{Placed, number_of, page_at, stands};
+use crate::tree::is_rising;
 use std::alloc::{AllocError, Global};
 
 // The record names pages that there are and, if it counts, can be done.
@@ -59,16 +61,59 @@ fn is_sayable(entry: &Record) -> bool
 {
     match entry.kind {
         Kind::Change | Kind::PutBack => entry.before <= DEAD && entry.after <= DEAD,
-        Kind::Split | Kind::Join => entry.left.page != entry.right.page
-            && entry.left.page != entry.parent.page
-            && entry.right.page != entry.parent.page
-            && entry.pairs.len() <= ROOM,
+        Kind::Split => are_apart(entry)
+            && entry.pairs.len() <= ROOM
+            && u64::from(entry.level) <= LEVELS
+            && is_ordered(entry.sep, &entry.pairs, entry.high),
+        Kind::Join => are_apart(entry) && entry.pairs.len() <= ROOM,
         Kind::Lift => entry.right.page != 0
             && u64::from(entry.level) < LEVELS
-            && entry.pairs.len() <= ROOM,
-        Kind::Drop => entry.right.page != 0 && entry.pairs.len() <= ROOM,
+            && entry.pairs.len() <= ROOM
+            && is_ordered(0, &entry.pairs, entry.high),
+        Kind::Drop => entry.right.page != 0
+            && entry.pairs.len() <= ROOM
+            && u64::from(entry.level) <= LEVELS,
         Kind::Purge | Kind::Commit | Kind::Abort => true,
     }
+}
+
+// Of left, right and parent no two are the same page.
+fn are_apart(entry: &Record) -> bool
+    ensures { result ≡ (not (entry.now.left.page == entry.now.right.page) && (not (entry.now.left.page == entry.now.parent.page) && not (entry.now.right.page == entry.now.parent.page))) }
+{
+    entry.left.page != entry.right.page
+        && entry.left.page != entry.parent.page
+        && entry.right.page != entry.parent.page
+}
+
+// Keys rise strictly and stand within the fences; without pairs any fences will do.
+fn is_ordered(low: u64, pairs: &[Pair], high: u64) -> bool
+    ensures { result ≡ page_redo.is_ordered low (pairs_of pairs.now) high }
+{
+    pairs.is_empty() || is_rising(u128::from(low), pairs, high)
+}
+
+// The same of the pairs of two nodes, one behind the other.
+fn are_ordered(low: u64, left: &[Pair], right: &[Pair], high: u64) -> bool
+    ensures { result ≡ page_redo.is_ordered low (pairs_of left.now ++ pairs_of right.now) high }
+{
+    match left.first() {
+        Some(_) => are_rising(low, left, right, high),
+        None => is_ordered(low, right, high),
+    }
+}
+
+fn are_rising(low: u64, left: &[Pair], right: &[Pair], high: u64) -> bool
+    ensures { result ≡ check.is_rising low (pairs_of left.now ++ pairs_of right.now) high }
+{
+    let mut from = u128::from(low);
+    for pair in left {
+        if u128::from(pair.key) < from {
+            return false;
+        }
+        from = u128::from(pair.key) + 1;
+    }
+    is_rising(from, right, high)
 }
 
 // What it asks of each page that it changes.
@@ -117,7 +162,8 @@ fn can_be(entry: &Record, page: u64, node: &Node) -> bool
             && has_key(entry.key, node),
         Kind::Split => can_split(entry, page, node),
         Kind::Join => can_join(entry, page, node),
-        Kind::Lift | Kind::Drop => page != 0 || node.live,
+        Kind::Lift => page != 0 || (node.live && within(0, node)),
+        Kind::Drop => page != 0 || (node.live && is_ordered(node.low, &entry.pairs, node.high)),
         Kind::Purge | Kind::Commit | Kind::Abort => node.live
             && node.level == 0
             && has_keys(&entry.keys, node),
@@ -142,7 +188,8 @@ fn can_join(entry: &Record, page: u64, node: &Node) -> bool
     if page == entry.left.page {
         return node.live
             && node.pairs.len() <= ROOM
-            && entry.pairs.len() <= ROOM - node.pairs.len();
+            && entry.pairs.len() <= ROOM - node.pairs.len()
+            && are_ordered(node.low, &node.pairs, &entry.pairs, entry.high);
     }
     if page == entry.right.page {
         return true;

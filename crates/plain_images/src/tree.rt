@@ -60,16 +60,16 @@ fn is_node(pages: usize, node: &Node) -> bool
 {
     node.pairs.len() <= ROOM
         && node.level <= LEVELS
-        && is_rising(node.low, &node.pairs, node.high)
+        && is_rising(u128::from(node.low), &node.pairs, node.high)
         && are_words(pages, node.level, &node.pairs)
         && (node.level == 0
             || (!node.pairs.is_empty() && first_key(&node.pairs, node.high) == node.low))
 }
 
-fn is_rising(low: u64, pairs: &[Pair], high: u64) -> bool
+pub(crate) fn is_rising(low: u128, pairs: &[Pair], high: u64) -> bool
     ensures { result ≡ check.is_rising low (pairs_of pairs.now) high }
 {
-    let mut from = u128::from(low);
+    let mut from = low;
     for pair in pairs {
         if u128::from(pair.key) < from {
             return false;

@@ -1,5 +1,4 @@
 use Rattle.std.proofs.Common.{ap, ◌∙◌, sym, cond, Some, None}
-use Rattle.image_model.specs.Images as images
 use Rattle.image_model.specs.Damage as rules
 use Rattle.plain_images.specs.Pages.{format_of}
 use Rattle.std.proofs.Common.{length}
