@@ -7,8 +7,7 @@ use Rattle.std.proofs.lemmas.List.{length-append, drop_all, length-take-le, take
 use Rattle.std.proofs.lemmas.List.Elements.{All-head, All-tail, All-same, All-push, All-nil}
 use Rattle.lean_bytes.specs.Numbers.{number_bytes}
 use Rattle.lean_bytes.proofs.NumberLemmas.{length-number_bytes}
-use Rattle.log_record.specs.Spelling.{Holds, pair_text, pairs_text, keys_text}
-use Rattle.log_record.specs.Kinds.{PairFits, KeyFits, ItemsFit, PairsFit, KeysFit, no_pair}
+use Rattle.log_record.specs.Spelling.{Holds, pair_text, pairs_text, keys_text, PairFits, KeyFits, ItemsFit, PairsFit, KeysFit, no_pair}
 use Rattle.log_record.specs.Inside.{Spell, PairsStand, KeysStand}
 use Rattle.log_record.specs.declared.record.Pair.{Pair}
 use Rattle.log_record.specs.declared.record.Pairs.{Pairs}

@@ -4,8 +4,7 @@ use mathlib.Core.List.{append_assoc}
 use Rattle.std.proofs.lemmas.List.{length-append}
 use Rattle.lean_bytes.specs.Numbers.{number_bytes}
 use Rattle.lean_bytes.proofs.NumberLemmas.{length-number_bytes}
-use Rattle.log_record.specs.Spelling.{RefFits, kind_of, ref_text, body_text, pairs_text, keys_text}
-use Rattle.log_record.specs.Kinds.{AnyBodyFits}
+use Rattle.log_record.specs.Spelling.{RefFits, kind_of, ref_text, body_text, pairs_text, keys_text, BodyFits}
 use Rattle.log_record.specs.Inside.{change_of, put_back_of, split_of, lift_of, join_of, drop_of, BodyStands, PairsStand, KeysStand, NoBody, NoPairs, NoKeys, SiblingsFit, RootChangeFits, key_change_text, KeyChangeFits, siblings_text, root_change_text}
 use Rattle.log_record.specs.declared.record.PageRef.{PageRef}
 use Rattle.log_record.specs.declared.record.Pairs.{Pairs}
@@ -88,16 +87,16 @@ no_short kind bytes short b rest is f e =
 -- ## One body of a kind
 
 -- bytes begin with one body of a kind at most
-pub one_body : (b c : Body) (xs ys : List ℕ) → kind_of b ≡ kind_of c → AnyBodyFits b → AnyBodyFits c → body_text b ++ xs ≡ body_text c ++ ys → b ≡ c
+pub one_body : (b c : Body) (xs ys : List ℕ) → kind_of b ≡ kind_of c → BodyFits b → BodyFits c → body_text b ++ xs ≡ body_text c ++ ys → b ≡ c
 one_body (Change l k v a) c xs ys is f g e =
-    as_change (λ d. AnyBodyFits d → body_text (Change l k v a) ++ xs ≡ body_text d ++ ys → Change l k v a ≡ d)
+    as_change (λ d. BodyFits d → body_text (Change l k v a) ++ xs ≡ body_text d ++ ys → Change l k v a ≡ d)
     (λ d h u. ap change_of (key_change_cut (record { leaf = l; key = k; before = v; after = a }) d xs ys f h u).0) c (sym is) g e
 one_body (PutBack l k v a) c xs ys is f g e =
-    as_put_back (λ d. AnyBodyFits d → body_text (PutBack l k v a) ++ xs ≡ body_text d ++ ys → PutBack l k v a ≡ d)
+    as_put_back (λ d. BodyFits d → body_text (PutBack l k v a) ++ xs ≡ body_text d ++ ys → PutBack l k v a ≡ d)
     (λ d h u. ap put_back_of (key_change_cut (record { leaf = l; key = k; before = v; after = a }) d xs ys f h u).0) c (sym is) g e
 one_body (Split l r p s t level pairs) c xs ys is f g e =
     let m : Siblings = record { left = l; right = r; parent = p; separator = s; high = t } in
-    as_split (λ d. AnyBodyFits d → body_text (split_of m level pairs) ++ xs ≡ body_text d ++ ys → split_of m level pairs ≡ d)
+    as_split (λ d. BodyFits d → body_text (split_of m level pairs) ++ xs ≡ body_text d ++ ys → split_of m level pairs ≡ d)
     (λ n other qs h u.
     let c0 = siblings_cut m n _ _ (f.0, f.1, f.2, f.3, f.4) (h.0, h.1, h.2, h.3, h.4) (sym (siblings_in m (level ∷ pairs_text pairs) xs) ∙ u ∙ siblings_in n (other ∷ pairs_text qs) ys) in
     let c1 = byte_cut level other _ _ c0.1 in
@@ -105,35 +104,35 @@ one_body (Split l r p s t level pairs) c xs ys is f g e =
     λ i. split_of (c0.0 i) (c1.0 i) (c2.0 i)) c (sym is) g e
 one_body (Lift v p level pairs) c xs ys is f g e =
     let m : RootChange = record { root_prev = v; page = p; level = level } in
-    as_lift (λ d. AnyBodyFits d → body_text (lift_of m pairs) ++ xs ≡ body_text d ++ ys → lift_of m pairs ≡ d)
+    as_lift (λ d. BodyFits d → body_text (lift_of m pairs) ++ xs ≡ body_text d ++ ys → lift_of m pairs ≡ d)
     (λ n qs h u.
     let c0 = root_change_cut m n _ _ (f.0, f.1, f.2) (h.0, h.1, h.2) (sym (root_change_in m (pairs_text pairs) xs) ∙ u ∙ root_change_in n (pairs_text qs) ys) in
     let c1 = pairs_cut pairs qs xs ys f.3 h.3 c0.1 in
     λ i. lift_of (c0.0 i) (c1.0 i)) c (sym is) g e
 one_body (Join l r p s t pairs) c xs ys is f g e =
     let m : Siblings = record { left = l; right = r; parent = p; separator = s; high = t } in
-    as_join (λ d. AnyBodyFits d → body_text (join_of m pairs) ++ xs ≡ body_text d ++ ys → join_of m pairs ≡ d)
+    as_join (λ d. BodyFits d → body_text (join_of m pairs) ++ xs ≡ body_text d ++ ys → join_of m pairs ≡ d)
     (λ n qs h u.
     let c0 = siblings_cut m n _ _ (f.0, f.1, f.2, f.3, f.4) (h.0, h.1, h.2, h.3, h.4) (sym (siblings_in m (pairs_text pairs) xs) ∙ u ∙ siblings_in n (pairs_text qs) ys) in
     let c1 = pairs_cut pairs qs xs ys f.5 h.5 c0.1 in
     λ i. join_of (c0.0 i) (c1.0 i)) c (sym is) g e
 one_body (DropRoot v p level pairs) c xs ys is f g e =
     let m : RootChange = record { root_prev = v; page = p; level = level } in
-    as_drop (λ d. AnyBodyFits d → body_text (drop_of m pairs) ++ xs ≡ body_text d ++ ys → drop_of m pairs ≡ d)
+    as_drop (λ d. BodyFits d → body_text (drop_of m pairs) ++ xs ≡ body_text d ++ ys → drop_of m pairs ≡ d)
     (λ n qs h u.
     let c0 = root_change_cut m n _ _ (f.0, f.1, f.2) (h.0, h.1, h.2) (sym (root_change_in m (pairs_text pairs) xs) ∙ u ∙ root_change_in n (pairs_text qs) ys) in
     let c1 = pairs_cut pairs qs xs ys f.3 h.3 c0.1 in
     λ i. drop_of (c0.0 i) (c1.0 i)) c (sym is) g e
 one_body (Purge l keys) c xs ys is f g e =
-    as_purge (λ d. AnyBodyFits d → body_text (Purge l keys) ++ xs ≡ body_text d ++ ys → Purge l keys ≡ d)
+    as_purge (λ d. BodyFits d → body_text (Purge l keys) ++ xs ≡ body_text d ++ ys → Purge l keys ≡ d)
     (λ m ks h u.
     let c0 = ref_in_cut l m (keys_text keys) (keys_text ks) xs ys f.0 h.0 u in
     let c1 = keys_cut keys ks xs ys f.1 h.1 c0.1 in
     λ i. Purge (c0.0 i) (c1.0 i)) c (sym is) g e
 one_body (Commit n) c xs ys is f g e =
-    as_commit (λ d. AnyBodyFits d → body_text (Commit n) ++ xs ≡ body_text d ++ ys → Commit n ≡ d) (λ m h u. ap Commit (number_cut 8 n m xs ys f h u).0) c (sym is) g e
+    as_commit (λ d. BodyFits d → body_text (Commit n) ++ xs ≡ body_text d ++ ys → Commit n ≡ d) (λ m h u. ap Commit (number_cut 8 n m xs ys f h u).0) c (sym is) g e
 one_body (Abort n) c xs ys is f g e =
-    as_abort (λ d. AnyBodyFits d → body_text (Abort n) ++ xs ≡ body_text d ++ ys → Abort n ≡ d) (λ m h u. ap Abort (number_cut 8 n m xs ys f h u).0) c (sym is) g e
+    as_abort (λ d. BodyFits d → body_text (Abort n) ++ xs ≡ body_text d ++ ys → Abort n ≡ d) (λ m h u. ap Abort (number_cut 8 n m xs ys f h u).0) c (sym is) g e
 
 -- ## Bytes that were read
 
@@ -210,7 +209,7 @@ purge_stands bytes r1 l ks b n same e0 f is = subst (λ (c : Body). BodyStands 7
 -- where no pairs stand behind the front, no body does
 pub no_split : (bytes r1 r2 : List ℕ) (s : Siblings) (level : ℕ) → bytes ≡ siblings_text s r1 → r1 ≡ level ∷ r2 → SiblingsFit s → NoPairs r2 → NoBody 3 bytes
 no_split bytes r1 r2 s level e0 e1 f none b rest is g e =
-    as_split (λ d. AnyBodyFits d → bytes ≡ body_text d ++ rest → ⊥)
+    as_split (λ d. BodyFits d → bytes ≡ body_text d ++ rest → ⊥)
     (λ n other qs h u.
     let c0 = siblings_cut s n r1 ((other ∷ pairs_text qs) ++ rest) f (h.0, h.1, h.2, h.3, h.4) (sym e0 ∙ u ∙ siblings_in n (other ∷ pairs_text qs) rest) in
     let c1 = byte_cut level other r2 (pairs_text qs ++ rest) (sym e1 ∙ c0.1) in
@@ -218,28 +217,28 @@ no_split bytes r1 r2 s level e0 e1 f none b rest is g e =
 
 pub no_join : (bytes r1 : List ℕ) (s : Siblings) → bytes ≡ siblings_text s r1 → SiblingsFit s → NoPairs r1 → NoBody 5 bytes
 no_join bytes r1 s e0 f none b rest is g e =
-    as_join (λ d. AnyBodyFits d → bytes ≡ body_text d ++ rest → ⊥)
+    as_join (λ d. BodyFits d → bytes ≡ body_text d ++ rest → ⊥)
     (λ n qs h u.
     let c0 = siblings_cut s n r1 (pairs_text qs ++ rest) f (h.0, h.1, h.2, h.3, h.4) (sym e0 ∙ u ∙ siblings_in n (pairs_text qs) rest) in
     none qs rest h.5 c0.1) b is g e
 
 pub no_lift : (bytes r1 : List ℕ) (s : RootChange) → bytes ≡ root_change_text s r1 → RootChangeFits s → NoPairs r1 → NoBody 4 bytes
 no_lift bytes r1 s e0 f none b rest is g e =
-    as_lift (λ d. AnyBodyFits d → bytes ≡ body_text d ++ rest → ⊥)
+    as_lift (λ d. BodyFits d → bytes ≡ body_text d ++ rest → ⊥)
     (λ n qs h u.
     let c0 = root_change_cut s n r1 (pairs_text qs ++ rest) f (h.0, h.1, h.2) (sym e0 ∙ u ∙ root_change_in n (pairs_text qs) rest) in
     none qs rest h.3 c0.1) b is g e
 
 pub no_drop : (bytes r1 : List ℕ) (s : RootChange) → bytes ≡ root_change_text s r1 → RootChangeFits s → NoPairs r1 → NoBody 6 bytes
 no_drop bytes r1 s e0 f none b rest is g e =
-    as_drop (λ d. AnyBodyFits d → bytes ≡ body_text d ++ rest → ⊥)
+    as_drop (λ d. BodyFits d → bytes ≡ body_text d ++ rest → ⊥)
     (λ n qs h u.
     let c0 = root_change_cut s n r1 (pairs_text qs ++ rest) f (h.0, h.1, h.2) (sym e0 ∙ u ∙ root_change_in n (pairs_text qs) rest) in
     none qs rest h.3 c0.1) b is g e
 
 pub no_purge : (bytes r1 : List ℕ) (l : PageRef) → bytes ≡ ref_text l ++ r1 → RefFits l → NoKeys r1 → NoBody 7 bytes
 no_purge bytes r1 l e0 f none b rest is g e =
-    as_purge (λ d. AnyBodyFits d → bytes ≡ body_text d ++ rest → ⊥)
+    as_purge (λ d. BodyFits d → bytes ≡ body_text d ++ rest → ⊥)
     (λ m ks h u.
     let c0 = ref_cut l m r1 (keys_text ks ++ rest) f h.0 (sym e0 ∙ u ∙ append_assoc (ref_text m) (keys_text ks) rest) in
     none ks rest h.1 c0.1) b is g e

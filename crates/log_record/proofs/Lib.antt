@@ -3,4 +3,8 @@ pub mod NumberCuts
 pub mod ItemLemmas
 pub mod PartLemmas
 pub mod KindLemmas
+pub mod MadeLemmas
 pub mod RecordLemmas
+pub mod SizeLemmas
+pub mod FitLemmas
+pub mod ReadingLemmas

@@ -1,5 +1,5 @@
 -- Parts of records that several kinds share, and what stands behind kind, transaction and number.
-use Rattle.std.specs.Prelude.{◌≡◌, ◌<◌, ◌^◌, ◌++◌, ◌∷◌, ℕ, List, length}
+use Rattle.std.specs.Prelude.{◌≡◌, ◌<◌, ◌≤◌, ◌^◌, ◌+◌, ◌*◌, ◌++◌, ◌∷◌, ℕ, List, length, drop}
 use Rattle.std.specs.List.{All, flat_map}
 use Rattle.log_record.specs.declared.record.Pairs.{Pairs}
 use Rattle.log_record.specs.declared.record.Keys.{Keys}
@@ -11,8 +11,7 @@ use Rattle.log_record.specs.declared.parts.KeyChange.{KeyChange}
 use Rattle.log_record.specs.declared.parts.Siblings.{Siblings}
 use Rattle.log_record.specs.declared.parts.RootChange.{RootChange}
 use Rattle.lean_bytes.specs.Numbers.{number_bytes}
-use Rattle.log_record.specs.Spelling.{RefFits, kind_of, ref_text, write_text, body_text, pairs_text, keys_text}
-use Rattle.log_record.specs.Kinds.{AnyBodyFits, PairsFit, KeysFit}
+use Rattle.log_record.specs.Spelling.{RefFits, kind_of, ref_text, write_text, body_text, pairs_text, keys_text, BodyFits, PairsFit, KeysFit}
 
 -- kind, transaction and number, and the bytes behind them
 abbrev pub head_text : Head → List ℕ → List ℕ
@@ -71,14 +70,14 @@ pub record IsWith {A : Type 0} (made : A → Body) (body : Body) : Type 0 where
 -- a body of this kind stands first, and takes so many bytes
 pub record BodyStands (kind : ℕ) (bytes : List ℕ) (body : Body) (n : ℕ) : Type 0 where
   pub is : kind_of body ≡ kind
-  pub fits : AnyBodyFits body
+  pub fits : BodyFits body
   pub count : n ≡ length (body_text body)
   pub rest : List ℕ
   pub spelled : bytes ≡ body_text body ++ rest
 
 -- no body of this kind stands first
 abbrev pub NoBody : ℕ → List ℕ → Type 0
-NoBody kind bytes = (body : Body) (rest : List ℕ) → kind_of body ≡ kind → AnyBodyFits body → bytes ≡ body_text body ++ rest → ⊥
+NoBody kind bytes = (body : Body) (rest : List ℕ) → kind_of body ≡ kind → BodyFits body → bytes ≡ body_text body ++ rest → ⊥
 
 -- items that fit stand first, one behind the other
 pub record Spell {A : Type 0} (Fit : A → Type 0) (text : A → List ℕ) (items : List A) (bytes : List ℕ) : Type 0 where
@@ -105,3 +104,12 @@ pub record KeysStand (bytes : List ℕ) (ks : Keys) (n : ℕ) : Type 0 where
 
 abbrev pub NoKeys : List ℕ → Type 0
 NoKeys bytes = (ks : Keys) (rest : List ℕ) → KeysFit ks → bytes ≡ keys_text ks ++ rest → ⊥
+
+-- behind a front of so many bytes stand a count, at most 60, and so many items of this width
+pub record Counted (front width : ℕ) (bytes : List ℕ) (n : ℕ) : Type 0 where
+  pub many : ℕ
+  pub most : many ≤ 60
+  pub more : List ℕ
+  pub behind : drop front bytes ≡ many ∷ more
+  pub enough : width * many ≤ length more
+  pub size : n ≡ front + 1 + width * many

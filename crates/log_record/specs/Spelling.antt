@@ -1,6 +1,6 @@
--- The bytes of a record.
-use Rattle.std.specs.Prelude.{◌≡◌, ◌<◌, ◌^◌, ◌+◌, ◌*◌, ◌++◌, ◌∷◌, ℕ, List, length, take, drop}
-use Rattle.std.specs.List.{flat_map}
+-- The bytes of a record, what fits in them, and what stands first.
+use Rattle.std.specs.Prelude.{◌≡◌, ◌<◌, ◌≤◌, ◌^◌, ◌+◌, ◌-◌, ◌*◌, ◌++◌, ◌∷◌, ℕ, List, length, take, drop, replicate}
+use Rattle.std.specs.List.{All, flat_map}
 use Rattle.lean_bytes.specs.Numbers.{number_bytes}
 use Rattle.log_record.specs.declared.record.Record.{Record}
 use Rattle.log_record.specs.declared.record.PageRef.{PageRef}
@@ -71,22 +71,53 @@ size_of (Purge leaf keys) = 30 + 8 * keys.count
 size_of (Commit need) = 25
 size_of (Abort need) = 25
 
--- the kinds that are written and read by now
-abbrev pub HasCome : Body → Type 0
-HasCome (Change leaf key before after) = Unit {0}
-HasCome (Commit need) = Unit {0}
-HasCome _ = ⊥
-
 -- numbers fit their bytes
 abbrev pub RefFits : PageRef → Type 0
 RefFits r = (r.page < 2 ^ 32) × (r.prev < 2 ^ 64)
 
+-- at most 60 pairs or keys count
+abbrev pub IsCounted : Body → Type 0
+IsCounted (Split left right parent separator high level pairs) = pairs.count ≤ 60
+IsCounted (Lift prev page level pairs) = pairs.count ≤ 60
+IsCounted (Join left right parent separator high pairs) = pairs.count ≤ 60
+IsCounted (DropRoot prev child level pairs) = pairs.count ≤ 60
+IsCounted (Purge leaf keys) = keys.count ≤ 60
+IsCounted _ = Unit {0}
+
+abbrev pub no_pair : Pair
+no_pair = record { key = 0; word = 0 }
+
+abbrev pub PairFits : Pair → Type 0
+PairFits p = (p.key < 2 ^ 64) × (p.word < 2 ^ 64)
+
+abbrev pub KeyFits : ℕ → Type 0
+KeyFits key = key < 2 ^ 64
+
+-- of 60 places the first `count` hold items that fit, and the others are 0
+pub record ItemsFit {A : Type 0} (Fit : A → Type 0) (zero : A) (count : ℕ) (items : List A) : Type 0 where
+  pub most : count ≤ 60
+  pub places : length items ≡ 60
+  pub each : All Fit (take count items)
+  pub zeros : drop count items ≡ replicate (60 - count) zero
+
+abbrev pub PairsFit : Pairs → Type 0
+PairsFit ps = ItemsFit PairFits no_pair ps.count ps.pairs
+
+abbrev pub KeysFit : Keys → Type 0
+KeysFit ks = ItemsFit KeyFits 0 ks.count ks.keys
+
+-- numbers fit their bytes, and pairs and keys fit
 abbrev pub BodyFits : Body → Type 0
 BodyFits (Change leaf key before after) = RefFits leaf × (key < 2 ^ 64) × (before < 2 ^ 64) × (after < 2 ^ 64)
+BodyFits (PutBack leaf key before after) = RefFits leaf × (key < 2 ^ 64) × (before < 2 ^ 64) × (after < 2 ^ 64)
+BodyFits (Split left right parent separator high level pairs) = RefFits left × RefFits right × RefFits parent × (separator < 2 ^ 64) × (high < 2 ^ 64) × (level < 2 ^ 8) × PairsFit pairs
+BodyFits (Lift prev page level pairs) = (prev < 2 ^ 64) × RefFits page × (level < 2 ^ 8) × PairsFit pairs
+BodyFits (Join left right parent separator high pairs) = RefFits left × RefFits right × RefFits parent × (separator < 2 ^ 64) × (high < 2 ^ 64) × PairsFit pairs
+BodyFits (DropRoot prev child level pairs) = (prev < 2 ^ 64) × RefFits child × (level < 2 ^ 8) × PairsFit pairs
+BodyFits (Purge leaf keys) = RefFits leaf × KeysFit keys
 BodyFits (Commit need) = need < 2 ^ 64
-BodyFits _ = ⊥
+BodyFits (Abort need) = need < 2 ^ 64
 
--- a record of a kind that has come
 pub record Fits (r : Record) : Type 0 where
   pub txn : r.txn < 2 ^ 64
   pub gsn : r.gsn < 2 ^ 64

@@ -47,3 +47,6 @@ pub const PURGE_SIZE: usize = 30;
 
 /// The bytes of a commit or an abort: the head, need.
 pub const END_SIZE: usize = 25;
+
+/// The most bytes of a record: those of a split of `MOST` pairs.
+pub const LARGEST: usize = 1031;

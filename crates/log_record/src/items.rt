@@ -2,8 +2,7 @@
 ghost use Rattle.std.specs.Prelude.{◌≡◌, ◌≤◌, ◌+◌, ◌*◌, ◌++◌, ℕ, List, IfSome, IfNone, length, replicate};
 ghost use Rattle.std.specs.List.{flat_map};
 ghost use Rattle.lean_bytes.specs.Numbers.{number_bytes};
-ghost use Rattle.log_record.specs.Spelling.{Holds, pair_text, pairs_text, keys_text};
-ghost use Rattle.log_record.specs.Kinds.{PairFits, KeyFits, no_pair};
+ghost use Rattle.log_record.specs.Spelling.{Holds, pair_text, pairs_text, keys_text, PairFits, KeyFits, no_pair};
 ghost use Rattle.log_record.specs.Inside.{PairsStand, NoPairs, KeysStand, NoKeys, Spell};
 
 use crate::format::{KEY_SIZE, MOST, PAIR_SIZE};

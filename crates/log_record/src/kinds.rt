@@ -1,22 +1,9 @@
-// Which kinds there are, and which a log may hold by now.
+// The kinds of records.
 ghost use Rattle.std.specs.Prelude.{◌≡◌};
 ghost use Rattle.log_record.specs.Spelling.{kind_of};
-ghost use Rattle.log_record.specs.Kinds.{EveryKind, has_come};
 
 use crate::format::{ABORT, CHANGE, COMMIT, DROP_ROOT, JOIN, LIFT, PURGE, PUT_BACK, SPLIT};
 use crate::record::Body;
-
-/// Whether readers of logs take records of this kind by now.
-pub fn has_come(kind: u8) -> bool
-    ensures { result ≡ has_come kind }
-{
-    kind == CHANGE || kind == COMMIT
-}
-
-/// The table says of each body whether its kind has come.
-pub fn every_kind()
-    ensures { EveryKind }
-{}
 
 /// The kind of a body, as it stands on disks.
 pub(crate) fn kind_of(body: &Body) -> u8

@@ -1,11 +1,12 @@
-//! The records of a log, and their bytes. All nine kinds are written and read; `has_come` says which of them a log may
-//! hold by now.
+//! The records of a log, and their bytes.
 #![tactic(auto)]
 
 mod bodies;
 mod format;
+mod head;
 mod items;
 mod kinds;
+mod laws;
 mod parts;
 mod pieces;
 mod read;
@@ -13,9 +14,10 @@ mod record;
 mod set;
 mod write;
 
-pub use format::{CHANGE_SIZE, END_SIZE, MOST};
-pub use kinds::{every_kind, has_come};
+pub use format::{CHANGE_SIZE, END_SIZE, LARGEST, MOST};
+pub use head::{RecordHead, record_head};
+pub use laws::{every_longer, every_record_in};
 pub use pieces::{put_short, put_word, split_short, split_word};
-pub use read::{read_any, read_record};
+pub use read::read_record;
 pub use record::{Body, Keys, PageRef, Pair, Pairs, Record};
 pub use write::{record_bytes, record_size};

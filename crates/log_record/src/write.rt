@@ -1,8 +1,7 @@
 // A record as bytes.
 ghost use Rattle.std.specs.Prelude.{◌≡◌, ◌≤◌, ◌+◌, ◌*◌, ◌++◌, ◌∷◌, ℕ, List, length};
 ghost use Rattle.lean_bytes.specs.Numbers.{number_bytes};
-ghost use Rattle.log_record.specs.Spelling.{Holds, body_text, pairs_text, record_text, size_of};
-ghost use Rattle.log_record.specs.Kinds.{IsCounted};
+ghost use Rattle.log_record.specs.Spelling.{Holds, body_text, pairs_text, record_text, size_of, IsCounted};
 ghost use Rattle.log_record.specs.Inside.{root_change_text, siblings_text};
 
 use crate::format::{

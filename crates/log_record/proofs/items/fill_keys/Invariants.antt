@@ -1,5 +1,5 @@
 use Rattle.lean_bytes.specs.Numbers.{number_bytes}
-use Rattle.log_record.specs.Kinds.{KeyFits}
+use Rattle.log_record.specs.Spelling.{KeyFits}
 use Rattle.log_record.proofs.ItemLemmas.{Read}
 use Rattle.log_record.proofs.items.fill_keys.Given as goal
 

@@ -1,5 +1,4 @@
-use Rattle.log_record.specs.Spelling.{pair_text}
-use Rattle.log_record.specs.Kinds.{PairFits}
+use Rattle.log_record.specs.Spelling.{pair_text, PairFits}
 use Rattle.log_record.proofs.ItemLemmas.{Read}
 use Rattle.log_record.proofs.items.fill_pairs.Given as goal
 

@@ -1,6 +1,6 @@
 use Rattle.std.proofs.Common.{◌≡◌, ◌+◌, ◌*◌, ℕ, length, ap, sym, subst, ◌∙◌, arith}
 use Rattle.std.specs.Prelude.{replicate}
-use Rattle.log_record.specs.Kinds.{no_pair}
+use Rattle.log_record.specs.Spelling.{no_pair}
 use Rattle.log_record.specs.Inside.{PairsStand}
 use Rattle.log_record.proofs.ItemLemmas.{places, pairs_stand, no_pairs_short}
 use Rattle.log_record.proofs.items.read_pairs.Goals as goal

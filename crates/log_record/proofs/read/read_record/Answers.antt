@@ -1,5 +1,5 @@
-use Rattle.std.proofs.Common.{sym, ◌∙◌}
-use Rattle.log_record.proofs.RecordLemmas.{found_pair, any_fits, stands, no_stands, no_head}
+use Rattle.std.proofs.Common.{Some, ap}
+use Rattle.log_record.proofs.RecordLemmas.{found, stands, no_stands, no_head}
 use Rattle.log_record.proofs.read.read_record.Goals as goal
 
 pub returns-then-bytes-lt-HEAD_SIZE-clause-every : goal.returns-then-bytes-lt-HEAD_SIZE-clause-every
@@ -9,17 +9,17 @@ pub returns-then-bytes-lt-HEAD_SIZE-clause-cause : goal.returns-then-bytes-lt-HE
 returns-then-bytes-lt-HEAD_SIZE-clause-cause c r rest f e = no_head c.args.bytes.now rest r c.if-bytes-lt-HEAD_SIZE.true e
 
 pub returns-in-Some-clause-answer : goal.returns-in-Some-clause-answer
-returns-in-Some-clause-answer c =
-    stands c.args.bytes.now c.split_head.result.1.now c.split_head.result.0 c.in-Some.size c.in-Some.body c.split_head.ensures.prefix c.split_head.ensures.fits (sym c.has_come.ensures ∙ c.if-not-has_come.false) c.in-Some.ensures.answer
+returns-in-Some-clause-answer c = stands c.args.bytes.now c.split_head.result.1.now c.split_head.result.0 c.in-Some.size c.read_body.new.body c.split_head.ensures.prefix c.split_head.ensures.fits c.in-Some.ensures.answer
 
 pub returns-in-Some-clause-every : goal.returns-in-Some-clause-every
 returns-in-Some-clause-every c r rest f e =
-    let is = stands c.args.bytes.now c.split_head.result.1.now c.split_head.result.0 c.in-Some.size c.in-Some.body c.split_head.ensures.prefix c.split_head.ensures.fits (sym c.has_come.ensures ∙ c.if-not-has_come.false) c.in-Some.ensures.answer in
-    found_pair c.args.bytes.now r _ _ rest is f e
+    let is = stands c.args.bytes.now c.split_head.result.1.now c.split_head.result.0 c.in-Some.size c.read_body.new.body c.split_head.ensures.prefix c.split_head.ensures.fits c.in-Some.ensures.answer in
+    let same = found c.args.bytes.now r _ _ rest is f e in
+    (ap Some same.0, same.1)
 
 pub returns-in-None-clause-every : goal.returns-in-None-clause-every
 returns-in-None-clause-every c r rest f e =
-    absurd (no_stands c.args.bytes.now c.split_head.result.1.now c.split_head.result.0 c.split_head.ensures.prefix c.split_head.ensures.fits c.in-None.ensures.cause r rest (any_fits r f) e)
+    absurd (no_stands c.args.bytes.now c.split_head.result.1.now c.split_head.result.0 c.split_head.ensures.prefix c.split_head.ensures.fits c.in-None.ensures.cause r rest f e)
 
 pub returns-in-None-clause-cause : goal.returns-in-None-clause-cause
-returns-in-None-clause-cause c r rest f e = no_stands c.args.bytes.now c.split_head.result.1.now c.split_head.result.0 c.split_head.ensures.prefix c.split_head.ensures.fits c.in-None.ensures.cause r rest (any_fits r f) e
+returns-in-None-clause-cause c r rest f e = no_stands c.args.bytes.now c.split_head.result.1.now c.split_head.result.0 c.split_head.ensures.prefix c.split_head.ensures.fits c.in-None.ensures.cause r rest f e
