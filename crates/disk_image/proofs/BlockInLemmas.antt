@@ -7,14 +7,15 @@ use Rattle.std.proofs.lemmas.Slice.Eq.{bytes_eq-Decides}
 use Rattle.page_model.specs.Check.{is_nil}
 use Rattle.lean_bytes.specs.Numbers.{number_bytes}
 use Rattle.log_record.specs.Spelling.{record_text}
+use Rattle.log_record.specs.Reading.{record_in}
 use Rattle.log_record.specs.declared.record.Record.{Record}
+use Rattle.log_record.proofs.NumberCuts.{drop_next, number_there}
+use Rattle.log_record.proofs.ReadingLemmas.{record_found, every_record_in}
 use Rattle.log_block.specs.Block.{header_text, body_text, seal_text, block_text, generation_of, log_of, block_of, IsSealed, Belongs, records_text, AllFit, Lists, IsBlock}
 use Rattle.log_block.proofs.BlockLemmas.{header_spread, records_long}
-use Rattle.disk_image.specs.Blocks.{record_in, cons_of, with_first, records_in, is_sealed, belongs, payload_of, count_of, block_in}
+use Rattle.disk_image.specs.Blocks.{cons_of, with_first, records_in, is_sealed, belongs, payload_of, count_of, block_in}
 use Rattle.disk_image.specs.Laws.{EverySealed, EveryBelongs, EveryBlockIn}
 use Rattle.disk_image.proofs.TestLemmas.{if_option, if_some, some_is, none_some, nil_to}
-use Rattle.disk_image.proofs.WordLemmas.{drop_next, number_there}
-use Rattle.disk_image.proofs.RecordInLemmas.{record_found, every_record_in}
 
 -- ## Seals
 

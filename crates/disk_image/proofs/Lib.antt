@@ -2,7 +2,6 @@ pub mod TestLemmas
 pub mod WordLemmas
 pub mod PageSlotLemmas
 pub mod MasterSlotLemmas
-pub mod RecordInLemmas
 pub mod BlockInLemmas
 pub mod RunLemmas
 pub mod BreakLemmas

@@ -1,15 +1,13 @@
--- Words and numbers that are read are those that were written.
-use Rattle.std.proofs.Common.{◌≡◌, ◌<◌, ◌+◌, ◌^◌, ℕ, zero, suc, true, ltb, List, [], ◌∷◌, ◌++◌, length, get_or, drop, refl, sym, ap, ◌∙◌, arith}
+-- Words that are read are those that were written.
+use Rattle.std.proofs.Common.{◌≡◌, ◌<◌, ◌^◌, ℕ, zero, suc, true, ltb, List, [], ◌∷◌, ◌++◌, length, get_or, drop, refl, sym, ap, ◌∙◌, arith}
 use mathlib.Core.List.{append_assoc}
 use Rattle.std.proofs.lemmas.Bool.{and_parts, and_from, ltb-true, lt-ltb}
-use Rattle.std.proofs.lemmas.List.{drop_at, drop-drop}
+use Rattle.std.proofs.lemmas.List.{drop_at}
 use Rattle.lean_bytes.specs.Numbers.{number_bytes, number_of, words_bytes, AreWords}
 use Rattle.lean_bytes.specs.Seals.{seal_of}
 use Rattle.lean_bytes.proofs.NumberLemmas.{length-number_bytes, number-read}
 use Rattle.disk_slots.specs.Slots.{slot_of, HasWords}
 use Rattle.disk_image.specs.Words.{words_in, are_words}
-
--- ## Words
 
 words-tail : (x : ℕ) (xs : List ℕ) → AreWords (x ∷ xs) → AreWords xs
 words-tail x xs a = record { word = λ k. a.word (suc k) }
@@ -46,13 +44,3 @@ unfolding slot_of
 words_in-slot n tag bytes ws e h =
     let l : n ≡ length ws = e ∙ sym h.long in
     ap (λ (us : List ℕ). words_in n us) h.spelled ∙ ap (λ j. words_in j (words_bytes ws ++ seal_of tag (words_bytes ws))) l ∙ words_in-bytes ws (seal_of tag (words_bytes ws)) h.fit
-
--- ## Numbers behind one another
-
--- what stands behind a number
-pub drop_next : (n k at x : ℕ) (bytes xs : List ℕ) → drop at bytes ≡ number_bytes n x ++ xs → k ≡ at + n → drop k bytes ≡ xs
-drop_next n k at x bytes xs h e = ap (λ j. drop j bytes) e ∙ sym (drop-drop n at bytes) ∙ ap (drop n) h ∙ drop_at (number_bytes n x) xs n (length-number_bytes n x)
-
--- a number that stands at a place
-pub number_there : (n at x : ℕ) (bytes xs : List ℕ) → drop at bytes ≡ number_bytes n x ++ xs → x < 256 ^ n → number_of n (drop at bytes) ≡ x
-number_there n at x bytes xs h few = ap (number_of n) h ∙ number-read n x xs few

@@ -1,38 +1,12 @@
 -- The records that the bytes of a block spell, if they spell some.
-use Rattle.std.specs.Prelude.{ℕ, zero, suc, Bool, false, ◌&&◌, leb, ltb, ◌==◌, ◌^◌, List, [], ◌∷◌, length, drop, take, Option, Some, None, if◌then◌else◌}
+use Rattle.std.specs.Prelude.{ℕ, zero, suc, Bool, ◌&&◌, leb, ◌==◌, List, [], ◌∷◌, length, drop, take, Option, Some, None, if◌then◌else◌}
 use Rattle.std.specs.Str.{bytes_eq}
 use Rattle.page_model.specs.Check.{is_nil}
 use Rattle.lean_bytes.specs.Numbers.{number_at}
 use Rattle.log_record.specs.Spelling.{record_text}
+use Rattle.log_record.specs.Reading.{record_in}
 use Rattle.log_record.specs.declared.record.Record.{Record}
-use Rattle.log_record.specs.declared.record.Body.{Body}
-use Rattle.log_record.specs.declared.record.Body.TheVariants.{Change, Commit}
 use Rattle.log_block.specs.Block.{block_text, seal_text, generation_of, log_of, block_of}
-
--- a change that may stand first
-abbrev pub change_at : List ℕ → Record
-change_at bytes = record { txn = number_at 8 1 bytes; gsn = number_at 8 9 bytes; body = Change (record { page = number_at 4 17 bytes; prev = number_at 8 21 bytes }) (number_at 8 29 bytes) (number_at 8 37 bytes) (number_at 8 45 bytes) }
-
--- a commit that may
-abbrev pub commit_at : List ℕ → Record
-commit_at bytes = record { txn = number_at 8 1 bytes; gsn = number_at 8 9 bytes; body = Commit (number_at 8 17 bytes) }
-
--- its numbers fit their bytes
-abbrev pub body_fits : Body → Bool
-body_fits (Change leaf key before after) = ltb leaf.page (2 ^ 32) && (ltb leaf.prev (2 ^ 64) && (ltb key (2 ^ 64) && (ltb before (2 ^ 64) && ltb after (2 ^ 64))))
-body_fits (Commit need) = ltb need (2 ^ 64)
-body_fits _ = false
-
-abbrev pub fits : Record → Bool
-fits r = ltb r.txn (2 ^ 64) && (ltb r.gsn (2 ^ 64) && body_fits r.body)
-
--- the bytes begin with the record
-abbrev pub begins : List ℕ → Record → Bool
-begins bytes r = fits r && bytes_eq (take (length (record_text r)) bytes) (record_text r)
-
--- the record that stands first, of the kinds that have come
-abbrev pub record_in : List ℕ → Option Record
-record_in bytes = if begins bytes (change_at bytes) then Some (change_at bytes) else (if begins bytes (commit_at bytes) then Some (commit_at bytes) else None)
 
 abbrev pub cons_of : Record → Option (List Record) → Option (List Record)
 cons_of r (Some rs) = Some (r ∷ rs)

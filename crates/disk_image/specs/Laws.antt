@@ -1,16 +1,15 @@
 -- What the definitions say of the grammar of slots, records and blocks, and of one another.
-use Rattle.std.specs.Prelude.{◌≡◌, ◌↔◌, ◌<◌, ◌≤◌, ℕ, List, length, Some, IsTrue}
+use Rattle.std.specs.Prelude.{◌≡◌, ◌↔◌, ◌<◌, ◌≤◌, ℕ, List, Some, IsTrue}
 use Rattle.page_model.specs.Page.{Page}
 use Rattle.image_model.specs.Images.{Image, IsSound, map_of, won_by, lost_by, recovered_page}
 use Rattle.disk_slots.specs.Pages.{IsPageSlot}
 use Rattle.disk_slots.specs.Masters.{IsMasterSlot}
 use Rattle.disk_slots.specs.declared.master.Master.{Master}
-use Rattle.log_record.specs.Spelling.{Begins, record_text}
 use Rattle.log_record.specs.declared.record.Record.{Record}
 use Rattle.log_block.specs.Block.{IsSealed, Belongs, IsBlock}
 use Rattle.disk_image.specs.PageSlots.{page_in}
 use Rattle.disk_image.specs.MasterSlots.{master_in}
-use Rattle.disk_image.specs.Blocks.{record_in, is_sealed, belongs, block_in}
+use Rattle.disk_image.specs.Blocks.{is_sealed, belongs, block_in}
 use Rattle.disk_image.specs.Shown.{Areas, IsSoundDisk}
 use Rattle.disk_image.specs.Breaks.{Breaks}
 
@@ -21,10 +20,7 @@ EveryPageIn = (n pages : ℕ) (bytes : List ℕ) (p : Page) → (page_in n pages
 abbrev pub EveryMasterIn : Type 0
 EveryMasterIn = (n : ℕ) (bytes : List ℕ) (m : Master) → (master_in n bytes ≡ Some m) ↔ IsMasterSlot n bytes m
 
--- so are records and blocks
-abbrev pub EveryRecordIn : Type 0
-EveryRecordIn = (bytes : List ℕ) (r : Record) → (record_in bytes ≡ Some r) ↔ Begins bytes r (length (record_text r))
-
+-- so are a block's seal, its numbers and its records
 abbrev pub EverySealed : Type 0
 EverySealed = (bytes : List ℕ) → IsTrue (is_sealed bytes) ↔ IsSealed bytes
 

@@ -1,7 +1,7 @@
 //! What the bytes of a disk show, and what they stand for: definitions and their laws.
 #![tactic(auto)]
 
-ghost use Rattle.disk_image.specs.Laws.{EveryAgreement, EveryBelongs, EveryBlockIn, EveryBreak, EveryMasterIn, EveryPageIn, EveryRecordIn, EverySealed};
+ghost use Rattle.disk_image.specs.Laws.{EveryAgreement, EveryBelongs, EveryBlockIn, EveryBreak, EveryMasterIn, EveryPageIn, EverySealed};
 
 /// A slot holds the page that the grammar says, or none.
 pub fn every_page_in()
@@ -11,11 +11,6 @@ pub fn every_page_in()
 /// So it does with masters.
 pub fn every_master_in()
     ensures { EveryMasterIn }
-{}
-
-/// A record of a kind that has come stands first in the bytes, or none does.
-pub fn every_record_in()
-    ensures { EveryRecordIn }
 {}
 
 /// The test of a seal.

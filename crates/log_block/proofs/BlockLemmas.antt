@@ -1,14 +1,14 @@
 -- Blocks: what is written, what was read, and that bytes are of one block alone.
-use Rattle.std.proofs.Common.{◌≡◌, ◌++◌, ◌∷◌, [], ℕ, suc, zero, List, ◌+◌, ◌-◌, ◌^◌, ◌<◌, ◌≤◌, length, take, drop, replicate, codes, refl, ap, sym, subst, ◌∙◌, arith}
+use Rattle.std.proofs.Common.{◌≡◌, ◌++◌, ◌∷◌, [], ℕ, suc, List, ◌+◌, ◌-◌, ◌^◌, ◌<◌, ◌≤◌, length, take, drop, replicate, codes, refl, ap, sym, subst, ◌∙◌, arith}
 use mathlib.Core.List.{append_assoc}
-use Rattle.std.proofs.lemmas.List.{length-append, length-replicate, length-drop, length-take-le, take_at, drop_at, drop-drop, drop_all, take_all, nil_from_length, append-nil, take-append-drop}
+use Rattle.std.proofs.lemmas.List.{length-append, length-replicate, take_at, drop_at, drop-drop, drop_all, take_all, nil_from_length, append-nil, take-append-drop}
 use Rattle.lean_bytes.specs.Numbers.{number_bytes, number_of}
 use Rattle.lean_bytes.proofs.NumberLemmas.{length-number_bytes, number-read}
 use Rattle.lean_bytes.proofs.SealLemmas.{length-seal_of}
-use Rattle.log_record.specs.Spelling.{Holds, record_text, Fits, Begins}
+use Rattle.log_record.specs.Spelling.{Holds, record_text, Begins}
 use Rattle.log_record.specs.declared.record.Record.{Record}
 use Rattle.log_record.proofs.RecordLemmas.{number_cut}
-use Rattle.log_block.specs.Block.{header_text, body_text, seal_text, block_text, generation_of, log_of, block_of, IsSealed, Belongs, records_text, AllFit, Lists, IsBlock, IsPayload}
+use Rattle.log_block.specs.Block.{header_text, body_text, seal_text, block_text, generation_of, log_of, block_of, IsSealed, Belongs, records_text, Lists, IsBlock, Spells}
 
 -- ## Writing
 
@@ -100,6 +100,10 @@ lists_more bytes left r n count records is at some more =
       spelled = is.spelled ∙ ap (λ (u : List ℕ). record_text r ++ u) rest;
     }
 
+-- the first record that is listed stands first
+pub lists_begin : (bytes : List ℕ) (r : Record) (count : ℕ) (records : List Record) → Lists (r ∷ records) count bytes → Begins bytes r (length (record_text r))
+lists_begin bytes r count records is = record { fits = is.fit.0; count = refl; rest = records_text records; spelled = is.spelled }
+
 -- what is listed behind the first record
 pub lists_rest : (bytes left : List ℕ) (n count : ℕ) (r : Record) (records : List Record) → left ≡ take (length bytes - n) (drop n bytes) → n ≡ length (record_text r) → 0 < count → Lists (r ∷ records) count bytes
     → Lists records (count - 1) left
@@ -146,89 +150,104 @@ is_sealed bytes body seal e l m is =
     record { whole = whole; seal = parts.1 ∙ is ∙ ap seal_text (sym parts.0) }
 
 -- the parts of a block's bytes behind its header
-pub record Parts (records : List Record) (n c : ℕ) (rest : List ℕ) : Type 0 where
-  pub size : n ≡ length (records_text records)
-  pub count : c ≡ length records
-  pub rest_is : (seal : List ℕ) × (rest ≡ (records_text records ++ replicate (2000 - length (records_text records)) 0) ++ seal)
+pub record Parts (payload : List ℕ) (many n c : ℕ) (rest : List ℕ) : Type 0 where
+  pub size : n ≡ length payload
+  pub count : c ≡ many
+  pub rest_is : (seal : List ℕ) × (rest ≡ (payload ++ replicate (2000 - length payload) 0) ++ seal)
 
-pub parts_of : (g s q n c g1 s1 q1 : ℕ) (bytes rest : List ℕ) (records : List Record) → g < 2 ^ 64 → s < 2 ^ 64 → q < 2 ^ 64 → g1 < 2 ^ 64 → s1 < 2 ^ 64 → q1 < 2 ^ 64 → n < 2 ^ 32 → c < 2 ^ 32
-    → bytes ≡ header_text g1 s1 q1 n c ++ rest → IsBlock g s q bytes records → Parts records n c rest
-parts_of g s q n c g1 s1 q1 bytes rest records fg fs fq fg1 fs1 fq1 fn fc prefix is =
-    let payload : List ℕ = records_text records in
+pub parts_of : (g s q n c g1 s1 q1 many : ℕ) (bytes rest payload : List ℕ) → g < 2 ^ 64 → s < 2 ^ 64 → q < 2 ^ 64 → g1 < 2 ^ 64 → s1 < 2 ^ 64 → q1 < 2 ^ 64 → n < 2 ^ 32 → c < 2 ^ 32
+    → bytes ≡ header_text g1 s1 q1 n c ++ rest → Spells g s q bytes many payload → Parts payload many n c rest
+parts_of g s q n c g1 s1 q1 many bytes rest payload fg fs fq fg1 fs1 fq1 fn fc prefix is =
     let few : length payload ≤ 2000 = is.room in
-    let many = records_long records in
-    let header : List ℕ = header_text g s q (length payload) (length records) in
+    let header : List ℕ = header_text g s q (length payload) many in
     let room : List ℕ = payload ++ replicate (2000 - length payload) 0 in
-    let seal : List ℕ = seal_text (body_text g s q (length records) payload) in
+    let seal : List ℕ = seal_text (body_text g s q many payload) in
     let e : header_text g1 s1 q1 n c ++ rest ≡ header ++ (room ++ seal) = sym prefix ∙ is.spelled ∙ append_assoc header room seal in
-    let same = same_header g1 s1 q1 n c g s q (length payload) (length records) rest (room ++ seal) fg1 fs1 fq1 fn fc fg fs fq (omega arith) (omega arith) e in
+    let same = same_header g1 s1 q1 n c g s q (length payload) many rest (room ++ seal) fg1 fs1 fq1 fn fc fg fs fq (omega arith) is.fits e in
     record { size = same.size; count = same.count; rest_is = (seal, same.rest) }
 
 -- the block that was read
-pub assembled : (g s q n c g1 s1 q1 : ℕ) (bytes rest room tail payload zeros : List ℕ) (records : List Record) → g < 2 ^ 64 → s < 2 ^ 64 → q < 2 ^ 64 → g1 < 2 ^ 64 → s1 < 2 ^ 64 → q1 < 2 ^ 64
+pub assembled : (g s q n c g1 s1 q1 : ℕ) (bytes rest room tail payload zeros : List ℕ) → c < 2 ^ 32 → g1 < 2 ^ 64 → s1 < 2 ^ 64 → q1 < 2 ^ 64
     → bytes ≡ header_text g1 s1 q1 n c ++ rest → length rest + 32 ≡ length bytes → rest ≡ room ++ tail → length room ≡ 2000 → room ≡ payload ++ zeros → length payload ≡ n → n ≤ 2000 → zeros ≡ replicate (length zeros) 0
-    → Belongs g s q bytes → Lists records c payload → IsPayload g s q bytes payload
-assembled g s q n c g1 s1 q1 bytes rest room tail payload zeros records fg fs fq fg1 fs1 fq1 prefix long cut few parts size most nothing is listed =
+    → Belongs g s q bytes → Spells g s q bytes c payload
+assembled g s q n c g1 s1 q1 bytes rest room tail payload zeros fc fg1 fs1 fq1 prefix long cut few parts size most nothing is =
     let eg : g1 ≡ g = sym (generation_read g1 s1 q1 n c bytes rest fg1 fs1 fq1 prefix) ∙ is.of_generation in
     let es : s1 ≡ s = sym (log_read g1 s1 q1 n c bytes rest fg1 fs1 fq1 prefix) ∙ is.of_log in
     let eq : q1 ≡ q = sym (block_read g1 s1 q1 n c bytes rest fg1 fs1 fq1 prefix) ∙ is.of_block in
-    let ec : c ≡ length records = sym listed.many in
     let en : n ≡ length payload = sym size in
     let whole : length bytes ≡ 2048 = is.sealed.whole in
     let split : length room ≡ length payload + length zeros = ap length parts ∙ length-append payload zeros in
     let left : length zeros ≡ 2000 - length payload = omega arith in
     let room_is : room ≡ payload ++ replicate (2000 - length payload) 0 = parts ∙ ap (λ (u : List ℕ). payload ++ u) (nothing ∙ ap (λ (k : ℕ). replicate {A = ℕ} k 0) left) in
-    let head : header_text g1 s1 q1 n c ≡ header_text g s q (length payload) (length records) =
+    let head : header_text g1 s1 q1 n c ≡ header_text g s q (length payload) c =
     ap (λ (x : ℕ). header_text x s1 q1 n c) eg ∙ ap (λ (x : ℕ). header_text g x q1 n c) es ∙ ap (λ (x : ℕ). header_text g s x n c) eq
-    ∙ ap (λ (x : ℕ). header_text g s q x c) en ∙ ap (λ (x : ℕ). header_text g s q (length payload) x) ec in
-    let body : header_text g1 s1 q1 n c ++ room ≡ body_text g s q (length records) payload =
-    ap (λ (u : List ℕ). u ++ room) head ∙ ap (λ (u : List ℕ). header_text g s q (length payload) (length records) ++ u) room_is in
+    ∙ ap (λ (x : ℕ). header_text g s q x c) en in
+    let body : header_text g1 s1 q1 n c ++ room ≡ body_text g s q c payload =
+    ap (λ (u : List ℕ). u ++ room) head ∙ ap (λ (u : List ℕ). header_text g s q (length payload) c ++ u) room_is in
     let joined : bytes ≡ (header_text g1 s1 q1 n c ++ room) ++ tail = prefix ∙ ap (λ (u : List ℕ). header_text g1 s1 q1 n c ++ u) cut ∙ sym (append_assoc (header_text g1 s1 q1 n c) room tail) in
     let body_size : length (header_text g1 s1 q1 n c ++ room) ≡ 2032 =
     let a = length-append (header_text g1 s1 q1 n c) room in let b = header_long g1 s1 q1 n c in omega arith in
     let ends = sealed_parts bytes (header_text g1 s1 q1 n c ++ room) tail joined body_size whole in
     let seal : tail ≡ seal_text (header_text g1 s1 q1 n c ++ room) = sym ends.1 ∙ is.sealed.seal ∙ ap seal_text ends.0 in
-    let text : bytes ≡ block_text g s q (length records) payload =
+    let text : bytes ≡ block_text g s q c payload =
     joined ∙ ap (λ (u : List ℕ). (header_text g1 s1 q1 n c ++ room) ++ u) seal ∙ ap (λ (u : List ℕ). u ++ seal_text u) body in
-    let P : List ℕ → Type 0 = λ u. length u ≤ 2000 in
-    let short : length payload ≤ 2000 = omega arith in
-    record {
-      records = records;
-      is = record {
-        fit = listed.fit;
-        room = subst P listed.spelled short;
-        spelled = text ∙ ap (λ (u : List ℕ). block_text g s q (length records) u) listed.spelled;
-      };
-      spelled = listed.spelled;
-    }
+    record { room = omega arith; fits = fc; spelled = text }
 
 -- what was read of a block that is one
-module _ (records : List Record) (n c end : ℕ) (rest room payload zeros : List ℕ) (few : length (records_text records) ≤ 2000) (at : end ≡ 2000) (is : Parts records n c rest)
-    (cut : room ≡ take end rest) (prefix : payload ≡ take n room) (back : zeros ≡ drop n room) where
-  room_is : room ≡ records_text records ++ replicate (2000 - length (records_text records)) 0
-  room_is =
-      let long = room_long (records_text records) few in
-      cut ∙ ap (take end) is.rest_is.1 ∙ take_at (records_text records ++ replicate (2000 - length (records_text records)) 0) is.rest_is.0 end (long ∙ sym at)
-
-  pub payload_is : payload ≡ records_text records
-  payload_is = prefix ∙ ap (take n) room_is ∙ take_at (records_text records) (replicate {A = ℕ} (2000 - length (records_text records)) 0) n (sym is.size)
+module _ (p : List ℕ) (many n c end : ℕ) (rest room zeros : List ℕ) (few : length p ≤ 2000) (at : end ≡ 2000) (is : Parts p many n c rest) (cut : room ≡ take end rest) (back : zeros ≡ drop n room) where
+  room_is : room ≡ p ++ replicate (2000 - length p) 0
+  room_is = let long = room_long p few in cut ∙ ap (take end) is.rest_is.1 ∙ take_at (p ++ replicate (2000 - length p) 0) is.rest_is.0 end (long ∙ sym at)
 
   pub zeros_are : zeros ≡ replicate (length zeros) 0
   zeros_are =
-      let k : ℕ = 2000 - length (records_text records) in
-      let e : zeros ≡ replicate {A = ℕ} k 0 = back ∙ ap (drop n) room_is ∙ drop_at (records_text records) (replicate {A = ℕ} k 0) n (sym is.size) in
+      let k : ℕ = 2000 - length p in
+      let e : zeros ≡ replicate {A = ℕ} k 0 = back ∙ ap (drop n) room_is ∙ drop_at p (replicate {A = ℕ} k 0) n (sym is.size) in
       let l : length zeros ≡ k = ap length e ∙ length-replicate {A = ℕ} k 0 in
       e ∙ ap (λ (j : ℕ). replicate {A = ℕ} j 0) (sym l)
 
-  pub payload_lists : AllFit records → Lists records c payload
-  payload_lists fit = record { fit = fit; many = sym is.count; spelled = payload_is }
+-- bytes are the block of one count and one payload alone
+pub record OneBlock (c d : ℕ) (p r : List ℕ) : Type 0 where
+  pub count : c ≡ d
+  pub payload : p ≡ r
+
+pub one_block : (g s q c d : ℕ) (bytes p r : List ℕ) → g < 2 ^ 64 → s < 2 ^ 64 → q < 2 ^ 64 → Spells g s q bytes c p → Spells g s q bytes d r → OneBlock c d p r
+one_block g s q c d bytes p r fg fs fq is other =
+    let few : length p ≤ 2000 = is.room in
+    let zeros : List ℕ = replicate (2000 - length p) 0 in
+    let rest : List ℕ = (p ++ zeros) ++ seal_text (body_text g s q c p) in
+    let prefix : bytes ≡ header_text g s q (length p) c ++ rest = is.spelled ∙ append_assoc (header_text g s q (length p) c) (p ++ zeros) (seal_text (body_text g s q c p)) in
+    let parts = parts_of g s q (length p) c g s q d bytes rest r fg fs fq fg fs fq (omega arith) is.fits prefix other in
+    let left : List ℕ = replicate (2000 - length r) 0 in
+    let mine : take (length p) rest ≡ p = ap (take (length p)) (append_assoc p zeros (seal_text (body_text g s q c p))) ∙ take_at p (zeros ++ seal_text (body_text g s q c p)) (length p) refl in
+    let theirs : take (length p) rest ≡ r = ap (take (length p)) (parts.rest_is.1 ∙ append_assoc r left parts.rest_is.0) ∙ take_at r (left ++ parts.rest_is.0) (length p) (sym parts.size) in
+    record { count = parts.count; payload = sym mine ∙ theirs }
+
+-- a block of records is one of their bytes
+pub spells_records : (g s q : ℕ) (bytes : List ℕ) (records : List Record) → IsBlock g s q bytes records → Spells g s q bytes (length records) (records_text records)
+spells_records g s q bytes records is =
+    let many = records_long records in
+    let few : length (records_text records) ≤ 2000 = is.room in
+    record { room = is.room; fits = omega arith; spelled = is.spelled }
+
+pub block_of_records : (g s q c : ℕ) (bytes payload : List ℕ) (records : List Record) → Spells g s q bytes c payload → Lists records c payload → IsBlock g s q bytes records
+block_of_records g s q c bytes payload records is listed =
+    let P : List ℕ → Type 0 = λ u. length u ≤ 2000 in
+    record {
+      fit = listed.fit;
+      room = subst P listed.spelled is.room;
+      spelled = is.spelled ∙ ap (λ (k : ℕ). block_text g s q k payload) (sym listed.many) ∙ ap (λ (u : List ℕ). block_text g s q (length records) u) listed.spelled;
+    }
+
+-- the payload lists no other records than the block's
+pub block_lists : (g s q c : ℕ) (bytes payload : List ℕ) (records : List Record) → g < 2 ^ 64 → s < 2 ^ 64 → q < 2 ^ 64 → Spells g s q bytes c payload → IsBlock g s q bytes records → Lists records c payload
+block_lists g s q c bytes payload records fg fs fq spells is =
+    let one = one_block g s q c (length records) bytes payload (records_text records) fg fs fq spells (spells_records g s q bytes records is) in
+    record { fit = is.fit; many = sym one.count; spelled = one.payload }
 
 -- a block belongs where it says
-pub block_belongs : (g s q : ℕ) (bytes : List ℕ) (records : List Record) → g < 2 ^ 64 → s < 2 ^ 64 → q < 2 ^ 64 → IsBlock g s q bytes records → Belongs g s q bytes
-block_belongs g s q bytes records fg fs fq is =
-    let payload : List ℕ = records_text records in
+pub spells_belongs : (g s q c : ℕ) (bytes payload : List ℕ) → g < 2 ^ 64 → s < 2 ^ 64 → q < 2 ^ 64 → Spells g s q bytes c payload → Belongs g s q bytes
+spells_belongs g s q c bytes payload fg fs fq is =
     let n : ℕ = length payload in
-    let c : ℕ = length records in
     let body : List ℕ = body_text g s q c payload in
     let room : List ℕ = payload ++ replicate (2000 - n) 0 in
     let rest : List ℕ = room ++ seal_text body in
@@ -239,6 +258,9 @@ block_belongs g s q bytes records fg fs fq is =
       of_log = log_read g s q n c bytes rest fg fs fq prefix;
       of_block = block_read g s q n c bytes rest fg fs fq prefix;
     }
+
+pub block_belongs : (g s q : ℕ) (bytes : List ℕ) (records : List Record) → g < 2 ^ 64 → s < 2 ^ 64 → q < 2 ^ 64 → IsBlock g s q bytes records → Belongs g s q bytes
+block_belongs g s q bytes records fg fs fq is = spells_belongs g s q (length records) bytes (records_text records) fg fs fq (spells_records g s q bytes records is)
 
 -- two parts of a list are the list
 pub parts_join : (k : ℕ) (xs prefix back : List ℕ) → prefix ≡ take k xs → back ≡ drop k xs → xs ≡ prefix ++ back

@@ -1,5 +1,5 @@
 -- The bytes of a block, and when a block belongs to a run.
-use Rattle.std.specs.Prelude.{◌≡◌, ◌≤◌, ◌+◌, ◌-◌, ◌++◌, ◌∷◌, [], ℕ, List, length, take, drop, replicate, codes}
+use Rattle.std.specs.Prelude.{◌≡◌, ◌≤◌, ◌<◌, ◌-◌, ◌^◌, ◌++◌, ◌∷◌, [], ℕ, List, length, take, drop, replicate, codes}
 use Rattle.std.specs.List.{flat_map}
 use Rattle.lean_bytes.specs.Numbers.{number_bytes, number_at}
 use Rattle.lean_bytes.specs.Seals.{seal_of}
@@ -55,6 +55,12 @@ pub record Lists (records : List Record) (count : ℕ) (bytes : List ℕ) : Type
   pub fit : AllFit records
   pub many : length records ≡ count
   pub spelled : bytes ≡ records_text records
+
+-- the bytes are the block that says that it has so many records, whose bytes are the payload
+pub record Spells (generation log block : ℕ) (bytes : List ℕ) (count : ℕ) (payload : List ℕ) : Type 0 where
+  pub room : length payload ≤ 2000
+  pub fits : count < 2 ^ 32
+  pub spelled : bytes ≡ block_text generation log block count payload
 
 -- the bytes are the block of these records
 pub record IsBlock (generation log block : ℕ) (bytes : List ℕ) (records : List Record) : Type 0 where

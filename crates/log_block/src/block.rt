@@ -2,18 +2,19 @@
 ghost use Rattle.std.specs.Prelude.{◌≡◌, ◌≤◌, ◌<◌, ◌+◌, ◌-◌, ◌^◌, ◌++◌, ◌∷◌, [], ℕ, List, Err, IsOk, IfOk, IsTrue, ◌↔◌, length, take, drop, replicate, true, false};
 ghost use Rattle.log_record.specs.Spelling.{Holds};
 ghost use Rattle.log_record.specs.declared.record.Record.{Record};
-ghost use Rattle.log_block.specs.Block.{header_text, body_text, block_text, Belongs, IsBlock, IsPayload, Lists};
+ghost use Rattle.log_block.specs.Block.{header_text, body_text, block_text, Belongs, IsBlock, IsPayload, Lists, Spells};
 
 use crate::format::{BLOCK, HEADER, PAYLOAD, SEAL, TAG};
 use lean_bytes::{check, seal};
-use log_record::{put_short, put_word, read_record, split_short, split_word};
+use log_record::{put_short, put_word, record_head, split_short, split_word};
 
 /// Why a block was not taken.
 #[derive(Clone, Copy, Debug, PartialEq, Eq)]
 pub enum Refusal {
     /// The seal does not fit, or generation, log or number are others: the run ends here.
     NoRun,
-    /// The block belongs to the run, and what it holds is not the stated number of records with zeros behind them.
+    /// The block belongs to the run, and what it holds is not as its header says: a payload of at most 2,000 bytes with zeros behind
+    /// it, which is the stated number of records.
     Malformed,
 }
 
@@ -45,14 +46,38 @@ pub fn block_bytes(
     put_bytes(into, body, &seal);
 }
 
-/// Reads the records of block `block` of a log of a generation. The answer is their bytes, which are read off by
-/// `read_record` one by one to the end.
+/// Reads the records of block `block` of a log of a generation. The answer is their bytes, which `read_record` and
+/// `record_head` take off one by one to the end.
 pub fn read_block(generation: u64, log: u32, block: u64, bytes: &[u8]) -> Result<&[u8], Refusal>
     ensures answer { IfOk result (λ payload. IsPayload generation log block bytes.now payload.now) }
     ensures every { (records : List Record) → IsBlock generation log block bytes.now records → IsOk result }
 
     ensures cause_no_run { result ≡ Err Refusal.NoRun → Belongs generation log block bytes.now → ⊥ }
     ensures cause_malformed { result ≡ Err Refusal.Malformed → Belongs generation log block bytes.now × ((records : List Record) → IsBlock generation log block bytes.now records → ⊥) }
+{
+    let (count, payload) = match open_block(generation, log, block, bytes) {
+        Ok(opened) => opened,
+        Err(refusal) => return Err(refusal),
+    };
+    if !are_records(payload, count) {
+        return Err(Refusal::Malformed);
+    }
+    Ok(payload)
+}
+
+/// Takes block `block` of a log of a generation apart: how many records it says it has, and their bytes. Whether these are so
+/// many records is not tested.
+pub fn open_block(
+    generation: u64,
+    log: u32,
+    block: u64,
+    bytes: &[u8],
+) -> Result<(u32, &[u8]), Refusal>
+    ensures answer { IfOk result (λ opened. Spells generation log block bytes.now opened.0 opened.1.now) }
+    ensures every { (count : ℕ) (payload : List ℕ) → Spells generation log block bytes.now count payload → IsOk result }
+
+    ensures cause_no_run { result ≡ Err Refusal.NoRun → Belongs generation log block bytes.now → ⊥ }
+    ensures cause_malformed { result ≡ Err Refusal.Malformed → Belongs generation log block bytes.now × ((count : ℕ) (payload : List ℕ) → Spells generation log block bytes.now count payload → ⊥) }
 {
     if !belongs(generation, log, block, bytes) {
         return Err(Refusal::NoRun);
@@ -67,10 +92,7 @@ pub fn read_block(generation: u64, log: u32, block: u64, bytes: &[u8]) -> Result
     if !is_zero(zeros) {
         return Err(Refusal::Malformed);
     }
-    if !are_records(payload, header.count) {
-        return Err(Refusal::Malformed);
-    }
-    Ok(payload)
+    Ok((header.count, payload))
 }
 
 /// Whether the bytes are a sealed block of this generation, log and number.
@@ -102,9 +124,9 @@ fn are_records(bytes: &[u8], count: u32) -> bool
     if count == 0 {
         return bytes.is_empty();
     }
-    match read_record(bytes) {
+    match record_head(bytes) {
         None => false,
-        Some((_, size)) => are_records(&bytes[size..], count - 1),
+        Some(head) => are_records(&bytes[head.size..], count - 1),
     }
 }
 

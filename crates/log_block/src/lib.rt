@@ -5,6 +5,6 @@ mod block;
 mod format;
 mod run;
 
-pub use block::{Refusal, belongs, block_bytes, read_block};
+pub use block::{Refusal, belongs, block_bytes, open_block, read_block};
 pub use format::{BLOCK, PAYLOAD};
 pub use run::valid_run;

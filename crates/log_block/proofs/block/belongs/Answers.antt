@@ -1,4 +1,4 @@
-use Rattle.std.proofs.Common.{◌≡◌, false, true, Bool, sym, ap, ◌∙◌, List, ℕ, ◌<◌, ◌^◌, arith}
+use Rattle.std.proofs.Common.{◌≡◌, false, true, sym, ap, ◌∙◌}
 use Rattle.log_block.specs.Block.{seal_text}
 use Rattle.log_block.proofs.BlockLemmas.{generation_read, log_read, block_read}
 use Rattle.log_block.proofs.block.belongs.Goals as goal

@@ -1,87 +1,40 @@
-use Rattle.std.proofs.Common.{◌≡◌, ◌<◌, ◌≤◌, ◌^◌, ◌+◌, ◌-◌, Bool, true, false, ℕ, List, length, take, drop, refl, sym, ap, ◌∙◌, arith}
+use Rattle.std.proofs.Common.{◌≡◌, List, Err, length, arith, ap}
 use Rattle.log_record.specs.declared.record.Record.{Record}
-use Rattle.log_block.specs.Block.{Belongs, IsBlock, records_text}
-use Rattle.log_block.proofs.BlockLemmas.{parts_of, payload_lists, zeros_are, block_belongs, parts_join, assembled}
+use Rattle.log_block.specs.declared.block.Refusal.TheVariants.{Malformed}
+use Rattle.log_block.specs.Block.{IsBlock, records_text}
+use Rattle.log_block.proofs.BlockLemmas.{spells_records, spells_belongs, block_of_records, block_lists}
 use Rattle.log_block.proofs.block.read_block.Goals as goal
 
-pub returns-then-not-belongs-clause-every : goal.returns-then-not-belongs-clause-every
-returns-then-not-belongs-clause-every c records is =
-    let t : c.belongs.result ≡ true = c.belongs.ensures.1 (block_belongs c.args.generation c.args.log c.args.block c.args.bytes.now records (omega arith) (omega arith) (omega arith) is) in
-    let f : c.belongs.result ≡ false = c.if-not-belongs.true in
-    cc
+pub returns-in-Err-clause-every : goal.returns-in-Err-clause-every
+returns-in-Err-clause-every c records is =
+    c.in-Err.ensures.every (length records) (records_text records) (spells_records c.args.generation c.args.log c.args.block c.args.bytes.now records is)
 
-too_long : (c : goal.Then-header-gt-PAYLOAD) (records : List Record) → IsBlock c.args.generation c.args.log c.args.block c.args.bytes.now records → ⊥
-too_long c records is =
-    let h = c.split_header.result.0 in
-    let e = c.split_header.ensures in
-    let p = parts_of c.args.generation c.args.log c.args.block h.size h.count h.generation h.log h.block c.args.bytes.now c.split_header.result.1.now records
-    (omega arith) (omega arith) (omega arith) e.generation e.log e.block e.size e.count e.prefix is in
-    let size : h.size ≡ length (records_text records) = p.size in
-    let room : length (records_text records) ≤ 2000 = is.room in
-    let over : 2000 < h.size = c.if-header-gt-PAYLOAD.true in
-    omega arith
-
-pub returns-then-header-gt-PAYLOAD-clause-every : goal.returns-then-header-gt-PAYLOAD-clause-every
-returns-then-header-gt-PAYLOAD-clause-every c records is = absurd (too_long c records is)
-
-pub returns-then-header-gt-PAYLOAD-clause-cause_malformed : goal.returns-then-header-gt-PAYLOAD-clause-cause_malformed
-returns-then-header-gt-PAYLOAD-clause-cause_malformed c same = (c.belongs.ensures.0 c.if-not-belongs.false, too_long c)
-
-not_zeros : (c : goal.Then-not-is_zero) (records : List Record) → IsBlock c.args.generation c.args.log c.args.block c.args.bytes.now records → ⊥
-not_zeros c records is =
-    let h = c.split_header.result.0 in
-    let e = c.split_header.ensures in
-    let rest : List ℕ = c.split_header.result.1.now in
-    let p = parts_of c.args.generation c.args.log c.args.block h.size h.count h.generation h.log h.block c.args.bytes.now rest records
-    (omega arith) (omega arith) (omega arith) e.generation e.log e.block e.size e.count e.prefix is in
-    let whole : length c.args.bytes.now ≡ 2048 = (c.belongs.ensures.0 c.if-not-belongs.false).sealed.whole in
-    let long : length rest + 32 ≡ length c.args.bytes.now = e.rest in
-    let z = zeros_are records h.size h.count (length rest - 16) rest c.split_at.result.0.now c.split_at-2.result.0.now c.split_at-2.result.1.now is.room (omega arith) p
-    c.split_at.ensures.front c.split_at-2.ensures.front c.split_at-2.ensures.back in
-    let t : c.is_zero.result ≡ true = c.is_zero.ensures.1 z in
-    let f : c.is_zero.result ≡ false = c.if-not-is_zero.true in
-    cc
-
-pub returns-then-not-is_zero-clause-every : goal.returns-then-not-is_zero-clause-every
-returns-then-not-is_zero-clause-every c records is = absurd (not_zeros c records is)
-
-pub returns-then-not-is_zero-clause-cause_malformed : goal.returns-then-not-is_zero-clause-cause_malformed
-returns-then-not-is_zero-clause-cause_malformed c same = (c.belongs.ensures.0 c.if-not-belongs.false, not_zeros c)
+pub returns-in-Err-clause-cause_malformed : goal.returns-in-Err-clause-cause_malformed
+returns-in-Err-clause-cause_malformed c bad =
+    let same : c.in-Err.refusal ≡ Malformed = cc in
+    let is = c.in-Err.ensures.cause_malformed (ap Err same) in
+    (is.0, λ records block. is.1 (length records) (records_text records) (spells_records c.args.generation c.args.log c.args.block c.args.bytes.now records block))
 
 not_listed : (c : goal.Then-not-are_records) (records : List Record) → IsBlock c.args.generation c.args.log c.args.block c.args.bytes.now records → ⊥
 not_listed c records is =
-    let h = c.split_header.result.0 in
-    let e = c.split_header.ensures in
-    let rest : List ℕ = c.split_header.result.1.now in
-    let p = parts_of c.args.generation c.args.log c.args.block h.size h.count h.generation h.log h.block c.args.bytes.now rest records
-    (omega arith) (omega arith) (omega arith) e.generation e.log e.block e.size e.count e.prefix is in
-    let whole : length c.args.bytes.now ≡ 2048 = (c.belongs.ensures.0 c.if-not-belongs.false).sealed.whole in
-    let long : length rest + 32 ≡ length c.args.bytes.now = e.rest in
+    let opened = c.in-Ok.opened in
     c.are_records.ensures.none c.if-not-are_records.true records
-    (payload_lists records h.size h.count (length rest - 16) rest c.split_at.result.0.now c.split_at-2.result.0.now c.split_at-2.result.1.now is.room (omega arith) p
-    c.split_at.ensures.front c.split_at-2.ensures.front c.split_at-2.ensures.back is.fit)
+    (block_lists c.args.generation c.args.log c.args.block opened.0 c.args.bytes.now opened.1.now records (omega arith) (omega arith) (omega arith) c.in-Ok.ensures.answer is)
 
 pub returns-then-not-are_records-clause-every : goal.returns-then-not-are_records-clause-every
 returns-then-not-are_records-clause-every c records is = absurd (not_listed c records is)
 
 pub returns-then-not-are_records-clause-cause_malformed : goal.returns-then-not-are_records-clause-cause_malformed
-returns-then-not-are_records-clause-cause_malformed c same = (c.belongs.ensures.0 c.if-not-belongs.false, not_listed c)
+returns-then-not-are_records-clause-cause_malformed c same =
+    let opened = c.in-Ok.opened in
+    (spells_belongs c.args.generation c.args.log c.args.block opened.0 c.args.bytes.now opened.1.now (omega arith) (omega arith) (omega arith) c.in-Ok.ensures.answer, not_listed c)
 
 pub returns-clause-answer : goal.returns-clause-answer
 returns-clause-answer c =
-    let h = c.split_header.result.0 in
-    let e = c.split_header.ensures in
-    let rest : List ℕ = c.split_header.result.1.now in
-    let room : List ℕ = c.split_at.result.0.now in
-    let payload : List ℕ = c.split_at-2.result.0.now in
-    let zeros : List ℕ = c.split_at-2.result.1.now in
-    let is = c.belongs.ensures.0 c.if-not-belongs.false in
-    let whole : length c.args.bytes.now ≡ 2048 = is.sealed.whole in
-    let long : length rest + 32 ≡ length c.args.bytes.now = e.rest in
-    let room_size : length room ≡ length rest - 16 = c.split_at.ensures.front_len in
-    let most : h.size ≤ 2000 = c.if-header-gt-PAYLOAD.false in
+    let opened = c.in-Ok.opened in
     let listed = c.are_records.ensures.some c.if-not-are_records.false in
-    assembled c.args.generation c.args.log c.args.block h.size h.count h.generation h.log h.block c.args.bytes.now rest room (drop (length rest - 16) rest) payload zeros listed.0
-    (omega arith) (omega arith) (omega arith) e.generation e.log e.block e.prefix long (parts_join (length rest - 16) rest room (drop (length rest - 16) rest) c.split_at.ensures.front refl)
-    (omega arith) (parts_join h.size room payload zeros c.split_at-2.ensures.front c.split_at-2.ensures.back) c.split_at-2.ensures.front_len most
-    (c.is_zero.ensures.0 c.if-not-is_zero.false) is listed.1
+    record {
+      records = listed.0;
+      is = block_of_records c.args.generation c.args.log c.args.block opened.0 c.args.bytes.now opened.1.now listed.0 c.in-Ok.ensures.answer listed.1;
+      spelled = listed.1.spelled;
+    }
