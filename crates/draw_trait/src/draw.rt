@@ -1,6 +1,6 @@
 //! The clock and the log of one worker, as a change uses them.
 ghost use Rattle.std.specs.Prelude.{◌≡◌, ◌+◌, ◌<◌, ◌≤◌, ◌^◌, ℕ, suc, List, [], ◌∷◌, Result, OnOk, OnErr};
-ghost use Rattle.log_record.specs.Spelling.{Fits, HasCome};
+ghost use Rattle.log_record.specs.Spelling.{Fits};
 ghost use Rattle.log_record.specs.declared.record.Record.{Record};
 ghost use Rattle.draw_trait.specs.declared.draw.Unstaged.{Unstaged};
 ghost use Rattle.draw_trait.specs.Clocks.{Clock, touched, drawn};
@@ -75,7 +75,6 @@ pub trait Draw {
         requires rises { last_of self.old < entry.now.gsn }
         requires txn { entry.now.txn ≡ txn_of self.old }
         requires fits { Fits entry.now }
-        requires come { HasCome entry.now.body }
         ensures same { (log_of self.new ≡ log_of self.old) × (txn_of self.new ≡ txn_of self.old) × (loans_of self.new ≡ loans_of self.old) }
         ensures clock { clock_of self.new ≡ clock_of self.old }
         ensures stages { stages self.old result self.new }

@@ -1,5 +1,5 @@
 -- What a call makes of a session and of an account of its log.
-use Rattle.std.specs.Prelude.{◌≡◌, ◌<◌, ℕ, [], length}
+use Rattle.std.specs.Prelude.{◌≡◌, ◌<◌, [], length}
 use Rattle.map_model.specs.declared.call.Call.{Call}
 use Rattle.map_model.specs.declared.call.Call.TheVariants as call
 use Rattle.map_model.specs.declared.call.Answer.{Answer}

@@ -2,7 +2,7 @@
 use Rattle.std.specs.Prelude.{◌≡◌, ◌⊎◌, ◌<◌, ◌^◌, ℕ, suc, true, false, ltb, length, slice_get, slice_set, Option, Some, None, if◌then◌else◌}
 use Rattle.map_model.specs.declared.call.Answer.{Answer}
 use Rattle.map_model.specs.declared.call.Answer.TheVariants as answer
-use Rattle.page_model.specs.Nodes.{Node, holds}
+use Rattle.page_model.specs.Nodes.{holds}
 use Rattle.page_model.specs.Page.{Page, with_pairs}
 use Rattle.page_model.specs.Pairs.{put}
 use Rattle.lean_disk.specs.Area.{Area}
@@ -11,9 +11,9 @@ use Rattle.node_tree.specs.Nodes.{nodes_of}
 use Rattle.session_model.specs.Sessions.{Session, committed}
 use Rattle.worker_log.specs.Logs.{Log, limit, used}
 use Rattle.worker_log.specs.Accounts.{Account}
-use Rattle.worker_log.specs.Calls.{After, flushed_log}
+use Rattle.worker_log.specs.Calls.{After}
 use Rattle.worker_log.specs.Kept.{IsKept, Staged, flushed}
-use Rattle.lean_engine.specs.States.{State, gsn_or}
+use Rattle.lean_engine.specs.States.{State}
 use Rattle.lean_engine.specs.Logged.{change_of}
 use Rattle.lean_engine.specs.Refusals.{is_full_for}
 

@@ -3,7 +3,7 @@ ghost use Rattle.std.specs.Prelude.{◌≡◌, ◌≤◌, ◌<◌, ◌+◌, ◌^
 ghost use Rattle.lean_disk.specs.Faults.{HasCause};
 ghost use Rattle.lean_disk.specs.Moments.{CrashIn, Framed, LeavesOnly};
 ghost use Rattle.lean_disk.specs.Story.{Tells};
-ghost use Rattle.log_record.specs.Spelling.{Fits, HasCome};
+ghost use Rattle.log_record.specs.Spelling.{Fits};
 ghost use Rattle.session_model.specs.Sessions.{Session};
 ghost use Rattle.worker_log.specs.Logs.{limit, used};
 ghost use Rattle.worker_log.specs.Kept.{IsInRange, IsKept, StagesTo};
@@ -25,7 +25,6 @@ pub(crate) fn stage_change<P: Part>(
     entry: &Record,
 ) -> Result<(), DiskFault>
     requires fits { Fits entry.now }
-    requires come { HasCome entry.now.body }
     requires rises { log.old.last < entry.now.gsn }
     requires room { used log.old < limit log.old }
     ensures ranges { IsInRange log.new }

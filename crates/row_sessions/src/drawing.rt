@@ -6,7 +6,7 @@ ghost use Rattle.row_sessions.specs.Drawn.{clock_of};
 
 use crate::session::Session;
 use draw_trait::draw::{Draw, Unstaged};
-use log_record::{Record, record_bytes};
+use log_record::{LARGEST, Record, record_bytes};
 use std::marker::{Brand, Model, PhantomData};
 
 /// Records that take no bytes.
@@ -55,7 +55,7 @@ fn one_more<K: Which>(before: &Staged, entry: &Record) -> Staged
 pub struct Drawing {
     pub worker: u32,
     pub session: Session,
-    pub buffer: [u8; 64],
+    pub buffer: [u8; LARGEST],
     pub staged: Staged,
 }
 
@@ -65,7 +65,7 @@ impl Drawing {
         Drawing {
             worker: 0,
             session: Session::first(0),
-            buffer: [0; 64],
+            buffer: [0; LARGEST],
             staged: Staged::of::<Brand>(),
         }
     }

@@ -10,8 +10,9 @@ use Rattle.lean_disk.specs.Moments.{LeavesOnly, CrashIn, Framed}
 use Rattle.lean_disk.specs.declared.disk.Did.{Did}
 use Rattle.lean_disk.specs.declared.disk.Did.TheVariants.{Done}
 use Rattle.lean_disk.proofs.MomentLemmas.{started, goes_on, then, weaker, framed, framed_wrote, framed_synced, crash_in}
-use Rattle.log_record.specs.Spelling.{Fits, HasCome}
+use Rattle.log_record.specs.Spelling.{Fits}
 use Rattle.log_record.specs.declared.record.Record.{Record}
+use Rattle.log_record.proofs.SizeLemmas.{size_range}
 use Rattle.log_block.specs.Block.{Belongs, IsSealed, block_text, generation_of, records_text}
 use Rattle.disk_image.specs.Runs.{Block}
 use Rattle.disk_image.proofs.BlockInLemmas.{every_belongs}
@@ -21,7 +22,7 @@ use Rattle.worker_log.specs.Accounts.{Account, spelled_from, with_current}
 use Rattle.worker_log.specs.Kept.{IsInRange, AllFitBlocks, AreLate, HoldsFirst, IsBlockWrite, IsKept, LeavesBlocks, RiseFrom, StagesTo, closed, flushed, staged, IsOfGeneration}
 use Rattle.worker_log.specs.Logs.{Log, used}
 use Rattle.worker_log.specs.Calls.{HasRoom}
-use Rattle.worker_log.proofs.ListLemmas.{block_of, fit_blocks-take, fit_blocks-with, joined-drop-more, joined-drop-with, joined-with, length-with, one_size, size_some, spelled-belongs, spelled-last, spelled-with, take-with, with_some}
+use Rattle.worker_log.proofs.ListLemmas.{block_of, fit_blocks-take, fit_blocks-with, joined-drop-more, joined-drop-with, joined-with, length-with, one_size, spelled-belongs, spelled-last, spelled-with, take-with, with_some}
 use Rattle.worker_log.proofs.CrashLemmas.{synced_stands, prefix_left}
 use Rattle.worker_log.proofs.KeptLemmas.{count_none, count_some, kept_closed, kept_put, kept_synced}
 
@@ -266,14 +267,14 @@ sized_closed log sized =
     }
 
 -- into the next one
-pub staged_next : (x : Account) (old mid new : Log) (area : Area) (r : Record) → IsSized old → mid ≡ closed_log old → IsKept (closed x) mid area → Fits r → HasCome r.body → old.last < r.gsn → (HasRoom old r → ⊥)
+pub staged_next : (x : Account) (old mid new : Log) (area : Area) (r : Record) → IsSized old → mid ≡ closed_log old → IsKept (closed x) mid area → Fits r → old.last < r.gsn → (HasRoom old r → ⊥)
     → new ≡ record mid { payload = mid.payload ++ records_text (r ∷ []); count = mid.count + 1; last = r.gsn } → StagesTo r x old new area
-staged_next x old mid new area r sized is_mid kept fits come rises full is =
+staged_next x old mid new area r sized is_mid kept fits rises full is =
     let mid_sized : IsSized mid = subst IsSized (sym is_mid) (sized_closed old sized) in
     let last : mid.last ≡ old.last = ap (λ (l : Log). l.last) is_mid in
     let payload : length mid.payload ≡ 0 = ap (λ (l : Log). length l.payload) is_mid in
-    let few = (size_some r.body come).1 in
-    let one = one_size r come in
+    let few = (size_range r.body fits.body).1 in
+    let one = one_size r fits in
     let room : HasRoom mid r = omega (arith, payload, few, one) in
     record {
       y = staged (closed x) r;

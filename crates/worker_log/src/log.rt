@@ -5,7 +5,7 @@ ghost use Rattle.lean_disk.specs.Calls.{Synced, Wrote};
 ghost use Rattle.lean_disk.specs.Faults.{HasCause};
 ghost use Rattle.lean_disk.specs.Moments.{CrashIn, Framed, LeavesOnly};
 ghost use Rattle.lean_disk.specs.Story.{Tells};
-ghost use Rattle.log_record.specs.Spelling.{Fits, HasCome, record_text};
+ghost use Rattle.log_record.specs.Spelling.{Fits, record_text};
 ghost use Rattle.log_block.specs.Block.{block_text, records_text};
 ghost use Rattle.worker_log.specs.Logs.{Log, limit, used};
 ghost use Rattle.worker_log.specs.Kept.{IsInRange, IsFresh, IsKept, LeavesBlocks, StagesTo, closed, fresh_account, flushed as flushed_account};
@@ -151,7 +151,6 @@ impl WorkerLog {
     /// record begins the next one.
     pub fn stage<P: Part>(&mut self, dev: &mut P, entry: &Record) -> Result<(), Staging>
         requires fits { Fits entry.now }
-        requires come { HasCome entry.now.body }
         requires rises { self.old.last < entry.now.gsn }
         ensures told { IfErr result (TellsCounts self.old) }
         ensures ranges { IsInRange self.new }
@@ -180,7 +179,6 @@ impl WorkerLog {
     /// Puts the record of an end into the block in hand, and uses the blocks that are kept back.
     pub fn stage_end<P: Part>(&mut self, dev: &mut P, entry: &Record) -> Result<(), DiskFault>
         requires fits { Fits entry.now }
-        requires come { HasCome entry.now.body }
         requires rises { self.old.last < entry.now.gsn }
         requires room { used self.old + 1 ≤ self.old.blocks }
         ensures ranges { IsInRange self.new }
@@ -288,7 +286,6 @@ impl WorkerLog {
     // Copies a record that fits behind those in the block in hand.
     fn put_record(&mut self, entry: &Record)
         requires fits { Fits entry.now }
-        requires come { HasCome entry.now.body }
         requires rises { self.old.last < entry.now.gsn }
         requires few { used self.old + 1 ≤ self.old.blocks }
         requires room { HasRoom self.old entry.now }
