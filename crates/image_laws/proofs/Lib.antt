@@ -1,2 +1,3 @@
 pub mod BaseLemmas
 pub mod FormattedLemmas
+pub mod OrderLemmas
