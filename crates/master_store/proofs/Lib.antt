@@ -1,0 +1,4 @@
+pub mod SlotLemmas
+pub mod AccountLemmas
+pub mod WriteLemmas
+pub mod ReadLemmas
