@@ -1,0 +1,3 @@
+-- Read Pages; Inside has the words of private functions.
+pub mod Pages
+pub mod Inside
