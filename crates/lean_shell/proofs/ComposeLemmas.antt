@@ -4,10 +4,11 @@ use Rattle.std.proofs.lemmas.Bool.{cases_eq}
 use Rattle.std.proofs.lemmas.List.{take_at, drop_at}
 use Rattle.image_model.specs.Fair.{piece}
 use Rattle.lean_disk.specs.Area.{Area, Leaves, put_over, synced, written}
-use Rattle.lean_disk.specs.Moments.{LeavesOnly, Framed, CrashIn}
+use Rattle.lean_disk.specs.Moments.{AsAt, LeavesOnly, Framed, CrashIn, OnlyReads}
 use Rattle.lean_disk.specs.Story.{Crash, Story, Tells}
 use Rattle.lean_disk.proofs.MomentLemmas.{then, weaker}
-use Rattle.lean_shell.specs.Formatted.{Anything, HasMaster, HasPages, HasSyncedPages, IsMaster, IsNewDisk, IsUntouched, FormatLeaves, Keeps, StandsStill, Stood, StoodOr}
+use Rattle.master_store.specs.Masters.{WritesOnce}
+use Rattle.lean_shell.specs.Formatted.{Anything, HasMaster, HasPages, HasSyncedPages, IsMaster, IsNewDisk, IsUntouched, FormatLeaves, Keeps}
 use Rattle.lean_shell.specs.Fresh.{first_slot}
 use Rattle.lean_shell.specs.declared.words.Shape.{Shape}
 use Rattle.lean_shell.proofs.FreshLemmas.{length-first_slot}
@@ -17,21 +18,17 @@ positive : (a : ℕ) → (a ≡ 0 → ⊥) → 0 < a
 positive zero other = absurd (other refl)
 positive (suc a) other = omega arith
 
-module _ (shape : Shape) (s0 s1 : Story) (still : StandsStill 0 s0 s1) where
+module _ (shape : Shape) (s0 s1 : Story) (still : OnlyReads s0 s1) where
   -- reading changes no area
   pub same_1 : IsUntouched s0 s1
-  same_1 a = ⊎_elim (λ (e : a ≡ 0). subst (λ (b : ℕ). s1.area b ≡ s0.area b) (sym e) still.same) (λ other. still.frame.elsewhere a other) (cases_eq a 0)
+  same_1 = still.area
 
   pub read_moments : LeavesOnly s0 s1 (FormatLeaves shape s0)
-  read_moments = weaker s0 s1 (CrashIn s0 0 (Stood (s0.area 0))) (FormatLeaves shape s0)
-      (λ c in_0. not_touched shape s0 c
-      (λ a told. ⊎_elim (λ (e : a ≡ 0). subst (λ (b : ℕ). Leaves (s0.area b) (c.image b)) (sym e) in_0.here.leaves) (λ other. in_0.leaves a other told) (cases_eq a 0))
-      (λ t0. in_0.here.writes_are))
-      still.any_moment
+  read_moments = weaker s0 s1 (AsAt s0) (FormatLeaves shape s0) (λ c was. not_touched shape s0 c was.leaves (was.writes 0)) still.any_moment
 
   module _ (none : Tells s0 0 → HasMaster (s0.area 0).bytes → ⊥) (s2 : Story) (laying : LeavesOnly s1 s2 (CrashIn s1 1 Anything)) (frame : Framed 1 s1 s2) where
     told_1 : (a : ℕ) → Tells s0 a → Tells s1 a
-    told_1 a told = still.frame.tells a ∙ told
+    told_1 a told = still.tells a ∙ told
 
     leaves_1 : (c : Crash) (a : ℕ) → Leaves (s1.area a) (c.image a) → Leaves (s0.area a) (c.image a)
     leaves_1 c a = subst (λ (x : Area). Leaves x (c.image a)) (same_1 a)
@@ -51,15 +48,15 @@ module _ (shape : Shape) (s0 s1 : Story) (still : StandsStill 0 s0 s1) where
 
     pub keeps_2 : Keeps s0 s2
     keeps_2 = record {
-      notes = frame.notes ∙ still.frame.notes;
-      tells = λ a. frame.tells a ∙ still.frame.tells a;
-      areas = frame.areas ∙ still.frame.areas;
-      counts = frame.counts ∙ still.frame.counts;
-      later = omega (arith, frame.later, still.frame.later);
+      notes = frame.notes ∙ still.notes;
+      tells = λ a. frame.tells a ∙ still.tells a;
+      areas = frame.areas ∙ still.areas;
+      counts = frame.counts ∙ still.counts;
+      later = omega (arith, frame.later, still.later);
     }
 
     module _ (synced_pages : Tells s2 1 → HasSyncedPages shape.pages (s2.area 1)) (s3 : Story)
-        (writing : LeavesOnly s2 s3 (CrashIn s2 0 (StoodOr (first_slot shape) (s2.area 0)))) (frame3 : Framed 0 s2 s3) where
+        (writing : LeavesOnly s2 s3 (CrashIn s2 0 (WritesOnce 0 (first_slot shape) (s2.area 0)))) (frame3 : Framed 0 s2 s3) where
       told_2 : (a : ℕ) → Tells s0 a → Tells s2 a
       told_2 a told = frame.tells a ∙ told_1 a told
 
@@ -67,7 +64,7 @@ module _ (shape : Shape) (s0 s1 : Story) (still : StandsStill 0 s0 s1) where
       area_0 = same_2 0 (λ e. absurd (omega (arith, e)))
 
       master_moments : LeavesOnly s2 s3 (FormatLeaves shape s0)
-      master_moments = weaker s2 s3 (CrashIn s2 0 (StoodOr (first_slot shape) (s2.area 0))) (FormatLeaves shape s0)
+      master_moments = weaker s2 s3 (CrashIn s2 0 (WritesOnce 0 (first_slot shape) (s2.area 0))) (FormatLeaves shape s0)
           (λ c in_0. with_master shape s0 c none
           (λ a lt told. subst (λ (x : Area). Leaves x (c.image a)) (same_2 a (λ e. absurd (omega (arith, e, lt)))) (in_0.leaves a (λ e. absurd (omega (arith, e, lt))) (told_2 a told)))
           (λ t0. ⊎_elim

@@ -1,8 +1,7 @@
 -- A disk as `format` leaves it, and what a crash in `format` may leave.
-use Rattle.std.specs.Prelude.{◌≡◌, ◌⊎◌, ◌*◌, ◌-◌, ◌<◌, ◌≤◌, ℕ, List, take, length, [], ◌∷◌, codes}
+use Rattle.std.specs.Prelude.{◌≡◌, ◌⊎◌, ◌*◌, ◌-◌, ◌<◌, ◌≤◌, ℕ, List, take, length, [], codes}
 use Rattle.image_model.specs.Fair.{piece, IsFair}
-use Rattle.lean_disk.specs.Area.{Area, Leaves, Write, torn}
-use Rattle.lean_disk.specs.Moments.{CrashIn, Framed, LeavesOnly}
+use Rattle.lean_disk.specs.Area.{Area, Leaves, Write}
 use Rattle.lean_disk.specs.Story.{Crash, Story, Tells}
 use Rattle.disk_slots.specs.Masters.{IsMasterSlot}
 use Rattle.disk_slots.specs.Slots.{IsSealed}
@@ -78,19 +77,3 @@ pub record HasSyncedPages (pages : ℕ) (area : Area) : Type 0 where
 -- whatever stands there
 abbrev pub Anything : List Write → List ℕ → Type 0
 Anything writes bytes = Unit {0}
-
--- what stood there
-pub record Stood (area : Area) (writes : List Write) (bytes : List ℕ) : Type 0 where
-  pub writes_are : writes ≡ area.writes
-  pub leaves : Leaves area bytes
-
--- calls on the area a that wrote nothing
-pub record StandsStill (a : ℕ) (old new : Story) : Type 0 where
-  pub any_moment : LeavesOnly old new (CrashIn old a (Stood (old.area a)))
-  pub frame : Framed a old new
-  pub same : new.area a ≡ old.area a
-
--- what stood there, or this in its place
-pub record StoodOr (bytes : List ℕ) (area : Area) (writes : List Write) (image : List ℕ) : Type 0 where
-  pub writes_are : (writes ≡ area.writes) ⊎ (writes ≡ (0, bytes) ∷ area.writes)
-  pub leaves : Leaves (torn 0 bytes area) image

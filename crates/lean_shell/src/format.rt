@@ -2,14 +2,18 @@
 ghost use Rattle.std.specs.Prelude.{◌≡◌, ◌≤◌, ◌<◌, ◌↔◌, ℕ, length, IfOk, IsErr, IsTrue};
 ghost use Rattle.lean_disk.specs.Area.{synced, written};
 ghost use Rattle.lean_disk.specs.Faults.{HasCause};
-ghost use Rattle.lean_disk.specs.Moments.{CrashIn, Framed, LeavesOnly};
+ghost use Rattle.lean_disk.specs.Moments.{CrashIn, Framed, LeavesOnly, OnlyReads};
 ghost use Rattle.lean_disk.specs.Story.{Tells};
-ghost use Rattle.lean_shell.specs.Formatted.{Anything, FormatLeaves, HasMaster, HasSyncedPages, IsNewDisk, IsUntouched, Keeps, StandsStill, StoodOr};
+ghost use Rattle.lean_shell.specs.Formatted.{Anything, FormatLeaves, HasMaster, HasSyncedPages, IsNewDisk, IsUntouched, Keeps};
+ghost use Rattle.disk_image.specs.MasterSlots.{master_on};
+ghost use Rattle.master_store.specs.Masters.{WritesOnce};
 ghost use Rattle.lean_shell.specs.Fresh.{first_slot};
 
-use crate::parts::{DiskFault, has_master, lay_pages, write_master};
+use crate::parts::{first_master, lay_pages};
 use crate::words::Shape;
+use disk_slots::Master;
 use lean_disk::{AreaOf, Did, Disk};
+use master_store::{DiskFault, choose, write_next};
 
 /// What `format` did.
 #[derive(Clone, Copy, Debug, PartialEq, Eq)]
@@ -20,12 +24,24 @@ pub enum Formatted {
     DiskFault,
 }
 
-fn disk_has_master<D: Disk>(disk: &mut D) -> Result<bool, DiskFault>
-    ensures answer { IfOk result (λ found. Tells (D.story disk.old) 0 → IsTrue found ↔ HasMaster ((D.story disk.old).area 0).bytes) }
-    ensures same { StandsStill 0 (D.story disk.old) (D.story disk.new) }
+fn read_disk_master<D: Disk>(disk: &mut D) -> Result<Option<Master>, DiskFault>
+    ensures answer { IfOk result (λ found. Tells (D.story disk.old) 0 → found ≡ master_on ((D.story disk.old).area 0).bytes) }
+    ensures reads { OnlyReads (D.story disk.old) (D.story disk.new) }
     ensures cause { HasCause (D.faults disk.old) (D.faults disk.new) (IsErr result) }
 {
-    has_master(&mut AreaOf::new(disk, 0))
+    choose(&mut AreaOf::new(disk, 0))
+}
+
+// Whether a valid master stands in one of the two slots.
+fn disk_has_master<D: Disk>(disk: &mut D) -> Result<bool, DiskFault>
+    ensures answer { IfOk result (λ found. Tells (D.story disk.old) 0 → IsTrue found ↔ HasMaster ((D.story disk.old).area 0).bytes) }
+    ensures reads { OnlyReads (D.story disk.old) (D.story disk.new) }
+    ensures cause { HasCause (D.faults disk.old) (D.faults disk.new) (IsErr result) }
+{
+    match read_disk_master(disk)? {
+        Some(_) => Ok(true),
+        None => Ok(false),
+    }
 }
 
 fn lay_disk_pages<D: Disk>(disk: &mut D, pages: u32, buffer: &mut [u8]) -> Did
@@ -40,12 +56,12 @@ fn lay_disk_pages<D: Disk>(disk: &mut D, pages: u32, buffer: &mut [u8]) -> Did
 }
 
 fn write_disk_master<D: Disk>(disk: &mut D, shape: Shape) -> Did
-    ensures any_moment { LeavesOnly (D.story disk.old) (D.story disk.new) (CrashIn (D.story disk.old) 0 (StoodOr (first_slot shape) ((D.story disk.old).area 0))) }
+    ensures any_moment { LeavesOnly (D.story disk.old) (D.story disk.new) (CrashIn (D.story disk.old) 0 (WritesOnce 0 (first_slot shape) ((D.story disk.old).area 0))) }
     ensures frame { Framed 0 (D.story disk.old) (D.story disk.new) }
     ensures done { result ≡ Did.Done → Tells (D.story disk.new) 0 → (D.story disk.new).area 0 ≡ synced (written 0 (first_slot shape) ((D.story disk.old).area 0)) }
     ensures cause { HasCause (D.faults disk.old) (D.faults disk.new) (result ≡ Did.Failed) }
 {
-    write_master(&mut AreaOf::new(disk, 0), shape)
+    write_next(&mut AreaOf::new(disk, 0), &first_master(shape))
 }
 
 /// Makes a new disk of a shape: page 0 an empty leaf, every other page free, one log. The buffer holds 64 KiB.

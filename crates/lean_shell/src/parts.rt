@@ -1,21 +1,19 @@
 // The parts of a new disk: every page, and the first master.
-ghost use Rattle.std.specs.Prelude.{◌≡◌, ◌↔◌, ◌+◌, ◌*◌, ◌≤◌, ◌<◌, ◌++◌, length, take, drop, replicate, IfOk, IsErr, IsTrue};
-ghost use Rattle.image_model.specs.Fair.{piece};
-ghost use Rattle.lean_disk.specs.Area.{synced, written};
+ghost use Rattle.std.specs.Prelude.{◌≡◌, ◌+◌, ◌*◌, ◌≤◌, ◌++◌, length, take, drop, replicate};
 ghost use Rattle.lean_disk.specs.Calls.{Wrote};
 ghost use Rattle.lean_disk.specs.Faults.{HasCause};
 ghost use Rattle.lean_disk.specs.Moments.{CrashIn, Framed, LeavesOnly};
 ghost use Rattle.lean_disk.specs.Story.{Tells};
 ghost use Rattle.disk_slots.specs.Pages.{page_slot};
 ghost use Rattle.page_model.specs.Page.{new_page};
-ghost use Rattle.lean_shell.specs.Formatted.{Anything, HasMaster, IsMaster, HasPages, HasSyncedPages, StandsStill, StoodOr};
-ghost use Rattle.lean_shell.specs.Fresh.{first_master, first_slot, fresh_node, fresh_page};
+ghost use Rattle.lean_shell.specs.Formatted.{Anything, HasPages, HasSyncedPages};
+ghost use Rattle.lean_shell.specs.Fresh.{first_master, fresh_node, fresh_page};
 ghost use Rattle.lean_shell.specs.Pieces.{pages_from};
 
 use crate::words::Shape;
 use btree_node::Node;
-use disk_slots::{Heads, Master, every_master, master_bytes, page_bytes, read_master};
-use lean_disk::{Did, Part, Read};
+use disk_slots::{Heads, Master, page_bytes};
+use lean_disk::{Did, Part};
 
 /// Pages in a piece of 64 KiB: larger ones make later writes dear on some file systems.
 pub const PIECE: u32 = 32;
@@ -122,47 +120,8 @@ pub(crate) fn lay_pages<P: Part>(dev: &mut P, pages: u32, buffer: &mut [u8]) -> 
     }
 }
 
-/// The disk answered no.
-#[derive(Clone, Copy, Debug, PartialEq, Eq)]
-pub struct DiskFault;
-
-// Whether a valid master stands in a slot.
-fn read_slot<P: Part>(dev: &mut P, slot: u32) -> Result<bool, DiskFault>
-    requires { slot < 2 }
-    ensures answer { IfOk result (λ found. Tells (P.story dev.old) (P.seat dev.old).area →
-        IsTrue found ↔ IsMaster slot (piece 1024 slot ((P.story dev.old).area (P.seat dev.old).area).bytes)) }
-    ensures same { StandsStill (P.seat dev.old).area (P.story dev.old) (P.story dev.new) }
-    ensures seat { P.seat dev.new ≡ P.seat dev.old }
-    ensures cause { HasCause (P.faults dev.old) (P.faults dev.new) (IsErr result) }
-{
-    let mut bytes = [0; 1024];
-    let Read::Got(n) = dev.read(1024 * slot as u64, &mut bytes) else {
-        return Err(DiskFault);
-    };
-    Ok(is_master(slot, &bytes[..n]))
-}
-
-fn is_master(slot: u32, bytes: &[u8]) -> bool
-    ensures { IsTrue result ↔ IsMaster slot bytes.now }
-{
-    every_master();
-    read_master(slot, bytes).is_ok()
-}
-
-// Whether a valid master stands in one of the two.
-pub(crate) fn has_master<P: Part>(dev: &mut P) -> Result<bool, DiskFault>
-    ensures answer { IfOk result (λ found. Tells (P.story dev.old) (P.seat dev.old).area → IsTrue found ↔ HasMaster ((P.story dev.old).area (P.seat dev.old).area).bytes) }
-    ensures same { StandsStill (P.seat dev.old).area (P.story dev.old) (P.story dev.new) }
-    ensures seat { P.seat dev.new ≡ P.seat dev.old }
-    ensures cause { HasCause (P.faults dev.old) (P.faults dev.new) (IsErr result) }
-{
-    if read_slot(dev, 0)? {
-        return Ok(true);
-    }
-    read_slot(dev, 1)
-}
-
-fn first_master(shape: Shape) -> Master
+/// The first master.
+pub(crate) fn first_master(shape: Shape) -> Master
     ensures { result ≡ first_master shape }
 {
     Master {
@@ -173,22 +132,4 @@ fn first_master(shape: Shape) -> Master
         blocks: shape.blocks,
         heads: Heads::new(1),
     }
-}
-
-// Writes the first master and syncs it.
-pub(crate) fn write_master<P: Part>(dev: &mut P, shape: Shape) -> Did
-    ensures any_moment { LeavesOnly (P.story dev.old) (P.story dev.new) (CrashIn (P.story dev.old) (P.seat dev.old).area
-        (StoodOr (first_slot shape) ((P.story dev.old).area (P.seat dev.old).area))) }
-    ensures frame { Framed (P.seat dev.old).area (P.story dev.old) (P.story dev.new) }
-    ensures seat { P.seat dev.new ≡ P.seat dev.old }
-    ensures done { result ≡ Did.Done → Tells (P.story dev.new) (P.seat dev.new).area →
-        (P.story dev.new).area (P.seat dev.new).area ≡ synced (written 0 (first_slot shape) ((P.story dev.old).area (P.seat dev.old).area)) }
-    ensures cause { HasCause (P.faults dev.old) (P.faults dev.new) (result ≡ Did.Failed) }
-{
-    let mut bytes = [0; 1024];
-    master_bytes(&first_master(shape), &mut bytes);
-    let Did::Done = dev.write(0, &bytes) else {
-        return Did::Failed;
-    };
-    dev.sync()
 }

@@ -13,24 +13,26 @@ use Rattle.disk_slots.specs.declared.master.Master.{Master}
 use Rattle.disk_image.specs.Shown.{IsCleanDisk, image_by}
 use Rattle.page_store.specs.Runs.{IsReady}
 use Rattle.page_store.specs.Saved.{LeavesSaves, Save}
-use Rattle.recovery_redo.specs.Images as redo_images
+use Rattle.record_redo.specs.Pages as redo_images
 use Rattle.recovery.specs.Crashes.{RecoveryLeaves}
-use Rattle.recovery.specs.Inside.{AreSettled, IsOfSlot, IsPrepared, IsReadied, OnlySettles, SavesAll, WritesOnce, saves_to}
+use Rattle.recovery.specs.Inside.{AreSettled, IsPrepared, IsReadied, OnlySettles, SavesAll, saves_to}
+use Rattle.master_store.specs.Masters.{IsOfSlot, WritesOnce}
 use Rattle.recovery.specs.Masters.{IsOpenable, next_master}
 use Rattle.recovery.specs.Opened.{IsOpened, IsRecovered, IsWhole, IsGreatest}
 use Rattle.recovery.specs.Telling.{TellsAll}
 use Rattle.recovery.specs.declared.opening.Recovered.{Recovered}
 use Rattle.recovery.specs.declared.prepare.Prepared.{Prepared}
 use Rattle.recovery.proofs.LastLemmas.{opened, saving, writing}
-use Rattle.recovery.proofs.MasterLemmas.{master_is, slot_of, valid_next}
+use Rattle.master_store.proofs.SlotLemmas.{master_is, slot_of}
+use Rattle.recovery.proofs.MasterLemmas.{valid_next}
 use Rattle.disk_image.specs.Formats.{format_of}
 use Rattle.node_tree.specs.Nodes.{nodes_of}
 
 -- nothing was written
-pub settled_moments : (m : Master) (s0 s : Story) → OnlySettles s0 s → LeavesOnly s0 s (RecoveryLeaves m s0)
-settled_moments m s0 s settles = weaker s0 s (AsAt s0) (RecoveryLeaves m s0) (λ c at. inl at) settles.any_moment
+pub settled_moments : (m : Master) (logs : ℕ) (s0 s : Story) → OnlySettles logs s0 s → LeavesOnly s0 s (RecoveryLeaves m s0)
+settled_moments m logs s0 s settles = weaker s0 s (AsAt s0) (RecoveryLeaves m s0) (λ c at. inl at) settles.any_moment
 
-module _ (it : Prepared) (readied : IsReadied it) (s0 s4 : Story) (settles : OnlySettles s0 s4) (t : TellsAll s0) (all : AreSettled s0 s4) (prepared : IsPrepared (areas_of s0) it)
+module _ (it : Prepared) (readied : IsReadied it) (s0 s4 : Story) (logs : ℕ) (settles : OnlySettles logs s0 s4) (t : TellsAll s0) (all : AreSettled (length it.master.heads) s0 s4) (prepared : IsPrepared (areas_of s0) it)
     (m : Master) (clean_m : IsCleanDisk m (areas_of s0)) (seated : IsTrue s4.counts → Tells s4 1) where
   abbrev these : List Save
   these = saves_to it.pages.items it.slots.items it.changed.items it.master.pages
@@ -47,9 +49,9 @@ module _ (it : Prepared) (readied : IsReadied it) (s0 s4 : Story) (settles : Onl
 
   module _ (s6 : Story) (result : Did) (saves : IsReady 1 s4 → SavesAll it.master.pages s4 these result s6) where
     saving_moments : LeavesOnly s0 s6 (RecoveryLeaves it.master s0)
-    saving_moments = then s0 s4 s6 (RecoveryLeaves it.master s0) (settled_moments it.master s0 s4 settles)
+    saving_moments = then s0 s4 s6 (RecoveryLeaves it.master s0) (settled_moments it.master logs s0 s4 settles)
         (weaker s4 s6 (CrashIn s4 1 (LeavesSaves it.master.pages (s4.area 1) these)) (RecoveryLeaves it.master s0)
-        (λ c at. inr (saving it readied s0 s4 settles t (all t) prepared clean c at)) (saves ready).run.any_moment)
+        (λ c at. inr (saving it readied s0 s4 logs settles t (all t) prepared clean c at)) (saves ready).run.any_moment)
 
     pub saved_moments : LeavesOnly s0 s6 (RecoveryLeaves m s0)
     saved_moments = subst (λ (k : Master). LeavesOnly s0 s6 (RecoveryLeaves k s0)) same_master saving_moments
@@ -64,12 +66,12 @@ module _ (it : Prepared) (readied : IsReadied it) (s0 s4 : Story) (settles : Onl
       pub written_moments : LeavesOnly s6 s7 (CrashIn s6 0 (WritesOnce (1024 * (next.sequence % 2)) (master_slot next) (s6.area 0))) → LeavesOnly s0 s7 (RecoveryLeaves m s0)
       written_moments run = subst (λ (k : Master). LeavesOnly s0 s7 (RecoveryLeaves k s0)) same_master (then s0 s6 s7 (RecoveryLeaves it.master s0) saving_moments
           (weaker s6 s7 (CrashIn s6 0 (WritesOnce (1024 * slot_of (next_master it.master it.base)) (master_slot (next_master it.master it.base)) (s6.area 0))) (RecoveryLeaves it.master s0)
-          (λ c at. inr (writing it readied s0 s4 settles t (all t) prepared clean s6 (saves ready).run.frame ((saves ready).are done) ((saves ready).done done told_1) wide c at))
+          (λ c at. inr (writing it readied s0 s4 logs settles t (all t) prepared clean s6 (saves ready).run.frame ((saves ready).are done) ((saves ready).done done told_1) wide c at))
           (subst (λ (k : Master). LeavesOnly s6 s7 (CrashIn s6 0 (WritesOnce (1024 * (k.sequence % 2)) (master_slot k) (s6.area 0)))) next_is run)))
 
       pub opens : Framed 0 s6 s7 → s7.area 0 ≡ synced (written (1024 * (next.sequence % 2)) (master_slot next) (s6.area 0)) → (r : Recovered) → r.pages ≡ it.pages → r.master ≡ next → IsOpened m (areas_of s0) r s7
       opens frame wrote r pages is = subst (λ (k : Master). IsOpened k (areas_of s0) r s7) same_master
-          (opened it readied s0 s4 settles t (all t) prepared clean s6 (saves ready).run.frame ((saves ready).are done) ((saves ready).done done told_1) wide s7 frame
+          (opened it readied s0 s4 logs settles t (all t) prepared clean s6 (saves ready).run.frame ((saves ready).are done) ((saves ready).done done told_1) wide s7 frame
           (subst (λ (k : Master). s7.area 0 ≡ synced (written (1024 * (k.sequence % 2)) (master_slot k) (s6.area 0))) next_is wrote) r pages (is ∙ next_is))
 
 -- ## The answer

@@ -3,7 +3,6 @@ pub mod NextLemmas
 pub mod BaseLemmas
 pub mod MasterLemmas
 pub mod WriteLemmas
-pub mod ReadLemmas
 pub mod StampLemmas
 pub mod LoadLemmas
 pub mod SaveLemmas

@@ -1,5 +1,5 @@
 -- What recovery gives, and the disk that it leaves.
-use Rattle.std.specs.Prelude.{◌≡◌, ◌⊎◌, ◌<◌, ◌≤◌, ℕ, suc, [], length, slice_get, Some}
+use Rattle.std.specs.Prelude.{◌≡◌, ◌⊎◌, ◌<◌, ◌≤◌, ◌+◌, ℕ, suc, [], length, slice_get, Some}
 use Rattle.map_model.specs.Lists.{Has}
 use Rattle.page_model.specs.Page.{Page}
 use Rattle.page_model.specs.Tree.{IsTree}
@@ -14,7 +14,7 @@ use Rattle.disk_image.specs.Formats.{format_of}
 use Rattle.disk_image.specs.MasterSlots.{master_on}
 use Rattle.disk_image.specs.Shown.{Areas, shown_by, image_by, IsSoundDisk}
 use Rattle.node_tree.specs.Nodes.{nodes_of}
-use Rattle.recovery_redo.specs.Images.{page_of}
+use Rattle.record_redo.specs.Pages.{page_of}
 use Rattle.recovery.specs.Masters.{next_master}
 use Rattle.recovery.specs.declared.opening.Recovered.{Recovered}
 use Rattle.recovery.specs.declared.opening.Unrecovered.{Unrecovered}
@@ -70,15 +70,15 @@ pub record IsHeld (i : Shown) (p : ℕ) (v : Page) : Type 0 where
   pub newest : (j : ℕ) (x : Slot) → j < 2 → i.slot p j ≡ Some x → (x.generation ≤ v.generation) ⊎ ((x.generation ≡ i.generation) × (x.page ≡ page_of v))
 
 -- The disk then, where the areas were those of a clean one: the master is the new one; each page's base is the recovered page, and
--- what is in memory of it stands there; nothing is of a later generation than the master's, and no block is of that one; and all is
--- settled.
+-- what is in memory of it stands there; nothing is of a later generation than the master's, and no block of a log is of that one; and
+-- all is settled.
 pub record IsOpened (m : Master) (area : Areas) (r : Recovered) (s : Story) : Type 0 where
   pub master : master_on (s.area 0).bytes ≡ Some r.master
   pub base : (p : ℕ) → p < m.pages → base_of (shown_by r.master (areas_of s)) p ≡ Some (recovered_page (image_by m area) p)
   pub held : (p : ℕ) (v : Page) → slice_get r.pages.items p ≡ Some v → IsHeld (shown_by r.master (areas_of s)) p v
   pub slots : (p i : ℕ) (x : Slot) → p < m.pages → i < 2 → (shown_by r.master (areas_of s)).slot p i ≡ Some x → x.generation ≤ r.master.generation
-  pub blocks : HasNone r.master.generation m.blocks (s.area 2).bytes
-  pub settled : (a : ℕ) → a < 3 → IsSettled (s.area a)
+  pub blocks : (w : ℕ) → 0 < w → w ≤ length m.heads → HasNone r.master.generation m.blocks (s.area (suc w)).bytes
+  pub settled : (a : ℕ) → a < 2 + length m.heads → IsSettled (s.area a)
 
 -- what a run of calls keeps, whatever it writes
 pub record Keeps (old new : Story) : Type 0 where

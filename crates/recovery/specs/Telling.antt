@@ -1,8 +1,11 @@
 -- What a disk is asked to tell for a promise about it.
+use Rattle.std.specs.Prelude.{◌≡◌, ◌<◌, ◌≤◌, ℕ, suc, length, Some}
 use Rattle.lean_disk.specs.Story.{Story, Tells}
+use Rattle.disk_slots.specs.declared.master.Master.{Master}
+use Rattle.disk_image.specs.MasterSlots.{master_on}
 
--- it tells of the areas of the master, of the pages and of the log
+-- it tells of the areas of the master, of the pages, and of each log of the master that counts
 pub record TellsAll (s : Story) : Type 0 where
   pub master : Tells s 0
   pub pages : Tells s 1
-  pub log : Tells s 2
+  pub logs : (m : Master) → master_on (s.area 0).bytes ≡ Some m → (w : ℕ) → 0 < w → w ≤ length m.heads → Tells s (suc w)

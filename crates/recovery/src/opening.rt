@@ -13,9 +13,10 @@ ghost use Rattle.recovery.specs.Masters.{HasOpenable, IsOpenable};
 ghost use Rattle.recovery.specs.Opened.{IsOpened, IsRecovered, IsRefusal, IsUntouched, IsWhole, Keeps};
 ghost use Rattle.disk_image.specs.Breaks.{IsDamaged};
 ghost use Rattle.recovery.specs.Telling.{TellsAll};
-ghost use Rattle.recovery.specs.Inside.{AreFormed, AreOwn, IsReadied, SavesAll, SavesEach, WritesOnce, saves_to};
+ghost use Rattle.recovery.specs.Inside.{AreFormed, AreOwn, IsReadied, SavesAll, SavesEach, saves_to};
+ghost use Rattle.master_store.specs.Masters.{WritesOnce};
 
-use crate::master::{next_master, write_master};
+use crate::master::next_master;
 use crate::pages::save_pages;
 use crate::prepare::{Prepared, prepare};
 use btree_node::Node;
@@ -38,7 +39,7 @@ pub struct Recovered {
 pub enum Unrecovered {
     /// It has no valid master, or one of several logs, or whose numbers are spent.
     NotFormatted,
-    /// This place of the area breaks a rule: a page of area 1, a block of the log in area 2.
+    /// This place of the area breaks a rule: a page of area 1, a block of log w in area 1 + w.
     Damaged { area: u32, place: u64 },
     DiskFault,
     Memory,
@@ -87,17 +88,17 @@ fn write_next<D: Disk>(disk: &mut D, master: &Master) -> Did
         (D.story disk.new).area 0 ≡ synced (written (1024 * (master.now.sequence % 2)) (master_slot master.now) ((D.story disk.old).area 0)) }
     ensures cause { HasCause (D.faults disk.old) (D.faults disk.new) (result ≡ Did.Failed) }
 {
-    write_master(&mut AreaOf::new(disk, 0), master)
+    master_store::write_next(&mut AreaOf::new(disk, 0), master)
 }
 
-/// Opens a disk: syncs and reads the master, the pages and the log; redoes and undoes; saves the pages to their spare slots
+/// Opens a disk: syncs and reads the master, the pages and the logs; redoes and undoes; saves the pages to their spare slots
 /// under the next generation; and then writes the next master.
 pub fn recover<D: Disk>(alloc: Global, disk: &mut D) -> Result<Recovered, Unrecovered>
     ensures answer { IfOk result (λ r. TellsAll (D.story disk.old) → (m : Master) × IsOpenable m × IsRecovered m (areas_of (D.story disk.old)) r) }
     ensures opened { IfOk result (λ r. TellsAll (D.story disk.old) → (m : Master) → IsCleanDisk m (areas_of (D.story disk.old))
         → IsOpened m (areas_of (D.story disk.old)) r (D.story disk.new)) }
     ensures whole { IfOk result IsWhole }
-    ensures log { IsUntouched ((D.story disk.old).area 2) ((D.story disk.new).area 2) }
+    ensures logs { (a : ℕ) → 1 < a → IsUntouched ((D.story disk.old).area a) ((D.story disk.new).area a) }
     ensures others { (a : ℕ) → 2 < a → (D.story disk.new).area a ≡ (D.story disk.old).area a }
     ensures keeps { Keeps (D.story disk.old) (D.story disk.new) }
 

@@ -1,13 +1,12 @@
 pub mod LogLemmas
-pub mod OutcomeLemmas
 pub mod PageLemmas
-pub mod ChangeLemmas
 pub mod MarkLemmas
 pub mod RedoLemmas
 pub mod SetLemmas
 pub mod UndoLemmas
 pub mod SameLemmas
 pub mod CountLemmas
-pub mod ImageLemmas
 pub mod TopLemmas
+pub mod OutcomeLemmas
+pub mod ImageLemmas
 pub mod DiskLemmas

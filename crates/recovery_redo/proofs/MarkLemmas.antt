@@ -4,6 +4,7 @@ use Rattle.std.proofs.lemmas.Bool.{cases_eq, or_left, or_right, or_cases}
 use Rattle.std.proofs.lemmas.List.{get_or-set_other}
 use Rattle.std.proofs.Math.Seq.{take-append_seam}
 use Rattle.map_model.specs.Lists.{Has, any}
+use Rattle.map_model.proofs.ListLemmas.{has_any}
 use Rattle.page_model.specs.Page.{Page}
 use Rattle.page_model.specs.Pairs.{put}
 use Rattle.page_model.specs.Nodes.{Node, holds}
@@ -11,15 +12,14 @@ use Rattle.image_model.specs.Entries as model
 use Rattle.image_model.specs.Entries.{Entry, touches}
 use Rattle.image_model.specs.Undo.{set_in}
 use Rattle.node_tree.specs.Nodes.{nodes_of}
-use Rattle.recovery_scan.specs.declared.found.Found.{Found}
-use Rattle.recovery_redo.specs.Images.{pages_of}
+use Rattle.log_index.specs.Items.{Item}
+use Rattle.record_redo.specs.Pages.{pages_of, MarksFor}
 use Rattle.recovery_redo.specs.Recoveries.{is_meant}
-use Rattle.recovery_redo.specs.Inside.{entry_of, entries_of, set_back, MarksFor, is_named, is_leaf_of}
+use Rattle.recovery_scan.specs.Records.{entry_of, entries_of}
+use Rattle.recovery_redo.specs.Inside.{set_back, is_named, is_leaf_of}
 use Rattle.recovery_redo.proofs.LogLemmas.{entries_at, entries_all}
 use Rattle.recovery_redo.proofs.PageLemmas.{node_at}
-
-pub marks_none : (why : ℕ → Bool) (marks : List Bool) → MarksFor why marks marks
-marks_none why marks = record { at = λ p h. inl h }
+use Rattle.record_redo.proofs.PageLemmas.{marks_none, marks_both}
 
 pub marks_set : (why : ℕ → Bool) (marks : List Bool) (i : ℕ) → why i ≡ true → MarksFor why marks (set marks i true)
 marks_set why marks i here = record {
@@ -29,22 +29,6 @@ marks_set why marks i here = record {
   ];
 }
 
-pub marks_both : (why and then : ℕ → Bool) (a b c : List Bool) → ((p : ℕ) → why p ≡ true → then p ≡ true) → ((p : ℕ) → and p ≡ true → then p ≡ true) → MarksFor why a b → MarksFor and b c → MarksFor then a c
-marks_both why and then a b c f g one two = record { at = λ p h. back p (two.at p h) }
-  where
-    first : (p : ℕ) → (get_or a p false ≡ true) ⊎ (why p ≡ true) → (get_or a p false ≡ true) ⊎ (then p ≡ true)
-    first p (inl e) = inl e
-    first p (inr e) = inr (f p e)
-
-    back : (p : ℕ) → (get_or b p false ≡ true) ⊎ (and p ≡ true) → (get_or a p false ≡ true) ⊎ (then p ≡ true)
-    back p (inl e) = first p (one.at p e)
-    back p (inr e) = inr (g p e)
-
-pub has_any : (test : Entry → Bool) (z : List Entry) (r : Entry) → Has r z → test r ≡ true → any test z ≡ true
-has_any test [] r m e = absurd m
-has_any test (x ∷ xs) r (inl q) e = or_left (test x) (any test xs) (ap test (sym q) ∙ e)
-has_any test (x ∷ xs) r (inr m) e = or_right (test x) (any test xs) (has_any test xs r m e)
-
 any_to : (a b : Entry → Bool) → ((r : Entry) → a r ≡ true → b r ≡ true) → (z : List Entry) → any a z ≡ true → any b z ≡ true
 any_to a b f [] h = absurd (true≢false (sym h))
 any_to a b f (x ∷ xs) h = elim (or_cases (a x) (any a xs) h) [ inl e ↦ or_left (b x) (any b xs) (f x e) | inr e ↦ or_right (b x) (any b xs) (any_to a b f xs e) ]
@@ -52,15 +36,15 @@ any_to a b f (x ∷ xs) h = elim (or_cases (a x) (any a xs) h) [ inl e ↦ or_le
 -- ## Redo
 
 -- one record more
-pub named_more : (found : List Found) (k j : ℕ) (x d : Found) (was marks next : List Bool) → j ≡ suc k → k < length found → x ≡ get_or found k d →
-    MarksFor (is_named (entries_of (take k found))) was marks → MarksFor (λ p. touches p (entry_of x)) marks next → MarksFor (is_named (entries_of (take j found))) was next
-named_more found k j x d was marks next e l is one two =
-    subst (λ (z : List Entry). MarksFor (is_named z) was next) (sym (entries_at found k j x d e l is))
-    (marks_both (is_named (entries_of (take k found))) (λ p. touches p (entry_of x)) (is_named (entry_of x ∷ entries_of (take k found))) was marks next
-    (λ p h. or_right (touches p (entry_of x)) (is_named (entries_of (take k found)) p) h) (λ p h. or_left (touches p (entry_of x)) (is_named (entries_of (take k found)) p) h) one two)
+pub named_more : (items : List Item) (k j : ℕ) (x d : Item) (was marks next : List Bool) → j ≡ suc k → k < length items → x ≡ get_or items k d →
+    MarksFor (is_named (entries_of (take k items))) was marks → MarksFor (λ p. touches p (entry_of x)) marks next → MarksFor (is_named (entries_of (take j items))) was next
+named_more items k j x d was marks next e l is one two =
+    subst (λ (z : List Entry). MarksFor (is_named z) was next) (sym (entries_at items k j x d e l is))
+    (marks_both (is_named (entries_of (take k items))) (λ p. touches p (entry_of x)) (is_named (entry_of x ∷ entries_of (take k items))) was marks next
+    (λ p h. or_right (touches p (entry_of x)) (is_named (entries_of (take k items)) p) h) (λ p h. or_left (touches p (entry_of x)) (is_named (entries_of (take k items)) p) h) one two)
 
-pub named_all : (found : List Found) (k : ℕ) (was marks : List Bool) → k ≡ length found → MarksFor (is_named (entries_of (take k found))) was marks → MarksFor (is_named (entries_of found)) was marks
-named_all found k was marks e m = subst (λ (z : List Entry). MarksFor (is_named z) was marks) (ap (λ n. entries_of (take n found)) e ∙ entries_all found) m
+pub named_all : (items : List Item) (k : ℕ) (was marks : List Bool) → k ≡ length items → MarksFor (is_named (entries_of (take k items))) was marks → MarksFor (is_named (entries_of items)) was marks
+named_all items k was marks e m = subst (λ (z : List Entry). MarksFor (is_named z) was marks) (ap (λ n. entries_of (take n items)) e ∙ entries_all items) m
 
 -- ## Undo
 
@@ -101,20 +85,20 @@ get_replicate Rattle.std.proofs.Common.zero p h = true≢false (sym h)
 get_replicate (suc n) Rattle.std.proofs.Common.zero h = true≢false (sym h)
 get_replicate (suc n) (suc p) h = get_replicate n p h
 
-pub meant_from : (found : List Found) (pages : List Page) (n : ℕ) (marks more : List Bool) → MarksFor (is_named (entries_of found)) (replicate n false) marks → MarksFor (is_leaf_of (entries_of found) (nodes_of pages)) marks more →
-    (p : ℕ) → get_or more p false ≡ true → is_meant found (nodes_of pages) p ≡ true
-meant_from found pages n marks more one two p h = last (both.at p h)
+pub meant_from : (items : List Item) (pages : List Page) (n : ℕ) (marks more : List Bool) → MarksFor (is_named (entries_of items)) (replicate n false) marks → MarksFor (is_leaf_of (entries_of items) (nodes_of pages)) marks more →
+    (p : ℕ) → get_or more p false ≡ true → is_meant items (nodes_of pages) p ≡ true
+meant_from items pages n marks more one two p h = last (both.at p h)
   where
-    both : MarksFor (is_meant found (nodes_of pages)) (replicate n false) more
-    both = marks_both (is_named (entries_of found)) (is_leaf_of (entries_of found) (nodes_of pages)) (is_meant found (nodes_of pages)) (replicate n false) marks more
-        (λ p h. any_to (λ r. touches p r) (λ r. touches p r || holds (nodes_of pages p) r.key) (λ r e. or_left (touches p r) (holds (nodes_of pages p) r.key) e) (entries_of found) h)
-        (λ p h. any_to (λ r. holds (nodes_of pages p) r.key) (λ r. touches p r || holds (nodes_of pages p) r.key) (λ r e. or_right (touches p r) (holds (nodes_of pages p) r.key) e) (entries_of found) h)
+    both : MarksFor (is_meant items (nodes_of pages)) (replicate n false) more
+    both = marks_both (is_named (entries_of items)) (is_leaf_of (entries_of items) (nodes_of pages)) (is_meant items (nodes_of pages)) (replicate n false) marks more
+        (λ p h. any_to (λ r. touches p r) (λ r. touches p r || holds (nodes_of pages p) r.key) (λ r e. or_left (touches p r) (holds (nodes_of pages p) r.key) e) (entries_of items) h)
+        (λ p h. any_to (λ r. holds (nodes_of pages p) r.key) (λ r. touches p r || holds (nodes_of pages p) r.key) (λ r e. or_right (touches p r) (holds (nodes_of pages p) r.key) e) (entries_of items) h)
         one two
 
-    last : (get_or (replicate n false) p false ≡ true) ⊎ (is_meant found (nodes_of pages) p ≡ true) → is_meant found (nodes_of pages) p ≡ true
+    last : (get_or (replicate n false) p false ≡ true) ⊎ (is_meant items (nodes_of pages) p ≡ true) → is_meant items (nodes_of pages) p ≡ true
     last (inl e) = absurd (get_replicate n p e)
     last (inr e) = e
 
 -- a row written over whole
-pub written : (n : ℕ) (new rest : List Bool) → length new ≡ n → take n (new ++ rest) ≡ new
-written n new rest e = ap (λ k. take k (new ++ rest)) (sym e) ∙ take-append_seam new rest
+pub written : {A : Type 0} (n : ℕ) (new rest : List A) → length new ≡ n → take n (new ++ rest) ≡ new
+written {A} n new rest e = ap (λ k. take k (new ++ rest)) (sym e) ∙ take-append_seam new rest

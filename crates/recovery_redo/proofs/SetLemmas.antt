@@ -12,9 +12,10 @@ use Rattle.image_model.specs.Entries as model
 use Rattle.image_model.specs.Undo.{set_in}
 use Rattle.disk_image.specs.Formats.{format_of}
 use Rattle.node_tree.specs.Nodes.{nodes_of}
-use Rattle.recovery_redo.specs.Images.{page_of, pages_of}
-use Rattle.recovery_redo.specs.Inside.{has, set_back, SameOwn}
-use Rattle.recovery_redo.proofs.PageLemmas.{node_at, page_here, page_beyond, pages_set}
+use Rattle.record_redo.specs.Pages.{page_of, pages_of, SameOwn}
+use Rattle.recovery_redo.specs.Inside.{has, set_back}
+use Rattle.record_redo.proofs.PageLemmas.{page_here, pages_set}
+use Rattle.recovery_redo.proofs.PageLemmas.{node_at, page_beyond}
 
 module _ (pages : List Page) (key : ℕ) (t : IsTree (format_of (length pages)) (nodes_of pages)) where
   -- the greatest number is no key

@@ -3,9 +3,9 @@ use Rattle.std.proofs.Common.{◌≡◌, ◌<◌, ◌≤◌, ◌⊎◌, ℕ, suc
 use Rattle.std.proofs.lemmas.Bool.{cases_eq, cases_lt}
 use Rattle.page_model.specs.Page.{Page}
 use Rattle.image_model.specs.Entries as model
-use Rattle.recovery_redo.specs.Images.{pages_of}
+use Rattle.record_redo.specs.Pages.{pages_of}
 use Rattle.recovery_redo.specs.Inside.{IsAtop}
-use Rattle.recovery_redo.proofs.PageLemmas.{page_here}
+use Rattle.record_redo.proofs.PageLemmas.{page_here}
 
 -- of the first pages
 pub record IsAtopOf (far : ℕ) (pages : List Page) (k n : ℕ) : Type 0 where

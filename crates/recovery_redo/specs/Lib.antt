@@ -1,4 +1,3 @@
--- Read Images, then Recoveries; Inside has the words of private functions.
-pub mod Images
+-- Read Recoveries; Inside has the words of private functions.
 pub mod Recoveries
 pub mod Inside

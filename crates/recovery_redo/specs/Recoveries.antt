@@ -1,5 +1,5 @@
 -- What is in memory before recovery, and what it makes of that.
-use Rattle.std.specs.Prelude.{◌≡◌, ◌⊎◌, ◌<◌, ◌≤◌, ◌||◌, ℕ, Bool, List, [], length, slice_get, Some}
+use Rattle.std.specs.Prelude.{◌≡◌, ◌⊎◌, ◌<◌, ◌≤◌, ◌||◌, ℕ, Bool, List, length, slice_get, Some}
 use Rattle.map_model.specs.Lists.{Has, any}
 use Rattle.page_model.specs.Nodes.{Node, holds}
 use Rattle.page_model.specs.Page.{Page}
@@ -9,20 +9,20 @@ use Rattle.image_model.specs.Slots.{base_of}
 use Rattle.disk_slots.specs.declared.master.Master.{Master}
 use Rattle.disk_image.specs.MasterSlots.{master_on}
 use Rattle.disk_image.specs.Shown.{Areas, shown_by, image_by, IsSoundDisk}
-use Rattle.recovery_scan.specs.declared.found.Found.{Found}
-use Rattle.recovery_scan.specs.Records.{entries_onto}
-use Rattle.recovery_scan.specs.Scans.{IsScan}
-use Rattle.recovery_redo.specs.Images.{pages_of}
+use Rattle.log_index.specs.Items.{Item}
+use Rattle.record_redo.specs.Pages.{pages_of}
+use Rattle.recovery_scan.specs.Records.{entries_of}
+use Rattle.recovery_scan.specs.Scans.{IsScanned}
 use Rattle.recovery_redo.specs.declared.recover.Outcome.{Outcome}
 
--- The bases of all pages of the disk, the records of its one log, and its master's floor are in memory.
-pub record IsLoaded (m : Master) (area : Areas) (pages : List Page) (found : List Found) (floor : ℕ) : Type 0 where
+-- The bases of all pages of the disk, the records of its logs, and how many logs and which floor its master has, are in memory.
+pub record IsLoaded (m : Master) (area : Areas) (pages : List Page) (items : List Item) (logs floor : ℕ) : Type 0 where
   pub master : master_on (area 0) ≡ Some m
-  pub one_log : length m.heads ≡ 1
+  pub logs_is : logs ≡ length m.heads
   pub floor_is : floor ≡ m.floor
   pub count : length pages ≡ m.pages
   pub base : (p : ℕ) → p < m.pages → base_of (shown_by m area) p ≡ Some (pages_of pages p)
-  pub scan : IsScan m 1 area found
+  pub scan : IsScanned m area items
 
 -- n is the greatest of the floor, the numbers of records, and those of pages
 pub record IsGreatest (floor : ℕ) (entries : List Entry) (pages : List Page) (n : ℕ) : Type 0 where
@@ -46,5 +46,5 @@ pub record KeepsOwn (old new : List Page) : Type 0 where
   pub generation : (p : ℕ) (x y : Page) → slice_get old p ≡ Some x → slice_get new p ≡ Some y → y.generation ≡ x.generation
 
 -- a record names the page, or its key is one that the page, a leaf, may hold
-abbrev pub is_meant : List Found → (ℕ → Node) → ℕ → Bool
-is_meant found node p = any (λ r. touches p r || holds (node p) r.key) (entries_onto 1 [] found)
+abbrev pub is_meant : List Item → (ℕ → Node) → ℕ → Bool
+is_meant items node p = any (λ r. touches p r || holds (node p) r.key) (entries_of items)

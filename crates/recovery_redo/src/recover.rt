@@ -1,30 +1,29 @@
-// The pages that recovery gives, from their bases and the records of a log.
-ghost use Rattle.std.specs.Prelude.{◌≡◌, ◌<◌, ◌≤◌, ℕ, Err, IfOk, OnOk, false, length, replicate, slice_get, slice_index_or, true};
+// The pages that recovery gives, from their bases and the records of all logs.
+ghost use Rattle.std.specs.Prelude.{◌≡◌, ◌<◌, ◌≤◌, ℕ, suc, Err, IfOk, OnOk, HoldsAt, false, length, replicate, slice_get, slice_index_or, true};
 ghost use Rattle.page_model.specs.Tree.{IsTree};
 ghost use Rattle.disk_slots.specs.declared.master.Master.{Master};
 ghost use Rattle.disk_image.specs.Breaks.{Breaks};
 ghost use Rattle.disk_image.specs.Formats.{format_of};
 ghost use Rattle.disk_image.specs.Shown.{Areas};
 ghost use Rattle.node_tree.specs.Nodes.{nodes_of};
-ghost use Rattle.recovery_redo.specs.Images.{pages_of};
+ghost use Rattle.record_redo.specs.Pages.{pages_of, Keeps, MarksFor};
+ghost use Rattle.recovery_scan.specs.Records.{entries_of};
+ghost use Rattle.recovery_scan.specs.Scans.{AreOfLogs};
 ghost use Rattle.recovery_redo.specs.Recoveries.{IsLoaded, IsRecovered, KeepsOwn, is_meant};
 ghost use Rattle.recovery_redo.specs.Inside as inside;
 
-use crate::outcome::{ended, losers, reach, winners};
+use crate::outcome::{ended, losers, reach, top, winners};
 use crate::redo::redo;
 use crate::undo::undo;
 use btree_node::Node;
+use log_index::LogIndex;
+use log_record::{Body, Record};
 use node_tree::first_break;
 use page_model::every_check;
-use recovery_scan::Found;
 use std::alloc::{AllocError, Global};
-use std::collections::BTreeSet;
 
-/// The area of the pages.
+/// The area of the pages. That of a log is one more than its number.
 const PAGES: u32 = 1;
-
-/// The area of the log.
-const LOG: u32 = 2;
 
 /// How many transactions won and how many were undone, the base number, and a mark for each page that may have changed.
 #[derive(Drop)]
@@ -38,7 +37,7 @@ pub struct Outcome {
 /// Why the pages could not be recovered.
 #[derive(Clone, Copy, Debug, PartialEq, Eq)]
 pub enum Failed {
-    /// This page, or a record in the block at this place of the log, breaks a rule.
+    /// This page, or a record in the block at this place of this log's area, breaks a rule.
     Damaged { area: u32, place: u64 },
     Memory,
 }
@@ -47,10 +46,13 @@ pub enum Failed {
 pub fn recover_pages(
     alloc: Global,
     pages: &mut [Node],
-    found: &[Found],
+    index: &LogIndex,
+    logs: u32,
     floor: u64,
 ) -> Result<Outcome, Failed>
-    ensures recovered { IfOk result (λ outcome. (m : Master) (area : Areas) → IsLoaded m area pages.old found.now floor → IsRecovered m area pages.old pages.new outcome) }
+    requires logs { (0 < logs) × (logs ≤ 16) }
+    requires of_logs { AreOfLogs logs index.now }
+    ensures recovered { IfOk result (λ outcome. (m : Master) (area : Areas) → IsLoaded m area pages.old index.now logs floor → IsRecovered m area pages.old pages.new outcome) }
     ensures tree { OnOk result (IsTree (format_of (length pages.new)) (nodes_of pages.new)) }
     ensures own { OnOk result (KeepsOwn pages.old pages.new) }
     ensures numbers { IfOk result (λ outcome. (p : ℕ) → p < length pages.new → (pages_of pages.new p).gsn ≤ outcome.base) }
@@ -58,37 +60,55 @@ pub fn recover_pages(
     // A page that is not marked is as it was, and one is marked only where a record is about it.
     ensures marks { IfOk result (λ outcome. length outcome.changed.items ≡ length pages.old) }
     ensures same { IfOk result (λ outcome. (p : ℕ) → slice_index_or outcome.changed.items p false ≡ false → slice_get pages.new p ≡ slice_get pages.old p) }
-    ensures only { IfOk result (λ outcome. (p : ℕ) → slice_index_or outcome.changed.items p false ≡ true → is_meant found.now (nodes_of pages.new) p ≡ true) }
+    ensures only { IfOk result (λ outcome. (p : ℕ) → slice_index_or outcome.changed.items p false ≡ true → is_meant index.now (nodes_of pages.new) p ≡ true) }
 
-    ensures cause_damaged { (a place : ℕ) → result ≡ Err (Failed.Damaged a place) → (m : Master) (area : Areas) → IsLoaded m area pages.old found.now floor → Breaks m area a place }
+    ensures cause_damaged { (a place : ℕ) → result ≡ Err (Failed.Damaged a place) → (m : Master) (area : Areas) → IsLoaded m area pages.old index.now logs floor → Breaks m area a place }
 {
-    let far = reach(floor, found);
-    let base = base_number(far, pages);
+    let logs = logs as usize;
+    let far = reach(logs, floor, index);
+    let base = base_number(top(floor, index), pages);
+    let mut entry = Record {
+        txn: 0,
+        gsn: 0,
+        body: Body::Commit { need: 0 },
+    };
     let Ok(mut changed) = unmarked(alloc, pages.len()) else {
         return Err(Failed::Memory);
     };
-    let counted = redo_all(alloc, pages, &mut changed, found)?;
+    let counted = redo_all(alloc, pages, &mut changed, index, &mut entry)?;
     check_tree(alloc, pages)?;
-    let Ok(ended) = ended(alloc, far, found) else {
+    let Ok(ended) = ended(alloc, logs, far, index, &mut entry) else {
         return Err(Failed::Memory);
     };
-    let Ok(undone) = losers(alloc, &ended, found) else {
+    let Ok(undone) = losers(alloc, &ended, index) else {
         return Err(Failed::Memory);
     };
-    undo_all(pages, &mut changed, found, &counted, &ended)?;
+    undo(pages, &mut changed, &counted, &ended, index, &mut entry)?;
     Ok(Outcome {
-        winners: winners(far, found),
+        winners: winners(far, index, &mut entry),
         undone,
         base,
         changed,
     })
 }
 
-// The greatest of the reach and the numbers of pages.
-fn base_number(far: u64, pages: &[Node]) -> u64
-    ensures { inside.IsAtop far pages.now result }
+/// The record can't be done, or not be undone.
+pub(crate) fn damaged_by(index: &LogIndex, i: usize) -> Failed
+    requires { i < length index.now }
+    ensures { HoldsAt (λ x. result ≡ Failed.Damaged (suc x.log) x.place) index.now i }
 {
-    let mut most = far;
+    let head = index.head(i);
+    Failed::Damaged {
+        area: 1 + u32::from(head.log),
+        place: u64::from(head.place),
+    }
+}
+
+// The greatest of a number and the numbers of pages.
+fn base_number(top: u64, pages: &[Node]) -> u64
+    ensures { inside.IsAtop top pages.now result }
+{
+    let mut most = top;
     for node in pages {
         most = most.max(node.gsn());
     }
@@ -107,26 +127,22 @@ fn redo_all(
     alloc: Global,
     pages: &mut [Node],
     changed: &mut [bool],
-    found: &[Found],
+    index: &LogIndex,
+    entry: &mut Record,
 ) -> Result<Vec<bool>, Failed>
     requires marks { length changed.old ≡ length pages.old }
-    ensures redone { IfOk result (λ counted. inside.IsRedone pages.old pages.new found.now counted.items (length found.now)) }
-    ensures flags { IfOk result (λ counted. length counted.items ≡ length found.now) }
-    ensures kept { OnOk result (inside.Keeps pages.old pages.new changed.old changed.new) }
-    ensures only { OnOk result (inside.MarksFor (inside.is_named (inside.entries_of found.now)) changed.old changed.new) }
+    ensures redone { IfOk result (λ counted. inside.IsRedone pages.old pages.new index.now counted.items (length index.now)) }
+    ensures flags { IfOk result (λ counted. length counted.items ≡ length index.now) }
+    ensures kept { OnOk result (Keeps pages.old pages.new changed.old changed.new) }
+    ensures only { OnOk result (MarksFor (inside.is_named (entries_of index.now)) changed.old changed.new) }
 
-    ensures cause { (a place : ℕ) → result ≡ Err (Failed.Damaged a place) → (a ≡ 2) × inside.FailsAt pages.old found.now place }
+    ensures cause { (a place : ℕ) → result ≡ Err (Failed.Damaged a place) → inside.FailsAt pages.old index.now a place }
 {
-    let Ok(mut counted) = unmarked(alloc, found.len()) else {
+    let Ok(mut counted) = unmarked(alloc, index.len()) else {
         return Err(Failed::Memory);
     };
-    match redo(pages, changed, &mut counted, found) {
-        Ok(()) => Ok(counted),
-        Err(place) => Err(Failed::Damaged {
-            area: LOG,
-            place: u64::from(place),
-        }),
-    }
+    redo(pages, changed, &mut counted, index, entry)?;
+    Ok(counted)
 }
 
 // The pages are a tree; where there are none, they are not.
@@ -149,34 +165,5 @@ fn check_tree(alloc: Global, pages: &[Node]) -> Result<(), Failed>
             place: page as u64,
         }),
         Err(_) => Err(Failed::Memory),
-    }
-}
-
-// Sets the words of the lost back.
-fn undo_all(
-    pages: &mut [Node],
-    changed: &mut [bool],
-    found: &[Found],
-    counted: &[bool],
-    ended: &BTreeSet<u64>,
-) -> Result<(), Failed>
-    requires tree { IsTree (format_of (length pages.old)) (nodes_of pages.old) }
-    requires words { inside.AreWords found.now counted.now }
-    requires marks { length changed.old ≡ length pages.old }
-    requires flags { length counted.now ≡ length found.now }
-    ensures undone { OnOk result (inside.IsUndone pages.old pages.new found.now counted.now ended.now 0) }
-    ensures kept { OnOk result (inside.Keeps pages.old pages.new changed.old changed.new) }
-    ensures only { OnOk result (inside.MarksFor (inside.is_leaf_of (inside.entries_of found.now) (nodes_of pages.new)) changed.old changed.new) }
-    ensures numbers { OnOk result (inside.SameNumbers pages.old pages.new) }
-    ensures tree { OnOk result (IsTree (format_of (length pages.new)) (nodes_of pages.new)) }
-
-    ensures cause { (a place : ℕ) → result ≡ Err (Failed.Damaged a place) → (a ≡ 2) × inside.LacksAt pages.old found.now counted.now ended.now place }
-{
-    match undo(pages, changed, found, counted, ended) {
-        Ok(()) => Ok(()),
-        Err(place) => Err(Failed::Damaged {
-            area: LOG,
-            place: u64::from(place),
-        }),
     }
 }

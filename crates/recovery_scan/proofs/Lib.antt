@@ -1,3 +1,5 @@
-pub mod ScanLemmas
+pub mod ItemLemmas
+pub mod RisingLemmas
 pub mod ReadLemmas
 pub mod RunLemmas
+pub mod LogLemmas

@@ -1,18 +1,24 @@
 -- A run that is read block by block.
-use Rattle.std.proofs.Common.{◌≡◌, inl, inr, ◌<◌, ◌≤◌, ◌-◌, ◌+◌, ◌%◌, ◌++◌, ℕ, suc, zero, true, false, List, [], ◌∷◌, length, Option, refl, sym, ◌∙◌, ap, subst, arith}
-use Rattle.std.proofs.lemmas.Bool.{cond-true, cond-false}
+use Rattle.std.proofs.Common.{◌≡◌, ◌⊎◌, inl, inr, ◌<◌, ◌≤◌, ◌-◌, ◌+◌, ◌%◌, ◌++◌, ℕ, suc, zero, true, false, List, [], ◌∷◌, length, Option, Some, None, refl, sym, ◌∙◌, ap, subst, arith}
+use Rattle.std.proofs.lemmas.Bool.{cond-true, cond-false, false_from_ne_true}
+use Rattle.std.proofs.lemmas.List.{append_assoc, length-append}
 use Rattle.map_model.specs.Lists.{Has}
 use Rattle.image_model.specs.Images.{IsFalling}
 use Rattle.log_record.specs.declared.record.Record.{Record}
+use Rattle.log_block.specs.Block.{Belongs}
+use Rattle.log_index.specs.Items.{Item, items_of}
 use Rattle.disk_slots.specs.declared.master.Master.{Master}
-use Rattle.disk_image.specs.Records.{entry_of}
+use Rattle.disk_image.specs.Records.{entry_of as entry_in}
 use Rattle.disk_image.specs.Blocks.{belongs, block_in}
 use Rattle.disk_image.specs.Runs as runs
 use Rattle.disk_image.specs.Runs.{Block, Logged, block_at, run_in, records_onto, records_or, entries_in, AreReadable}
 use Rattle.disk_image.specs.Shown.{Areas, head_of, run_of, logged_in}
-use Rattle.recovery_scan.specs.declared.found.Found.{Found}
-use Rattle.recovery_scan.specs.Scans.{IsScan, IsBadLog}
-use Rattle.recovery_scan.specs.Inside.{logged, rest_of, IsGoing, BlockAdded, IsBadBlock}
+use Rattle.disk_image.proofs.BlockInLemmas.{every_belongs}
+use Rattle.recovery_scan.specs.Records.{entry_of, logged_of}
+use Rattle.recovery_scan.specs.Scans.{IsBadLog}
+use Rattle.recovery_scan.specs.Inside.{logged, rest_of, BlockAdded, IsBadBlock, IsGoing, IsLate, IsScan}
+use Rattle.recovery_scan.proofs.ItemLemmas.{has_items, logged_at, logged_block, logged_last}
+use Rattle.recovery_scan.proofs.RisingLemmas.{IsLateIn, falling_more, late_in}
 
 -- records are put before all that stood there
 pub record Before (xs behind : List Logged) : Type 0 where
@@ -29,8 +35,8 @@ before-more newer x behind xs is = record { newer = newer ++ x ∷ []; is = is �
 pub onto-before : (w place : ℕ) (behind : List Logged) (rs : List Record) → Before (records_onto w place behind rs) behind
 onto-before w place behind [] = record { newer = []; is = refl }
 onto-before w place behind (r ∷ rs) =
-    let b = onto-before w place (record { place = place; entry = entry_of w r } ∷ behind) rs in
-    before-more b.newer (record { place = place; entry = entry_of w r }) behind (records_onto w place (record { place = place; entry = entry_of w r } ∷ behind) rs) b.is
+    let b = onto-before w place (record { place = place; entry = entry_in w r } ∷ behind) rs in
+    before-more b.newer (record { place = place; entry = entry_in w r }) behind (records_onto w place (record { place = place; entry = entry_in w r } ∷ behind) rs) b.is
 
 before-before : (xs ys zs : List Logged) → Before xs ys → Before ys zs → Before xs zs
 before-before xs ys zs a b = record { newer = a.newer ++ b.newer; is = a.is ∙ (ap (λ (l : List Logged). a.newer ++ l) b.is ∙ at a.newer) }
@@ -60,113 +66,116 @@ module _ (m : Master) (w : ℕ) (bytes : List ℕ) where
         falling = tt;
       }
 
-  module _ (count : ℕ) (found : List Found) (going : IsGoing m w bytes count found) where
-    abbrev number : ℕ
-    number = head_of m w + count
-
-    abbrev block : Block
-    block = record { number = number; bytes = block_at m.blocks number bytes }
+  module _ (count : ℕ) (found : List Item) (going : IsGoing m w bytes count found) where
+    abbrev here : ℕ
+    here = head_of m w + count
 
     -- the run goes on
-    run-more : count < m.blocks → belongs m.generation w number (block_at m.blocks number bytes) ≡ true → rest_of m w bytes count ≡ block ∷ rest_of m w bytes (count + 1)
+    run-more : count < m.blocks → belongs m.generation w here (block_at m.blocks here bytes) ≡ true → rest_of m w bytes count ≡ record { number = here; bytes = block_at m.blocks here bytes } ∷ rest_of m w bytes (count + 1)
     run-more lt is =
         let more : m.blocks - count ≡ suc (m.blocks - (count + 1)) = omega (arith, lt) in
         let next : suc (head_of m w + count) ≡ head_of m w + (count + 1) = omega arith in
-        ap (λ (k : ℕ). run_in m.generation w m.blocks bytes k number) more
-        ∙ (cond-true (belongs m.generation w number (block_at m.blocks number bytes)) _ _ is
-        ∙ ap (λ (q : ℕ). block ∷ run_in m.generation w m.blocks bytes (m.blocks - (count + 1)) q) next)
+        ap (λ (k : ℕ). run_in m.generation w m.blocks bytes k here) more
+        ∙ (cond-true (belongs m.generation w here (block_at m.blocks here bytes)) _ _ is
+        ∙ ap (λ (q : ℕ). record { number = here; bytes = block_at m.blocks here bytes } ∷ run_in m.generation w m.blocks bytes (m.blocks - (count + 1)) q) next)
 
     -- or ends
-    run-ends : belongs m.generation w number (block_at m.blocks number bytes) ≡ false → rest_of m w bytes count ≡ []
+    run-ends : belongs m.generation w here (block_at m.blocks here bytes) ≡ false → rest_of m w bytes count ≡ []
     run-ends is = at (m.blocks - count)
       where
-        at : (k : ℕ) → run_in m.generation w m.blocks bytes k number ≡ []
+        at : (k : ℕ) → run_in m.generation w m.blocks bytes k here ≡ []
         at zero = refl
-        at (suc k) = cond-false (belongs m.generation w number (block_at m.blocks number bytes)) _ _ is
+        at (suc k) = cond-false (belongs m.generation w here (block_at m.blocks here bytes)) _ _ is
 
     run-over : m.blocks ≤ count → rest_of m w bytes count ≡ []
-    run-over le = let none : m.blocks - count ≡ 0 = omega (arith, le) in ap (λ (k : ℕ). run_in m.generation w m.blocks bytes k number) none
+    run-over le = let none : m.blocks - count ≡ 0 = omega (arith, le) in ap (λ (k : ℕ). run_in m.generation w m.blocks bytes k here) none
 
     -- where it ends, all was found
     pub scanned : (area : Areas) → area (suc w) ≡ bytes → rest_of m w bytes count ≡ [] → IsScan m w area found
     scanned area is over =
-        let all : logged w found ≡ logged_in m w bytes = sym (going.records ∙ ap (runs.logged_onto m.generation w m.blocks (logged w found)) over) in
-        subst (λ (b : List ℕ). AreReadable m.generation w (run_of m w b) × (logged w found ≡ logged_in m w b) × IsFalling (entries_in (logged_in m w b)) → IsScan m w area found) is
-        (λ (t : AreReadable m.generation w (run_of m w (area (suc w))) × (logged w found ≡ logged_in m w (area (suc w))) × IsFalling (entries_in (logged_in m w (area (suc w))))). record { readable = t.0; records = t.1; rising = t.2 })
+        let all : logged found ≡ logged_in m w bytes = sym (going.records ∙ ap (runs.logged_onto m.generation w m.blocks (logged found)) over) in
+        subst (λ (b : List ℕ). AreReadable m.generation w (run_of m w b) × (logged found ≡ logged_in m w b) × IsFalling (entries_in (logged_in m w b)) → IsScan m w area found) is
+        (λ (t : AreReadable m.generation w (run_of m w (area (suc w))) × (logged found ≡ logged_in m w (area (suc w))) × IsFalling (entries_in (logged_in m w (area (suc w))))). record { readable = t.0; records = t.1; rising = t.2 })
         (going.readable (subst (AreReadable m.generation w) (sym over) tt), all, subst (λ (l : List Logged). IsFalling (entries_in l)) all going.falling)
-
-    pub scanned-end : (area : Areas) → area (suc w) ≡ bytes → belongs m.generation w number (block_at m.blocks number bytes) ≡ false → IsScan m w area found
-    scanned-end area is end = scanned area is (run-ends end)
 
     pub scanned-over : (area : Areas) → area (suc w) ≡ bytes → m.blocks ≤ count → IsScan m w area found
     scanned-over area is le = scanned area is (run-over le)
 
-    module _ (lt : count < m.blocks) (is : belongs m.generation w number (block_at m.blocks number bytes) ≡ true) where
-      has-block : Has block (run_of m w bytes)
-      has-block = going.has block (subst (Has block) (sym (run-more lt is)) (inl refl))
+    -- the next block was read
+    module _ (lt : count < m.blocks) (start : ℕ) (old index : List Item) (begins : start ≡ length old) (so_far : index ≡ old ++ found)
+        (number : ℕ) (named : number ≡ here) (buffer : List ℕ) (holds : buffer ≡ block_at m.blocks number bytes) where
+      abbrev it : Block
+      it = record { number = number; bytes = block_at m.blocks number bytes }
 
-      -- a block more
-      pub going-more : (next : List Found) → BlockAdded m.generation w number (number % m.blocks) (block_at m.blocks number bytes) found next → IsGoing m w bytes (count + 1) next
-      going-more next b = record {
-        records = going.records ∙ (ap (runs.logged_onto m.generation w m.blocks (logged w found)) (run-more lt is)
-            ∙ ap (λ (l : List Logged). runs.logged_onto m.generation w m.blocks l (rest_of m w bytes (count + 1)))
-            (ap (λ (o : Option (List Record)). records_onto w (number % m.blocks) (logged w found) (records_or o)) b.is ∙ sym (b.added.records w)));
-        readable = λ r. going.readable (subst (AreReadable m.generation w) (sym (run-more lt is)) ((b.records, b.is), r));
-        has = λ x h. going.has x (subst (Has x) (sym (run-more lt is)) (inr h));
-        falling = b.added.falling w going.falling;
-      }
+      goes : Belongs m.generation w number buffer → rest_of m w bytes count ≡ it ∷ rest_of m w bytes (count + 1)
+      goes b = subst (λ (q : ℕ). belongs m.generation w q (block_at m.blocks q bytes) ≡ true → rest_of m w bytes count ≡ record { number = q; bytes = block_at m.blocks q bytes } ∷ rest_of m w bytes (count + 1)) (sym named) (run-more lt)
+          ((every_belongs m.generation w number (block_at m.blocks number bytes)).1 (subst (Belongs m.generation w number) holds b))
 
-      -- a bad one
-      pub going-bad : (area : Areas) → area (suc w) ≡ bytes → (0 < w) × (w ≤ length m.heads) → IsBadBlock m.generation w number (number % m.blocks) (block_at m.blocks number bytes) found → IsBadLog m w area (number % m.blocks)
-      going-bad area same log (inl none) = inl (record {
-        log = log;
-        block = block;
-        has = subst (λ (b : List ℕ). Has block (run_of m w b)) (sym same) has-block;
-        at = refl;
-        none = none;
-      })
-      going-bad area same log (inr late) =
-          let rs = late.0 in
-          let l = late.2 in
-          let all : logged_in m w bytes ≡ runs.logged_onto m.generation w m.blocks (records_onto w (number % m.blocks) (logged w found) rs) (rest_of m w bytes (count + 1)) =
-          going.records ∙ (ap (runs.logged_onto m.generation w m.blocks (logged w found)) (run-more lt is)
-          ∙ ap (λ (o : Option (List Record)). runs.logged_onto m.generation w m.blocks (records_onto w (number % m.blocks) (logged w found) (records_or o)) (rest_of m w bytes (count + 1))) late.1) in
-          let it : Logged = record { place = number % m.blocks; entry = entry_of w l.it } in
-          let prefix = run-before m.generation w m.blocks (records_onto w (number % m.blocks) (logged w found) rs) (rest_of m w bytes (count + 1)) in
-          let back = onto-before w (number % m.blocks) (it ∷ logged w l.so_far) l.newer in
-          let both = before-before (runs.logged_onto m.generation w m.blocks (records_onto w (number % m.blocks) (logged w found) rs) (rest_of m w bytes (count + 1))) (records_onto w (number % m.blocks) (logged w found) rs) (it ∷ logged w l.so_far)
-          prefix (record { newer = back.newer; is = l.rest ∙ back.is }) in
-          inr (record {
+      -- it does not belong to the run
+      pub going-ends : (area : Areas) → area (suc w) ≡ bytes → (Belongs m.generation w number buffer → ⊥) → IsScan m w area found
+      going-ends area is other = scanned area is (run-ends (subst (λ (q : ℕ). belongs m.generation w q (block_at m.blocks q bytes) ≡ false) named
+          (false_from_ne_true (belongs m.generation w number (block_at m.blocks number bytes)) (λ e. other (subst (Belongs m.generation w number) (sym holds) ((every_belongs m.generation w number (block_at m.blocks number bytes)).0 e))))))
+
+      spelled : block_in m.generation w number (block_at m.blocks number bytes) ≡ block_in m.generation w number buffer
+      spelled = ap (block_in m.generation w number) (sym holds)
+
+      -- its records are added
+      pub going-more : (next : List Item) (b : BlockAdded start m.generation w number (number % m.blocks) buffer index next)
+          → IsGoing m w bytes (count + 1) (found ++ items_of w (number % m.blocks) b.records)
+      going-more next b =
+          let place : ℕ = number % m.blocks in
+          let more = goes b.belongs in
+          let added : List Item = items_of w place b.records in
+          let all : next ≡ old ++ (found ++ added) = b.added ∙ (ap (λ (xs : List Item). xs ++ added) so_far ∙ append_assoc old found added) in
+          let long : length index ≡ length old + length found = ap length so_far ∙ length-append old found in
+          record {
+            records = going.records ∙ (ap (runs.logged_onto m.generation w m.blocks (logged found)) more
+                ∙ ap (λ (l : List Logged). runs.logged_onto m.generation w m.blocks l (rest_of m w bytes (count + 1)))
+                (ap (λ (o : Option (List Record)). records_onto w place (logged found) (records_or o)) (spelled ∙ b.is) ∙ sym (logged_block w place found b.records)));
+            readable = λ r. going.readable (subst (AreReadable m.generation w) (sym more) ((b.records, spelled ∙ b.is), r));
+            has = λ x h. going.has x (subst (Has x) (sym more) (inr h));
+            falling = falling_more start (length index) (length next) old next begins refl b.rising found added all (omega (arith, long)) going.falling;
+          }
+
+      -- it is bad
+      pub going-bad : (area : Areas) → area (suc w) ≡ bytes → (0 < w) × (w ≤ length m.heads) → IsBadBlock start m.generation w number (number % m.blocks) buffer index → IsBadLog m w area (number % m.blocks)
+      going-bad area same log b = at b.bad
+        where
+          place : ℕ
+          place = number % m.blocks
+
+          at : (block_in m.generation w number buffer ≡ None) ⊎ ((rs : List Record) × (block_in m.generation w number buffer ≡ Some rs) × IsLate start (length index) (index ++ items_of w place rs)) → IsBadLog m w area place
+          at (inl none) = inl (record {
             log = log;
-            newer = both.newer;
-            it = it;
-            older = logged w l.so_far;
-            splits = ap (logged_in m w) same ∙ (all ∙ both.is);
+            block = it;
+            has = subst (λ (b : List ℕ). Has it (run_of m w b)) (sym same) (going.has it (subst (Has it) (sym (goes b.belongs)) (inl refl)));
             at = refl;
-            other = l.late.other;
-            has = l.late.has;
-            above = l.late.above;
+            none = spelled ∙ none;
           })
+          at (inr (rs, is, late)) =
+              let added : List Item = items_of w place rs in
+              let l : IsLateIn found added = late_in start (length index) old found added begins (ap length so_far) (subst (λ (xs : List Item). IsLate start (length index) (xs ++ added)) so_far late) in
+              let older : List Item = l.older ++ l.one ∷ [] in
+              let here : records_onto w place (logged found) rs ≡ logged l.newer ++ logged_of l.other ∷ logged older =
+              sym (logged_block w place found rs) ∙ (ap logged l.splits ∙ logged_at older l.other l.newer) in
+              let all : logged_in m w bytes ≡ runs.logged_onto m.generation w m.blocks (records_onto w place (logged found) rs) (rest_of m w bytes (count + 1)) =
+              going.records ∙ (ap (runs.logged_onto m.generation w m.blocks (logged found)) (goes b.belongs)
+              ∙ ap (λ (o : Option (List Record)). runs.logged_onto m.generation w m.blocks (records_onto w place (logged found) (records_or o)) (rest_of m w bytes (count + 1))) (spelled ∙ is)) in
+              let both = before-before (runs.logged_onto m.generation w m.blocks (records_onto w place (logged found) rs) (rest_of m w bytes (count + 1))) (records_onto w place (logged found) rs) (logged_of l.other ∷ logged older)
+              (run-before m.generation w m.blocks (records_onto w place (logged found) rs) (rest_of m w bytes (count + 1))) (record { newer = logged l.newer; is = here }) in
+              inr (record {
+                log = log;
+                newer = both.newer;
+                it = logged_of l.other;
+                older = logged older;
+                splits = ap (logged_in m w) same ∙ (all ∙ both.is);
+                at = (has_items w place rs l.other l.has).1;
+                other = entry_of l.one;
+                has = subst (λ (ls : List Logged). Has (entry_of l.one) (entries_in ls)) (sym (logged_last l.older l.one)) (inl refl);
+                above = l.late;
+              })
 
--- ## The same where the head is named otherwise
-
-module _ (m : Master) (w : ℕ) (bytes : List ℕ) (count : ℕ) (found : List Found) (going : IsGoing m w bytes count found) (head : ℕ) (named : head ≡ head_of m w) (area : Areas) (same : area (suc w) ≡ bytes) where
-  pub at-end : belongs m.generation w (head + count) (block_at m.blocks (head + count) bytes) ≡ false → IsScan m w area found
-  at-end is = scanned-end m w bytes count found going area same (subst (λ (h : ℕ). belongs m.generation w (h + count) (block_at m.blocks (h + count) bytes) ≡ false) named is)
-
-  pub over : m.blocks ≤ count → IsScan m w area found
-  over le = scanned-over m w bytes count found going area same le
-
-  module _ (lt : count < m.blocks) (is : belongs m.generation w (head + count) (block_at m.blocks (head + count) bytes) ≡ true) (buffer : List ℕ) (holds : buffer ≡ block_at m.blocks (head + count) bytes) where
-    here : belongs m.generation w (head_of m w + count) (block_at m.blocks (head_of m w + count) bytes) ≡ true
-    here = subst (λ (h : ℕ). belongs m.generation w (h + count) (block_at m.blocks (h + count) bytes) ≡ true) named is
-
-    pub goes-on : (next : List Found) → BlockAdded m.generation w (head + count) ((head + count) % m.blocks) buffer found next → IsGoing m w bytes (count + 1) next
-    goes-on next b = going-more m w bytes count found going lt here next
-        (subst (λ (h : ℕ). BlockAdded m.generation w (h + count) ((h + count) % m.blocks) (block_at m.blocks (h + count) bytes) found next) named
-        (subst (λ (x : List ℕ). BlockAdded m.generation w (head + count) ((head + count) % m.blocks) x found next) holds b))
-
-    pub is-bad : (0 < w) × (w ≤ length m.heads) → IsBadBlock m.generation w (head + count) ((head + count) % m.blocks) buffer found → IsBadLog m w area ((head + count) % m.blocks)
-    is-bad log b = subst (λ (h : ℕ). IsBadLog m w area ((h + count) % m.blocks)) (sym named) (going-bad m w bytes count found going lt here area same log
-        (subst (λ (h : ℕ). IsBadBlock m.generation w (h + count) ((h + count) % m.blocks) (block_at m.blocks (h + count) bytes) found) named
-        (subst (λ (x : List ℕ). IsBadBlock m.generation w (head + count) ((head + count) % m.blocks) x found) holds b)))
+-- what is no value is none
+pub none-of : {A : Type 0} (o : Option A) → ((x : A) → o ≡ Some x → ⊥) → o ≡ None
+none-of None other = refl
+none-of (Some x) other = absurd (other x refl)

@@ -1,80 +1,90 @@
 -- Words of private functions: how far a scan has come.
-use Rattle.std.specs.Prelude.{◌≡◌, ◌⊎◌, ◌≤◌, ◌<◌, ◌-◌, ◌+◌, ℕ, List, [], ◌∷◌, Some, None}
+use Rattle.std.specs.Prelude.{◌≡◌, ◌⊎◌, ◌≤◌, ◌<◌, ◌-◌, ◌+◌, ◌++◌, ℕ, suc, List, ◌∷◌, map, length, Some, None}
 use Rattle.map_model.specs.Lists.{Has}
-use Rattle.image_model.specs.Entries.{Entry}
-use Rattle.image_model.specs.Images.{IsFalling}
+use Rattle.image_model.specs.Images.{IsFalling, gathered}
 use Rattle.log_record.specs.declared.record.Record.{Record}
-use Rattle.log_block.specs.Block.{AllFit, records_text}
+use Rattle.log_block.specs.Block.{Belongs}
+use Rattle.log_index.specs.Items.{Item, items_of, newest_first}
 use Rattle.disk_slots.specs.declared.master.Master.{Master}
-use Rattle.disk_image.specs.Records.{entry_of}
 use Rattle.disk_image.specs.Blocks.{block_in}
-use Rattle.disk_image.specs.Runs as runs
-use Rattle.disk_image.specs.Runs.{Block, Logged, run_in, records_onto, entries_in, AreReadable}
-use Rattle.disk_image.specs.Shown.{head_of, run_of, logged_in}
-use Rattle.recovery_scan.specs.declared.found.Found.{Found}
-use Rattle.recovery_scan.specs.Records.{logged_onto}
+use Rattle.disk_image.specs.Runs.{Block, Logged, run_in, logged_onto, entries_in, AreReadable}
+use Rattle.disk_image.specs.Shown.{Areas, head_of, run_of, logged_in, image_by}
+use Rattle.disk_image.specs.Breaks.{StandsAt}
+use Rattle.recovery_scan.specs.Records.{entry_of, logged_of, entries_of}
 
--- what was found of log w, the newest first
-abbrev pub logged : ℕ → List Found → List Logged
-logged w found = logged_onto w [] found
+-- records with the places of their blocks, the newest first
+abbrev pub logged : List Item → List Logged
+logged items = map logged_of (newest_first items)
 
--- all records that were found are below the number
-abbrev pub IsAbove : (w number : ℕ) → List Found → Type 0
-IsAbove w number found = (x : Entry) → Has x (entries_in (logged w found)) → x.number < number
+-- ## Numbers that rise
+
+-- two neighbours among items
+pub record Neighbours (items : List Item) : Type 0 where
+  pub older : List Item
+  pub one : Item
+  pub other : Item
+  pub newer : List Item
+  pub splits : items ≡ older ++ one ∷ other ∷ newer
+
+-- the number at the place is above the one before it
+abbrev pub IsAbove : ℕ → List Item → Type 0
+IsAbove i items = (n : Neighbours items) → suc (length n.older) ≡ i → n.one.said.gsn < n.other.said.gsn
+
+-- so are all from one place up to another, but for the first of the log, which begins at start
+abbrev pub NoneIsLate : (start from to : ℕ) → List Item → Type 0
+NoneIsLate start from to items = (n : Neighbours items) → start ≤ length n.older → from ≤ suc (length n.older) → suc (length n.older) < to → n.one.said.gsn < n.other.said.gsn
 
 -- one of them is not
-pub record IsNotAbove (w number : ℕ) (found : List Found) : Type 0 where
-  pub other : Entry
-  pub has : Has other (entries_in (logged w found))
-  pub above : number ≤ other.number
+pub record IsLate (start from : ℕ) (items : List Item) : Type 0 where
+  pub at : Neighbours items
+  pub begins : start ≤ length at.older
+  pub added : from ≤ suc (length at.older)
+  pub late : at.other.said.gsn ≤ at.one.said.gsn
 
--- a record was added, above all others
-pub record Added (r : Record) (place : ℕ) (old new : List Found) : Type 0 where
-  pub records : (w : ℕ) → logged w new ≡ record { place = place; entry = entry_of w r } ∷ logged w old
-  pub falling : (w : ℕ) → IsFalling (entries_in (logged w old)) → IsFalling (entries_in (logged w new))
+-- ## Blocks
 
--- of records that are added one by one, one is not above all that were added before it
-pub record IsLate (w place : ℕ) (rs : List Record) (old : List Found) : Type 0 where
-  pub newer : List Record
-  pub it : Record
-  pub so_far : List Found
-  pub rest : records_onto w place (logged w old) rs ≡ records_onto w place (logged w so_far) (it ∷ newer)
-  pub late : IsNotAbove w it.gsn so_far
-
--- all records were added
-pub record AllAdded (rs : List Record) (place : ℕ) (old new : List Found) : Type 0 where
-  pub records : (w : ℕ) → logged w new ≡ records_onto w place (logged w old) rs
-  pub falling : (w : ℕ) → IsFalling (entries_in (logged w old)) → IsFalling (entries_in (logged w new))
-
--- these are left to be added
-pub record IsAdding (rs todo : List Record) (place : ℕ) (old now : List Found) : Type 0 where
-  pub records : (w : ℕ) → records_onto w place (logged w old) rs ≡ records_onto w place (logged w now) todo
-  pub falling : (w : ℕ) → IsFalling (entries_in (logged w old)) → IsFalling (entries_in (logged w now))
-
--- these bytes are left of the records
-pub record IsDoing (rs : List Record) (place : ℕ) (old now : List Found) (rest : List ℕ) : Type 0 where
-  pub todo : List Record
-  pub fit : AllFit todo
-  pub left : rest ≡ records_text todo
-  pub adding : IsAdding rs todo place old now
-
--- the block's records were added
-pub record BlockAdded (generation w number place : ℕ) (bytes : List ℕ) (old new : List Found) : Type 0 where
+-- the records of the block were added, and their numbers rise
+pub record BlockAdded (start generation w number place : ℕ) (bytes : List ℕ) (old new : List Item) : Type 0 where
+  pub belongs : Belongs generation w number bytes
   pub records : List Record
   pub is : block_in generation w number bytes ≡ Some records
-  pub added : AllAdded records place old new
+  pub added : new ≡ old ++ items_of w place records
+  pub rising : NoneIsLate start (length old) (length new) new
 
--- it has none, or one that is late
-abbrev pub IsBadBlock : (generation w number place : ℕ) → List ℕ → List Found → Type 0
-IsBadBlock generation w number place bytes old = (block_in generation w number bytes ≡ None) ⊎ ((records : List Record) × (block_in generation w number bytes ≡ Some records) × IsLate w place records old)
+-- it belongs there, and has no records, or one whose number is late
+pub record IsBadBlock (start generation w number place : ℕ) (bytes : List ℕ) (old : List Item) : Type 0 where
+  pub belongs : Belongs generation w number bytes
+  pub bad : (block_in generation w number bytes ≡ None) ⊎ ((records : List Record) × (block_in generation w number bytes ≡ Some records) × IsLate start (length old) (old ++ items_of w place records))
+
+-- ## Logs
+
+-- records of log w were added, of which this holds
+pub record Joined (w : ℕ) (old new : List Item) (P : List Item → Type 0) : Type 0 where
+  pub added : List Item
+  pub is : new ≡ old ++ added
+  pub of_log : (x : Item) → Has x added → x.log ≡ w
+  pub holds : P added
 
 -- the run from a block on
 abbrev pub rest_of : Master → ℕ → List ℕ → ℕ → List Block
 rest_of m w bytes count = run_in m.generation w m.blocks bytes (m.blocks - count) (head_of m w + count)
 
 -- so many blocks of log w were read
-pub record IsGoing (m : Master) (w : ℕ) (bytes : List ℕ) (count : ℕ) (found : List Found) : Type 0 where
-  pub records : logged_in m w bytes ≡ runs.logged_onto m.generation w m.blocks (logged w found) (rest_of m w bytes count)
+pub record IsGoing (m : Master) (w : ℕ) (bytes : List ℕ) (count : ℕ) (found : List Item) : Type 0 where
+  pub records : logged_in m w bytes ≡ logged_onto m.generation w m.blocks (logged found) (rest_of m w bytes count)
   pub readable : AreReadable m.generation w (rest_of m w bytes count) → AreReadable m.generation w (run_of m w bytes)
   pub has : (b : Block) → Has b (rest_of m w bytes count) → Has b (run_of m w bytes)
-  pub falling : IsFalling (entries_in (logged w found))
+  pub falling : IsFalling (entries_in (logged found))
+
+-- these are the records of log w, whose blocks are all readable, and whose numbers rise
+pub record IsScan (m : Master) (w : ℕ) (area : Areas) (found : List Item) : Type 0 where
+  pub readable : AreReadable m.generation w (run_of m w (area (suc w)))
+  pub records : logged found ≡ logged_in m w (area (suc w))
+  pub rising : IsFalling (entries_in (logged_in m w (area (suc w))))
+
+-- these are the records of logs 1 to n, one log behind the other
+pub record IsGathered (m : Master) (area : Areas) (n : ℕ) (items : List Item) : Type 0 where
+  pub readable : (w : ℕ) → 0 < w → w ≤ n → AreReadable m.generation w (run_of m w (area (suc w)))
+  pub rising : (w : ℕ) → 0 < w → w ≤ n → IsFalling ((image_by m area).log w)
+  pub records : entries_of items ≡ gathered (image_by m area).log n
+  pub stands : (x : Item) → Has x items → StandsAt m area x.log x.place (entry_of x)

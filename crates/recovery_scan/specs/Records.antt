@@ -1,33 +1,18 @@
--- The records of a log, as recovery keeps them.
-use Rattle.std.specs.Prelude.{ℕ, List, [], ◌∷◌}
+-- The records of logs in memory, as the entries of the model for which they stand.
+use Rattle.std.specs.Prelude.{List, map}
 use Rattle.image_model.specs.Entries.{Entry}
-use Rattle.log_record.specs.declared.record.Record.{Record}
-use Rattle.log_record.specs.declared.record.Body.{Body}
-use Rattle.log_record.specs.declared.record.Body.TheVariants as body
-use Rattle.disk_image.specs.Records.{entry_of}
+use Rattle.log_index.specs.Items.{Item, newest_first}
+use Rattle.disk_image.specs.Records as records
 use Rattle.disk_image.specs.Runs.{Logged}
-use Rattle.recovery_scan.specs.declared.found.Found.{Found}
-use Rattle.recovery_scan.specs.declared.found.What.{What}
-use Rattle.recovery_scan.specs.declared.found.What.TheVariants as what
 
-abbrev pub body_of : What → Body
-body_of (what.Change page prev key before after) = body.Change (record { page = page; prev = prev }) key before after
-body_of (what.Commit need) = body.Commit need
+-- the entry for which an item stands
+abbrev pub entry_of : Item → Entry
+entry_of x = records.entry_of x.log x.said
 
--- the record of the log
-abbrev pub record_of : Found → Record
-record_of r = record { txn = r.txn; gsn = r.number; body = body_of r.what }
+-- with the place of its block
+abbrev pub logged_of : Item → Logged
+logged_of x = record { place = x.place; entry = entry_of x }
 
--- the entry of the model for which it stands, with the place of its block
-abbrev pub logged_of : ℕ → Found → Logged
-logged_of log r = record { place = r.place; entry = entry_of log (record_of r) }
-
--- records, the oldest first, put before those behind them: the newest first
-abbrev pub logged_onto : ℕ → List Logged → List Found → List Logged
-logged_onto log behind [] = behind
-logged_onto log behind (r ∷ rs) = logged_onto log (logged_of log r ∷ behind) rs
-
--- the same without their places
-abbrev pub entries_onto : ℕ → List Entry → List Found → List Entry
-entries_onto log behind [] = behind
-entries_onto log behind (r ∷ rs) = entries_onto log ((logged_of log r).entry ∷ behind) rs
+-- the entries of items in turn, the newest first
+abbrev pub entries_of : List Item → List Entry
+entries_of items = map entry_of (newest_first items)

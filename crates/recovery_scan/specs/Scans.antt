@@ -1,18 +1,29 @@
--- What the scan of a log found.
-use Rattle.std.specs.Prelude.{◌≡◌, ◌⊎◌, ℕ, suc, List, []}
-use Rattle.image_model.specs.Images.{IsFalling}
+-- What the scan of the logs found.
+use Rattle.std.specs.Prelude.{◌≡◌, ◌⊎◌, ◌<◌, ◌≤◌, ℕ, suc, List, length}
+use Rattle.map_model.specs.Lists.{Has}
+use Rattle.image_model.specs.Images.{IsFalling, sorted}
+use Rattle.lean_disk.specs.Story.{Story, Tells}
 use Rattle.disk_slots.specs.declared.master.Master.{Master}
-use Rattle.disk_image.specs.Runs.{AreReadable, entries_in}
-use Rattle.disk_image.specs.Shown.{Areas, run_of, logged_in}
-use Rattle.disk_image.specs.Breaks.{IsNoBlock, IsUnordered}
-use Rattle.recovery_scan.specs.declared.found.Found.{Found}
-use Rattle.recovery_scan.specs.Records.{logged_onto}
+use Rattle.disk_image.specs.Shown.{Areas, image_by, IsReadable}
+use Rattle.disk_image.specs.Breaks.{IsNoBlock, IsUnordered, StandsAt}
+use Rattle.log_index.specs.Items.{Item}
+use Rattle.recovery_scan.specs.Records.{entry_of, entries_of}
 
--- these are the records of log w, whose blocks are all readable, and whose numbers rise
-pub record IsScan (m : Master) (w : ℕ) (area : Areas) (found : List Found) : Type 0 where
-  pub readable : AreReadable m.generation w (run_of m w (area (suc w)))
-  pub records : logged_onto w [] found ≡ logged_in m w (area (suc w))
-  pub rising : IsFalling (entries_in (logged_in m w (area (suc w))))
+-- These are the records of all logs, by number and then by log, each with the place of its block. All blocks are readable, and numbers rise
+-- in each log.
+pub record IsScanned (m : Master) (area : Areas) (items : List Item) : Type 0 where
+  pub readable : IsReadable m area
+  pub rising : (w : ℕ) → 0 < w → w ≤ length m.heads → IsFalling ((image_by m area).log w)
+  pub records : entries_of items ≡ sorted (image_by m area)
+  pub stands : (x : Item) → Has x items → StandsAt m area x.log x.place (entry_of x)
+
+-- each is of one of so many logs
+abbrev pub AreOfLogs : ℕ → List Item → Type 0
+AreOfLogs logs items = (x : Item) → Has x items → (0 < x.log) × (x.log ≤ logs)
+
+-- it tells of each log of the master
+abbrev pub TellsLogs : Master → Story → Type 0
+TellsLogs m s = (w : ℕ) → 0 < w → w ≤ length m.heads → Tells s (suc w)
 
 -- the block at the place is the block of no records, or holds one that is out of order
 abbrev pub IsBadLog : Master → ℕ → Areas → ℕ → Type 0

@@ -1,124 +1,79 @@
 // The records of one block.
-ghost use Rattle.std.specs.Prelude.{◌≡◌, ℕ, List, true, false, Err, OnOk};
-ghost use Rattle.log_record.specs.Spelling.{BodyFits, Fits};
-ghost use Rattle.log_record.specs.declared.record.Record.{Record};
-ghost use Rattle.log_block.specs.Block.{AllFit, Belongs, records_text};
-ghost use Rattle.disk_image.specs.Records.{entry_of};
-ghost use Rattle.disk_image.specs.Runs.{entries_in};
-ghost use Rattle.image_model.specs.Images.{IsFalling};
-ghost use Rattle.recovery_scan.specs.Records.{body_of, logged_of};
-ghost use Rattle.recovery_scan.specs.Inside.{Added, AllAdded, BlockAdded, IsAbove, IsBadBlock, IsLate, IsNotAbove, logged};
+ghost use Rattle.std.specs.Prelude.{◌≡◌, ◌≤◌, ◌<◌, ◌+◌, ◌^◌, suc, ℕ, List, true, false, Err, OnOk, length};
+ghost use Rattle.log_block.specs.Block.{Belongs};
+ghost use Rattle.log_index.specs.Items.{held};
+ghost use Rattle.recovery_scan.specs.Inside.{BlockAdded, IsBadBlock, IsAbove, IsLate, NoneIsLate};
 
-use crate::found::{Found, What};
-use disk_image::every_block_in;
-use log_block::read_block;
-use log_record::{Body, Record, read_record};
+use log_block::{Refusal, open_block};
+use log_index::{LogIndex, PushError};
 
-/// Why a block's records were not taken.
+/// Why the records of a block are not taken.
 #[derive(Clone, Copy, Debug, PartialEq, Eq)]
-pub(crate) enum Bad {
+pub(crate) enum Stop {
+    /// It does not belong to the run.
+    RunEnds,
     Damaged,
     Memory,
 }
 
-fn what_of(body: &Body) -> What
-    requires { BodyFits body.now }
-    ensures { body_of result ≡ body.now }
+// Whether the number of a record is above that of the one before it.
+fn is_above(index: &LogIndex, i: usize) -> bool
+    requires some { 0 < i }
+    requires within { i < length index.now }
+    ensures yes { result ≡ true → IsAbove i index.now }
+    ensures no { result ≡ false → (start from : ℕ) → start < i → from ≤ i → IsLate start from index.now }
 {
-    match *body {
-        Body::Change {
-            leaf,
-            key,
-            before,
-            after,
-        } => What::Change {
-            page: leaf.page,
-            prev: leaf.prev,
-            key,
-            before,
-            after,
-        },
-        Body::Commit { need } => What::Commit { need },
-        _ => What::Commit { need: 0 },
-    }
+    index.head(i - 1).number < index.head(i).number
 }
 
-// Whether the number is above those of all records that were found.
-fn is_above(found: &[Found], number: u64) -> bool
-    ensures yes { result ≡ true → (w : ℕ) → IsFalling (entries_in (logged w found.now)) → IsAbove w number found.now }
-    ensures no { result ≡ false → (w : ℕ) → IsNotAbove w number found.now }
+// Whether the numbers of the records from `from` on rise from those before them in their log, whose first record is `start`.
+fn rises(index: &LogIndex, start: usize, from: usize) -> bool
+    ensures yes { result ≡ true → NoneIsLate start from (length index.now) index.now }
+    ensures no { result ≡ false → IsLate start from index.now }
 {
-    let count = found.len();
-    if count == 0 {
-        return true;
-    }
-    if found[count - 1].number < number {
-        return true;
-    }
-    false
-}
-
-fn found_of(place: u32, entry: &Record) -> Found
-    requires { Fits entry.now }
-    ensures { (w : ℕ) → logged_of w result ≡ record { place = place; entry = entry_of w entry.now } }
-{
-    Found {
-        place,
-        txn: entry.txn,
-        number: entry.gsn,
-        what: what_of(&entry.body),
-    }
-}
-
-// Adds a record behind the others, if its number is above theirs.
-fn push_record(found: &mut Vec<Found>, place: u32, entry: &Record) -> Result<(), Bad>
-    requires { Fits entry.now }
-    ensures added { OnOk result (Added entry.now place found.old.items found.new.items) }
-    ensures late { result ≡ Err Bad.Damaged → (w : ℕ) → IsNotAbove w entry.now.gsn found.old.items }
-{
-    if !is_above(found, entry.gsn) {
-        return Err(Bad::Damaged);
-    }
-    match found.push(found_of(place, entry)) {
-        Ok(()) => Ok(()),
-        Err(_) => Err(Bad::Memory),
-    }
-}
-
-// Adds the records of a payload, one by one.
-fn push_records(found: &mut Vec<Found>, place: u32, payload: &[u8]) -> Result<(), Bad>
-    ensures added { OnOk result ((rs : List Record) → AllFit rs → payload.now ≡ records_text rs → AllAdded rs place found.old.items found.new.items) }
-    ensures late { result ≡ Err Bad.Damaged → (rs : List Record) → AllFit rs → payload.now ≡ records_text rs → (w : ℕ) → IsLate w place rs found.old.items }
-{
-    let mut rest = payload;
-    while rest.len() > 0 {
-        match read_record(rest) {
-            None => return Err(Bad::Damaged),
-            Some((entry, size)) => match push_record(found, place, &entry) {
-                Ok(()) => rest = &rest[size..],
-                Err(bad) => return Err(bad),
-            },
+    let mut i = from;
+    while i < index.len() {
+        if start < i && !is_above(index, i) {
+            return false;
         }
+        i += 1;
     }
-    Ok(())
+    true
 }
 
-/// Adds the records of a block that belongs to the run of a log.
+/// Adds the records of the block to those of its log, which begin at `start`.
 pub(crate) fn take_block(
-    found: &mut Vec<Found>,
+    index: &mut LogIndex,
+    start: usize,
     generation: u64,
     log: u32,
     number: u64,
     place: u32,
     bytes: &[u8],
-) -> Result<(), Bad>
-    requires { Belongs generation log number bytes.now }
-    ensures added { OnOk result (BlockAdded generation log number place bytes.now found.old.items found.new.items) }
-    ensures bad { result ≡ Err Bad.Damaged → IsBadBlock generation log number place bytes.now found.old.items }
+) -> Result<(), Stop>
+    requires log { log < 256 }
+    requires place { place < 2 ^ 16 }
+    requires room { held index.old + 2000 < 2 ^ 32 }
+    ensures added { OnOk result (BlockAdded start generation log number place bytes.now index.old index.new) }
+    ensures size { OnOk result (held index.new ≤ held index.old + 2000) }
+    ensures same { result ≡ Err Stop.RunEnds → index.new ≡ index.old }
+
+    ensures cause_run_ends { result ≡ Err Stop.RunEnds → Belongs generation log number bytes.now → ⊥ }
+    ensures cause_damaged { result ≡ Err Stop.Damaged → IsBadBlock start generation log number place bytes.now index.old }
 {
-    every_block_in();
-    match read_block(generation, log, number, bytes) {
-        Ok(payload) => push_records(found, place, payload),
-        Err(_) => Err(Bad::Damaged),
+    let (count, payload) = match open_block(generation, log, number, bytes) {
+        Ok(opened) => opened,
+        Err(Refusal::NoRun) => return Err(Stop::RunEnds),
+        Err(Refusal::Malformed) => return Err(Stop::Damaged),
+    };
+    let from = index.len();
+    match index.push_block(log as u8, place as u16, count, payload) {
+        Ok(()) => {}
+        Err(PushError::Malformed) => return Err(Stop::Damaged),
+        Err(PushError::Memory) => return Err(Stop::Memory),
     }
+    if rises(index, start, from) {
+        return Ok(());
+    }
+    Err(Stop::Damaged)
 }

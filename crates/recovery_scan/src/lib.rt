@@ -1,9 +1,7 @@
-//! The scan of a log: the records of its longest run.
+//! The scan of the logs: the records of the longest run of each, by number and then by log.
 #![tactic(auto)]
 
 mod block;
-mod found;
 mod reading;
 
-pub use found::{Found, What};
-pub use reading::{Unread, scan};
+pub use reading::{Unread, scan_logs};

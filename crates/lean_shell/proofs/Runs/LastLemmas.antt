@@ -1,5 +1,5 @@
 -- The first line, the last line, and lines of disks that were not opened: what the sink holds of them, and what is noted.
-use Rattle.std.proofs.Common.{◌≡◌, ◌⊎◌, inl, inr, ◌<◌, ◌+◌, ◌^◌, ◌++◌, ℕ, List, [], length, take, IsTrue, refl, sym, ◌∙◌, ap, subst}
+use Rattle.std.proofs.Common.{◌≡◌, ◌⊎◌, inl, inr, ◌<◌, ◌+◌, ◌^◌, ◌++◌, ℕ, List, [], length, take, IsTrue, refl, sym, ◌∙◌, ap, subst, arith}
 use Rattle.std.proofs.lemmas.List.{append-nil}
 use Rattle.std.proofs.Math.Seq.{take-length}
 use Rattle.lean_disk.specs.Faults.{HasCause, Rose}
@@ -14,7 +14,7 @@ use Rattle.script_run.specs.declared.stop.Stop.{Stop}
 use Rattle.script_run.specs.declared.stop.Stop.TheVariants as stops
 use Rattle.lean_shell.specs.Lines.{IsPut, WentOut, line_of}
 use Rattle.lean_shell.specs.Inside.Openings.{EndsWith}
-use Rattle.lean_shell.specs.Runs.{WentLast, last_line}
+use Rattle.lean_shell.specs.Runs.{WentLast, ended, last_line}
 use Rattle.lean_shell.proofs.Runs.MomentLemmas.{noted_more}
 use Rattle.lean_shell.proofs.Runs.NoteLemmas.{put_notes}
 use Rattle.lean_shell.proofs.Runs.OutputLemmas.{notice_tail, no_tail}
@@ -47,6 +47,33 @@ put_not_done Failed n = refl
 pub cause_from : (sink0 sink1 sink2 : ℕ) (answer : Put) (stop : Stop) → answer ≡ Done → HasCause sink0 sink1 (answer ≡ Failed) → HasCause sink1 sink2 (stop ≡ stops.WriteFault) → HasCause sink0 sink2 (stop ≡ stops.WriteFault)
 cause_from sink0 sink1 sink2 answer stop done first script =
     subst (λ (n : ℕ). HasCause n sink2 (stop ≡ stops.WriteFault)) (first.calm (λ e. not_done (sym e ∙ done))) script
+
+-- ## The status tells of a fault as the reason does
+
+ended_read : (stop : Stop) → ended stop ≡ 4 → stop ≡ stops.ReadFault
+ended_read stops.End e = absurd (omega arith)
+ended_read (stops.Refused line) e = absurd (omega arith)
+ended_read stops.ReadFault e = refl
+ended_read stops.WriteFault e = absurd (omega arith)
+ended_read stops.DiskFault e = absurd (omega arith)
+
+ended_disk : (stop : Stop) → ended stop ≡ 6 → stop ≡ stops.DiskFault
+ended_disk stops.End e = absurd (omega arith)
+ended_disk (stops.Refused line) e = absurd (omega arith)
+ended_disk stops.ReadFault e = absurd (omega arith)
+ended_disk stops.WriteFault e = absurd (omega arith)
+ended_disk stops.DiskFault e = refl
+
+pub read_cause : (before now : ℕ) (stop : Stop) (status : ℕ) → status ≡ ended stop → HasCause before now (stop ≡ stops.ReadFault) → HasCause before now (status ≡ 4)
+read_cause before now stop status is c = record { later = c.later; cause = λ e. c.cause (ended_read stop (sym is ∙ e)); calm = λ none. c.calm (λ e. none (is ∙ ap ended e)) }
+
+-- of a count that stands before the script and behind it
+pub disk_cause : (entry before now exit : ℕ) (stop : Stop) (status : ℕ) → status ≡ ended stop → before ≡ entry → exit ≡ now → HasCause before now (stop ≡ stops.DiskFault) → HasCause entry exit (status ≡ 6)
+disk_cause entry before now exit stop status is same end c =
+    subst (λ (n : ℕ). HasCause n exit (status ≡ 6)) same (subst (λ (n : ℕ). HasCause before n (status ≡ 6)) (sym end)
+    (record { later = c.later; cause = λ e. c.cause (ended_disk stop (sym is ∙ e)); calm = λ none. c.calm (λ e. none (is ∙ ap ended e)) }))
+
+-- ## The last line
 
 -- The last line of a script that stopped: what the sink holds of it, and whether it was noted.
 pub record Last (stop : Stop) (held0 held1 : Held) (sink0 sink1 : ℕ) (old new : Story) : Type 0 where

@@ -1,5 +1,6 @@
 -- An opening on the pages that recovery gives.
-use Rattle.std.proofs.Common.{◌≡◌, ◌⊎◌, inl, inr, ⊎_elim, ◌≤◌, ◌<◌, ◌+◌, ◌*◌, ◌%◌, ◌^◌, ℕ, zero, suc, Bool, true, false, cond, List, [], ◌∷◌, length, Some, None, Option, slice_get, refl, sym, ◌∙◌, ap, ap₂, subst, arith, lit<}
+use Rattle.std.proofs.Common.{◌≡◌, ◌⊎◌, inl, inr, ⊎_elim, ◌≤◌, ◌<◌, ◌+◌, ◌*◌, ◌%◌, ◌^◌, ℕ, zero, suc, Bool, true, false, cond, List, [], ◌∷◌, length, replicate, Some, None, Option, slice_get, refl, sym, ◌∙◌, ap, ap₂, subst, arith, lit<}
+use Rattle.std.proofs.lemmas.List.{length-replicate}
 use Rattle.std.proofs.lemmas.Option.{slice_get_cases}
 use Rattle.std.proofs.Math.Nat.{zero-mod}
 use Rattle.page_model.specs.Page as stored
@@ -15,7 +16,7 @@ use Rattle.disk_image.specs.Formats.{format_of}
 use Rattle.disk_image.specs.Shown.{Areas, IsCleanDisk, IsSoundDisk, image_by}
 use Rattle.node_tree.specs.Nodes.{nodes_of, node_or}
 use Rattle.recovery.specs.Masters.{IsOpenable, next_master}
-use Rattle.recovery.specs.Opened.{IsGreatest, IsOpened, IsRecovered, IsUntouched, IsWhole}
+use Rattle.recovery.specs.Opened.{IsGreatest, IsOpened, IsRecovered, IsSettled, IsUntouched, IsWhole}
 use Rattle.recovery.specs.Telling.{TellsAll}
 use Rattle.recovery.specs.Own.{EveryOwn}
 use Rattle.recovery.specs.declared.opening.Recovered.{Recovered}
@@ -143,22 +144,22 @@ module _ (r : Recovered) (whole : IsWhole r) where
           numbers = inr (ap (λ (x : Master). x.sequence) next, ap (λ (x : Master). x.generation) next);
           pages = pages_same;
           blocks = ap (λ (x : Master). x.blocks) next;
-          logs = ap (λ (x : Master). length x.heads) next ∙ sym openable.one;
+          logs = ap (λ (x : Master). length x.heads) next ∙ length-replicate (length m.heads) 0;
         };
         made = record { base = r.master.floor; greatest = subst (λ (a : Areas). IsGreatest (image_by m a) r.master.floor) area_is is.base; is = next };
         newer = let e = ap (λ (x : Master). x.generation) next in omega arith;
-        one = ap (λ (x : Master). x.heads) next;
+        one = ap (λ (x : Master). x.heads) next ∙ ap (λ (n : ℕ). replicate n 0) openable.one;
         master = opened.master;
         format = ap format_of whole.count;
         floor = refl;
         base = λ p lt. opened.base p (low p lt) ∙ ap (λ (v : Contents). Some v) (sym (page_is p (low p lt)));
         slots = λ p h x lt half there. opened.slots p h x (low p lt) half there;
-        settled = opened.settled;
+        settled = settled;
         log_is = log_is;
         fresh = record {
-          clean = (opened.settled 2 (omega arith)).clean;
-          end = (opened.settled 2 (omega arith)).end;
-          new = λ p lt seal gen. opened.blocks p (blocks p lt) seal (gen ∙ log_is.generation);
+          clean = (settled 2 (omega arith)).clean;
+          end = (settled 2 (omega arith)).end;
+          new = λ p lt seal gen. opened.blocks 1 (omega arith) (let e = openable.one in omega arith) p (blocks p lt) seal (gen ∙ log_is.generation);
           reach = reaches;
         };
         bytes = log_same.bytes;
@@ -167,6 +168,9 @@ module _ (r : Recovered) (whole : IsWhole r) where
         where
           low : (p : ℕ) → p < r.master.pages → p < m.pages
           low p lt = let e = pages_same in omega arith
+
+          settled : (a : ℕ) → a < 3 → IsSettled (s1.area a)
+          settled a lt = opened.settled a (let e = openable.one in omega arith)
 
           blocks : (p : ℕ) → p < log.blocks → p < m.blocks
           blocks p lt = let e = log_is.blocks in let f = ap (λ (x : Master). x.blocks) next in omega arith

@@ -13,7 +13,7 @@ use Rattle.lean_disk.specs.Area.{Area, Write}
 use Rattle.lean_disk.specs.Calls.{Noted}
 use Rattle.lean_disk.specs.Faults.{HasCause}
 use Rattle.lean_disk.specs.Moments.{LeavesOnly}
-use Rattle.lean_disk.specs.Story.{Crash, IsLawful, LeavesNow, Story, areas_of}
+use Rattle.lean_disk.specs.Story.{Crash, IsLawful, LeavesNow, Story, areas_of, Tells}
 use Rattle.lean_disk.proofs.MomentLemmas as moments
 use Rattle.lean_edge.specs.Outside.{Feed, Held, added}
 use Rattle.lean_edge.specs.declared.sink.Put.TheVariants.{Done}
@@ -220,6 +220,10 @@ module _ (laws : EverySession) (tells_law : EveryTranscript) (moment_law : Every
     abbrev Q : Crash → Type 0
     Q = ScriptLeaves feed0 [] o.g [] calls r.told (start o.g) (fresh_account (sa.area 2)) op.engine.log sb
 
+    -- it tells of its one log
+    told_log : Tells s0 2
+    told_log = all.all.logs m clean.master 1 (omega arith) (let one = survive.one_log m s0 sa o.g op.engine.log rests in omega arith)
+
     told_b : (a : ℕ) → sb.tells a ≡ s0.tells a
     told_b a = noted.tells a ∙ keeps.tells a
 
@@ -227,7 +231,7 @@ module _ (laws : EverySession) (tells_law : EveryTranscript) (moment_law : Every
     kept_b = subst (IsKept (fresh_account (sa.area 2)) op.engine.log) (sym (noted.area 2)) (o.starts (sa.area 2) rests.fresh)
 
     script : LeavesOnly sb sc Q
-    script = r.any_moment (told_b 2 ∙ all.all.log) (fresh_account (sa.area 2)) refl kept_b
+    script = r.any_moment (told_b 2 ∙ told_log) (fresh_account (sa.area 2)) refl kept_b
 
     next_of : (c : Crash) (q : Q c) → IsAsked feed0 (asked_text q.heard) call.Commit → ComesNext q.heard (ask call.Commit) input
     next_of c q asked = (next_law feed0 asked.feed asked.reader q.heard (earlier_fit q.unheard q.heard (subst EachFits (sym q.calls) r.fits)) tells).asks call.Commit asked.fits asked.read
@@ -320,7 +324,7 @@ module _ (laws : EverySession) (tells_law : EveryTranscript) (moment_law : Every
       some_stop e = cc
 
       went_on : WentOn r.session (fresh_account (sa.area 2)) r.state.log (sc.area 2)
-      went_on = r.goes_on (λ (e : Some stop ≡ Some stops.DiskFault). no_fault (some_stop e)) (told_b 2 ∙ all.all.log) (fresh_account (sa.area 2)) refl kept_b
+      went_on = r.goes_on (λ (e : Some stop ≡ Some stops.DiskFault). no_fault (some_stop e)) (told_b 2 ∙ told_log) (fresh_account (sa.area 2)) refl kept_b
 
       fair_now : IsFair 2048 IsSealed (sa.area 2).bytes left.since (s1.area 2).bytes
       fair_now =

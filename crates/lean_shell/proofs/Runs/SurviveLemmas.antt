@@ -1,5 +1,5 @@
 -- What a crash leaves in a run: of a disk that stands still, and of one on which a script is executed.
-use Rattle.std.proofs.Common.{◌≡◌, ◌⊎◌, inl, inr, ⊎_elim, ◌≤◌, ◌<◌, ◌+◌, ◌++◌, ℕ, suc, true, List, [], ◌∷◌, length, Option, Some, refl, sym, ◌∙◌, ap, subst, arith, codes}
+use Rattle.std.proofs.Common.{◌≡◌, ◌⊎◌, inl, inr, ⊎_elim, ◌<◌, ◌+◌, ◌++◌, ℕ, suc, true, List, [], ◌∷◌, length, Option, Some, refl, sym, ◌∙◌, ap, subst, arith, codes}
 use mathlib.Core.Path.{fun_ext}
 use Rattle.std.proofs.lemmas.List.{append-nil}
 use Rattle.map_model.proofs.ListLemmas.{has_cases, has_left, has_right}
@@ -139,6 +139,10 @@ module _ (m : Master) (s : Story) (clean : IsCleanDisk m (areas_of s)) (input pu
 
 -- ## While a script is executed
 
+-- the disk on entry has one log
+pub one_log : (m : Master) (s0 s : Story) (g : Opening) (log : Log) → Rests m s0 s g log → length m.heads ≡ 1
+one_log m s0 s g log rests = sym rests.same.logs ∙ ap (λ (hs : List ℕ). length hs) rests.one
+
 -- A crash whose image and writes are those of one that the script might leave, as so many lines were out, which tell of these calls.
 module _ (laws : EverySession) (agrees : EveryAgreement) (reads_so : EveryRun) (seals : EverySealed)
     (m : Master) (s0 s sb : Story) (g : Opening) (log : Log) (alone : IsAlone 64 g) (rests : Rests m s0 s g log) (clean : IsCleanDisk m (areas_of s0)) (tells : TellsAll s0)
@@ -163,11 +167,8 @@ module _ (laws : EverySession) (agrees : EveryAgreement) (reads_so : EveryRun) (
     since_is : d.writes 2 ≡ l.since ++ (s0.area 2).writes
     since_is = same.writes 2 ∙ (l.writes_are ∙ ap (λ (ws : List Write). l.since ++ ws) writes_0)
 
-    one_log : 1 ≤ length m.heads
-    one_log = let a = rests.same.logs in let b : length rests.n.heads ≡ 1 = ap (λ (hs : List ℕ). length hs) rests.one in omega arith
-
     pub fair_log : IsFairCrash (length m.heads) s0 d → IsFair 2048 IsSealed (s.area 2).bytes l.since (d.image 2)
-    fair_log fair = subst (λ (b : List ℕ). IsFair 2048 IsSealed b l.since (d.image 2)) (sym rests.bytes) (fair.log 1 (omega arith) one_log l.since since_is)
+    fair_log fair = subst (λ (b : List ℕ). IsFair 2048 IsSealed b l.since (d.image 2)) (sym rests.bytes) (fair.log 1 (omega arith) (let one = one_log m s0 s g log rests in omega arith) l.since since_is)
 
     module _ (fair_d : IsFair 2048 IsSealed (s.area 2).bytes l.since (d.image 2)) where
       fair_c : IsFair 2048 IsSealed (s.area 2).bytes l.since (c.image 2)

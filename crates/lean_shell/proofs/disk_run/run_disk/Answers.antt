@@ -1,10 +1,10 @@
-use Rattle.std.proofs.Common.{[], refl, subst, arith}
+use Rattle.std.proofs.Common.{[], refl, sym, ◌∙◌, subst, arith}
 use Rattle.lean_edge.specs.declared.sink.Put.{Put}
 use Rattle.session_model.specs.Sessions.{start}
 use Rattle.lean_shell.specs.Lines.{IsPut}
 use Rattle.lean_shell.specs.Runs.{first_line}
 use Rattle.lean_shell.proofs.Runs.EndLemmas.{cut_ends, cut_headline, refused_ends, refused_headline}
-use Rattle.lean_shell.proofs.Runs.LastLemmas.{cause_from, put_not_done}
+use Rattle.lean_shell.proofs.Runs.LastLemmas.{cause_from, disk_cause, put_not_done, read_cause}
 use Rattle.lean_shell.proofs.Runs.MomentLemmas.{unmoved}
 use Rattle.lean_shell.proofs.Runs.RunLemmas.{run_ends, run_headline}
 use Rattle.lean_shell.specs.Inside.Openings.{counts_of}
@@ -90,3 +90,14 @@ returns-clause-headline g c =
     (g.S.Source.feed c.args.source.now) (g.S.Source.feed c.run_script-stop.new.source) c.run_script-stop.new.reader c.run_script-stop.result c.run_script-stop.new.engine
     (c.run_script-stop.ensures.runs o.g [] (start o.g) (g.S.Source.feed c.args.source.now) [] o.alone.most refl o.pictures (c.in-Ok.ensures (g.S.Source.feed c.args.source.now)))
     (g.K.Sink.faults c.run_script-stop.new.sink) (g.K.Sink.faults c.put_last.new.sink) c.put_last.ensures.put
+
+pub returns-clause-cause_read_fault : goal.returns-clause-cause_read_fault
+returns-clause-cause_read_fault g c =
+    read_cause (g.S.Source.faults c.args.source.now) (g.S.Source.faults c.run_script-stop.new.source) c.run_script-stop.result c.ended.result c.ended.ensures c.run_script-stop.ensures.cause_read_fault
+
+pub returns-clause-cause_disk_fault : goal.returns-clause-cause_disk_fault
+returns-clause-cause_disk_fault g c =
+    let faults = g.D.Disk.faults in
+    let opened = c.open.ensures.cause_disk_fault.calm (λ e. let differ = sym c.in-Ok-open.is ∙ e in absurd cc) in
+    disk_cause (faults c.args.disk.now) (faults c.put_opened.new.disk) (faults c.run_script-stop.new.disk) (faults c.put_last.new.disk) c.run_script-stop.result c.ended.result c.ended.ensures
+    (c.put_opened.ensures.faults ∙ opened) c.put_last.ensures.faults c.run_script-stop.ensures.cause_disk_fault

@@ -1,10 +1,17 @@
-use Rattle.std.proofs.Common.{ℕ, IfOk, IsTrue, ◌↔◌, subst}
-use Rattle.lean_disk.specs.Story.{Tells}
-use Rattle.lean_shell.specs.Formatted.{HasMaster}
+use Rattle.std.proofs.Common.{◌≡◌, Some, None, List, ℕ, sym, ◌∙◌, refl}
+use Rattle.std.proofs.lemmas.Bool.{true≢false}
+use Rattle.disk_image.specs.MasterSlots.{master_on}
+use Rattle.lean_shell.proofs.MasterLemmas.{some_master, no_master}
 use Rattle.lean_shell.proofs.format.disk_has_master.Goals as goal
 
-pub returns-clause-answer : goal.returns-clause-answer
-returns-clause-answer g c =
-    let story = g.D.Disk.story in
-    subst (λ d. IfOk c.has_master.result (λ found. Tells (story d) 0 → IsTrue found ↔ HasMaster ((story d).area 0).bytes)) c.new.ensures.disk
-    (subst (λ (a : ℕ). IfOk c.has_master.result (λ found. Tells (story c.new.result.disk.now) a → IsTrue found ↔ HasMaster ((story c.new.result.disk.now).area a).bytes)) c.new.ensures.area c.has_master.ensures.answer)
+pub returns-in-Some-clause-answer : goal.returns-in-Some-clause-answer
+returns-in-Some-clause-answer g c = λ told.
+    let bytes : List ℕ = ((g.D.Disk.story c.args.disk.now).area 0).bytes in
+    let is : master_on bytes ≡ Some c.in-Some.field-0 = sym ((c.in_ok-read_disk_master.ensures).answer told) ∙ c.in-Some.is in
+    ((λ so. some_master bytes c.in-Some.field-0 is), (λ has. refl))
+
+pub returns-in-None-clause-answer : goal.returns-in-None-clause-answer
+returns-in-None-clause-answer g c = λ told.
+    let bytes : List ℕ = ((g.D.Disk.story c.args.disk.now).area 0).bytes in
+    let is : master_on bytes ≡ None = sym ((c.in_ok-read_disk_master.ensures).answer told) ∙ c.in-None.is in
+    ((λ so. absurd (true≢false (sym so))), (λ has. absurd (no_master bytes is has)))

@@ -8,7 +8,7 @@ pub returns-in_default-clause-any_moment : goal.returns-in_default-clause-any_mo
 returns-in_default-clause-any_moment g c m t clean =
     let story = g.D.Disk.story in
     let e = c.in-Ok.ensures in
-    saved_moments c.in-Ok.it e.readied (story c.args.disk.now) (story c.prepare.new.disk) e.settles t e.settled (e.prepared t) m clean
+    saved_moments c.in-Ok.it e.readied (story c.args.disk.now) (story c.prepare.new.disk) 1 e.settles t e.settled (e.prepared t) m clean
     (((g.met.D.Disk g.world.𝓛 g.world.𝓜 g.world.𝓡 ((λ s x. x), (λ x. x), (λ x. x), (λ x. x))).whole c.prepare.new.disk) 1)
     (story c.save_changed.new.disk) c.save_changed.result c.save_changed.ensures.saves
 
@@ -18,7 +18,7 @@ returns-in_default-write_next-clause-any_moment g c m t clean =
     let e = c.in-Ok.ensures in
     let next = c.next_master-master in
     let wide : c.in-Ok.it.base < 2 ^ 64 = subst (λ (k : Master). k.floor < 2 ^ 64) next.ensures.answer next.ensures.wide in
-    written_moments c.in-Ok.it e.readied (story c.args.disk.now) (story c.prepare.new.disk) e.settles t e.settled (e.prepared t) m clean
+    written_moments c.in-Ok.it e.readied (story c.args.disk.now) (story c.prepare.new.disk) 1 e.settles t e.settled (e.prepared t) m clean
     (((g.met.D.Disk g.world.𝓛 g.world.𝓜 g.world.𝓡 ((λ s x. x), (λ x. x), (λ x. x), (λ x. x))).whole c.prepare.new.disk) 1)
     (story c.save_changed.new.disk) c.save_changed.result c.save_changed.ensures.saves c.in-Done.is wide next.result next.ensures.answer (story c.write_next.new.disk) c.write_next.ensures.any_moment
 
@@ -28,7 +28,7 @@ returns-clause-any_moment g c m t clean =
     let e = c.in-Ok.ensures in
     let next = c.next_master-master in
     let wide : c.in-Ok.it.base < 2 ^ 64 = subst (λ (k : Master). k.floor < 2 ^ 64) next.ensures.answer next.ensures.wide in
-    written_moments c.in-Ok.it e.readied (story c.args.disk.now) (story c.prepare.new.disk) e.settles t e.settled (e.prepared t) m clean
+    written_moments c.in-Ok.it e.readied (story c.args.disk.now) (story c.prepare.new.disk) 1 e.settles t e.settled (e.prepared t) m clean
     (((g.met.D.Disk g.world.𝓛 g.world.𝓜 g.world.𝓡 ((λ s x. x), (λ x. x), (λ x. x), (λ x. x))).whole c.prepare.new.disk) 1)
     (story c.save_changed.new.disk) c.save_changed.result c.save_changed.ensures.saves c.in-Done.is wide next.result next.ensures.answer (story c.write_next.new.disk) c.write_next.ensures.any_moment
 
@@ -42,7 +42,7 @@ returns-clause-opened g c t m clean =
     let next = c.next_master-master in
     let wide : c.in-Ok.it.base < 2 ^ 64 = subst (λ (k : Master). k.floor < 2 ^ 64) next.ensures.answer next.ensures.wide in
     let told : Tells s6 0 = c.save_changed.ensures.frame.tells 0 ∙ (e.settles.tells 0 ∙ t.master) in
-    opens c.in-Ok.it e.readied s0 s4 e.settles t e.settled (e.prepared t) m clean
+    opens c.in-Ok.it e.readied s0 s4 1 e.settles t e.settled (e.prepared t) m clean
     (((g.met.D.Disk g.world.𝓛 g.world.𝓜 g.world.𝓡 ((λ s x. x), (λ x. x), (λ x. x), (λ x. x))).whole c.prepare.new.disk) 1)
     s6 c.save_changed.result c.save_changed.ensures.saves c.in-Done.is wide next.result next.ensures.answer (story c.write_next.new.disk) c.write_next.ensures.frame (c.write_next.ensures.done (c.in-Done-write_next).is told) _ refl refl
 

@@ -1,9 +1,11 @@
-use Rattle.std.proofs.Common.{◌+◌, get_or, refl, arith}
-use Rattle.recovery_redo.proofs.LogLemmas.{nothing}
-use Rattle.recovery_redo.proofs.OutcomeLemmas.{reach_more}
+use Rattle.std.proofs.Common.{arith}
+use Rattle.recovery_scan.specs.Records.{entries_of}
+use Rattle.recovery_redo.proofs.OutcomeLemmas.{reach_from}
 use Rattle.recovery_redo.proofs.outcome.reach.Goals as goal
 
-pub loop-entry-preserved : goal.loop-entry-preserved
-loop-entry-preserved c =
-    let k = c.loop-entry.entry-index in
-    reach_more c.args.floor c.args.found.now k (k + 1) (get_or c.args.found.now k nothing) nothing c.loop-entry.far c.max-far.result (omega arith) c.loop-entry-test.true refl c.loop-entry.invariant c.max-far.ensures
+pub returns : goal.returns
+returns c =
+    let some = c.requires.logs.0 in
+    let most = c.requires.logs.1 in
+    let long = c.find_greatest.auto.greatest in
+    reach_from c.args.logs c.args.floor (entries_of c.args.index.now) c.find_greatest.new.greatest c.least.result c.requires.logs.0 (omega arith) c.find_greatest.ensures c.least.ensures

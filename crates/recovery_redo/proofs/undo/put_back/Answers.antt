@@ -1,6 +1,6 @@
 use Rattle.std.proofs.Common.{get_or, refl}
 use Rattle.recovery_redo.proofs.SetLemmas.{none_beyond, holds_here, has_here, set_here, with_own}
-use Rattle.recovery_redo.proofs.PageLemmas.{keeps_set}
+use Rattle.record_redo.proofs.PageLemmas.{keeps_set}
 use Rattle.page_model.specs.Nodes.{holds}
 use Rattle.node_tree.specs.Nodes.{nodes_of}
 use Rattle.recovery_redo.proofs.MarkLemmas.{marks_set}
