@@ -1,4 +1,4 @@
-//! Tests of the tree in memory, of the log, of the opening of a disk, and of the engine's calls.
+//! Tests of the tree in memory, of the log, of the masters, of the opening of a disk, and of the engine's calls.
 #![tactic(auto)]
 
 #[cfg(test)]
@@ -8,11 +8,9 @@ mod cases;
 #[cfg(test)]
 mod logs;
 #[cfg(test)]
+mod masters;
+#[cfg(test)]
 mod openings;
-#[cfg(test)]
-mod redo;
-#[cfg(test)]
-mod scans;
 #[cfg(test)]
 mod stores;
 #[cfg(test)]

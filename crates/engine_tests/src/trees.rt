@@ -6,32 +6,25 @@ use page_model::every_check;
 use std::alloc::{AllocError, Global};
 use std::process::Abort;
 
-pub(crate) const TOP: u64 = u64::MAX;
+const TOP: u64 = u64::MAX;
 
-pub(crate) const TOMBSTONE: u64 = 9223372036854775808;
+const TOMBSTONE: u64 = 9223372036854775808;
 
-pub(crate) const LIVE: u64 = 1 << 24;
+const LIVE: u64 = 1 << 24;
 
-pub(crate) const FREE: u64 = 2 << 24;
+const FREE: u64 = 2 << 24;
 
-pub(crate) const LEVEL: u64 = 1 << 8;
+const LEVEL: u64 = 1 << 8;
 
-/// A page: its first four words, its fences, and its keys and words in turn.
+// A page: its packed word, its fences, and its keys and words in turn. Its other words are 0.
 #[derive(Drop)]
-pub(crate) struct Page(pub [u64; 4], pub u64, pub u64, pub [u64; 4]);
+struct Page(u64, u64, u64, [u64; 4]);
 
-// One of which only the packed word, the fences, and the keys and words count.
-macro_rules! page {
-    ($packed:expr, $low:expr, $high:expr, $pairs:expr) => {
-        Page([0, 0, 0, $packed], $low, $high, $pairs)
-    };
-}
-
-/// The node that it spells.
-pub(crate) fn node_of(rt: &impl Abort, page: &Page) -> Node {
-    let Page(first, low, high, pairs) = page;
+// The node that it spells.
+fn node_of(rt: &impl Abort, page: &Page) -> Node {
+    let Page(packed, low, high, pairs) = page;
     let mut words = [0; 126];
-    words[..4].copy_from_slice(first);
+    words[3] = *packed;
     words[4] = *low;
     words[5] = *high;
     words[6..10].copy_from_slice(pairs);
@@ -40,10 +33,10 @@ pub(crate) fn node_of(rt: &impl Abort, page: &Page) -> Node {
 
 // A root over the pages 1 and 2, and a page that no node names.
 static PAGES: [Page; 4] = [
-    page!(2 + LEVEL + LIVE, 0, TOP, [0, 1, 10, 2]),
-    page!(1 + LIVE, 0, 10, [4, TOMBSTONE, 0, 0]),
-    page!(LIVE, 10, TOP, [0; 4]),
-    page!(FREE, 0, 0, [0; 4]),
+    Page(2 + LEVEL + LIVE, 0, TOP, [0, 1, 10, 2]),
+    Page(1 + LIVE, 0, 10, [4, TOMBSTONE, 0, 0]),
+    Page(LIVE, 10, TOP, [0; 4]),
+    Page(FREE, 0, 0, [0; 4]),
 ];
 
 // What is broken, if anything, the pages that stand in the place of some, and the least page that breaks the rule.
@@ -61,110 +54,110 @@ static CASES: [Case; 22] = [
     },
     Case {
         name: "the root is free",
-        instead: &[(0, page!(FREE, 0, 0, [0; 4]))],
+        instead: &[(0, Page(FREE, 0, 0, [0; 4]))],
         least: Some(0),
     },
     Case {
         name: "the root has not all keys above",
-        instead: &[(0, page!(2 + LEVEL + LIVE, 0, TOP - 1, [0, 1, 10, 2]))],
+        instead: &[(0, Page(2 + LEVEL + LIVE, 0, TOP - 1, [0, 1, 10, 2]))],
         least: Some(0),
     },
     Case {
         name: "the root has not all keys below",
-        instead: &[(0, page!(1 + LEVEL + LIVE, 10, TOP, [10, 2, 0, 0]))],
+        instead: &[(0, Page(1 + LEVEL + LIVE, 10, TOP, [10, 2, 0, 0]))],
         least: Some(0),
     },
     Case {
         name: "a child is two levels below",
-        instead: &[(0, page!(2 + 2 * LEVEL + LIVE, 0, TOP, [0, 1, 10, 2]))],
+        instead: &[(0, Page(2 + 2 * LEVEL + LIVE, 0, TOP, [0, 1, 10, 2]))],
         least: Some(0),
     },
     Case {
         name: "a child begins before its fence",
-        instead: &[(0, page!(2 + LEVEL + LIVE, 0, TOP, [0, 1, 11, 2]))],
+        instead: &[(0, Page(2 + LEVEL + LIVE, 0, TOP, [0, 1, 11, 2]))],
         least: Some(0),
     },
     Case {
         name: "a child twice",
-        instead: &[(0, page!(2 + LEVEL + LIVE, 0, TOP, [0, 1, 10, 1]))],
+        instead: &[(0, Page(2 + LEVEL + LIVE, 0, TOP, [0, 1, 10, 1]))],
         least: Some(0),
     },
     Case {
         name: "a free child",
-        instead: &[(0, page!(2 + LEVEL + LIVE, 0, TOP, [0, 1, 10, 3]))],
+        instead: &[(0, Page(2 + LEVEL + LIVE, 0, TOP, [0, 1, 10, 3]))],
         least: Some(0),
     },
     Case {
         name: "a child that ends before its fence",
-        instead: &[(0, page!(1 + LEVEL + LIVE, 0, TOP, [0, 1, 0, 0]))],
+        instead: &[(0, Page(1 + LEVEL + LIVE, 0, TOP, [0, 1, 0, 0]))],
         least: Some(0),
     },
     Case {
         name: "the root is a child",
-        instead: &[(0, page!(2 + LEVEL + LIVE, 0, TOP, [0, 1, 10, 0]))],
+        instead: &[(0, Page(2 + LEVEL + LIVE, 0, TOP, [0, 1, 10, 0]))],
         least: Some(0),
     },
     Case {
         name: "the child 4 of pages up to 3",
-        instead: &[(0, page!(2 + LEVEL + LIVE, 0, TOP, [0, 1, 10, 4]))],
+        instead: &[(0, Page(2 + LEVEL + LIVE, 0, TOP, [0, 1, 10, 4]))],
         least: Some(0),
     },
     Case {
         name: "the child 5 of pages up to 3",
-        instead: &[(0, page!(2 + LEVEL + LIVE, 0, TOP, [0, 1, 10, 5]))],
+        instead: &[(0, Page(2 + LEVEL + LIVE, 0, TOP, [0, 1, 10, 5]))],
         least: Some(0),
     },
     Case {
         name: "a tombstone for a child",
-        instead: &[(0, page!(2 + LEVEL + LIVE, 0, TOP, [0, 1, 10, TOMBSTONE]))],
+        instead: &[(0, Page(2 + LEVEL + LIVE, 0, TOP, [0, 1, 10, TOMBSTONE]))],
         least: Some(0),
     },
     Case {
         name: "the greatest word for a child",
-        instead: &[(0, page!(2 + LEVEL + LIVE, 0, TOP, [0, 1, 10, TOP]))],
+        instead: &[(0, Page(2 + LEVEL + LIVE, 0, TOP, [0, 1, 10, TOP]))],
         least: Some(0),
     },
     Case {
         name: "a leaf with a word that is no value",
-        instead: &[(1, page!(1 + LIVE, 0, 10, [4, TOMBSTONE + 1, 0, 0]))],
+        instead: &[(1, Page(1 + LIVE, 0, 10, [4, TOMBSTONE + 1, 0, 0]))],
         least: Some(1),
     },
     Case {
         name: "outside the tree is a leaf with no keys",
-        instead: &[(3, page!(LIVE, 7, 5, [0; 4]))],
+        instead: &[(3, Page(LIVE, 7, 5, [0; 4]))],
         least: Some(3),
     },
     Case {
         name: "outside the tree is a leaf",
-        instead: &[(3, page!(LIVE, 10, TOP, [0; 4]))],
+        instead: &[(3, Page(LIVE, 10, TOP, [0; 4]))],
         least: Some(3),
     },
     Case {
         name: "a free page with a lower fence",
-        instead: &[(3, page!(FREE, 7, 0, [0; 4]))],
+        instead: &[(3, Page(FREE, 7, 0, [0; 4]))],
         least: Some(3),
     },
     Case {
         name: "a free page with an upper fence",
-        instead: &[(3, page!(FREE, 0, 7, [0; 4]))],
+        instead: &[(3, Page(FREE, 0, 7, [0; 4]))],
         least: Some(3),
     },
     Case {
         name: "a free page with a level",
-        instead: &[(3, page!(LEVEL + FREE, 0, 0, [0; 4]))],
+        instead: &[(3, Page(LEVEL + FREE, 0, 0, [0; 4]))],
         least: Some(3),
     },
     Case {
         name: "a free page with a pair",
-        instead: &[(3, page!(1 + FREE, 0, 7, [4, 1, 0, 0]))],
+        instead: &[(3, Page(1 + FREE, 0, 7, [4, 1, 0, 0]))],
         least: Some(3),
     },
     Case {
         name: "the least of several is named",
         instead: &[
-            (3, page!(LIVE, 0, 10, [0; 4])),
-            (2, page!(LIVE, 12, 11, [0; 4])),
-            (0, page!(1 + LIVE, 0, TOP, [4, 1, 0, 0])),
+            (3, Page(LIVE, 0, 10, [0; 4])),
+            (2, Page(LIVE, 12, 11, [0; 4])),
+            (0, Page(1 + LIVE, 0, TOP, [4, 1, 0, 0])),
         ],
         least: Some(1),
     },
@@ -182,8 +175,8 @@ static HOLDS: [(usize, u64, bool); 5] = [
     (4, 9, false),
 ];
 
-/// The nodes that they spell.
-pub(crate) fn nodes_of(rt: &impl Abort, pages: &[Page; 4]) -> [Node; 4] {
+// The nodes that they spell.
+fn nodes_of(rt: &impl Abort, pages: &[Page; 4]) -> [Node; 4] {
     [
         node_of(rt, &pages[0]),
         node_of(rt, &pages[1]),

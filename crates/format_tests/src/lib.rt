@@ -1,8 +1,11 @@
-//! Tests of what lies on the disk: numbers and seals, nodes, page and master slots, records, blocks.
+//! Tests of what lies on the disk: numbers and seals, nodes, page and master slots, records, blocks, an
+//! index over records.
 #![tactic(auto)]
 
 #[cfg(test)]
 mod blocks;
+#[cfg(test)]
+mod index;
 #[cfg(test)]
 mod nodes;
 #[cfg(test)]

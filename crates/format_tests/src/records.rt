@@ -1,263 +1,24 @@
 // The bytes are Python's, by struct.pack.
 ghost use Rattle.std.specs.Prelude.{IsTrue};
-ghost use Rattle.log_record.specs.Kinds.{IsCounted};
+ghost use Rattle.log_record.specs.Spelling.{IsCounted};
 
 use log_record::{
-    Body, CHANGE_SIZE, END_SIZE, Keys, PageRef, Pair, Pairs, Record, read_any, read_record,
-    record_bytes, record_size,
+    Body, CHANGE_SIZE, END_SIZE, Keys, LARGEST, PageRef, Pair, Pairs, Record, RecordHead,
+    read_record, record_bytes, record_head, record_size,
 };
 
-// A record of a kind that has come.
+// A record of each kind, and a change of other numbers.
 #[derive(Clone, Copy)]
 enum Said {
-    Change {
-        txn: u64,
-        gsn: u64,
-        leaf: PageRef,
-        key: u64,
-        before: u64,
-        after: u64,
-    },
-    Commit {
-        txn: u64,
-        gsn: u64,
-        need: u64,
-    },
-}
-
-const CHANGE: Said = Said::Change {
-    txn: 1,
-    gsn: 1,
-    leaf: PageRef { page: 0, prev: 0 },
-    key: 5,
-    before: 9223372036854775808,
-    after: 7,
-};
-
-const COMMIT: Said = Said::Commit {
-    txn: 1,
-    gsn: 2,
-    need: 0,
-};
-
-const WIDE: Said = Said::Change {
-    txn: 578437695752307201,
-    gsn: 1157159078456920585,
-    leaf: PageRef {
-        page: 336794129,
-        prev: 2025524839466146837,
-    },
-    key: 2604246222170760229,
-    before: 3182967604875373621,
-    after: 3761688987579987013,
-};
-
-fn record_of(said: Said) -> Record {
-    match said {
-        Said::Change {
-            txn,
-            gsn,
-            leaf,
-            key,
-            before,
-            after,
-        } => Record {
-            txn,
-            gsn,
-            body: Body::Change {
-                leaf,
-                key,
-                before,
-                after,
-            },
-        },
-        Said::Commit { txn, gsn, need } => Record {
-            txn,
-            gsn,
-            body: Body::Commit { need },
-        },
-    }
-}
-
-// A record, and its bytes.
-struct Written {
-    name: &'static str,
-    record: Said,
-    size: usize,
-    bytes: &'static [u8],
-}
-
-static WRITTEN: [Written; 3] = [
-    Written {
-        name: "a change",
-        record: CHANGE,
-        size: CHANGE_SIZE,
-        bytes: &[
-            1, 1, 0, 0, 0, 0, 0, 0, 0, 1, 0, 0, 0, 0, 0, 0, 0, 0, 0, 0, 0, 0, 0, 0, 0, 0, 0, 0, 0,
-            5, 0, 0, 0, 0, 0, 0, 0, 0, 0, 0, 0, 0, 0, 0, 128, 7, 0, 0, 0, 0, 0, 0, 0,
-        ],
-    },
-    Written {
-        name: "a commit",
-        record: COMMIT,
-        size: END_SIZE,
-        bytes: &[
-            8, 1, 0, 0, 0, 0, 0, 0, 0, 2, 0, 0, 0, 0, 0, 0, 0, 0, 0, 0, 0, 0, 0, 0, 0,
-        ],
-    },
-    Written {
-        name: "a change whose fields have no byte twice at first",
-        record: WIDE,
-        size: 53,
-        bytes: &[
-            1, 1, 2, 3, 4, 5, 6, 7, 8, 9, 10, 11, 12, 13, 14, 15, 16, 17, 18, 19, 20, 21, 28, 28,
-            28, 28, 28, 28, 28, 37, 36, 36, 36, 36, 36, 36, 36, 53, 44, 44, 44, 44, 44, 44, 44, 69,
-            52, 52, 52, 52, 52, 52, 52,
-        ],
-    },
-];
-
-// How many bytes a record is said to take, and how many are written, where its kind has come.
-fn sizes_of(record: &Record, into: &mut [u8; 53]) -> (usize, usize) {
-    match record.body {
-        Body::Change { .. } => (record_size(record), record_bytes(record, into)),
-        Body::Commit { .. } => (record_size(record), record_bytes(record, into)),
-        _ => (0, 0),
-    }
-}
-
-fn is_written(row: &Written) -> bool {
-    let mut into = [b'x'; 53];
-    let sizes = sizes_of(&record_of(row.record), &mut into);
-    sizes == (row.size, row.size)
-        && into.starts_with(row.bytes)
-        && into.iter().skip(row.bytes.len()).all(|byte| *byte == b'x')
-}
-
-#[test]
-fn records_stand_byte_for_byte(rt: HostRuntime) {
-    for row in &WRITTEN {
-        assert!(rt; is_written(row), "{}", row.name);
-    }
-}
-
-// A change, a commit, and two bytes more.
-static LOG: [u8; 80] = [
-    1, 1, 0, 0, 0, 0, 0, 0, 0, 1, 0, 0, 0, 0, 0, 0, 0, 0, 0, 0, 0, 0, 0, 0, 0, 0, 0, 0, 0, 5, 0, 0,
-    0, 0, 0, 0, 0, 0, 0, 0, 0, 0, 0, 0, 128, 7, 0, 0, 0, 0, 0, 0, 0, 8, 1, 0, 0, 0, 0, 0, 0, 0, 2,
-    0, 0, 0, 0, 0, 0, 0, 0, 0, 0, 0, 0, 0, 0, 0, 7, 7,
-];
-
-// Some of these bytes, and the record that stands first with its size, if one does.
-struct ReadRow {
-    name: &'static str,
-    from: usize,
-    to: usize,
-    found: Option<(Said, usize)>,
-}
-
-static READS: [ReadRow; 6] = [
-    ReadRow {
-        name: "a change with more behind it",
-        from: 0,
-        to: 80,
-        found: Some((CHANGE, 53)),
-    },
-    ReadRow {
-        name: "a commit with more behind it",
-        from: 53,
-        to: 80,
-        found: Some((COMMIT, 25)),
-    },
-    ReadRow {
-        name: "two bytes of kind 7",
-        from: 78,
-        to: 80,
-        found: None,
-    },
-    ReadRow {
-        name: "nothing",
-        from: 80,
-        to: 80,
-        found: None,
-    },
-    ReadRow {
-        name: "a change without its last byte",
-        from: 0,
-        to: 52,
-        found: None,
-    },
-    ReadRow {
-        name: "a commit without its last byte",
-        from: 53,
-        to: 77,
-        found: None,
-    },
-];
-
-// Kinds that have not come, and numbers that are no kind.
-static OTHER_KINDS: [u8; 10] = [0, 2, 3, 4, 5, 6, 7, 9, 10, 255];
-
-// What a change says.
-fn change_in(body: &Body) -> Option<(PageRef, u64, u64, u64)> {
-    match body {
-        Body::Change {
-            leaf,
-            key,
-            before,
-            after,
-        } => Some((*leaf, *key, *before, *after)),
-        _ => None,
-    }
-}
-
-// What a commit says.
-fn commit_in(body: &Body) -> Option<u64> {
-    match body {
-        Body::Commit { need } => Some(*need),
-        _ => None,
-    }
-}
-
-fn is_same(found: &Record, wanted: &Record) -> bool {
-    found.txn == wanted.txn
-        && found.gsn == wanted.gsn
-        && change_in(&found.body) == change_in(&wanted.body)
-        && commit_in(&found.body) == commit_in(&wanted.body)
-}
-
-fn is_found(found: &Option<(Record, usize)>, wanted: &Option<(Said, usize)>) -> bool {
-    match (found, wanted) {
-        (Some((record, size)), Some((other, other_size))) => {
-            size == other_size && is_same(record, &record_of(*other))
-        }
-        (None, None) => true,
-        _ => false,
-    }
-}
-
-#[test]
-fn records_are_read_off_the_beginning(rt: HostRuntime) {
-    for row in &READS {
-        let bytes = LOG.get(row.from..row.to).unwrap_or(&[]);
-        assert!(rt; is_found(&read_record(bytes), &row.found), "{}", row.name);
-    }
-    for kind in &OTHER_KINDS {
-        let mut bytes = [0u8; 100];
-        bytes[0] = *kind;
-        assert!(rt; read_record(&bytes).is_none(), "kind {kind}");
-    }
-}
-
-// A record of each other kind.
-#[derive(Clone, Copy)]
-enum Other {
+    Change,
+    Wide,
     PutBack,
     Split,
     Lift,
     Join,
     DropRoot,
     Purge,
+    Commit,
     Abort,
 }
 
@@ -309,15 +70,30 @@ fn keys_of(count: u8) -> Keys {
     keys
 }
 
-fn body_of(other: Other) -> Body {
-    match other {
-        Other::PutBack => Body::PutBack {
+fn body_of(said: Said) -> Body {
+    match said {
+        Said::Change => Body::Change {
+            leaf: PageRef { page: 0, prev: 0 },
+            key: 5,
+            before: 9223372036854775808,
+            after: 7,
+        },
+        Said::Wide => Body::Change {
+            leaf: PageRef {
+                page: 336794129,
+                prev: 2025524839466146837,
+            },
+            key: 2604246222170760229,
+            before: 3182967604875373621,
+            after: 3761688987579987013,
+        },
+        Said::PutBack => Body::PutBack {
             leaf: LEFT,
             key: SEPARATOR,
             before: HIGH,
             after: 7523094288207667809,
         },
-        Other::Split => Body::Split {
+        Said::Split => Body::Split {
             left: LEFT,
             right: RIGHT,
             parent: PARENT,
@@ -326,13 +102,13 @@ fn body_of(other: Other) -> Body {
             level: LEVEL,
             pairs: pairs_of(30),
         },
-        Other::Lift => Body::Lift {
+        Said::Lift => Body::Lift {
             root_prev: LEFT.prev,
             page: RIGHT,
             level: LEVEL,
             pairs: pairs_of(60),
         },
-        Other::Join => Body::Join {
+        Said::Join => Body::Join {
             left: LEFT,
             right: RIGHT,
             parent: PARENT,
@@ -340,31 +116,74 @@ fn body_of(other: Other) -> Body {
             high: HIGH,
             pairs: pairs_of(2),
         },
-        Other::DropRoot => Body::DropRoot {
+        Said::DropRoot => Body::DropRoot {
             root_prev: LEFT.prev,
             child: RIGHT,
             level: LEVEL,
             pairs: pairs_of(0),
         },
-        Other::Purge => Body::Purge {
+        Said::Purge => Body::Purge {
             leaf: LEFT,
             keys: keys_of(3),
         },
-        Other::Abort => Body::Abort { need: SEPARATOR },
+        Said::Commit => Body::Commit { need: 0 },
+        Said::Abort => Body::Abort { need: SEPARATOR },
     }
 }
 
-struct OtherRow {
+// The transaction and the number of a record.
+fn numbers_of(said: Said) -> (u64, u64) {
+    match said {
+        Said::Change => (1, 1),
+        Said::Commit => (1, 2),
+        _ => (578437695752307201, 1157159078456920585),
+    }
+}
+
+fn record_of(said: Said) -> Record {
+    let (txn, gsn) = numbers_of(said);
+    Record {
+        txn,
+        gsn,
+        body: body_of(said),
+    }
+}
+
+// A record, its kind, its size and its bytes.
+struct Row {
     name: &'static str,
-    other: Other,
+    said: Said,
+    kind: u8,
     size: usize,
     bytes: &'static [u8],
 }
 
-static OTHERS: [OtherRow; 7] = [
-    OtherRow {
+static ROWS: [Row; 10] = [
+    Row {
+        name: "a change",
+        said: Said::Change,
+        kind: 1,
+        size: CHANGE_SIZE,
+        bytes: &[
+            1, 1, 0, 0, 0, 0, 0, 0, 0, 1, 0, 0, 0, 0, 0, 0, 0, 0, 0, 0, 0, 0, 0, 0, 0, 0, 0, 0, 0,
+            5, 0, 0, 0, 0, 0, 0, 0, 0, 0, 0, 0, 0, 0, 0, 128, 7, 0, 0, 0, 0, 0, 0, 0,
+        ],
+    },
+    Row {
+        name: "a change whose fields have no byte twice at first",
+        said: Said::Wide,
+        kind: 1,
+        size: CHANGE_SIZE,
+        bytes: &[
+            1, 1, 2, 3, 4, 5, 6, 7, 8, 9, 10, 11, 12, 13, 14, 15, 16, 17, 18, 19, 20, 21, 28, 28,
+            28, 28, 28, 28, 28, 37, 36, 36, 36, 36, 36, 36, 36, 53, 44, 44, 44, 44, 44, 44, 44, 69,
+            52, 52, 52, 52, 52, 52, 52,
+        ],
+    },
+    Row {
         name: "a put-back",
-        other: Other::PutBack,
+        said: Said::PutBack,
+        kind: 2,
         size: CHANGE_SIZE,
         bytes: &[
             2, 1, 2, 3, 4, 5, 6, 7, 8, 9, 10, 11, 12, 13, 14, 15, 16, 17, 18, 19, 20, 21, 22, 23,
@@ -372,9 +191,10 @@ static OTHERS: [OtherRow; 7] = [
             98, 99, 100, 101, 102, 103, 104,
         ],
     },
-    OtherRow {
+    Row {
         name: "a split of 30 pairs",
-        other: Other::Split,
+        said: Said::Split,
+        kind: 3,
         size: 551,
         bytes: &[
             3, 1, 2, 3, 4, 5, 6, 7, 8, 9, 10, 11, 12, 13, 14, 15, 16, 17, 18, 19, 20, 21, 22, 23,
@@ -401,9 +221,10 @@ static OTHERS: [OtherRow; 7] = [
             49, 117, 0, 0, 0, 0, 0, 0, 29, 0, 0, 0, 0, 0, 0, 128,
         ],
     },
-    OtherRow {
+    Row {
         name: "a lift of 60 pairs",
-        other: Other::Lift,
+        said: Said::Lift,
+        kind: 4,
         size: 999,
         bytes: &[
             4, 1, 2, 3, 4, 5, 6, 7, 8, 9, 10, 11, 12, 13, 14, 15, 16, 21, 22, 23, 24, 25, 26, 27,
@@ -447,9 +268,10 @@ static OTHERS: [OtherRow; 7] = [
             0, 58, 0, 0, 0, 0, 0, 0, 128, 97, 234, 0, 0, 0, 0, 0, 0, 59, 0, 0, 0, 0, 0, 0, 128,
         ],
     },
-    OtherRow {
+    Row {
         name: "a join of two pairs",
-        other: Other::Join,
+        said: Said::Join,
+        kind: 5,
         size: 102,
         bytes: &[
             5, 1, 2, 3, 4, 5, 6, 7, 8, 9, 10, 11, 12, 13, 14, 15, 16, 17, 18, 19, 20, 21, 22, 23,
@@ -459,18 +281,20 @@ static OTHERS: [OtherRow; 7] = [
             0, 0, 0, 0, 0, 0, 128,
         ],
     },
-    OtherRow {
+    Row {
         name: "a drop of a root of no pairs",
-        other: Other::DropRoot,
+        said: Said::DropRoot,
+        kind: 6,
         size: 39,
         bytes: &[
             6, 1, 2, 3, 4, 5, 6, 7, 8, 9, 10, 11, 12, 13, 14, 15, 16, 21, 22, 23, 24, 25, 26, 27,
             28, 33, 34, 35, 36, 37, 38, 39, 40, 41, 42, 43, 44, 97, 0,
         ],
     },
-    OtherRow {
+    Row {
         name: "a purge of three keys",
-        other: Other::Purge,
+        said: Said::Purge,
+        kind: 7,
         size: 54,
         bytes: &[
             7, 1, 2, 3, 4, 5, 6, 7, 8, 9, 10, 11, 12, 13, 14, 15, 16, 17, 18, 19, 20, 21, 22, 23,
@@ -478,9 +302,19 @@ static OTHERS: [OtherRow; 7] = [
             3, 0, 0,
         ],
     },
-    OtherRow {
+    Row {
+        name: "a commit",
+        said: Said::Commit,
+        kind: 8,
+        size: END_SIZE,
+        bytes: &[
+            8, 1, 0, 0, 0, 0, 0, 0, 0, 2, 0, 0, 0, 0, 0, 0, 0, 0, 0, 0, 0, 0, 0, 0, 0,
+        ],
+    },
+    Row {
         name: "an abort",
-        other: Other::Abort,
+        said: Said::Abort,
+        kind: 9,
         size: END_SIZE,
         bytes: &[
             9, 1, 2, 3, 4, 5, 6, 7, 8, 9, 10, 11, 12, 13, 14, 15, 16, 65, 66, 67, 68, 69, 70, 71,
@@ -503,8 +337,8 @@ fn is_counted(body: &Body) -> bool
 }
 
 // Whether the record is written so, and nothing is written behind it.
-fn is_written_so(record: &Record, row: &OtherRow) -> bool {
-    let mut into = [b'x'; 1000];
+fn is_written(record: &Record, row: &Row) -> bool {
+    let mut into = [b'x'; LARGEST];
     if !is_counted(&record.body) {
         return false;
     }
@@ -519,14 +353,9 @@ fn is_written_so(record: &Record, row: &OtherRow) -> bool {
         && into.iter().skip(row.bytes.len()).all(|byte| *byte == b'x')
 }
 
-// Whether the record is written, and is read into what held another record, and not without its last byte.
-fn is_written_and_read(row: &OtherRow) -> bool {
-    let record = Record {
-        txn: 578437695752307201,
-        gsn: 1157159078456920585,
-        body: body_of(row.other),
-    };
-    let mut lent = Record {
+// What held another record, of more pairs than all others.
+fn lent() -> Record {
+    Record {
         txn: 3,
         gsn: 4,
         body: Body::Lift {
@@ -535,31 +364,114 @@ fn is_written_and_read(row: &OtherRow) -> bool {
             level: 6,
             pairs: pairs_of(60),
         },
-    };
-    is_written_so(&record, row)
-        && read_any(row.bytes, &mut lent) == Some(row.size)
-        && is_written_so(&lent, row)
-        && read_any(&row.bytes[..row.bytes.len().saturating_sub(1)], &mut lent).is_none()
-}
-
-#[test]
-fn records_of_the_other_kinds_are_written_and_read(rt: HostRuntime) {
-    for row in &OTHERS {
-        assert!(rt; is_written_and_read(row), "{}", row.name);
     }
 }
 
-#[test]
-fn more_than_60_pairs_are_not_read(rt: HostRuntime) {
-    let mut bytes = [0u8; 1100];
-    bytes[0] = 4;
-    let mut lent = Record {
-        txn: 0,
-        gsn: 0,
-        body: Body::Commit { need: 0 },
+// The bytes, with sevens behind them.
+fn with_more(bytes: &[u8]) -> [u8; 1100] {
+    let mut more = [7u8; 1100];
+    for (place, byte) in more.iter_mut().zip(bytes) {
+        *place = *byte;
+    }
+    more
+}
+
+// Whether the record is read, with more behind it too, and not without its last byte.
+fn is_read(row: &Row) -> bool {
+    let mut entry = lent();
+    let mut other = lent();
+    read_record(row.bytes, &mut entry) == Some(row.size)
+        && is_written(&entry, row)
+        && read_record(&with_more(row.bytes), &mut other) == Some(row.size)
+        && is_written(&other, row)
+        && read_record(&row.bytes[..row.bytes.len().saturating_sub(1)], &mut other).is_none()
+}
+
+// Whether the record is passed over, with more behind it too, and not without its last byte.
+fn is_passed_over(row: &Row) -> bool {
+    let (txn, gsn) = numbers_of(row.said);
+    let head = RecordHead {
+        kind: row.kind,
+        txn,
+        gsn,
+        size: row.size,
     };
-    bytes[38] = 60;
-    assert!(rt; read_any(&bytes, &mut lent) == Some(999));
-    bytes[38] = 61;
-    assert!(rt; read_any(&bytes, &mut lent).is_none());
+    record_head(row.bytes) == Some(head)
+        && record_head(&with_more(row.bytes)) == Some(head)
+        && record_head(&row.bytes[..row.bytes.len().saturating_sub(1)]).is_none()
+}
+
+#[test]
+fn records_stand_byte_for_byte(rt: HostRuntime) {
+    for row in &ROWS {
+        assert!(rt; is_written(&record_of(row.said), row), "{}", row.name);
+        assert!(rt; is_read(row), "{}", row.name);
+        assert!(rt; is_passed_over(row), "{}", row.name);
+    }
+}
+
+// The first byte of a hundred, the others 0, and how many a record takes there.
+static KINDS: [(u8, Option<usize>); 12] = [
+    (0, None),
+    (1, Some(53)),
+    (2, Some(53)),
+    (3, Some(71)),
+    (4, Some(39)),
+    (5, Some(70)),
+    (6, Some(39)),
+    (7, Some(30)),
+    (8, Some(25)),
+    (9, Some(25)),
+    (10, None),
+    (255, None),
+];
+
+#[test]
+fn each_kind_has_its_size(rt: HostRuntime) {
+    let mut entry = lent();
+    for (kind, size) in &KINDS {
+        let mut bytes = [0u8; 100];
+        bytes[0] = *kind;
+        assert!(rt; read_record(&bytes, &mut entry) == *size, "kind {kind}");
+        assert!(rt;
+            record_head(&bytes).map(|head| head.size) == *size,
+            "kind {kind}"
+        );
+    }
+    assert!(rt; read_record(&[], &mut entry).is_none());
+    assert!(rt; record_head(&[]).is_none());
+}
+
+// A kind, the place of its count, and what it takes with 60 pairs or keys.
+static COUNTS: [(u8, usize, usize); 5] = [
+    (3, 70, 1031),
+    (4, 38, 999),
+    (5, 69, 1030),
+    (6, 38, 999),
+    (7, 29, 510),
+];
+
+#[test]
+fn at_most_60_pairs_or_keys_are_read(rt: HostRuntime) {
+    let mut entry = lent();
+    for (kind, place, size) in &COUNTS {
+        let mut bytes = [0u8; 1100];
+        bytes[0] = *kind;
+        if *place < bytes.len() {
+            bytes[*place] = 60;
+        }
+        assert!(rt;
+            read_record(&bytes, &mut entry) == Some(*size),
+            "kind {kind}"
+        );
+        assert!(rt;
+            record_head(&bytes).map(|head| head.size) == Some(*size),
+            "kind {kind}"
+        );
+        if *place < bytes.len() {
+            bytes[*place] = 61;
+        }
+        assert!(rt; read_record(&bytes, &mut entry).is_none(), "kind {kind}");
+        assert!(rt; record_head(&bytes).is_none(), "kind {kind}");
+    }
 }

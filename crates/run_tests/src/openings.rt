@@ -90,7 +90,7 @@ macro_rules! stops {
     };
 }
 
-// Its calls are a sync of area 0, two reads there, a sync of 1 and of 2, three reads of the log, 32 of the pages, the write of
+// Its calls are a sync of area 0, two reads there, a sync of 1 and of 2, 32 reads of the pages, three of the log, the write of
 // the page that has changed, its sync, the master's write, its sync: 44 in all. A crash has two moments more than the number
 // of the call that failed. The stopped opening's master counts where all bytes of its write are left.
 static STOPS: [Stops; 12] = [
@@ -98,14 +98,14 @@ static STOPS: [Stops; 12] = [
     stops!("calls on the masters, all bytes", 0, AllBytes, 5, [98, 5]),
     stops!("calls on the masters, halves", 0, FirstHalf, 5, [103, 0]),
     stops!("calls on the masters, zeros", 0, Zeros, 5, [103, 0]),
-    stops!("calls on the pages, no bytes", 1, NoBytes, 35, [941, 0]),
-    stops!("calls on the pages, all bytes", 1, AllBytes, 35, [941, 0]),
-    stops!("calls on the pages, halves", 1, FirstHalf, 35, [941, 0]),
-    stops!("calls on the pages, zeros", 1, Zeros, 35, [941, 0]),
-    stops!("calls on the log, no bytes", 2, NoBytes, 4, [34, 0]),
-    stops!("calls on the log, all bytes", 2, AllBytes, 4, [34, 0]),
-    stops!("calls on the log, halves", 2, FirstHalf, 4, [34, 0]),
-    stops!("calls on the log, zeros", 2, Zeros, 4, [34, 0]),
+    stops!("calls on the pages, no bytes", 1, NoBytes, 35, [845, 0]),
+    stops!("calls on the pages, all bytes", 1, AllBytes, 35, [845, 0]),
+    stops!("calls on the pages, halves", 1, FirstHalf, 35, [845, 0]),
+    stops!("calls on the pages, zeros", 1, Zeros, 35, [845, 0]),
+    stops!("calls on the log, no bytes", 2, NoBytes, 4, [130, 0]),
+    stops!("calls on the log, all bytes", 2, AllBytes, 4, [130, 0]),
+    stops!("calls on the log, halves", 2, FirstHalf, 4, [130, 0]),
+    stops!("calls on the log, zeros", 2, Zeros, 4, [130, 0]),
 ];
 
 // Crashes a stopped opening at each moment. Whether the map is always the same.
