@@ -1,14 +1,18 @@
-// How many lines, replies, records, node searches and blocks a second. With no argument a handful of each, and what they add up to; with
-// a number N, N million of each, with times.
+// How many lines, replies, records, node searches and blocks a second, and how long recovery takes. With no argument a handful of each, and
+// what they add up to; with a number N, N million of each, with times.
 #![tactic(auto)]
 
-ghost use Rattle.std.specs.Prelude.{◌≤◌, IfOk};
+mod history;
+mod recovery;
+
+ghost use Rattle.std.specs.Prelude.{◌≤◌, ◌<◌, IfOk};
 ghost use Rattle.script_lang.specs.Replies.{AnswerFits};
 
 use btree_node::Node;
 use log_block::{BLOCK, block_bytes};
 use log_record::{Body, PageRef, Record, read_record, record_bytes};
 use map_model::{Answer, Call};
+use recovery::recovery;
 use script_lang::{REPLY, read_line, reply_bytes};
 use std::time::Instant;
 use std::{env, io};
@@ -78,35 +82,42 @@ fn write_change(i: u64, into: &mut [u8; 64]) -> usize {
 }
 
 #[inline(never)]
-fn read_back(bytes: &[u8; 64]) -> u64 {
-    match read_record(bytes) {
-        Some((entry, size)) => match entry.body {
-            Body::Change {
-                leaf,
-                key,
-                before,
-                after,
-            } => entry
-                .txn
-                .wrapping_add(entry.gsn)
-                .wrapping_add(leaf.page as u64)
-                .wrapping_add(leaf.prev)
-                .wrapping_add(key)
-                .wrapping_add(before)
-                .wrapping_add(after)
-                .wrapping_add(size as u64),
-            _ => 0,
-        },
-        None => 0,
+fn read_back(bytes: &[u8; 64], entry: &mut Record) -> u64 {
+    let Some(size) = read_record(bytes, entry) else {
+        return 0;
+    };
+    match &entry.body {
+        Body::Change {
+            leaf,
+            key,
+            before,
+            after,
+        } => entry
+            .txn
+            .wrapping_add(entry.gsn)
+            .wrapping_add(leaf.page as u64)
+            .wrapping_add(leaf.prev)
+            .wrapping_add(*key)
+            .wrapping_add(*before)
+            .wrapping_add(*after)
+            .wrapping_add(size as u64),
+        _ => 0,
     }
 }
 
 fn records(times: u64) -> u64 {
     let mut into = [0u8; 64];
+    let mut entry = Record {
+        txn: 0,
+        gsn: 0,
+        body: Body::Commit { need: 0 },
+    };
     let mut sum = 0u64;
     for i in 0..times {
         let n = write_change(i, &mut into);
-        sum = sum.wrapping_add(n as u64).wrapping_add(read_back(&into));
+        sum = sum
+            .wrapping_add(n as u64)
+            .wrapping_add(read_back(&into, &mut entry));
     }
     sum
 }
@@ -145,6 +156,24 @@ fn blocks(times: u64) -> u64 {
     sum
 }
 
+// A recovery: what was found and made of the pages, and with `timed` the microseconds of its parts.
+fn recover(rt: &HostRuntime, logs: u32, blocks: u32, timed: bool) -> io::Result<()>
+    requires { (0 < logs) × (logs ≤ 16) }
+{
+    let done = recovery(rt, logs, blocks)?;
+    println!(rt;
+        "logs {logs} blocks {} records {} undone {} words {}",
+        done.blocks, done.records, done.undone, done.words
+    )?;
+    if timed {
+        println!(rt;
+            "seals {} us, scan {} us, redo and undo {} us",
+            done.seals, done.scan, done.redo
+        )?;
+    }
+    Ok(())
+}
+
 fn times(rt: &HostRuntime) -> io::Result<u64>
     ensures { IfOk result (λ millions. millions ≤ 1000000) }
 {
@@ -159,7 +188,8 @@ fn main(rt: HostRuntime) -> io::Result<()> {
     let millions = times(&rt)?;
     if millions == 0 {
         let (a, b, c, d, e) = (lines(3), replies(3), records(3), searches(3), blocks(3));
-        return println!(rt; "{a} {b} {c} {d} {e}");
+        println!(rt; "{a} {b} {c} {d} {e}")?;
+        return recover(&rt, 2, 64, false);
     }
     let start = Instant::now(&rt)?;
     let sum = lines(millions * 250000);
@@ -180,5 +210,9 @@ fn main(rt: HostRuntime) -> io::Result<()> {
     let start = Instant::now(&rt)?;
     let sum = blocks(millions * 10000);
     let took = start.elapsed(&rt)?.as_millis();
-    println!(rt; "blocks {sum} {took} ms")
+    println!(rt; "blocks {sum} {took} ms")?;
+    for logs in [1, 1, 4, 16] {
+        recover(&rt, logs, 4096, true)?;
+    }
+    Ok(())
 }
