@@ -19,7 +19,7 @@ use Rattle.disk_image.proofs.BlockInLemmas.{every_belongs}
 use Rattle.disk_image.proofs.RunLemmas.{belongs-text}
 use Rattle.worker_log.specs.Inside.{IsSized, closed_log}
 use Rattle.worker_log.specs.Accounts.{Account, spelled_from, with_current}
-use Rattle.worker_log.specs.Kept.{IsInRange, AllFitBlocks, AreLate, HoldsFirst, IsBlockWrite, IsKept, LeavesBlocks, RiseFrom, StagesTo, closed, flushed, staged, IsOfGeneration}
+use Rattle.worker_log.specs.Kept.{IsInRange, AllFitBlocks, AreLate, HoldsFirst, IsBlockWrite, IsKept, IsOwnWrite, IsPassed, LeavesBlocks, RiseFrom, StagesTo, closed, flushed, staged, write_of, IsOfGeneration}
 use Rattle.worker_log.specs.Logs.{Log, used}
 use Rattle.worker_log.specs.Calls.{HasRoom}
 use Rattle.worker_log.proofs.ListLemmas.{block_of, fit_blocks-take, fit_blocks-with, joined-drop-more, joined-drop-with, joined-with, length-with, one_size, spelled-belongs, spelled-last, spelled-with, take-with, with_some}
@@ -48,7 +48,7 @@ module _ (x : Account) (log : Log) (area : Area) (ranges : IsInRange log) (kept 
   all_fit = fit_blocks-with x.written x.current kept.fit.0 kept.fit.1
 
   abbrev Own : Write → Type 0
-  Own w = IsBlockWrite log.blocks (spelled_from log.generation log.log log.head all) w
+  Own w = IsOwnWrite log.generation log.log log.blocks log.head all w
 
   -- in the image c, which has the area's bytes outside these ranges, with these writes
   holds_first : (c : List ℕ) (high : ℕ) (ranges : List (ℕ × ℕ)) (since : List Write) → AreLate log.blocks (log.head + x.synced) high ranges → high ≤ log.head + log.blocks → area.end ≤ length c
@@ -70,21 +70,28 @@ module _ (x : Account) (log : Log) (area : Area) (ranges : IsInRange log) (kept 
         above = λ r has. kept.above r (subst (Has r) (joined-drop-with x.synced x.written x.current kept.synced) (joined-drop-more x.synced it.k all it.enough r has));
       }
 
-  -- a block that was spelled is of the generation
+  -- a block of the log is of the generation
+  block_generation : (b : Block) (w : Write) → Belongs log.generation log.log b.number b.bytes → w ≡ write_of log.blocks b → IsOfGeneration log.generation w
+  block_generation b w its is = record {
+    place = b.number % log.blocks;
+    at = ap (λ (v : Write). v.0) is;
+    whole = ap (λ (v : Write). length v.1) is ∙ its.sealed.whole;
+    generation_is = ap (λ (v : Write). generation_of v.1) is ∙ its.of_generation;
+  }
+
   own_generation : (w : Write) → Own w → IsOfGeneration log.generation w
-  own_generation w is =
+  own_generation w (inl is) =
       let b : Block = is.block in
       let its : Belongs log.generation log.log b.number b.bytes = (every_belongs log.generation log.log b.number b.bytes).0
       (spelled-belongs log.generation log.log ranges.generation log_fits log.head all (omega (arith, all_within, head_fits)) all_fit b is.has) in
-      record {
-        place = b.number % log.blocks;
-        at = ap (λ (v : Write). v.0) is.at;
-        whole = ap (λ (v : Write). length v.1) is.at ∙ its.sealed.whole;
-        generation_is = ap (λ (v : Write). generation_of v.1) is.at ∙ its.of_generation;
-      }
+      block_generation b w its is.at
+  own_generation w (inr passed) = block_generation passed.block w passed.belongs passed.at
 
   old_writes : (w : Write) → Has w kept.holds.since → Own w
-  old_writes w has = let it = kept.holds.blocks w has in record { block = it.block; has = spelled-with log.generation log.log log.head x.written x.current it.block it.has; at = it.at }
+  old_writes w has = ⊎_elim
+      (λ (it : IsBlockWrite log.blocks (spelled_from log.generation log.log log.head x.written) w). inl (record { block = it.block; has = spelled-with log.generation log.log log.head x.written x.current it.block it.has; at = it.at }))
+      (λ (passed : IsPassed log.generation log.log log.blocks log.head w). inr passed)
+      (kept.holds.blocks w has)
 
   -- before any further write
   pub leaves_now : (writes : List Write) (c : List ℕ) → writes ≡ area.writes → Leaves area c → LeavesBlocks x log writes c
@@ -122,13 +129,13 @@ module _ (x : Account) (log : Log) (area : Area) (ranges : IsInRange log) (kept 
         ∙ ap (λ (l : List ℕ). record { number = log.head + length x.written; bytes = block_text log.generation log.log (log.head + length x.written) (length x.current) l }) kept.payload
 
     new_write : (w : Write) → w ≡ (at, block) → Own w
-    new_write w is = record {
+    new_write w is = inl (record {
       block = record { number = log.next; bytes = block };
       has = subst (λ (b : Block). Has b (spelled_from log.generation log.log log.head all)) (sym is_last)
           (subst (λ (l : List (List Record)). Has (block_of log.generation log.log (log.head + length x.written) x.current) (spelled_from log.generation log.log log.head l)) (sym (with_some x.written x.current has_some))
           (spelled-last log.generation log.log log.head x.written x.current));
       at = is;
-    }
+    })
 
     late_too : AreLate log.blocks (log.head + x.synced) (log.head + length x.written + 1) ((at, length block) ∷ area.unsynced)
     late_too = record {

@@ -12,7 +12,7 @@ use Rattle.disk_image.specs.Blocks.{belongs}
 use Rattle.disk_image.specs.Runs.{Block, block_at, HasNone}
 use Rattle.disk_image.proofs.BlockInLemmas.{every_belongs}
 use Rattle.worker_log.specs.Accounts.{spelled_from}
-use Rattle.worker_log.specs.Kept.{AllFitBlocks, AreLate, HoldsBlocks, IsBlockWrite}
+use Rattle.worker_log.specs.Kept.{AllFitBlocks, AreLate, HoldsBlocks, IsBlockWrite, IsOwnWrite, IsPassed, write_of}
 use Rattle.worker_log.proofs.ListLemmas.{spelled-number, spelled-at, spelled-take, spelled-belongs}
 use Rattle.worker_log.proofs.RingLemmas.{same_piece, piece_within, block_apart}
 use Rattle.worker_log.proofs.PrefixLemmas.{Prefix, found, prefix}
@@ -43,24 +43,28 @@ module _ (g s n h : ℕ) (first : List ℕ) (older : List Write) (written : List
 
 -- ## The run of a fair image
 
--- The image c of a ring, where each write since it had the first bytes is one of these blocks, and the synced ones stand.
+-- The image c of a ring, where each write since it had the first bytes is one of these blocks or one that the head has passed,
+-- and the synced ones stand.
 module _ (g s n h : ℕ) (first : List ℕ) (ws : List (List Record)) (synced : ℕ) (c : List ℕ) (since : List Write) (fg : g < 2 ^ 64) (fs : s < 2 ^ 64) (fh : h + n ≤ 2 ^ 64)
     (le : synced ≤ length ws) (few : length ws ≤ n) (fit : AllFitBlocks ws) (some : 0 < n) (new : HasNone g n first)
-    (writes : (w : Write) → Has w since → IsBlockWrite n (spelled_from g s h ws) w) (fair : IsFair 2048 IsSealed first since c)
+    (writes : (w : Write) → Has w since → IsOwnWrite g s n h ws w) (fair : IsFair 2048 IsSealed first since c)
     (stands : (b : Block) → Has b (spelled_from g s h (take synced ws)) → block_at n b.number c ≡ b.bytes) where
   ws_belongs : (b : Block) → Has b (spelled_from g s h ws) → belongs g s b.number b.bytes ≡ true
   ws_belongs b has = spelled-belongs g s fg fs h ws (omega (arith, few, fh)) fit b has
 
+  block_one : (b : Block) (w : Write) → Belongs g s b.number b.bytes → w ≡ write_of n b → IsOfOne 2048 w
+  block_one b w its is = record {
+    slot = b.number % n;
+    place = ap (λ (x : Write). x.0) is;
+    whole = ap (λ (x : Write). length x.1) is ∙ its.sealed.whole;
+  }
+
   -- each write is of one block
   of_one : (w : Write) → Has w since → IsOfOne 2048 w
-  of_one w has =
-      let one = writes w has in
-      let b : Block = one.block in
-      let its : Belongs g s b.number b.bytes = (every_belongs g s b.number b.bytes).0 (ws_belongs b one.has) in record {
-        slot = b.number % n;
-        place = ap (λ (x : Write). x.0) one.at;
-        whole = ap (λ (x : Write). length x.1) one.at ∙ its.sealed.whole;
-      }
+  of_one w has = ⊎_elim
+      (λ (one : IsBlockWrite n (spelled_from g s h ws) w). block_one one.block w ((every_belongs g s one.block.number one.block.bytes).0 (ws_belongs one.block one.has)) one.at)
+      (λ (old : IsPassed g s n h w). block_one old.block w old.belongs old.at)
+      (writes w has)
 
   -- a block that belongs is one of them
   listed : (r : ℕ) → h ≤ r → belongs g s r (block_at n r c) ≡ true → Has (found g s n c r) (spelled_from g s h ws)
@@ -70,13 +74,19 @@ module _ (g s n h : ℕ) (first : List ℕ) (ws : List (List Record)) (synced : 
       (λ (stood : piece 2048 (r % n) c ≡ piece 2048 (r % n) first). absurd (let P : List ℕ → Type 0 = Belongs g s r in let old : Belongs g s r (piece 2048 (r % n) first) = subst P stood is in new (r % n) (mod-lt r some) old.sealed old.of_generation))
       (λ (has : Has (2048 * (r % n), piece 2048 (r % n) c) since).
       let w : Write = (2048 * (r % n), piece 2048 (r % n) c) in
-      let one = writes w has in
+      ⊎_elim
+      (λ (one : IsBlockWrite n (spelled_from g s h ws) w).
       let b : Block = one.block in
       let bytes : block_at n r c ≡ b.bytes = ap (λ (x : Write). x.1) one.at in
       let its : Belongs g s b.number b.bytes = (every_belongs g s b.number b.bytes).0 (ws_belongs b one.has) in
       let number : r ≡ b.number = sym is.of_block ∙ ap block_of bytes ∙ its.of_block in
       let same : b ≡ found g s n c r = ap (λ (x : ℕ). record { number = x; bytes = b.bytes }) (sym number) ∙ ap (λ (x : List ℕ). record { number = r; bytes = x }) (sym bytes) in
       subst (λ (x : Block). Has x (spelled_from g s h ws)) same one.has)
+      (λ (old : IsPassed g s n h w).
+      let bytes : block_at n r c ≡ old.block.bytes = ap (λ (x : Write). x.1) old.at in
+      let number : r ≡ old.block.number = sym is.of_block ∙ ap block_of bytes ∙ old.belongs.of_block in
+      absurd (omega (arith, number, old.below, low)))
+      (writes w has))
       (narrow 2048 IsSealed first since c (omega arith) of_one fair (r % n) is.sealed)
 
   synced_belongs : (r : ℕ) → h ≤ r → r < h + synced → belongs g s r (block_at n r c) ≡ true

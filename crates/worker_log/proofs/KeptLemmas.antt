@@ -3,7 +3,7 @@ use Rattle.std.proofs.Common.{◌≡◌, inl, inr, ⊎_elim, ℕ, ◌+◌, ◌*�
 use Rattle.std.proofs.lemmas.Bool.{cases_eq, cases_lt, eq-eqb, ne_eqb}
 use Rattle.std.proofs.lemmas.List.{append-nil, length-drop, nil_from_length, take-append-le, take_all, drop_all}
 use Rattle.std.proofs.lemmas.List.Concat.{flat_map-append}
-use Rattle.map_model.proofs.ListLemmas.{has_cases, has_left}
+use Rattle.map_model.proofs.ListLemmas.{has_cases, has_left, has_right}
 use Rattle.map_model.specs.Lists.{Has}
 use Rattle.image_model.specs.Fair.{piece, IsFair, IsWritten}
 use Rattle.image_model.proofs.FairLemmas.{among_more, exactly}
@@ -17,9 +17,9 @@ use Rattle.disk_image.proofs.RunLemmas.{belongs-text}
 use Rattle.worker_log.specs.Inside.{IsSized, closed_log}
 use Rattle.worker_log.specs.Logs.{Log}
 use Rattle.worker_log.specs.Accounts.{Account, joined, spelled, spelled_from, with_current}
-use Rattle.worker_log.specs.Kept.{AllFitBlocks, FitsBlock, HoldsBlocks, IsKept, RiseFrom, closed, flushed, staged}
+use Rattle.worker_log.specs.Kept.{AllFitBlocks, FitsBlock, HoldsBlocks, IsBlockWrite, IsKept, IsPassed, RiseFrom, closed, flushed, staged}
 use Rattle.worker_log.specs.Calls.{HasRoom}
-use Rattle.worker_log.proofs.ListLemmas.{block_of, fit-push, fit_blocks-drop, fit_blocks-with, has_first, joined-drop-with, joined-dropped, joined-with, none_left, rise-has, rise-push, spelled-last, spelled-more, spelled-number, spelled-push, spelled-take, take-with, with_none, with_some}
+use Rattle.worker_log.proofs.ListLemmas.{block_of, fit-push, fit_blocks-drop, fit_blocks-with, has_first, joined-drop-with, joined-dropped, joined-with, none_left, rise-has, rise-push, rise-to, spelled-last, spelled-more, spelled-number, spelled-push, spelled-take, take-with, with_none, with_some}
 use Rattle.worker_log.proofs.RingLemmas.{rem_apart, rem_next, write_here, write_other, write_size}
 use Rattle.worker_log.proofs.CrashLemmas.{written_within}
 
@@ -72,8 +72,11 @@ module _ (g s n h : ℕ) (first : List ℕ) (older : List Write) (ws : List (Lis
       since = wrote ∷ holds.since;
       writes = ap (λ (l : List Write). wrote ∷ l) holds.writes;
       blocks = λ w has. ⊎_elim
-          (λ (e : w ≡ wrote). record { block = block_of g s next rs; has = spelled-last g s h ws rs; at = e })
-          (λ old. let it = holds.blocks w old in record { block = it.block; has = spelled-more g s h ws (rs ∷ []) it.block it.has; at = it.at }) has;
+          (λ (e : w ≡ wrote). inl (record { block = block_of g s next rs; has = spelled-last g s h ws rs; at = e }))
+          (λ old. ⊎_elim
+          (λ (it : IsBlockWrite n (spelled_from g s h ws) w). inl (record { block = it.block; has = spelled-more g s h ws (rs ∷ []) it.block it.has; at = it.at }))
+          (λ (passed : IsPassed g s n h w). inr passed)
+          (holds.blocks w old)) has;
       new = holds.new;
       fair = fair_after;
       reads = λ b has. ⊎_elim
@@ -242,3 +245,24 @@ module _ (first : List ℕ) (older : List Write) (ws : List (List Record)) (done
     above = λ r has. absurd (subst (λ (l : List (List Record)). Has r (joined l ++ [])) (drop_all (length ws) ws (omega arith)) has);
     holds = holds_synced log.generation log.log log.blocks log.head first older ws done area sized.ranges.generation (omega (arith, sized.ranges.number.1)) (omega (arith, sized.ranges.head, sized.ranges.some.1)) kept.synced kept.ring kept.fit.0 kept.holds;
   }
+
+-- the clock and the number up to which the log is flushed rise, where nothing is new since the last flush
+pub kept_marked : (number : ℕ) (x : Account) (log : Log) (area : Area) → log.flushed ≡ log.last → log.last ≤ number → IsKept x log area → IsKept x (record log { last = number; flushed = number }) area
+kept_marked number x log area all rises kept = record {
+  next = kept.next;
+  payload = kept.payload;
+  count = kept.count;
+  fit = kept.fit;
+  ring = kept.ring;
+  numbers = (kept.numbers.0, rise-to kept.numbers.0 (joined x.written ++ x.current) log.last number rises kept.numbers.1);
+  synced = kept.synced;
+  below = λ r has. omega (arith, kept.below r has, all, rises);
+  above = λ r has.
+      let late : log.flushed < r.gsn = kept.above r has in
+      let early : r.gsn ≤ log.last = rise-has kept.numbers.0 (joined x.written ++ x.current) log.last kept.numbers.1 r (⊎_elim
+      (λ old. has_left r (joined x.written) x.current (joined-dropped x.synced x.written r old))
+      (λ now. has_right r (joined x.written) x.current now)
+      (has_cases r (joined (drop x.synced x.written)) x.current has)) in
+      absurd (omega (arith, late, early, all));
+  holds = kept.holds;
+}

@@ -7,3 +7,4 @@ pub mod CallLemmas
 pub mod PutLemmas
 pub mod ReadLemmas
 pub mod AccountLemmas
+pub mod CutLemmas

@@ -1,5 +1,5 @@
 -- What calls make of a log, whatever the account.
-use Rattle.std.specs.Prelude.{◌≡◌, ◌≤◌, ◌+◌, ◌==◌, [], ◌∷◌, ◌++◌, length, if◌then◌else◌}
+use Rattle.std.specs.Prelude.{◌≡◌, ◌≤◌, ◌+◌, ◌==◌, ℕ, [], ◌∷◌, ◌++◌, length, if◌then◌else◌}
 use Rattle.log_record.specs.declared.record.Record.{Record}
 use Rattle.log_block.specs.Block.{records_text}
 use Rattle.worker_log.specs.Logs.{Log}
@@ -16,3 +16,7 @@ pub record After (r : Record) (old new : Log) : Type 0 where
 -- the block in hand was written, if it held a record, and all is synced
 abbrev pub flushed_log : Log → Log
 flushed_log log = record log { next = log.next + (if log.count == 0 then 0 else 1); payload = []; count = 0; flushed = log.last }
+
+-- its head has passed k blocks
+abbrev pub cut_log : ℕ → Log → Log
+cut_log k log = record log { head = log.head + k }

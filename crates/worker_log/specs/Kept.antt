@@ -1,10 +1,10 @@
 -- What an account says of a log and of its area, and what a crash leaves of it.
-use Rattle.std.specs.Prelude.{◌≡◌, ◌≤◌, ◌<◌, ◌+◌, ◌^◌, ◌*◌, ◌%◌, ℕ, List, [], ◌∷◌, ◌++◌, length, take, drop}
+use Rattle.std.specs.Prelude.{◌≡◌, ◌⊎◌, ◌≤◌, ◌<◌, ◌+◌, ◌-◌, ◌^◌, ◌*◌, ◌%◌, ℕ, List, [], ◌∷◌, ◌++◌, length, take, drop}
 use Rattle.map_model.specs.Lists.{Has}
 use Rattle.image_model.specs.Fair.{IsFair}
 use Rattle.lean_disk.specs.Area.{Write, Area}
 use Rattle.log_record.specs.declared.record.Record.{Record}
-use Rattle.log_block.specs.Block.{AllFit, records_text, IsSealed, generation_of}
+use Rattle.log_block.specs.Block.{AllFit, records_text, Belongs, IsSealed, generation_of}
 use Rattle.disk_image.specs.Runs.{Block, run_in, block_at, HasNone}
 use Rattle.worker_log.specs.Logs.{Log, used}
 use Rattle.worker_log.specs.Accounts.{Account, all_blocks, spelled_from, joined, records_of}
@@ -55,6 +55,17 @@ pub record IsBlockWrite (n : ℕ) (blocks : List Block) (w : Write) : Type 0 whe
   pub has : Has block blocks
   pub at : w ≡ write_of n block
 
+-- a write of a block of the log that the head has passed
+pub record IsPassed (generation log n head : ℕ) (w : Write) : Type 0 where
+  pub block : Block
+  pub below : block.number < head
+  pub belongs : Belongs generation log block.number block.bytes
+  pub at : w ≡ write_of n block
+
+-- a write of the log: of one of its blocks from the head on, or of one that the head has passed
+abbrev pub IsOwnWrite : (generation log n head : ℕ) → List (List Record) → Write → Type 0
+IsOwnWrite generation log n head written w = IsBlockWrite n (spelled_from generation log head written) w ⊎ IsPassed generation log n head w
+
 -- the write of one block of a generation
 pub record IsOfGeneration (generation : ℕ) (w : Write) : Type 0 where
   pub place : ℕ
@@ -63,11 +74,11 @@ pub record IsOfGeneration (generation : ℕ) (w : Write) : Type 0 where
   pub generation_is : generation_of w.1 ≡ generation
 
 -- The area of a ring of n blocks holds the blocks that were written since it had these first bytes and older writes, from
--- number head on, so many of them synced; and nothing else of this generation.
+-- number head on, so many of them synced; and of this generation nothing else but blocks that the head has passed.
 pub record HoldsBlocks (generation log n head : ℕ) (first : List ℕ) (older : List Write) (written : List (List Record)) (synced : ℕ) (area : Area) : Type 0 where
   pub since : List Write
   pub writes : area.writes ≡ since ++ older
-  pub blocks : (w : Write) → Has w since → IsBlockWrite n (spelled_from generation log head written) w
+  pub blocks : (w : Write) → Has w since → IsOwnWrite generation log n head written w
   pub new : HasNone generation n first
   pub fair : IsFair 2048 IsSealed first since area.bytes
   -- as it reads
@@ -135,6 +146,10 @@ flushed x = record x { written = all_blocks x; synced = length (all_blocks x); c
 -- the record is put into the block in hand
 abbrev pub staged : Account → Record → Account
 staged x r = record x { current = x.current ++ r ∷ [] }
+
+-- the head has passed the first k blocks
+abbrev pub cut : ℕ → Account → Account
+cut k x = record x { written = drop k x.written; synced = x.synced - k }
 
 -- a record was put into the block in hand, which was written first where it had no room
 pub record Staged (r : Record) (x y : Account) (old : Log) : Type 0 where

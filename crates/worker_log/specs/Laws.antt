@@ -1,5 +1,5 @@
--- What a crash leaves between two calls, and what the run that a crash leaves says.
-use Rattle.std.specs.Prelude.{◌≡◌, ◌≤◌, ℕ, List, [], ◌∷◌, ◌++◌, length}
+-- What a crash leaves between two calls, what the run that a crash leaves says, and what stands after a cut.
+use Rattle.std.specs.Prelude.{◌≡◌, ◌≤◌, ◌<◌, ◌+◌, ◌^◌, ℕ, List, [], ◌∷◌, ◌++◌, length}
 use Rattle.map_model.specs.Lists.{Has}
 use Rattle.image_model.specs.Entries.{Entry}
 use Rattle.image_model.specs.Images.{IsFalling}
@@ -8,7 +8,8 @@ use Rattle.log_record.specs.declared.record.Record.{Record}
 use Rattle.disk_image.specs.Records.{entry_of}
 use Rattle.disk_image.specs.Runs.{Block, logged_onto, entries_in, AreReadable}
 use Rattle.worker_log.specs.Logs.{Log}
-use Rattle.worker_log.specs.Kept.{IsInRange, AllFitBlocks, HoldsFirst, IsKept, LeavesBlocks, Staged, flushed, run_of}
+use Rattle.worker_log.specs.Kept.{IsInRange, AllFitBlocks, HoldsFirst, IsKept, LeavesBlocks, Staged, cut, flushed, run_of}
+use Rattle.worker_log.specs.Calls.{cut_log}
 use Rattle.worker_log.specs.Accounts.{Account, all_blocks, spelled_from, joined, records_of}
 
 -- a crash between two calls leaves what one in a call does
@@ -63,3 +64,11 @@ pub record ReadsPrefix (x : Account) (log : Log) (bytes : List ℕ) : Type 0 whe
 -- So it is wherever the run is the first of the account's blocks.
 abbrev pub EveryPrefix : Type 0
 EveryPrefix = (x : Account) (log : Log) (bytes : List ℕ) → HoldsFirst x log (all_blocks x) bytes → ReadsPrefix x log bytes
+
+-- the log from a later head on, which has passed blocks that are synced
+pub record IsCutOff (k : ℕ) (x : Account) (log : Log) (area : Area) : Type 0 where
+  pub ranges : IsInRange (cut_log k log)
+  pub kept : IsKept (cut k x) (cut_log k log) area
+
+abbrev pub EveryCut : Type 0
+EveryCut = (k : ℕ) (x : Account) (log : Log) (area : Area) → IsInRange log → k ≤ x.synced → log.head + k < 2 ^ 63 → IsKept x log area → IsCutOff k x log area

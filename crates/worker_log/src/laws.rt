@@ -1,5 +1,5 @@
 // What holds of accounts and of the runs that crashes leave.
-ghost use Rattle.worker_log.specs.Laws.{EveryFlushed, EveryPrefix, EveryKept, EveryRun, EveryStaged};
+ghost use Rattle.worker_log.specs.Laws.{EveryCut, EveryFlushed, EveryPrefix, EveryKept, EveryRun, EveryStaged};
 
 /// What a crash leaves between two calls.
 pub fn every_kept()
@@ -24,4 +24,9 @@ pub fn every_staged()
 /// A flush leaves the records of an account.
 pub fn every_flushed()
     ensures { EveryFlushed }
+{}
+
+/// What stands where the head has passed blocks that are synced.
+pub fn every_cut()
+    ensures { EveryCut }
 {}

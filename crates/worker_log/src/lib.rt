@@ -5,5 +5,5 @@
 mod laws;
 mod log;
 
-pub use laws::{every_flushed, every_kept, every_prefix, every_run, every_staged};
+pub use laws::{every_cut, every_flushed, every_kept, every_prefix, every_run, every_staged};
 pub use log::{DiskFault, RESERVE, Staging, WorkerLog};

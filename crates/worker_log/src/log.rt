@@ -8,8 +8,8 @@ ghost use Rattle.lean_disk.specs.Story.{Tells};
 ghost use Rattle.log_record.specs.Spelling.{Fits, record_text};
 ghost use Rattle.log_block.specs.Block.{block_text, records_text};
 ghost use Rattle.worker_log.specs.Logs.{Log, limit, used};
-ghost use Rattle.worker_log.specs.Kept.{IsInRange, IsFresh, IsKept, LeavesBlocks, StagesTo, closed, fresh_account, flushed as flushed_account};
-ghost use Rattle.worker_log.specs.Calls.{After, HasRoom, flushed_log};
+ghost use Rattle.worker_log.specs.Kept.{IsInRange, IsFresh, IsKept, LeavesBlocks, StagesTo, closed, cut, fresh_account, flushed as flushed_account};
+ghost use Rattle.worker_log.specs.Calls.{After, HasRoom, cut_log, flushed_log};
 ghost use Rattle.worker_log.specs.Accounts.{Account};
 
 use lean_disk::{Did, Part};
@@ -227,6 +227,31 @@ impl WorkerLog {
         };
         self.flushed = last;
         Ok(last)
+    }
+
+    /// The head passes the blocks before this one, whose places may then be written again.
+    pub fn pass(&mut self, head: u64)
+        requires from { self.old.head ≤ head }
+        requires to { head ≤ self.old.next }
+        requires low { head < 2 ^ 63 }
+        ensures ranges { IsInRange self.new }
+        ensures log { self.new ≡ cut_log (head - self.old.head) self.old }
+        ensures kept { (x : Account) (area : Area) → head - self.old.head ≤ x.synced → IsKept x self.old area → IsKept (cut (head - self.old.head) x) self.new area }
+    {
+        self.head = head;
+    }
+
+    /// Where nothing is new since the last flush, its clock and the number up to which it is flushed become those of a
+    /// sync.
+    pub fn mark(&mut self, number: u64)
+        requires flushed { self.old.flushed ≡ self.old.last }
+        requires rises { self.old.last ≤ number }
+        ensures ranges { IsInRange self.new }
+        ensures log { self.new ≡ record self.old { last = number; flushed = number } }
+        ensures kept { (x : Account) (area : Area) → IsKept x self.old area → IsKept x self.new area }
+    {
+        self.last = number;
+        self.flushed = number;
     }
 
     /// The number up to which it was flushed.
