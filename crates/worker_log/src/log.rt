@@ -117,6 +117,20 @@ impl WorkerLog {
         self.blocks - RESERVE
     }
 
+    /// The first block of the run.
+    pub fn head(&self) -> u64
+        ensures { result ≡ self.now.head }
+    {
+        self.head
+    }
+
+    /// The number of the block in hand.
+    pub fn next(&self) -> u64
+        ensures { result ≡ self.now.next }
+    {
+        self.next
+    }
+
     /// The number of the last record.
     pub fn last(&self) -> u64
         ensures answer { result ≡ self.now.last }
