@@ -255,8 +255,8 @@ impl WorkerLog {
         self.head = head;
     }
 
-    /// Where nothing is new since the last flush, its clock and the number up to which it is flushed become those of a
-    /// sync.
+    /// Its clock and the number up to which it is flushed become the number of a sync, where nothing is new since the
+    /// last flush.
     pub fn mark(&mut self, number: u64)
         requires flushed { self.old.flushed ≡ self.old.last }
         requires rises { self.old.last ≤ number }
