@@ -15,10 +15,16 @@ enum Step {
     Flushes(u64, u64),
     Commit(u64, Result<(), DiskFault>),
     Flush(Result<u64, DiskFault>),
+    /// The clock takes the number of a sync.
+    Mark(u64),
+    /// The head passes the blocks before this one.
+    Pass(u64),
     Room(Result<(), Staging>),
     /// So many blocks are used, and up to this number it is flushed.
     Stands(u32, u64),
     Last(u64),
+    /// The first block of the run, and the block in hand.
+    Blocks(u64, u64),
 }
 
 // Bytes of the log's area at a place, and so many zeros behind them.
@@ -45,7 +51,7 @@ struct Case {
     bytes: &'static [Bytes],
 }
 
-static CASES: [Case; 4] = [
+static CASES: [Case; 6] = [
     Case {
         name: "a change and its commit are one block",
         generation: 1,
@@ -165,6 +171,70 @@ static CASES: [Case; 4] = [
         bytes: &[],
     },
     Case {
+        name: "the clock goes on from a mark, and the head passes a block",
+        generation: 1,
+        log: 1,
+        head: 0,
+        failing: &[],
+        steps: &[
+            Step::Change(1, Ok(())),
+            Step::Flush(Ok(1)),
+            Step::Mark(5),
+            Step::Stands(1, 5),
+            Step::Last(5),
+            Step::Change(6, Ok(())),
+            Step::Flush(Ok(6)),
+            Step::Stands(2, 6),
+            Step::Pass(1),
+            Step::Stands(1, 6),
+            Step::Blocks(1, 2),
+        ],
+        flushed: 6,
+        len: 4096,
+        moment: 4,
+        // Block 1 with one change, of number 6.
+        bytes: &[Bytes {
+            at: 2064,
+            bytes: &[
+                1, 0, 0, 0, 0, 0, 0, 0, 53, 0, 0, 0, 1, 0, 0, 0, 1, 1, 0, 0, 0, 0, 0, 0, 0, 6, 0,
+                0, 0, 0, 0, 0, 0,
+            ],
+            zeros: 0,
+        }],
+    },
+    Case {
+        name: "blocks that the head has passed leave their places",
+        generation: 1,
+        log: 1,
+        head: 0,
+        failing: &[],
+        steps: &[
+            Step::Flushes(1, 48),
+            Step::Pass(48),
+            Step::Stands(0, 48),
+            Step::Room(Ok(())),
+            Step::Flushes(49, 80),
+            Step::Stands(32, 80),
+            Step::Blocks(48, 80),
+        ],
+        flushed: 80,
+        len: 131072,
+        moment: 160,
+        // Block 79 at place 15, and block 16 at place 16.
+        bytes: &[
+            Bytes {
+                at: 30736,
+                bytes: &[79, 0, 0, 0, 0, 0, 0, 0, 53, 0, 0, 0, 1, 0, 0, 0],
+                zeros: 0,
+            },
+            Bytes {
+                at: 32784,
+                bytes: &[16, 0, 0, 0, 0, 0, 0, 0, 53, 0, 0, 0, 1, 0, 0, 0],
+                zeros: 0,
+            },
+        ],
+    },
+    Case {
         name: "a flush that fails leaves the number",
         generation: 1,
         log: 1,
@@ -212,6 +282,19 @@ fn commit<P: Part>(
     log.stage_end(dev, &Record { txn: 1, gsn, body })
 }
 
+fn mark(rt: &impl Abort, log: &mut WorkerLog, number: u64) {
+    assert!(rt; log.flushed() == log.last());
+    assert!(rt; log.last() <= number);
+    log.mark(number);
+}
+
+fn pass(rt: &impl Abort, log: &mut WorkerLog, head: u64) {
+    assert!(rt; log.head() <= head);
+    assert!(rt; head <= log.next());
+    assert!(rt; head <= 4096);
+    log.pass(head);
+}
+
 // Whether a step is answered as is written.
 fn is_done<P: Part>(rt: &impl Abort, log: &mut WorkerLog, dev: &mut P, step: &Step) -> bool {
     match step {
@@ -237,9 +320,18 @@ fn is_done<P: Part>(rt: &impl Abort, log: &mut WorkerLog, dev: &mut P, step: &St
         }
         Step::Commit(gsn, want) => commit(rt, log, dev, *gsn) == *want,
         Step::Flush(want) => log.flush(dev) == *want,
+        Step::Mark(number) => {
+            mark(rt, log, *number);
+            true
+        }
+        Step::Pass(head) => {
+            pass(rt, log, *head);
+            true
+        }
         Step::Room(want) => log.room() == *want,
         Step::Stands(used, flushed) => log.used() == *used && log.flushed() == *flushed,
         Step::Last(last) => log.last() == *last,
+        Step::Blocks(head, next) => log.head() == *head && log.next() == *next,
     }
 }
 
