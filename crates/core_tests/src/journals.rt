@@ -1,6 +1,6 @@
 // The committed transactions of a state.
 use crate::maps::{copy_of, value_of, write};
-use map_model::{Answer, Call};
+use map_model::{Answer, Answered, Call};
 use plain_core::{Core, Entry, Kind};
 use plain_images::Name;
 use std::alloc::{AllocError, Global};
@@ -193,25 +193,33 @@ pub fn transcript_of(
     alloc: Global,
     core: &Core,
     txns: &[Committed],
-) -> Result<Option<Vec<(u32, Call, Answer)>>, AllocError> {
+) -> Result<Option<Vec<Answered>>, AllocError> {
     let mut lines = Vec::new(alloc);
     for txn in txns {
         let session = u32::try_from(txn.session).unwrap_or(u32::MAX);
         let number = txn.number;
-        lines.push((session, Call::Begin, Answer::Begun { number }))?;
+        lines.push(said(session, Call::Begin, Answer::Begun { number }))?;
         for entry in core.entries.iter().rev() {
             if is_of(entry, *txn) && is_write(entry.kind) && value_of(entry.after).is_none() {
                 return Ok(None);
             }
             if is_of(entry, *txn) && is_call(entry.kind) {
                 let (call, answer) = line_of(entry);
-                lines.push((session, call, answer))?;
+                lines.push(said(session, call, answer))?;
             }
         }
         let at = txn.at;
-        lines.push((session, Call::Commit, Answer::Committed { number, at }))?;
+        lines.push(said(session, Call::Commit, Answer::Committed { number, at }))?;
     }
     Ok(Some(lines))
+}
+
+fn said(session: u32, call: Call, answer: Answer) -> Answered {
+    Answered {
+        session,
+        call,
+        answer,
+    }
 }
 
 fn line_of(entry: &Entry) -> (Call, Answer) {

@@ -30,7 +30,7 @@ pub record IsYoung (m : Master) (s : Story) : Type 0 where
 pub record IsUnwritten (s : Story) (input output : List ℕ) (c : Crash) : Type 0 where
   pub lines : ℕ
   pub notes : c.notes ≡ s.notes + lines
-  pub quiet : IsQuiet input (first_lines lines output)
+  pub quiet : IsQuiet 1 input (first_lines lines output)
   pub writes : (a : ℕ) → Tells s a → c.writes a ≡ (s.area a).writes
   pub leaves : (a : ℕ) → Tells s a → Leaves (s.area a) (c.image a)
 
@@ -38,7 +38,7 @@ pub record IsUnwritten (s : Story) (input output : List ℕ) (c : Crash) : Type 
 pub record IsNoneTold (m : Master) (s : Story) (input output : List ℕ) (n : Master) (c : Crash) : Type 0 where
   pub lines : ℕ
   pub notes : c.notes ≡ s.notes + lines
-  pub quiet : IsQuiet input (first_lines lines output)
+  pub quiet : IsQuiet 1 input (first_lines lines output)
   pub shows : ShowsStill m (areas_of s) n c.image
 
 -- The master that counts is that of the disk on entry, or the one that its opening writes; and what stands of the run's calls.

@@ -8,6 +8,7 @@ use Rattle.map_model.specs.Lists.{Has}
 use Rattle.map_model.specs.Laws.{IsFalling}
 use Rattle.map_model.specs.Maps.{Map}
 use Rattle.map_model.specs.Journals.{Journal, Name, Txn, Serial, IsClosed, after}
+use Rattle.map_model.specs.Outputs.{Reply}
 use Rattle.map_model.specs.Transcripts.{journal}
 use Rattle.image_model.specs.Ends.{kept}
 use Rattle.image_model.specs.Entries.{Entry, is_commit}
@@ -18,7 +19,7 @@ use Rattle.disk_slots.specs.declared.master.Master.{Master}
 use Rattle.disk_image.specs.Fair.{IsFairCrash}
 use Rattle.disk_image.specs.Masters.{IsOfRun}
 use Rattle.disk_image.specs.Shown.{image_by, DiskStandsFor, IsCleanDisk}
-use Rattle.script_lang.specs.Replies.{Reply, reply_line}
+use Rattle.script_lang.specs.Replies.{reply_line}
 use Rattle.transcripts.specs.Transcripts.{transcript, durables, first_lines}
 use Rattle.lean_shell.specs.Crashes.{IsUnwritten, IsYoung}
 
@@ -30,7 +31,7 @@ pub record IsInHand (input output : List ℕ) (records : List Entry) (all : Jour
   pub commit : is_commit end.kind ≡ true
   pub reply : List ℕ
   pub reply_is : reply ≡ reply_line (Reply.Answered end.log (Committed end.txn end.number))
-  pub next : transcript 1 input (output ++ reply) ≡ transcript 1 input output ++ (end.log, Commit, Committed end.txn end.number) ∷ []
+  pub next : transcript 1 input (output ++ reply) ≡ transcript 1 input output ++ record { session = end.log; call = Commit; answer = Committed end.txn end.number } ∷ []
   pub all_is : all ≡ journal (transcript 1 input (output ++ reply))
 
 -- Recovery of what a crash left gives the map after the kept: those up to the master's floor, and the winners.

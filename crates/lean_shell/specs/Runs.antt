@@ -18,10 +18,11 @@ use Rattle.core_state.specs.Openings.{Opening, first_map}
 use Rattle.session_model.specs.Sessions.{Session, IsAlone, start}
 use Rattle.worker_log.specs.Logs.{Log}
 use Rattle.lean_engine.specs.States.{State, Pictures}
-use Rattle.script_lang.specs.Replies.{Reply}
-use Rattle.session_model.specs.Calls.{Answered}
+use Rattle.map_model.specs.Outputs.{Reply}
+use Rattle.map_model.specs.declared.call.Answered.{Answered}
 use Rattle.transcripts.specs.Told.{opened_line, replies, text_of}
-use Rattle.transcripts.specs.Transcripts.{transcript, in_turn}
+use Rattle.map_model.specs.Pairings.{in_turn}
+use Rattle.transcripts.specs.Transcripts.{transcript}
 use Rattle.script_run.specs.Runs.{Executes, IsLastCut, PrintsTo}
 use Rattle.script_run.specs.Texts.{LinesRead}
 use Rattle.script_run.specs.declared.stop.Stop.{Stop}

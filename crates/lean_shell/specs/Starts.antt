@@ -11,9 +11,11 @@ use Rattle.disk_image.specs.Shown.{Areas, image_by, shown_by}
 use Rattle.recovery.specs.Crashes.{IsNextOf}
 use Rattle.recovery.specs.Opened.{IsGreatest}
 use Rattle.core_state.specs.Openings.{Opening, start_page}
-use Rattle.session_model.specs.Calls.{Answered, Runs}
+use Rattle.map_model.specs.declared.call.Answered.{Answered}
+use Rattle.session_model.specs.Calls.{Runs}
 use Rattle.session_model.specs.Sessions.{Session}
-use Rattle.transcripts.specs.Transcripts.{first_lines, in_turn, transcript}
+use Rattle.map_model.specs.Pairings.{in_turn}
+use Rattle.transcripts.specs.Transcripts.{first_lines, transcript}
 
 -- The opening is the start that a disk gives by its master: its format and logs, the pages that recovery of its image gives, and the greatest number
 -- there as base number.

@@ -69,15 +69,15 @@ pub fn run_disk<S: Source, K: Sink<D>, D: Disk>(
 {
     // What holds of a session's calls, of transcripts, and of images that agree.
     session_model::every_session();
-    transcripts::every_transcript();
+    transcripts::every_in_turn();
     transcripts::every_moment();
-    transcripts::every_prefix();
+    transcripts::every_heard();
     script_run::every_script();
     transcripts::every_end();
     transcripts::every_notice();
     transcripts::every_tail();
     transcripts::every_next();
-    transcripts::every_next_reply();
+    transcripts::every_next_in_turn();
     disk_image::every_agreement();
     disk_image::every_sealed();
     worker_log::every_run();

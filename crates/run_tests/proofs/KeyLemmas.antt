@@ -14,7 +14,9 @@ use Rattle.map_model.proofs.ListLemmas.{order_has}
 use Rattle.script_lang.specs.Lines.{line_of}
 use Rattle.script_lang.specs.Text.{script_lines, whole_lines}
 use Rattle.script_lang.specs.declared.line.Line as script
-use Rattle.transcripts.specs.Transcripts.{answers, asked, asked_onto, paired, transcript}
+use Rattle.map_model.specs.declared.call.Answered.{Answered}
+use Rattle.map_model.specs.Pairings.{counted, ends_for, first_call, grouped, is_last, pair_onto, paired, rest_of}
+use Rattle.transcripts.specs.Transcripts.{answers, asked, asked_onto, transcript}
 use Rattle.run_tests.specs.RuledOut.{AsksToWrite, Writes}
 
 -- ## Lines of a script
@@ -40,33 +42,70 @@ record IsPaired (calls : List (ℕ × Call)) (c : Call) : Type 0 where
   has : Has pair calls
   call_is : pair.1 ≡ c
 
-paired_has : (calls : List (ℕ × Call)) (given : List (ℕ × Answer)) (y : ℕ × Call × Answer) → Has y (paired calls given) → IsPaired calls y.1
-paired_has [] [] y h = absurd h
-paired_has (p ∷ calls) [] y h = absurd h
-paired_has [] (a ∷ given) y h = absurd h
-paired_has (p ∷ calls) (a ∷ given) y (inl e) = record { pair = p; has = inl refl; call_is = sym (ap (λ (q : ℕ × Call × Answer). q.1) e) }
-paired_has (p ∷ calls) (a ∷ given) y (inr h) = let r = paired_has calls given y h in record { pair = r.pair; has = inr r.has; call_is = r.call_is }
+first_has : (session : ℕ) (calls : List (ℕ × Call)) (c : Call) → first_call session calls ≡ Some c → IsPaired calls c
+first_has session [] c e = absurd (cc)
+first_has session (p ∷ calls) c e = go (p.0 == session) (first_has session calls c) e
+  where
+    some_or : Option Call → Call
+    some_or (Some z) = z
+    some_or None = c
+
+    go : (b : Bool) → (first_call session calls ≡ Some c → IsPaired calls c) → cond b (Some p.1) (first_call session calls) ≡ Some c → IsPaired (p ∷ calls) c
+    go true ih q = record { pair = p; has = inl refl; call_is = ap some_or q }
+    go false ih q = let r = ih q in record { pair = r.pair; has = inr r.has; call_is = r.call_is }
+
+rest_has : (session : ℕ) (calls : List (ℕ × Call)) (p : ℕ × Call) → Has p (rest_of session calls) → Has p calls
+rest_has session [] p h = h
+rest_has session (q ∷ calls) p h = go (q.0 == session) (rest_has session calls p) h
+  where
+    go : (b : Bool) → (Has p (rest_of session calls) → Has p calls) → Has p (cond b calls (q ∷ rest_of session calls)) → Has p (q ∷ calls)
+    go true ih h = inr h
+    go false ih (inl e) = inl e
+    go false ih (inr h) = inr (ih h)
+
+abbrev Grouped : List (ℕ × Answer) → Answered → Type 0
+Grouped given y = (calls : List (ℕ × Call)) → Has y (grouped calls given) → IsPaired calls y.call
+
+grouped_has : (given : List (ℕ × Answer)) (y : Answered) → Grouped given y
+grouped_has [] y calls h = absurd h
+grouped_has (a ∷ given) y calls h = go (grouped_has given y) (first_call a.0 calls) refl h
+  where
+    later : Grouped given y → (b : Bool) → Has y (grouped (cond b (rest_of a.0 calls) calls) given) → IsPaired calls y.call
+    later ih true i = let r = ih (rest_of a.0 calls) i in record { pair = r.pair; has = rest_has a.0 calls r.pair r.has; call_is = r.call_is }
+    later ih false i = ih calls i
+
+    go : Grouped given y → (o : Option Call) → first_call a.0 calls ≡ o → Has y (pair_onto o a.0 a.1 (grouped (cond (is_last a.1) (rest_of a.0 calls) calls) given)) → IsPaired calls y.call
+    go ih None is i = later ih (is_last a.1) i
+    go ih (Some c) is (inl e) = subst (IsPaired calls) (sym (ap (λ (x : Answered). x.call) e)) (first_has a.0 calls c is)
+    go ih (Some c) is (inr i) = later ih (is_last a.1) i
+
+counted_has : (xs : List Answered) (y : Answered) → Has y (counted xs) → Has y xs
+counted_has [] y h = h
+counted_has (x ∷ xs) y h = go (ends_for x.session (x ∷ xs)) (counted_has xs y) h
+  where
+    go : (b : Bool) → (Has y (counted xs) → Has y xs) → Has y (cond b (x ∷ counted xs) (counted xs)) → Has y (x ∷ xs)
+    go true ih (inl e) = inl e
+    go true ih (inr i) = inr (ih i)
+    go false ih i = inr (ih i)
+
+paired_has : (calls : List (ℕ × Call)) (given : List (ℕ × Answer)) (y : Answered) → Has y (paired calls given) → IsPaired calls y.call
+paired_has calls given y h = grouped_has given y calls (counted_has (grouped calls given) y h)
 
 -- ## Lines of a transcript
 
-record IsTold (xs : List (ℕ × Call × Answer)) (c : Call) : Type 0 where
-  line : ℕ × Call × Answer
-  has : Has line xs
-  call_is : line.1 ≡ c
-
-lines_has : (behind : List Line) (xs : List (ℕ × Call × Answer)) (l : Line) → Has l (lines_onto behind xs) → Has l behind ⊎ IsTold xs l.call
+lines_has : (behind : List Line) (xs : List Answered) (l : Line) → Has l (lines_onto behind xs) → Has l behind ⊎ Has l.said xs
 lines_has behind [] l h = inl h
-lines_has behind (x ∷ xs) l h = elim (lines_has (record { place = length behind; session = x.0; call = x.1; answer = x.2 } ∷ behind) xs l h) [
+lines_has behind (x ∷ xs) l h = elim (lines_has (record { place = length behind; said = x } ∷ behind) xs l h) [
   | inl there ↦ elim there [
-    | inl e ↦ inr (record { line = x; has = inl refl; call_is = sym (ap (λ (y : Line). y.call) e) })
+    | inl e ↦ inr (inl (ap (λ (y : Line). y.said) e))
     | inr older ↦ inl older
   ]
-  | inr r ↦ inr (record { line = r.line; has = inr r.has; call_is = r.call_is })
+  | inr i ↦ inr (inr i)
 ]
 
 lines_in_has : (session : ℕ) (ls : List Line) (x : Line) → Has x (lines_in session ls) → Has x ls
 lines_in_has session [] x h = absurd h
-lines_in_has session (y ∷ earlier) x h = go (y.session == session) (is_bound y.answer) (lines_in_has session earlier x) h
+lines_in_has session (y ∷ earlier) x h = go (y.said.session == session) (is_bound y.said.answer) (lines_in_has session earlier x) h
   where
     go : (a b : Bool) → (Has x (lines_in session earlier) → Has x earlier) → Has x (cond a (cond b [] (y ∷ lines_in session earlier)) (lines_in session earlier)) → Has x (y ∷ earlier)
     go true true ih h = absurd h
@@ -91,8 +130,8 @@ onto_has (answer.Refused why) session lines older t h = inr h
 
 told_has : (ls : List Line) (t : Told) → Has t (told ls) → (x : Line) → Has x t.lines → Has x ls
 told_has [] t h x there = absurd h
-told_has (y ∷ earlier) t h x there = elim (onto_has y.answer y.session (lines_in y.session earlier) (told earlier) t h) [
-  | inl e ↦ inr (lines_in_has y.session earlier x (subst (λ (l : List Line). Has x l) e there))
+told_has (y ∷ earlier) t h x there = elim (onto_has y.said.answer y.said.session (lines_in y.said.session earlier) (told earlier) t h) [
+  | inl e ↦ inr (lines_in_has y.said.session earlier x (subst (λ (l : List Line). Has x l) e there))
   | inr older ↦ inr (told_has earlier t older x there)
 ]
 
@@ -132,19 +171,19 @@ module _ (key : ℕ) where
   by_call call.Sync a c e w = absurd (cc)
   by_call call.Checkpoint a c e w = absurd (cc)
 
-  steps_has : (ls : List Line) (s : Step) → Has s (steps_of ls) → writes_key s.call key ≡ true → (x : Line) × Has x ls × Writes x.call key
+  steps_has : (ls : List Line) (s : Step) → Has s (steps_of ls) → writes_key s.call key ≡ true → (x : Line) × Has x ls × Writes x.said.call key
   steps_has [] s h w = absurd h
-  steps_has (x ∷ earlier) s h w = go (map_call x.call x.answer) (map_answer x.answer) refl (steps_has earlier s) h
+  steps_has (x ∷ earlier) s h w = go (map_call x.said.call x.said.answer) (map_answer x.said.answer) refl (steps_has earlier s) h
     where
       Found : List Line → Type 0
-      Found ls = (y : Line) × Has y ls × Writes y.call key
+      Found ls = (y : Line) × Has y ls × Writes y.said.call key
 
       older : Found earlier → Found (x ∷ earlier)
       older f = (f.0, inr f.1, f.2)
 
-      go : (o : Option MapCall) (a : Option MapAnswer) → map_call x.call x.answer ≡ o → (Has s (steps_of earlier) → writes_key s.call key ≡ true → Found earlier) →
-          Has s (step_onto x.session o a (steps_of earlier)) → Found (x ∷ earlier)
-      go (Some c) (Some a) is ih (inl e) = (x, inl refl, by_call x.call x.answer c is (ap (λ (z : Step). writes_key z.call key) (sym e) ∙ w))
+      go : (o : Option MapCall) (a : Option MapAnswer) → map_call x.said.call x.said.answer ≡ o → (Has s (steps_of earlier) → writes_key s.call key ≡ true → Found earlier) →
+          Has s (step_onto x.said.session o a (steps_of earlier)) → Found (x ∷ earlier)
+      go (Some c) (Some a) is ih (inl e) = (x, inl refl, by_call x.said.call x.said.answer c is (ap (λ (z : Step). writes_key z.call key) (sym e) ∙ w))
       go (Some c) (Some a) is ih (inr h) = older (ih h w)
       go (Some c) None is ih h = older (ih h w)
       go None a is ih h = older (ih h w)
@@ -152,7 +191,7 @@ module _ (key : ℕ) where
   -- so a line of the script asks it
   pub asks_to_write : (input output : List ℕ) (t : Txn) → Has t (journal (transcript 1 input output)) → Wrote t key → AsksToWrite input key
   asks_to_write input output t h wrote =
-      let ts : List (ℕ × Call × Answer) = transcript 1 input output in
+      let ts : List Answered = transcript 1 input output in
       let m = map_has txn_of (told (lines_of ts)) t (order_has is_earlier (map txn_of (told (lines_of ts))) t h) in
       let has : Has wrote.step (steps_of m.0.lines) = subst (λ (u : Txn). Has wrote.step u.calls) m.2 wrote.has in
       let s = steps_has m.0.lines wrote.step has wrote.writes in
@@ -160,7 +199,7 @@ module _ (key : ℕ) where
       elim (lines_has [] ts s.0 line) [
         | inl none ↦ absurd none
         | inr told ↦
-            let p : IsPaired (asked 1 (script_lines input)) told.line.1 = paired_has (asked 1 (script_lines input)) (answers (whole_lines output)) told.line told.has in
+            let p : IsPaired (asked 1 (script_lines input)) s.0.said.call = paired_has (asked 1 (script_lines input)) (answers (whole_lines output)) s.0.said told in
             let a : IsAsked 1 (script_lines input) p.pair.1 = asked_has 1 (script_lines input) p.pair p.has in
-            record { text = a.text; has = a.has; line = a.line; is = a.is; writes = subst (λ (c : Call). Writes c key) (sym (a.call_is ∙ (p.call_is ∙ told.call_is))) s.2 }
+            record { text = a.text; has = a.has; line = a.line; is = a.is; writes = subst (λ (c : Call). Writes c key) (sym (a.call_is ∙ p.call_is)) s.2 }
       ]

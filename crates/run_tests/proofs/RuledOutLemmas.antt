@@ -24,7 +24,8 @@ use Rattle.disk_image.specs.Shown.{image_by}
 use Rattle.recovery.specs.Opened.{IsGreatest}
 use Rattle.core_state.specs.Openings.{Opening}
 use Rattle.session_model.specs.Sessions.{Session, begun, start}
-use Rattle.session_model.specs.Calls.{Answered, Begins, Commits, Does}
+use Rattle.map_model.specs.declared.call.Answered.{Answered}
+use Rattle.session_model.specs.Calls.{Begins, Commits, Does}
 use Rattle.lean_engine.specs.States.{State, Pictures}
 use Rattle.lean_engine.specs.Refusals.{log_refusal, refusal_of}
 use Rattle.transcripts.specs.Transcripts.{first_lines}

@@ -18,7 +18,7 @@ use Rattle.recovery.specs.Telling.{TellsAll}
 use Rattle.script_lang.specs.Lines.{line_of}
 use Rattle.script_lang.specs.Text.{script_lines}
 use Rattle.script_lang.specs.declared.line.Line.{Line}
-use Rattle.session_model.specs.Calls.{Answered}
+use Rattle.map_model.specs.declared.call.Answered.{Answered}
 use Rattle.transcripts.specs.Transcripts.{durables, first_lines}
 use Rattle.lean_shell.specs.Headline.{Survives}
 use Rattle.lean_shell.specs.Runs.{Counts, Executed}

@@ -7,9 +7,10 @@ use Rattle.std.specs.Str.{bytes_eq}
 use Rattle.std.specs.Fmt.{decimal}
 use Rattle.script_lang.specs.Words.{number_of}
 use Rattle.script_lang.specs.Pieces.{name}
-use Rattle.script_lang.specs.Replies.{Reply, reply_text, reply_of, answer_text, said_of, after_prefix, numbered, Fits, AnswerFits}
+use Rattle.map_model.specs.Outputs.{Reply}
+use Rattle.script_lang.specs.Replies.{reply_text, reply_of, answer_text, said_of, after_prefix, numbered, Fits, AnswerFits}
 use Rattle.script_lang.specs.Text.{IsLine}
-use Rattle.script_lang.specs.Replies.Reply.{Answered, Durable}
+use Rattle.map_model.specs.Outputs.Reply.{Answered, Durable}
 use Rattle.map_model.specs.declared.call.Answer.{Answer}
 use Rattle.map_model.specs.declared.call.Answer.TheVariants.{Begun, Value, Was, Committed, Refused}
 use Rattle.map_model.specs.declared.call.Refusal.TheVariants.{InTransaction, NoTransaction, TooLong, LogFull, ClockSpent, Full}

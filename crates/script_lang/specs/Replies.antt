@@ -7,12 +7,9 @@ use Rattle.script_lang.specs.Pieces.{name}
 use Rattle.map_model.specs.declared.call.Answer.{Answer}
 use Rattle.map_model.specs.declared.call.Answer.TheVariants.{Begun, Value, Was, Committed, Refused}
 use Rattle.map_model.specs.declared.call.Refusal.{Refusal}
+use Rattle.map_model.specs.Outputs.{Reply}
+use Rattle.map_model.specs.Outputs.Reply.{Answered, Durable}
 use Rattle.map_model.specs.declared.call.Refusal.TheVariants.{InTransaction, NoTransaction, TooLong, LogFull, ClockSpent, Full}
-
--- a session is answered, or told that its transaction is durable
-pub data Reply : Type 0 where
-  Answered : ℕ → Answer → Reply
-  Durable : ℕ → ℕ → Reply
 
 -- A refusal or an answer with no line yet has no text.
 abbrev pub refusal_text : Refusal → List ℕ

@@ -1,9 +1,10 @@
 // The lines of output that name a session.
 ghost use Rattle.std.specs.Prelude.{◌≡◌, ◌≤◌, ◌+◌, ◌++◌, ◌∷◌, [], ℕ, List, Some, length};
 ghost use Rattle.script_lang.specs.Pieces.{Holds};
-ghost use Rattle.script_lang.specs.Replies.{Reply, reply_text, reply_of, answer_text, refusal_text, Fits, AnswerFits, RefusalFits};
+ghost use Rattle.map_model.specs.Outputs.{Reply};
+ghost use Rattle.script_lang.specs.Replies.{reply_text, reply_of, answer_text, refusal_text, Fits, AnswerFits, RefusalFits};
 ghost use Rattle.script_lang.specs.Text.{IsLine};
-ghost use Rattle.script_lang.specs.Replies.Reply.{Answered, Durable};
+ghost use Rattle.map_model.specs.Outputs.Reply.{Answered, Durable};
 ghost use Rattle.script_lang.specs.declared.reply.TheConstants.{REPLY};
 
 use crate::text::{put_number, put_text, put_with_name, put_with_number};

@@ -9,17 +9,19 @@ use Rattle.log_block.specs.Block.{IsSealed}
 use Rattle.lean_disk.specs.Area.{Write, Leaves}
 use Rattle.lean_disk.specs.Story.{Crash, Story, Tells}
 use Rattle.lean_edge.specs.Outside.{Feed}
-use Rattle.script_lang.specs.Replies.{Reply}
+use Rattle.map_model.specs.Outputs.{Reply}
 use Rattle.core_state.specs.Openings.{Opening}
 use Rattle.session_model.specs.Sessions.{Session}
-use Rattle.session_model.specs.Calls.{Answered, Runs}
+use Rattle.map_model.specs.declared.call.Answered.{Answered}
+use Rattle.session_model.specs.Calls.{Runs}
 use Rattle.worker_log.specs.Logs.{Log}
 use Rattle.worker_log.specs.Accounts.{Account, spelled_from}
 use Rattle.worker_log.specs.Kept.{IsInRange, IsKept, run_of, IsOfGeneration}
 use Rattle.lean_engine.specs.States.{Logs}
 use Rattle.lean_engine.specs.Crashes.{HoldsPrefix, LeavesPrefix}
 use Rattle.lean_engine.specs.Laws.{EveryRest}
-use Rattle.transcripts.specs.Told.{names}
+use Rattle.map_model.specs.Outputs.{names}
+use Rattle.transcripts.specs.Told.{}
 use Rattle.script_run.specs.Moments.{HoldsRun, InHand}
 use Rattle.script_run.specs.Runs.{IsFlushed, SameRing}
 

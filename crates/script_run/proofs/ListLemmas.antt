@@ -4,22 +4,12 @@ use Rattle.std.proofs.lemmas.List.{append-nil}
 use mathlib.Core.List.{append_assoc}
 use Rattle.map_model.specs.declared.call.Answer.TheVariants as answer
 use Rattle.map_model.specs.Journals.{Name}
-use Rattle.map_model.specs.Lists.{Has}
-use Rattle.script_lang.specs.Replies.{Reply}
-use Rattle.session_model.specs.Calls.{Answered}
-use Rattle.transcripts.specs.Told.{replies, names, name_of, committed, committed_by, EachFits, Heard}
+use Rattle.map_model.specs.Outputs.{Reply}
+use Rattle.map_model.specs.declared.call.Answered.{Answered}
+use Rattle.map_model.specs.Outputs.{names, name_of}
+use Rattle.transcripts.specs.Told.{replies, committed, committed_by, EachFits, Heard}
 use Rattle.transcripts.specs.Told.Heard.{Whole, Lacking}
 use Rattle.transcripts.proofs.AskedLemmas.{replies_append}
-
-pub has_cases : {A : Type 0} (x : A) (a b : List A) → Has x (a ++ b) → Has x a ⊎ Has x b
-has_cases x [] b h = inr h
-has_cases x (y ∷ a) b (inl e) = inl (inl e)
-has_cases x (y ∷ a) b (inr h) = elim (has_cases x a b h) [ inl i ↦ inl (inr i) | inr i ↦ inr i ]
-
-pub has_left : {A : Type 0} (x : A) (a b : List A) → Has x a → Has x (a ++ b)
-has_left x [] b h = absurd h
-has_left x (y ∷ a) b (inl e) = inl e
-has_left x (y ∷ a) b (inr h) = inr (has_left x a b h)
 
 pub names_append : (newer told : List Reply) → names (newer ++ told) ≡ names told ++ names newer
 names_append [] told = sym (append-nil (names told))
@@ -27,9 +17,9 @@ names_append (r ∷ newer) told = ap (λ (ns : List Name). ns ++ name_of r) (nam
 
 pub committed_append : (newer xs : List Answered) → committed (newer ++ xs) ≡ committed xs ++ committed newer
 committed_append [] xs = sym (append-nil (committed xs))
-committed_append (x ∷ newer) xs = ap (λ (ns : List Name). ns ++ committed_by x.answer) (committed_append newer xs) ∙ append_assoc (committed xs) (committed newer) (committed_by x.answer)
+committed_append (x ∷ newer) xs = ap (λ (ns : List Name). ns ++ committed_by x.session x.answer) (committed_append newer xs) ∙ append_assoc (committed xs) (committed newer) (committed_by x.session x.answer)
 
-pub fits_append : (newer xs : List Answered) → EachFits newer → EachFits xs → EachFits (newer ++ xs)
+pub fits_append : (newer xs : List Answered) → EachFits 1 newer → EachFits 1 xs → EachFits 1 (newer ++ xs)
 fits_append [] xs h k = k
 fits_append (x ∷ newer) xs h k = (fits_append newer xs h.0 k, h.1, h.2)
 
@@ -37,12 +27,13 @@ fits_append (x ∷ newer) xs h k = (fits_append newer xs h.0 k, h.1, h.2)
 pub heard_more : (heard xs : List Answered) (first : List Reply) → Heard heard first → Heard (heard ++ xs) (first ++ replies xs)
 heard_more heard xs first (Whole e) = Whole (ap (λ (rs : List Reply). rs ++ replies xs) e ∙ sym (replies_append heard xs))
 heard_more heard xs first (Lacking l) = Lacking (record {
+  session = l.session;
   call = l.call;
   number = l.number;
   at = l.at;
   earlier = l.earlier ++ xs;
   last = ap (λ (ys : List Answered). ys ++ xs) l.last;
-  told_is = ap (λ (rs : List Reply). rs ++ replies xs) l.told_is ∙ ap (λ (rs : List Reply). Reply.Answered 1 (answer.Committed l.number l.at) ∷ rs) (sym (replies_append l.earlier xs));
+  told_is = ap (λ (rs : List Reply). rs ++ replies xs) l.told_is ∙ ap (λ (rs : List Reply). Reply.Answered l.session (answer.Committed l.number l.at) ∷ rs) (sym (replies_append l.earlier xs));
 })
 
 -- a part of one call

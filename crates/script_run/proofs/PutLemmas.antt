@@ -11,7 +11,8 @@ use Rattle.lean_disk.specs.Story.{IsLawful, Story}
 use Rattle.lean_disk.proofs.MomentLemmas.{started, goes_on_by, weaker}
 use Rattle.map_model.specs.declared.call.Answer.{Answer}
 use Rattle.map_model.specs.declared.call.Answer.TheVariants as answer
-use Rattle.script_lang.specs.Replies.{Reply, reply_line}
+use Rattle.map_model.specs.Outputs.{Reply}
+use Rattle.script_lang.specs.Replies.{reply_line}
 use Rattle.transcripts.specs.Told.{text_of, durable_of}
 use Rattle.script_run.specs.Runs.{Holds}
 use Rattle.script_run.specs.Inside.{OnlyNotes, PutLeaves, Says}
@@ -87,7 +88,7 @@ holds_prefix told r h0 h1 h2 so_far p =
 -- ## What was put of a call
 
 -- an answer that is no commit is not told to be durable
-pub not_durable : (a : Answer) → ((number at : ℕ) → a ≡ answer.Committed number at → ⊥) → durable_of a ≡ []
+pub not_durable : (a : Answer) → ((number at : ℕ) → a ≡ answer.Committed number at → ⊥) → durable_of 1 a ≡ []
 not_durable (answer.Committed number at) never = absurd (never number at refl)
 not_durable _ never = refl
 
@@ -101,13 +102,13 @@ module _ (a : Answer) (h0 h1 h2 : Held) (s0 s1 s2 : Story) (law : IsLawful s0) w
         of_putting = refl;
         told = [];
         tail = take (p.failed refl).0 (reply_line first);
-        prints = record { later = durable_of a; next = first; split = refl; count = (p.failed refl).0; prefix = refl };
+        prints = record { later = durable_of 1 a; next = first; split = refl; count = (p.failed refl).0; prefix = refl };
         holds = holds_prefix [] first h0 h0 h1 (holds_none h0) p;
         notes = no_notes s0;
         any_moment = no_puts s0 law;
       }) in at s1 same
 
-  pub said_one : durable_of a ≡ [] → Puts (reply_line first) Done h0 h1 → Noted s0 s1 → Says a None h0 h1 s0 s1
+  pub said_one : durable_of 1 a ≡ [] → Puts (reply_line first) Done h0 h1 → Noted s0 s1 → Says a None h0 h1 s0 s1
   said_one none p n = record {
     of_putting = tt;
     told = first ∷ [];
@@ -122,8 +123,8 @@ module _ (a : Answer) (h0 h1 h2 : Held) (s0 s1 s2 : Story) (law : IsLawful s0) w
     abbrev second : Reply
     second = Reply.Durable 1 number
 
-    durable_is : durable_of a ++ first ∷ [] ≡ second ∷ first ∷ []
-    durable_is = ap (λ (b : Answer). durable_of b ++ first ∷ []) is
+    durable_is : durable_of 1 a ++ first ∷ [] ≡ second ∷ first ∷ []
+    durable_is = ap (λ (b : Answer). durable_of 1 b ++ first ∷ []) is
 
     pub failed_second : Puts (reply_line first) Done h0 h1 → Noted s0 s1 → Puts (reply_line second) Failed h1 h2 → s2 ≡ s1 → Says a (Some WriteFault) h0 h2 s0 s2
     failed_second p n q same = subst (λ (s : Story). Says a (Some WriteFault) h0 h2 s0 s) (sym same) (record {

@@ -1,13 +1,15 @@
 -- Where the reader stands.
-use Rattle.std.proofs.Common.{◌≡◌, ◌++◌, ◌∷◌, [], ℕ, List, Result, Ok, Option, Some, None, refl, sym, ap, ◌∙◌, subst}
+use Rattle.std.proofs.Common.{◌≡◌, ◌++◌, ◌∷◌, [], ℕ, List, false, Result, Ok, Option, Some, None, refl, sym, ap, ◌∙◌, subst}
 use mathlib.Core.List.{append_assoc}
 use Rattle.map_model.specs.declared.call.Answer.{Answer}
 use Rattle.lean_edge.specs.Outside.{Feed}
 use Rattle.script_lang.specs.Reading.{Unread, Reading}
-use Rattle.script_lang.specs.Replies.{Reply}
-use Rattle.session_model.specs.Calls.{Answered}
+use Rattle.map_model.specs.Outputs.{Reply}
+use Rattle.map_model.specs.declared.call.Answered.{Answered}
+use Rattle.map_model.specs.Pairings.{is_open_line, script_of}
 use Rattle.transcripts.specs.Told.{asked_text}
 use Rattle.transcripts.proofs.AskedLemmas.{asked_append}
+use Rattle.transcripts.proofs.TranscriptLemmas.{script_append}
 use Rattle.script_run.specs.Runs.{ReadsTo, PrintsTo, IsWhole}
 use Rattle.script_run.specs.Inside.{IsOfPutting, IsOfReading}
 use Rattle.script_run.specs.declared.stop.Stop.{Stop}
@@ -17,8 +19,11 @@ use Rattle.script_run.specs.declared.stop.Stop.TheVariants.{End, Refused, ReadFa
 pub reads_same : (stop : Option Stop) (m n : ℕ) (start now : Feed) (r : Unread) (seen other : List ℕ) → m ≡ n → seen ≡ other → ReadsTo stop m start now r seen → ReadsTo stop n start now r other
 reads_same stop m n start now r seen other number bytes is = subst (λ (k : ℕ). ReadsTo stop k start now r other) number (subst (λ (t : List ℕ). ReadsTo stop m start now r t) bytes is)
 
-pub seen_more : (seen : List ℕ) (xs ys : List Answered) → (seen ++ asked_text xs) ++ asked_text ys ≡ seen ++ asked_text (ys ++ xs)
-seen_more seen xs ys = append_assoc seen (asked_text xs) (asked_text ys) ∙ ap (λ (t : List ℕ). seen ++ t) (sym (asked_append ys xs))
+-- the lines of calls behind those that were answered in full
+pub seen_more : (seen : List ℕ) (xs ys : List Answered) → is_open_line xs ≡ false → (seen ++ asked_text (script_of xs)) ++ asked_text (script_of ys) ≡ seen ++ asked_text (script_of (ys ++ xs))
+seen_more seen xs ys closed =
+    append_assoc seen (asked_text (script_of xs)) (asked_text (script_of ys))
+    ∙ ap (λ (t : List ℕ). seen ++ t) (sym (ap asked_text (script_append ys xs closed) ∙ asked_append (script_of xs) (script_of ys)))
 
 -- a sink's failure, or none, leaves the reader behind the call
 pub reads_putting : (stop : Option Stop) (n : ℕ) (start now : Feed) (r : Unread) (seen : List ℕ) → IsOfPutting stop → Reading start now r seen → ReadsTo stop n start now r seen

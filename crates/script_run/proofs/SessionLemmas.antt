@@ -11,7 +11,8 @@ use Rattle.page_model.specs.Nodes.{Format}
 use Rattle.image_model.specs.Entries.{Entry}
 use Rattle.core_state.specs.Openings.{Opening}
 use Rattle.session_model.specs.Sessions.{Session, committed, change_of, commit_of}
-use Rattle.session_model.specs.Calls.{Answered, Refuses, Does, Runs}
+use Rattle.map_model.specs.declared.call.Answered.{Answered}
+use Rattle.session_model.specs.Calls.{Refuses, Does, Runs}
 use Rattle.worker_log.specs.Logs.{Log}
 use Rattle.lean_engine.specs.States.{State}
 use Rattle.lean_engine.specs.Calls.{IsCommitted}
@@ -78,10 +79,10 @@ stays_flushed g d e s t x below a = go (grown g.format g.changes s x.call x.answ
     }
 
 -- a commit is logged, and flushed
-pub commit_flushed : (g : Opening) (d e : State) (s t : Session) (x : Answered) → Answers g d s x e t → (name : Name) → Has name (committed_by x.answer) → IsFlushed name t e.log
+pub commit_flushed : (g : Opening) (d e : State) (s t : Session) (x : Answered) → Answers g d s x e t → (name : Name) → Has name (committed_by x.session x.answer) → IsFlushed name t e.log
 commit_flushed g d e s t x a name has = go (grown g.format g.changes s x.call x.answer t a.does)
   where
-    other : (a : Answer) → (IsCommitted a → ⊥) → Has name (committed_by a) → ⊥
+    other : (a : Answer) → (IsCommitted a → ⊥) → Has name (committed_by x.session a) → ⊥
     other (answer.Committed n at) never h = never tt
     other _ never h = h
 
@@ -92,8 +93,8 @@ commit_flushed g d e s t x a name has = go (grown g.format g.changes s x.call x.
         let all : e.log.flushed ≡ e.log.last = (keeps_ring x.answer x.call d e.log a.log).committed (subst IsCommitted (sym is) tt) in
         let pictured : t.clock ≡ e.log.last = a.pictures.clock in
         let clock : t.clock ≡ suc s.clock = ap (λ (u : Session). u.clock) after in
-        let mine : Has name (committed_by (answer.Committed s.begun (committed s).clock)) = subst (λ (b : Answer). Has name (committed_by b)) is has in
-        let named : name.number ≡ s.begun = ⊎_elim (λ (q : name ≡ record { session = 1; number = s.begun }). ap (λ (n : Name). n.number) q) (λ (never : ⊥). absurd never) mine in
+        let mine : Has name (committed_by x.session (answer.Committed s.begun (committed s).clock)) = subst (λ (b : Answer). Has name (committed_by x.session b)) is has in
+        let named : name.number ≡ s.begun = ⊎_elim (λ (q : name ≡ record { session = x.session; number = s.begun }). ap (λ (n : Name). n.number) q) (λ (never : ⊥). absurd never) mine in
         record {
           commit = record { entry = commit_of s; has = subst (Has (commit_of s)) (sym (ap (λ (u : Session). u.log) after)) (inl refl); commit = refl; txn = sym named };
           number = omega arith;

@@ -16,10 +16,12 @@ use Rattle.map_model.specs.Journals.{Name}
 use Rattle.map_model.specs.Lists.{Has}
 use Rattle.script_lang.specs.Lines.{CallFits}
 use Rattle.script_lang.specs.Reading.{Unread, Reading}
-use Rattle.script_lang.specs.Replies.{Reply, AnswerFits}
+use Rattle.map_model.specs.Outputs.{Reply}
+use Rattle.script_lang.specs.Replies.{AnswerFits}
 use Rattle.core_state.specs.Openings.{Opening}
 use Rattle.session_model.specs.Sessions.{Session}
-use Rattle.session_model.specs.Calls.{Answered, Runs}
+use Rattle.map_model.specs.declared.call.Answered.{Answered}
+use Rattle.session_model.specs.Calls.{Runs}
 use Rattle.worker_log.specs.Kept.{IsInRange, IsKept}
 use Rattle.worker_log.specs.Accounts.{Account}
 use Rattle.lean_engine.specs.States.{State, Logs, Pictures}
@@ -29,17 +31,20 @@ use Rattle.lean_engine.specs.Logged.{LogAfter}
 use Rattle.script_run.proofs.RingLemmas.{keeps_ring}
 use Rattle.lean_engine.specs.Crashes.{IsAround, LeavesPrefix}
 use Rattle.lean_engine.specs.Laws.{EveryRest}
-use Rattle.transcripts.specs.Told.{ask, asked_text, replies, names, Heard}
+use Rattle.map_model.specs.Outputs.{names}
+use Rattle.map_model.specs.Pairings.{script_of}
+use Rattle.transcripts.specs.Told.{ask, asked_text, replies, Heard}
 use Rattle.transcripts.specs.Told.Heard.{Whole}
 use Rattle.transcripts.specs.Laws.{FirstCalls}
 use Rattle.transcripts.proofs.PrefixLemmas.{prefix}
-use Rattle.transcripts.proofs.TranscriptLemmas.{names_are}
+use Rattle.transcripts.proofs.HeardLemmas.{names_are}
 use Rattle.script_run.specs.Moments.{IsAsked, ScriptLeaves}
 use Rattle.script_run.specs.Runs.{Answers, ScriptRuns, SameRing, IsFlushed, ReadsTo, PrintsTo, OthersStand}
 use Rattle.script_run.specs.Inside.{IsOfReading, PutLeaves, Says, Stepped}
 use Rattle.script_run.specs.declared.stop.Stop.{Stop}
 use Rattle.script_run.specs.declared.stop.Stop.TheVariants.{WriteFault, DiskFault}
-use Rattle.script_run.proofs.ListLemmas.{has_left, names_append, none_or_one}
+use Rattle.map_model.proofs.ListLemmas.{has_left}
+use Rattle.script_run.proofs.ListLemmas.{names_append, none_or_one}
 use Rattle.script_run.proofs.SessionLemmas.{all_below, StaysFlushed, stays_flushed, commit_flushed}
 use Rattle.script_run.proofs.PutLemmas.{holds_none}
 use Rattle.script_run.proofs.ReadLemmas.{reads_same, reads_putting, prints_none, of_no_sink, FirstOf, first_of}
@@ -52,7 +57,7 @@ same_log e = record { generation = refl; log = refl; blocks = refl; head = refl 
 pub script_leaves : (start : Feed) (seen : List ℕ) (g : Opening) (xs heard unheard answered : List Answered) (first later told : List Reply) (s : Session) (x : Account) (e : State) (old : Story) (c : Crash)
     → later ++ first ≡ told → (IsTrue old.counts → old.notes + length first < 2 ^ 64 → c.notes ≡ old.notes + length first) → unheard ++ heard ≡ answered → Heard heard first
     → ((a : ℕ) → (a ≡ 2 → ⊥) → Tells old a → c.writes a ≡ (old.area a).writes) → ((a : ℕ) → (a ≡ 2 → ⊥) → Tells old a → Leaves (old.area a) (c.image a))
-    → LogLeft start (seen ++ asked_text heard) g (heard ++ xs) first s x e.log (c.writes 2) (c.image 2) → ScriptLeaves start seen g xs answered told s x e.log old c
+    → LogLeft start (seen ++ asked_text (script_of heard)) g (heard ++ xs) first s x e.log (c.writes 2) (c.image 2) → ScriptLeaves start seen g xs answered told s x e.log old c
 script_leaves start seen g xs heard unheard answered first later told s x e old c split notes calls hears writes leaves l = record {
   first = first;
   later = later;
@@ -133,10 +138,10 @@ module _ (rest : EveryRest) (g : Opening) (xs : List Answered) (s : Session) (e0
       (in_call : (x : Account) → Logs s x → (Tells old 2 → IsKept x e0.log (old.area 2)) → LeavesOnly old mid (CrashIn old 2 (LeavesPrefix (IsAround g s call) s x e0.log))) where
     around : (start : Feed) (seen : List ℕ) → IsAsked start (seen ++ []) call → (t : Session) → IsAround g s call t → Hand start (seen ++ []) g xs t
     around start seen asked t (inl is) = record { hand = xs; in_hand = inl refl; runs = subst (Runs g xs) (sym is) runs }
-    around start seen asked t (inr did) = record { hand = record { call = call; answer = did.0 } ∷ xs; in_hand = inr (record { call = call; answer = did.0 }, refl, asked); runs = (s, runs, did.1) }
+    around start seen asked t (inr did) = record { hand = record { session = 1; call = call; answer = did.0 } ∷ xs; in_hand = inr (record { session = 1; call = call; answer = did.0 }, refl, asked); runs = (s, runs, did.1, refl) }
 
-    asked_by : (start feed : Feed) (seen : List ℕ) (reader : Unread) → Reading start feed reader (seen ++ (ask call ++ 10 ∷ [])) → IsAsked start (seen ++ []) call
-    asked_by start feed seen reader reading = record { feed = feed; reader = reader; fits = fits; read = subst (λ (t : List ℕ). Reading start feed reader (t ++ (ask call ++ 10 ∷ []))) (sym (append-nil seen)) reading }
+    asked_by : (start feed : Feed) (seen : List ℕ) (reader : Unread) → Reading start feed reader (seen ++ (ask 1 call ++ 10 ∷ [])) → IsAsked start (seen ++ []) call
+    asked_by start feed seen reader reading = record { feed = feed; reader = reader; fits = fits; read = subst (λ (t : List ℕ). Reading start feed reader (t ++ (ask 1 call ++ 10 ∷ []))) (sym (append-nil seen)) reading }
 
     -- a crash in the call
     call_leaves : (start : Feed) (seen : List ℕ) → IsAsked start (seen ++ []) call → (unheard : List Answered) (told : List Reply) (x : Account) (c : Crash) → CrashIn old 2 (LeavesPrefix (IsAround g s call) s x e0.log) c → ScriptLeaves start seen g xs unheard told s x e0.log old c
@@ -144,7 +149,7 @@ module _ (rest : EveryRest) (g : Opening) (xs : List Answered) (s : Session) (e0
         (left_back start (seen ++ []) g xs [] s s e0.log e0.log (same_log e0) (λ r has le. (has, le)) (λ name none. absurd none) (IsAround g s call) (around start seen asked) x x refl refl (c.writes 2) (c.image 2) i.here)
 
     -- the disk failed in the call
-    fault_step : (e1 : State) (before : ℕ) (start feed : Feed) (seen : List ℕ) (reader : Unread) (held : Held) → before < 2 ^ 40 → Reading start feed reader (seen ++ (ask call ++ 10 ∷ []))
+    fault_step : (e1 : State) (before : ℕ) (start feed : Feed) (seen : List ℕ) (reader : Unread) (held : Held) → before < 2 ^ 40 → Reading start feed reader (seen ++ (ask 1 call ++ 10 ∷ []))
         → ScriptRuns (Some DiskFault) g xs s before start seen e0 e1 reader feed held held old mid
     fault_step e1 before start feed seen reader held few reading = record {
       newer = [];
@@ -156,7 +161,7 @@ module _ (rest : EveryRest) (g : Opening) (xs : List Answered) (s : Session) (e0
       executes = (refl, refl);
       pictures = pictures;
       state_is = λ never. absurd (never refl);
-      reads = (call, fits, subst (λ (t : List ℕ). Reading start feed reader (t ++ (ask call ++ 10 ∷ []))) (sym (append-nil seen)) reading);
+      reads = (call, fits, subst (λ (t : List ℕ). Reading start feed reader (t ++ (ask 1 call ++ 10 ∷ []))) (sym (append-nil seen)) reading);
       told = [];
       tail = [];
       prints = record { told_is = refl; none = refl };
@@ -170,7 +175,7 @@ module _ (rest : EveryRest) (g : Opening) (xs : List Answered) (s : Session) (e0
       any_moment = λ tells x logs kept. weaker old mid (CrashIn old 2 (LeavesPrefix (IsAround g s call) s x e0.log)) (ScriptLeaves start seen g xs [] [] s x e0.log old) (call_leaves start seen (asked_by start feed seen reader reading) [] [] x) (in_call x logs (λ told. kept));
     }
 
-    pub fault_stepped : (e1 : State) (before : ℕ) (start feed : Feed) (seen : List ℕ) (reader : Unread) (held : Held) → before < 2 ^ 40 → Reading start feed reader (seen ++ (ask call ++ 10 ∷ []))
+    pub fault_stepped : (e1 : State) (before : ℕ) (start feed : Feed) (seen : List ℕ) (reader : Unread) (held : Held) → before < 2 ^ 40 → Reading start feed reader (seen ++ (ask 1 call ++ 10 ∷ []))
         → Stepped 1 (Some DiskFault) g xs s before start seen e0 e1 reader feed held held old mid
     fault_stepped e1 before start feed seen reader held few reading = record { run = fault_step e1 before start feed seen reader held few reading; count_is = λ none. let e : Some DiskFault ≡ None = none in cc }
 
@@ -179,13 +184,13 @@ module _ (rest : EveryRest) (g : Opening) (xs : List Answered) (s : Session) (e0
         (refused : (why : Refusal) → (a ≡ answer.Refused why → IsRefused e0 call why) × (IsRefused e0 call why → a ≡ answer.Refused why)) (same : (why : Refusal) → IsRefused e0 call why → e1 ≡ e0)
         (stop : Option Stop) (h0 h1 : Held) (new : Story) (said : Says a stop h0 h1 mid new) where
       abbrev x1 : Answered
-      x1 = record { call = call; answer = a }
+      x1 = record { session = 1; call = call; answer = a }
 
       answered : Answers g e0 s x1 e1 is.after
       answered = record { does = is.does; pictures = is.pictures; refused = refused; same = same; log = logged }
 
       after_runs : Runs g (x1 ∷ xs) is.after
-      after_runs = (s, runs, is.does)
+      after_runs = (s, runs, is.does, refl)
 
       stays : StaysFlushed s is.after e0.log e1.log
       stays = stays_flushed g e0 e1 s is.after x1 (all_below g xs s runs) answered
@@ -198,9 +203,9 @@ module _ (rest : EveryRest) (g : Opening) (xs : List Answered) (s : Session) (e0
           let more : Has name (names ((f.later ++ later) ++ first)) = subst (Has name) (sym (names_append (f.later ++ later) first)) (has_left name (names first) (names (f.later ++ later)) has) in
           commit_flushed g e0 e1 s is.after x1 answered name (subst (Has name) (ap names all ∙ names_are (x1 ∷ [])) more)
 
-      hand_of : (start : Feed) (seen : List ℕ) → IsAsked start (seen ++ []) call → (later first : List Answered) → later ++ first ≡ x1 ∷ [] → (t : Session) → t ≡ is.after → Hand start (seen ++ asked_text first) g (first ++ xs) t
+      hand_of : (start : Feed) (seen : List ℕ) → IsAsked start (seen ++ []) call → (later first : List Answered) → later ++ first ≡ x1 ∷ [] → (t : Session) → t ≡ is.after → Hand start (seen ++ asked_text (script_of first)) g (first ++ xs) t
       hand_of start seen asked later first split t at = ⊎_elim
-          (λ (none : first ≡ []). record { hand = x1 ∷ xs; in_hand = inr (x1, ap (λ (ys : List Answered). x1 ∷ (ys ++ xs)) (sym none), subst (λ (ys : List Answered). IsAsked start (seen ++ asked_text ys) call) (sym none) asked); runs = subst (Runs g (x1 ∷ xs)) (sym at) after_runs })
+          (λ (none : first ≡ []). record { hand = x1 ∷ xs; in_hand = inr (x1, ap (λ (ys : List Answered). x1 ∷ (ys ++ xs)) (sym none), subst (λ (ys : List Answered). IsAsked start (seen ++ asked_text (script_of ys)) call) (sym none) asked); runs = subst (Runs g (x1 ∷ xs)) (sym at) after_runs })
           (λ (one : first ≡ x1 ∷ []). record { hand = x1 ∷ xs; in_hand = inl (ap (λ (ys : List Answered). ys ++ xs) (sym one)); runs = subst (Runs g (x1 ∷ xs)) (sym at) after_runs })
           (none_or_one later first x1 split)
 
@@ -216,22 +221,22 @@ module _ (rest : EveryRest) (g : Opening) (xs : List Answered) (s : Session) (e0
           calls.is calls.heard
           (λ b other tell. p.writes b (frame.tells b ∙ tell) ∙ ap (λ (u : Area). u.writes) (frame.elsewhere b other))
           (λ b other tell. subst (λ (u : Area). Leaves u (c.image b)) (frame.elsewhere b other) (p.leaves b (frame.tells b ∙ tell)))
-          (left_back start (seen ++ asked_text calls.first) g (calls.first ++ xs) p.first s is.after e0.log e1.log (keeps_ring a call e0 e1.log logged).ring stays.each (told_durable p.later p.first p.split) (λ t. t ≡ is.after) (hand_of start seen asked calls.later calls.first calls.is) x y.y y.first y.older
+          (left_back start (seen ++ asked_text (script_of calls.first)) g (calls.first ++ xs) p.first s is.after e0.log e1.log (keeps_ring a call e0 e1.log logged).ring stays.each (told_durable p.later p.first p.split) (λ t. t ≡ is.after) (hand_of start seen asked calls.later calls.first calls.is) x y.y y.first y.older
           (c.writes 2) (c.image 2) (at_rest rest is.after y.y e1.log mid is.pictures.log range_1 told y.logs (y.kept told kept) c (p.writes 2 told) (p.leaves 2 told)))
 
-      answer_step : (before : ℕ) (start feed : Feed) (seen : List ℕ) (reader : Unread) → before + 1 < 2 ^ 40 → Reading start feed reader (seen ++ (ask call ++ 10 ∷ []))
+      answer_step : (before : ℕ) (start feed : Feed) (seen : List ℕ) (reader : Unread) → before + 1 < 2 ^ 40 → Reading start feed reader (seen ++ (ask 1 call ++ 10 ∷ []))
           → ScriptRuns stop g xs s before start seen e0 e1 reader feed h0 h1 old new
       answer_step before start feed seen reader few reading = record {
         newer = x1 ∷ [];
         session = is.after;
         runs = after_runs;
-        fits = (tt, fits, ((omega arith), a_fits));
+        fits = (tt, record { first = omega arith; last = omega arith; fits = fits }, ((omega arith), a_fits));
         few = omega arith;
         state = e1;
         executes = (e0, s, (refl, refl), answered);
         pictures = is.pictures;
         state_is = λ never. refl;
-        reads = reads_putting stop (suc (before + 1)) start feed reader (seen ++ (ask call ++ 10 ∷ [])) said.of_putting reading;
+        reads = reads_putting stop (suc (before + 1)) start feed reader (seen ++ (ask 1 call ++ 10 ∷ [])) said.of_putting reading;
         told = said.told;
         tail = said.tail;
         prints = said.prints;
@@ -259,7 +264,7 @@ module _ (rest : EveryRest) (g : Opening) (xs : List Answered) (s : Session) (e0
             (weaker mid new (PutLeaves said.told mid) (ScriptLeaves start seen g xs (x1 ∷ []) said.told s x e0.log old) (put_leaves start seen asked tells x y kept) said.any_moment);
       }
 
-      pub answer_stepped : (before : ℕ) (start feed : Feed) (seen : List ℕ) (reader : Unread) → before + 1 < 2 ^ 40 → Reading start feed reader (seen ++ (ask call ++ 10 ∷ []))
+      pub answer_stepped : (before : ℕ) (start feed : Feed) (seen : List ℕ) (reader : Unread) → before + 1 < 2 ^ 40 → Reading start feed reader (seen ++ (ask 1 call ++ 10 ∷ []))
           → Stepped 1 stop g xs s before start seen e0 e1 reader feed h0 h1 old new
       unfolding answer_step
       answer_stepped before start feed seen reader few reading = record { run = answer_step before start feed seen reader few reading; count_is = λ none. refl }

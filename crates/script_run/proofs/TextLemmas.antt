@@ -4,15 +4,18 @@ use Rattle.std.proofs.lemmas.List.{append-nil}
 use mathlib.Core.List.{append_assoc}
 use Rattle.lean_edge.specs.Outside.{Feed, Held}
 use Rattle.script_lang.specs.Reading.{Unread, Reading}
-use Rattle.script_lang.specs.Replies.{Reply, reply_line, reply_text, Fits}
+use Rattle.map_model.specs.Outputs.{Reply}
+use Rattle.script_lang.specs.Replies.{reply_line, reply_text, Fits}
 use Rattle.script_lang.specs.Text.{script_lines}
-use Rattle.session_model.specs.Calls.{Answered}
+use Rattle.map_model.specs.declared.call.Answered.{Answered}
+use Rattle.map_model.specs.Pairings.{script_of}
 use Rattle.transcripts.specs.Told.{ask, asked_lines, asked_text, replies, text_of, EachFits, EachReplyFits, IsCut}
 use Rattle.transcripts.specs.Told.IsTail.{CutReply}
 use Rattle.transcripts.specs.Laws.{Prefix, NextLaws}
 use Rattle.transcripts.proofs.AskedLemmas.{reading}
 use Rattle.transcripts.proofs.PrefixLemmas.{prefix}
 use Rattle.transcripts.proofs.NextLemmas.{next_laws, part}
+use Rattle.transcripts.proofs.TranscriptLemmas.{lines_fit}
 use Rattle.script_run.specs.Runs.{Holds, IsRefusedLine, ReadsTo, PrintsTo, IsCutOff}
 use Rattle.script_run.specs.Runs.IsRefusedLine.{NoLine, TooLong, TooMany}
 use Rattle.script_run.specs.Texts.{IsTailOf, LinesRead, ScriptText}
@@ -21,31 +24,31 @@ use Rattle.script_run.specs.declared.stop.Stop.TheVariants.{End, Refused, ReadFa
 
 -- ## The script
 
-module _ (start feed : Feed) (reader : Unread) (xs : List Answered) (fit : EachFits xs) (tells : IsTrue start.tells) where
-  laws : NextLaws start feed reader xs
-  laws = next_laws start feed reader xs fit tells
+module _ (start feed : Feed) (reader : Unread) (xs : List Answered) (fit : EachFits 1 xs) (tells : IsTrue start.tells) where
+  laws : NextLaws 1 start feed reader (script_of xs)
+  laws = next_laws 1 start feed reader (script_of xs) (omega arith) (lines_fit 1 xs fit) tells
 
   -- the line of this number, which was refused
-  refused : (line number : ℕ) → line ≡ number → number ≡ suc (length xs) → IsRefusedLine number start feed reader (asked_text xs) → LinesRead (Refused line) xs start.left
-  refused line number is count (NoLine got outside) = let n = laws.got got in record { others = reader.line ∷ n.others; lines = n.lines; stopped = (is ∙ count, record { next = reader.line; rest = n.others; is = refl; cause = inl outside.value }) }
-  refused line number is count (TooLong long) = let n = laws.long long in record { others = n.line ∷ n.next.others; lines = n.next.lines; stopped = (is ∙ count, record { next = n.line; rest = n.next.others; is = refl; cause = inl (n.none 1) }) }
-  refused line number is count (TooMany got last) = let n = laws.got got in record { others = reader.line ∷ n.others; lines = n.lines; stopped = (is ∙ count, record { next = reader.line; rest = n.others; is = refl; cause = inr (is ∙ last) }) }
+  refused : (line number : ℕ) → line ≡ number → number ≡ suc (length xs) → IsRefusedLine number start feed reader (asked_text (script_of xs)) → LinesRead (Refused line) xs start.left
+  refused line number is count (NoLine got outside) = let n = laws.got got in record { others = reader.line ∷ n.others; lines = n.begins; stopped = (is ∙ count, record { next = reader.line; rest = n.others; is = refl; cause = inl outside.value }) }
+  refused line number is count (TooLong long) = let n = laws.long long in record { others = n.line ∷ n.next.others; lines = n.next.begins; stopped = (is ∙ count, record { next = n.line; rest = n.next.others; is = refl; cause = inl (n.none 1) }) }
+  refused line number is count (TooMany got last) = let n = laws.got got in record { others = reader.line ∷ n.others; lines = n.begins; stopped = (is ∙ count, record { next = reader.line; rest = n.others; is = refl; cause = inr (is ∙ last) }) }
 
-  others_left : (stop : Stop) → Reading start feed reader (asked_text xs) → script_lines start.left ≡ asked_lines xs ++ script_lines (reader.bytes ++ feed.left)
-  others_left stop r = reading start feed reader xs fit r tells
+  others_left : (stop : Stop) → Reading start feed reader (asked_text (script_of xs)) → script_lines start.left ≡ asked_lines (script_of xs) ++ script_lines (reader.bytes ++ feed.left)
+  others_left stop r = reading 1 start feed reader (script_of xs) (omega arith) (lines_fit 1 xs fit) r tells
 
-  pub lines_read : (stop : Stop) → ReadsTo (Some stop) (suc (0 + length xs)) start feed reader (asked_text xs) → LinesRead stop xs start.left
-  lines_read End r = record { others = []; lines = laws.ends r.0 r.1 ∙ sym (append-nil (asked_lines xs)); stopped = refl }
+  pub lines_read : (stop : Stop) → ReadsTo (Some stop) (suc (0 + length xs)) start feed reader (asked_text (script_of xs)) → LinesRead stop xs start.left
+  lines_read End r = record { others = []; lines = laws.ends r.0 r.1 ∙ sym (append-nil (asked_lines (script_of xs))); stopped = refl }
   lines_read (Refused line) r = refused line (suc (0 + length xs)) r.0 (omega arith) r.1
   lines_read ReadFault r = record { others = script_lines (reader.bytes ++ feed.left); lines = others_left ReadFault r; stopped = tt }
   lines_read WriteFault r = record { others = script_lines (reader.bytes ++ feed.left); lines = others_left WriteFault r; stopped = tt }
-  lines_read DiskFault r = let n = laws.asks r.0 r.1 r.2 in record { others = ask r.0 ∷ n.others; lines = n.lines; stopped = record { call = r.0; fits = r.1; rest = n.others; is = refl } }
+  lines_read DiskFault r = let n = laws.asks 1 r.0 (record { first = omega arith; last = omega arith; fits = r.1 }) r.2 in record { others = ask 1 r.0 ∷ n.others; lines = n.begins; stopped = record { call = r.0; fits = r.1; rest = n.others; is = refl } }
 
 -- ## The output
 
-module _ (xs : List Answered) (fit : EachFits xs) (start : Feed) (told : List Reply) (tail : List ℕ) (h0 h1 : Held) (holds : Holds told tail h0 h1) where
+module _ (xs : List Answered) (fit : EachFits 1 xs) (start : Feed) (told : List Reply) (tail : List ℕ) (h0 h1 : Held) (holds : Holds told tail h0 h1) where
   fits_prefix : (out : List Reply) → Prefix xs out → EachReplyFits out
-  fits_prefix out f = let both = f.fit fit in both.1
+  fits_prefix out f = let both = f.fit 1 fit in both.1
 
   -- all was put
   whole_text : (stop : Stop) → (IsTrue start.tells → LinesRead stop xs start.left) → IsTailOf stop tail → told ≡ replies xs → ScriptText stop xs told start h0 h1
@@ -99,6 +102,6 @@ module _ (xs : List Answered) (fit : EachFits xs) (start : Feed) (told : List Re
   printed WriteFault read c = cut_text read c
   printed DiskFault read w = whole_text DiskFault read w.none w.told_is
 
-pub script_text : (stop : Stop) (answered : List Answered) (start feed : Feed) (reader : Unread) (told : List Reply) (tail : List ℕ) (held0 held1 : Held) → EachFits answered →
-    ReadsTo (Some stop) (suc (0 + length answered)) start feed reader (asked_text answered) → PrintsTo (Some stop) (replies answered) told tail → Holds told tail held0 held1 → ScriptText stop answered told start held0 held1
+pub script_text : (stop : Stop) (answered : List Answered) (start feed : Feed) (reader : Unread) (told : List Reply) (tail : List ℕ) (held0 held1 : Held) → EachFits 1 answered →
+    ReadsTo (Some stop) (suc (0 + length answered)) start feed reader (asked_text (script_of answered)) → PrintsTo (Some stop) (replies answered) told tail → Holds told tail held0 held1 → ScriptText stop answered told start held0 held1
 script_text stop answered start feed reader told tail held0 held1 fits reads prints holds = printed answered fits start told tail held0 held1 holds stop (λ tells. lines_read start feed reader answered fits tells stop reads) prints

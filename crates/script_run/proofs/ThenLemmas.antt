@@ -13,22 +13,27 @@ use Rattle.log_block.specs.Block.{IsSealed}
 use Rattle.map_model.specs.Journals.{Name}
 use Rattle.map_model.specs.Lists.{Has}
 use Rattle.script_lang.specs.Reading.{Unread, Reading}
-use Rattle.script_lang.specs.Replies.{Reply}
+use Rattle.map_model.specs.Outputs.{Reply}
 use Rattle.core_state.specs.Openings.{Opening}
 use Rattle.session_model.specs.Sessions.{Session}
-use Rattle.session_model.specs.Calls.{Answered, Runs}
+use Rattle.map_model.specs.declared.call.Answered.{Answered}
+use Rattle.session_model.specs.Calls.{Runs}
 use Rattle.worker_log.specs.Accounts.{Account}
 use Rattle.worker_log.specs.Kept.{IsKept, IsOfGeneration}
 use Rattle.lean_engine.specs.States.{State, Logs, Pictures}
-use Rattle.transcripts.specs.Told.{asked_text, text_of, replies, names, committed, Heard}
+use Rattle.map_model.specs.Outputs.{names}
+use Rattle.map_model.specs.Pairings.{script_of}
+use Rattle.transcripts.specs.Told.{asked_text, text_of, replies, committed, Heard}
 use Rattle.transcripts.proofs.AskedLemmas.{text_append, replies_append}
-use Rattle.transcripts.proofs.TranscriptLemmas.{names_are}
+use Rattle.transcripts.proofs.HeardLemmas.{names_are}
+use Rattle.transcripts.proofs.TranscriptLemmas.{fits_closed}
 use Rattle.script_run.specs.Moments.{HoldsRun, IsAsked, ScriptLeaves}
 use Rattle.script_run.specs.Runs.{Executes, ScriptRuns, WentOn, SameRing, IsFlushed, IsLastCut, PrintsTo, Holds, OthersStand}
 use Rattle.script_run.specs.Inside.{Stepped}
 use Rattle.script_run.specs.declared.stop.Stop.{Stop}
 use Rattle.script_run.specs.declared.stop.Stop.TheVariants.{WriteFault, DiskFault}
-use Rattle.script_run.proofs.ListLemmas.{has_cases, names_append, committed_append, fits_append, heard_more}
+use Rattle.map_model.proofs.ListLemmas.{has_cases}
+use Rattle.script_run.proofs.ListLemmas.{names_append, committed_append, fits_append, heard_more}
 use Rattle.script_run.proofs.SessionLemmas.{executes_then, runs_then}
 use Rattle.script_run.proofs.ReadLemmas.{reads_same, seen_more, prints_more}
 use Rattle.script_run.proofs.CrashLemmas.{same_run}
@@ -67,7 +72,7 @@ module _ (g : Opening) (xs : List Answered) (s : Session) (before : ℕ) (start 
   state : e1 ≡ a.state
   state = a.state_is goes
 
-  module _ (b : ScriptRuns stop g (a.newer ++ xs) a.session (before + length a.newer) start (seen ++ asked_text a.newer) e1 e2 r1 f1 h1 h2 s1 s2) where
+  module _ (b : ScriptRuns stop g (a.newer ++ xs) a.session (before + length a.newer) start (seen ++ asked_text (script_of a.newer)) e1 e2 r1 f1 h1 h2 s1 s2) where
     told_first : a.told ≡ replies a.newer
     told_first = a.prints.told_is
 
@@ -134,8 +139,8 @@ module _ (g : Opening) (xs : List Answered) (s : Session) (before : ℕ) (start 
 
     -- ## A crash in the second one
 
-    run_back : (heard : List Answered) (first : List Reply) (bytes : List ℕ) → HoldsRun start ((seen ++ asked_text a.newer) ++ asked_text heard) g (heard ++ (a.newer ++ xs)) first a.session e1.log bytes
-        → HoldsRun start (seen ++ asked_text (heard ++ a.newer)) g ((heard ++ a.newer) ++ xs) (first ++ a.told) s e0.log bytes
+    run_back : (heard : List Answered) (first : List Reply) (bytes : List ℕ) → HoldsRun start ((seen ++ asked_text (script_of a.newer)) ++ asked_text (script_of heard)) g (heard ++ (a.newer ++ xs)) first a.session e1.log bytes
+        → HoldsRun start (seen ++ asked_text (script_of (heard ++ a.newer))) g ((heard ++ a.newer) ++ xs) (first ++ a.told) s e0.log bytes
     run_back heard first bytes h =
         let calls : heard ++ (a.newer ++ xs) ≡ (heard ++ a.newer) ++ xs = sym (append_assoc heard a.newer xs) in
         record {
@@ -143,7 +148,7 @@ module _ (g : Opening) (xs : List Answered) (s : Session) (before : ℕ) (start 
           run = same_run e0.log e1.log bytes h.blocks ring_first h.run;
           fit = h.fit;
           hand = h.hand;
-          in_hand = ⊎_elim (λ e. inl (e ∙ calls)) (λ m. inr (m.0, m.1 ∙ ap (λ (ys : List Answered). m.0 ∷ ys) calls, subst (λ (t : List ℕ). IsAsked start t m.0.call) (seen_more seen a.newer heard) m.2)) h.in_hand;
+          in_hand = ⊎_elim (λ e. inl (e ∙ calls)) (λ m. inr (m.0, m.1 ∙ ap (λ (ys : List Answered). m.0 ∷ ys) calls, subst (λ (t : List ℕ). IsAsked start t m.0.call) (seen_more seen a.newer heard (fits_closed 1 a.newer a.fits)) m.2)) h.in_hand;
           session = h.session;
           runs = h.runs;
           newer = h.newer;
@@ -157,7 +162,7 @@ module _ (g : Opening) (xs : List Answered) (s : Session) (before : ℕ) (start 
               (has_cases name (names a.told) (names first) (subst (Has name) (names_append first a.told) has));
         }
 
-    second_leaves : Tells s0 2 → (x : Account) (y : WentOn a.session x a.state.log (s1.area 2)) (c : Crash) → ScriptLeaves start (seen ++ asked_text a.newer) g (a.newer ++ xs) b.newer b.told a.session y.y e1.log s1 c
+    second_leaves : Tells s0 2 → (x : Account) (y : WentOn a.session x a.state.log (s1.area 2)) (c : Crash) → ScriptLeaves start (seen ++ asked_text (script_of a.newer)) g (a.newer ++ xs) b.newer b.told a.session y.y e1.log s1 c
         → ScriptLeaves start seen g xs (b.newer ++ a.newer) (b.told ++ a.told) s x e0.log s0 c
     second_leaves tells x y c l = record {
       first = l.first ++ a.told;
@@ -185,7 +190,7 @@ module _ (g : Opening) (xs : List Answered) (s : Session) (before : ℕ) (start 
         let P : Crash → Type 0 = ScriptLeaves start seen g xs (b.newer ++ a.newer) (b.told ++ a.told) s x e0.log s0 in
         then s0 s1 s2 P
         (weaker s0 s1 (ScriptLeaves start seen g xs a.newer a.told s x e0.log s0) P (first_leaves x) (a.any_moment tells x logs kept))
-        (weaker s1 s2 (ScriptLeaves start (seen ++ asked_text a.newer) g (a.newer ++ xs) b.newer b.told a.session y.y e1.log s1) P (second_leaves tells x y) (b.any_moment (a.others.tells 2 ∙ tells) y.y y.logs (kept_then y.y y.kept)))
+        (weaker s1 s2 (ScriptLeaves start (seen ++ asked_text (script_of a.newer)) g (a.newer ++ xs) b.newer b.told a.session y.y e1.log s1) P (second_leaves tells x y) (b.any_moment (a.others.tells 2 ∙ tells) y.y y.logs (kept_then y.y y.kept)))
 
     pub run_then : ScriptRuns stop g xs s before start seen e0 e2 r1 f1 h0 h2 s0 s2
     run_then =
@@ -201,8 +206,8 @@ module _ (g : Opening) (xs : List Answered) (s : Session) (before : ℕ) (start 
           executes = executes_then g e0 e1 b.state s a.session b.session a.newer b.newer (subst (λ (e : State). Executes g e0 s a.newer e a.session) (sym state) a.executes) b.executes;
           pictures = b.pictures;
           state_is = b.state_is;
-          reads = reads_same stop (suc (before + length a.newer + length b.newer)) (suc (before + length (b.newer ++ a.newer))) start f1 r1 ((seen ++ asked_text a.newer) ++ asked_text b.newer) (seen ++ asked_text (b.newer ++ a.newer)) (omega arith)
-              (seen_more seen a.newer b.newer) b.reads;
+          reads = reads_same stop (suc (before + length a.newer + length b.newer)) (suc (before + length (b.newer ++ a.newer))) start f1 r1 ((seen ++ asked_text (script_of a.newer)) ++ asked_text (script_of b.newer)) (seen ++ asked_text (script_of (b.newer ++ a.newer))) (omega arith)
+              (seen_more seen a.newer b.newer (fits_closed 1 a.newer a.fits)) b.reads;
           told = b.told ++ a.told;
           tail = b.tail;
           prints = subst (λ (all : List Reply). PrintsTo stop all (b.told ++ a.told) b.tail) (ap (λ (rs : List Reply). replies b.newer ++ rs) told_first ∙ sym (replies_append b.newer a.newer)) (prints_more stop (replies b.newer) b.told a.told b.tail b.prints);
@@ -230,12 +235,12 @@ module _ (g : Opening) (xs : List Answered) (s : Session) (start f0 f1 : Feed) (
       → Stepped (count + so_far) stop g xs s 0 start seen e0 e2 r1 f1 h0 h2 s0 s2
   unfolding run_then
   stepped_then count next =
-      let b : Stepped count stop g (a.run.newer ++ xs) a.run.session so_far start (seen ++ asked_text a.run.newer) e1 e2 r1 f1 h1 h2 s1 s2 = next (a.run.newer ++ xs) a.run.session (seen ++ asked_text a.run.newer) a.run.runs next_pictures a.run.reads in
-      let P : ℕ → Type 0 = λ n. Stepped count stop g (a.run.newer ++ xs) a.run.session n start (seen ++ asked_text a.run.newer) e1 e2 r1 f1 h1 h2 s1 s2 in
+      let b : Stepped count stop g (a.run.newer ++ xs) a.run.session so_far start (seen ++ asked_text (script_of a.run.newer)) e1 e2 r1 f1 h1 h2 s1 s2 = next (a.run.newer ++ xs) a.run.session (seen ++ asked_text (script_of a.run.newer)) a.run.runs next_pictures a.run.reads in
+      let P : ℕ → Type 0 = λ n. Stepped count stop g (a.run.newer ++ xs) a.run.session n start (seen ++ asked_text (script_of a.run.newer)) e1 e2 r1 f1 h1 h2 s1 s2 in
       let same : so_far ≡ 0 + length a.run.newer = let l : length a.run.newer ≡ so_far = long in omega arith in
       joined (subst P same b)
     where
-      joined : Stepped count stop g (a.run.newer ++ xs) a.run.session (0 + length a.run.newer) start (seen ++ asked_text a.run.newer) e1 e2 r1 f1 h1 h2 s1 s2 → Stepped (count + so_far) stop g xs s 0 start seen e0 e2 r1 f1 h0 h2 s0 s2
+      joined : Stepped count stop g (a.run.newer ++ xs) a.run.session (0 + length a.run.newer) start (seen ++ asked_text (script_of a.run.newer)) e1 e2 r1 f1 h1 h2 s1 s2 → Stepped (count + so_far) stop g xs s 0 start seen e0 e2 r1 f1 h0 h2 s0 s2
       joined b = record {
         run = run_then g xs s 0 start f0 f1 seen e0 e1 e2 r0 r1 h0 h1 h2 s0 s1 s2 stop a.run b.run;
         count_is = λ none.

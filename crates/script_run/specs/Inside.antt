@@ -8,10 +8,10 @@ use Rattle.lean_disk.specs.Moments.{LeavesOnly}
 use Rattle.lean_disk.specs.Story.{Crash, Story, Tells}
 use Rattle.script_lang.specs.Lines.{CallFits}
 use Rattle.script_lang.specs.Reading.{Unread, Reading}
-use Rattle.script_lang.specs.Replies.{Reply}
+use Rattle.map_model.specs.Outputs.{Reply}
 use Rattle.core_state.specs.Openings.{Opening}
 use Rattle.session_model.specs.Sessions.{Session}
-use Rattle.session_model.specs.Calls.{Answered}
+use Rattle.map_model.specs.declared.call.Answered.{Answered}
 use Rattle.lean_engine.specs.States.{State}
 use Rattle.transcripts.specs.Told.{ask, durable_of}
 use Rattle.script_run.specs.Runs.{IsOutside, ReadsTo, PrintsTo, Holds, ScriptRuns}
@@ -20,7 +20,7 @@ use Rattle.script_run.specs.declared.stop.Stop.TheVariants.{End, Refused, ReadFa
 
 -- the line of this number asks the call
 pub record IsAsk (bytes : List ℕ) (number : ℕ) (call : Call) : Type 0 where
-  pub spelled : bytes ≡ ask call
+  pub spelled : bytes ≡ ask 1 call
   pub fits : CallFits call
   pub few : number < 2 ^ 40
 
@@ -39,12 +39,12 @@ IsOfReading DiskFault = ⊥
 
 -- what the next line asks was handed out, or why it asks nothing
 abbrev pub AskIs : Result Call Stop → ℕ → Feed → Feed → Unread → List ℕ → Type 0
-AskIs (Ok call) number start now reader seen = Reading start now reader (seen ++ (ask call ++ 10 ∷ []))
+AskIs (Ok call) number start now reader seen = Reading start now reader (seen ++ (ask 1 call ++ 10 ∷ []))
 AskIs (Err stop) number start now reader seen = ReadsTo (Some stop) number start now reader seen
 
 -- the replies to a call with this answer
 abbrev pub replies_to : Answer → List Reply
-replies_to a = durable_of a ++ Reply.Answered 1 a ∷ []
+replies_to a = durable_of 1 a ++ Reply.Answered 1 a ∷ []
 
 -- lines were put: a note more for each, and nothing else
 pub record OnlyNotes (told : List Reply) (old new : Story) : Type 0 where

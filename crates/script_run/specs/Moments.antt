@@ -10,17 +10,20 @@ use Rattle.log_block.specs.Block.{IsSealed}
 use Rattle.lean_edge.specs.Outside.{Feed}
 use Rattle.script_lang.specs.Lines.{CallFits}
 use Rattle.script_lang.specs.Reading.{Unread, Reading}
-use Rattle.script_lang.specs.Replies.{Reply}
+use Rattle.map_model.specs.Outputs.{Reply}
 use Rattle.lean_disk.specs.Area.{Write, Leaves}
 use Rattle.lean_disk.specs.Story.{Crash, Story, Tells}
 use Rattle.core_state.specs.Openings.{Opening}
 use Rattle.session_model.specs.Sessions.{Session}
-use Rattle.session_model.specs.Calls.{Answered, Runs}
+use Rattle.map_model.specs.declared.call.Answered.{Answered}
+use Rattle.session_model.specs.Calls.{Runs}
 use Rattle.worker_log.specs.Logs.{Log}
 use Rattle.worker_log.specs.Accounts.{Account, spelled_from, joined}
 use Rattle.worker_log.specs.Kept.{AllFitBlocks, run_of, IsOfGeneration}
 use Rattle.worker_log.specs.Laws.{entries_onto}
-use Rattle.transcripts.specs.Told.{ask, asked_text, Heard, names}
+use Rattle.map_model.specs.Outputs.{names}
+use Rattle.map_model.specs.Pairings.{script_of}
+use Rattle.transcripts.specs.Told.{ask, asked_text, Heard}
 
 -- the commit of the transaction stands among the records
 pub record HasCommit (name : Name) (entries : List Entry) : Type 0 where
@@ -34,7 +37,7 @@ pub record IsAsked (start : Feed) (seen : List ℕ) (call : Call) : Type 0 where
   pub feed : Feed
   pub reader : Unread
   pub fits : CallFits call
-  pub read : Reading start feed reader (seen ++ (ask call ++ 10 ∷ []))
+  pub read : Reading start feed reader (seen ++ (ask 1 call ++ 10 ∷ []))
 
 -- these calls, or one more, which is the next that is asked
 abbrev pub InHand : Feed → List ℕ → (calls hand : List Answered) → Type 0
@@ -75,4 +78,4 @@ pub record ScriptLeaves (start : Feed) (seen : List ℕ) (g : Opening) (xs answe
   pub since : List Write
   pub writes_are : c.writes 2 ≡ since ++ x.older
   pub own : (w : Write) → Has w since → IsOfGeneration log.generation w
-  pub holds : IsFair 2048 IsSealed x.first since (c.image 2) → HoldsRun start (seen ++ asked_text heard) g (heard ++ xs) first s log (c.image 2)
+  pub holds : IsFair 2048 IsSealed x.first since (c.image 2) → HoldsRun start (seen ++ asked_text (script_of heard)) g (heard ++ xs) first s log (c.image 2)

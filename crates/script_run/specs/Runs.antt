@@ -11,18 +11,21 @@ use Rattle.lean_disk.specs.Moments.{LeavesOnly}
 use Rattle.lean_disk.specs.Story.{Story, Tells}
 use Rattle.script_lang.specs.Lines.{CallFits, Spells, line_of}
 use Rattle.script_lang.specs.Reading.{Unread, Reading, LineIs, LineIsLong, AtEnd}
-use Rattle.script_lang.specs.Replies.{Reply, reply_line}
+use Rattle.map_model.specs.Outputs.{Reply}
+use Rattle.script_lang.specs.Replies.{reply_line}
 use Rattle.script_lang.specs.declared.line.Line.{Line}
 use Rattle.core_state.specs.Openings.{Opening}
 use Rattle.image_model.specs.Entries.{Entry}
 use Rattle.session_model.specs.Sessions.{Session}
-use Rattle.session_model.specs.Calls.{Answered, Does, Runs}
+use Rattle.map_model.specs.declared.call.Answered.{Answered}
+use Rattle.session_model.specs.Calls.{Does, Runs}
 use Rattle.worker_log.specs.Logs.{Log}
 use Rattle.worker_log.specs.Accounts.{Account}
 use Rattle.worker_log.specs.Kept.{IsKept}
 use Rattle.lean_engine.specs.States.{State, Logs, Pictures}
 use Rattle.lean_engine.specs.Refusals.{IsRefused}
 use Rattle.lean_engine.specs.Logged.{LogAfter}
+use Rattle.map_model.specs.Pairings.{script_of}
 use Rattle.transcripts.specs.Told.{ask, asked_text, text_of, replies, committed, EachFits}
 use Rattle.script_run.specs.Moments.{HasCommit, ScriptLeaves}
 use Rattle.script_run.specs.declared.stop.Stop.{Stop}
@@ -84,7 +87,7 @@ ReadsTo (Some (Refused line)) number start now reader seen = (line ≡ number) �
 ReadsTo (Some ReadFault) number start now reader seen = Reading start now reader seen
 ReadsTo (Some WriteFault) number start now reader seen = Reading start now reader seen
 -- the call in hand was not answered
-ReadsTo (Some DiskFault) number start now reader seen = (call : Call) × CallFits call × Reading start now reader (seen ++ (ask call ++ 10 ∷ []))
+ReadsTo (Some DiskFault) number start now reader seen = (call : Call) × CallFits call × Reading start now reader (seen ++ (ask 1 call ++ 10 ∷ []))
 
 -- ## What was put
 
@@ -141,7 +144,7 @@ pub record ScriptRuns (stop : Option Stop) (g : Opening) (xs : List Answered) (s
   pub newer : List Answered
   pub session : Session
   pub runs : Runs g (newer ++ xs) session
-  pub fits : EachFits newer
+  pub fits : EachFits 1 newer
   pub few : before + length newer < 2 ^ 40
   -- the engine has it in memory, unless the disk failed
   pub state : State
@@ -149,7 +152,7 @@ pub record ScriptRuns (stop : Option Stop) (g : Opening) (xs : List Answered) (s
   pub pictures : Pictures g session state
   pub state_is : (stop ≡ Some DiskFault → ⊥) → e1 ≡ state
   -- what asks the calls was handed out, and their replies were put
-  pub reads : ReadsTo stop (suc (before + length newer)) start feed reader (seen ++ asked_text newer)
+  pub reads : ReadsTo stop (suc (before + length newer)) start feed reader (seen ++ asked_text (script_of newer))
   pub told : List Reply
   pub tail : List ℕ
   pub prints : PrintsTo stop (replies newer) told tail

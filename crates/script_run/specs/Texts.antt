@@ -4,9 +4,10 @@ use Rattle.map_model.specs.declared.call.Call.{Call}
 use Rattle.lean_edge.specs.Outside.{Feed, Held}
 use Rattle.script_lang.specs.Lines.{CallFits, line_of}
 use Rattle.script_lang.specs.Reading.{Unread}
-use Rattle.script_lang.specs.Replies.{Reply}
+use Rattle.map_model.specs.Outputs.{Reply}
 use Rattle.script_lang.specs.Text.{script_lines}
-use Rattle.session_model.specs.Calls.{Answered}
+use Rattle.map_model.specs.declared.call.Answered.{Answered}
+use Rattle.map_model.specs.Pairings.{script_of}
 use Rattle.transcripts.specs.Told.{ask, asked_lines, asked_text, replies, text_of, EachFits, EachReplyFits, IsTail}
 use Rattle.transcripts.specs.Laws.{Prefix}
 use Rattle.script_run.specs.Runs.{ReadsTo, PrintsTo, Holds}
@@ -25,7 +26,7 @@ pub record IsAskedNext (others : List (List ℕ)) : Type 0 where
   pub call : Call
   pub fits : CallFits call
   pub rest : List (List ℕ)
-  pub is : others ≡ ask call ∷ rest
+  pub is : others ≡ ask 1 call ∷ rest
 
 -- why it stopped, by the lines behind those that ask so many calls
 abbrev pub Stopped : Stop → ℕ → List (List ℕ) → Type 0
@@ -38,7 +39,7 @@ Stopped DiskFault count others = IsAskedNext others
 -- the script begins with the lines that ask the calls
 pub record LinesRead (stop : Stop) (answered : List Answered) (input : List ℕ) : Type 0 where
   pub others : List (List ℕ)
-  pub lines : script_lines input ≡ asked_lines answered ++ others
+  pub lines : script_lines input ≡ asked_lines (script_of answered) ++ others
   pub stopped : Stopped stop (length answered) others
 
 -- only a sink that failed holds a part of a line
@@ -66,5 +67,5 @@ pub record ScriptText (stop : Stop) (answered : List Answered) (told : List Repl
 
 -- It follows from what a run from the beginning of a script says of its reader and its sink.
 abbrev pub EveryScript : Type 0
-EveryScript = (stop : Stop) (answered : List Answered) (start feed : Feed) (reader : Unread) (told : List Reply) (tail : List ℕ) (held0 held1 : Held) → EachFits answered →
-    ReadsTo (Some stop) (suc (0 + length answered)) start feed reader (asked_text answered) → PrintsTo (Some stop) (replies answered) told tail → Holds told tail held0 held1 → ScriptText stop answered told start held0 held1
+EveryScript = (stop : Stop) (answered : List Answered) (start feed : Feed) (reader : Unread) (told : List Reply) (tail : List ℕ) (held0 held1 : Held) → EachFits 1 answered →
+    ReadsTo (Some stop) (suc (0 + length answered)) start feed reader (asked_text (script_of answered)) → PrintsTo (Some stop) (replies answered) told tail → Holds told tail held0 held1 → ScriptText stop answered told start held0 held1

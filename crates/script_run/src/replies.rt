@@ -3,7 +3,8 @@ ghost use Rattle.std.specs.Prelude.{◌≡◌, Some};
 ghost use Rattle.lean_disk.specs.Calls.{Noted};
 ghost use Rattle.lean_disk.specs.Faults.{HasCause};
 ghost use Rattle.lean_edge.specs.Outside.{Puts};
-ghost use Rattle.script_lang.specs.Replies.{AnswerFits, Reply, reply_line};
+ghost use Rattle.map_model.specs.Outputs.{Reply};
+ghost use Rattle.script_lang.specs.Replies.{AnswerFits, reply_line};
 ghost use Rattle.script_run.specs.Inside.{Says};
 
 use crate::stop::Stop;

@@ -14,14 +14,15 @@ use Rattle.image_model.specs.Histories.{said}
 use Rattle.core_state.specs.Openings.{Opening, first_map}
 use Rattle.core_index.specs.Answers.{EveryTree}
 use Rattle.session_model.specs.Sessions.{Session, IsAlone, begun, put, committed}
-use Rattle.session_model.specs.Calls.{Answered, Runs, Does, Refuses}
+use Rattle.map_model.specs.declared.call.Answered.{Answered}
+use Rattle.session_model.specs.Calls.{Runs, Does, Refuses}
 use Rattle.session_model.proofs.Entries.{txns, entered_refused, refused_steps}
 use Rattle.session_model.proofs.Pictures.{Pictured, pictured_start, heated}
 use Rattle.session_model.proofs.Events.{pictured_begun, pictured_get, pictured_put, pictured_committed}
 
 -- the session after a call with an answer
 abbrev After : Opening → List Answered → Call → Session → Answer → Type 0
-After g xs c t a = Pictured g (record { call = c; answer = a } ∷ xs) t
+After g xs c t a = Pictured g (record { session = 1; call = c; answer = a } ∷ xs) t
 
 move : (g : Opening) (xs : List Answered) (c : Call) (a b : Answer) (s t : Session) → a ≡ b → t ≡ s → After g xs c s b → After g xs c t a
 move g xs c a b s t e z w = subst (λ (y : Session). After g xs c y a) (sym z) (subst (λ (y : Answer). After g xs c s y) (sym e) w)
@@ -63,4 +64,5 @@ module _ (trees : EveryTree) (laws : page_laws.EveryTree) (g : Opening) (changes
 
   pub pictured : (xs : List Answered) (t : Session) → Runs g xs t → Pictured g xs t
   pictured [] t e = subst (λ (y : Session). Pictured g [] y) (sym e) (pictured_start g)
-  pictured (x ∷ xs) t q = called xs q.0 x.call x.answer t q.2 (pictured xs q.0 q.1)
+  pictured (x ∷ xs) t q =
+      subst (λ (n : ℕ). Pictured g (record { session = n; call = x.call; answer = x.answer } ∷ xs) t) (sym q.3) (called xs q.0 x.call x.answer t q.2 (pictured xs q.0 q.1))

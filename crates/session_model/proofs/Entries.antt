@@ -24,7 +24,8 @@ use Rattle.core_state.specs.Steps.{read_entry, write_entry, end_entry}
 use Rattle.rfa_model.specs.Stamps.{need_of}
 use Rattle.core_crash.specs.Crashes.{log_of}
 use Rattle.session_model.specs.Sessions.{Session, begun, put, committed, change_of, commit_of}
-use Rattle.session_model.specs.Calls.{Answered, lines}
+use Rattle.map_model.specs.declared.call.Answered.{Answered}
+use Rattle.session_model.specs.Calls.{lines}
 
 -- the committed transactions of the calls
 abbrev pub txns : List Answered → List Txn
@@ -52,7 +53,7 @@ keep_none n [] l = refl
 keep_none n (r ∷ h) l = cond-false (mine (suc n) r) (r ∷ keep (mine (suc n)) h) (keep (mine (suc n)) h) (and_right (r.log == 1) (r.txn == suc n) (ne_eqb r.txn (suc n) (λ e. (let q = l r (inl refl) in omega arith))))
     ∙ keep_none n h (λ x i. l x (inr i))
 
-pub entered_begun : (f : Format) (h : List Entry) (xs : List Answered) (t : Session) (n : ℕ) → Entered f h xs t → Entered f h (record { call = call.Begin; answer = answer.Begun n } ∷ xs) (begun t)
+pub entered_begun : (f : Format) (h : List Entry) (xs : List Answered) (t : Session) (n : ℕ) → Entered f h xs t → Entered f h (record { session = 1; call = call.Begin; answer = answer.Begun n } ∷ xs) (begun t)
 entered_begun f h xs t n e = record {
   log = e.log;
   done = e.done;
@@ -78,7 +79,7 @@ kept : (n : ℕ) (r : Entry) (h : List Entry) → r.log ≡ 1 → r.txn ≡ n �
 kept n r h o e = cond-true (mine n r) (r ∷ keep (mine n) h) (keep (mine n) h) (ap₂ (λ (x y : Bool). x && y) (eq-eqb r.log 1 o) (eq-eqb r.txn n e))
 
 pub entered_get : (f : Format) (h : List Entry) (xs : List Answered) (t : Session) (k w : ℕ) (alone : Bool) (value : Option ℕ) → t.is_open ≡ true → said f w ≡ value → Entered f h xs t →
-    Entered f (read_of t.begun t.clock k w alone ∷ h) (record { call = call.Get k; answer = answer.Value value } ∷ xs) t
+    Entered f (read_of t.begun t.clock k w alone ∷ h) (record { session = 1; call = call.Get k; answer = answer.Value value } ∷ xs) t
 entered_get f h xs t k w alone value o s e = record {
   log = e.log;
   done = e.done;
@@ -116,7 +117,7 @@ pub put_call : (f : Format) (k v : ℕ) → v < f.dead → write_call f k v ≡ 
 put_call f k v l = cond-true (ltb v f.dead) (MapCall.Put k v) (MapCall.Del k) (lt-ltb v f.dead l)
 
 pub entered_put : (f : Format) (h : List Entry) (xs : List Answered) (t : Session) (p k v : ℕ) → t.is_open ≡ true → v < f.dead → Entered f h xs t →
-    Entered f (change_of f t p k v ∷ h) (record { call = call.Put k v; answer = answer.Was (said f (word_in f (t.page p).node k)) } ∷ xs) (put f t p k v)
+    Entered f (change_of f t p k v ∷ h) (record { session = 1; call = call.Put k v; answer = answer.Was (said f (word_in f (t.page p).node k)) } ∷ xs) (put f t p k v)
 entered_put f h xs t p k v o l e = record {
   log = ap (λ (z : List Entry). change_of f t p k v ∷ z) e.log;
   done = e.done;
@@ -142,7 +143,7 @@ abbrev txn_with : ℕ → ℕ → List Step → Txn
 txn_with number at calls = record { session = 1; number = number; at = at; calls = calls }
 
 pub entered_committed : (f : Format) (h : List Entry) (xs : List Answered) (t : Session) → t.is_open ≡ true → Entered f h xs t →
-    Entered f (commit_of t ∷ h) (record { call = call.Commit; answer = answer.Committed t.begun (suc t.clock) } ∷ xs) (committed t)
+    Entered f (commit_of t ∷ h) (record { session = 1; call = call.Commit; answer = answer.Committed t.begun (suc t.clock) } ∷ xs) (committed t)
 entered_committed f h xs t o e = record {
   log = ap (λ (z : List Entry). commit_of t ∷ z) e.log;
   done = ap₂ (λ (c : List Step) (z : List Txn). txn_with t.begun (suc t.clock) c ∷ z) (e.calls o) e.done;
@@ -157,11 +158,11 @@ entered_committed f h xs t o e = record {
 
 -- ## A refusal
 
-pub refused_steps : (c : Call) (r : Refusal) (xs : List Answered) → open_steps (record { call = c; answer = answer.Refused r } ∷ xs) ≡ open_steps xs
+pub refused_steps : (c : Call) (r : Refusal) (xs : List Answered) → open_steps (record { session = 1; call = c; answer = answer.Refused r } ∷ xs) ≡ open_steps xs
 refused_steps call.Begin r xs = refl
 refused_steps _ r xs = refl
 
-pub entered_refused : (f : Format) (h : List Entry) (xs : List Answered) (t : Session) (c : Call) (r : Refusal) → Entered f h xs t → Entered f h (record { call = c; answer = answer.Refused r } ∷ xs) t
+pub entered_refused : (f : Format) (h : List Entry) (xs : List Answered) (t : Session) (c : Call) (r : Refusal) → Entered f h xs t → Entered f h (record { session = 1; call = c; answer = answer.Refused r } ∷ xs) t
 entered_refused f h xs t c r e = record {
   log = e.log;
   done = e.done;

@@ -19,7 +19,8 @@ use Rattle.core_state.specs.Needs.{is_worker, is_held_by, is_reader, holds_row, 
 use Rattle.core_state.specs.Steps as steps
 use Rattle.core_state.specs.Steps.{touch, at_row, at_pages, read_entry, write_entry, end_entry, happens}
 use Rattle.session_model.specs.Sessions.{Session, IsAlone, begun, put, committed, change_of}
-use Rattle.session_model.specs.Calls.{Answered, IsLeafOf}
+use Rattle.map_model.specs.declared.call.Answered.{Answered}
+use Rattle.session_model.specs.Calls.{IsLeafOf}
 use Rattle.session_model.proofs.Reaches.{reached_more}
 use Rattle.session_model.proofs.Workers.{Worked, worked_begun, worked_committed, touched, no_need, may_lock, at_the_row, rowed_locked, held, rowed_unlocked, least_same}
 use Rattle.session_model.proofs.Counts.{counted_begun, counted_put, counted_committed, told_later, told_more}
@@ -40,7 +41,7 @@ module _ (g : Opening) (changes : ℕ) (alone : IsAlone changes g) (xs : List An
       (and_from (not (s.worker 1).is_open) (leb (s.worker 1).floor g.base && leb g.base (flushed_by_all g s)) (ap not (c.worked.is_open ∙ o))
       (and_from (leb (s.worker 1).floor g.base) (leb g.base (flushed_by_all g s)) (le-leb (s.worker 1).floor g.base (omega arith)) (le-leb g.base (flushed_by_all g s) (omega arith))))
 
-  pub pictured_begun : (n : ℕ) → t.is_open ≡ false → Pictured g xs t → Pictured g (record { call = call.Begin; answer = answer.Begun n } ∷ xs) (begun t)
+  pub pictured_begun : (n : ℕ) → t.is_open ≡ false → Pictured g xs t → Pictured g (record { session = 1; call = call.Begin; answer = answer.Begun n } ∷ xs) (begun t)
   pictured_begun n o p = record {
     state = two;
     steps = p.steps;
@@ -88,7 +89,7 @@ module _ (g : Opening) (changes : ℕ) (alone : IsAlone changes g) (xs : List An
       subst (λ (x : Contents). Worked g.base (touch 1 (s.worker 1) x.gsn x.last) t) (sym (c.paged.same p)) (touched g.base (s.worker 1) t (t.page p).gsn (t.page p).last c.worked d.up_to d.near)
 
   pub pictured_get : (k p : ℕ) → t.is_open ≡ true → IsLeafOf g.format t p k → Heated g xs t p →
-      Pictured g (record { call = call.Get k; answer = answer.Value (value_of g.format (find k (t.page p).node.pairs)) } ∷ xs) t
+      Pictured g (record { session = 1; call = call.Get k; answer = answer.Value (value_of g.format (find k (t.page p).node.pairs)) } ∷ xs) t
   pictured_get k p o leaf w = record {
     state = one;
     steps = record { session = 1; call = MapCall.Get k; answer = MapAnswer.Value v } ∷ w.steps;
@@ -100,7 +101,7 @@ module _ (g : Opening) (changes : ℕ) (alone : IsAlone changes g) (xs : List An
       flushed = c.flushed;
       heads = c.heads;
       floor = c.floor;
-      entered = subst (λ (r : Entry). Entered g.format (r ∷ s.entries) (record { call = call.Get k; answer = answer.Value (value_of g.format (find k (t.page p).node.pairs)) } ∷ xs) t)
+      entered = subst (λ (r : Entry). Entered g.format (r ∷ s.entries) (record { session = 1; call = call.Get k; answer = answer.Value (value_of g.format (find k (t.page p).node.pairs)) } ∷ xs) t)
           (sym (read_is (at_pages s 1 (s.worker 1) (p ∷ [])) k (word_in g.format (s.page p).node k) (is_held_by (s.row (g.row_of k)).holder 1) t.begun t.clock (at_page s w.steps c p).txn (at_page s w.steps c p).clock))
           (entered_get g.format s.entries xs t k (word_in g.format (s.page p).node k) (is_held_by (s.row (g.row_of k)).holder 1) (value_of g.format (find k (t.page p).node.pairs)) o
           (said_word g.format (find k (s.page p).node.pairs) ∙ ap (λ (x : Contents). value_of g.format (find k x.node.pairs)) (c.paged.same p)) c.entered);
@@ -166,7 +167,7 @@ module _ (g : Opening) (changes : ℕ) (alone : IsAlone changes g) (xs : List An
       go (Some w) = refl
 
   pub pictured_put : (k v p : ℕ) → t.is_open ≡ true → t.changes < g.changes → v < g.format.dead → IsLeafOf g.format t p k → (find k (t.page p).node.pairs ≡ None → length (t.page p).node.pairs < g.format.room) → Heated g xs t p →
-      Pictured g (record { call = call.Put k v; answer = answer.Was (said g.format (word_in g.format (t.page p).node k)) } ∷ xs) (put g.format t p k v)
+      Pictured g (record { session = 1; call = call.Put k v; answer = answer.Was (said g.format (word_in g.format (t.page p).node k)) } ∷ xs) (put g.format t p k v)
   pictured_put k v p o fewer low leaf room w = record {
     state = one;
     steps = record { session = 1; call = write_call g.format k v; answer = MapAnswer.Was (value_in g.format (s.page p).node k) } ∷ w.steps;
@@ -190,7 +191,7 @@ module _ (g : Opening) (changes : ℕ) (alone : IsAlone changes g) (xs : List An
       flushed = c.flushed;
       heads = c.heads;
       floor = c.floor;
-      entered = subst (λ (x : Entry). Entered g.format (x ∷ s.entries) (record { call = call.Put k v; answer = answer.Was (said g.format (word_in g.format (t.page p).node k)) } ∷ xs) (put g.format t p k v)) (sym e)
+      entered = subst (λ (x : Entry). Entered g.format (x ∷ s.entries) (record { session = 1; call = call.Put k v; answer = answer.Was (said g.format (word_in g.format (t.page p).node k)) } ∷ xs) (put g.format t p k v)) (sym e)
           (entered_put g.format s.entries xs t p k v o low c.entered);
       counted = counted_put g.base g.format t p k v c.counted;
       told = told_later g.base t.clock (txns xs) c.told;
@@ -238,7 +239,7 @@ module _ (g : Opening) (changes : ℕ) (alone : IsAlone changes g) (xs : List An
 
   -- ## A commit
 
-  pub pictured_committed : t.is_open ≡ true → Pictured g xs t → Pictured g (record { call = call.Commit; answer = answer.Committed t.begun (suc t.clock) } ∷ xs) (committed t)
+  pub pictured_committed : t.is_open ≡ true → Pictured g xs t → Pictured g (record { session = 1; call = call.Commit; answer = answer.Committed t.begun (suc t.clock) } ∷ xs) (committed t)
   pictured_committed o p = record {
     state = two;
     steps = p.steps;
@@ -250,7 +251,7 @@ module _ (g : Opening) (changes : ℕ) (alone : IsAlone changes g) (xs : List An
       flushed = c.flushed;
       heads = c.heads;
       floor = c.floor;
-      entered = subst (λ (x : Entry). Entered g.format (x ∷ s.entries) (record { call = call.Commit; answer = answer.Committed t.begun (suc t.clock) } ∷ xs) (committed t))
+      entered = subst (λ (x : Entry). Entered g.format (x ∷ s.entries) (record { session = 1; call = call.Commit; answer = answer.Committed t.begun (suc t.clock) } ∷ xs) (committed t))
           (sym (commit_is (s.worker 1) g.base t c.worked.txn c.worked.clock (no_need g.base (s.worker 1) t c.worked)))
           (entered_committed g.format s.entries xs t o c.entered);
       counted = counted_committed g.base t c.counted;

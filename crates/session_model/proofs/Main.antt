@@ -18,7 +18,8 @@ use Rattle.core_index.specs.Answers as answers
 use Rattle.core_index.specs.Answers.{EveryTree, EveryMap}
 use Rattle.core_crash.specs.Crashes.{IsPrefix, log_of, from_head, image_of, journal_in, kept_in, Recovers, EverySerial, EveryStored}
 use Rattle.session_model.specs.Sessions.{Session, nodes_of, IsAlone}
-use Rattle.session_model.specs.Calls.{Answered, journal}
+use Rattle.map_model.specs.declared.call.Answered.{Answered}
+use Rattle.session_model.specs.Calls.{journal}
 use Rattle.session_model.specs.Laws.{image_left, kept_of, Survives, SessionLaws, EverySession}
 use Rattle.map_model.proofs.ListLemmas.{has_cases, has_left, has_right, any_has, has_any, keep_has, has_keep}
 use Rattle.session_model.proofs.Counts.{Logged, Ended, journal_is, falling}

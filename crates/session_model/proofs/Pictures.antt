@@ -21,7 +21,7 @@ use Rattle.core_state.specs.Needs.{has_hot_parent, is_empty_frame}
 use Rattle.core_state.specs.Steps.{happens}
 use Rattle.core_index.specs.Answers.{EveryTree}
 use Rattle.session_model.specs.Sessions.{Session, start, nodes_of}
-use Rattle.session_model.specs.Calls.{Answered}
+use Rattle.map_model.specs.declared.call.Answered.{Answered}
 use Rattle.map_model.proofs.ListLemmas.{upd_same}
 use Rattle.session_model.proofs.Reaches.{Reached, reached_start, reached_more}
 use Rattle.session_model.proofs.Workers.{Worked, Rowed}

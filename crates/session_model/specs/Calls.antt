@@ -4,6 +4,7 @@ use Rattle.map_model.specs.declared.call.Call.{Call}
 use Rattle.map_model.specs.declared.call.Call.TheVariants as call
 use Rattle.map_model.specs.declared.call.Answer.{Answer}
 use Rattle.map_model.specs.declared.call.Answer.TheVariants as answer
+use Rattle.map_model.specs.declared.call.Answered.{Answered}
 use Rattle.map_model.specs.declared.call.Refusal.{Refusal}
 use Rattle.map_model.specs.Journals.{Journal, journal_of}
 use Rattle.map_model.specs.Transcripts.{Line, told, txn_of}
@@ -65,20 +66,15 @@ Does f most s (call.Put k v) a t = Puts f most s k v a t ⊎ Refuses s a t
 Does f most s call.Commit a t = Commits s a t ⊎ Refuses s a t
 Does f most s _ a t = ⊥
 
--- A call and its answer.
-pub record Answered : Type 0 where
-  pub call : Call
-  pub answer : Answer
-
--- Calls from the start on, the newest first, and the session that they leave.
+-- Calls of session 1 from the start on, the newest first, and the session that they leave.
 abbrev pub Runs : Opening → List Answered → Session → Type 0
 Runs g [] s = s ≡ start g
-Runs g (x ∷ earlier) s = (r : Session) × Runs g earlier r × Does g.format g.changes r x.call x.answer s
+Runs g (x ∷ earlier) s = (r : Session) × Runs g earlier r × Does g.format g.changes r x.call x.answer s × (x.session ≡ 1)
 
 -- their lines, the newest first
 abbrev pub lines : List Answered → List Line
 lines [] = []
-lines (x ∷ earlier) = record { place = length (lines earlier); session = 1; call = x.call; answer = x.answer } ∷ lines earlier
+lines (x ∷ earlier) = record { place = length (lines earlier); said = x } ∷ lines earlier
 
 -- the journal of the transactions that they committed
 abbrev pub journal : List Answered → Journal

@@ -13,7 +13,8 @@ use Rattle.image_model.specs.Ends.{kept}
 use Rattle.image_model.specs.Images.{Image, IsSound, StandsFor, map_of, won_by, recovered_page}
 use Rattle.core_state.specs.Openings.{Opening, start_page, first_map}
 use Rattle.session_model.specs.Sessions.{Session, nodes_of, IsAlone}
-use Rattle.session_model.specs.Calls.{Answered, Runs, lines, journal}
+use Rattle.map_model.specs.declared.call.Answered.{Answered}
+use Rattle.session_model.specs.Calls.{Runs, lines, journal}
 
 -- the disk, where a crash left these records of the log
 abbrev pub image_left : Opening → List Entry → Image

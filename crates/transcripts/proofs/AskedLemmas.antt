@@ -1,5 +1,5 @@
 -- What asks and answers more calls stands behind what asks and answers the earlier ones.
-use Rattle.std.proofs.Common.{◌≡◌, ◌++◌, ◌∷◌, ◌<◌, ◌^◌, [], ℕ, List, Bool, true, false, IsTrue, refl, sym, ap, ◌∙◌, arith, rules}
+use Rattle.std.proofs.Common.{◌≡◌, ◌++◌, ◌∷◌, ◌<◌, ◌≤◌, ◌^◌, [], ℕ, List, Bool, true, false, IsTrue, refl, sym, ap, ◌∙◌, arith, rules}
 use Rattle.std.proofs.lemmas.List.{append-nil}
 use mathlib.Core.List.{append_assoc}
 use Rattle.std.specs.Fmt.{decimal}
@@ -8,11 +8,12 @@ use Rattle.map_model.specs.declared.call.Call.TheVariants as call
 use Rattle.lean_edge.specs.Outside.{Feed}
 use Rattle.script_lang.specs.Lines.{CallFits, call_text}
 use Rattle.script_lang.specs.Reading.{Unread, Reading}
-use Rattle.script_lang.specs.Replies.{Reply, reply_line}
+use Rattle.map_model.specs.Outputs.{Reply}
+use Rattle.script_lang.specs.Replies.{reply_line}
 use Rattle.script_lang.specs.Text.{last_line, script_lines, IsLine}
 use Rattle.script_lang.proofs.ReplyLemmas.{line_number, line_with_number}
-use Rattle.session_model.specs.Calls.{Answered}
-use Rattle.transcripts.specs.Told.{ask, asked_lines, asked_text, durable_of, replies, text_of, told_text, EachFits}
+use Rattle.map_model.specs.declared.call.Answered.{Answered}
+use Rattle.transcripts.specs.Told.{ask, asked_lines, asked_text, durable_of, replies, text_of, LineFits, EachLineFits}
 use Rattle.transcripts.proofs.LineLemmas.{first_line}
 
 pub text_append : (newer told : List Reply) → text_of (newer ++ told) ≡ text_of told ++ text_of newer
@@ -22,15 +23,16 @@ text_append (r ∷ newer) told = ap (λ (t : List ℕ). t ++ reply_line r) (text
 pub replies_append : (newer xs : List Answered) → replies (newer ++ xs) ≡ replies newer ++ replies xs
 replies_append [] xs = refl
 replies_append (x ∷ newer) xs =
-    ap (λ (rs : List Reply). durable_of x.answer ++ Reply.Answered 1 x.answer ∷ rs) (replies_append newer xs)
-    ∙ sym (append_assoc (durable_of x.answer) (Reply.Answered 1 x.answer ∷ replies newer) (replies xs))
+    ap (λ (rs : List Reply). durable_of x.session x.answer ++ Reply.Answered x.session x.answer ∷ rs) (replies_append newer xs)
+    ∙ sym (append_assoc (durable_of x.session x.answer) (Reply.Answered x.session x.answer ∷ replies newer) (replies xs))
 
-pub told_append : (newer xs : List Answered) → told_text (newer ++ xs) ≡ told_text xs ++ told_text newer
-told_append newer xs = ap text_of (replies_append newer xs) ∙ text_append (replies newer) (replies xs)
+pub lines_append : (xs ys : List (ℕ × Call)) → asked_lines (xs ++ ys) ≡ asked_lines xs ++ asked_lines ys
+lines_append [] ys = refl
+lines_append (x ∷ xs) ys = ap (λ (ls : List (List ℕ)). ask x.0 x.1 ∷ ls) (lines_append xs ys)
 
-pub asked_append : (newer xs : List Answered) → asked_text (newer ++ xs) ≡ asked_text xs ++ asked_text newer
-asked_append [] xs = sym (append-nil (asked_text xs))
-asked_append (x ∷ newer) xs = ap (λ (t : List ℕ). t ++ (ask x.call ++ 10 ∷ [])) (asked_append newer xs) ∙ append_assoc (asked_text xs) (asked_text newer) (ask x.call ++ 10 ∷ [])
+pub asked_append : (xs ys : List (ℕ × Call)) → asked_text (xs ++ ys) ≡ asked_text xs ++ asked_text ys
+asked_append [] ys = refl
+asked_append (x ∷ xs) ys = ap (λ (t : List ℕ). ask x.0 x.1 ++ 10 ∷ t) (asked_append xs ys) ∙ sym (append_assoc (ask x.0 x.1) (10 ∷ asked_text xs) (asked_text ys))
 
 call_line : (c : Call) → CallFits c → IsLine (call_text c)
 call_line call.Begin fits = search rules
@@ -45,28 +47,31 @@ call_line (call.Put key value) fits =
     search (rules, first)
 call_line _ fits = absurd fits
 
-pub ask_line : (c : Call) → CallFits c → IsLine (ask c)
-ask_line c fits = let rest = call_line c fits in let spaced : IsLine (32 ∷ call_text c) = search (rules, rest) in line_with_number 1 (32 ∷ call_text c) (omega arith) spaced
+pub ask_line : (workers session : ℕ) (c : Call) → workers < 2 ^ 32 → LineFits workers session c → IsLine (ask session c)
+ask_line workers session c many fits =
+    let last : session ≤ workers = fits.last in
+    let rest = call_line c fits.fits in
+    let spaced : IsLine (32 ∷ call_text c) = search (rules, rest) in
+    line_with_number session (32 ∷ call_text c) (omega arith) spaced
 
 -- the lines of a script that begins with what asks calls
-pub asked_begins : (xs : List Answered) (more : List ℕ) → EachFits xs → script_lines (asked_text xs ++ more) ≡ asked_lines xs ++ script_lines more
-asked_begins [] more fit = refl
-asked_begins (x ∷ earlier) more fit =
-    ap script_lines (append_assoc (asked_text earlier) (ask x.call ++ 10 ∷ []) more ∙ ap (λ (t : List ℕ). asked_text earlier ++ t) (append_assoc (ask x.call) (10 ∷ []) more))
-    ∙ asked_begins earlier (ask x.call ++ 10 ∷ more) fit.0
-    ∙ ap (λ (ls : List (List ℕ)). asked_lines earlier ++ ls) (first_line last_line (ask x.call) more (ask_line x.call fit.1))
-    ∙ sym (append_assoc (asked_lines earlier) (ask x.call ∷ []) (script_lines more))
+pub asked_begins : (workers : ℕ) (xs : List (ℕ × Call)) (more : List ℕ) → workers < 2 ^ 32 → EachLineFits workers xs → script_lines (asked_text xs ++ more) ≡ asked_lines xs ++ script_lines more
+asked_begins workers [] more many fit = refl
+asked_begins workers (x ∷ xs) more many fit =
+    ap script_lines (append_assoc (ask x.0 x.1) (10 ∷ asked_text xs) more)
+    ∙ first_line last_line (ask x.0 x.1) (asked_text xs ++ more) (ask_line workers x.0 x.1 many fit.0)
+    ∙ ap (λ (ls : List (List ℕ)). ask x.0 x.1 ∷ ls) (asked_begins workers xs more many fit.1)
 
-pub reading : (start now : Feed) (reader : Unread) (xs : List Answered) → EachFits xs → Reading start now reader (asked_text xs) → IsTrue start.tells →
+pub reading : (workers : ℕ) (start now : Feed) (reader : Unread) (xs : List (ℕ × Call)) → workers < 2 ^ 32 → EachLineFits workers xs → Reading start now reader (asked_text xs) → IsTrue start.tells →
     script_lines start.left ≡ asked_lines xs ++ script_lines (reader.bytes ++ now.left)
-reading start now reader xs fit r tells = go reader.ended refl
+reading workers start now reader xs many fit r tells = go reader.ended refl
   where
     go : (b : Bool) → reader.ended ≡ b → script_lines start.left ≡ asked_lines xs ++ script_lines (reader.bytes ++ now.left)
     go false e =
         ap script_lines (r.took tells ∙ ap (λ (t : List ℕ). t ++ now.left) (sym (r.exact e)) ∙ append_assoc (asked_text xs) reader.bytes now.left)
-        ∙ asked_begins xs (reader.bytes ++ now.left) fit
+        ∙ asked_begins workers xs (reader.bytes ++ now.left) many fit
     go true e =
         let none : now.left ≡ [] = r.end e tells in
         ap script_lines (r.took tells ∙ ap (λ (t : List ℕ). r.taken ++ t) none ∙ append-nil r.taken) ∙ sym r.lines
-        ∙ asked_begins xs reader.bytes fit
+        ∙ asked_begins workers xs reader.bytes many fit
         ∙ ap (λ (t : List ℕ). asked_lines xs ++ script_lines t) (sym (append-nil reader.bytes) ∙ ap (λ (t : List ℕ). reader.bytes ++ t) (sym none))

@@ -1,15 +1,16 @@
 -- What stands behind the replies of an output tells of nothing more.
 use Rattle.std.proofs.Common.{◌≡◌, ◌++◌, ◌∷◌, ◌≤◌, ◌-◌, ◌+◌, [], ℕ, zero, suc, List, Option, Some, None, length, take, refl, sym, ap, ◌∙◌, arith}
-use Rattle.std.proofs.lemmas.List.{append-nil}
 use Rattle.std.proofs.Math.Seq.{take-append-add}
 use mathlib.Core.List.{append_assoc}
 use Rattle.script_lang.specs.Notices.{Notice, notice_text, NoticeFits}
 use Rattle.script_lang.specs.Notices.Notice.{Opened}
-use Rattle.script_lang.specs.Replies.{Reply, reply_of, reply_text, Fits}
+use Rattle.map_model.specs.Outputs.{Reply}
+use Rattle.script_lang.specs.Replies.{reply_of, reply_text, Fits}
 use Rattle.script_lang.specs.Text.{no_line, whole_lines, IsLine, script_lines}
-use Rattle.transcripts.specs.Told.{opened_line, text_of, IsTail, IsOutput}
+use Rattle.transcripts.specs.Told.{text_of, IsTail, IsOutput}
 use Rattle.transcripts.specs.Told.IsTail.{CutReply, CutNotice, WholeNotice}
-use Rattle.transcripts.specs.Transcripts.{answers, answer_onto, asked, durables_in, name_onto, first_lines, lines_text, paired, IsQuiet}
+use Rattle.map_model.specs.Pairings.{paired}
+use Rattle.transcripts.specs.Transcripts.{answers, answer_onto, asked, durables_in, name_onto, first_lines, lines_text, IsQuiet}
 use Rattle.transcripts.proofs.LineLemmas.{first_line, cut_is_no_line, lines_text_append}
 use Rattle.transcripts.proofs.ReplyLemmas.{texts, text_is, length_texts, whole_output}
 
@@ -65,19 +66,15 @@ module _ (quiet : (line : Notice) → NoticeFits line → (reply_of (notice_text
   one_line : (n : Notice) → NoticeFits n → whole_lines (notice_text n ++ 10 ∷ []) ≡ notice_text n ∷ []
   one_line n fit = first_line no_line (notice_text n) [] (quiet n fit).1
 
-  no_answer : (input : List ℕ) (output : List ℕ) → answers (whole_lines output) ≡ [] → durables_in (whole_lines output) ≡ [] → IsQuiet input output
-  no_answer input output a d = record { transcript_is = ap (paired (asked 1 (script_lines input))) a ∙ none (asked 1 (script_lines input)); durables_are = d }
-    where
-      none : (cs : List (ℕ × Rattle.map_model.specs.declared.call.Call.Call)) → paired cs [] ≡ []
-      none [] = refl
-      none (c ∷ cs) = refl
+  no_answer : (workers : ℕ) (input output : List ℕ) → answers (whole_lines output) ≡ [] → durables_in (whole_lines output) ≡ [] → IsQuiet workers input output
+  no_answer workers input output a d = record { transcript_is = ap (paired (asked workers (script_lines input))) a; durables_are = d }
 
-  pub notice_is_quiet : (n : Notice) (input : List ℕ) (count : ℕ) → NoticeFits n → IsQuiet input (first_lines count (notice_text n ++ 10 ∷ []))
-  notice_is_quiet n input zero fit = no_answer input [] refl refl
-  notice_is_quiet n input (suc count) fit =
+  pub notice_is_quiet : (workers : ℕ) (n : Notice) (input : List ℕ) (count : ℕ) → NoticeFits n → IsQuiet workers input (first_lines count (notice_text n ++ 10 ∷ []))
+  notice_is_quiet workers n input zero fit = no_answer workers input [] refl refl
+  notice_is_quiet workers n input (suc count) fit =
       let e : first_lines (suc count) (notice_text n ++ 10 ∷ []) ≡ notice_text n ++ 10 ∷ [] =
       ap (λ (ls : List (List ℕ)). lines_text (take (suc count) ls)) (one_line n fit) ∙ cut count in
-      no_answer input (first_lines (suc count) (notice_text n ++ 10 ∷ []))
+      no_answer workers input (first_lines (suc count) (notice_text n ++ 10 ∷ []))
       (ap (λ (t : List ℕ). answers (whole_lines t)) e ∙ (ap answers (one_line n fit) ∙ ap (λ (o : Option Reply). answer_onto o []) (quiet n fit).0))
       (ap (λ (t : List ℕ). durables_in (whole_lines t)) e ∙ (ap durables_in (one_line n fit) ∙ ap (λ (o : Option Reply). name_onto o []) (quiet n fit).0))
     where

@@ -1,5 +1,6 @@
 pub mod LineLemmas
 pub mod ReplyLemmas
+pub mod HeardLemmas
 pub mod TranscriptLemmas
 pub mod PrefixLemmas
 pub mod AskedLemmas

@@ -1,20 +1,22 @@
 -- A reply more behind the first lines of an output; and a tail alone.
-use Rattle.std.proofs.Common.{◌≡◌, ◌++◌, ◌∷◌, [], ◌==◌, ℕ, zero, suc, Bool, true, false, List, Option, Some, None, take, refl, sym, ap, ◌∙◌, subst}
+use Rattle.std.proofs.Common.{◌≡◌, ◌++◌, ◌∷◌, [], ◌==◌, ℕ, zero, suc, Bool, true, false, List, Some, None, take, refl, sym, ap, ◌∙◌, subst}
 use Rattle.std.proofs.lemmas.Bool.{cond-true, cond-false, eqb-false}
-use Rattle.map_model.specs.declared.call.Call.{Call}
 use Rattle.map_model.specs.declared.call.Answer.{Answer}
-use Rattle.script_lang.specs.Lines.{CallFits}
-use Rattle.script_lang.specs.declared.line.Line.{Line}
 use Rattle.script_lang.specs.Notices.{Notice, notice_text, NoticeFits}
-use Rattle.script_lang.specs.Replies.{Reply, reply_line, reply_of, reply_text, Fits}
+use Rattle.map_model.specs.Outputs.{Reply}
+use Rattle.script_lang.specs.Replies.{reply_line, reply_of, reply_text, Fits}
 use Rattle.script_lang.specs.Text.{lines_on, no_line, script_lines, whole_lines, IsLine}
-use Rattle.session_model.specs.Calls.{Answered}
-use Rattle.transcripts.specs.Told.{ask, asked_lines, EachFits, Heard, IsOutput, IsTail}
-use Rattle.transcripts.specs.Transcripts.{answers, asked, asked_onto, first_lines, in_turn, lines_text, paired, transcript}
-use Rattle.transcripts.specs.Laws.{EveryNextReply, EveryTail}
+use Rattle.map_model.specs.Pairings.{paired, answers_in, in_turn, script_of}
+use Rattle.map_model.proofs.PairLemmas.{every_pair}
+use mathlib.Core.List.{append_assoc}
+use Rattle.transcripts.specs.Told.{ask, asked_lines}
+use Rattle.transcripts.specs.Transcripts.{answers, asked, first_lines}
+use Rattle.transcripts.specs.Laws.{EveryNextInTurn, EveryNextReply, EveryTail}
 use Rattle.transcripts.proofs.LineLemmas.{each_append, EachIsLine, lines_back, lines_text_append}
 use Rattle.transcripts.proofs.ReplyLemmas.{answers_append, answers_one, answers_output, tail_is_quiet}
-use Rattle.transcripts.proofs.TranscriptLemmas.{ask_is_read, asked_first, calls_in, heard_answers, paired_first, said_in}
+use Rattle.transcripts.proofs.TranscriptLemmas.{answered_in_turn, counted_in_turn, fits_closed, script_append}
+use Rattle.transcripts.proofs.HeardLemmas as heard
+use Rattle.transcripts.proofs.AskedLemmas.{lines_append}
 
 -- ## The lines of a text are lines
 
@@ -38,34 +40,34 @@ each_take zero ls each = tt
 each_take (suc count) [] each = tt
 each_take (suc count) (l ∷ ls) each = (each.0, each_take count ls each.1)
 
-no_pairs : (calls : List (ℕ × Call)) → paired calls [] ≡ []
-no_pairs [] = refl
-no_pairs (c ∷ calls) = refl
-
 -- ## The laws
 
 module _ (back : (reply : Reply) → Fits reply → (reply_of (reply_text reply) ≡ Some reply) × IsLine (reply_text reply)) (quiet : (line : Notice) → NoticeFits line → (reply_of (notice_text line) ≡ None) × IsLine (notice_text line)) where
   pub every_tail : EveryTail
-  every_tail input tail is = ap (paired (asked 1 (script_lines input))) (tail_is_quiet back quiet tail is).answers_none ∙ no_pairs (asked 1 (script_lines input))
+  every_tail workers input tail is = ap (paired (asked workers (script_lines input))) (tail_is_quiet back quiet tail is).answers_none
 
   pub every_next_reply : EveryNextReply
-  every_next_reply g w u xs told others input output count c a fit call_fits fits begins heard is =
+  every_next_reply workers g w u x xs told input output count each_answered fits are is =
       let ls : List (List ℕ) = take count (whole_lines output) in
-      let r : Reply = Reply.Answered 1 a in
+      let r : Reply = Reply.Answered x.session x.answer in
       let each : EachIsLine (take count (whole_lines output)) = each_take count (whole_lines output) (each_whole [] output tt) in
       let whole : whole_lines (first_lines count output ++ reply_line r) ≡ take count (whole_lines output) ++ reply_text r ∷ [] =
       ap whole_lines (sym (lines_text_append (take count (whole_lines output)) (reply_text r ∷ [])))
       ∙ lines_back (take count (whole_lines output) ++ reply_text r ∷ []) (each_append (take count (whole_lines output)) (reply_text r ∷ []) each ((back r fits).1, tt)) in
-      let were : answers (take count (whole_lines output)) ≡ said_in xs =
-      ap answers (sym (lines_back (take count (whole_lines output)) each)) ∙ answers_output back quiet g w u told (first_lines count output) is ∙ heard_answers xs told heard in
-      let said : answers (whole_lines (first_lines count output ++ reply_line r)) ≡ said_in xs ++ (1, a) ∷ [] =
+      let were : answers (take count (whole_lines output)) ≡ answers_in (in_turn xs) =
+      ap answers (sym (lines_back (take count (whole_lines output)) each)) ∙ answers_output back quiet g w u told (first_lines count output) is ∙ are.answers in
+      let said : answers (whole_lines (first_lines count output ++ reply_line r)) ≡ answers_in (in_turn (x ∷ xs)) =
       ap answers whole ∙ answers_append (take count (whole_lines output)) (reply_text r ∷ [])
       ∙ ap (λ (more : List (ℕ × Answer)). answers (take count (whole_lines output)) ++ more) (answers_one back quiet r fits)
-      ∙ ap (λ (before : List (ℕ × Answer)). before ++ (1, a) ∷ []) were in
-      let calls : asked 1 (script_lines input) ≡ calls_in xs ++ (1, c) ∷ asked 1 others =
-      ap (asked 1) begins ∙ asked_first xs (ask c ∷ others) fit
-      ∙ ap (λ (o : Option Line). calls_in xs ++ asked_onto o (asked 1 others)) (ask_is_read c call_fits) in
-      ap (λ (cs : List (ℕ × Call)). paired cs (answers (whole_lines (first_lines count output ++ reply_line r)))) calls
-      ∙ ap (λ (as_said : List (ℕ × Answer)). paired (calls_in xs ++ (1, c) ∷ asked 1 others) as_said) said
-      ∙ paired_first xs ((1, c) ∷ asked 1 others) ((1, a) ∷ [])
-      ∙ ap (λ (more : List (ℕ × Call × Answer)). in_turn xs ++ (1, c, a) ∷ more) (no_pairs (asked 1 others))
+      ∙ ap (λ (before : List (ℕ × Answer)). before ++ (x.session, x.answer) ∷ []) were
+      ∙ sym (heard.answers_append (in_turn xs) (x ∷ [])) in
+      ap (paired (asked workers (script_lines input))) said ∙ every_pair (asked workers (script_lines input)) (in_turn (x ∷ xs)) each_answered
+
+  pub every_next_in_turn : EveryNextInTurn
+  every_next_in_turn workers g w u x xs told others input output count many fit begins heard_so is =
+      let lines : script_of (x ∷ xs) ≡ script_of xs ++ (x.session, x.call) ∷ [] = script_append (x ∷ []) xs (fits_closed workers xs fit.0) in
+      let more : script_lines input ≡ asked_lines (script_of (x ∷ xs)) ++ others =
+      begins ∙ sym (append_assoc (asked_lines (script_of xs)) (ask x.session x.call ∷ []) others)
+      ∙ ap (λ (l : List (List ℕ)). l ++ others) (sym (ap asked_lines lines ∙ lines_append (script_of xs) ((x.session, x.call) ∷ []))) in
+      every_next_reply workers g w u x xs told input output count (answered_in_turn back quiet workers (x ∷ xs) others input many fit more) fit.2 (heard.heard_answers xs told heard_so) is
+      ∙ counted_in_turn back quiet workers (x ∷ xs) fit

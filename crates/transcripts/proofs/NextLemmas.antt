@@ -1,5 +1,5 @@
 -- What comes behind the lines that ask calls, and what stands of a line that was put in part.
-use Rattle.std.proofs.Common.{◌≡◌, ◌⊎◌, inl, inr, ⊎_elim, ◌++◌, ◌∷◌, ◌+◌, ◌<◌, ◌≤◌, [], ℕ, List, Bool, true, false, None, IsTrue, nat_lt, length, take, drop, refl, sym, ap, ◌∙◌, subst, arith}
+use Rattle.std.proofs.Common.{◌≡◌, ◌⊎◌, inl, inr, ⊎_elim, ◌++◌, ◌∷◌, ◌+◌, ◌<◌, ◌≤◌, ◌^◌, [], ℕ, List, Bool, true, false, None, IsTrue, nat_lt, length, take, drop, refl, sym, ap, ◌∙◌, subst, arith}
 use Rattle.std.proofs.lemmas.Bool.{cases_lt}
 use Rattle.std.proofs.lemmas.Bool.Decides.{nat_tests}
 use Rattle.std.proofs.lemmas.List.{append-nil, length-append, take_all, take-append-le, take-append-drop}
@@ -7,11 +7,12 @@ use mathlib.Core.List.{append_assoc}
 use Rattle.lean_edge.specs.Outside.{Feed}
 use Rattle.script_lang.specs.Lines.{line_of}
 use Rattle.script_lang.specs.Reading.{Unread, Reading, LineIsLong}
-use Rattle.script_lang.specs.Replies.{Reply, reply_line, reply_text}
+use Rattle.map_model.specs.Outputs.{Reply}
+use Rattle.script_lang.specs.Replies.{reply_line, reply_text}
 use Rattle.script_lang.specs.Text.{last_line, script_lines, IsLine}
 use Rattle.script_lang.proofs.TextLemmas.{BeginsLong, first_is_long}
-use Rattle.session_model.specs.Calls.{Answered}
-use Rattle.transcripts.specs.Told.{ask, asked_lines, asked_text, EachFits, IsCut}
+use Rattle.map_model.specs.declared.call.Call.{Call}
+use Rattle.transcripts.specs.Told.{ask, asked_lines, asked_text, EachLineFits, IsCut}
 use Rattle.transcripts.specs.Laws.{ComesNext, LongNext, NextLaws}
 use Rattle.transcripts.proofs.AskedLemmas.{ask_line, asked_begins}
 use Rattle.transcripts.proofs.LineLemmas.{first_line}
@@ -28,49 +29,49 @@ handed start now reader seen tells r = go reader.ended refl
         ∙ ap (λ (t : List ℕ). script_lines (seen ++ t)) (sym (append-nil reader.bytes) ∙ ap (λ (t : List ℕ). reader.bytes ++ t) (sym none))
 
 -- a line behind the calls
-line_next : (start now : Feed) (reader : Unread) (xs : List Answered) (line : List ℕ) → EachFits xs → IsTrue start.tells → IsLine line → Reading start now reader (asked_text xs ++ (line ++ 10 ∷ [])) → ComesNext xs line start.left
-line_next start now reader xs line fit tells is r =
+line_next : (workers : ℕ) (start now : Feed) (reader : Unread) (xs : List (ℕ × Call)) (line : List ℕ) → workers < 2 ^ 32 → EachLineFits workers xs → IsTrue start.tells → IsLine line → Reading start now reader (asked_text xs ++ (line ++ 10 ∷ [])) → ComesNext xs line start.left
+line_next workers start now reader xs line many fit tells is r =
     let rest : List ℕ = reader.bytes ++ now.left in
     record {
       others = script_lines rest;
-      lines =
+      begins =
           handed start now reader (asked_text xs ++ (line ++ 10 ∷ [])) tells r
           ∙ ap script_lines (append_assoc (asked_text xs) (line ++ 10 ∷ []) rest ∙ ap (λ (t : List ℕ). asked_text xs ++ t) (append_assoc line (10 ∷ []) rest))
-          ∙ asked_begins xs (line ++ 10 ∷ rest) fit
+          ∙ asked_begins workers xs (line ++ 10 ∷ rest) many fit
           ∙ ap (λ (ls : List (List ℕ)). asked_lines xs ++ ls) (first_line last_line line rest is);
     }
 
 no_line_is_long : (workers : ℕ) (line : List ℕ) → 81 ≤ length line → line_of workers line ≡ None
 no_line_is_long workers line long = let over : nat_lt 80 (length line) ≡ true = grind (arith, nat_tests) in rw over refl
 
-long_next : (start now : Feed) (reader : Unread) (xs : List Answered) → EachFits xs → IsTrue start.tells → LineIsLong start now reader (asked_text xs) → LongNext xs start.left
-long_next start now reader xs fit tells l =
+long_next : (workers : ℕ) (start now : Feed) (reader : Unread) (xs : List (ℕ × Call)) → workers < 2 ^ 32 → EachLineFits workers xs → IsTrue start.tells → LineIsLong start now reader (asked_text xs) → LongNext xs start.left
+long_next workers start now reader xs many fit tells l =
     let size : length l.prefix ≡ 81 = l.long in
     let begins : BeginsLong (length l.prefix) (script_lines (l.prefix ++ (l.more ++ now.left))) = first_is_long l.prefix (l.more ++ now.left) l.line (omega arith) in
     let long : length l.prefix ≤ length begins.line = begins.long in
     record {
       line = begins.line;
-      none = λ workers. no_line_is_long workers begins.line (omega arith);
+      none = λ some. no_line_is_long some begins.line (omega arith);
       next = record {
         others = begins.others;
-        lines =
+        begins =
             handed start now reader (asked_text xs) tells l.read
             ∙ ap (λ (t : List ℕ). script_lines (asked_text xs ++ t)) (ap (λ (t : List ℕ). t ++ now.left) l.begins ∙ append_assoc l.prefix l.more now.left)
-            ∙ asked_begins xs (l.prefix ++ (l.more ++ now.left)) fit
+            ∙ asked_begins workers xs (l.prefix ++ (l.more ++ now.left)) many fit
             ∙ ap (λ (ls : List (List ℕ)). asked_lines xs ++ ls) begins.is;
       };
     }
 
-pub next_laws : (start now : Feed) (reader : Unread) (xs : List Answered) → EachFits xs → IsTrue start.tells → NextLaws start now reader xs
-next_laws start now reader xs fit tells = record {
-  got = λ l. line_next start now reader xs reader.line fit tells l.line (subst (Reading start now reader) (append_assoc (asked_text xs) reader.line (10 ∷ [])) l.read);
-  asks = λ call fits r. line_next start now reader xs (ask call) fit tells (ask_line call fits) r;
-  long = long_next start now reader xs fit tells;
+pub next_laws : (workers : ℕ) (start now : Feed) (reader : Unread) (xs : List (ℕ × Call)) → workers < 2 ^ 32 → EachLineFits workers xs → IsTrue start.tells → NextLaws workers start now reader xs
+next_laws workers start now reader xs many fit tells = record {
+  got = λ l. line_next workers start now reader xs reader.line many fit tells l.line (subst (Reading start now reader) (append_assoc (asked_text xs) reader.line (10 ∷ [])) l.read);
+  asks = λ session call fits r. line_next workers start now reader xs (ask session call) many fit tells (ask_line workers session call many fits) r;
+  long = long_next workers start now reader xs many fit tells;
   ends = λ r at.
       handed start now reader (asked_text xs) tells r
       ∙ ap (λ (t : List ℕ). script_lines (asked_text xs ++ (t ++ now.left))) at.none
       ∙ ap (λ (t : List ℕ). script_lines (asked_text xs ++ t)) (r.end at.ended tells)
-      ∙ asked_begins xs [] fit
+      ∙ asked_begins workers xs [] many fit
       ∙ append-nil (asked_lines xs);
 }
 

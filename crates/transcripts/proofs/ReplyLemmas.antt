@@ -6,9 +6,10 @@ use Rattle.map_model.specs.declared.call.Answer.{Answer}
 use Rattle.map_model.specs.Journals.{Name}
 use Rattle.script_lang.specs.Notices.{Notice, notice_text, NoticeFits}
 use Rattle.script_lang.specs.Notices.Notice.{Opened}
-use Rattle.script_lang.specs.Replies.{Reply, reply_of, reply_text, reply_line, Fits}
+use Rattle.map_model.specs.Outputs.{Reply, answer_of, answers_told, name_of, names}
+use Rattle.script_lang.specs.Replies.{reply_of, reply_text, reply_line, Fits}
 use Rattle.script_lang.specs.Text.{no_line, whole_lines, IsLine}
-use Rattle.transcripts.specs.Told.{text_of, names, name_of, EachReplyFits, IsTail, IsOutput}
+use Rattle.transcripts.specs.Told.{text_of, EachReplyFits, IsTail, IsOutput}
 use Rattle.transcripts.specs.Told.IsTail.{CutReply, CutNotice, WholeNotice}
 use Rattle.transcripts.specs.Transcripts.{answers, answer_onto, durables_in, name_onto, lines_text}
 use Rattle.transcripts.proofs.LineLemmas.{first_line, cut_is_no_line, EachIsLine, each_append, lines_text_append}
@@ -17,15 +18,6 @@ use Rattle.transcripts.proofs.LineLemmas.{first_line, cut_is_no_line, EachIsLine
 abbrev pub texts : List Reply → List (List ℕ)
 texts [] = []
 texts (r ∷ earlier) = texts earlier ++ reply_text r ∷ []
-
--- the answers among them, the oldest first
-abbrev pub answer_in : Reply → List (ℕ × Answer)
-answer_in (Reply.Answered session a) = (session, a) ∷ []
-answer_in _ = []
-
-abbrev pub answers_in : List Reply → List (ℕ × Answer)
-answers_in [] = []
-answers_in (r ∷ earlier) = answers_in earlier ++ answer_in r
 
 pub text_is : (told : List Reply) → text_of told ≡ lines_text (texts told)
 text_is [] = refl
@@ -81,10 +73,10 @@ module _ (back : (reply : Reply) → Fits reply → (reply_of (reply_text reply)
       ∙ first_line no_line (notice_text (Opened g w u)) (text_of told ++ o.tail) (quiet (Opened g w u) o.opened).1
       ∙ ap (λ (ls : List (List ℕ)). notice_text (Opened g w u) ∷ ls) (whole_told told o.tail o.fit)
 
-  pub answers_one : (r : Reply) → Fits r → answers (reply_text r ∷ []) ≡ answer_in r
+  pub answers_one : (r : Reply) → Fits r → answers (reply_text r ∷ []) ≡ answer_of r
   answers_one r fit = ap (λ (o : Option Reply). answer_onto o []) (back r fit).0 ∙ one r
     where
-      one : (r : Reply) → answer_onto (Some r) [] ≡ answer_in r
+      one : (r : Reply) → answer_onto (Some r) [] ≡ answer_of r
       one (Reply.Answered s a) = refl
       one _ = refl
 
@@ -95,11 +87,11 @@ module _ (back : (reply : Reply) → Fits reply → (reply_of (reply_text reply)
       one (Reply.Durable s n) = refl
       one _ = refl
 
-  pub answers_texts : (told : List Reply) → EachReplyFits told → answers (texts told) ≡ answers_in told
+  pub answers_texts : (told : List Reply) → EachReplyFits told → answers (texts told) ≡ answers_told told
   answers_texts [] fit = refl
   answers_texts (r ∷ earlier) fit =
       answers_append (texts earlier) (reply_text r ∷ []) ∙ ap (λ (more : List (ℕ × Answer)). answers (texts earlier) ++ more) (answers_one r fit.1)
-      ∙ ap (λ (more : List (ℕ × Answer)). more ++ answer_in r) (answers_texts earlier fit.0)
+      ∙ ap (λ (more : List (ℕ × Answer)). more ++ answer_of r) (answers_texts earlier fit.0)
 
   pub durables_texts : (told : List Reply) → EachReplyFits told → durables_in (texts told) ≡ names told
   durables_texts [] fit = refl
@@ -125,7 +117,7 @@ module _ (back : (reply : Reply) → Fits reply → (reply_of (reply_text reply)
         durables_none = ap durables_in lines ∙ ap (λ (o : Option Reply). name_onto o []) (quiet n fit).0;
       }
 
-  pub answers_output : (g w u : ℕ) (told : List Reply) (output : List ℕ) → IsOutput g w u told output → answers (whole_lines output) ≡ answers_in told
+  pub answers_output : (g w u : ℕ) (told : List Reply) (output : List ℕ) → IsOutput g w u told output → answers (whole_lines output) ≡ answers_told told
   answers_output g w u told output o =
       ap answers (whole_output g w u told output o)
       ∙ ap (λ (r : Option Reply). answer_onto r (answers (texts told ++ whole_lines o.tail))) (quiet (Opened g w u) o.opened).0

@@ -1,111 +1,163 @@
--- What is asked and answered, in turn.
-use Rattle.std.proofs.Common.{◌≡◌, ◌++◌, ◌∷◌, [], ℕ, List, Option, Some, None, length, map, refl, sym, ap, ◌∙◌, arith}
+-- What a script and its output tell.
+use Rattle.std.proofs.Common.{◌≡◌, ◌++◌, ◌∷◌, [], ◌<◌, ◌^◌, ◌&&◌, ◌==◌, ℕ, Bool, true, false, cond, List, Option, Some, None, length, map, refl, sym, ap, ◌∙◌, subst, true≢false}
+use Rattle.std.proofs.lemmas.Bool.{and_from, cond-true, cond-false, eq-eqb, or_left}
 use Rattle.std.proofs.lemmas.List.{append-nil}
 use mathlib.Core.List.{append_assoc}
 use Rattle.map_model.specs.declared.call.Call.{Call}
 use Rattle.map_model.specs.declared.call.Answer.{Answer}
 use Rattle.map_model.specs.declared.call.Answer.TheVariants as answer
-use Rattle.map_model.specs.Journals.{Name, journal_of}
+use Rattle.map_model.specs.declared.call.Answered.{Answered}
+use Rattle.map_model.specs.declared.call.Refusal.{Refusal}
+use Rattle.map_model.specs.declared.call.Refusal.TheVariants as refusal
+use Rattle.map_model.specs.Journals.{journal_of}
+use Rattle.map_model.specs.Lists.{Has}
+use Rattle.map_model.specs.Outputs.{Reply, names}
 use Rattle.map_model.specs.Transcripts as model
 use Rattle.map_model.specs.Transcripts.{lines_onto, lines_of, txn_of}
-use Rattle.script_lang.specs.Lines.{line_of, CallFits}
+use Rattle.map_model.specs.Pairings.{is_last, is_last_refusal, ends_for, counted, paired, answers_in, EachIsAnswered, in_turn, is_open_line, script_of, EachGoesOn}
+use Rattle.map_model.proofs.PairLemmas.{every_pair, every_script}
+use Rattle.map_model.proofs.CountLemmas.{every_count}
 use Rattle.script_lang.specs.declared.line.Line.{Line}
 use Rattle.script_lang.specs.Notices.{Notice, notice_text, NoticeFits}
-use Rattle.script_lang.specs.Replies.{Reply, reply_of, reply_text, Fits}
+use Rattle.script_lang.specs.Replies.{reply_of, reply_text, Fits, AnswerFits, RefusalFits}
 use Rattle.script_lang.specs.Text.{script_lines, whole_lines, IsLine}
 use Rattle.script_lang.proofs.LineLemmas.{line_read}
 use Rattle.session_model.specs.Calls as session
-use Rattle.session_model.specs.Calls.{Answered}
-use Rattle.transcripts.specs.Told.{ask, asked_lines, durable_of, replies, names, committed, committed_by, EachFits, Heard, IsOutput}
-use Rattle.transcripts.specs.Told.Heard.{Whole, Lacking}
-use Rattle.transcripts.specs.Transcripts.{asked, asked_onto, answers, paired, transcript, durables, in_turn}
-use Rattle.transcripts.specs.Laws.{TellsOf}
-use Rattle.transcripts.proofs.ReplyLemmas.{answers_in, answers_output, durables_output}
+use Rattle.transcripts.specs.Told.{ask, asked_lines, AreAnswers, EachLineFits, EachFits, Heard, IsOutput}
+use Rattle.transcripts.specs.Transcripts.{asked, asked_onto, answers, transcript, durables}
+use Rattle.transcripts.specs.Laws.{EveryAsked, TellsOf, TellsInTurn}
+use Rattle.transcripts.proofs.HeardLemmas.{durable_committed, heard_answers, names_are}
+use Rattle.transcripts.proofs.ReplyLemmas.{answers_output, durables_output}
 
--- the calls, the oldest first
-abbrev pub calls_in : List Answered → List (ℕ × Call)
-calls_in [] = []
-calls_in (x ∷ earlier) = calls_in earlier ++ (1, x.call) ∷ []
-
-abbrev pub said_in : List Answered → List (ℕ × Answer)
-said_in [] = []
-said_in (x ∷ earlier) = said_in earlier ++ (1, x.answer) ∷ []
-
-pub ask_is_read : (call : Call) → CallFits call → line_of 1 (ask call) ≡ Some (record { session = 1; call = call })
-ask_is_read call fits = line_read 1 (ask call) (record { session = 1; call = call }) (omega arith) (record { spelled = refl; first = omega arith; last = omega arith; call = fits })
+-- ## The lines of a script
 
 -- the lines that ask calls are read as these calls
-pub asked_first : (xs : List Answered) (others : List (List ℕ)) → EachFits xs → asked 1 (asked_lines xs ++ others) ≡ calls_in xs ++ asked 1 others
-asked_first [] others fit = refl
-asked_first (x ∷ earlier) others fit =
-    ap (asked 1) (append_assoc (asked_lines earlier) (ask x.call ∷ []) others)
-    ∙ asked_first earlier (ask x.call ∷ others) fit.0
-    ∙ ap (λ (o : Option Line). calls_in earlier ++ asked_onto o (asked 1 others)) (ask_is_read x.call fit.1)
-    ∙ sym (append_assoc (calls_in earlier) ((1, x.call) ∷ []) (asked 1 others))
+pub every_asked : EveryAsked
+every_asked workers [] others many fit = refl
+every_asked workers (x ∷ xs) others many fit =
+    let line : Line = record { session = x.0; call = x.1 } in
+    ap (λ (o : Option Line). asked_onto o (asked workers (asked_lines xs ++ others))) (line_read workers (ask x.0 x.1) line many (record { spelled = refl; first = fit.0.first; last = fit.0.last; call = fit.0.fits }))
+    ∙ ap (λ (l : List (ℕ × Call)). x ∷ l) (every_asked workers xs others many fit.1)
 
--- calls and their answers are paired
-pub paired_first : (xs : List Answered) (calls : List (ℕ × Call)) (more : List (ℕ × Answer)) → paired (calls_in xs ++ calls) (said_in xs ++ more) ≡ in_turn xs ++ paired calls more
-paired_first [] calls more = refl
-paired_first (x ∷ earlier) calls more =
-    ap (λ (cs : List (ℕ × Call)). paired cs ((said_in earlier ++ (1, x.answer) ∷ []) ++ more)) (append_assoc (calls_in earlier) ((1, x.call) ∷ []) calls)
-    ∙ ap (λ (ls : List (ℕ × Answer)). paired (calls_in earlier ++ (1, x.call) ∷ calls) ls) (append_assoc (said_in earlier) ((1, x.answer) ∷ []) more)
-    ∙ paired_first earlier ((1, x.call) ∷ calls) ((1, x.answer) ∷ more)
-    ∙ sym (append_assoc (in_turn earlier) ((1, x.call, x.answer) ∷ []) (paired calls more))
+line_append : (workers : ℕ) (xs ys : List (ℕ × Call)) → EachLineFits workers xs → EachLineFits workers ys → EachLineFits workers (xs ++ ys)
+line_append workers [] ys f g = g
+line_append workers (x ∷ xs) ys f g = (f.0, line_append workers xs ys f.1 g)
 
--- the answers among the replies to calls
-answers_durable : (a : Answer) (earlier : List Reply) → answers_in (durable_of a ++ earlier) ≡ answers_in earlier
-answers_durable (answer.Committed n g) earlier = append-nil (answers_in earlier)
-answers_durable _ earlier = refl
+-- the lines of calls that fit
+pub lines_fit : (workers : ℕ) (xs : List Answered) → EachFits workers xs → EachLineFits workers (script_of xs)
+lines_fit workers [] fit = tt
+lines_fit workers (x ∷ earlier) fit = go (lines_fit workers earlier fit.0) (is_open_line earlier)
+  where
+    go : EachLineFits workers (script_of earlier) → (b : Bool) → EachLineFits workers (cond b (script_of earlier) (script_of earlier ++ (x.session, x.call) ∷ []))
+    go ih true = ih
+    go ih false = line_append workers (script_of earlier) ((x.session, x.call) ∷ []) ih (fit.1, tt)
 
-pub answers_are : (xs : List Answered) → answers_in (replies xs) ≡ said_in xs
-answers_are [] = refl
-answers_are (x ∷ earlier) = answers_durable x.answer (Reply.Answered 1 x.answer ∷ replies earlier) ∙ ap (λ (more : List (ℕ × Answer)). more ++ (1, x.answer) ∷ []) (answers_are earlier)
+-- ## Answers that are each the last one to its line
 
-pub heard_answers : (xs : List Answered) (told : List Reply) → Heard xs told → answers_in told ≡ said_in xs
-heard_answers xs told (Whole e) = ap answers_in e ∙ answers_are xs
-heard_answers xs told (Lacking l) =
-    ap answers_in l.told_is ∙ ap (λ (more : List (ℕ × Answer)). more ++ (1, answer.Committed l.number l.at) ∷ []) (answers_are l.earlier) ∙ sym (ap said_in l.last)
+abbrev EachIsLast : List Answered → Type 0
+EachIsLast [] = Unit {0}
+EachIsLast (x ∷ xs) = EachIsLast xs × (is_last x.answer ≡ true)
 
--- the transactions that the replies to calls tell to be durable are those that the calls commit
-names_durable : (a : Answer) (earlier : List Reply) → names (durable_of a ++ Reply.Answered 1 a ∷ earlier) ≡ names earlier ++ committed_by a
-names_durable (answer.Committed n g) earlier = ap (λ (more : List Name). more ++ record { session = 1; number = n } ∷ []) (append-nil (names earlier))
-names_durable _ earlier = refl
+refusal_last : (r : Refusal) → RefusalFits r → is_last_refusal r ≡ true
+refusal_last (refusal.Conflict h) fits = absurd fits
+refusal_last _ fits = refl
 
-pub names_are : (xs : List Answered) → names (replies xs) ≡ committed xs
-names_are [] = refl
-names_are (x ∷ earlier) = names_durable x.answer (replies earlier) ∙ ap (λ (more : List Name). more ++ committed_by x.answer) (names_are earlier)
+answer_last : (a : Answer) → AnswerFits a → is_last a ≡ true
+answer_last (answer.Pair k v) fits = absurd fits
+answer_last (answer.Refused r) fits = refusal_last r fits
+answer_last _ fits = refl
 
--- the lines of the model are those of the session
-onto_last : (behind : List model.Line) (xs : List (ℕ × Call × Answer)) (x : ℕ × Call × Answer)
-    → lines_onto behind (xs ++ x ∷ []) ≡ record { place = length (lines_onto behind xs); session = x.0; call = x.1; answer = x.2 } ∷ lines_onto behind xs
+fits_last : (workers : ℕ) (xs : List Answered) → EachFits workers xs → EachIsLast xs
+fits_last workers [] fit = tt
+fits_last workers (x ∷ earlier) fit = (fits_last workers earlier fit.0, answer_last x.answer fit.2.1)
+
+last_push : (xs : List Answered) (x : Answered) → EachIsLast xs → is_last x.answer ≡ true → EachIsLast (xs ++ x ∷ [])
+last_push [] x l e = (tt, e)
+last_push (y ∷ xs) x l e = (last_push xs x l.0 e, l.1)
+
+last_in_turn : (xs : List Answered) → EachIsLast xs → EachIsLast (in_turn xs)
+last_in_turn [] l = tt
+last_in_turn (x ∷ earlier) l = last_push (in_turn earlier) x (last_in_turn earlier l.0) l.1
+
+all_count : (xs : List Answered) → EachIsLast xs → counted xs ≡ xs
+all_count [] l = refl
+all_count (x ∷ xs) l =
+    cond-true (ends_for x.session (x ∷ xs)) (x ∷ counted xs) (counted xs)
+    (or_left ((x.session == x.session) && is_last x.answer) (ends_for x.session xs) (and_from (x.session == x.session) (is_last x.answer) (eq-eqb x.session x.session refl) l.1))
+    ∙ ap (λ (ys : List Answered). x ∷ ys) (all_count xs l.0)
+
+goes_on : (xs : List Answered) → EachIsLast xs → EachGoesOn xs
+goes_on [] l = tt
+goes_on (x ∷ []) l = (tt, tt)
+goes_on (x ∷ y ∷ earlier) l = (goes_on (y ∷ earlier) l.0, λ e. absurd (true≢false (sym l.0.1 ∙ e)))
+
+closed : (xs : List Answered) → EachIsLast xs → is_open_line xs ≡ false
+closed [] l = refl
+closed (x ∷ earlier) l = cond-true (is_last x.answer) false true l.1
+
+-- behind calls whose last one was answered in full there come the lines of further calls
+pub script_append : (newer xs : List Answered) → is_open_line xs ≡ false → script_of (newer ++ xs) ≡ script_of xs ++ script_of newer
+script_append [] xs e = sym (append-nil (script_of xs))
+script_append (x ∷ []) xs e = cond-false (is_open_line xs) (script_of xs) (script_of xs ++ (x.session, x.call) ∷ []) e
+script_append (x ∷ y ∷ newer) xs e = go (script_append (y ∷ newer) xs e) (is_last y.answer)
+  where
+    one : List (ℕ × Call)
+    one = (x.session, x.call) ∷ []
+
+    go : script_of (y ∷ newer ++ xs) ≡ script_of xs ++ script_of (y ∷ newer) → (b : Bool) →
+        cond (cond b false true) (script_of (y ∷ newer ++ xs)) (script_of (y ∷ newer ++ xs) ++ one) ≡ script_of xs ++ cond (cond b false true) (script_of (y ∷ newer)) (script_of (y ∷ newer) ++ one)
+    go ih true = ap (λ (l : List (ℕ × Call)). l ++ one) ih ∙ append_assoc (script_of xs) (script_of (y ∷ newer)) one
+    go ih false = ih
+
+pub fits_closed : (workers : ℕ) (xs : List Answered) → EachFits workers xs → is_open_line xs ≡ false
+fits_closed workers xs fit = closed xs (fits_last workers xs fit)
+
+-- ## The lines of the model are those of the session
+
+onto_last : (behind : List model.Line) (xs : List Answered) (x : Answered) → lines_onto behind (xs ++ x ∷ []) ≡ record { place = length (lines_onto behind xs); said = x } ∷ lines_onto behind xs
 onto_last behind [] x = refl
-onto_last behind (y ∷ ys) x = onto_last (record { place = length behind; session = y.0; call = y.1; answer = y.2 } ∷ behind) ys x
+onto_last behind (y ∷ ys) x = onto_last (record { place = length behind; said = y } ∷ behind) ys x
 
 pub lines_are : (xs : List Answered) → lines_of (in_turn xs) ≡ session.lines xs
 lines_are [] = refl
-lines_are (x ∷ earlier) =
-    onto_last [] (in_turn earlier) (1, x.call, x.answer)
-    ∙ ap (λ (ls : List model.Line). record { place = length ls; session = 1; call = x.call; answer = x.answer } ∷ ls) (lines_are earlier)
+lines_are (x ∷ earlier) = onto_last [] (in_turn earlier) x ∙ ap (λ (ls : List model.Line). record { place = length ls; said = x } ∷ ls) (lines_are earlier)
 
 pub journal_is : (xs : List Answered) → model.journal (in_turn xs) ≡ session.journal xs
 journal_is xs = ap (λ (ls : List model.Line). journal_of (map txn_of (model.told ls))) (lines_are xs)
 
-pub tells_of : ((reply : Reply) → Fits reply → (reply_of (reply_text reply) ≡ Some reply) × IsLine (reply_text reply))
-    → ((line : Notice) → NoticeFits line → (reply_of (notice_text line) ≡ None) × IsLine (notice_text line))
-    → (g w u : ℕ) (xs : List Answered) (told : List Reply) (others : List (List ℕ)) (input output : List ℕ) → EachFits xs →
-    script_lines input ≡ asked_lines xs ++ others → Heard xs told → IsOutput g w u told output → TellsOf xs told input output
-tells_of back quiet g w u xs told others input output fit begins heard is =
-    let calls : asked 1 (script_lines input) ≡ calls_in xs ++ asked 1 others = ap (asked 1) begins ∙ asked_first xs others fit in
-    let said : answers (whole_lines output) ≡ said_in xs ++ [] = answers_output back quiet g w u told output is ∙ heard_answers xs told heard ∙ sym (append-nil (said_in xs)) in
-    let turn : transcript 1 input output ≡ in_turn xs =
-    ap (λ (cs : List (ℕ × Call)). paired cs (answers (whole_lines output))) calls
-    ∙ ap (λ (ls : List (ℕ × Answer)). paired (calls_in xs ++ asked 1 others) ls) said
-    ∙ paired_first xs (asked 1 others) []
-    ∙ append-nil (in_turn xs) in
-    let durable : durables output ≡ names told = durables_output back quiet g w u told output is in
-    record {
-      transcript_is = turn;
-      journal_is = ap model.journal turn ∙ journal_is xs;
-      durables_are = durable;
-      all_durable = λ e. durable ∙ ap names e ∙ names_are xs;
-    }
+-- ## What is told
+
+module _ (back : (reply : Reply) → Fits reply → (reply_of (reply_text reply) ≡ Some reply) × IsLine (reply_text reply)) (quiet : (line : Notice) → NoticeFits line → (reply_of (notice_text line) ≡ None) × IsLine (notice_text line)) where
+  pub tells_of : (workers g w u : ℕ) (xs : List Answered) (told : List Reply) (input output : List ℕ) → EachIsAnswered (asked workers (script_lines input)) (in_turn xs) → AreAnswers xs told → IsOutput g w u told output →
+      TellsOf workers xs told input output
+  tells_of workers g w u xs told input output each are is =
+      let said : answers (whole_lines output) ≡ answers_in (in_turn xs) = answers_output back quiet g w u told output is ∙ are.answers in
+      let turn : transcript workers input output ≡ counted (in_turn xs) = ap (paired (asked workers (script_lines input))) said ∙ every_pair (asked workers (script_lines input)) (in_turn xs) each in
+      let durable : durables output ≡ names told = durables_output back quiet g w u told output is in
+      record {
+        transcript_is = turn;
+        journal_is = ap model.journal turn ∙ every_count (in_turn xs);
+        durables_are = durable;
+        committed_by_them = λ name has. durable_committed xs told are name (subst (Has name) durable has);
+      }
+
+  -- the lines of a script that begins with those that ask calls, which have one answer each
+  pub answered_in_turn : (workers : ℕ) (xs : List Answered) (others : List (List ℕ)) (input : List ℕ) → workers < 2 ^ 32 → EachFits workers xs → script_lines input ≡ asked_lines (script_of xs) ++ others →
+      EachIsAnswered (asked workers (script_lines input)) (in_turn xs)
+  answered_in_turn workers xs others input many fit begins =
+      subst (λ (cs : List (ℕ × Call)). EachIsAnswered cs (in_turn xs)) (sym (ap (asked workers) begins ∙ every_asked workers (script_of xs) others many (lines_fit workers xs fit)))
+      (every_script xs (asked workers others) (goes_on xs (fits_last workers xs fit))).answered
+
+  pub counted_in_turn : (workers : ℕ) (xs : List Answered) → EachFits workers xs → counted (in_turn xs) ≡ in_turn xs
+  counted_in_turn workers xs fit = all_count (in_turn xs) (last_in_turn xs (fits_last workers xs fit))
+
+  pub tells_in_turn : (workers g w u : ℕ) (xs : List Answered) (told : List Reply) (others : List (List ℕ)) (input output : List ℕ) → workers < 2 ^ 32 → EachFits workers xs →
+      script_lines input ≡ asked_lines (script_of xs) ++ others → Heard xs told → IsOutput g w u told output → TellsInTurn workers xs told input output
+  tells_in_turn workers g w u xs told others input output many fit begins heard is =
+      let t : TellsOf workers xs told input output = tells_of workers g w u xs told input output (answered_in_turn workers xs others input many fit begins) (heard_answers xs told heard) is in
+      record {
+        transcript_is = t.transcript_is ∙ counted_in_turn workers xs fit;
+        journal_is = t.journal_is ∙ journal_is xs;
+        durables_are = t.durables_are;
+        all_durable = λ e. t.durables_are ∙ (ap names e ∙ names_are xs);
+      }

@@ -2,12 +2,14 @@
 use Rattle.std.specs.Prelude.{◌≡◌, ℕ, List, [], ◌∷◌, ◌++◌, take, Option, Some, None}
 use Rattle.map_model.specs.declared.call.Call.{Call}
 use Rattle.map_model.specs.declared.call.Answer.{Answer}
+use Rattle.map_model.specs.declared.call.Answered.{Answered}
 use Rattle.map_model.specs.Journals.{Name}
+use Rattle.map_model.specs.Outputs.{Reply}
+use Rattle.map_model.specs.Pairings.{paired}
 use Rattle.script_lang.specs.Lines.{line_of}
 use Rattle.script_lang.specs.declared.line.Line.{Line}
-use Rattle.script_lang.specs.Replies.{Reply, reply_of}
+use Rattle.script_lang.specs.Replies.{reply_of}
 use Rattle.script_lang.specs.Text.{script_lines, whole_lines}
-use Rattle.session_model.specs.Calls.{Answered}
 
 -- what the lines of a script ask, up to the first that is no line
 abbrev pub asked_onto : Option Line → List (ℕ × Call) → List (ℕ × Call)
@@ -27,14 +29,8 @@ abbrev pub answers : List (List ℕ) → List (ℕ × Answer)
 answers [] = []
 answers (l ∷ ls) = answer_onto (reply_of l) (answers ls)
 
--- each call with its answer, as far as there are both
-abbrev pub paired : List (ℕ × Call) → List (ℕ × Answer) → List (ℕ × Call × Answer)
-paired calls [] = []
-paired [] (a ∷ more) = []
-paired (c ∷ calls) (a ∷ more) = (c.0, c.1, a.1) ∷ paired calls more
-
--- the calls of a script that were answered, with their sessions and answers, the oldest first
-abbrev pub transcript : ℕ → List ℕ → List ℕ → List (ℕ × Call × Answer)
+-- the answers that count, each with the line of the script that it belongs to, the oldest first
+abbrev pub transcript : ℕ → List ℕ → List ℕ → List Answered
 transcript workers input output = paired (asked workers (script_lines input)) (answers (whole_lines output))
 
 -- the transactions that an output tells to be durable
@@ -58,12 +54,7 @@ lines_text (l ∷ ls) = l ++ 10 ∷ lines_text ls
 abbrev pub first_lines : ℕ → List ℕ → List ℕ
 first_lines count output = lines_text (take count (whole_lines output))
 
--- one session's calls, as a transcript has them
-abbrev pub in_turn : List Answered → List (ℕ × Call × Answer)
-in_turn [] = []
-in_turn (x ∷ earlier) = in_turn earlier ++ (1, x.call, x.answer) ∷ []
-
 -- a text in which no call is answered and nothing is told durable
-pub record IsQuiet (input output : List ℕ) : Type 0 where
-  pub transcript_is : transcript 1 input output ≡ []
+pub record IsQuiet (workers : ℕ) (input output : List ℕ) : Type 0 where
+  pub transcript_is : transcript workers input output ≡ []
   pub durables_are : durables output ≡ []

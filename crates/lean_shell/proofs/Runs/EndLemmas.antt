@@ -14,7 +14,8 @@ use Rattle.map_model.specs.Journals.{Journal, Serial}
 use Rattle.map_model.specs.Transcripts.{journal}
 use Rattle.lean_edge.specs.declared.sink.Put.{Put}
 use Rattle.script_lang.specs.Notices.{Notice, NoticeFits}
-use Rattle.script_lang.specs.Replies.{Reply, reply_text, Fits}
+use Rattle.map_model.specs.Outputs.{Reply}
+use Rattle.script_lang.specs.Replies.{reply_text, Fits}
 use Rattle.script_lang.specs.Text.{script_lines}
 use Rattle.disk_slots.specs.declared.master.Master.{Master}
 use Rattle.disk_image.specs.Shown.{IsCleanDisk}
@@ -23,10 +24,12 @@ use Rattle.recovery.specs.Opened.{IsRefusal, IsUntouched, Keeps}
 use Rattle.recovery.specs.Telling.{TellsAll}
 use Rattle.recovery.specs.declared.opening.Unrecovered.{Unrecovered}
 use Rattle.core_state.specs.Openings.{Opening}
-use Rattle.session_model.specs.Calls.{Answered, Runs}
+use Rattle.map_model.specs.declared.call.Answered.{Answered}
+use Rattle.session_model.specs.Calls.{Runs}
 use Rattle.session_model.specs.Sessions.{Session}
-use Rattle.transcripts.specs.Laws.{EveryPrefix, EveryNotice, EveryTail}
-use Rattle.transcripts.specs.Told.{asked_lines, replies, EachReplyFits, Heard, IsCut, IsTail}
+use Rattle.transcripts.specs.Laws.{EveryHeard, EveryNotice, EveryTail}
+use Rattle.map_model.specs.Pairings.{script_of}
+use Rattle.transcripts.specs.Told.{asked_lines, replies, EachFits, EachReplyFits, Heard, IsCut, IsTail}
 use Rattle.transcripts.specs.Told.Heard.{Whole}
 use Rattle.transcripts.specs.Told.IsTail.{CutReply}
 use Rattle.transcripts.specs.Transcripts.{first_lines, IsQuiet}
@@ -67,8 +70,8 @@ module _ (notice_law : EveryNotice) (s0 old new : Story) (law : IsLawful old) (k
 
   pub line_leaves : (m : Master) → TellsCrashes s0 → IsCleanDisk m (areas_of s0) → IsYoung m s0 → LeavesOnly s0 new (LivesOn m s0 feed.left line_text.text)
   line_leaves m all clean young = line_moments m s0 old new clean young.notes feed.left line_text.text answer (any m all.all clean) law keeps.later keeps.notes p.noted p.same
-      (notice_law n feed.left 0 fits)
-      (λ is. subst (λ (t : List ℕ). IsQuiet feed.left (first_lines 1 t)) (sym (line_text.whole is)) (notice_law n feed.left 1 fits))
+      (notice_law 1 n feed.left 0 fits)
+      (λ is. subst (λ (t : List ℕ). IsQuiet 1 feed.left (first_lines 1 t)) (sym (line_text.whole is)) (notice_law 1 n feed.left 1 fits))
 
   pub line_masters : (m : Master) → TellsCrashes s0 → IsCleanDisk m (areas_of s0) → IsYoung m s0 → LeavesOnly s0 new (MasterLeaves m s0 feed.left line_text.text)
   line_masters m all clean young = weaker s0 new (LivesOn m s0 feed.left line_text.text) (MasterLeaves m s0 feed.left line_text.text) (master_leaves m s0 feed.left line_text.text) (line_leaves m all clean young)
@@ -76,7 +79,7 @@ module _ (notice_law : EveryNotice) (s0 old new : Story) (law : IsLawful old) (k
   -- the line tells of no call
   pub line_says : EveryTail → TellsAll s0 → Headline s0 new feed.left line_text.text
   line_says tail_law all = record {
-    serial = λ m map won stands. subst (λ (j : Journal). Serial map j) (sym (ap journal (tail_law feed.left line_text.text (subst IsTail (sym line_text.is_prefix) (notice_tail n fits line_text.prefix))))) tt;
+    serial = λ m map won stands. subst (λ (j : Journal). Serial map j) (sym (ap journal (tail_law 1 feed.left line_text.text (subst IsTail (sym line_text.is_prefix) (notice_tail n fits line_text.prefix))))) tt;
     any_moment = λ counts m clean young. weaker s0 new (LivesOn m s0 feed.left line_text.text) (RunLeaves m s0 feed.left line_text.text) (run_leaves m s0 feed.left line_text.text) (line_leaves m (record { all = all; counts = counts }) clean young);
   }
 
@@ -135,16 +138,16 @@ module _ (notice_law : EveryNotice) (s0 old new : Story) (law : IsLawful old) (k
 -- the script begins with the lines that ask the calls
 pub record HasLines (input : List ℕ) (calls : List Answered) : Type 0 where
   pub others : List (List ℕ)
-  pub is : script_lines input ≡ asked_lines calls ++ others
+  pub is : script_lines input ≡ asked_lines (script_of calls) ++ others
 
 pub lines_of : (stop : Stop) (input : List ℕ) (calls : List Answered) → LinesRead stop calls input → HasLines input calls
 lines_of stop input calls r = record { others = r.others; is = r.lines }
 
 -- and with those of the first of them
-pub first_lines_of : (input : List ℕ) (later first calls : List Answered) → later ++ first ≡ calls → HasLines input calls → HasLines input first
-first_lines_of input later first calls e l = record {
-  others = asked_lines later ++ l.others;
-  is = l.is ∙ (ap (λ (xs : List Answered). asked_lines xs ++ l.others) (sym e) ∙ (ap (λ (ls : List (List ℕ)). ls ++ l.others) (asked_parts later first) ∙ append_assoc (asked_lines first) (asked_lines later) l.others));
+pub first_lines_of : (input : List ℕ) (later first calls : List Answered) → later ++ first ≡ calls → EachFits 1 first → HasLines input calls → HasLines input first
+first_lines_of input later first calls e fit l = record {
+  others = asked_lines (script_of later) ++ l.others;
+  is = l.is ∙ (ap (λ (xs : List Answered). asked_lines (script_of xs) ++ l.others) (sym e) ∙ (ap (λ (ls : List (List ℕ)). ls ++ l.others) (asked_parts later first fit) ∙ append_assoc (asked_lines (script_of first)) (asked_lines (script_of later)) l.others));
 }
 
 -- the calls that the output answers
@@ -155,14 +158,14 @@ pub record HeardOf (stop : Stop) (calls : List Answered) (all : List Reply) : Ty
   pub all_heard : (stop ≡ stops.WriteFault → ⊥) → unheard ≡ []
   pub hears : Heard heard all
 
-pub heard_of : EveryPrefix → (stop : Stop) (calls : List Answered) (told : List Reply) (tail : List ℕ) (fits : EachReplyFits (replies calls)) (p : PrintsTo (Some stop) (replies calls) told tail) → HeardOf stop calls (out_of stop calls told tail fits p).all
+pub heard_of : EveryHeard → (stop : Stop) (calls : List Answered) (told : List Reply) (tail : List ℕ) (fits : EachReplyFits (replies calls)) (p : PrintsTo (Some stop) (replies calls) told tail) → HeardOf stop calls (out_of stop calls told tail fits p).all
 heard_of prefix stops.End calls told tail fits p = record { heard = calls; unheard = []; calls_are = refl; all_heard = λ e. refl; hears = Whole p.told_is }
 heard_of prefix (stops.Refused line) calls told tail fits p = record { heard = calls; unheard = []; calls_are = refl; all_heard = λ e. refl; hears = Whole p.told_is }
 heard_of prefix stops.ReadFault calls told tail fits p = record { heard = calls; unheard = []; calls_are = refl; all_heard = λ e. refl; hears = Whole p.told_is }
 heard_of prefix stops.DiskFault calls told tail fits p = record { heard = calls; unheard = []; calls_are = refl; all_heard = λ e. refl; hears = Whole p.told_is }
 heard_of prefix stops.WriteFault calls told tail fits p =
     let o : Out calls told tail = out_of stops.WriteFault calls told tail fits p in
-    let f = prefix calls o.newer o.all o.split in
+    let f = (prefix calls).prefix o.newer o.all o.split in
     record { heard = f.calls.first; unheard = f.calls.later; calls_are = f.calls.is; all_heard = λ e. absurd (e refl); hears = f.calls.heard }
 
 -- what stands behind the replies

@@ -10,7 +10,9 @@ use Rattle.image_model.specs.Entries.{Entry, is_commit}
 use Rattle.core_state.specs.Openings.{Opening}
 use Rattle.lean_edge.specs.Outside.{Feed}
 use Rattle.session_model.specs.Sessions.{Session, commit_of}
-use Rattle.session_model.specs.Calls.{Answered, Does, Runs, journal}
+use Rattle.map_model.specs.declared.call.Answered.{Answered}
+use Rattle.session_model.specs.Calls.{Does, Runs, journal}
+use Rattle.map_model.specs.Pairings.{script_of}
 use Rattle.transcripts.specs.Told.{asked_text}
 use Rattle.script_run.specs.Moments.{InHand, IsAsked}
 use Rattle.lean_shell.proofs.Runs.JournalLemmas.{Grows, with_answer, with_hand}
@@ -46,8 +48,8 @@ pub record CommitInHand (start : Feed) (heard hand : List Answered) (left : List
   pub end : Entry
   pub has : Has end left
   pub commit : is_commit end.kind ≡ true
-  pub hand_is : hand ≡ record { call = call.Commit; answer = answer.Committed end.txn end.number } ∷ heard
-  pub asked : IsAsked start (asked_text heard) call.Commit
+  pub hand_is : hand ≡ record { session = 1; call = call.Commit; answer = answer.Committed end.txn end.number } ∷ heard
+  pub asked : IsAsked start (asked_text (script_of heard)) call.Commit
 
 -- calls of which the records that are left are a prefix, and what is in hand
 pub record Settled (start : Feed) (g : Opening) (heard : List Answered) (left : List Entry) : Type 0 where
@@ -63,7 +65,7 @@ abbrev tail_of : List Entry → List Entry
 tail_of [] = []
 tail_of (x ∷ xs) = xs
 
-pub settle : (start : Feed) (g : Opening) (heard hand : List Answered) (session : Session) (left newer : List Entry) → Runs g hand session → newer ++ left ≡ session.log → InHand start (asked_text heard) heard hand → Settled start g heard left
+pub settle : (start : Feed) (g : Opening) (heard hand : List Answered) (session : Session) (left newer : List Entry) → Runs g hand session → newer ++ left ≡ session.log → InHand start (asked_text (script_of heard)) heard hand → Settled start g heard left
 settle start g heard hand session left newer runs prefix (inl e) = record { hand = hand; session = session; runs = runs; newer = newer; prefix = prefix; in_hand = inl (ap journal e); grows = inl (ap journal e) }
 settle start g heard hand session left newer runs prefix (inr p) = by_answer p.0.answer refl
   where
@@ -84,8 +86,9 @@ settle start g heard hand session left newer runs prefix (inr p) = by_answer p.0
         end = commit_of runs_x.0;
         has = subst (Has (commit_of runs_x.0)) (sym (fits ∙ is.log_is)) (inl refl);
         commit = refl;
-        hand_is = p.1 ∙ ap (λ (x : Answered). x ∷ heard) (ap₂ (λ (c : Call) (a : Answer). record { call = c; answer = a }) is.call_is (e ∙ ap₂ (λ (i j : ℕ). answer.Committed i j) is.number_is is.at_is));
-        asked = subst (IsAsked start (asked_text heard)) is.call_is p.2;
+        hand_is = p.1 ∙ ap (λ (x : Answered). x ∷ heard) (ap (λ (w : ℕ). record { session = w; call = p.0.call; answer = p.0.answer }) runs_x.3
+            ∙ ap₂ (λ (c : Call) (a : Answer). record { session = 1; call = c; answer = a }) is.call_is (e ∙ ap₂ (λ (i j : ℕ). answer.Committed i j) is.number_is is.at_is));
+        asked = subst (IsAsked start (asked_text (script_of heard))) is.call_is p.2;
       });
       grows = with_hand heard hand (inr (p.0, p.1));
     }

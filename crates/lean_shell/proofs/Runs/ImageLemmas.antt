@@ -22,7 +22,8 @@ use Rattle.disk_image.specs.Runs as runs
 use Rattle.disk_image.specs.Shown.{Areas, DiskStandsFor, IsCleanDisk, head_of, image_by, logged_in, page_slot_in, shown_by, slot_of}
 use Rattle.disk_image.specs.Shown as shown
 use Rattle.core_state.specs.Openings.{Opening, start_page, first_map}
-use Rattle.session_model.specs.Calls.{Answered, Runs, journal}
+use Rattle.map_model.specs.declared.call.Answered.{Answered}
+use Rattle.session_model.specs.Calls.{Runs, journal}
 use Rattle.session_model.specs.Laws.{EverySession, SessionLaws, Survives, image_left, kept_of}
 use Rattle.session_model.specs.Sessions.{Session, IsAlone}
 use Rattle.worker_log.specs.Laws.{EveryRun, Reads, entries_onto}

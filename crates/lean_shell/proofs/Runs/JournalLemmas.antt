@@ -6,9 +6,11 @@ use Rattle.map_model.specs.declared.call.Answer.TheVariants as answer
 use Rattle.map_model.specs.Lists.{Has, insert_by}
 use Rattle.map_model.specs.Journals.{Journal, Name, Txn, is_earlier, journal_of}
 use Rattle.map_model.specs.Transcripts.{told, told_onto, txn_of, lines_in}
-use Rattle.script_lang.specs.Replies.{Reply}
-use Rattle.session_model.specs.Calls.{Answered, journal, lines}
-use Rattle.transcripts.specs.Told.{durable_of, names, replies, Heard}
+use Rattle.map_model.specs.Outputs.{Reply}
+use Rattle.map_model.specs.declared.call.Answered.{Answered}
+use Rattle.session_model.specs.Calls.{journal, lines}
+use Rattle.map_model.specs.Outputs.{names}
+use Rattle.transcripts.specs.Told.{durable_of, replies, Heard}
 use Rattle.transcripts.specs.Told.Heard.{Whole, Lacking}
 
 -- ## A journal has its transactions
@@ -54,13 +56,13 @@ Grows told_ones all = (all ≡ told_ones) ⊎ HasOneMore told_ones all
 
 -- the journal of calls with one more, by its answer
 abbrev pub with_answer : Answered → List Answered → Answer → Journal
-with_answer x earlier a = journal_of (map txn_of (told_onto a 1 (lines_in 1 (lines earlier)) (told (lines earlier))))
+with_answer x earlier a = journal_of (map txn_of (told_onto a x.session (lines_in x.session (lines earlier)) (told (lines earlier))))
 
 one_more : (x : Answered) (earlier : List Answered) (a : Answer) → Grows (journal earlier) (with_answer x earlier a)
 one_more x earlier (answer.Committed n at) = inr (record {
-  more = txn_of (record { session = 1; number = n; at = at; lines = lines_in 1 (lines earlier) });
-  has = λ t h. has_still t (txn_of (record { session = 1; number = n; at = at; lines = lines_in 1 (lines earlier) })) (journal earlier) h;
-  only = λ t h. only_inserted t (txn_of (record { session = 1; number = n; at = at; lines = lines_in 1 (lines earlier) })) (journal earlier) h;
+  more = txn_of (record { session = x.session; number = n; at = at; lines = lines_in x.session (lines earlier) });
+  has = λ t h. has_still t (txn_of (record { session = x.session; number = n; at = at; lines = lines_in x.session (lines earlier) })) (journal earlier) h;
+  only = λ t h. only_inserted t (txn_of (record { session = x.session; number = n; at = at; lines = lines_in x.session (lines earlier) })) (journal earlier) h;
 })
 one_more x earlier _ = inl refl
 
@@ -85,16 +87,16 @@ still_named : (name : Name) (x : Answered) (earlier : List Answered) (a : Answer
 still_named name x earlier a h = record { txn = h.txn; has = still_has (journal earlier) (with_answer x earlier a) (one_more x earlier a) h.txn h.has; session = h.session; number = h.number }
 
 named_by : (name : Name) (x : Answered) (earlier : List Answered) (a : Answer) → (Has name (names (replies earlier)) → HasNamed name (journal earlier)) →
-    Has name (names (durable_of a ++ Reply.Answered 1 a ∷ replies earlier)) → HasNamed name (with_answer x earlier a)
+    Has name (names (durable_of x.session a ++ Reply.Answered x.session a ∷ replies earlier)) → HasNamed name (with_answer x earlier a)
 named_by name x earlier (answer.Committed n at) ih h = ⊎_elim
     (λ i. still_named name x earlier (answer.Committed n at) (ih (⊎_elim (λ j. j) (λ j. absurd j) (has_cases name (names (replies earlier)) [] i))))
     (λ i. new i)
-    (has_cases name (names (replies earlier) ++ []) (record { session = 1; number = n } ∷ []) h)
+    (has_cases name (names (replies earlier) ++ []) (record { session = x.session; number = n } ∷ []) h)
   where
-    new : Has name (record { session = 1; number = n } ∷ []) → HasNamed name (with_answer x earlier (answer.Committed n at))
+    new : Has name (record { session = x.session; number = n } ∷ []) → HasNamed name (with_answer x earlier (answer.Committed n at))
     new (inl e) = record {
-      txn = txn_of (record { session = 1; number = n; at = at; lines = lines_in 1 (lines earlier) });
-      has = has_inserted (txn_of (record { session = 1; number = n; at = at; lines = lines_in 1 (lines earlier) })) (journal earlier);
+      txn = txn_of (record { session = x.session; number = n; at = at; lines = lines_in x.session (lines earlier) });
+      has = has_inserted (txn_of (record { session = x.session; number = n; at = at; lines = lines_in x.session (lines earlier) })) (journal earlier);
       session = sym (ap (λ (m : Name). m.session) e);
       number = sym (ap (λ (m : Name). m.number) e);
     }
@@ -109,7 +111,7 @@ pub told_named : (name : Name) (calls : List Answered) (first : List Reply) → 
 told_named name calls first (Whole e) h = named name calls (subst (λ (rs : List Reply). Has name (names rs)) e h)
 told_named name calls first (Lacking l) h =
     let a : Answer = answer.Committed l.number l.at in
-    let x : Answered = record { call = l.call; answer = a } in
-    let cut : Has name (names (Reply.Answered 1 a ∷ replies l.earlier)) = subst (λ (rs : List Reply). Has name (names rs)) l.told_is h in
+    let x : Answered = record { session = l.session; call = l.call; answer = a } in
+    let cut : Has name (names (Reply.Answered l.session a ∷ replies l.earlier)) = subst (λ (rs : List Reply). Has name (names rs)) l.told_is h in
     let had : HasNamed name (journal l.earlier) = named name l.earlier (⊎_elim (λ j. j) (λ j. absurd j) (has_cases name (names (replies l.earlier)) [] cut)) in
     subst (λ (xs : List Answered). HasNamed name (journal xs)) (sym l.last) (still_named name x l.earlier a had)

@@ -53,7 +53,7 @@ recovery_notes m s c (inr l) = l.notes
 module _ (m : Master) (s0 old new : Story) (clean : IsCleanDisk m (areas_of s0)) (few : s0.notes < 2 ^ 62) (input put : List ℕ) (answer : Put)
     (run : LeavesOnly s0 old (RecoveryLeaves m s0)) (law : IsLawful old) (later : s0.moment ≤ old.moment) (notes : old.notes ≡ s0.notes)
     (noted : answer ≡ Done → Noted old new) (same : answer ≡ Failed → TellsSame old new)
-    (none : IsQuiet input (first_lines 0 put)) (one : answer ≡ Done → IsQuiet input (first_lines 1 put)) where
+    (none : IsQuiet 1 input (first_lines 0 put)) (one : answer ≡ Done → IsQuiet 1 input (first_lines 1 put)) where
   before : (c : Crash) → RecoveryLeaves m s0 c → LivesOn m s0 input put c
   before c r = quiet_leaves m s0 clean input put 0 none c c (record { writes = λ a. refl; image = λ a. refl }) (let e = recovery_notes m s0 c r in omega arith) r
 

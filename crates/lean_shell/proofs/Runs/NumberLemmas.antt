@@ -14,7 +14,8 @@ use Rattle.image_model.specs.Entries.{Entry, is_commit, word_in}
 use Rattle.image_model.specs.Histories.{said}
 use Rattle.core_state.specs.Openings.{Opening}
 use Rattle.session_model.specs.Sessions.{Session, begun, change_of, commit_of, committed, put, start}
-use Rattle.session_model.specs.Calls.{Answered, Begins, Commits, Does, Gets, Puts, Refuses, Runs, journal, lines}
+use Rattle.map_model.specs.declared.call.Answered.{Answered}
+use Rattle.session_model.specs.Calls.{Begins, Commits, Does, Gets, Puts, Refuses, Runs, journal, lines}
 use Rattle.lean_shell.proofs.Runs.JournalLemmas.{only_inserted, with_answer}
 
 -- a number of a transaction that has ended, if that is open
@@ -100,8 +101,8 @@ put_goes f most k v s t x earlier (inr r) n = refused_goes s t x earlier r n
 commit_goes : (s t : Session) (x : Answered) (earlier : List Answered) → Commits s x.answer t ⊎ Refuses s x.answer t → Numbered s (journal earlier) → Numbered t (with_answer x earlier x.answer)
 commit_goes s t x earlier (inl m) n = subst (λ (a : Answer). Numbered t (with_answer x earlier a)) (sym m.answer_is)
     (now_committed s t (journal earlier) (with_answer x earlier (answer.Committed s.begun (committed s).clock))
-    (txn_of (record { session = 1; number = s.begun; at = (committed s).clock; lines = lines_in 1 (lines earlier) })) m.is_open m.after refl refl
-    (λ u has. only_inserted u (txn_of (record { session = 1; number = s.begun; at = (committed s).clock; lines = lines_in 1 (lines earlier) })) (journal earlier) has) n)
+    (txn_of (record { session = x.session; number = s.begun; at = (committed s).clock; lines = lines_in x.session (lines earlier) })) m.is_open m.after refl refl
+    (λ u has. only_inserted u (txn_of (record { session = x.session; number = s.begun; at = (committed s).clock; lines = lines_in x.session (lines earlier) })) (journal earlier) has) n)
 commit_goes s t x earlier (inr r) n = refused_goes s t x earlier r n
 
 call_goes : (f : Format) (most : ℕ) (s t : Session) (c : Call) (x : Answered) (earlier : List Answered) → Does f most s c x.answer t → Numbered s (journal earlier) → Numbered t (with_answer x earlier x.answer)

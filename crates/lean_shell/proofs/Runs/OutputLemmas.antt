@@ -6,8 +6,12 @@ use Rattle.std.proofs.lemmas.Bool.{cases_lt}
 use Rattle.map_model.specs.declared.call.Answer.{Answer}
 use Rattle.map_model.specs.declared.call.Answer.TheVariants as answer
 use Rattle.script_lang.specs.Notices.{Notice, notice_text, NoticeFits}
-use Rattle.script_lang.specs.Replies.{Reply, reply_text, reply_line, Fits}
-use Rattle.session_model.specs.Calls.{Answered}
+use Rattle.map_model.specs.Outputs.{Reply}
+use Rattle.script_lang.specs.Replies.{reply_text, reply_line, Fits}
+use Rattle.map_model.specs.declared.call.Answered.{Answered}
+use Rattle.map_model.specs.Pairings.{script_of}
+use Rattle.transcripts.proofs.AskedLemmas.{lines_append}
+use Rattle.transcripts.proofs.TranscriptLemmas.{fits_closed, script_append}
 use Rattle.transcripts.specs.Told.{asked_lines, ask, durable_of, replies, text_of, EachFits, EachReplyFits, IsCut, IsTail}
 use Rattle.transcripts.specs.Told.IsTail.{CutNotice, WholeNotice}
 use Rattle.script_run.specs.Runs.{IsCutOff, IsWhole, PrintsTo}
@@ -37,15 +41,15 @@ no_tail n fits = CutNotice n fits (record { more = notice_text n; is = refl })
 
 -- ## Replies
 
-durable_few : (a : Answer) → length (durable_of a) ≤ 1
-durable_few (answer.Committed n at) = omega arith
-durable_few _ = omega arith
+durable_few : (s : ℕ) (a : Answer) → length (durable_of s a) ≤ 1
+durable_few s (answer.Committed n at) = omega arith
+durable_few s _ = omega arith
 
 pub few_replies : (xs : List Answered) → length (replies xs) ≤ 2 * length xs
 few_replies [] = omega arith
 few_replies (x ∷ earlier) =
-    let e = length-append (durable_of x.answer) (Reply.Answered 1 x.answer ∷ replies earlier) in
-    let d = durable_few x.answer in
+    let e = length-append (durable_of x.session x.answer) (Reply.Answered x.session x.answer ∷ replies earlier) in
+    let d = durable_few x.session x.answer in
     let ih = few_replies earlier in
     omega arith
 
@@ -61,14 +65,13 @@ pub older_fit : (later first : List Reply) → EachReplyFits (later ++ first) �
 older_fit [] first fit = fit
 older_fit (r ∷ later) first fit = older_fit later first fit.0
 
-pub earlier_fit : (later first : List Answered) → EachFits (later ++ first) → EachFits first
+pub earlier_fit : (later first : List Answered) → EachFits 1 (later ++ first) → EachFits 1 first
 earlier_fit [] first fit = fit
 earlier_fit (x ∷ later) first fit = earlier_fit later first fit.0
 
 -- what asks calls, by their parts
-pub asked_parts : (later first : List Answered) → asked_lines (later ++ first) ≡ asked_lines first ++ asked_lines later
-asked_parts [] first = sym (append-nil (asked_lines first))
-asked_parts (x ∷ later) first = ap (λ (ls : List (List ℕ)). ls ++ ask x.call ∷ []) (asked_parts later first) ∙ append_assoc (asked_lines first) (asked_lines later) (ask x.call ∷ [])
+pub asked_parts : (later first : List Answered) → EachFits 1 first → asked_lines (script_of (later ++ first)) ≡ asked_lines (script_of first) ++ asked_lines (script_of later)
+asked_parts later first fit = ap asked_lines (script_append later first (fits_closed 1 first fit)) ∙ lines_append (script_of first) (script_of later)
 
 -- ## What was put in the end
 

@@ -19,7 +19,8 @@ use Rattle.lean_edge.specs.Outside.{Feed, Held, added}
 use Rattle.lean_edge.specs.declared.sink.Put.TheVariants.{Done}
 use Rattle.script_lang.specs.Notices.{Notice, NoticeFits}
 use Rattle.script_lang.specs.Reading.{Unread}
-use Rattle.script_lang.specs.Replies.{AnswerFits, Reply, reply_line}
+use Rattle.map_model.specs.Outputs.{Reply}
+use Rattle.script_lang.specs.Replies.{AnswerFits, reply_line}
 use Rattle.disk_slots.specs.declared.master.Master.{Master}
 use Rattle.disk_image.specs.Laws.{EveryAgreement, EverySealed}
 use Rattle.disk_image.specs.Shown.{DiskStandsFor, IsCleanDisk, image_by}
@@ -27,18 +28,22 @@ use Rattle.recovery.specs.Crashes.{RecoveryLeaves}
 use Rattle.recovery.specs.Opened.{Keeps}
 use Rattle.recovery.specs.Telling.{TellsAll}
 use Rattle.core_state.specs.Openings.{first_map}
-use Rattle.session_model.specs.Calls.{Answered, Runs}
+use Rattle.map_model.specs.declared.call.Answered.{Answered}
+use Rattle.session_model.specs.Calls.{Runs}
 use Rattle.session_model.specs.Calls as session
 use Rattle.session_model.specs.Laws.{EverySession}
 use Rattle.session_model.specs.Sessions.{Session, start}
 use Rattle.worker_log.specs.Laws.{EveryRun}
 use Rattle.worker_log.specs.Kept.{IsKept, fresh_account}
 use Rattle.lean_engine.specs.States.{State}
-use Rattle.transcripts.specs.Laws.{ComesNext, EveryEnd, EveryPrefix, EveryMoment, EveryNext, EveryNextReply, EveryTranscript, TellsOf}
+use Rattle.transcripts.specs.Laws.{ComesNext, EveryEnd, EveryHeard, EveryMoment, EveryNext, EveryNextInTurn, EveryInTurn, TellsInTurn}
+use Rattle.transcripts.proofs.TranscriptLemmas.{lines_fit}
+use Rattle.map_model.specs.Pairings.{script_of}
 use Rattle.transcripts.specs.Told.{ask, asked_text, opened_line, replies, text_of, EachFits, EachReplyFits, Heard, IsOutput}
 use Rattle.map_model.specs.declared.call.Call.TheVariants as call
 use Rattle.transcripts.specs.Told.Heard.{Whole}
-use Rattle.transcripts.specs.Transcripts.{durables, first_lines, in_turn, transcript, IsQuiet}
+use Rattle.map_model.specs.Pairings.{in_turn}
+use Rattle.transcripts.specs.Transcripts.{durables, first_lines, transcript, IsQuiet}
 use Rattle.script_run.specs.Moments.{IsAsked, ScriptLeaves}
 use Rattle.script_run.specs.Runs.{PrintsTo, ScriptRuns, WentOn}
 use Rattle.script_run.specs.Texts.{EveryScript, LinesRead}
@@ -71,7 +76,7 @@ all_told stops.ReadFault calls told tail fits p not_write = refl
 all_told stops.WriteFault calls told tail fits p not_write = absurd (not_write refl)
 all_told stops.DiskFault calls told tail fits p not_write = refl
 
-module _ (laws : EverySession) (tells_law : EveryTranscript) (moment_law : EveryMoment) (prefix_law : EveryPrefix) (script_law : EveryScript) (end_law : EveryEnd) (next_law : EveryNext) (reply_law : EveryNextReply)
+module _ (laws : EverySession) (tells_law : EveryInTurn) (moment_law : EveryMoment) (prefix_law : EveryHeard) (script_law : EveryScript) (end_law : EveryEnd) (next_law : EveryNext) (reply_law : EveryNextInTurn)
     (agrees : EveryAgreement) (seals : EverySealed) (reads_so : EveryRun)
     (s0 sa sb sc s1 : Story) (law_a : IsLawful sa) (law_c : IsLawful sc) (law_1 : IsLawful s1) (op : Opened) (o : HasOpened s0 sa op) (keeps : Keeps s0 sa)
     (any : (m : Master) → TellsAll s0 → IsCleanDisk m (areas_of s0) → LeavesOnly s0 sa (RecoveryLeaves m s0))
@@ -91,7 +96,7 @@ module _ (laws : EverySession) (tells_law : EveryTranscript) (moment_law : Every
   runs_calls = subst (λ (xs : List Answered). Runs o.g xs r.session) (append-nil calls) r.runs
 
   fit_replies : EachReplyFits (replies calls)
-  fit_replies = ((prefix_law calls [] (replies calls) refl).fit r.fits).1
+  fit_replies = (((prefix_law calls).prefix [] (replies calls) refl).fit 1 r.fits).1
 
   abbrev out : Out calls r.told r.tail
   out = out_of stop calls r.told r.tail fit_replies r.prints
@@ -132,12 +137,13 @@ module _ (laws : EverySession) (tells_law : EveryTranscript) (moment_law : Every
   lines tells = lines_of stop input calls (read tells)
 
   -- what an output tells that has these replies
-  tells_of : IsTrue feed0.tells → (later first : List Answered) → later ++ first ≡ calls → (told : List Reply) (text : List ℕ) → Heard first told → IsOutput op.generation op.winners op.undone told text → TellsOf first told input text
+  tells_of : IsTrue feed0.tells → (later first : List Answered) → later ++ first ≡ calls → (told : List Reply) (text : List ℕ) → Heard first told → IsOutput op.generation op.winners op.undone told text → TellsInTurn 1 first told input text
   tells_of tells later first e told text heard is =
-      let ls : HasLines input first = first_lines_of input later first calls e (lines tells) in
-      tells_law op.generation op.winners op.undone first told ls.others input text (earlier_fit later first (subst EachFits (sym e) r.fits)) ls.is heard is
+      let fits : EachFits 1 first = earlier_fit later first (subst (EachFits 1) (sym e) r.fits) in
+      let ls : HasLines input first = first_lines_of input later first calls e fits (lines tells) in
+      tells_law 1 op.generation op.winners op.undone first told ls.others input text (omega arith) fits ls.is heard is
 
-  all_tells : IsTrue feed0.tells → TellsOf h.heard out.all input put
+  all_tells : IsTrue feed0.tells → TellsInTurn 1 h.heard out.all input put
   all_tells tells = tells_of tells h.unheard h.heard h.calls_are out.all put h.hears output
 
   heard_runs : (t : Session) × Runs o.g h.heard t
@@ -189,17 +195,13 @@ module _ (laws : EverySession) (tells_law : EveryTranscript) (moment_law : Every
     notes_c = r.others.notes counts_b (let a = told_few in let b = notes_b in let y = young.notes in omega arith)
 
     -- before the script
-    quiet_one : IsQuiet input (first_lines 1 put)
+    quiet_one : IsQuiet 1 input (first_lines 1 put)
     quiet_one =
         let t = tells_of tells calls [] (append-nil calls) [] (first_lines 1 put) (Whole refl) (first_output r.told [] (append-nil r.told)) in
         record { transcript_is = t.transcript_is; durables_are = t.durables_are }
 
-    quiet_none : IsQuiet input (first_lines 0 put)
-    quiet_none = record { transcript_is = no_pairs (Rattle.transcripts.specs.Transcripts.asked 1 (Rattle.script_lang.specs.Text.script_lines input)); durables_are = refl }
-      where
-        no_pairs : (cs : List (ℕ × Rattle.map_model.specs.declared.call.Call.Call)) → Rattle.transcripts.specs.Transcripts.paired cs [] ≡ []
-        no_pairs [] = refl
-        no_pairs (c ∷ cs) = refl
+    quiet_none : IsQuiet 1 input (first_lines 0 put)
+    quiet_none = record { transcript_is = refl; durables_are = refl }
 
     before : LeavesOnly s0 sb (LivesOn m s0 input put)
     before = line_moments m s0 sa sb clean young.notes input put Done (any m all.all clean) law_a keeps.later keeps.notes p.noted p.same quiet_none (λ e. quiet_one)
@@ -233,18 +235,22 @@ module _ (laws : EverySession) (tells_law : EveryTranscript) (moment_law : Every
     script : LeavesOnly sb sc Q
     script = r.any_moment (told_b 2 ∙ told_log) (fresh_account (sa.area 2)) refl kept_b
 
-    next_of : (c : Crash) (q : Q c) → IsAsked feed0 (asked_text q.heard) call.Commit → ComesNext q.heard (ask call.Commit) input
-    next_of c q asked = (next_law feed0 asked.feed asked.reader q.heard (earlier_fit q.unheard q.heard (subst EachFits (sym q.calls) r.fits)) tells).asks call.Commit asked.fits asked.read
+    fits_first : (c : Crash) (q : Q c) → EachFits 1 q.heard
+    fits_first c q = earlier_fit q.unheard q.heard (subst (EachFits 1) (sym q.calls) r.fits)
 
-    more_of : (c : Crash) (q : Q c) (lines_out : ℕ) → IsOutput op.generation op.winners op.undone q.first (first_lines lines_out put) → (a : Answer) → AnswerFits a → IsAsked feed0 (asked_text q.heard) call.Commit →
-        transcript 1 input (first_lines lines_out put ++ reply_line (Reply.Answered 1 a)) ≡ in_turn q.heard ++ (1, call.Commit, a) ∷ []
+    next_of : (c : Crash) (q : Q c) → IsAsked feed0 (asked_text (script_of q.heard)) call.Commit → ComesNext (script_of q.heard) (ask 1 call.Commit) input
+    next_of c q asked = (next_law 1 feed0 asked.feed asked.reader (script_of q.heard) (omega arith) (lines_fit 1 q.heard (fits_first c q)) tells).asks 1 call.Commit (record { first = omega arith; last = omega arith; fits = asked.fits }) asked.read
+
+    more_of : (c : Crash) (q : Q c) (lines_out : ℕ) → IsOutput op.generation op.winners op.undone q.first (first_lines lines_out put) → (a : Answer) → AnswerFits a → IsAsked feed0 (asked_text (script_of q.heard)) call.Commit →
+        transcript 1 input (first_lines lines_out put ++ reply_line (Reply.Answered 1 a)) ≡ in_turn q.heard ++ record { session = 1; call = call.Commit; answer = a } ∷ []
     more_of c q lines_out is a fits asked =
-        let next : ComesNext q.heard (ask call.Commit) input = next_of c q asked in
-        reply_law op.generation op.winners op.undone q.heard q.first next.others input put lines_out call.Commit a (earlier_fit q.unheard q.heard (subst EachFits (sym q.calls) r.fits)) tt (omega arith, fits) next.lines q.hears is
+        let next : ComesNext (script_of q.heard) (ask 1 call.Commit) input = next_of c q asked in
+        reply_law 1 op.generation op.winners op.undone (record { session = 1; call = call.Commit; answer = a }) q.heard q.first next.others input put lines_out (omega arith)
+        (fits_first c q, record { first = omega arith; last = omega arith; fits = tt }, (omega arith, fits)) next.begins q.hears is
 
     -- a crash with the writes and the bytes of one that the script leaves, as these lines were out
     module _ (c d : Crash) (q : Q c) (same : survive.IsSameBut c d) (lines_out : ℕ) (notes : d.notes ≡ s0.notes + lines_out) (is : IsOutput op.generation op.winners op.undone q.first (first_lines lines_out put)) where
-      t : TellsOf q.heard q.first input (first_lines lines_out put)
+      t : TellsInTurn 1 q.heard q.first input (first_lines lines_out put)
       t = tells_of tells q.unheard q.heard q.calls q.first (first_lines lines_out put) q.hears is
 
       fair_as : IsFairCrash (length m.heads) s0 d → IsFair 2048 IsSealed (sa.area 2).bytes q.since (d.image 2)

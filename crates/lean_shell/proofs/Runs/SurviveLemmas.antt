@@ -20,20 +20,25 @@ use Rattle.recovery.specs.Masters.{IsSameOrNext}
 use Rattle.recovery.specs.Crashes.{IsNextOf, Lasts, RecoveryLeaves, ShowsStill, StandsStill}
 use Rattle.recovery.specs.Telling.{TellsAll}
 use Rattle.core_state.specs.Openings.{Opening, first_map}
-use Rattle.session_model.specs.Calls.{Answered, Runs}
+use Rattle.map_model.specs.declared.call.Answered.{Answered}
+use Rattle.session_model.specs.Calls.{Runs}
 use Rattle.session_model.specs.Calls as session
 use Rattle.session_model.specs.Laws.{EverySession, kept_of}
 use Rattle.session_model.specs.Sessions.{IsAlone, start}
 use Rattle.worker_log.specs.Laws.{EveryRun, entries_onto}
-use Rattle.script_lang.specs.Replies.{AnswerFits, Reply, reply_line}
+use Rattle.map_model.specs.Outputs.{Reply}
+use Rattle.script_lang.specs.Replies.{AnswerFits, reply_line}
 use Rattle.worker_log.specs.Logs.{Log}
 use Rattle.worker_log.specs.Kept.{fresh_account}
 use Rattle.map_model.specs.declared.call.Call.TheVariants as call
 use Rattle.map_model.specs.declared.call.Answer.TheVariants as answer
 use Rattle.image_model.specs.Entries.{Contents, Entry, is_commit}
 use Rattle.lean_edge.specs.Outside.{Feed}
-use Rattle.transcripts.specs.Told.{asked_text, names}
-use Rattle.transcripts.specs.Transcripts.{durables, first_lines, in_turn, transcript, IsQuiet}
+use Rattle.map_model.specs.Outputs.{names}
+use Rattle.map_model.specs.Pairings.{script_of}
+use Rattle.transcripts.specs.Told.{asked_text}
+use Rattle.map_model.specs.Pairings.{in_turn}
+use Rattle.transcripts.specs.Transcripts.{durables, first_lines, transcript, IsQuiet}
 use Rattle.transcripts.proofs.TranscriptLemmas.{journal_is}
 use Rattle.worker_log.specs.Accounts.{joined}
 use Rattle.script_run.specs.Moments.{HoldsRun, InHand, IsAsked, ScriptLeaves}
@@ -89,7 +94,7 @@ of_run m n same = ⊎_elim
     (λ (e : (n.sequence ≡ suc m.sequence) × (n.generation ≡ suc m.generation)). record { pages = same.pages; blocks = same.blocks; logs = same.logs; generation = inr e.1; sequence = let q : n.sequence ≡ suc m.sequence = e.0 in omega arith })
     same.numbers
 
-module _ (m : Master) (s : Story) (clean : IsCleanDisk m (areas_of s)) (input put : List ℕ) (lines : ℕ) (quiet : IsQuiet input (first_lines lines put)) where
+module _ (m : Master) (s : Story) (clean : IsCleanDisk m (areas_of s)) (input put : List ℕ) (lines : ℕ) (quiet : IsQuiet 1 input (first_lines lines put)) where
   unwritten : (c d : Crash) → IsSameBut c d → d.notes ≡ s.notes + lines → AsAt s c → IsUnwritten s input put d
   unwritten c d same notes at = record {
     lines = lines;
@@ -155,7 +160,7 @@ module _ (laws : EverySession) (agrees : EveryAgreement) (reads_so : EveryRun) (
   module _ (answered : List Answered) (told : List Reply) (c d : Crash) (l : ScriptLeaves feed0 [] g [] answered told (start g) (fresh_account (s.area 2)) log sb c) (same : IsSameBut c d) (lines : ℕ) (notes : d.notes ≡ s0.notes + lines)
       (said : model.journal (transcript 1 input (first_lines lines put)) ≡ session.journal l.heard) (durable : durables (first_lines lines put) ≡ names l.first)
       (turn : transcript 1 input (first_lines lines put) ≡ in_turn l.heard)
-      (more_of : (a : Answer) → AnswerFits a → IsAsked feed0 (asked_text l.heard) call.Commit → transcript 1 input (first_lines lines put ++ reply_line (Reply.Answered 1 a)) ≡ in_turn l.heard ++ (1, call.Commit, a) ∷ []) where
+      (more_of : (a : Answer) → AnswerFits a → IsAsked feed0 (asked_text (script_of l.heard)) call.Commit → transcript 1 input (first_lines lines put ++ reply_line (Reply.Answered 1 a)) ≡ in_turn l.heard ++ record { session = 1; call = call.Commit; answer = a } ∷ []) where
     tells_sb : (a : ℕ) → Tells s0 a → Tells sb a
     tells_sb a t = told_same a ∙ t
 
@@ -174,8 +179,8 @@ module _ (laws : EverySession) (agrees : EveryAgreement) (reads_so : EveryRun) (
       fair_c : IsFair 2048 IsSealed (s.area 2).bytes l.since (c.image 2)
       fair_c = subst (λ (b : List ℕ). IsFair 2048 IsSealed (s.area 2).bytes l.since b) (same.image 2) fair_d
 
-      run : HoldsRun feed0 (asked_text l.heard) g (l.heard ++ []) l.first (start g) log (d.image 2)
-      run = subst (HoldsRun feed0 (asked_text l.heard) g (l.heard ++ []) l.first (start g) log) (sym (same.image 2)) (l.holds fair_c)
+      run : HoldsRun feed0 (asked_text (script_of l.heard)) g (l.heard ++ []) l.first (start g) log (d.image 2)
+      run = subst (HoldsRun feed0 (asked_text (script_of l.heard)) g (l.heard ++ []) l.first (start g) log) (sym (same.image 2)) (l.holds fair_c)
 
       zero_image : d.image 0 ≡ (s.area 0).bytes
       zero_image = settled 0 (λ e. omega arith) (omega arith) tells.master
@@ -184,12 +189,12 @@ module _ (laws : EverySession) (agrees : EveryAgreement) (reads_so : EveryRun) (
       one_image = settled 1 (λ e. omega arith) (omega arith) tells.pages
 
       -- what holds of the image, by its parts
-      module _ (zero_is : d.image 0 ≡ (s.area 0).bytes) (one_is : d.image 1 ≡ (s.area 1).bytes) (is : HoldsRun feed0 (asked_text l.heard) g (l.heard ++ []) l.first (start g) log (d.image 2)) where
+      module _ (zero_is : d.image 0 ≡ (s.area 0).bytes) (one_is : d.image 1 ≡ (s.area 1).bytes) (is : HoldsRun feed0 (asked_text (script_of l.heard)) g (l.heard ++ []) l.first (start g) log (d.image 2)) where
         abbrev left : List Entry
         left = entries_onto 1 [] (joined is.blocks)
 
         st : Settled feed0 g l.heard left
-        st = settle feed0 g l.heard is.hand is.session left is.newer is.runs is.prefix (subst (λ (xs : List Answered). InHand feed0 (asked_text l.heard) xs is.hand) (append-nil l.heard) is.in_hand)
+        st = settle feed0 g l.heard is.hand is.session left is.newer is.runs is.prefix (subst (λ (xs : List Answered). InHand feed0 (asked_text (script_of l.heard)) xs is.hand) (append-nil l.heard) is.in_hand)
 
         abbrev prefix : IsPrefix log st.session (d.image 2)
         prefix = record { blocks = is.blocks; run = is.run; fit = is.fit; newer = st.newer; prefix = st.prefix }
@@ -218,7 +223,7 @@ module _ (laws : EverySession) (agrees : EveryAgreement) (reads_so : EveryRun) (
         committed_now c =
             let b : IsBounded c.end = bounded is.blocks is.fit c.end c.has in
             let a : Answer = answer.Committed c.end.txn c.end.number in
-            let more : transcript 1 input (out ++ reply_line (Reply.Answered 1 (answer.Committed c.end.txn c.end.number))) ≡ in_turn l.heard ++ (1, call.Commit, answer.Committed c.end.txn c.end.number) ∷ [] =
+            let more : transcript 1 input (out ++ reply_line (Reply.Answered 1 (answer.Committed c.end.txn c.end.number))) ≡ in_turn l.heard ++ record { session = 1; call = call.Commit; answer = answer.Committed c.end.txn c.end.number } ∷ [] =
             more_of (answer.Committed c.end.txn c.end.number) (b.txn, b.number) c.asked in
             inr (record {
               end = c.end;
@@ -226,9 +231,9 @@ module _ (laws : EverySession) (agrees : EveryAgreement) (reads_so : EveryRun) (
               commit = c.commit;
               reply = reply_line (Reply.Answered c.end.log (answer.Committed c.end.txn c.end.number));
               reply_is = refl;
-              next = subst (λ (w : ℕ). transcript 1 input (out ++ reply_line (Reply.Answered w (answer.Committed c.end.txn c.end.number))) ≡ transcript 1 input out ++ (w, call.Commit, answer.Committed c.end.txn c.end.number) ∷ []) (sym b.log)
-                  (more ∙ ap (λ (ts : List (ℕ × Call × Answer)). ts ++ (1, call.Commit, answer.Committed c.end.txn c.end.number) ∷ []) (sym turn));
-              all_is = ap session.journal c.hand_is ∙ (sym (journal_is (record { call = call.Commit; answer = answer.Committed c.end.txn c.end.number } ∷ l.heard))
+              next = subst (λ (w : ℕ). transcript 1 input (out ++ reply_line (Reply.Answered w (answer.Committed c.end.txn c.end.number))) ≡ transcript 1 input out ++ record { session = w; call = call.Commit; answer = answer.Committed c.end.txn c.end.number } ∷ []) (sym b.log)
+                  (more ∙ ap (λ (ts : List Answered). ts ++ record { session = 1; call = call.Commit; answer = answer.Committed c.end.txn c.end.number } ∷ []) (sym turn));
+              all_is = ap session.journal c.hand_is ∙ (sym (journal_is (record { session = 1; call = call.Commit; answer = answer.Committed c.end.txn c.end.number } ∷ l.heard))
                   ∙ ap model.journal (sym more ∙ ap (λ (w : ℕ). transcript 1 input (out ++ reply_line (Reply.Answered w (answer.Committed c.end.txn c.end.number)))) (sym b.log)));
             })
 

@@ -1,5 +1,5 @@
-use Rattle.transcripts.proofs.PrefixLemmas.{prefix}
+use Rattle.transcripts.proofs.PrefixLemmas.{every_prefix}
 use Rattle.transcripts.proofs.every_prefix.Goals as goal
 
 pub returns : goal.returns
-returns c = prefix
+returns c = every_prefix

@@ -44,7 +44,7 @@ returns-clause-ends g c =
     let law_1 = ((g.met.D.Disk g.world.𝓛 g.world.𝓜 g.world.𝓡 ((λ s x. x), (λ x. x), (λ x. x), (λ x. x))).lawful c.put_last.new.disk) in
     let op = c.in-Ok-open.opened in
     let o = c.in-Ok-open.ensures.opened in
-    run_ends c.every_session.ensures c.every_transcript.ensures c.every_moment.ensures c.every_prefix.ensures c.every_script.ensures c.every_end.ensures c.every_next.ensures c.every_next_reply.ensures c.every_agreement.ensures c.every_sealed.ensures c.every_run.ensures
+    run_ends c.every_session.ensures c.every_in_turn.ensures c.every_moment.ensures c.every_heard.ensures c.every_script.ensures c.every_end.ensures c.every_next.ensures c.every_next_in_turn.ensures c.every_agreement.ensures c.every_sealed.ensures c.every_run.ensures
     s0 sa (g.D.Disk.story c.put_opened.new.disk) (g.D.Disk.story c.run_script-stop.new.disk) (g.D.Disk.story c.put_last.new.disk) law_a law_c law_1 op o c.open.ensures.keeps c.open.ensures.any_moment
     (g.K.Sink.held c.args.sink.now) (g.K.Sink.held c.put_opened.new.sink) (g.K.Sink.held c.run_script-stop.new.sink) (g.K.Sink.held c.put_last.new.sink) c.put_opened.ensures.fits (subst (λ (a : Put). IsPut (first_line (counts_of op)) a (g.K.Sink.held c.args.sink.now) (g.K.Sink.held c.put_opened.new.sink) sa (g.D.Disk.story c.put_opened.new.disk)) c.in-Done.is c.put_opened.ensures.put)
     (g.S.Source.feed c.args.source.now) (g.S.Source.feed c.run_script-stop.new.source) c.run_script-stop.new.reader c.run_script-stop.result c.run_script-stop.new.engine
@@ -84,7 +84,7 @@ returns-clause-headline g c =
     let law_1 = ((g.met.D.Disk g.world.𝓛 g.world.𝓜 g.world.𝓡 ((λ s x. x), (λ x. x), (λ x. x), (λ x. x))).lawful c.put_last.new.disk) in
     let op = c.in-Ok-open.opened in
     let o = c.in-Ok-open.ensures.opened in
-    run_headline c.every_session.ensures c.every_transcript.ensures c.every_moment.ensures c.every_prefix.ensures c.every_script.ensures c.every_end.ensures c.every_next.ensures c.every_next_reply.ensures c.every_agreement.ensures c.every_sealed.ensures c.every_run.ensures
+    run_headline c.every_session.ensures c.every_in_turn.ensures c.every_moment.ensures c.every_heard.ensures c.every_script.ensures c.every_end.ensures c.every_next.ensures c.every_next_in_turn.ensures c.every_agreement.ensures c.every_sealed.ensures c.every_run.ensures
     s0 sa (g.D.Disk.story c.put_opened.new.disk) (g.D.Disk.story c.run_script-stop.new.disk) (g.D.Disk.story c.put_last.new.disk) law_a law_c law_1 op o c.open.ensures.keeps c.open.ensures.any_moment
     (g.K.Sink.held c.args.sink.now) (g.K.Sink.held c.put_opened.new.sink) (g.K.Sink.held c.run_script-stop.new.sink) (g.K.Sink.held c.put_last.new.sink) c.put_opened.ensures.fits (subst (λ (a : Put). IsPut (first_line (counts_of op)) a (g.K.Sink.held c.args.sink.now) (g.K.Sink.held c.put_opened.new.sink) sa (g.D.Disk.story c.put_opened.new.disk)) c.in-Done.is c.put_opened.ensures.put)
     (g.S.Source.feed c.args.source.now) (g.S.Source.feed c.run_script-stop.new.source) c.run_script-stop.new.reader c.run_script-stop.result c.run_script-stop.new.engine

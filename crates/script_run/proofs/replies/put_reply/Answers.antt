@@ -1,5 +1,6 @@
 use Rattle.std.proofs.Common.{arith}
-use Rattle.script_lang.specs.Replies.{Reply, reply_text}
+use Rattle.map_model.specs.Outputs.{Reply}
+use Rattle.script_lang.specs.Replies.{reply_text}
 use Rattle.script_lang.proofs.PieceLemmas.{one_whole_line}
 use Rattle.script_run.proofs.replies.put_reply.Goals as goal
 

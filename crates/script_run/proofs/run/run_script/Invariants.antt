@@ -3,7 +3,8 @@ use Rattle.core_state.specs.Openings.{Opening}
 use Rattle.lean_edge.specs.Outside.{Feed}
 use Rattle.script_lang.specs.Reading.{Reading}
 use Rattle.session_model.specs.Sessions.{Session}
-use Rattle.session_model.specs.Calls.{Answered, Runs}
+use Rattle.map_model.specs.declared.call.Answered.{Answered}
+use Rattle.session_model.specs.Calls.{Runs}
 use Rattle.lean_engine.specs.States.{Pictures}
 use Rattle.script_run.specs.Inside.{Stepped}
 use Rattle.script_run.proofs.run.run_script.Given as goal
