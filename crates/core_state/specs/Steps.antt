@@ -6,7 +6,7 @@ use Rattle.image_model.specs.Entries.{Kind, Entry, is_write, is_call, page_kind,
 use Rattle.page_model.specs.Records.{Ref, Record, no_record, write_record}
 use Rattle.rfa_model.specs.Stamps.{owed, debt_at_begin, need_of}
 use Rattle.core_state.specs.Lists.{without, at_end}
-use Rattle.core_state.specs.States.{Place, Row, Worker, State, flushed_by_all, nodes_of, gsns_of, frame_of, left_by}
+use Rattle.core_state.specs.States.{Place, Row, Worker, State, start, flushed_by_all, nodes_of, gsns_of, frame_of, left_by}
 use Rattle.core_state.specs.Openings.{Opening}
 use Rattle.core_state.specs.Events.{Event, Mode}
 use Rattle.core_state.specs.Needs.{is_held_by, is_reader, is_inside, may}
@@ -179,6 +179,10 @@ step g s e = if may g s e then happens g s e else s
 abbrev pub run : Opening → State → List Event → State
 run g s [] = s
 run g s (e ∷ es) = run g (step g s e) es
+
+-- the state after these events
+abbrev pub state_after : Opening → List Event → State
+state_after g es = run g (start g) es
 
 -- the need of each event is met
 abbrev pub AllMet : Opening → State → List Event → Type 0
