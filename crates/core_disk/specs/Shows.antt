@@ -1,0 +1,22 @@
+-- Which crash of the core's state the bytes of a disk show.
+use Rattle.std.specs.Prelude.{ℕ, List}
+use Rattle.image_model.specs.Entries.{Entry, Contents}
+use Rattle.core_state.specs.Openings.{Opening}
+use Rattle.core_state.specs.Events.{Event}
+use Rattle.core_crash.specs.Crashes.{Leaves, image_of}
+use Rattle.disk_slots.specs.declared.master.Master.{Master}
+use Rattle.disk_image.specs.Laws.{Agree}
+use Rattle.disk_image.specs.Shown.{Areas, IsCleanDisk, image_by}
+use Rattle.core_state.specs.Steps.{state_after}
+use Rattle.core_disk.specs.Held.{HoldsRun}
+
+-- The image of the bytes is one that a crash of the core's state may leave, and nothing of a later generation lies there.
+pub record Shows (g : Opening) (es : List Event) (n : Master) (area : Areas) : Type 0 where
+  pub logs : ℕ → List Entry
+  pub page : ℕ → Contents
+  pub leaves : Leaves g es logs page
+  pub agree : Agree (image_of g (state_after g es) logs page) (image_by n area)
+  pub clean : IsCleanDisk n area
+
+abbrev pub EveryShown : Type 0
+EveryShown = (g : Opening) (es : List Event) (n : Master) (area : Areas) → HoldsRun g es n area → Shows g es n area
