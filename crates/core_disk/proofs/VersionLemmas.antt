@@ -3,7 +3,7 @@ use Rattle.std.proofs.Common.{◌≡◌, ◌⊎◌, inl, inr, ⊎_elim, ◌≤�
 use Rattle.std.proofs.lemmas.Bool.{and_parts, cases_lt}
 use Rattle.map_model.specs.Lists.{Has}
 use Rattle.map_model.specs.Maps.{MapAnswer}
-use Rattle.image_model.specs.Entries.{Kind, Entry, Contents, touches}
+use Rattle.image_model.specs.Entries.{Kind, Entry, Contents, touches, word_in}
 use Rattle.page_model.specs.Records.{Record}
 use Rattle.page_model.specs.Needs as record_needs
 use Rattle.page_model.specs.Redo.{all_keys}
@@ -11,7 +11,7 @@ use Rattle.core_state.specs.Openings.{Opening}
 use Rattle.core_state.specs.States.{State, start, flushed_by_all, nodes_of, gsns_of}
 use Rattle.core_state.specs.Events.{Event}
 use Rattle.core_state.specs.Needs.{are_hot, is_held_by, is_settled, may_put, may_put_back, may_split, may_lift, may_join, may_drop, may_purge, needs, pages_of}
-use Rattle.core_state.specs.Steps.{at_pages, page_entry, write_entry, moves, put_back, follows, happens, step, run, HasBeen, state_after}
+use Rattle.core_state.specs.Steps.{at_pages, page_entry, write_entry, moves, put_back, follows, happens, step, run, HasBeen, state_after, read_entry, end_entry}
 use Rattle.core_state.proofs.Runs.{run_more}
 use Rattle.core_commit.specs.Rises.{EveryRise, Rises}
 use Rattle.core_commit.proofs.Lists.{le_least, least_le}
@@ -127,14 +127,11 @@ abbrev pub OneMore : List Entry → List Entry → Type 0
 OneMore old new = (new ≡ old) ⊎ ((r : Entry) × (new ≡ r ∷ old))
 
 more_event : (g : Opening) (s : State) (e : Event) → OneMore s.entries (happens g s e).entries
-more_event g s (Event.Read w q j a) = inr ((happens_first g s w q j), refl)
-  where
-    happens_first : (g : Opening) (s : State) (w q j : ℕ) → Entry
-    happens_first g s w q j = Rattle.core_state.specs.Steps.read_entry w (at_pages s w (s.worker w) (q ∷ [])) j (Rattle.image_model.specs.Entries.word_in g.format (s.page q).node j) (is_held_by (s.row (g.row_of j)).holder w)
+more_event g s (Event.Read w q j a) = inr (read_entry w (at_pages s w (s.worker w) (q ∷ [])) j (word_in g.format (s.page q).node j) (is_held_by (s.row (g.row_of j)).holder w), refl)
 more_event g s (Event.Next w q j a) = go a
   where
     go : (a : MapAnswer) → OneMore s.entries (follows g s w q a).entries
-    go (MapAnswer.Pair at word) = inr (Rattle.core_state.specs.Steps.read_entry w (at_pages s w (s.worker w) (q ∷ [])) at (Rattle.image_model.specs.Entries.word_in g.format (s.page q).node at) (is_held_by (s.row (g.row_of at)).holder w), refl)
+    go (MapAnswer.Pair at word) = inr (read_entry w (at_pages s w (s.worker w) (q ∷ [])) at (word_in g.format (s.page q).node at) (is_held_by (s.row (g.row_of at)).holder w), refl)
     go (MapAnswer.Gap b) = inl refl
     go (MapAnswer.Value v) = inl refl
     go (MapAnswer.Was v) = inl refl
@@ -149,7 +146,7 @@ more_event g s (Event.Lift w c) = let ps : List ℕ = 0 ∷ c ∷ [] in inr (pag
 more_event g s (Event.Join w l r q) = let ps : List ℕ = l ∷ r ∷ q ∷ [] in inr (page_entry Kind.Join s w (at_pages s w (s.worker w) ps) ps (record_needs.join_record (nodes_of s) (gsns_of s) l r q), refl)
 more_event g s (Event.Drop w c) = let ps : List ℕ = 0 ∷ c ∷ [] in inr (page_entry Kind.Drop s w (at_pages s w (s.worker w) ps) ps (record_needs.drop_record (nodes_of s) (gsns_of s) c), refl)
 more_event g s (Event.Purge w q keys) = let ps : List ℕ = q ∷ [] in inr (page_entry Kind.Purge s w (at_pages s w (s.worker w) ps) ps (record_needs.purge_record (gsns_of s) q keys), refl)
-more_event g s (Event.End w commit f) = inr (Rattle.core_state.specs.Steps.end_entry (cond commit Kind.Commit Kind.Abort) w (s.worker w) f, refl)
+more_event g s (Event.End w commit f) = inr (end_entry (cond commit Kind.Commit Kind.Abort) w (s.worker w) f, refl)
 more_event g s _ = inl refl
 
 pub more_step : (g : Opening) (s : State) (e : Event) → OneMore s.entries (step g s e).entries
