@@ -1,0 +1,143 @@
+//! What the lines of a script are answered, as events of the core: definitions and their laws.
+#![tactic(auto)]
+
+ghost use Rattle.core_calls.specs.Runs.{EveryReleased, EveryRun};
+ghost use Rattle.core_calls.specs.Crashes.{EveryRunCrash};
+ghost use Rattle.core_calls.specs.Durables.{EveryCommit, EveryDue, EveryDurable, EverySynced};
+ghost use Rattle.core_calls.specs.Counts.{EveryOrdered};
+ghost use Rattle.core_calls.specs.Controls.{EveryControl};
+ghost use Rattle.core_calls.specs.Lines.{EveryRoundScript, EveryScript};
+ghost use Rattle.core_calls.specs.Printed.{EveryPrinted};
+ghost use Rattle.core_calls.specs.Refusals.{EveryHinder};
+ghost use Rattle.core_calls.specs.Rounds.{EveryFinish, EveryRound, EveryRoundSynced};
+ghost use Rattle.core_calls.specs.Rows.{Rows};
+ghost use Rattle.core_calls.specs.Told.{EveryTold};
+
+/// The journal that the outcomes of lines tell is the core's: it is serial, and what an image keeps of it is closed and
+/// holds each ripe one.
+pub fn every_told()
+    ensures { EveryTold }
+{
+    map_model::every_order();
+    map_model::every_closed();
+    core_crash::every_serial();
+    core_crash::every_crash();
+}
+
+/// Outcomes one after another are those of all their events; between two events at most one commit's reply is not out.
+pub fn every_run()
+    ensures { EveryRun }
+{}
+
+/// Where all durable lines that are due are printed at each moment, each is that of a ripe commit, which every later crash
+/// keeps; each ripe commit has one, once; and behind a sync each commit has.
+pub fn every_durable()
+    ensures { EveryDurable }
+{
+    core_commit::every_rise();
+    every_told();
+}
+
+/// Behind a commit fewer than so many commits of its log wait to be flushed as make a group; where each is flushed, and it
+/// needs no other log, its durable line follows at once.
+pub fn every_commit()
+    ensures { EveryCommit }
+{
+    core_commit::every_rise();
+}
+
+/// Scripts by hand, each line with its events.
+pub fn worked_rows()
+    ensures { Rows }
+{}
+
+/// A session's begins are counted, its ends are numbered by them and rise; each put-back puts back the newest change that is
+/// left, and an abort comes when none is left.
+pub fn every_ordered()
+    ensures { EveryOrdered }
+{}
+
+/// Rounds of outcomes are those of all their events, whatever the workers did beside each other.
+pub fn every_round()
+    ensures { EveryRound }
+{}
+
+/// The first of the printed lines have the answers of the first outcomes, and report only what was due behind these.
+pub fn every_printed()
+    ensures { EveryPrinted }
+{}
+
+/// Wrong outcomes are refused: a get that is answered from the opening, a durable line before its time, a put-back that was
+/// lost, commit numbers that do not rise, and a wrong count.
+pub fn every_control()
+    ensures { EveryControl }
+{
+    every_told();
+    every_durable();
+    every_ordered();
+}
+
+/// Wherever a crash falls in a run on one thread, the transactions that were told by then, with at most one in hand, are
+/// serial, and recovery gives the map after a closed set of them that holds each that was reported durable.
+pub fn every_run_crash()
+    ensures { EveryRunCrash }
+{
+    every_told();
+    every_run();
+    every_durable();
+    every_printed();
+}
+
+/// Behind a sync that was answered each commit has its durable line.
+pub fn every_synced()
+    ensures { EverySynced }
+{
+    every_durable();
+}
+
+/// A call that was not finished in its round, and is executed again, has one outcome for all that it did.
+pub fn every_finish()
+    ensures { EveryFinish }
+{}
+
+/// Behind a round's sync every image keeps every transaction.
+pub fn every_round_synced()
+    ensures { EveryRoundSynced }
+{
+    core_commit::every_rise();
+    every_told();
+}
+
+/// On one thread the lines that were executed and the printed ones make the transcript; and so do the first of these.
+pub fn every_script()
+    ensures { EveryScript }
+{
+    map_model::every_script();
+    map_model::every_count();
+    every_printed();
+}
+
+/// Who may not have a row is hindered by one, the holder or else the least other reader.
+pub fn every_hinder()
+    ensures { EveryHinder }
+{}
+
+/// Durable lines stand in the order of commit numbers, ties by session.
+pub fn every_due()
+    ensures { EveryDue }
+{
+    map_model::every_order();
+}
+
+/// So on many threads, in whatever order the answers are printed.
+pub fn every_round_script()
+    ensures { EveryRoundScript }
+{
+    map_model::every_round_script();
+    map_model::every_count();
+}
+
+/// A session with no open transaction holds no row.
+pub fn every_released()
+    ensures { EveryReleased }
+{}
