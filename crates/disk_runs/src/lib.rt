@@ -1,0 +1,191 @@
+//! A run of the core over a disk that tells what its calls did: what stands between two calls, what a crash leaves at each moment,
+//! and how each call of a log, of the pages or of a master goes on.
+//!
+//! Read specs/Stands, then specs/Laws. The parameters of a law are the disk as it is before a call and after it.
+#![tactic(auto)]
+
+ghost use Rattle.disk_runs.specs.Fair.{EveryFair};
+ghost use Rattle.disk_runs.specs.Laws.{EveryFlush, EveryLogCall, EveryRead, EveryRest, EverySame, EveryStage, EveryStill};
+ghost use Rattle.disk_runs.specs.PageLaws.{EveryFetch, EverySave, EverySettled};
+ghost use Rattle.disk_runs.specs.MasterLaws.{EveryCut, EveryMaster, EveryMasterWrite, EveryNextMaster, EverySync};
+ghost use Rattle.disk_runs.specs.Masters.{EveryMasterLine};
+ghost use Rattle.disk_runs.specs.Moments.{EveryAmong, EveryLasting, EveryMoment, EverySurvival};
+ghost use Rattle.disk_runs.specs.Openings.{EveryOpened};
+ghost use Rattle.disk_runs.specs.Quiet.{EveryQuiet};
+ghost use Rattle.disk_runs.specs.Refusals.{Refusals};
+
+use lean_disk::Disk;
+
+/// Fairness since a story is fairness since what a read gave there.
+pub fn every_fair<D: Disk>(now: &D)
+    ensures { EveryFair (D.story now.now) }
+{}
+
+/// Between two calls a crash leaves what the core says.
+pub fn every_rest<D: Disk>(now: &D)
+    ensures { EveryRest (D.story now.now) }
+{
+    worker_log::every_kept();
+    worker_log::every_prefix();
+    disk_image::every_sealed();
+}
+
+/// So it is at each moment of a call on a log.
+pub fn every_log_call<D: Disk>(old: &D, new: &D)
+    ensures { EveryLogCall (D.story old.now) (D.story new.now) }
+{
+    worker_log::every_kept();
+    worker_log::every_prefix();
+    disk_image::every_sealed();
+}
+
+/// An event that the disk does not see.
+pub fn every_still<D: Disk>(now: &D)
+    ensures { EveryStill (D.story now.now) }
+{
+    core_disk::every_version();
+}
+
+/// A call that leaves the areas as they were.
+pub fn every_same<D: Disk>(old: &D, new: &D)
+    ensures { EverySame (D.story old.now) (D.story new.now) }
+{}
+
+/// A record is staged.
+pub fn every_stage<D: Disk>(old: &D, new: &D)
+    ensures { EveryStage (D.story old.now) (D.story new.now) }
+{
+    core_disk::every_version();
+    worker_log::every_staged();
+}
+
+/// A log is flushed.
+pub fn every_flush<D: Disk>(old: &D, new: &D)
+    ensures { EveryFlush (D.story old.now) (D.story new.now) }
+{
+    core_disk::every_version();
+    worker_log::every_flushed();
+}
+
+/// A page is saved to the slot that is not its firm one.
+pub fn every_save<D: Disk>(old: &D, new: &D)
+    ensures { EverySave (D.story old.now) (D.story new.now) }
+{
+    core_disk::every_version();
+    worker_log::every_kept();
+    worker_log::every_prefix();
+    disk_image::every_sealed();
+}
+
+/// The pages are synced.
+pub fn every_settled<D: Disk>(old: &D, new: &D)
+    ensures { EverySettled (D.story old.now) (D.story new.now) }
+{
+    core_disk::every_version();
+    worker_log::every_kept();
+    worker_log::every_prefix();
+    disk_image::every_sealed();
+}
+
+/// A page is read as it was saved last.
+pub fn every_fetch<D: Disk>(now: &D)
+    ensures { EveryFetch (D.story now.now) }
+{}
+
+/// The next master is written and synced.
+pub fn every_master<D: Disk>(old: &D, mid: &D, new: &D)
+    ensures { EveryMaster (D.story old.now) (D.story mid.now) (D.story new.now) }
+{
+    worker_log::every_kept();
+    worker_log::every_prefix();
+    disk_image::every_sealed();
+}
+
+/// The next master is written, or its write fails.
+pub fn every_master_write<D: Disk>(old: &D, new: &D)
+    ensures { EveryMasterWrite (D.story old.now) (D.story new.now) }
+{
+    worker_log::every_kept();
+    worker_log::every_prefix();
+    disk_image::every_sealed();
+}
+
+/// The next master is written and synced by one call of master_store.
+pub fn every_next_master<D: Disk>(old: &D, new: &D)
+    ensures { EveryNextMaster (D.story old.now) (D.story new.now) }
+{
+    worker_log::every_kept();
+    worker_log::every_prefix();
+    disk_image::every_sealed();
+}
+
+/// The masters of a run, one after another.
+pub fn every_master_line()
+    ensures { EveryMasterLine }
+{}
+
+/// What stands by the master of a sync.
+pub fn every_sync<D: Disk>(now: &D)
+    ensures { EverySync (D.story now.now) }
+{
+    core_disk::every_version();
+}
+
+/// What stands by the master of a cut.
+pub fn every_cut<D: Disk>(now: &D)
+    ensures { EveryCut (D.story now.now) }
+{
+    core_disk::every_version();
+    worker_log::every_cut();
+}
+
+/// Most events change nothing that a disk shows.
+pub fn every_quiet()
+    ensures { EveryQuiet }
+{}
+
+/// A run begins on the disk that recovery leaves.
+pub fn every_opened<D: Disk>(now: &D)
+    ensures { EveryOpened (D.story now.now) }
+{
+    core_disk::every_version();
+}
+
+/// Moments of calls one after another are moments of all their events.
+pub fn every_among()
+    ensures { EveryAmong }
+{}
+
+/// How the moments of a whole run are put together.
+pub fn every_moment<D: Disk>(from: &D, old: &D, new: &D)
+    ensures { EveryMoment (D.story from.now) (D.story old.now) (D.story new.now) }
+{}
+
+/// What recovery gives from what a crash at any of them leaves.
+pub fn every_survival()
+    ensures { EverySurvival }
+{
+    core_disk::every_held();
+    core_crash::every_serial();
+}
+
+/// What was committed and ripe stays so.
+pub fn every_lasting()
+    ensures { EveryLasting }
+{
+    core_commit::every_rise();
+}
+
+/// As a read gives it, the disk holds what a crash now would leave.
+pub fn every_read<D: Disk>(now: &D)
+    ensures { EveryRead (D.story now.now) }
+{
+    worker_log::every_kept();
+    worker_log::every_prefix();
+    disk_image::every_sealed();
+}
+
+/// Rules that an engine may not follow.
+pub fn refusals()
+    ensures { Refusals }
+{}
