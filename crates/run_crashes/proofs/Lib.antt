@@ -1,0 +1,4 @@
+pub mod ReopenLemmas
+pub mod LineLemmas
+pub mod PutLemmas
+pub mod RunLemmas

@@ -1,0 +1,246 @@
+-- Line by line.
+use Rattle.std.proofs.Common.{◌≡◌, inl, inr, ◌+◌, ℕ, false, true, List, [], ◌∷◌, ◌++◌, length, Option, Some, None, refl, sym, ap, ◌∙◌, subst, arith, append_assoc, Bool, true≢false}
+use Rattle.std.proofs.lemmas.List.{append-nil, length-append}
+use Rattle.map_model.specs.Journals.{Journal, Name}
+use Rattle.map_model.specs.Outputs.{Reply}
+use Rattle.image_model.specs.Images.{Image}
+use Rattle.core_state.specs.Openings.{Opening}
+use Rattle.core_state.specs.Events.{Event}
+use Rattle.core_state.specs.Steps.{run, state_after}
+use Rattle.lean_disk.specs.Story.{Crash, Story}
+use Rattle.lean_disk.proofs.MomentLemmas.{weaker}
+use Rattle.lean_disk.proofs.MomentLemmas as moments
+use Rattle.disk_slots.specs.declared.master.Master.{Master}
+use Rattle.disk_image.specs.Laws.{EveryAgreement}
+use Rattle.disk_image.specs.Masters.{IsOfRun}
+use Rattle.disk_image.specs.Shown.{Areas, image_by}
+use Rattle.core_disk.specs.Held.{HoldsRun}
+use Rattle.core_disk.specs.Shows.{EveryShown}
+use Rattle.disk_runs.proofs.LineLemmas.{opened}
+use Rattle.core_calls.specs.Crashes.{EveryRunCrash, WithOneInHand}
+use Rattle.core_calls.specs.Deeds.{Outcome, answered, commits}
+use Rattle.core_calls.specs.Durables.{due, durables}
+use Rattle.core_calls.specs.Durables as durable
+use Rattle.core_calls.specs.Fronts.{Done, front, outcomes}
+use Rattle.core_calls.specs.Marks.{Mark, Began, Called, Back, Ended, marks}
+use Rattle.core_calls.specs.Printed.{durable_lines, printed}
+use Rattle.core_calls.specs.Refusals.{Limits}
+use Rattle.core_calls.specs.Runs.{EachTells}
+use Rattle.core_calls.proofs.RunLemmas.{marks_run, marks_more}
+use Rattle.run_crashes.specs.Laws.{CommitsNone, EveryCrashedLine, EveryLine, EveryReopened, EveryStop}
+use Rattle.run_crashes.specs.Lines.{CallLeaves, PutLeaves, Recovers, RunLeft, lines_of, next_of, notes_of}
+use Rattle.run_crashes.proofs.ReopenLemmas.{every_reopened}
+
+-- ## Lists
+
+-- what stands before some line of these is durable lines
+abbrev Durables : List Reply → Type 0
+Durables later = (ones : List Name) × (durable_lines ones ≡ later)
+
+abbrev is_none : {A : Type 0} → List A → Bool
+is_none [] = true
+is_none (x ∷ xs) = false
+
+cons_nil : {A : Type 0} (x : A) (xs : List A) → x ∷ xs ≡ [] → ⊥
+cons_nil x xs e = true≢false (sym (ap is_none e))
+
+abbrev head_or : Reply → List Reply → Reply
+head_or y [] = y
+head_or y (z ∷ zs) = z
+
+abbrev tail_of : List Reply → List Reply
+tail_of [] = []
+tail_of (y ∷ ys) = ys
+
+same_tail : (x y : Reply) (xs ys : List Reply) → x ∷ xs ≡ y ∷ ys → xs ≡ ys
+same_tail x y xs ys e = ap tail_of e
+
+same_head : (x y : Reply) (xs ys : List Reply) → x ∷ xs ≡ y ∷ ys → x ≡ y
+same_head x y xs ys e = ap (head_or x) e
+
+no_more : (zs : List Reply) (y : Reply) (ys : List Reply) → zs ++ y ∷ ys ≡ [] → ⊥
+no_more [] y ys q = cons_nil y ys q
+no_more (z ∷ zs) y ys q = cons_nil z (zs ++ y ∷ ys) q
+
+abbrev durable_line : Name → Reply
+durable_line n = Reply.Durable n.session n.number
+
+cut_off : (later : List Reply) (o : Reply) (first : List Reply) (ns : List Name) (r : Reply) → later ++ o ∷ first ≡ durable_lines ns ++ r ∷ [] → Durables later
+cut_off [] o first ns r e = ([], refl)
+cut_off (x ∷ later) o first [] r e = absurd (no_more later o first (same_tail x r (later ++ o ∷ first) [] e))
+cut_off (x ∷ later) o first (m ∷ ms) r e =
+    let rest = cut_off later o first ms r (same_tail x (durable_line m) (later ++ o ∷ first) (durable_lines ms ++ r ∷ []) e) in
+    (m ∷ rest.0, ap (λ (z : List Reply). durable_line m ∷ z) rest.1 ∙ ap (λ (y : Reply). y ∷ later) (sym (same_head x (durable_line m) (later ++ o ∷ first) (durable_lines ms ++ r ∷ []) e)))
+
+nil_first : (a b : List Event) → a ++ b ≡ [] → a ≡ []
+nil_first [] b e = refl
+nil_first (x ∷ a) b e = absurd (cons_nil x (a ++ b) e)
+
+-- ## What commits nothing
+
+commits_later : (a b : List Mark) → commits (a ++ b) ≡ false → commits b ≡ false
+commits_later [] b e = e
+commits_later (Ended true n at ∷ a) b e = absurd (true≢false e)
+commits_later (Ended false n at ∷ a) b e = commits_later a b e
+commits_later (Began n ∷ a) b e = commits_later a b e
+commits_later (Called k a alone ∷ ms) b e = commits_later ms b e
+commits_later (Back k a ∷ ms) b e = commits_later ms b e
+
+-- has not committed anything on its way
+part : (g : Opening) (xs : List Done) (first rest es : List Event) → first ++ rest ≡ es → CommitsNone g xs es → CommitsNone g xs first
+part g xs first rest es is none w =
+    commits_later (marks g (run g (state_after g (front xs)) first) rest w []) (marks g (state_after g (front xs)) first w [])
+    (ap commits (sym (marks_run g (state_after g (front xs)) first rest w [] ∙ marks_more g (run g (state_after g (front xs)) first) rest w (marks g (state_after g (front xs)) first w [])))
+    ∙ (ap (λ (k : List Event). commits (marks g (state_after g (front xs)) k w [])) is ∙ none w))
+
+-- ## What is in hand
+
+-- with no next outcome none is in hand
+none_in_hand : (i : Image) (told : List Outcome) (next : Option Outcome) (by_then : Journal) → WithOneInHand i told None by_then → WithOneInHand i told next by_then
+none_in_hand i told next by_then (inl e) = inl e
+none_in_hand i told next by_then (inr h) = absurd (no h.outcome h.is_next)
+  where
+    no : (x : Outcome) → ◌≡◌ {A = Option Outcome} None (Some x) → ⊥
+    no x e = cc
+
+any_next : (g : Opening) (heard : List Done) (next : Option Outcome) (out : List Reply) (m : Master) (area : Areas) → Recovers g heard None out m area → Recovers g heard next out m area
+any_next g heard next out m area r = record {
+  n = r.n;
+  of_run = r.of_run;
+  by_then = r.by_then;
+  by_then_is = none_in_hand (image_by r.n area) (outcomes heard) next r.by_then r.by_then_is;
+  falls = r.falls;
+  serial = r.serial;
+  numbers = r.numbers;
+  kept_ones = r.kept_ones;
+  kept_is = r.kept_is;
+  closed = r.closed;
+  reported = r.reported;
+  clean = r.clean;
+  stands = r.stands;
+}
+
+-- the oldest stays so where one more comes, or comes where there was none
+one_more : (g : Opening) (x : Done) (unheard heard : List Done) (out : List Reply) (m : Master) (area : Areas) → Recovers g heard (next_of unheard) out m area → Recovers g heard (next_of (x ∷ unheard)) out m area
+one_more g x [] heard out m area r = any_next g heard (Some x.outcome) out m area r
+one_more g x (y ∷ unheard) heard out m area r = r
+
+-- ## Moments
+
+abbrev names_of : Opening → List Done → Done → List Name
+names_of g xs x = due g (state_after g (front (x ∷ xs))) (durables g (durable.moments xs))
+
+abbrev reply_of : Done → Reply
+reply_of x = Reply.Answered x.outcome.session (answered x.outcome.deed)
+
+module _ (reopened : EveryReopened) (l : Limits) (g : Opening) (group : ℕ) (s0 : Crash) (m n : Master) where
+  pub more : (xs : List Done) (c : Crash) (x : Done) → RunLeft g xs s0 m c → RunLeft g (x ∷ xs) s0 m c
+  more xs c x r = record {
+    unheard = x ∷ r.unheard;
+    heard = r.heard;
+    calls = ap (λ (k : List Done). x ∷ k) r.calls;
+    missing = r.missing;
+    out = r.out;
+    lines = r.lines;
+    notes = r.notes;
+    recovers = λ fair. one_more g x r.unheard r.heard r.out m c.image (r.recovers fair);
+  }
+
+  -- all lines before the call are out, and none of it
+  pub call : (xs : List Done) (c : Crash) (x : Done) → EachTells l g group (x ∷ xs) → IsOfRun m n → CallLeaves g xs x.events s0 n c → RunLeft g (x ∷ xs) s0 m c
+  call xs c x t q h = record {
+    unheard = x ∷ [];
+    heard = xs;
+    calls = refl;
+    missing = [];
+    out = printed g xs;
+    lines = refl;
+    notes = h.notes;
+    recovers = λ fair. let a = h.some fair in
+        (reopened l g group xs m a.master c.image).between x a.first a.rest [] (printed g xs) t a.is refl (opened m n a.master q a.no_earlier) a.holds;
+  }
+
+  pub stopped : (xs : List Done) (c : Crash) (es : List Event) → EachTells l g group xs → CommitsNone g xs es → IsOfRun m n → CallLeaves g xs es s0 n c → RunLeft g xs s0 m c
+  stopped xs c es t none q h = record {
+    unheard = [];
+    heard = xs;
+    calls = refl;
+    missing = [];
+    out = printed g xs;
+    lines = refl;
+    notes = h.notes;
+    recovers = λ fair. let a = h.some fair in
+        (reopened l g group xs m a.master c.image).stopped a.first [] (printed g xs) t (part g xs a.first a.rest es a.is none) refl (opened m n a.master q a.no_earlier) a.holds;
+  }
+
+  -- no line of the outcome is out
+  silent : (xs : List Done) (c : Crash) (x : Done) → EachTells l g group (x ∷ xs) → IsOfRun m n → PutLeaves g xs x s0 n c → c.notes ≡ notes_of g xs s0 → RunLeft g (x ∷ xs) s0 m c
+  silent xs c x t q h notes = call xs c x t q (record {
+    notes = notes;
+    some = λ fair. let a = h.some fair in record {
+      first = x.events;
+      rest = [];
+      is = append-nil x.events;
+      master = a.master;
+      no_earlier = a.no_earlier;
+      holds = subst (λ (k : List Event). HoldsRun g k a.master c.image) (ap (λ (k : List Event). front (x ∷ xs) ++ k) (nil_first a.first a.rest a.is) ∙ append-nil (front (x ∷ xs))) a.holds;
+    };
+  })
+
+  -- some lines are
+  spoken : (xs : List Done) (c : Crash) (x : Done) → EachTells l g group (x ∷ xs) → IsOfRun m n → PutLeaves g xs x s0 n c → (later : List Reply) (o : Reply) (first : List Reply)
+      → later ++ o ∷ first ≡ lines_of g xs x → c.notes ≡ notes_of g xs s0 + length (o ∷ first) → RunLeft g (x ∷ xs) s0 m c
+  spoken xs c x t q h later o first split notes = record {
+    unheard = [];
+    heard = x ∷ xs;
+    calls = refl;
+    missing = d.0;
+    out = (o ∷ first) ++ printed g xs;
+    lines = lines;
+    notes = let e = length-append (o ∷ first) (printed g xs) in omega (arith, notes, e);
+    recovers = λ fair. let a = h.some fair in
+        (reopened l g group (x ∷ xs) m a.master c.image).stopped a.first (durable_lines d.0) ((o ∷ first) ++ printed g xs) t
+        (part g (x ∷ xs) a.first a.rest [] a.is (λ w. refl)) lines (opened m n a.master q a.no_earlier) a.holds;
+  }
+    where
+      d : Durables later
+      d = cut_off later o first (names_of g xs x) (reply_of x) split
+
+      lines : durable_lines d.0 ++ ((o ∷ first) ++ printed g xs) ≡ printed g (x ∷ xs)
+      lines = ap (λ (k : List Reply). k ++ ((o ∷ first) ++ printed g xs)) d.1
+          ∙ (sym (append_assoc later (o ∷ first) (printed g xs))
+          ∙ (ap (λ (k : List Reply). k ++ printed g xs) split
+          ∙ append_assoc (durable_lines (names_of g xs x)) (reply_of x ∷ []) (printed g xs)))
+
+  pub put : (xs : List Done) (c : Crash) (x : Done) → EachTells l g group (x ∷ xs) → IsOfRun m n → PutLeaves g xs x s0 n c → RunLeft g (x ∷ xs) s0 m c
+  put xs c x t q h = go h.later h.first h.split h.notes
+    where
+      go : (later first : List Reply) → later ++ first ≡ lines_of g xs x → c.notes ≡ notes_of g xs s0 + length first → RunLeft g (x ∷ xs) s0 m c
+      go later [] split notes = silent xs c x t q h (omega (arith, notes))
+      go later (o ∷ first) split notes = spoken xs c x t q h later o first split notes
+
+pub every_crashed_line : EveryShown → EveryRunCrash → EveryAgreement → EveryCrashedLine
+every_crashed_line shown crashes agrees l g group s0 m n xs c = let r = every_reopened shown crashes agrees in record {
+  call = call r l g group s0 m n xs c;
+  stopped = stopped r l g group s0 m n xs c;
+  put = put r l g group s0 m n xs c;
+  more = more r l g group s0 m n xs c;
+}
+
+pub every_line : EveryShown → EveryRunCrash → EveryAgreement → (from old mid new : Story) → EveryLine from old mid new
+every_line shown crashes agrees from old mid new l g group s0 m n k xs x t q p so_far calls puts =
+    let r = every_reopened shown crashes agrees in
+    moments.then from mid new (RunLeft g (x ∷ xs) s0 m)
+    (moments.then from old mid (RunLeft g (x ∷ xs) s0 m)
+    (weaker from old (RunLeft g xs s0 m) (RunLeft g (x ∷ xs) s0 m) (λ c. more r l g group s0 m n xs c x) so_far)
+    (weaker old mid (CallLeaves g xs x.events s0 n) (RunLeft g (x ∷ xs) s0 m) (λ c. call r l g group s0 m n xs c x t q) calls))
+    (weaker mid new (PutLeaves g xs x s0 k) (RunLeft g (x ∷ xs) s0 m) (λ c. put r l g group s0 m k xs c x t p) puts)
+
+pub every_stop : EveryShown → EveryRunCrash → EveryAgreement → (from old new : Story) → EveryStop from old new
+every_stop shown crashes agrees from old new l g group s0 m n xs = let r = every_reopened shown crashes agrees in record {
+  nothing = λ es t none q so_far calls. moments.then from old new (RunLeft g xs s0 m) so_far
+      (weaker old new (CallLeaves g xs es s0 n) (RunLeft g xs s0 m) (λ c. stopped r l g group s0 m n xs c es t none q) calls);
+  part = λ x t q so_far calls. moments.then from old new (RunLeft g (x ∷ xs) s0 m)
+      (weaker from old (RunLeft g xs s0 m) (RunLeft g (x ∷ xs) s0 m) (λ c. more r l g group s0 m n xs c x) so_far)
+      (weaker old new (CallLeaves g xs x.events s0 n) (RunLeft g (x ∷ xs) s0 m) (λ c. call r l g group s0 m n xs c x t q) calls);
+}

@@ -1,0 +1,112 @@
+-- From a disk that holds what a crash of a run left to the words of the lines that were out.
+use Rattle.std.proofs.Common.{◌≡◌, ◌&&◌, ◌==◌, not, leb, inl, inr, ℕ, List, ◌++◌, length, Option, Some, None, refl, sym, ap, ap₂, ◌∙◌, subst}
+use Rattle.map_model.specs.Lists.{Has}
+use Rattle.map_model.specs.Journals.{Journal, Txn, IsClosed, after}
+use Rattle.map_model.proofs.ListLemmas.{has_right, keep_has}
+use Rattle.map_model.specs.Outputs.{Reply}
+use Rattle.image_model.specs.Entries.{Entry, is_record}
+use Rattle.image_model.specs.Ends.{is_kept, kept}
+use Rattle.image_model.specs.Images.{Image, StandsFor, found, gathered, won_by}
+use Rattle.core_state.specs.Openings.{Opening, first_map}
+use Rattle.core_state.specs.Events.{Event}
+use Rattle.core_state.specs.Steps.{state_after}
+use Rattle.core_crash.specs.Crashes.{image_of}
+use Rattle.core_crash.proofs.Images.{gathered_has}
+use Rattle.disk_slots.specs.declared.master.Master.{Master}
+use Rattle.disk_image.specs.Laws.{Agreement, EveryAgreement}
+use Rattle.disk_image.specs.Masters.{IsOfRun}
+use Rattle.disk_image.specs.Shown.{Areas, image_by}
+use Rattle.core_disk.specs.Held.{HoldsRun}
+use Rattle.core_disk.specs.Shows.{EveryShown, Shows}
+use Rattle.core_disk.proofs.HeldLemmas.{gathered_same}
+use Rattle.core_calls.specs.Crashes.{EveryRunCrash, RunSurvives, WithOneInHand}
+use Rattle.core_calls.specs.Deeds.{Outcome}
+use Rattle.core_calls.specs.Fronts.{Done, front, outcomes}
+use Rattle.core_calls.specs.Printed.{printed}
+use Rattle.core_calls.specs.Told.{kept_of}
+use Rattle.run_crashes.specs.Laws.{EveryReopened}
+use Rattle.run_crashes.specs.Lines.{Recovers}
+
+-- what is in hand is kept by an image that keeps the same
+in_hand : (i j : Image) (told : List Outcome) (next : Option Outcome) (by_then : Journal) → ((t : Txn) → is_kept i.logs i.floor (found i) t ≡ is_kept j.logs j.floor (found j) t)
+    → WithOneInHand i told next by_then → WithOneInHand j told next by_then
+in_hand i j told next by_then same (inl e) = inl e
+in_hand i j told next by_then same (inr h) = inr (record {
+  outcome = h.outcome;
+  is_next = h.is_next;
+  number = h.number;
+  at = h.at;
+  commit = h.commit;
+  all = h.all;
+  more = h.more;
+  session_is = h.session_is;
+  number_is = h.number_is;
+  at_is = h.at_is;
+  kept = sym (same h.more) ∙ h.kept;
+  has = h.has;
+  only = h.only;
+})
+
+module _ (agrees : EveryAgreement) (g : Opening) (es : List Event) (m n : Master) (area : Areas) (heard : List Done) (next : Option Outcome) (newer out : List Reply) (lines : newer ++ out ≡ printed g heard)
+    (of_run : IsOfRun m n) (h : HoldsRun g es n area) (x : Shows g es n area) (r : RunSurvives g es x.logs x.page heard next) where
+  abbrev image : Image
+  image = image_of g (state_after g es) x.logs x.page
+
+  abbrev shown : Image
+  shown = image_by n area
+
+  agreement : Agreement image shown
+  agreement = agrees image shown x.agree r.survives.stands.sound
+
+  found_is : found image ≡ found shown
+  found_is = gathered_same image.log shown.log g.workers x.agree.log ∙ ap (gathered shown.log) (sym h.is.logs)
+
+  keeps_same : (t : Txn) → is_kept image.logs image.floor (found image) t ≡ is_kept shown.logs shown.floor (found shown) t
+  keeps_same t = ap (λ (l : ℕ). is_kept l image.floor (found image) t) (sym h.is.logs)
+      ∙ ap₂ (λ (f : ℕ) (z : List Entry). is_kept (length n.heads) f z t) (sym h.is.floor) found_is
+
+  -- what is found in the image has happened
+  entered : (r : Entry) → Has r (found shown) → Has r (state_after g es).entries
+  entered r i =
+      let q = gathered_has image.log g.workers r (subst (Has r) (sym found_is) i) in
+      let w : ℕ = q.0 in
+      let left : Has r (x.logs w) = (keep_has (λ (e : Entry). not (leb e.number ((state_after g es).head w))) (x.logs w) r q.2).0 in
+      let p = x.leaves.prefixes w q.1.0 q.1.1 in
+      (keep_has (λ (e : Entry). is_record e.kind && (e.log == w)) (state_after g es).entries r (subst (Has r) p.1 (has_right r p.0 (x.logs w) left))).0
+
+  abbrev kept_ones : Journal
+  kept_ones = kept (length n.heads) n.floor (found shown) r.by_then
+
+  kept_is : kept_of image r.by_then ≡ kept_ones
+  kept_is = ap (λ (l : ℕ). kept l image.floor (found image) r.by_then) (sym h.is.logs)
+      ∙ ap₂ (λ (f : ℕ) (z : List Entry). kept (length n.heads) f z r.by_then) (sym h.is.floor) found_is
+
+  pub recovers : Recovers g heard next out m area
+  recovers = record {
+    n = n;
+    of_run = of_run;
+    by_then = r.by_then;
+    by_then_is = in_hand image shown (outcomes heard) next r.by_then keeps_same r.by_then_is;
+    falls = r.falls;
+    serial = r.serial;
+    numbers = λ e i. r.numbers e (entered e i);
+    kept_ones = kept_ones;
+    kept_is = refl;
+    closed = subst (IsClosed r.by_then) kept_is r.survives.closed;
+    reported = λ name i. let k = r.reported newer out lines name i in (k.txn, subst (Has k.txn) kept_is k.kept, k.session, k.number);
+    clean = x.clean;
+    stands = record {
+      master = x.clean.master;
+      readable = x.clean.readable;
+      stands = subst (λ (j : Journal). StandsFor shown (after (first_map g) j) (won_by shown)) kept_is
+          (record { sound = agreement.sound; map = λ k. r.survives.stands.map k ∙ sym (agreement.map k); won = refl });
+    };
+  }
+
+pub every_reopened : EveryShown → EveryRunCrash → EveryAgreement → EveryReopened
+every_reopened shows crashes agrees l g group xs m n area = record {
+  between = λ x before after newer out t e lines q h. let s = shows g (front xs ++ before) n area h in
+      recovers agrees g (front xs ++ before) m n area xs (Some x.outcome) newer out lines q h s ((crashes l g group).between xs x before after t (sym e) s.logs s.page s.leaves);
+  stopped = λ es newer out t none lines q h. let s = shows g (front xs ++ es) n area h in
+      recovers agrees g (front xs ++ es) m n area xs None newer out lines q h s ((crashes l g group).stopped xs es t none s.logs s.page s.leaves);
+}

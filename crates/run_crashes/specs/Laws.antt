@@ -1,0 +1,76 @@
+-- How a run of a script goes on, line by line, with what a crash at each moment leaves. Of each law m is the master of the disk that was opened,
+-- and n the one that counts when the call begins.
+use Rattle.std.specs.Prelude.{◌≡◌, ℕ, false, List, [], ◌∷◌, ◌++◌, Some, None, IsTrue}
+use Rattle.map_model.specs.Outputs.{Reply}
+use Rattle.core_state.specs.Openings.{Opening}
+use Rattle.core_state.specs.Events.{Event}
+use Rattle.core_state.specs.Steps.{state_after}
+use Rattle.lean_disk.specs.Area.{Leaves}
+use Rattle.lean_disk.specs.Moments.{LeavesOnly}
+use Rattle.lean_disk.specs.Story.{Crash, Story, Tells}
+use Rattle.disk_slots.specs.declared.master.Master.{Master}
+use Rattle.disk_image.specs.Masters.{IsOfRun}
+use Rattle.disk_image.specs.Shown.{Areas}
+use Rattle.core_disk.specs.Held.{HoldsRun}
+use Rattle.disk_runs.specs.Stands.{Known, LeavesRun, Stands}
+use Rattle.core_calls.specs.Deeds.{commits}
+use Rattle.core_calls.specs.Fronts.{Done, front}
+use Rattle.core_calls.specs.Marks.{marks}
+use Rattle.core_calls.specs.Printed.{printed}
+use Rattle.core_calls.specs.Refusals.{Limits}
+use Rattle.core_calls.specs.Runs.{EachTells}
+use Rattle.run_crashes.specs.Lines.{CallLeaves, PutLeaves, Recovers, RunLeft}
+
+-- nothing is committed by these events
+abbrev pub CommitsNone : Opening → List Done → List Event → Type 0
+CommitsNone g xs es = (w : ℕ) → commits (marks g (state_after g (front xs)) es w []) ≡ false
+
+-- ## A disk that a crash left
+
+-- What a disk holds where some outcomes were heard: among the events of the next one, and among events that commit nothing.
+pub record ReopenedLaws (l : Limits) (g : Opening) (group : ℕ) (xs : List Done) (m n : Master) (area : Areas) : Type 0 where
+  pub between : (x : Done) (before after : List Event) (newer out : List Reply) → EachTells l g group (x ∷ xs) → before ++ after ≡ x.events → newer ++ out ≡ printed g xs →
+      IsOfRun m n → HoldsRun g (front xs ++ before) n area → Recovers g xs (Some x.outcome) out m area
+  pub stopped : (es : List Event) (newer out : List Reply) → EachTells l g group xs → CommitsNone g xs es → newer ++ out ≡ printed g xs →
+      IsOfRun m n → HoldsRun g (front xs ++ es) n area → Recovers g xs None out m area
+
+-- in each run, on each disk
+abbrev pub EveryReopened : Type 0
+EveryReopened = (l : Limits) (g : Opening) (group : ℕ) (xs : List Done) (m n : Master) (area : Areas) → ReopenedLaws l g group xs m n area
+
+-- ## One crash
+
+-- a crash in a call that is answered, in one that is not, and while lines are put
+pub record CrashedLaws (l : Limits) (g : Opening) (group : ℕ) (s0 : Crash) (m n : Master) (xs : List Done) (c : Crash) : Type 0 where
+  pub call : (x : Done) → EachTells l g group (x ∷ xs) → IsOfRun m n → CallLeaves g xs x.events s0 n c → RunLeft g (x ∷ xs) s0 m c
+  pub stopped : (es : List Event) → EachTells l g group xs → CommitsNone g xs es → IsOfRun m n → CallLeaves g xs es s0 n c → RunLeft g xs s0 m c
+  pub put : (x : Done) → EachTells l g group (x ∷ xs) → IsOfRun m n → PutLeaves g xs x s0 n c → RunLeft g (x ∷ xs) s0 m c
+  -- and one more call
+  pub more : (x : Done) → RunLeft g xs s0 m c → RunLeft g (x ∷ xs) s0 m c
+
+-- whatever the crash
+abbrev pub EveryCrashedLine : Type 0
+EveryCrashedLine = (l : Limits) (g : Opening) (group : ℕ) (s0 : Crash) (m n : Master) (xs : List Done) (c : Crash) → CrashedLaws l g group s0 m n xs c
+
+-- ## All moments
+
+-- Where a run stands on a disk, a crash that leaves its areas as one now would does so with more lines out too.
+abbrev pub EveryPut : (s : Story) → Type 0
+EveryPut s = (s0 : Crash) (g : Opening) (es : List Event) (x : Known) → Stands g es s0 x s → IsTrue s.counts → (c : Crash)
+    → ((a : ℕ) → Tells s a → c.writes a ≡ (s.area a).writes) → ((a : ℕ) → Tells s a → Leaves (s.area a) (c.image a)) → LeavesRun g es s0 x.master c
+
+-- One line more: the call is answered, by when the master may be a later one, and its lines are put, all or some.
+abbrev pub EveryLine : (from old mid new : Story) → Type 0
+EveryLine from old mid new = (l : Limits) (g : Opening) (group : ℕ) (s0 : Crash) (m n k : Master) (xs : List Done) (x : Done) → EachTells l g group (x ∷ xs) → IsOfRun m n → IsOfRun m k
+    → LeavesOnly from old (RunLeft g xs s0 m) → LeavesOnly old mid (CallLeaves g xs x.events s0 n) → LeavesOnly mid new (PutLeaves g xs x s0 k) → LeavesOnly from new (RunLeft g (x ∷ xs) s0 m)
+
+-- A call that is not answered: it committed nothing, or it is the first part of one whose reply is never out.
+pub record StopLaws (l : Limits) (g : Opening) (group : ℕ) (s0 : Crash) (m n : Master) (xs : List Done) (from old new : Story) : Type 0 where
+  pub nothing : (es : List Event) → EachTells l g group xs → CommitsNone g xs es → IsOfRun m n
+      → LeavesOnly from old (RunLeft g xs s0 m) → LeavesOnly old new (CallLeaves g xs es s0 n) → LeavesOnly from new (RunLeft g xs s0 m)
+  pub part : (x : Done) → EachTells l g group (x ∷ xs) → IsOfRun m n
+      → LeavesOnly from old (RunLeft g xs s0 m) → LeavesOnly old new (CallLeaves g xs x.events s0 n) → LeavesOnly from new (RunLeft g (x ∷ xs) s0 m)
+
+-- of any such call
+abbrev pub EveryStop : (from old new : Story) → Type 0
+EveryStop from old new = (l : Limits) (g : Opening) (group : ℕ) (s0 : Crash) (m n : Master) (xs : List Done) → StopLaws l g group s0 m n xs from old new

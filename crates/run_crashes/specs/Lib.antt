@@ -1,0 +1,3 @@
+-- Read Lines, then Laws.
+pub mod Lines
+pub mod Laws
