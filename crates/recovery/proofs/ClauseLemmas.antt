@@ -10,6 +10,7 @@ use Rattle.lean_disk.specs.declared.disk.Did.TheVariants.{Done}
 use Rattle.lean_disk.proofs.MomentLemmas.{then, weaker}
 use Rattle.disk_slots.specs.Masters.{master_slot, IsMaster}
 use Rattle.disk_slots.specs.declared.master.Master.{Master}
+use Rattle.disk_image.specs.MasterSlots.{master_on}
 use Rattle.disk_image.specs.Shown.{IsCleanDisk, image_by}
 use Rattle.page_store.specs.Runs.{IsReady}
 use Rattle.page_store.specs.Saved.{LeavesSaves, Save}
@@ -18,10 +19,12 @@ use Rattle.recovery.specs.Crashes.{RecoveryLeaves}
 use Rattle.recovery.specs.Inside.{AreSettled, IsPrepared, IsReadied, OnlySettles, SavesAll, saves_to}
 use Rattle.master_store.specs.Masters.{IsOfSlot, WritesOnce}
 use Rattle.recovery.specs.Masters.{IsOpenable, next_master}
+use Rattle.recovery.specs.Installed.{HasInstalled}
 use Rattle.recovery.specs.Opened.{IsOpened, IsRecovered, IsWhole, IsGreatest}
 use Rattle.recovery.specs.Telling.{TellsAll}
 use Rattle.recovery.specs.declared.opening.Recovered.{Recovered}
 use Rattle.recovery.specs.declared.prepare.Prepared.{Prepared}
+use Rattle.recovery.proofs.InstallLemmas.{installed}
 use Rattle.recovery.proofs.LastLemmas.{opened, saving, writing}
 use Rattle.master_store.proofs.SlotLemmas.{master_is, slot_of}
 use Rattle.recovery.proofs.MasterLemmas.{valid_next}
@@ -33,46 +36,56 @@ pub settled_moments : (m : Master) (logs : ℕ) (s0 s : Story) → OnlySettles l
 settled_moments m logs s0 s settles = weaker s0 s (AsAt s0) (RecoveryLeaves m s0) (λ c at. inl at) settles.any_moment
 
 module _ (it : Prepared) (readied : IsReadied it) (s0 s4 : Story) (logs : ℕ) (settles : OnlySettles logs s0 s4) (t : TellsAll s0) (all : AreSettled (length it.master.heads) s0 s4) (prepared : IsPrepared (areas_of s0) it)
-    (m : Master) (clean_m : IsCleanDisk m (areas_of s0)) (seated : IsTrue s4.counts → Tells s4 1) where
+    (m : Master) (seated : IsTrue s4.counts → Tells s4 1) where
   abbrev these : List Save
   these = saves_to it.pages.items it.slots.items it.changed.items it.master.pages
-
-  -- the master that was chosen is the disk's
-  same_master : it.master ≡ m
-  same_master = master_is it.master m (sym prepared.master ∙ clean_m.master)
-
-  clean : IsCleanDisk it.master (areas_of s0)
-  clean = subst (λ (k : Master). IsCleanDisk k (areas_of s0)) (sym same_master) clean_m
 
   ready : IsReady 1 s4
   ready = record { seated = seated; clean = λ told. let e = all t 1 (omega arith) in record { clean = e.clean; end = e.end } }
 
-  module _ (s6 : Story) (result : Did) (saves : IsReady 1 s4 → SavesAll it.master.pages s4 these result s6) where
-    saving_moments : LeavesOnly s0 s6 (RecoveryLeaves it.master s0)
-    saving_moments = then s0 s4 s6 (RecoveryLeaves it.master s0) (settled_moments it.master logs s0 s4 settles)
-        (weaker s4 s6 (CrashIn s4 1 (LeavesSaves it.master.pages (s4.area 1) these)) (RecoveryLeaves it.master s0)
-        (λ c at. inr (saving it readied s0 s4 logs settles t (all t) prepared clean c at)) (saves ready).run.any_moment)
+  told_1 : Tells s4 1
+  told_1 = settles.tells 1 ∙ t.pages
 
-    pub saved_moments : LeavesOnly s0 s6 (RecoveryLeaves m s0)
-    saved_moments = subst (λ (k : Master). LeavesOnly s0 s6 (RecoveryLeaves k s0)) same_master saving_moments
+  -- ## Which writes it made
 
-    module _ (done : result ≡ Done) (wide : it.base < 2 ^ 64) (next : Master) (next_is : next ≡ next_master it.master it.base) (s7 : Story) where
-      abbrev place : ℕ
-      place = 1024 * slot_of (next_master it.master it.base)
+  pub installs : master_on (areas_of s0 0) ≡ Some m → (s6 : Story) (result : Did) → (IsReady 1 s4 → SavesAll it.master.pages s4 these result s6) → result ≡ Done → (s7 : Story) → Framed 0 s6 s7 → (r : Recovered)
+      → s7.area 0 ≡ synced (written (1024 * (r.master.sequence % 2)) (master_slot r.master) (s6.area 0)) → HasInstalled m r s0 s7
+  installs counts s6 result saves done s7 frame r wrote = subst (λ (k : Master). HasInstalled k r s0 s7) (master_is it.master m (sym prepared.master ∙ counts))
+      (installed it readied s0 s4 logs settles prepared ((saves ready).are done) s6 s7 (saves ready).run.frame ((saves ready).done done told_1) frame r wrote)
 
-      told_1 : Tells s4 1
-      told_1 = settles.tells 1 ∙ t.pages
+  -- ## Of a clean disk
 
-      pub written_moments : LeavesOnly s6 s7 (CrashIn s6 0 (WritesOnce (1024 * (next.sequence % 2)) (master_slot next) (s6.area 0))) → LeavesOnly s0 s7 (RecoveryLeaves m s0)
-      written_moments run = subst (λ (k : Master). LeavesOnly s0 s7 (RecoveryLeaves k s0)) same_master (then s0 s6 s7 (RecoveryLeaves it.master s0) saving_moments
-          (weaker s6 s7 (CrashIn s6 0 (WritesOnce (1024 * slot_of (next_master it.master it.base)) (master_slot (next_master it.master it.base)) (s6.area 0))) (RecoveryLeaves it.master s0)
-          (λ c at. inr (writing it readied s0 s4 logs settles t (all t) prepared clean s6 (saves ready).run.frame ((saves ready).are done) ((saves ready).done done told_1) wide c at))
-          (subst (λ (k : Master). LeavesOnly s6 s7 (CrashIn s6 0 (WritesOnce (1024 * (k.sequence % 2)) (master_slot k) (s6.area 0)))) next_is run)))
+  module _ (clean_m : IsCleanDisk m (areas_of s0)) where
+    -- the master that was chosen is the disk's
+    same_master : it.master ≡ m
+    same_master = master_is it.master m (sym prepared.master ∙ clean_m.master)
 
-      pub opens : Framed 0 s6 s7 → s7.area 0 ≡ synced (written (1024 * (next.sequence % 2)) (master_slot next) (s6.area 0)) → (r : Recovered) → r.pages ≡ it.pages → r.master ≡ next → IsOpened m (areas_of s0) r s7
-      opens frame wrote r pages is = subst (λ (k : Master). IsOpened k (areas_of s0) r s7) same_master
-          (opened it readied s0 s4 logs settles t (all t) prepared clean s6 (saves ready).run.frame ((saves ready).are done) ((saves ready).done done told_1) wide s7 frame
-          (subst (λ (k : Master). s7.area 0 ≡ synced (written (1024 * (k.sequence % 2)) (master_slot k) (s6.area 0))) next_is wrote) r pages (is ∙ next_is))
+    clean : IsCleanDisk it.master (areas_of s0)
+    clean = subst (λ (k : Master). IsCleanDisk k (areas_of s0)) (sym same_master) clean_m
+
+    module _ (s6 : Story) (result : Did) (saves : IsReady 1 s4 → SavesAll it.master.pages s4 these result s6) where
+      saving_moments : LeavesOnly s0 s6 (RecoveryLeaves it.master s0)
+      saving_moments = then s0 s4 s6 (RecoveryLeaves it.master s0) (settled_moments it.master logs s0 s4 settles)
+          (weaker s4 s6 (CrashIn s4 1 (LeavesSaves it.master.pages (s4.area 1) these)) (RecoveryLeaves it.master s0)
+          (λ c at. inr (saving it readied s0 s4 logs settles t (all t) prepared clean c at)) (saves ready).run.any_moment)
+
+      pub saved_moments : LeavesOnly s0 s6 (RecoveryLeaves m s0)
+      saved_moments = subst (λ (k : Master). LeavesOnly s0 s6 (RecoveryLeaves k s0)) same_master saving_moments
+
+      module _ (done : result ≡ Done) (wide : it.base < 2 ^ 64) (next : Master) (next_is : next ≡ next_master it.master it.base) (s7 : Story) where
+        abbrev place : ℕ
+        place = 1024 * slot_of (next_master it.master it.base)
+
+        pub written_moments : LeavesOnly s6 s7 (CrashIn s6 0 (WritesOnce (1024 * (next.sequence % 2)) (master_slot next) (s6.area 0))) → LeavesOnly s0 s7 (RecoveryLeaves m s0)
+        written_moments run = subst (λ (k : Master). LeavesOnly s0 s7 (RecoveryLeaves k s0)) same_master (then s0 s6 s7 (RecoveryLeaves it.master s0) saving_moments
+            (weaker s6 s7 (CrashIn s6 0 (WritesOnce (1024 * slot_of (next_master it.master it.base)) (master_slot (next_master it.master it.base)) (s6.area 0))) (RecoveryLeaves it.master s0)
+            (λ c at. inr (writing it readied s0 s4 logs settles t (all t) prepared clean s6 (saves ready).run.frame ((saves ready).are done) ((saves ready).done done told_1) wide c at))
+            (subst (λ (k : Master). LeavesOnly s6 s7 (CrashIn s6 0 (WritesOnce (1024 * (k.sequence % 2)) (master_slot k) (s6.area 0)))) next_is run)))
+
+        pub opens : Framed 0 s6 s7 → s7.area 0 ≡ synced (written (1024 * (next.sequence % 2)) (master_slot next) (s6.area 0)) → (r : Recovered) → r.pages ≡ it.pages → r.master ≡ next → IsOpened m (areas_of s0) r s7
+        opens frame wrote r pages is = subst (λ (k : Master). IsOpened k (areas_of s0) r s7) same_master
+            (opened it readied s0 s4 logs settles t (all t) prepared clean s6 (saves ready).run.frame ((saves ready).are done) ((saves ready).done done told_1) wide s7 frame
+            (subst (λ (k : Master). s7.area 0 ≡ synced (written (1024 * (k.sequence % 2)) (master_slot k) (s6.area 0))) next_is wrote) r pages (is ∙ next_is))
 
 -- ## The answer
 

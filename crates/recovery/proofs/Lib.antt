@@ -10,5 +10,6 @@ pub mod SettleLemmas
 pub mod PrepareLemmas
 pub mod FinishLemmas
 pub mod HeldLemmas
+pub mod InstallLemmas
 pub mod LastLemmas
 pub mod ClauseLemmas

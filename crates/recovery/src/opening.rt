@@ -1,15 +1,17 @@
 // The opening of a disk.
-ghost use Rattle.std.specs.Prelude.{◌≡◌, ◌<◌, ◌*◌, ◌%◌, ◌^◌, ℕ, Err, IfErr, IfOk, length, slice_index};
+ghost use Rattle.std.specs.Prelude.{◌≡◌, ◌<◌, ◌*◌, ◌%◌, ◌^◌, ℕ, Err, IfErr, IfOk, Some, length, slice_index};
 ghost use Rattle.lean_disk.specs.Area.{synced, written};
 ghost use Rattle.lean_disk.specs.Faults.{HasCause};
 ghost use Rattle.lean_disk.specs.Moments.{CrashIn, Framed, LeavesOnly};
 ghost use Rattle.lean_disk.specs.Story.{Tells, areas_of};
 ghost use Rattle.disk_slots.specs.Masters.{master_slot};
 ghost use Rattle.disk_slots.specs.declared.master.Master.{Master};
+ghost use Rattle.disk_image.specs.MasterSlots.{master_on};
 ghost use Rattle.disk_image.specs.Shown.{IsCleanDisk};
 ghost use Rattle.page_store.specs.Runs.{IsReady};
 ghost use Rattle.recovery.specs.Crashes.{RecoveryLeaves};
 ghost use Rattle.recovery.specs.Masters.{HasOpenable, IsOpenable};
+ghost use Rattle.recovery.specs.Installed.{HasInstalled};
 ghost use Rattle.recovery.specs.Opened.{IsOpened, IsRecovered, IsRefusal, IsUntouched, IsWhole, Keeps};
 ghost use Rattle.disk_image.specs.Breaks.{IsDamaged};
 ghost use Rattle.recovery.specs.Telling.{TellsAll};
@@ -97,6 +99,8 @@ pub fn recover<D: Disk>(alloc: Global, disk: &mut D) -> Result<Recovered, Unreco
     ensures answer { IfOk result (λ r. TellsAll (D.story disk.old) → (m : Master) × IsOpenable m × IsRecovered m (areas_of (D.story disk.old)) r) }
     ensures opened { IfOk result (λ r. TellsAll (D.story disk.old) → (m : Master) → IsCleanDisk m (areas_of (D.story disk.old))
         → IsOpened m (areas_of (D.story disk.old)) r (D.story disk.new)) }
+    ensures installed { IfOk result (λ r. TellsAll (D.story disk.old) → (m : Master) → master_on (areas_of (D.story disk.old) 0) ≡ Some m
+        → HasInstalled m r (D.story disk.old) (D.story disk.new)) }
     ensures whole { IfOk result IsWhole }
     ensures logs { (a : ℕ) → 1 < a → IsUntouched ((D.story disk.old).area a) ((D.story disk.new).area a) }
     ensures others { (a : ℕ) → 2 < a → (D.story disk.new).area a ≡ (D.story disk.old).area a }

@@ -1,15 +1,15 @@
 use Rattle.std.proofs.Common.{◌^◌, ◌<◌, refl, subst, ◌∙◌}
 use Rattle.lean_disk.specs.Story.{Tells}
 use Rattle.disk_slots.specs.declared.master.Master.{Master}
-use Rattle.recovery.proofs.ClauseLemmas.{answers, opens, saved_moments, wholes, written_moments}
+use Rattle.recovery.proofs.ClauseLemmas.{answers, installs, opens, saved_moments, wholes, written_moments}
 use Rattle.recovery.proofs.opening.recover.Goals as goal
 
 pub returns-in_default-clause-any_moment : goal.returns-in_default-clause-any_moment
 returns-in_default-clause-any_moment g c m t clean =
     let story = g.D.Disk.story in
     let e = c.in-Ok.ensures in
-    saved_moments c.in-Ok.it e.readied (story c.args.disk.now) (story c.prepare.new.disk) 1 e.settles t e.settled (e.prepared t) m clean
-    (((g.met.D.Disk g.world.𝓛 g.world.𝓜 g.world.𝓡 ((λ s x. x), (λ x. x), (λ x. x), (λ x. x))).whole c.prepare.new.disk) 1)
+    saved_moments c.in-Ok.it e.readied (story c.args.disk.now) (story c.prepare.new.disk) 1 e.settles t e.settled (e.prepared t) m
+    (((g.met.D.Disk g.world.𝓛 g.world.𝓜 g.world.𝓡 ((λ s x. x), (λ x. x), (λ x. x), (λ x. x))).whole c.prepare.new.disk) 1) clean
     (story c.save_changed.new.disk) c.save_changed.result c.save_changed.ensures.saves
 
 pub returns-in_default-write_next-clause-any_moment : goal.returns-in_default-write_next-clause-any_moment
@@ -18,8 +18,8 @@ returns-in_default-write_next-clause-any_moment g c m t clean =
     let e = c.in-Ok.ensures in
     let next = c.next_master-master in
     let wide : c.in-Ok.it.base < 2 ^ 64 = subst (λ (k : Master). k.floor < 2 ^ 64) next.ensures.answer next.ensures.wide in
-    written_moments c.in-Ok.it e.readied (story c.args.disk.now) (story c.prepare.new.disk) 1 e.settles t e.settled (e.prepared t) m clean
-    (((g.met.D.Disk g.world.𝓛 g.world.𝓜 g.world.𝓡 ((λ s x. x), (λ x. x), (λ x. x), (λ x. x))).whole c.prepare.new.disk) 1)
+    written_moments c.in-Ok.it e.readied (story c.args.disk.now) (story c.prepare.new.disk) 1 e.settles t e.settled (e.prepared t) m
+    (((g.met.D.Disk g.world.𝓛 g.world.𝓜 g.world.𝓡 ((λ s x. x), (λ x. x), (λ x. x), (λ x. x))).whole c.prepare.new.disk) 1) clean
     (story c.save_changed.new.disk) c.save_changed.result c.save_changed.ensures.saves c.in-Done.is wide next.result next.ensures.answer (story c.write_next.new.disk) c.write_next.ensures.any_moment
 
 pub returns-clause-any_moment : goal.returns-clause-any_moment
@@ -28,8 +28,8 @@ returns-clause-any_moment g c m t clean =
     let e = c.in-Ok.ensures in
     let next = c.next_master-master in
     let wide : c.in-Ok.it.base < 2 ^ 64 = subst (λ (k : Master). k.floor < 2 ^ 64) next.ensures.answer next.ensures.wide in
-    written_moments c.in-Ok.it e.readied (story c.args.disk.now) (story c.prepare.new.disk) 1 e.settles t e.settled (e.prepared t) m clean
-    (((g.met.D.Disk g.world.𝓛 g.world.𝓜 g.world.𝓡 ((λ s x. x), (λ x. x), (λ x. x), (λ x. x))).whole c.prepare.new.disk) 1)
+    written_moments c.in-Ok.it e.readied (story c.args.disk.now) (story c.prepare.new.disk) 1 e.settles t e.settled (e.prepared t) m
+    (((g.met.D.Disk g.world.𝓛 g.world.𝓜 g.world.𝓡 ((λ s x. x), (λ x. x), (λ x. x), (λ x. x))).whole c.prepare.new.disk) 1) clean
     (story c.save_changed.new.disk) c.save_changed.result c.save_changed.ensures.saves c.in-Done.is wide next.result next.ensures.answer (story c.write_next.new.disk) c.write_next.ensures.any_moment
 
 pub returns-clause-opened : goal.returns-clause-opened
@@ -42,9 +42,20 @@ returns-clause-opened g c t m clean =
     let next = c.next_master-master in
     let wide : c.in-Ok.it.base < 2 ^ 64 = subst (λ (k : Master). k.floor < 2 ^ 64) next.ensures.answer next.ensures.wide in
     let told : Tells s6 0 = c.save_changed.ensures.frame.tells 0 ∙ (e.settles.tells 0 ∙ t.master) in
-    opens c.in-Ok.it e.readied s0 s4 1 e.settles t e.settled (e.prepared t) m clean
-    (((g.met.D.Disk g.world.𝓛 g.world.𝓜 g.world.𝓡 ((λ s x. x), (λ x. x), (λ x. x), (λ x. x))).whole c.prepare.new.disk) 1)
+    opens c.in-Ok.it e.readied s0 s4 1 e.settles t e.settled (e.prepared t) m
+    (((g.met.D.Disk g.world.𝓛 g.world.𝓜 g.world.𝓡 ((λ s x. x), (λ x. x), (λ x. x), (λ x. x))).whole c.prepare.new.disk) 1) clean
     s6 c.save_changed.result c.save_changed.ensures.saves c.in-Done.is wide next.result next.ensures.answer (story c.write_next.new.disk) c.write_next.ensures.frame (c.write_next.ensures.done (c.in-Done-write_next).is told) _ refl refl
+
+pub returns-clause-installed : goal.returns-clause-installed
+returns-clause-installed g c t m counts =
+    let story = g.D.Disk.story in
+    let s0 = story c.args.disk.now in
+    let s6 = story c.save_changed.new.disk in
+    let e = c.in-Ok.ensures in
+    let told : Tells s6 0 = c.save_changed.ensures.frame.tells 0 ∙ (e.settles.tells 0 ∙ t.master) in
+    installs c.in-Ok.it e.readied s0 (story c.prepare.new.disk) 1 e.settles t e.settled (e.prepared t) m
+    (((g.met.D.Disk g.world.𝓛 g.world.𝓜 g.world.𝓡 ((λ s x. x), (λ x. x), (λ x. x), (λ x. x))).whole c.prepare.new.disk) 1)
+    counts s6 c.save_changed.result c.save_changed.ensures.saves c.in-Done.is (story c.write_next.new.disk) c.write_next.ensures.frame _ (c.write_next.ensures.done (c.in-Done-write_next).is told)
 
 pub returns-clause-answer : goal.returns-clause-answer
 returns-clause-answer g c t =
