@@ -26,6 +26,7 @@ pub record HoldsPrefix (g : Opening) (s : State) (n : Master) (w : ℕ) (bytes :
   pub flushed : (r : Entry) → Has r (log_of w s.entries) → r.number ≤ s.flushed w → Has r left
   pub sealed : (x : ℕ) → Has x (sealed_in n.blocks bytes) → x ≤ n.generation
 
+-- so for some prefix
 pub record HoldsLog (g : Opening) (s : State) (n : Master) (w : ℕ) (bytes : List ℕ) : Type 0 where
   pub left : List Entry
   pub holds : HoldsPrefix g s n w bytes left
@@ -62,6 +63,7 @@ pub record IsMasterOf (g : Opening) (s : State) (n : Master) : Type 0 where
   pub logs : length n.heads ≡ g.workers
   pub floor : n.floor ≡ s.floor
 
+-- The bytes hold, by the master n, what a crash after the events es leaves: n counts and is the state's, and so is each log and each page.
 pub record HoldsRun (g : Opening) (es : List Event) (n : Master) (area : Areas) : Type 0 where
   pub master : master_on (area 0) ≡ Some n
   pub is : IsMasterOf g (state_after g es) n

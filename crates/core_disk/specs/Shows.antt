@@ -18,5 +18,6 @@ pub record Shows (g : Opening) (es : List Event) (n : Master) (area : Areas) : T
   pub agree : Agree (image_of g (state_after g es) logs page) (image_by n area)
   pub clean : IsCleanDisk n area
 
+-- Whatever run it was, a disk that holds what a crash of it left shows such a crash.
 abbrev pub EveryShown : Type 0
 EveryShown = (g : Opening) (es : List Event) (n : Master) (area : Areas) → HoldsRun g es n area → Shows g es n area

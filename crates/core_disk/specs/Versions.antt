@@ -12,6 +12,7 @@ use Rattle.core_disk.specs.Held.{IsVersion}
 abbrev pub then : List Event → Event → List Event
 then es e = es ++ e ∷ []
 
+-- the event is a cut
 abbrev pub is_cut : Event → Bool
 is_cut (Event.Cut x heads) = true
 is_cut _ = false
@@ -20,6 +21,7 @@ is_cut _ = false
 abbrev pub HasUpTo : Opening → List Event → (p x : ℕ) → Contents → Type 0
 HasUpTo g es p x v = (r : Entry) → Has r (state_after g es).entries → touches p r ≡ true → r.number ≤ x → r.number ≤ v.gsn
 
+-- What may be left of page p after es, and what of it may still be left after one event more.
 pub record VersionLaws (g : Opening) (es : List Event) (p : ℕ) : Type 0 where
   -- the saved contents are one, and so are the contents where they may be saved
   pub saved : IsVersion g es p ((state_after g es).saved p)
@@ -32,5 +34,6 @@ pub record VersionLaws (g : Opening) (es : List Event) (p : ℕ) : Type 0 where
   -- what has the changes up to a number that is flushed everywhere has them from then on
   pub covered : (e : Event) (x : ℕ) (v : Contents) → x ≤ flushed_by_all g (state_after g es) → HasUpTo g es p x v → HasUpTo g (then es e) p x v
 
+-- in each run, of each page
 abbrev pub EveryVersion : Type 0
 EveryVersion = (g : Opening) (es : List Event) (p : ℕ) → VersionLaws g es p
