@@ -1,0 +1,2 @@
+pub mod FirmLemmas
+pub mod StartLemmas

@@ -1,0 +1,2 @@
+-- Read Starts.
+pub mod Starts
