@@ -3,9 +3,10 @@ use Rattle.std.specs.Prelude.{◌≡◌, ◌<◌, ◌≤◌, ℕ, suc, length, S
 use Rattle.lean_disk.specs.Story.{Story, Tells}
 use Rattle.disk_slots.specs.declared.master.Master.{Master}
 use Rattle.disk_image.specs.MasterSlots.{master_on}
+use Rattle.recovery.specs.Masters.{IsOpenable}
 
--- it tells of the areas of the master, of the pages, and of each log of the master that counts
+-- it tells of the areas of the master and of the pages, and, if the master that counts is one by which disks are opened, of each of its logs
 pub record TellsAll (s : Story) : Type 0 where
   pub master : Tells s 0
   pub pages : Tells s 1
-  pub logs : (m : Master) → master_on (s.area 0).bytes ≡ Some m → (w : ℕ) → 0 < w → w ≤ length m.heads → Tells s (suc w)
+  pub logs : (m : Master) → master_on (s.area 0).bytes ≡ Some m → IsOpenable m → (w : ℕ) → 0 < w → w ≤ length m.heads → Tells s (suc w)
