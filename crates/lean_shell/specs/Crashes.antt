@@ -10,7 +10,7 @@ use Rattle.recovery.specs.Telling.{TellsAll}
 use Rattle.transcripts.specs.Transcripts.{IsQuiet, first_lines}
 use Rattle.lean_shell.specs.Starts.{IsLeft}
 
--- It tells of the areas of the master, of the pages and of each log that there is and, with none of them split off, of crashes.
+-- It tells of the areas that an opening asks for and, with none of them split off, of crashes.
 pub record TellsCrashes (s : Story) : Type 0 where
   pub all : TellsAll s
   pub counts : IsTrue s.counts

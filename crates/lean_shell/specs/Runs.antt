@@ -30,7 +30,8 @@ use Rattle.script_run.specs.declared.stop.Stop.TheVariants as stops
 use Rattle.lean_shell.specs.Crashes.{IsYoung, TellsCrashes, as_read}
 use Rattle.lean_shell.specs.Headline.{Survives}
 use Rattle.lean_shell.specs.Lines.{line_of, WentOut}
-use Rattle.lean_shell.specs.Starts.{IsLeft, IsStartOf}
+use Rattle.lean_shell.specs.Starts.{IsLeft}
+use Rattle.recovery.specs.Starts.{IsStartOf}
 
 -- ## A disk that was not opened
 

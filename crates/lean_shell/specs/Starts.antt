@@ -1,29 +1,20 @@
--- The start that a disk gives to a run, and what stands of the run's calls on the disk that it leaves.
-use Rattle.std.specs.Prelude.{◌≡◌, ◌⊎◌, ◌++◌, ◌+◌, ◌<◌, ℕ, List, ◌∷◌, length, Some}
+-- What stands of a run's calls on the disk that it leaves.
+use Rattle.std.specs.Prelude.{◌≡◌, ◌⊎◌, ◌++◌, ◌+◌, ◌<◌, ℕ, List, ◌∷◌, Some}
 use Rattle.image_model.specs.Entries.{Entry}
-use Rattle.image_model.specs.Images.{found, recovered_page}
+use Rattle.image_model.specs.Images.{found}
 use Rattle.image_model.specs.Slots.{base_of}
 use Rattle.lean_disk.specs.Story.{Crash, Story, areas_of}
 use Rattle.disk_slots.specs.declared.master.Master.{Master}
-use Rattle.disk_image.specs.Formats.{format_of}
 use Rattle.disk_image.specs.MasterSlots.{master_on}
-use Rattle.disk_image.specs.Shown.{Areas, image_by, shown_by}
+use Rattle.disk_image.specs.Shown.{image_by, shown_by}
 use Rattle.recovery.specs.Crashes.{IsNextOf}
-use Rattle.recovery.specs.Opened.{IsGreatest}
+use Rattle.recovery.specs.Starts.{IsStartOf}
 use Rattle.core_state.specs.Openings.{Opening, start_page}
 use Rattle.map_model.specs.declared.call.Answered.{Answered}
 use Rattle.session_model.specs.Calls.{Runs}
 use Rattle.session_model.specs.Sessions.{Session}
 use Rattle.map_model.specs.Pairings.{in_turn}
 use Rattle.transcripts.specs.Transcripts.{first_lines, transcript}
-
--- The opening is the start that a disk gives by its master: its format and logs, the pages that recovery of its image gives, and the greatest number
--- there as base number.
-pub record IsStartOf (m : Master) (area : Areas) (g : Opening) : Type 0 where
-  pub format : g.format ≡ format_of m.pages
-  pub logs : g.workers ≡ length m.heads
-  pub base : IsGreatest (image_by m area) g.base
-  pub pages : (p : ℕ) → p < m.pages → start_page g p ≡ recovered_page (image_by m area) p
 
 -- By the next master each page's base is the start's, and the records are the oldest of those that some calls log from there: the calls of which the
 -- lines that were out tell, and at most one more.

@@ -25,6 +25,7 @@ use Rattle.disk_slots.specs.declared.master.Master.{Master}
 use Rattle.disk_image.specs.Laws.{EveryAgreement, EverySealed}
 use Rattle.disk_image.specs.Shown.{DiskStandsFor, IsCleanDisk, image_by}
 use Rattle.recovery.specs.Crashes.{RecoveryLeaves}
+use Rattle.recovery.specs.Masters.{IsOpenable}
 use Rattle.recovery.specs.Opened.{Keeps}
 use Rattle.recovery.specs.Telling.{TellsAll}
 use Rattle.core_state.specs.Openings.{first_map}
@@ -58,7 +59,8 @@ use Rattle.lean_shell.specs.Ends.{RunEnds}
 use Rattle.lean_shell.specs.Inside.Openings.{EndsWith, HasOpened, Rests, counts_of}
 use Rattle.lean_shell.specs.Lines.{IsPut}
 use Rattle.lean_shell.specs.Runs.{ended, first_line}
-use Rattle.lean_shell.specs.Starts.{IsLeft, IsStartOf}
+use Rattle.lean_shell.specs.Starts.{IsLeft}
+use Rattle.recovery.specs.Starts.{IsStartOf}
 use Rattle.lean_shell.specs.declared.opening.Opened.{Opened}
 use Rattle.lean_shell.proofs.Runs.LastLemmas.{Last, last_of}
 use Rattle.lean_shell.proofs.Runs.MomentLemmas.{line_moments, put_moments, same_but, then, was_then}
@@ -210,11 +212,15 @@ module _ (laws : EverySession) (tells_law : EveryInTurn) (moment_law : EveryMome
     abbrev rests : Rests m s0 sa o.g op.engine.log
     rests = o.rests m all.all clean
 
-    starts : IsStartOf m (areas_of s0) o.g
-    starts = let f = o.from all.all in subst (λ (x : Master). IsStartOf x (areas_of s0) o.g) (one_master (sym f.sound.master ∙ clean.master)) f.starts
+    -- the disk was opened by the master of the clean disk
+    opened_by : (P : Master → Type 0) → P (o.from all.all).m → P m
+    opened_by P p = subst P (one_master (sym (o.from all.all).sound.master ∙ clean.master)) p
       where
         one_master : {x y : Master} → Some x ≡ Some y → x ≡ y
         one_master e = cc
+
+    starts : IsStartOf m (areas_of s0) o.g
+    starts = opened_by (λ (x : Master). IsStartOf x (areas_of s0) o.g) (o.from all.all).starts
 
     abbrev P : Crash → Type 0
     P = LivesOn m s0 input put
@@ -224,7 +230,7 @@ module _ (laws : EverySession) (tells_law : EveryInTurn) (moment_law : EveryMome
 
     -- it tells of its one log
     told_log : Tells s0 2
-    told_log = all.all.logs m clean.master 1 (omega arith) (let one = survive.one_log m s0 sa o.g op.engine.log rests in omega arith)
+    told_log = all.all.logs m clean.master (opened_by IsOpenable (o.from all.all).openable) 1 (omega arith) (let one = survive.one_log m s0 sa o.g op.engine.log rests in omega arith)
 
     told_b : (a : ℕ) → sb.tells a ≡ s0.tells a
     told_b a = noted.tells a ∙ keeps.tells a

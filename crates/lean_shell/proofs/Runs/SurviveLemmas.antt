@@ -50,7 +50,8 @@ use Rattle.disk_image.specs.MasterSlots.{master_on}
 use Rattle.map_model.specs.declared.call.Call.{Call}
 use Rattle.map_model.specs.declared.call.Answer.{Answer}
 use Rattle.lean_shell.specs.Inside.Openings.{IsPrefix, Rests}
-use Rattle.lean_shell.specs.Starts.{IsLeft, IsStartOf}
+use Rattle.lean_shell.specs.Starts.{IsLeft}
+use Rattle.recovery.specs.Starts.{IsStartOf}
 use Rattle.image_model.specs.Slots.{base_of}
 use Rattle.lean_shell.proofs.Runs.ImageLemmas as image
 use Rattle.lean_shell.proofs.Runs.BoundLemmas.{IsBounded, bounded}
