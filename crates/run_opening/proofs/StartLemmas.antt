@@ -22,7 +22,7 @@ use Rattle.disk_image.specs.Shown.{head_of, image_by, page_slot_in, slot_of}
 use Rattle.disk_image.proofs.MasterSlotLemmas.{every_master_in}
 use Rattle.disk_image.proofs.PageSlotLemmas.{every_page_in}
 use Rattle.page_store.specs.Bases.{image_page}
-use Rattle.page_store.specs.Saved.{Save, IsSpared, place_of, write_of}
+use Rattle.page_store.specs.Saved.{Save, place_of, write_of}
 use Rattle.page_store.proofs.PieceLemmas.{same_page}
 use Rattle.master_store.proofs.SlotLemmas as slots
 use Rattle.worker_log.specs.Logs.{Log}
@@ -33,7 +33,7 @@ use Rattle.disk_runs.specs.Fair.{IsAsRead}
 use Rattle.disk_runs.specs.Masters as masters
 use Rattle.disk_runs.specs.Masters.{MasterStands}
 use Rattle.disk_runs.specs.Openings.{EveryOpened, MayBe, Opens, OpensLog, OpensPages}
-use Rattle.disk_runs.specs.Pages.{Firm, IsBehind, IsNoOlder, Yields}
+use Rattle.disk_runs.specs.Pages.{Firm, IsBehind, Yields}
 use Rattle.disk_runs.proofs.PageLemmas.{slotted}
 use Rattle.disk_runs.proofs.SlotLemmas.{master_own, own_more, saves_own}
 use Rattle.run_opening.specs.Starts.{EveryStart, IsStart, Starts, empty_log}
@@ -127,6 +127,16 @@ module _ (s0 s : Story) (m : Master) (r : Recovered) (g : Opening) (log : ℕ �
   start_of : (p : ℕ) → p < m.pages → image_page (firm p).page ≡ start_page g p
   start_of p lt = (count p lt).is ∙ sym (is.opening.pages p lt)
 
+  -- what stands in a slot now
+  now_may : (p i : ℕ) → p < m.pages → i < 2 → (y : Page) → page_slot_in m.pages p i bytes ≡ Some y → MayBe g n.generation p (firm p) y
+  now_may p i lt half y e = record {
+    generation_is = low p i lt half y e;
+    is = ⊎_elim
+        (λ (one : (firm p).page ≡ y). inr ((let a = ap (λ (z : Page). z.generation) one in omega arith, let a = ap (λ (z : Page). z.gsn) one in omega arith), ap image_page (sym one) ∙ start_of p lt))
+        (λ yields. inl yields)
+        (read_of p i lt half y e);
+  }
+
   -- a recovered page under the next generation
   recovered_may : (p : ℕ) → p < m.pages → (y : Page) → y.generation ≡ suc m.generation → image_page y ≡ recovered_is p → MayBe g n.generation p (firm p) y
   recovered_may p lt y own same = record {
@@ -140,16 +150,15 @@ module _ (s0 s : Story) (m : Master) (r : Recovered) (g : Opening) (log : ℕ �
     );
   }
 
-  -- what stood there at first, under an earlier generation
-  earlier_may : (p i : ℕ) → p < m.pages → i < 2 → (y : Page) → page_slot_in m.pages p i (areas_of s0 1) ≡ Some y → y.generation ≤ m.generation → MayBe g n.generation p (firm p) y
-  earlier_may p i lt half y e least = record { generation_is = let q = generation in omega arith; is = ⊎_elim kept_so over (find_save p i is.installed.saves) }
-    where
-      kept_so : IsSpared p i is.installed.saves → Yields (firm p) y ⊎ (IsNoOlder y (firm p).page × (image_page y ≡ start_page g p))
-      kept_so spared = ⊎_elim
-          (λ (one : (firm p).page ≡ y). inr ((let a = ap (λ (z : Page). z.generation) one in omega arith, let a = ap (λ (z : Page). z.gsn) one in omega arith), ap image_page (sym one) ∙ start_of p lt))
-          (λ yields. inl yields)
-          (read_of p i lt half y (is.installed.holds.other p i half spared ∙ e))
+  -- one that was saved stands there now
+  saved_there : (x : Save) → Has x is.installed.saves → (p i : ℕ) → x.page ≡ p → x.slot ≡ i → page_slot_in m.pages p i bytes ≡ Some x.node
+  saved_there x has p i page slot = subst (λ (k : ℕ). page_slot_in m.pages p k bytes ≡ Some x.node) slot
+      (subst (λ (k : ℕ). page_slot_in m.pages k x.slot bytes ≡ Some x.node) page (is.installed.holds.one is.installed.apart x has))
 
+  -- what stood there at first under an earlier generation stands there still, or one of the next generation does
+  earlier_may : (p i : ℕ) → p < m.pages → i < 2 → (y : Page) → page_slot_in m.pages p i (areas_of s0 1) ≡ Some y → y.generation ≤ m.generation → MayBe g n.generation p (firm p) y
+  earlier_may p i lt half y e least = ⊎_elim (λ spared. now_may p i lt half y (is.installed.holds.other p i half spared ∙ e)) over (find_save p i is.installed.saves)
+    where
       newest : (x : Page) → x.generation ≡ suc m.generation → page_slot_in m.pages p i bytes ≡ Some x → IsBehind y (firm p).page
       newest x own q = ⊎_elim
           (λ (one : (firm p).page ≡ x). inl (let a = ap (λ (z : Page). z.generation) one in omega arith))
@@ -159,11 +168,8 @@ module _ (s0 s : Story) (m : Master) (r : Recovered) (g : Opening) (log : ℕ �
           yields)
           (read_of p i lt half x q)
 
-      over : (x : Save) × Has x is.installed.saves × (x.page ≡ p) × (x.slot ≡ i) → Yields (firm p) y ⊎ (IsNoOlder y (firm p).page × (image_page y ≡ start_page g p))
-      over f =
-          let x : Save = f.0 in
-          let there : page_slot_in m.pages x.page x.slot bytes ≡ Some x.node = is.installed.holds.one is.installed.apart x f.1 in
-          inl (inl (newest x.node (is.installed.own x f.1).generation (subst (λ (k : ℕ). page_slot_in m.pages p k bytes ≡ Some x.node) f.3 (subst (λ (k : ℕ). page_slot_in m.pages k x.slot bytes ≡ Some x.node) f.2 there))))
+      over : (x : Save) × Has x is.installed.saves × (x.page ≡ p) × (x.slot ≡ i) → MayBe g n.generation p (firm p) y
+      over f = record { generation_is = let q = generation in omega arith; is = inl (inl (newest f.0.node (is.installed.own f.0 f.1).generation (saved_there f.0 f.1 p i f.2 f.3))) }
 
   old_may : (p i : ℕ) (y : Page) → p < m.pages → i < 2 → page_slot_in m.pages p i (areas_of s0 1) ≡ Some y → MayBe g n.generation p (firm p) y
   old_may p i y lt half e = ⊎_elim
@@ -173,19 +179,15 @@ module _ (s0 s : Story) (m : Master) (r : Recovered) (g : Opening) (log : ℕ �
 
   new_may : (p i : ℕ) (b : List ℕ) (y : Page) → p < m.pages → i < 2 → Has (place_of p i, b) (map write_of is.installed.saves) → page_in p m.pages b ≡ Some y → MayBe g n.generation p (firm p) y
   new_may p i b y lt half has e =
-      let w : Write = (place_of p i, b) in
-      let f = wrote_save is.installed.saves w has in
+      let f = wrote_save is.installed.saves (place_of p i, b) has in
       let x : Save = f.0 in
       let stored = is.installed.are x f.1 in
       let places : place_of p i ≡ place_of x.page x.slot = ap (λ (z : Write). z.0) f.2 in
       let same = same_page p i x.page x.slot half stored.half (omega arith) in
-      let page : x.page ≡ p = same.0 in
       let spelled : b ≡ page_slot x.node = ap (λ (z : Write). z.1) f.2 in
       let there : page_in x.page m.pages (page_slot x.node) ≡ Some x.node = (every_page_in x.page m.pages (page_slot x.node) x.node).1 (record { holds = stored.stored; spelled = refl }) in
-      let read : page_in x.page m.pages (page_slot x.node) ≡ Some y = subst (λ (v : List ℕ). page_in x.page m.pages v ≡ Some y) spelled (subst (λ (k : ℕ). page_in k m.pages b ≡ Some y) (sym page) e) in
-      let one : x.node ≡ y = same_Some x.node y (sym there ∙ read) in
-      let own = is.installed.own x f.1 in
-      recovered_may p lt y (ap (λ (z : Page). z.generation) (sym one) ∙ own.generation) (ap image_page (sym one) ∙ (own.page_is ∙ ap recovered_is page))
+      let read : page_in x.page m.pages (page_slot x.node) ≡ Some y = subst (λ (v : List ℕ). page_in x.page m.pages v ≡ Some y) spelled (subst (λ (k : ℕ). page_in k m.pages b ≡ Some y) (sym same.0) e) in
+      now_may p i lt half y (saved_there x f.1 p i same.0 same.1 ∙ (sym there ∙ read))
 
   opens_pages : OpensPages g m.pages n.generation (areas_of s0 1) (s0.area 1).writes firm (s.area 1)
   opens_pages = record {
