@@ -20,7 +20,7 @@ use Rattle.run_tests.specs.Laws.{EveryNextRun, IsCutOff, IsOfMap, IsReadyAgain}
 -- a disk that begins tells of crashes
 tells_crashes : EveryArea → (d : MemDisk) (areas : ℕ) (bytes : Areas) → Begins areas bytes (disk_story d) → TellsCrashes (disk_story d)
 tells_crashes tells d areas bytes b = record {
-  all = record { master = tells d 0 b.counts; pages = tells d 1 b.counts; logs = λ m master w some last. tells d (suc w) b.counts };
+  all = record { master = tells d 0 b.counts; pages = tells d 1 b.counts; logs = λ m master openable w some last. tells d (suc w) b.counts };
   counts = b.counts;
 }
 
