@@ -34,7 +34,7 @@ begins_more bytes more at n r b =
     }
 
 pub stands_more : (bytes more : List ℕ) (s : Spot) → Stands bytes s → Stands (bytes ++ more) s
-stands_more bytes more s st = record { is = st.is; begins = begins_more bytes more s.at (length (record_text st.is)) st.is st.begins; number = st.number; txn = st.txn; kind = st.kind }
+stands_more bytes more s st = record { is = st.is; begins = begins_more bytes more s.at (length (record_text st.is)) st.is st.begins; number = st.number; kind = st.kind }
 
 pub item_said : (bytes : List ℕ) (s : Spot) (st : Stands bytes s) → item_at bytes s ≡ item_of s.log s.place st.is
 item_said bytes s st = ap (item_of s.log s.place) (said_is bytes s.at st.is st.begins)
@@ -65,7 +65,7 @@ stand_of : (log place : ℕ) (bytes : List ℕ) (at : ℕ) (rs : List Record) �
 stand_of log place bytes at [] fit e = All-nil (Stands bytes)
 stand_of log place bytes at (r ∷ rs) fit e =
     All-cons (Stands bytes) (spot_of log place at r) (spots_of log place (at + length (record_text r)) rs)
-    (record { is = r; begins = first_begins bytes at r (records_text rs) fit.0 e; number = refl; txn = refl; kind = refl })
+    (record { is = r; begins = first_begins bytes at r (records_text rs) fit.0 e; number = refl; kind = refl })
     (stand_of log place bytes (at + length (record_text r)) rs fit.1 (behind_one bytes at r (records_text rs) e))
 
 items_stand : (log place : ℕ) (bytes : List ℕ) (at : ℕ) (rs : List Record) → AllFit rs → drop at bytes ≡ records_text rs → items_at bytes (spots_of log place at rs) ≡ items_of log place rs
@@ -116,6 +116,7 @@ item_there bytes spots i s l e d = get_or-map (item_at bytes) spots i s d l ∙ 
 pub stands_there : (bytes : List ℕ) (spots : List Spot) (i : ℕ) (s : Spot) → All (Stands bytes) spots → i < length spots → s ≡ get_or spots i s → Stands bytes s
 stands_there bytes spots i s all l e = subst (Stands bytes) (sym e) (All-get_or (Stands bytes) spots i s l all)
 
-pub head_there : (bytes : List ℕ) (s : Spot) → Stands bytes s → head_of (item_at bytes s) ≡ record { number = s.number; txn = s.txn; log = s.log; place = s.place; kind = s.kind }
-head_there bytes s st =
-    ap head_of (item_said bytes s st) ∙ λ i. record { number = sym st.number i; txn = sym st.txn i; log = s.log; place = s.place; kind = sym st.kind i }
+pub head_there : (bytes : List ℕ) (s : Spot) (txn : ℕ) (st : Stands bytes s) → txn ≡ st.is.txn
+    → head_of (item_at bytes s) ≡ record { number = s.number; txn = txn; log = s.log; place = s.place; kind = s.kind }
+head_there bytes s txn st t =
+    ap head_of (item_said bytes s st) ∙ λ i. record { number = sym st.number i; txn = sym t i; log = s.log; place = s.place; kind = sym st.kind i }

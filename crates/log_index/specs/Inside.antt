@@ -21,16 +21,15 @@ item_at bytes s = record { log = s.log; place = s.place; said = said_at bytes s.
 abbrev pub items_at : List ℕ → List Spot → List Item
 items_at bytes spots = map (item_at bytes) spots
 
--- at the spot stands a record, whose number, transaction and kind are the spot's
+-- at the spot stands a record, whose number and kind are the spot's
 pub record Stands (bytes : List ℕ) (s : Spot) : Type 0 where
   pub is : Record
   pub begins : Begins (drop s.at bytes) is (length (record_text is))
   pub number : s.number ≡ is.gsn
-  pub txn : s.txn ≡ is.txn
   pub kind : s.kind ≡ kind_of is.body
 
 abbrev pub spot_of : (log place at : ℕ) → Record → Spot
-spot_of log place at r = record { number = r.gsn; txn = r.txn; at = at; place = place; log = log; kind = kind_of r.body }
+spot_of log place at r = record { number = r.gsn; at = at; place = place; log = log; kind = kind_of r.body }
 
 -- the spots of records that stand one behind another, from a place on
 abbrev pub spots_of : (log place at : ℕ) → List Record → List Spot
