@@ -11,4 +11,5 @@ pub mod Runs
 pub mod Debts
 pub mod Says
 pub mod RiseLemmas
+pub mod FloorLemmas
 pub mod HolderLemmas

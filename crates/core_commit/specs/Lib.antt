@@ -1,3 +1,4 @@
 pub mod Debts
 pub mod Rises
+pub mod Floors
 pub mod Holders

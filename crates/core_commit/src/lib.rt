@@ -6,6 +6,7 @@
 
 ghost use Rattle.core_commit.specs.Debts.{EveryNeed, EveryDebt};
 ghost use Rattle.core_commit.specs.Rises.{EveryRise};
+ghost use Rattle.core_commit.specs.Floors.{EveryFloor};
 ghost use Rattle.core_commit.specs.Holders.{EveryHolder};
 
 /// An end needs the greatest number of another log that its worker ever touched, was remote then, and is above what the
@@ -23,6 +24,12 @@ pub fn every_debt()
 /// Flushed numbers, clocks, last ends, heads, floors and epochs never fall.
 pub fn every_rise()
     ensures { EveryRise }
+{}
+
+/// Each log is flushed up to each worker's floor, which is what the worker found flushed everywhere when its last transaction
+/// began; and floors never fall.
+pub fn every_floor()
+    ensures { EveryFloor }
 {}
 
 /// Whoever holds a lock row, alone or with others, is one of the workers; a row that is held alone has no readers.
