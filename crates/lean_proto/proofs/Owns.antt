@@ -78,7 +78,7 @@ module _ (g : Opening) (s : State) (w j : ℕ) (h : is_held_by (s.row j).holder 
       go (c ∷ cs) = h
   held_on _ ne ok = h
 
-none_of : (a : ℕ) (e : Event) (es : List Event) → by a (e ∷ es) ≡ [] → (actor_of e ≢ a) × (by a es ≡ [])
+pub none_of : (a : ℕ) (e : Event) (es : List Event) → by a (e ∷ es) ≡ [] → (actor_of e ≢ a) × (by a es ≡ [])
 none_of a e es h = at (actor_of e == a) refl h
   where
     at : (b : Bool) → (actor_of e == a) ≡ b → cond b (e ∷ by a es) (by a es) ≡ [] → (actor_of e ≢ a) × (by a es ≡ [])

@@ -6,6 +6,7 @@ pub mod new;
 pub mod over;
 
 ghost use Rattle.lean_proto.specs.Changes.{EveryChange};
+ghost use Rattle.lean_proto.specs.Controls.{EveryBegin, EveryTurn};
 ghost use Rattle.lean_proto.specs.Kept.{EveryKept};
 ghost use Rattle.lean_proto.specs.Ready.{EveryReady};
 
@@ -27,4 +28,16 @@ pub fn every_change()
 /// what a change needs can be shown before a descent and used after it.
 pub fn every_kept()
     ensures { EveryKept }
+{}
+
+/// A worker that is closed may begin at the load of what a log is flushed up to, with a floor up to which each log is flushed then. The
+/// need is met at that moment, and behind it the worker's record is that of one that began, whatever others do.
+pub fn every_begin()
+    ensures { EveryBegin }
+{}
+
+/// A worker may store the number of its end, and up to which number its log is flushed, where the need of the end or of the flush is met
+/// at the state that its seat has seen. Whatever others did meanwhile, the need is met still, and the event makes of the word that number.
+pub fn every_turn()
+    ensures { EveryTurn }
 {}
