@@ -11,6 +11,7 @@ use Rattle.core_state.specs.Events as happening
 use Rattle.core_state.specs.Needs.{is_worker, may, may_put_back}
 use Rattle.core_state.specs.Steps.{happens, follows, put_back}
 use Rattle.core_state.specs.Steps as steps
+use Rattle.core_state.proofs.Runs.{run_more}
 use Rattle.core_paging.specs.Paging.{Residence}
 use Rattle.core_commit.specs.Holders.{HeldByWorkers}
 use Rattle.core_commit.proofs.HolderLemmas as commit
@@ -25,7 +26,7 @@ use Rattle.row_words.specs.Moments as moments
 use Rattle.row_words.specs.Openings as rows
 use Rattle.row_words.specs.Sealed.{begun, stepped, run}
 use Rattle.rows_trait.specs.Views.{after_all}
-use Rattle.row_opening.specs.Openings.{Opens, Opened, EveryOpened}
+use Rattle.row_opening.specs.Openings.{Opens, Opened, EveryOpened, EveryReached}
 
 -- what a step reads
 record Sizes : Type 0 where
@@ -128,15 +129,11 @@ module _ (x : Opening) (v : Given) (o : Opens x v) where
   before [] m = refl
   before (e ∷ es) m = before es (moments.step (rows.opening v) m e) ∙ ap (λ s. steps.run x s (events_of es)) (sym (of_sizes x (rows.opening v) m.core (event_of e) sizes_same))
 
-  run_more : (s : State) (es fs : List happening.Event) → steps.run x (steps.run x s es) fs ≡ steps.run x s (es ++ fs)
-  run_more s [] fs = refl
-  run_more s (e ∷ es) fs = run_more (steps.step x s e) es fs
-
-  reached : (es : List Event) → (after_all v es).core ≡ steps.run x (start x) (events_of v.before ++ events_of es)
+  pub reached : (es : List Event) → (after_all v es).core ≡ steps.run x (start x) (events_of v.before ++ events_of es)
   unfolding begun
   reached es = runs es (first_moment (rows.opening v) v)
       ∙ (ap (λ s. steps.run x s (events_of es)) (before v.before (record { core = first_state v; answer = λ q. 0 }) ∙ ap (λ s. steps.run x s (events_of v.before)) (sym o.first))
-      ∙ run_more (start x) (events_of v.before) (events_of es))
+      ∙ sym (run_more x (start x) (events_of v.before) (events_of es)))
 
   residence : (s : State) → Residence x s → Residence (rows.opening v) s
   residence s r = record {
@@ -168,3 +165,6 @@ module _ (x : Opening) (v : Given) (o : Opens x v) where
 
 pub every_opened : EveryOpened
 every_opened x v o = opened x v o
+
+pub every_reached : EveryReached
+every_reached x v o = reached x v o

@@ -1,13 +1,14 @@
 -- Rows that begin as an opening gives them.
-use Rattle.std.specs.Prelude.{◌≡◌, ◌≤◌, ℕ, List}
+use Rattle.std.specs.Prelude.{◌≡◌, ◌≤◌, ℕ, List, ◌++◌}
 use Rattle.page_model.specs.Tree.{IsTree}
 use Rattle.core_state.specs.Openings.{Opening}
 use Rattle.core_state.specs.States.{nodes_of, start}
+use Rattle.core_state.specs.Steps.{state_after}
 use Rattle.core_commit.specs.Holders.{HeldByWorkers}
 use Rattle.core_paging.specs.Paging.{Residence}
 use Rattle.row_words.specs.declared.event.Event.{Event}
 use Rattle.row_words.specs.declared.given.Given.{Given}
-use Rattle.row_words.specs.Moments.{first_state}
+use Rattle.row_words.specs.Moments.{first_state, events_of}
 use Rattle.row_words.specs.Openings as rows
 use Rattle.rows_trait.specs.Views.{after_all}
 
@@ -34,3 +35,7 @@ pub record Opened (v : Given) (es : List Event) : Type 0 where
 -- so it is after every list of events
 abbrev pub EveryOpened : Type 0
 EveryOpened = (x : Opening) (v : Given) → Opens x v → (es : List Event) → Opened v es
+
+-- The state that rows come to is the core's own, after what happened before the rows began and what happened on them.
+abbrev pub EveryReached : Type 0
+EveryReached = (x : Opening) (v : Given) → Opens x v → (es : List Event) → (after_all v es).core ≡ state_after x (events_of v.before ++ events_of es)

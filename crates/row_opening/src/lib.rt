@@ -1,11 +1,17 @@
 //! Rows that begin as an opening gives them: the laws of the core hold of each moment of such rows.
 #![tactic(auto)]
 
-ghost use Rattle.row_opening.specs.Openings.{EveryOpened};
+ghost use Rattle.row_opening.specs.Openings.{EveryOpened, EveryReached};
 
 /// After every list of events the pages are a tree, and where pages stand in frames is in order: one page a frame, the root hot,
 /// the parent of a hot page hot; each page's last log is at most the number of workers; whoever holds a lock row is a worker, and a
 /// row that is held alone has no readers.
 pub fn every_opened()
     ensures { EveryOpened }
+{}
+
+/// The state that rows come to is the core's own after the same events, those before the rows began first. So each law of the core
+/// over every list of events is one of rows.
+pub fn every_reached()
+    ensures { EveryReached }
 {}
