@@ -1,30 +1,24 @@
 -- What the calls of sessions owe to the calls that they make, and how sessions stand after these.
-use Rattle.std.proofs.Common.{inl, inr, ◌-◌, ltb, ◌≡◌, ◌<◌, ◌≤◌, ◌+◌, ◌^◌, ◌==◌, ℕ, zero, suc, Bool, true, false, List, [], ◌∷◌, ◌++◌, refl, sym, ap, subst, ◌∙◌, arith, append-nil}
-use Rattle.std.proofs.lemmas.Bool.{and_left, and_right, ne_eqb, cases_eq}
-use Rattle.std.specs.Prelude.{slice_set, if◌then◌else◌}
-use Rattle.core_state.specs.Local.{publishes_row}
-use Rattle.row_words.specs.Words.{publishes_frame}
-use Rattle.core_state.specs.Needs.{may}
+use Rattle.std.proofs.Common.{refl, ◌≡◌, ◌<◌, ◌≤◌, ◌+◌, ◌^◌, ltb, ℕ, suc, true, false, List, [], ◌∷◌, sym, ap, subst, ◌∙◌, arith, true≢false}
+use Rattle.std.proofs.lemmas.Bool.{and_from, lt-ltb, le-leb}
+use Rattle.std.specs.Prelude.{slice_set}
 use Rattle.core_state.specs.Steps as core
-use Rattle.row_words.specs.declared.event.Event.{Event}
 use Rattle.row_words.specs.declared.event.Event.TheVariants as told
-use Rattle.row_words.specs.declared.given.Given.{Given}
-use Rattle.row_words.specs.Moments.{Moment, event_of}
 use Rattle.row_words.specs.Openings.{opening}
-use Rattle.row_words.specs.Sealed.{begun, stepped, changes, heard, sets}
-use Rattle.row_words.proofs.SealedLemmas.{run_append, silent_changes, silent_sets}
+use Rattle.row_words.proofs.SealedLemmas.{silent_sets}
 use Rattle.rows_trait.specs.declared.view.View.{View}
-use Rattle.rows_trait.specs.Views.{Shape, AreSilent, after_all, state, AreApart}
+use Rattle.rows_trait.specs.Views.{Shape, state}
 use Rattle.rows_trait.specs.Views as views
-use Rattle.rows_trait.specs.Turns.{Goes, MayTurn}
+use Rattle.rows_trait.specs.Turns.{Heard, MayTurn, Turned}
+use Rattle.lean_proto.specs.Controls.{IsBegin, IsEnd}
+use Rattle.lean_proto.proofs.Turning.{every_begin, every_turn, end_sets}
 use Rattle.btree_descent.specs.declared.descent.Answer.{Answer}
 use Rattle.btree_descent.specs.declared.descent.Answer.TheVariants as answer
 use Rattle.btree_descent.specs.Known.{said}
 use Rattle.btree_descent.specs.Descents.{Went}
 use Rattle.row_sessions.specs.declared.session.Session.{Session}
 use Rattle.row_sessions.specs.Standing.{IsOf, session_at, AreSessions}
-use Rattle.row_sessions.proofs.Cores.{may_begin, may_end, upd_here}
-use Rattle.row_sessions.proofs.Standings.{ran_state, goes_state, met_core, miss_same, read_same, sessions_own}
+use Rattle.row_sessions.proofs.Standings.{ran_state, goes_state, miss_same, read_same, sessions_own}
 
 -- ## A find of the main actor
 
@@ -34,34 +28,11 @@ went_core key v w (answer.Cold page) closed d = (d.ran.given, ap (λ m. m.core) 
 went_core key v w (answer.Moved m) closed r = (r.given, ap (λ m. m.core) (ran_state v w _ r) ∙ miss_same v.given (state v) 0)
 went_core key v w (answer.Latched l) closed r = (r.given, ap (λ m. m.core) (ran_state v w _ r) ∙ miss_same v.given (state v) 0)
 
--- ## A begin
+-- ## Begins and ends, over sessions
 
-pub begin_silent : (v : View) (w f : ℕ) → AreSilent (views.may true v) v.given (told.Begin w f ∷ [])
-begin_silent v w f = (record { own = refl; part = refl; rows = λ m row. silent_changes v.given m (told.Begin w f) row refl; words = λ c i. silent_sets (told.Begin w f) c i refl }, tt)
-
--- ## An end
-
-end_changes : (v : Given) (m : Moment) (w f row : ℕ) → changes v m (told.End w true f) row ≡ false
-unfolding changes
-end_changes v m w f row = go (ltb row (opening v).frames)
-  where
-    go : (b : Bool) → if◌then◌else◌ b (publishes_frame (opening v) m.core (event_of (told.End w true f)) row) (publishes_row (event_of (told.End w true f)) (row - (opening v).frames)) ≡ false
-    go true = refl
-    go false = refl
-
-end_sets : (f w c i : ℕ) → ((c ≡ w) × (i ≡ 1) → ⊥) → sets (told.End w true f) c i ≡ false
-unfolding sets
-end_sets f w c i ne = elim (cases_eq c w) [
-  | inl same ↦ and_right (c == w) (i == 1) (ne_eqb i 1 (λ one. ne (same, one)))
-  | inr other ↦ and_left (c == w) (i == 1) (ne_eqb c w other)
-]
-
-heard_end : (m : Moment) (w : ℕ) → 0 < w → heard m w 1 ≡ (m.core.worker w).end
-unfolding heard
-heard_end m zero some = absurd (omega arith)
-heard_end m (suc w) some = refl
-
--- ## Both, over sessions
+-- where nobody else steps a seat acts for everyone
+plays : (z : Shape) (v : View) (w : ℕ) → z.alone ≡ true → views.may z.alone v w ≡ true
+plays z v w alone = ap (λ b. views.may b v w) alone
 
 module _ (v : View) (n base w : ℕ) (xs : List Session) (s : AreSessions n base xs (state v)) (workers : (opening v.given).workers ≡ n) (some : 0 < w) (among : w ≤ n) where
   flushed : (u : ℕ) → 0 < u → u ≤ (opening v.given).workers → (state v).core.flushed u ≡ base
@@ -70,51 +41,56 @@ module _ (v : View) (n base w : ℕ) (xs : List Session) (s : AreSessions n base
   of_w : IsOf base (session_at xs w) ((state v).core.worker w)
   of_w = s.each w among
 
-  begin_met : (session_at xs w).is_open ≡ false → may (opening v.given) (state v).core (event_of (told.Begin w base)) ≡ true
-  begin_met closed = may_begin (opening v.given) (state v).core base flushed w some (subst (λ k. w ≤ k) (sym workers) among) (of_w.is_open ∙ closed) (of_w.floor ∙ of_w.low)
+  floor_is : ((state v).core.worker w).floor ≡ base
+  floor_is = of_w.floor ∙ of_w.low
 
-  pub begin_after : (u : View) (z : Shape) (x : Session) → z.alone ≡ true → Goes z v (told.Begin w base ∷ []) u → (session_at xs w).is_open ≡ false
+  -- ## A begin
+
+  begin_known : (z : Shape) → z.alone ≡ true → (session_at xs w).is_open ≡ false → IsBegin z v w w (λ _. base)
+  begin_known z alone closed = record {
+    actor = plays z v w alone;
+    worker = and_from (ltb 0 w) _ (lt-ltb 0 w some) (le-leb w (opening v.given).workers (subst (λ k. w ≤ k) (sym workers) among));
+    closed = of_w.is_open ∙ closed;
+    log = some;
+    low = λ k h. let e = floor_is in omega arith;
+    own = λ k h. let e = s.flushed w some among in omega arith;
+    others = λ k u h pos le ne. let e = flushed u pos le in omega arith;
+  }
+
+  pub begin_after : (u : View) (z : Shape) (x : Session) (k : ℕ) → z.alone ≡ true → Heard z w 0 (λ _. told.Begin w base ∷ []) v k u → (session_at xs w).is_open ≡ false
       → ((a : _) → IsOf base (session_at xs w) a → IsOf base x (core.begun a base)) → AreSessions n base (slice_set xs w x) (state u)
-  begin_after u z x alone g closed to =
-      subst (AreSessions n base (slice_set xs w x)) (sym (goes_state z v u _ alone g))
+  begin_after u z x k alone h closed to =
+      let after = goes_state z v u _ alone h.goes in
+      subst (AreSessions n base (slice_set xs w x)) (sym after)
       (sessions_own v.given (state v) (told.Begin w base) n base w xs x refl refl (silent_sets (told.Begin w base) w 0 refl) some among s
-      (subst (IsOf base x) (sym (ap (λ c. c.worker w) (met_core v.given (state v) (told.Begin w base) (begin_met closed)) ∙ upd_here (state v).core.worker w _)) (to ((state v).core.worker w) of_w)))
+      (subst (IsOf base x) (sym (ap (λ m. m.core.worker w) (sym after) ∙ ((every_begin z v w).begun w (λ _. base) k u (begin_known z alone closed) h).worker)) (to ((state v).core.worker w) of_w)))
 
   -- ## An end
 
-  end_met : (session_at xs w).is_open ≡ true → may (opening v.given) (state v).core (event_of (told.End w true base)) ≡ true
-  end_met opened = may_end (opening v.given) (state v).core base flushed w (of_w.is_open ∙ opened) (of_w.floor ∙ of_w.low)
+  end_known : (z : Shape) (value : ℕ) → z.alone ≡ true → (session_at xs w).is_open ≡ true → value ≡ (session_at xs w).clock + 1 → value < 2 ^ 64 → IsEnd z v w true base value
+  end_known z value alone opened is small = record {
+    actor = plays z v w alone;
+    some = some;
+    met = (every_turn z v w).need true base (record {
+      is_open = of_w.is_open ∙ opened;
+      low = let e = floor_is in omega arith;
+      flushed = λ u pos le. let e = flushed u pos le in omega arith;
+      back = λ e. absurd (true≢false e);
+    });
+    number_is = let e = of_w.clock in omega arith;
+    small = small;
+  }
 
-  end_worker : (session_at xs w).is_open ≡ true → (stepped v.given (state v) (told.End w true base)).core.worker w ≡ core.finished ((state v).core.worker w) (suc ((state v).core.worker w).clock)
-  end_worker opened = ap (λ c. c.worker w) (met_core v.given (state v) (told.End w true base) (end_met opened)) ∙ upd_here (state v).core.worker w _
-
-  pub end_after : (u : View) (z : Shape) (x : Session) → z.alone ≡ true → Goes z v (told.End w true base ∷ []) u → (session_at xs w).is_open ≡ true
-      → ((a : _) → IsOf base (session_at xs w) a → IsOf base x (core.finished a (suc a.clock))) → AreSessions n base (slice_set xs w x) (state u)
-  end_after u z x alone g opened to =
-      subst (AreSessions n base (slice_set xs w x)) (sym (goes_state z v u _ alone g))
-      (sessions_own v.given (state v) (told.End w true base) n base w xs x refl refl (end_sets base w w 0 (λ h. absurd (omega (arith, h.1)))) some among s
-      (subst (IsOf base x) (sym (end_worker opened)) (to ((state v).core.worker w) of_w)))
+  pub end_after : (u : View) (z : Shape) (x : Session) (value k : ℕ) → z.alone ≡ true → Turned z w 1 (λ _. value) (λ _. told.End w true base ∷ []) v k u → (session_at xs w).is_open ≡ true
+      → value ≡ (session_at xs w).clock + 1 → value < 2 ^ 64 → ((a : _) → IsOf base (session_at xs w) a → IsOf base x (core.finished a (suc a.clock))) → AreSessions n base (slice_set xs w x) (state u)
+  end_after u z x value k alone t opened is small to =
+      let after = goes_state z v u _ alone t.goes in
+      let known = end_known z value alone opened is small in
+      subst (AreSessions n base (slice_set xs w x)) (sym after)
+      (sessions_own v.given (state v) (told.End w true base) n base w xs x refl refl (end_sets w true base w 0 (λ h. absurd (omega (arith, h.1)))) some among s
+      (subst (IsOf base x) (sym (ap (λ m. m.core.worker w) (sym after) ∙ (((every_turn z v w).ended true base value k u known t).worker ∙ ap (core.finished ((state v).core.worker w)) known.number_is))) (to ((state v).core.worker w) of_w)))
 
   -- the end number is what the worker's second control word turns into
-  pub end_turns : (z : Shape) (value : ℕ) → z.alone ≡ true → z.sizes.workers ≡ n → (session_at xs w).is_open ≡ true → value ≡ (session_at xs w).clock + 1 → value < 2 ^ 64
+  pub end_turns : (z : Shape) (value : ℕ) → z.alone ≡ true → (session_at xs w).is_open ≡ true → value ≡ (session_at xs w).clock + 1 → value < 2 ^ 64
       → MayTurn z w 1 (λ _. value) (λ _. told.End w true base ∷ []) v
-  end_turns z value alone count opened is small = record {
-    own = λ k. (
-      record {
-        own = subst (λ b. views.may b v w ≡ true) (sym alone) refl;
-        part = λ off. refl;
-        rows = λ m row. end_changes v.given m w base row;
-        words = λ d j le ne. end_sets base w d j ne;
-      },
-      tt,
-    );
-    turns = λ between quiet apart k found. (turned between (quiet alone), small);
-  }
-    where
-      turned : (between : List Event) → between ≡ [] → heard (after_all v.given ((v.seen ++ between) ++ told.End w true base ∷ [])) w 1 ≡ value
-      turned between none =
-          ap (λ ys. heard (after_all v.given ((v.seen ++ ys) ++ told.End w true base ∷ [])) w 1) none
-          ∙ (ap (λ ys. heard (after_all v.given (ys ++ told.End w true base ∷ [])) w 1) (append-nil v.seen)
-          ∙ (ap (λ m. heard m w 1) (run_append v.given (begun v.given) v.seen (told.End w true base ∷ []))
-          ∙ (heard_end (stepped v.given (state v) (told.End w true base)) w some
-          ∙ (ap (λ a. a.end) (end_worker opened) ∙ (ap suc of_w.clock ∙ omega arith)))))
+  end_turns z value alone opened is small = (every_turn z v w).end true base value (end_known z value alone opened is small)

@@ -24,7 +24,7 @@ impl Sessions {
             worker,
             floor: self.base,
         };
-        let _ = self.rows.load_control(&mut self.seat, 0, 0, &begins);
+        let _ = self.rows.load_control(&mut self.seat, worker, 0, &begins);
         set_session(&mut self.sessions, worker, session.begun(self.base));
         true
     }

@@ -2,11 +2,12 @@ use Rattle.std.proofs.Common.{refl, ◌∙◌, sym, ap, subst}
 use Rattle.rows_trait.specs.Views.{state}
 use Rattle.row_sessions.specs.Standing.{AreSessions, IsOf}
 use Rattle.row_sessions.proofs.Standings.{shape_of, stands_then}
-use Rattle.row_sessions.proofs.Calls.{begin_silent, begin_after}
+use Rattle.row_sessions.proofs.Calls.{begin_after}
+use Rattle.lean_proto.proofs.Turning.{every_begin}
 use Rattle.row_sessions.proofs.sessions.Sessions.begin.Goals as goal
 
 pub load_control-requires-clause-event : goal.load_control-requires-clause-event
-load_control-requires-clause-event c n = begin_silent c.args.self.now.seat.view c.args.worker c.args.self.now.base
+load_control-requires-clause-event c n = (every_begin (shape_of c.args.self.now.rows) c.args.self.now.seat.view c.args.worker).silent refl c.args.self.now.base
 
 pub returns-clause-stands : goal.returns-clause-stands
 returns-clause-stands c =
@@ -16,5 +17,5 @@ returns-clause-stands c =
     let step = c.load_control.ensures.step in
     stands_then s _ st c.load_control.ensures.shape refl refl refl c.load_control.ensures.fits (step.held ∙ st.held) step.goes.given refl
     (subst (λ xs. AreSessions s.rows.workers s.base xs (state c.load_control.new.seat.view)) (sym c.set_session.ensures)
-    (begin_after s.seat.view s.rows.workers s.base c.args.worker s.sessions.items st.sessions st.sized.workers c.requires.worker.0 c.requires.worker.1 c.load_control.new.seat.view (shape_of s.rows) c.begun.result refl step.goes
+    (begin_after s.seat.view s.rows.workers s.base c.args.worker s.sessions.items st.sessions st.sized.workers c.requires.worker.0 c.requires.worker.1 c.load_control.new.seat.view (shape_of s.rows) c.begun.result c.load_control.result refl step
     (ap (λ x. x.is_open) (sym e) ∙ c.if-session.false) (λ a is. c.begun.ensures a (subst (λ x. IsOf s.base x a) (sym e) is))))
