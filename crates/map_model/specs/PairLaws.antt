@@ -45,10 +45,10 @@ abbrev pub worked_lines : List (ℕ × Call)
 worked_lines =
     (1, call.Begin) ∷ (2, call.Begin) ∷ (2, call.Put 7 1) ∷ (1, call.Scan 0 9) ∷ (0, call.Sync) ∷ (2, call.Begin) ∷ (1, call.Get 7) ∷ (2, call.Scan 0 9) ∷ (1, call.Commit) ∷ []
 
--- a conflict with its abort, a scan, and in the end a scan that has not come to its end
+-- a conflict with its abort, a scan, an answer of a session that has no line, and in the end a scan that has not come to its end
 abbrev pub worked_answers : List (ℕ × Answer)
 worked_answers =
-    (1, answer.Begun 1) ∷ (1, answer.Pair 5 50) ∷ (2, answer.Begun 1) ∷ (2, answer.Refused (refusal.Conflict 1)) ∷ (1, answer.Pair 6 60) ∷ (2, answer.Aborted 1) ∷ (1, answer.End)
+    (1, answer.Begun 1) ∷ (1, answer.Pair 5 50) ∷ (3, answer.Begun 1) ∷ (2, answer.Begun 1) ∷ (2, answer.Refused (refusal.Conflict 1)) ∷ (1, answer.Pair 6 60) ∷ (2, answer.Aborted 1) ∷ (1, answer.End)
     ∷ (2, answer.Begun 2) ∷ (2, answer.Pair 5 50) ∷ (1, answer.Value None) ∷ (0, answer.Synced 3) ∷ (2, answer.Pair 6 60) ∷ (1, answer.Committed 1 3) ∷ []
 
 abbrev pub said : ℕ → Call → Answer → Answered
