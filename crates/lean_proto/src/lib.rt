@@ -6,7 +6,7 @@ pub mod new;
 pub mod over;
 
 ghost use Rattle.lean_proto.specs.Changes.{EveryChange};
-ghost use Rattle.lean_proto.specs.Controls.{EveryBegin, EveryTurn};
+ghost use Rattle.lean_proto.specs.Controls.{EveryBegin, EveryLoad, EveryTurn};
 ghost use Rattle.lean_proto.specs.Kept.{EveryKept};
 ghost use Rattle.lean_proto.specs.Ready.{EveryReady};
 
@@ -28,6 +28,12 @@ pub fn every_change()
 /// what a change needs can be shown before a descent and used after it.
 pub fn every_kept()
     ensures { EveryKept }
+{}
+
+/// What a load of a flushed word answers is what its log is flushed up to at that moment, and at each later one no less, unless a sync
+/// came. So a worker may load the words of all logs, one by one, and begin at the last load.
+pub fn every_load()
+    ensures { EveryLoad }
 {}
 
 /// A worker that is closed may begin at the load of what a log is flushed up to, with a floor up to which each log is flushed then. The
