@@ -1,0 +1,2 @@
+-- Read Calls.
+pub mod Calls

@@ -1,0 +1,83 @@
+// Calls on log `number`, over which a run of the core may go on.
+ghost use Rattle.std.specs.Prelude.{◌≡◌, ◌≤◌, ◌<◌, ◌+◌, ◌↔◌, IfOk, IsErrAnd, OnOk};
+ghost use Rattle.log_record.specs.Spelling.{Fits};
+ghost use Rattle.worker_log.specs.Calls.{After, flushed_log};
+ghost use Rattle.worker_log.specs.Causes.{IsFull, IsLogFull};
+ghost use Rattle.worker_log.specs.Logs.{used};
+ghost use Rattle.log_calls.specs.Calls.{FlushesOn, KeepsMoments, KeepsNotes, StagesOn};
+
+use crate::parts::{flush_on, stage_end_on, stage_on};
+use lean_disk::Disk;
+use log_record::Record;
+use worker_log::{DiskFault, Staging, WorkerLog};
+
+/// Puts the record of a change into log `number`.
+pub fn stage<D: Disk>(
+    disk: &mut D,
+    log: &mut WorkerLog,
+    number: u32,
+    entry: &Record,
+) -> Result<(), Staging>
+    requires number { number ≤ 16 }
+    requires fits { Fits entry.now }
+    requires rises { log.old.last < entry.now.gsn }
+    ensures after { OnOk result (After entry.now log.old log.new) }
+    ensures last { OnOk result (log.new.last ≡ entry.now.gsn) }
+    ensures room { OnOk result (used log.new + 1 ≤ log.new.blocks) }
+    ensures same_log { IsErrAnd result IsLogFull → log.new ≡ log.old }
+    ensures same_disk { IsErrAnd result IsLogFull → disk.new ≡ disk.old }
+    ensures stands { OnOk result (StagesOn number entry.now log.old log.new (D.story disk.old) (D.story disk.new)) }
+    ensures any_moment { KeepsMoments number log.old (D.story disk.old) (D.story disk.new) }
+    ensures told { KeepsNotes number log.old (D.story disk.old) (D.story disk.new) }
+
+    ensures cause_log_full { IsErrAnd result IsLogFull ↔ IsFull log.old }
+{
+    core_disk::every_version();
+    worker_log::every_staged();
+    worker_log::every_kept();
+    worker_log::every_prefix();
+    disk_image::every_sealed();
+    stage_on(disk, log, number, entry)
+}
+
+/// Puts the record of an end into log `number`.
+pub fn stage_end<D: Disk>(
+    disk: &mut D,
+    log: &mut WorkerLog,
+    number: u32,
+    entry: &Record,
+) -> Result<(), DiskFault>
+    requires number { number ≤ 16 }
+    requires fits { Fits entry.now }
+    requires rises { log.old.last < entry.now.gsn }
+    requires room { used log.old + 1 ≤ log.old.blocks }
+    ensures after { OnOk result (After entry.now log.old log.new) }
+    ensures last { OnOk result (log.new.last ≡ entry.now.gsn) }
+    ensures stands { OnOk result (StagesOn number entry.now log.old log.new (D.story disk.old) (D.story disk.new)) }
+    ensures any_moment { KeepsMoments number log.old (D.story disk.old) (D.story disk.new) }
+    ensures told { KeepsNotes number log.old (D.story disk.old) (D.story disk.new) }
+{
+    core_disk::every_version();
+    worker_log::every_staged();
+    worker_log::every_kept();
+    worker_log::every_prefix();
+    disk_image::every_sealed();
+    stage_end_on(disk, log, number, entry)
+}
+
+/// Flushes log `number`. The answer is the number up to which it is flushed then.
+pub fn flush<D: Disk>(disk: &mut D, log: &mut WorkerLog, number: u32) -> Result<u64, DiskFault>
+    requires number { number ≤ 16 }
+    ensures answer { IfOk result (λ flushed. flushed ≡ log.old.last) }
+    ensures after { OnOk result (log.new ≡ flushed_log log.old) }
+    ensures stands { OnOk result (FlushesOn number log.old log.new (D.story disk.old) (D.story disk.new)) }
+    ensures any_moment { KeepsMoments number log.old (D.story disk.old) (D.story disk.new) }
+    ensures told { KeepsNotes number log.old (D.story disk.old) (D.story disk.new) }
+{
+    core_disk::every_version();
+    worker_log::every_flushed();
+    worker_log::every_kept();
+    worker_log::every_prefix();
+    disk_image::every_sealed();
+    flush_on(disk, log, number)
+}
