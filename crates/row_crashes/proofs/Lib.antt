@@ -1,0 +1,4 @@
+pub mod RowLemmas
+pub mod CarryLemmas
+pub mod LeftLemmas
+pub mod OpeningLemmas

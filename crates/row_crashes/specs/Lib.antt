@@ -1,0 +1,3 @@
+-- Read Row, then Left.
+pub mod Row
+pub mod Left
