@@ -29,6 +29,7 @@ pub fn stage<D: Disk>(
     ensures stands { OnOk result (StagesOn number entry.now log.old log.new (D.story disk.old) (D.story disk.new)) }
     ensures any_moment { KeepsMoments number log.old (D.story disk.old) (D.story disk.new) }
     ensures told { KeepsNotes number log.old (D.story disk.old) (D.story disk.new) }
+    ensures same_notes { (D.story disk.new).notes ≡ (D.story disk.old).notes }
 
     ensures cause_log_full { IsErrAnd result IsLogFull ↔ IsFull log.old }
 {
@@ -56,6 +57,7 @@ pub fn stage_end<D: Disk>(
     ensures stands { OnOk result (StagesOn number entry.now log.old log.new (D.story disk.old) (D.story disk.new)) }
     ensures any_moment { KeepsMoments number log.old (D.story disk.old) (D.story disk.new) }
     ensures told { KeepsNotes number log.old (D.story disk.old) (D.story disk.new) }
+    ensures same_notes { (D.story disk.new).notes ≡ (D.story disk.old).notes }
 {
     core_disk::every_version();
     worker_log::every_staged();
@@ -73,6 +75,7 @@ pub fn flush<D: Disk>(disk: &mut D, log: &mut WorkerLog, number: u32) -> Result<
     ensures stands { OnOk result (FlushesOn number log.old log.new (D.story disk.old) (D.story disk.new)) }
     ensures any_moment { KeepsMoments number log.old (D.story disk.old) (D.story disk.new) }
     ensures told { KeepsNotes number log.old (D.story disk.old) (D.story disk.new) }
+    ensures same_notes { (D.story disk.new).notes ≡ (D.story disk.old).notes }
 {
     core_disk::every_version();
     worker_log::every_flushed();

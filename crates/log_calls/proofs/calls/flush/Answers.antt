@@ -12,3 +12,6 @@ returns-clause-any_moment g c = moments (1 + c.args.number) c.args.number (one_m
 
 pub returns-clause-told : goal.returns-clause-told
 returns-clause-told g c = notes (1 + c.args.number) c.args.number (one_more c.args.number) c.args.log.now c.flush_on.new.log (g.D.Disk.story c.args.disk.now) (g.D.Disk.story c.flush_on.new.disk) c.flush_on.ensures.any_moment
+
+pub returns-clause-same_notes : goal.returns-clause-same_notes
+returns-clause-same_notes g c = c.flush_on.ensures.frame.notes

@@ -18,3 +18,6 @@ returns-clause-last g c = on_ok (c.stage_on.new.log.last ≡ c.args.entry.now.gs
 
 pub returns-clause-room : goal.returns-clause-room
 returns-clause-room g c = has_room c.stage_on.result c.args.entry.now c.args.log.now c.stage_on.new.log c.stage_on.ensures.cause_log_full c.stage_on.ensures.log
+
+pub returns-clause-same_notes : goal.returns-clause-same_notes
+returns-clause-same_notes g c = c.stage_on.ensures.frame.notes

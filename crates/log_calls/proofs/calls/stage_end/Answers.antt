@@ -15,3 +15,6 @@ returns-clause-told g c = notes (1 + c.args.number) c.args.number (one_more c.ar
 
 pub returns-clause-last : goal.returns-clause-last
 returns-clause-last g c = on_ok (c.stage_end_on.new.log.last ≡ c.args.entry.now.gsn) c.stage_end_on.result c.stage_end_on.ensures.log c.stage_end_on.ensures.log (λ after same. staged_last c.args.entry.now c.args.log.now c.stage_end_on.new.log after)
+
+pub returns-clause-same_notes : goal.returns-clause-same_notes
+returns-clause-same_notes g c = c.stage_end_on.ensures.frame.notes
