@@ -1,0 +1,16 @@
+pub mod ComingLemmas
+pub mod MomentLemmas
+pub mod PartLemmas
+pub mod MarkLemmas
+pub mod BeginLemmas
+pub mod UnlockLemmas
+pub mod CommitLemmas
+pub mod AbortLemmas
+pub mod GetLemmas
+pub mod PutLemmas
+pub mod ScanLemmas
+pub mod SyncLemmas
+pub mod RefusalLemmas
+pub mod RunLemmas
+pub mod PlaceLemmas
+pub mod EntryLemmas

@@ -1,0 +1,13 @@
+-- Read Clauses, then Begins, Puts, Commits, Aborts, Scans, Syncs and Refused; Parts for a call in parts, Runs for a whole run, Entries for the records, Places for sessions.
+pub mod Clauses
+pub mod Parts
+pub mod Begins
+pub mod Puts
+pub mod Commits
+pub mod Aborts
+pub mod Scans
+pub mod Syncs
+pub mod Refused
+pub mod Runs
+pub mod Entries
+pub mod Places

@@ -1,0 +1,62 @@
+-- A whole run, call by call: what holds between two calls, and at every moment since it began.
+use Rattle.std.specs.Prelude.{◌≡◌, ◌≤◌, ◌+◌, ℕ, suc, List, [], ◌∷◌, ◌++◌, length, IsTrue}
+use Rattle.map_model.specs.Outputs.{Reply}
+use Rattle.core_state.specs.Openings.{Opening}
+use Rattle.lean_disk.specs.Area.{Leaves}
+use Rattle.lean_disk.specs.Moments.{LeavesOnly}
+use Rattle.lean_disk.specs.Story.{Crash, IsLawful, Story, Tells}
+use Rattle.disk_slots.specs.declared.master.Master.{Master}
+use Rattle.disk_image.specs.Masters.{IsOfRun}
+use Rattle.core_calls.specs.Fronts.{Done}
+use Rattle.core_calls.specs.Refusals.{Limits}
+use Rattle.core_calls.specs.Runs.{EachTells}
+use Rattle.disk_runs.specs.Fair.{TellsAll}
+use Rattle.disk_runs.specs.Stands.{Known, Stands}
+use Rattle.run_crashes.specs.Lines.{RunLeft, lines_of, notes_of}
+use Rattle.engine_calls.specs.Clauses.{Between, CallAnswers, CallStops}
+
+-- ## Lines
+
+-- A crash while the lines of an outcome are put: the first of them are out, and the areas are as they were when the call was answered.
+pub record LineCrash (g : Opening) (xs : List Done) (x : Done) (s0 : Crash) (new : Story) (c : Crash) : Type 0 where
+  pub later : List Reply
+  pub first : List Reply
+  pub split : later ++ first ≡ lines_of g xs x
+  pub notes : c.notes ≡ notes_of g xs s0 + length first
+  pub writes : (a : ℕ) → Tells new a → c.writes a ≡ (new.area a).writes
+  pub leaves : (a : ℕ) → Tells new a → Leaves (new.area a) (c.image a)
+
+-- all of them are out, and nothing else has happened to the disk
+pub record LinesOut (g : Opening) (xs : List Done) (x : Done) (s0 : Crash) (new out : Story) : Type 0 where
+  pub any_moment : LeavesOnly new out (LineCrash g xs x s0 new)
+  pub tells : TellsAll g.workers out
+  pub areas : (a : ℕ) → a ≤ suc g.workers → out.area a ≡ new.area a
+  pub counts : IsTrue out.counts
+  pub notes : out.notes ≡ notes_of g (x ∷ xs) s0
+
+-- ## A run
+
+-- From one story to now by these calls and their lines, on a disk whose master was m: it is as between two calls, and a crash at any moment leaves
+-- what the lines that were out by then say.
+pub record Runs (l : Limits) (g : Opening) (group : ℕ) (xs : List Done) (s0 : Crash) (m : Master) (k : Known) (from now : Story) : Type 0 where
+  pub between : Between l g group xs s0 k now
+  pub of_run : IsOfRun m k.master
+  pub any_moment : LeavesOnly from now (RunLeft g xs s0 m)
+
+-- what is left of it where a call was not answered: these calls tell of all that was committed
+pub record LeftOf (l : Limits) (g : Opening) (group : ℕ) (s0 : Crash) (m : Master) (from now : Story) : Type 0 where
+  pub calls : List Done
+  pub told : EachTells l g group calls
+  pub any_moment : LeavesOnly from now (RunLeft g calls s0 m)
+
+-- How it begins, and goes on by one call.
+pub record RunLaws (l : Limits) (g : Opening) (group : ℕ) (s0 : Crash) (m : Master) (k : Known) (from old new out : Story) : Type 0 where
+  pub begins : IsLawful from → IsTrue from.counts → Stands g [] s0 k from → IsOfRun m k.master → from.notes ≡ notes_of g [] s0 → Runs l g group [] s0 m k from from
+  pub answered : (xs : List Done) (x : Done) → Runs l g group xs s0 m k from old → (a : CallAnswers l g group xs x s0 k old new) → LinesOut g xs x s0 new out → Runs l g group (x ∷ xs) s0 m a.known from out
+  -- some of its lines are out when the device fails
+  pub unheard : (xs : List Done) (x : Done) → Runs l g group xs s0 m k from old → CallAnswers l g group xs x s0 k old new → LeavesOnly new out (LineCrash g xs x s0 new) → LeftOf l g group s0 m from out
+  pub stopped : (xs : List Done) → Runs l g group xs s0 m k from old → CallStops l g group xs s0 k old new → LeftOf l g group s0 m from new
+
+-- in each run
+abbrev pub EveryRun : (from old new out : Story) → Type 0
+EveryRun from old new out = (l : Limits) (g : Opening) (group : ℕ) (s0 : Crash) (m : Master) (k : Known) → RunLaws l g group s0 m k from old new out
