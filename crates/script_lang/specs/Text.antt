@@ -1,6 +1,6 @@
 -- The lines of a text. A line is bytes without a newline among them (`IsLine`).
 pub use Rattle.lean_edge.specs.Outside.{IsLine}
-use Rattle.std.specs.Prelude.{◌≡◌, ◌==◌, ◌++◌, ℕ, List, [], ◌∷◌, Bool, if◌then◌else◌, false, not}
+use Rattle.std.specs.Prelude.{◌==◌, ◌++◌, ℕ, List, [], ◌∷◌, Bool, if◌then◌else◌, false, not}
 
 -- what stands behind the last newline is a line if it has a byte
 abbrev pub last_line : List ℕ → List (List ℕ)
