@@ -12,7 +12,7 @@ use Rattle.map_model.specs.declared.call.Answered.{Answered}
 use Rattle.map_model.specs.Pairings.{script_of}
 use Rattle.transcripts.proofs.AskedLemmas.{lines_append}
 use Rattle.transcripts.proofs.TranscriptLemmas.{fits_closed, script_append}
-use Rattle.transcripts.specs.Told.{asked_lines, ask, durable_of, replies, text_of, EachFits, EachReplyFits, IsCut, IsTail}
+use Rattle.transcripts.specs.Told.{asked_lines, durable_of, replies, text_of, EachFits, EachReplyFits, IsCut, IsTail}
 use Rattle.transcripts.specs.Told.IsTail.{CutNotice, WholeNotice}
 use Rattle.script_run.specs.Runs.{IsCutOff, IsWhole, PrintsTo}
 use Rattle.script_run.specs.declared.stop.Stop.{Stop}

@@ -44,7 +44,7 @@ use Rattle.transcripts.specs.Told.{ask, asked_text, opened_line, replies, text_o
 use Rattle.map_model.specs.declared.call.Call.TheVariants as call
 use Rattle.transcripts.specs.Told.Heard.{Whole}
 use Rattle.map_model.specs.Pairings.{in_turn}
-use Rattle.transcripts.specs.Transcripts.{durables, first_lines, transcript, IsQuiet}
+use Rattle.transcripts.specs.Transcripts.{first_lines, transcript, IsQuiet}
 use Rattle.script_run.specs.Moments.{IsAsked, ScriptLeaves}
 use Rattle.script_run.specs.Runs.{PrintsTo, ScriptRuns, WentOn}
 use Rattle.script_run.specs.Texts.{EveryScript, LinesRead}

@@ -47,7 +47,6 @@ use Rattle.lean_shell.specs.Headline.{IsInHand, RunLeaves, Survives}
 use Rattle.disk_image.specs.Fair.{IsFairCrash}
 use Rattle.disk_image.specs.Masters.{IsOfRun}
 use Rattle.disk_image.specs.MasterSlots.{master_on}
-use Rattle.map_model.specs.declared.call.Call.{Call}
 use Rattle.map_model.specs.declared.call.Answer.{Answer}
 use Rattle.lean_shell.specs.Inside.Openings.{IsPrefix, Rests}
 use Rattle.lean_shell.specs.Starts.{IsLeft}
