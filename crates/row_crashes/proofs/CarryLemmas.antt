@@ -177,6 +177,20 @@ module _ (versions : EveryVersion) (first l0 l1 l2 l3 : Log) (s0 s1 s2 s3 : Stor
 pub flush_moments : (first was : Log) (old new : Story) → KeepsMoments 2 was old new → AnyMoment (up_to 14) first was old new
 flush_moments first was old new keeps = moments_second (up_to 14) (drop 14 events) refl first was old new keeps
 
+-- the whole row
+module _ (f0 f1 l0 l1 l2 : Log) (d0 d1 d2 d3 : Story) (first : Carries [] (up_to 3) f0 l0 f1 l0 d0 d1) where
+  pub moments_2 : AnyMoment [] f0 l0 d0 d1 → AnyMoment (up_to 3) f1 l0 d1 d2 → AnyMoment [] f0 l0 d0 d2
+  moments_2 a b = longer [] (up_to 3) f0 f1 l0 l0 d0 d1 d2 first a b
+
+  carried_2 : Carries (up_to 3) (up_to 9) f1 l0 f1 l1 d1 d2 → Carries [] (up_to 9) f0 l0 f1 l1 d0 d2
+  carried_2 second = after_that [] (up_to 3) (up_to 9) f0 f1 f1 l0 l0 l1 d0 d1 d2 first second
+
+  pub carried : Carries (up_to 3) (up_to 9) f1 l0 f1 l1 d1 d2 → Carries (up_to 9) events f1 l1 f1 l2 d2 d3 → Carries [] events f0 l0 f1 l2 d0 d3
+  carried second last = after_that [] (up_to 9) events f0 f1 f1 l0 l1 l2 d0 d2 d3 (carried_2 second) last
+
+  pub moments_3 : Carries (up_to 3) (up_to 9) f1 l0 f1 l1 d1 d2 → AnyMoment [] f0 l0 d0 d2 → AnyMoment (up_to 9) f1 l1 d2 d3 → AnyMoment [] f0 l0 d0 d3
+  moments_3 second a b = longer [] (up_to 9) f0 f1 l0 l1 d0 d2 d3 (carried_2 second) a b
+
 -- log 1 is flushed behind the row
 pub flush_first : EveryVersion → (was is second : Log) (old new : Story) → was.last ≡ 1 → FlushesOn 1 was is old new → Carries events ripe_events was second is second old new
 flush_first versions was is second old new last flushes g s0 n r =

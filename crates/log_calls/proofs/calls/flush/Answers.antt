@@ -4,14 +4,22 @@ use Rattle.log_calls.proofs.CallLemmas.{flushes, moments, notes, on_ok, one_more
 use Rattle.log_calls.proofs.calls.flush.Goals as goal
 
 pub returns-clause-stands : goal.returns-clause-stands
-returns-clause-stands g c = on_ok (FlushesOn c.args.number c.args.log.now c.flush_on.new.log (g.D.Disk.story c.args.disk.now) (g.D.Disk.story c.flush_on.new.disk)) c.flush_on.result c.flush_on.ensures.log c.flush_on.ensures.kept
-    (λ after kept. flushes (1 + c.args.number) c.args.number (one_more c.args.number) c.args.log.now c.flush_on.new.log (g.D.Disk.story c.args.disk.now) (g.D.Disk.story c.flush_on.new.disk) c.every_version.ensures c.every_flushed.ensures c.flush_on.ensures.ranges after c.flush_on.ensures.frame kept)
+returns-clause-stands g c =
+    let s = g.D.Disk.story in
+    on_ok (FlushesOn c.args.number c.args.log.now c.flush_on.new.log (s c.args.disk.now) (s c.flush_on.new.disk)) c.flush_on.result c.flush_on.ensures.log c.flush_on.ensures.kept
+    (λ after kept. flushes (1 + c.args.number) c.args.number (one_more c.args.number) c.args.log.now c.flush_on.new.log (s c.args.disk.now) (s c.flush_on.new.disk)
+    c.every_version.ensures c.every_flushed.ensures c.flush_on.ensures.ranges after c.flush_on.ensures.frame kept)
 
 pub returns-clause-any_moment : goal.returns-clause-any_moment
-returns-clause-any_moment g c = moments (1 + c.args.number) c.args.number (one_more c.args.number) c.args.log.now c.flush_on.new.log (g.D.Disk.story c.args.disk.now) (g.D.Disk.story c.flush_on.new.disk) c.every_kept.ensures c.every_prefix.ensures c.every_sealed.ensures c.flush_on.ensures.any_moment
+returns-clause-any_moment g c =
+    let s = g.D.Disk.story in
+    moments (1 + c.args.number) c.args.number (one_more c.args.number) c.args.log.now c.flush_on.new.log (s c.args.disk.now) (s c.flush_on.new.disk) c.every_kept.ensures
+    c.every_prefix.ensures c.every_sealed.ensures c.flush_on.ensures.any_moment
 
 pub returns-clause-told : goal.returns-clause-told
-returns-clause-told g c = notes (1 + c.args.number) c.args.number (one_more c.args.number) c.args.log.now c.flush_on.new.log (g.D.Disk.story c.args.disk.now) (g.D.Disk.story c.flush_on.new.disk) c.flush_on.ensures.any_moment
+returns-clause-told g c =
+    let s = g.D.Disk.story in
+    notes (1 + c.args.number) c.args.number (one_more c.args.number) c.args.log.now c.flush_on.new.log (s c.args.disk.now) (s c.flush_on.new.disk) c.flush_on.ensures.any_moment
 
 pub returns-clause-same_notes : goal.returns-clause-same_notes
 returns-clause-same_notes g c = c.flush_on.ensures.frame.notes

@@ -4,17 +4,27 @@ use Rattle.log_calls.proofs.CallLemmas.{has_room, moments, notes, on_ok, one_mor
 use Rattle.log_calls.proofs.calls.stage.Goals as goal
 
 pub returns-clause-stands : goal.returns-clause-stands
-returns-clause-stands g c = on_ok (StagesOn c.args.number c.args.entry.now c.args.log.now c.stage_on.new.log (g.D.Disk.story c.args.disk.now) (g.D.Disk.story c.stage_on.new.disk)) c.stage_on.result c.stage_on.ensures.log c.stage_on.ensures.kept
-    (λ after kept. stages (1 + c.args.number) c.args.number (one_more c.args.number) c.args.log.now c.stage_on.new.log (g.D.Disk.story c.args.disk.now) (g.D.Disk.story c.stage_on.new.disk) c.every_version.ensures c.every_staged.ensures c.args.entry.now c.requires.rises c.stage_on.ensures.ranges after c.stage_on.ensures.frame kept)
+returns-clause-stands g c =
+    let s = g.D.Disk.story in
+    on_ok (StagesOn c.args.number c.args.entry.now c.args.log.now c.stage_on.new.log (s c.args.disk.now) (s c.stage_on.new.disk)) c.stage_on.result c.stage_on.ensures.log
+    c.stage_on.ensures.kept (λ after kept. stages (1 + c.args.number) c.args.number (one_more c.args.number) c.args.log.now c.stage_on.new.log (s c.args.disk.now) (s
+    c.stage_on.new.disk) c.every_version.ensures c.every_staged.ensures c.args.entry.now c.requires.rises c.stage_on.ensures.ranges after c.stage_on.ensures.frame kept)
 
 pub returns-clause-any_moment : goal.returns-clause-any_moment
-returns-clause-any_moment g c = moments (1 + c.args.number) c.args.number (one_more c.args.number) c.args.log.now c.stage_on.new.log (g.D.Disk.story c.args.disk.now) (g.D.Disk.story c.stage_on.new.disk) c.every_kept.ensures c.every_prefix.ensures c.every_sealed.ensures c.stage_on.ensures.any_moment
+returns-clause-any_moment g c =
+    let s = g.D.Disk.story in
+    moments (1 + c.args.number) c.args.number (one_more c.args.number) c.args.log.now c.stage_on.new.log (s c.args.disk.now) (s c.stage_on.new.disk) c.every_kept.ensures
+    c.every_prefix.ensures c.every_sealed.ensures c.stage_on.ensures.any_moment
 
 pub returns-clause-told : goal.returns-clause-told
-returns-clause-told g c = notes (1 + c.args.number) c.args.number (one_more c.args.number) c.args.log.now c.stage_on.new.log (g.D.Disk.story c.args.disk.now) (g.D.Disk.story c.stage_on.new.disk) c.stage_on.ensures.any_moment
+returns-clause-told g c =
+    let s = g.D.Disk.story in
+    notes (1 + c.args.number) c.args.number (one_more c.args.number) c.args.log.now c.stage_on.new.log (s c.args.disk.now) (s c.stage_on.new.disk) c.stage_on.ensures.any_moment
 
 pub returns-clause-last : goal.returns-clause-last
-returns-clause-last g c = on_ok (c.stage_on.new.log.last ≡ c.args.entry.now.gsn) c.stage_on.result c.stage_on.ensures.log c.stage_on.ensures.log (λ after same. staged_last c.args.entry.now c.args.log.now c.stage_on.new.log after)
+returns-clause-last g c =
+    on_ok (c.stage_on.new.log.last ≡ c.args.entry.now.gsn) c.stage_on.result c.stage_on.ensures.log c.stage_on.ensures.log (λ after same. staged_last c.args.entry.now
+    c.args.log.now c.stage_on.new.log after)
 
 pub returns-clause-room : goal.returns-clause-room
 returns-clause-room g c = has_room c.stage_on.result c.args.entry.now c.args.log.now c.stage_on.new.log c.stage_on.ensures.cause_log_full c.stage_on.ensures.log
