@@ -14,3 +14,4 @@ pub mod RefusalLemmas
 pub mod RunLemmas
 pub mod PlaceLemmas
 pub mod EntryLemmas
+pub mod RowLemmas

@@ -1,4 +1,4 @@
--- Read Clauses, then Begins, Puts, Commits, Aborts, Scans, Syncs and Refused; Parts for a call in parts, Runs for a whole run, Entries for the records, Places for sessions.
+-- Read Clauses, then Begins, Puts, Commits, Aborts, Scans, Syncs and Refused; Parts for a call in parts, Runs for a whole run, Entries for the records, Places for sessions, Rows by hand.
 pub mod Clauses
 pub mod Parts
 pub mod Begins
@@ -11,3 +11,4 @@ pub mod Refused
 pub mod Runs
 pub mod Entries
 pub mod Places
+pub mod Rows

@@ -13,6 +13,7 @@ ghost use Rattle.engine_calls.specs.Parts.{EveryPart};
 ghost use Rattle.engine_calls.specs.Places.{EveryPlace};
 ghost use Rattle.engine_calls.specs.Puts.{EveryGet, EveryPut};
 ghost use Rattle.engine_calls.specs.Refused.{EveryRefusal};
+ghost use Rattle.engine_calls.specs.Rows.{Rows};
 ghost use Rattle.engine_calls.specs.Runs.{EveryRun};
 ghost use Rattle.engine_calls.specs.Scans.{EveryScan};
 ghost use Rattle.engine_calls.specs.Syncs.{EverySync};
@@ -108,4 +109,9 @@ pub fn every_place<D: Disk>(old: &D, mid: &D, new: &D)
 /// The records that are staged are the entries of their events.
 pub fn every_entry()
     ensures { EveryEntry }
+{}
+
+/// A begin, a put and its commit by hand: what a body shows can be shown.
+pub fn worked_rows()
+    ensures { Rows }
 {}

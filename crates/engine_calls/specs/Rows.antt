@@ -1,0 +1,46 @@
+-- A begin, a put and its commit by hand, on one empty leaf: what a body shows of each can be shown.
+use Rattle.std.specs.Prelude.{◌≡◌, ◌^◌, Bool, true, false, [], ◌∷◌, None}
+use Rattle.core_state.specs.Openings.{Opening}
+use Rattle.core_state.specs.Events.{Event, Mode}
+use Rattle.log_record.specs.declared.record.Body.TheVariants as body
+use Rattle.log_record.specs.declared.record.Record.{Record}
+use Rattle.core_calls.specs.Deeds.{Changed}
+use Rattle.core_calls.specs.Fronts.{Done}
+use Rattle.core_calls.specs.Refusals.{Limits}
+use Rattle.disk_runs.specs.Stands.{Known}
+use Rattle.engine_calls.specs.Begins.{IsBegin, begun_by}
+use Rattle.engine_calls.specs.Commits.{IsCommit, committed_by}
+use Rattle.engine_calls.specs.Puts.{IsWrite, changed_by, taking}
+
+-- session 1 begins its first transaction
+abbrev pub begun : Done
+begun = begun_by [] 1 1 0
+
+-- puts 7 at key 5 in page 0
+abbrev pub put : Opening → Done
+put g = changed_by (Changed 5 7 None) (taking g 1 5 Mode.Alone [] []) 1 0 5 7
+
+-- the record of that: number 1, on a page without a change, where there was no word
+abbrev pub put_record : Record
+put_record = record { txn = 1; gsn = 1; body = body.Change (record { page = 0; prev = 0 }) 5 (2 ^ 63) 7 }
+
+-- and commits, with a flush or without
+abbrev pub committed : Bool → Done
+committed due = committed_by [] 1 1 2 0 (5 ∷ []) due
+
+-- the record of the end: number 2, which needs no other log
+abbrev pub end_record : Record
+end_record = record { txn = 1; gsn = 2; body = body.Commit 0 }
+
+-- In an opening with two workers, one empty leaf and a lock row for each key.
+pub record Rows : Type 0 where
+  pub opening : Opening
+  pub limits : Limits
+  pub begin_shown : IsBegin limits opening [] [] 1 1 0
+  pub put_events : (put opening).events ≡ Event.Lock 1 5 Mode.Alone ∷ Event.Change 1 0 5 7 ∷ []
+  pub put_shown : IsWrite opening (begun ∷ []) [] [] 1 0 5 7 None put_record
+  -- in groups of one there is a flush, in groups of two there is none
+  pub flush_events : (committed true).events ≡ Event.End 1 true 0 ∷ Event.Unlock 1 5 ∷ Event.Flush 1 2 ∷ []
+  pub flush_shown : (a : Known) → (a.log 1).last ≡ 1 → IsCommit opening 1 (put opening ∷ begun ∷ []) a [] 1 1 2 0 (5 ∷ []) true end_record
+  pub no_flush_events : (committed false).events ≡ Event.End 1 true 0 ∷ Event.Unlock 1 5 ∷ []
+  pub no_flush_shown : (a : Known) → (a.log 1).last ≡ 1 → IsCommit opening 2 (put opening ∷ begun ∷ []) a [] 1 1 2 0 (5 ∷ []) false end_record
