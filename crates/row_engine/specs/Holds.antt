@@ -1,0 +1,45 @@
+-- What an engine of one session has in memory between two calls, by the moment that its seat has seen.
+use Rattle.std.specs.Prelude.{◌≡◌, ◌≤◌, ◌+◌, ◌^◌, ℕ, suc, true, false, [], length}
+use Rattle.map_model.specs.Lists.{Has}
+use Rattle.core_state.specs.States.{Worker}
+use Rattle.core_state.specs.Needs.{holds_row}
+use Rattle.row_words.specs.Openings.{opening}
+use Rattle.rows_trait.specs.declared.view.View.{View}
+use Rattle.rows_trait.specs.Views.{Shape, state}
+use Rattle.worker_log.specs.Logs.{Log}
+use Rattle.row_engine.specs.declared.session.Session.{Session}
+
+-- the session has what the core's worker has
+pub record IsOf (x : Session) (a : Worker) : Type 0 where
+  pub is_open : a.is_open ≡ x.is_open
+  pub txn : a.txn ≡ x.txn
+  pub clock : a.clock ≡ x.clock
+  pub floor : a.floor ≡ x.floor
+  pub debt : a.debt ≡ x.debt
+  pub end : a.end ≡ x.end
+  pub changes : length a.changes ≡ x.changes
+
+-- the numbers of a session, and those of its log
+pub record AreNumbers (x : Session) (log : Log) : Type 0 where
+  -- the last record has the number of the clock
+  pub last : log.last ≡ x.clock
+  pub floor : x.floor ≤ log.flushed
+  -- the clock ends, but for what an open transaction has still to come
+  pub open_low : x.is_open ≡ true → x.clock ≤ 2 ^ 62
+  pub low : x.clock ≤ 2 ^ 62 + 1
+  -- each transaction but an open one took a number for its end
+  pub closed_txn : x.is_open ≡ false → x.txn ≤ x.clock
+  pub txn : x.txn ≤ suc x.clock
+
+-- There is one worker and nobody else steps, and no row is latched. The session is the worker's at the moment that the seat has seen, where the log
+-- is flushed as it says, and the lock rows that the worker holds are those that the session has.
+pub record Holds (z : Shape) (v : View) (x : Session) (log : Log) : Type 0 where
+  pub alone : z.alone ≡ true
+  pub one : (opening v.given).workers ≡ 1
+  pub workers : z.sizes.workers ≡ 1
+  pub idle : v.held ≡ []
+  pub session : IsOf x ((state v).core.worker 1)
+  pub numbers : AreNumbers x log
+  pub flushed : (state v).core.flushed 1 ≡ log.flushed
+  pub rows : (i : ℕ) → holds_row ((state v).core.row i) 1 ≡ true → Has i x.rows.items
+  pub none : x.is_open ≡ false → x.rows.items ≡ []
