@@ -4,5 +4,6 @@ pub mod PageSlotLemmas
 pub mod MasterSlotLemmas
 pub mod BlockInLemmas
 pub mod RunLemmas
+pub mod SealedLemmas
 pub mod BreakLemmas
 pub mod AgreementLemmas

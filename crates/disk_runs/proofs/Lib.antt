@@ -1,5 +1,4 @@
 pub mod SlotLemmas
-pub mod SealedLemmas
 pub mod HeadLemmas
 pub mod LogLemmas
 pub mod PageLemmas

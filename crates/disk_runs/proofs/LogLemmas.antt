@@ -30,7 +30,7 @@ use Rattle.core_disk.proofs.VersionLemmas.{good}
 use Rattle.disk_runs.specs.Fair.{IsFairLog}
 use Rattle.disk_runs.specs.Logs.{Accounts, BeganAt, IsLogOf, LogStands}
 use Rattle.disk_runs.proofs.HeadLemmas.{from_prefix, split_at, up_to_head}
-use Rattle.disk_runs.proofs.SealedLemmas.{listed, lists}
+use Rattle.disk_image.proofs.SealedLemmas.{listed, lists}
 
 module _ (prefixes : EveryPrefix) (seals : EverySealed) (g : Opening) (es : List Event) (n : Master) (first : List ℕ) (older : List Write) (w : ℕ) (x : Account) (log : Log)
     (is : IsLogOf n w log) (accounts : Accounts (state_after g es) w x log) (began : BeganAt n first older x)

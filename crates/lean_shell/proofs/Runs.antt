@@ -1,6 +1,5 @@
 pub mod LineLemmas
 pub mod NoteLemmas
-pub mod SealedLemmas
 pub mod ImageLemmas
 pub mod JournalLemmas
 pub mod BoundLemmas

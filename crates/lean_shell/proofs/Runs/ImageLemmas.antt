@@ -31,7 +31,7 @@ use Rattle.worker_log.specs.Logs.{Log}
 use Rattle.worker_log.specs.Accounts.{joined, spelled_from}
 use Rattle.worker_log.specs.Kept as kept_log
 use Rattle.lean_shell.specs.Inside.Openings.{IsPrefix, Rests}
-use Rattle.lean_shell.proofs.Runs.SealedLemmas.{IsSealedIn, listed, lists}
+use Rattle.disk_image.proofs.SealedLemmas.{IsSealedIn, listed, lists}
 
 one : (w : ℕ) → 0 < w → w ≤ 1 → w ≡ 1
 one w low high = omega arith
