@@ -1,5 +1,5 @@
 -- A begin.
-use Rattle.std.proofs.Common.{◌≡◌, ◌<◌, ◌^◌, ◌+◌, ◌&&◌, ℕ, Bool, true, false, cond, not, leb, List, [], ◌∷◌, Some, None, Ok, Err, refl, sym, ap, ◌∙◌, subst, arith, append-nil, true≢false}
+use Rattle.std.proofs.Common.{◌≡◌, ◌≤◌, ◌<◌, ◌^◌, ◌+◌, ◌-◌, ◌&&◌, ℕ, Bool, true, false, cond, not, leb, List, [], ◌∷◌, Some, None, Ok, Err, refl, sym, ap, ◌∙◌, subst, arith, append-nil, true≢false}
 use Rattle.std.proofs.lemmas.Bool.{le-leb, leb-true, leb-false}
 use Rattle.map_model.specs.declared.call.Call.TheVariants as call
 use Rattle.map_model.specs.declared.call.Refusal.{Refusal}
@@ -68,25 +68,30 @@ some_is r q e = cc
 none_is : (r : Refusal) → None ≡ Some r → ⊥
 none_is r e = absurd (cc)
 
+-- sixteen blocks are kept back
+block : (n m : ℕ) → n < m - 16 → n + 1 ≤ m
+block n m u = omega arith
+
 -- what holds where no test refuses it
 pub record IsFree (x : Session) (log : Log) : Type 0 where
   pub closed : x.is_open ≡ false
   pub small : x.clock < 2 ^ 62
+  pub room : used log < limit log
 
 pub free_of : (x : Session) (log : Log) → refusal_of true x.is_open x.clock log ≡ None → IsFree x log
 free_of x log e = open_case x.is_open refl e
   where
-    clock_case : x.is_open ≡ false → (b : Bool) → leb (2 ^ 62) x.clock ≡ b → cond b (Some refusal.ClockSpent) None ≡ None → IsFree x log
-    clock_case o true q r = absurd (none_is refusal.ClockSpent (sym r))
-    clock_case o false q r = record { closed = o; small = leb-false (2 ^ 62) x.clock q }
+    clock_case : x.is_open ≡ false → used log < limit log → (b : Bool) → leb (2 ^ 62) x.clock ≡ b → cond b (Some refusal.ClockSpent) None ≡ None → IsFree x log
+    clock_case o u true q r = absurd (none_is refusal.ClockSpent (sym r))
+    clock_case o u false q r = record { closed = o; small = leb-false (2 ^ 62) x.clock q; room = u }
 
-    full_case : x.is_open ≡ false → (b : Bool) → cond b (Some (refusal.LogFull (used log) (limit log))) (cond (leb (2 ^ 62) x.clock) (Some refusal.ClockSpent) None) ≡ None → IsFree x log
-    full_case o true r = absurd (none_is _ (sym r))
-    full_case o false r = clock_case o (leb (2 ^ 62) x.clock) refl r
+    full_case : x.is_open ≡ false → (b : Bool) → leb (limit log) (used log) ≡ b → cond b (Some (refusal.LogFull (used log) (limit log))) (cond (leb (2 ^ 62) x.clock) (Some refusal.ClockSpent) None) ≡ None → IsFree x log
+    full_case o true u r = absurd (none_is _ (sym r))
+    full_case o false u r = clock_case o (leb-false (limit log) (used log) u) (leb (2 ^ 62) x.clock) refl r
 
     open_case : (b : Bool) → x.is_open ≡ b → refusal_of true b x.clock log ≡ None → IsFree x log
     open_case true q r = absurd (none_is _ (sym r))
-    open_case false q r = full_case q (leb (limit log) (used log)) r
+    open_case false q r = full_case q (leb (limit log) (used log)) refl r
 
 -- an engine that is as another
 pub holds_as : (z y : Shape) (v : View) (x u : Session) (log : Log) → y ≡ z → u ≡ x → Holds z v x log → Holds y v u log
@@ -114,7 +119,7 @@ refusal_same z v x log h = go x.works refl
 
 -- ## The session
 
-module _ (begins : controls.EveryBegin) (z : Shape) (v w : View) (x : Session) (log : Log) (h : Holds z v x log) (closed : x.is_open ≡ false) (small : x.clock < 2 ^ 62)
+module _ (begins : controls.EveryBegin) (z : Shape) (v w : View) (x : Session) (log : Log) (h : Holds z v x log) (closed : x.is_open ≡ false) (small : x.clock < 2 ^ 62) (free : used log < limit log)
     (f : ℕ) (e : Heard z 1 0 (λ n. Begin 1 n ∷ []) v f w) where
   after : state w ≡ stepped v.given (state v) (Begin 1 f)
   after = goes_state z v w (Begin 1 f ∷ []) h.alone e.goes
@@ -153,8 +158,10 @@ module _ (begins : controls.EveryBegin) (z : Shape) (v w : View) (x : Session) (
     });
     numbers = record {
       last = h.numbers.last;
+      order = h.numbers.order;
       floor = let a = f_is in let b = h.flushed in omega arith;
       open_low = λ _. omega arith;
+      room = λ _. block (used log) log.blocks free;
       low = h.numbers.low;
       closed_txn = λ q. absurd (true≢false q);
       txn = let q = h.numbers.closed_txn closed in omega arith;
@@ -270,7 +277,7 @@ module _ (reached : EveryReached) (s : Story) (lawful : IsLawful s) (part : Ever
       let free = free_of x log none in
       let still = nothing_yet l g group xs s0 k b in
       let gone = (part l g group xs s0 k [] k b).quiet (happening.Event.Begin 1 f ∷ []) refl still in
-      let shown = subst (λ n. IsBegin l g xs [] 1 n f) (sym is) (is_begin reached l g xs z v x log h k t a line free.closed f (f_is begins z v w x log h free.closed free.small f e ∙ h.flushed)) in (
+      let shown = subst (λ n. IsBegin l g xs [] 1 n f) (sym is) (is_begin reached l g xs z v x log h k t a line free.closed f (f_is begins z v w x log h free.closed free.small free.room f e ∙ h.flushed)) in (
         f,
         record {
           answers = record { answer = (law l g group xs s0 k k [] 1 number f b still shown).answer; known = k; no_earlier = gone.no_earlier; stands = gone.stands; notes = gone.notes; any_moment = gone.any_moment };

@@ -34,8 +34,10 @@ module _ (reached : EveryReached) (g : Opening) (z : Shape) (v : View) (x : Sess
     session = subst (λ s. IsOf x (s.worker 1)) (sym core) of_start;
     numbers = record {
       last = o.last ∙ sym o.session.clock;
+      order = let a = o.last in let b = o.flushed in omega arith;
       floor = let a = o.session.floor in let b = o.flushed in omega arith;
       open_low = λ q. absurd (true≢false (sym q ∙ o.session.is_open));
+      room = λ q. absurd (true≢false (sym q ∙ o.session.is_open));
       low = let a = o.session.clock in let b = o.low in omega arith;
       closed_txn = λ q. let a = o.session.txn in omega arith;
       txn = let a = o.session.txn in omega arith;

@@ -6,7 +6,7 @@ use Rattle.core_state.specs.Needs.{holds_row}
 use Rattle.row_words.specs.Openings.{opening}
 use Rattle.rows_trait.specs.declared.view.View.{View}
 use Rattle.rows_trait.specs.Views.{Shape, state}
-use Rattle.worker_log.specs.Logs.{Log}
+use Rattle.worker_log.specs.Logs.{Log, used}
 use Rattle.row_engine.specs.declared.session.Session.{Session}
 
 -- the session has what the core's worker has
@@ -23,10 +23,13 @@ pub record IsOf (x : Session) (a : Worker) : Type 0 where
 pub record AreNumbers (x : Session) (log : Log) : Type 0 where
   -- the last record has the number of the clock
   pub last : log.last ≡ x.clock
+  pub order : log.flushed ≤ log.last
   pub floor : x.floor ≤ log.flushed
   -- the clock ends, but for what an open transaction has still to come
   pub open_low : x.is_open ≡ true → x.clock ≤ 2 ^ 62
   pub low : x.clock ≤ 2 ^ 62 + 1
+  -- an open transaction finds a block for its end
+  pub room : x.is_open ≡ true → used log + 1 ≤ log.blocks
   -- each transaction but an open one took a number for its end
   pub closed_txn : x.is_open ≡ false → x.txn ≤ x.clock
   pub txn : x.txn ≤ suc x.clock

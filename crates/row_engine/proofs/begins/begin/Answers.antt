@@ -27,7 +27,7 @@ returns-clause-holds g c works =
     let z = g.R.Rows.shape c.args.rows.now in
     let w = g.R.Rows.view c.load_control-floor.new.seat in
     holds_as z (g.R.Rows.shape c.load_control-floor.new.self) w (begun_session x c.load_control-floor.result) c.begun.new.self log c.load_control-floor.ensures.shape c.begun.ensures
-    (after_begin c.every_begin-2.ensures z (g.R.Rows.view c.args.seat.now) w x log (c.requires.holds (works_of x log tests)) free.closed free.small c.load_control-floor.result c.load_control-floor.ensures.step)
+    (after_begin c.every_begin-2.ensures z (g.R.Rows.view c.args.seat.now) w x log (c.requires.holds (works_of x log tests)) free.closed free.small free.room c.load_control-floor.result c.load_control-floor.ensures.step)
 
 pub returns-clause-does : goal.returns-clause-does
 returns-clause-does g c works =
