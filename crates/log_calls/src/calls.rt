@@ -1,5 +1,6 @@
 // Calls on log `number`, over which a run of the core may go on.
-ghost use Rattle.std.specs.Prelude.{◌≡◌, ◌≤◌, ◌<◌, ◌+◌, ◌↔◌, IfOk, IsErrAnd, OnOk};
+ghost use Rattle.std.specs.Prelude.{◌≡◌, ◌≤◌, ◌<◌, ◌+◌, ◌↔◌, Err, IfOk, IsErr, IsErrAnd, OnOk};
+ghost use Rattle.lean_disk.specs.Faults.{HasCause};
 ghost use Rattle.log_record.specs.Spelling.{Fits};
 ghost use Rattle.worker_log.specs.Calls.{After, flushed_log};
 ghost use Rattle.worker_log.specs.Causes.{IsFull, IsLogFull};
@@ -32,6 +33,7 @@ pub fn stage<D: Disk>(
     ensures same_notes { (D.story disk.new).notes ≡ (D.story disk.old).notes }
 
     ensures cause_log_full { IsErrAnd result IsLogFull ↔ IsFull log.old }
+    ensures cause_disk_fault { HasCause (D.faults disk.old) (D.faults disk.new) (result ≡ Err Staging.DiskFault) }
 {
     core_disk::every_version();
     worker_log::every_staged();
@@ -58,6 +60,8 @@ pub fn stage_end<D: Disk>(
     ensures any_moment { KeepsMoments number log.old (D.story disk.old) (D.story disk.new) }
     ensures told { KeepsNotes number log.old (D.story disk.old) (D.story disk.new) }
     ensures same_notes { (D.story disk.new).notes ≡ (D.story disk.old).notes }
+
+    ensures cause_disk_fault { HasCause (D.faults disk.old) (D.faults disk.new) (IsErr result) }
 {
     core_disk::every_version();
     worker_log::every_staged();
@@ -76,6 +80,8 @@ pub fn flush<D: Disk>(disk: &mut D, log: &mut WorkerLog, number: u32) -> Result<
     ensures any_moment { KeepsMoments number log.old (D.story disk.old) (D.story disk.new) }
     ensures told { KeepsNotes number log.old (D.story disk.old) (D.story disk.new) }
     ensures same_notes { (D.story disk.new).notes ≡ (D.story disk.old).notes }
+
+    ensures cause_disk_fault { HasCause (D.faults disk.old) (D.faults disk.new) (IsErr result) }
 {
     core_disk::every_version();
     worker_log::every_flushed();

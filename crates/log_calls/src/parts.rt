@@ -1,5 +1,6 @@
 // The calls of worker_log on the area of log `number`.
-ghost use Rattle.std.specs.Prelude.{◌≡◌, ◌≤◌, ◌<◌, ◌+◌, ◌↔◌, IfOk, IsErrAnd, OnOk};
+ghost use Rattle.std.specs.Prelude.{◌≡◌, ◌≤◌, ◌<◌, ◌+◌, ◌↔◌, Err, IfOk, IsErr, IsErrAnd, OnOk};
+ghost use Rattle.lean_disk.specs.Faults.{HasCause};
 ghost use Rattle.lean_disk.specs.Moments.{CrashIn, Framed, LeavesOnly};
 ghost use Rattle.lean_disk.specs.Story.{Tells};
 ghost use Rattle.log_record.specs.Spelling.{Fits};
@@ -33,6 +34,7 @@ pub(crate) fn stage_on<D: Disk>(
     ensures frame { Framed (1 + number) (D.story disk.old) (D.story disk.new) }
 
     ensures cause_log_full { IsErrAnd result IsLogFull ↔ IsFull log.old }
+    ensures cause_disk_fault { HasCause (D.faults disk.old) (D.faults disk.new) (result ≡ Err Staging.DiskFault) }
 {
     log.stage(&mut AreaOf::new(disk, 1 + number), entry)
 }
@@ -54,6 +56,8 @@ pub(crate) fn stage_end_on<D: Disk>(
     ensures any_moment { (x : Account) → (Tells (D.story disk.old) (1 + number) → IsKept x log.old ((D.story disk.old).area (1 + number)))
         → LeavesOnly (D.story disk.old) (D.story disk.new) (CrashIn (D.story disk.old) (1 + number) (LeavesBlocks x log.old)) }
     ensures frame { Framed (1 + number) (D.story disk.old) (D.story disk.new) }
+
+    ensures cause_disk_fault { HasCause (D.faults disk.old) (D.faults disk.new) (IsErr result) }
 {
     log.stage_end(&mut AreaOf::new(disk, 1 + number), entry)
 }
@@ -72,6 +76,8 @@ pub(crate) fn flush_on<D: Disk>(
     ensures any_moment { (x : Account) → (Tells (D.story disk.old) (1 + number) → IsKept x log.old ((D.story disk.old).area (1 + number)))
         → LeavesOnly (D.story disk.old) (D.story disk.new) (CrashIn (D.story disk.old) (1 + number) (LeavesBlocks x log.old)) }
     ensures frame { Framed (1 + number) (D.story disk.old) (D.story disk.new) }
+
+    ensures cause_disk_fault { HasCause (D.faults disk.old) (D.faults disk.new) (IsErr result) }
 {
     log.flush(&mut AreaOf::new(disk, 1 + number))
 }
