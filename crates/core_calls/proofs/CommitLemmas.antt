@@ -179,7 +179,7 @@ deal_for f (x ∷ h) e i k = go (λ j. deal_for f h e j k) (is_commit x.kind) re
     go ih false q (inl p) = absurd (true≢false (sym k ∙ (ap (λ (y : Entry). is_commit y.kind) p ∙ q)))
     go ih false q (inr j) = ih j
 
-session_deal : (g : Opening) (es : List Event) (e : Entry) → Has e (run g (start g) es).entries → is_commit e.kind ≡ true → (d : Deal) × Has d (deals_in e.log (marks g (start g) es e.log [])) × (d.number ≡ e.txn) × (d.at ≡ e.number)
+pub session_deal : (g : Opening) (es : List Event) (e : Entry) → Has e (run g (start g) es).entries → is_commit e.kind ≡ true → (d : Deal) × Has d (deals_in e.log (marks g (start g) es e.log [])) × (d.number ≡ e.txn) × (d.at ≡ e.number)
 session_deal g es e i k =
     let d = deal_for g.format (run g (start g) es).entries e i k in
     (d.0, subst (λ (l : List Deal). Has d.0 l) ((marked g es).done e.log) (has_keep (is_by e.log) (deals_of g.format (run g (start g) es).entries) d.0 d.1 (eq-eqb d.0.session e.log d.2)), d.3, d.4)

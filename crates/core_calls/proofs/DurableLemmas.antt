@@ -52,7 +52,7 @@ has_later g (e ∷ es) s x i = has_later g es (step g s e) x (has_step g s e x i
 pub history_of : (g : Opening) (es : List Event) → IsHistory g (flushed_by_all g (run g (start g) es)) (run g (start g) es).entries
 history_of g es = (good_run g es (start g) (good_start g)).inv.history
 
-entered : (g : Opening) (es : List Event) (e : Entry) → Has e (run g (start g) es).entries → (b : List Entry) × Before e b (run g (start g) es).entries × Entered g (flushed_by_all g (run g (start g) es)) e b
+pub entered : (g : Opening) (es : List Event) (e : Entry) → Has e (run g (start g) es).entries → (b : List Entry) × Before e b (run g (start g) es).entries × Entered g (flushed_by_all g (run g (start g) es)) e b
 entered g es e i = let p = has_before e (run g (start g) es).entries i in (p.0, p.1, each_at (Entered g (flushed_by_all g (run g (start g) es))) (run g (start g) es).entries e p.0 (history_of g es) p.1)
 
 pub record Ripe (g : Opening) (s : State) (e : Entry) : Type 0 where
@@ -95,7 +95,7 @@ told_to ns e h =
     let q = and_parts (a.0.session == e.log) (a.0.number == e.txn) a.2 in
     subst (λ (n : Name). Has n ns) (ap₂ (λ (x y : ℕ). record { session = x; number = y }) (eqb-true a.0.session e.log q.0) (eqb-true a.0.number e.txn q.1)) a.1
 
-told_from : (ns : List Name) (e : Entry) → Has (name_of e) ns → is_told ns e ≡ true
+pub told_from : (ns : List Name) (e : Entry) → Has (name_of e) ns → is_told ns e ≡ true
 told_from ns e i = has_any (λ n. (n.session == e.log) && (n.number == e.txn)) ns (name_of e) i (and_from (e.log == e.log) (e.txn == e.txn) (eq-eqb e.log e.log refl) (eq-eqb e.txn e.txn refl))
 
 -- ## What is due

@@ -19,3 +19,4 @@ pub mod LineLemmas
 pub mod HinderLemmas
 pub mod OrderLemmas
 pub mod ReleaseLemmas
+pub mod AloneLemmas

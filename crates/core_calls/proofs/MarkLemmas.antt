@@ -117,7 +117,7 @@ deals_more f Kind.Purge r w ms e = refl
 deals_more f Kind.Abort r w ms e = refl
 deals_more f Kind.Commit r w ms e = absurd (true≢false e)
 
-commit_is : (f : Format) (K : Kind) (r : Entry) → is_commit K ≡ true → entry_mark f K r ≡ Some (Ended true r.txn r.number)
+pub commit_is : (f : Format) (K : Kind) (r : Entry) → is_commit K ≡ true → entry_mark f K r ≡ Some (Ended true r.txn r.number)
 commit_is f Kind.Commit r e = refl
 commit_is f Kind.Change r e = absurd (true≢false (sym e))
 commit_is f Kind.Put_back r e = absurd (true≢false (sym e))

@@ -1,4 +1,4 @@
--- Read Marks, Deeds and Told; then Refusals, Fronts, Steps, LogEvents and Runs; then Durables, Printed, Lines and Crashes.
+-- Read Marks, Deeds and Told; then Refusals, Fronts, Steps, LogEvents and Runs; then Durables, Alone, Printed, Lines and Crashes.
 pub mod Marks
 pub mod Deeds
 pub mod Told
@@ -8,6 +8,7 @@ pub mod Steps
 pub mod LogEvents
 pub mod Runs
 pub mod Durables
+pub mod Alone
 pub mod Counts
 pub mod Printed
 pub mod Crashes

@@ -2,6 +2,7 @@
 #![tactic(auto)]
 
 ghost use Rattle.core_calls.specs.Runs.{EveryReleased, EveryRun};
+ghost use Rattle.core_calls.specs.Alone.{EveryAlone};
 ghost use Rattle.core_calls.specs.Crashes.{EveryRunCrash};
 ghost use Rattle.core_calls.specs.Durables.{EveryCommit, EveryDue, EveryDurable, EverySynced};
 ghost use Rattle.core_calls.specs.Counts.{EveryOrdered};
@@ -141,3 +142,16 @@ pub fn every_round_script()
 pub fn every_released()
     ensures { EveryReleased }
 {}
+
+/// With one worker, whose commits are each flushed at once, the durable line of each commit alone follows it, and none follows
+/// another line.
+pub fn every_alone()
+    ensures { EveryAlone }
+{
+    core_commit::every_need();
+    core_commit::every_holder();
+    core_commit::every_floor();
+    core_commit::every_rise();
+    every_durable();
+    every_commit();
+}

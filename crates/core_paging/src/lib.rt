@@ -33,7 +33,7 @@ pub fn every_hot()
     ensures { EveryHot }
 {}
 
-/// Each page's last log, and that of its saved contents, is at most the number of workers, where it is so of what opening gives.
+/// Each page's last log, and that of its saved contents, is at most a number that is so of what opening gives and of the workers.
 pub fn every_last_log()
     ensures { EveryLastLog }
 {}

@@ -47,8 +47,7 @@ one_true : (p q : Bool) → p ≡ true → (p || q) ≡ true
 one_true true q x = refl
 one_true false q x = absurd (true≢false (sym x))
 
-module _ (l : Limits) (g : Opening) (group : ℕ) (xs : List Done) (s0 : Crash) (k a : Known) (old now : Story) (first : List Event) (w number at f : ℕ) (rows : List ℕ) (due : Bool) (r : Record)
-    (b : Between l g group xs s0 k old) (gone : Gone g xs first s0 k old a now) (i : IsCommit g group xs a first w number at f rows due r) where
+module _ (l : Limits) (g : Opening) (group : ℕ) (xs : List Done) (first : List Event) (w number at f : ℕ) (rows : List ℕ) (due : Bool) (r : Record) (i : IsCommit g group xs first w number at f rows due r) where
   abbrev start_state : State
   start_state = state_after g (front xs)
 
@@ -104,10 +103,7 @@ module _ (l : Limits) (g : Opening) (group : ℕ) (xs : List Done) (s0 : Crash) 
   -- the log is not flushed beyond the clock
   low_flushed : s.flushed w < at
   low_flushed =
-      let x = (gone.stands.logs w i.low i.high).accounts in
-      let p = subst (λ (t : State). t.flushed w ≤ (a.log w).flushed) here x.flushed in
-      let q = x.order in
-      let c = i.clock in
+      let c = i.below in
       let n = i.at_is in
       omega arith
 
@@ -191,7 +187,7 @@ module _ (l : Limits) (g : Opening) (group : ℕ) (xs : List Done) (s0 : Crash) 
     released = λ e j. ap (λ (o : Row). holds_row o w) (ap (λ (t : State). t.row j) last_state ∙ row_same g due w at (run g start_state lead) j) ∙ i.released j;
   }
 
-  -- ## The disk
+  -- ## Its events on the disk
 
   behind_end : state_after g (front xs ++ (first ++ end_event ∷ [])) ≡ ended
   behind_end = run_more g (start g) (front xs) (first ++ end_event ∷ []) ∙ (run_more g start_state first (end_event ∷ []) ∙ step_end)
@@ -226,21 +222,8 @@ module _ (l : Limits) (g : Opening) (group : ℕ) (xs : List Done) (s0 : Crash) 
         floor = refl;
       }))
 
-  -- the end was staged, and the rows given back
-  to_lead : EveryVersion → (mid : Story) (log : Log) → EndStaged w r (a.log w) log now mid → (y : Account) × Gone g xs lead s0 k old (with_log a w log y) mid
-  to_lead versions mid log x =
-      let q = stage l g group xs s0 k old now mid first a b end_event w r log gone (record { low = i.low; high = i.high; event = refl; records = records; stages = x.stages; on = x.stage }) in (
-        q.0,
-        subst (λ (z : List Event). Gone g xs z s0 k old (with_log a w log q.0) mid) (append_assoc first (end_event ∷ []) (unlocks w rows))
-            (quiet l g group xs s0 k old mid mid (first ++ end_event ∷ []) (with_log a w log q.0) b versions (unlocks w rows) (unlocks_quiet w rows) q.1),
-      )
-
   number_of : (log : Log) → log.last ≡ r.gsn → log.last ≡ at
   number_of log q = q ∙ (ap (λ (e : Entry). e.number) i.entry ∙ sym i.at_is)
-
-  -- the log, as it is known where the end is staged
-  known_log : (log : Log) (y : Account) → (with_log a w log y).log w ≡ log
-  known_log log y = upd_same a.log w log w refl
 
   with_flush : due ≡ true → lead ++ Event.Flush w at ∷ [] ≡ done.events
   with_flush e = ap (λ (d : Bool). lead ++ flush_if d w at) (sym e)
@@ -248,37 +231,53 @@ module _ (l : Limits) (g : Opening) (group : ℕ) (xs : List Done) (s0 : Crash) 
   without_flush : due ≡ false → lead ≡ done.events
   without_flush e = sym (append-nil lead) ∙ ap (λ (d : Bool). lead ++ flush_if d w at) (sym e)
 
-  -- where the call has come to the last of its events it is answered
-  ends_so : (es : List Event) → es ≡ done.events → (c : Known) (new : Story) → Gone g xs es s0 k old c new → CallAnswers l g group xs done s0 k old new
-  ends_so es is c new x = let y = subst (λ (z : List Event). Gone g xs z s0 k old c new) is x in
-      record { answer = tells; known = c; no_earlier = y.no_earlier; stands = y.stands; notes = y.notes; any_moment = y.any_moment }
+  -- ## Over a disk that stands for the events before the end
 
-  pub commit_laws : EveryVersion → (mid new : Story) → CommitLaws l g group xs s0 k a done w due r old now mid new
-  commit_laws versions mid new = record {
-    flushed = λ e mid_log log x y.
-        let st = to_lead versions mid mid_log x in
-        let c = with_log a w mid_log st.0 in
-        ends_so (lead ++ Event.Flush w at ∷ []) (with_flush e) (with_log c w log (flushed (c.account w))) new
-        (flush l g group xs s0 k old mid new lead c b (Event.Flush w at) w at log st.1 (record {
-          low = i.low;
-          high = i.high;
-          event = refl;
-          flushes = flushes;
-          within = subst (λ (z : Log). at ≤ z.last) (sym (known_log mid_log st.0)) (let q = number_of mid_log x.last in omega arith);
-          call = subst (λ (z : Log). FlushesOn w z log mid new) (sym (known_log mid_log st.0)) y.flushes;
-          on = subst (λ (z : Log). OnLog w z mid new) (sym (known_log mid_log st.0)) y.flush;
-        }));
-    unflushed = λ e mid_log x on.
-        let st = to_lead versions mid mid_log x in
-        let c = with_log a w mid_log st.0 in
-        Part done tells (subst (λ (z : List Event). LeavesOnly old new (CallLeaves g xs z s0 k.master)) (with_flush e)
-        (whole l g group xs s0 k old mid new lead c b (Event.Flush w at ∷ []) st.1
-        (on_log l g group xs s0 k old mid new lead c b (Event.Flush w at ∷ []) w i.low i.high st.1 (subst (λ (z : Log). OnLog w z mid new) (sym (known_log mid_log st.0)) on))));
-    staged = λ e log x. let st = to_lead versions new log x in ends_so lead (without_flush e) (with_log a w log st.0) new st.1;
-    unstaged = λ on. Nothing (first ++ [])
-        (subst (λ (z : List Event). (v : ℕ) → commits (marks g start_state z v []) ≡ false) (sym (append-nil first)) (commits_none g start_state first silent))
-        (whole l g group xs s0 k old now new first a b [] gone (on_log l g group xs s0 k old now new first a b [] w i.low i.high gone on));
-  }
+  module _ (s0 : Crash) (k a : Known) (old now : Story) (b : Between l g group xs s0 k old) (gone : Gone g xs first s0 k old a now) where
+    -- the end was staged, and the rows given back
+    to_lead : EveryVersion → (mid : Story) (log : Log) → EndStaged w r (a.log w) log now mid → (y : Account) × Gone g xs lead s0 k old (with_log a w log y) mid
+    to_lead versions mid log x =
+        let q = stage l g group xs s0 k old now mid first a b end_event w r log gone (record { low = i.low; high = i.high; event = refl; records = records; stages = x.stages; on = x.stage }) in (
+          q.0,
+          subst (λ (z : List Event). Gone g xs z s0 k old (with_log a w log q.0) mid) (append_assoc first (end_event ∷ []) (unlocks w rows))
+              (quiet l g group xs s0 k old mid mid (first ++ end_event ∷ []) (with_log a w log q.0) b versions (unlocks w rows) (unlocks_quiet w rows) q.1),
+        )
+
+    -- the log, as it is known where the end is staged
+    known_log : (log : Log) (y : Account) → (with_log a w log y).log w ≡ log
+    known_log log y = upd_same a.log w log w refl
+
+    -- where the call has come to the last of its events it is answered
+    ends_so : (es : List Event) → es ≡ done.events → (c : Known) (new : Story) → Gone g xs es s0 k old c new → CallAnswers l g group xs done s0 k old new
+    ends_so es is c new x = let y = subst (λ (z : List Event). Gone g xs z s0 k old c new) is x in
+        record { answer = tells; known = c; no_earlier = y.no_earlier; stands = y.stands; notes = y.notes; any_moment = y.any_moment }
+
+    pub commit_laws : EveryVersion → (mid new : Story) → CommitLaws l g group xs s0 k a done w due r old now mid new
+    commit_laws versions mid new = record {
+      flushed = λ e mid_log log x y.
+          let st = to_lead versions mid mid_log x in
+          let c = with_log a w mid_log st.0 in
+          ends_so (lead ++ Event.Flush w at ∷ []) (with_flush e) (with_log c w log (flushed (c.account w))) new
+          (flush l g group xs s0 k old mid new lead c b (Event.Flush w at) w at log st.1 (record {
+            low = i.low;
+            high = i.high;
+            event = refl;
+            flushes = flushes;
+            within = subst (λ (z : Log). at ≤ z.last) (sym (known_log mid_log st.0)) (let q = number_of mid_log x.last in omega arith);
+            call = subst (λ (z : Log). FlushesOn w z log mid new) (sym (known_log mid_log st.0)) y.flushes;
+            on = subst (λ (z : Log). OnLog w z mid new) (sym (known_log mid_log st.0)) y.flush;
+          }));
+      unflushed = λ e mid_log x on.
+          let st = to_lead versions mid mid_log x in
+          let c = with_log a w mid_log st.0 in
+          Part done tells (subst (λ (z : List Event). LeavesOnly old new (CallLeaves g xs z s0 k.master)) (with_flush e)
+          (whole l g group xs s0 k old mid new lead c b (Event.Flush w at ∷ []) st.1
+          (on_log l g group xs s0 k old mid new lead c b (Event.Flush w at ∷ []) w i.low i.high st.1 (subst (λ (z : Log). OnLog w z mid new) (sym (known_log mid_log st.0)) on))));
+      staged = λ e log x. let st = to_lead versions new log x in ends_so lead (without_flush e) (with_log a w log st.0) new st.1;
+      unstaged = λ on. Nothing (first ++ [])
+          (subst (λ (z : List Event). (v : ℕ) → commits (marks g start_state z v []) ≡ false) (sym (append-nil first)) (commits_none g start_state first silent))
+          (whole l g group xs s0 k old now new first a b [] gone (on_log l g group xs s0 k old now new first a b [] w i.low i.high gone on));
+    }
 
 pub every_commit : EveryVersion → (old now mid new : Story) → EveryCommit old now mid new
-every_commit versions old now mid new l g group xs s0 k a first w number at f rows due r b gone i = commit_laws l g group xs s0 k a old now first w number at f rows due r b gone i versions mid new
+every_commit versions old now mid new l g group xs s0 k a first w number at f rows due r b gone i = commit_laws l g group xs first w number at f rows due r i s0 k a old now b gone versions mid new

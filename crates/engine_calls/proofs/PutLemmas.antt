@@ -94,7 +94,7 @@ module _ (l : Limits) (g : Opening) (group : ℕ) (xs : List Done) (before betwe
         (whole l g group xs s0 k old mid new first a b [] gone (on_log l g group xs s0 k old mid new first a b [] w i.low i.high gone on));
   }
 
-put_tells : (l : Limits) (g : Opening) (group : ℕ) (xs : List Done) (before between : List Event) (w page key value : ℕ) (was : Option ℕ) (r : Record)
+pub put_tells : (l : Limits) (g : Opening) (group : ℕ) (xs : List Done) (before between : List Event) (w page key value : ℕ) (was : Option ℕ) (r : Record)
     → IsWrite g xs before between w page key value was r → write_call g.format key value ≡ MapCall.Put key value
     → Tells l g group xs (changed_by (Changed key value was) (taking g w key Mode.Alone before between) w page key value)
 put_tells l g group xs before between w page key value was r i q =

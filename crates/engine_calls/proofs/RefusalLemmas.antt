@@ -1,13 +1,19 @@
 -- A refusal.
-use Rattle.std.proofs.Common.{◌≡◌, Bool, true, false, cond, ◌==◌, List, [], refl, sym, ◌∙◌, true≢false}
+use Rattle.std.proofs.Common.{◌≡◌, ℕ, Bool, true, false, cond, ◌==◌, List, [], refl, sym, ◌∙◌, true≢false}
 use Rattle.std.proofs.lemmas.List.{append-nil}
 use Rattle.map_model.specs.Lists.{keep}
+use Rattle.map_model.specs.declared.call.Call.{Call}
+use Rattle.map_model.specs.declared.call.Refusal.{Refusal}
+use Rattle.core_state.specs.Openings.{Opening}
+use Rattle.core_state.specs.Events.{Event}
 use Rattle.core_state.specs.Steps.{state_after}
 use Rattle.lean_disk.specs.Story.{Story}
-use Rattle.core_calls.specs.Fronts.{front}
+use Rattle.core_calls.specs.Fronts.{Done, front}
 use Rattle.core_calls.specs.Marks.{Mark}
+use Rattle.core_calls.specs.Refusals.{Limits}
+use Rattle.core_calls.specs.Runs.{Tells}
 use Rattle.core_calls.specs.Steps.{is_step}
-use Rattle.engine_calls.specs.Refused.{EveryRefusal}
+use Rattle.engine_calls.specs.Refused.{EveryRefusal, IsRefusal, refused_by}
 use Rattle.engine_calls.proofs.MarkLemmas.{fresh_none, marks_none, taken_none, tries}
 
 abbrev nothing : List Mark
@@ -17,24 +23,21 @@ no_one : (c : Bool) → nothing ≡ cond c nothing nothing
 no_one true = refl
 no_one false = refl
 
-pub every_refusal : (old new : Story) → EveryRefusal old new
-every_refusal old new l g group xs s0 k a w c why es b x i = record {
-  answer = record {
-    met = i.met;
-    fresh = fresh_none g (state_after g (front xs)) es (taken_none w es i.rows);
-    told = λ v. marks_none g (state_after g (front xs)) es v [] (taken_none w es i.rows) ∙ no_one (w == v);
-    in_turn = tt;
-    steps = (refl, i.no_backs, tries w (keep is_step es) i.rows);
-    hindered = i.comes.hindered;
-    goes_on = i.comes.goes_on;
-    structure = i.structure;
-    logs = i.due;
-    refused = (es, [], sym (append-nil es), i.cause);
-    released = λ e. absurd (true≢false (sym e));
-  };
-  known = a;
-  no_earlier = x.no_earlier;
-  stands = x.stands;
-  notes = x.notes;
-  any_moment = x.any_moment;
+pub tells : (l : Limits) (g : Opening) (group : ℕ) (xs : List Done) (w : ℕ) (c : Call) (why : Refusal) (es : List Event) → IsRefusal l g xs w c why es → Tells l g group xs (refused_by w c why es)
+tells l g group xs w c why es i = record {
+  met = i.met;
+  fresh = fresh_none g (state_after g (front xs)) es (taken_none w es i.rows);
+  told = λ v. marks_none g (state_after g (front xs)) es v [] (taken_none w es i.rows) ∙ no_one (w == v);
+  in_turn = tt;
+  steps = (refl, i.no_backs, tries w (keep is_step es) i.rows);
+  hindered = i.comes.hindered;
+  goes_on = i.comes.goes_on;
+  structure = i.structure;
+  logs = i.due;
+  refused = (es, [], sym (append-nil es), i.cause);
+  released = λ e. absurd (true≢false (sym e));
 }
+
+pub every_refusal : (old new : Story) → EveryRefusal old new
+every_refusal old new l g group xs s0 k a w c why es b x i =
+    record { answer = tells l g group xs w c why es i; known = a; no_earlier = x.no_earlier; stands = x.stands; notes = x.notes; any_moment = x.any_moment }

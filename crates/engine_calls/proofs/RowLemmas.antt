@@ -3,7 +3,6 @@ use Rattle.std.proofs.Common.{◌≡◌, ℕ, Bool, true, false, List, [], ◌�
 use Rattle.core_crash.proofs.ByHand.{opening}
 use Rattle.core_calls.specs.Fronts.{Done, front}
 use Rattle.core_calls.proofs.HandLemmas.{free_all, limits}
-use Rattle.disk_runs.specs.Stands.{Known}
 use Rattle.engine_calls.specs.Begins.{IsBegin}
 use Rattle.engine_calls.specs.Commits.{IsCommit, fills}
 use Rattle.engine_calls.specs.Parts.{behind_first}
@@ -30,8 +29,8 @@ put_shown = record {
 abbrev earlier : List Done
 earlier = put opening ∷ begun ∷ []
 
-commit_shown : (group : ℕ) (due : Bool) → fills group (behind_first opening earlier []) 1 ≡ due → (a : Known) → (a.log 1).last ≡ 1 → IsCommit opening group earlier a [] 1 1 2 0 (5 ∷ []) due end_record
-commit_shown group due q a last = record {
+commit_shown : (group : ℕ) (due : Bool) → fills group (behind_first opening earlier []) 1 ≡ due → IsCommit opening group earlier [] 1 1 2 0 (5 ∷ []) due end_record
+commit_shown group due q = record {
   line = (refl, refl);
   low = omega arith;
   high = omega arith;
@@ -44,7 +43,7 @@ commit_shown group due q a last = record {
   number_is = refl;
   at_is = refl;
   entry = refl;
-  clock = last;
+  below = omega arith;
   released = free_all (front (committed false ∷ earlier)) 1 refl;
   due_is = q;
 }

@@ -1,5 +1,5 @@
 -- A whole run.
-use Rattle.std.proofs.Common.{◌≡◌, ℕ, List, [], ◌∷◌, refl, suc, arith}
+use Rattle.std.proofs.Common.{◌≡◌, ℕ, List, [], ◌∷◌, suc, arith}
 use Rattle.core_state.specs.Openings.{Opening}
 use Rattle.lean_disk.specs.Moments.{LeavesOnly}
 use Rattle.lean_disk.specs.Area.{Leaves}
@@ -14,15 +14,17 @@ use Rattle.core_disk.specs.Shows.{EveryShown}
 use Rattle.core_calls.specs.Crashes.{EveryRunCrash}
 use Rattle.core_calls.specs.Fronts.{Done, front}
 use Rattle.core_calls.specs.Refusals.{Limits}
+use Rattle.core_calls.specs.Runs as runs
 use Rattle.disk_runs.specs.Fair.{IsFairFrom}
 use Rattle.disk_runs.specs.Stands.{Known, Stands}
 use Rattle.disk_runs.proofs.LineLemmas.{opened}
 use Rattle.disk_runs.proofs.MomentLemmas.{some_laws}
 use Rattle.disk_runs.proofs.StandLemmas.{every_same, log_part, master_part, page_part}
+use Rattle.run_crashes.specs.Laws.{CommitsNone, OfEachFirst, Passing}
 use Rattle.run_crashes.specs.Lines.{CallLeaves, PutLeaves, RunLeft}
-use Rattle.run_crashes.proofs.LineLemmas.{every_crashed_line, every_line, every_stop}
-use Rattle.engine_calls.specs.Clauses.{CallAnswers, CallStops, Nothing, Part}
-use Rattle.engine_calls.specs.Runs.{EveryRun, LeftOf, LineCrash, Runs}
+use Rattle.run_crashes.proofs.LineLemmas.{every_crashed_line_for, every_line_for, every_stop_for}
+use Rattle.engine_calls.specs.Clauses.{CallAnswers}
+use Rattle.engine_calls.specs.Runs.{EveryRun, EveryRunFor, LeftOf, LineCrash, Runs}
 use Rattle.engine_calls.proofs.MomentLemmas.{still}
 
 -- a crash that leaves the areas as they are now leaves what one now would
@@ -36,9 +38,9 @@ as_now keeps prefixes seals g es s0 x s stands c fair writes leaves = record {
 }
 
 module _ (shown : EveryShown) (crashes : EveryRunCrash) (agrees : EveryAgreement) (keeps : EveryKept) (prefixes : EveryPrefix) (seals : EverySealed)
-    (l : Limits) (g : Opening) (group : ℕ) (s0 : Crash) (m : Master) (k : Known) (from old new : Story) where
+    (Such : List Event → Type 0) (l : Limits) (g : Opening) (group : ℕ) (s0 : Crash) (m : Master) (k : Known) (from old new : Story) where
   -- while lines are put the disk stands for the events of the call
-  puts : (out : Story) (xs : List Done) (x : Done) → Runs l g group xs s0 m k from old → (a : CallAnswers l g group xs x s0 k old new)
+  puts : (out : Story) (xs : List Done) (x : Done) → Runs l g group Such xs s0 m k from old → (a : CallAnswers l g group xs x s0 k old new)
       → LeavesOnly new out (LineCrash g xs x s0 new) → LeavesOnly new out (PutLeaves g xs x s0 a.known.master)
   puts out xs x r a p = weaker new out (LineCrash g xs x s0 new) (PutLeaves g xs x s0 a.known.master)
       (λ c h. record {
@@ -50,30 +52,36 @@ module _ (shown : EveryShown) (crashes : EveryRunCrash) (agrees : EveryAgreement
       }) p
 
   -- so a run goes on by the call and its lines
-  pub line : (out : Story) (xs : List Done) (x : Done) → Runs l g group xs s0 m k from old → (a : CallAnswers l g group xs x s0 k old new)
-      → LeavesOnly new out (LineCrash g xs x s0 new) → LeavesOnly from out (RunLeft g (x ∷ xs) s0 m)
-  line out xs x r a p = every_line shown crashes agrees from old new out l g group s0 m k.master a.known.master xs x (r.between.told, a.answer) r.of_run (opened m k.master a.known.master r.of_run a.no_earlier)
+  pub line : (out : Story) (xs : List Done) (x : Done) → Runs l g group Such xs s0 m k from old → (a : CallAnswers l g group xs x s0 k old new)
+      → LeavesOnly new out (LineCrash g xs x s0 new) → LeavesOnly from out (RunLeft g Such (x ∷ xs) s0 m)
+  line out xs x r a p = every_line_for shown crashes agrees Such from old new out l g group s0 m k.master a.known.master xs x (r.between.told, a.answer) r.of_run (opened m k.master a.known.master r.of_run a.no_earlier)
       r.any_moment a.any_moment (puts out xs x r a p)
 
-  pub stop : (xs : List Done) → Runs l g group xs s0 m k from old → CallStops l g group xs s0 k old new → LeftOf l g group s0 m from new
-  stop xs r (Nothing es none p) = record {
+  -- a call that committed nothing, with such events, and the first part of one that would be answered so
+  pub stop : (xs : List Done) → Runs l g group Such xs s0 m k from old → (es : List Event) → CommitsNone g xs es → OfEachFirst Such es
+      → LeavesOnly old new (CallLeaves g xs es s0 k.master) → LeftOf l g group Such s0 m from new
+  stop xs r es none such p = record {
     calls = xs;
     told = r.between.told;
-    any_moment = (every_stop shown crashes agrees from old new l g group s0 m k.master xs).nothing es r.between.told none r.of_run r.any_moment p;
-  }
-  stop xs r (Part x tells p) = record {
-    calls = x ∷ xs;
-    told = (r.between.told, tells);
-    any_moment = (every_stop shown crashes agrees from old new l g group s0 m k.master xs).part x (r.between.told, tells) r.of_run r.any_moment p;
+    any_moment = (every_stop_for shown crashes agrees Such from old new l g group s0 m k.master xs).nothing es r.between.told none such r.of_run r.any_moment p;
   }
 
-pub every_run : EveryShown → EveryRunCrash → EveryAgreement → EveryKept → EveryPrefix → EverySealed → (from old new out : Story) → EveryRun from old new out
-every_run shown crashes agrees keeps prefixes seals from old new out l g group s0 m k = record {
+  pub stop_in : (xs : List Done) (x : Done) → Runs l g group Such xs s0 m k from old → runs.Tells l g group xs x → LeavesOnly old new (CallLeaves g xs x.events s0 k.master)
+      → LeftOf l g group Such s0 m from new
+  stop_in xs x r tells p = record {
+    calls = x ∷ xs;
+    told = (r.between.told, tells);
+    any_moment = (every_stop_for shown crashes agrees Such from old new l g group s0 m k.master xs).part x (r.between.told, tells) r.of_run r.any_moment p;
+  }
+
+-- with events of any kind
+pub every_run_for : EveryShown → EveryRunCrash → EveryAgreement → EveryKept → EveryPrefix → EverySealed → (Such : List Event → Type 0) → (from old new out : Story) → EveryRunFor Such from old new out
+every_run_for shown crashes agrees keeps prefixes seals Such from old new out l g group s0 m k = record {
   begins = λ law counts stands of_run notes. record {
     between = record { told = tt; stands = stands; counts = counts; notes = notes };
     of_run = of_run;
-    any_moment = weaker from from (CallLeaves g [] [] s0 k.master) (RunLeft g [] s0 m)
-        (λ c. (every_crashed_line shown crashes agrees l g group s0 m k.master [] c).stopped [] tt (λ w. refl) of_run)
+    any_moment = weaker from from (CallLeaves g [] [] s0 k.master) (RunLeft g Such [] s0 m)
+        (λ c. (every_crashed_line_for shown crashes agrees Such l g group s0 m k.master [] c).behind tt of_run)
         (still keeps prefixes seals g [] [] s0 k from law stands notes);
   };
   answered = λ xs x r a lines. record {
@@ -84,8 +92,17 @@ every_run shown crashes agrees keeps prefixes seals from old new out l g group s
       notes = lines.notes;
     };
     of_run = opened m k.master a.known.master r.of_run a.no_earlier;
-    any_moment = line shown crashes agrees keeps prefixes seals l g group s0 m k from old new out xs x r a lines.any_moment;
+    any_moment = line shown crashes agrees keeps prefixes seals Such l g group s0 m k from old new out xs x r a lines.any_moment;
   };
-  unheard = λ xs x r a p. record { calls = x ∷ xs; told = (r.between.told, a.answer); any_moment = line shown crashes agrees keeps prefixes seals l g group s0 m k from old new out xs x r a p };
-  stopped = λ xs r s. stop shown crashes agrees keeps prefixes seals l g group s0 m k from old new xs r s;
+  unheard = λ xs x r a p. record {
+    calls = x ∷ xs;
+    told = (r.between.told, a.answer);
+    any_moment = line shown crashes agrees keeps prefixes seals Such l g group s0 m k from old new out xs x r a p;
+  };
+  stopped = stop shown crashes agrees keeps prefixes seals Such l g group s0 m k from old new;
+  in_part = stop_in shown crashes agrees keeps prefixes seals Such l g group s0 m k from old new;
 }
+
+-- and with those that a test tells
+pub every_run : EveryShown → EveryRunCrash → EveryAgreement → EveryKept → EveryPrefix → EverySealed → (from old new out : Story) → EveryRun from old new out
+every_run shown crashes agrees keeps prefixes seals from old new out test = every_run_for shown crashes agrees keeps prefixes seals (Passing test) from old new out

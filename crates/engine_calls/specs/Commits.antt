@@ -44,9 +44,9 @@ abbrev pub fills : (group : ℕ) → State → ℕ → Bool
 fills group s w = leb group (suc (behind s w))
 
 -- What the body shows: it is asked on a new line; before the end there is no step, no change of the tree, and nothing done to logs; the need of each
--- event is met, and no abort is half done; r is the end's record; the log's last number is the session's clock; the rows are those that it holds;
+-- event is met, and no abort is half done; r is the end's record; the log is flushed no further than the session's clock; the rows are those that it holds;
 -- and a flush is due exactly where the commit fills the group.
-pub record IsCommit (g : Opening) (group : ℕ) (xs : List Done) (a : Known) (first : List Event) (w number at f : ℕ) (rows : List ℕ) (due : Bool) (r : Record) : Type 0 where
+pub record IsCommit (g : Opening) (group : ℕ) (xs : List Done) (first : List Event) (w number at f : ℕ) (rows : List ℕ) (due : Bool) (r : Record) : Type 0 where
   pub line : IsNewLine (outcomes xs)
   pub low : 0 < w
   pub high : w ≤ g.workers
@@ -59,7 +59,7 @@ pub record IsCommit (g : Opening) (group : ℕ) (xs : List Done) (a : Known) (fi
   pub number_is : number ≡ ((behind_first g xs first).worker w).txn
   pub at_is : at ≡ suc ((behind_first g xs first).worker w).clock
   pub entry : entry_of w r ≡ end_entry Kind.Commit w ((behind_first g xs first).worker w) f
-  pub clock : (a.log w).last ≡ ((behind_first g xs first).worker w).clock
+  pub below : (behind_first g xs first).flushed w ≤ ((behind_first g xs first).worker w).clock
   pub released : (i : ℕ) → holds_row ((behind_first g xs (first ++ ending w f rows)).row i) w ≡ false
   pub due_is : fills group (behind_first g xs first) w ≡ due
 
@@ -88,5 +88,5 @@ pub record CommitLaws (l : Limits) (g : Opening) (group : ℕ) (xs : List Done) 
 -- in each run
 abbrev pub EveryCommit : (old now mid new : Story) → Type 0
 EveryCommit old now mid new = (l : Limits) (g : Opening) (group : ℕ) (xs : List Done) (s0 : Crash) (k a : Known) (first : List Event) (w number at f : ℕ) (rows : List ℕ) (due : Bool) (r : Record)
-    → Between l g group xs s0 k old → Gone g xs first s0 k old a now → IsCommit g group xs a first w number at f rows due r
+    → Between l g group xs s0 k old → Gone g xs first s0 k old a now → IsCommit g group xs first w number at f rows due r
     → CommitLaws l g group xs s0 k a (committed_by first w number at f rows due) w due r old now mid new

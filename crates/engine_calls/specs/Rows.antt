@@ -7,7 +7,6 @@ use Rattle.log_record.specs.declared.record.Record.{Record}
 use Rattle.core_calls.specs.Deeds.{Changed}
 use Rattle.core_calls.specs.Fronts.{Done}
 use Rattle.core_calls.specs.Refusals.{Limits}
-use Rattle.disk_runs.specs.Stands.{Known}
 use Rattle.engine_calls.specs.Begins.{IsBegin, begun_by}
 use Rattle.engine_calls.specs.Commits.{IsCommit, committed_by}
 use Rattle.engine_calls.specs.Puts.{IsWrite, changed_by, taking}
@@ -41,6 +40,6 @@ pub record Rows : Type 0 where
   pub put_shown : IsWrite opening (begun ∷ []) [] [] 1 0 5 7 None put_record
   -- in groups of one there is a flush, in groups of two there is none
   pub flush_events : (committed true).events ≡ Event.End 1 true 0 ∷ Event.Unlock 1 5 ∷ Event.Flush 1 2 ∷ []
-  pub flush_shown : (a : Known) → (a.log 1).last ≡ 1 → IsCommit opening 1 (put opening ∷ begun ∷ []) a [] 1 1 2 0 (5 ∷ []) true end_record
+  pub flush_shown : IsCommit opening 1 (put opening ∷ begun ∷ []) [] 1 1 2 0 (5 ∷ []) true end_record
   pub no_flush_events : (committed false).events ≡ Event.End 1 true 0 ∷ Event.Unlock 1 5 ∷ []
-  pub no_flush_shown : (a : Known) → (a.log 1).last ≡ 1 → IsCommit opening 2 (put opening ∷ begun ∷ []) a [] 1 1 2 0 (5 ∷ []) false end_record
+  pub no_flush_shown : IsCommit opening 2 (put opening ∷ begun ∷ []) [] 1 1 2 0 (5 ∷ []) false end_record

@@ -5,6 +5,7 @@
 #![tactic(auto)]
 
 ghost use Rattle.engine_calls.specs.Aborts.{EveryAbort};
+ghost use Rattle.engine_calls.specs.Answers.{EveryAnswer};
 ghost use Rattle.engine_calls.specs.Begins.{EveryBegin};
 ghost use Rattle.engine_calls.specs.Clauses.{EveryComing};
 ghost use Rattle.engine_calls.specs.Commits.{EveryCommit};
@@ -78,6 +79,11 @@ pub fn every_sync<D: Disk>(old: &D, new: &D)
 /// A call that is refused took rows at most.
 pub fn every_refusal<D: Disk>(old: &D, new: &D)
     ensures { EveryRefusal (D.story old.now) (D.story new.now) }
+{}
+
+/// The answers of a begin, a get, a put, a commit and a refusal, whatever a disk is.
+pub fn every_answer()
+    ensures { EveryAnswer }
 {}
 
 /// A whole run, call by call, with its lines.

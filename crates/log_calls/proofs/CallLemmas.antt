@@ -20,7 +20,7 @@ use Rattle.worker_log.specs.Laws.{EveryFlushed, EveryKept, EveryPrefix, EverySta
 use Rattle.core_disk.specs.Versions.{EveryVersion}
 use Rattle.disk_runs.specs.Stands.{Known}
 use Rattle.disk_runs.proofs.StandLemmas.{every_flush, every_log_call, every_stage}
-use Rattle.log_calls.specs.Calls.{FlushesOn, IsLog, KeepsMoments, KeepsNotes, StagesOn}
+use Rattle.log_calls.specs.Calls.{Anything, FlushesOn, IsLog, KeepsMoments, KeepsNotes, KeepsWithin, StagesOn}
 
 -- what worker_log says of a call's moments
 abbrev pub Moments : ℕ → Log → (old new : Story) → Type 0
@@ -43,6 +43,16 @@ module _ (a w : ℕ) (at : a ≡ suc w) (was is : Log) (old new : Story) where
 
   pub notes : Moments a was old new → KeepsNotes w was old new
   notes m s0 g es x it = weaker old new (CrashIn old (suc w) (LeavesBlocks (x.account w) (x.log w))) (λ c. c.notes ≡ old.notes) (λ c i. i.notes) (in_run m s0 g es x it)
+
+  pub within : Moments a was old new → KeepsWithin w was old new
+  within m s0 g es x it =
+      let next : suc w ≡ w + 1 = omega arith in
+      subst (λ (k : ℕ). LeavesOnly old new (CrashIn old k Anything)) next
+      (weaker old new (CrashIn old (suc w) (LeavesBlocks (x.account w) (x.log w))) (CrashIn old (suc w) Anything)
+      (λ c i. record { notes = i.notes; writes = i.writes; leaves = i.leaves; here = tt }) (in_run m s0 g es x it))
+
+  pub frame : Framed a old new → Framed (w + 1) old new
+  frame f = let next : a ≡ w + 1 = omega arith in subst (λ (k : ℕ). Framed k old new) next f
 
   pub stages : EveryVersion → EveryStaged → (r : Record) → was.last < r.gsn → IsInRange is → After r was is → Framed a old new
       → ((x : Account) → Tells new a → IsKept x was (old.area a) → StagesTo r x was is (new.area a)) → StagesOn w r was is old new

@@ -1,9 +1,10 @@
 -- What calls on one log of several mean to a run of the core.
-use Rattle.std.specs.Prelude.{◌≡◌, ◌<◌, ◌≤◌, ℕ, false, List}
+use Rattle.std.specs.Prelude.{◌≡◌, ◌+◌, ◌<◌, ◌≤◌, ℕ, false, List}
 use Rattle.core_state.specs.Openings.{Opening}
 use Rattle.core_state.specs.Events.{Event}
 use Rattle.core_state.specs.Steps.{state_after}
-use Rattle.lean_disk.specs.Moments.{LeavesOnly}
+use Rattle.lean_disk.specs.Area.{Write}
+use Rattle.lean_disk.specs.Moments.{CrashIn, LeavesOnly}
 use Rattle.lean_disk.specs.Story.{Crash, Story}
 use Rattle.log_record.specs.declared.record.Record.{Record}
 use Rattle.disk_image.specs.Records.{entry_of}
@@ -29,6 +30,14 @@ KeepsMoments w log old new = (s0 : Crash) (g : Opening) (es : List Event) (x : K
 -- And no line came out: at every moment the notes are those before the call.
 abbrev pub KeepsNotes : (w : ℕ) → Log → (old new : Story) → Type 0
 KeepsNotes w log old new = (s0 : Crash) (g : Opening) (es : List Event) (x : Known) → IsLog g es s0 x w log old → LeavesOnly old new (λ c. c.notes ≡ old.notes)
+
+-- no matter what the writes and the bytes are
+abbrev pub Anything : List Write → List ℕ → Type 0
+Anything writes bytes = Unit {0}
+
+-- And the call stays within the area of its log: at every moment a crash leaves the other areas as they were before the call.
+abbrev pub KeepsWithin : (w : ℕ) → Log → (old new : Story) → Type 0
+KeepsWithin w log old new = (s0 : Crash) (g : Opening) (es : List Event) (x : Known) → IsLog g es s0 x w log old → LeavesOnly old new (CrashIn old (w + 1) Anything)
 
 -- The record was staged, as the event that enters it.
 abbrev pub StagesOn : (w : ℕ) → Record → (was is : Log) → (old new : Story) → Type 0

@@ -1,11 +1,13 @@
 // Calls on log `number`, over which a run of the core may go on.
 ghost use Rattle.std.specs.Prelude.{◌≡◌, ◌≤◌, ◌<◌, ◌+◌, ◌↔◌, Err, IfOk, IsErr, IsErrAnd, OnOk};
 ghost use Rattle.lean_disk.specs.Faults.{HasCause};
+ghost use Rattle.lean_disk.specs.Moments.{Framed};
 ghost use Rattle.log_record.specs.Spelling.{Fits};
 ghost use Rattle.worker_log.specs.Calls.{After, flushed_log};
 ghost use Rattle.worker_log.specs.Causes.{IsFull, IsLogFull};
+ghost use Rattle.worker_log.specs.Kept.{IsInRange};
 ghost use Rattle.worker_log.specs.Logs.{used};
-ghost use Rattle.log_calls.specs.Calls.{FlushesOn, KeepsMoments, KeepsNotes, StagesOn};
+ghost use Rattle.log_calls.specs.Calls.{FlushesOn, KeepsMoments, KeepsNotes, KeepsWithin, StagesOn};
 
 use crate::parts::{flush_on, stage_end_on, stage_on};
 use lean_disk::Disk;
@@ -22,14 +24,18 @@ pub fn stage<D: Disk>(
     requires number { number ≤ 16 }
     requires fits { Fits entry.now }
     requires rises { log.old.last < entry.now.gsn }
+    ensures ranges { IsInRange log.new }
     ensures after { OnOk result (After entry.now log.old log.new) }
     ensures last { OnOk result (log.new.last ≡ entry.now.gsn) }
     ensures room { OnOk result (used log.new + 1 ≤ log.new.blocks) }
     ensures same_log { IsErrAnd result IsLogFull → log.new ≡ log.old }
+    ensures failed { result ≡ Err Staging.DiskFault → log.new ≡ log.old }
     ensures same_disk { IsErrAnd result IsLogFull → disk.new ≡ disk.old }
     ensures stands { OnOk result (StagesOn number entry.now log.old log.new (D.story disk.old) (D.story disk.new)) }
     ensures any_moment { KeepsMoments number log.old (D.story disk.old) (D.story disk.new) }
     ensures told { KeepsNotes number log.old (D.story disk.old) (D.story disk.new) }
+    ensures within { KeepsWithin number log.old (D.story disk.old) (D.story disk.new) }
+    ensures frame { Framed (number + 1) (D.story disk.old) (D.story disk.new) }
     ensures same_notes { (D.story disk.new).notes ≡ (D.story disk.old).notes }
 
     ensures cause_log_full { IsErrAnd result IsLogFull ↔ IsFull log.old }
@@ -54,11 +60,14 @@ pub fn stage_end<D: Disk>(
     requires fits { Fits entry.now }
     requires rises { log.old.last < entry.now.gsn }
     requires room { used log.old + 1 ≤ log.old.blocks }
+    ensures ranges { IsInRange log.new }
     ensures after { OnOk result (After entry.now log.old log.new) }
     ensures last { OnOk result (log.new.last ≡ entry.now.gsn) }
     ensures stands { OnOk result (StagesOn number entry.now log.old log.new (D.story disk.old) (D.story disk.new)) }
     ensures any_moment { KeepsMoments number log.old (D.story disk.old) (D.story disk.new) }
     ensures told { KeepsNotes number log.old (D.story disk.old) (D.story disk.new) }
+    ensures within { KeepsWithin number log.old (D.story disk.old) (D.story disk.new) }
+    ensures frame { Framed (number + 1) (D.story disk.old) (D.story disk.new) }
     ensures same_notes { (D.story disk.new).notes ≡ (D.story disk.old).notes }
 
     ensures cause_disk_fault { HasCause (D.faults disk.old) (D.faults disk.new) (IsErr result) }
@@ -75,10 +84,13 @@ pub fn stage_end<D: Disk>(
 pub fn flush<D: Disk>(disk: &mut D, log: &mut WorkerLog, number: u32) -> Result<u64, DiskFault>
     requires number { number ≤ 16 }
     ensures answer { IfOk result (λ flushed. flushed ≡ log.old.last) }
+    ensures ranges { IsInRange log.new }
     ensures after { OnOk result (log.new ≡ flushed_log log.old) }
     ensures stands { OnOk result (FlushesOn number log.old log.new (D.story disk.old) (D.story disk.new)) }
     ensures any_moment { KeepsMoments number log.old (D.story disk.old) (D.story disk.new) }
     ensures told { KeepsNotes number log.old (D.story disk.old) (D.story disk.new) }
+    ensures within { KeepsWithin number log.old (D.story disk.old) (D.story disk.new) }
+    ensures frame { Framed (number + 1) (D.story disk.old) (D.story disk.new) }
     ensures same_notes { (D.story disk.new).notes ≡ (D.story disk.old).notes }
 
     ensures cause_disk_fault { HasCause (D.faults disk.old) (D.faults disk.new) (IsErr result) }

@@ -26,6 +26,7 @@ pub(crate) fn stage_on<D: Disk>(
     ensures ranges { IsInRange log.new }
     ensures log { OnOk result (After entry.now log.old log.new) }
     ensures same_log { IsErrAnd result IsLogFull → log.new ≡ log.old }
+    ensures failed { result ≡ Err Staging.DiskFault → log.new ≡ log.old }
     ensures same_disk { IsErrAnd result IsLogFull → disk.new ≡ disk.old }
     ensures kept { OnOk result ((x : Account) → Tells (D.story disk.new) (1 + number) → IsKept x log.old ((D.story disk.old).area (1 + number))
         → StagesTo entry.now x log.old log.new ((D.story disk.new).area (1 + number))) }

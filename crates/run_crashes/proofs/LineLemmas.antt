@@ -16,6 +16,7 @@ use Rattle.disk_image.specs.Masters.{IsOfRun}
 use Rattle.disk_image.specs.Shown.{Areas, image_by}
 use Rattle.core_disk.specs.Held.{HoldsRun}
 use Rattle.core_disk.specs.Shows.{EveryShown}
+use Rattle.disk_runs.specs.Moments.{HoldsSome}
 use Rattle.disk_runs.proofs.LineLemmas.{opened}
 use Rattle.core_calls.specs.Crashes.{EveryRunCrash, WithOneInHand}
 use Rattle.core_calls.specs.Deeds.{Outcome, answered, commits}
@@ -27,9 +28,9 @@ use Rattle.core_calls.specs.Printed.{durable_lines, printed}
 use Rattle.core_calls.specs.Refusals.{Limits}
 use Rattle.core_calls.specs.Runs.{EachTells}
 use Rattle.core_calls.proofs.RunLemmas.{marks_run, marks_more}
-use Rattle.run_crashes.specs.Laws.{CommitsNone, EveryCrashedLine, EveryLine, EveryReopened, EveryStop}
-use Rattle.run_crashes.specs.Lines.{CallLeaves, PutLeaves, Recovers, RunLeft, lines_of, next_of, notes_of}
-use Rattle.run_crashes.proofs.ReopenLemmas.{every_reopened}
+use Rattle.run_crashes.specs.Laws.{CommitsNone, EveryCrashedLine, EveryCrashedLineFor, EveryLine, EveryLineFor, EveryReopenedFor, EveryStop, EveryStopFor, OfEachFirst, Passing}
+use Rattle.run_crashes.specs.Lines.{FellIn, Between, InCall, Stopped, CallLeaves, PutLeaves, Recovers, RunLeft, lines_of, next_of, notes_of}
+use Rattle.run_crashes.proofs.ReopenLemmas.{every_reopened_for}
 
 -- ## Lists
 
@@ -76,6 +77,10 @@ nil_first : (a b : List Event) → a ++ b ≡ [] → a ≡ []
 nil_first [] b e = refl
 nil_first (x ∷ a) b e = absurd (cons_nil x (a ++ b) e)
 
+-- behind no event of a call the disk holds what one after those before it leaves
+at_end : (g : Opening) (es : List Event) (n : Master) (area : Areas) (a : HoldsSome g es [] n area) → HoldsRun g es a.master area
+at_end g es n area a = subst (λ (k : List Event). HoldsRun g k a.master area) (ap (λ (k : List Event). es ++ k) (nil_first a.first a.rest a.is) ∙ append-nil es) a.holds
+
 -- ## What commits nothing
 
 commits_later : (a b : List Mark) → commits (a ++ b) ≡ false → commits b ≡ false
@@ -103,10 +108,23 @@ none_in_hand i told next by_then (inr h) = absurd (no h.outcome h.is_next)
     no : (x : Outcome) → ◌≡◌ {A = Option Outcome} None (Some x) → ⊥
     no x e = cc
 
-any_next : (g : Opening) (heard : List Done) (next : Option Outcome) (out : List Reply) (m : Master) (area : Areas) → Recovers g heard None out m area → Recovers g heard next out m area
-any_next g heard next out m area r = record {
+-- and no call was in hand, so it fell between two or in one that stopped
+none_fell : (g : Opening) (Such : List Event → Type 0) (heard : List Done) (next : Option Outcome) (es : List Event) → FellIn g Such heard None es → FellIn g Such heard next es
+none_fell g Such heard next es (Between e) = Between e
+none_fell g Such heard next es (InCall x is met after e) = absurd (no x.outcome is)
+  where
+    no : (y : Outcome) → ◌≡◌ {A = Option Outcome} None (Some y) → ⊥
+    no y q = cc
+none_fell g Such heard next es (Stopped such) = Stopped such
+
+any_next : (g : Opening) (Such : List Event → Type 0) (heard : List Done) (next : Option Outcome) (out : List Reply) (m : Master) (area : Areas) → Recovers g Such heard None out m area
+    → Recovers g Such heard next out m area
+any_next g Such heard next out m area r = record {
   n = r.n;
   of_run = r.of_run;
+  behind = r.behind;
+  fell = none_fell g Such heard next r.behind r.fell;
+  holds = r.holds;
   by_then = r.by_then;
   by_then_is = none_in_hand (image_by r.n area) (outcomes heard) next r.by_then r.by_then_is;
   falls = r.falls;
@@ -121,9 +139,10 @@ any_next g heard next out m area r = record {
 }
 
 -- the oldest stays so where one more comes, or comes where there was none
-one_more : (g : Opening) (x : Done) (unheard heard : List Done) (out : List Reply) (m : Master) (area : Areas) → Recovers g heard (next_of unheard) out m area → Recovers g heard (next_of (x ∷ unheard)) out m area
-one_more g x [] heard out m area r = any_next g heard (Some x.outcome) out m area r
-one_more g x (y ∷ unheard) heard out m area r = r
+one_more : (g : Opening) (Such : List Event → Type 0) (x : Done) (unheard heard : List Done) (out : List Reply) (m : Master) (area : Areas) → Recovers g Such heard (next_of unheard) out m area
+    → Recovers g Such heard (next_of (x ∷ unheard)) out m area
+one_more g Such x [] heard out m area r = any_next g Such heard (Some x.outcome) out m area r
+one_more g Such x (y ∷ unheard) heard out m area r = r
 
 -- ## Moments
 
@@ -133,8 +152,8 @@ names_of g xs x = due g (state_after g (front (x ∷ xs))) (durables g (durable.
 abbrev reply_of : Done → Reply
 reply_of x = Reply.Answered x.outcome.session (answered x.outcome.deed)
 
-module _ (reopened : EveryReopened) (l : Limits) (g : Opening) (group : ℕ) (s0 : Crash) (m n : Master) where
-  pub more : (xs : List Done) (c : Crash) (x : Done) → RunLeft g xs s0 m c → RunLeft g (x ∷ xs) s0 m c
+module _ (Such : List Event → Type 0) (reopened : EveryReopenedFor Such) (l : Limits) (g : Opening) (group : ℕ) (s0 : Crash) (m n : Master) where
+  pub more : (xs : List Done) (c : Crash) (x : Done) → RunLeft g Such xs s0 m c → RunLeft g Such (x ∷ xs) s0 m c
   more xs c x r = record {
     unheard = x ∷ r.unheard;
     heard = r.heard;
@@ -143,11 +162,11 @@ module _ (reopened : EveryReopened) (l : Limits) (g : Opening) (group : ℕ) (s0
     out = r.out;
     lines = r.lines;
     notes = r.notes;
-    recovers = λ fair. one_more g x r.unheard r.heard r.out m c.image (r.recovers fair);
+    recovers = λ fair. one_more g Such x r.unheard r.heard r.out m c.image (r.recovers fair);
   }
 
   -- all lines before the call are out, and none of it
-  pub call : (xs : List Done) (c : Crash) (x : Done) → EachTells l g group (x ∷ xs) → IsOfRun m n → CallLeaves g xs x.events s0 n c → RunLeft g (x ∷ xs) s0 m c
+  pub call : (xs : List Done) (c : Crash) (x : Done) → EachTells l g group (x ∷ xs) → IsOfRun m n → CallLeaves g xs x.events s0 n c → RunLeft g Such (x ∷ xs) s0 m c
   call xs c x t q h = record {
     unheard = x ∷ [];
     heard = xs;
@@ -160,8 +179,8 @@ module _ (reopened : EveryReopened) (l : Limits) (g : Opening) (group : ℕ) (s0
         (reopened l g group xs m a.master c.image).between x a.first a.rest [] (printed g xs) t a.is refl (opened m n a.master q a.no_earlier) a.holds;
   }
 
-  pub stopped : (xs : List Done) (c : Crash) (es : List Event) → EachTells l g group xs → CommitsNone g xs es → IsOfRun m n → CallLeaves g xs es s0 n c → RunLeft g xs s0 m c
-  stopped xs c es t none q h = record {
+  pub stopped : (xs : List Done) (c : Crash) (es : List Event) → EachTells l g group xs → CommitsNone g xs es → OfEachFirst Such es → IsOfRun m n → CallLeaves g xs es s0 n c → RunLeft g Such xs s0 m c
+  stopped xs c es t none such q h = record {
     unheard = [];
     heard = xs;
     calls = refl;
@@ -170,11 +189,25 @@ module _ (reopened : EveryReopened) (l : Limits) (g : Opening) (group : ℕ) (s0
     lines = refl;
     notes = h.notes;
     recovers = λ fair. let a = h.some fair in
-        (reopened l g group xs m a.master c.image).stopped a.first [] (printed g xs) t (part g xs a.first a.rest es a.is none) refl (opened m n a.master q a.no_earlier) a.holds;
+        (reopened l g group xs m a.master c.image).stopped a.first [] (printed g xs) t (part g xs a.first a.rest es a.is none) (such a.first a.rest a.is) refl (opened m n a.master q a.no_earlier) a.holds;
+  }
+
+  -- between two calls
+  pub behind : (xs : List Done) (c : Crash) → EachTells l g group xs → IsOfRun m n → CallLeaves g xs [] s0 n c → RunLeft g Such xs s0 m c
+  behind xs c t q h = record {
+    unheard = [];
+    heard = xs;
+    calls = refl;
+    missing = [];
+    out = printed g xs;
+    lines = refl;
+    notes = h.notes;
+    recovers = λ fair. let a = h.some fair in
+        (reopened l g group xs m a.master c.image).behind [] (printed g xs) t refl (opened m n a.master q a.no_earlier) (at_end g (front xs) n c.image a);
   }
 
   -- no line of the outcome is out
-  silent : (xs : List Done) (c : Crash) (x : Done) → EachTells l g group (x ∷ xs) → IsOfRun m n → PutLeaves g xs x s0 n c → c.notes ≡ notes_of g xs s0 → RunLeft g (x ∷ xs) s0 m c
+  silent : (xs : List Done) (c : Crash) (x : Done) → EachTells l g group (x ∷ xs) → IsOfRun m n → PutLeaves g xs x s0 n c → c.notes ≡ notes_of g xs s0 → RunLeft g Such (x ∷ xs) s0 m c
   silent xs c x t q h notes = call xs c x t q (record {
     notes = notes;
     some = λ fair. let a = h.some fair in record {
@@ -183,13 +216,13 @@ module _ (reopened : EveryReopened) (l : Limits) (g : Opening) (group : ℕ) (s0
       is = append-nil x.events;
       master = a.master;
       no_earlier = a.no_earlier;
-      holds = subst (λ (k : List Event). HoldsRun g k a.master c.image) (ap (λ (k : List Event). front (x ∷ xs) ++ k) (nil_first a.first a.rest a.is) ∙ append-nil (front (x ∷ xs))) a.holds;
+      holds = at_end g (front (x ∷ xs)) n c.image a;
     };
   })
 
   -- some lines are
   spoken : (xs : List Done) (c : Crash) (x : Done) → EachTells l g group (x ∷ xs) → IsOfRun m n → PutLeaves g xs x s0 n c → (later : List Reply) (o : Reply) (first : List Reply)
-      → later ++ o ∷ first ≡ lines_of g xs x → c.notes ≡ notes_of g xs s0 + length (o ∷ first) → RunLeft g (x ∷ xs) s0 m c
+      → later ++ o ∷ first ≡ lines_of g xs x → c.notes ≡ notes_of g xs s0 + length (o ∷ first) → RunLeft g Such (x ∷ xs) s0 m c
   spoken xs c x t q h later o first split notes = record {
     unheard = [];
     heard = x ∷ xs;
@@ -199,8 +232,7 @@ module _ (reopened : EveryReopened) (l : Limits) (g : Opening) (group : ℕ) (s0
     lines = lines;
     notes = let e = length-append (o ∷ first) (printed g xs) in omega (arith, notes, e);
     recovers = λ fair. let a = h.some fair in
-        (reopened l g group (x ∷ xs) m a.master c.image).stopped a.first (durable_lines d.0) ((o ∷ first) ++ printed g xs) t
-        (part g (x ∷ xs) a.first a.rest [] a.is (λ w. refl)) lines (opened m n a.master q a.no_earlier) a.holds;
+        (reopened l g group (x ∷ xs) m a.master c.image).behind (durable_lines d.0) ((o ∷ first) ++ printed g xs) t lines (opened m n a.master q a.no_earlier) (at_end g (front (x ∷ xs)) n c.image a);
   }
     where
       d : Durables later
@@ -212,35 +244,49 @@ module _ (reopened : EveryReopened) (l : Limits) (g : Opening) (group : ℕ) (s0
           ∙ (ap (λ (k : List Reply). k ++ printed g xs) split
           ∙ append_assoc (durable_lines (names_of g xs x)) (reply_of x ∷ []) (printed g xs)))
 
-  pub put : (xs : List Done) (c : Crash) (x : Done) → EachTells l g group (x ∷ xs) → IsOfRun m n → PutLeaves g xs x s0 n c → RunLeft g (x ∷ xs) s0 m c
+  pub put : (xs : List Done) (c : Crash) (x : Done) → EachTells l g group (x ∷ xs) → IsOfRun m n → PutLeaves g xs x s0 n c → RunLeft g Such (x ∷ xs) s0 m c
   put xs c x t q h = go h.later h.first h.split h.notes
     where
-      go : (later first : List Reply) → later ++ first ≡ lines_of g xs x → c.notes ≡ notes_of g xs s0 + length first → RunLeft g (x ∷ xs) s0 m c
+      go : (later first : List Reply) → later ++ first ≡ lines_of g xs x → c.notes ≡ notes_of g xs s0 + length first → RunLeft g Such (x ∷ xs) s0 m c
       go later [] split notes = silent xs c x t q h (omega (arith, notes))
       go later (o ∷ first) split notes = spoken xs c x t q h later o first split notes
 
-pub every_crashed_line : EveryShown → EveryRunCrash → EveryAgreement → EveryCrashedLine
-every_crashed_line shown crashes agrees l g group s0 m n xs c = let r = every_reopened shown crashes agrees in record {
-  call = call r l g group s0 m n xs c;
-  stopped = stopped r l g group s0 m n xs c;
-  put = put r l g group s0 m n xs c;
-  more = more r l g group s0 m n xs c;
+-- ## Of events of any kind
+
+pub every_crashed_line_for : EveryShown → EveryRunCrash → EveryAgreement → (Such : List Event → Type 0) → EveryCrashedLineFor Such
+every_crashed_line_for shown crashes agrees Such l g group s0 m n xs c = let r = every_reopened_for shown crashes agrees Such in record {
+  call = call Such r l g group s0 m n xs c;
+  stopped = stopped Such r l g group s0 m n xs c;
+  put = put Such r l g group s0 m n xs c;
+  behind = behind Such r l g group s0 m n xs c;
+  more = more Such r l g group s0 m n xs c;
 }
+
+pub every_line_for : EveryShown → EveryRunCrash → EveryAgreement → (Such : List Event → Type 0) → (from old mid new : Story) → EveryLineFor Such from old mid new
+every_line_for shown crashes agrees Such from old mid new l g group s0 m n k xs x t q p so_far calls puts =
+    let r = every_reopened_for shown crashes agrees Such in
+    moments.then from mid new (RunLeft g Such (x ∷ xs) s0 m)
+    (moments.then from old mid (RunLeft g Such (x ∷ xs) s0 m)
+    (weaker from old (RunLeft g Such xs s0 m) (RunLeft g Such (x ∷ xs) s0 m) (λ c. more Such r l g group s0 m n xs c x) so_far)
+    (weaker old mid (CallLeaves g xs x.events s0 n) (RunLeft g Such (x ∷ xs) s0 m) (λ c. call Such r l g group s0 m n xs c x t q) calls))
+    (weaker mid new (PutLeaves g xs x s0 k) (RunLeft g Such (x ∷ xs) s0 m) (λ c. put Such r l g group s0 m k xs c x t p) puts)
+
+pub every_stop_for : EveryShown → EveryRunCrash → EveryAgreement → (Such : List Event → Type 0) → (from old new : Story) → EveryStopFor Such from old new
+every_stop_for shown crashes agrees Such from old new l g group s0 m n xs = let r = every_reopened_for shown crashes agrees Such in record {
+  nothing = λ es t none such q so_far calls. moments.then from old new (RunLeft g Such xs s0 m) so_far
+      (weaker old new (CallLeaves g xs es s0 n) (RunLeft g Such xs s0 m) (λ c. stopped Such r l g group s0 m n xs c es t none such q) calls);
+  part = λ x t q so_far calls. moments.then from old new (RunLeft g Such (x ∷ xs) s0 m)
+      (weaker from old (RunLeft g Such xs s0 m) (RunLeft g Such (x ∷ xs) s0 m) (λ c. more Such r l g group s0 m n xs c x) so_far)
+      (weaker old new (CallLeaves g xs x.events s0 n) (RunLeft g Such (x ∷ xs) s0 m) (λ c. call Such r l g group s0 m n xs c x t q) calls);
+}
+
+-- ## Of those that a test tells
+
+pub every_crashed_line : EveryShown → EveryRunCrash → EveryAgreement → EveryCrashedLine
+every_crashed_line shown crashes agrees test = every_crashed_line_for shown crashes agrees (Passing test)
 
 pub every_line : EveryShown → EveryRunCrash → EveryAgreement → (from old mid new : Story) → EveryLine from old mid new
-every_line shown crashes agrees from old mid new l g group s0 m n k xs x t q p so_far calls puts =
-    let r = every_reopened shown crashes agrees in
-    moments.then from mid new (RunLeft g (x ∷ xs) s0 m)
-    (moments.then from old mid (RunLeft g (x ∷ xs) s0 m)
-    (weaker from old (RunLeft g xs s0 m) (RunLeft g (x ∷ xs) s0 m) (λ c. more r l g group s0 m n xs c x) so_far)
-    (weaker old mid (CallLeaves g xs x.events s0 n) (RunLeft g (x ∷ xs) s0 m) (λ c. call r l g group s0 m n xs c x t q) calls))
-    (weaker mid new (PutLeaves g xs x s0 k) (RunLeft g (x ∷ xs) s0 m) (λ c. put r l g group s0 m k xs c x t p) puts)
+every_line shown crashes agrees from old mid new test = every_line_for shown crashes agrees (Passing test) from old mid new
 
 pub every_stop : EveryShown → EveryRunCrash → EveryAgreement → (from old new : Story) → EveryStop from old new
-every_stop shown crashes agrees from old new l g group s0 m n xs = let r = every_reopened shown crashes agrees in record {
-  nothing = λ es t none q so_far calls. moments.then from old new (RunLeft g xs s0 m) so_far
-      (weaker old new (CallLeaves g xs es s0 n) (RunLeft g xs s0 m) (λ c. stopped r l g group s0 m n xs c es t none q) calls);
-  part = λ x t q so_far calls. moments.then from old new (RunLeft g (x ∷ xs) s0 m)
-      (weaker from old (RunLeft g xs s0 m) (RunLeft g (x ∷ xs) s0 m) (λ c. more r l g group s0 m n xs c x) so_far)
-      (weaker old new (CallLeaves g xs x.events s0 n) (RunLeft g (x ∷ xs) s0 m) (λ c. call r l g group s0 m n xs c x t q) calls);
-}
+every_stop shown crashes agrees from old new test = every_stop_for shown crashes agrees (Passing test) from old new

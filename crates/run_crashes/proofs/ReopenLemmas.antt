@@ -1,5 +1,6 @@
 -- From a disk that holds what a crash of a run left to the words of the lines that were out.
-use Rattle.std.proofs.Common.{◌≡◌, ◌&&◌, ◌==◌, not, leb, inl, inr, ℕ, List, ◌++◌, length, Option, Some, None, refl, sym, ap, ap₂, ◌∙◌, subst}
+use Rattle.std.proofs.Common.{◌≡◌, ◌&&◌, ◌==◌, not, leb, inl, inr, ℕ, List, [], ◌++◌, length, Option, Some, None, refl, sym, ap, ap₂, ◌∙◌, subst}
+use Rattle.std.proofs.lemmas.List.{append-nil}
 use Rattle.map_model.specs.Lists.{Has}
 use Rattle.map_model.specs.Journals.{Journal, Txn, IsClosed, after}
 use Rattle.map_model.proofs.ListLemmas.{has_right, keep_has}
@@ -24,8 +25,8 @@ use Rattle.core_calls.specs.Deeds.{Outcome}
 use Rattle.core_calls.specs.Fronts.{Done, front, outcomes}
 use Rattle.core_calls.specs.Printed.{printed}
 use Rattle.core_calls.specs.Told.{kept_of}
-use Rattle.run_crashes.specs.Laws.{EveryReopened}
-use Rattle.run_crashes.specs.Lines.{Recovers}
+use Rattle.run_crashes.specs.Laws.{EveryReopened, EveryReopenedFor, Passing}
+use Rattle.run_crashes.specs.Lines.{FellIn, Between, InCall, Stopped, Recovers}
 
 -- what is in hand is kept by an image that keeps the same
 in_hand : (i j : Image) (told : List Outcome) (next : Option Outcome) (by_then : Journal) → ((t : Txn) → is_kept i.logs i.floor (found i) t ≡ is_kept j.logs j.floor (found j) t)
@@ -47,8 +48,12 @@ in_hand i j told next by_then same (inr h) = inr (record {
   only = h.only;
 })
 
-module _ (agrees : EveryAgreement) (g : Opening) (es : List Event) (m n : Master) (area : Areas) (heard : List Done) (next : Option Outcome) (newer out : List Reply) (lines : newer ++ out ≡ printed g heard)
-    (of_run : IsOfRun m n) (h : HoldsRun g es n area) (x : Shows g es n area) (r : RunSurvives g es x.logs x.page heard next) where
+module _ (agrees : EveryAgreement) (g : Opening) (Such : List Event → Type 0) (m n : Master) (area : Areas) (heard : List Done) (next : Option Outcome) (newer out : List Reply) (lines : newer ++ out ≡ printed g heard)
+    (of_run : IsOfRun m n) (behind : List Event) (fell : FellIn g Such heard next behind) (h : HoldsRun g (front heard ++ behind) n area) (x : Shows g (front heard ++ behind) n area)
+    (r : RunSurvives g (front heard ++ behind) x.logs x.page heard next) where
+  abbrev es : List Event
+  es = front heard ++ behind
+
   abbrev image : Image
   image = image_of g (state_after g es) x.logs x.page
 
@@ -81,10 +86,13 @@ module _ (agrees : EveryAgreement) (g : Opening) (es : List Event) (m n : Master
   kept_is = ap (λ (l : ℕ). kept l image.floor (found image) r.by_then) (sym h.is.logs)
       ∙ ap₂ (λ (f : ℕ) (z : List Entry). kept (length n.heads) f z r.by_then) (sym h.is.floor) found_is
 
-  pub recovers : Recovers g heard next out m area
+  pub recovers : Recovers g Such heard next out m area
   recovers = record {
     n = n;
     of_run = of_run;
+    behind = behind;
+    fell = fell;
+    holds = h;
     by_then = r.by_then;
     by_then_is = in_hand image shown (outcomes heard) next r.by_then keeps_same r.by_then_is;
     falls = r.falls;
@@ -103,10 +111,16 @@ module _ (agrees : EveryAgreement) (g : Opening) (es : List Event) (m n : Master
     };
   }
 
-pub every_reopened : EveryShown → EveryRunCrash → EveryAgreement → EveryReopened
-every_reopened shows crashes agrees l g group xs m n area = record {
+-- of events of any kind
+pub every_reopened_for : EveryShown → EveryRunCrash → EveryAgreement → (Such : List Event → Type 0) → EveryReopenedFor Such
+every_reopened_for shows crashes agrees Such l g group xs m n area = record {
   between = λ x before after newer out t e lines q h. let s = shows g (front xs ++ before) n area h in
-      recovers agrees g (front xs ++ before) m n area xs (Some x.outcome) newer out lines q h s ((crashes l g group).between xs x before after t (sym e) s.logs s.page s.leaves);
-  stopped = λ es newer out t none lines q h. let s = shows g (front xs ++ es) n area h in
-      recovers agrees g (front xs ++ es) m n area xs None newer out lines q h s ((crashes l g group).stopped xs es t none s.logs s.page s.leaves);
+      recovers agrees g Such m n area xs (Some x.outcome) newer out lines q before (InCall x refl t.1.met after e) h s ((crashes l g group).between xs x before after t (sym e) s.logs s.page s.leaves);
+  stopped = λ es newer out t none such lines q h. let s = shows g (front xs ++ es) n area h in
+      recovers agrees g Such m n area xs None newer out lines q es (Stopped such) h s ((crashes l g group).stopped xs es t none s.logs s.page s.leaves);
+  behind = λ newer out t lines q h. let at = subst (λ (k : List Event). HoldsRun g k n area) (sym (append-nil (front xs))) h in let s = shows g (front xs ++ []) n area at in
+      recovers agrees g Such m n area xs None newer out lines q [] (Between refl) at s ((crashes l g group).stopped xs [] t (λ w. refl) s.logs s.page s.leaves);
 }
+
+pub every_reopened : EveryShown → EveryRunCrash → EveryAgreement → EveryReopened
+every_reopened shows crashes agrees test = every_reopened_for shows crashes agrees (Passing test)

@@ -9,11 +9,12 @@ use Rattle.image_model.specs.Entries.{Entry, is_commit}
 use Rattle.image_model.specs.Images.{found, won_by}
 use Rattle.core_state.specs.Openings.{Opening, first_map}
 use Rattle.core_state.specs.Events.{Event}
-use Rattle.core_state.specs.Steps.{state_after}
+use Rattle.core_state.specs.Steps.{AllMet, state_after}
 use Rattle.lean_disk.specs.Story.{Crash}
 use Rattle.disk_slots.specs.declared.master.Master.{Master}
 use Rattle.disk_image.specs.Masters.{IsOfRun}
 use Rattle.disk_image.specs.Shown.{Areas, DiskStandsFor, IsCleanDisk, image_by}
+use Rattle.core_disk.specs.Held.{HoldsRun}
 use Rattle.disk_runs.specs.Fair.{IsFairFrom}
 use Rattle.disk_runs.specs.Moments.{LeavesSome}
 use Rattle.core_calls.specs.Crashes.{WithOneInHand}
@@ -22,14 +23,28 @@ use Rattle.core_calls.specs.Durables.{due, durables, moments}
 use Rattle.core_calls.specs.Fronts.{Done, front, outcomes}
 use Rattle.core_calls.specs.Printed.{durable_lines, printed}
 
+-- ## Where a crash fell
+
+-- Behind which events of what came after these outcomes it fell: none; the first of the next outcome's, each of which meets its need; or events
+-- of a call that was not answered, of which Such is so.
+pub data FellIn (g : Opening) (Such : List Event → Type 0) (heard : List Done) (next : Option Outcome) (es : List Event) : Type 0 where
+  Between : es ≡ [] → FellIn g Such heard next es
+  InCall : (x : Done) → next ≡ Some x.outcome → AllMet g (state_after g (front heard)) x.events → (after : List Event) → es ++ after ≡ x.events → FellIn g Such heard next es
+  Stopped : Such es → FellIn g Such heard next es
+
 -- ## What recovery gives
 
 -- These outcomes were heard, with these lines out, and the next one, if there is one, may be in hand. The image is clean; it stands for the map
 -- after the kept transactions, by its own winners. The kept are those up to its master's floor and its winners: a closed part of the
--- transactions by then, with each that was reported durable. The run began with a master of m's run.
-pub record Recovers (g : Opening) (heard : List Done) (next : Option Outcome) (out : List Reply) (m : Master) (area : Areas) : Type 0 where
+-- transactions by then, with each that was reported durable. The run began with a master of m's run. The disk holds what a crash behind the events
+-- of these outcomes and those that it fell behind leaves, by the master that counts.
+pub record Recovers (g : Opening) (Such : List Event → Type 0) (heard : List Done) (next : Option Outcome) (out : List Reply) (m : Master) (area : Areas) : Type 0 where
   pub n : Master
   pub of_run : IsOfRun m n
+  -- where the crash fell
+  pub behind : List Event
+  pub fell : FellIn g Such heard next behind
+  pub holds : HoldsRun g (front heard ++ behind) n area
   -- the transactions by then: those that were told, and one in hand, if there is one; each commit in the image has the number of its transaction
   pub by_then : Journal
   pub by_then_is : WithOneInHand (image_by n area) (outcomes heard) next by_then
@@ -55,7 +70,7 @@ next_of (x ∷ y ∷ earlier) = next_of (y ∷ earlier)
 
 -- A crash in a run of these calls that began as s0, on a disk whose master was m: the first of them were heard, and of the last of these some
 -- durable lines may be missing.
-pub record RunLeft (g : Opening) (xs : List Done) (s0 : Crash) (m : Master) (c : Crash) : Type 0 where
+pub record RunLeft (g : Opening) (Such : List Event → Type 0) (xs : List Done) (s0 : Crash) (m : Master) (c : Crash) : Type 0 where
   pub unheard : List Done
   pub heard : List Done
   pub calls : unheard ++ heard ≡ xs
@@ -63,7 +78,7 @@ pub record RunLeft (g : Opening) (xs : List Done) (s0 : Crash) (m : Master) (c :
   pub out : List Reply
   pub lines : durable_lines missing ++ out ≡ printed g heard
   pub notes : c.notes ≡ s0.notes + length out
-  pub recovers : IsFairFrom g.workers s0 c → Recovers g heard (next_of unheard) out m c.image
+  pub recovers : IsFairFrom g.workers s0 c → Recovers g Such heard (next_of unheard) out m c.image
 
 -- the lines of an outcome behind earlier ones
 abbrev pub lines_of : Opening → List Done → Done → List Reply

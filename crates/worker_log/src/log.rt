@@ -170,6 +170,7 @@ impl WorkerLog {
         ensures ranges { IsInRange self.new }
         ensures log { OnOk result (After entry.now self.old self.new) }
         ensures same_log { IsErrAnd result IsLogFull → self.new ≡ self.old }
+        ensures failed { result ≡ Err Staging.DiskFault → self.new ≡ self.old }
         ensures same_device { IsErrAnd result IsLogFull → dev.new ≡ dev.old }
         ensures kept { OnOk result ((x : Account) → Tells (P.story dev.new) (P.seat dev.old).area → IsKept x self.old ((P.story dev.old).area (P.seat dev.old).area)
             → StagesTo entry.now x self.old self.new ((P.story dev.new).area (P.seat dev.old).area)) }
@@ -202,6 +203,7 @@ impl WorkerLog {
         ensures any_moment { (x : Account) → (Tells (P.story dev.old) (P.seat dev.old).area → IsKept x self.old ((P.story dev.old).area (P.seat dev.old).area))
             → LeavesOnly (P.story dev.old) (P.story dev.new) (CrashIn (P.story dev.old) (P.seat dev.old).area (LeavesBlocks x self.old)) }
         ensures frame { Framed (P.seat dev.old).area (P.story dev.old) (P.story dev.new) }
+        ensures failed { IsErr result → self.new ≡ self.old }
         ensures seat { P.seat dev.new ≡ P.seat dev.old }
 
         ensures cause_disk_fault { HasCause (P.faults dev.old) (P.faults dev.new) (IsErr result) }
@@ -284,6 +286,7 @@ impl WorkerLog {
         ensures any_moment { (x : Account) → (Tells (P.story dev.old) (P.seat dev.old).area → IsKept x self.old ((P.story dev.old).area (P.seat dev.old).area))
             → LeavesOnly (P.story dev.old) (P.story dev.new) (CrashIn (P.story dev.old) (P.seat dev.old).area (LeavesBlocks x self.old)) }
         ensures frame { Framed (P.seat dev.old).area (P.story dev.old) (P.story dev.new) }
+        ensures failed { IsErr result → self.new ≡ self.old }
         ensures seat { P.seat dev.new ≡ P.seat dev.old }
 
         ensures cause_disk_fault { HasCause (P.faults dev.old) (P.faults dev.new) (IsErr result) }

@@ -1,6 +1,6 @@
 use Rattle.std.proofs.Common.{◌+◌, ◌≡◌}
 use Rattle.log_calls.specs.Calls.{StagesOn}
-use Rattle.log_calls.proofs.CallLemmas.{has_room, moments, notes, on_ok, one_more, staged_last, stages}
+use Rattle.log_calls.proofs.CallLemmas.{frame, has_room, moments, notes, on_ok, one_more, staged_last, stages, within}
 use Rattle.log_calls.proofs.calls.stage.Goals as goal
 
 pub returns-clause-stands : goal.returns-clause-stands
@@ -31,3 +31,13 @@ returns-clause-room g c = has_room c.stage_on.result c.args.entry.now c.args.log
 
 pub returns-clause-same_notes : goal.returns-clause-same_notes
 returns-clause-same_notes g c = c.stage_on.ensures.frame.notes
+
+pub returns-clause-within : goal.returns-clause-within
+returns-clause-within g c =
+    let s = g.D.Disk.story in
+    within (1 + c.args.number) c.args.number (one_more c.args.number) c.args.log.now c.stage_on.new.log (s c.args.disk.now) (s c.stage_on.new.disk) c.stage_on.ensures.any_moment
+
+pub returns-clause-frame : goal.returns-clause-frame
+returns-clause-frame g c =
+    let s = g.D.Disk.story in
+    frame (1 + c.args.number) c.args.number (one_more c.args.number) c.args.log.now c.stage_on.new.log (s c.args.disk.now) (s c.stage_on.new.disk) c.stage_on.ensures.frame

@@ -1,6 +1,6 @@
 use Rattle.std.proofs.Common.{◌+◌, ◌≡◌}
 use Rattle.log_calls.specs.Calls.{StagesOn}
-use Rattle.log_calls.proofs.CallLemmas.{moments, notes, on_ok, one_more, staged_last, stages}
+use Rattle.log_calls.proofs.CallLemmas.{frame, moments, notes, on_ok, one_more, staged_last, stages, within}
 use Rattle.log_calls.proofs.calls.stage_end.Goals as goal
 
 pub returns-clause-stands : goal.returns-clause-stands
@@ -30,3 +30,13 @@ returns-clause-last g c =
 
 pub returns-clause-same_notes : goal.returns-clause-same_notes
 returns-clause-same_notes g c = c.stage_end_on.ensures.frame.notes
+
+pub returns-clause-within : goal.returns-clause-within
+returns-clause-within g c =
+    let s = g.D.Disk.story in
+    within (1 + c.args.number) c.args.number (one_more c.args.number) c.args.log.now c.stage_end_on.new.log (s c.args.disk.now) (s c.stage_end_on.new.disk) c.stage_end_on.ensures.any_moment
+
+pub returns-clause-frame : goal.returns-clause-frame
+returns-clause-frame g c =
+    let s = g.D.Disk.story in
+    frame (1 + c.args.number) c.args.number (one_more c.args.number) c.args.log.now c.stage_end_on.new.log (s c.args.disk.now) (s c.stage_end_on.new.disk) c.stage_end_on.ensures.frame
