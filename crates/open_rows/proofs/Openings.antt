@@ -37,14 +37,14 @@ page_behind [] p h = refl
 page_behind (x ∷ xs) zero h = absurd (omega arith)
 page_behind (x ∷ xs) (suc p) h = page_behind xs p (omega arith)
 
-module _ (pages : List Page) (workers base : ℕ) (are : ArePages pages workers base) where
+module _ (pages : List Page) (workers base : ℕ) (are : ArePages pages base) where
   gsn_low : (p : ℕ) → (page_at pages p).gsn ≤ base
   gsn_low p = elim (cases_lt p (length pages)) [
     | inl l ↦ are.low p l
     | inr h ↦ let e = ap (λ x. x.gsn) (page_behind pages p h) in omega arith
   ]
 
-  log_low : (p : ℕ) → (page_at pages p).last_log ≤ workers
+  log_low : (p : ℕ) → (page_at pages p).last_log < 256
   log_low p = elim (cases_lt p (length pages)) [
     | inl l ↦ are.logs p l
     | inr h ↦ let e = ap (λ x. x.last_log) (page_behind pages p h) in omega arith

@@ -102,7 +102,7 @@ not_cooling : (b : Bool) (p : ℕ) → is_cooling (place_of b p) ≡ true → �
 not_cooling true p h = true≢false (sym h)
 not_cooling false p h = true≢false (sym h)
 
-module _ (pages : List Page) (workers low : ℕ) (are : ArePages pages workers low) (frames locks : ℕ) (fit : length pages ≤ frames) (some_worker : 1 ≤ workers) where
+module _ (pages : List Page) (workers low : ℕ) (are : ArePages pages low) (frames locks : ℕ) (fit : length pages ≤ frames) (some_worker : 1 ≤ workers) where
   abbrev v : Given
   v = given_of frames locks workers low pages
 

@@ -29,13 +29,13 @@ page_or (Some x) = x
 abbrev pub page_at : List Page → ℕ → Page
 page_at pages p = page_or (slice_get pages p)
 
--- the nodes are a tree; each page bears its own number, and its last change has a number up to the base number and the log of a
--- worker, or of none
-pub record ArePages (pages : List Page) (workers base : ℕ) : Type 0 where
+-- the nodes are a tree; each page bears its own number, and its last change has a number up to the base number and a log below
+-- 256, which need not be a worker's
+pub record ArePages (pages : List Page) (base : ℕ) : Type 0 where
   pub tree : IsTree (format_of (length pages)) (λ p. (page_at pages p).node)
   pub numbers : (p : ℕ) → p < length pages → (page_at pages p).number ≡ p
   pub low : (p : ℕ) → p < length pages → (page_at pages p).gsn ≤ base
-  pub logs : (p : ℕ) → p < length pages → (page_at pages p).last_log ≤ workers
+  pub logs : (p : ℕ) → p < length pages → (page_at pages p).last_log < 256
 
 -- ## What is given
 

@@ -29,7 +29,7 @@ pub fn open_rows(
     workers: u32,
     base: u64,
 ) -> Result<(PlainRows, Trace), AllocError>
-    requires pages { ArePages pages.now workers base }
+    requires pages { ArePages pages.now base }
     requires frames { length pages.now ≤ frames }
     requires workers { 1 ≤ workers }
     requires few { frames + locks + workers < 2 ^ 32 }

@@ -1,5 +1,5 @@
 -- A step reads of an opening its sizes alone.
-use Rattle.std.proofs.Common.{◌≡◌, ◌<◌, ◌≤◌, ℕ, true, ◌&&◌, ltb, leb, List, [], ◌∷◌, ◌++◌, refl, sym, ap, subst, ◌∙◌}
+use Rattle.std.proofs.Common.{◌≡◌, ◌<◌, ◌≤◌, ℕ, true, ◌&&◌, ltb, leb, List, [], ◌∷◌, ◌++◌, refl, sym, ap, subst, ◌∙◌, arith}
 use Rattle.std.specs.Prelude.{if◌then◌else◌}
 use Rattle.map_model.specs.Maps.{MapAnswer, key_end, value_end}
 use Rattle.image_model.specs.Entries.{Entry}
@@ -26,7 +26,7 @@ use Rattle.row_words.specs.Moments as moments
 use Rattle.row_words.specs.Openings as rows
 use Rattle.row_words.specs.Sealed.{begun, stepped, run}
 use Rattle.rows_trait.specs.Views.{after_all}
-use Rattle.row_opening.specs.Openings.{Opens, Opened, EveryOpened, EveryReached}
+use Rattle.row_opening.specs.Openings.{Opens, Opened, EveryNeed, EveryOpened, EveryReached}
 
 -- what a step reads
 record Sizes : Type 0 where
@@ -116,6 +116,12 @@ of_sizes x y s e same = go (rest_of x)
     go : (r : Rest (sizes_of x)) → steps.step (make (sizes_of x) r) s e ≡ steps.step y s e
     go = subst (λ z. (r : Rest z) → steps.step (make z r) s e ≡ steps.step y s e) (sym same) (λ r. same_step (sizes_of y) r (rest_of y) s e)
 
+may_of_sizes : (x y : Opening) (s : State) (e : happening.Event) → sizes_of x ≡ sizes_of y → may x s e ≡ may y s e
+may_of_sizes x y s e same = go (rest_of x)
+  where
+    go : (r : Rest (sizes_of x)) → may (make (sizes_of x) r) s e ≡ may y s e
+    go = subst (λ z. (r : Rest z) → may (make z r) s e ≡ may y s e) (sym same) (λ r. same_may (sizes_of y) r (rest_of y) s e)
+
 module _ (x : Opening) (v : Given) (o : Opens x v) where
   sizes_same : sizes_of x ≡ sizes_of (rows.opening v)
   sizes_same = λ i. record { workers = o.workers i; frames = o.frames i; changes = o.changes i; joined = o.joined i; row_of = o.locks i; format = o.format i }
@@ -151,15 +157,15 @@ module _ (x : Opening) (v : Given) (o : Opens x v) where
   holders : (s : State) → HeldByWorkers x s → HeldByWorkers (rows.opening v) s
   holders s r = record { holder = λ j w h. worker_same w (r.holder j w h); reader = λ j w h. worker_same w (r.reader j w h); apart = r.apart; log = λ j. subst (λ n. (s.row j).log ≤ n) o.workers (r.log j) }
 
-  within : (es : List happening.Event) → LogsWithin x (steps.run x (start x) es)
-  within es = logs.every_last_log x o.logs es
+  within : (rows.opening v).workers < 256 → (es : List happening.Event) → LogsWithin 255 (steps.run x (start x) es)
+  within few es = logs.every_last_log x 255 (let w = o.workers in omega arith) (λ p. let l = o.logs p in omega arith) es
 
   pub opened : (es : List Event) → Opened v es
   opened es = let all = events_of v.before ++ events_of es in record {
     tree = subst (λ s. IsTree (rows.opening v).format (nodes_of s)) (sym (reached es)) (subst (λ f. IsTree f (nodes_of (steps.run x (start x) all))) o.format (index.every_tree x all));
     places = subst (λ s. Residence (rows.opening v) s) (sym (reached es)) (residence (steps.run x (start x) all) (paging.every_residence x all));
-    logs = λ p. subst (λ s. (s.page p).last ≤ (rows.opening v).workers) (sym (reached es)) (subst (λ n. ((steps.run x (start x) all).page p).last ≤ n) o.workers ((within all).page p));
-    saved = λ p. subst (λ s. (s.saved p).last ≤ (rows.opening v).workers) (sym (reached es)) (subst (λ n. ((steps.run x (start x) all).saved p).last ≤ n) o.workers ((within all).saved p));
+    logs = λ few p. subst (λ s. (s.page p).last < 256) (sym (reached es)) (let l = (within few all).page p in omega arith);
+    saved = λ few p. subst (λ s. (s.saved p).last < 256) (sym (reached es)) (let l = (within few all).saved p in omega arith);
     locks = subst (λ s. HeldByWorkers (rows.opening v) s) (sym (reached es)) (holders (steps.run x (start x) all) (commit.every_holder x all));
   }
 
@@ -168,3 +174,6 @@ every_opened x v o = opened x v o
 
 pub every_reached : EveryReached
 every_reached x v o = reached x v o
+
+pub every_need : EveryNeed
+every_need x v o s e = may_of_sizes x (rows.opening v) s e (sizes_same x v o)

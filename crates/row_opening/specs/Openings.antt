@@ -1,8 +1,10 @@
 -- Rows that begin as an opening gives them.
-use Rattle.std.specs.Prelude.{◌≡◌, ◌≤◌, ℕ, List, ◌++◌}
+use Rattle.std.specs.Prelude.{◌≡◌, ◌<◌, ℕ, List, ◌++◌}
 use Rattle.page_model.specs.Tree.{IsTree}
 use Rattle.core_state.specs.Openings.{Opening}
-use Rattle.core_state.specs.States.{nodes_of, start}
+use Rattle.core_state.specs.Events as happening
+use Rattle.core_state.specs.Needs.{may}
+use Rattle.core_state.specs.States.{State, nodes_of, start}
 use Rattle.core_state.specs.Steps.{state_after}
 use Rattle.core_commit.specs.Holders.{HeldByWorkers}
 use Rattle.core_paging.specs.Paging.{Residence}
@@ -12,7 +14,7 @@ use Rattle.row_words.specs.Moments.{first_state, events_of}
 use Rattle.row_words.specs.Openings as rows
 use Rattle.rows_trait.specs.Views.{after_all}
 
--- the opening has these sizes, its start is what is given, and each page's last log is at most the number of workers
+-- the opening has these sizes, its start is what is given, and each page's last log is below 256
 pub record Opens (x : Opening) (v : Given) : Type 0 where
   pub workers : x.workers ≡ (rows.opening v).workers
   pub frames : x.frames ≡ (rows.opening v).frames
@@ -21,15 +23,15 @@ pub record Opens (x : Opening) (v : Given) : Type 0 where
   pub joined : x.joined ≡ 45
   pub format : x.format ≡ (rows.opening v).format
   pub first : start x ≡ first_state v
-  pub logs : (p : ℕ) → x.last p ≤ x.workers
+  pub logs : (p : ℕ) → x.last p < 256
 
--- at that moment the pages are a tree, places are in order, no last log is above the workers, and workers hold the lock rows
+-- at that moment the pages are a tree, places are in order, last logs are below 256, and workers hold the lock rows
 pub record Opened (v : Given) (es : List Event) : Type 0 where
   pub tree : IsTree (rows.opening v).format (nodes_of (after_all v es).core)
   pub places : Residence (rows.opening v) (after_all v es).core
-  -- each page's last log is at most the number of workers, and so is that of its saved contents
-  pub logs : (p : ℕ) → ((after_all v es).core.page p).last ≤ (rows.opening v).workers
-  pub saved : (p : ℕ) → ((after_all v es).core.saved p).last ≤ (rows.opening v).workers
+  -- each page's last log is below 256, and so is that of its saved contents, where there are fewer than 256 workers
+  pub logs : (rows.opening v).workers < 256 → (p : ℕ) → ((after_all v es).core.page p).last < 256
+  pub saved : (rows.opening v).workers < 256 → (p : ℕ) → ((after_all v es).core.saved p).last < 256
   pub locks : HeldByWorkers (rows.opening v) (after_all v es).core
 
 -- so it is after every list of events
@@ -39,3 +41,7 @@ EveryOpened = (x : Opening) (v : Given) → Opens x v → (es : List Event) → 
 -- The state that rows come to is the core's own, after what happened before the rows began and what happened on them.
 abbrev pub EveryReached : Type 0
 EveryReached = (x : Opening) (v : Given) → Opens x v → (es : List Event) → (after_all v es).core ≡ state_after x (events_of v.before ++ events_of es)
+
+-- Whether an event may happen hangs on the sizes of an opening alone.
+abbrev pub EveryNeed : Type 0
+EveryNeed = (x : Opening) (v : Given) → Opens x v → (s : State) (e : happening.Event) → may x s e ≡ may (rows.opening v) s e

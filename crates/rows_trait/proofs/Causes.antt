@@ -1,10 +1,10 @@
 -- What a call has loaded: the causes of its refusals.
-use Rattle.std.proofs.Common.{◌≡◌, ◌≢◌, ℕ, ◌%◌, inl, inr, List, [], ◌∷◌, ◌++◌, refl, sym, ap, subst, ◌∙◌, append_assoc}
+use Rattle.std.proofs.Common.{◌≡◌, ◌≢◌, ℕ, ◌+◌, ◌*◌, ◌%◌, ◌≤◌, inl, inr, List, [], ◌∷◌, ◌++◌, refl, sym, ap, subst, ◌∙◌, append_assoc}
 use Rattle.row_words.specs.declared.event.Event.{Event}
 use Rattle.rows_trait.specs.declared.view.Act.{Act}
 use Rattle.rows_trait.specs.declared.view.Act.TheVariants.{Look, Load, Store, Set, Hear, Turn}
 use Rattle.rows_trait.specs.declared.view.View.{View}
-use Rattle.rows_trait.specs.Views.{Shape, Since}
+use Rattle.rows_trait.specs.Views.{Shape, Since, AreLow}
 use Rattle.rows_trait.specs.Causes.{AreLoads, Finds, OnlyLoads, HasFound, IsLatched, HasMoved}
 use Rattle.rows_trait.specs.Turns.{Looked, Loaded}
 
@@ -45,6 +45,17 @@ since_older row s at (Store q i m ∷ ss) ts h = since_older row s at ss ts h
 since_older row s at (Set q m ∷ ss) ts h = since_older row s at ss ts h
 since_older row s at (Hear c j m ∷ ss) ts h = since_older row s at ss ts h
 since_older row s at (Turn c j m ∷ ss) ts h = since_older row s at ss ts h
+
+-- what was found is low
+pub finds_low : (n : ℕ) (ss ts : List Act) (row m : ℕ) → AreLow n (ss ++ ts) → Finds row m ss → m ≤ 2 * n + 1
+finds_low n [] ts row m low h = absurd h
+finds_low n (Look q x at ∷ ss) ts row m low (inl t) = subst (λ z. z ≤ 2 * n + 1) t.1 low.0
+finds_low n (Look q x at ∷ ss) ts row m low (inr t) = finds_low n ss ts row m low.1 t
+finds_low n (Load q i x ∷ ss) ts row m low h = finds_low n ss ts row m low h
+finds_low n (Store q i x ∷ ss) ts row m low h = finds_low n ss ts row m low h
+finds_low n (Set q x ∷ ss) ts row m low h = finds_low n ss ts row m low h
+finds_low n (Hear c j x ∷ ss) ts row m low h = finds_low n ss ts row m low h
+finds_low n (Turn c j x ∷ ss) ts row m low h = finds_low n ss ts row m low h
 
 abbrev pub loads_none : (v : View) → OnlyLoads v v
 loads_none v = record { acts = []; steps = refl; loads = tt }

@@ -18,7 +18,7 @@ module _ (z : Sizes) (v : Given) (words : List ℕ) (o : IsOpening z v words) wh
   only (suc j) u e = absurd (some-ne-none u (sym e))
 
   first_fits : Fits (plan z v) [] words first
-  first_fits = record { given = refl; rest = []; whole = refl; apart = tt; memory = record { rising = λ row s h. absurd h; within = λ row s i x h. absurd h; known = λ row s i x h e. absurd h }; still = λ row s at h e. absurd h; held = λ row h. absurd (true≢false (sym h)) }
+  first_fits = record { given = refl; rest = []; whole = refl; apart = tt; memory = record { rising = λ row s h. absurd h; within = λ row s i x h. absurd h; known = λ row s i x h e. absurd h }; still = λ row s at h e. absurd h; held = λ row h. absurd (true≢false (sym h)); low = tt }
 
   pub opens_plain : IsPicture (plan z v) words first
   opens_plain = record {
@@ -27,6 +27,7 @@ module _ (z : Sizes) (v : Given) (words : List ℕ) (o : IsOpening z v words) wh
     keeps = record {
       size = o.size;
       free = λ row lt ev i l. o.rows row lt i l;
+      few = λ row lt. let y = o.latch row lt in omega arith;
       controls = o.controls;
       fits = λ j u e l. subst (Fits (plan z v) [] words) (only j u e).1 first_fits;
       actors = λ i j a b ea eb la lb same. (only i a ea).0 ∙ sym (only j b eb).0;

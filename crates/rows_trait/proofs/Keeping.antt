@@ -1,5 +1,5 @@
 -- When a step keeps the rule.
-use Rattle.std.proofs.Common.{◌≡◌, ◌≢◌, ℕ, ◌+◌, ◌<◌, ◌≤◌, true, false, true≢false, ◌⊎◌, ⊎_elim, List, ◌++◌, length, set, refl, sym, ap, subst, ◌∙◌, arith, append_assoc}
+use Rattle.std.proofs.Common.{◌≡◌, ◌≢◌, ℕ, ◌+◌, ◌*◌, ◌<◌, ◌≤◌, true, false, true≢false, ◌⊎◌, ⊎_elim, List, ◌++◌, length, set, refl, sym, ap, subst, ◌∙◌, arith, append_assoc, length-append}
 use Rattle.std.specs.Prelude.{slice_index}
 use mathlib.Core.Option.{some}
 use lib.ListN.{get_elem?}
@@ -58,7 +58,9 @@ fits_on k happened words now u es m apart still same f = record {
     size = g.size;
     now = λ i lt. same row h (i + 1) (omega arith) ∙ g.now i lt;
     was = λ i lt. shown_on k happened u es f.given row i (slice_index (held_at u.held row).was i) apart h (g.was i lt);
+    counted = λ y. let a = g.counted y in let b = length-append happened es in omega arith;
   };
+  low = f.low;
 }
 
 -- what a step of the seat `id` owes
@@ -72,6 +74,7 @@ pub record Step (k : Plan) (happened : List Event) (words : List ℕ) (views : L
       → cell k.sizes now row i ≡ cell k.sizes words row i
   pub free : (row : ℕ) → row < rows_of k.sizes → IsEven (cell k.sizes now row 0) → (i : ℕ) → i < width k.sizes row
       → Shown k.given (moment k (happened ++ es)) row i (cell k.sizes now row (i + 1))
+  pub few : (row : ℕ) → row < rows_of k.sizes → cell k.sizes now row 0 ≤ 2 * length (happened ++ es) + 1
   pub controls : (c i : ℕ) → c ≤ k.sizes.workers → i < count_of c → slice_index now (control_at c i) ≡ heard (moment k (happened ++ es)) c i
   pub live : w.live ≡ true
   pub actor : w.actor ≡ v.actor
@@ -111,6 +114,7 @@ module _ (k : Plan) (happened : List Event) (words : List ℕ) (views : List Vie
   advances within = record {
     size = s.size ∙ keeps.size;
     free = s.free;
+    few = s.few;
     controls = s.controls;
     fits = λ j u e l. ⊎_elim
         (λ (t : (j ≡ id) × (w ≡ u)). subst (Fits k (happened ++ es) now) t.1 s.fits)

@@ -8,7 +8,7 @@ use Rattle.rows_trait.specs.Layout.{Sizes, rows_of, width, row_at, cell, count_o
 use Rattle.rows_trait.specs.Inside.{row_cells, flushed_words, after, look_at, first_of}
 use Rattle.rows_trait.specs.declared.view.Act.TheVariants.{Load, Store, Set, Hear, Turn}
 use Rattle.rows_trait.specs.declared.view.View.{View}
-use Rattle.rows_trait.specs.Views.{IsEven, after_all, state, no_place, Shape, hold, holds, held_at, without, write, settle, AreApart, AreSilent, may}
+use Rattle.rows_trait.specs.Views.{IsEven, after_all, state, no_place, Shape, AreLow, hold, holds, held_at, without, write, settle, AreApart, AreSilent, may}
 use Rattle.rows_trait.specs.Turns.{Looked, Loaded, Taken, Stored, MayPublish, Published, Released, Heard, MayTurn, Turned, MaySync, Synced}
 use Rattle.rows_trait.specs.Rule.{Plan, plan, Keeps, IsAlone, IsPicture}
 use Rattle.rows_trait.proofs.Steps.{looks, loads, stores, takes, publishing, releases, latch_of, hears, turns, syncs}
@@ -71,6 +71,9 @@ module _ (k : Plan) (words : List ℕ) (v : View) (p : IsPicture k words v) wher
 
   pub plain_latch : (row : ℕ) → holds v.held row ≡ true → (cell k.sizes words row 0 ≡ (held_at v.held row).version + 1) × ((held_at v.held row).version + 2 < 18446744073709551616)
   plain_latch row h = latch_of true no_place k p.happened words (v ∷ []) 0 v p.keeps refl p.live [] whole tt solo row h
+
+  pub plain_low : AreLow (length v.seen) v.steps
+  plain_low = (p.keeps.fits 0 v refl p.live).low
 
   pub plain_hear : (c i n : ℕ) (names : ℕ → List Event) → c ≤ k.sizes.workers → i < count_of c → n ≡ slice_index words (control_at c i) → ((n : ℕ) → AreSilent (may true v) v.given (names n))
       → IsPicture k words (after v [] (names n) (Hear c i n ∷ v.steps) v.held) × Heard shape c i names v n (after v [] (names n) (Hear c i n ∷ v.steps) v.held)

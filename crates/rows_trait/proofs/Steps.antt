@@ -1,5 +1,5 @@
 -- Each step of a seat keeps the rule, and makes of the seat's view what it says.
-use Rattle.std.proofs.Common.{◌≡◌, ◌≢◌, ℕ, zero, suc, ◌+◌, ◌%◌, ◌^◌, ◌<◌, ◌≤◌, Bool, true, false, true≢false, cond, ◌||◌, ◌⊎◌, inl, inr, ⊎_elim, List, [], ◌∷◌, ◌++◌, length, set, refl, sym, ap, subst, ◌∙◌, arith, append-nil, length-append, ◌==◌, Some}
+use Rattle.std.proofs.Common.{◌≡◌, ◌≢◌, ℕ, zero, suc, ◌+◌, ◌*◌, ◌%◌, ◌^◌, ◌<◌, ◌≤◌, Bool, true, false, true≢false, cond, ◌||◌, ◌⊎◌, inl, inr, ⊎_elim, List, [], ◌∷◌, ◌++◌, length, set, refl, sym, ap, subst, ◌∙◌, arith, append-nil, length-append, ◌==◌, Some}
 use Rattle.std.specs.Prelude.{slice_index}
 use Rattle.std.proofs.lemmas.Bool.Decides.{nat_tests}
 use Rattle.std.proofs.lemmas.List.{get_or-set_other, get_or-set_same}
@@ -20,13 +20,13 @@ use Rattle.rows_trait.specs.declared.view.Act.TheVariants.{Look, Load, Store, Se
 use Rattle.rows_trait.specs.declared.view.Hold.{Hold}
 use Rattle.rows_trait.specs.declared.view.Ended.{Ended}
 use Rattle.rows_trait.specs.declared.view.View.{View}
-use Rattle.rows_trait.specs.Views.{Shape, IsEven, after_all, state, Spells, Since, AreStill, IsStill, Knows, latest, hold, holds, held_at, without, write, settle, AreApart, AreSilent, NoSync, may, AreBelow, Ends}
+use Rattle.rows_trait.specs.Views.{Shape, IsEven, after_all, state, Spells, Since, AreStill, IsStill, Knows, latest, AreLow, hold, holds, held_at, without, write, settle, AreApart, AreSilent, NoSync, may, AreBelow, Ends}
 use Rattle.rows_trait.specs.Turns.{Goes, Looked, Loaded, Taken, Refused, Stored, Leaves, MayPublish, Published, Released, Heard, AreTurning, MayTurn, Turned, AreSyncing, MaySync, Synced}
 use Rattle.rows_trait.specs.Rule.{Plan, moment, Remembers, IsHeld, Fits, Keeps, IsAlone}
 use Rattle.rows_trait.proofs.Cells.{bool_cases, inside, control_inside, set_here, set_row_apart, set_word_apart, set_control_apart, set_cell_apart, same_control, cells_length, row_cells_at, flushed_length, flushed_cell, flushed_other, flushed_here}
 use Rattle.rows_trait.proofs.Holds.{holds_write, write_apart, write_here, holds_without_here, holds_without, without_apart, settled, holds_settle, settle_at}
 use Rattle.rows_trait.proofs.EventLemmas.{silent_sync, silent_shown, silent_heard, silent_apart, silent_none, silent_below, silent_still, still_none}
-use Rattle.rows_trait.proofs.Memory.{Moves, moves_not, remembers_on, remembers_look, remembers_load, remembers_store, remembers_set, remembers_hear, remembers_turn}
+use Rattle.rows_trait.proofs.Memory.{Moves, moves_not, remembers_on, remembers_look, remembers_load, remembers_store, remembers_set, remembers_hear, remembers_turn, low_more}
 use Rattle.rows_trait.proofs.Keeping.{still_on, Step, odd_of, advances}
 
 none_of_length : {A : Type 0} (xs : List A) → length xs ≡ 0 → xs ≡ []
@@ -89,6 +89,26 @@ module _ (alone : Bool) (spot : TableId) (k : Plan) (happened : List Event) (wor
     ended = refl;
     stands = λ row h. λ i lt. to_view es row i (slice_index (held_at held row).was i) ((is row h).was i lt);
   }
+
+  longer : (es : List Event) → length (happened ++ es) ≡ length happened + length es
+  longer es = length-append happened es
+
+  -- a latch that stays, stays low
+  few_still : (es : List Event) (now : List ℕ) → ((row : ℕ) → row < rows_of k.sizes → cell k.sizes now row 0 ≡ cell k.sizes words row 0) → (row : ℕ) → row < rows_of k.sizes → cell k.sizes now row 0 ≤ 2 * length (happened ++ es) + 1
+  few_still es now same row lt = let e = same row lt in let f = keeps.few row lt in let l = longer es in omega arith
+
+  counted_still : (es : List Event) (row : ℕ) → holds v.held row ≡ true → (held_at v.held row).done ≡ true → (held_at v.held row).version + 2 ≤ 2 * length (happened ++ es)
+  counted_still es row h y = let f = (fit.held row h).counted y in let l = longer es in omega arith
+
+  -- the version of a held row
+  version_low : (row : ℕ) → holds v.held row ≡ true → (held_at v.held row).version ≤ 2 * length happened
+  version_low row h = let g = fit.held row h in let o = g.odd in let f = keeps.few row g.inside in omega arith
+
+  low_still : (es : List Event) → AreLow (length ((v.seen ++ between) ++ es)) v.steps
+  low_still es = low_more (length v.seen) (length ((v.seen ++ between) ++ es)) v.steps (let a = length-append v.seen between in let b = length-append (v.seen ++ between) es in omega arith) fit.low
+
+  low_looked : (row n : ℕ) (es : List Event) → row < rows_of k.sizes → n ≡ cell k.sizes words row 0 → AreLow (length ((v.seen ++ between) ++ es)) (look_at row n v between es ∷ v.steps)
+  low_looked row n es lt is = ((let f = keeps.few row lt in let l = longer es in let s = ap length (seen_all es) in omega arith), low_still es)
 
   silent_in : (es : List Event) → AreSilent (may alone v) v.given es → AreSilent (may alone v) k.given es
   silent_in es s = subst (λ g. AreSilent (may alone v) g es) fit.given s
@@ -164,8 +184,9 @@ module _ (alone : Bool) (spot : TableId) (k : Plan) (happened : List Event) (wor
   fits_after : (es : List Event) (now : List ℕ) (steps : List Act) (held : List Hold) → Remembers k.sizes now steps
       → ((row s : ℕ) (at : List Event) → Since row s at steps → cell k.sizes now row 0 ≡ s → IsStill k.given row at (happened ++ es))
       → ((row : ℕ) → holds held row ≡ true → IsHeld k (happened ++ es) now row (held_at held row))
+      → AreLow (length ((v.seen ++ between) ++ es)) steps
       → Fits k (happened ++ es) now (after v between es steps held)
-  fits_after es now steps held r st h = record {
+  fits_after es now steps held r st h low = record {
     given = fit.given;
     rest = [];
     whole = seen_all es ∙ sym (append-nil ((v.seen ++ between) ++ es));
@@ -173,6 +194,7 @@ module _ (alone : Bool) (spot : TableId) (k : Plan) (happened : List Event) (wor
     memory = r;
     still = st;
     held = h;
+    low = low;
   }
 
   solo_after : (es : List Event) (now : List ℕ) (steps : List Act) (held : List Hold) → alone ≡ true
@@ -206,12 +228,14 @@ module _ (alone : Bool) (spot : TableId) (k : Plan) (happened : List Event) (wor
     size = g.size;
     now = g.now;
     was = λ i lt. silent_is es s row i (slice_index (held_at v.held row).was i) (g.was i lt);
+    counted = counted_still es row h;
   }
 
   stays : (es : List Event) (steps : List Act) → AreSilent (may alone v) v.given es → Remembers k.sizes words steps
       → ((row s : ℕ) (at : List Event) → Since row s at steps → cell k.sizes words row 0 ≡ s → IsStill k.given row at (happened ++ es))
+      → AreLow (length ((v.seen ++ between) ++ es)) steps
       → Step k happened words views id v es words (after v between es steps v.held)
-  stays es steps s r st = record {
+  stays es steps s r st low = record {
     moves = moves_not k.sizes words;
     size = refl;
     others = others_silent es s;
@@ -219,12 +243,13 @@ module _ (alone : Bool) (spot : TableId) (k : Plan) (happened : List Event) (wor
     acts = acts_silent es s;
     steady = λ row lt f o i l. refl;
     free = λ row lt ev i l. silent_is es s row i (cell k.sizes words row (i + 1)) (keeps.free row lt ev i l);
+    few = few_still es words (λ row lt. refl);
     controls = λ c i h l. keeps.controls c i h l ∙ sym (silent_word es s c i);
     live = alive;
     actor = refl;
     made = refl;
     done = refl;
-    fits = fits_after es words steps v.held r st (held_still es s);
+    fits = fits_after es words steps v.held r st (held_still es s) low;
     owner = λ row h. inl h;
     latched = λ row lt o. bool_cases (holds v.held row) (λ y. inl y) (λ n. inr (o, n));
   }
@@ -267,7 +292,7 @@ module _ (alone : Bool) (spot : TableId) (k : Plan) (happened : List Event) (wor
       let w = after v between (names n) (look_at row n v between (names n) ∷ v.steps) v.held in (
         w,
         refl,
-        advances k happened words views id v (names n) words w keeps mine alive (stays (names n) (look_at row n v between (names n) ∷ v.steps) s (remembers_look k.sizes words v.steps row n ((v.seen ++ between) ++ names n) is fit.memory) (still_looked row n (names n) words (moves_not k.sizes words) (silent_rows (names n) s))) at_length,
+        advances k happened words views id v (names n) words w keeps mine alive (stays (names n) (look_at row n v between (names n) ∷ v.steps) s (remembers_look k.sizes words v.steps row n ((v.seen ++ between) ++ names n) is fit.memory) (still_looked row n (names n) words (moves_not k.sizes words) (silent_rows (names n) s)) (low_looked row n (names n) lt is)) at_length,
         looked_is row n names lt is s,
         λ a. solo_after (names n) words (look_at row n v between (names n) ∷ v.steps) v.held a (steady_look row n ((v.seen ++ between) ++ names n) is a),
       )
@@ -283,7 +308,7 @@ module _ (alone : Bool) (spot : TableId) (k : Plan) (happened : List Event) (wor
       let w = after v between [] (Load row i n ∷ v.steps) v.held in (
         w,
         refl,
-        advances k happened words views id v [] words w keeps mine alive (stays [] (Load row i n ∷ v.steps) tt (remembers_load k.sizes words v.steps row i n lt l is fit.memory) (still_old [] words (moves_not k.sizes words) (silent_rows [] tt))) at_length,
+        advances k happened words views id v [] words w keeps mine alive (stays [] (Load row i n ∷ v.steps) tt (remembers_load k.sizes words v.steps row i n lt l is fit.memory) (still_old [] words (moves_not k.sizes words) (silent_rows [] tt)) (low_still [])) at_length,
         record {
           goes = goes [] (Load row i n ∷ v.steps) v.held words (held_still [] tt) (λ y. tt);
           steps = refl;
@@ -335,6 +360,7 @@ module _ (alone : Bool) (spot : TableId) (k : Plan) (happened : List Event) (wor
           (λ e. ap (λ z. cell k.sizes stored row (z + 1)) e ∙ (set_here k.sizes words row (i + 1) x in_words ∙ (sym (get_or-set_same (held_at v.held row).now i x 0 (let s = g.size in omega arith)) ∙ ap (λ z. slice_index (set (held_at v.held row).now i x) z) (sym e))))
           (λ ne. set_word_apart k.sizes words row (i + 1) (j + 1) x (λ e. ne (omega arith)) ∙ (g.now j t ∙ sym (get_or-set_other (held_at v.held row).now i j x 0 ne)));
       was = λ j t. silent_is [] tt row j (slice_index (held_at v.held row).was j) (g.was j t);
+      counted = counted_still [] row mine_row;
     }
 
     stored_there : (q : ℕ) → q ≢ row → holds v.held q ≡ true → IsHeld k (happened ++ []) stored q (held_at wrote q)
@@ -346,6 +372,7 @@ module _ (alone : Bool) (spot : TableId) (k : Plan) (happened : List Event) (wor
       size = g.size;
       now = λ j t. row_still q (j + 1) (omega arith) ne ∙ g.now j t;
       was = λ j t. silent_is [] tt q j (slice_index (held_at v.held q).was j) (g.was j t);
+      counted = counted_still [] q h;
     }
 
     stored_held : (q : ℕ) → holds wrote q ≡ true → IsHeld k (happened ++ []) stored q (held_at wrote q)
@@ -370,12 +397,13 @@ module _ (alone : Bool) (spot : TableId) (k : Plan) (happened : List Event) (wor
             steady = λ q t f o j u. row_still q j u (λ same. true≢false (sym mine_row ∙ (ap (holds v.held) (sym same) ∙ f)));
             free = λ q t ev j u. let ev' : IsEven (cell k.sizes words q 0) = subst IsEven (latch_still q) ev in
                 silent_is [] tt q j (cell k.sizes stored q (j + 1)) (subst (λ y. Shown k.given (moment k happened) q j y) (sym (row_still q (j + 1) (omega arith) (not_even q ev'))) (keeps.free q t ev' j u));
+            few = few_still [] stored (λ q t. latch_still q);
             controls = λ c j h u. set_control_apart k.sizes words row (i + 1) c j x h u ∙ (keeps.controls c j h u ∙ sym (silent_word [] tt c j));
             live = alive;
             actor = refl;
             made = refl;
             done = refl;
-            fits = fits_after [] stored (Store row i x ∷ v.steps) wrote (remembers_store k.sizes stored v.steps row i x (remembers_on k.sizes words stored v.steps stored_moves fit.memory)) (still_old [] stored stored_moves (silent_rows [] tt)) stored_held;
+            fits = fits_after [] stored (Store row i x ∷ v.steps) wrote (remembers_store k.sizes stored v.steps row i x (remembers_on k.sizes words stored v.steps stored_moves fit.memory)) (still_old [] stored stored_moves (silent_rows [] tt)) stored_held (low_still []);
             owner = λ q h. inl (sym (holds_write v.held row i x q) ∙ h);
             latched = λ q t o. bool_cases (holds v.held q) (λ y. inl (holds_write v.held row i x q ∙ y)) (λ n. inr (let e = latch_still q in omega arith, n));
           } at_length,
@@ -412,6 +440,11 @@ module _ (alone : Bool) (spot : TableId) (k : Plan) (happened : List Event) (wor
           (λ ne. let e = others_latch q 0 (omega arith) ne in omega arith);
       stays = λ q r e ev j t. words_still q j t;
     }
+
+    relatch_few : (es : List Event) → m ≤ 2 * length (happened ++ es) + 1 → (q : ℕ) → q < rows_of k.sizes → cell k.sizes relatched q 0 ≤ 2 * length (happened ++ es) + 1
+    relatch_few es low q t = row_cases q row
+        (λ same. let P : ℕ → Type 0 = λ z. cell k.sizes relatched z 0 ≤ 2 * length (happened ++ es) + 1 in subst P (sym same) (let e = latch_here in omega arith))
+        (λ ne. let e = others_latch q 0 (omega arith) ne in let f = keeps.few q t in let l = longer es in omega arith)
 
     relatch_size : length relatched ≡ length words
     relatch_size = length-set words (row_at k.sizes row 0) m
@@ -450,6 +483,10 @@ module _ (alone : Bool) (spot : TableId) (k : Plan) (happened : List Event) (wor
     not_held : holds v.held row ≡ false
     not_held = bool_cases (holds v.held row) (λ y. let o = odd_of k happened words row (held_at v.held row) (fit.held row y) in let f = row_free in absurd (omega arith)) (λ n. n)
 
+    -- the version is even, so it is not one above
+    taken_low : version + 1 ≤ 2 * length (happened ++ names version) + 1
+    taken_low = let f = keeps.few row lt in let e = is in let v' = ev in let l = longer (names version) in omega arith
+
     taken_here : IsHeld k (happened ++ names version) taken_words row (hold row version found found false)
     taken_here = record {
       inside = lt;
@@ -459,6 +496,7 @@ module _ (alone : Bool) (spot : TableId) (k : Plan) (happened : List Event) (wor
       size = cells_length words (row_at k.sizes row 1) (width k.sizes row);
       now = λ j t. words_still row (version + 1) lt row j t ∙ sym (row_cells_at k.sizes words row j t);
       was = λ j t. silent_is (names version) silent row j (slice_index found j) (subst (λ y. Shown k.given (moment k happened) row j y) (sym (row_cells_at k.sizes words row j t)) (keeps.free row lt row_free j t));
+      counted = λ y. absurd (true≢false (sym y));
     }
 
     taken_there : (q : ℕ) → q ≢ row → holds v.held q ≡ true → IsHeld k (happened ++ names version) taken_words q (held_at v.held q)
@@ -470,6 +508,7 @@ module _ (alone : Bool) (spot : TableId) (k : Plan) (happened : List Event) (wor
       size = g.size;
       now = λ j t. words_still row (version + 1) lt q j t ∙ g.now j t;
       was = λ j t. silent_is (names version) silent q j (slice_index (held_at v.held q).was j) (g.was j t);
+      counted = counted_still (names version) q h;
     }
 
     taken_fits : (q : ℕ) → holds taken_held q ≡ true → IsHeld k (happened ++ names version) taken_words q (held_at taken_held q)
@@ -515,6 +554,7 @@ module _ (alone : Bool) (spot : TableId) (k : Plan) (happened : List Event) (wor
         free = λ q t ev' j u. row_cases q row
             (λ same. let P : ℕ → Type 0 = λ z. IsEven (cell k.sizes taken_words z 0) in let e : IsEven (cell k.sizes taken_words row 0) = subst P same ev' in let l = latch_here row (version + 1) lt in let v' = ev in absurd (omega arith))
             (λ ne. silent_is (names version) silent q j (cell k.sizes taken_words q (j + 1)) (subst (λ y. Shown k.given (moment k happened) q j y) (sym (words_still row (version + 1) lt q j u)) (keeps.free q t (subst IsEven (others_latch row (version + 1) lt q 0 (omega arith) ne) ev') j u)));
+        few = relatch_few row (version + 1) lt (names version) taken_low;
         controls = λ c j h u. relatch_controls row (version + 1) lt c j h u ∙ (keeps.controls c j h u ∙ sym (silent_word (names version) silent c j));
         live = alive;
         actor = refl;
@@ -524,7 +564,8 @@ module _ (alone : Bool) (spot : TableId) (k : Plan) (happened : List Event) (wor
             (remembers_set k.sizes taken_words (look_at row version v between (names version) ∷ v.steps) row (version + 1)
             (remembers_on k.sizes words taken_words (look_at row version v between (names version) ∷ v.steps) (relatch_moves row (version + 1) lt (let e = is in omega arith)) (remembers_look k.sizes words v.steps row version ((v.seen ++ between) ++ names version) (sym is) fit.memory)))
             (still_looked row version (names version) taken_words (relatch_moves row (version + 1) lt (let e = is in omega arith)) (silent_rows (names version) silent))
-            taken_fits;
+            taken_fits
+            (low_looked row version (names version) lt (sym is));
         owner = taken_owner;
         latched = λ q t o. row_cases q row
             (λ same. inl (ap (holds taken_held) same ∙ holds_head))
@@ -560,7 +601,8 @@ module _ (alone : Bool) (spot : TableId) (k : Plan) (happened : List Event) (wor
       (spells : Spells k.given (moment k (happened ++ es)) (width k.sizes row) row (held_at v.held row).now)
       (untouched : (q : ℕ) → holds v.held q ≡ false → (i x : ℕ) → Shown k.given (moment k happened) q i x → Shown k.given (moment k (happened ++ es)) q i x)
       (word_kept : (c i : ℕ) → heard (moment k (happened ++ es)) c i ≡ heard (moment k happened) c i)
-      (kept_hold : (q : ℕ) → holds kept q ≡ true → ((held_at kept q).version ≡ (held_at v.held q).version) × ((held_at kept q).now ≡ (held_at v.held q).now) × Spells k.given (moment k (happened ++ es)) (width k.sizes q) q (held_at kept q).was) where
+      (kept_hold : (q : ℕ) → holds kept q ≡ true → ((held_at kept q).version ≡ (held_at v.held q).version) × ((held_at kept q).now ≡ (held_at v.held q).now) × Spells k.given (moment k (happened ++ es)) (width k.sizes q) q (held_at kept q).was × ((held_at kept q).done ≡ true → (held_at kept q).version + 2 ≤ 2 * length (happened ++ es)))
+      (counts : (held_at v.held row).version + 2 ≤ 2 * length (happened ++ es)) where
     abbrev up : ℕ
     up = (held_at v.held row).version + 2
 
@@ -582,6 +624,7 @@ module _ (alone : Bool) (spot : TableId) (k : Plan) (happened : List Event) (wor
       size = ap length d.1 ∙ g.size;
       now = λ j t. words_still row up lt q j t ∙ (g.now j t ∙ ap (λ z. slice_index z j) (sym d.1));
       was = d.2;
+      counted = d.3;
     }
 
     given_even : IsEven (cell k.sizes given_words row 0)
@@ -607,12 +650,13 @@ module _ (alone : Bool) (spot : TableId) (k : Plan) (happened : List Event) (wor
       acts = acts;
       steady = λ q t f o j u. others_latch row up lt q j u (λ same. true≢false (sym mine_row ∙ (ap (holds v.held) (sym same) ∙ f)));
       free = given_free;
+      few = relatch_few row up lt es (let c = counts in omega arith);
       controls = λ c j h u. relatch_controls row up lt c j h u ∙ (keeps.controls c j h u ∙ sym (word_kept c j));
       live = alive;
       actor = refl;
       made = refl;
       done = refl;
-      fits = fits_after es given_words (Set row up ∷ v.steps) kept (remembers_set k.sizes given_words v.steps row up (remembers_on k.sizes words given_words v.steps given_moves fit.memory)) (still_old es given_words given_moves still_rows) given_fits;
+      fits = fits_after es given_words (Set row up ∷ v.steps) kept (remembers_set k.sizes given_words v.steps row up (remembers_on k.sizes words given_words v.steps given_moves fit.memory)) (still_old es given_words given_moves still_rows) given_fits (low_still es);
       owner = λ q h. inl (kept_of q h).1;
       latched = λ q t o. row_cases q row
           (λ same. let P : ℕ → Type 0 = λ z. IsEven (cell k.sizes given_words z 0 + 1) in let o' : IsEven (cell k.sizes given_words row 0 + 1) = subst P same o in let e = given_even in absurd (omega arith))
@@ -686,16 +730,21 @@ module _ (alone : Bool) (spot : TableId) (k : Plan) (happened : List Event) (wor
         let p = held_without row q w in
         (p, settle_at v.given then (without v.held row) e q w ∙ ap (settled (changes v.given then e q)) (without_apart v.held row q p.0))
 
+    -- the version of a row that was held counts the event, too
+    publish_counts : (q : ℕ) → holds v.held q ≡ true → (held_at v.held q).version + 2 ≤ 2 * length (happened ++ e ∷ [])
+    publish_counts q h = let a = version_low q h in let l = longer (e ∷ []) in omega arith
+
     settled_hold : (q : ℕ) → holds settled_held q ≡ true
         → ((held_at settled_held q).version ≡ (held_at v.held q).version) × ((held_at settled_held q).now ≡ (held_at v.held q).now) × Spells k.given (moment k (happened ++ e ∷ [])) (width k.sizes q) q (held_at settled_held q).was
+        × ((held_at settled_held q).done ≡ true → (held_at settled_held q).version + 2 ≤ 2 * length (happened ++ e ∷ []))
     settled_hold q h =
         let s = settled_at q h in
         let g = fit.held q s.0.1 in
-        let P : Hold → Type 0 = λ z. (z.version ≡ (held_at v.held q).version) × (z.now ≡ (held_at v.held q).now) × Spells k.given (moment k (happened ++ e ∷ [])) (width k.sizes q) q z.was in
+        let P : Hold → Type 0 = λ z. (z.version ≡ (held_at v.held q).version) × (z.now ≡ (held_at v.held q).now) × Spells k.given (moment k (happened ++ e ∷ [])) (width k.sizes q) q z.was × (z.done ≡ true → z.version + 2 ≤ 2 * length (happened ++ e ∷ [])) in
         let Q : Bool → Type 0 = λ b. P (settled b (held_at v.held q)) in
         subst P (sym s.1) (bool_cases (changes v.given then e q)
-        (λ p. subst Q (sym p) (refl, refl, published_shown q p))
-        (λ n. subst Q (sym n) (refl, refl, λ i l. other_shown q n i (slice_index (held_at v.held q).was i) (g.was i l))))
+        (λ p. subst Q (sym p) (refl, refl, published_shown q p, λ y. publish_counts q s.0.1))
+        (λ n. subst Q (sym n) (refl, refl, λ i l. other_shown q n i (slice_index (held_at v.held q).was i) (g.was i l), counted_still (e ∷ []) q s.0.1)))
 
     settled_all : (q : ℕ) → q ≢ row → holds v.held q ≡ true → holds settled_held q ≡ true
     settled_all q ne h = holds_settle v.given then (without v.held row) e q ∙ (holds_without v.held row q ne ∙ h)
@@ -704,7 +753,7 @@ module _ (alone : Bool) (spot : TableId) (k : Plan) (happened : List Event) (wor
     not_published q n = other_shown q (bool_cases (changes v.given then e q) (λ p. absurd (true≢false (sym (leaves.rows q p).0 ∙ n))) (λ f. f))
 
     published_fits : (q : ℕ) → holds settled_held q ≡ true → IsHeld k (happened ++ e ∷ []) (set words (row_at k.sizes row 0) ((held_at v.held row).version + 2)) q (held_at settled_held q)
-    published_fits = given_fits row lt mine_row (e ∷ []) settled_held publish_others (acts_one e may_publish.actor) publish_still (λ q h. (settled_at q h).0) settled_all (published_shown row leaves.here) not_published published_word settled_hold
+    published_fits = given_fits row lt mine_row (e ∷ []) settled_held publish_others (acts_one e may_publish.actor) publish_still (λ q h. (settled_at q h).0) settled_all (published_shown row leaves.here) not_published published_word settled_hold (publish_counts row mine_row)
 
     pub publishing : (w : View) × (w ≡ after v between (e ∷ []) (Set row ((held_at v.held row).version + 2) ∷ v.steps) settled_held) × Keeps k (happened ++ e ∷ []) (set words (row_at k.sizes row 0) ((held_at v.held row).version + 2)) (set views id w) × Published shape row e v w
         × (alone ≡ true → IsAlone k (happened ++ e ∷ []) (set words (row_at k.sizes row 0) ((held_at v.held row).version + 2)) (set views id w) w)
@@ -712,9 +761,9 @@ module _ (alone : Bool) (spot : TableId) (k : Plan) (happened : List Event) (wor
     publishing = (
       after v between (e ∷ []) (Set row ((held_at v.held row).version + 2) ∷ v.steps) settled_held,
       refl,
-      given row lt mine_row (e ∷ []) settled_held publish_others (acts_one e may_publish.actor) publish_still (λ q h. (settled_at q h).0) settled_all (published_shown row leaves.here) not_published published_word settled_hold,
+      given row lt mine_row (e ∷ []) settled_held publish_others (acts_one e may_publish.actor) publish_still (λ q h. (settled_at q h).0) settled_all (published_shown row leaves.here) not_published published_word settled_hold (publish_counts row mine_row),
       record { goes = goes (e ∷ []) (Set row ((held_at v.held row).version + 2) ∷ v.steps) settled_held (set words (row_at k.sizes row 0) ((held_at v.held row).version + 2)) published_fits (λ y. (may_publish.part, tt)); steps = refl; held = refl },
-      given_alone row lt mine_row (e ∷ []) settled_held publish_others (acts_one e may_publish.actor) publish_still (λ q h. (settled_at q h).0) settled_all (published_shown row leaves.here) not_published published_word settled_hold,
+      given_alone row lt mine_row (e ∷ []) settled_held publish_others (acts_one e may_publish.actor) publish_still (λ q h. (settled_at q h).0) settled_all (published_shown row leaves.here) not_published published_word settled_hold (publish_counts row mine_row),
     )
 
   -- a held row is given up without a publish
@@ -738,11 +787,20 @@ module _ (alone : Bool) (spot : TableId) (k : Plan) (happened : List Event) (wor
 
     release_hold : (q : ℕ) → holds (without v.held row) q ≡ true
         → ((held_at (without v.held row) q).version ≡ (held_at v.held q).version) × ((held_at (without v.held row) q).now ≡ (held_at v.held q).now) × Spells k.given (moment k (happened ++ missed)) (width k.sizes q) q (held_at (without v.held row) q).was
+        × ((held_at (without v.held row) q).done ≡ true → (held_at (without v.held row) q).version + 2 ≤ 2 * length (happened ++ missed))
     release_hold q h =
         let p = held_without row q h in
         let g = fit.held q p.1 in
-        let P : Hold → Type 0 = λ z. (z.version ≡ (held_at v.held q).version) × (z.now ≡ (held_at v.held q).now) × Spells k.given (moment k (happened ++ missed)) (width k.sizes q) q z.was in
-        subst P (sym (without_apart v.held row q p.0)) (refl, refl, λ i l. silent_is missed miss_silent q i (slice_index (held_at v.held q).was i) (g.was i l))
+        let P : Hold → Type 0 = λ z. (z.version ≡ (held_at v.held q).version) × (z.now ≡ (held_at v.held q).now) × Spells k.given (moment k (happened ++ missed)) (width k.sizes q) q z.was × (z.done ≡ true → z.version + 2 ≤ 2 * length (happened ++ missed)) in
+        subst P (sym (without_apart v.held row q p.0)) (refl, refl, λ i l. silent_is missed miss_silent q i (slice_index (held_at v.held q).was i) (g.was i l), counted_still missed q p.1)
+
+    -- the miss, or the event that was published before, is counted
+    release_counts : (held_at v.held row).version + 2 ≤ 2 * length (happened ++ missed)
+    release_counts = at (held_at v.held row).done refl
+      where
+        at : (b : Bool) → (held_at v.held row).done ≡ b → (held_at v.held row).version + 2 ≤ 2 * length (happened ++ cond b [] (Miss v.actor ∷ []))
+        at true y = counted_still [] row mine_row y
+        at false y = let a = version_low row mine_row in let l = longer (Miss v.actor ∷ []) in omega arith
 
     release_all : (q : ℕ) → q ≢ row → holds v.held q ≡ true → holds (without v.held row) q ≡ true
     release_all q ne h = holds_without v.held row q ne ∙ h
@@ -751,16 +809,16 @@ module _ (alone : Bool) (spot : TableId) (k : Plan) (happened : List Event) (wor
     release_spells = subst (λ ws. Spells k.given (moment k (happened ++ missed)) (width k.sizes row) row ws) (sym same) (λ i l. silent_is missed miss_silent row i (slice_index (held_at v.held row).was i) ((fit.held row mine_row).was i l))
 
     released_fits : (q : ℕ) → holds (without v.held row) q ≡ true → IsHeld k (happened ++ missed) (set words (row_at k.sizes row 0) ((held_at v.held row).version + 2)) q (held_at (without v.held row) q)
-    released_fits = given_fits row lt mine_row missed (without v.held row) (others_silent missed miss_silent) (acts_silent missed miss_silent) (silent_rows missed miss_silent) (held_without row) release_all release_spells (λ q n. silent_is missed miss_silent q) (silent_word missed miss_silent) release_hold
+    released_fits = given_fits row lt mine_row missed (without v.held row) (others_silent missed miss_silent) (acts_silent missed miss_silent) (silent_rows missed miss_silent) (held_without row) release_all release_spells (λ q n. silent_is missed miss_silent q) (silent_word missed miss_silent) release_hold release_counts
 
     pub releases : (w : View) × (w ≡ after v between missed (Set row ((held_at v.held row).version + 2) ∷ v.steps) (without v.held row)) × Keeps k (happened ++ missed) (set words (row_at k.sizes row 0) ((held_at v.held row).version + 2)) (set views id w) × Released shape row v w
         × (alone ≡ true → IsAlone k (happened ++ missed) (set words (row_at k.sizes row 0) ((held_at v.held row).version + 2)) (set views id w) w)
     releases = (
       after v between missed (Set row ((held_at v.held row).version + 2) ∷ v.steps) (without v.held row),
       refl,
-      given row lt mine_row missed (without v.held row) (others_silent missed miss_silent) (acts_silent missed miss_silent) (silent_rows missed miss_silent) (held_without row) release_all release_spells (λ q n. silent_is missed miss_silent q) (silent_word missed miss_silent) release_hold,
+      given row lt mine_row missed (without v.held row) (others_silent missed miss_silent) (acts_silent missed miss_silent) (silent_rows missed miss_silent) (held_without row) release_all release_spells (λ q n. silent_is missed miss_silent q) (silent_word missed miss_silent) release_hold release_counts,
       record { goes = goes missed (Set row ((held_at v.held row).version + 2) ∷ v.steps) (without v.held row) (set words (row_at k.sizes row 0) ((held_at v.held row).version + 2)) released_fits (λ y. silent_sync (may alone v) v.given missed miss_silent); steps = refl; held = refl },
-      given_alone row lt mine_row missed (without v.held row) (others_silent missed miss_silent) (acts_silent missed miss_silent) (silent_rows missed miss_silent) (held_without row) release_all release_spells (λ q n. silent_is missed miss_silent q) (silent_word missed miss_silent) release_hold,
+      given_alone row lt mine_row missed (without v.held row) (others_silent missed miss_silent) (acts_silent missed miss_silent) (silent_rows missed miss_silent) (held_without row) release_all release_spells (λ q n. silent_is missed miss_silent q) (silent_word missed miss_silent) release_hold release_counts,
     )
 
   -- the latch of a held row
@@ -776,7 +834,7 @@ module _ (alone : Bool) (spot : TableId) (k : Plan) (happened : List Event) (wor
       let w = after v between (names n) (Hear c i n ∷ v.steps) v.held in (
         w,
         refl,
-        advances k happened words views id v (names n) words w keeps mine alive (stays (names n) (Hear c i n ∷ v.steps) s (remembers_hear k.sizes words v.steps c i n fit.memory) (still_old (names n) words (moves_not k.sizes words) (silent_rows (names n) s))) at_length,
+        advances k happened words views id v (names n) words w keeps mine alive (stays (names n) (Hear c i n ∷ v.steps) s (remembers_hear k.sizes words v.steps c i n fit.memory) (still_old (names n) words (moves_not k.sizes words) (silent_rows (names n) s)) (low_still (names n))) at_length,
         record {
           goes = goes (names n) (Hear c i n ∷ v.steps) v.held words (held_still (names n) s) (λ y. silent_sync (may alone v) v.given (names n) s);
           steps = refl;
@@ -886,6 +944,7 @@ module _ (alone : Bool) (spot : TableId) (k : Plan) (happened : List Event) (wor
       size = g.size;
       now = λ j t. turn_cell q (j + 1) ∙ g.now j t;
       was = λ j t. turn_is q j (slice_index (held_at v.held q).was j) (g.was j t);
+      counted = counted_still (names n) q y;
     }
 
     pub turns : (w : View) × (w ≡ after v between (names n) (Turn c i n ∷ v.steps) v.held) × Keeps k (happened ++ names n) (set words (control_at c i) (f n)) (set views id w) × Turned shape c i f names v n w
@@ -903,12 +962,13 @@ module _ (alone : Bool) (spot : TableId) (k : Plan) (happened : List Event) (wor
             acts = turn_acts;
             steady = λ q t z o j u. turn_cell q j;
             free = λ q t ev j u. turn_is q j (cell k.sizes turned_words q (j + 1)) (subst (λ y. Shown k.given (moment k happened) q j y) (sym (turn_cell q (j + 1))) (keeps.free q t (subst IsEven (turn_cell q 0) ev) j u));
+            few = few_still (names n) turned_words (λ q t. turn_cell q 0);
             controls = turned_controls;
             live = alive;
             actor = refl;
             made = refl;
             done = refl;
-            fits = fits_after (names n) turned_words (Turn c i n ∷ v.steps) v.held (remembers_turn k.sizes turned_words v.steps c i n (remembers_on k.sizes words turned_words v.steps turn_moves fit.memory)) (still_old (names n) turned_words turn_moves turn_still) turned_held;
+            fits = fits_after (names n) turned_words (Turn c i n ∷ v.steps) v.held (remembers_turn k.sizes turned_words v.steps c i n (remembers_on k.sizes words turned_words v.steps turn_moves fit.memory)) (still_old (names n) turned_words turn_moves turn_still) turned_held (low_still (names n));
             owner = λ q y. inl y;
             latched = λ q t o. bool_cases (holds v.held q) (λ y. inl y) (λ z. inr (let e = turn_cell q 0 in omega arith, z));
           } at_length,
@@ -975,6 +1035,7 @@ module _ (alone : Bool) (spot : TableId) (k : Plan) (happened : List Event) (wor
       size = g.size;
       now = λ j t. flushed_row q (j + 1) ∙ g.now j t;
       was = λ j t. sync_is q j (slice_index (held_at v.held q).was j) (g.was j t);
+      counted = counted_still es q y;
     }
 
     pub syncs : (w : View) × (w ≡ after v between es v.steps v.held) × Keeps k (happened ++ es) (flushed_words k.sizes.workers words number) (set views id w) × Synced shape number es v w
@@ -991,12 +1052,13 @@ module _ (alone : Bool) (spot : TableId) (k : Plan) (happened : List Event) (wor
             acts = λ j u e al. ((alone_acts single j u e).0, λ a own en. (alone_acts single j u e).1 a own en);
             steady = λ q t z o j u. flushed_row q j;
             free = λ q t ev j u. sync_is q j (cell k.sizes flushed q (j + 1)) (subst (λ y. Shown k.given (moment k happened) q j y) (sym (flushed_row q (j + 1))) (keeps.free q t (subst IsEven (flushed_row q 0) ev) j u));
+            few = few_still es flushed (λ q t. flushed_row q 0);
             controls = sync_controls;
             live = alive;
             actor = refl;
             made = refl;
             done = refl;
-            fits = fits_after es flushed v.steps v.held (remembers_on k.sizes words flushed v.steps sync_moves fit.memory) (still_old es flushed sync_moves (λ row e. sync_still row es (moment k happened) sync_own)) synced_held;
+            fits = fits_after es flushed v.steps v.held (remembers_on k.sizes words flushed v.steps sync_moves fit.memory) (still_old es flushed sync_moves (λ row e. sync_still row es (moment k happened) sync_own)) synced_held (low_still es);
             owner = λ q y. inl y;
             latched = λ q t o. bool_cases (holds v.held q) (λ y. inl y) (λ z. inr (let e = flushed_row q 0 in omega arith, z));
           } at_length,

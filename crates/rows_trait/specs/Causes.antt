@@ -1,8 +1,9 @@
 -- Why a call refused: what it has loaded since it began.
-use Rattle.std.specs.Prelude.{◌≡◌, ◌≢◌, ℕ, ◌%◌, ◌⊎◌, List, [], ◌∷◌, ◌++◌}
+use Rattle.std.specs.Prelude.{◌≡◌, ◌≢◌, ℕ, ◌+◌, ◌*◌, ◌%◌, ◌≤◌, ◌⊎◌, List, [], ◌∷◌, ◌++◌}
 use Rattle.rows_trait.specs.declared.view.Act.{Act}
 use Rattle.rows_trait.specs.declared.view.Act.TheVariants.{Look, Load, Store, Set, Hear, Turn}
 use Rattle.rows_trait.specs.declared.view.View.{View}
+use Rattle.rows_trait.specs.Views.{AreLow}
 
 -- each step loaded a latch, a word or a control word
 abbrev pub AreLoads : List Act → Type 0
@@ -46,3 +47,7 @@ pub record HasMoved (row seen found : ℕ) (v w : View) : Type 0 where
   pub loads : OnlyLoads v w
   pub first : Finds row seen loads.acts
   pub last : Finds row found loads.acts
+
+-- The number that a call found in a latch is low where all that were loaded are.
+abbrev pub EveryLow : Type 0
+EveryLow = (n : ℕ) (acts more : List Act) (row m : ℕ) → AreLow n (acts ++ more) → Finds row m acts → m ≤ 2 * n + 1

@@ -1,5 +1,5 @@
 -- The rule between any two steps: what the words, the views and what has happened have to do with one another.
-use Rattle.std.specs.Prelude.{◌≡◌, ◌≢◌, ℕ, ◌+◌, ◌<◌, ◌≤◌, true, List, [], ◌∷◌, ◌++◌, length, slice_index, Some}
+use Rattle.std.specs.Prelude.{◌≡◌, ◌≢◌, ℕ, ◌+◌, ◌*◌, ◌<◌, ◌≤◌, true, List, [], ◌∷◌, ◌++◌, length, slice_index, Some}
 use mathlib.Core.Option.{some}
 use lib.ListN.{get_elem?}
 use Rattle.row_words.specs.declared.event.Event.{Event}
@@ -10,7 +10,7 @@ use Rattle.rows_trait.specs.Layout.{Sizes, rows_of, width, cell, count_of, contr
 use Rattle.rows_trait.specs.declared.view.Act.{Act}
 use Rattle.rows_trait.specs.declared.view.Hold.{Hold}
 use Rattle.rows_trait.specs.declared.view.View.{View}
-use Rattle.rows_trait.specs.Views.{IsEven, after_all, Spells, Has, Since, IsStill, Knows, latest, holds, held_at, AreApart, AreBelow, Ends}
+use Rattle.rows_trait.specs.Views.{IsEven, after_all, Spells, Has, Since, IsStill, Knows, latest, AreLow, holds, held_at, AreApart, AreBelow, Ends}
 
 -- how many rows there are, and where they began
 pub record Plan : Type 0 where
@@ -36,6 +36,8 @@ pub record IsHeld (k : Plan) (happened : List Event) (words : List ℕ) (row : �
   pub size : length h.now ≡ width k.sizes row
   pub now : (i : ℕ) → i < width k.sizes row → cell k.sizes words row (i + 1) ≡ slice_index h.now i
   pub was : Spells k.given (moment k happened) (width k.sizes row) row h.was
+  -- once an event of it was published, that is one more than its version counts
+  pub counted : h.done ≡ true → h.version + 2 ≤ 2 * length happened
 
 -- what a seat has seen is a prefix of what has happened, and the rest is of others
 pub record Fits (k : Plan) (happened : List Event) (words : List ℕ) (v : View) : Type 0 where
@@ -47,6 +49,8 @@ pub record Fits (k : Plan) (happened : List Event) (words : List ℕ) (v : View)
   -- while the latch is the even number that was loaded, no event behind what was seen then has changed the row
   pub still : (row s : ℕ) (at : List Event) → Since row s at v.steps → cell k.sizes words row 0 ≡ s → IsStill k.given row at happened
   pub held : (row : ℕ) → holds v.held row ≡ true → IsHeld k happened words row (held_at v.held row)
+  -- so the numbers that were loaded from latches are low
+  pub low : AreLow (length v.seen) v.steps
 
 -- The rule. Rows that nobody holds spell the core state, and each view fits.
 pub record Keeps (k : Plan) (happened : List Event) (words : List ℕ) (views : List View) : Type 0 where
@@ -54,6 +58,8 @@ pub record Keeps (k : Plan) (happened : List Event) (words : List ℕ) (views : 
   -- a free row spells its contents
   pub free : (row : ℕ) → row < rows_of k.sizes → IsEven (cell k.sizes words row 0) → (i : ℕ) → i < width k.sizes row
       → Shown k.given (moment k happened) row i (cell k.sizes words row (i + 1))
+  -- a latch goes up by two behind an event that changes the row, or a miss
+  pub few : (row : ℕ) → row < rows_of k.sizes → cell k.sizes words row 0 ≤ 2 * length happened + 1
   -- control words are those of the core state
   pub controls : (c i : ℕ) → c ≤ k.sizes.workers → i < count_of c → slice_index words (control_at c i) ≡ heard (moment k happened) c i
   pub fits : (j : ℕ) (v : View) → get_elem? views j ≡ some v → v.live ≡ true → Fits k happened words v

@@ -1,5 +1,5 @@
 -- What a view says: which versions and words were loaded, what is held, and which events of others leave it as it is.
-use Rattle.std.specs.Prelude.{◌≡◌, ◌≢◌, ℕ, ◌%◌, ◌<◌, Bool, true, false, cond, ◌||◌, ◌⊎◌, List, [], ◌∷◌, ◌++◌, slice_set, slice_index, ◌==◌, Option, Some, None}
+use Rattle.std.specs.Prelude.{◌≡◌, ◌≢◌, ℕ, ◌+◌, ◌*◌, ◌%◌, ◌<◌, ◌≤◌, Bool, true, false, cond, ◌||◌, ◌⊎◌, List, [], ◌∷◌, ◌++◌, slice_set, slice_index, ◌==◌, Option, Some, None}
 use Rattle.atomic_table.specs.Seated.{TableId}
 use Rattle.row_words.specs.declared.event.Event.{Event}
 use Rattle.row_words.specs.declared.given.Given.{Given}
@@ -78,6 +78,16 @@ latest row (Store q i n ∷ ss) = latest row ss
 latest row (Set q n ∷ ss) = cond (q == row) (Some n) (latest row ss)
 latest row (Hear c j n ∷ ss) = latest row ss
 latest row (Turn c j n ∷ ss) = latest row ss
+
+-- each number that was loaded from a latch is at most one above twice this number
+abbrev pub AreLow : ℕ → List Act → Type 0
+AreLow n [] = Unit {0}
+AreLow n (Look q m at ∷ ss) = (m ≤ 2 * n + 1) × AreLow n ss
+AreLow n (Load q i m ∷ ss) = AreLow n ss
+AreLow n (Store q i m ∷ ss) = AreLow n ss
+AreLow n (Set q m ∷ ss) = AreLow n ss
+AreLow n (Hear c j m ∷ ss) = AreLow n ss
+AreLow n (Turn c j m ∷ ss) = AreLow n ss
 
 -- a hold of its parts
 abbrev pub hold : ℕ → ℕ → List ℕ → List ℕ → Bool → Hold

@@ -5,8 +5,15 @@
 //! Read specs/Layout.antt, specs/Views.antt and specs/Turns.antt; specs/Rule.antt is what holds between any two steps.
 #![tactic(auto)]
 
+ghost use Rattle.rows_trait.specs.Causes.{EveryLow};
+
 pub mod names;
 pub mod plain;
 pub mod rows;
 pub mod trace;
 pub mod view;
+
+/// A number that was found in a latch is at most one above twice the number of events that were seen.
+pub fn every_low()
+    ensures { EveryLow }
+{}

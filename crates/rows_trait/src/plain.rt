@@ -239,4 +239,6 @@ impl Rows for PlainRows {
     fn quiet(&self) -> bool {
         true
     }
+
+    fn versions(&self, seat: &Trace) {}
 }

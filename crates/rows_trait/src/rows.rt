@@ -1,11 +1,11 @@
-//! Rows of words, and the twelve calls that a seat makes on them.
+//! Rows of words, and the twelve calls that a seat makes on them. A thirteenth does nothing, and tells how high versions are.
 //!
-//! Each call but the last two is one load, store or exchange. Its contract is one clause over what the seat knew before and knows
+//! Each of the first ten is one load, store or exchange. Its contract is one clause over what the seat knew before and knows
 //! after: in between others may have stepped, and what they did is apart from what the seat holds.
-ghost use Rattle.std.specs.Prelude.{◌≡◌, ◌+◌, ◌<◌, ◌≤◌, ◌^◌, ℕ, suc, max, true, false, ◌∷◌, []};
+ghost use Rattle.std.specs.Prelude.{◌≡◌, ◌+◌, ◌<◌, ◌≤◌, ◌^◌, ℕ, suc, max, true, false, length, ◌∷◌, []};
 ghost use Rattle.rows_trait.specs.declared.view.View.{View};
 ghost use Rattle.rows_trait.specs.Layout.{rows_of, width, count_of};
-ghost use Rattle.rows_trait.specs.Views.{IsEven, AreSilent, Shape, holds, held_at, may};
+ghost use Rattle.rows_trait.specs.Views.{IsEven, AreLow, AreSilent, Shape, holds, held_at, may};
 ghost use Rattle.rows_trait.specs.Turns.{Looked, Loaded, Tried, Stored, MayPublish, Published, Released, Heard, MayTurn, Turned, MaySync, Synced};
 
 use crate::names::Names;
@@ -155,4 +155,10 @@ pub trait Rows {
     /// Whether nobody else steps.
     fn quiet(&self) -> bool
         ensures { result ≡ (shape self.now).alone };
+
+    /// Each number that was loaded from a latch is at most one above twice the number of events that were seen: a row is given up
+    /// behind an event of it, or a miss. The call does nothing.
+    fn versions(&self, seat: &Self::Seat)
+        requires fits { fits self.now seat.now }
+        ensures low { AreLow (length (view seat.now).seen) (view seat.now).steps };
 }
