@@ -11,9 +11,11 @@ ghost use Rattle.version_latch.specs.Kept.{Kept};
 ghost use Rattle.btree_descent.specs.Inside.{IsHead, IsNode, OnWay, IsOn, AtLeaf, IsAgain, answer_of, IsStopped, IsBeside, IsDown, Steps, Reached, FellShort};
 ghost use Rattle.btree_descent.specs.Known.{IsSound, Sound, IsCold, said};
 ghost use Rattle.btree_descent.specs.Descents.{Sized, Went, IsSettled, Caused};
+ghost use Rattle.btree_descent.specs.Trails.{IsTrail};
 
 use crate::events::Reads;
 use crate::node::{entry, route};
+use lean_proto::path::Path;
 use rows_trait::rows::Rows;
 use version_latch::events::{Checks, Misses};
 use version_latch::{Glimpse, Latched, Moved};
@@ -294,23 +296,31 @@ pub(crate) fn way<R: Rows>(
     worker: u32,
     frames: u32,
     key: u64,
+    path: &mut Path,
 ) -> Result<Leaf, Stop>
     requires fits { R.fits rows.old seat.old }
     requires sized { Sized (R.shape rows.old) (R.view seat.old) frames }
     requires actor { may (R.shape rows.old).alone (R.view seat.old) worker ≡ true }
     requires sound { IsSound (R.view seat.old).given }
     requires key { key < 2 ^ 64 - 1 }
+    requires path { path.old ≡ [] }
     ensures fits { R.fits rows.new seat.new × (R.shape rows.new ≡ R.shape rows.old) }
+    ensures trail { IfOk result (λ l. IsTrail frames path.new l.glimpse.row) }
+    ensures part { IfErr result (λ _. (row : ℕ) × IsTrail frames path.new row) }
     ensures leaf { IfOk result (λ l. Reached (R.shape rows.old) worker frames key (R.view seat.old) l.glimpse l.head (R.view seat.new)) }
     ensures stop { IfErr result (λ s. FellShort (R.shape rows.old).alone worker key (R.view seat.old) s (R.view seat.new)) }
 {
+    path.push(0);
     let mut glimpse = match Glimpse::start(rows, seat, 0, &Misses { worker }) {
         Err(latched) => return Err(Stop::Latched(latched)),
         Ok(found) => found,
     };
     for i in 0..8u32 {
         match look_at(rows, seat, &glimpse, worker, frames, key) {
-            Step::Child(found) => glimpse = found,
+            Step::Child(found) => {
+                path.push(found.row);
+                glimpse = found;
+            }
             Step::Leaf(head) => return Ok(Leaf { glimpse, head }),
             Step::End(stop) => return Err(stop),
         }
@@ -366,18 +376,30 @@ fn answer_of(stop: Stop) -> Answer
 /// Found has the key's word as its leaf has it at the last check, a tombstone's too, and appends the read of it. Cold names a page
 /// on the way that is not hot and appends nothing: bring it into a frame and try again. Moved and Latched append a miss and say
 /// which row, and which numbers of its latch were loaded: try again. Where nobody else steps these two never come.
-pub fn find<R: Rows>(rows: &mut R, seat: &mut R::Seat, worker: u32, frames: u32, key: u64) -> Answer
+///
+/// `path` is empty before, and has the frames of the way after it, whatever the answer: the last is that of the leaf, or of the node at
+/// which the descent ended.
+pub fn find<R: Rows>(
+    rows: &mut R,
+    seat: &mut R::Seat,
+    worker: u32,
+    frames: u32,
+    key: u64,
+    path: &mut Path,
+) -> Answer
     requires fits { R.fits rows.old seat.old }
     requires sized { Sized (R.shape rows.old) (R.view seat.old) frames }
     requires actor { may (R.shape rows.old).alone (R.view seat.old) worker ≡ true }
     requires sound { IsSound (R.view seat.old).given }
     requires key { key < 2 ^ 64 - 1 }
+    requires path { path.old ≡ [] }
     ensures fits { R.fits rows.new seat.new × (R.shape rows.new ≡ R.shape rows.old) × ((R.view seat.new).held ≡ (R.view seat.old).held) }
+    ensures trail { (row : ℕ) × IsTrail frames path.new row }
     ensures went { Went (R.shape rows.old).alone worker key (R.view seat.old) result (R.view seat.new) }
     ensures cause { Caused (R.view seat.old) result (R.view seat.new) }
     ensures quiet { (R.shape rows.old).alone ≡ true → (R.view seat.old).held ≡ [] → IsSettled result }
 {
-    match way(rows, seat, worker, frames, key) {
+    match way(rows, seat, worker, frames, key, path) {
         Ok(leaf) => read(rows, seat, &leaf, worker, frames, key),
         Err(stop) => answer_of(stop),
     }

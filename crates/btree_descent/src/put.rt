@@ -15,6 +15,7 @@ ghost use Rattle.btree_descent.specs.Descents.{Sized};
 ghost use Rattle.version_latch.specs.Kept.{Kept};
 ghost use Rattle.btree_descent.specs.Inside.{IsSeen, IsOn, IsAgain, FellShort};
 ghost use Rattle.btree_descent.specs.Puts.{MayPut, DrawsFor, Changed, Refused, NotStaged, Wrote, Drew, last_after, PutCaused, IsUndisturbed};
+ghost use Rattle.btree_descent.specs.Trails.{IsTrail, IsFullAt};
 ghost use Rattle.btree_descent.specs.Spots.{IsPlace, IsSpot, AtSpot, Located, put_of, IsUndrawn, IsRefused, record_of, IsPutting};
 
 use crate::descent::{Leaf, Stop, TOMBSTONE, again, way};
@@ -23,6 +24,7 @@ use draw_trait::draw::{Draw, Unstaged};
 use lean_proto::change::Changes;
 use lean_proto::new::put_new;
 use lean_proto::over::put_over;
+use lean_proto::path::Path;
 use log_record::{Body, PageRef, Record};
 use rows_trait::rows::Rows;
 use version_latch::events::Checks;
@@ -103,17 +105,21 @@ fn locate<R: Rows>(
     worker: u32,
     frames: u32,
     key: u64,
+    path: &mut Path,
 ) -> Result<Spot, Stop>
     requires fits { R.fits rows.old seat.old }
     requires sized { Sized (R.shape rows.old) (R.view seat.old) frames }
     requires actor { may (R.shape rows.old).alone (R.view seat.old) worker ≡ true }
     requires sound { IsSound (R.view seat.old).given }
     requires key { key < 2 ^ 64 - 1 }
+    requires path { path.old ≡ [] }
     ensures fits { R.fits rows.new seat.new × (R.shape rows.new ≡ R.shape rows.old) }
+    ensures trail { IfOk result (λ s. IsTrail frames path.new s.leaf.glimpse.row) }
+    ensures part { IfErr result (λ _. (row : ℕ) × IsTrail frames path.new row) }
     ensures spot { IfOk result (λ s. Located (R.shape rows.old) worker frames key (R.view seat.old) s (R.view seat.new)) }
     ensures stop { IfErr result (λ s. FellShort (R.shape rows.old).alone worker key (R.view seat.old) s (R.view seat.new)) }
 {
-    let leaf = way(rows, seat, worker, frames, key)?;
+    let leaf = way(rows, seat, worker, frames, key, path)?;
     Ok(search_leaf(rows, seat, leaf, key))
 }
 
@@ -134,6 +140,7 @@ fn refuse<R: Rows>(
     ensures fits { R.fits rows.new seat.new × (R.shape rows.new ≡ R.shape rows.old) }
     ensures refused { IsRefused (R.shape rows.old).alone worker key glimpse.now (R.view seat.old) result (R.view seat.new) }
     ensures undrawn { IsUndrawn result }
+    ensures full { (row : ℕ) → IsFullAt why row → IsFullAt result row }
 {
     match again(rows, seat, glimpse, worker, frames, key) {
         Ok(()) => why,
@@ -267,6 +274,7 @@ fn put_at<R: Rows, D: Draw>(
     ensures drew { Drew result (λ r. D.stages draw.old r draw.new) (draw.new ≡ draw.old) }
     ensures last { D.last_of draw.new ≡ last_after result (D.last_of draw.old) (D.clock_of draw.new).clock }
     ensures kept { (D.log_of draw.new ≡ D.log_of draw.old) × (D.txn_of draw.new ≡ D.txn_of draw.old) × (D.loans_of draw.new ≡ D.loans_of draw.old) }
+    ensures full { (row : ℕ) → IsFullAt result row }
     ensures cause { (u : View) → HasFound spot.now.leaf.glimpse.row spot.now.leaf.glimpse.version u (R.view seat.old) → PutCaused u result (R.view seat.new) }
     ensures quiet { (R.shape rows.old).alone ≡ true → latest spot.now.leaf.glimpse.row (R.view seat.old).steps ≡ Some spot.now.leaf.glimpse.version → IsUndisturbed result }
 {
@@ -312,6 +320,8 @@ fn put_of(stop: Stop) -> Put
 /// answers draw nothing. Full, Cold, RowSpent and ClockSpent append nothing: split the leaf, or bring the page into a frame, and try
 /// again; the other two are for good. Moved and Latched append a miss, as `find` has it: try again. Where nobody else steps
 /// these two never come.
+///
+/// `path` is empty before, and has the frames of the way after it, as `find` has it: the last is that of the leaf, where it is Full.
 pub fn leaf_put<R: Rows, D: Draw>(
     rows: &mut R,
     seat: &mut R::Seat,
@@ -319,6 +329,7 @@ pub fn leaf_put<R: Rows, D: Draw>(
     frames: u32,
     key: u64,
     word: u64,
+    path: &mut Path,
     draw: &mut D,
 ) -> Put
     requires fits { R.fits rows.old seat.old }
@@ -326,6 +337,7 @@ pub fn leaf_put<R: Rows, D: Draw>(
     requires actor { may (R.shape rows.old).alone (R.view seat.old) worker ≡ true }
     requires sound { IsSound (R.view seat.old).given }
     requires key { key < 2 ^ 64 - 1 }
+    requires path { path.old ≡ [] }
     requires held { (R.view seat.old).held ≡ [] }
     requires may { MayPut (R.view seat.old) worker key word }
     requires draws { DrawsFor (R.view seat.old) worker (D.log_of draw.old) (D.txn_of draw.old) (D.clock_of draw.old) (D.last_of draw.old) }
@@ -334,10 +346,11 @@ pub fn leaf_put<R: Rows, D: Draw>(
     ensures drew { Drew result (λ r. D.stages draw.old r draw.new) (draw.new ≡ draw.old) }
     ensures last { D.last_of draw.new ≡ last_after result (D.last_of draw.old) (D.clock_of draw.new).clock }
     ensures kept { (D.log_of draw.new ≡ D.log_of draw.old) × (D.txn_of draw.new ≡ D.txn_of draw.old) × (D.loans_of draw.new ≡ D.loans_of draw.old) }
+    ensures trail { (row : ℕ) × IsTrail frames path.new row × IsFullAt result row }
     ensures cause { PutCaused (R.view seat.old) result (R.view seat.new) }
     ensures quiet { (R.shape rows.old).alone ≡ true → IsUndisturbed result }
 {
-    let spot = match locate(rows, seat, worker, frames, key) {
+    let spot = match locate(rows, seat, worker, frames, key, path) {
         Ok(spot) => spot,
         Err(stop) => return put_of(stop),
     };

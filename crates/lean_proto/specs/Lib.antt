@@ -1,8 +1,11 @@
--- Read Ready, Changes, Over, Met, Kept and Controls in this order; Inside has words of private functions.
+-- Read Ready, Changes, Over, Met, Kept and Controls in this order, and Paths and Paging by themselves; Inside has words of private
+-- functions.
 pub mod Ready
 pub mod Changes
 pub mod Over
 pub mod Met
 pub mod Kept
 pub mod Controls
+pub mod Paths
+pub mod Paging
 pub mod Inside

@@ -4,10 +4,14 @@
 pub mod change;
 pub mod new;
 pub mod over;
+pub mod paging;
+pub mod path;
+pub mod resident;
 
 ghost use Rattle.lean_proto.specs.Changes.{EveryChange};
 ghost use Rattle.lean_proto.specs.Controls.{EveryBegin, EveryLoad, EveryTurn};
 ghost use Rattle.lean_proto.specs.Kept.{EveryKept};
+ghost use Rattle.lean_proto.specs.Paging.{EveryPaged};
 ghost use Rattle.lean_proto.specs.Ready.{EveryReady};
 
 /// Who is ready to publish a steady event may publish it: its need is met at the state that the seat has seen, and its rows, all
@@ -46,4 +50,10 @@ pub fn every_begin()
 /// at the state that its seat has seen. Whatever others did meanwhile, the need is met still, and the event makes of the word that number.
 pub fn every_turn()
     ensures { EveryTurn }
+{}
+
+/// Over a call that brings a page into a frame, a worker's transaction, its changes and its locks stay, and its clock never falls; where
+/// nobody else steps no page changes. So a worker that has descended to a page that was not hot may descend again.
+pub fn every_paged()
+    ensures { EveryPaged }
 {}

@@ -45,7 +45,7 @@ pub first_sound : (frames locks workers base : ℕ) (pages : List Page) → work
 first_sound frames locks workers base pages few fit small o long es = let v = given_of frames locks workers base pages in let at = every_opened o.start v o.opens es in record {
   tree = at.tree;
   residence = at.places;
-  logs = λ p. let l = at.logs p in omega arith;
+  logs = at.logs (omega arith);
   few = omega arith;
 }
 

@@ -31,14 +31,15 @@ fn are_numbered(pages: &[Node], workers: u32, base: u64) -> bool
     true
 }
 
-/// Whether rows may begin with these pages.
+/// Whether rows may begin with these pages, and their last logs are workers' or none.
 pub(crate) fn are_pages(
     alloc: Global,
     pages: &[Node],
     workers: u32,
     base: u64,
 ) -> Result<bool, AllocError>
-    ensures { IfOk result (λ b. b ≡ true → ArePages pages.now workers base) }
+    requires few { workers ≤ 16 }
+    ensures { IfOk result (λ b. b ≡ true → ArePages pages.now base) }
 {
     Ok(is_tree(alloc, pages)? && are_numbered(pages, workers, base))
 }

@@ -7,6 +7,7 @@ use crate::session::{Session, session_of, set_session};
 use crate::sessions::Sessions;
 use btree_descent::put::{LAST_NUMBER, Put, leaf_put};
 use key_locks::mode::Mode;
+use lean_proto::path::Path;
 
 /// How many changes a transaction makes at most.
 pub const CHANGES: u32 = 64;
@@ -63,6 +64,7 @@ impl Sessions {
             return Err(Unput::Spent);
         }
         self.drawing.start(worker, &session);
+        let mut path = Path::new();
         match leaf_put(
             &mut self.rows,
             &mut self.seat,
@@ -70,6 +72,7 @@ impl Sessions {
             self.frames,
             key,
             word,
+            &mut path,
             &mut self.drawing,
         ) {
             Put::Done(before) => {

@@ -31,7 +31,7 @@ pub enum Unopened {
     Memory,
     /// There is no worker, there are more than sixteen, or there is no lock row.
     Sizes,
-    /// The pages are no tree, too many for the frames, or of other numbers.
+    /// The pages are no tree, too many for the frames, of other numbers, or last changed by the log of no worker.
     Pages,
 }
 

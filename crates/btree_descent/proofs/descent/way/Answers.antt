@@ -1,4 +1,4 @@
-use Rattle.std.proofs.Common.{◌≡◌, ◌∙◌, Some, ap, sym, refl, subst, [], ◌∷◌, arith, append-nil}
+use Rattle.std.proofs.Common.{◌≡◌, ◌++◌, ◌∙◌, Some, ap, sym, refl, subst, [], ◌∷◌, length, arith, append-nil}
 use Rattle.row_words.specs.declared.event.Event.TheVariants.{Miss}
 use Rattle.rows_trait.specs.Views.{Shape, may, latest, Has, state, holds}
 use Rattle.rows_trait.specs.Causes.{HasFound}
@@ -13,6 +13,8 @@ use Rattle.version_latch.proofs.Naming.{missed_silent, missed_even, missed_odd}
 use Rattle.version_latch.proofs.Keeping.{looked_ran, may_ran, may_shape, looked_latest}
 use Rattle.btree_descent.proofs.Calls.{sound_after, sound_given, sized_after}
 use Rattle.btree_descent.proofs.Ways.{went_after}
+use Rattle.btree_descent.specs.Trails.{IsTrail}
+use Rattle.btree_descent.proofs.Trails.{trail_root, trail_push, trail_more}
 use Rattle.btree_descent.proofs.descent.way.Goals as goal
 
 pub start-requires-clause-event : goal.start-requires-clause-event
@@ -55,6 +57,8 @@ loop-i-init g c =
         way = subst (λ q. Follows w q n c.args.key 7) (sym o.0) (follows_here w 0 n c.args.key 7 w.seen [] c.in-Ok.ensures.since.0 (sym (append-nil w.seen)) (way_root w.given (state w) c.args.key (sound_after v w ran.given c.requires.sound) c.requires.key));
       };
       left = refl;
+      trail = subst (λ q. IsTrail c.args.frames c.push.new.self q) (sym o.0) (trail_root c.args.frames c.args.path.now c.push.new.self c.requires.sized.some c.requires.path c.push.ensures);
+      count = ap length (c.push.ensures ∙ ap (λ p. p ++ 0 ∷ []) c.requires.path);
       found = subst (λ q. HasFound q n v w) (sym o.0) c.in-Ok.ensures.since.1;
       quiet = λ alone none. subst (λ q. latest q w.steps ≡ Some n) (sym o.0) (looked_latest y 0 n (missed c.args.worker) v w o.3);
     }
@@ -93,6 +97,8 @@ loop-i-preserved g c =
         way = l.way;
       };
       left = (let a = l.less_is in let b = inv.left in omega arith);
+      trail = subst (λ p. IsTrail c.args.frames p child.row) (sym c.push-in-Child.ensures) (trail_push c.args.frames c.loop-i.glimpse.row child.row c.loop-i.path d.within inv.trail);
+      count = (let a = ap length c.push-in-Child.ensures ∙ trail_more c.loop-i.path child.row in let b = inv.count in omega arith);
       found = d.found v inv.found;
       quiet = λ alone none. d.latest (ap (λ (s : Shape). s.alone) inv.fits.1 ∙ alone);
     }
@@ -128,3 +134,21 @@ returns-in-End-clause-stop g c =
       cause = d.cause v inv.found;
       quiet = λ alone none. d.quiet (ap (λ (q : Shape). q.alone) inv.fits.1 ∙ alone) (inv.held ∙ none) (inv.quiet alone none);
     }
+
+pub returns-in-Err-clause-part : goal.returns-in-Err-clause-part
+returns-in-Err-clause-part g c = (0, trail_root c.args.frames c.args.path.now c.push.new.self c.requires.sized.some c.requires.path c.push.ensures)
+
+pub push-requires-in-Child : goal.push-requires-in-Child
+push-requires-in-Child g c =
+    let inv = c.loop-i.invariant in
+    let l = c.in-Child.ensures.steps.nearer inv.on.far inv.on.way in
+    let a = l.less_is in
+    let b = inv.left in
+    let n = inv.count in
+    omega arith
+
+pub returns-in-Leaf-clause-trail : goal.returns-in-Leaf-clause-trail
+returns-in-Leaf-clause-trail g c = c.loop-i.invariant.trail
+
+pub returns-in-End-clause-part : goal.returns-in-End-clause-part
+returns-in-End-clause-part g c = (c.loop-i.glimpse.row, c.loop-i.invariant.trail)
