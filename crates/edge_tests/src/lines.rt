@@ -259,6 +259,7 @@ fn replies_are_spelled(rt: HostRuntime) {
         Answer::Refused(Refusal::ClockSpent),
         b"1 clock-spent\n",
     );
+    says(&rt, 1, Answer::Refused(Refusal::RowSpent), b"1 row-spent\n");
     says(&rt, 1, Answer::Refused(Refusal::Full), b"1 full\n");
     says(
         &rt,

@@ -1,17 +1,13 @@
-// An engine over one area of a disk in memory. The expected answers were written down by hand.
-ghost use Rattle.worker_log.specs.Kept.{IsInRange};
-ghost use Rattle.lean_engine.specs.Calls.{IsWithin};
+// An engine on a formatted disk in memory. The expected answers were written down by hand.
+ghost use Rattle.engine_trait.specs.Calls.{IsWithin};
 
 use crate::cases::expect;
-use btree_node::Node;
-use lean_disk::{AreaOf, Disk, MemDisk, Part};
-use lean_engine::{DiskFault, Engine};
+use crate::disks::formatted;
+use engine_trait::calls::{Calls, Unanswered};
+use lean_disk::MemDisk;
+use lean_engine::{Opened, Unopened, open};
 use map_model::{Answer, Call, Refusal};
-use node_tree::first_break;
-use page_model::every_check;
 use std::alloc::{AllocError, Global};
-use std::process::Abort;
-use worker_log::WorkerLog;
 
 // What is asked.
 #[derive(Drop)]
@@ -25,9 +21,9 @@ enum Asked {
 // Calls, and what each is answered.
 enum Step {
     Begun(u64),
-    Call(Asked, Result<Answer, DiskFault>),
+    Call(Asked, Result<Answer, Unanswered>),
     /// The same call so many times.
-    Again(u32, Asked, Result<Answer, DiskFault>),
+    Again(u32, Asked, Result<Answer, Unanswered>),
     /// A put of 7 at each of the first so many keys, which have no value.
     Keys(u32),
     /// So many transactions that change nothing, the first ones of all.
@@ -38,25 +34,25 @@ struct Case {
     name: &'static str,
     /// What the clock shows at first.
     clock: u64,
-    /// The calls of the log's area that fail.
+    /// The calls of the log's area that fail. The opening makes the first two.
     failing: &'static [u64],
     steps: &'static [Step],
-    /// How many bytes are in the log's area then, and how many calls were made.
+    /// How many bytes are in the log's area then, and how many calls were made behind the opening.
     bytes: usize,
     moment: u64,
 }
 
-const WAS_NONE: Result<Answer, DiskFault> = Ok(Answer::Was(None));
+const WAS_NONE: Result<Answer, Unanswered> = Ok(Answer::Was(None));
 
-const WAS_7: Result<Answer, DiskFault> = Ok(Answer::Was(Some(7)));
+const WAS_7: Result<Answer, Unanswered> = Ok(Answer::Was(Some(7)));
 
-const VALUE_8: Result<Answer, DiskFault> = Ok(Answer::Value(Some(8)));
+const VALUE_8: Result<Answer, Unanswered> = Ok(Answer::Value(Some(8)));
 
-const NO_VALUE: Result<Answer, DiskFault> = Ok(Answer::Value(None));
+const NO_VALUE: Result<Answer, Unanswered> = Ok(Answer::Value(None));
 
-const NO_TRANSACTION: Result<Answer, DiskFault> = Ok(Answer::Refused(Refusal::NoTransaction));
+const NO_TRANSACTION: Result<Answer, Unanswered> = Ok(Answer::Refused(Refusal::NoTransaction));
 
-const CLOCK_SPENT: Result<Answer, DiskFault> = Ok(Answer::Refused(Refusal::ClockSpent));
+const CLOCK_SPENT: Result<Answer, Unanswered> = Ok(Answer::Refused(Refusal::ClockSpent));
 
 macro_rules! refused {
     ($refusal:expr) => {
@@ -177,47 +173,16 @@ static CASES: [Case; 7] = [
     Case {
         name: "a commit whose sync fails is a disk fault",
         clock: 0,
-        failing: &[2],
+        failing: &[4],
         steps: &[
             Step::Begun(1),
             Step::Call(Asked::Put(5, 7), WAS_NONE),
-            Step::Call(Asked::Commit, Err(DiskFault)),
+            Step::Call(Asked::Commit, Err(Unanswered::DiskFault)),
         ],
         bytes: 2048,
         moment: 2,
     },
 ];
-
-// Sixteen pages: an empty leaf with all keys, and free ones.
-fn fresh_pages(alloc: Global) -> Result<Vec<Node>, AllocError> {
-    let mut pages = Vec::new(alloc);
-    pages.push(Node::empty_leaf(0, 0, u64::MAX))?;
-    for number in 1..16 {
-        pages.push(Node::free(number))?;
-    }
-    Ok(pages)
-}
-
-// An engine on these pages, if they are a tree.
-fn engine_on(alloc: Global, pages: Vec<Node>, log: WorkerLog) -> Option<Engine>
-    requires { IsInRange log }
-{
-    every_check();
-    if pages.len() != 16 {
-        return None;
-    }
-    match first_break(alloc, &pages) {
-        Ok(None) => Some(Engine::new(pages, log)),
-        _ => None,
-    }
-}
-
-// An engine on fresh pages, with a log of 64 blocks and this clock.
-fn engine_at(rt: &impl Abort, alloc: Global, clock: u64) -> Result<Engine, AllocError> {
-    let log = WorkerLog::new(alloc, 1, 1, 64, 0, clock)?;
-    let pages = fresh_pages(alloc)?;
-    Ok(engine_on(alloc, pages, log).expect(rt, "the pages are a tree"))
-}
 
 fn call_of(asked: &Asked) -> Call
     ensures { IsWithin result }
@@ -234,26 +199,25 @@ fn call_of(asked: &Asked) -> Call
 }
 
 // Whether a call is answered so.
-fn answers<P: Part>(
-    engine: &mut Engine,
-    dev: &mut P,
+fn answers<E: Calls<MemDisk>>(
+    engine: &mut E,
     asked: &Asked,
-    want: &Result<Answer, DiskFault>,
+    want: &Result<Answer, Unanswered>,
 ) -> bool {
-    engine.call(dev, &call_of(asked)) == *want
+    engine.call(&call_of(asked)) == *want
 }
 
 // Whether the calls of a step are answered as is written.
-fn is_done<P: Part>(engine: &mut Engine, dev: &mut P, step: &Step) -> bool {
+fn is_done<E: Calls<MemDisk>>(engine: &mut E, step: &Step) -> bool {
     match step {
         Step::Begun(number) => {
             let want = Ok(Answer::Begun { number: *number });
-            answers(engine, dev, &Asked::Begin, &want)
+            answers(engine, &Asked::Begin, &want)
         }
-        Step::Call(asked, want) => answers(engine, dev, asked, want),
+        Step::Call(asked, want) => answers(engine, asked, want),
         Step::Again(count, asked, want) => {
             for _ in 0..*count {
-                if !answers(engine, dev, asked, want) {
+                if !answers(engine, asked, want) {
                     return false;
                 }
             }
@@ -261,7 +225,7 @@ fn is_done<P: Part>(engine: &mut Engine, dev: &mut P, step: &Step) -> bool {
         }
         Step::Keys(count) => {
             for key in 0..*count {
-                if !answers(engine, dev, &Asked::Put(key, 7), &WAS_NONE) {
+                if !answers(engine, &Asked::Put(key, 7), &WAS_NONE) {
                     return false;
                 }
             }
@@ -271,8 +235,8 @@ fn is_done<P: Part>(engine: &mut Engine, dev: &mut P, step: &Step) -> bool {
             for number in 1..=*count {
                 let begun = Ok(Answer::Begun { number });
                 let committed = Ok(Answer::Committed { number, at: number });
-                if !answers(engine, dev, &Asked::Begin, &begun)
-                    || !answers(engine, dev, &Asked::Commit, &committed)
+                if !answers(engine, &Asked::Begin, &begun)
+                    || !answers(engine, &Asked::Commit, &committed)
                 {
                     return false;
                 }
@@ -282,22 +246,42 @@ fn is_done<P: Part>(engine: &mut Engine, dev: &mut P, step: &Step) -> bool {
     }
 }
 
-fn is_met(rt: &impl Abort, alloc: Global, case: &Case) -> Result<bool, AllocError> {
-    let mut disk = MemDisk::new(alloc, 3)?;
-    disk.fail_at(2, Vec::from_slice(alloc, case.failing)?);
-    let mut dev = AreaOf::new(&mut disk, 2);
-    let mut engine = engine_at(rt, alloc, case.clock)?;
-    for step in case.steps {
-        if !is_done(&mut engine, &mut dev, step) {
-            return Ok(false);
+// Whether all steps are done so.
+fn are_done<E: Calls<MemDisk>>(engine: &mut E, steps: &[Step]) -> bool {
+    for step in steps {
+        if !is_done(engine, step) {
+            return false;
         }
     }
-    Ok(disk.bytes(2).len() == case.bytes && disk.moment() == case.moment)
+    true
+}
+
+// Five calls of the masters, 34 of the pages and two of the log.
+const OPENING: u64 = 41;
+
+fn is_met(alloc: Global, case: &Case) -> Result<bool, AllocError> {
+    let mut disk = formatted(alloc, case.clock)?;
+    disk.fail_at(2, Vec::from_slice(alloc, case.failing)?);
+    let mut engine = match open(alloc, disk, 64) {
+        Ok(
+            Opened {
+                engine,
+                generation: _,
+                winners: _,
+                undone: _,
+            },
+        ) => engine,
+        Err(Unopened { disk: _, reason: _ }) => return Ok(false),
+    };
+    let are_done = are_done(&mut engine, case.steps);
+    let disk = engine.close();
+    let moment = disk.moment().checked_sub(OPENING);
+    Ok(are_done && disk.bytes(2).len() == case.bytes && moment == Some(case.moment))
 }
 
 #[test]
 fn each_call_is_answered_as_is_written(rt: HostRuntime) {
     for case in &CASES {
-        expect(&rt, case.name, is_met(&rt, rt.alloc(), case));
+        expect(&rt, case.name, is_met(rt.alloc(), case));
     }
 }

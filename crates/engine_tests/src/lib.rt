@@ -6,6 +6,8 @@ mod calls;
 #[cfg(test)]
 mod cases;
 #[cfg(test)]
+mod disks;
+#[cfg(test)]
 mod logs;
 #[cfg(test)]
 mod masters;

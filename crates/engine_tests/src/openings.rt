@@ -2,8 +2,7 @@
 ghost use Rattle.std.specs.Prelude.{◌≤◌, length};
 
 use crate::cases::expect;
-use btree_node::Node;
-use disk_slots::{Heads, Master, master_bytes, page_bytes};
+use crate::disks::{formatted, put_master, put_pages, unused};
 use lean_disk::{Choice, Did, Disk, MemDisk};
 use log_block::block_bytes;
 use recovery::{Recovered, Unrecovered, recover};
@@ -21,24 +20,6 @@ const CHANGE: [u8; 53] = [
     1, 1, 0, 0, 0, 0, 0, 0, 0, 1, 0, 0, 0, 0, 0, 0, 0, 0, 0, 0, 0, 0, 0, 0, 0, 0, 0, 0, 0, 5, 0, 0,
     0, 0, 0, 0, 0, 0, 0, 0, 0, 0, 0, 0, 128, 7, 0, 0, 0, 0, 0, 0, 0,
 ];
-
-fn first_master() -> Master {
-    Master {
-        sequence: 0,
-        generation: 0,
-        floor: 0,
-        pages: 16,
-        blocks: 64,
-        heads: Heads::new(1),
-    }
-}
-
-fn first_page(number: u32) -> Node {
-    if number == 0 {
-        return Node::empty_leaf(0, 0, u64::MAX);
-    }
-    Node::free(number)
-}
 
 // What is done with a disk.
 enum Step {
@@ -102,20 +83,6 @@ static CASES: [Case; 4] = [
     },
 ];
 
-fn put_pages(disk: &mut MemDisk, count: u32) {
-    let mut bytes = [0; 1024];
-    for page in 0..count {
-        page_bytes(&first_page(page), &mut bytes);
-        disk.write(1, 2048 * u64::from(page), &bytes);
-    }
-}
-
-fn put_master(disk: &mut MemDisk) {
-    let mut bytes = [0; 1024];
-    master_bytes(&first_master(), &mut bytes);
-    disk.write(0, 0, &bytes);
-}
-
 fn put_block(disk: &mut MemDisk, count: u32, records: &[u8])
     requires { length records.now ≤ 2000 }
 {
@@ -126,11 +93,9 @@ fn put_block(disk: &mut MemDisk, count: u32, records: &[u8])
 
 // With one transaction that is committed, and no call made yet.
 fn used(alloc: Global) -> Result<MemDisk, AllocError> {
-    let mut disk = MemDisk::new(alloc, 3)?;
-    put_pages(&mut disk, 16);
-    put_master(&mut disk);
+    let mut disk = formatted(alloc, 0)?;
     put_block(&mut disk, 2, &RECORDS);
-    disk.crash(disk.moment(), Choice::AllBytes)
+    unused(&disk)
 }
 
 // The value of key 5.
@@ -162,7 +127,7 @@ fn opened(alloc: Global, disk: &mut MemDisk) -> Result<([u64; 5], Option<u64>), 
 fn is_done(alloc: Global, disk: &mut MemDisk, step: &Step) -> bool {
     match step {
         Step::Pages(count) => put_pages(disk, *count),
-        Step::Master => put_master(disk),
+        Step::Master => put_master(disk, 0),
         Step::Change => put_block(disk, 1, &CHANGE),
         Step::Transaction => put_block(disk, 2, &RECORDS),
         Step::Open(want) => return opened(alloc, disk) == *want,
@@ -182,8 +147,9 @@ fn is_met(alloc: Global, case: &Case) -> Result<bool, AllocError> {
 
 // Whether it opens with the same map after each call of an area that failed.
 fn is_same_after_faults(alloc: Global, area: u32) -> Result<bool, AllocError> {
+    let used = used(alloc)?;
     for call in 1..40 {
-        let mut disk = used(alloc)?;
+        let mut disk = unused(&used)?;
         disk.fail_at(area, vec![in alloc; call]?);
         let found = value_on(alloc, &mut disk);
         if found != Ok(Some(7)) && found != Err(Unrecovered::DiskFault) {

@@ -1,6 +1,6 @@
 // The program's one call over real files. Seals were computed by Python.
 use crate::files::{FileRow, is_so};
-use disk_file::FileDisk;
+use host_disk::HostDisk;
 use lean_edge::{MemSink, MemSource};
 use lean_shell::{Ended, Gate, run};
 use std::alloc::{AllocError, Global};
@@ -147,7 +147,7 @@ fn runs<T: Threads + Wait + Sync>(
     let words = words_of(alloc, command.words)?;
     let mut source = MemSource::new(alloc, command.script, 7)?;
     let mut sink = MemSink::new(alloc);
-    let disk = FileDisk::new(rt, alloc);
+    let disk = HostDisk::new(rt, alloc);
     let Ended {
         status,
         disk: _disk,

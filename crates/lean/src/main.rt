@@ -1,7 +1,7 @@
 //! The program `lean`: standard input and output, and files in the current folder.
 #![tactic(auto)]
 
-use disk_file::FileDisk;
+use host_disk::HostDisk;
 use lean_edge::{StdSink, StdSource};
 use lean_shell::{Ended, Gate, run};
 use std::process::ExitCode;
@@ -41,7 +41,7 @@ fn main(rt: HostRuntime) -> ExitCode {
     };
     let mut source = StdSource::new(rt.stdin());
     let mut sink = StdSink::new(rt.stdout());
-    let disk = FileDisk::new(&rt, alloc);
+    let disk = HostDisk::new(&rt, alloc);
     let Ended {
         status,
         disk: _disk,

@@ -1,7 +1,4 @@
-mod LeafLemmas
-mod PageLemmas
-mod LogLemmas
-mod PrefixLemmas
-mod RefusalLemmas
-mod StateLemmas
-mod SessionLemmas
+pub mod OpeningLemmas
+pub mod PageLemmas
+pub mod EngineLemmas
+pub mod CallLemmas

@@ -1,8 +1,5 @@
--- Read States, then Refusals, Logged, Calls, Crashes and Laws. Inside has the words of private functions.
+-- Read States, Openings and Calls. Inside has the words of private functions.
 pub mod States
-pub mod Refusals
-pub mod Logged
+pub mod Openings
 pub mod Calls
-pub mod Crashes
-pub mod Laws
 pub mod Inside

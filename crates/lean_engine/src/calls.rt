@@ -1,210 +1,155 @@
-// The calls of a session.
-ghost use Rattle.std.specs.Prelude.{◌≡◌, ◌<◌, ◌↔◌, suc, Bool, IfOk, IsErr, IsTrue, OnOk};
-ghost use Rattle.map_model.specs.Maps.{key_end};
-ghost use Rattle.map_model.specs.declared.call.Refusal.{Refusal};
-ghost use Rattle.core_state.specs.Openings.{Opening};
-ghost use Rattle.lean_disk.specs.Area.{Area};
+// The calls of an engine.
+ghost use Rattle.std.specs.Prelude.{◌≡◌, ◌↔◌, ◌<◌, ◌-◌, ◌^◌, Err, IfOk, IsErr, true, false};
+ghost use Rattle.map_model.specs.declared.call.Answer.TheVariants as answer;
+ghost use Rattle.map_model.specs.declared.call.Call.TheVariants as calls;
+ghost use Rattle.map_model.specs.declared.call.Refusal.TheVariants as refusal;
 ghost use Rattle.lean_disk.specs.Faults.{HasCause};
-ghost use Rattle.lean_disk.specs.Moments.{CrashIn, Framed, LeavesOnly};
-ghost use Rattle.lean_disk.specs.Story.{Tells};
-ghost use Rattle.node_tree.specs.Nodes.{nodes_of};
-ghost use Rattle.session_model.specs.Sessions.{Session};
-ghost use Rattle.worker_log.specs.Kept.{IsInRange, IsKept, StagesTo};
-ghost use Rattle.worker_log.specs.Accounts.{Account};
-ghost use Rattle.lean_engine.specs.States.{Logs, Pictures};
-ghost use Rattle.lean_engine.specs.Refusals.{IsRefused, refusal_of};
-ghost use Rattle.lean_engine.specs.Calls.{Calls, HasCome, IsCommitted, IsStill, IsWithin};
-ghost use Rattle.lean_engine.specs.Logged.{LogAfter, change_of, word_of};
-ghost use Rattle.lean_engine.specs.Crashes.{IsAround, LeavesPrefix};
-ghost use Rattle.lean_engine.specs.Inside.{IsEnding, IsValue, IsWas, MayPut, Puts, said};
+ghost use Rattle.engine_trait.specs.Calls.{HasCome, IsWithin};
+ghost use Rattle.engine_trait.specs.declared.calls.Unanswered.{Unanswered};
+ghost use Rattle.lean_engine.specs.Calls.{Answered, Asked, Failed, told};
 
 use crate::engine::Engine;
-use crate::laws::every_rest;
-use crate::leaves::{said, set_words, word_in};
-use crate::staging::{commit_log, stage_change};
-use lean_disk::Part;
-use log_record::{Body, PageRef, Record};
-use map_model::{Answer, Call};
-use node_tree::leaf_of;
-use page_model::{every_need, every_record};
-use worker_log::DiskFault;
+use engine_trait::calls::{Calls, Unanswered};
+use lean_disk::MemDisk;
+use lean_edge::{Put, Sink};
+use map_model::{Answer, Call, Refusal};
+use row_engine::{Ended, Stages};
 
-impl Engine {
-    /// What a line asks. After DiskFault the engine is not used again.
-    pub fn call<P: Part>(&mut self, dev: &mut P, call: &Call) -> Result<Answer, DiskFault>
-        requires range { IsWithin call.now }
-        ensures does { IfOk result (λ a. (g : Opening) (s : Session) → g.changes ≡ 64 → Pictures g s self.old
-            → Calls g s self.old self.new call.now a (Tells (P.story dev.new) (P.seat dev.old).area)
-            ((P.story dev.old).area (P.seat dev.old).area) ((P.story dev.new).area (P.seat dev.old).area)) }
-        ensures come { IfOk result HasCome }
-        ensures log { IfOk result (λ a. LogAfter a call.now self.old self.new.log) }
-        ensures ranges { IsInRange self.new.log }
-        ensures same { (r : Refusal) → IsRefused self.old call.now r → self.new ≡ self.old }
-        ensures same_device { IsStill self.old call.now → dev.new ≡ dev.old }
-        ensures any_moment { (g : Opening) (s : Session) (x : Account) → Pictures g s self.old → Logs s x
-            → (Tells (P.story dev.old) (P.seat dev.old).area → IsKept x self.old.log ((P.story dev.old).area (P.seat dev.old).area))
-            → LeavesOnly (P.story dev.old) (P.story dev.new) (CrashIn (P.story dev.old) (P.seat dev.old).area (LeavesPrefix (IsAround g s call.now) s x self.old.log)) }
-        ensures frame { Framed (P.seat dev.old).area (P.story dev.old) (P.story dev.new) }
-        ensures seat { P.seat dev.new ≡ P.seat dev.old }
+// The answer, or why there is none.
+fn told(answer: Answer) -> Result<Answer, Unanswered>
+    ensures { result ≡ told answer }
+{
+    match answer {
+        Answer::Refused(Refusal::Broken) => Err(Unanswered::Broken),
+        Answer::Refused(Refusal::DiskFault) => Err(Unanswered::DiskFault),
+        answer => Ok(answer),
+    }
+}
 
-        // A refusal says why, and comes exactly for that.
-        ensures cause_refused { (r : Refusal) → (result ≡ Ok (Answer.Refused r)) ↔ IsRefused self.old call.now r }
-        ensures cause_disk_fault { HasCause (P.faults dev.old) (P.faults dev.new) (IsErr result) }
+impl<D: Stages> Engine<D> {
+    fn begin(&mut self) -> Answer
+        ensures asked { Asked calls.Begin result self.old self.new (D.story self.old.disk) (D.story self.new.disk) }
+        ensures cause_disk_fault { HasCause (D.faults self.old.disk) (D.faults self.new.disk) (result ≡ answer.Refused refusal.DiskFault) }
     {
-        every_rest();
-        // What holds of each engine is used where a call touches no device.
-        let _ = &self.log;
-        // The tests that may refuse.
-        if let Some(refusal) = self.refusal(call) {
-            return Ok(Answer::Refused(refusal));
+        match row_engine::begin(&mut self.rows, &mut self.seat, &mut self.store) {
+            Ok(number) => Answer::Begun { number },
+            Err(why) => Answer::Refused(why),
         }
+    }
+
+    fn get(&mut self, key: u64) -> Answer
+        requires key { key < 2 ^ 64 - 1 }
+        ensures asked { Asked (calls.Get key) result self.old self.new (D.story self.old.disk) (D.story self.new.disk) }
+        ensures cause_disk_fault { HasCause (D.faults self.old.disk) (D.faults self.new.disk) (result ≡ answer.Refused refusal.DiskFault) }
+    {
+        match row_engine::get(&mut self.rows, &mut self.seat, &mut self.store, key) {
+            Ok(value) => Answer::Value(value),
+            Err(why) => Answer::Refused(why),
+        }
+    }
+
+    fn put(&mut self, key: u64, value: u64) -> Answer
+        requires key { key < 2 ^ 64 - 1 }
+        requires value { value < 2 ^ 63 }
+        ensures asked { Asked (calls.Put key value) result self.old self.new (D.story self.old.disk) (D.story self.new.disk) }
+        ensures cause_disk_fault { HasCause (D.faults self.old.disk) (D.faults self.new.disk) (result ≡ answer.Refused refusal.DiskFault) }
+    {
+        match row_engine::put(&mut self.rows, &mut self.seat, &mut self.store, key, value) {
+            Ok(before) => Answer::Was(before),
+            Err(why) => Answer::Refused(why),
+        }
+    }
+
+    fn commit(&mut self) -> Answer
+        ensures asked { Asked calls.Commit result self.old self.new (D.story self.old.disk) (D.story self.new.disk) }
+        ensures cause_disk_fault { HasCause (D.faults self.old.disk) (D.faults self.new.disk) (result ≡ answer.Refused refusal.DiskFault) }
+    {
+        match row_engine::commit(
+            &mut self.rows,
+            &mut self.seat,
+            &mut self.store,
+            &mut self.latches,
+        ) {
+            Ok(Ended { number, at }) => Answer::Committed { number, at },
+            Err(why) => Answer::Refused(why),
+        }
+    }
+
+    // What a line asks, where it is a call that there is.
+    fn ask(&mut self, call: &Call) -> Answer
+        requires within { IsWithin call.now }
+        ensures asked { Asked call.now result self.old self.new (D.story self.old.disk) (D.story self.new.disk) }
+        ensures cause_disk_fault { HasCause (D.faults self.old.disk) (D.faults self.new.disk) (result ≡ answer.Refused refusal.DiskFault) }
+    {
         match *call {
-            Call::Begin => Ok(self.begin()),
-            Call::Get { key } => Ok(self.get(key)),
-            Call::Put { key, value } => self.put(dev, key, value),
-            Call::Commit => self.commit(dev),
+            Call::Begin => self.begin(),
+            Call::Get { key } => self.get(key),
+            Call::Put { key, value } => self.put(key, value),
+            Call::Commit => self.commit(),
+            // A line of this session asks no other call.
             _ => unreachable!(),
         }
     }
 
-    fn begin(&mut self) -> Answer
-        requires { refusal_of self.old Call.Begin ≡ None }
-        ensures does { (g : Opening) (s : Session) (told : Bool) (area : Area) → Pictures g s self.old → Calls g s self.old self.new Call.Begin result (IsTrue told) area area }
-        ensures log { LogAfter result Call.Begin self.old self.new.log }
-        ensures ranges { IsInRange self.new.log }
-        ensures answer { result ≡ Answer.Begun (suc self.old.begun) }
+    /// What a line of session 1 asks.
+    pub fn answer(&mut self, call: &Call) -> Result<Answer, Unanswered>
+        requires within { IsWithin call.now }
+        ensures does { IfOk result (λ a. Answered call.now a self.old self.new (D.story self.old.disk) (D.story self.new.disk)) }
+        ensures come { IfOk result HasCome }
+        ensures fails { result ≡ Err Unanswered.DiskFault → Failed call.now self.old (D.story self.old.disk) (D.story self.new.disk) }
+        ensures works { self.new.works ≡ true ↔ (IsErr result → ⊥) }
+        ensures same { result ≡ Err Unanswered.Broken → self.new ≡ self.old }
+
+        ensures cause_broken { (result ≡ Err Unanswered.Broken) ↔ (self.old.works ≡ false) }
+        ensures cause_disk_fault { HasCause (D.faults self.old.disk) (D.faults self.new.disk) (result ≡ Err Unanswered.DiskFault) }
     {
-        self.is_open = true;
-        self.begun += 1;
-        self.changes = 0;
-        Answer::Begun { number: self.begun }
+        let answer = self.ask(call);
+        told(answer)
+    }
+}
+
+/// A disk on which an engine runs. Each disk writes it as `engine.answer(call)`: the method of an impl may not call what is generic over its
+/// disk.
+pub trait Hosts: Stages {
+    /// What a line of session 1 asks.
+    fn answer_on(engine: &mut Engine<Self>, call: &Call) -> Result<Answer, Unanswered>
+        requires within { IsWithin call.now }
+        ensures does { IfOk result (λ a. Answered call.now a engine.old engine.new (Self.story engine.old.disk) (Self.story engine.new.disk)) }
+        ensures come { IfOk result HasCome }
+        ensures fails { result ≡ Err Unanswered.DiskFault → Failed call.now engine.old (Self.story engine.old.disk) (Self.story engine.new.disk) }
+        ensures works { engine.new.works ≡ true ↔ (IsErr result → ⊥) }
+        ensures same { result ≡ Err Unanswered.Broken → engine.new ≡ engine.old }
+
+        ensures cause_broken { (result ≡ Err Unanswered.Broken) ↔ (engine.old.works ≡ false) }
+        ensures cause_disk_fault { HasCause (Self.faults engine.old.disk) (Self.faults engine.new.disk) (result ≡ Err Unanswered.DiskFault) };
+}
+
+impl Hosts for MemDisk {
+    fn answer_on(engine: &mut Engine<MemDisk>, call: &Call) -> Result<Answer, Unanswered> {
+        engine.answer(call)
+    }
+}
+
+impl<D: Hosts> Calls<D> for Engine<D> {
+    ghost use Rattle.lean_engine.specs.States.{InRun};
+
+    ghost in_run = { λ e g xs. InRun e.view g xs };
+
+    ghost log_of = { λ e. e.log };
+
+    ghost works = { λ e. e.works };
+
+    ghost story = { λ e. D.story e.disk };
+
+    ghost faults = { λ e. D.faults e.disk };
+
+    fn told(&self) {}
+
+    fn call(&mut self, call: &Call) -> Result<Answer, Unanswered> {
+        D::answer_on(self, call)
     }
 
-    fn get(&self, key: u64) -> Answer
-        requires free { refusal_of self.now (Call.Get key) ≡ None }
-        requires key { key < key_end }
-        ensures does { (g : Opening) (s : Session) (told : Bool) (area : Area) → Pictures g s self.now → Calls g s self.now self.now (Call.Get key) result (IsTrue told) area area }
-        ensures log { LogAfter result (Call.Get key) self.now self.now.log }
-        ensures answer { IsValue result }
-    {
-        let page = leaf_of(&self.pages, key);
-        Answer::Value(said(word_in(&self.pages[page], key)))
-    }
-
-    fn put<P: Part>(&mut self, dev: &mut P, key: u64, value: u64) -> Result<Answer, DiskFault>
-        requires free { refusal_of self.old (Call.Put key value) ≡ None }
-        requires range { IsWithin (Call.Put key value) }
-        ensures does { IfOk result (λ a. (g : Opening) (s : Session) → g.changes ≡ 64 → Pictures g s self.old
-            → Calls g s self.old self.new (Call.Put key value) a (Tells (P.story dev.new) (P.seat dev.old).area)
-            ((P.story dev.old).area (P.seat dev.old).area) ((P.story dev.new).area (P.seat dev.old).area)) }
-        ensures log { IfOk result (λ a. LogAfter a (Call.Put key value) self.old self.new.log) }
-        ensures ranges { IsInRange self.new.log }
-        ensures answer { IfOk result IsWas }
-        ensures any_moment { (s : Session) (x : Account) → self.old.log.log ≡ 1 → Logs s x
-            → (Tells (P.story dev.old) (P.seat dev.old).area → IsKept x self.old.log ((P.story dev.old).area (P.seat dev.old).area))
-            → LeavesOnly (P.story dev.old) (P.story dev.new) (CrashIn (P.story dev.old) (P.seat dev.old).area (LeavesPrefix (λ t. t ≡ s) s x self.old.log)) }
-        ensures frame { Framed (P.seat dev.old).area (P.story dev.old) (P.story dev.new) }
-        ensures seat { P.seat dev.new ≡ P.seat dev.old }
-
-        ensures cause_disk_fault { HasCause (P.faults dev.old) (P.faults dev.new) (IsErr result) }
-    {
-        // Touch the page.
-        let page = leaf_of(&self.pages, key);
-        self.put_in(dev, page, key, value)
-    }
-
-    // A put in the key's leaf.
-    fn put_in<P: Part>(
-        &mut self,
-        dev: &mut P,
-        page: usize,
-        key: u64,
-        value: u64,
-    ) -> Result<Answer, DiskFault>
-        requires may { MayPut self.old page key }
-        requires range { IsWithin (Call.Put key value) }
-        ensures answer { IfOk result (λ a. a ≡ Answer.Was (said (word_of key (nodes_of self.old.pages page)))) }
-        ensures after { OnOk result (Puts page key value self.old self.new) }
-        ensures ranges { IsInRange self.new.log }
-        ensures kept { OnOk result ((x : Account) → Tells (P.story dev.new) (P.seat dev.old).area → IsKept x self.old.log ((P.story dev.old).area (P.seat dev.old).area)
-            → StagesTo (change_of self.old page key value) x self.old.log self.new.log ((P.story dev.new).area (P.seat dev.old).area)) }
-        ensures any_moment { (s : Session) (x : Account) → self.old.log.log ≡ 1 → Logs s x
-            → (Tells (P.story dev.old) (P.seat dev.old).area → IsKept x self.old.log ((P.story dev.old).area (P.seat dev.old).area))
-            → LeavesOnly (P.story dev.old) (P.story dev.new) (CrashIn (P.story dev.old) (P.seat dev.old).area (LeavesPrefix (λ t. t ≡ s) s x self.old.log)) }
-        ensures frame { Framed (P.seat dev.old).area (P.story dev.old) (P.story dev.new) }
-        ensures seat { P.seat dev.new ≡ P.seat dev.old }
-
-        ensures cause_disk_fault { HasCause (P.faults dev.old) (P.faults dev.new) (IsErr result) }
-    {
-        // A change that fits keeps the tree.
-        every_need();
-        every_record();
-        let before = word_in(&self.pages[page], key);
-        // Draw the number.
-        let entry = self.change(page, key, value, before);
-        let number = entry.gsn;
-        // Stage the record.
-        let Ok(()) = stage_change(&mut self.log, dev, &entry) else {
-            // Nothing is known of the log now: no transaction is open, and none counts.
-            self.is_open = false;
-            self.begun = 0;
-            return Err(DiskFault);
-        };
-        // Refusals end here. Set the words.
-        set_words(&mut self.pages[page], key, value, number);
-        self.changes += 1;
-        Ok(Answer::Was(said(before)))
-    }
-
-    // The record of a put, with the number behind the log's last one. Its word before is a tombstone's where the key has
-    // no entry.
-    fn change(&self, page: usize, key: u64, value: u64, before: u64) -> Record
-        requires may { MayPut self.now page key }
-        requires before { before ≡ word_of key (nodes_of self.now.pages page) }
-        ensures { result ≡ change_of self.now page key value }
-    {
-        let prev = self.pages[page].gsn();
-        let leaf = PageRef {
-            page: page as u32,
-            prev,
-        };
-        Record {
-            txn: self.begun,
-            gsn: self.log.last() + 1,
-            body: Body::Change {
-                leaf,
-                key,
-                before,
-                after: value,
-            },
-        }
-    }
-
-    fn commit<P: Part>(&mut self, dev: &mut P) -> Result<Answer, DiskFault>
-        requires { refusal_of self.old Call.Commit ≡ None }
-        ensures does { IfOk result (λ a. (g : Opening) (s : Session) → g.changes ≡ 64 → Pictures g s self.old
-            → Calls g s self.old self.new Call.Commit a (Tells (P.story dev.new) (P.seat dev.old).area)
-            ((P.story dev.old).area (P.seat dev.old).area) ((P.story dev.new).area (P.seat dev.old).area)) }
-        ensures log { IfOk result (λ a. LogAfter a Call.Commit self.old self.new.log) }
-        ensures ranges { IsInRange self.new.log }
-        ensures answer { IfOk result IsCommitted }
-        ensures any_moment { (g : Opening) (s : Session) (x : Account) → Pictures g s self.old → Logs s x
-            → (Tells (P.story dev.old) (P.seat dev.old).area → IsKept x self.old.log ((P.story dev.old).area (P.seat dev.old).area))
-            → LeavesOnly (P.story dev.old) (P.story dev.new) (CrashIn (P.story dev.old) (P.seat dev.old).area (LeavesPrefix (IsEnding s) s x self.old.log)) }
-        ensures frame { Framed (P.seat dev.old).area (P.story dev.old) (P.story dev.new) }
-        ensures seat { P.seat dev.new ≡ P.seat dev.old }
-
-        ensures cause_disk_fault { HasCause (P.faults dev.old) (P.faults dev.new) (IsErr result) }
-    {
-        let number = self.begun;
-        let Ok(at) = commit_log(&mut self.log, dev, number) else {
-            // Nothing is known of the log now: no transaction is open, and none counts.
-            self.is_open = false;
-            self.begun = 0;
-            return Err(DiskFault);
-        };
-        self.is_open = false;
-        self.changes = 0;
-        Ok(Answer::Committed { number, at })
+    fn put_line<K: Sink<D>>(&mut self, sink: &mut K, line: &[u8]) -> Put {
+        sink.put(&mut self.store.disk, line)
     }
 }

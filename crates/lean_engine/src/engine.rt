@@ -1,56 +1,132 @@
-// The engine: pages in memory, one log, and at most one open transaction.
-ghost use Rattle.std.specs.Prelude.{◌≡◌, ◌≤◌, length, false};
-ghost use Rattle.page_model.specs.Tree.{IsTree};
-ghost use Rattle.disk_image.specs.Formats.{format_of};
-ghost use Rattle.node_tree.specs.Nodes.{nodes_of};
-ghost use Rattle.worker_log.specs.Kept.{IsInRange};
+// The engine.
+ghost use Rattle.std.specs.Prelude.{◌≡◌, ◌≤◌, ℕ, IfErr, IfOk, MatchResult, true};
+ghost use Rattle.lean_disk.specs.Calls.{Noted};
+ghost use Rattle.lean_disk.specs.Faults.{HasCause};
+ghost use Rattle.lean_edge.specs.Outside.{IsWholeLine, Puts};
+ghost use Rattle.recovery.specs.Opened.{IsRefusal, IsUntouched};
+ghost use Rattle.recovery.specs.declared.opening.Unrecovered.{Unrecovered};
+ghost use Rattle.lean_edge.specs.declared.sink.Put.{Put};
+ghost use Rattle.lean_engine.specs.Openings.{HasOpened, OpenKeeps, Shows};
 
-use btree_node::Node;
-use std::marker::Model;
-use worker_log::WorkerLog;
+use crate::opening::{Parts, open_parts};
+use key_locks::latches::Latches;
+use lean_disk::Disk;
+use lean_edge::{Put, Sink};
+use recovery::Unrecovered;
+use row_engine::{Staged, Store};
+use rows_trait::plain::PlainRows;
+use rows_trait::trace::Trace;
+use std::alloc::Global;
+use std::marker::{Brand, Model};
 
-/// Pages, a log, how many transactions were begun, whether one is open, and how many changes it has made. The clock is
-/// the log's last number.
-#[derive(Drop)]
-pub struct Engine {
-    pub(crate) pages: Vec<Node>,
-    pub(crate) log: WorkerLog,
-    pub(crate) begun: u64,
-    pub(crate) is_open: bool,
-    pub(crate) changes: u32,
+/// An engine of one session over the pages of a disk, each in a frame, which it owns.
+pub struct Engine<D> {
+    pub(crate) rows: PlainRows,
+    pub(crate) seat: Trace,
+    pub(crate) store: Store<D>,
+    pub(crate) latches: Latches,
 }
 
-impl Model for Engine {
-    ghost use Rattle.lean_engine.specs.States.{State, IsEngine};
+impl<D> Model for Engine<D> {
+    ghost use Rattle.lean_engine.specs.States.{IsEngine, State};
 
-    ghost Value = { State };
+    ghost Value = { State D };
 
-    ghost view = { λ e. record { pages = e.pages.items; log = e.log; is_open = e.is_open; begun = e.begun; changes = e.changes } };
+    ghost view = { λ e. record { view = e.seat.view; disk = e.store.disk; log = e.store.log; works = e.store.session.works } };
 
-    ghost invariant = { λ e. IsEngine (record { pages = e.pages.items; log = e.log; is_open = e.is_open; begun = e.begun; changes = e.changes }) };
+    ghost invariant = { λ e. IsEngine e.rows.frames e.rows.locks e.rows.workers e.rows.words.items e.seat.view e.store.session e.store.log e.latches };
 }
 
-impl Engine {
-    /// The engine of a disk's pages, which are a tree. No transaction is open, and none was begun.
-    pub fn new(pages: Vec<Node>, log: WorkerLog) -> Engine
-        requires some { (16 ≤ length pages.items) × (length pages.items ≤ 65536) }
-        requires tree { IsTree (format_of (length pages.items)) (nodes_of pages.items) }
-        requires ranges { IsInRange log }
-        ensures { result ≡ record { pages = pages.items; log = log; is_open = false; begun = 0; changes = 0 } }
+/// An engine, and what its first line tells of the opening.
+pub struct Opened<D> {
+    pub engine: Engine<D>,
+    pub generation: u64,
+    pub winners: u64,
+    pub undone: u64,
+}
+
+/// A disk that was not opened, and why.
+pub struct Unopened<D> {
+    pub disk: D,
+    pub reason: Unrecovered,
+}
+
+/// Opens a disk, with so many lock rows, which keys share.
+pub fn open<D: Disk>(alloc: Global, mut disk: D, locks: u32) -> Result<Opened<D>, Unopened<D>>
+    requires locks { (1 ≤ locks) × (locks ≤ 65536) }
+    ensures opened { IfOk result (λ o. HasOpened (D.story disk) (D.story o.engine.disk) o.engine.view o.engine.log o.generation o.winners o.undone) }
+    ensures works { IfOk result (λ o. o.engine.works ≡ true) }
+    ensures keeps { MatchResult result (λ o. OpenKeeps (D.story disk) (D.story o.engine.disk)) (λ u. OpenKeeps (D.story disk) (D.story u.disk)) }
+
+    // A disk that is refused is left as it was.
+    ensures left { IfErr result (λ u. IsRefusal u.reason → (a : ℕ) → IsUntouched ((D.story disk).area a) ((D.story u.disk).area a)) }
+    ensures shown { IfErr result (λ u. Shows (D.story disk) u.reason) }
+    ensures cause_disk_fault { IfErr result (λ u. HasCause (D.faults disk) (D.faults u.disk) (u.reason ≡ Unrecovered.DiskFault)) }
+    ensures no_fault { IfOk result (λ o. D.faults o.engine.disk ≡ D.faults disk) }
+{
+    let made = match open_parts(alloc, &mut disk, locks) {
+        Ok(made) => made,
+        Err(reason) => return Err(Unopened { disk, reason }),
+    };
+    let Parts {
+        rows,
+        seat,
+        session,
+        log,
+        latches,
+        generation,
+        winners,
+        undone,
+    } = made;
+    let store = Store {
+        disk,
+        log,
+        session,
+        staged: Staged::of::<Brand>(),
+    };
+    Ok(Opened {
+        engine: Engine {
+            rows,
+            seat,
+            store,
+            latches,
+        },
+        generation,
+        winners,
+        undone,
+    })
+}
+
+impl<D: Disk> Engine<D> {
+    /// Its disk. What it has in memory is let go.
+    pub fn close(self) -> D
+        ensures { result ≡ self.disk }
     {
-        Engine {
-            pages,
-            log,
-            begun: 0,
-            is_open: false,
-            changes: 0,
-        }
+        let Engine {
+            rows: _,
+            seat: _,
+            store,
+            latches: _,
+        } = self;
+        let Store {
+            disk,
+            log: _,
+            session: _,
+            staged: _,
+        } = store;
+        disk
     }
 
-    /// The numbers of its log are in their ranges.
-    pub fn ranges(&self)
-        ensures { IsInRange self.now.log }
+    /// Puts a line into a sink, which its disk notes. Nothing else changes.
+    pub fn put_line<K: Sink<D>>(&mut self, sink: &mut K, line: &[u8]) -> Put
+        requires { IsWholeLine line.now }
+        ensures put { Puts line.now result (K.held sink.old) (K.held sink.new) }
+        ensures noted { result ≡ Put.Done → Noted (D.story self.old.disk) (D.story self.new.disk) }
+        ensures not_noted { result ≡ Put.Failed → self.new ≡ self.old }
+        ensures same { (self.new.view ≡ self.old.view) × (self.new.log ≡ self.old.log) × (self.new.works ≡ self.old.works) × (D.faults self.new.disk ≡ D.faults self.old.disk) }
+
+        ensures cause { HasCause (K.faults sink.old) (K.faults sink.new) (result ≡ Put.Failed) }
     {
-        let _ = &self.log;
+        sink.put(&mut self.store.disk, line)
     }
 }

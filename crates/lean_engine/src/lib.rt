@@ -1,13 +1,10 @@
-//! The engine for one session: pages in memory and one log, call by call.
+//! An engine of one session over the pages of a disk, each in a frame.
 #![tactic(auto)]
 
 mod calls;
 mod engine;
-mod laws;
-mod leaves;
-mod refusals;
-mod staging;
+mod opening;
+mod pages;
 
-pub use engine::Engine;
-pub use laws::every_rest;
-pub use worker_log::DiskFault;
+pub use calls::Hosts;
+pub use engine::{Engine, Opened, Unopened, open};

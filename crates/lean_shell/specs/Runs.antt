@@ -8,25 +8,24 @@ use Rattle.script_lang.specs.Notices.{Notice}
 use Rattle.disk_slots.specs.declared.master.Master.{Master}
 use Rattle.disk_image.specs.MasterSlots.{master_on}
 use Rattle.disk_image.specs.Shown.{image_by, IsCleanDisk, IsSoundDisk}
-use Rattle.recovery.specs.Masters.{HasOpenable, IsOpenable}
+use Rattle.recovery.specs.Masters.{IsOpenable}
 use Rattle.recovery.specs.Opened.{IsRefusal, IsUntouched}
-use Rattle.disk_image.specs.Breaks.{IsDamaged}
 use Rattle.recovery.specs.Telling.{TellsAll}
 use Rattle.recovery.specs.declared.opening.Unrecovered.{Unrecovered}
 use Rattle.recovery.specs.declared.opening.Unrecovered.TheVariants as why
 use Rattle.core_state.specs.Openings.{Opening, first_map}
-use Rattle.session_model.specs.Sessions.{Session, IsAlone, start}
+use Rattle.core_calls.specs.Fronts.{Done}
 use Rattle.worker_log.specs.Logs.{Log}
-use Rattle.lean_engine.specs.States.{State, Pictures}
 use Rattle.map_model.specs.Outputs.{Reply}
 use Rattle.map_model.specs.declared.call.Answered.{Answered}
 use Rattle.transcripts.specs.Told.{opened_line, replies, text_of}
 use Rattle.map_model.specs.Pairings.{in_turn}
 use Rattle.transcripts.specs.Transcripts.{transcript}
-use Rattle.script_run.specs.Runs.{Executes, IsLastCut, PrintsTo}
+use Rattle.script_run.specs.Runs.{Executes, IsLastCut, PrintsTo, calls_of}
 use Rattle.script_run.specs.Texts.{LinesRead}
 use Rattle.script_run.specs.declared.stop.Stop.{Stop}
 use Rattle.script_run.specs.declared.stop.Stop.TheVariants as stops
+use Rattle.lean_engine.specs.Openings.{Shows}
 use Rattle.lean_shell.specs.Crashes.{IsYoung, TellsCrashes, as_read}
 use Rattle.lean_shell.specs.Headline.{Survives}
 use Rattle.lean_shell.specs.Lines.{line_of, WentOut}
@@ -46,13 +45,6 @@ status_of why.NotFormatted = 7
 status_of (why.Damaged area place) = 7
 status_of why.DiskFault = 6
 status_of why.Memory = 8
-
--- what the disk shows of the reason
-abbrev pub Shows : Story → Unrecovered → Type 0
-Shows s why.NotFormatted = TellsAll s → HasOpenable (areas_of s) → ⊥
-Shows s (why.Damaged area place) = TellsAll s → IsDamaged (areas_of s) area place
-Shows s why.DiskFault = Unit {0}
-Shows s why.Memory = Unit {0}
 
 -- The line of the reason was put, or a prefix of it and the sink failed; the script was not read, and a disk that is refused is left as it was.
 pub record NotOpened (status : ℕ) (s0 s1 : Story) (feed0 feed1 : Feed) (put : List ℕ) (sink0 sink1 : ℕ) : Type 0 where
@@ -102,18 +94,17 @@ pub record CutFirst (status : ℕ) (s0 : Story) (feed0 feed1 : Feed) (put : List
 
 -- ## What was executed
 
--- An engine stands on the start that the disk on entry gives, with an empty log, and answers these calls in turn: each refusal has its cause in the
--- state at its place.
-pub record Executed (s0 : Story) (counts : Counts) (calls : List Answered) : Type 0 where
+-- An engine of one session stands on the start that the disk on entry gives, with an empty log, and answers these calls in turn, by the events of a run of
+-- the core: each refusal has its cause in the state at its place and in its log.
+pub record Executed (s0 : Story) (counts : Counts) (calls : List Done) : Type 0 where
   pub opening : Opening
-  pub alone : IsAlone 64 opening
+  pub workers : opening.workers ≡ 1
+  pub changes : opening.changes ≡ 64
   pub from : TellsAll s0 → IsFrom opening s0 counts
-  pub first : State
-  pub pictures : Pictures opening (start opening) first
-  pub log : TellsAll s0 → (m : Master) → master_on (areas_of s0 0) ≡ Some m → first.log ≡ first_log m opening.base
-  pub last : State
-  pub session : Session
-  pub executes : Executes opening first (start opening) calls last session
+  pub first : Log
+  pub log : TellsAll s0 → (m : Master) → master_on (areas_of s0 0) ≡ Some m → first ≡ first_log m opening.base
+  pub last : Log
+  pub executes : Executes opening [] first calls last
 
 -- ## What was put
 
@@ -139,20 +130,20 @@ WentLast stops.WriteFault put before now = (put ≡ []) × Rose before now
 WentLast stop put before now = WentOut (last_line stop) put before now
 
 -- The first line went out, then the replies to these calls, then the last line or a prefix of it.
-pub record Printed (stop : Stop) (counts : Counts) (calls : List Answered) (put : List ℕ) (sink0 sink1 : ℕ) : Type 0 where
+pub record Printed (stop : Stop) (counts : Counts) (calls : List Done) (put : List ℕ) (sink0 sink1 : ℕ) : Type 0 where
   pub told : List Reply
   pub tail : List ℕ
-  pub prints : PrintsTo (Some stop) (replies calls) told tail
-  pub cut : stop ≡ stops.WriteFault → IsLastCut calls told
+  pub prints : PrintsTo (Some stop) (replies (calls_of calls)) told tail
+  pub cut : stop ≡ stops.WriteFault → IsLastCut (calls_of calls) told
   pub last : List ℕ
   pub last_is : WentLast stop last sink0 sink1
   pub put_is : put ≡ first_line counts ++ (text_of told ++ (tail ++ last))
 
 -- What a script and what was put tell of: all calls, but for the last ones where the sink failed.
-pub record AreTold (stop : Stop) (calls : List Answered) (input put : List ℕ) : Type 0 where
+pub record AreTold (stop : Stop) (calls : List Done) (input put : List ℕ) : Type 0 where
   pub heard : List Answered
   pub unheard : List Answered
-  pub calls_are : unheard ++ heard ≡ calls
+  pub calls_are : unheard ++ heard ≡ calls_of calls
   pub all_heard : (stop ≡ stops.WriteFault → ⊥) → unheard ≡ []
   pub transcript_is : transcript 1 input put ≡ in_turn heard
 
@@ -163,11 +154,11 @@ pub record Ran (status : ℕ) (s0 s1 : Story) (feed0 feed1 : Feed) (put : List �
   pub stop : Stop
   pub status_is : status ≡ ended stop
   pub counts : Counts
-  pub calls : List Answered
+  pub calls : List Done
   pub few : length calls < 2 ^ 40
   pub executed : Executed s0 counts calls
   -- the script begins with the lines that ask them, and why no more were executed
-  pub read : IsTrue feed0.tells → LinesRead stop calls feed0.left
+  pub read : IsTrue feed0.tells → LinesRead stop (calls_of calls) feed0.left
   pub printed : Printed stop counts calls put sink0 sink1
   pub told : IsTrue feed0.tells → AreTold stop calls feed0.left put
   -- unless the disk failed, it stands as a crash would have left it

@@ -1,5 +1,5 @@
 -- What stands of a run's calls on the disk that it leaves.
-use Rattle.std.specs.Prelude.{◌≡◌, ◌⊎◌, ◌++◌, ◌+◌, ◌<◌, ℕ, List, ◌∷◌, Some}
+use Rattle.std.specs.Prelude.{◌≡◌, ◌++◌, ◌+◌, ◌<◌, ℕ, List, Option, Some}
 use Rattle.image_model.specs.Entries.{Entry}
 use Rattle.image_model.specs.Images.{found}
 use Rattle.image_model.specs.Slots.{base_of}
@@ -10,14 +10,20 @@ use Rattle.disk_image.specs.Shown.{image_by, shown_by}
 use Rattle.recovery.specs.Crashes.{IsNextOf}
 use Rattle.recovery.specs.Starts.{IsStartOf}
 use Rattle.core_state.specs.Openings.{Opening, start_page}
-use Rattle.map_model.specs.declared.call.Answered.{Answered}
-use Rattle.session_model.specs.Calls.{Runs}
-use Rattle.session_model.specs.Sessions.{Session}
+use Rattle.core_state.specs.Events.{Event}
+use Rattle.core_state.specs.Steps.{state_after}
+use Rattle.core_crash.specs.Crashes.{from_head, log_of}
+use Rattle.core_calls.specs.Deeds.{Outcome}
+use Rattle.core_calls.specs.Fronts.{Done, front}
+use Rattle.core_calls.specs.Runs.{EachTells, Tells}
+use Rattle.run_crashes.specs.Lines.{FellIn}
+use Rattle.engine_trait.specs.Limits.{limits}
 use Rattle.map_model.specs.Pairings.{in_turn}
 use Rattle.transcripts.specs.Transcripts.{first_lines, transcript}
+use Rattle.script_run.specs.Runs.{NoEvents, calls_of}
 
--- By the next master each page's base is the start's, and the records are the oldest of those that some calls log from there: the calls of which the
--- lines that were out tell, and at most one more.
+-- By the next master each page's base is the start's, and the records are the oldest of those that a run of the core logs from there: of the calls of
+-- which the lines that were out tell, and of the first events of at most one more.
 pub record IsLeft (m : Master) (s : Story) (input output : List ℕ) (c : Crash) : Type 0 where
   pub lines : ℕ
   pub notes : c.notes ≡ s.notes + lines
@@ -27,11 +33,15 @@ pub record IsLeft (m : Master) (s : Story) (input output : List ℕ) (c : Crash)
   pub opening : Opening
   pub starts : IsStartOf m (areas_of s) opening
   pub base : (p : ℕ) → p < n.pages → base_of (shown_by n c.image) p ≡ Some (start_page opening p)
-  pub heard : List Answered
-  pub told : transcript 1 input (first_lines lines output) ≡ in_turn heard
-  pub calls : List Answered
-  pub calls_are : (calls ≡ heard) ⊎ ((x : Answered) × (calls ≡ x ∷ heard))
-  pub session : Session
-  pub runs : Runs opening calls session
+  pub heard : List Done
+  pub each : EachTells limits opening 1 heard
+  pub told : transcript 1 input (first_lines lines output) ≡ in_turn (calls_of heard)
+  -- the one more, if there is one, and the events of it that happened
+  pub next_one : Option Outcome
+  pub is_next : (x : Outcome) → next_one ≡ Some x → (y : Done) × (y.outcome ≡ x) × Tells limits opening 1 heard y
+  pub behind : List Event
+  pub fell : FellIn opening NoEvents heard next_one behind
   pub newer : List Entry
-  pub records : newer ++ found (image_by n c.image) ≡ session.log
+  pub left : List Entry
+  pub logged : newer ++ left ≡ log_of 1 (state_after opening (front heard ++ behind)).entries
+  pub records : found (image_by n c.image) ≡ from_head ((state_after opening (front heard ++ behind)).head 1) left

@@ -8,14 +8,19 @@ ghost use Rattle.lean_shell.specs.Headline.{Headline};
 ghost use Rattle.lean_shell.specs.Inside.Openings.{Refuses};
 ghost use Rattle.lean_shell.specs.Runs.{ended, status_of};
 
-use crate::lines::{put_last, put_opened, put_reason};
-use crate::opening::{Opened, open};
+use crate::engine_lines::{put_last, put_opened};
+use crate::lines::put_reason;
+use crate::program::Ended;
 use lean_disk::Disk;
 use lean_edge::{Put, Sink, Source};
+use lean_engine::{Hosts, Opened, Unopened, open};
 use recovery::Unrecovered;
 use script_lang::LineReader;
 use script_run::{Stop, run_script};
 use std::alloc::Global;
+
+// The lock rows of the engine, which keys share.
+const LOCKS: u32 = 65536;
 
 fn status_of(reason: Unrecovered) -> u8
     ensures { result ≡ status_of reason }
@@ -40,65 +45,80 @@ fn ended(stop: Stop) -> u8
     }
 }
 
-// Puts the line of a disk that was not opened. The answer is the status.
-fn refuse<K: Sink<D>, D: Disk>(reason: Unrecovered, sink: &mut K, disk: &mut D) -> u8
-    ensures status { result ≡ status_of reason }
-    ensures put { Refuses reason (K.held sink.old) (K.held sink.new) (K.faults sink.old) (K.faults sink.new) (D.story disk.old) (D.story disk.new) }
-    ensures faults { D.faults disk.new ≡ D.faults disk.old }
+// Puts the line of a disk that was not opened.
+fn refuse<K: Sink<D>, D: Disk>(reason: Unrecovered, sink: &mut K, mut disk: D) -> Ended<D>
+    ensures status { result.status ≡ status_of reason }
+    ensures put { Refuses reason (K.held sink.old) (K.held sink.new) (K.faults sink.old) (K.faults sink.new) (D.story disk) (D.story result.disk) }
+    ensures faults { D.faults result.disk ≡ D.faults disk }
 {
-    put_reason(reason, sink, disk);
-    status_of(reason)
+    put_reason(reason, sink, &mut disk);
+    Ended {
+        status: status_of(reason),
+        disk,
+    }
 }
 
 /// Opens the disk, executes a script on it, and puts what comes of it, the last line included. The status is 0 where the script
 /// has ended, 3 at a line that is refused, 4 where the source failed, 5 where the sink did, 6 where the disk did, 7 where
 /// the disk has no master or is damaged, 8 where memory was refused.
-pub fn run_disk<S: Source, K: Sink<D>, D: Disk>(
+pub fn run_disk<S: Source, K: Sink<D>, D: Hosts>(
     alloc: Global,
     source: &mut S,
     sink: &mut K,
-    disk: &mut D,
-) -> u8
-    ensures headline { IsTrue (S.feed source.old).tells → IsTrue (K.held sink.old).tells → TellsAll (D.story disk.old) → Headline (D.story disk.old) (D.story disk.new) (S.feed source.old).left (added (K.held sink.old) (K.held sink.new)) }
-    ensures ends { RunEnds result (D.story disk.old) (D.story disk.new) (S.feed source.old) (S.feed source.new) (K.held sink.old) (K.held sink.new) (K.faults sink.old) (K.faults sink.new) }
+    disk: D,
+) -> Ended<D>
+    ensures headline { IsTrue (S.feed source.old).tells → IsTrue (K.held sink.old).tells → TellsAll (D.story disk) → Headline (D.story disk) (D.story result.disk) (S.feed source.old).left (added (K.held sink.old) (K.held sink.new)) }
+    ensures ends { RunEnds result.status (D.story disk) (D.story result.disk) (S.feed source.old) (S.feed source.new) (K.held sink.old) (K.held sink.new) (K.faults sink.old) (K.faults sink.new) }
 
-    ensures cause_read_fault { HasCause (S.faults source.old) (S.faults source.new) (result ≡ 4) }
+    ensures cause_read_fault { HasCause (S.faults source.old) (S.faults source.new) (result.status ≡ 4) }
     // A last line that is cut off leaves the status as it is.
-    ensures cause_write_fault { IsBlamed (K.faults sink.old) (K.faults sink.new) (result ≡ 5) }
-    ensures cause_disk_fault { HasCause (D.faults disk.old) (D.faults disk.new) (result ≡ 6) }
+    ensures cause_write_fault { IsBlamed (K.faults sink.old) (K.faults sink.new) (result.status ≡ 5) }
+    ensures cause_disk_fault { HasCause (D.faults disk) (D.faults result.disk) (result.status ≡ 6) }
 {
-    // What holds of a session's calls, of transcripts, and of images that agree.
-    session_model::every_session();
+    // What holds of calls and their crashes, of transcripts, of images that agree, and of logs.
+    core_commit::every_rise();
+    core_calls::every_alone();
+    core_calls::every_commit();
+    core_calls::every_told();
+    core_calls::every_run_crash();
+    core_disk::every_shown();
     transcripts::every_in_turn();
+    transcripts::every_next_in_turn();
     transcripts::every_moment();
     transcripts::every_heard();
-    script_run::every_script();
     transcripts::every_end();
+    transcripts::every_next();
     transcripts::every_notice();
     transcripts::every_tail();
-    transcripts::every_next();
-    transcripts::every_next_in_turn();
+    script_run::every_script();
     disk_image::every_agreement();
+    disk_image::every_block_in();
     disk_image::every_sealed();
-    worker_log::every_run();
+    worker_log::every_kept();
+    worker_log::every_prefix();
     let Ok(mut reader) = LineReader::new(alloc) else {
         return refuse(Unrecovered::Memory, sink, disk);
     };
-    let opened = match open(alloc, disk) {
+    let opened = match open(alloc, disk, LOCKS) {
         Ok(opened) => opened,
-        Err(reason) => return refuse(reason, sink, disk),
+        Err(Unopened { disk, reason }) => return refuse(reason, sink, disk),
     };
     let Opened {
-        engine,
+        mut engine,
         generation,
         winners,
         undone,
     } = opened;
-    let mut engine = engine;
-    let Put::Done = put_opened(generation, winners, undone, sink, disk) else {
-        return 5;
+    let Put::Done = put_opened(generation, winners, undone, sink, &mut engine) else {
+        return Ended {
+            status: 5,
+            disk: engine.close(),
+        };
     };
-    let stop = run_script(&mut engine, &mut reader, source, sink, disk);
-    put_last(stop, sink, disk);
-    ended(stop)
+    let stop = run_script(&mut engine, &mut reader, source, sink);
+    put_last(stop, sink, &mut engine);
+    Ended {
+        status: ended(stop),
+        disk: engine.close(),
+    }
 }

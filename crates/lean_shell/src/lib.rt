@@ -4,11 +4,11 @@
 ghost use Rattle.lean_shell.specs.Laws.{EveryNewDisk};
 
 mod disk_run;
+mod engine_lines;
 mod failure;
 mod format;
 mod gate;
 mod lines;
-mod opening;
 mod parts;
 mod program;
 mod words;

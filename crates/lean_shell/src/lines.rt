@@ -1,22 +1,18 @@
-// The lines that a run puts of itself.
-ghost use Rattle.std.specs.Prelude.{◌≡◌, ◌≤◌, ℕ};
+// The line of a disk that was not opened.
+ghost use Rattle.std.specs.Prelude.{◌≡◌};
 ghost use Rattle.lean_disk.specs.Faults.{HasCause};
 ghost use Rattle.script_lang.specs.Notices.{Notice, NoticeFits};
 ghost use Rattle.recovery.specs.declared.opening.Unrecovered.{Unrecovered};
-ghost use Rattle.script_run.specs.declared.stop.Stop.{Stop};
 ghost use Rattle.lean_edge.specs.Outside.{IsWholeLine};
 ghost use Rattle.lean_shell.specs.Lines.{IsPut, line_of};
-ghost use Rattle.lean_shell.specs.Inside.Openings.{EndsWith};
-ghost use Rattle.lean_shell.specs.Runs.{Counts, first_line, last_line, notice_of};
+ghost use Rattle.lean_shell.specs.Runs.{notice_of};
 
 use lean_disk::Disk;
 use lean_edge::{Put, Sink};
 use recovery::Unrecovered;
 use script_lang::{
-    DISK_FAULT, NO_MEMORY, NOT_FORMATTED, READ_FAULT, REPLY, damaged_bytes, fixed_lines,
-    notices_are_no_replies, opened_bytes, refused_bytes,
+    DISK_FAULT, NO_MEMORY, NOT_FORMATTED, REPLY, damaged_bytes, fixed_lines, notices_are_no_replies,
 };
-use script_run::Stop;
 
 /// Puts one line.
 fn put_line<K: Sink<D>, D: Disk>(line: &[u8], sink: &mut K, disk: &mut D) -> Put
@@ -29,26 +25,6 @@ fn put_line<K: Sink<D>, D: Disk>(line: &[u8], sink: &mut K, disk: &mut D) -> Put
     sink.put(disk, line)
 }
 
-/// Puts the first line: the new generation, and how many transactions were found committed and how many were undone.
-pub(crate) fn put_opened<K: Sink<D>, D: Disk>(
-    generation: u64,
-    winners: u64,
-    undone: u64,
-    sink: &mut K,
-    disk: &mut D,
-) -> Put
-    ensures put { IsPut (first_line (record { generation = generation; winners = winners; undone = undone })) result (K.held sink.old) (K.held sink.new) (D.story disk.old) (D.story disk.new) }
-    ensures fits { NoticeFits (Notice.Opened generation winners undone) }
-    ensures faults { D.faults disk.new ≡ D.faults disk.old }
-
-    ensures cause { HasCause (K.faults sink.old) (K.faults sink.new) (result ≡ Put.Failed) }
-{
-    notices_are_no_replies();
-    let mut line = [0; REPLY];
-    let end = opened_bytes(generation, winners, undone, &mut line);
-    put_line(&line[..end], sink, disk)
-}
-
 fn put_damaged<K: Sink<D>, D: Disk>(area: u32, place: u64, sink: &mut K, disk: &mut D) -> Put
     ensures put { IsPut (line_of (Notice.Damaged area place)) result (K.held sink.old) (K.held sink.new) (D.story disk.old) (D.story disk.new) }
     ensures faults { D.faults disk.new ≡ D.faults disk.old }
@@ -58,18 +34,6 @@ fn put_damaged<K: Sink<D>, D: Disk>(area: u32, place: u64, sink: &mut K, disk: &
     notices_are_no_replies();
     let mut line = [0; REPLY];
     let end = damaged_bytes(area, place, &mut line);
-    put_line(&line[..end], sink, disk)
-}
-
-fn put_refused<K: Sink<D>, D: Disk>(number: u64, sink: &mut K, disk: &mut D) -> Put
-    ensures put { IsPut (line_of (Notice.Refused number)) result (K.held sink.old) (K.held sink.new) (D.story disk.old) (D.story disk.new) }
-    ensures faults { D.faults disk.new ≡ D.faults disk.old }
-
-    ensures cause { HasCause (K.faults sink.old) (K.faults sink.new) (result ≡ Put.Failed) }
-{
-    notices_are_no_replies();
-    let mut line = [0; REPLY];
-    let end = refused_bytes(number, &mut line);
     put_line(&line[..end], sink, disk)
 }
 
@@ -92,28 +56,5 @@ pub(crate) fn put_reason<K: Sink<D>, D: Disk>(
         Unrecovered::Damaged { area, place } => put_damaged(area, place, sink, disk),
         Unrecovered::DiskFault => put_line(DISK_FAULT, sink, disk),
         Unrecovered::Memory => put_line(NO_MEMORY, sink, disk),
-    }
-}
-
-// Puts the last line of a script that stopped, if it has one.
-pub(crate) fn put_last<K: Sink<D>, D: Disk>(stop: Stop, sink: &mut K, disk: &mut D)
-    ensures put { EndsWith stop (K.held sink.old) (K.held sink.new) (K.faults sink.old) (K.faults sink.new) (D.story disk.old) (D.story disk.new) }
-    ensures faults { D.faults disk.new ≡ D.faults disk.old }
-    ensures later { K.faults sink.old ≤ K.faults sink.new }
-{
-    fixed_lines();
-    notices_are_no_replies();
-    match stop {
-        Stop::End => {}
-        Stop::WriteFault => {}
-        Stop::Refused { line } => {
-            put_refused(line, sink, disk);
-        }
-        Stop::ReadFault => {
-            put_line(READ_FAULT, sink, disk);
-        }
-        Stop::DiskFault => {
-            put_line(DISK_FAULT, sink, disk);
-        }
     }
 }

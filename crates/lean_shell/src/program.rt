@@ -20,6 +20,7 @@ use crate::format::{Formatted, format};
 use crate::words::{Command, Shape, read_words};
 use lean_disk::Disk;
 use lean_edge::{Put, Sink, Source};
+use lean_engine::Hosts;
 use script_lang::{REPLY, formatted_bytes, notices_are_no_replies};
 use std::alloc::Global;
 use std::sync::Wait;
@@ -65,31 +66,37 @@ fn run_format<K: Sink<D>, D: Disk>(alloc: Global, shape: Shape, sink: &mut K, di
     }
 }
 
-// Every command but those that take threads.
-fn run_alone<S: Source, K: Sink<D>, D: Disk>(
-    alloc: Global,
-    words: &[String],
-    source: &mut S,
-    sink: &mut K,
-    disk: &mut D,
-) -> u8
-    ensures ends { CommandEnds (texts words.now) result (D.story disk.old) (D.story disk.new) (S.feed source.old) (S.feed source.new) (K.held sink.old) (K.held sink.new)
-        (record { source = S.faults source.old; sink = K.faults sink.old; disk = D.faults disk.old }) (record { source = S.faults source.new; sink = K.faults sink.new; disk = D.faults disk.new }) }
-    ensures headline { Asks (texts words.now) Run → IsTrue (S.feed source.old).tells → IsTrue (K.held sink.old).tells → TellsAll (D.story disk.old) → Headline (D.story disk.old) (D.story disk.new) (S.feed source.old).left (added (K.held sink.old) (K.held sink.new)) }
-    ensures source { (Asks (texts words.now) Run → ⊥) → source.new ≡ source.old }
-{
-    match read_words(words) {
-        Some(Command::Format(shape)) => run_format(alloc, shape, sink, disk),
-        Some(Command::Run) => run_disk(alloc, source, sink, disk),
-        None => fail(Failure::Usage, sink, disk),
-    }
-}
-
 /// How a command ended: its status, and the disk.
 pub struct Ended<D> {
     /// What the program ends with.
     pub status: u8,
     pub disk: D,
+}
+
+// Every command but those that take threads.
+fn run_alone<S: Source, K: Sink<D>, D: Hosts>(
+    alloc: Global,
+    words: &[String],
+    source: &mut S,
+    sink: &mut K,
+    mut disk: D,
+) -> Ended<D>
+    ensures ends { CommandEnds (texts words.now) result.status (D.story disk) (D.story result.disk) (S.feed source.old) (S.feed source.new) (K.held sink.old) (K.held sink.new)
+        (record { source = S.faults source.old; sink = K.faults sink.old; disk = D.faults disk }) (record { source = S.faults source.new; sink = K.faults sink.new; disk = D.faults result.disk }) }
+    ensures headline { Asks (texts words.now) Run → IsTrue (S.feed source.old).tells → IsTrue (K.held sink.old).tells → TellsAll (D.story disk) → Headline (D.story disk) (D.story result.disk) (S.feed source.old).left (added (K.held sink.old) (K.held sink.new)) }
+    ensures source { (Asks (texts words.now) Run → ⊥) → source.new ≡ source.old }
+{
+    match read_words(words) {
+        Some(Command::Format(shape)) => {
+            let status = run_format(alloc, shape, sink, &mut disk);
+            Ended { status, disk }
+        }
+        Some(Command::Run) => run_disk(alloc, source, sink, disk),
+        None => {
+            let status = fail(Failure::Usage, sink, &mut disk);
+            Ended { status, disk }
+        }
+    }
 }
 
 /// Does what the words of a command line ask for, the program's name first.
@@ -98,7 +105,7 @@ pub struct Ended<D> {
 /// of a round at `gate`. The statuses: 0 it was done; 2 the words are no command; 3 a line of the script was refused;
 /// 4 the source failed; 5 the sink failed; 6 the disk failed; 7 the disk is not formatted or is damaged; 8 memory was
 /// refused; 9 the disk has a valid master already.
-pub fn run<R: Threads + Wait + Sync, S: Source, K: Sink<D>, D: Disk, G: Gate + Sync>(
+pub fn run<R: Threads + Wait + Sync, S: Source, K: Sink<D>, D: Hosts, G: Gate + Sync>(
     rt: &R,
     alloc: Global,
     words: &[String],
@@ -125,7 +132,5 @@ pub fn run<R: Threads + Wait + Sync, S: Source, K: Sink<D>, D: Disk, G: Gate + S
     // The source is read by a run alone.
     ensures source { (Asks (texts words.now) Run → ⊥) → source.new ≡ source.old }
 {
-    let mut disk = disk;
-    let status = run_alone(alloc, words, source, sink, &mut disk);
-    Ended { status, disk }
+    run_alone(alloc, words, source, sink, disk)
 }

@@ -1,103 +1,64 @@
--- The end of a transaction, and the flush of its log, at the session's control words.
-use Rattle.std.proofs.Common.{◌≡◌, ◌≤◌, ◌<◌, ◌+◌, ◌^◌, ℕ, suc, Bool, true, false, ◌&&◌, ◌||◌, ◌==◌, [], ◌∷◌, refl, sym, ap, ◌∙◌, subst, arith, true≢false}
-use Rattle.std.proofs.lemmas.Bool.{eq-eqb, le-leb}
-use Rattle.map_model.specs.Lists.{any}
-use Rattle.map_model.proofs.ListLemmas.{upd_same}
-use Rattle.image_model.specs.Entries.{Kind, is_record}
+-- The end of a transaction, at the session's control word, and its rows behind it.
+use Rattle.std.proofs.Common.{◌≡◌, ◌+◌, ℕ, Bool, true, false, List, [], ◌∷◌, ◌++◌, sym, ap, ◌∙◌, subst, arith}
+use Rattle.std.proofs.lemmas.List.{append_assoc}
 use Rattle.core_state.specs.Events as happening
-use Rattle.core_state.specs.Needs.{may}
-use Rattle.core_state.specs.Steps.{end_entry, happens}
-use Rattle.row_words.specs.declared.event.Event.TheVariants.{End, Flush}
+use Rattle.core_state.specs.States.{State}
+use Rattle.core_state.specs.Needs.{holds_row, may}
+use Rattle.core_state.specs.Steps as core
+use Rattle.core_state.specs.Steps.{AllMet, finished, happens}
+use Rattle.engine_calls.specs.Commits.{unlocks}
+use Rattle.engine_calls.proofs.UnlockLemmas.{if_met}
+use Rattle.row_words.specs.declared.event.Event.TheVariants.{End}
 use Rattle.row_words.specs.Openings.{opening}
 use Rattle.rows_trait.specs.declared.view.View.{View}
 use Rattle.rows_trait.specs.Views.{Shape, state}
-use Rattle.rows_trait.specs.Turns.{Turned}
+use Rattle.rows_trait.specs.Turns.{MayTurn, Turned}
 use Rattle.lean_proto.specs.Controls as controls
-use Rattle.worker_log.specs.Logs.{Log}
-use Rattle.row_engine.specs.Ends.{Behind, Ended, EveryEnd, Flushed}
-use Rattle.row_engine.specs.Holds.{Holds}
+use Rattle.row_engine.specs.Ends.{AreHeld, AreMine, Ended, Gave, MayEnd, gives}
 use Rattle.row_engine.specs.declared.session.Session.{Session}
 use Rattle.row_engine.proofs.Moments.{acts, goes_seen, goes_state, met_core}
 
--- the first of them
-or_true : (b c : Bool) → b ≡ true → (b || c) ≡ true
-or_true true c e = refl
-or_true false c e = absurd (true≢false (sym e))
+module _ (turns : controls.EveryTurn) (z : Shape) (v : View) (x : Session) (floor number : ℕ) (marks : List Bool) (m : MayEnd z v x floor marks) (number_is : number ≡ x.clock + 1) where
+  met : may (opening v.given) (state v).core (happening.Event.End 1 true floor) ≡ true
+  met = (turns z v 1).need true floor m.can
 
-and_true : (b c : Bool) → b ≡ true → c ≡ true → (b && c) ≡ true
-and_true true c e q = q
-and_true false c e q = e
+  known : controls.IsEnd z v 1 true floor number
+  known = record { actor = acts z v 1 m.alone; some = omega arith; met = met; number_is = let q = m.clock in omega arith; small = let q = m.small in omega arith }
 
-module _ (turns : controls.EveryTurn) (z : Shape) (v : View) (x : Session) (log : Log) (h : Holds z v x log) (opened : x.is_open ≡ true) where
-  abbrev end : happening.Event
-  end = happening.Event.End 1 true log.flushed
+  pub may_turn : MayTurn z 1 1 (λ _. number) (λ _. End 1 true floor ∷ []) v
+  may_turn = (turns z v 1).end true floor number known
 
-  met : may (opening v.given) (state v).core end ≡ true
-  met = (turns z v 1).need true log.flushed (record {
-    is_open = h.session.is_open ∙ opened;
-    low = let a = h.session.floor in let b = h.numbers.floor in omega arith;
-    flushed = λ u some among. let n = h.one in let e : u ≡ 1 = omega arith in subst (λ k. log.flushed ≤ (state v).core.flushed k) (sym e) (let q = h.flushed in omega arith);
-    back = λ e. absurd (true≢false e);
-  })
+  module _ (n : ℕ) (w : View) (t : Turned z 1 1 (λ _. number) (λ _. End 1 true floor ∷ []) v n w) where
+    core_is : (state w).core ≡ happens (opening v.given) (state v).core (happening.Event.End 1 true floor)
+    core_is = ap (λ k. k.core) (goes_state z v w (End 1 true floor ∷ []) m.alone t.goes) ∙ met_core v.given (state v) (End 1 true floor) met
 
-  known : controls.IsEnd z v 1 true log.flushed (x.clock + 1)
-  known = record { actor = acts z v 1 h.alone; some = omega arith; met = met; number_is = let q = h.session.clock in omega arith; small = let q = h.numbers.low in omega arith }
+    worker : (state w).core.worker 1 ≡ finished ((state v).core.worker 1) number
+    worker = ((turns z v 1).ended true floor number n w known t).worker
 
-  module _ (n : ℕ) (w : View) (t : Turned z 1 1 (λ _. x.clock + 1) (λ _. End 1 true log.flushed ∷ []) v n w) where
-    core : (state w).core ≡ happens (opening v.given) (state v).core end
-    core = ap (λ m. m.core) (goes_state z v w (End 1 true log.flushed ∷ []) h.alone t.goes) ∙ met_core v.given (state v) (End 1 true log.flushed) met
+    pub closed : ((state w).core.worker 1).is_open ≡ false
+    closed = ap (λ k. k.is_open) worker
 
-    ended : Ended v w x log
-    ended = record {
-      given = t.goes.given;
-      seen = goes_seen z v w (End 1 true log.flushed ∷ []) h.alone t.goes;
-      worker = ((turns z v 1).ended true log.flushed (x.clock + 1) n w known t).worker;
-      entries = ap (λ s. s.entries) core;
-      flushed = ap (λ s. s.flushed) core;
-      row = ap (λ s. s.row) core;
-      idle = t.held ∙ h.idle;
-    }
+    pub end_is : number ≡ ((state w).core.worker 1).end
+    end_is = sym (ap (λ k. k.end) worker)
 
-  -- ## The flush
+    pub mine : AreMine x.frames x.held.count marks w.held
+    mine = subst (λ hs. AreMine x.frames x.held.count marks hs) (sym t.held) m.mine
 
-  low_word : x.clock + 1 < 2 ^ 64
-  low_word = let q = h.numbers.low in omega arith
+    pub held : AreHeld w marks
+    held i = ap (λ s. holds_row (s.row i) 1) core_is ∙ m.held i
 
-  module _ (w u : View) (e : Ended v w x log) (b : Behind v w u) where
-    entries_are : (state u).core.entries ≡ end_entry Kind.Commit 1 ((state v).core.worker 1) log.flushed ∷ (state v).core.entries
-    entries_are = b.entries ∙ e.entries
+    module _ (most : ℕ) (u : View) (g : Gave most w u) where
+      stepped : (state w).core ≡ core.step (opening v.given) (state v).core (happening.Event.End 1 true floor)
+      stepped = core_is ∙ sym (if_met (may (opening v.given) (state v).core (happening.Event.End 1 true floor)) met (state v).core (happens (opening v.given) (state v).core (happening.Event.End 1 true floor)))
 
-    -- the end has this number
-    stands : any (λ r. is_record r.kind && ((r.log == 1) && (r.number == x.clock + 1))) (end_entry Kind.Commit 1 ((state v).core.worker 1) log.flushed ∷ (state v).core.entries) ≡ true
-    stands = or_true _ _ (eq-eqb (suc ((state v).core.worker 1).clock) (x.clock + 1) (let q = h.session.clock in omega arith))
-
-    may_flush : may (opening u.given) (state u).core (happening.Event.Flush 1 (x.clock + 1)) ≡ true
-    may_flush = and_true _ _
-        (le-leb ((state u).core.flushed 1) (x.clock + 1) (let a = b.flushed in let c = h.flushed in let d = h.numbers.order in let k = h.numbers.last in omega arith))
-        (subst (λ es. any (λ r. is_record r.kind && ((r.log == 1) && (r.number == x.clock + 1))) es ≡ true) (sym entries_are) stands)
-
-    flush_known : controls.IsFlush z u 1 (x.clock + 1)
-    flush_known = record { actor = acts z u 1 h.alone; some = omega arith; met = may_flush; small = low_word }
-
-    module _ (n : ℕ) (t : View) (d : Turned z 1 0 (λ _. x.clock + 1) (λ _. Flush 1 (x.clock + 1) ∷ []) u n t) where
-      flush_core : (state t).core ≡ happens (opening u.given) (state u).core (happening.Event.Flush 1 (x.clock + 1))
-      flush_core = ap (λ m. m.core) (goes_state z u t (Flush 1 (x.clock + 1) ∷ []) h.alone d.goes) ∙ met_core u.given (state u) (Flush 1 (x.clock + 1)) may_flush
-
-      is_flushed : Flushed u t (x.clock + 1)
-      is_flushed = record {
-        given = d.goes.given;
-        seen = goes_seen z u t (Flush 1 (x.clock + 1) ∷ []) h.alone d.goes;
-        flushed = ap (λ s. s.flushed 1) flush_core ∙ upd_same (state u).core.flushed 1 (x.clock + 1) 1 refl;
-        worker = ap (λ s. s.worker) flush_core;
-        entries = ap (λ s. s.entries) flush_core;
-        row = ap (λ s. s.row) flush_core;
-        idle = d.held ∙ b.idle;
+      pub ended : Ended most v floor u
+      ended = record {
+        given = g.gives.given ∙ t.goes.given;
+        rows = g.rows;
+        few = g.few;
+        seen = g.gives.seen ∙ (ap (λ ys. ys ++ gives g.rows) (goes_seen z v w (End 1 true floor ∷ []) m.alone t.goes) ∙ append_assoc v.seen (End 1 true floor ∷ []) (gives g.rows));
+        met = (met, subst (λ (s : State). AllMet (opening v.given) s (unlocks 1 g.rows)) stepped (subst (λ k. AllMet (opening k) (state w).core (unlocks 1 g.rows)) t.goes.given g.gives.met));
+        core = g.gives.core ∙ (λ i. core.run (opening (t.goes.given i)) (stepped i) (unlocks 1 g.rows));
+        idle = g.idle;
+        free = g.free;
       }
-
-pub every_end : controls.EveryTurn → EveryEnd
-every_end turns z v x log h opened = record {
-  end = (turns z v 1).end true log.flushed (x.clock + 1) (known turns z v x log h opened);
-  ended = λ n w t. ended turns z v x log h opened n w t;
-  flush = λ w u e b. (turns z u 1).flush (x.clock + 1) (flush_known turns z v x log h opened w u e b);
-  flushed = λ w u e b n t d. is_flushed turns z v x log h opened w u e b n t d;
-}

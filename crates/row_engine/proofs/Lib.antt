@@ -1,5 +1,16 @@
 pub mod Moments
 pub mod Waiting
+pub mod Behind
 pub mod BeginLemmas
-pub mod OpenLemmas
+pub mod LatchLemmas
 pub mod EndLemmas
+pub mod CommitLemmas
+pub mod CommitRefusals
+pub mod HeldLemmas
+pub mod TakeLemmas
+pub mod Refusing
+pub mod GetLemmas
+pub mod PutLemmas
+pub mod PutRuns
+pub mod OpenLemmas
+pub mod OpeningLemmas

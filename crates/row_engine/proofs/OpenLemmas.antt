@@ -1,51 +1,77 @@
 -- An engine as it begins.
-use Rattle.std.proofs.Common.{◌≡◌, true, [], ◌++◌, sym, ap, ◌∙◌, subst, arith, true≢false}
+use Rattle.std.proofs.Common.{◌≡◌, ◌↔◌, ◌++◌, true, [], length, inr, refl, sym, ap, ◌∙◌, subst, arith, append-nil, true≢false}
+use Rattle.map_model.specs.Lists.{Has}
 use Rattle.core_state.specs.Openings.{Opening}
-use Rattle.core_state.specs.States.{start}
+use Rattle.core_state.specs.States.{State, start}
 use Rattle.core_state.specs.Needs.{holds_row}
-use Rattle.core_state.specs.Steps.{state_after}
 use Rattle.row_words.specs.Moments.{events_of}
 use Rattle.rows_trait.specs.declared.view.View.{View}
 use Rattle.rows_trait.specs.Views.{Shape, state}
-use Rattle.row_opening.specs.Openings.{EveryReached}
 use Rattle.worker_log.specs.Logs.{Log}
-use Rattle.disk_runs.specs.Stands.{Known}
-use Rattle.row_engine.specs.Holds.{Holds, IsOf}
+use Rattle.row_engine.specs.Holds.{AreNumbers, AreStamps, Holds, IsOf}
 use Rattle.row_engine.specs.Opened.{EveryOpened, IsOpened}
 use Rattle.row_engine.specs.Ties.{Ties}
 use Rattle.row_engine.specs.declared.session.Session.{Session}
 
-module _ (reached : EveryReached) (g : Opening) (z : Shape) (v : View) (x : Session) (log : Log) (o : IsOpened g z v x log) where
-  tied : (k : Known) → k.log 1 ≡ log → Ties g [] k v log
-  tied k e = record { opens = o.opens; none_before = o.none_before; seen = ap events_of o.seen; log_is = e }
+module _ (g : Opening) (z : Shape) (v : View) (x : Session) (log : Log) (o : IsOpened g z v x log) where
+  pub ties : Ties g [] v
+  ties = record {
+    opens = o.opens;
+    told = tt;
+    line = tt;
+    whole = refl;
+    loads = events_of v.given.before;
+    are_loads = o.loads;
+    few = o.few;
+    met = o.met;
+    seen = ap (λ es. events_of v.given.before ++ events_of es) o.seen ∙ append-nil (events_of v.given.before);
+  }
 
-  core : (state v).core ≡ start g
-  core = reached g v.given o.opens v.seen ∙ (ap (λ es. state_after g (events_of es ++ events_of v.seen)) o.none_before ∙ ap (λ es. state_after g (events_of es)) o.seen)
+  -- of the state all but the places is that of the start
+  at : (P : State → Type 0) → P (record (start g) { place = (state v).core.place }) → P (state v).core
+  at P p = subst P (sym o.rest) p
 
   of_start : IsOf x ((start g).worker 1)
   of_start = record { is_open = sym o.session.is_open; txn = sym o.session.txn; clock = sym o.session.clock; floor = sym o.session.floor; debt = sym o.session.debt; end = sym o.session.end; changes = sym o.session.changes }
 
+  numbers : AreNumbers x log
+  numbers = record {
+    last = o.last ∙ sym o.session.clock;
+    order = let a = o.last in let b = o.flushed in omega arith;
+    floor = let a = o.session.floor in let b = o.flushed in omega arith;
+    debt = o.session.debt;
+    end = let a = o.session.end in let b = o.session.clock in omega arith;
+    open_low = λ q. absurd (true≢false (sym q ∙ o.session.is_open));
+    small = let a = o.session.clock in let b = o.small in omega arith;
+    room = λ q. absurd (true≢false (sym q ∙ o.session.is_open));
+    closed_txn = λ q. let a = o.session.txn in omega arith;
+    txn = let a = o.session.txn in omega arith;
+    changes = let a = o.session.changes in omega arith;
+  }
+
+  stamps : AreStamps (state v).core x.clock x.floor
+  stamps = at (λ s. AreStamps s x.clock x.floor) (record {
+    page = λ p. let a = g.low p in let b = o.session.clock in omega arith;
+    log = λ p. inr (let a = g.low p in let b = o.session.floor in omega arith);
+    row = λ i. omega arith;
+    read_end = λ i. omega arith;
+  })
+
   pub holding : Holds z v x log
   holding = record {
     alone = o.alone;
-    one = sym o.opens.workers ∙ o.one;
-    workers = o.workers;
     idle = o.idle;
-    session = subst (λ s. IsOf x (s.worker 1)) (sym core) of_start;
-    numbers = record {
-      last = o.last ∙ sym o.session.clock;
-      order = let a = o.last in let b = o.flushed in omega arith;
-      floor = let a = o.session.floor in let b = o.flushed in omega arith;
-      open_low = λ q. absurd (true≢false (sym q ∙ o.session.is_open));
-      room = λ q. absurd (true≢false (sym q ∙ o.session.is_open));
-      low = let a = o.session.clock in let b = o.low in omega arith;
-      closed_txn = λ q. let a = o.session.txn in omega arith;
-      txn = let a = o.session.txn in omega arith;
-    };
-    flushed = ap (λ s. s.flushed 1) core ∙ sym o.flushed;
-    rows = λ i q. absurd (true≢false (sym (subst (λ s. holds_row (s.row i) 1 ≡ true) core q)));
+    rows = o.rows;
+    session = at (λ s. IsOf x (s.worker 1)) of_start;
+    numbers = numbers;
+    flushed = at (λ s. s.flushed 1 ≡ log.flushed) (sym o.flushed);
+    stamps = stamps;
+    hot = λ p lt live. o.hot p (let e = ap (λ f. f.pages) o.opens.format in omega arith) (sym (ap (λ s. (s.page p).node.live) o.rest) ∙ live);
+    held = λ i. at (λ s. holds_row (s.row i) 1 ≡ true ↔ Has i x.held.rows) ((λ q. absurd (true≢false (sym q)), λ h. absurd (subst (Has i) o.session.rows h)));
+    within = λ i h. absurd (subst (Has i) o.session.rows h);
+    fewer = let e = ap length o.session.rows in omega arith;
     none = λ _. o.session.rows;
   }
 
-pub every_opened : EveryReached → EveryOpened
-every_opened reached g z v x log o = (holding reached g z v x log o, tied reached g z v x log o)
+pub every_opened : EveryOpened
+every_opened g z v x log o = (holding g z v x log o, ties g z v x log o)

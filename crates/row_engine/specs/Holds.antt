@@ -1,11 +1,14 @@
 -- What an engine of one session has in memory between two calls, by the moment that its seat has seen.
-use Rattle.std.specs.Prelude.{◌≡◌, ◌≤◌, ◌+◌, ◌^◌, ℕ, suc, true, false, [], length}
+use Rattle.std.specs.Prelude.{◌≡◌, ◌⊎◌, ◌↔◌, ◌≤◌, ◌<◌, ◌+◌, ◌^◌, ℕ, suc, true, false, [], length}
 use Rattle.map_model.specs.Lists.{Has}
-use Rattle.core_state.specs.States.{Worker}
+use Rattle.core_state.specs.States.{State, Worker, is_hot}
 use Rattle.core_state.specs.Needs.{holds_row}
 use Rattle.row_words.specs.Openings.{opening}
 use Rattle.rows_trait.specs.declared.view.View.{View}
 use Rattle.rows_trait.specs.Views.{Shape, state}
+use Rattle.btree_descent.specs.Descents as descents
+use Rattle.btree_descent.specs.Known as pages
+use Rattle.key_locks.specs.Rows as locking
 use Rattle.worker_log.specs.Logs.{Log, used}
 use Rattle.row_engine.specs.declared.session.Session.{Session}
 
@@ -25,24 +28,48 @@ pub record AreNumbers (x : Session) (log : Log) : Type 0 where
   pub last : log.last ≡ x.clock
   pub order : log.flushed ≤ log.last
   pub floor : x.floor ≤ log.flushed
+  -- there is no other log, so nothing is owed
+  pub debt : x.debt ≡ 0
+  pub end : x.end ≤ x.clock
   -- the clock ends, but for what an open transaction has still to come
   pub open_low : x.is_open ≡ true → x.clock ≤ 2 ^ 62
-  pub low : x.clock ≤ 2 ^ 62 + 1
+  pub small : x.clock < 2 ^ 64
   -- an open transaction finds a block for its end
   pub room : x.is_open ≡ true → used log + 1 ≤ log.blocks
   -- each transaction but an open one took a number for its end
   pub closed_txn : x.is_open ≡ false → x.txn ≤ x.clock
   pub txn : x.txn ≤ suc x.clock
+  pub changes : x.changes ≤ 64
 
--- There is one worker and nobody else steps, and no row is latched. The session is the worker's at the moment that the seat has seen, where the log
--- is flushed as it says, and the lock rows that the worker holds are those that the session has.
-pub record Holds (z : Shape) (v : View) (x : Session) (log : Log) : Type 0 where
-  pub alone : z.alone ≡ true
+-- no stamp is above the clock, and of another log there is none but what stood before the floor
+pub record AreStamps (s : State) (clock floor : ℕ) : Type 0 where
+  pub page : (p : ℕ) → (s.page p).gsn ≤ clock
+  pub log : (p : ℕ) → ((s.page p).last ≤ 1) ⊎ ((s.page p).gsn ≤ floor)
+  pub row : (i : ℕ) → (s.row i).number ≤ clock
+  pub read_end : (i : ℕ) → (s.row i).read_end ≤ clock
+
+-- the rows are those of the opening, with one worker; the tree and the locks are sound at each moment that can come
+pub record AreRows (z : Shape) (v : View) (frames count : ℕ) : Type 0 where
+  pub tree : descents.Sized z v frames
+  pub tree_sound : pages.IsSound v.given
+  pub locks : locking.Sized z v 1 frames count
+  pub locks_sound : locking.IsSound v.given
   pub one : (opening v.given).workers ≡ 1
   pub workers : z.sizes.workers ≡ 1
+  pub few : count ≤ 2 ^ 16
+
+-- There is one worker and nobody else steps, and no row is latched. The session is the worker's at the moment that the seat has seen, where the log
+-- is flushed as it says, each page of the tree stands in a frame, and the lock rows that the worker holds are those that the session has.
+pub record Holds (z : Shape) (v : View) (x : Session) (log : Log) : Type 0 where
+  pub alone : z.alone ≡ true
   pub idle : v.held ≡ []
+  pub rows : AreRows z v x.frames x.held.count
   pub session : IsOf x ((state v).core.worker 1)
   pub numbers : AreNumbers x log
   pub flushed : (state v).core.flushed 1 ≡ log.flushed
-  pub rows : (i : ℕ) → holds_row ((state v).core.row i) 1 ≡ true → Has i x.rows.items
-  pub none : x.is_open ≡ false → x.rows.items ≡ []
+  pub stamps : AreStamps (state v).core x.clock x.floor
+  pub hot : (p : ℕ) → p < (opening v.given).format.pages → ((state v).core.page p).node.live ≡ true → is_hot ((state v).core.place p) ≡ true
+  pub held : (i : ℕ) → holds_row ((state v).core.row i) 1 ≡ true ↔ Has i x.held.rows
+  pub within : (i : ℕ) → Has i x.held.rows → i < x.held.count
+  pub fewer : length x.held.rows ≤ x.held.count
+  pub none : x.is_open ≡ false → x.held.rows ≡ []

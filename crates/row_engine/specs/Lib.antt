@@ -1,7 +1,10 @@
--- Read Holds, Ties and Begins in this order, then Opened and Ends; Inside has words of private functions.
+pub mod Held
 pub mod Holds
 pub mod Ties
-pub mod Begins
+pub mod Calls
 pub mod Opened
 pub mod Ends
 pub mod Inside
+pub mod Takes
+pub mod Staging
+pub mod Puts

@@ -1,12 +1,18 @@
 -- An engine as it begins, on rows that were opened.
-use Rattle.std.specs.Prelude.{◌≡◌, ◌≤◌, ◌+◌, ◌^◌, ℕ, true, false, []}
-use Rattle.core_state.specs.Openings.{Opening}
+use Rattle.std.specs.Prelude.{◌≡◌, ◌≤◌, ◌<◌, ◌%◌, ◌^◌, ℕ, true, false, List, [], length}
+use Rattle.page_model.specs.Page.{Page}
+use Rattle.core_state.specs.Openings.{Opening, start_page}
+use Rattle.core_state.specs.States.{is_hot, start}
+use Rattle.core_state.specs.Steps.{AllMet}
+use Rattle.row_words.specs.Moments.{events_of, format_of}
 use Rattle.rows_trait.specs.declared.view.View.{View}
-use Rattle.rows_trait.specs.Views.{Shape}
+use Rattle.rows_trait.specs.Plain.{sizes}
+use Rattle.rows_trait.specs.Views.{Shape, no_place, state}
+use Rattle.open_rows.specs.Opened.{contents_of, page_at}
 use Rattle.row_opening.specs.Openings.{Opens}
 use Rattle.worker_log.specs.Logs.{Log}
-use Rattle.disk_runs.specs.Stands.{Known}
-use Rattle.row_engine.specs.Holds.{Holds}
+use Rattle.row_engine.specs.Holds.{AreRows, Holds}
+use Rattle.engine_trait.specs.Limits.{AreLoads}
 use Rattle.row_engine.specs.Ties.{Ties}
 use Rattle.row_engine.specs.declared.session.Session.{Session}
 
@@ -20,22 +26,44 @@ pub record IsFirst (base : ℕ) (x : Session) : Type 0 where
   pub debt : x.debt ≡ 0
   pub end : x.end ≡ base
   pub changes : x.changes ≡ 0
-  pub rows : x.rows.items ≡ []
+  pub rows : x.held.rows ≡ []
 
--- The rows began as an opening of one worker, whose base is no greater than a clock may be, and the seat, which is alone, has seen nothing.
+-- The rows began as an opening of one worker, behind loads alone by which each live page came into a frame. The seat is alone, and has seen nothing.
 pub record IsOpened (g : Opening) (z : Shape) (v : View) (x : Session) (log : Log) : Type 0 where
   pub opens : Opens g v.given
-  pub none_before : v.given.before ≡ []
+  pub loads : AreLoads (events_of v.given.before)
+  pub few : length (events_of v.given.before) ≤ 2 ^ 16
+  pub met : AllMet g (start g) (events_of v.given.before)
+  pub rest : (state v).core ≡ record (start g) { place = (state v).core.place }
+  pub hot : (p : ℕ) → p < g.format.pages → (g.node p).live ≡ true → is_hot ((state v).core.place p) ≡ true
   pub seen : v.seen ≡ []
   pub alone : z.alone ≡ true
   pub idle : v.held ≡ []
-  pub one : g.workers ≡ 1
-  pub workers : z.sizes.workers ≡ 1
-  pub low : g.base ≤ 2 ^ 62 + 1
+  pub rows : AreRows z v x.frames x.held.count
+  pub small : g.base < 2 ^ 64
   pub session : IsFirst g.base x
   pub last : log.last ≡ g.base
   pub flushed : log.flushed ≡ g.base
 
--- Then the engine is as between two calls, and tied to a run with no outcome yet, where its log is that of the disk.
+-- Then the engine is as between two calls, and tied to a run with no outcome yet.
 abbrev pub EveryOpened : Type 0
-EveryOpened = (g : Opening) (z : Shape) (v : View) (x : Session) (log : Log) → IsOpened g z v x log → Holds z v x log × ((k : Known) → k.log 1 ≡ log → Ties g [] k v log)
+EveryOpened = (g : Opening) (z : Shape) (v : View) (x : Session) (log : Log) → IsOpened g z v x log → Holds z v x log × Ties g [] v
+
+-- ## On pages
+
+-- the shape of plain rows
+abbrev pub plain_shape : (frames locks workers : ℕ) → Shape
+plain_shape frames locks workers = record { sizes = sizes frames locks workers; alone = true; place = no_place }
+
+-- It began as the opening of one worker on these pages, with a frame for each, so many lock rows and this base number, and with each log that is
+-- flushed up to the base.
+pub record IsOpenedOn (pages : List Page) (count base : ℕ) (z : Shape) (v : View) (x : Session) : Type 0 where
+  pub opening : Opening
+  pub workers : opening.workers ≡ 1
+  pub locks : opening.row_of ≡ (λ k. k % count)
+  pub format : opening.format ≡ format_of (length pages)
+  pub base_is : opening.base ≡ base
+  pub page : (p : ℕ) → start_page opening p ≡ contents_of (page_at pages p)
+  pub frames : x.frames ≡ length pages
+  pub rows : x.held.count ≡ count
+  pub is : (log : Log) → log.last ≡ base → log.flushed ≡ base → IsOpened opening z v x log

@@ -1,16 +1,16 @@
 // A begin.
-ghost use Rattle.std.specs.Prelude.{◌≡◌, ◌↔◌, true, false, IsErr, Err, Some};
+ghost use Rattle.std.specs.Prelude.{◌≡◌, ◌⊎◌, ◌↔◌, IsErr, IfErr, Err, true, false};
+ghost use Rattle.engine_trait.specs.Calls.{IsTold};
+ghost use Rattle.map_model.specs.declared.call.Call.{Call};
 ghost use Rattle.map_model.specs.declared.call.Refusal.{Refusal};
-ghost use Rattle.rows_trait.specs.Views.{state};
-ghost use Rattle.row_engine.specs.Begins.{BeginDoes, refusal_of};
+ghost use Rattle.row_engine.specs.Calls.{CallDoes, begin_answer};
 ghost use Rattle.row_engine.specs.Holds.{Holds};
 
-use crate::session::Session;
+use crate::store::Store;
 use lean_disk::Disk;
 use map_model::Refusal;
 use rows_trait::names::Names;
 use rows_trait::rows::Rows;
-use worker_log::WorkerLog;
 
 // The event of a begin, which finds the log flushed up to the number that is loaded.
 struct Begins;
@@ -26,31 +26,31 @@ impl Names for Begins {
 pub fn begin<R: Rows, D: Disk>(
     rows: &mut R,
     seat: &mut R::Seat,
-    session: &mut Session,
-    log: &WorkerLog,
-    disk: &D,
+    store: &mut Store<D>,
 ) -> Result<u64, Refusal>
     requires fits { R.fits rows.old seat.old }
-    requires holds { session.old.works ≡ true → Holds (R.shape rows.old) (R.view seat.old) session.old log.now }
+    requires holds { store.old.session.works ≡ true → Holds (R.shape rows.old) (R.view seat.old) store.old.session store.old.log }
     ensures fits { R.fits rows.new seat.new × (R.shape rows.new ≡ R.shape rows.old) }
-    ensures works { session.new.works ≡ session.old.works }
-    ensures holds { session.new.works ≡ true → Holds (R.shape rows.new) (R.view seat.new) session.new log.now }
-    ensures does { session.old.works ≡ true → BeginDoes result (R.view seat.old) (R.view seat.new) log.now (D.story disk.now) }
-    ensures same { IsErr result → (R.view seat.new ≡ R.view seat.old) × (session.new ≡ session.old) }
+    ensures holds { store.new.session.works ≡ true → Holds (R.shape rows.new) (R.view seat.new) store.new.session store.new.log }
+    ensures does { store.old.session.works ≡ true → CallDoes Call.Begin (begin_answer result) (R.view seat.old) (R.view seat.new) store.old.log store.new.log (D.story store.old.disk) (D.story store.new.disk) }
+    ensures same { IsErr result → (R.view seat.new ≡ R.view seat.old) × (store.new ≡ store.old) }
+    ensures come { IfErr result (λ why. IsTold why ⊎ (why ≡ Refusal.Broken)) }
+    // It touches no device.
+    ensures same_disk { (store.new.disk ≡ store.old.disk) × (store.new.log ≡ store.old.log) × (store.new.session.works ≡ store.old.session.works) }
 
-    // A refusal says why, and comes exactly for that.
-    ensures cause_refused { (r : Refusal) → (result ≡ Err r) ↔ (refusal_of session.old.works ((state (R.view seat.old)).core.worker 1).is_open ((state (R.view seat.old)).core.worker 1).clock log.now ≡ Some r) }
+    ensures cause_broken { (result ≡ Err Refusal.Broken) ↔ (store.old.session.works ≡ false) }
+    ensures no_disk_fault { result ≡ Err Refusal.DiskFault → ⊥ }
 {
-    engine_calls::every_part(disk, disk, disk);
-    engine_calls::every_begin(disk, disk);
-    engine_calls::every_refusal(disk, disk);
+    engine_calls::every_answer();
+    engine_calls::every_part(&store.disk, &store.disk, &store.disk);
     engine_calls::every_coming();
     lean_proto::every_begin();
     row_opening::every_reached();
-    if let Some(why) = session.begin_refusal(log) {
+    row_opening::every_need();
+    if let Some(why) = store.session.begin_refusal(&store.log) {
         return Err(why);
     }
     let floor = rows.load_control(seat, 1, 0, &Begins);
-    session.begun(floor);
-    Ok(session.txn)
+    store.session.begun(floor);
+    Ok(store.session.txn)
 }

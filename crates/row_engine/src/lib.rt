@@ -1,13 +1,26 @@
 //! An engine of one session on rows of words, over a disk that tells.
 //!
 //! Each call keeps the four clauses of engine_calls: its answer, its events, what the disk stands for, and what a crash at any moment of
-//! it leaves. Read specs/Holds, specs/Ties, then specs/Begins.
+//! it leaves. Read specs/Holds, specs/Ties and specs/Calls, then `begin`, `get`, `put` and `commit`.
 #![tactic(auto)]
 
 mod begins;
+mod commits;
+mod gets;
+mod held;
 mod laws;
+mod opening;
+mod puts;
 mod session;
+mod store;
+mod taking;
 
 pub use begins::begin;
-pub use laws::{every_end, every_opened};
+pub use commits::{Ended, commit};
+pub use gets::get;
+pub use held::HeldRows;
+pub use laws::every_opened;
+pub use opening::open_session;
+pub use puts::put;
 pub use session::Session;
+pub use store::{Staged, Stages, Store};

@@ -1,12 +1,14 @@
 // What session 1 has in memory.
-ghost use Rattle.std.specs.Prelude.{◌≡◌, ◌≤◌, ◌<◌, ◌^◌};
-ghost use Rattle.row_engine.specs.Begins.{refusal_of};
-ghost use Rattle.row_engine.specs.Inside.{begun_session};
+ghost use Rattle.std.specs.Prelude.{◌≡◌, ◌<◌, ◌^◌};
+ghost use Rattle.std.specs.Prelude.{None};
+ghost use Rattle.engine_trait.specs.Refusals.{log_refusal};
+ghost use Rattle.row_engine.specs.Inside.{begin_test, begun_session, call_test, put_test};
 
+use crate::held::HeldRows;
 use map_model::Refusal;
 use worker_log::WorkerLog;
 
-/// Whether no device has failed; what the core's worker has; and the lock rows that it holds.
+/// Whether no device has failed; what the core's worker has; how many frames there are; and the lock rows that it holds.
 #[derive(Drop)]
 pub struct Session {
     pub works: bool,
@@ -17,16 +19,35 @@ pub struct Session {
     pub debt: u64,
     pub end: u64,
     pub changes: u32,
-    pub rows: Vec<u32>,
+    pub frames: u32,
+    pub held: HeldRows,
 }
 
 /// Where the clock ends.
-const CLOCK_END: u64 = 1 << 62;
+pub(crate) const CLOCK_END: u64 = 1 << 62;
+
+/// How many changes a transaction may make.
+pub(crate) const CHANGES: u32 = 64;
+
+// Why a call that takes numbers is refused by its log or its clock.
+fn log_refusal(clock: u64, log: &WorkerLog) -> Option<Refusal>
+    ensures { result ≡ log_refusal clock log.now None }
+{
+    let used = log.used();
+    let limit = log.limit();
+    if limit <= used {
+        return Some(Refusal::LogFull { used, limit });
+    }
+    if CLOCK_END <= clock {
+        return Some(Refusal::ClockSpent);
+    }
+    None
+}
 
 impl Session {
     // Why a begin is refused, if it is.
     pub(crate) fn begin_refusal(&self, log: &WorkerLog) -> Option<Refusal>
-        ensures { result ≡ refusal_of self.now.works self.now.is_open self.now.clock log.now }
+        ensures { result ≡ begin_test self.now log.now }
     {
         if !self.works {
             return Some(Refusal::Broken);
@@ -34,15 +55,33 @@ impl Session {
         if self.is_open {
             return Some(Refusal::InTransaction);
         }
-        let used = log.used();
-        let limit = log.limit();
-        if limit <= used {
-            return Some(Refusal::LogFull { used, limit });
+        log_refusal(self.clock, log)
+    }
+
+    // Why another call is refused before it is begun.
+    pub(crate) fn call_refusal(&self) -> Option<Refusal>
+        ensures { result ≡ call_test self.now }
+    {
+        if !self.works {
+            return Some(Refusal::Broken);
         }
-        if CLOCK_END <= self.clock {
-            return Some(Refusal::ClockSpent);
+        if !self.is_open {
+            return Some(Refusal::NoTransaction);
         }
         None
+    }
+
+    // Why a put is refused before it is begun.
+    pub(crate) fn put_refusal(&self, log: &WorkerLog) -> Option<Refusal>
+        ensures { result ≡ put_test self.now log.now }
+    {
+        if let Some(why) = self.call_refusal() {
+            return Some(why);
+        }
+        if CHANGES <= self.changes {
+            return Some(Refusal::TooLong);
+        }
+        log_refusal(self.clock, log)
     }
 
     // A transaction begins, with its log flushed up to this number.

@@ -1,4 +1,5 @@
 mod NextLemmas
 pub mod KeyLemmas
+mod FirstLemmas
 mod RuledOutLemmas
 mod ReadLemmas

@@ -1,10 +1,10 @@
 -- What the records of a run rule out.
 use Rattle.std.proofs.Common.{◌≡◌, ◌⊎◌, inl, inr, ◌<◌, ◌≤◌, ◌-◌, ◌^◌, ◌++◌, ℕ, suc, Bool, true, false, cond, ◌&&◌, leb, ltb, ◌==◌, List, [], ◌∷◌, Option, Some, None, refl, sym, ◌∙◌, ap, subst, arith}
 use Rattle.std.proofs.lemmas.Bool.{and_parts, or_cases, leb-true, lt-leb, eqb-true}
+use Rattle.std.proofs.lemmas.List.{length-append}
 use Rattle.std.specs.Prelude.{length}
 use Rattle.map_model.specs.declared.call.Call.{Call}
 use Rattle.map_model.specs.declared.call.Call.TheVariants as call
-use Rattle.map_model.specs.declared.call.Answer.TheVariants as answer
 use Rattle.map_model.specs.declared.call.Refusal.{Refusal}
 use Rattle.map_model.specs.declared.call.Refusal.TheVariants.{ClockSpent, InTransaction, LogFull, NoTransaction}
 use Rattle.map_model.specs.Lists.{Has, any}
@@ -23,16 +23,26 @@ use Rattle.disk_image.specs.MasterSlots.{master_in, master_on, newer}
 use Rattle.disk_image.specs.Shown.{image_by}
 use Rattle.recovery.specs.Opened.{IsGreatest}
 use Rattle.core_state.specs.Openings.{Opening}
-use Rattle.session_model.specs.Sessions.{Session, begun, start}
-use Rattle.map_model.specs.declared.call.Answered.{Answered}
-use Rattle.session_model.specs.Calls.{Begins, Commits, Does}
-use Rattle.lean_engine.specs.States.{State, Pictures}
-use Rattle.lean_engine.specs.Refusals.{log_refusal, refusal_of}
+use Rattle.core_state.specs.Events.{Event}
+use Rattle.core_state.specs.States.{State, Worker, start}
+use Rattle.core_state.specs.Steps.{begun, run, state_after}
+use Rattle.core_state.proofs.Runs.{run_more}
+use Rattle.core_calls.specs.Deeds.{Deed, Begun, Committed, Aborted, Refused, Unsaid, answered, asked}
+use Rattle.core_calls.specs.Fronts.{Done, front}
+use Rattle.core_calls.specs.LogEvents.{behind}
+use Rattle.core_calls.specs.Marks.{Mark, Began, Ended}
+use Rattle.core_calls.specs.Runs.{IsRefused, Tells}
+use Rattle.core_calls.specs.Steps.{IsBehind, hindered_in, is_structure}
+use Rattle.engine_trait.specs.Calls.{Answers}
+use Rattle.engine_trait.specs.Limits.{AreLoads, limits}
+use Rattle.engine_trait.specs.Refusals.{log_refusal, refusal_in}
+use Rattle.worker_log.specs.Logs.{Log}
 use Rattle.transcripts.specs.Transcripts.{first_lines}
-use Rattle.script_run.specs.Runs.{Answers, Executes}
+use Rattle.script_run.specs.Runs.{Executes}
 use Rattle.lean_shell.specs.Headline.{Survives}
 use Rattle.lean_shell.specs.Runs.{Counts, Executed, IsFrom, first_log}
 use Rattle.run_tests.specs.RuledOut.{BeginsAt, EveryDurableIsFound, EveryFirstBegin, EveryFirstCommit, EveryKeyStands, EveryOtherKeyStands, HasItsCommit, NoneWrites}
+use Rattle.run_tests.proofs.FirstLemmas.{AreStill, begin_tells, begun_at, commit_tells, loaded, still, still_flush}
 use Rattle.run_tests.proofs.KeyLemmas.{asks_to_write}
 
 -- ## Keys
@@ -138,90 +148,129 @@ some_blocks every bytes m h = elim (newer_one (master_in 0 (piece 1024 0 bytes))
 
 -- ## The first calls
 
--- The oldest call, and the state and the session that it left.
-record First (g : Opening) (e0 : State) (s0 : Session) (x : Answered) : Type 0 where
-  e : State
-  s : Session
-  answers : Answers g e0 s0 x e s
+oldest : (g : Opening) (log0 : Log) (later xs : List Done) (log : Log) → Executes g [] log0 (later ++ xs) log → (before : Log) × Executes g [] log0 xs before
+oldest g log0 [] xs log h = (log, h)
+oldest g log0 (z ∷ later) xs log h = oldest g log0 later xs h.0 h.1
 
-oldest : (g : Opening) (e0 : State) (s0 : Session) (x : Answered) (e : State) (s : Session) → Executes g e0 s0 (x ∷ []) e s → Answers g e0 s0 x e s
-oldest g e0 s0 x e s h = subst (λ (r : Session). Answers g e0 r x e s) h.2.1 (subst (λ (d : State). Answers g d h.1 x e s) h.2.0 h.3)
+-- an outcome of session 1
+abbrev by_one : Deed → List Unsaid → List Event → Done
+by_one d us es = record { outcome = record { session = 1; deed = d; unsaid = us }; events = es }
 
-first_of_all : (g : Opening) (e0 : State) (s0 : Session) (later : List Answered) (x : Answered) (e : State) (s : Session) → Executes g e0 s0 (later ++ x ∷ []) e s → First g e0 s0 x
-first_of_all g e0 s0 [] x e s h =
-    record { e = e; s = s; answers = oldest g e0 s0 x e s h }
-first_of_all g e0 s0 (z ∷ later) x e s h = first_of_all g e0 s0 later x h.0 h.1 h.2
+is_by_one : (x : Done) → x.outcome.session ≡ 1 → x ≡ by_one x.outcome.deed x.outcome.unsaid x.events
+is_by_one x e = ap (λ (w : ℕ). record { outcome = record { session = w; deed = x.outcome.deed; unsaid = x.outcome.unsaid }; events = x.events }) e
 
--- The second one.
-record Second (g : Opening) (e0 : State) (s0 : Session) (y x : Answered) : Type 0 where
-  first : First g e0 s0 x
-  second : First g first.e first.s y
+-- Where the tests refuse nothing, no refusal is answered: no latch is spent yet.
+not_refused : (g : Opening) (xs : List Done) (was is : Log) (c : Call) (why : Refusal) (backs : List Step) (us : List Unsaid) (es : List Event) → let x : Done = by_one (Refused c why backs) us es in
+    Answers g xs x was is → Tells limits g 1 xs x → length (front xs) ≤ 2 ^ 18 → ((loads : List Event) → AreLoads loads → refusal_in g (state_after g (front xs ++ loads)) was c ≡ None) → ⊥
+not_refused g xs was is c why backs us es a t few none = elim (a.refused why refl) [
+  | inl there ↦ let clash : None ≡ Some why = sym (none a.first a.loads) ∙ there in absurd (cc)
+  | inr spent ↦
+      let r = subst (λ (w : Refusal). IsRefused limits g xs (by_one (Refused c why backs) us es) (Refused c w backs)) spent t.refused in
+      let e : length es ≡ length (r.0 ++ r.1) = ap (λ (l : List Event). length l) r.2 in
+      let f = length-append r.0 r.1 in
+      let h = length-append (front xs) r.0 in
+      let l = a.few in
+      let late = r.3 in
+      absurd (omega (arith, e, f, h, l, few, late))
+]
 
-first_two : (g : Opening) (e0 : State) (s0 : Session) (later : List Answered) (y x : Answered) (e : State) (s : Session) → Executes g e0 s0 (later ++ y ∷ x ∷ []) e s → Second g e0 s0 y x
-first_two g e0 s0 [] y x e s h =
-    record { first = record { e = h.0; s = h.1; answers = oldest g e0 s0 x h.0 h.1 h.2 }; second = record { e = e; s = s; answers = h.3 } }
-first_two g e0 s0 (z ∷ later) y x e s h = first_two g e0 s0 later y x h.0 h.1 h.2
+-- the deed of which a mark tells
+abbrev as_begun : List Mark → Deed
+as_begun (Began n ∷ ms) = Begun n
+as_begun _ = Begun 0
 
--- where the tests refuse nothing, no refusal is answered
-not_refused : (g : Opening) (d : State) (r : Session) (x : Answered) (e : State) (s : Session) (c : Call) → x.call ≡ c → refusal_of d c ≡ None → Answers g d r x e s → (why : Refusal) → x.answer ≡ answer.Refused why → ⊥
-not_refused g d r x e s c is none a why refused =
-    let there : refusal_of d x.call ≡ Some why = (a.refused why).0 refused in
-    let clash : None ≡ Some why = sym none ∙ (ap (refusal_of d) (sym is) ∙ there) in
-    absurd (cc)
+abbrev as_committed : List Mark → Deed
+as_committed (Ended commit n at ∷ ms) = Committed n at
+as_committed _ = Committed 0 0
 
-module _ (master : EveryMasterIn) (s : Story) (base : ℕ) (at : BeginsAt s base) (counts : Counts) (calls : List Answered) (y : Executed s counts calls) where
-  abbrev from : IsFrom y.opening s counts
+-- The first call began the first transaction: how the session stands then.
+record HasBegun (g : Opening) (d : Deed) (es : List Event) : Type 0 where
+  deed : d ≡ Begun 1
+  floor : ℕ
+  session : (state_after g es).worker 1 ≡ begun ((start g).worker 1) floor
+
+module _ (master : EveryMasterIn) (s : Story) (base : ℕ) (at : BeginsAt s base) (counts : Counts) (calls : List Done) (y : Executed s counts calls) where
+  abbrev g : Opening
+  g = y.opening
+
+  abbrev from : IsFrom g s counts
   from = y.from at.tells
 
   same_master : from.m ≡ at.m
   same_master = ap (some_or at.m) (sym from.sound.master ∙ at.master)
 
-  greatest : IsGreatest (image_by at.m (areas_of s)) y.opening.base
-  greatest = subst (λ (m : Master). IsGreatest (image_by m (areas_of s)) y.opening.base) same_master from.starts.base
+  greatest : IsGreatest (image_by at.m (areas_of s)) g.base
+  greatest = subst (λ (m : Master). IsGreatest (image_by m (areas_of s)) g.base) same_master from.starts.base
 
-  base_is : y.opening.base ≡ base
+  base_is : g.base ≡ base
   base_is =
-      let a : y.opening.base ≤ base = same_greatest (image_by at.m (areas_of s)) y.opening.base base greatest at.greatest in
-      let b : base ≤ y.opening.base = same_greatest (image_by at.m (areas_of s)) base y.opening.base at.greatest greatest in
+      let a : g.base ≤ base = same_greatest (image_by at.m (areas_of s)) g.base base greatest at.greatest in
+      let b : base ≤ g.base = same_greatest (image_by at.m (areas_of s)) base g.base at.greatest greatest in
       omega (arith, a, b)
 
-  open_log : log_refusal y.first.log None ≡ None
+  open_log : log_refusal g.base y.first None ≡ None
   open_log =
-      let log_is : y.first.log ≡ first_log at.m y.opening.base = y.log at.tells at.m at.master in
+      let log_is : y.first ≡ first_log at.m g.base = y.log at.tells at.m at.master in
       let many : 64 ≤ at.m.blocks = some_blocks master (areas_of s 0) at.m at.master in
-      let low : y.opening.base < 2 ^ 62 = subst (λ (n : ℕ). n < 2 ^ 62) (sym base_is) at.below in
+      let low : g.base < 2 ^ 62 = subst (λ (n : ℕ). n < 2 ^ 62) (sym base_is) at.below in
       let room : leb (at.m.blocks - 16) 0 ≡ false = lt-leb (at.m.blocks - 16) 0 (omega (arith, many)) in
-      let clock : leb (2 ^ 62) y.opening.base ≡ false = lt-leb (2 ^ 62) y.opening.base low in
-      ap (λ l. log_refusal l None) log_is
-      ∙ (ap (λ (b : Bool). cond b (Some (LogFull 0 (at.m.blocks - 16))) (cond (leb (2 ^ 62) y.opening.base) (Some ClockSpent) None)) room
+      let clock : leb (2 ^ 62) g.base ≡ false = lt-leb (2 ^ 62) g.base low in
+      ap (λ l. log_refusal g.base l None) log_is
+      ∙ (ap (λ (b : Bool). cond b (Some (LogFull 0 (at.m.blocks - 16))) (cond (leb (2 ^ 62) g.base) (Some ClockSpent) None)) room
       ∙ ap (λ (b : Bool). cond b (Some ClockSpent) None) clock)
 
-  begin_open : refusal_of y.first call.Begin ≡ None
-  begin_open = ap (λ (b : Bool). cond b (Some InTransaction) (log_refusal y.first.log None)) (sym y.pictures.is_open) ∙ open_log
+  begin_open : (es : List Event) → AreLoads es → refusal_in g (state_after g es) y.first call.Begin ≡ None
+  begin_open es loads =
+      ap (λ (r : ℕ → Worker). cond (r 1).is_open (Some InTransaction) (log_refusal (r 1).clock y.first None)) (loaded g (start g) es loads) ∙ open_log
 
-  begins : (x : Answered) → x.call ≡ call.Begin → (f : First y.opening y.first (start y.opening) x) → Begins (start y.opening) x.answer f.s
-  begins x is f = elim (subst (λ (c : Call). Does y.opening.format y.opening.changes (start y.opening) c x.answer f.s) is f.answers.does) [
-    | inl b ↦ b
-    | inr r ↦ absurd (not_refused y.opening y.first (start y.opening) x f.e f.s call.Begin is begin_open f.answers r.refusal r.answer_is)
-  ]
+  begins : (d : Deed) (us : List Unsaid) (es : List Event) (before after : Log) → asked d ≡ call.Begin → Tells limits g 1 [] (by_one d us es) → Answers g [] (by_one d us es) before after → before ≡ y.first → HasBegun g d es
+  begins (Begun n) us es before after c t a log =
+      let calm = still es (t.structure refl) t.logs.3 in
+      let tells = begin_tells g (start g) es t.steps.1 t.met calm t.steps.2 in
+      record { deed = ap as_begun (sym (t.told 1) ∙ tells); floor = t.steps.1; session = begun_at g (start g) es t.steps.1 t.met calm t.steps.2 }
+  begins (Aborted d n at backs) us es before after c t a log = let abort : d ≡ call.Abort = t.hindered in absurd (cc)
+  begins (Refused d why backs) us es before after c t a log =
+      absurd (not_refused g [] before after d why backs us es a t (omega arith)
+      (λ loads are. ap (refusal_in g (state_after g loads) before) c ∙ (ap (λ (l : Log). refusal_in g (state_after g loads) l call.Begin) log ∙ begin_open loads are)))
+  begins _ us es before after c t a log = absurd (cc)
 
-  commits : (d : State) (c : Answered) → c.call ≡ call.Commit → Pictures y.opening (begun (start y.opening)) d → (f : First y.opening d (begun (start y.opening)) c) → Commits (begun (start y.opening)) c.answer f.s
-  commits d c is p f =
-      let none : refusal_of d call.Commit ≡ None = ap (λ (b : Bool). cond b None (Some NoTransaction)) (sym p.is_open) in
-      elim (subst (λ (x : Call). Does y.opening.format y.opening.changes (begun (start y.opening)) x c.answer f.s) is f.answers.does) [
-        | inl e ↦ e
-        | inr r ↦ absurd (not_refused y.opening d (begun (start y.opening)) c f.e f.s call.Commit is none f.answers r.refusal r.answer_is)
-      ]
+  module _ (x : Done) (few : length x.events ≤ 2 ^ 18) (b : HasBegun g x.outcome.deed x.events) where
+    commit_open : (was : Log) (loads : List Event) → AreLoads loads → refusal_in g (state_after g (x.events ++ loads)) was call.Commit ≡ None
+    commit_open was loads are =
+        ap (λ (z : State). cond (z.worker 1).is_open None (Some NoTransaction)) (run_more g (start g) x.events loads)
+        ∙ (ap (λ (r : ℕ → Worker). cond (r 1).is_open None (Some NoTransaction)) (loaded g (state_after g x.events) loads are)
+        ∙ ap (λ (w : Worker). cond w.is_open None (Some NoTransaction)) b.session)
+
+    commits : (d : Deed) (us : List Unsaid) (es : List Event) (was is : Log) → asked d ≡ call.Commit → Tells limits g 1 (x ∷ []) (by_one d us es) → Answers g (x ∷ []) (by_one d us es) was is → d ≡ Committed 1 (suc base)
+    commits (Committed n at) us es was is c t a =
+        let due : Bool = leb 1 (behind (run g (state_after g x.events) t.logs.before) 1) in
+        let calm = subst AreStill (sym t.logs.is) (still_flush t.logs.before due 1 at (subst (λ (l : List Event). any is_structure l ≡ false) t.logs.is (t.structure refl)) t.logs.else_none) in
+        let tells = commit_tells g (state_after g x.events) es t.steps.2 t.steps.1 t.met calm t.steps.3 t.steps.4 in
+        ap as_committed (sym (t.told 1) ∙ tells) ∙ (ap (λ (w : Worker). Committed w.txn (suc w.clock)) b.session ∙ ap (λ (n : ℕ). Committed 1 (suc n)) base_is)
+    commits (Aborted d n at backs) us es was is c t a =
+        let abort : d ≡ call.Abort = subst (λ (e : Deed). IsBehind (hindered_in e) x.outcome.session (by_one (Aborted d n at backs) us es).outcome) b.deed t.hindered in
+        absurd (cc)
+    commits (Refused d why backs) us es was is c t a =
+        absurd (not_refused g (x ∷ []) was is d why backs us es a t few (λ loads are. ap (refusal_in g (state_after g (x.events ++ loads)) was) c ∙ commit_open was loads are))
+    commits _ us es was is c t a = absurd (cc)
+
+  -- the oldest call is a begin
+  begins_first : (x : Done) (log : Log) → asked x.outcome.deed ≡ call.Begin → Executes g [] y.first (x ∷ []) log → HasBegun g x.outcome.deed x.events
+  begins_first x log asks h =
+      let is = is_by_one x h.2 in
+      begins x.outcome.deed x.outcome.unsaid x.events h.0 log asks (subst (Tells limits g 1 []) is h.3) (subst (λ (z : Done). Answers g [] z h.0 log) is h.4) h.1
 
 pub every_first_begin : EveryMasterIn → (s : Story) → EveryFirstBegin s
-every_first_begin master s base counts later x at y is =
-    (begins master s base at counts (later ++ x ∷ []) y x is (first_of_all y.opening y.first (start y.opening) later x y.last y.session y.executes)).answer_is
+every_first_begin master s base counts later x at y begin =
+    let h = oldest y.opening y.first later (x ∷ []) y.last y.executes in
+    ap answered (begins_first master s base at counts (later ++ x ∷ []) y x h.0 begin h.1).deed
 
 pub every_first_commit : EveryMasterIn → (s : Story) → EveryFirstCommit s
-every_first_commit master s base counts later c x at y begin commit =
-    let two : Second y.opening y.first (start y.opening) c x = first_two y.opening y.first (start y.opening) later c x y.last y.session y.executes in
-    let calls : List Answered = later ++ c ∷ x ∷ [] in
-    let began : two.first.s ≡ begun (start y.opening) = (begins master s base at counts calls y x begin two.first).after in
-    let pictures : Pictures y.opening (begun (start y.opening)) two.first.e = subst (λ (r : Session). Pictures y.opening r two.first.e) began two.first.answers.pictures in
-    let ends : First y.opening two.first.e (begun (start y.opening)) c = subst (λ (r : Session). First y.opening two.first.e r c) began two.second in
-    (commits master s base at counts calls y two.first.e c commit pictures ends).answer_is ∙ ap (λ (n : ℕ). answer.Committed 1 (suc n)) (base_is master s base at counts calls y)
+every_first_commit master s base counts later z x at y begin commit =
+    let h = oldest y.opening y.first later (z ∷ x ∷ []) y.last y.executes in
+    let first = h.1.1 in
+    let calls : List Done = later ++ z ∷ x ∷ [] in
+    let is = is_by_one z h.1.2 in
+    let began = begins_first master s base at counts calls y x h.1.0 begin first in
+    ap answered (commits master s base at counts calls y x first.4.few began z.outcome.deed z.outcome.unsaid z.events h.1.0 h.0 commit
+    (subst (Tells limits y.opening 1 (x ∷ [])) is h.1.3) (subst (λ (d : Done). Answers y.opening (x ∷ []) d h.1.0 h.0) is h.1.4))

@@ -5,6 +5,8 @@ use Rattle.map_model.specs.declared.call.Call.TheVariants as call
 use Rattle.map_model.specs.declared.call.Answer.TheVariants as answer
 use Rattle.map_model.specs.Lists.{Has}
 use Rattle.map_model.specs.Journals.{Journal, Name, Txn, Wrote}
+use Rattle.core_calls.specs.Deeds.{answered, asked}
+use Rattle.core_calls.specs.Fronts.{Done}
 use Rattle.image_model.specs.Entries.{Entry, is_commit}
 use Rattle.image_model.specs.Fair.{IsFair, after_writes}
 use Rattle.image_model.specs.Images.{found, map_of}
@@ -18,7 +20,6 @@ use Rattle.recovery.specs.Telling.{TellsAll}
 use Rattle.script_lang.specs.Lines.{line_of}
 use Rattle.script_lang.specs.Text.{script_lines}
 use Rattle.script_lang.specs.declared.line.Line.{Line}
-use Rattle.map_model.specs.declared.call.Answered.{Answered}
 use Rattle.transcripts.specs.Transcripts.{durables, first_lines}
 use Rattle.lean_shell.specs.Headline.{Survives}
 use Rattle.lean_shell.specs.Runs.{Counts, Executed}
@@ -87,13 +88,13 @@ pub record BeginsAt (s : Story) (base : ℕ) : Type 0 where
 
 -- A begin that comes first is answered by number 1: it is not refused, whatever comes later.
 abbrev pub EveryFirstBegin : Story → Type 0
-EveryFirstBegin s = (base : ℕ) (counts : Counts) (later : List Answered) (begin : Answered) → BeginsAt s base → Executed s counts (later ++ begin ∷ []) → begin.call ≡ call.Begin →
-    begin.answer ≡ answer.Begun 1
+EveryFirstBegin s = (base : ℕ) (counts : Counts) (later : List Done) (begin : Done) → BeginsAt s base → Executed s counts (later ++ begin ∷ []) → asked begin.outcome.deed ≡ call.Begin →
+    answered begin.outcome.deed ≡ answer.Begun 1
 
 -- A commit behind it has the number behind the greatest.
 abbrev pub EveryFirstCommit : Story → Type 0
-EveryFirstCommit s = (base : ℕ) (counts : Counts) (later : List Answered) (commit begin : Answered) → BeginsAt s base → Executed s counts (later ++ commit ∷ begin ∷ []) →
-    begin.call ≡ call.Begin → commit.call ≡ call.Commit → commit.answer ≡ answer.Committed 1 (suc base)
+EveryFirstCommit s = (base : ℕ) (counts : Counts) (later : List Done) (commit begin : Done) → BeginsAt s base → Executed s counts (later ++ commit ∷ begin ∷ []) →
+    asked begin.outcome.deed ≡ call.Begin → asked commit.outcome.deed ≡ call.Commit → answered commit.outcome.deed ≡ answer.Committed 1 (suc base)
 
 -- ## What a disk holds
 

@@ -75,6 +75,7 @@ fn put_refusal(into: &mut [u8], at: usize, refusal: &Refusal) -> usize
         Refusal::TooLong => put_text(into, at, b" too-long"),
         Refusal::LogFull { used, limit } => put_log_full(into, at, *used, *limit),
         Refusal::ClockSpent => put_text(into, at, b" clock-spent"),
+        Refusal::RowSpent => put_text(into, at, b" row-spent"),
         Refusal::Full => put_text(into, at, b" full"),
         _ => unreachable!(),
     }

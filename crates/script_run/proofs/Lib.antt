@@ -1,9 +1,8 @@
 pub mod ListLemmas
-pub mod RingLemmas
-pub mod SessionLemmas
 pub mod PutLemmas
 pub mod ReadLemmas
-pub mod CrashLemmas
+pub mod DueLemmas
+pub mod DiskLemmas
 pub mod StepLemmas
 pub mod ThenLemmas
 pub mod TextLemmas

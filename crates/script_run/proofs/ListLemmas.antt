@@ -1,46 +1,43 @@
--- Replies, names and calls of two runs, one after the other.
-use Rattle.std.proofs.Common.{◌≡◌, ◌⊎◌, inl, inr, ◌++◌, ◌∷◌, [], List, sym, ap, ◌∙◌}
-use Rattle.std.proofs.lemmas.List.{append-nil}
-use mathlib.Core.List.{append_assoc}
+-- Outcomes and calls of two runs, one after the other.
+use Rattle.std.proofs.Common.{◌≡◌, ◌++◌, ◌∷◌, [], List, ℕ, suc, ◌≤◌, ◌+◌, ◌*◌, length, refl, ap, arith}
+use Rattle.std.proofs.lemmas.List.{length-append}
+use Rattle.map_model.specs.declared.call.Call.{Call}
+use Rattle.map_model.specs.declared.call.Answer.{Answer}
 use Rattle.map_model.specs.declared.call.Answer.TheVariants as answer
-use Rattle.map_model.specs.Journals.{Name}
-use Rattle.map_model.specs.Outputs.{Reply}
 use Rattle.map_model.specs.declared.call.Answered.{Answered}
-use Rattle.map_model.specs.Outputs.{names, name_of}
-use Rattle.transcripts.specs.Told.{replies, committed, committed_by, EachFits, Heard}
-use Rattle.transcripts.specs.Told.Heard.{Whole, Lacking}
-use Rattle.transcripts.proofs.AskedLemmas.{replies_append}
+use Rattle.map_model.specs.Outputs.{Reply}
+use Rattle.core_calls.specs.Deeds.{in_words}
+use Rattle.core_calls.specs.Fronts.{Done}
+use Rattle.transcripts.specs.Told.{EachFits, durable_of, replies}
+use Rattle.script_run.specs.Runs.{calls_of}
 
-pub names_append : (newer told : List Reply) → names (newer ++ told) ≡ names told ++ names newer
-names_append [] told = sym (append-nil (names told))
-names_append (r ∷ newer) told = ap (λ (ns : List Name). ns ++ name_of r) (names_append newer told) ∙ append_assoc (names told) (names newer) (name_of r)
-
-pub committed_append : (newer xs : List Answered) → committed (newer ++ xs) ≡ committed xs ++ committed newer
-committed_append [] xs = sym (append-nil (committed xs))
-committed_append (x ∷ newer) xs = ap (λ (ns : List Name). ns ++ committed_by x.session x.answer) (committed_append newer xs) ∙ append_assoc (committed xs) (committed newer) (committed_by x.session x.answer)
+pub calls_append : (newer xs : List Done) → calls_of (newer ++ xs) ≡ calls_of newer ++ calls_of xs
+calls_append [] xs = refl
+calls_append (x ∷ newer) xs = ap (λ (ys : List Answered). in_words x.outcome ∷ ys) (calls_append newer xs)
 
 pub fits_append : (newer xs : List Answered) → EachFits 1 newer → EachFits 1 xs → EachFits 1 (newer ++ xs)
 fits_append [] xs h k = k
 fits_append (x ∷ newer) xs h k = (fits_append newer xs h.0 k, h.1, h.2)
 
--- the calls that replies answer, with those before them
-pub heard_more : (heard xs : List Answered) (first : List Reply) → Heard heard first → Heard (heard ++ xs) (first ++ replies xs)
-heard_more heard xs first (Whole e) = Whole (ap (λ (rs : List Reply). rs ++ replies xs) e ∙ sym (replies_append heard xs))
-heard_more heard xs first (Lacking l) = Lacking (record {
-  session = l.session;
-  call = l.call;
-  number = l.number;
-  at = l.at;
-  earlier = l.earlier ++ xs;
-  last = ap (λ (ys : List Answered). ys ++ xs) l.last;
-  told_is = ap (λ (rs : List Reply). rs ++ replies xs) l.told_is ∙ ap (λ (rs : List Reply). Reply.Answered l.session (answer.Committed l.number l.at) ∷ rs) (sym (replies_append l.earlier xs));
-})
-
--- a part of one call
-pub none_or_one : (later first : List Answered) (x : Answered) → later ++ first ≡ x ∷ [] → (first ≡ []) ⊎ (first ≡ x ∷ [])
-none_or_one [] first x e = inr e
-none_or_one (y ∷ later) first x e = inl (rest later first (let t : later ++ first ≡ [] = cc in t))
+-- an outcome of session 1, by what it asks and what it was answered
+pub said_by : (x : Done) (call : Call) (a : Answer) → x.outcome.session ≡ 1 → (in_words x.outcome).call ≡ call → (in_words x.outcome).answer ≡ a → in_words x.outcome ≡ record { session = 1; call = call; answer = a }
+said_by x call a session asked answer = named (in_words x.outcome).session (in_words x.outcome).call (in_words x.outcome).answer session asked answer
   where
-    rest : (later first : List Answered) → later ++ first ≡ [] → first ≡ []
-    rest [] first e = e
-    rest (z ∷ later) first e = cc
+    named : (s : ℕ) (c : Call) (b : Answer) → s ≡ 1 → c ≡ call → b ≡ a → ◌≡◌ {A = Answered} (record { session = s; call = c; answer = b }) (record { session = 1; call = call; answer = a })
+    named s c b p q r = cc
+
+-- two lines a call at most
+few_durable : (s : ℕ) (a : Answer) → length (durable_of s a) ≤ 1
+few_durable s (answer.Committed number at) = omega arith
+few_durable s _ = omega arith
+
+pub few_replies : (xs : List Answered) → length (replies xs) ≤ 2 * length xs
+few_replies [] = omega arith
+few_replies (x ∷ earlier) =
+    let r : Reply = Reply.Answered x.session x.answer in
+    let size : length (durable_of x.session x.answer ++ r ∷ replies earlier) ≡ length (durable_of x.session x.answer) + length (r ∷ replies earlier) = length-append (durable_of x.session x.answer) (r ∷ replies earlier) in
+    let one : length (r ∷ replies earlier) ≡ suc (length (replies earlier)) = refl in
+    let few : length (durable_of x.session x.answer) ≤ 1 = few_durable x.session x.answer in
+    let so_far : length (replies earlier) ≤ 2 * length earlier = few_replies earlier in
+    let more : length (x ∷ earlier) ≡ suc (length earlier) = refl in
+    omega arith

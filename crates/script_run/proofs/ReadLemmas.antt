@@ -1,23 +1,28 @@
 -- Where the reader stands.
-use Rattle.std.proofs.Common.{◌≡◌, ◌++◌, ◌∷◌, [], ℕ, List, false, Result, Ok, Option, Some, None, refl, sym, ap, ◌∙◌, subst}
+use Rattle.std.proofs.Common.{◌≡◌, ◌++◌, ◌∷◌, [], ℕ, List, false, Option, Some, None, refl, sym, ap, ◌∙◌, subst}
 use mathlib.Core.List.{append_assoc}
-use Rattle.map_model.specs.declared.call.Answer.{Answer}
 use Rattle.lean_edge.specs.Outside.{Feed}
 use Rattle.script_lang.specs.Reading.{Unread, Reading}
 use Rattle.map_model.specs.Outputs.{Reply}
 use Rattle.map_model.specs.declared.call.Answered.{Answered}
 use Rattle.map_model.specs.Pairings.{is_open_line, script_of}
-use Rattle.transcripts.specs.Told.{asked_text}
+use Rattle.transcripts.specs.Told.{ask, asked_text}
 use Rattle.transcripts.proofs.AskedLemmas.{asked_append}
 use Rattle.transcripts.proofs.TranscriptLemmas.{script_append}
-use Rattle.script_run.specs.Runs.{ReadsTo, PrintsTo, IsWhole}
+use Rattle.script_run.specs.Runs.{IsRefusedLine, ReadsTo, PrintsTo, IsWhole}
 use Rattle.script_run.specs.Inside.{IsOfPutting, IsOfReading}
 use Rattle.script_run.specs.declared.stop.Stop.{Stop}
 use Rattle.script_run.specs.declared.stop.Stop.TheVariants.{End, Refused, ReadFault, WriteFault, DiskFault}
 
 -- the same, at an equal number and behind equal bytes
-pub reads_same : (stop : Option Stop) (m n : ℕ) (start now : Feed) (r : Unread) (seen other : List ℕ) → m ≡ n → seen ≡ other → ReadsTo stop m start now r seen → ReadsTo stop n start now r other
-reads_same stop m n start now r seen other number bytes is = subst (λ (k : ℕ). ReadsTo stop k start now r other) number (subst (λ (t : List ℕ). ReadsTo stop m start now r t) bytes is)
+unfoldable pub reads_same : (stop : Option Stop) (m n : ℕ) (start now : Feed) (r : Unread) (seen other : List ℕ) → m ≡ n → seen ≡ other → ReadsTo stop m start now r seen → ReadsTo stop n start now r other
+reads_same None m n start now r seen other number bytes is = subst (λ (t : List ℕ). Reading start now r t) bytes is
+reads_same (Some End) m n start now r seen other number bytes is = (subst (λ (t : List ℕ). Reading start now r t) bytes is.0, is.1)
+reads_same (Some (Refused line)) m n start now r seen other number bytes is =
+    (is.0 ∙ number, subst (λ (k : ℕ). IsRefusedLine k start now r other) number (subst (λ (t : List ℕ). IsRefusedLine m start now r t) bytes is.1))
+reads_same (Some ReadFault) m n start now r seen other number bytes is = subst (λ (t : List ℕ). Reading start now r t) bytes is
+reads_same (Some WriteFault) m n start now r seen other number bytes is = subst (λ (t : List ℕ). Reading start now r t) bytes is
+reads_same (Some DiskFault) m n start now r seen other number bytes is = (is.0, is.1, subst (λ (t : List ℕ). Reading start now r (t ++ (ask 1 is.0 ++ 10 ∷ []))) bytes is.2)
 
 -- the lines of calls behind those that were answered in full
 pub seen_more : (seen : List ℕ) (xs ys : List Answered) → is_open_line xs ≡ false → (seen ++ asked_text (script_of xs)) ++ asked_text (script_of ys) ≡ seen ++ asked_text (script_of (ys ++ xs))
@@ -84,6 +89,6 @@ of_no_sink stop of e = let is : stop ≡ WriteFault = cc in subst IsOfReading is
 pub of_no_disk : (stop : Stop) → IsOfReading stop → Some stop ≡ Some DiskFault → ⊥
 of_no_disk stop of e = let is : stop ≡ DiskFault = cc in subst IsOfReading is of
 
--- what an answer is, by two equations
-pub ok_is : {E : Type 0} (r : Result Answer E) (x y : Answer) → r ≡ Ok x → r ≡ Ok y → x ≡ y
-ok_is r x y p q = cc
+-- not this stop
+pub of_some : (stop other : Stop) → (stop ≡ other → ⊥) → Some stop ≡ Some other → ⊥
+of_some stop other never e = let is : stop ≡ other = cc in never is

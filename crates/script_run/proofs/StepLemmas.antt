@@ -1,79 +1,37 @@
 -- One line: it asks nothing, or its call is answered, or the disk fails.
-use Rattle.std.proofs.Common.{◌≡◌, inl, inr, ⊎_elim, ◌++◌, ◌∷◌, [], ◌≤◌, ◌<◌, ◌+◌, ◌^◌, ℕ, suc, List, Option, Some, None, IsTrue, length, refl, sym, ap, ◌∙◌, subst, arith}
+use Rattle.std.proofs.Common.{◌≡◌, ◌++◌, ◌∷◌, [], ◌≤◌, ◌<◌, ◌+◌, ◌^◌, ℕ, suc, List, Option, Some, None, length, refl, sym, ap, ◌∙◌, subst, arith}
 use Rattle.std.proofs.lemmas.List.{append-nil}
-use mathlib.Core.List.{append_assoc}
 use Rattle.lean_edge.specs.Outside.{Feed, Held}
-use Rattle.lean_disk.specs.Area.{Area, Leaves}
-use Rattle.lean_disk.specs.Moments.{CrashIn, Framed, LeavesOnly}
-use Rattle.lean_disk.specs.Story.{Crash, IsLawful, Story, Tells}
-use Rattle.lean_disk.proofs.MomentLemmas.{started, then, weaker}
+use Rattle.lean_disk.specs.Story.{IsLawful, Story}
+use Rattle.lean_disk.proofs.MomentLemmas.{then}
 use Rattle.map_model.specs.declared.call.Call.{Call}
 use Rattle.map_model.specs.declared.call.Call.TheVariants as call
 use Rattle.map_model.specs.declared.call.Answer.{Answer}
-use Rattle.map_model.specs.declared.call.Answer.TheVariants as answer
-use Rattle.map_model.specs.declared.call.Refusal.{Refusal}
-use Rattle.map_model.specs.Journals.{Name}
-use Rattle.map_model.specs.Lists.{Has}
+use Rattle.map_model.specs.declared.call.Answered.{Answered}
+use Rattle.map_model.specs.Outputs.{Reply}
+use Rattle.map_model.specs.Pairings.{script_of}
+use Rattle.core_state.specs.Openings.{Opening}
+use Rattle.worker_log.specs.Logs.{Log}
+use Rattle.core_calls.specs.Deeds.{in_words}
+use Rattle.core_calls.specs.Fronts.{Done}
+use Rattle.core_calls.specs.Printed.{printed}
+use Rattle.core_calls.specs.Runs.{EachTells}
+use Rattle.run_crashes.specs.Lines.{lines_of}
+use Rattle.engine_trait.specs.Calls.{Does, Fails, IsWithin}
+use Rattle.engine_trait.specs.Limits.{limits}
 use Rattle.script_lang.specs.Lines.{CallFits}
 use Rattle.script_lang.specs.Reading.{Unread, Reading}
-use Rattle.map_model.specs.Outputs.{Reply}
 use Rattle.script_lang.specs.Replies.{AnswerFits}
-use Rattle.core_state.specs.Openings.{Opening}
-use Rattle.session_model.specs.Sessions.{Session}
-use Rattle.map_model.specs.declared.call.Answered.{Answered}
-use Rattle.session_model.specs.Calls.{Runs}
-use Rattle.worker_log.specs.Kept.{IsInRange, IsKept}
-use Rattle.worker_log.specs.Accounts.{Account}
-use Rattle.lean_engine.specs.States.{State, Logs, Pictures}
-use Rattle.lean_engine.specs.Refusals.{IsRefused}
-use Rattle.lean_engine.specs.Calls.{Calls, GoesOn, IsWithin}
-use Rattle.lean_engine.specs.Logged.{LogAfter}
-use Rattle.script_run.proofs.RingLemmas.{keeps_ring}
-use Rattle.lean_engine.specs.Crashes.{IsAround, LeavesPrefix}
-use Rattle.lean_engine.specs.Laws.{EveryRest}
-use Rattle.map_model.specs.Outputs.{names}
-use Rattle.map_model.specs.Pairings.{script_of}
-use Rattle.transcripts.specs.Told.{ask, asked_text, replies, Heard}
-use Rattle.transcripts.specs.Told.Heard.{Whole}
-use Rattle.transcripts.specs.Laws.{FirstCalls}
-use Rattle.transcripts.proofs.PrefixLemmas.{prefix}
-use Rattle.transcripts.proofs.HeardLemmas.{names_are}
-use Rattle.script_run.specs.Moments.{IsAsked, ScriptLeaves}
-use Rattle.script_run.specs.Runs.{Answers, ScriptRuns, SameRing, IsFlushed, ReadsTo, PrintsTo, OthersStand}
-use Rattle.script_run.specs.Inside.{IsOfReading, PutLeaves, Says, Stepped}
+use Rattle.transcripts.specs.Told.{EachFits, ask, asked_text, replies}
+use Rattle.script_run.specs.Runs.{OthersStand, PrintsTo, ReadsTo, ScriptRuns, StaysIn2}
+use Rattle.script_run.specs.Inside.{IsOfReading, Laws, Says, Stepped}
 use Rattle.script_run.specs.declared.stop.Stop.{Stop}
 use Rattle.script_run.specs.declared.stop.Stop.TheVariants.{WriteFault, DiskFault}
-use Rattle.map_model.proofs.ListLemmas.{has_left}
-use Rattle.script_run.proofs.ListLemmas.{names_append, none_or_one}
-use Rattle.script_run.proofs.SessionLemmas.{all_below, StaysFlushed, stays_flushed, commit_flushed}
+use Rattle.script_run.proofs.ListLemmas.{said_by}
+use Rattle.script_run.proofs.DueLemmas.{lines_are, printed_more}
+use Rattle.script_run.proofs.DiskLemmas.{IsCalm, answered, calm, rests, stays_call, stays_none, stays_put, stopped}
 use Rattle.script_run.proofs.PutLemmas.{holds_none}
-use Rattle.script_run.proofs.ReadLemmas.{reads_same, reads_putting, prints_none, of_no_sink, FirstOf, first_of}
-use Rattle.script_run.proofs.CrashLemmas.{Hand, LogLeft, left_back, at_rest}
-
-same_log : (e : State) → SameRing e.log e.log
-same_log e = record { generation = refl; log = refl; blocks = refl; head = refl }
-
--- the run's parts of a crash, put together
-pub script_leaves : (start : Feed) (seen : List ℕ) (g : Opening) (xs heard unheard answered : List Answered) (first later told : List Reply) (s : Session) (x : Account) (e : State) (old : Story) (c : Crash)
-    → later ++ first ≡ told → (IsTrue old.counts → old.notes + length first < 2 ^ 64 → c.notes ≡ old.notes + length first) → unheard ++ heard ≡ answered → Heard heard first
-    → ((a : ℕ) → (a ≡ 2 → ⊥) → Tells old a → c.writes a ≡ (old.area a).writes) → ((a : ℕ) → (a ≡ 2 → ⊥) → Tells old a → Leaves (old.area a) (c.image a))
-    → LogLeft start (seen ++ asked_text (script_of heard)) g (heard ++ xs) first s x e.log (c.writes 2) (c.image 2) → ScriptLeaves start seen g xs answered told s x e.log old c
-script_leaves start seen g xs heard unheard answered first later told s x e old c split notes calls hears writes leaves l = record {
-  first = first;
-  later = later;
-  split = split;
-  notes = notes;
-  heard = heard;
-  unheard = unheard;
-  calls = calls;
-  hears = hears;
-  writes = writes;
-  leaves = leaves;
-  since = l.since;
-  writes_are = l.writes_are;
-  own = l.own;
-  holds = l.holds;
-}
+use Rattle.script_run.proofs.ReadLemmas.{reads_same, reads_putting, prints_none, of_no_sink}
 
 -- a call of a script is one that the engine takes
 pub within : (c : Call) → CallFits c → IsWithin c
@@ -86,185 +44,153 @@ within _ fits = absurd fits
 others_same : (s : Story) → OthersStand [] s s
 others_same s = record { later = omega arith; counts = refl; tells = λ a. refl; areas = refl; area = λ a other. refl; notes = λ counts fits. omega arith }
 
-module _ (rest : EveryRest) (g : Opening) (xs : List Answered) (s : Session) (e0 : State) (runs : Runs g xs s) (pictures : Pictures g s e0) (old : Story) (law : IsLawful old) (range : IsInRange e0.log) where
-  -- nothing happened yet
-  rest_moments : (start : Feed) (seen : List ℕ) → Tells old 2 → (x : Account) → Logs s x → IsKept x e0.log (old.area 2) → LeavesOnly old old (ScriptLeaves start seen g xs [] [] s x e0.log old)
-  rest_moments start seen tells x logs kept = started old (ScriptLeaves start seen g xs [] [] s x e0.log old) law
-      (λ c now.
-      script_leaves start seen g xs [] [] [] [] [] [] s x e0 old c refl (λ counts fits. let n : c.notes ≡ old.notes = now.notes in omega arith) refl (Whole refl) (λ a other. now.writes a) (λ a other. now.leaves a)
-      (left_back start (seen ++ []) g xs [] s s e0.log e0.log (same_log e0) (λ r has le. (has, le)) (λ name none. absurd none) (λ t. t ≡ s) (λ t is. record { hand = xs; in_hand = inl refl; runs = subst (Runs g xs) (sym is) runs }) x x refl refl
-      (c.writes 2) (c.image 2) (at_rest rest s x e0.log old pictures.log range tells logs kept c (now.writes 2 tells) (now.leaves 2 tells))))
-
+module _ (laws : Laws) (g : Opening) (xs : List Done) (log0 : Log) (old : Story) (law : IsLawful old) (Stands : List Done → Type 0) where
   -- no line is executed: the sink, the disk and the engine stand
-  no_step : (stop : Option Stop) (before : ℕ) (start feed : Feed) (seen : List ℕ) (reader : Unread) (held : Held) → before < 2 ^ 40 → PrintsTo stop [] [] [] → (stop ≡ Some WriteFault → ⊥) → ReadsTo stop (suc before) start feed reader seen
-      → ScriptRuns stop g xs s before start seen e0 e0 reader feed held held old old
-  no_step stop before start feed seen reader held few prints no_sink reads = record {
-    newer = [];
-    session = s;
-    runs = runs;
-    fits = tt;
-    few = omega arith;
-    state = e0;
-    executes = (refl, refl);
-    pictures = pictures;
-    state_is = λ never. refl;
-    reads = reads_same stop (suc before) (suc (before + 0)) start feed reader seen (seen ++ []) (omega arith) (sym (append-nil seen)) reads;
-    told = [];
-    tail = [];
-    prints = prints;
-    cut = λ e. absurd (no_sink e);
-    holds = holds_none held;
-    others = others_same old;
-    ring = same_log e0;
-    goes_on = λ never tells x logs kept. record { y = x; first = refl; older = refl; logs = logs; kept = kept };
-    keeps = λ r has le. (has, le);
-    synced = λ name none. absurd none;
-    any_moment = rest_moments start seen;
+  no_step : (stop : Option Stop) (before : ℕ) (start feed : Feed) (seen : List ℕ) (reader : Unread) (held : Held) → before < 2 ^ 40 → IsCalm stop → PrintsTo stop [] [] [] → (stop ≡ Some WriteFault → ⊥) → ReadsTo stop (suc before) start feed reader seen
+      → ScriptRuns stop g xs before start seen log0 log0 reader feed held held old old
+  no_step stop before start feed seen reader held few of prints no_sink reads =
+      let bytes : seen ≡ seen ++ [] = sym (append-nil seen) in
+      let number : suc before ≡ suc (before + 0) = omega arith in
+      record {
+        newer = [];
+        fits = tt;
+        few = omega arith;
+        log = log0;
+        executes = refl;
+        log_is = λ never. refl;
+        reads = reads_same stop (suc before) (suc (before + 0)) start feed reader seen (seen ++ []) number bytes reads;
+        told = [];
+        tail = [];
+        prints = prints;
+        lines = refl;
+        cut = λ e. absurd (no_sink e);
+        holds = holds_none held;
+        others = others_same old;
+        disk = λ s0 m k between of_run log_is room. (
+          stays_none 0 old law,
+          calm stop (suc (before + 0)) start feed reader (seen ++ []) (reads_same stop (suc before) (suc (before + 0)) start feed reader seen (seen ++ []) number bytes reads) g xs s0 m k old old log0 of
+              (record { known = k; log_is = log_is; master_is = refl; runs = rests laws g s0 m xs k old law between of_run }),
+        );
+      }
+
+  pub none_stepped : (before : ℕ) (start feed : Feed) (seen : List ℕ) (reader : Unread) (held : Held) → Stands xs → before < 2 ^ 40 → Reading start feed reader seen → Stepped Stands 0 None g xs before start seen log0 log0 reader feed held held old old
+  unfolding no_step
+  none_stepped before start feed seen reader held stands few reading = record {
+    run = no_step None before start feed seen reader held few tt (record { told_is = refl; none = refl }) (λ (e : None ≡ Some WriteFault). cc) reading;
+    in_run = λ never. stands;
+    count_is = λ none. refl;
   }
 
-  pub none_stepped : (before : ℕ) (start feed : Feed) (seen : List ℕ) (reader : Unread) (held : Held) → before < 2 ^ 40 → Reading start feed reader seen → Stepped 0 None g xs s before start seen e0 e0 reader feed held held old old
+  pub no_stepped : (stop : Stop) (before number : ℕ) (start feed : Feed) (seen : List ℕ) (reader : Unread) (held : Held) → Stands xs → number ≡ suc before → before < 2 ^ 40 → IsOfReading stop → ReadsTo (Some stop) number start feed reader seen
+      → Stepped Stands 1 (Some stop) g xs before start seen log0 log0 reader feed held held old old
   unfolding no_step
-  none_stepped before start feed seen reader held few reading = record { run = no_step None before start feed seen reader held few (record { told_is = refl; none = refl }) (λ (e : None ≡ Some WriteFault). cc) reading; count_is = λ none. refl }
-
-  pub no_stepped : (stop : Stop) (before number : ℕ) (start feed : Feed) (seen : List ℕ) (reader : Unread) (held : Held) → number ≡ suc before → before < 2 ^ 40 → IsOfReading stop → ReadsTo (Some stop) number start feed reader seen
-      → Stepped 1 (Some stop) g xs s before start seen e0 e0 reader feed held held old old
-  no_stepped stop before number start feed seen reader held is few of reads = record {
-    run = no_step (Some stop) before start feed seen reader held few (prints_none stop of) (of_no_sink stop of) (reads_same (Some stop) number (suc before) start feed reader seen seen is refl reads);
+  no_stepped stop before number start feed seen reader held stands is few of reads = record {
+    run = no_step (Some stop) before start feed seen reader held few of (prints_none stop of) (of_no_sink stop of) (reads_same (Some stop) number (suc before) start feed reader seen seen is refl reads);
+    in_run = λ never. stands;
     count_is = λ none. let e : Some stop ≡ None = none in cc;
   }
 
-  -- A call, in hand, and the disk after the engine was called.
-  module _ (call : Call) (fits : CallFits call) (mid : Story) (frame : Framed 2 old mid)
-      (in_call : (x : Account) → Logs s x → (Tells old 2 → IsKept x e0.log (old.area 2)) → LeavesOnly old mid (CrashIn old 2 (LeavesPrefix (IsAround g s call) s x e0.log))) where
-    around : (start : Feed) (seen : List ℕ) → IsAsked start (seen ++ []) call → (t : Session) → IsAround g s call t → Hand start (seen ++ []) g xs t
-    around start seen asked t (inl is) = record { hand = xs; in_hand = inl refl; runs = subst (Runs g xs) (sym is) runs }
-    around start seen asked t (inr did) = record { hand = record { session = 1; call = call; answer = did.0 } ∷ xs; in_hand = inr (record { session = 1; call = call; answer = did.0 }, refl, asked); runs = (s, runs, did.1, refl) }
-
-    asked_by : (start feed : Feed) (seen : List ℕ) (reader : Unread) → Reading start feed reader (seen ++ (ask 1 call ++ 10 ∷ [])) → IsAsked start (seen ++ []) call
-    asked_by start feed seen reader reading = record { feed = feed; reader = reader; fits = fits; read = subst (λ (t : List ℕ). Reading start feed reader (t ++ (ask 1 call ++ 10 ∷ []))) (sym (append-nil seen)) reading }
-
-    -- a crash in the call
-    call_leaves : (start : Feed) (seen : List ℕ) → IsAsked start (seen ++ []) call → (unheard : List Answered) (told : List Reply) (x : Account) (c : Crash) → CrashIn old 2 (LeavesPrefix (IsAround g s call) s x e0.log) c → ScriptLeaves start seen g xs unheard told s x e0.log old c
-    call_leaves start seen asked unheard told x c i = script_leaves start seen g xs [] unheard unheard [] told told s x e0 old c (append-nil told) (λ counts fits. let n : c.notes ≡ old.notes = i.notes in omega arith) (append-nil unheard) (Whole refl) i.writes i.leaves
-        (left_back start (seen ++ []) g xs [] s s e0.log e0.log (same_log e0) (λ r has le. (has, le)) (λ name none. absurd none) (IsAround g s call) (around start seen asked) x x refl refl (c.writes 2) (c.image 2) i.here)
-
+  module _ (call : Call) (fits : CallFits call) (mid : Story) where
     -- the disk failed in the call
-    fault_step : (e1 : State) (before : ℕ) (start feed : Feed) (seen : List ℕ) (reader : Unread) (held : Held) → before < 2 ^ 40 → Reading start feed reader (seen ++ (ask 1 call ++ 10 ∷ []))
-        → ScriptRuns (Some DiskFault) g xs s before start seen e0 e1 reader feed held held old mid
-    fault_step e1 before start feed seen reader held few reading = record {
+    fault_step : (log1 : Log) → Fails g xs call log0 old mid → (before : ℕ) (start feed : Feed) (seen : List ℕ) (reader : Unread) (held : Held) → before < 2 ^ 40 → Reading start feed reader (seen ++ (ask 1 call ++ 10 ∷ []))
+        → ScriptRuns (Some DiskFault) g xs before start seen log0 log1 reader feed held held old mid
+    fault_step log1 fails before start feed seen reader held few reading = record {
       newer = [];
-      session = s;
-      runs = runs;
       fits = tt;
       few = omega arith;
-      state = e0;
-      executes = (refl, refl);
-      pictures = pictures;
-      state_is = λ never. absurd (never refl);
+      log = log0;
+      executes = refl;
+      log_is = λ never. absurd (never refl);
       reads = (call, fits, subst (λ (t : List ℕ). Reading start feed reader (t ++ (ask 1 call ++ 10 ∷ []))) (sym (append-nil seen)) reading);
       told = [];
       tail = [];
       prints = record { told_is = refl; none = refl };
+      lines = refl;
       cut = λ e. let clash : Some DiskFault ≡ Some WriteFault = e in cc;
       holds = holds_none held;
-      others = record { later = frame.later; counts = frame.counts; tells = frame.tells; areas = frame.areas; area = frame.elsewhere; notes = λ counts fits. let n : mid.notes ≡ old.notes = frame.notes in omega arith };
-      ring = same_log e0;
-      goes_on = λ never. absurd (never refl);
-      keeps = λ r has le. (has, le);
-      synced = λ name none. absurd none;
-      any_moment = λ tells x logs kept. weaker old mid (CrashIn old 2 (LeavesPrefix (IsAround g s call) s x e0.log)) (ScriptLeaves start seen g xs [] [] s x e0.log old) (call_leaves start seen (asked_by start feed seen reader reading) [] [] x) (in_call x logs (λ told. kept));
+      others = record {
+        later = fails.frame.later;
+        counts = fails.frame.counts;
+        tells = fails.frame.tells;
+        areas = fails.frame.areas;
+        area = fails.frame.elsewhere;
+        notes = λ counts room. let n : mid.notes ≡ old.notes = fails.frame.notes in omega arith;
+      };
+      disk = λ s0 m k between of_run log_is room.
+          let l = fails.leaves s0 k between log_is in
+          (stays_call 0 old mid l.within, stopped laws g s0 m xs k old law between of_run mid call l.stops);
     }
 
-    pub fault_stepped : (e1 : State) (before : ℕ) (start feed : Feed) (seen : List ℕ) (reader : Unread) (held : Held) → before < 2 ^ 40 → Reading start feed reader (seen ++ (ask 1 call ++ 10 ∷ []))
-        → Stepped 1 (Some DiskFault) g xs s before start seen e0 e1 reader feed held held old mid
-    fault_stepped e1 before start feed seen reader held few reading = record { run = fault_step e1 before start feed seen reader held few reading; count_is = λ none. let e : Some DiskFault ≡ None = none in cc }
+    pub fault_stepped : (log1 : Log) → Fails g xs call log0 old mid → (before : ℕ) (start feed : Feed) (seen : List ℕ) (reader : Unread) (held : Held) → before < 2 ^ 40 → Reading start feed reader (seen ++ (ask 1 call ++ 10 ∷ []))
+        → Stepped Stands 1 (Some DiskFault) g xs before start seen log0 log1 reader feed held held old mid
+    unfolding fault_step
+    fault_stepped log1 fails before start feed seen reader held few reading = record {
+      run = fault_step log1 fails before start feed seen reader held few reading;
+      in_run = λ never. absurd (never refl);
+      count_is = λ none. let e : Some DiskFault ≡ None = none in cc;
+    }
 
     -- it was answered
-    module _ (a : Answer) (a_fits : AnswerFits a) (e1 : State) (range_1 : IsInRange e1.log) (is : Calls g s e0 e1 call a (Tells mid 2) (old.area 2) (mid.area 2)) (logged : LogAfter a call e0 e1.log)
-        (refused : (why : Refusal) → (a ≡ answer.Refused why → IsRefused e0 call why) × (IsRefused e0 call why → a ≡ answer.Refused why)) (same : (why : Refusal) → IsRefused e0 call why → e1 ≡ e0)
-        (stop : Option Stop) (h0 h1 : Held) (new : Story) (said : Says a stop h0 h1 mid new) where
+    module _ (one : g.workers ≡ 1) (a : Answer) (a_fits : AnswerFits a) (log1 log2 : Log) (does : Does g xs call a log0 log1 old mid) (tells : EachTells limits g 1 (does.done ∷ xs))
+        (stop : Option Stop) (h0 h1 : Held) (new : Story) (said : Says a stop h0 h1 mid new) (logged : log2 ≡ log1) where
       abbrev x1 : Answered
       x1 = record { session = 1; call = call; answer = a }
 
-      answered : Answers g e0 s x1 e1 is.after
-      answered = record { does = is.does; pictures = is.pictures; refused = refused; same = same; log = logged }
+      same : in_words does.done.outcome ≡ x1
+      same = said_by does.done call a does.session does.asked_is does.answer_is
 
-      after_runs : Runs g (x1 ∷ xs) is.after
-      after_runs = (s, runs, is.does, refl)
+      prints_here : PrintsTo stop (replies (in_words does.done.outcome ∷ [])) said.told said.tail
+      prints_here = subst (λ (y : Answered). PrintsTo stop (replies (y ∷ [])) said.told said.tail) (sym same) said.prints
 
-      stays : StaysFlushed s is.after e0.log e1.log
-      stays = stays_flushed g e0 e1 s is.after x1 (all_below g xs s runs) answered
+      lines_here : replies (in_words does.done.outcome ∷ []) ≡ lines_of g xs does.done
+      lines_here = lines_are laws.alone g xs does.done one tells
 
-      -- what was put by then tells no transaction to be durable but that of the call
-      told_durable : (later first : List Reply) → later ++ first ≡ said.told → (name : Name) → Has name (names first) → IsFlushed name is.after e1.log
-      told_durable later first split name has =
-          let f : FirstOf (replies (x1 ∷ [])) said.told = first_of stop (replies (x1 ∷ [])) said.told said.tail said.prints in
-          let all : (f.later ++ later) ++ first ≡ replies (x1 ∷ []) = append_assoc f.later later first ∙ ap (λ (rs : List Reply). f.later ++ rs) split ∙ f.is in
-          let more : Has name (names ((f.later ++ later) ++ first)) = subst (Has name) (sym (names_append (f.later ++ later) first)) (has_left name (names first) (names (f.later ++ later)) has) in
-          commit_flushed g e0 e1 s is.after x1 answered name (subst (Has name) (ap names all ∙ names_are (x1 ∷ [])) more)
+      fits_here : EachFits 1 (in_words does.done.outcome ∷ [])
+      fits_here = subst (λ (y : Answered). EachFits 1 (y ∷ [])) (sym same) (tt, record { first = omega arith; last = omega arith; fits = fits }, ((omega arith), a_fits))
 
-      hand_of : (start : Feed) (seen : List ℕ) → IsAsked start (seen ++ []) call → (later first : List Answered) → later ++ first ≡ x1 ∷ [] → (t : Session) → t ≡ is.after → Hand start (seen ++ asked_text (script_of first)) g (first ++ xs) t
-      hand_of start seen asked later first split t at = ⊎_elim
-          (λ (none : first ≡ []). record { hand = x1 ∷ xs; in_hand = inr (x1, ap (λ (ys : List Answered). x1 ∷ (ys ++ xs)) (sym none), subst (λ (ys : List Answered). IsAsked start (seen ++ asked_text (script_of ys)) call) (sym none) asked); runs = subst (Runs g (x1 ∷ xs)) (sym at) after_runs })
-          (λ (one : first ≡ x1 ∷ []). record { hand = x1 ∷ xs; in_hand = inl (ap (λ (ys : List Answered). ys ++ xs) (sym one)); runs = subst (Runs g (x1 ∷ xs)) (sym at) after_runs })
-          (none_or_one later first x1 split)
-
-      -- a crash while the replies are put
-      put_leaves : (start : Feed) (seen : List ℕ) → IsAsked start (seen ++ []) call → Tells old 2 → (x : Account) → GoesOn is.after x a e0.log e1.log (Tells mid 2) (old.area 2) (mid.area 2) → IsKept x e0.log (old.area 2) → (c : Crash) → PutLeaves said.told mid c → ScriptLeaves start seen g xs (x1 ∷ []) said.told s x e0.log old c
-      put_leaves start seen asked tells x y kept c p =
-          let f : FirstOf (replies (x1 ∷ [])) said.told = first_of stop (replies (x1 ∷ [])) said.told said.tail said.prints in
-          let all : (f.later ++ p.later) ++ p.first ≡ replies (x1 ∷ []) = append_assoc f.later p.later p.first ∙ ap (λ (rs : List Reply). f.later ++ rs) p.split ∙ f.is in
-          let calls : FirstCalls (x1 ∷ []) p.first = (prefix (x1 ∷ []) (f.later ++ p.later) p.first all).calls in
-          let told : Tells mid 2 = frame.tells 2 ∙ tells in
-          script_leaves start seen g xs calls.first calls.later (x1 ∷ []) p.first p.later said.told s x e0 old c p.split
-          (λ counts fits. let n : mid.notes ≡ old.notes = frame.notes in let m : c.notes ≡ mid.notes + length p.first = p.notes (omega arith) in omega arith)
-          calls.is calls.heard
-          (λ b other tell. p.writes b (frame.tells b ∙ tell) ∙ ap (λ (u : Area). u.writes) (frame.elsewhere b other))
-          (λ b other tell. subst (λ (u : Area). Leaves u (c.image b)) (frame.elsewhere b other) (p.leaves b (frame.tells b ∙ tell)))
-          (left_back start (seen ++ asked_text (script_of calls.first)) g (calls.first ++ xs) p.first s is.after e0.log e1.log (keeps_ring a call e0 e1.log logged).ring stays.each (told_durable p.later p.first p.split) (λ t. t ≡ is.after) (hand_of start seen asked calls.later calls.first calls.is) x y.y y.first y.older
-          (c.writes 2) (c.image 2) (at_rest rest is.after y.y e1.log mid is.pictures.log range_1 told y.logs (y.kept told kept) c (p.writes 2 told) (p.leaves 2 told)))
+      reads_here : (before : ℕ) (start feed : Feed) (seen : List ℕ) (reader : Unread) → Reading start feed reader (seen ++ (ask 1 call ++ 10 ∷ []))
+          → ReadsTo stop (suc (before + 1)) start feed reader (seen ++ asked_text (script_of (in_words does.done.outcome ∷ [])))
+      reads_here before start feed seen reader reading = subst (λ (y : Answered). ReadsTo stop (suc (before + 1)) start feed reader (seen ++ asked_text (script_of (y ∷ [])))) (sym same)
+          (reads_putting stop (suc (before + 1)) start feed reader (seen ++ (ask 1 call ++ 10 ∷ [])) said.of_putting reading)
 
       answer_step : (before : ℕ) (start feed : Feed) (seen : List ℕ) (reader : Unread) → before + 1 < 2 ^ 40 → Reading start feed reader (seen ++ (ask 1 call ++ 10 ∷ []))
-          → ScriptRuns stop g xs s before start seen e0 e1 reader feed h0 h1 old new
+          → ScriptRuns stop g xs before start seen log0 log2 reader feed h0 h1 old new
       answer_step before start feed seen reader few reading = record {
-        newer = x1 ∷ [];
-        session = is.after;
-        runs = after_runs;
-        fits = (tt, record { first = omega arith; last = omega arith; fits = fits }, ((omega arith), a_fits));
+        newer = does.done ∷ [];
+        fits = fits_here;
         few = omega arith;
-        state = e1;
-        executes = (e0, s, (refl, refl), answered);
-        pictures = is.pictures;
-        state_is = λ never. refl;
-        reads = reads_putting stop (suc (before + 1)) start feed reader (seen ++ (ask 1 call ++ 10 ∷ [])) said.of_putting reading;
+        log = log1;
+        executes = (log0, refl, does.session, does.tells, does.how);
+        log_is = λ never. logged;
+        reads = reads_here before start feed seen reader reading;
         told = said.told;
         tail = said.tail;
-        prints = said.prints;
-        cut = λ e. record { last = x1; earlier = []; calls_are = refl; said = said.told; told_are = sym (append-nil said.told) };
+        prints = prints_here;
+        lines = printed_more g xs does.done ∙ ap (λ (rs : List Reply). rs ++ printed g xs) (sym lines_here);
+        cut = λ e. record { last = in_words does.done.outcome; earlier = []; calls_are = refl; said = said.told; told_are = sym (append-nil said.told) };
         holds = said.holds;
         others = record {
-          later = let p : old.moment ≤ mid.moment = frame.later in let q : mid.moment ≤ new.moment = said.notes.later in omega arith;
-          counts = said.notes.counts ∙ frame.counts;
-          tells = λ b. said.notes.tells b ∙ frame.tells b;
-          areas = said.notes.areas ∙ frame.areas;
-          area = λ b other. said.notes.area b ∙ frame.elsewhere b other;
-          notes = λ counts fits. let n : mid.notes ≡ old.notes = frame.notes in let m : new.notes ≡ mid.notes + length said.told = said.notes.notes (frame.counts ∙ counts) (omega arith) in omega arith;
+          later = let p : old.moment ≤ mid.moment = does.frame.later in let q : mid.moment ≤ new.moment = said.notes.later in omega arith;
+          counts = said.notes.counts ∙ does.frame.counts;
+          tells = λ b. said.notes.tells b ∙ does.frame.tells b;
+          areas = said.notes.areas ∙ does.frame.areas;
+          area = λ b other. said.notes.area b ∙ does.frame.elsewhere b other;
+          notes = λ counts room. let n : mid.notes ≡ old.notes = does.frame.notes in let m : new.notes ≡ mid.notes + length said.told = said.notes.notes (does.frame.counts ∙ counts) (omega arith) in omega arith;
         };
-        ring = (keeps_ring a call e0 e1.log logged).ring;
-        goes_on = λ never tells x logs kept.
-            let y : GoesOn is.after x a e0.log e1.log (Tells mid 2) (old.area 2) (mid.area 2) = is.goes_on x logs in
-            record { y = y.y; first = y.first; older = y.older; logs = y.logs; kept = subst (IsKept y.y e1.log) (sym (said.notes.area 2)) (y.kept (frame.tells 2 ∙ tells) kept) };
-        keeps = stays.each;
-        synced = λ name has. commit_flushed g e0 e1 s is.after x1 answered name has;
-        any_moment = λ tells x logs kept.
-            let y : GoesOn is.after x a e0.log e1.log (Tells mid 2) (old.area 2) (mid.area 2) = is.goes_on x logs in
-            let asked : IsAsked start (seen ++ []) call = asked_by start feed seen reader reading in
-            then old mid new (ScriptLeaves start seen g xs (x1 ∷ []) said.told s x e0.log old)
-            (weaker old mid (CrashIn old 2 (LeavesPrefix (IsAround g s call) s x e0.log)) (ScriptLeaves start seen g xs (x1 ∷ []) said.told s x e0.log old) (call_leaves start seen asked (x1 ∷ []) said.told x) (in_call x logs (λ told. kept)))
-            (weaker mid new (PutLeaves said.told mid) (ScriptLeaves start seen g xs (x1 ∷ []) said.told s x e0.log old) (put_leaves start seen asked tells x y kept) said.any_moment);
+        disk = λ s0 m k between of_run log_is room.
+            let kept = does.keeps s0 k between log_is in (
+              then old mid new (StaysIn2 (length said.told) old) (stays_call (length said.told) old mid kept.within) (stays_put said.told old mid new does.frame room said.any_moment),
+              answered laws g s0 m xs k old law between of_run does.done log1 mid new does.frame kept said.told said.notes said.any_moment room
+                  stop (suc (before + 1)) start feed reader (seen ++ asked_text (script_of (in_words does.done.outcome ∷ []))) (reads_here before start feed seen reader reading) said.tail said.of_putting
+                  (subst (λ (all : List Reply). PrintsTo stop all said.told said.tail) (lines_here) prints_here),
+            );
       }
 
-      pub answer_stepped : (before : ℕ) (start feed : Feed) (seen : List ℕ) (reader : Unread) → before + 1 < 2 ^ 40 → Reading start feed reader (seen ++ (ask 1 call ++ 10 ∷ []))
-          → Stepped 1 stop g xs s before start seen e0 e1 reader feed h0 h1 old new
+      pub answer_stepped : (before : ℕ) (start feed : Feed) (seen : List ℕ) (reader : Unread) → Stands (does.done ∷ xs) → before + 1 < 2 ^ 40 → Reading start feed reader (seen ++ (ask 1 call ++ 10 ∷ []))
+          → Stepped Stands 1 stop g xs before start seen log0 log2 reader feed h0 h1 old new
       unfolding answer_step
-      answer_stepped before start feed seen reader few reading = record { run = answer_step before start feed seen reader few reading; count_is = λ none. refl }
+      answer_stepped before start feed seen reader stands few reading = record {
+        run = answer_step before start feed seen reader few reading;
+        in_run = λ never. stands;
+        count_is = λ none. refl;
+      }

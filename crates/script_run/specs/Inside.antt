@@ -2,21 +2,35 @@
 use Rattle.std.specs.Prelude.{◌≡◌, ◌⊎◌, ◌<◌, ◌≤◌, ◌+◌, ◌^◌, ◌++◌, ℕ, List, [], ◌∷◌, length, Option, Some, None, Result, Ok, Err, IsTrue}
 use Rattle.map_model.specs.declared.call.Call.{Call}
 use Rattle.map_model.specs.declared.call.Answer.{Answer}
+use Rattle.map_model.specs.Outputs.{Reply}
+use Rattle.core_state.specs.Openings.{Opening}
 use Rattle.lean_edge.specs.Outside.{Feed, Held}
 use Rattle.lean_disk.specs.Area.{Leaves}
 use Rattle.lean_disk.specs.Moments.{LeavesOnly}
 use Rattle.lean_disk.specs.Story.{Crash, Story, Tells}
+use Rattle.disk_image.specs.Laws.{EveryAgreement, EverySealed}
+use Rattle.worker_log.specs.Laws.{EveryKept, EveryPrefix}
+use Rattle.worker_log.specs.Logs.{Log}
+use Rattle.core_calls.specs.Alone.{EveryAlone}
+use Rattle.core_calls.specs.Crashes.{EveryRunCrash}
+use Rattle.core_calls.specs.Fronts.{Done}
+use Rattle.core_disk.specs.Shows.{EveryShown}
 use Rattle.script_lang.specs.Lines.{CallFits}
 use Rattle.script_lang.specs.Reading.{Unread, Reading}
-use Rattle.map_model.specs.Outputs.{Reply}
-use Rattle.core_state.specs.Openings.{Opening}
-use Rattle.session_model.specs.Sessions.{Session}
-use Rattle.map_model.specs.declared.call.Answered.{Answered}
-use Rattle.lean_engine.specs.States.{State}
 use Rattle.transcripts.specs.Told.{ask, durable_of}
-use Rattle.script_run.specs.Runs.{IsOutside, ReadsTo, PrintsTo, Holds, ScriptRuns}
+use Rattle.script_run.specs.Runs.{IsOutside, ReadsTo, PrintsTo, Holds, ScriptRuns, calls_of}
 use Rattle.script_run.specs.declared.stop.Stop.{Stop}
 use Rattle.script_run.specs.declared.stop.Stop.TheVariants.{End, Refused, ReadFault, WriteFault, DiskFault}
+
+-- the laws of other crates that a run stands on
+pub record Laws : Type 0 where
+  pub shown : EveryShown
+  pub crashes : EveryRunCrash
+  pub alone : EveryAlone
+  pub agrees : EveryAgreement
+  pub keeps : EveryKept
+  pub prefixes : EveryPrefix
+  pub seals : EverySealed
 
 -- the line of this number asks the call
 pub record IsAsk (bytes : List ℕ) (number : ℕ) (call : Call) : Type 0 where
@@ -79,7 +93,8 @@ pub record Says (a : Answer) (stop : Option Stop) (held0 held1 : Held) (old new 
   pub notes : OnlyNotes told old new
   pub any_moment : LeavesOnly old new (PutLeaves told old)
 
--- A run of lines, which are so many where it goes on.
-pub record Stepped (count : ℕ) (stop : Option Stop) (g : Opening) (xs : List Answered) (s : Session) (before : ℕ) (start : Feed) (seen : List ℕ) (e0 e1 : State) (reader : Unread) (feed : Feed) (held0 held1 : Held) (old new : Story) : Type 0 where
-  pub run : ScriptRuns stop g xs s before start seen e0 e1 reader feed held0 held1 old new
-  pub count_is : stop ≡ None → length run.newer ≡ count
+-- A run of lines, which are so many where it goes on. Unless the disk failed, the engine stands for it.
+pub record Stepped (Stands : List Done → Type 0) (count : ℕ) (stop : Option Stop) (g : Opening) (xs : List Done) (before : ℕ) (start : Feed) (seen : List ℕ) (log0 log1 : Log) (reader : Unread) (feed : Feed) (held0 held1 : Held) (old new : Story) : Type 0 where
+  pub run : ScriptRuns stop g xs before start seen log0 log1 reader feed held0 held1 old new
+  pub in_run : (stop ≡ Some DiskFault → ⊥) → Stands (run.newer ++ xs)
+  pub count_is : stop ≡ None → length (calls_of run.newer) ≡ count

@@ -1,5 +1,4 @@
--- Read Runs and Moments, then Texts. Inside has the words of private functions.
-pub mod Moments
+-- Read Runs, then Texts. Inside has the words of private functions.
 pub mod Runs
 pub mod Texts
 pub mod Inside

@@ -1,70 +1,47 @@
 -- How a script was executed on an engine.
-use Rattle.std.specs.Prelude.{◌≡◌, ◌↔◌, ◌<◌, ◌≤◌, ◌+◌, ◌^◌, ◌++◌, ℕ, suc, List, [], ◌∷◌, length, take, Option, Some, None, IsTrue}
+use Rattle.std.specs.Prelude.{◌≡◌, ◌<◌, ◌≤◌, ◌+◌, ◌^◌, ◌++◌, ℕ, suc, List, [], ◌∷◌, length, map, take, Option, Some, None, IsTrue}
 use Rattle.map_model.specs.declared.call.Call.{Call}
-use Rattle.map_model.specs.declared.call.Answer.TheVariants as answer
-use Rattle.map_model.specs.declared.call.Refusal.{Refusal}
-use Rattle.map_model.specs.Journals.{Name}
-use Rattle.map_model.specs.Lists.{Has}
+use Rattle.map_model.specs.declared.call.Answered.{Answered}
+use Rattle.map_model.specs.Outputs.{Reply}
+use Rattle.map_model.specs.Pairings.{script_of}
+use Rattle.core_state.specs.Events.{Event}
+use Rattle.core_state.specs.Openings.{Opening}
 use Rattle.lean_edge.specs.Outside.{Feed, Held}
-use Rattle.lean_disk.specs.Area.{Area}
+use Rattle.lean_disk.specs.Area.{Leaves}
 use Rattle.lean_disk.specs.Moments.{LeavesOnly}
-use Rattle.lean_disk.specs.Story.{Story, Tells}
+use Rattle.lean_disk.specs.Story.{Crash, Story, Tells}
+use Rattle.disk_slots.specs.declared.master.Master.{Master}
+use Rattle.disk_image.specs.Masters.{IsOfRun}
+use Rattle.worker_log.specs.Logs.{Log}
+use Rattle.core_calls.specs.Deeds.{asked, in_words}
+use Rattle.core_calls.specs.Fronts.{Done, front, outcomes}
+use Rattle.core_calls.specs.Printed.{printed}
+use Rattle.core_calls.specs.Runs as told
+use Rattle.disk_runs.specs.Stands.{Known, Stands}
+use Rattle.run_crashes.specs.Lines.{RunLeft}
+use Rattle.engine_calls.specs.Clauses.{Between}
+use Rattle.engine_calls.specs.Runs as runs
+use Rattle.engine_trait.specs.Calls.{Answers}
+use Rattle.engine_trait.specs.Limits.{limits}
 use Rattle.script_lang.specs.Lines.{CallFits, Spells, line_of}
 use Rattle.script_lang.specs.Reading.{Unread, Reading, LineIs, LineIsLong, AtEnd}
-use Rattle.map_model.specs.Outputs.{Reply}
 use Rattle.script_lang.specs.Replies.{reply_line}
 use Rattle.script_lang.specs.declared.line.Line.{Line}
-use Rattle.core_state.specs.Openings.{Opening}
-use Rattle.image_model.specs.Entries.{Entry}
-use Rattle.session_model.specs.Sessions.{Session}
-use Rattle.map_model.specs.declared.call.Answered.{Answered}
-use Rattle.session_model.specs.Calls.{Does, Runs}
-use Rattle.worker_log.specs.Logs.{Log}
-use Rattle.worker_log.specs.Accounts.{Account}
-use Rattle.worker_log.specs.Kept.{IsKept}
-use Rattle.lean_engine.specs.States.{State, Logs, Pictures}
-use Rattle.lean_engine.specs.Refusals.{IsRefused}
-use Rattle.lean_engine.specs.Logged.{LogAfter}
-use Rattle.map_model.specs.Pairings.{script_of}
-use Rattle.transcripts.specs.Told.{ask, asked_text, text_of, replies, committed, EachFits}
-use Rattle.script_run.specs.Moments.{HasCommit, ScriptLeaves}
+use Rattle.transcripts.specs.Told.{ask, asked_text, text_of, replies, EachFits}
 use Rattle.script_run.specs.declared.stop.Stop.{Stop}
 use Rattle.script_run.specs.declared.stop.Stop.TheVariants.{End, Refused, ReadFault, WriteFault, DiskFault}
 
 -- ## The engine's part
 
--- In this state the engine answered a call: a refusal has its cause, and changes nothing; a commit flushes the log.
-pub record Answers (g : Opening) (d : State) (r : Session) (x : Answered) (e : State) (s : Session) : Type 0 where
-  pub does : Does g.format g.changes r x.call x.answer s
-  pub pictures : Pictures g s e
-  pub refused : (why : Refusal) → (x.answer ≡ answer.Refused why) ↔ IsRefused d x.call why
-  pub same : (why : Refusal) → IsRefused d x.call why → e ≡ d
-  pub log : LogAfter x.answer x.call d e.log
+-- outcomes in the words of a transcript
+abbrev pub calls_of : List Done → List Answered
+calls_of xs = map in_words (outcomes xs)
 
--- so it answered call by call, the newest first
-abbrev pub Executes : Opening → State → Session → List Answered → State → Session → Type 0
-Executes g e0 s0 [] e s = (e ≡ e0) × (s ≡ s0)
-Executes g e0 s0 (x ∷ earlier) e s = (d : State) × (r : Session) × Executes g e0 s0 earlier d r × Answers g d r x e s
-
--- The account after a run, which has the same beginning.
-pub record WentOn (s : Session) (x : Account) (log : Log) (area : Area) : Type 0 where
-  pub y : Account
-  pub first : y.first ≡ x.first
-  pub older : y.older ≡ x.older
-  pub logs : Logs s y
-  pub kept : IsKept y log area
-
--- the log is the same ring as it was
-pub record SameRing (old new : Log) : Type 0 where
-  pub generation : new.generation ≡ old.generation
-  pub log : new.log ≡ old.log
-  pub blocks : new.blocks ≡ old.blocks
-  pub head : new.head ≡ old.head
-
--- the transaction's commit is logged and flushed
-pub record IsFlushed (name : Name) (s : Session) (log : Log) : Type 0 where
-  pub commit : HasCommit name s.log
-  pub number : commit.entry.number ≤ log.flushed
+-- Behind the outcomes xs session 1 was answered call by call, the newest first: each outcome is told by its events, a refusal has its cause
+-- and comes where it has, and the log is what the call makes of it.
+abbrev pub Executes : Opening → List Done → Log → List Done → Log → Type 0
+Executes g xs log0 [] log = log ≡ log0
+Executes g xs log0 (x ∷ earlier) log = (before : Log) × Executes g xs log0 earlier before × (x.outcome.session ≡ 1) × told.Tells limits g 1 (earlier ++ xs) x × Answers g (earlier ++ xs) x before log
 
 -- ## What was read
 
@@ -135,35 +112,72 @@ pub record OthersStand (told : List Reply) (old new : Story) : Type 0 where
   pub area : (a : ℕ) → (a ≡ 2 → ⊥) → new.area a ≡ old.area a
   pub notes : IsTrue old.counts → old.notes + length told < 2 ^ 64 → new.notes ≡ old.notes + length told
 
+-- ## The disk at every moment
+
+-- there are none
+abbrev pub NoEvents : List Event → Type 0
+NoEvents es = es ≡ []
+
+-- A crash leaves all areas but the log's as one might have left them at s, and so many notes more at most.
+pub record StaysIn2 (count : ℕ) (s : Story) (c : Crash) : Type 0 where
+  pub notes : c.notes ≤ s.notes + count
+  pub writes : (a : ℕ) → (a ≡ 2 → ⊥) → Tells s a → c.writes a ≡ (s.area a).writes
+  pub leaves : (a : ℕ) → (a ≡ 2 → ⊥) → Tells s a → Leaves (s.area a) (c.image a)
+
+-- From one story to now by these calls and their lines: the run goes on, with this log, under the same master.
+pub record RunStands (g : Opening) (calls : List Done) (s0 : Crash) (m : Master) (k : Known) (from now : Story) (log : Log) : Type 0 where
+  pub known : Known
+  pub log_is : known.log 1 ≡ log
+  pub master_is : known.master ≡ k.master
+  pub runs : runs.Runs limits g 1 NoEvents calls s0 m known from now
+
+-- Lines of the last call are missing: the disk stands for all events, and a crash leaves what the lines that were out by then say.
+pub record LinesMissing (g : Opening) (calls : List Done) (s0 : Crash) (m : Master) (k : Known) (from now : Story) (log : Log) : Type 0 where
+  pub any_moment : LeavesOnly from now (RunLeft g NoEvents calls s0 m)
+  pub known : Known
+  pub stands : Stands g (front calls) s0 known now
+  pub log_is : known.log 1 ≡ log
+  pub master_is : known.master ≡ k.master
+
+-- One more was asked and not answered: a crash leaves what the lines say, behind the calls that were answered or in this one.
+pub data CallMissing (g : Opening) (calls : List Done) (c : Call) (s0 : Crash) (m : Master) (from now : Story) : Type 0 where
+  Nothing : LeavesOnly from now (RunLeft g NoEvents calls s0 m) → CallMissing g calls c s0 m from now
+  Part : (x : Done) → asked x.outcome.deed ≡ c → x.outcome.session ≡ 1 → told.Tells limits g 1 calls x → LeavesOnly from now (RunLeft g NoEvents (x ∷ calls) s0 m) → CallMissing g calls c s0 m from now
+
+-- By why the script stopped there, or goes on; the call that was not answered is the one that was read.
+abbrev pub DiskTo : (stop : Option Stop) (number : ℕ) (start feed : Feed) (reader : Unread) (seen : List ℕ) → ReadsTo stop number start feed reader seen
+    → Opening → List Done → Crash → Master → Known → (from now : Story) → Log → Type 0
+DiskTo None number start feed reader seen reads g calls s0 m k from now log = RunStands g calls s0 m k from now log
+DiskTo (Some End) number start feed reader seen reads g calls s0 m k from now log = RunStands g calls s0 m k from now log
+DiskTo (Some (Refused line)) number start feed reader seen reads g calls s0 m k from now log = RunStands g calls s0 m k from now log
+DiskTo (Some ReadFault) number start feed reader seen reads g calls s0 m k from now log = RunStands g calls s0 m k from now log
+DiskTo (Some WriteFault) number start feed reader seen reads g calls s0 m k from now log = LinesMissing g calls s0 m k from now log
+DiskTo (Some DiskFault) number start feed reader seen reads g calls s0 m k from now log = CallMissing g calls reads.0 s0 m from now
+
 -- ## A run
 
--- A run of lines, from the session s on, to which calls xs had led; so many lines had been read before, and so many bytes handed out. It
--- stopped for this reason, or goes on.
-pub record ScriptRuns (stop : Option Stop) (g : Opening) (xs : List Answered) (s : Session) (before : ℕ) (start : Feed) (seen : List ℕ) (e0 e1 : State) (reader : Unread) (feed : Feed) (held0 held1 : Held) (old new : Story) : Type 0 where
-  -- the calls that were answered, the newest first, and the session that they leave
-  pub newer : List Answered
-  pub session : Session
-  pub runs : Runs g (newer ++ xs) session
-  pub fits : EachFits 1 newer
-  pub few : before + length newer < 2 ^ 40
-  -- the engine has it in memory, unless the disk failed
-  pub state : State
-  pub executes : Executes g e0 s newer state session
-  pub pictures : Pictures g session state
-  pub state_is : (stop ≡ Some DiskFault → ⊥) → e1 ≡ state
+-- A run of lines, behind the outcomes xs, with this log; so many lines had been read before, and so many bytes handed out. It stopped for this
+-- reason, or goes on.
+pub record ScriptRuns (stop : Option Stop) (g : Opening) (xs : List Done) (before : ℕ) (start : Feed) (seen : List ℕ) (log0 log1 : Log) (reader : Unread) (feed : Feed) (held0 held1 : Held) (old new : Story) : Type 0 where
+  -- the outcomes of the calls that were answered, the newest first, and the log that they leave
+  pub newer : List Done
+  pub fits : EachFits 1 (calls_of newer)
+  pub few : before + length (calls_of newer) < 2 ^ 40
+  pub log : Log
+  pub executes : Executes g xs log0 newer log
+  -- the engine has it, unless the disk failed
+  pub log_is : (stop ≡ Some DiskFault → ⊥) → log1 ≡ log
   -- what asks the calls was handed out, and their replies were put
-  pub reads : ReadsTo stop (suc (before + length newer)) start feed reader (seen ++ asked_text (script_of newer))
+  pub reads : ReadsTo stop (suc (before + length (calls_of newer))) start feed reader (seen ++ asked_text (script_of (calls_of newer)))
   pub told : List Reply
   pub tail : List ℕ
-  pub prints : PrintsTo stop (replies newer) told tail
-  pub cut : stop ≡ Some WriteFault → IsLastCut newer told
+  pub prints : PrintsTo stop (replies (calls_of newer)) told tail
+  -- these are the lines that are due behind their events
+  pub lines : printed g (newer ++ xs) ≡ replies (calls_of newer) ++ printed g xs
+  pub cut : stop ≡ Some WriteFault → IsLastCut (calls_of newer) told
   pub holds : Holds told tail held0 held1
   -- the disk
   pub others : OthersStand told old new
-  pub ring : SameRing e0.log state.log
-  pub goes_on : (stop ≡ Some DiskFault → ⊥) → Tells old 2 → (x : Account) → Logs s x → IsKept x e0.log (old.area 2) → WentOn session x state.log (new.area 2)
-  -- what was flushed stays logged and flushed, and each commit is
-  pub keeps : (r : Entry) → Has r s.log → r.number ≤ e0.log.flushed → Has r session.log × (r.number ≤ state.log.flushed)
-  pub synced : (name : Name) → Has name (committed newer) → IsFlushed name session state.log
-  -- at every moment
-  pub any_moment : Tells old 2 → (x : Account) → Logs s x → IsKept x e0.log (old.area 2) → LeavesOnly old new (ScriptLeaves start seen g xs newer told s x e0.log old)
+  -- at every moment, where it stood for xs in a run that began as s0, on a disk whose master was m, and counts no more notes than it can
+  pub disk : (s0 : Crash) (m : Master) (k : Known) → Between limits g 1 xs s0 k old → IsOfRun m k.master → k.log 1 ≡ log0 → old.notes + length told < 2 ^ 64
+      → LeavesOnly old new (StaysIn2 (length told) old) × DiskTo stop (suc (before + length (calls_of newer))) start feed reader (seen ++ asked_text (script_of (calls_of newer))) reads g (newer ++ xs) s0 m k old new log

@@ -1,135 +1,138 @@
 // Line by line: read, asked, printed.
-ghost use Rattle.std.specs.Prelude.{◌≡◌, ◌≤◌, ◌+◌, ◌^◌, ◌↔◌, ◌<◌, ◌-◌, ℕ, List, Ok, Some, None, IfOk, IsErr};
-ghost use Rattle.map_model.specs.declared.call.Refusal.{Refusal};
+ghost use Rattle.std.specs.Prelude.{◌≡◌, ◌≤◌, ◌+◌, ◌^◌, ◌++◌, ◌∷◌, ◌<◌, ◌-◌, ℕ, true, List, Some, None, IfSome, MatchOption};
 ghost use Rattle.core_state.specs.Openings.{Opening};
+ghost use Rattle.core_calls.specs.Fronts.{Done};
 ghost use Rattle.lean_disk.specs.Faults.{HasCause};
-ghost use Rattle.lean_disk.specs.Moments.{CrashIn, Framed, LeavesOnly};
-ghost use Rattle.lean_disk.specs.Story.{Tells};
 ghost use Rattle.lean_edge.specs.Outside.{Feed};
+ghost use Rattle.engine_trait.specs.Calls.{Does, Fails, IsWithin};
 ghost use Rattle.script_lang.specs.Reading.{Reading};
 ghost use Rattle.script_lang.specs.Replies.{AnswerFits};
-ghost use Rattle.session_model.specs.Sessions.{Session};
-ghost use Rattle.map_model.specs.declared.call.Answered.{Answered};
-ghost use Rattle.session_model.specs.Calls.{Runs};
-ghost use Rattle.worker_log.specs.Kept.{IsInRange, IsKept};
-ghost use Rattle.worker_log.specs.Accounts.{Account};
-ghost use Rattle.lean_engine.specs.States.{Logs, Pictures};
-ghost use Rattle.lean_engine.specs.Refusals.{IsRefused};
-ghost use Rattle.lean_engine.specs.Calls.{Calls, IsWithin};
-ghost use Rattle.lean_engine.specs.Logged.{LogAfter};
-ghost use Rattle.lean_engine.specs.Crashes.{IsAround, LeavesPrefix};
 ghost use Rattle.script_run.specs.Runs.{ScriptRuns};
-ghost use Rattle.script_run.specs.Inside.{Stepped};
+ghost use Rattle.script_run.specs.Inside.{Laws, Stepped};
 
 use crate::lines::{LINES, next_call};
-use crate::replies::put_answer;
+use crate::replies::{has_line, put_answer};
 use crate::stop::Stop;
-use lean_disk::{AreaOf, Disk};
+use engine_trait::calls::{Calls, Unanswered};
+use lean_disk::Disk;
 use lean_edge::{Sink, Source};
-use lean_engine::{DiskFault, Engine, every_rest};
 use map_model::{Answer, Call};
 use script_lang::LineReader;
 
-/// The area of the session's log.
-pub const AREA: u32 = 2;
-
-/// Executes the lines of a script, and puts what each is answered. Lines are counted from 1.
-pub fn run_script<S: Source, K: Sink<D>, D: Disk>(
-    engine: &mut Engine,
+/// Executes the lines of a script on an engine that works, and puts what each is answered. Lines are counted from 1.
+pub fn run_script<S: Source, K: Sink<D>, D: Disk, E: Calls<D>>(
+    engine: &mut E,
     reader: &mut LineReader,
     source: &mut S,
     sink: &mut K,
-    disk: &mut D,
 ) -> Stop
-    ensures runs { (g : Opening) (xs : List Answered) (s : Session) (start : Feed) (seen : List ℕ) → g.changes ≡ 64 → Runs g xs s → Pictures g s engine.old
-        → Reading start (S.feed source.old) reader.old seen
-        → ScriptRuns (Some result) g xs s 0 start seen engine.old engine.new reader.new (S.feed source.new) (K.held sink.old) (K.held sink.new) (D.story disk.old) (D.story disk.new) }
+    requires works { E.works engine.old ≡ true }
+    ensures runs { (g : Opening) (xs : List Done) (start : Feed) (seen : List ℕ) → E.in_run engine.old g xs → Reading start (S.feed source.old) reader.old seen
+        → (r : ScriptRuns (Some result) g xs 0 start seen (E.log_of engine.old) (E.log_of engine.new) reader.new (S.feed source.new) (K.held sink.old) (K.held sink.new) (E.story engine.old) (E.story engine.new))
+        × ((result ≡ Stop.DiskFault → ⊥) → E.in_run engine.new g (r.newer ++ xs)) }
+    ensures works { (result ≡ Stop.DiskFault → ⊥) → E.works engine.new ≡ true }
 
     ensures cause_read_fault { HasCause (S.faults source.old) (S.faults source.new) (result ≡ Stop.ReadFault) }
     ensures cause_write_fault { HasCause (K.faults sink.old) (K.faults sink.new) (result ≡ Stop.WriteFault) }
-    ensures cause_disk_fault { HasCause (D.faults disk.old) (D.faults disk.new) (result ≡ Stop.DiskFault) }
+    ensures cause_disk_fault { HasCause (E.faults engine.old) (E.faults engine.new) (result ≡ Stop.DiskFault) }
 {
     // What a crash leaves before the first line.
-    every_rest();
-    engine.ranges();
+    laws();
+    engine.told();
     for number in 1..LINES {
-        if let Some(stop) = take_step(engine, reader, source, sink, disk, number) {
+        if let Some(stop) = take_step(engine, reader, source, sink, number) {
             return stop;
         }
     }
-    last_step(engine, reader, source, sink, disk)
+    last_step(engine, reader, source, sink)
 }
 
 // The line after the last that may be executed.
-fn last_step<S: Source, K: Sink<D>, D: Disk>(
-    engine: &mut Engine,
+fn last_step<S: Source, K: Sink<D>, D: Disk, E: Calls<D>>(
+    engine: &mut E,
     reader: &mut LineReader,
     source: &mut S,
     sink: &mut K,
-    disk: &mut D,
 ) -> Stop
-    ensures runs { (g : Opening) (xs : List Answered) (s : Session) (start : Feed) (seen : List ℕ) → g.changes ≡ 64 → Runs g xs s → Pictures g s engine.old
-        → Reading start (S.feed source.old) reader.old seen
-        → Stepped 1 (Some result) g xs s (2 ^ 40 - 1) start seen engine.old engine.new reader.new (S.feed source.new) (K.held sink.old) (K.held sink.new) (D.story disk.old) (D.story disk.new) }
+    requires works { E.works engine.old ≡ true }
+    ensures runs { (g : Opening) (xs : List Done) (start : Feed) (seen : List ℕ) → E.in_run engine.old g xs → Reading start (S.feed source.old) reader.old seen
+        → Stepped (E.in_run engine.new g) 1 (Some result) g xs (2 ^ 40 - 1) start seen (E.log_of engine.old) (E.log_of engine.new) reader.new (S.feed source.new) (K.held sink.old) (K.held sink.new) (E.story engine.old) (E.story engine.new) }
+    ensures works { (result ≡ Stop.DiskFault → ⊥) → E.works engine.new ≡ true }
 
     ensures cause_read_fault { HasCause (S.faults source.old) (S.faults source.new) (result ≡ Stop.ReadFault) }
     ensures cause_write_fault { HasCause (K.faults sink.old) (K.faults sink.new) (result ≡ Stop.WriteFault) }
-    ensures cause_disk_fault { HasCause (D.faults disk.old) (D.faults disk.new) (result ≡ Stop.DiskFault) }
+    ensures cause_disk_fault { HasCause (E.faults engine.old) (E.faults engine.new) (result ≡ Stop.DiskFault) }
 {
-    match take_step(engine, reader, source, sink, disk, LINES) {
+    match take_step(engine, reader, source, sink, LINES) {
         Some(stop) => stop,
         None => Stop::Refused { line: LINES },
     }
 }
 
 // Executes the line of this number. The answer is why it stops there, if it does.
-fn take_step<S: Source, K: Sink<D>, D: Disk>(
-    engine: &mut Engine,
+fn take_step<S: Source, K: Sink<D>, D: Disk, E: Calls<D>>(
+    engine: &mut E,
     reader: &mut LineReader,
     source: &mut S,
     sink: &mut K,
-    disk: &mut D,
     number: u64,
 ) -> Option<Stop>
-    requires { (1 ≤ number) × (number ≤ 2 ^ 40) }
-    ensures runs { (g : Opening) (xs : List Answered) (s : Session) (start : Feed) (seen : List ℕ) → g.changes ≡ 64 → Runs g xs s → Pictures g s engine.old
-        → Reading start (S.feed source.old) reader.old seen
-        → Stepped 1 result g xs s (number - 1) start seen engine.old engine.new reader.new (S.feed source.new) (K.held sink.old) (K.held sink.new) (D.story disk.old) (D.story disk.new) }
+    requires number { (1 ≤ number) × (number ≤ 2 ^ 40) }
+    requires works { E.works engine.old ≡ true }
+    ensures runs { (g : Opening) (xs : List Done) (start : Feed) (seen : List ℕ) → E.in_run engine.old g xs → Reading start (S.feed source.old) reader.old seen
+        → Stepped (E.in_run engine.new g) 1 result g xs (number - 1) start seen (E.log_of engine.old) (E.log_of engine.new) reader.new (S.feed source.new) (K.held sink.old) (K.held sink.new) (E.story engine.old) (E.story engine.new) }
     ensures few { result ≡ None → number < 2 ^ 40 }
+    ensures works { (result ≡ Some Stop.DiskFault → ⊥) → E.works engine.new ≡ true }
 
     ensures cause_read_fault { HasCause (S.faults source.old) (S.faults source.new) (result ≡ Some Stop.ReadFault) }
     ensures cause_write_fault { HasCause (K.faults sink.old) (K.faults sink.new) (result ≡ Some Stop.WriteFault) }
-    ensures cause_disk_fault { HasCause (D.faults disk.old) (D.faults disk.new) (result ≡ Some Stop.DiskFault) }
+    ensures cause_disk_fault { HasCause (E.faults engine.old) (E.faults engine.new) (result ≡ Some Stop.DiskFault) }
 {
     // What a crash between two calls leaves.
-    every_rest();
-    engine.ranges();
+    laws();
+    engine.told();
     let call = match next_call(reader, source, number) {
         Ok(call) => call,
         Err(stop) => return Some(stop),
     };
-    let Ok(answer) = call_engine(engine, disk, &call) else {
+    let Some(answer) = call_engine(engine, &call) else {
         return Some(Stop::DiskFault);
     };
-    engine.ranges();
-    put_answer(sink, disk, &answer)
+    engine.told();
+    put_answer(engine, sink, &answer)
 }
 
-// Calls the engine on the area of its log.
-fn call_engine<D: Disk>(engine: &mut Engine, disk: &mut D, call: &Call) -> Result<Answer, DiskFault>
-    requires range { IsWithin call.now }
-    ensures does { IfOk result (λ a. (g : Opening) (s : Session) → g.changes ≡ 64 → Pictures g s engine.old
-        → Calls g s engine.old engine.new call.now a (Tells (D.story disk.new) 2) ((D.story disk.old).area 2) ((D.story disk.new).area 2)) }
-    ensures log { IfOk result (λ a. LogAfter a call.now engine.old engine.new.log) }
-    ensures same { (r : Refusal) → IsRefused engine.old call.now r → engine.new ≡ engine.old }
-    ensures any_moment { (g : Opening) (s : Session) (x : Account) → g.changes ≡ 64 → Pictures g s engine.old → Logs s x
-        → (Tells (D.story disk.old) 2 → IsKept x engine.old.log ((D.story disk.old).area 2))
-        → LeavesOnly (D.story disk.old) (D.story disk.new) (CrashIn (D.story disk.old) 2 (LeavesPrefix (IsAround g s call.now) s x engine.old.log)) }
-    ensures frame { Framed 2 (D.story disk.old) (D.story disk.new) }
-    ensures fits { IfOk result AnswerFits }
+// Calls an engine that works. No answer means that its disk failed.
+fn call_engine<D: Disk, E: Calls<D>>(engine: &mut E, call: &Call) -> Option<Answer>
+    requires within { IsWithin call.now }
+    requires works { E.works engine.old ≡ true }
+    ensures does { IfSome result (λ a. (g : Opening) (xs : List Done) → E.in_run engine.old g xs
+        → (d : Does g xs call.now a (E.log_of engine.old) (E.log_of engine.new) (E.story engine.old) (E.story engine.new)) × E.in_run engine.new g (d.done ∷ xs)) }
+    ensures fits { IfSome result AnswerFits }
+    ensures works { IfSome result (λ a. E.works engine.new ≡ true) }
+    ensures fails { result ≡ None → (g : Opening) (xs : List Done) → E.in_run engine.old g xs → Fails g xs call.now (E.log_of engine.old) (E.story engine.old) (E.story engine.new) }
 
-    ensures cause_refused { (r : Refusal) → (result ≡ Ok (Answer.Refused r)) ↔ IsRefused engine.old call.now r }
-    ensures cause_disk_fault { HasCause (D.faults disk.old) (D.faults disk.new) (IsErr result) }
+    ensures cause { HasCause (E.faults engine.old) (E.faults engine.new) (result ≡ None) }
 {
-    engine.call(&mut AreaOf::new(disk, AREA), call)
+    match engine.call(call) {
+        Ok(answer) => {
+            has_line(&answer);
+            Some(answer)
+        }
+        Err(Unanswered::DiskFault) => None,
+        Err(Unanswered::Broken) => unreachable!(),
+    }
+}
+
+// What other crates prove of crashes and of logs.
+fn laws()
+    ensures { Laws }
+{
+    core_disk::every_shown();
+    core_calls::every_run_crash();
+    core_calls::every_alone();
+    disk_image::every_agreement();
+    worker_log::every_kept();
+    worker_log::every_prefix();
+    disk_image::every_sealed();
 }

@@ -11,6 +11,8 @@ use std::thread::Threads;
 /// Sixteen pages, for what is done over and over.
 pub(crate) const FORMAT: &str = "lean format --workers 1 --pages 16 --blocks 64";
 
+pub(crate) const RUN: &str = "lean run";
+
 // Holds no worker.
 struct Open;
 
@@ -65,6 +67,16 @@ pub(crate) fn run_alone<R: Threads + Wait + Sync>(
     sink: MemSink,
 ) -> Result<Outcome, AllocError> {
     run_words(rt, alloc, words, disk, MemSource::new(alloc, b"", 1)?, sink)
+}
+
+/// A formatted disk of 16 pages, on which no call was made yet.
+pub(crate) fn formatted<R: Threads + Wait + Sync>(
+    rt: &R,
+    alloc: Global,
+) -> Result<MemDisk, AllocError> {
+    let disk = MemDisk::new(alloc, 3)?;
+    let disk = run_alone(rt, alloc, FORMAT, disk, MemSink::new(alloc))?.disk;
+    disk.crash(disk.moment(), Choice::AllBytes)
 }
 
 // None of them is a command.

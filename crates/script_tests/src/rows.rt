@@ -1,14 +1,12 @@
 // Rows of commands and scripts, and every line that comes of them, on a disk in memory. The lines were written down by hand, a
 // `;` for each newline. Seals were computed by another SHA-256.
 use crate::cases::expect;
-use crate::commands::{FORMAT, Outcome, run_alone, run_words};
+use crate::commands::{FORMAT, Outcome, RUN, formatted, run_words};
 use lean_disk::{Choice, MemDisk};
 use lean_edge::{MemSink, MemSource};
 use std::alloc::{AllocError, Global};
 use std::sync::Wait;
 use std::thread::Threads;
-
-const RUN: &str = "lean run";
 
 // Text so many times, for each number from the first to the last: `#` stands for it, `@` for its double.
 struct Text(&'static str, u32, u32);
@@ -501,13 +499,6 @@ fn each_run_ends_and_prints_as_is_written(rt: HostRuntime) {
     for case in &CASES {
         expect(&rt, case.name, is_met(&rt, rt.alloc(), case));
     }
-}
-
-// A formatted disk of 16 pages, on which no call was made yet.
-fn formatted<R: Threads + Wait + Sync>(rt: &R, alloc: Global) -> Result<MemDisk, AllocError> {
-    let disk = MemDisk::new(alloc, 3)?;
-    let disk = run_alone(rt, alloc, FORMAT, disk, MemSink::new(alloc))?.disk;
-    disk.crash(disk.moment(), Choice::AllBytes)
 }
 
 // A run on the disk as it was at first, in which a call of the device fails.

@@ -1,11 +1,11 @@
 // Scripts on disks in memory. The expected lines were written down by hand.
 use crate::cases::expect;
-use btree_node::Node;
-use disk_slots::{Heads, Master, master_bytes, page_bytes};
-use lean_disk::MemDisk;
+use crate::commands::{RUN, formatted, run_words};
+use lean_disk::{Disk, MemDisk};
 use lean_edge::{MemSink, MemSource};
-use lean_shell::run_disk;
 use std::alloc::{AllocError, Global};
+use std::sync::Wait;
+use std::thread::Threads;
 
 // A script, its status, and what is printed.
 struct Run {
@@ -14,7 +14,7 @@ struct Run {
     printed: &'static [u8],
 }
 
-// What holds the disk: a master, and the pages but one.
+// Runs on a disk that is formatted, of which a page may be left out, or empty.
 struct Case {
     name: &'static str,
     is_formatted: bool,
@@ -62,64 +62,36 @@ static CASES: [Case; 3] = [
     },
 ];
 
-// The first master of a disk of sixteen pages and one log.
-fn master_area(alloc: Global) -> Result<Vec<u8>, AllocError> {
-    let master = Master {
-        sequence: 0,
-        generation: 0,
-        floor: 0,
-        pages: 16,
-        blocks: 64,
-        heads: Heads::new(1),
-    };
-    let mut slot = [0; 1024];
-    master_bytes(&master, &mut slot);
-    Vec::from_slice(alloc, &slot)
-}
-
-fn fresh_node(number: u32) -> Node {
-    if number == 0 {
-        return Node::empty_leaf(0, 0, u64::MAX);
-    }
-    Node::free(number)
-}
-
-// Sixteen fresh pages, of which one may be left out.
-fn page_area(alloc: Global, left_out: Option<u32>) -> Result<Vec<u8>, AllocError> {
-    let mut area = Vec::new(alloc);
-    for number in 0..16 {
-        let mut slot = [0; 1024];
-        if left_out != Some(number) {
-            page_bytes(&fresh_node(number), &mut slot);
-        }
-        area.extend_from_slice(&slot)?;
-        area.extend_from_slice(&[0; 1024])?;
-    }
-    Ok(area)
-}
-
-fn disk_of(alloc: Global, case: &Case) -> Result<MemDisk, AllocError> {
+// The disk of a case. A page that is left out is zeros, as it never was written.
+fn disk_of<R: Threads + Wait + Sync>(
+    rt: &R,
+    alloc: Global,
+    case: &Case,
+) -> Result<MemDisk, AllocError> {
     if !case.is_formatted {
         return MemDisk::new(alloc, 3);
     }
-    let areas = vec![in alloc;
-        master_area(alloc)?,
-        page_area(alloc, case.left_out)?,
-        Vec::new(alloc),
-    ]?;
-    MemDisk::from_areas(alloc, areas)
+    let mut disk = formatted(rt, alloc)?;
+    if let Some(page) = case.left_out {
+        disk.write(1, 2048 * u64::from(page), &[0; 1024]);
+    }
+    Ok(disk)
 }
 
 // Whether each script ends and prints as is written.
-fn is_met(alloc: Global, case: &Case) -> Result<bool, AllocError> {
-    let mut disk = disk_of(alloc, case)?;
+fn is_met<R: Threads + Wait + Sync>(
+    rt: &R,
+    alloc: Global,
+    case: &Case,
+) -> Result<bool, AllocError> {
+    let mut disk = disk_of(rt, alloc, case)?;
     for run in case.runs {
-        let mut source = MemSource::new(alloc, run.script, 7)?;
-        let mut sink = MemSink::new(alloc);
-        let status = run_disk(alloc, &mut source, &mut sink, &mut disk);
-        if status != run.status || sink.bytes() != run.printed {
+        let source = MemSource::new(alloc, run.script, 7)?;
+        let done = run_words(rt, alloc, RUN, disk, source, MemSink::new(alloc))?;
+        if done.status != run.status || done.sink.bytes() != run.printed {
             return Ok(false);
         }
+        disk = done.disk;
     }
     Ok(true)
 }
@@ -127,6 +99,6 @@ fn is_met(alloc: Global, case: &Case) -> Result<bool, AllocError> {
 #[test]
 fn each_disk_is_opened_and_used_as_is_written(rt: HostRuntime) {
     for case in &CASES {
-        expect(&rt, case.name, is_met(rt.alloc(), case));
+        expect(&rt, case.name, is_met(&rt, rt.alloc(), case));
     }
 }

@@ -1,18 +1,13 @@
 // Scripts on a fresh engine, over devices in memory. The expected lines were written down by hand.
-ghost use Rattle.worker_log.specs.Kept.{IsInRange};
-
 use crate::cases::expect;
-use btree_node::Node;
-use lean_disk::MemDisk;
+use crate::commands::formatted;
 use lean_edge::{MemSink, MemSource};
-use lean_engine::Engine;
-use node_tree::first_break;
-use page_model::every_check;
+use lean_engine::{Opened, Unopened, open};
 use script_lang::LineReader;
 use script_run::{Stop, run_script};
 use std::alloc::{AllocError, Global};
-use std::process::Abort;
-use worker_log::WorkerLog;
+use std::sync::Wait;
+use std::thread::Threads;
 
 // A script, the reads and puts that fail, of which a put leaves three bytes; how the script ends, and what is printed.
 struct Case {
@@ -59,43 +54,31 @@ static CASES: [Case; 4] = [
     },
 ];
 
-// Sixteen pages: an empty leaf with all keys, and free ones.
-fn fresh_pages(alloc: Global) -> Result<Vec<Node>, AllocError> {
-    let mut pages = Vec::new(alloc);
-    pages.push(Node::empty_leaf(0, 0, u64::MAX))?;
-    for number in 1..16 {
-        pages.push(Node::free(number))?;
-    }
-    Ok(pages)
-}
-
-// An engine on these pages, if they are a tree.
-fn engine_on(alloc: Global, pages: Vec<Node>, log: WorkerLog) -> Option<Engine>
-    requires { IsInRange log }
-{
-    every_check();
-    if pages.len() != 16 {
-        return None;
-    }
-    match first_break(alloc, &pages) {
-        Ok(None) => Some(Engine::new(pages, log)),
-        _ => None,
-    }
-}
-
 // Whether the script on a fresh engine ends and prints as is written.
-fn is_met(rt: &impl Abort, alloc: Global, case: &Case) -> Result<bool, AllocError> {
-    let log = WorkerLog::new(alloc, 1, 1, 64, 0, 0)?;
-    let pages = fresh_pages(alloc)?;
-    let mut engine = engine_on(alloc, pages, log).expect(rt, "the pages are a tree");
+fn is_met<R: Threads + Wait + Sync>(
+    rt: &R,
+    alloc: Global,
+    case: &Case,
+) -> Result<bool, AllocError> {
     let mut reader = LineReader::new(alloc)?;
     let mut source = MemSource::new(alloc, case.script, 7)?;
     source.fail_at(Vec::from_slice(alloc, case.failing_reads)?);
     let mut sink = MemSink::new(alloc);
     sink.fail_at(Vec::from_slice(alloc, case.failing_puts)?);
     sink.keep_prefix(3);
-    let mut disk = MemDisk::new(alloc, 3)?;
-    let stop = run_script(&mut engine, &mut reader, &mut source, &mut sink, &mut disk);
+    let mut engine = match open(alloc, formatted(rt, alloc)?, 64) {
+        Ok(
+            Opened {
+                engine,
+                generation: _,
+                winners: _,
+                undone: _,
+            },
+        ) => engine,
+        Err(Unopened { disk: _, reason: _ }) => return Ok(false),
+    };
+    let stop = run_script(&mut engine, &mut reader, &mut source, &mut sink);
+    engine.close();
     Ok(stop == case.stop && sink.bytes() == case.printed)
 }
 

@@ -1,5 +1,5 @@
 -- What a script and its output tell.
-use Rattle.std.proofs.Common.{◌≡◌, ◌++◌, ◌∷◌, [], ◌<◌, ◌^◌, ◌&&◌, ◌==◌, ℕ, Bool, true, false, cond, List, Option, Some, None, length, map, refl, sym, ap, ◌∙◌, subst, true≢false}
+use Rattle.std.proofs.Common.{◌≡◌, ◌++◌, ◌∷◌, [], ◌<◌, ◌^◌, ◌&&◌, ◌==◌, ℕ, Bool, true, false, cond, List, Option, Some, None, refl, sym, ap, ◌∙◌, subst, true≢false}
 use Rattle.std.proofs.lemmas.Bool.{and_from, cond-true, cond-false, eq-eqb, or_left}
 use Rattle.std.proofs.lemmas.List.{append-nil}
 use mathlib.Core.List.{append_assoc}
@@ -9,11 +9,9 @@ use Rattle.map_model.specs.declared.call.Answer.TheVariants as answer
 use Rattle.map_model.specs.declared.call.Answered.{Answered}
 use Rattle.map_model.specs.declared.call.Refusal.{Refusal}
 use Rattle.map_model.specs.declared.call.Refusal.TheVariants as refusal
-use Rattle.map_model.specs.Journals.{journal_of}
 use Rattle.map_model.specs.Lists.{Has}
 use Rattle.map_model.specs.Outputs.{Reply, names}
 use Rattle.map_model.specs.Transcripts as model
-use Rattle.map_model.specs.Transcripts.{lines_onto, lines_of, txn_of}
 use Rattle.map_model.specs.Pairings.{is_last, is_last_refusal, ends_for, counted, paired, answers_in, EachIsAnswered, in_turn, is_open_line, script_of, EachGoesOn}
 use Rattle.map_model.proofs.PairLemmas.{every_pair, every_script}
 use Rattle.map_model.proofs.CountLemmas.{every_count}
@@ -22,7 +20,6 @@ use Rattle.script_lang.specs.Notices.{Notice, notice_text, NoticeFits}
 use Rattle.script_lang.specs.Replies.{reply_of, reply_text, Fits, AnswerFits, RefusalFits}
 use Rattle.script_lang.specs.Text.{script_lines, whole_lines, IsLine}
 use Rattle.script_lang.proofs.LineLemmas.{line_read}
-use Rattle.session_model.specs.Calls as session
 use Rattle.transcripts.specs.Told.{ask, asked_lines, AreAnswers, EachLineFits, EachFits, Heard, IsOutput}
 use Rattle.transcripts.specs.Transcripts.{asked, asked_onto, answers, transcript, durables}
 use Rattle.transcripts.specs.Laws.{EveryAsked, TellsOf, TellsInTurn}
@@ -112,19 +109,6 @@ script_append (x ∷ y ∷ newer) xs e = go (script_append (y ∷ newer) xs e) (
 pub fits_closed : (workers : ℕ) (xs : List Answered) → EachFits workers xs → is_open_line xs ≡ false
 fits_closed workers xs fit = closed xs (fits_last workers xs fit)
 
--- ## The lines of the model are those of the session
-
-onto_last : (behind : List model.Line) (xs : List Answered) (x : Answered) → lines_onto behind (xs ++ x ∷ []) ≡ record { place = length (lines_onto behind xs); said = x } ∷ lines_onto behind xs
-onto_last behind [] x = refl
-onto_last behind (y ∷ ys) x = onto_last (record { place = length behind; said = y } ∷ behind) ys x
-
-pub lines_are : (xs : List Answered) → lines_of (in_turn xs) ≡ session.lines xs
-lines_are [] = refl
-lines_are (x ∷ earlier) = onto_last [] (in_turn earlier) x ∙ ap (λ (ls : List model.Line). record { place = length ls; said = x } ∷ ls) (lines_are earlier)
-
-pub journal_is : (xs : List Answered) → model.journal (in_turn xs) ≡ session.journal xs
-journal_is xs = ap (λ (ls : List model.Line). journal_of (map txn_of (model.told ls))) (lines_are xs)
-
 -- ## What is told
 
 module _ (back : (reply : Reply) → Fits reply → (reply_of (reply_text reply) ≡ Some reply) × IsLine (reply_text reply)) (quiet : (line : Notice) → NoticeFits line → (reply_of (notice_text line) ≡ None) × IsLine (notice_text line)) where
@@ -157,7 +141,7 @@ module _ (back : (reply : Reply) → Fits reply → (reply_of (reply_text reply)
       let t : TellsOf workers xs told input output = tells_of workers g w u xs told input output (answered_in_turn workers xs others input many fit begins) (heard_answers xs told heard) is in
       record {
         transcript_is = t.transcript_is ∙ counted_in_turn workers xs fit;
-        journal_is = t.journal_is ∙ journal_is xs;
+        journal_is = t.journal_is;
         durables_are = t.durables_are;
         all_durable = λ e. t.durables_are ∙ (ap names e ∙ names_are xs);
       }

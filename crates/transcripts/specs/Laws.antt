@@ -13,7 +13,6 @@ use Rattle.script_lang.specs.Reading.{Unread, Reading, LineIs, LineIsLong, AtEnd
 use Rattle.script_lang.specs.Replies.{reply_text, reply_line, Fits}
 use Rattle.script_lang.specs.Text.{script_lines}
 use Rattle.lean_edge.specs.Outside.{Feed}
-use Rattle.session_model.specs.Calls as session
 use Rattle.transcripts.specs.Told.{ask, asked_lines, asked_text, AreAnswers, IsCut, LineFits, EachLineFits, replies, text_of, opened_line, committed, EachFits, EachReplyFits, Heard, IsOutput, IsTail}
 use Rattle.transcripts.specs.Transcripts.{asked, transcript, durables, first_lines, IsQuiet}
 
@@ -59,7 +58,7 @@ EveryPrefix = (xs : List Answered) (newer told : List Reply) → AreAnswers xs (
 
 pub record TellsInTurn (workers : ℕ) (xs : List Answered) (told : List Reply) (input output : List ℕ) : Type 0 where
   pub transcript_is : transcript workers input output ≡ in_turn xs
-  pub journal_is : journal (transcript workers input output) ≡ session.journal xs
+  pub journal_is : journal (transcript workers input output) ≡ journal (in_turn xs)
   pub durables_are : durables output ≡ names told
   -- where all their replies were printed, these are the transactions that they commit
   pub all_durable : told ≡ replies xs → durables output ≡ committed xs

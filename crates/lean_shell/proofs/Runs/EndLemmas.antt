@@ -1,5 +1,5 @@
 -- How a run ends.
-use Rattle.std.proofs.Common.{◌≡◌, ◌⊎◌, inl, inr, ◌<◌, ◌++◌, ℕ, List, [], ◌∷◌, Some, IsTrue, drop, length, refl, sym, ◌∙◌, ap, subst, arith}
+use Rattle.std.proofs.Common.{◌≡◌, ◌⊎◌, inl, inr, ◌<◌, ◌++◌, ℕ, List, [], Some, IsTrue, drop, length, refl, sym, ◌∙◌, ap, subst, arith}
 use Rattle.std.proofs.lemmas.List.{append-nil}
 use mathlib.Core.List.{append_assoc}
 use Rattle.lean_disk.specs.Area.{Area}
@@ -25,8 +25,6 @@ use Rattle.recovery.specs.Telling.{TellsAll}
 use Rattle.recovery.specs.declared.opening.Unrecovered.{Unrecovered}
 use Rattle.core_state.specs.Openings.{Opening}
 use Rattle.map_model.specs.declared.call.Answered.{Answered}
-use Rattle.session_model.specs.Calls.{Runs}
-use Rattle.session_model.specs.Sessions.{Session}
 use Rattle.transcripts.specs.Laws.{EveryHeard, EveryNotice, EveryTail}
 use Rattle.map_model.specs.Pairings.{script_of}
 use Rattle.transcripts.specs.Told.{asked_lines, replies, EachFits, EachReplyFits, Heard, IsCut, IsTail}
@@ -42,12 +40,14 @@ use Rattle.lean_shell.specs.Headline.{Headline, RunLeaves}
 use Rattle.lean_shell.specs.Ends.{RunEnds}
 use Rattle.lean_shell.specs.Inside.Openings.{Refuses}
 use Rattle.lean_shell.specs.Lines.{IsPut, line_of}
-use Rattle.lean_shell.specs.Runs.{Counts, IsFrom, Shows, first_line, notice_of, status_of}
+use Rattle.lean_engine.specs.Openings.{Shows}
+use Rattle.lean_shell.specs.Runs.{Counts, IsFrom, first_line, notice_of, status_of}
 use Rattle.lean_shell.proofs.Runs.LastLemmas.{Last, PutText, put_text, went_out}
 use Rattle.lean_shell.proofs.Runs.MomentLemmas.{line_moments}
 use Rattle.lean_shell.proofs.Runs.NoteLemmas.{put_notes}
 use Rattle.lean_shell.proofs.Runs.OutputLemmas.{Out, asked_parts, no_tail, notice_tail, out_of}
-use Rattle.lean_shell.proofs.Runs.SurviveLemmas.{LivesOn, master_leaves, run_leaves}
+use Rattle.lean_shell.specs.Inside.Lefts.{LivesOn}
+use Rattle.lean_shell.proofs.Runs.QuietLemmas.{master_leaves, run_leaves}
 
 -- ## A disk that was not opened, or a first line that was cut off
 
@@ -186,8 +186,3 @@ final_tail stop calls told tail fits p held0 held1 sink0 sink1 old new l n n_fit
     go stops.ReadFault calls told tail fits p l = behind tail l.text p.none (l.tail (λ q. cc) n n_fits)
     go stops.DiskFault calls told tail fits p l = behind tail l.text p.none (l.tail (λ q. cc) n n_fits)
     go stops.WriteFault calls told tail fits p l = let o : Out calls told tail = out_of stops.WriteFault calls told tail fits p in cut o.rest l.text (l.none refl) o.cut
-
--- the first of calls ran too
-pub runs_first : (g : Opening) (later first : List Answered) (s : Session) → Runs g (later ++ first) s → (t : Session) × Runs g first t
-runs_first g [] first s r = (s, r)
-runs_first g (x ∷ later) first s r = runs_first g later first r.0 r.1

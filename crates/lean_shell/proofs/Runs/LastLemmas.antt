@@ -1,8 +1,8 @@
 -- The first line, the last line, and lines of disks that were not opened: what the sink holds of them, and what is noted.
-use Rattle.std.proofs.Common.{◌≡◌, ◌⊎◌, inl, inr, ◌<◌, ◌+◌, ◌^◌, ◌++◌, ℕ, List, [], length, take, IsTrue, refl, sym, ◌∙◌, ap, subst, arith}
+use Rattle.std.proofs.Common.{◌≤◌, ◌≡◌, ◌⊎◌, inl, inr, ◌<◌, ◌+◌, ◌^◌, ◌++◌, ℕ, List, [], length, take, IsTrue, refl, sym, ◌∙◌, ap, subst, arith}
 use Rattle.std.proofs.lemmas.List.{append-nil}
 use Rattle.std.proofs.Math.Seq.{take-length}
-use Rattle.lean_disk.specs.Faults.{HasCause, Rose}
+use Rattle.lean_disk.specs.Faults.{HasCause, IsBlamed, Rose}
 use Rattle.lean_disk.specs.Story.{Crash, LeavesNow, Story}
 use Rattle.lean_disk.specs.Told.{TellsSame, OnlyNotes}
 use Rattle.lean_edge.specs.Outside.{Held, Puts}
@@ -66,6 +66,20 @@ ended_disk stops.DiskFault e = refl
 
 pub read_cause : (before now : ℕ) (stop : Stop) (status : ℕ) → status ≡ ended stop → HasCause before now (stop ≡ stops.ReadFault) → HasCause before now (status ≡ 4)
 read_cause before now stop status is c = record { later = c.later; cause = λ e. c.cause (ended_read stop (sym is ∙ e)); calm = λ none. c.calm (λ e. none (is ∙ ap ended e)) }
+
+ended_write : (stop : Stop) → ended stop ≡ 5 → stop ≡ stops.WriteFault
+ended_write stops.End e = absurd (omega arith)
+ended_write (stops.Refused line) e = absurd (omega arith)
+ended_write stops.ReadFault e = absurd (omega arith)
+ended_write stops.WriteFault e = refl
+ended_write stops.DiskFault e = absurd (omega arith)
+
+-- of a count that may still rise behind the script
+pub write_blame : (before now last : ℕ) (stop : Stop) (status : ℕ) → status ≡ ended stop → HasCause before now (stop ≡ stops.WriteFault) → now ≤ last → IsBlamed before last (status ≡ 5)
+write_blame before now last stop status is c later = record {
+  later = let a : before ≤ now = c.later in omega arith;
+  cause = λ e. let a : Rose before now = c.cause (ended_write stop (sym is ∙ e)) in omega arith;
+}
 
 -- of a count that stands before the script and behind it
 pub disk_cause : (entry before now exit : ℕ) (stop : Stop) (status : ℕ) → status ≡ ended stop → before ≡ entry → exit ≡ now → HasCause before now (stop ≡ stops.DiskFault) → HasCause entry exit (status ≡ 6)

@@ -13,7 +13,8 @@ use Rattle.disk_image.specs.Shown.{IsCleanDisk}
 use Rattle.recovery.specs.Crashes.{RecoveryLeaves}
 use Rattle.transcripts.specs.Transcripts.{first_lines, IsQuiet}
 use Rattle.lean_shell.proofs.Runs.NoteLemmas.{put_notes}
-use Rattle.lean_shell.proofs.Runs.SurviveLemmas.{IsSameBut, LivesOn, quiet_leaves}
+use Rattle.lean_shell.specs.Inside.Lefts.{IsSameBut, LivesOn}
+use Rattle.lean_shell.proofs.Runs.QuietLemmas.{quiet_leaves}
 
 -- the same crash, with the notes of another moment
 abbrev pub then : Story → Crash → Crash

@@ -7,7 +7,7 @@ use Rattle.recovery.specs.Telling.{TellsAll}
 use Rattle.recovery.specs.declared.opening.Recovered.{Recovered}
 use Rattle.recovery.specs.declared.opening.Unrecovered.{Unrecovered}
 use Rattle.recovery.specs.declared.opening.Unrecovered.TheVariants as why
-use Rattle.lean_shell.specs.Runs.{Shows}
+use Rattle.lean_engine.specs.Openings.{Shows}
 
 -- the disk shows the reason
 pub shows : (s : Story) (result : Result Recovered Unrecovered) (reason : Unrecovered) → result ≡ Err reason

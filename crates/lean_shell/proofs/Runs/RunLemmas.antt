@@ -1,74 +1,88 @@
 -- A script that was executed on a disk that was opened.
-use Rattle.std.proofs.Common.{◌≡◌, inr, ⊎_elim, ◌≤◌, ◌<◌, ◌+◌, ◌-◌, ◌^◌, ◌++◌, ℕ, suc, List, [], ◌∷◌, length, drop, min, Some, IsTrue, refl, sym, ◌∙◌, ap, subst, arith}
-use Rattle.std.proofs.lemmas.List.{append-nil, append_cancel_right}
+use Rattle.std.proofs.Common.{◌≡◌, ◌⊎◌, inl, inr, ⊎_elim, ◌≤◌, ◌<◌, ◌+◌, ◌-◌, ◌^◌, ◌++◌, ℕ, suc, List, [], ◌∷◌, length, drop, min, Some, IsTrue, refl, sym, ◌∙◌, ap, subst, arith}
+use Rattle.std.proofs.lemmas.List.{append-nil}
 use mathlib.Core.List.{append_assoc}
 use mathlib.Core.Path.{fun_ext}
-use Rattle.map_model.specs.Maps.{Map}
+use Rattle.std.proofs.Math.Seq.{drop-append_seam}
+use Rattle.map_model.specs.declared.call.Answered.{Answered}
 use Rattle.map_model.specs.Journals.{Journal, Name, Serial}
+use Rattle.map_model.specs.Maps.{Map}
+use Rattle.map_model.specs.Outputs.{Reply}
+use Rattle.map_model.specs.Pairings.{in_turn, script_of}
 use Rattle.map_model.specs.Transcripts as model
 use Rattle.image_model.specs.Images.{map_of}
-use Rattle.image_model.specs.Fair.{IsFair}
-use Rattle.log_block.specs.Block.{IsSealed}
-use Rattle.lean_disk.specs.Area.{Area, Write}
+use Rattle.lean_disk.specs.Area.{Area, Leaves}
 use Rattle.lean_disk.specs.Calls.{Noted}
 use Rattle.lean_disk.specs.Faults.{HasCause}
 use Rattle.lean_disk.specs.Moments.{LeavesOnly}
 use Rattle.lean_disk.specs.Story.{Crash, IsLawful, LeavesNow, Story, areas_of, Tells}
 use Rattle.lean_disk.proofs.MomentLemmas as moments
+use Rattle.lean_disk.proofs.MomentLemmas.{weaker}
 use Rattle.lean_edge.specs.Outside.{Feed, Held, added}
-use Rattle.lean_edge.specs.declared.sink.Put.TheVariants.{Done}
+use Rattle.lean_edge.specs.declared.sink.Put.TheVariants.{Done as PutDone}
+use Rattle.script_lang.specs.Lines.{CallFits}
 use Rattle.script_lang.specs.Notices.{Notice, NoticeFits}
-use Rattle.script_lang.specs.Reading.{Unread}
-use Rattle.map_model.specs.Outputs.{Reply}
-use Rattle.script_lang.specs.Replies.{AnswerFits, reply_line}
+use Rattle.script_lang.specs.Reading.{Reading, Unread}
 use Rattle.disk_slots.specs.declared.master.Master.{Master}
 use Rattle.disk_image.specs.Laws.{EveryAgreement, EverySealed}
+use Rattle.disk_image.specs.Masters.{IsOfRun}
 use Rattle.disk_image.specs.Shown.{DiskStandsFor, IsCleanDisk, image_by}
 use Rattle.recovery.specs.Crashes.{RecoveryLeaves}
-use Rattle.recovery.specs.Masters.{IsOpenable}
 use Rattle.recovery.specs.Opened.{Keeps}
 use Rattle.recovery.specs.Telling.{TellsAll}
-use Rattle.core_state.specs.Openings.{first_map}
-use Rattle.map_model.specs.declared.call.Answered.{Answered}
-use Rattle.session_model.specs.Calls.{Runs}
-use Rattle.session_model.specs.Calls as session
-use Rattle.session_model.specs.Laws.{EverySession}
-use Rattle.session_model.specs.Sessions.{Session, start}
-use Rattle.worker_log.specs.Laws.{EveryRun}
-use Rattle.worker_log.specs.Kept.{IsKept, fresh_account}
-use Rattle.lean_engine.specs.States.{State}
-use Rattle.transcripts.specs.Laws.{ComesNext, EveryEnd, EveryHeard, EveryMoment, EveryNext, EveryNextInTurn, EveryInTurn, TellsInTurn}
+use Rattle.core_state.specs.Openings.{Opening, first_map}
+use Rattle.core_calls.specs.Crashes.{EveryRunCrash}
+use Rattle.core_calls.specs.Deeds.{answered, asked}
+use Rattle.core_calls.specs.Durables.{due, durables, moments as moments_in}
+use Rattle.core_calls.specs.Fronts.{Done, front, outcomes}
+use Rattle.core_calls.specs.Printed.{durable_lines, printed}
+use Rattle.core_calls.specs.Runs.{EachTells}
+use Rattle.core_calls.specs.Runs as told_by
+use Rattle.core_calls.specs.Told.{EveryTold}
+use Rattle.core_calls.proofs.RunLemmas.{answers_all}
+use Rattle.core_disk.specs.Held.{HoldsRun}
+use Rattle.core_disk.specs.Shows.{EveryShown}
+use Rattle.core_state.specs.Steps.{state_after}
+use Rattle.disk_runs.specs.Fair.{IsAsRead}
+use Rattle.disk_runs.proofs.ReadLemmas.{every_read}
+use Rattle.worker_log.specs.Laws.{EveryKept, EveryPrefix}
+use Rattle.disk_runs.specs.Stands.{Known, Stands}
+use Rattle.disk_runs.proofs.LineLemmas.{every_fair}
+use Rattle.disk_runs.proofs.StandLemmas.{every_same}
+use Rattle.engine_calls.specs.Clauses.{Between}
+use Rattle.engine_trait.specs.Limits.{limits}
+use Rattle.run_crashes.specs.Lines.{Recovers, RunLeft, next_of}
+use Rattle.run_crashes.proofs.ReopenLemmas.{every_reopened_for}
+use Rattle.worker_log.specs.Logs.{Log}
+use Rattle.transcripts.specs.Laws.{ComesNext, EveryEnd, EveryHeard, EveryMoment, EveryNext, TellsInTurn}
+use Rattle.transcripts.proofs.AskedLemmas.{replies_append}
 use Rattle.transcripts.proofs.TranscriptLemmas.{lines_fit}
-use Rattle.map_model.specs.Pairings.{script_of}
 use Rattle.transcripts.specs.Told.{ask, asked_text, opened_line, replies, text_of, EachFits, EachReplyFits, Heard, IsOutput}
-use Rattle.map_model.specs.declared.call.Call.TheVariants as call
 use Rattle.transcripts.specs.Told.Heard.{Whole}
-use Rattle.map_model.specs.Pairings.{in_turn}
 use Rattle.transcripts.specs.Transcripts.{first_lines, transcript, IsQuiet}
-use Rattle.script_run.specs.Moments.{IsAsked, ScriptLeaves}
-use Rattle.script_run.specs.Runs.{PrintsTo, ScriptRuns, WentOn}
+use Rattle.script_run.specs.Runs.{CallMissing, DiskTo, IsLastCut, NoEvents, PrintsTo, ReadsTo, ScriptRuns, StaysIn2, calls_of}
+use Rattle.script_run.specs.Runs.CallMissing.{Nothing, Part}
 use Rattle.script_run.specs.Texts.{EveryScript, LinesRead}
 use Rattle.script_run.specs.declared.stop.Stop.{Stop}
 use Rattle.script_run.specs.declared.stop.Stop.TheVariants as stops
 use Rattle.lean_shell.specs.Crashes.{IsYoung, MasterLeaves, TellsCrashes, as_read}
-use Rattle.lean_shell.specs.Headline.{Headline, RunLeaves, Survives}
-use Rattle.disk_image.specs.Fair.{IsFairCrash}
-use Rattle.std.proofs.Math.Seq.{drop-append_seam}
-use Rattle.map_model.specs.declared.call.Answer.{Answer}
 use Rattle.lean_shell.specs.Ends.{RunEnds}
-use Rattle.lean_shell.specs.Inside.Openings.{EndsWith, HasOpened, Rests, counts_of}
+use Rattle.lean_shell.specs.Headline.{Headline, RunLeaves, Survives}
+use Rattle.lean_shell.specs.Inside.Begins.{Begins, HasStarted, began}
+use Rattle.lean_shell.specs.Inside.Lefts.{HasLinesFor, IsSameBut, KeepsAreas, LivesOn, WasOut}
+use Rattle.lean_shell.specs.Inside.Assembled.{EveryRun}
+use Rattle.lean_shell.specs.Inside.Openings.{EndsWith}
 use Rattle.lean_shell.specs.Lines.{IsPut}
-use Rattle.lean_shell.specs.Runs.{ended, first_line}
+use Rattle.lean_shell.specs.Runs.{Counts, ended, first_line}
 use Rattle.lean_shell.specs.Starts.{IsLeft}
-use Rattle.recovery.specs.Starts.{IsStartOf}
-use Rattle.lean_shell.specs.declared.opening.Opened.{Opened}
+use Rattle.lean_shell.proofs.Runs.EndLemmas.{HasLines, HeardOf, final_tail, heard_of, lines_of}
 use Rattle.lean_shell.proofs.Runs.LastLemmas.{Last, last_of}
-use Rattle.lean_shell.proofs.Runs.MomentLemmas.{line_moments, put_moments, same_but, then, was_then}
-use Rattle.lean_shell.proofs.Runs.OutputLemmas.{Out, earlier_fit, few_replies, prefix_few, no_tail, older_fit, out_of, same_prefix}
-use Rattle.lean_shell.proofs.Runs.EndLemmas.{HasLines, HeardOf, final_tail, first_lines_of, heard_of, lines_of, runs_first}
-use Rattle.lean_shell.proofs.Runs.SurviveLemmas as survive
-use Rattle.lean_shell.proofs.Runs.SurviveLemmas.{Lives, LivesOn, master_leaves, run_leaves}
-use Rattle.lean_disk.proofs.MomentLemmas.{weaker}
+use Rattle.lean_shell.proofs.Runs.LeftLemmas.{Laws, left_now, lives_as, lives_now}
+use Rattle.lean_shell.proofs.Runs.MomentLemmas.{line_moments, put_moments, same_but, then}
+use Rattle.lean_shell.proofs.Runs.OutputLemmas.{Out, earlier_fit, few_replies, no_tail, older_fit, out_of, prefix_few, same_prefix}
+use Rattle.lean_shell.proofs.Runs.PrintedLemmas.{replies_are, tells_first}
+use Rattle.lean_shell.proofs.Runs.QuietLemmas.{master_leaves, run_leaves}
+use Rattle.lean_shell.proofs.Runs.ScriptLemmas.{answered_out, executes_tell, first_fits, first_of, lacks, lines_for_all, lines_for_part, split_calls}
 
 -- where the sink did not fail, the output has the replies that were noted and no other
 all_told : (stop : Stop) (calls : List Answered) (told : List Reply) (tail : List ℕ) (fits : EachReplyFits (replies calls)) (p : PrintsTo (Some stop) (replies calls) told tail) → (stop ≡ stops.WriteFault → ⊥) → (out_of stop calls told tail fits p).all ≡ told
@@ -78,15 +92,146 @@ all_told stops.ReadFault calls told tail fits p not_write = refl
 all_told stops.WriteFault calls told tail fits p not_write = absurd (not_write refl)
 all_told stops.DiskFault calls told tail fits p not_write = refl
 
-module _ (laws : EverySession) (tells_law : EveryInTurn) (moment_law : EveryMoment) (prefix_law : EveryHeard) (script_law : EveryScript) (end_law : EveryEnd) (next_law : EveryNext) (reply_law : EveryNextInTurn)
-    (agrees : EveryAgreement) (seals : EverySealed) (reads_so : EveryRun)
-    (s0 sa sb sc s1 : Story) (law_a : IsLawful sa) (law_c : IsLawful sc) (law_1 : IsLawful s1) (op : Opened) (o : HasOpened s0 sa op) (keeps : Keeps s0 sa)
+-- what was told are the first of the replies
+told_first : (stop : Stop) (all told : List Reply) (tail : List ℕ) → PrintsTo (Some stop) all told tail → (newer : List Reply) × (newer ++ told ≡ all)
+told_first stops.End all told tail p = ([], p.told_is)
+told_first (stops.Refused line) all told tail p = ([], p.told_is)
+told_first stops.ReadFault all told tail p = ([], p.told_is)
+told_first stops.WriteFault all told tail p = (p.later ++ p.next ∷ [], append_assoc p.later (p.next ∷ []) told ∙ p.split)
+told_first stops.DiskFault all told tail p = ([], p.told_is)
+
+-- ## The disk, by why the script stopped
+
+-- a call that was asked and not answered
+record IsPart (stop : Stop) (start feed : Feed) (reader : Unread) (seen : List ℕ) (g : Opening) (xs : List Done) (x : Done) : Type 0 where
+  stop_is : stop ≡ stops.DiskFault
+  session : x.outcome.session ≡ 1
+  tells : told_by.Tells limits g 1 xs x
+  fits : CallFits (asked x.outcome.deed)
+  read : Reading start feed reader (seen ++ (ask 1 (asked x.outcome.deed) ++ 10 ∷ []))
+
+abbrev Moved : (stop : Stop) (start feed : Feed) (reader : Unread) (seen : List ℕ) → Opening → List Done → Crash → Master → (from now : Story) → Type 0
+Moved stop start feed reader seen g xs c0 m from now =
+    LeavesOnly from now (RunLeft g NoEvents xs c0 m) ⊎ ((x : Done) × IsPart stop start feed reader seen g xs x × LeavesOnly from now (RunLeft g NoEvents (x ∷ xs) c0 m))
+
+moved : (stop : Stop) (number : ℕ) (start feed : Feed) (reader : Unread) (seen : List ℕ) (reads : ReadsTo (Some stop) number start feed reader seen) (g : Opening) (xs : List Done) (c0 : Crash) (m : Master) (k : Known) (from now : Story) (log : Log) →
+    DiskTo (Some stop) number start feed reader seen reads g xs c0 m k from now log → Moved stop start feed reader seen g xs c0 m from now
+moved stops.End number start feed reader seen reads g xs c0 m k from now log d = inl d.runs.any_moment
+moved (stops.Refused line) number start feed reader seen reads g xs c0 m k from now log d = inl d.runs.any_moment
+moved stops.ReadFault number start feed reader seen reads g xs c0 m k from now log d = inl d.runs.any_moment
+moved stops.WriteFault number start feed reader seen reads g xs c0 m k from now log d = inl d.any_moment
+moved stops.DiskFault number start feed reader seen reads g xs c0 m k from now log d = go d
+  where
+    go : CallMissing g xs reads.0 c0 m from now → Moved stops.DiskFault start feed reader seen g xs c0 m from now
+    go (Nothing l) = inl l
+    go (Part x is session tells l) = inr (
+      x,
+      record {
+        stop_is = refl;
+        session = session;
+        tells = tells;
+        fits = subst CallFits (sym is) reads.1;
+        read = subst (λ (c : Rattle.map_model.specs.declared.call.Call.Call). Reading start feed reader (seen ++ (ask 1 c ++ 10 ∷ []))) (sym is) reads.2;
+      },
+      l,
+    )
+
+-- unless the disk failed, it stands for all events
+record StandsNow (g : Opening) (xs : List Done) (c0 : Crash) (k : Known) (now : Story) : Type 0 where
+  known : Known
+  stands : Stands g (front xs) c0 known now
+  master_is : known.master ≡ k.master
+
+stands_now : (stop : Stop) (number : ℕ) (start feed : Feed) (reader : Unread) (seen : List ℕ) (reads : ReadsTo (Some stop) number start feed reader seen) (g : Opening) (xs : List Done) (c0 : Crash) (m : Master) (k : Known) (from now : Story) (log : Log) →
+    (stop ≡ stops.DiskFault → ⊥) → DiskTo (Some stop) number start feed reader seen reads g xs c0 m k from now log → StandsNow g xs c0 k now
+stands_now stops.End number start feed reader seen reads g xs c0 m k from now log not_disk d = record { known = d.known; stands = d.runs.between.stands; master_is = d.master_is }
+stands_now (stops.Refused line) number start feed reader seen reads g xs c0 m k from now log not_disk d = record { known = d.known; stands = d.runs.between.stands; master_is = d.master_is }
+stands_now stops.ReadFault number start feed reader seen reads g xs c0 m k from now log not_disk d = record { known = d.known; stands = d.runs.between.stands; master_is = d.master_is }
+stands_now stops.WriteFault number start feed reader seen reads g xs c0 m k from now log not_disk d = record { known = d.known; stands = d.stands; master_is = d.master_is }
+stands_now stops.DiskFault number start feed reader seen reads g xs c0 m k from now log not_disk d = absurd (not_disk refl)
+
+-- two facts of each moment
+both : (from now : Story) (P Q : Crash → Type 0) → LeavesOnly from now P → LeavesOnly from now Q → LeavesOnly from now (λ c. P c × Q c)
+both from now P Q p q = record {
+  each = λ m c later left. (p.each m c later left, q.each m c later left);
+  before = λ m c left. ⊎_elim (λ old. inl old) (λ pc. ⊎_elim (λ old. inl old) (λ qc. inr (pc, qc)) (q.before m c left)) (p.before m c left);
+}
+
+-- ## What recovery gives of the disk as a read gives it
+
+-- with these replies told, the first of the outcomes were heard
+record HeardNow (g : Opening) (calls : List Done) (told : List Reply) : Type 0 where
+  unheard : List Done
+  heard : List Done
+  are : unheard ++ heard ≡ calls
+  missing : List Name
+  lines : durable_lines missing ++ told ≡ printed g heard
+  recovers : (shows : EveryShown) (crashes : EveryRunCrash) (agrees : EveryAgreement) (m n : Master) (area : ℕ → List ℕ) → IsOfRun m n → HoldsRun g (front calls) n area → Recovers g NoEvents heard (next_of unheard) told m area
+
+-- the replies to all calls but the last are told
+abbrev IsCutLast : Opening → List Done → List Reply → Type 0
+IsCutLast g [] told = Unit {0}
+IsCutLast g (x ∷ earlier) told = length (printed g earlier) ≤ length told
+
+heard_now : (g : Opening) (calls : List Done) (newer told : List Reply) → EachTells limits g 1 calls → newer ++ told ≡ printed g calls → IsCutLast g calls told → HeardNow g calls told
+heard_now g [] newer told each e cut = record {
+  unheard = [];
+  heard = [];
+  are = refl;
+  missing = [];
+  lines = none newer told e;
+  recovers = λ shows crashes agrees m n area of_run h. (every_reopened_for shows crashes agrees NoEvents limits g 1 [] m n area).behind [] told tt (none newer told e) of_run h;
+}
+  where
+    none : (newer told : List Reply) → newer ++ told ≡ [] → told ≡ []
+    none [] told e = e
+    none (r ∷ newer) told e = cc
+heard_now g (x ∷ earlier) newer told each e cut = ⊎_elim (λ l. record {
+  unheard = [];
+  heard = x ∷ earlier;
+  are = refl;
+  missing = l.missing;
+  lines = l.is;
+  recovers = λ shows crashes agrees m n area of_run h. (every_reopened_for shows crashes agrees NoEvents limits g 1 (x ∷ earlier) m n area).behind (durable_lines l.missing) told each l.is of_run h;
+}) (λ l. record {
+  unheard = x ∷ [];
+  heard = earlier;
+  are = refl;
+  missing = [];
+  lines = same l.0 l.1;
+  recovers = λ shows crashes agrees m n area of_run h. (every_reopened_for shows crashes agrees NoEvents limits g 1 earlier m n area).between x x.events [] [] told each (append-nil x.events) (same l.0 l.1) of_run h;
+}) (lacks (due g (state_after g (front (x ∷ earlier))) (durables g (moments_in earlier))) x.outcome.session (answered x.outcome.deed) (printed g earlier) newer told e)
+  where
+    same : (n : List Reply) → n ++ told ≡ printed g earlier → told ≡ printed g earlier
+    same n q = same_prefix n told (printed g earlier) q (let a = prefix_few n told (printed g earlier) q in let b = cut in omega arith)
+
+-- ## A run
+
+pub record RunLaws : Type 0 where
+  pub lefts : Laws
+  pub told : EveryTold
+  pub moment : EveryMoment
+  pub prefix : EveryHeard
+  pub script : EveryScript
+  pub end : EveryEnd
+  pub next : EveryNext
+  pub agrees : EveryAgreement
+  pub shown : EveryShown
+  pub kept : EveryKept
+  pub prefixes : EveryPrefix
+  pub seals : EverySealed
+  pub crashes : EveryRunCrash
+
+module _ (laws : RunLaws) (s0 sa sb sc s1 : Story) (law_a : IsLawful sa) (law_c : IsLawful sc) (law_1 : IsLawful s1) (g : Opening) (first : Log) (counts : Counts) (o : HasStarted s0 sa g first counts) (keeps : Keeps s0 sa)
     (any : (m : Master) → TellsAll s0 → IsCleanDisk m (areas_of s0) → LeavesOnly s0 sa (RecoveryLeaves m s0))
-    (held0 held_b held_c held1 : Held) (opened_fits : NoticeFits (Notice.Opened op.generation op.winners op.undone)) (p : IsPut (first_line (counts_of op)) Done held0 held_b sa sb)
-    (feed0 feed1 : Feed) (reader : Unread) (stop : Stop) (e1 : State) (r : ScriptRuns (Some stop) o.g [] (start o.g) 0 feed0 [] op.engine e1 reader feed1 held_b held_c sb sc)
+    (held0 held_b held_c held1 : Held) (opened_fits : NoticeFits (Notice.Opened counts.generation counts.winners counts.undone)) (p : IsPut (first_line counts) PutDone held0 held_b sa sb)
+    (feed0 feed1 : Feed) (reader : Unread) (stop : Stop) (log1 : Log) (r : ScriptRuns (Some stop) g [] 0 feed0 [] first log1 reader feed1 held_b held_c sb sc)
     (sink_c sink1 : ℕ) (last : EndsWith stop held_c held1 sink_c sink1 sc s1) where
-  abbrev calls : List Answered
+  abbrev calls : List Done
   calls = r.newer
+
+  abbrev said : List Answered
+  said = calls_of r.newer
 
   abbrev input : List ℕ
   input = feed0.left
@@ -94,98 +239,119 @@ module _ (laws : EverySession) (tells_law : EveryInTurn) (moment_law : EveryMome
   noted : Noted sa sb
   noted = p.noted refl
 
-  runs_calls : Runs o.g calls r.session
-  runs_calls = subst (λ (xs : List Answered). Runs o.g xs r.session) (append-nil calls) r.runs
+  each : EachTells limits g 1 r.newer
+  each = executes_tell g first r.newer r.log r.executes
 
-  fit_replies : EachReplyFits (replies calls)
-  fit_replies = (((prefix_law calls).prefix [] (replies calls) refl).fit 1 r.fits).1
+  printed_is : printed g r.newer ≡ replies said
+  printed_is = replies_are laws.lefts.alone g o.workers r.newer each
 
-  abbrev out : Out calls r.told r.tail
-  out = out_of stop calls r.told r.tail fit_replies r.prints
+  fit_replies : EachReplyFits (replies said)
+  fit_replies = (((laws.prefix said).prefix [] (replies said) refl).fit 1 r.fits).1
+
+  abbrev out : Out said r.told r.tail
+  out = out_of stop said r.told r.tail fit_replies r.prints
 
   abbrev l : Last stop held_c held1 sink_c sink1 sc s1
   l = last_of stop held_c held1 sink_c sink1 sc s1 last
 
   abbrev put : List ℕ
-  put = first_line (counts_of op) ++ (text_of r.told ++ (r.tail ++ l.text))
+  put = first_line counts ++ (text_of r.told ++ (r.tail ++ l.text))
 
-  output : IsOutput op.generation op.winners op.undone out.all put
+  output : IsOutput counts.generation counts.winners counts.undone out.all put
   output = record {
     opened = opened_fits;
     fit = older_fit out.newer out.all (subst EachReplyFits (sym out.split) fit_replies);
     tail = out.rest ++ l.text;
-    ends = final_tail stop calls r.told r.tail fit_replies r.prints held_c held1 sink_c sink1 sc s1 l (Notice.Opened op.generation op.winners op.undone) opened_fits;
-    is = ap (λ (t : List ℕ). first_line (counts_of op) ++ t)
+    ends = final_tail stop said r.told r.tail fit_replies r.prints held_c held1 sink_c sink1 sc s1 l (Notice.Opened counts.generation counts.winners counts.undone) opened_fits;
+    is = ap (λ (t : List ℕ). first_line counts ++ t)
         (sym (append_assoc (text_of r.told) r.tail l.text) ∙ (ap (λ (t : List ℕ). t ++ l.text) out.text ∙ append_assoc (text_of out.all) out.rest l.text));
   }
 
   holds : IsTrue held0.tells → held1.bytes ≡ held0.bytes ++ put
-  holds told =
-      let b = p.puts.done refl told in
-      let c = r.holds.bytes (p.puts.same ∙ told) in
-      let d = l.holds (r.holds.same ∙ (p.puts.same ∙ told)) in
+  holds tells =
+      let b = p.puts.done refl tells in
+      let c = r.holds.bytes (p.puts.same ∙ tells) in
+      let d = l.holds (r.holds.same ∙ (p.puts.same ∙ tells)) in
       d ∙ (ap (λ (t : List ℕ). t ++ l.text) (c ∙ ap (λ (t : List ℕ). t ++ (text_of r.told ++ r.tail)) b)
-      ∙ (append_assoc (held0.bytes ++ first_line (counts_of op)) (text_of r.told ++ r.tail) l.text
-      ∙ (append_assoc held0.bytes (first_line (counts_of op)) ((text_of r.told ++ r.tail) ++ l.text)
-      ∙ ap (λ (t : List ℕ). held0.bytes ++ (first_line (counts_of op) ++ t)) (append_assoc (text_of r.told) r.tail l.text))))
+      ∙ (append_assoc (held0.bytes ++ first_line counts) (text_of r.told ++ r.tail) l.text
+      ∙ (append_assoc held0.bytes (first_line counts) ((text_of r.told ++ r.tail) ++ l.text)
+      ∙ ap (λ (t : List ℕ). held0.bytes ++ (first_line counts ++ t)) (append_assoc (text_of r.told) r.tail l.text))))
 
-  abbrev h : HeardOf stop calls out.all
-  h = heard_of prefix_law stop calls r.told r.tail fit_replies r.prints
+  abbrev h : HeardOf stop said out.all
+  h = heard_of laws.prefix stop said r.told r.tail fit_replies r.prints
 
-  read : IsTrue feed0.tells → LinesRead stop calls input
-  read = (script_law stop calls feed0 feed1 reader r.told r.tail held_b held_c r.fits r.reads r.prints r.holds).read
+  read : IsTrue feed0.tells → LinesRead stop said input
+  read = (laws.script stop said feed0 feed1 reader r.told r.tail held_b held_c r.fits r.reads r.prints r.holds).read
 
-  lines : IsTrue feed0.tells → HasLines input calls
-  lines tells = lines_of stop input calls (read tells)
+  lines : IsTrue feed0.tells → HasLines input said
+  lines tells = lines_of stop input said (read tells)
 
-  -- what an output tells that has these replies
-  tells_of : IsTrue feed0.tells → (later first : List Answered) → later ++ first ≡ calls → (told : List Reply) (text : List ℕ) → Heard first told → IsOutput op.generation op.winners op.undone told text → TellsInTurn 1 first told input text
-  tells_of tells later first e told text heard is =
-      let fits : EachFits 1 first = earlier_fit later first (subst (EachFits 1) (sym e) r.fits) in
-      let ls : HasLines input first = first_lines_of input later first calls e fits (lines tells) in
-      tells_law 1 op.generation op.winners op.undone first told ls.others input text (omega arith) fits ls.is heard is
+  -- what an output tells that has the replies to the first of the calls
+  tells_of : IsTrue feed0.tells → (later heard : List Answered) → later ++ heard ≡ said → (told : List Reply) (text : List ℕ) → Heard heard told → IsOutput counts.generation counts.winners counts.undone told text → TellsInTurn 1 heard told input text
+  tells_of tells later heard e told text hears is =
+      let fits : EachFits 1 heard = earlier_fit later heard (subst (EachFits 1) (sym e) r.fits) in
+      let ls : HasLines input heard = Rattle.lean_shell.proofs.Runs.EndLemmas.first_lines_of input later heard said e fits (lines tells) in
+      laws.lefts.tells 1 counts.generation counts.winners counts.undone heard told ls.others input text (omega arith) fits ls.is hears is
 
   all_tells : IsTrue feed0.tells → TellsInTurn 1 h.heard out.all input put
   all_tells tells = tells_of tells h.unheard h.heard h.calls_are out.all put h.hears output
 
-  heard_runs : (t : Session) × Runs o.g h.heard t
-  heard_runs = runs_first o.g h.unheard h.heard r.session (subst (λ (xs : List Answered). Runs o.g xs r.session) (sym h.calls_are) runs_calls)
-
   serial : IsTrue feed0.tells → TellsAll s0 → (m : Master) (map : Map) (won : List Name) → DiskStandsFor m (areas_of s0) map won → Serial map (model.journal (transcript 1 input put))
   serial tells all m map won stands =
       let f = o.from all in
-      let one : f.m ≡ m = same_master (sym f.sound.master ∙ stands.master) in
-      let maps : first_map o.g ≡ map = fun_ext (λ k. f.map k ∙ (ap (λ (x : Master). map_of (image_by x (areas_of s0)) k) one ∙ sym (stands.stands.map k))) in
+      let one : f.m ≡ m = same_master f.m m (sym f.sound.master ∙ stands.master) in
+      let maps : first_map g ≡ map = fun_ext (λ k. f.map k ∙ (ap (λ (x : Master). map_of (image_by x (areas_of s0)) k) one ∙ sym (stands.stands.map k))) in
+      let c = split_calls r.newer h.unheard h.heard h.calls_are in
+      let each_first = tells_first g c.newer c.older (subst (EachTells limits g 1) (sym c.are) each) in
+      let law = laws.told g (front c.older) (outcomes c.older) (answers_all limits g 1 c.older each_first) in
       subst (λ (j : Journal). Serial map j) (sym (all_tells tells).journal_is)
-      (subst (λ (mp : Map). Serial mp (session.journal h.heard)) maps (laws o.g 64 o.alone h.heard heard_runs.0 heard_runs.1).serial)
+      (subst (λ (xs : List Answered). Serial map (model.journal (in_turn xs))) c.first_is
+      (subst (λ (mp : Map). Serial mp (model.journal (in_turn (calls_of c.older)))) maps law.serial))
     where
-      same_master : {x y : Master} → Some x ≡ Some y → x ≡ y
-      same_master e = cc
+      same_master : (x y : Master) → Some x ≡ Some y → x ≡ y
+      same_master x y e = cc
 
   -- ## Moments
 
   -- the first of the replies, as an output of their own
-  first_output : (later first : List Reply) → later ++ first ≡ r.told → IsOutput op.generation op.winners op.undone first (first_lines (suc (length first)) put)
-  first_output later first e =
-      let all : (out.later ++ later) ++ first ≡ out.all = append_assoc out.later later first ∙ (ap (λ (rs : List Reply). out.later ++ rs) e ∙ out.prefix) in
-      let w = (moment_law op.generation op.winners op.undone out.all put output).each (out.later ++ later) first all in
+  first_output : (later told : List Reply) → later ++ told ≡ r.told → IsOutput counts.generation counts.winners counts.undone told (first_lines (suc (length told)) put)
+  first_output later told e =
+      let all : (out.later ++ later) ++ told ≡ out.all = append_assoc out.later later told ∙ (ap (λ (rs : List Reply). out.later ++ rs) e ∙ out.prefix) in
+      let w = (laws.moment counts.generation counts.winners counts.undone out.all put output).each (out.later ++ later) told all in
       record {
         opened = opened_fits;
-        fit = older_fit (out.later ++ later) first (subst EachReplyFits (sym all) output.fit);
+        fit = older_fit (out.later ++ later) told (subst EachReplyFits (sym all) output.fit);
         tail = [];
-        ends = no_tail (Notice.Opened op.generation op.winners op.undone) opened_fits;
-        is = w.lines ∙ ap (λ (t : List ℕ). opened_line op.generation op.winners op.undone ++ t) (sym (append-nil (text_of first)));
+        ends = no_tail (Notice.Opened counts.generation counts.winners counts.undone) opened_fits;
+        is = w.lines ∙ ap (λ (t : List ℕ). opened_line counts.generation counts.winners counts.undone ++ t) (sym (append-nil (text_of told)));
       }
+
+  said_few : length said < 2 ^ 40
+  said_few = let f = r.few in omega arith
 
   told_few : length r.told < 2 ^ 42
   told_few =
-      let a = prefix_few out.newer out.all (replies calls) out.split in
+      let a = prefix_few out.newer out.all (replies said) out.split in
       let b = prefix_few out.later r.told out.all out.prefix in
-      let c = few_replies calls in
-      let d = r.few in
+      let c = few_replies said in
+      let d = said_few in
       omega arith
 
+  -- all that was noted stands in the output behind the last line too
+  last_output : (stop ≡ stops.WriteFault → ⊥) → IsOutput counts.generation counts.winners counts.undone r.told (first_lines (suc (suc (length r.told))) put)
+  last_output not_write =
+      let alls : out.all ≡ r.told = all_told stop said r.told r.tail fit_replies r.prints not_write in
+      let size : length out.all ≡ length r.told = ap (λ (rs : List Reply). length rs) alls in
+      subst (λ (rs : List Reply). IsOutput counts.generation counts.winners counts.undone rs (first_lines (suc (suc (length r.told))) put)) alls
+      (laws.end counts.generation counts.winners counts.undone out.all put (suc (suc (length r.told))) output (omega (arith, size)))
+
   module _ (tells : IsTrue feed0.tells) (m : Master) (all : TellsCrashes s0) (clean : IsCleanDisk m (areas_of s0)) (young : IsYoung m s0) where
+    abbrev c0 : Crash
+    c0 = began s0
+
+    abbrev b : Begins m s0 sa g first
+    b = o.begins m all.all clean
+
     counts_b : IsTrue sb.counts
     counts_b = noted.counts ∙ (keeps.counts ∙ all.counts)
 
@@ -193,171 +359,276 @@ module _ (laws : EverySession) (tells_law : EveryInTurn) (moment_law : EveryMome
     notes_b = let e = noted.notes (keeps.counts ∙ all.counts) in let f = keeps.notes in let y = young.notes in
         e ∙ (let q : min (sa.notes + 1) (2 ^ 64 - 1) ≡ s0.notes + 1 = omega arith in q)
 
+    notes_few : sb.notes + length r.told < 2 ^ 64
+    notes_few = let a = told_few in let b = notes_b in let y = young.notes in omega arith
+
     notes_c : sc.notes ≡ sb.notes + length r.told
-    notes_c = r.others.notes counts_b (let a = told_few in let b = notes_b in let y = young.notes in omega arith)
+    notes_c = r.others.notes counts_b notes_few
 
     -- before the script
     quiet_one : IsQuiet 1 input (first_lines 1 put)
     quiet_one =
-        let t = tells_of tells calls [] (append-nil calls) [] (first_lines 1 put) (Whole refl) (first_output r.told [] (append-nil r.told)) in
+        let t = tells_of tells said [] (append-nil said) [] (first_lines 1 put) (Whole refl) (first_output r.told [] (append-nil r.told)) in
         record { transcript_is = t.transcript_is; durables_are = t.durables_are }
 
     quiet_none : IsQuiet 1 input (first_lines 0 put)
     quiet_none = record { transcript_is = refl; durables_are = refl }
 
     before : LeavesOnly s0 sb (LivesOn m s0 input put)
-    before = line_moments m s0 sa sb clean young.notes input put Done (any m all.all clean) law_a keeps.later keeps.notes p.noted p.same quiet_none (λ e. quiet_one)
+    before = line_moments m s0 sa sb clean young.notes input put PutDone (any m all.all clean) law_a keeps.later keeps.notes p.noted p.same quiet_none (λ e. quiet_one)
 
     -- in it
-    abbrev rests : Rests m s0 sa o.g op.engine.log
-    rests = o.rests m all.all clean
+    nil : r.newer ++ [] ≡ r.newer
+    nil = append-nil r.newer
 
-    -- the disk was opened by the master of the clean disk
-    opened_by : (P : Master → Type 0) → P (o.from all.all).m → P m
-    opened_by P p = subst P (one_master (sym (o.from all.all).sound.master ∙ clean.master)) p
-      where
-        one_master : {x y : Master} → Some x ≡ Some y → x ≡ y
-        one_master e = cc
+    stands_b : Stands g [] c0 b.known sb
+    stands_b = every_same sa sb c0 g [] b.known b.stands (λ a low. noted.tells a ∙ b.stands.tells a low) (λ a low. noted.area a)
 
-    starts : IsStartOf m (areas_of s0) o.g
-    starts = opened_by (λ (x : Master). IsStartOf x (areas_of s0) o.g) (o.from all.all).starts
+    of_known : IsOfRun m b.known.master
+    of_known = subst (IsOfRun m) (sym b.master_is) b.of_run
 
-    abbrev P : Crash → Type 0
-    P = LivesOn m s0 input put
+    between_b : Between limits g 1 [] c0 b.known sb
+    between_b = record { told = tt; stands = stands_b; counts = counts_b; notes = notes_b ∙ (let q : s0.notes + 1 ≡ s0.notes + 1 + 0 = omega arith in q) }
 
-    abbrev Q : Crash → Type 0
-    Q = ScriptLeaves feed0 [] o.g [] calls r.told (start o.g) (fresh_account (sa.area 2)) op.engine.log sb
+    disk : LeavesOnly sb sc (StaysIn2 (length r.told) sb) × DiskTo (Some stop) (suc (0 + length (calls_of r.newer))) feed0 feed1 reader (asked_text (script_of (calls_of r.newer))) r.reads g (r.newer ++ []) c0 m b.known sb sc r.log
+    disk = r.disk c0 m b.known between_b of_known b.log_is notes_few
 
-    -- it tells of its one log
-    told_log : Tells s0 2
-    told_log = all.all.logs m clean.master (opened_by IsOpenable (o.from all.all).openable) 1 (omega arith) (let one = survive.one_log m s0 sa o.g op.engine.log rests in omega arith)
+    -- the areas of the master and of the pages are those of the opening
+    tells_b : (a : ℕ) → a < 2 → Tells sb a
+    tells_b a low = stands_b.tells a (let w = o.workers in omega arith)
 
-    told_b : (a : ℕ) → sb.tells a ≡ s0.tells a
-    told_b a = noted.tells a ∙ keeps.tells a
+    areas_kept : (c : Crash) → StaysIn2 (length r.told) sb c → KeepsAreas sa c
+    areas_kept c stays a low = subst (λ (x : Area). Leaves x (c.image a)) (noted.area a) (stays.leaves a (λ e. omega arith) (tells_b a low))
 
-    kept_b : IsKept (fresh_account (sa.area 2)) op.engine.log (sb.area 2)
-    kept_b = subst (IsKept (fresh_account (sa.area 2)) op.engine.log) (sym (noted.area 2)) (o.starts (sa.area 2) rests.fresh)
+    -- the replies that were out are the first of those that were told
+    abbrev Older : List Reply → Type 0
+    Older told = (n : List Reply) × (n ++ told ≡ replies said)
 
-    script : LeavesOnly sb sc Q
-    script = r.any_moment (told_b 2 ∙ told_log) (fresh_account (sa.area 2)) refl kept_b
+    firsts : (told : List Reply) → Older told → length told ≤ length r.told → (later : List Reply) × (later ++ told ≡ r.told)
+    firsts told older few = let t = told_first stop (replies said) r.told r.tail r.prints in first_of older.0 told t.0 r.told (replies said) older.1 t.1 few
 
-    fits_first : (c : Crash) (q : Q c) → EachFits 1 q.heard
-    fits_first c q = earlier_fit q.unheard q.heard (subst (EachFits 1) (sym q.calls) r.fits)
+    -- what the replies to the first of the calls are
+    older_of : (unheard heard : List Done) (missing : List Name) (told : List Reply) → unheard ++ heard ≡ r.newer → durable_lines missing ++ told ≡ printed g heard → Older told
+    older_of unheard heard missing told e is =
+        let each_first = tells_first g unheard heard (subst (EachTells limits g 1) (sym e) each) in (
+          replies (calls_of unheard) ++ durable_lines missing,
+          append_assoc (replies (calls_of unheard)) (durable_lines missing) told
+              ∙ (ap (λ (rs : List Reply). replies (calls_of unheard) ++ rs) (is ∙ replies_are laws.lefts.alone g o.workers heard each_first)
+              ∙ (sym (replies_append (calls_of unheard) (calls_of heard)) ∙ ap replies (sym (Rattle.lean_shell.proofs.Runs.PrintedLemmas.calls_append unheard heard) ∙ ap calls_of e))),
+        )
 
-    next_of : (c : Crash) (q : Q c) → IsAsked feed0 (asked_text (script_of q.heard)) call.Commit → ComesNext (script_of q.heard) (ask 1 call.Commit) input
-    next_of c q asked = (next_law 1 feed0 asked.feed asked.reader (script_of q.heard) (omega arith) (lines_fit 1 q.heard (fits_first c q)) tells).asks 1 call.Commit (record { first = omega arith; last = omega arith; fits = asked.fits }) asked.read
+    abbrev ls : HasLines input said
+    ls = lines tells
 
-    more_of : (c : Crash) (q : Q c) (lines_out : ℕ) → IsOutput op.generation op.winners op.undone q.first (first_lines lines_out put) → (a : Answer) → AnswerFits a → IsAsked feed0 (asked_text (script_of q.heard)) call.Commit →
-        transcript 1 input (first_lines lines_out put ++ reply_line (Reply.Answered 1 a)) ≡ in_turn q.heard ++ record { session = 1; call = call.Commit; answer = a } ∷ []
-    more_of c q lines_out is a fits asked =
-        let next : ComesNext (script_of q.heard) (ask 1 call.Commit) input = next_of c q asked in
-        reply_law 1 op.generation op.winners op.undone (record { session = 1; call = call.Commit; answer = a }) q.heard q.first next.others input put lines_out (omega arith)
-        (fits_first c q, record { first = omega arith; last = omega arith; fits = tt }, (omega arith, fits)) next.begins q.hears is
+    -- of a crash in the run: its replies, its calls, and what the script asks next
+    record Knows (xs : List Done) (c : Crash) (q : RunLeft g NoEvents xs c0 m c) : Type 0 where
+      later : List Reply
+      first_told : later ++ q.out ≡ r.told
+      fits : EachFits 1 (calls_of q.heard)
+      script : HasLinesFor input q.heard (next_of q.unheard)
 
-    -- a crash with the writes and the bytes of one that the script leaves, as these lines were out
-    module _ (c d : Crash) (q : Q c) (same : survive.IsSameBut c d) (lines_out : ℕ) (notes : d.notes ≡ s0.notes + lines_out) (is : IsOutput op.generation op.winners op.undone q.first (first_lines lines_out put)) where
-      t : TellsInTurn 1 q.heard q.first input (first_lines lines_out put)
-      t = tells_of tells q.unheard q.heard q.calls q.first (first_lines lines_out put) q.hears is
+    -- its notes are those of these replies
+    few_out : (xs : List Done) (c : Crash) (q : RunLeft g NoEvents xs c0 m c) → c.notes ≤ sb.notes + length r.told → length q.out ≤ length r.told
+    few_out xs c q few = let e = q.notes in let f = notes_b in omega arith
 
-      fair_as : IsFairCrash (length m.heads) s0 d → IsFair 2048 IsSealed (sa.area 2).bytes q.since (d.image 2)
-      fair_as = survive.fair_log laws agrees reads_so seals m s0 sa sb o.g op.engine.log o.alone rests clean all.all (o.map m all.all clean) noted.area told_b rests.writes starts feed0 input put
-          calls r.told c d q same lines_out notes t.journal_is t.durables_are t.transcript_is (more_of c q lines_out is)
+    knows_all : (c : Crash) (q : RunLeft g NoEvents r.newer c0 m c) → c.notes ≤ sb.notes + length r.told → Knows r.newer c q
+    knows_all c q few =
+        let f = firsts q.out (older_of q.unheard q.heard q.missing q.out q.calls q.lines) (few_out r.newer c q few) in
+        record { later = f.0; first_told = f.1; fits = first_fits q.unheard q.heard r.newer q.calls r.fits; script = lines_for_all input r.newer r.fits ls.others ls.is q.unheard q.heard q.calls }
 
-      survives_as : IsFair 2048 IsSealed (sa.area 2).bytes q.since (d.image 2) → Lives m s0 input put d
-      survives_as = survive.survives laws agrees reads_so seals m s0 sa sb o.g op.engine.log o.alone rests clean all.all (o.map m all.all clean) noted.area told_b rests.writes starts feed0 input put
-          calls r.told c d q same lines_out notes t.journal_is t.durables_are t.transcript_is (more_of c q lines_out is)
+    module _ (x : Done) (part : IsPart stop feed0 feed1 reader (asked_text (script_of said)) g r.newer x) where
+      comes : ComesNext (script_of said) (ask 1 (asked x.outcome.deed)) input
+      comes = (laws.next 1 feed0 feed1 reader (script_of said) (omega arith) (lines_fit 1 said r.fits) tells).asks 1 (asked x.outcome.deed) (record { first = omega arith; last = omega arith; fits = part.fits }) part.read
 
-      left_as : IsFair 2048 IsSealed (sa.area 2).bytes q.since (d.image 2) → IsLeft m s0 input put d
-      left_as = survive.left_by laws agrees reads_so seals m s0 sa sb o.g op.engine.log o.alone rests clean all.all (o.map m all.all clean) noted.area told_b rests.writes starts feed0 input put
-          calls r.told c d q same lines_out notes t.journal_is t.durables_are t.transcript_is (more_of c q lines_out is)
+      told_all : r.told ≡ replies said
+      told_all = go stop part.stop_is r.prints
+        where
+          go : (s : Stop) → s ≡ stops.DiskFault → PrintsTo (Some s) (replies said) r.told r.tail → r.told ≡ replies said
+          go s is q = (subst (λ (z : Stop). PrintsTo (Some z) (replies said) r.told r.tail) is q).told_is
 
-    -- so it is in each image in which the log's blocks are fair, and they are in each fair image
-    record IsSafe (since : List Write) (d : Crash) : Type 0 where
-      survives : IsFair 2048 IsSealed (sa.area 2).bytes since (d.image 2) → Lives m s0 input put d
-      left : IsFair 2048 IsSealed (sa.area 2).bytes since (d.image 2) → IsLeft m s0 input put d
-      fair : IsFairCrash (length m.heads) s0 d → IsFair 2048 IsSealed (sa.area 2).bytes since (d.image 2)
+      knows_part : (c : Crash) (q : RunLeft g NoEvents (x ∷ r.newer) c0 m c) → c.notes ≤ sb.notes + length r.told → Knows (x ∷ r.newer) c q
+      knows_part c q few = record {
+        later = f.0;
+        first_told = f.1;
+        fits = heard_fits q.unheard q.calls;
+        script = lines_for_part input r.newer r.fits (ask 1 (asked x.outcome.deed) ∷ comes.others) comes.begins x part.session comes.others refl q.unheard q.heard q.calls not_all;
+      }
+        where
+          -- the one that was not answered was not heard
+          not_all : q.heard ≡ x ∷ r.newer → ⊥
+          not_all e =
+              let more = answered_out q.missing (due g (state_after g (front (x ∷ r.newer))) (durables g (moments_in r.newer))) x.outcome.session (answered x.outcome.deed) (printed g r.newer) q.out (q.lines ∙ ap (printed g) e) in
+              let a = few_out (x ∷ r.newer) c q few in
+              let b = ap (λ (rs : List Reply). length rs) (told_all ∙ sym printed_is) in
+              omega arith
 
-    safe_as : (c d : Crash) (q : Q c) → survive.IsSameBut c d → (lines_out : ℕ) → d.notes ≡ s0.notes + lines_out → IsOutput op.generation op.winners op.undone q.first (first_lines lines_out put) → IsSafe q.since d
-    safe_as c d q same lines_out notes is = record { survives = survives_as c d q same lines_out notes is; left = left_as c d q same lines_out notes is; fair = fair_as c d q same lines_out notes is }
+          rest_of : (u : List Done) → u ++ q.heard ≡ x ∷ r.newer → (v : List Done) × (v ++ q.heard ≡ r.newer)
+          rest_of [] e = absurd (not_all e)
+          rest_of (y ∷ v) e = (v, tail_is y (v ++ q.heard) e)
+            where
+              tail_is : (y : Done) (ys : List Done) → y ∷ ys ≡ x ∷ r.newer → ys ≡ r.newer
+              tail_is y ys e = cc
 
-    is_left : (since : List Write) (d : Crash) → IsSafe since d → P d
-    is_left since d s = inr (λ fair. s.survives (s.fair fair))
+          heard_fits : (u : List Done) → u ++ q.heard ≡ x ∷ r.newer → EachFits 1 (calls_of q.heard)
+          heard_fits u e = let v = rest_of u e in first_fits v.0 q.heard r.newer v.1 r.fits
 
-    first_few : (c : Crash) (q : Q c) → length q.first ≤ length r.told
-    first_few c q = prefix_few q.later q.first r.told q.split
+          f : (later : List Reply) × (later ++ q.out ≡ r.told)
+          f = let v = rest_of q.unheard q.calls in firsts q.out (older_of v.0 q.heard q.missing q.out v.1 q.lines) (few_out (x ∷ r.newer) c q few)
 
-    notes_of : (c : Crash) (q : Q c) → c.notes ≡ s0.notes + suc (length q.first)
-    notes_of c q =
-        let few = first_few c q in let a = told_few in let b = notes_b in let y = young.notes in
-        let e = q.notes counts_b (omega arith) in omega arith
+    -- so it was out
+    was_out : (xs : List Done) (c : Crash) (q : RunLeft g NoEvents xs c0 m c) → Knows xs c q → StaysIn2 (length r.told) sb c → (d : Crash) → IsSameBut c d → (lines_out : ℕ) → d.notes ≡ s0.notes + lines_out → IsOutput counts.generation counts.winners counts.undone q.out (first_lines lines_out put) →
+        WasOut g xs c0 m s0 sa input put counts.generation counts.winners counts.undone d
+    was_out xs c q k stays d same lines_out notes is = record { crash = c; left = q; areas = areas_kept c stays; same = same; lines = lines_out; notes = notes; output = is; fits = k.fits; script = k.script }
 
-    first_out : (c : Crash) (q : Q c) → IsOutput op.generation op.winners op.undone q.first (first_lines (suc (length q.first)) put)
-    first_out c q = first_output q.later q.first q.split
+    as_began : IsAsRead s0 c0
+    as_began = record { image = λ a. refl; writes = λ a. refl }
 
-    in_script : (c : Crash) → Q c → P c
-    in_script c q = is_left q.since c (safe_as c c q (record { writes = λ a. refl; image = λ a. refl }) (suc (length q.first)) (notes_of c q) (first_out c q))
+    -- as these lines were out, and behind the last line
+    module _ (xs : List Done) (each_x : EachTells limits g 1 xs) (knows : (c : Crash) (q : RunLeft g NoEvents xs c0 m c) → c.notes ≤ sb.notes + length r.told → Knows xs c q) (run : LeavesOnly sb sc (RunLeft g NoEvents xs c0 m)) where
+      abbrev Q : Crash → Type 0
+      Q c = StaysIn2 (length r.told) sb c × RunLeft g NoEvents xs c0 m c
 
-    -- behind it
-    at_last : (c : Crash) → LeavesNow s1 c → (q : Q (then sc c)) → IsSafe q.since c
-    at_last c now q = ⊎_elim
-        (λ (e : c.notes ≡ sc.notes). safe_as (then sc c) c q (same_but sc c) (suc (length q.first)) (e ∙ notes_of (then sc c) q) (first_out (then sc c) q))
-        (λ (e : (c.notes ≡ sc.notes + 1) × (stop ≡ stops.WriteFault → ⊥)). whole e.0 e.1)
-        (l.noted (let a = told_few in let b = notes_b in let y = young.notes in let n = notes_c in omega arith) c now)
-      where
-        whole : c.notes ≡ sc.notes + 1 → (stop ≡ stops.WriteFault → ⊥) → IsSafe q.since c
-        whole e not_write =
-            let n = notes_c in
-            let b = notes_b in
-            let own = notes_of (then sc c) q in
-            let long : length q.first ≡ length r.told = omega arith in
-            let firsts : q.first ≡ r.told = same_prefix q.later q.first r.told q.split long in
-            let alls : out.all ≡ r.told = all_told stop calls r.told r.tail fit_replies r.prints not_write in
-            let lines_out : ℕ = suc (suc (length r.told)) in
-            let size : length out.all ≡ length r.told = ap (λ (rs : List Reply). length rs) alls in
-            let ended_out = end_law op.generation op.winners op.undone out.all put lines_out output (omega (arith, size)) in
-            safe_as (then sc c) c q (same_but sc c) lines_out (omega (arith, e, n, b))
-            (subst (λ (rs : List Reply). IsOutput op.generation op.winners op.undone rs (first_lines lines_out put)) (alls ∙ sym firsts) ended_out)
+      script : LeavesOnly sb sc Q
+      script = both sb sc (StaysIn2 (length r.told) sb) (RunLeft g NoEvents xs c0 m) disk.0 run
 
-    later_bc : sb.moment ≤ sc.moment
-    later_bc = r.others.later
+      lives_on : (d : Crash) → WasOut g xs c0 m s0 sa input put counts.generation counts.winners counts.undone d → LivesOn m s0 input put d
+      lives_on d w = inr (λ fair. lives_as laws.lefts m s0 sa g b.n b.begun xs each_x c0 input put counts.generation counts.winners counts.undone d w (every_fair s0) as_began fair)
 
-    pub leaves : LeavesOnly s0 s1 P
-    leaves = moments.then s0 sb s1 P before (put_moments sb sc s1 Q P script in_script law_c later_bc l.notes (λ c now q. is_left q.since c (at_last c now q)))
+      in_script : (c : Crash) → Q c → LivesOn m s0 input put c
+      in_script c q =
+          let k = knows c q.1 q.0.notes in
+          lives_on c (was_out xs c q.1 k q.0 c (record { writes = λ a. refl; image = λ a. refl }) (suc (length q.1.out)) (let e = q.1.notes in omega arith) (first_output k.later q.1.out k.first_told))
+
+      at_last : (c : Crash) → LeavesNow s1 c → Q (then sc c) → LivesOn m s0 input put c
+      at_last c now q = ⊎_elim
+          (λ (e : c.notes ≡ sc.notes). lives_on c (was_out xs (then sc c) q.1 k q.0 c (same_but sc c) (suc (length q.1.out)) (let n = q.1.notes in omega arith) (first_output k.later q.1.out k.first_told)))
+          (λ (e : (c.notes ≡ sc.notes + 1) × (stop ≡ stops.WriteFault → ⊥)). whole e.0 e.1)
+          (l.noted (let a = told_few in let b = notes_b in let y = young.notes in let n = notes_c in omega arith) c now)
+        where
+          k : Knows xs (then sc c) q.1
+          k = knows (then sc c) q.1 q.0.notes
+
+          whole : c.notes ≡ sc.notes + 1 → (stop ≡ stops.WriteFault → ⊥) → LivesOn m s0 input put c
+          whole e not_write =
+              let n = notes_c in
+              let b = notes_b in
+              let own = q.1.notes in
+              let long : length q.1.out ≡ length r.told = omega arith in
+              let told : q.1.out ≡ r.told = same_prefix k.later q.1.out r.told k.first_told long in
+              lives_on c (was_out xs (then sc c) q.1 k q.0 c (same_but sc c) (suc (suc (length r.told))) (omega (arith, e, n, b))
+              (subst (λ (rs : List Reply). IsOutput counts.generation counts.winners counts.undone rs (first_lines (suc (suc (length r.told))) put)) (sym told) (last_output not_write)))
+
+      leaves_all : LeavesOnly s0 s1 (LivesOn m s0 input put)
+      leaves_all = moments.then s0 sb s1 (LivesOn m s0 input put) before (put_moments sb sc s1 Q (LivesOn m s0 input put) script in_script law_c r.others.later l.notes at_last)
+
+    pub leaves : LeavesOnly s0 s1 (LivesOn m s0 input put)
+    leaves = ⊎_elim
+        (λ run. leaves_all r.newer each knows_all run)
+        (λ (e : (x : Done) × IsPart stop feed0 feed1 reader (asked_text (script_of said)) g r.newer x × LeavesOnly sb sc (RunLeft g NoEvents (x ∷ r.newer) c0 m)).
+        leaves_all (e.0 ∷ r.newer) (each, e.1.tells) (knows_part e.0 e.1) e.2)
+        (subst (λ (xs : List Done). Moved stop feed0 feed1 reader (asked_text (script_of said)) g xs c0 m sb sc) nil
+        (moved stop (suc (0 + length (calls_of r.newer))) feed0 feed1 reader (asked_text (script_of said)) r.reads g (r.newer ++ []) c0 m b.known sb sc r.log disk.1))
 
     -- as a read gives it
     module _ (no_fault : stop ≡ stops.DiskFault → ⊥) where
+      st : StandsNow g r.newer c0 b.known sc
+      st = subst (λ (xs : List Done). StandsNow g xs c0 b.known sc) nil
+          (stands_now stop (suc (0 + length (calls_of r.newer))) feed0 feed1 reader (asked_text (script_of said)) r.reads g (r.newer ++ []) c0 m b.known sb sc r.log no_fault disk.1)
+
+      stands_1 : Stands g (front r.newer) c0 st.known s1
+      stands_1 = every_same sc s1 c0 g (front r.newer) st.known st.stands (λ a low. l.notes.tells a ∙ st.stands.tells a low) (λ a low. l.notes.area a)
+
+      holds_now : HoldsRun g (front r.newer) st.known.master (areas_of s1)
+      holds_now = every_read laws.kept laws.prefixes laws.seals s1 c0 g (front r.newer) st.known stands_1 law_1
+
+      cut : IsCutLast g r.newer r.told
+      cut = go r.newer refl
+        where
+          whole : (xs : List Done) → r.newer ≡ xs → r.told ≡ replies said → IsCutLast g xs r.told
+          whole [] e q = tt
+          whole (x ∷ xs) e q =
+              let a = ap (λ (rs : List Reply). length rs) (q ∙ (sym printed_is ∙ ap (printed g) e)) in
+              let b = Rattle.std.proofs.lemmas.List.length-append (durable_lines (due g (state_after g (front (x ∷ xs))) (durables g (moments_in xs)))) (Reply.Answered x.outcome.session (answered x.outcome.deed) ∷ printed g xs) in
+              omega arith
+
+          last_cut : (xs : List Done) → r.newer ≡ xs → IsLastCut said r.told → IsCutLast g xs r.told
+          last_cut [] e q = tt
+          last_cut (x ∷ xs) e q =
+              let earlier_is : calls_of xs ≡ q.earlier = tail_is (Rattle.core_calls.specs.Deeds.in_words x.outcome) q.last (calls_of xs) q.earlier (sym (ap calls_of e) ∙ q.calls_are) in
+              let a = ap (λ (rs : List Reply). length rs) (q.told_are ∙ ap (λ (ys : List Answered). q.said ++ replies ys) (sym earlier_is)) in
+              let b = Rattle.std.proofs.lemmas.List.length-append q.said (replies (calls_of xs)) in
+              let each_x : EachTells limits g 1 (x ∷ xs) = subst (EachTells limits g 1) e each in
+              let c = ap (λ (rs : List Reply). length rs) (replies_are laws.lefts.alone g o.workers xs each_x.0) in
+              omega arith
+            where
+              tail_is : (y z : Answered) (ys zs : List Answered) → y ∷ ys ≡ z ∷ zs → ys ≡ zs
+              tail_is y z ys zs e = cc
+
+          by_stop : (s : Stop) → stop ≡ s → PrintsTo (Some s) (replies said) r.told r.tail → (xs : List Done) → r.newer ≡ xs → IsCutLast g xs r.told
+          by_stop stops.End is q xs e = whole xs e q.told_is
+          by_stop (stops.Refused line) is q xs e = whole xs e q.told_is
+          by_stop stops.ReadFault is q xs e = whole xs e q.told_is
+          by_stop stops.WriteFault is q xs e = last_cut xs e (r.cut (ap (λ (z : Stop). Some z) is))
+          by_stop stops.DiskFault is q xs e = absurd (no_fault is)
+
+          go : (xs : List Done) → r.newer ≡ xs → IsCutLast g xs r.told
+          go xs e = by_stop stop refl r.prints xs e
+
+      now_heard : HeardNow g r.newer r.told
+      now_heard = let t = told_first stop (replies said) r.told r.tail r.prints in heard_now g r.newer t.0 r.told each (t.1 ∙ sym printed_is) cut
+
+      recovered : Recovers g NoEvents now_heard.heard (next_of now_heard.unheard) r.told m (areas_of s1)
+      recovered = now_heard.recovers laws.shown laws.crashes laws.agrees m st.known.master (areas_of s1) (subst (IsOfRun m) (sym st.master_is) of_known) holds_now
+
+      -- that crash, with the notes of these replies
+      abbrev c1 : Crash
+      c1 = record { notes = s0.notes + 1 + length r.told; writes = λ a. (s1.area a).writes; image = areas_of s1 }
+
+      abbrev q1 : RunLeft g NoEvents r.newer c0 m c1
+      q1 = record { unheard = now_heard.unheard; heard = now_heard.heard; calls = now_heard.are; missing = now_heard.missing; out = r.told; lines = now_heard.lines; notes = refl; recovers = λ fair. recovered }
+
+      areas_1 : KeepsAreas sa c1
+      areas_1 a low =
+          let same : s1.area a ≡ sa.area a = l.notes.area a ∙ (r.others.area a (λ e. omega arith) ∙ noted.area a) in
+          subst (λ (x : Area). Leaves x (areas_of s1 a)) same (law_1.reads_so a (stands_1.tells a (let w = o.workers in omega arith)))
+
+      abbrev was_now : (lines_out : ℕ) → s1.notes ≡ s0.notes + lines_out → IsOutput counts.generation counts.winners counts.undone r.told (first_lines lines_out put) → WasOut g r.newer c0 m s0 sa input put counts.generation counts.winners counts.undone (as_read s1)
+      was_now lines_out notes is = record {
+        crash = c1;
+        left = q1;
+        areas = areas_1;
+        same = record { writes = λ a. refl; image = λ a. refl };
+        lines = lines_out;
+        notes = notes;
+        output = is;
+        fits = first_fits now_heard.unheard now_heard.heard r.newer now_heard.are r.fits;
+        script = lines_for_all input r.newer r.fits ls.others ls.is now_heard.unheard now_heard.heard now_heard.are;
+      }
+
       now : LeavesNow s1 (as_read s1)
       now = record { counts = l.notes.counts ∙ (r.others.counts ∙ counts_b); notes = refl; writes = λ a told. refl; leaves = λ a told. law_1.reads_so a told }
 
-      left : Q (then sc (as_read s1))
-      left = script.each sc.moment (then sc (as_read s1)) later_bc (was_then sc s1 law_c l.notes (as_read s1) now)
-
-      some_stop : {x y : Stop} → Some x ≡ Some y → x ≡ y
-      some_stop e = cc
-
-      went_on : WentOn r.session (fresh_account (sa.area 2)) r.state.log (sc.area 2)
-      went_on = r.goes_on (λ (e : Some stop ≡ Some stops.DiskFault). no_fault (some_stop e)) (told_b 2 ∙ told_log) (fresh_account (sa.area 2)) refl kept_b
-
-      fair_now : IsFair 2048 IsSealed (sa.area 2).bytes left.since (s1.area 2).bytes
-      fair_now =
-          let k = went_on.kept.holds in
-          let same : left.since ≡ k.since = append_cancel_right left.since k.since (sa.area 2).writes
-          (sym left.writes_are ∙ (ap (λ (x : Area). x.writes) (l.notes.area 2) ∙ (k.writes ∙ ap (λ (ws : List Write). k.since ++ ws) went_on.older))) in
-          subst (λ (x : Area). IsFair 2048 IsSealed (sa.area 2).bytes left.since x.bytes) (sym (l.notes.area 2))
-          (subst (λ (ws : List Write). IsFair 2048 IsSealed (sa.area 2).bytes ws (sc.area 2).bytes) (sym same)
-          (subst (λ (b : List ℕ). IsFair 2048 IsSealed b k.since (sc.area 2).bytes) went_on.first k.fair))
-
       pub stands : Survives m s0 input put (as_read s1)
-      stands = ((at_last (as_read s1) now left).survives fair_now).survives
+      stands = ⊎_elim
+          (λ (e : s1.notes ≡ sc.notes). (lives_now laws.lefts m s0 sa g b.n b.begun r.newer each c0 input put counts.generation counts.winners counts.undone (as_read s1) (was_now (suc (length r.told)) (let n = notes_c in let b = notes_b in omega arith) (first_output [] r.told refl)) recovered).survives)
+          (λ (e : (s1.notes ≡ sc.notes + 1) × (stop ≡ stops.WriteFault → ⊥)). (lives_now laws.lefts m s0 sa g b.n b.begun r.newer each c0 input put counts.generation counts.winners counts.undone (as_read s1) (was_now (suc (suc (length r.told))) (let n = notes_c in let b = notes_b in let f = e.0 in omega arith) (last_output e.1)) recovered).survives)
+          (l.noted (let a = told_few in let b = notes_b in let y = young.notes in let n = notes_c in omega arith) (as_read s1) now)
 
-      pub left_now : IsLeft m s0 input put (as_read s1)
-      left_now = (at_last (as_read s1) now left).left fair_now
+      pub stays : IsLeft m s0 input put (as_read s1)
+      stays = ⊎_elim
+          (λ (e : s1.notes ≡ sc.notes). left_now laws.lefts m s0 sa g b.n b.begun r.newer each c0 input put counts.generation counts.winners counts.undone (as_read s1) (was_now (suc (length r.told)) (let n = notes_c in let b = notes_b in omega arith) (first_output [] r.told refl)) recovered)
+          (λ (e : (s1.notes ≡ sc.notes + 1) × (stop ≡ stops.WriteFault → ⊥)). left_now laws.lefts m s0 sa g b.n b.begun r.newer each c0 input put counts.generation counts.winners counts.undone (as_read s1) (was_now (suc (suc (length r.told))) (let n = notes_c in let b = notes_b in let f = e.0 in omega arith) (last_output e.1)) recovered)
+          (l.noted (let a = told_few in let b = notes_b in let y = young.notes in let n = notes_c in omega arith) (as_read s1) now)
 
   pub run_says : IsTrue feed0.tells → TellsAll s0 → Headline s0 s1 input put
   run_says tells all = record {
     serial = serial tells all;
     any_moment = λ counts m clean young. weaker s0 s1 (LivesOn m s0 input put) (RunLeaves m s0 input put) (run_leaves m s0 input put) (leaves tells m (record { all = all; counts = counts }) clean young);
   }
+
+  length_calls : (xs : List Done) → length (calls_of xs) ≡ length xs
+  length_calls [] = refl
+  length_calls (x ∷ xs) = ap suc (length_calls xs)
 
   pub run_ends : (status : ℕ) → status ≡ ended stop → (sink0 : ℕ) → HasCause sink0 sink_c (stop ≡ stops.WriteFault) → ((a : ℕ) → 2 < a → sa.area a ≡ s0.area a) → RunEnds status s0 s1 feed0 feed1 held0 held1 sink0 sink1
   run_ends status is sink0 sinks others = record {
@@ -366,15 +637,15 @@ module _ (laws : EverySession) (tells_law : EveryInTurn) (moment_law : EveryMome
     how = inr (inr (record {
       stop = stop;
       status_is = is;
-      counts = counts_of op;
-      calls = calls;
-      few = let f = r.few in omega arith;
-      executed = record { opening = o.g; alone = o.alone; from = o.from; first = op.engine; pictures = o.pictures; log = o.log; last = r.state; session = r.session; executes = r.executes };
+      counts = counts;
+      calls = r.newer;
+      few = let f = r.few in let e = length_calls r.newer in omega arith;
+      executed = record { opening = g; workers = o.workers; changes = o.changes; from = o.from; first = first; log = o.log; last = r.log; executes = r.executes };
       read = read;
       printed = record { told = r.told; tail = r.tail; prints = r.prints; cut = λ failed. r.cut (ap (λ (s : Stop). Some s) failed); last = l.text; last_is = l.went sink0 sinks; put_is = refl };
       told = λ tells. record { heard = h.heard; unheard = h.unheard; calls_are = h.calls_are; all_heard = h.all_heard; transcript_is = (all_tells tells).transcript_is };
       stands = λ no_fault tells m all clean young. stands tells m all clean young no_fault;
-      left = λ no_fault tells m all clean young. left_now tells m all clean young no_fault;
+      left = λ no_fault tells m all clean young. stays tells m all clean young no_fault;
     }));
     others = λ a lt. l.notes.area a ∙ (r.others.area a (λ e. omega arith) ∙ (noted.area a ∙ others a lt));
     tells_on = record {
@@ -389,3 +660,9 @@ module _ (laws : EverySession) (tells_law : EveryInTurn) (moment_law : EveryMome
 
   pub run_headline : IsTrue feed0.tells → IsTrue held0.tells → TellsAll s0 → Headline s0 s1 input (added held0 held1)
   run_headline tells sink_tells all = subst (Headline s0 s1 input) (sym (ap (drop (length held0.bytes)) (holds sink_tells) ∙ drop-append_seam held0.bytes put)) (run_says tells all)
+
+pub every_run : RunLaws → (s0 sa sb sc s1 : Story) → EveryRun s0 sa sb sc s1
+every_run laws s0 sa sb sc s1 feed0 feed1 held0 held_b held_c held1 stop sink_c sink1 x = record {
+  ends = run_ends laws s0 sa sb sc s1 x.law_a x.law_c x.law_1 x.g x.first x.counts x.starts x.keeps x.any held0 held_b held_c held1 x.opened_fits x.put feed0 feed1 x.reader stop x.log1 x.runs sink_c sink1 x.last;
+  headline = run_headline laws s0 sa sb sc s1 x.law_a x.law_c x.law_1 x.g x.first x.counts x.starts x.keeps x.any held0 held_b held_c held1 x.opened_fits x.put feed0 feed1 x.reader stop x.log1 x.runs sink_c sink1 x.last;
+}

@@ -5,29 +5,29 @@ use Rattle.lean_shell.specs.declared.words.Command.TheVariants.{Run}
 use Rattle.lean_shell.proofs.program.run_alone.Goals as goal
 
 pub returns-in-Some-Format-clause-ends : goal.returns-in-Some-Format-clause-ends
-returns-in-Some-Format-clause-ends g c = of_format (texts c.args.words.now) c.run_format.result (g.D.Disk.story c.args.disk.now) (g.D.Disk.story c.run_format.new.disk) (g.S.Source.feed c.args.source.now) (g.S.Source.feed c.args.source.now) (g.K.Sink.held c.args.sink.now) (g.K.Sink.held c.run_format.new.sink)
-    (record { source = g.S.Source.faults c.args.source.now; sink = g.K.Sink.faults c.args.sink.now; disk = g.D.Disk.faults c.args.disk.now }) (record { source = g.S.Source.faults c.args.source.now; sink = g.K.Sink.faults c.run_format.new.sink; disk = g.D.Disk.faults c.run_format.new.disk })
-    c.in-Some-Format.shape (subst (Asks (texts c.args.words.now)) c.in-Some-Format.field-0-is (c.in-Some-Format.ensures).some) refl c.run_format.ensures
+returns-in-Some-Format-clause-ends g c = of_format (texts c.args.words.now) c.run_format-status.result (g.D.Disk.story c.args.disk) (g.D.Disk.story c.run_format-status.new.disk) (g.S.Source.feed c.args.source.now) (g.S.Source.feed c.args.source.now) (g.K.Sink.held c.args.sink.now) (g.K.Sink.held c.run_format-status.new.sink)
+    (record { source = g.S.Source.faults c.args.source.now; sink = g.K.Sink.faults c.args.sink.now; disk = g.D.Disk.faults c.args.disk }) (record { source = g.S.Source.faults c.args.source.now; sink = g.K.Sink.faults c.run_format-status.new.sink; disk = g.D.Disk.faults c.run_format-status.new.disk })
+    c.in-Some-Format.shape (subst (Asks (texts c.args.words.now)) c.in-Some-Format.field-0-is (c.in-Some-Format.ensures).some) refl c.run_format-status.ensures
 
 pub returns-in-Some-Run-clause-ends : goal.returns-in-Some-Run-clause-ends
-returns-in-Some-Run-clause-ends g c = of_run (texts c.args.words.now) c.run_disk.result (g.D.Disk.story c.args.disk.now) (g.D.Disk.story c.run_disk.new.disk) (g.S.Source.feed c.args.source.now) (g.S.Source.feed c.run_disk.new.source) (g.K.Sink.held c.args.sink.now) (g.K.Sink.held c.run_disk.new.sink)
-    (record { source = g.S.Source.faults c.args.source.now; sink = g.K.Sink.faults c.args.sink.now; disk = g.D.Disk.faults c.args.disk.now }) (record { source = g.S.Source.faults c.run_disk.new.source; sink = g.K.Sink.faults c.run_disk.new.sink; disk = g.D.Disk.faults c.run_disk.new.disk })
+returns-in-Some-Run-clause-ends g c = of_run (texts c.args.words.now) c.run_disk.result.status (g.D.Disk.story c.args.disk) (g.D.Disk.story c.run_disk.result.disk) (g.S.Source.feed c.args.source.now) (g.S.Source.feed c.run_disk.new.source) (g.K.Sink.held c.args.sink.now) (g.K.Sink.held c.run_disk.new.sink)
+    (record { source = g.S.Source.faults c.args.source.now; sink = g.K.Sink.faults c.args.sink.now; disk = g.D.Disk.faults c.args.disk }) (record { source = g.S.Source.faults c.run_disk.new.source; sink = g.K.Sink.faults c.run_disk.new.sink; disk = g.D.Disk.faults c.run_disk.result.disk })
     (subst (Asks (texts c.args.words.now)) c.in-Some-Run.field-0-is (c.in-Some-Run.ensures).some) c.run_disk.ensures.ends c.run_disk.ensures.cause_read_fault c.run_disk.ensures.cause_write_fault c.run_disk.ensures.cause_disk_fault
 
 pub returns-in-Some-Run-clause-source : goal.returns-in-Some-Run-clause-source
 returns-in-Some-Run-clause-source g c = λ none. absurd (none (subst (Asks (texts c.args.words.now)) c.in-Some-Run.field-0-is (c.in-Some-Run.ensures).some))
 
 pub returns-in-None-clause-ends : goal.returns-in-None-clause-ends
-returns-in-None-clause-ends g c = of_none (texts c.args.words.now) c.fail.result (g.D.Disk.story c.args.disk.now) (g.D.Disk.story c.fail.new.disk) (g.S.Source.feed c.args.source.now) (g.S.Source.feed c.args.source.now) (g.K.Sink.held c.args.sink.now) (g.K.Sink.held c.fail.new.sink)
-    (record { source = g.S.Source.faults c.args.source.now; sink = g.K.Sink.faults c.args.sink.now; disk = g.D.Disk.faults c.args.disk.now }) (record { source = g.S.Source.faults c.args.source.now; sink = g.K.Sink.faults c.fail.new.sink; disk = g.D.Disk.faults c.fail.new.disk })
+returns-in-None-clause-ends g c = of_none (texts c.args.words.now) c.fail-status.result (g.D.Disk.story c.args.disk) (g.D.Disk.story c.fail-status.new.disk) (g.S.Source.feed c.args.source.now) (g.S.Source.feed c.args.source.now) (g.K.Sink.held c.args.sink.now) (g.K.Sink.held c.fail-status.new.sink)
+    (record { source = g.S.Source.faults c.args.source.now; sink = g.K.Sink.faults c.args.sink.now; disk = g.D.Disk.faults c.args.disk }) (record { source = g.S.Source.faults c.args.source.now; sink = g.K.Sink.faults c.fail-status.new.sink; disk = g.D.Disk.faults c.fail-status.new.disk })
     (c.in-None.ensures).none refl
     (record {
-      status_is = c.fail.ensures.answer;
-      printed = c.fail.ensures.printed;
-      same = c.fail.ensures.noted.area;
-      tells_on = tells_on (g.D.Disk.story c.args.disk.now) (g.D.Disk.story c.fail.new.disk) c.fail.ensures.noted;
-      faults = c.fail.ensures.faults;
-      any_moment = usage_moments (g.D.Disk.story c.args.disk.now) (g.D.Disk.story c.fail.new.disk) ((g.met.D.Disk g.world.𝓛 g.world.𝓜 g.world.𝓡 ((λ s x. x), (λ x. x), (λ x. x), (λ x. x))).lawful c.args.disk.now) c.fail.ensures.noted;
+      status_is = c.fail-status.ensures.answer;
+      printed = c.fail-status.ensures.printed;
+      same = c.fail-status.ensures.noted.area;
+      tells_on = tells_on (g.D.Disk.story c.args.disk) (g.D.Disk.story c.fail-status.new.disk) c.fail-status.ensures.noted;
+      faults = c.fail-status.ensures.faults;
+      any_moment = usage_moments (g.D.Disk.story c.args.disk) (g.D.Disk.story c.fail-status.new.disk) ((g.met.D.Disk g.world.𝓛 g.world.𝓜 g.world.𝓡 ((λ s x. x), (λ x. x), (λ x. x), (λ x. x))).lawful c.args.disk) c.fail-status.ensures.noted;
     })
 
 pub returns-in-Some-Format-clause-headline : goal.returns-in-Some-Format-clause-headline

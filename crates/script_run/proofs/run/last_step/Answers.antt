@@ -3,4 +3,4 @@ use Rattle.script_run.proofs.ThenLemmas.{not_below_itself}
 use Rattle.script_run.proofs.run.last_step.Goals as goal
 
 pub returns-in-None-clause-runs : goal.returns-in-None-clause-runs
-returns-in-None-clause-runs g c o xs s start seen most runs pictures was = elim (not_below_itself (2 ^ 40) (c.take_step.ensures.few c.in-None.is)) [ ]
+returns-in-None-clause-runs g c o xs start seen run was = elim (not_below_itself (2 ^ 40) (c.take_step.ensures.few c.in-None.is)) [ ]

@@ -1,19 +1,17 @@
-use Rattle.std.proofs.Common.{◌≡◌, ℕ, suc, true, None, IsTrue, add-one, ap, sym, ◌∙◌, subst}
-use Rattle.map_model.specs.declared.call.Answer.TheVariants.{Begun}
-use Rattle.map_model.specs.declared.call.Call.TheVariants.{Begin}
-use Rattle.lean_engine.specs.contracts.engine.Engine.{the_view}
-use Rattle.lean_engine.specs.Calls.{Calls}
-use Rattle.lean_engine.specs.Refusals.{refusal_of}
-use Rattle.lean_engine.specs.States.{Pictures, State}
-use Rattle.lean_engine.proofs.RefusalLemmas.{begin_free}
-use Rattle.lean_engine.proofs.SessionLemmas.{calls_begun}
+use Rattle.std.proofs.Common.{IsErr, refl, sym, ap, ◌∙◌, subst}
+use Rattle.map_model.specs.declared.call.Call.TheVariants as calls
+use Rattle.row_engine.specs.Calls.{begin_answer}
+use Rattle.lean_engine.specs.Calls.{Asked}
+use Rattle.lean_engine.specs.States.{State}
+use Rattle.lean_engine.proofs.CallLemmas.{begin_asked, no_fault_comes, untouched}
 use Rattle.lean_engine.proofs.engine.Engine.begin.Goals as goal
+use Rattle.lean_engine.proofs.engine.Engine.begin.Goals.{in-Ok, in-Err}
 
-pub returns-clause-does : goal.returns-clause-does
-returns-clause-does c g s told area p =
-    let e = the_view c.self.inside in
-    let is = c.self.view_is in
-    let none : refusal_of e Begin ≡ None = ap (λ (o : State). refusal_of o Begin) is ∙ c.requires in
-    subst (λ (n : ℕ). Calls g s c.args.self.now (record e { is_open = true; begun = n; changes = 0 }) Begin (Begun n) (IsTrue told) area area) (sym (add-one e.begun))
-    (subst (λ (o : State). Calls g s o (record e { is_open = true; begun = suc e.begun; changes = 0 }) Begin (Begun (suc e.begun)) (IsTrue told) area area) is
-    (calls_begun g s e (IsTrue told) area (begin_free e none).0 (subst (Pictures g s) (sym is) p)))
+pub returns-clause-asked : goal.returns-clause-asked
+returns-clause-asked g c =
+    let e = c.begin.ensures in
+    let was : State g.row.D.Denot = record { view = c.self.inside.seat.view; disk = c.self.inside.store.disk; log = c.self.inside.store.log; works = c.self.inside.store.session.works } in
+    let new : State g.row.D.Denot = record { view = c.begin.new.seat.view; disk = c.begin.new.store.disk; log = c.begin.new.store.log; works = c.begin.new.store.session.works } in
+    subst (λ (s : State g.row.D.Denot). Asked calls.Begin c.match-begin.result s new (g.D.Disk.story s.disk) (g.D.Disk.story c.begin.new.store.disk)) c.self.view_is
+    (begin_asked was new _ _ c.begin.result e.does (no_fault_comes c.begin.result e.come) (λ b. let s = e.same (subst (λ r. IsErr r) (sym b) refl) in λ i. record { view = s.0 i; disk = (s.1 i).disk; log = (s.1 i).log; works = (s.1 i).session.works }) (untouched was new c.begin.result e.same_disk.2 e.no_disk_fault) e.cause_broken
+    c.match-begin.result (elim c.match-begin.branch [ in-Ok w ↦ ap begin_answer w.in-Ok.is ∙ sym w.result-is | in-Err w ↦ ap begin_answer w.in-Err.is ∙ sym w.result-is ]))

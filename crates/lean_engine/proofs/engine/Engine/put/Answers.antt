@@ -1,50 +1,17 @@
-use Rattle.std.proofs.Common.{◌≡◌, sym, subst}
-use Rattle.map_model.specs.declared.call.Answer.{Answer}
-use Rattle.map_model.specs.declared.call.Answer.TheVariants.{Was}
-use Rattle.map_model.specs.declared.call.Call.TheVariants.{Put}
-use Rattle.core_state.specs.Openings.{Opening}
-use Rattle.lean_disk.specs.Story.{Tells}
-use Rattle.node_tree.specs.Nodes.{nodes_of}
-use Rattle.session_model.specs.Sessions.{Session}
-use Rattle.lean_engine.specs.contracts.engine.Engine.{the_view}
-use Rattle.lean_engine.specs.Calls.{Calls}
-use Rattle.lean_engine.specs.Inside.{said}
-use Rattle.lean_engine.specs.Logged.{LogAfter, word_of}
-use Rattle.lean_engine.specs.States.{IsEngine, Pictures}
-use Rattle.lean_engine.proofs.SessionLemmas.{calls_put}
-use Rattle.lean_engine.proofs.StateLemmas.{if_ok, may_now}
+use Rattle.std.proofs.Common.{sym, ap, ◌∙◌, subst}
+use Rattle.map_model.specs.declared.call.Call.TheVariants as calls
+use Rattle.row_engine.specs.Calls.{put_answer}
+use Rattle.lean_engine.specs.Calls.{Asked}
+use Rattle.lean_engine.specs.States.{State}
+use Rattle.lean_engine.proofs.CallLemmas.{broken_early, put_asked, works_by}
 use Rattle.lean_engine.proofs.engine.Engine.put.Goals as goal
+use Rattle.lean_engine.proofs.engine.Engine.put.Goals.{in-Ok, in-Err}
 
-pub put_in-requires-clause-may : goal.put_in-requires-clause-may
-put_in-requires-clause-may g c =
-    may_now (the_view c.self.inside) c.args.self.now c.deref.result.now c.leaf_of-page.result c.args.key c.args.value c.self.view_is c.deref.ensures.value c.self.invariant c.requires.free c.leaf_of-page.ensures.page c.leaf_of-page.ensures.leaf
-
-pub returns-clause-does : goal.returns-clause-does
-returns-clause-does g c =
-    let old = c.args.self.now in
-    let new = c.put_in.new.self in
-    let page = c.leaf_of-page.result in
-    let key = c.args.key in
-    let value = c.args.value in
-    let at = (g.P.Part.seat c.args.dev.now).area in
-    let s0 = g.P.Part.story c.args.dev.now in
-    let s1 = g.P.Part.story c.put_in.new.dev in
-    let may = may_now (the_view c.self.inside) old c.deref.result.now page key value c.self.view_is c.deref.ensures.value c.self.invariant c.requires.free c.leaf_of-page.ensures.page c.leaf_of-page.ensures.leaf in
-    if_ok (λ a. a ≡ Was (said (word_of key (nodes_of old.pages page))))
-    (λ a. (o : Opening) (s : Session) → o.changes ≡ 64 → Pictures o s old → Calls o s old new (Put key value) a (Tells s1 at) (s0.area at) (s1.area at))
-    c.put_in.result c.put_in.ensures.answer c.put_in.ensures.after c.put_in.ensures.kept
-    (λ a is puts keeps o s most p. subst (λ (b : Answer). Calls o s old new (Put key value) b (Tells s1 at) (s0.area at) (s1.area at)) (sym is)
-    (calls_put o s old new page key value p may puts (Tells s1 at) (s0.area at) (s1.area at) most (subst IsEngine c.self.view_is c.self.invariant) c.requires.range.1
-    (λ told x kept. keeps x told kept)))
-
-pub returns-clause-log : goal.returns-clause-log
-returns-clause-log g c =
-    let old = c.args.self.now in
-    let new = c.put_in.new.self in
-    let page = c.leaf_of-page.result in
-    let key = c.args.key in
-    let value = c.args.value in
-    let may = may_now (the_view c.self.inside) old c.deref.result.now page key value c.self.view_is c.deref.ensures.value c.self.invariant c.requires.free c.leaf_of-page.ensures.page c.leaf_of-page.ensures.leaf in
-    if_ok (λ a. a ≡ Was (said (word_of key (nodes_of old.pages page)))) (λ a. LogAfter a (Put key value) old new.log)
-    c.put_in.result c.put_in.ensures.answer c.put_in.ensures.after c.put_in.ensures.kept
-    (λ a is puts keeps. subst (λ (b : Answer). LogAfter b (Put key value) old new.log) (sym is) (record { page = page; within = may.within; leaf = may.leaf; after = puts.log }))
+pub returns-clause-asked : goal.returns-clause-asked
+returns-clause-asked g c =
+    let e = c.put.ensures in
+    let was : State g.row.D.Denot = record { view = c.self.inside.seat.view; disk = c.self.inside.store.disk; log = c.self.inside.store.log; works = c.self.inside.store.session.works } in
+    let new : State g.row.D.Denot = record { view = c.put.new.seat.view; disk = c.put.new.store.disk; log = c.put.new.store.log; works = c.put.new.store.session.works } in
+    subst (λ (s : State g.row.D.Denot). Asked (calls.Put c.args.key c.args.value) c.match-put.result s new (g.D.Disk.story s.disk) (g.D.Disk.story c.put.new.store.disk)) c.self.view_is
+    (put_asked was new _ _ c.args.key c.args.value c.put.result e.does e.told (λ b. let s = e.same (broken_early c.put.result b) in λ i. record { view = s.0 i; disk = (s.1 i).disk; log = (s.1 i).log; works = (s.1 i).session.works }) (works_by was new c.put.result e.works e.cause_broken) e.cause_broken
+    c.match-put.result (elim c.match-put.branch [ in-Ok w ↦ ap put_answer w.in-Ok.is ∙ sym w.result-is | in-Err w ↦ ap put_answer w.in-Err.is ∙ sym w.result-is ]))

@@ -1,0 +1,136 @@
+-- What a call of an engine did: its answer, by which events, what its log is then, for what its disk stands, and what a crash at any moment of it leaves.
+use Rattle.std.specs.Prelude.{◌≡◌, ◌⊎◌, ◌≤◌, ◌<◌, ◌^◌, ◌++◌, ℕ, suc, true, List, [], Some, length}
+use Rattle.map_model.specs.declared.call.Answer.{Answer}
+use Rattle.map_model.specs.declared.call.Answer.TheVariants as answer
+use Rattle.map_model.specs.declared.call.Call.{Call}
+use Rattle.map_model.specs.declared.call.Call.TheVariants as call
+use Rattle.map_model.specs.Maps.{key_end, value_end}
+use Rattle.map_model.specs.declared.call.Refusal.{Refusal}
+use Rattle.map_model.specs.declared.call.Refusal.TheVariants as refusal
+use Rattle.page_model.specs.Nodes.{holds}
+use Rattle.core_state.specs.Openings.{Opening}
+use Rattle.core_state.specs.Events.{Event}
+use Rattle.core_state.specs.States.{State}
+use Rattle.core_state.specs.Steps.{state_after}
+use Rattle.lean_disk.specs.Moments.{CrashIn, Framed, LeavesOnly}
+use Rattle.lean_disk.specs.Story.{Crash, Story}
+use Rattle.log_record.specs.declared.record.Body.TheVariants as body
+use Rattle.log_record.specs.declared.record.Record.{Record}
+use Rattle.worker_log.specs.Calls.{After, flushed_log}
+use Rattle.worker_log.specs.Logs.{Log}
+use Rattle.core_calls.specs.Deeds.{answered, asked}
+use Rattle.core_calls.specs.Fronts.{Done, front}
+use Rattle.core_calls.specs.Runs.{Tells}
+use Rattle.disk_runs.specs.Stands.{Known}
+use Rattle.log_calls.specs.Calls.{Anything}
+use Rattle.run_crashes.specs.Lines.{CallLeaves}
+use Rattle.engine_calls.specs.Clauses.{Between, CallAnswers}
+use Rattle.engine_calls.specs.Entries.{change_record}
+use Rattle.engine_trait.specs.Refusals.{IsRefusedFor, refusal_in}
+use Rattle.engine_trait.specs.Limits.{AreLoads, limits}
+
+-- ## The log
+
+-- with the change of the key in its leaf, by the next number
+pub record LogsChange (g : Opening) (s : State) (key value : ℕ) (was is : Log) : Type 0 where
+  pub page : ℕ
+  pub within : page < g.format.pages
+  pub leaf : holds (s.page page).node key ≡ true
+  pub after : After (change_record g s (s.worker 1) page key value) was is
+
+-- the record of a commit, by the next number, which needs nothing of other logs
+abbrev pub commit_of : State → Record
+commit_of s = record { txn = (s.worker 1).txn; gsn = suc (s.worker 1).clock; body = body.Commit 0 }
+
+-- with a commit, and flushed
+pub record LogsCommit (s : State) (was is : Log) : Type 0 where
+  pub mid : Log
+  pub staged : After (commit_of s) was mid
+  pub flushed : is ≡ flushed_log mid
+
+-- The log after a call with this answer: with its change, by a put; with its commit, and flushed, by a commit; and else as it was.
+abbrev pub LogAfter : Opening → State → Call → Answer → (was is : Log) → Type 0
+LogAfter g s (call.Put key value) (answer.Was w) was is = LogsChange g s key value was is
+LogAfter g s call.Commit (answer.Committed number at) was is = LogsCommit s was is
+LogAfter g s c a was is = is ≡ was
+
+-- ## The answer
+
+-- In the state at its place, behind loads of the opening, a refusal has its cause, and comes where it has; and the log is what it makes of it.
+pub record Answers (g : Opening) (xs : List Done) (x : Done) (was is : Log) : Type 0 where
+  pub first : List Event
+  pub own : List Event
+  pub events : x.events ≡ first ++ own
+  pub loads : AreLoads first
+  -- they are few, so in a run of fewer than 2^40 calls no latch is ever spent
+  pub few : length x.events ≤ 2 ^ 18
+  pub refused : (why : Refusal) → answered x.outcome.deed ≡ answer.Refused why → IsRefusedFor g (state_after g (front xs ++ first)) was (asked x.outcome.deed) why
+  pub refuses : (why : Refusal) → refusal_in g (state_after g (front xs ++ first)) was (asked x.outcome.deed) ≡ Some why → (answered x.outcome.deed ≡ answer.Refused why) ⊎ (answered x.outcome.deed ≡ answer.Refused refusal.RowSpent)
+  pub log : LogAfter g (state_after g (front xs ++ first)) (asked x.outcome.deed) (answered x.outcome.deed) was is
+
+-- ## The disk
+
+-- The disk stands for its events too; at every moment a crash leaves what one after the first of them does, and all areas but the log's are as they were.
+pub record Keeps (g : Opening) (xs : List Done) (x : Done) (s0 : Crash) (k : Known) (is : Log) (old new : Story) : Type 0 where
+  pub answers : CallAnswers limits g 1 xs x s0 k old new
+  pub log_is : answers.known.log 1 ≡ is
+  pub master_is : answers.known.master ≡ k.master
+  pub within : LeavesOnly old new (CrashIn old 2 Anything)
+
+-- A device failed: a crash leaves what one before the call does, or what one after the first events of a commit that would be answered so.
+pub data Stops (g : Opening) (xs : List Done) (c : Call) (s0 : Crash) (k : Known) (old new : Story) : Type 0 where
+  Nothing : LeavesOnly old new (CallLeaves g xs [] s0 k.master) → Stops g xs c s0 k old new
+  Part : (x : Done) → asked x.outcome.deed ≡ c → x.outcome.session ≡ 1 → Tells limits g 1 xs x → LeavesOnly old new (CallLeaves g xs x.events s0 k.master) → Stops g xs c s0 k old new
+
+-- and all areas but the log's are as they were
+pub record Leaves (g : Opening) (xs : List Done) (c : Call) (s0 : Crash) (k : Known) (old new : Story) : Type 0 where
+  pub stops : Stops g xs c s0 k old new
+  pub within : LeavesOnly old new (CrashIn old 2 Anything)
+
+-- ## A call
+
+-- It was answered so: by one outcome more in the run.
+pub record Does (g : Opening) (xs : List Done) (c : Call) (a : Answer) (was is : Log) (old new : Story) : Type 0 where
+  pub done : Done
+  pub session : done.outcome.session ≡ 1
+  pub asked_is : asked done.outcome.deed ≡ c
+  pub answer_is : answered done.outcome.deed ≡ a
+  pub tells : Tells limits g 1 xs done
+  pub how : Answers g xs done was is
+  pub frame : Framed 2 old new
+  pub keeps : (s0 : Crash) (k : Known) → Between limits g 1 xs s0 k old → k.log 1 ≡ was → Keeps g xs done s0 k is old new
+
+-- It was not, since its disk failed.
+pub record Fails (g : Opening) (xs : List Done) (c : Call) (was : Log) (old new : Story) : Type 0 where
+  pub frame : Framed 2 old new
+  pub leaves : (s0 : Crash) (k : Known) → Between limits g 1 xs s0 k old → k.log 1 ≡ was → Leaves g xs c s0 k old new
+
+-- ## What may be asked and answered
+
+-- a call that has come, with its key and its value in their ranges
+abbrev pub IsWithin : Call → Type 0
+IsWithin call.Begin = Unit {0}
+IsWithin (call.Get key) = key < key_end
+IsWithin (call.Put key value) = (key < key_end) × (value < value_end)
+IsWithin call.Commit = Unit {0}
+IsWithin _ = ⊥
+
+-- a refusal that a script is told
+abbrev pub IsTold : Refusal → Type 0
+IsTold refusal.InTransaction = Unit {0}
+IsTold refusal.NoTransaction = Unit {0}
+IsTold refusal.TooLong = Unit {0}
+IsTold (refusal.LogFull used limit) = Unit {0}
+IsTold refusal.ClockSpent = Unit {0}
+IsTold refusal.RowSpent = Unit {0}
+IsTold refusal.Full = Unit {0}
+IsTold _ = ⊥
+
+-- an answer that has come
+abbrev pub HasCome : Answer → Type 0
+HasCome (answer.Begun number) = Unit {0}
+HasCome (answer.Value value) = Unit {0}
+HasCome (answer.Was value) = Unit {0}
+HasCome (answer.Committed number at) = Unit {0}
+HasCome (answer.Refused why) = IsTold why
+HasCome _ = ⊥

@@ -1,0 +1,33 @@
+-- When a call is refused: by the first of its tests that holds.
+use Rattle.std.specs.Prelude.{◌≡◌, ◌⊎◌, ◌==◌, ◌&&◌, ◌^◌, ℕ, Bool, not, leb, Option, Some, None, length, if◌then◌else◌}
+use Rattle.map_model.specs.declared.call.Call.{Call}
+use Rattle.map_model.specs.declared.call.Call.TheVariants as call
+use Rattle.map_model.specs.declared.call.Refusal.{Refusal}
+use Rattle.map_model.specs.declared.call.Refusal.TheVariants.{ClockSpent, Full, InTransaction, LogFull, NoTransaction, RowSpent, TooLong}
+use Rattle.page_model.specs.Check.{some_below}
+use Rattle.page_model.specs.Nodes.{holds}
+use Rattle.page_model.specs.Redo.{has_key}
+use Rattle.core_state.specs.Openings.{Opening}
+use Rattle.core_state.specs.States.{State}
+use Rattle.worker_log.specs.Logs.{Log, limit, used}
+
+-- the leaf with the key in its fences has no room, and has not the key
+abbrev pub is_full_for : Opening → State → ℕ → Bool
+is_full_for g s k = some_below g.format.pages (λ p. holds (s.page p).node k && ((length (s.page p).node.pairs == g.format.room) && not (has_key k (s.page p).node)))
+
+-- the blocks for changes are used, or the clock has reached its end; else what comes later
+abbrev pub log_refusal : (clock : ℕ) → Log → Option Refusal → Option Refusal
+log_refusal clock log later = if leb (limit log) (used log) then Some (LogFull (used log) (limit log)) else (if leb (2 ^ 62) clock then Some ClockSpent else later)
+
+-- Session 1 asks this at a state of the core, where its log is so.
+abbrev pub refusal_in : Opening → State → Log → Call → Option Refusal
+refusal_in g s log call.Begin = if (s.worker 1).is_open then Some InTransaction else log_refusal (s.worker 1).clock log None
+refusal_in g s log (call.Get key) = if (s.worker 1).is_open then None else Some NoTransaction
+refusal_in g s log (call.Put key value) =
+    if (s.worker 1).is_open then (if leb 64 (length (s.worker 1).changes) then Some TooLong else log_refusal (s.worker 1).clock log (if is_full_for g s key then Some Full else None)) else Some NoTransaction
+refusal_in g s log call.Commit = if (s.worker 1).is_open then None else Some NoTransaction
+refusal_in g s log _ = None
+
+-- so it is refused, or a latch that it needs has reached its end
+abbrev pub IsRefusedFor : Opening → State → Log → Call → Refusal → Type 0
+IsRefusedFor g s log c why = (refusal_in g s log c ≡ Some why) ⊎ (why ≡ RowSpent)

@@ -1,0 +1,81 @@
+// The files of the system, as a disk on which an engine runs.
+ghost use Rattle.std.specs.Prelude.{◌≡◌};
+ghost use Rattle.disk_file.specs.Untold.{untold, untold_lawful, untold_whole};
+
+use crate::part::HostPart;
+use disk_file::FileDisk;
+use engine_trait::calls::Unanswered;
+use lean_disk::{Did, Disk, Read};
+use lean_engine::{Engine, Hosts};
+use log_record::Record;
+use map_model::{Answer, Call};
+use row_engine::Stages;
+use std::alloc::Global;
+use worker_log::{Staging, WorkerLog};
+
+/// A `FileDisk` of the system that runs the program.
+#[derive(Drop)]
+pub struct HostDisk<'a> {
+    files: FileDisk<'a, HostRuntime>,
+}
+
+impl<'a> HostDisk<'a> {
+    /// A disk that has not failed.
+    pub fn new(rt: &'a HostRuntime, alloc: Global) -> HostDisk<'a>
+        ensures { ⟦<HostDisk<'a> as Disk>⟧.faults result ≡ 0 }
+    {
+        HostDisk {
+            files: FileDisk::new(rt, alloc),
+        }
+    }
+}
+
+impl<'a> Disk for HostDisk<'a> {
+    type Part = HostPart<'a>;
+
+    ghost story = { λ d. untold };
+
+    ghost faults = { λ d. ⟦<FileDisk<'a, HostRuntime> as Disk>⟧.faults d.files };
+
+    ghost lawful = { λ d. untold_lawful };
+
+    ghost whole = { λ d. untold_whole };
+
+    fn read(&mut self, area: u32, at: u64, into: &mut [u8]) -> Read {
+        self.files.read(area, at, into)
+    }
+
+    fn write(&mut self, area: u32, at: u64, bytes: &[u8]) -> Did {
+        self.files.write(area, at, bytes)
+    }
+
+    fn sync(&mut self, area: u32) -> Did {
+        self.files.sync(area)
+    }
+
+    fn note(&mut self) {
+        self.files.note();
+    }
+
+    fn split(&mut self, area: u32) -> HostPart<'a> {
+        HostPart {
+            part: self.files.split(area),
+        }
+    }
+
+    fn rejoin(&mut self, area: u32, part: HostPart<'a>) {
+        self.files.rejoin(area, part.part);
+    }
+}
+
+impl<'a> Stages for HostDisk<'a> {
+    fn stage_on(&mut self, log: &mut WorkerLog, entry: &Record) -> Result<(), Staging> {
+        log_calls::stage(self, log, 1, entry)
+    }
+}
+
+impl<'a> Hosts for HostDisk<'a> {
+    fn answer_on(engine: &mut Engine<HostDisk<'a>>, call: &Call) -> Result<Answer, Unanswered> {
+        engine.answer(call)
+    }
+}

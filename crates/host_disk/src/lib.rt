@@ -1,0 +1,8 @@
+//! A disk of files in the current folder, on which an engine runs: the files of the system that runs the program.
+#![tactic(auto)]
+
+mod disk;
+mod part;
+
+pub use disk::HostDisk;
+pub use part::HostPart;

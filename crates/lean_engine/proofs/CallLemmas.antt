@@ -1,0 +1,234 @@
+-- What a caller is told of a call.
+use Rattle.std.proofs.Common.{◌≡◌, ◌⊎◌, inl, inr, ◌↔◌, ℕ, true, false, Option, Result, Ok, Err, IfErr, IfOk, IsErr, IsErrAnd, refl, sym, ap, ◌∙◌, subst, true≢false}
+use Rattle.std.proofs.lemmas.Bool.{cases_Bool}
+use Rattle.map_model.specs.declared.call.Answer.{Answer}
+use Rattle.map_model.specs.declared.call.Answer.TheVariants as answer
+use Rattle.map_model.specs.declared.call.Call.{Call}
+use Rattle.map_model.specs.declared.call.Refusal.{Refusal}
+use Rattle.map_model.specs.declared.call.Refusal.TheVariants as refusal
+use Rattle.lean_disk.specs.Faults.{HasCause}
+use Rattle.lean_disk.specs.Story.{Story}
+use Rattle.engine_trait.specs.Calls.{HasCome, IsTold}
+use Rattle.engine_trait.specs.declared.calls.Unanswered.{Unanswered}
+use Rattle.engine_trait.specs.declared.calls.Unanswered.TheVariants as unanswered
+use Rattle.row_engine.specs.Calls.{CallDoes, Comes, DoesOn, begin_answer, commit_answer, get_answer, put_answer}
+use Rattle.row_engine.specs.Puts.{IsEarly, works_after}
+use Rattle.row_engine.specs.declared.commits.Ended.{Ended}
+use Rattle.lean_engine.specs.Calls.{Answered, Asked, Failed, MayBe, told}
+use Rattle.lean_engine.specs.States.{State}
+
+abbrev no_device : Answer
+no_device = answer.Refused refusal.Broken
+
+abbrev fault : Answer
+fault = answer.Refused refusal.DiskFault
+
+no_both : (x : Unanswered) (a : Answer) → Err x ≡ Ok a → ⊥
+no_both x a e = absurd (cc)
+
+fault_broken : fault ≡ no_device → ⊥
+fault_broken e = absurd (cc)
+
+other_reason : ◌≡◌ {A = Result Answer Unanswered} (Err unanswered.Broken) (Err unanswered.DiskFault) → ⊥
+other_reason e = absurd (cc)
+
+-- an answer that has come
+record HasTold (a : Answer) : Type 0 where
+  is : told a ≡ Ok a
+  may : MayBe a → HasCome a
+
+data Kind (a : Answer) : Type 0 where
+  Broken : a ≡ no_device → Kind a
+  Fault : a ≡ fault → Kind a
+  Came : HasTold a → Kind a
+
+kind : (a : Answer) → Kind a
+kind (answer.Refused refusal.Broken) = Broken refl
+kind (answer.Refused refusal.DiskFault) = Fault refl
+kind _ = Came (record { is = refl; may = λ m. m })
+
+comes_of : (a : Answer) (d f : Type 0) → told a ≡ Ok a → Comes a d f → d
+comes_of (answer.Refused refusal.Broken) d f e x = absurd (no_both unanswered.Broken _ e)
+comes_of (answer.Refused refusal.DiskFault) d f e x = absurd (no_both unanswered.DiskFault _ e)
+comes_of _ d f e x = x
+
+not_broken : (a : Answer) → told a ≡ Ok a → a ≡ no_device → ⊥
+not_broken a is e = no_both unanswered.Broken a (sym (ap told e) ∙ is)
+
+not_fault : (a : Answer) → told a ≡ Ok a → a ≡ fault → ⊥
+not_fault a is e = no_both unanswered.DiskFault a (sym (ap told e) ∙ is)
+
+module _ {D : Type 0} (c : Call) (a : Answer) (was is : State D) (old new : Story) (asked : Asked c a was is old new) where
+  worked : (a ≡ no_device → ⊥) → was.works ≡ true
+  worked other = elim (cases_Bool was.works) [ inl t ↦ t | inr f ↦ absurd (other (asked.broken.1 f)) ]
+
+  pub does : IfOk (told a) (λ b. Answered c b was is old new)
+  does = go (kind a)
+    where
+      go : Kind a → IfOk (told a) (λ b. Answered c b was is old new)
+      go (Broken e) = subst (λ x. IfOk (told x) (λ b. Answered c b was is old new)) (sym e) tt
+      go (Fault e) = subst (λ x. IfOk (told x) (λ b. Answered c b was is old new)) (sym e) tt
+      go (Came t) = subst (λ r. IfOk r (λ b. Answered c b was is old new)) (sym t.is)
+          (λ g xs run. let d = comes_of a _ _ t.is (asked.does (worked (not_broken a t.is)) g xs run.1) in (d.does, (run.0, d.ties)))
+
+  pub come : IfOk (told a) HasCome
+  come = go (kind a)
+    where
+      go : Kind a → IfOk (told a) HasCome
+      go (Broken e) = subst (λ x. IfOk (told x) HasCome) (sym e) tt
+      go (Fault e) = subst (λ x. IfOk (told x) HasCome) (sym e) tt
+      go (Came t) = subst (λ r. IfOk r HasCome) (sym t.is) (t.may asked.may)
+
+  -- which reason there is
+  pub is_fault : told a ≡ Err unanswered.DiskFault → a ≡ fault
+  is_fault e = go (kind a)
+    where
+      go : Kind a → a ≡ fault
+      go (Broken q) = absurd (other_reason (sym (ap told q) ∙ e))
+      go (Fault q) = q
+      go (Came t) = absurd (no_both unanswered.DiskFault a (sym e ∙ t.is))
+
+  pub is_broken : told a ≡ Err unanswered.Broken → a ≡ no_device
+  is_broken e = go (kind a)
+    where
+      go : Kind a → a ≡ no_device
+      go (Broken q) = q
+      go (Fault q) = absurd (other_reason (sym e ∙ ap told q))
+      go (Came t) = absurd (no_both unanswered.Broken a (sym e ∙ t.is))
+
+  pub fails : told a ≡ Err unanswered.DiskFault → Failed c was old new
+  fails e g xs run = let q = is_fault e in subst (λ x. Comes x (DoesOn g xs c a is.view was.log is.log old new) (Rattle.engine_trait.specs.Calls.Fails g xs c was.log old new)) q (asked.does (worked (λ b. fault_broken (sym q ∙ b))) g xs run.1)
+
+  pub works : is.works ≡ true ↔ (IsErr (told a) → ⊥)
+  works = (there, back)
+    where
+      there : is.works ≡ true → IsErr (told a) → ⊥
+      there w err = go (kind a)
+        where
+          go : Kind a → ⊥
+          go (Broken q) = true≢false (sym (asked.works.0 w).0 ∙ asked.broken.0 q)
+          go (Fault q) = (asked.works.0 w).1 q
+          go (Came t) = true≢false (sym (subst (λ r. IsErr r) t.is err))
+
+      back : (IsErr (told a) → ⊥) → is.works ≡ true
+      back ok = go (kind a)
+        where
+          go : Kind a → is.works ≡ true
+          go (Broken q) = absurd (ok (subst (λ x. IsErr (told x)) (sym q) refl))
+          go (Fault q) = absurd (ok (subst (λ x. IsErr (told x)) (sym q) refl))
+          go (Came t) = asked.works.1 (worked (not_broken a t.is), not_fault a t.is)
+
+  pub same : told a ≡ Err unanswered.Broken → is ≡ was
+  same e = asked.same (is_broken e)
+
+  pub broken : (told a ≡ Err unanswered.Broken) ↔ (was.works ≡ false)
+  broken = ((λ e. asked.broken.0 (is_broken e)), (λ f. ap told (asked.broken.1 f)))
+
+  pub cause : (before now : ℕ) → HasCause before now (a ≡ fault) → HasCause before now (told a ≡ Err unanswered.DiskFault)
+  cause before now h = record { later = h.later; cause = λ e. h.cause (is_fault e); calm = λ never. h.calm (λ q. never (ap told q)) }
+
+-- ## Each call
+
+stays_calm : {T : Type 0} (q : Result T Refusal) → (q ≡ Err refusal.Broken → ⊥) → (q ≡ Err refusal.DiskFault → ⊥) → works_after q ≡ true
+stays_calm (Ok x) b d = refl
+stays_calm (Err refusal.Broken) b d = absurd (b refl)
+stays_calm (Err refusal.DiskFault) b d = absurd (d refl)
+stays_calm (Err _) b d = refl
+
+-- whether a put left the engine working, seen from its answer
+pub works_by : {D : Type 0} {T : Type 0} (was is : State D) (r : Result T Refusal) → is.works ≡ works_after r → (r ≡ Err refusal.Broken) ↔ (was.works ≡ false) → (is.works ≡ true) ↔ ((was.works ≡ true) × (r ≡ Err refusal.DiskFault → ⊥))
+works_by was is r works broken = (there, back)
+  where
+    there : is.works ≡ true → (was.works ≡ true) × (r ≡ Err refusal.DiskFault → ⊥)
+    there w = (
+      elim (cases_Bool was.works) [ inl t ↦ t | inr f ↦ absurd (true≢false (sym w ∙ (works ∙ ap works_after (broken.1 f)))) ],
+      λ e. true≢false (sym w ∙ (works ∙ ap works_after e)),
+    )
+
+    back : (was.works ≡ true) × (r ≡ Err refusal.DiskFault → ⊥) → is.works ≡ true
+    back p = works ∙ stays_calm r (λ b. true≢false (sym p.0 ∙ broken.0 b)) p.1
+
+pub broken_early : {T : Type 0} (r : Result T Refusal) → r ≡ Err refusal.Broken → IsErrAnd r IsEarly
+broken_early r e = subst (λ q. IsErrAnd q IsEarly) (sym e) tt
+
+told_may : (why : Refusal) → IsTold why ⊎ ((why ≡ refusal.Broken) ⊎ (why ≡ refusal.DiskFault)) → MayBe (answer.Refused why)
+told_may why (inr (inl e)) = subst (λ w. MayBe (answer.Refused w)) (sym e) tt
+told_may why (inr (inr e)) = subst (λ w. MayBe (answer.Refused w)) (sym e) tt
+told_may refusal.InTransaction (inl t) = t
+told_may refusal.NoTransaction (inl t) = t
+told_may refusal.TooLong (inl t) = t
+told_may (refusal.LogFull u l) (inl t) = t
+told_may refusal.ClockSpent (inl t) = t
+told_may refusal.RowSpent (inl t) = t
+told_may refusal.Full (inl t) = t
+told_may _ (inl t) = absurd t
+
+refused_is : (p q : Refusal) → answer.Refused p ≡ answer.Refused q → p ≡ q
+refused_is p q r = cc
+
+-- a result as an answer: what it has come to is no refusal
+record IsAnswer {T : Type 0} (f : Result T Refusal → Answer) : Type 0 where
+  refused : (q : Refusal) → f (Err q) ≡ answer.Refused q
+  come : (x : T) → MayBe (f (Ok x))
+  apart : (x : T) (q : Refusal) → f (Ok x) ≡ answer.Refused q → ⊥
+
+-- a refusal that a script is told, or a reason for which there is no answer
+abbrev pub IsTellable : {T : Type 0} → Result T Refusal → Type 0
+IsTellable r = IfErr r (λ why. IsTold why ⊎ ((why ≡ refusal.Broken) ⊎ (why ≡ refusal.DiskFault)))
+
+module _ {D : Type 0} {T : Type 0} (c : Call) (f : Result T Refusal → Answer) (k : IsAnswer f) (was is : State D) (old new : Story) where
+  back : (r : Result T Refusal) (q : Refusal) → f r ≡ answer.Refused q → r ≡ Err q
+  back (Ok x) q e = absurd (k.apart x q e)
+  back (Err why) q e = ap Err (refused_is why q (sym (k.refused why) ∙ e))
+
+  may : (r : Result T Refusal) → IsTellable r → MayBe (f r)
+  may (Ok x) h = k.come x
+  may (Err why) h = subst MayBe (sym (k.refused why)) (told_may why h)
+
+  asked_of : (r : Result T Refusal) → (was.works ≡ true → CallDoes c (f r) was.view is.view was.log is.log old new) → IsTellable r → (r ≡ Err refusal.Broken → is ≡ was)
+      → (is.works ≡ true) ↔ ((was.works ≡ true) × (r ≡ Err refusal.DiskFault → ⊥)) → (r ≡ Err refusal.Broken) ↔ (was.works ≡ false) → (a : Answer) → f r ≡ a → Asked c a was is old new
+  asked_of r does come same works broken a e = subst (λ x. Asked c x was is old new) e (record {
+    does = does;
+    may = may r come;
+    works = ((λ w. let p = works.0 w in (p.0, λ q. p.1 (back r refusal.DiskFault q))), λ p. works.1 (p.0, λ q. p.1 (ap f q ∙ k.refused refusal.DiskFault)));
+    same = λ q. same (back r refusal.Broken q);
+    broken = ((λ q. broken.0 (back r refusal.Broken q)), λ w. ap f (broken.1 w) ∙ k.refused refusal.Broken);
+  })
+
+-- of a call that touches no device
+pub untouched : {D : Type 0} {T : Type 0} (was is : State D) (r : Result T Refusal) → is.works ≡ was.works → (r ≡ Err refusal.DiskFault → ⊥) → (is.works ≡ true) ↔ ((was.works ≡ true) × (r ≡ Err refusal.DiskFault → ⊥))
+untouched was is r works never = ((λ w. (sym works ∙ w, never)), λ p. works ∙ p.0)
+
+pub no_fault_comes : {T : Type 0} (r : Result T Refusal) → IfErr r (λ why. IsTold why ⊎ (why ≡ refusal.Broken)) → IsTellable r
+no_fault_comes (Ok x) h = tt
+no_fault_comes (Err why) (inl t) = inl t
+no_fault_comes (Err why) (inr e) = inr (inl e)
+
+begins : IsAnswer begin_answer
+begins = record { refused = λ q. refl; come = λ x. tt; apart = λ x q e. absurd (cc) }
+
+gets : IsAnswer get_answer
+gets = record { refused = λ q. refl; come = λ x. tt; apart = λ x q e. absurd (cc) }
+
+puts : IsAnswer put_answer
+puts = record { refused = λ q. refl; come = λ x. tt; apart = λ x q e. absurd (cc) }
+
+commits : IsAnswer commit_answer
+commits = record { refused = λ q. refl; come = λ x. tt; apart = λ x q e. absurd (cc) }
+
+module _ {D : Type 0} (was is : State D) (old new : Story) where
+  pub begin_asked : (r : Result ℕ Refusal) → (was.works ≡ true → CallDoes Call.Begin (begin_answer r) was.view is.view was.log is.log old new) → IsTellable r → (r ≡ Err refusal.Broken → is ≡ was)
+      → (is.works ≡ true) ↔ ((was.works ≡ true) × (r ≡ Err refusal.DiskFault → ⊥)) → (r ≡ Err refusal.Broken) ↔ (was.works ≡ false) → (a : Answer) → begin_answer r ≡ a → Asked Call.Begin a was is old new
+  begin_asked = asked_of Call.Begin begin_answer begins was is old new
+
+  pub get_asked : (key : ℕ) (r : Result (Option ℕ) Refusal) → (was.works ≡ true → CallDoes (Call.Get key) (get_answer r) was.view is.view was.log is.log old new) → IsTellable r → (r ≡ Err refusal.Broken → is ≡ was)
+      → (is.works ≡ true) ↔ ((was.works ≡ true) × (r ≡ Err refusal.DiskFault → ⊥)) → (r ≡ Err refusal.Broken) ↔ (was.works ≡ false) → (a : Answer) → get_answer r ≡ a → Asked (Call.Get key) a was is old new
+  get_asked key = asked_of (Call.Get key) get_answer gets was is old new
+
+  pub put_asked : (key value : ℕ) (r : Result (Option ℕ) Refusal) → (was.works ≡ true → CallDoes (Call.Put key value) (put_answer r) was.view is.view was.log is.log old new) → IsTellable r → (r ≡ Err refusal.Broken → is ≡ was)
+      → (is.works ≡ true) ↔ ((was.works ≡ true) × (r ≡ Err refusal.DiskFault → ⊥)) → (r ≡ Err refusal.Broken) ↔ (was.works ≡ false) → (a : Answer) → put_answer r ≡ a → Asked (Call.Put key value) a was is old new
+  put_asked key value = asked_of (Call.Put key value) put_answer puts was is old new
+
+  pub commit_asked : (r : Result Ended Refusal) → (was.works ≡ true → CallDoes Call.Commit (commit_answer r) was.view is.view was.log is.log old new) → IsTellable r → (r ≡ Err refusal.Broken → is ≡ was)
+      → (is.works ≡ true) ↔ ((was.works ≡ true) × (r ≡ Err refusal.DiskFault → ⊥)) → (r ≡ Err refusal.Broken) ↔ (was.works ≡ false) → (a : Answer) → commit_answer r ≡ a → Asked Call.Commit a was is old new
+  commit_asked = asked_of Call.Commit commit_answer commits was is old new

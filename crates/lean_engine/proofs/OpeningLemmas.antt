@@ -1,0 +1,127 @@
+-- Where an engine's run begins.
+use Rattle.std.proofs.Common.{◌≡◌, ⊎_elim, ◌≤◌, ◌<◌, ℕ, zero, suc, cond, length, get_or, Option, Some, None, slice_get, refl, sym, ◌∙◌, ap, ap₂, subst, arith}
+use Rattle.std.proofs.lemmas.Option.{slice_get_cases}
+use Rattle.page_model.specs.Page.{Page}
+use Rattle.page_model.specs.Nodes.{Format, Node, holds}
+use Rattle.page_model.specs.Pairs.{find}
+use Rattle.page_model.specs.Tree.{entry, value_of}
+use Rattle.image_model.specs.Entries.{Contents}
+use Rattle.image_model.specs.Images.{Image, map_of, recovered_page}
+use Rattle.image_model.specs.Laws.{EveryUndone, UndoneLaws}
+use Rattle.image_model.proofs.WordLemmas.{words}
+use Rattle.core_state.specs.Openings.{Opening, first_map}
+use Rattle.lean_disk.specs.Story.{Story, areas_of, Tells}
+use Rattle.disk_slots.specs.declared.master.Master.{Master}
+use Rattle.disk_image.specs.Formats.{format_of}
+use Rattle.disk_image.specs.Shown.{Areas, IsCleanDisk, image_by}
+use Rattle.worker_log.specs.Logs.{Log}
+use Rattle.recovery.specs.Masters.{IsOpenable}
+use Rattle.recovery.specs.Opened.{IsGreatest, IsRecovered}
+use Rattle.recovery.specs.Own.{EveryOwn}
+use Rattle.recovery.specs.Starts.{IsStartOf}
+use Rattle.recovery.specs.Telling as telling
+use Rattle.recovery.specs.declared.opening.Recovered.{Recovered}
+use Rattle.open_rows.specs.Opened.{contents_of, page_or}
+use Rattle.run_opening.specs.Starts.{EveryStart, IsStart, empty_log}
+use Rattle.lean_engine.specs.Openings.{BeginsOn, HasRecovered, IsFrom, IsMadeBy, IsOn, OpeningLaws}
+
+-- what stands in the leaves depends on these pages alone
+entry_same : (n : ℕ) (x y : ℕ → Node) (k : ℕ) → ((p : ℕ) → p < n → x p ≡ y p) → entry n x k ≡ entry n y k
+entry_same zero x y k same = refl
+entry_same (suc n) x y k same = go (entry_same n x y k (λ p lt. same p (omega arith)))
+  where
+    go : entry n x k ≡ entry n y k → entry (suc n) x k ≡ entry (suc n) y k
+    go ih = ap (λ (v : Node). cond (holds v k) (find k v.pairs) (entry n x k)) (same n (omega arith)) ∙ ap (λ (o : Option ℕ). cond (holds (y n) k) (find k (y n).pairs) o) ih
+
+some_one : {x y : Master} → Some x ≡ Some y → x ≡ y
+some_one e = cc
+
+module _ (undone : EveryUndone) (every_own : EveryOwn) (r : Recovered) (g : Opening) (on : IsOn r.pages.items r.master.floor g) where
+  module _ (m : Master) (openable : IsOpenable m) (area : Areas) (is : IsRecovered m area r) where
+    abbrev i : Image
+    i = image_by m area
+
+    -- each page is there
+    at : (p : ℕ) → p < m.pages → (v : Page) × (slice_get r.pages.items p ≡ Some v)
+    at p lt = ⊎_elim (λ (q : (x : Page) × (p < length r.pages.items) × (slice_get r.pages.items p ≡ Some x) × (get_or r.pages.items p x ≡ x)). (q.0, q.2))
+        (λ (q : (length r.pages.items ≤ p) × (slice_get r.pages.items p ≡ None)). absurd (let e = is.count in let low = q.0 in omega arith))
+        (slice_get_cases r.pages.items p).1
+
+    start_is : IsStartOf m area g
+    start_is = record {
+      format = on.format ∙ ap format_of is.count;
+      logs = on.workers ∙ sym openable.one;
+      base = subst (IsGreatest i) (sym on.base_is) is.base;
+      pages = λ p lt. let v = at p lt in on.page p ∙ (ap (λ (o : Option Page). contents_of (page_or o)) v.1 ∙ (is.page p v.0 v.1).is);
+    }
+
+    laws : UndoneLaws i
+    laws = undone i is.sound.sound (words i is.sound.sound (λ w low high e h. (every_own m area w e h).log) (λ w low high e h. (every_own m area w e h).before))
+
+    abbrev there : ℕ → Node
+    there p = (recovered_page i p).node
+
+    -- its map is that for which the image stands
+    map_is : (k : ℕ) → first_map g k ≡ map_of i k
+    map_is k =
+        ap₂ (λ (f : Format) (o : Option ℕ). value_of f o) start_is.format
+        (entry_same g.format.pages g.node there k (λ p lt. ap (λ (v : Contents). v.node) (start_is.pages p (let e = ap (λ (f : Format). f.pages) start_is.format in omega arith)))
+        ∙ ap (λ (f : Format). entry f.pages there k) start_is.format)
+        ∙ laws.values k
+
+  module _ (s0 s1 : Story) (has : HasRecovered s0 s1 r) where
+    from : (tells : telling.TellsAll s0) → IsFrom g s0 r.master.generation r.winners r.undone
+    from tells =
+        let a = has.answer tells in let is : IsRecovered a.0 (areas_of s0) r = a.2 in record {
+          m = a.0;
+          openable = a.1;
+          sound = is.sound;
+          starts = start_is a.0 a.1 (areas_of s0) is;
+          map = map_is a.0 a.1 (areas_of s0) is;
+          generation_is = ap (λ (x : Master). x.generation) is.master;
+          won_is = is.won;
+          lost_is = is.lost;
+        }
+
+    module _ (tells : telling.TellsAll s0) (m : Master) (clean : IsCleanDisk m (areas_of s0)) (log : Log) (made : IsMadeBy r.master log) (every_start : EveryStart s0 s1) where
+      is_one : (has.answer tells).0 ≡ m
+      is_one = some_one (sym (has.answer tells).2.sound.master ∙ clean.master)
+
+      given : IsOpenable m × IsRecovered m (areas_of s0) r
+      given = subst (λ (x : Master). IsOpenable x × IsRecovered x (areas_of s0) r) is_one ((has.answer tells).1, (has.answer tells).2)
+
+      -- so it tells of all behind it too
+      told : (a : ℕ) → Tells s0 a → Tells s1 a
+      told a t = subst (λ b. Rattle.std.specs.Prelude.IsTrue b) (sym (has.keeps.tells a)) t
+
+      first_tells : (a : ℕ) → a ≤ suc g.workers → Tells s0 a
+      first_tells zero l = tells.master
+      first_tells (suc zero) l = tells.pages
+      first_tells (suc (suc a)) l = tells.logs m clean.master given.0 (suc a) (omega arith) (let e = on.workers in let o = given.0.one in omega arith)
+
+      start : IsStart m r g (λ w. log) s0 s1
+      start = record {
+        tells = λ a l. told a (first_tells a l);
+        clean = clean;
+        recovered = given.1;
+        whole = has.whole;
+        opened = has.opened tells m clean;
+        installed = has.installed tells m clean.master;
+        untouched = λ w low high. has.logs (suc w) (omega arith);
+        opening = start_is m given.0 (areas_of s0) given.1;
+        made = λ w low high. record { is = made.is ∙ ap (empty_log r.master) (let e = on.workers in omega arith); ranges = made.ranges; starts = made.starts (s1.area (suc w)) };
+      }
+
+      pub begins_on : BeginsOn g r.master log s0 s1 m
+      begins_on = record {
+        next = record { base = r.master.floor; greatest = given.1.base; is = given.1.master };
+        start = start_is m given.0 (areas_of s0) given.1;
+        map = map_is m given.0 (areas_of s0) given.1;
+        begins = λ c read. let q = every_start m r g (λ w. log) c read start in record { known = _; master_is = refl; log_is = refl; stands = q.stands };
+      }
+
+pub every_opening : (s0 s1 : Story) → EveryUndone → EveryOwn → EveryStart s0 s1 → (r : Recovered) (log : Log) (g : Opening) → HasRecovered s0 s1 r → IsMadeBy r.master log → IsOn r.pages.items r.master.floor g → OpeningLaws g r log s0 s1
+every_opening s0 s1 undone own start r log g has made on = record {
+  from = from undone own r g on s0 s1 has;
+  clean = λ tells m clean. begins_on undone own r g on s0 s1 has tells m clean log made start;
+}

@@ -1,0 +1,55 @@
+-- Words of private functions: a whole run of a script, from the parts that it is made of.
+use Rattle.std.specs.Prelude.{◌≡◌, ◌<◌, ℕ, [], Some, IsTrue}
+use Rattle.lean_disk.specs.Faults.{HasCause}
+use Rattle.lean_disk.specs.Moments.{LeavesOnly}
+use Rattle.lean_disk.specs.Story.{IsLawful, Story, areas_of}
+use Rattle.lean_edge.specs.Outside.{Feed, Held, added}
+use Rattle.lean_edge.specs.declared.sink.Put.TheVariants as put
+use Rattle.disk_slots.specs.declared.master.Master.{Master}
+use Rattle.disk_image.specs.Shown.{IsCleanDisk}
+use Rattle.recovery.specs.Crashes.{RecoveryLeaves}
+use Rattle.recovery.specs.Opened.{Keeps}
+use Rattle.recovery.specs.Telling.{TellsAll}
+use Rattle.core_state.specs.Openings.{Opening}
+use Rattle.script_lang.specs.Notices.{Notice, NoticeFits}
+use Rattle.script_lang.specs.Reading.{Unread}
+use Rattle.script_run.specs.Runs.{ScriptRuns}
+use Rattle.script_run.specs.declared.stop.Stop.{Stop}
+use Rattle.script_run.specs.declared.stop.Stop.TheVariants as stops
+use Rattle.worker_log.specs.Logs.{Log}
+use Rattle.lean_shell.specs.Ends.{RunEnds}
+use Rattle.lean_shell.specs.Headline.{Headline}
+use Rattle.lean_shell.specs.Inside.Begins.{HasStarted}
+use Rattle.lean_shell.specs.Inside.Openings.{EndsWith}
+use Rattle.lean_shell.specs.Lines.{IsPut}
+use Rattle.lean_shell.specs.Runs.{Counts, ended, first_line}
+
+-- A disk that told s0 was opened and told sa; the first line was put, which it told as sb; the script was executed, sc; and the last line was put, s1.
+pub record IsRun (s0 sa sb sc s1 : Story) (feed0 feed1 : Feed) (held0 held_b held_c held1 : Held) (stop : Stop) (sink_c sink1 : ℕ) : Type 0 where
+  pub law_a : IsLawful sa
+  pub law_c : IsLawful sc
+  pub law_1 : IsLawful s1
+  -- the opening
+  pub g : Opening
+  pub first : Log
+  pub counts : Counts
+  pub starts : HasStarted s0 sa g first counts
+  pub keeps : Keeps s0 sa
+  pub any : (m : Master) → TellsAll s0 → IsCleanDisk m (areas_of s0) → LeavesOnly s0 sa (RecoveryLeaves m s0)
+  -- the first line
+  pub opened_fits : NoticeFits (Notice.Opened counts.generation counts.winners counts.undone)
+  pub put : IsPut (first_line counts) put.Done held0 held_b sa sb
+  -- the script
+  pub reader : Unread
+  pub log1 : Log
+  pub runs : ScriptRuns (Some stop) g [] 0 feed0 [] first log1 reader feed1 held_b held_c sb sc
+  -- the last line
+  pub last : EndsWith stop held_c held1 sink_c sink1 sc s1
+
+-- what is said of it
+pub record RunSays (s0 sa s1 : Story) (feed0 feed1 : Feed) (held0 held1 : Held) (stop : Stop) (sink_c sink1 : ℕ) : Type 0 where
+  pub ends : (status : ℕ) → status ≡ ended stop → (sink0 : ℕ) → HasCause sink0 sink_c (stop ≡ stops.WriteFault) → ((a : ℕ) → 2 < a → sa.area a ≡ s0.area a) → RunEnds status s0 s1 feed0 feed1 held0 held1 sink0 sink1
+  pub headline : IsTrue feed0.tells → IsTrue held0.tells → TellsAll s0 → Headline s0 s1 feed0.left (added held0 held1)
+
+abbrev pub EveryRun : (s0 sa sb sc s1 : Story) → Type 0
+EveryRun s0 sa sb sc s1 = (feed0 feed1 : Feed) (held0 held_b held_c held1 : Held) (stop : Stop) (sink_c sink1 : ℕ) → IsRun s0 sa sb sc s1 feed0 feed1 held0 held_b held_c held1 stop sink_c sink1 → RunSays s0 sa s1 feed0 feed1 held0 held1 stop sink_c sink1

@@ -1,0 +1,89 @@
+// The lines that a run puts of itself, as an engine has the disk.
+ghost use Rattle.std.specs.Prelude.{◌≡◌, ◌≤◌, ℕ, List};
+ghost use Rattle.core_state.specs.Openings.{Opening};
+ghost use Rattle.core_calls.specs.Fronts.{Done};
+ghost use Rattle.lean_disk.specs.Faults.{HasCause};
+ghost use Rattle.script_lang.specs.Notices.{Notice, NoticeFits};
+ghost use Rattle.script_run.specs.declared.stop.Stop.{Stop};
+ghost use Rattle.lean_edge.specs.Outside.{IsWholeLine};
+ghost use Rattle.lean_shell.specs.Lines.{IsPut, line_of};
+ghost use Rattle.lean_shell.specs.Inside.Openings.{EndsWith};
+ghost use Rattle.lean_shell.specs.Runs.{Counts, first_line, last_line};
+
+use engine_trait::calls::Calls;
+use lean_disk::Disk;
+use lean_edge::{Put, Sink};
+use script_lang::{
+    DISK_FAULT, READ_FAULT, REPLY, fixed_lines, notices_are_no_replies, opened_bytes, refused_bytes,
+};
+use script_run::Stop;
+
+/// Puts one line.
+fn put_line<K: Sink<D>, D: Disk, E: Calls<D>>(line: &[u8], sink: &mut K, engine: &mut E) -> Put
+    requires { IsWholeLine line.now }
+    ensures put { IsPut line.now result (K.held sink.old) (K.held sink.new) (E.story engine.old) (E.story engine.new) }
+    ensures same { (E.log_of engine.new ≡ E.log_of engine.old) × (E.works engine.new ≡ E.works engine.old) × (E.faults engine.new ≡ E.faults engine.old) }
+    ensures in_run { (g : Opening) (xs : List Done) → E.in_run engine.old g xs → E.in_run engine.new g xs }
+
+    ensures cause { HasCause (K.faults sink.old) (K.faults sink.new) (result ≡ Put.Failed) }
+{
+    engine.put_line(sink, line)
+}
+
+/// Puts the first line: the new generation, and how many transactions were found committed and how many were undone.
+pub(crate) fn put_opened<K: Sink<D>, D: Disk, E: Calls<D>>(
+    generation: u64,
+    winners: u64,
+    undone: u64,
+    sink: &mut K,
+    engine: &mut E,
+) -> Put
+    ensures put { IsPut (first_line (record { generation = generation; winners = winners; undone = undone })) result (K.held sink.old) (K.held sink.new) (E.story engine.old) (E.story engine.new) }
+    ensures fits { NoticeFits (Notice.Opened generation winners undone) }
+    ensures same { (E.log_of engine.new ≡ E.log_of engine.old) × (E.works engine.new ≡ E.works engine.old) × (E.faults engine.new ≡ E.faults engine.old) }
+    ensures in_run { (g : Opening) (xs : List Done) → E.in_run engine.old g xs → E.in_run engine.new g xs }
+
+    ensures cause { HasCause (K.faults sink.old) (K.faults sink.new) (result ≡ Put.Failed) }
+{
+    notices_are_no_replies();
+    let mut line = [0; REPLY];
+    let end = opened_bytes(generation, winners, undone, &mut line);
+    put_line(&line[..end], sink, engine)
+}
+
+fn put_refused<K: Sink<D>, D: Disk, E: Calls<D>>(number: u64, sink: &mut K, engine: &mut E) -> Put
+    ensures put { IsPut (line_of (Notice.Refused number)) result (K.held sink.old) (K.held sink.new) (E.story engine.old) (E.story engine.new) }
+    ensures same { (E.log_of engine.new ≡ E.log_of engine.old) × (E.works engine.new ≡ E.works engine.old) × (E.faults engine.new ≡ E.faults engine.old) }
+    ensures in_run { (g : Opening) (xs : List Done) → E.in_run engine.old g xs → E.in_run engine.new g xs }
+
+    ensures cause { HasCause (K.faults sink.old) (K.faults sink.new) (result ≡ Put.Failed) }
+{
+    notices_are_no_replies();
+    let mut line = [0; REPLY];
+    let end = refused_bytes(number, &mut line);
+    put_line(&line[..end], sink, engine)
+}
+
+// Puts the last line of a script that stopped, if it has one.
+pub(crate) fn put_last<K: Sink<D>, D: Disk, E: Calls<D>>(stop: Stop, sink: &mut K, engine: &mut E)
+    ensures put { EndsWith stop (K.held sink.old) (K.held sink.new) (K.faults sink.old) (K.faults sink.new) (E.story engine.old) (E.story engine.new) }
+    ensures same { (E.log_of engine.new ≡ E.log_of engine.old) × (E.works engine.new ≡ E.works engine.old) × (E.faults engine.new ≡ E.faults engine.old) }
+    ensures in_run { (g : Opening) (xs : List Done) → E.in_run engine.old g xs → E.in_run engine.new g xs }
+    ensures later { K.faults sink.old ≤ K.faults sink.new }
+{
+    fixed_lines();
+    notices_are_no_replies();
+    match stop {
+        Stop::End => {}
+        Stop::WriteFault => {}
+        Stop::Refused { line } => {
+            put_refused(line, sink, engine);
+        }
+        Stop::ReadFault => {
+            put_line(READ_FAULT, sink, engine);
+        }
+        Stop::DiskFault => {
+            put_line(DISK_FAULT, sink, engine);
+        }
+    }
+}

@@ -1,0 +1,334 @@
+-- A commit that is refused, and one whose rows are latched.
+use Rattle.std.proofs.Common.{Result, Ok, IfErr, ◌≡◌, ◌⊎◌, ◌↔◌, inl, inr, ◌≤◌, ◌<◌, ◌^◌, ℕ, Bool, true, false, cond, List, [], ◌∷◌, ◌++◌, length, replicate, Some, None, Err, refl, sym, ap, ◌∙◌, subst, arith, append-nil, length-append, true≢false}
+use Rattle.std.proofs.lemmas.List.{length-replicate}
+use Rattle.map_model.specs.declared.call.Answer.TheVariants as answer
+use Rattle.map_model.specs.declared.call.Call.TheVariants as call
+use Rattle.map_model.specs.declared.call.Refusal.{Refusal}
+use Rattle.map_model.specs.declared.call.Refusal.TheVariants as refusal
+use Rattle.map_model.specs.Lists.{Has, all, any}
+use Rattle.map_model.specs.Pairings.{is_last_refusal}
+use Rattle.core_state.specs.Openings.{Opening}
+use Rattle.core_state.specs.Events as happening
+use Rattle.core_state.specs.States.{State, is_hot}
+use Rattle.core_state.specs.Needs.{holds_row}
+use Rattle.core_state.specs.Steps.{AllMet, run, state_after}
+use Rattle.core_state.proofs.Runs.{run_more}
+use Rattle.lean_disk.specs.Story.{IsLawful, Story}
+use Rattle.lean_disk.proofs.MomentLemmas.{framed}
+use Rattle.disk_image.specs.Laws.{EverySealed}
+use Rattle.worker_log.specs.Laws.{EveryKept, EveryPrefix}
+use Rattle.worker_log.specs.Logs.{Log}
+use Rattle.core_disk.specs.Versions.{EveryVersion}
+use Rattle.core_calls.specs.Deeds.{marks_by}
+use Rattle.core_calls.specs.Fronts.{Done, front, outcomes}
+use Rattle.core_calls.specs.LogEvents.{RefusedLogs, is_log}
+use Rattle.core_calls.specs.Marks.{is_half}
+use Rattle.core_calls.specs.Refusals.{IsCause}
+use Rattle.core_calls.specs.Runs.{Tells}
+use Rattle.core_calls.specs.Steps.{MayPutBack, is_conflict, is_step, is_structure}
+use Rattle.disk_runs.specs.Quiet.{is_quiet}
+use Rattle.engine_calls.specs.Answers.{EveryAnswer}
+use Rattle.engine_calls.specs.Clauses.{EveryComing}
+use Rattle.engine_calls.specs.Parts.{EveryPart, behind_first}
+use Rattle.engine_calls.specs.Refused.{IsRefusal, TakesRows, refused_by}
+use Rattle.engine_calls.proofs.MarkLemmas.{any_append, keep_none}
+use Rattle.engine_calls.proofs.PartLemmas.{every_part}
+use Rattle.engine_trait.specs.Calls.{IsTold}
+use Rattle.engine_trait.specs.Limits.{limits}
+use Rattle.engine_trait.specs.Refusals.{IsRefusedFor, refusal_in}
+use Rattle.row_words.specs.declared.event.Event.{Event}
+use Rattle.row_words.specs.declared.event.Event.TheVariants.{Miss}
+use Rattle.row_words.specs.declared.given.Given.{Given}
+use Rattle.row_words.specs.Moments.{Moment, events_of}
+use Rattle.row_words.specs.Openings.{opening}
+use Rattle.row_words.specs.Sealed as sealed
+use Rattle.row_opening.specs.Openings.{EveryNeed, EveryReached}
+use Rattle.rows_trait.specs.declared.view.Hold.{Hold}
+use Rattle.rows_trait.specs.declared.view.View.{View}
+use Rattle.rows_trait.specs.Views.{Shape, state}
+use Rattle.row_engine.specs.Calls.{CallDoes, DoesOn, commit_answer}
+use Rattle.row_engine.specs.Ends.{AreMine, AreMisses, Missed}
+use Rattle.row_engine.specs.Holds.{AreStamps, Holds, IsOf}
+use Rattle.row_engine.specs.Inside.{call_test}
+use Rattle.row_engine.specs.Ties.{Ties}
+use Rattle.row_engine.specs.declared.commits.Ended as committed
+use Rattle.row_engine.specs.declared.session.Session.{Session}
+use Rattle.row_engine.proofs.Behind as behind
+use Rattle.row_engine.proofs.Behind.{rows_on}
+use Rattle.row_engine.proofs.LatchLemmas.{replicated, seen_state}
+use Rattle.row_engine.proofs.Moments.{met_core}
+
+-- ## Tests
+
+-- it works, and a transaction is open
+pub record IsReady (x : Session) : Type 0 where
+  pub works : x.works ≡ true
+  pub is_open : x.is_open ≡ true
+
+pub ready_of : (x : Session) → call_test x ≡ None → IsReady x
+ready_of x e = works_case x.works refl e
+  where
+    open_case : x.works ≡ true → (b : Bool) → x.is_open ≡ b → cond b None (Some refusal.NoTransaction) ≡ None → IsReady x
+    open_case w true q r = record { works = w; is_open = q }
+    open_case w false q r = absurd (cc)
+
+    works_case : (b : Bool) → x.works ≡ b → cond b (cond x.is_open None (Some refusal.NoTransaction)) (Some refusal.Broken) ≡ None → IsReady x
+    works_case true q r = open_case q x.is_open refl r
+    works_case false q r = absurd (cc)
+
+-- why it is refused
+pub data Tested (x : Session) (why : Refusal) : Type 0 where
+  Fails : x.works ≡ false → why ≡ refusal.Broken → Tested x why
+  Closed : x.works ≡ true → x.is_open ≡ false → why ≡ refusal.NoTransaction → Tested x why
+
+pub tested : (x : Session) (why : Refusal) → call_test x ≡ Some why → Tested x why
+tested x why e = works_case x.works refl e
+  where
+    open_case : x.works ≡ true → (b : Bool) → x.is_open ≡ b → cond b None (Some refusal.NoTransaction) ≡ Some why → Tested x why
+    open_case w true q r = absurd (cc)
+    open_case w false q r = Closed w q (cc)
+
+    works_case : (b : Bool) → x.works ≡ b → cond b (cond x.is_open None (Some refusal.NoTransaction)) (Some refusal.Broken) ≡ Some why → Tested x why
+    works_case true q r = open_case q x.is_open refl r
+    works_case false q r = Fails q (cc)
+
+-- ## Latches
+
+-- where none is marked and none is held
+pub start_mine : (frames count : ℕ) (marks : List Bool) (hs : List Hold) → marks ≡ replicate count false → hs ≡ [] → AreMine frames count marks hs
+start_mine frames count marks hs m e = subst (λ ms. AreMine frames count ms hs) (sym m) (subst (λ ks. AreMine frames count (replicate count false) ks) (sym e) (record {
+  many = length-replicate count false;
+  latched = record { marked = λ j on. absurd (replicated count j on); others = λ j lt off. refl };
+  only = λ row held. absurd (true≢false (sym held));
+}))
+
+-- ## Misses
+
+misses_met : (g : Opening) (s : State) (es : List Event) → AreMisses es → AllMet g s (events_of es)
+misses_met g s [] m = tt
+misses_met g s (Miss a ∷ es) m = (refl, misses_met g s es m)
+misses_met g s _ m = absurd m
+
+misses_run : (g : Opening) (s : State) (es : List Event) → AreMisses es → run g s (events_of es) ≡ s
+misses_run g s [] m = refl
+misses_run g s (Miss a ∷ es) m = misses_run g s es m
+misses_run g s _ m = absurd m
+
+misses_steps : (es : List Event) → AreMisses es → any is_step (events_of es) ≡ false
+misses_steps [] m = refl
+misses_steps (Miss a ∷ es) m = misses_steps es m
+misses_steps _ m = absurd m
+
+misses_structure : (es : List Event) → AreMisses es → any is_structure (events_of es) ≡ false
+misses_structure [] m = refl
+misses_structure (Miss a ∷ es) m = misses_structure es m
+misses_structure _ m = absurd m
+
+misses_log : (es : List Event) → AreMisses es → any is_log (events_of es) ≡ false
+misses_log [] m = refl
+misses_log (Miss a ∷ es) m = misses_log es m
+misses_log _ m = absurd m
+
+misses_quiet : (es : List Event) → AreMisses es → all is_quiet (events_of es) ≡ true
+misses_quiet [] m = refl
+misses_quiet (Miss a ∷ es) m = misses_quiet es m
+misses_quiet _ m = absurd m
+
+misses_core : (v : Given) (k : Moment) (es : List Event) → AreMisses es → (sealed.run v k es).core ≡ k.core
+misses_core v k [] m = refl
+misses_core v k (Miss a ∷ es) m = misses_core v (sealed.stepped v k (Miss a)) es m ∙ met_core v k (Miss a) refl
+misses_core v k _ m = absurd m
+
+length_events : (es : List Event) → length (events_of es) ≡ length es
+length_events [] = refl
+length_events (e ∷ es) = let q = length_events es in omega arith
+
+pub no_miss : (most : ℕ) (v : View) → v.held ≡ [] → Missed most v v
+no_miss most v e = record { given = refl; misses = []; are_misses = tt; few = omega arith; seen = sym (append-nil v.seen); idle = e }
+
+pub missed_from : (most : ℕ) (u v w : View) → v.given ≡ u.given → v.seen ≡ u.seen → Missed most v w → Missed most u w
+missed_from most u v w given seen m = record { given = m.given ∙ given; misses = m.misses; are_misses = m.are_misses; few = m.few; seen = m.seen ∙ ap (λ ys. ys ++ m.misses) seen; idle = m.idle }
+
+pub longer : (most : ℕ) (v w : View) → Missed most v w → 2 ^ 61 ≤ length v.seen → 2 ^ 61 ≤ length w.seen
+longer most v w m le = let q = ap length m.seen ∙ length-append v.seen m.misses in omega arith
+
+-- behind misses all is as it was
+pub holds_missed : (z y : Shape) (v w : View) (x : Session) (log : Log) → y ≡ z → Missed (length x.held.rows) v w → Holds z v x log → Holds y w x log
+holds_missed z y v w x log same m h = subst (λ k. Holds k w x log) (sym same) (record {
+  alone = h.alone;
+  idle = m.idle;
+  rows = rows_on z v w x.frames x.held.count m.given h.rows;
+  session = subst (λ k. IsOf x (k.worker 1)) (sym core_is) h.session;
+  numbers = h.numbers;
+  flushed = ap (λ k. k.flushed 1) core_is ∙ h.flushed;
+  stamps = subst (λ k. AreStamps k x.clock x.floor) (sym core_is) h.stamps;
+  hot = λ p lt live. ap (λ k. is_hot (k.place p)) core_is ∙ h.hot p (subst (λ k. p < (opening k).format.pages) m.given lt) (ap (λ k. (k.page p).node.live) (sym core_is) ∙ live);
+  held = λ i. subst (λ (k : State). holds_row (k.row i) 1 ≡ true ↔ Has i x.held.rows) (sym core_is) (h.held i);
+  within = h.within;
+  fewer = h.fewer;
+  none = h.none;
+})
+  where
+    core_is : (state w).core ≡ (state v).core
+    core_is = ap (λ k. k.core) (seen_state v w m.misses m.given m.seen) ∙ misses_core v.given (state v) m.misses m.are_misses
+
+-- ## In a run
+
+module _ (reached : EveryReached) (needs : EveryNeed) (answers : EveryAnswer) (coming : EveryComing) (versions : EveryVersion) (keeps : EveryKept) (prefixes : EveryPrefix) (seals : EverySealed)
+    (g : Opening) (xs : List Done) (z : Shape) (v : View) (x : Session) (log : Log) (h : Holds z v x log) (t : Ties g xs v) (w : View) (m : Missed (length x.held.rows) v w) where
+  abbrev first : List happening.Event
+  first = t.loads
+
+  abbrev misses : List happening.Event
+  misses = events_of m.misses
+
+  abbrev es : List happening.Event
+  es = first ++ misses
+
+  abbrev s : State
+  s = behind_first g xs first
+
+  parts : (old mid new : Story) → EveryPart old mid new
+  parts = every_part versions keeps prefixes seals
+
+  bh : behind.Behind g xs first v
+  bh = behind.begins g xs v t
+
+  behind_es : behind.Behind g xs es w
+  behind_es = behind.more reached needs g xs first v bh m.misses w m.given m.seen (misses_met g s m.misses m.are_misses)
+
+  of_s : IsOf x (s.worker 1)
+  of_s = subst (λ k. IsOf x (k.worker 1)) (behind.core_is reached needs g xs first v bh) h.session
+
+  here : state_after g (front xs ++ first) ≡ s
+  here = behind.front_is g xs first
+
+  state_es : behind_first g xs es ≡ s
+  state_es = run_more g (state_after g (front xs)) first misses ∙ misses_run g s m.misses m.are_misses
+
+  steps : any is_step es ≡ false
+  steps = any_append is_step first misses (behind.loads_steps first t.are_loads) (misses_steps m.misses m.are_misses)
+
+  structure : any is_structure es ≡ false
+  structure = any_append is_structure first misses (behind.loads_structure first t.are_loads) (misses_structure m.misses m.are_misses)
+
+  logs : any is_log es ≡ false
+  logs = any_append is_log first misses (behind.loads_log first t.are_loads) (misses_log m.misses m.are_misses)
+
+  is_refusal : (why : Refusal) → IsCause limits g (front xs ++ es) (behind_first g xs es) (is_half (marks_by 1 (outcomes xs))) 1 call.Commit why → MayPutBack why [] → IsRefusal limits g xs 1 call.Commit why es
+  is_refusal why cause no_backs = record {
+    comes = (coming xs (refused_by 1 call.Commit why es).outcome).new t.line tt;
+    met = behind_es.met;
+    rows = subst (TakesRows 1) (sym (keep_none is_step es steps)) tt;
+    structure = λ _. structure;
+    cause = cause;
+    due = subst (λ ys. RefusedLogs limits g xs 1 call.Commit why ys) (sym (keep_none is_log es logs)) tt;
+    no_backs = no_backs;
+  }
+
+  no_hinder : (b : Bool) → b ≡ false → cond b (Some call.Commit) None ≡ None
+  no_hinder false q = refl
+  no_hinder true q = absurd (true≢false q)
+
+  refused_is : (p q : Refusal) → answer.Refused p ≡ answer.Refused q → p ≡ q
+  refused_is p q r = cc
+
+  refuses : (st : Story) → IsLawful st → (why : Refusal) → IsRefusal limits g xs 1 call.Commit why es → IsRefusedFor g (state_after g (front xs ++ first)) log call.Commit why
+      → ((q : Refusal) → refusal_in g (state_after g (front xs ++ first)) log call.Commit ≡ Some q → (why ≡ q) ⊎ (why ≡ refusal.RowSpent)) → is_conflict why ≡ false → is_last_refusal why ≡ true
+      → is_half (marks_by 1 (outcomes (refused_by 1 call.Commit why es ∷ xs))) ≡ false → DoesOn g xs call.Commit (answer.Refused why) w log log st st
+  refuses st lawful why is for_it only no_conflict last half = record {
+    does = record {
+      done = refused_by 1 call.Commit why es;
+      session = refl;
+      asked_is = refl;
+      answer_is = refl;
+      tells = told;
+      frame = framed 2 st;
+      how = record {
+        first = first;
+        own = misses;
+        events = refl;
+        loads = t.are_loads;
+        few = few_events;
+        refused = λ q r. subst (λ k. IsRefusedFor g (state_after g (front xs ++ first)) log call.Commit k) (refused_is why q r) for_it;
+        refuses = λ q r. either q (only q r);
+        log = refl;
+      };
+      keeps = λ s0 k bt is_log.
+          behind.keeps_by g xs (refused_by 1 call.Commit why es) s0 k k log st st
+          ((parts st st st limits g 1 xs s0 k first k bt).quiet misses (misses_quiet m.misses m.are_misses) (behind.gone_loads st lawful (parts st st st) g xs v t s0 k bt)) told is_log refl (behind.nothing_written st lawful);
+    };
+    ties = behind.ends g xs es w behind_es (refused_by 1 call.Commit why es) refl t.told told (no_hinder (is_conflict why) no_conflict, last) half;
+  }
+    where
+      told : Tells limits g 1 xs (refused_by 1 call.Commit why es)
+      told = (answers limits g 1 xs).refused 1 call.Commit why es is
+
+      few_events : length es ≤ 2 ^ 18
+      few_events =
+          let a = t.few in
+          let b = length-append first misses in
+          let c = length_events m.misses in
+          let d = m.few in
+          let k = h.fewer in
+          let n = h.rows.few in
+          omega arith
+
+      either : (q : Refusal) → (why ≡ q) ⊎ (why ≡ refusal.RowSpent) → (answer.Refused why ≡ answer.Refused q) ⊎ (answer.Refused why ≡ answer.Refused refusal.RowSpent)
+      either q (inl e) = inl (ap answer.Refused e)
+      either q (inr e) = inr (ap answer.Refused e)
+
+  closed_there : x.is_open ≡ false → ((state_after g (front xs ++ first)).worker 1).is_open ≡ false
+  closed_there closed = ap (λ k. (k.worker 1).is_open) here ∙ (of_s.is_open ∙ closed)
+
+  -- no transaction is open
+  pub closed_does : (st : Story) → IsLawful st → x.is_open ≡ false → DoesOn g xs call.Commit (answer.Refused refusal.NoTransaction) w log log st st
+  closed_does st lawful closed = refuses st lawful refusal.NoTransaction (is_refusal refusal.NoTransaction (inl (ap (λ k. (k.worker 1).is_open) state_es ∙ (of_s.is_open ∙ closed))) refl)
+      (inl (ap (λ b. cond b None (Some refusal.NoTransaction)) (closed_there closed)))
+      (λ q r. inl (some_is refusal.NoTransaction q (sym (ap (λ b. cond b None (Some refusal.NoTransaction)) (closed_there closed)) ∙ r))) refl refl t.whole
+    where
+      some_is : (p q : Refusal) → Some p ≡ Some q → p ≡ q
+      some_is p q e = cc
+
+  -- a latch has come to its end
+  pub spent_does : (st : Story) → IsLawful st → 2 ^ 61 ≤ length w.seen → DoesOn g xs call.Commit (answer.Refused refusal.RowSpent) w log log st st
+  spent_does st lawful many = refuses st lawful refusal.RowSpent (is_refusal refusal.RowSpent many_es tt) (inr refl) (λ q r. inr refl) refl refl t.whole
+    where
+      many_es : 2 ^ 61 ≤ length (front xs ++ es)
+      many_es =
+          let a = ap length behind_es.seen in
+          let b = length-append (events_of w.given.before) (events_of w.seen) in
+          let c = length_events w.seen in
+          omega arith
+
+-- ## In every run
+
+module _ (reached : EveryReached) (needs : EveryNeed) (answers : EveryAnswer) (coming : EveryComing) (versions : EveryVersion) (keeps : EveryKept) (prefixes : EveryPrefix) (seals : EverySealed) (z : Shape) (v : View) (x : Session) (log : Log) (h : Holds z v x log) (st : Story) (lawful : IsLawful st) where
+  pub refused_by_test : x.works ≡ true → (why : Refusal) → call_test x ≡ Some why → CallDoes call.Commit (commit_answer (Err why)) v v log log st st
+  refused_by_test works why e = go (tested x why e)
+    where
+      go : Tested x why → CallDoes call.Commit (answer.Refused why) v v log log st st
+      go (Fails broken is) = absurd (true≢false (sym works ∙ broken))
+      go (Closed w closed is) = subst (λ k. CallDoes call.Commit (answer.Refused k) v v log log st st) (sym is)
+          (λ g xs t. closed_does reached needs answers coming versions keeps prefixes seals g xs z v x log h t v (no_miss (length x.held.rows) v h.idle) st lawful closed)
+
+  pub refused_by_latch : (w : View) → Missed (length x.held.rows) v w → 2 ^ 61 ≤ length w.seen → CallDoes call.Commit (commit_answer (Err refusal.RowSpent)) v w log log st st
+  refused_by_latch w m many g xs t = spent_does reached needs answers coming versions keeps prefixes seals g xs z v x log h t w m st lawful many
+
+-- the answer of one whose rows are latched, from where they were not
+pub does_from : (a : Rattle.map_model.specs.declared.call.Answer.Answer) (v w u : View) (was is : Log) (old new : Story) → w.given ≡ v.given → w.seen ≡ v.seen → CallDoes call.Commit a w u was is old new → CallDoes call.Commit a v u was is old new
+does_from a v w u was is old new given seen d g xs t = d g xs (Rattle.row_engine.proofs.CommitLemmas.ties_as g xs w v (sym given) (sym seen) t)
+
+-- ## What is told
+
+-- of a test that refused it
+pub test_told : (x : Session) (why : Refusal) → call_test x ≡ Some why → IsTold why ⊎ ((why ≡ refusal.Broken) ⊎ (why ≡ refusal.DiskFault))
+test_told x why e = go (tested x why e)
+  where
+    go : Tested x why → IsTold why ⊎ ((why ≡ refusal.Broken) ⊎ (why ≡ refusal.DiskFault))
+    go (Fails broken is) = inr (inl is)
+    go (Closed w closed is) = inl (subst IsTold (sym is) tt)
+
+pub fault_told : (r : Result committed.Ended Refusal) → IfErr r (λ why. why ≡ refusal.DiskFault) → IfErr r (λ why. IsTold why ⊎ ((why ≡ refusal.Broken) ⊎ (why ≡ refusal.DiskFault)))
+fault_told (Ok x) p = tt
+fault_told (Err why) p = inr (inr p)

@@ -1,0 +1,239 @@
+-- A put behind the taking of its row.
+use Rattle.std.proofs.Common.{◌≡◌, ◌⊎◌, inl, inr, ◌↔◌, ◌≤◌, ◌<◌, ◌^◌, ◌+◌, ◌++◌, ◌==◌, ◌&&◌, ◌||◌, ℕ, suc, Bool, true, false, cond, leb, List, [], ◌∷◌, length, Option, Ok, refl, sym, ap, ◌∙◌, subst, arith, true≢false, append-nil}
+use Rattle.std.proofs.lemmas.Bool.{and_parts, eqb-true, le-leb, leb-true}
+use Rattle.map_model.specs.Lists.{Has}
+use Rattle.page_model.specs.Nodes.{Node, free}
+use Rattle.page_model.specs.Pairs.{route}
+use Rattle.page_model.specs.Tree.{IsTree}
+use Rattle.page_model.proofs.Laws.{every_tree}
+use Rattle.image_model.specs.Entries.{Entry, Kind, touches, written}
+use Rattle.core_state.specs.Events as happening
+use Rattle.core_state.specs.Needs.{holds_row, may, needs}
+use Rattle.core_state.specs.States.{State, Worker, is_hot, nodes_of}
+use Rattle.core_state.specs.Steps.{at_pages, happens, write_entry}
+use Rattle.lean_disk.specs.Story.{Story}
+use Rattle.log_record.specs.declared.record.Record.{Record}
+use Rattle.log_block.specs.Block.{records_text}
+use Rattle.worker_log.specs.Calls.{After}
+use Rattle.worker_log.specs.Logs.{Log}
+use Rattle.row_words.specs.declared.event.Event.{Event}
+use Rattle.row_words.specs.declared.event.Event.TheVariants.{Change}
+use Rattle.row_words.specs.Moments.{event_of}
+use Rattle.row_words.specs.Openings.{opening}
+use Rattle.row_words.specs.Sealed.{begun}
+use Rattle.row_words.proofs.SealedLemmas.{run_append}
+use Rattle.rows_trait.specs.Causes.{EveryLow}
+use Rattle.rows_trait.specs.Turns.{Ran}
+use Rattle.rows_trait.specs.Views.{AreLow, Shape, after_all, state}
+use Rattle.rows_trait.specs.declared.view.View.{View}
+use Rattle.btree_descent.specs.Descents.{MetCold}
+use Rattle.btree_descent.specs.Puts.{Changed, IsRowSpent}
+use Rattle.row_engine.specs.Holds.{AreNumbers, AreStamps, Holds, IsOf}
+use Rattle.row_engine.specs.Puts.{MayChange}
+use Rattle.row_engine.specs.Staging.{Staging, session_clock}
+use Rattle.row_engine.specs.Takes.{IsSpent}
+use Rattle.row_engine.specs.declared.session.Session.{Session}
+use Rattle.row_engine.proofs.TakeLemmas.{own_log}
+use Rattle.row_engine.proofs.Behind.{rows_on}
+use Rattle.row_engine.proofs.Moments.{met_core}
+
+-- ## What a seat that is alone has seen
+
+-- its own events alone
+pub ran_seen : (alone : Bool) (v w : View) (es : List Event) → alone ≡ true → Ran alone v es w → w.seen ≡ v.seen ++ es
+ran_seen alone v w es is r = r.seen ∙ ap (λ ys. v.seen ++ ys) (r.all is)
+
+pub none_seen : (alone : Bool) (v w : View) → alone ≡ true → Ran alone v [] w → w.seen ≡ v.seen
+none_seen alone v w is r = ran_seen alone v w [] is r ∙ append-nil v.seen
+
+-- where it has seen none, it stands where it stood
+pub still : (v w : View) → w.given ≡ v.given → w.seen ≡ v.seen → state w ≡ state v
+still v w given seen i = after_all (given i) (seen i)
+
+-- and the core behind one event whose need was met
+pub seen_core : (v w : View) (e : Event) → w.given ≡ v.given → w.seen ≡ v.seen ++ e ∷ [] → may (opening v.given) (state v).core (event_of e) ≡ true → (state w).core ≡ happens (opening v.given) (state v).core (event_of e)
+seen_core v w e given seen met =
+    ap (λ m. m.core) ((λ i. after_all (given i) (seen i)) ∙ run_append v.given (begun v.given) v.seen (e ∷ [])) ∙ met_core v.given (state v) e met
+
+-- ## Where nothing was seen
+
+pub holds_still : (z : Shape) (v w : View) (x : Session) (log : Log) → w.given ≡ v.given → w.seen ≡ v.seen → w.held ≡ [] → Holds z v x log → Holds z w x log
+holds_still z v w x log given seen held h =
+    let core : (state w).core ≡ (state v).core = ap (λ m. m.core) (still v w given seen) in
+    record {
+      alone = h.alone;
+      idle = held;
+      rows = rows_on z v w x.frames x.held.count given h.rows;
+      session = subst (λ s. IsOf x (s.worker 1)) (sym core) h.session;
+      numbers = h.numbers;
+      flushed = ap (λ s. s.flushed 1) core ∙ h.flushed;
+      stamps = subst (λ s. AreStamps s x.clock x.floor) (sym core) h.stamps;
+      hot = λ p lt live. ap (λ s. is_hot (s.place p)) core ∙ h.hot p (subst (λ k. p < (opening k).format.pages) given lt) (ap (λ s. (s.page p).node.live) (sym core) ∙ live);
+      held = λ i. subst (λ s. holds_row (s.row i) 1 ≡ true ↔ Has i x.held.rows) (sym core) (h.held i);
+      within = h.within;
+      fewer = h.fewer;
+      none = h.none;
+    }
+
+-- each page on the way stands in a frame
+pub not_cold : (z : Shape) (v w : View) (x : Session) (log : Log) (key page : ℕ) → Holds z v x log → w.held ≡ [] → MetCold z.alone key page v w → ⊥
+not_cold z v w x log key page h held m = true≢false (sym (hw.hot page m.cold.below (subst (λ p. ((state w).core.page p).node.live ≡ true) (sym m.cold.names) way.1)) ∙ m.cold.cold)
+  where
+    hw : Holds z w x log
+    hw = holds_still z v w x log m.ran.given (none_seen z.alone v w h.alone m.ran) held h
+
+    tree : IsTree (opening w.given).format (nodes_of (state w).core)
+    tree = (hw.rows.tree_sound w.seen).tree
+
+    is_live : (n : Node) → 0 < n.level → (b : Bool) → n.live ≡ b → (n.live ≡ false → n ≡ free) → n.live ≡ true
+    is_live n up true e other = e
+    is_live n up false e other = let q = ap (λ k. k.level) (other e) in absurd (omega arith)
+
+    live : ((state w).core.page m.cold.parent).node.live ≡ true
+    live = is_live ((state w).core.page m.cold.parent).node m.cold.inner ((state w).core.page m.cold.parent).node.live refl (tree.formed m.cold.parent m.cold.within).other
+
+    way : (route ((state w).core.page m.cold.parent).node.pairs key 0 < (opening w.given).format.pages) × (((state w).core.page (route ((state w).core.page m.cold.parent).node.pairs key 0)).node.live ≡ true)
+    way = let q = (every_tree (opening w.given).format (nodes_of (state w).core) tree).routed m.cold.parent key m.cold.within live m.cold.above m.cold.under m.cold.inner in (q.0, q.1)
+
+-- a version that was loaded is low, so many events were seen
+pub spent_many : EveryLow → (row : ℕ) (v w : View) → AreLow (length w.seen) w.steps → IsRowSpent row v w → 2 ^ 61 ≤ length w.seen
+spent_many low row v w are r =
+    let a = low (length w.seen) r.found.loads.acts v.steps row r.version (subst (AreLow (length w.seen)) r.found.loads.steps are) r.found.finds in
+    let b = r.spent in
+    omega arith
+
+pub is_spent : EveryLow → (z : Shape) (row : ℕ) (v w : View) → z.alone ≡ true → Ran z.alone v [] w → AreLow (length w.seen) w.steps → IsRowSpent row v w → IsSpent v w
+is_spent low z row v w alone ran are r = record { given = ran.given; seen = none_seen z.alone v w alone ran; many = spent_many low row v w are r }
+
+-- ## Behind a change
+
+-- the log is flushed as it was
+pub same_flushed : (r : Record) (old new : Log) → After r old new → new.flushed ≡ old.flushed
+same_flushed r old new a = go (leb (length old.payload + length (records_text (r ∷ []))) 2000) refl
+  where
+    go : (b : Bool) → leb (length old.payload + length (records_text (r ∷ []))) 2000 ≡ b → new.flushed ≡ old.flushed
+    go true e = ap (λ k. k.flushed) (a.room (leb-true (length old.payload + length (records_text (r ∷ []))) 2000 e))
+    go false e = ap (λ k. k.flushed) (a.full (λ le. true≢false (sym (le-leb (length old.payload + length (records_text (r ∷ []))) 2000 le) ∙ e)))
+
+pub touched_page : (p page : ℕ) → ((page == p) || false) ≡ true → page ≡ p
+touched_page p page e = go (page == p) refl e
+  where
+    go : (b : Bool) → (page == p) ≡ b → (b || false) ≡ true → page ≡ p
+    go true q u = eqb-true page p q
+    go false q u = absurd (true≢false (sym u))
+
+module _ (z : Shape) (v w : View) (x : Session) (log : Log) (h : Holds z v x log) (key value : ℕ) (f : MayChange v x log key value) (before : Option ℕ) (rs now : List Record) (y : Session) (log_now : Log)
+    (d : Changed z.alone 1 key value before v rs w (session_clock y) now) where
+  abbrev s : State
+  s = (state v).core
+
+  abbrev page : ℕ
+  page = d.page
+
+  abbrev a : Worker
+  a = at_pages s 1 (s.worker 1) (page ∷ [])
+
+  abbrev r : Entry
+  r = write_entry (opening v.given) Kind.Change s 1 a page key value
+
+  past_is : d.past ≡ v.seen
+  past_is = d.onward.whole ∙ (ap (λ ys. v.seen ++ ys) (d.onward.quiet h.alone) ∙ append-nil v.seen)
+
+  pub seen_is : w.seen ≡ v.seen ++ Change 1 page key value ∷ []
+  seen_is = d.seen ∙ ap (λ ys. ys ++ Change 1 page key value ∷ []) past_is
+
+  pub change_met : may (opening v.given) s (happening.Event.Change 1 page key value) ≡ true
+  change_met = (λ i. may (opening (sym d.ran.given i)) (after_all (sym d.ran.given i) (sym past_is i)).core (happening.Event.Change 1 page key value)) ∙ d.met
+
+  core_is : (state w).core ≡ happens (opening v.given) s (happening.Event.Change 1 page key value)
+  core_is = seen_core v w (Change 1 page key value) d.ran.given seen_is change_met
+
+  page_hot : is_hot (s.place page) ≡ true
+  page_hot = (and_parts (is_hot (s.place page)) true (and_parts (is_hot (s.place page) && true) (needs (opening v.given) s (happening.Event.Change 1 page key value)) change_met).0).0
+
+  clock_at : a.clock ≡ x.clock
+  clock_at = let q = h.session.clock in let b = h.stamps.page page in omega arith
+
+  pub clock_is : y.clock ≡ suc x.clock
+  clock_is = ap (λ c. c.clock) d.clock ∙ (ap (λ k. (k.worker 1).clock) core_is ∙ ap suc clock_at)
+
+  debt_is : y.debt ≡ 0
+  debt_is = ap (λ c. c.debt) d.clock ∙ (ap (λ k. (k.worker 1).debt) core_is
+      ∙ (own_log (s.page page).gsn (s.page page).last (s.worker 1).floor (s.worker 1).debt (near (h.stamps.log page)) ∙ (h.session.debt ∙ h.numbers.debt)))
+    where
+      near : ((s.page page).last ≤ 1) ⊎ ((s.page page).gsn ≤ x.floor) → ((s.page page).last ≤ 1) ⊎ ((s.page page).gsn ≤ (s.worker 1).floor)
+      near (inl q) = inl q
+      near (inr q) = inr (let k = h.session.floor in omega arith)
+
+  module _ (old new : Story) (S : Type 0) (f0 f1 : ℕ) (held : w.held ≡ []) (st : Staging (Ok tt) x y rs now log log_now old new S f0 f1) (last : log_now.last ≡ y.clock) where
+    abbrev u : Session
+    u = record x { clock = y.clock; debt = y.debt; changes = x.changes + 1 }
+
+    flushed_is : log_now.flushed ≡ log.flushed
+    flushed_is = same_flushed st.came.entry log log_now st.came.after
+
+    stamp_on : (p : ℕ) (b : Bool) → (cond b (written r p (s.page p)) (s.page p)).gsn ≤ y.clock
+    stamp_on p true = let q = clock_is in let e = clock_at in omega arith
+    stamp_on p false = let q = clock_is in let e = h.stamps.page p in omega arith
+
+    log_on : (p : ℕ) (b : Bool) → ((cond b (written r p (s.page p)) (s.page p)).last ≤ 1) ⊎ ((cond b (written r p (s.page p)) (s.page p)).gsn ≤ x.floor)
+    log_on p true = inl (omega arith)
+    log_on p false = h.stamps.log p
+
+    hot_on : (p : ℕ) (b : Bool) → touches p r ≡ b → p < (opening v.given).format.pages → (cond b (written r p (s.page p)) (s.page p)).node.live ≡ true → is_hot (s.place p) ≡ true
+    hot_on p true e lt live = subst (λ q. is_hot (s.place q) ≡ true) (touched_page p page e) page_hot
+    hot_on p false e lt live = h.hot p lt live
+
+    session_on : IsOf u ((happens (opening v.given) s (happening.Event.Change 1 page key value)).worker 1)
+    session_on = record {
+      is_open = h.session.is_open;
+      txn = h.session.txn;
+      clock = sym (ap (λ c. c.clock) d.clock ∙ ap (λ k. (k.worker 1).clock) core_is);
+      floor = h.session.floor;
+      debt = sym (ap (λ c. c.debt) d.clock ∙ ap (λ k. (k.worker 1).debt) core_is);
+      end = h.session.end;
+      changes = let q = h.session.changes in omega arith;
+    }
+
+    numbers_on : AreNumbers u log_now
+    numbers_on = record {
+      last = last;
+      order = let a = flushed_is in let b = h.numbers.order in let c = h.numbers.last in let q = clock_is in omega arith;
+      floor = let a = flushed_is in let b = h.numbers.floor in omega arith;
+      debt = debt_is;
+      end = let a = h.numbers.end in let q = clock_is in omega arith;
+      open_low = λ _. let q = clock_is in let b = f.small in omega arith;
+      small = let q = clock_is in let b = f.small in omega arith;
+      room = λ _. st.came.room;
+      closed_txn = λ e. absurd (true≢false (sym f.is_open ∙ e));
+      txn = let a = h.numbers.txn in let q = clock_is in omega arith;
+      changes = let a = f.few in omega arith;
+    }
+
+    after_put : Holds z w u log_now
+    after_put = record {
+      alone = h.alone;
+      idle = held;
+      rows = rows_on z v w x.frames x.held.count d.ran.given h.rows;
+      session = subst (λ k. IsOf u (k.worker 1)) (sym core_is) session_on;
+      numbers = numbers_on;
+      flushed = ap (λ k. k.flushed 1) core_is ∙ (h.flushed ∙ sym flushed_is);
+      stamps = subst (λ k. AreStamps k y.clock x.floor) (sym core_is) (record {
+        page = λ p. stamp_on p (touches p r);
+        log = λ p. log_on p (touches p r);
+        row = λ i. let q = clock_is in let e = h.stamps.row i in omega arith;
+        read_end = λ i. let q = clock_is in let e = h.stamps.read_end i in omega arith;
+      });
+      hot = λ p lt live. ap (λ k. is_hot (k.place p)) core_is ∙ hot_on p (touches p r) refl (subst (λ k. p < (opening k).format.pages) d.ran.given lt) (ap (λ k. (k.page p).node.live) (sym core_is) ∙ live);
+      held = λ i. subst (λ k. holds_row (k.row i) 1 ≡ true ↔ Has i x.held.rows) (sym core_is) (h.held i);
+      within = h.within;
+      fewer = h.fewer;
+      none = h.none;
+    }
+
+    pub holds_changed : Holds z w (record y { changes = y.changes + 1 }) log_now
+    holds_changed = subst (λ k. Holds z w (record k { changes = k.changes + 1 }) log_now) (sym st.session) after_put
+
+-- an engine that is as another
+pub holds_as : (z u : Shape) (v : View) (x y : Session) (log l : Log) → u ≡ z → y ≡ x → l ≡ log → Holds z v x log → Holds u v y l
+holds_as z u v x y log l p q e h = subst (λ s. Holds s v y l) (sym p) (subst (λ k. Holds z v k l) (sym q) (subst (λ k. Holds z v x k) (sym e) h))

@@ -1,0 +1,137 @@
+-- A call that is refused behind the loads of the opening alone, and one that has taken a row, in a run.
+use Rattle.std.proofs.Common.{◌≡◌, ◌⊎◌, inl, inr, ◌≤◌, ◌^◌, ◌%◌, ◌++◌, ℕ, suc, Bool, true, false, cond, List, [], ◌∷◌, length, Some, None, refl, sym, ap, ◌∙◌, subst, arith, append-nil, true≢false}
+use Rattle.std.proofs.lemmas.List.{length-append}
+use Rattle.map_model.specs.declared.call.Answer.TheVariants as answer
+use Rattle.map_model.specs.declared.call.Call.{Call}
+use Rattle.map_model.specs.declared.call.Refusal.{Refusal}
+use Rattle.map_model.specs.declared.call.Refusal.TheVariants as refusal
+use Rattle.map_model.specs.Pairings.{is_last_refusal}
+use Rattle.core_state.specs.Openings.{Opening}
+use Rattle.core_state.specs.States.{State}
+use Rattle.core_state.specs.Events as happening
+use Rattle.core_state.specs.Steps.{state_after}
+use Rattle.core_calls.specs.Deeds.{marks_by}
+use Rattle.core_calls.specs.Fronts.{Done, front, outcomes}
+use Rattle.core_calls.specs.LogEvents.{RefusedLogs}
+use Rattle.core_calls.specs.Marks.{is_half}
+use Rattle.core_calls.specs.Refusals.{IsCause}
+use Rattle.core_calls.specs.Runs.{Tells}
+use Rattle.core_calls.specs.Steps.{MayPutBack, is_conflict}
+use Rattle.lean_disk.proofs.MomentLemmas.{framed}
+use Rattle.lean_disk.specs.Story.{IsLawful, Story}
+use Rattle.worker_log.specs.Logs.{Log}
+use Rattle.engine_calls.specs.Answers.{EveryAnswer}
+use Rattle.engine_calls.specs.Clauses.{EveryComing}
+use Rattle.engine_calls.specs.Parts.{EveryPart, behind_first}
+use Rattle.engine_calls.specs.Puts.{taking}
+use Rattle.engine_calls.specs.Refused.{IsRefusal, refused_by}
+use Rattle.row_words.specs.declared.event.Event.{Event}
+use Rattle.row_words.specs.declared.event.Event.TheVariants.{Lock}
+use Rattle.row_words.specs.Moments.{event_of, events_of}
+use Rattle.rows_trait.specs.declared.view.View.{View}
+use Rattle.rows_trait.specs.Views.{Shape}
+use Rattle.row_opening.specs.Openings.{EveryNeed, EveryReached, Opens}
+use Rattle.key_locks.specs.declared.mode.Mode.{Mode}
+use Rattle.key_locks.specs.Rows.{core_mode, event_mode}
+use Rattle.engine_trait.specs.Calls.{LogAfter}
+use Rattle.engine_trait.specs.Refusals.{IsRefusedFor, refusal_in}
+use Rattle.engine_trait.specs.Limits.{limits}
+use Rattle.row_engine.specs.Calls.{DoesOn}
+use Rattle.row_engine.specs.Holds.{AreRows}
+use Rattle.row_engine.specs.Takes.{IsSpent, Takes}
+use Rattle.row_engine.specs.Ties.{Ties}
+use Rattle.row_engine.specs.declared.session.Session.{Session}
+use Rattle.row_engine.proofs.Behind as behind
+use Rattle.row_engine.proofs.TakeLemmas.{row_is, same_mode}
+
+-- ## A row is taken
+
+-- in a run: by the lock of the opening's row of the key
+pub taken_behind : EveryReached → EveryNeed → (g : Opening) (xs : List Done) (first : List happening.Event) (z : Shape) (v w : View) (x y : Session) (key : ℕ) (mode : Mode) → behind.Behind g xs first v → AreRows z v x.frames x.held.count
+    → Takes v w x y (key % x.held.count) mode → behind.Behind g xs (taking g 1 key (core_mode mode) first []) w
+taken_behind reached needs g xs first z v w x y key mode b rows t =
+    subst (λ e. behind.Behind g xs (first ++ e ∷ []) w) event_is (behind.more reached needs g xs first v b (Lock 1 (key % x.held.count) (event_mode mode) ∷ []) w t.given t.seen (behind.may_is reached needs g xs first v b (event_of (Lock 1 (key % x.held.count) (event_mode mode))) ∙ t.met, tt))
+  where
+    row_of : key % x.held.count ≡ g.row_of key
+    row_of = sym (ap (λ f. f key) b.opens.locks ∙ row_is z v x.frames x.held.count key rows)
+
+    event_is : event_of (Lock 1 (key % x.held.count) (event_mode mode)) ≡ happening.Event.Lock 1 (g.row_of key) (core_mode mode)
+    event_is i = happening.Event.Lock 1 (row_of i) (same_mode mode i)
+
+-- where nothing was seen
+pub spent_behind : (g : Opening) (xs : List Done) (first : List happening.Event) (v w : View) → behind.Behind g xs first v → IsSpent v w → behind.Behind g xs first w
+spent_behind g xs first v w b s = record { opens = subst (λ k. Opens g k) (sym s.given) b.opens; met = b.met; seen = (λ i. events_of (s.given i).before ++ events_of (s.seen i)) ∙ b.seen }
+
+-- so many events stand before it that a latch may be spent
+pub spent_end : (g : Opening) (xs : List Done) (first : List happening.Event) (v w : View) → behind.Behind g xs first v → IsSpent v w → 2 ^ 61 ≤ length (front xs ++ first)
+spent_end g xs first v w b s =
+    let a = s.many in
+    let c = ap (λ es. length es) s.seen in
+    let d = ap (λ es. length es) b.seen in
+    let e = length-append (events_of v.given.before) (events_of v.seen) in
+    let f = as_many v.seen in
+    omega arith
+  where
+    as_many : (es : List Event) → length (events_of es) ≡ length es
+    as_many [] = refl
+    as_many (e ∷ es) = ap suc (as_many es)
+
+-- ## A call is refused
+
+module _ (answers : EveryAnswer) (coming : EveryComing) (g : Opening) (xs : List Done) (v : View) (t : Ties g xs v) (log : Log) (st : Story) (lawful : IsLawful st) (part : EveryPart st st st) (c : Call) (why : Refusal) where
+  abbrev s : State
+  s = behind_first g xs t.loads
+
+  pub is_refusal : IsCause limits g (front xs ++ t.loads) s (is_half (marks_by 1 (outcomes xs))) 1 c why → RefusedLogs limits g xs 1 c why [] → MayPutBack why [] → IsRefusal limits g xs 1 c why t.loads
+  is_refusal cause due none = record {
+    comes = (coming xs (refused_by 1 c why t.loads).outcome).new t.line tt;
+    met = t.met;
+    rows = behind.takes_none t.loads t.are_loads;
+    structure = λ _. behind.loads_structure t.loads t.are_loads;
+    cause = cause;
+    due = subst (λ es. RefusedLogs limits g xs 1 c why es) (sym (behind.no_logs t.loads t.are_loads)) due;
+    no_backs = none;
+  }
+
+  -- with the view as it is then
+  pub refused_does : (w : View) → behind.Behind g xs t.loads w → IsRefusal limits g xs 1 c why t.loads → is_conflict why ≡ false → is_last_refusal why ≡ true → ((k : State) → LogAfter g k c (answer.Refused why) log log)
+      → IsRefusedFor g s log c why → ((q : Refusal) → refusal_in g s log c ≡ Some q → (why ≡ q) ⊎ (why ≡ refusal.RowSpent)) → DoesOn g xs c (answer.Refused why) w log log st st
+  refused_does w b r no_conflict last log_is is_for refuses = record {
+    does = record {
+      done = refused_by 1 c why t.loads;
+      session = refl;
+      asked_is = refl;
+      answer_is = refl;
+      tells = told;
+      frame = framed 2 st;
+      how = record {
+        first = t.loads;
+        own = [];
+        events = sym (append-nil t.loads);
+        loads = t.are_loads;
+        few = let a = t.few in omega arith;
+        refused = λ q e. subst (λ k. IsRefusedFor g k log c q) (sym at) (subst (λ k. IsRefusedFor g s log c k) (refused_is why q e) is_for);
+        refuses = λ q e. either q (refuses q (ap (λ k. refusal_in g k log c) (sym at) ∙ e));
+        log = log_is (state_after g (front xs ++ t.loads));
+      };
+      keeps = λ s0 k bt is. behind.keeps_by g xs (refused_by 1 c why t.loads) s0 k k log st st (behind.gone_loads st lawful part g xs v t s0 k bt) told is refl (behind.nothing_written st lawful);
+    };
+    ties = behind.ends g xs t.loads w b (refused_by 1 c why t.loads) refl t.told told (no_hinder (is_conflict why) no_conflict, last) t.whole;
+  }
+    where
+      told : Tells limits g 1 xs (refused_by 1 c why t.loads)
+      told = (answers limits g 1 xs).refused 1 c why t.loads r
+
+      at : state_after g (front xs ++ t.loads) ≡ s
+      at = behind.front_is g xs t.loads
+
+      refused_is : (p q : Refusal) → answer.Refused p ≡ answer.Refused q → p ≡ q
+      refused_is p q e = cc
+
+      either : (q : Refusal) → (why ≡ q) ⊎ (why ≡ refusal.RowSpent) → (answer.Refused why ≡ answer.Refused q) ⊎ (answer.Refused why ≡ answer.Refused refusal.RowSpent)
+      either q (inl e) = inl (ap answer.Refused e)
+      either q (inr e) = inr (ap answer.Refused e)
+
+      no_hinder : (b : Bool) → b ≡ false → cond b (Some c) None ≡ None
+      no_hinder false q = refl
+      no_hinder true q = absurd (true≢false q)

@@ -1,0 +1,48 @@
+use Rattle.std.proofs.Common.{◌≡◌, false, inl, sym, ap, ◌∙◌, subst}
+use Rattle.engine_calls.proofs.PartLemmas.{every_part}
+use Rattle.row_engine.proofs.PutRuns.{not_put, not_taken, put_comes, put_did, put_framed, puts_told}
+use Rattle.engine_trait.specs.Calls.{IsTold}
+use Rattle.row_engine.proofs.puts.put.Goals as goal
+
+pub returns-in-Some-clause-does : goal.returns-in-Some-clause-does
+returns-in-Some-clause-does g c works =
+    let st = g.D.Disk.story c.args.store.now.disk in
+    let lawful = ((g.met.D.Disk g.world.𝓛 g.world.𝓜 g.world.𝓡 ((λ s x. x), (λ x. x), (λ x. x), (λ x. x))).lawful c.args.store.now.disk) in
+    not_put c.every_reached.ensures c.every_need.ensures c.every_answer.ensures c.every_coming.ensures (every_part c.every_version.ensures c.every_kept.ensures c.every_prefix.ensures c.every_sealed.ensures)
+    (g.R.Rows.shape c.args.rows.now) (g.R.Rows.view c.args.seat.now) c.args.store.now.session c.args.store.now.log (c.requires.holds works) works c.args.key c.args.value st lawful
+    c.in-Some.why (sym c.put_refusal.ensures ∙ c.in-Some.is)
+
+pub returns-in-Err-clause-does : goal.returns-in-Err-clause-does
+returns-in-Err-clause-does g c works =
+    let st = g.D.Disk.story c.args.store.now.disk in
+    let lawful = ((g.met.D.Disk g.world.𝓛 g.world.𝓜 g.world.𝓡 ((λ s x. x), (λ x. x), (λ x. x), (λ x. x))).lawful c.args.store.now.disk) in
+    not_taken c.every_reached.ensures c.every_need.ensures c.every_answer.ensures c.every_coming.ensures (every_part c.every_version.ensures c.every_kept.ensures c.every_prefix.ensures c.every_sealed.ensures)
+    (g.R.Rows.shape c.args.rows.now) (g.R.Rows.view c.args.seat.now) c.args.store.now.session c.args.store.now.log (c.requires.holds works) works c.args.key c.args.value st lawful
+    (g.R.Rows.view c.take_row.new.seat) c.in-Err.ensures.spent.1 c.in-Err.why c.in-Err.ensures.spent.0
+
+pub returns-clause-does : goal.returns-clause-does
+returns-clause-does g c works gg xs t =
+    let lawful = ((g.met.D.Disk g.world.𝓛 g.world.𝓜 g.world.𝓡 ((λ s x. x), (λ x. x), (λ x. x), (λ x. x))).lawful c.args.store.now.disk) in
+    put_did c.every_reached.ensures c.every_need.ensures c.every_answer.ensures c.every_coming.ensures (every_part c.every_version.ensures c.every_kept.ensures c.every_prefix.ensures c.every_sealed.ensures)
+    gg xs (g.R.Rows.shape c.args.rows.now) (g.R.Rows.view c.args.seat.now) c.args.store.now.session c.args.store.now.log (c.requires.holds works) t works c.args.key c.args.value
+    g.D.Disk.story c.args.store.now.disk c.put_held.new.store.disk lawful (sym c.put_refusal.ensures ∙ c.in_default.is) c.requires.value
+    (g.R.Rows.shape c.take_row.new.rows) (g.R.Rows.view c.take_row.new.seat) c.take_row.new.session c.take_row.ensures.holds c.in_default-take_row.ensures.taken
+    (g.R.Rows.view c.put_held.new.seat) c.put_held.new.store.log
+    _ (c.put_held.new.store.session.works ≡ false)
+    (λ e. ap (λ k. k.disk) e) (λ e. ap (λ k. k.log) e) c.put_held.result c.put_held.ensures.puts
+
+pub returns-clause-frame : goal.returns-clause-frame
+returns-clause-frame g c =
+    put_framed g.D.Disk.story c.args.store.now.disk c.put_held.new.store.disk (g.R.Rows.view c.take_row.new.seat) (g.R.Rows.view c.put_held.new.seat) c.args.key c.args.value c.args.store.now.log c.put_held.new.store.log
+    _ (c.put_held.new.store.session.works ≡ false) (λ e. ap (λ k. k.disk) e) c.put_held.result c.put_held.ensures.puts
+
+pub returns-in-Some-clause-told : goal.returns-in-Some-clause-told
+returns-in-Some-clause-told g c = put_comes c.args.store.now.session c.args.store.now.log c.in-Some.why (sym c.put_refusal.ensures ∙ c.in-Some.is)
+
+pub returns-in-Err-clause-told : goal.returns-in-Err-clause-told
+returns-in-Err-clause-told g c = inl (subst IsTold (sym c.in-Err.ensures.spent.0) tt)
+
+pub returns-clause-told : goal.returns-clause-told
+returns-clause-told g c =
+    puts_told c.put_held.result (g.R.Rows.view c.take_row.new.seat) (g.R.Rows.view c.put_held.new.seat) c.args.key c.args.value c.args.store.now.log c.put_held.new.store.log
+    (g.D.Disk.story c.args.store.now.disk) (g.D.Disk.story c.put_held.new.store.disk) _ (c.put_held.new.store.session.works ≡ false) c.put_held.ensures.puts

@@ -1,0 +1,47 @@
+-- What a call of an engine on rows did, in each run to which its view is tied.
+use Rattle.std.specs.Prelude.{ℕ, List, ◌∷◌, Option, Result, Ok, Err}
+use Rattle.map_model.specs.declared.call.Answer.{Answer}
+use Rattle.map_model.specs.declared.call.Answer.TheVariants as answer
+use Rattle.map_model.specs.declared.call.Call.{Call}
+use Rattle.map_model.specs.declared.call.Refusal.{Refusal}
+use Rattle.map_model.specs.declared.call.Refusal.TheVariants as refusal
+use Rattle.core_state.specs.Openings.{Opening}
+use Rattle.core_calls.specs.Fronts.{Done}
+use Rattle.lean_disk.specs.Story.{Story}
+use Rattle.worker_log.specs.Logs.{Log}
+use Rattle.rows_trait.specs.declared.view.View.{View}
+use Rattle.engine_trait.specs.Calls.{Does, Fails}
+use Rattle.row_engine.specs.Ties.{Ties}
+use Rattle.row_engine.specs.declared.commits.Ended.{Ended}
+
+-- It was answered so, and its view is tied to one outcome more.
+pub record DoesOn (g : Opening) (xs : List Done) (c : Call) (a : Answer) (w : View) (was is : Log) (old new : Story) : Type 0 where
+  pub does : Does g xs c a was is old new
+  pub ties : Ties g (does.done ∷ xs) w
+
+-- where the disk failed this, and else that
+abbrev pub Comes : Answer → (does fails : Type 0) → Type 0
+Comes (answer.Refused refusal.DiskFault) does fails = fails
+Comes _ does fails = does
+
+-- In each run to which the view is tied the call did so.
+abbrev pub CallDoes : Call → Answer → (v w : View) → (was is : Log) → (old new : Story) → Type 0
+CallDoes c a v w was is old new = (g : Opening) (xs : List Done) → Ties g xs v → Comes a (DoesOn g xs c a w was is old new) (Fails g xs c was old new)
+
+-- ## Results as answers
+
+abbrev pub begin_answer : Result ℕ Refusal → Answer
+begin_answer (Ok number) = answer.Begun number
+begin_answer (Err why) = answer.Refused why
+
+abbrev pub get_answer : Result (Option ℕ) Refusal → Answer
+get_answer (Ok value) = answer.Value value
+get_answer (Err why) = answer.Refused why
+
+abbrev pub put_answer : Result (Option ℕ) Refusal → Answer
+put_answer (Ok was) = answer.Was was
+put_answer (Err why) = answer.Refused why
+
+abbrev pub commit_answer : Result Ended Refusal → Answer
+commit_answer (Ok ended) = answer.Committed ended.number ended.at
+commit_answer (Err why) = answer.Refused why

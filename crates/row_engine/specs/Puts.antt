@@ -1,0 +1,87 @@
+-- What a put does behind the taking of its row.
+use Rattle.std.specs.Prelude.{◌≡◌, ◌<◌, ◌%◌, ◌-◌, ◌^◌, ℕ, Bool, ◌++◌, true, false, [], ◌∷◌, length, Option, None, Result, Ok, Err}
+use Rattle.map_model.specs.declared.call.Refusal.{Refusal}
+use Rattle.map_model.specs.declared.call.Refusal.TheVariants as refusal
+use Rattle.page_model.specs.Nodes.{holds}
+use Rattle.page_model.specs.Pairs.{find}
+use Rattle.core_state.specs.Events as happening
+use Rattle.core_state.specs.Needs.{is_held_by, may, value_in}
+use Rattle.lean_disk.specs.Moments.{Framed}
+use Rattle.lean_disk.specs.Story.{Story}
+use Rattle.log_record.specs.declared.record.Record.{Record}
+use Rattle.row_words.specs.declared.event.Event.TheVariants.{Change}
+use Rattle.row_words.specs.Openings.{opening}
+use Rattle.rows_trait.specs.declared.view.View.{View}
+use Rattle.rows_trait.specs.Views.{state}
+use Rattle.btree_descent.specs.Puts.{change_of}
+use Rattle.worker_log.specs.Calls.{After}
+use Rattle.worker_log.specs.Logs.{Log, limit, used}
+use Rattle.log_calls.specs.Calls.{KeepsWithin, StagesOn}
+use Rattle.engine_calls.specs.Clauses.{OnLog}
+use Rattle.row_engine.specs.declared.session.Session.{Session}
+use Rattle.row_engine.specs.Takes.{IsSpent}
+
+-- no test refuses it, and its row is held alone
+pub record MayChange (v : View) (x : Session) (log : Log) (key value : ℕ) : Type 0 where
+  pub works : x.works ≡ true
+  pub is_open : x.is_open ≡ true
+  pub few : x.changes < 64
+  pub small : x.clock < 2 ^ 62
+  pub room : used log < limit log
+  pub row : is_held_by ((state v).core.row (key % x.held.count)).holder 1 ≡ true
+  pub key_low : key < 2 ^ 64 - 1
+  pub value_low : value < 2 ^ 63
+
+-- what a log and its disk keep whatever comes of a record
+pub record KeepsLog (was : Log) (old new : Story) : Type 0 where
+  pub on : OnLog 1 was old new
+  pub frame : Framed 2 old new
+  pub within : KeepsWithin 1 was old new
+
+-- The change was seen next, at a moment at which the leaf said this of the key, and its record was staged.
+pub record IsChanged (v w : View) (key value : ℕ) (before : Option ℕ) (was is : Log) (old new : Story) : Type 0 where
+  pub page : ℕ
+  pub given : w.given ≡ v.given
+  pub seen : w.seen ≡ v.seen ++ Change 1 page key value ∷ []
+  pub met : may (opening v.given) (state v).core (happening.Event.Change 1 page key value) ≡ true
+  pub told : before ≡ value_in (opening v.given).format ((state v).core.page page).node key
+  pub entry : Record
+  pub entry_is : entry ≡ change_of (opening v.given) (state v).core 1 page key value
+  pub after : After entry was is
+  pub stands : StagesOn 1 entry was is old new
+  pub keeps : KeepsLog was old new
+
+-- nothing was seen, and the key's leaf is full and has no entry of it
+pub record IsUnfit (v w : View) (key : ℕ) : Type 0 where
+  pub given : w.given ≡ v.given
+  pub seen : w.seen ≡ v.seen
+  pub page : ℕ
+  pub below : page < (opening v.given).format.pages
+  pub leaf : holds ((state v).core.page page).node key ≡ true
+  pub none : find key ((state v).core.page page).node.pairs ≡ None
+  pub full : length ((state v).core.page page).node.pairs ≡ 60
+
+-- by answer
+abbrev pub Puts : Result (Option ℕ) Refusal → (v w : View) → (key value : ℕ) → (was is : Log) → (old new : Story) → (same broken : Type 0) → Type 0
+Puts (Ok before) v w key value was is old new same broken = IsChanged v w key value before was is old new
+Puts (Err refusal.Full) v w key value was is old new same broken = IsUnfit v w key × same
+Puts (Err refusal.RowSpent) v w key value was is old new same broken = IsSpent v w × same
+Puts (Err refusal.DiskFault) v w key value was is old new same broken = KeepsLog was old new × broken
+Puts (Err why) v w key value was is old new same broken = ⊥
+
+-- ## As its caller sees it
+
+-- whether the engine works behind this answer
+abbrev pub works_after : {A : Type 0} → Result A Refusal → Bool
+works_after (Err refusal.Broken) = false
+works_after (Err refusal.DiskFault) = false
+works_after _ = true
+
+-- a refusal by a test that comes before all that is done
+abbrev pub IsEarly : Refusal → Type 0
+IsEarly refusal.Broken = Unit {0}
+IsEarly refusal.NoTransaction = Unit {0}
+IsEarly refusal.TooLong = Unit {0}
+IsEarly (refusal.LogFull used limit) = Unit {0}
+IsEarly refusal.ClockSpent = Unit {0}
+IsEarly _ = ⊥

@@ -1,0 +1,48 @@
+// An engine's rows and its session, on pages.
+ghost use Rattle.std.specs.Prelude.{◌≤◌, IfOk, length};
+ghost use Rattle.rows_trait.specs.Plain.{sizes};
+ghost use Rattle.rows_trait.specs.Rule.{IsPicture, plan};
+ghost use Rattle.open_rows.specs.Opened.{ArePages};
+ghost use Rattle.row_engine.specs.Opened.{IsOpenedOn, plain_shape};
+
+use crate::held::HeldRows;
+use crate::session::Session;
+use btree_node::Node;
+use open_rows::open_rows;
+use rows_trait::plain::PlainRows;
+use rows_trait::trace::Trace;
+use std::alloc::{AllocError, Global};
+
+/// Rows on these pages, each live one in the frame of its number, with `count` lock rows; their seat; and a session that has done
+/// nothing, where all is flushed up to `base`. The one error is that memory is refused.
+pub fn open_session(
+    alloc: Global,
+    pages: &[Node],
+    count: u32,
+    base: u64,
+) -> Result<(PlainRows, Trace, Session), AllocError>
+    requires pages { ArePages pages.now base }
+    requires few { length pages.now ≤ 65536 }
+    requires locks { (1 ≤ count) × (count ≤ 65536) }
+    ensures fits { IfOk result (λ r. IsPicture (plan (sizes r.0.frames r.0.locks r.0.workers) r.1.view.given) r.0.words.items r.1.view) }
+    ensures opened { IfOk result (λ r. IsOpenedOn pages.now count base (plain_shape r.0.frames r.0.locks r.0.workers) r.1.view r.2) }
+{
+    row_opening::every_opened();
+    row_opening::every_need();
+    key_locks::every_sound();
+    let frames = pages.len() as u32;
+    let (rows, seat) = open_rows(alloc, pages, frames, count, 1, base)?;
+    let session = Session {
+        works: true,
+        is_open: false,
+        txn: 0,
+        clock: base,
+        floor: base,
+        debt: 0,
+        end: base,
+        changes: 0,
+        frames,
+        held: HeldRows::new(alloc, count)?,
+    };
+    Ok((rows, seat, session))
+}

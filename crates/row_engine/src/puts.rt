@@ -1,0 +1,106 @@
+// A put.
+ghost use Rattle.std.specs.Prelude.{◌≡◌, ◌⊎◌, ◌<◌, ◌-◌, ◌^◌, ◌↔◌, Err, IfErr, IsErrAnd, true, false};
+ghost use Rattle.map_model.specs.declared.call.Call.{Call};
+ghost use Rattle.map_model.specs.declared.call.Refusal.{Refusal};
+ghost use Rattle.lean_disk.specs.Faults.{HasCause};
+ghost use Rattle.lean_disk.specs.Moments.{Framed};
+ghost use Rattle.engine_trait.specs.Calls.{IsTold};
+ghost use Rattle.row_engine.specs.Calls.{CallDoes, put_answer};
+ghost use Rattle.row_engine.specs.Holds.{Holds};
+ghost use Rattle.row_engine.specs.Puts.{IsEarly, MayChange, Puts, works_after};
+
+use crate::gets::value_of;
+use crate::store::{Stages, Store};
+use crate::taking::take_row;
+use btree_descent::put::{Put, leaf_put};
+use draw_trait::draw::Unstaged;
+use key_locks::mode::Mode;
+use lean_proto::path::Path;
+use map_model::Refusal;
+use rows_trait::rows::Rows;
+
+// The key, whose row is held, gets its value.
+fn put_held<R: Rows, D: Stages>(
+    rows: &mut R,
+    seat: &mut R::Seat,
+    store: &mut Store<D>,
+    key: u64,
+    value: u64,
+) -> Result<Option<u64>, Refusal>
+    requires fits { R.fits rows.old seat.old }
+    requires holds { Holds (R.shape rows.old) (R.view seat.old) store.old.session store.old.log }
+    requires may { MayChange (R.view seat.old) store.old.session store.old.log key value }
+    ensures fits { R.fits rows.new seat.new × (R.shape rows.new ≡ R.shape rows.old) }
+    ensures holds { store.new.session.works ≡ true → Holds (R.shape rows.new) (R.view seat.new) store.new.session store.new.log }
+    ensures puts { Puts result (R.view seat.old) (R.view seat.new) key value store.old.log store.new.log (D.story store.old.disk) (D.story store.new.disk) (store.new ≡ store.old) (store.new.session.works ≡ false) }
+    ensures works { store.new.session.works ≡ works_after result }
+    ensures cause_disk_fault { HasCause (D.faults store.old.disk) (D.faults store.new.disk) (result ≡ Err Refusal.DiskFault) }
+{
+    rows_trait::every_low();
+    let frames = store.session.frames;
+    let mut path = Path::new();
+    match leaf_put(rows, seat, 1, frames, key, value, &mut path, store) {
+        Put::Done(before) => {
+            store.session.changes += 1;
+            Ok(value_of(before))
+        }
+        Put::Full { row: _ } => Err(Refusal::Full),
+        Put::RowSpent { row: _ } => {
+            rows.versions(seat);
+            Err(Refusal::RowSpent)
+        }
+        Put::Unstaged(Unstaged::DiskFault) => {
+            store.session.works = false;
+            Err(Refusal::DiskFault)
+        }
+        // The log has a block, each page of the tree stands in a frame, no number is above the clock, and nobody else steps.
+        Put::Unstaged(Unstaged::LogFull { .. }) => unreachable!(),
+        Put::Cold(_) => unreachable!(),
+        Put::ClockSpent => unreachable!(),
+        Put::Moved(_) => unreachable!(),
+        Put::Latched(_) => unreachable!(),
+    }
+}
+
+/// Gives a key a value. The answer is the value that it had.
+pub fn put<R: Rows, D: Stages>(
+    rows: &mut R,
+    seat: &mut R::Seat,
+    store: &mut Store<D>,
+    key: u64,
+    value: u64,
+) -> Result<Option<u64>, Refusal>
+    requires fits { R.fits rows.old seat.old }
+    requires holds { store.old.session.works ≡ true → Holds (R.shape rows.old) (R.view seat.old) store.old.session store.old.log }
+    requires key { key < 2 ^ 64 - 1 }
+    requires value { value < 2 ^ 63 }
+    ensures fits { R.fits rows.new seat.new × (R.shape rows.new ≡ R.shape rows.old) }
+    ensures holds { store.new.session.works ≡ true → Holds (R.shape rows.new) (R.view seat.new) store.new.session store.new.log }
+    ensures does { store.old.session.works ≡ true → CallDoes (Call.Put key value) (put_answer result) (R.view seat.old) (R.view seat.new) store.old.log store.new.log (D.story store.old.disk) (D.story store.new.disk) }
+    // Whether the engine works is seen from the answer.
+    ensures works { store.new.session.works ≡ works_after result }
+    // Which refusals a script is told.
+    ensures told { IfErr result (λ why. IsTold why ⊎ ((why ≡ Refusal.Broken) ⊎ (why ≡ Refusal.DiskFault))) }
+    // It stays within the area of its log.
+    ensures frame { Framed 2 (D.story store.old.disk) (D.story store.new.disk) }
+    ensures same { IsErrAnd result IsEarly → (R.view seat.new ≡ R.view seat.old) × (store.new ≡ store.old) }
+
+    ensures cause_broken { (result ≡ Err Refusal.Broken) ↔ (store.old.session.works ≡ false) }
+    ensures cause_disk_fault { HasCause (D.faults store.old.disk) (D.faults store.new.disk) (result ≡ Err Refusal.DiskFault) }
+{
+    core_disk::every_version();
+    worker_log::every_kept();
+    worker_log::every_prefix();
+    disk_image::every_sealed();
+    engine_calls::every_answer();
+    engine_calls::every_coming();
+    row_opening::every_reached();
+    row_opening::every_need();
+    if let Some(why) = store.session.put_refusal(&store.log) {
+        return Err(why);
+    }
+    if let Err(why) = take_row(rows, seat, &mut store.session, &store.log, key, Mode::Alone) {
+        return Err(why);
+    }
+    put_held(rows, seat, store, key, value)
+}

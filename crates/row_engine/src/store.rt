@@ -1,0 +1,163 @@
+// What session 1 works on beside its rows.
+ghost use Rattle.std.specs.Prelude.{◌≡◌, ◌≤◌, ◌<◌, ◌+◌, ◌↔◌, List, max, Err, OnOk, IsErr, IsErrAnd};
+ghost use Rattle.std.specs.Borrow.{ftrue};
+ghost use Rattle.lean_disk.specs.Faults.{HasCause};
+ghost use Rattle.lean_disk.specs.Moments.{Framed};
+ghost use Rattle.log_record.specs.Spelling.{Fits};
+ghost use Rattle.log_record.specs.declared.record.Record.{Record};
+ghost use Rattle.worker_log.specs.Calls.{After};
+ghost use Rattle.worker_log.specs.Causes.{IsFull, IsLogFull};
+ghost use Rattle.worker_log.specs.Kept.{IsInRange};
+ghost use Rattle.worker_log.specs.Logs.{used};
+ghost use Rattle.log_calls.specs.Calls.{KeepsMoments, KeepsNotes, KeepsWithin, StagesOn};
+ghost use Rattle.row_engine.specs.Staging.{touched_session};
+
+use crate::session::Session;
+use draw_trait::draw::{Draw, Unstaged};
+use lean_disk::{Disk, MemDisk};
+use log_record::Record;
+use std::marker::{Brand, Model, PhantomData};
+use worker_log::{Staging, WorkerLog};
+
+/// Records that take no bytes: what was staged, the newest first.
+#[derive(Drop)]
+pub struct Staged {
+    of: PhantomData<Record>,
+    pub ghost list: { List Record },
+}
+
+impl Model for Staged {
+    ghost also_owns = { λ _. ftrue };
+}
+
+/// Which records those are.
+pub trait Which {
+    ghost use Rattle.std.specs.Prelude.{List};
+    ghost use Rattle.log_record.specs.declared.record.Record.{Record};
+
+    ghost which: { List Record };
+}
+
+impl Which for Brand {
+    ghost use Rattle.std.specs.Prelude.{[]};
+
+    ghost which = { [] };
+}
+
+impl Staged {
+    /// Those records.
+    pub fn of<K: Which>() -> Staged
+        ensures { result.list ≡ K.which }
+    {
+        Staged { of: PhantomData }
+    }
+}
+
+// The records with one more, which stands here for the proof alone.
+fn one_more<K: Which>(before: &Staged, entry: &Record) -> Staged
+    ensures { result.list ≡ K.which }
+{
+    Staged::of::<K>()
+}
+
+// The greater of two numbers.
+fn greater(a: u64, b: u64) -> u64
+    ensures { result ≡ max a b }
+{
+    if a < b { b } else { a }
+}
+
+// The session has met a stamp.
+fn touched(session: &mut Session, number: u64, log: u32)
+    ensures { session.new ≡ touched_session session.old number log }
+{
+    let remote = session.floor < number && log != 1 && log != 0;
+    session.clock = greater(session.clock, number);
+    if remote {
+        session.debt = greater(session.debt, number);
+    }
+}
+
+/// Its disk and its log, and what it has in memory.
+pub struct Store<D> {
+    pub disk: D,
+    pub log: WorkerLog,
+    pub session: Session,
+    pub staged: Staged,
+}
+
+/// A disk on which log 1 stages. Each disk writes it as `log_calls::stage(self, log, 1, entry)`: the method of an impl may not call
+/// what is generic over its disk.
+pub trait Stages: Disk {
+    /// Puts the record of a change into log 1.
+    fn stage_on(&mut self, log: &mut WorkerLog, entry: &Record) -> Result<(), Staging>
+        requires fits { Fits entry.now }
+        requires rises { log.old.last < entry.now.gsn }
+        ensures ranges { IsInRange log.new }
+        ensures after { OnOk result (After entry.now log.old log.new) }
+        ensures last { OnOk result (log.new.last ≡ entry.now.gsn) }
+        ensures room { OnOk result (used log.new + 1 ≤ log.new.blocks) }
+        ensures same_log { IsErr result → log.new ≡ log.old }
+        ensures same_disk { IsErrAnd result IsLogFull → self.new ≡ self.old }
+        ensures stands { OnOk result (StagesOn 1 entry.now log.old log.new (Self.story self.old) (Self.story self.new)) }
+        ensures any_moment { KeepsMoments 1 log.old (Self.story self.old) (Self.story self.new) }
+        ensures told { KeepsNotes 1 log.old (Self.story self.old) (Self.story self.new) }
+        ensures within { KeepsWithin 1 log.old (Self.story self.old) (Self.story self.new) }
+        ensures frame { Framed 2 (Self.story self.old) (Self.story self.new) }
+        ensures same_notes { (Self.story self.new).notes ≡ (Self.story self.old).notes }
+
+        ensures cause_log_full { IsErrAnd result IsLogFull ↔ IsFull log.old }
+        ensures cause_disk_fault { HasCause (Self.faults self.old) (Self.faults self.new) (result ≡ Err Staging.DiskFault) };
+}
+
+impl Stages for MemDisk {
+    fn stage_on(&mut self, log: &mut WorkerLog, entry: &Record) -> Result<(), Staging> {
+        log_calls::stage(self, log, 1, entry)
+    }
+}
+
+impl<D: Stages> Draw for Store<D> {
+    ghost use Rattle.std.specs.Prelude.{◌≡◌};
+    ghost use Rattle.row_engine.specs.Staging.{Staging, session_clock};
+
+    ghost log_of = { λ s. 1 };
+
+    ghost txn_of = { λ s. s.session.txn };
+
+    ghost clock_of = { λ s. session_clock s.session };
+
+    ghost last_of = { λ s. s.log.last };
+
+    ghost staged_of = { λ s. s.staged.list };
+
+    ghost stages = { λ s r t. Staging r s.session t.session s.staged.list t.staged.list s.log t.log (D.story s.disk) (D.story t.disk) (t.disk ≡ s.disk) (D.faults s.disk) (D.faults t.disk) };
+
+    fn log(&self) -> u32 {
+        1
+    }
+
+    fn txn(&self) -> u64 {
+        self.session.txn
+    }
+
+    fn touch(&mut self, number: u64, log: u32) {
+        touched(&mut self.session, number, log);
+    }
+
+    fn next(&mut self) -> u64 {
+        let number = self.session.clock + 1;
+        self.session.clock = number;
+        number
+    }
+
+    fn stage(&mut self, entry: &Record) -> Result<(), Unstaged> {
+        match self.disk.stage_on(&mut self.log, entry) {
+            Ok(()) => {
+                self.staged = one_more::<Brand>(&self.staged, entry);
+                Ok(())
+            }
+            Err(Staging::LogFull { used, limit }) => Err(Unstaged::LogFull { used, limit }),
+            Err(Staging::DiskFault) => Err(Unstaged::DiskFault),
+        }
+    }
+}
