@@ -13,7 +13,6 @@ use Rattle.core_state.specs.Openings.{Opening, start_page}
 use Rattle.core_state.specs.Events.{Event}
 use Rattle.core_state.specs.Steps.{state_after}
 use Rattle.core_crash.specs.Crashes.{from_head, log_of}
-use Rattle.core_calls.specs.Deeds.{Outcome}
 use Rattle.core_calls.specs.Fronts.{Done, front}
 use Rattle.core_calls.specs.Runs.{EachTells, Tells}
 use Rattle.run_crashes.specs.Lines.{FellIn}
@@ -36,11 +35,11 @@ pub record IsLeft (m : Master) (s : Story) (input output : List ℕ) (c : Crash)
   pub heard : List Done
   pub each : EachTells limits opening 1 heard
   pub told : transcript 1 input (first_lines lines output) ≡ in_turn (calls_of heard)
-  -- the one more, if there is one, and the events of it that happened
-  pub next_one : Option Outcome
-  pub is_next : (x : Outcome) → next_one ≡ Some x → (y : Done) × (y.outcome ≡ x) × Tells limits opening 1 heard y
+  -- the one more, if there is one, which is told by its events, and those of them that happened
+  pub next_one : Option Done
+  pub is_next : (x : Done) → next_one ≡ Some x → Tells limits opening 1 heard x
   pub behind : List Event
-  pub fell : FellIn opening NoEvents heard next_one behind
+  pub fell : FellIn NoEvents next_one behind
   pub newer : List Entry
   pub left : List Entry
   pub logged : newer ++ left ≡ log_of 1 (state_after opening (front heard ++ behind)).entries

@@ -29,7 +29,7 @@ use Rattle.core_calls.specs.Refusals.{Limits}
 use Rattle.core_calls.specs.Runs.{EachTells}
 use Rattle.core_calls.proofs.RunLemmas.{marks_run, marks_more}
 use Rattle.run_crashes.specs.Laws.{CommitsNone, EveryCrashedLine, EveryCrashedLineFor, EveryLine, EveryLineFor, EveryReopenedFor, EveryStop, EveryStopFor, OfEachFirst, Passing}
-use Rattle.run_crashes.specs.Lines.{FellIn, Between, InCall, Stopped, CallLeaves, PutLeaves, Recovers, RunLeft, lines_of, next_of, notes_of}
+use Rattle.run_crashes.specs.Lines.{FellIn, Between, InCall, Stopped, CallLeaves, PutLeaves, Recovers, RunLeft, lines_of, next_of, notes_of, outcome_of}
 use Rattle.run_crashes.proofs.ReopenLemmas.{every_reopened_for}
 
 -- ## Lists
@@ -109,24 +109,24 @@ none_in_hand i told next by_then (inr h) = absurd (no h.outcome h.is_next)
     no x e = cc
 
 -- and no call was in hand, so it fell between two or in one that stopped
-none_fell : (g : Opening) (Such : List Event → Type 0) (heard : List Done) (next : Option Outcome) (es : List Event) → FellIn g Such heard None es → FellIn g Such heard next es
-none_fell g Such heard next es (Between e) = Between e
-none_fell g Such heard next es (InCall x is met after e) = absurd (no x.outcome is)
+none_fell : (Such : List Event → Type 0) (next : Option Done) (es : List Event) → FellIn Such None es → FellIn Such next es
+none_fell Such next es (Between e) = Between e
+none_fell Such next es (InCall x is after e) = absurd (no x is)
   where
-    no : (y : Outcome) → ◌≡◌ {A = Option Outcome} None (Some y) → ⊥
+    no : (y : Done) → ◌≡◌ {A = Option Done} None (Some y) → ⊥
     no y q = cc
-none_fell g Such heard next es (Stopped such) = Stopped such
+none_fell Such next es (Stopped such) = Stopped such
 
-any_next : (g : Opening) (Such : List Event → Type 0) (heard : List Done) (next : Option Outcome) (out : List Reply) (m : Master) (area : Areas) → Recovers g Such heard None out m area
+any_next : (g : Opening) (Such : List Event → Type 0) (heard : List Done) (next : Option Done) (out : List Reply) (m : Master) (area : Areas) → Recovers g Such heard None out m area
     → Recovers g Such heard next out m area
 any_next g Such heard next out m area r = record {
   n = r.n;
   of_run = r.of_run;
   behind = r.behind;
-  fell = none_fell g Such heard next r.behind r.fell;
+  fell = none_fell Such next r.behind r.fell;
   holds = r.holds;
   by_then = r.by_then;
-  by_then_is = none_in_hand (image_by r.n area) (outcomes heard) next r.by_then r.by_then_is;
+  by_then_is = none_in_hand (image_by r.n area) (outcomes heard) (outcome_of next) r.by_then r.by_then_is;
   falls = r.falls;
   serial = r.serial;
   numbers = r.numbers;
@@ -141,7 +141,7 @@ any_next g Such heard next out m area r = record {
 -- the oldest stays so where one more comes, or comes where there was none
 one_more : (g : Opening) (Such : List Event → Type 0) (x : Done) (unheard heard : List Done) (out : List Reply) (m : Master) (area : Areas) → Recovers g Such heard (next_of unheard) out m area
     → Recovers g Such heard (next_of (x ∷ unheard)) out m area
-one_more g Such x [] heard out m area r = any_next g Such heard (Some x.outcome) out m area r
+one_more g Such x [] heard out m area r = any_next g Such heard (Some x) out m area r
 one_more g Such x (y ∷ unheard) heard out m area r = r
 
 -- ## Moments

@@ -26,7 +26,7 @@ use Rattle.core_calls.specs.Fronts.{Done, front, outcomes}
 use Rattle.core_calls.specs.Printed.{printed}
 use Rattle.core_calls.specs.Told.{kept_of}
 use Rattle.run_crashes.specs.Laws.{EveryReopened, EveryReopenedFor, Passing}
-use Rattle.run_crashes.specs.Lines.{FellIn, Between, InCall, Stopped, Recovers}
+use Rattle.run_crashes.specs.Lines.{FellIn, Between, InCall, Stopped, Recovers, outcome_of}
 
 -- what is in hand is kept by an image that keeps the same
 in_hand : (i j : Image) (told : List Outcome) (next : Option Outcome) (by_then : Journal) → ((t : Txn) → is_kept i.logs i.floor (found i) t ≡ is_kept j.logs j.floor (found j) t)
@@ -48,9 +48,9 @@ in_hand i j told next by_then same (inr h) = inr (record {
   only = h.only;
 })
 
-module _ (agrees : EveryAgreement) (g : Opening) (Such : List Event → Type 0) (m n : Master) (area : Areas) (heard : List Done) (next : Option Outcome) (newer out : List Reply) (lines : newer ++ out ≡ printed g heard)
-    (of_run : IsOfRun m n) (behind : List Event) (fell : FellIn g Such heard next behind) (h : HoldsRun g (front heard ++ behind) n area) (x : Shows g (front heard ++ behind) n area)
-    (r : RunSurvives g (front heard ++ behind) x.logs x.page heard next) where
+module _ (agrees : EveryAgreement) (g : Opening) (Such : List Event → Type 0) (m n : Master) (area : Areas) (heard : List Done) (next : Option Done) (newer out : List Reply) (lines : newer ++ out ≡ printed g heard)
+    (of_run : IsOfRun m n) (behind : List Event) (fell : FellIn Such next behind) (h : HoldsRun g (front heard ++ behind) n area) (x : Shows g (front heard ++ behind) n area)
+    (r : RunSurvives g (front heard ++ behind) x.logs x.page heard (outcome_of next)) where
   abbrev es : List Event
   es = front heard ++ behind
 
@@ -94,7 +94,7 @@ module _ (agrees : EveryAgreement) (g : Opening) (Such : List Event → Type 0) 
     fell = fell;
     holds = h;
     by_then = r.by_then;
-    by_then_is = in_hand image shown (outcomes heard) next r.by_then keeps_same r.by_then_is;
+    by_then_is = in_hand image shown (outcomes heard) (outcome_of next) r.by_then keeps_same r.by_then_is;
     falls = r.falls;
     serial = r.serial;
     numbers = λ e i. r.numbers e (entered e i);
@@ -115,7 +115,7 @@ module _ (agrees : EveryAgreement) (g : Opening) (Such : List Event → Type 0) 
 pub every_reopened_for : EveryShown → EveryRunCrash → EveryAgreement → (Such : List Event → Type 0) → EveryReopenedFor Such
 every_reopened_for shows crashes agrees Such l g group xs m n area = record {
   between = λ x before after newer out t e lines q h. let s = shows g (front xs ++ before) n area h in
-      recovers agrees g Such m n area xs (Some x.outcome) newer out lines q before (InCall x refl t.1.met after e) h s ((crashes l g group).between xs x before after t (sym e) s.logs s.page s.leaves);
+      recovers agrees g Such m n area xs (Some x) newer out lines q before (InCall x refl after e) h s ((crashes l g group).between xs x before after t (sym e) s.logs s.page s.leaves);
   stopped = λ es newer out t none such lines q h. let s = shows g (front xs ++ es) n area h in
       recovers agrees g Such m n area xs None newer out lines q es (Stopped such) h s ((crashes l g group).stopped xs es t none s.logs s.page s.leaves);
   behind = λ newer out t lines q h. let at = subst (λ (k : List Event). HoldsRun g k n area) (sym (append-nil (front xs))) h in let s = shows g (front xs ++ []) n area at in

@@ -39,7 +39,7 @@ OfEachFirst Such es = (first rest : List Event) → first ++ rest ≡ es → Suc
 -- What a disk holds where some outcomes were heard: among the events of the next one, among such events that commit nothing, and behind these outcomes.
 pub record ReopenedLaws (l : Limits) (g : Opening) (group : ℕ) (Such : List Event → Type 0) (xs : List Done) (m n : Master) (area : Areas) : Type 0 where
   pub between : (x : Done) (before after : List Event) (newer out : List Reply) → EachTells l g group (x ∷ xs) → before ++ after ≡ x.events → newer ++ out ≡ printed g xs →
-      IsOfRun m n → HoldsRun g (front xs ++ before) n area → Recovers g Such xs (Some x.outcome) out m area
+      IsOfRun m n → HoldsRun g (front xs ++ before) n area → Recovers g Such xs (Some x) out m area
   pub stopped : (es : List Event) (newer out : List Reply) → EachTells l g group xs → CommitsNone g xs es → Such es → newer ++ out ≡ printed g xs →
       IsOfRun m n → HoldsRun g (front xs ++ es) n area → Recovers g Such xs None out m area
   pub behind : (newer out : List Reply) → EachTells l g group xs → newer ++ out ≡ printed g xs → IsOfRun m n → HoldsRun g (front xs) n area → Recovers g Such xs None out m area

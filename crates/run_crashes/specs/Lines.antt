@@ -9,7 +9,7 @@ use Rattle.image_model.specs.Entries.{Entry, is_commit}
 use Rattle.image_model.specs.Images.{found, won_by}
 use Rattle.core_state.specs.Openings.{Opening, first_map}
 use Rattle.core_state.specs.Events.{Event}
-use Rattle.core_state.specs.Steps.{AllMet, state_after}
+use Rattle.core_state.specs.Steps.{state_after}
 use Rattle.lean_disk.specs.Story.{Crash}
 use Rattle.disk_slots.specs.declared.master.Master.{Master}
 use Rattle.disk_image.specs.Masters.{IsOfRun}
@@ -25,12 +25,17 @@ use Rattle.core_calls.specs.Printed.{durable_lines, printed}
 
 -- ## Where a crash fell
 
--- Behind which events of what came after these outcomes it fell: none; the first of the next outcome's, each of which meets its need; or events
--- of a call that was not answered, of which Such is so.
-pub data FellIn (g : Opening) (Such : List Event → Type 0) (heard : List Done) (next : Option Outcome) (es : List Event) : Type 0 where
-  Between : es ≡ [] → FellIn g Such heard next es
-  InCall : (x : Done) → next ≡ Some x.outcome → AllMet g (state_after g (front heard)) x.events → (after : List Event) → es ++ after ≡ x.events → FellIn g Such heard next es
-  Stopped : Such es → FellIn g Such heard next es
+-- Behind which events of what came after the outcomes that were heard it fell: none; the first of those that were done for the next one; or events of a
+-- call that was not answered, of which Such is so.
+pub data FellIn (Such : List Event → Type 0) (next : Option Done) (es : List Event) : Type 0 where
+  Between : es ≡ [] → FellIn Such next es
+  InCall : (x : Done) → next ≡ Some x → (after : List Event) → es ++ after ≡ x.events → FellIn Such next es
+  Stopped : Such es → FellIn Such next es
+
+-- without its events
+abbrev pub outcome_of : Option Done → Option Outcome
+outcome_of None = None
+outcome_of (Some x) = Some x.outcome
 
 -- ## What recovery gives
 
@@ -38,16 +43,16 @@ pub data FellIn (g : Opening) (Such : List Event → Type 0) (heard : List Done)
 -- after the kept transactions, by its own winners. The kept are those up to its master's floor and its winners: a closed part of the
 -- transactions by then, with each that was reported durable. The run began with a master of m's run. The disk holds what a crash behind the events
 -- of these outcomes and those that it fell behind leaves, by the master that counts.
-pub record Recovers (g : Opening) (Such : List Event → Type 0) (heard : List Done) (next : Option Outcome) (out : List Reply) (m : Master) (area : Areas) : Type 0 where
+pub record Recovers (g : Opening) (Such : List Event → Type 0) (heard : List Done) (next : Option Done) (out : List Reply) (m : Master) (area : Areas) : Type 0 where
   pub n : Master
   pub of_run : IsOfRun m n
   -- where the crash fell
   pub behind : List Event
-  pub fell : FellIn g Such heard next behind
+  pub fell : FellIn Such next behind
   pub holds : HoldsRun g (front heard ++ behind) n area
   -- the transactions by then: those that were told, and one in hand, if there is one; each commit in the image has the number of its transaction
   pub by_then : Journal
-  pub by_then_is : WithOneInHand (image_by n area) (outcomes heard) next by_then
+  pub by_then_is : WithOneInHand (image_by n area) (outcomes heard) (outcome_of next) by_then
   pub falls : IsFalling by_then
   pub serial : Serial (first_map g) by_then
   pub numbers : (r : Entry) → Has r (found (image_by n area)) → is_commit r.kind ≡ true → (t : Txn) → Has t by_then → t.session ≡ r.log → t.number ≡ r.txn → t.at ≡ r.number
@@ -63,9 +68,9 @@ pub record Recovers (g : Opening) (Such : List Event → Type 0) (heard : List D
 -- ## Moments of a run
 
 -- the oldest of them
-abbrev pub next_of : List Done → Option Outcome
+abbrev pub next_of : List Done → Option Done
 next_of [] = None
-next_of (x ∷ []) = Some x.outcome
+next_of (x ∷ []) = Some x
 next_of (x ∷ y ∷ earlier) = next_of (y ∷ earlier)
 
 -- A crash in a run of these calls that began as s0, on a disk whose master was m: the first of them were heard, and of the last of these some

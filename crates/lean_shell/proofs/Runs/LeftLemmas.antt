@@ -42,7 +42,7 @@ use Rattle.core_calls.specs.Runs.{EachTells}
 use Rattle.core_disk.specs.Held.{HoldsLog}
 use Rattle.core_state.specs.Steps.{state_after}
 use Rattle.disk_runs.specs.Fair.{EveryFair, IsAsRead, IsFairFrom}
-use Rattle.run_crashes.specs.Lines.{Recovers, RunLeft, next_of}
+use Rattle.run_crashes.specs.Lines.{Recovers, RunLeft, next_of, outcome_of}
 use Rattle.engine_trait.specs.Limits.{limits}
 use Rattle.script_lang.specs.Replies.{reply_line}
 use Rattle.transcripts.specs.Laws.{EveryInTurn, EveryNextInTurn, TellsInTurn}
@@ -54,7 +54,7 @@ use Rattle.script_run.specs.Runs.{NoEvents, calls_of}
 use Rattle.lean_shell.specs.Starts.{IsLeft}
 use Rattle.lean_shell.proofs.Runs.AboveLemmas.{above}
 use Rattle.lean_shell.proofs.Runs.FoundLemmas.{IsBounded, bounded}
-use Rattle.lean_shell.proofs.Runs.PrintedLemmas.{IsNext, heard_lines, next_is, next_tells, replies_are, tells_first}
+use Rattle.lean_shell.proofs.Runs.PrintedLemmas.{HasOutcome, heard_lines, next_is, next_tells, replies_are, tells_first, with_outcome}
 
 -- ## The transaction in hand
 
@@ -155,18 +155,19 @@ module _ (laws : Laws) (m : Master) (s0 sa : Story) (g : Opening) (n1 : Master) 
     bounds : (e : Entry) → Has e (found image) → IsBounded 1 e
     bounds e i = bounded laws.blocks r.n.generation 1 r.n.blocks (run_of r.n 1 (o.crash.image 2)) h.holds.readable e (subst (λ (l : List Entry). Has e l) found_is i)
 
-    module _ (k : HasOneInHand image (outcomes o.left.heard) (next_of o.left.unheard) r.by_then) where
+    module _ (k : HasOneInHand image (outcomes o.left.heard) (outcome_of (next_of o.left.unheard)) r.by_then) where
       abbrev y : Outcome
       y = k.outcome
 
-      nx : IsNext o.left.unheard k.outcome
-      nx = next_is o.left.unheard k.outcome k.is_next
+      nx : HasOutcome (next_of o.left.unheard) k.outcome
+      nx = with_outcome (next_of o.left.unheard) k.outcome k.is_next
 
       asks : AsksNext k.outcome o.script.others
-      asks = o.script.asks k.outcome k.is_next
+      asks = subst (λ (z : Outcome). AsksNext z o.script.others) nx.outcome (o.script.asks nx.done nx.is)
 
       law : CommitLaws g 1 nx.done.outcome.session k.number k.at nx.done o.left.heard
-      law = laws.commits limits g 1 k.number k.at nx.done o.left.heard (next_tells g o.left.unheard o.left.heard xs k.outcome o.left.calls each nx) (ap (λ (z : Outcome). z.deed) nx.outcome ∙ k.commit)
+      law = laws.commits limits g 1 k.number k.at nx.done o.left.heard (next_tells g o.left.unheard o.left.heard xs nx.done o.left.calls each (next_is o.left.unheard nx.done nx.is))
+          (ap (λ (z : Outcome). z.deed) nx.outcome ∙ k.commit)
 
       floor_is : image.floor ≡ g.base
       floor_is = ap (λ (x : Master). x.floor) n_is ∙ b.floor
@@ -299,7 +300,7 @@ module _ (laws : Laws) (m : Master) (s0 sa : Story) (g : Opening) (n1 : Master) 
       each = each_heard;
       told = t.transcript_is;
       next_one = next_of o.left.unheard;
-      is_next = λ x e. let n = next_is o.left.unheard x e in (n.done, n.outcome, (next_tells g o.left.unheard o.left.heard xs x o.left.calls each n).1);
+      is_next = λ x e. (next_tells g o.left.unheard o.left.heard xs x o.left.calls each (next_is o.left.unheard x e)).1;
       behind = r.behind;
       fell = r.fell;
       newer = h.holds.prefix.0;

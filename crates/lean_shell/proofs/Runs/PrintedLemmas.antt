@@ -1,5 +1,5 @@
 -- What a run prints where each commit is durable at once: the replies to its calls.
-use Rattle.std.proofs.Common.{◌≡◌, ◌++◌, ℕ, List, [], ◌∷◌, Some, None, refl, sym, ◌∙◌, ap, ap₂, subst}
+use Rattle.std.proofs.Common.{◌≡◌, ◌++◌, ℕ, List, [], ◌∷◌, Option, Some, None, refl, sym, ◌∙◌, ap, ap₂, subst}
 use mathlib.Core.List.{append_assoc}
 use Rattle.map_model.specs.declared.call.Answer.{Answer}
 use Rattle.map_model.specs.declared.call.Answer.TheVariants as answer
@@ -13,7 +13,7 @@ use Rattle.core_calls.specs.Deeds.{Deed, Committed, Outcome, answered}
 use Rattle.core_calls.specs.Fronts.{Done}
 use Rattle.core_calls.specs.Printed.{durable_lines, printed}
 use Rattle.core_calls.specs.Runs.{EachTells}
-use Rattle.run_crashes.specs.Lines.{next_of}
+use Rattle.run_crashes.specs.Lines.{next_of, outcome_of}
 use Rattle.engine_trait.specs.Limits.{limits}
 use Rattle.transcripts.specs.Told.{durable_of, replies, Heard}
 use Rattle.transcripts.specs.Told.Heard.{Whole, Lacking}
@@ -70,27 +70,38 @@ tells_first g [] first t = t
 tells_first g (x ∷ later) first t = tells_first g later first t.0
 
 -- the oldest of these is the next
-pub record IsNext (unheard : List Done) (x : Outcome) : Type 0 where
-  pub newer : List Done
-  pub done : Done
-  pub is : unheard ≡ newer ++ done ∷ []
-  pub outcome : done.outcome ≡ x
+abbrev pub IsNext : List Done → Done → Type 0
+IsNext unheard x = (newer : List Done) × (unheard ≡ newer ++ x ∷ [])
 
-pub next_is : (unheard : List Done) (x : Outcome) → next_of unheard ≡ Some x → IsNext unheard x
+pub next_is : (unheard : List Done) (x : Done) → next_of unheard ≡ Some x → IsNext unheard x
 next_is [] x e = absurd (none x e)
   where
-    none : (x : Outcome) → None ≡ Some x → ⊥
+    none : (x : Done) → ◌≡◌ {A = Option Done} None (Some x) → ⊥
     none x e = cc
-next_is (y ∷ []) x e = record { newer = []; done = y; is = refl; outcome = one y.outcome x e }
+next_is (y ∷ []) x e = ([], ap (λ (z : Done). z ∷ []) (one y x e))
+  where
+    one : (a b : Done) → Some a ≡ Some b → a ≡ b
+    one a b e = cc
+next_is (y ∷ z ∷ earlier) x e = let n = next_is (z ∷ earlier) x e in (y ∷ n.0, ap (λ (xs : List Done). y ∷ xs) n.1)
+
+-- which has this outcome
+pub record HasOutcome (next : Option Done) (y : Outcome) : Type 0 where
+  pub done : Done
+  pub is : next ≡ Some done
+  pub outcome : done.outcome ≡ y
+
+pub with_outcome : (next : Option Done) (y : Outcome) → outcome_of next ≡ Some y → HasOutcome next y
+with_outcome None y e = absurd (none y e)
+  where
+    none : (y : Outcome) → ◌≡◌ {A = Option Outcome} None (Some y) → ⊥
+    none y e = cc
+with_outcome (Some x) y e = record { done = x; is = refl; outcome = one x.outcome y e }
   where
     one : (a b : Outcome) → Some a ≡ Some b → a ≡ b
     one a b e = cc
-next_is (y ∷ z ∷ earlier) x e =
-    let n = next_is (z ∷ earlier) x e in
-    record { newer = y ∷ n.newer; done = n.done; is = ap (λ (xs : List Done). y ∷ xs) n.is; outcome = n.outcome }
 
 -- it is told behind those that were heard
-pub next_tells : (g : Opening) (unheard heard xs : List Done) (x : Outcome) → unheard ++ heard ≡ xs → EachTells limits g 1 xs → (n : IsNext unheard x) → EachTells limits g 1 (n.done ∷ heard)
+pub next_tells : (g : Opening) (unheard heard xs : List Done) (x : Done) → unheard ++ heard ≡ xs → EachTells limits g 1 xs → IsNext unheard x → EachTells limits g 1 (x ∷ heard)
 next_tells g unheard heard xs x e each n =
-    tells_first g n.newer (n.done ∷ heard)
-    (subst (EachTells limits g 1) (sym e ∙ (ap (λ (ys : List Done). ys ++ heard) n.is ∙ append_assoc n.newer (n.done ∷ []) heard)) each)
+    tells_first g n.0 (x ∷ heard)
+    (subst (EachTells limits g 1) (sym e ∙ (ap (λ (ys : List Done). ys ++ heard) n.1 ∙ append_assoc n.0 (x ∷ []) heard)) each)

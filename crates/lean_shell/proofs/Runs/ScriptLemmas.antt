@@ -9,7 +9,7 @@ use Rattle.map_model.specs.Journals.{Name}
 use Rattle.map_model.specs.Outputs.{Reply}
 use Rattle.map_model.specs.Pairings.{is_open_line, script_of}
 use Rattle.core_state.specs.Openings.{Opening}
-use Rattle.core_calls.specs.Deeds.{Outcome, asked, in_words}
+use Rattle.core_calls.specs.Deeds.{asked, in_words}
 use Rattle.core_calls.specs.Fronts.{Done}
 use Rattle.core_calls.specs.Printed.{durable_lines}
 use Rattle.core_calls.specs.Runs.{EachTells}
@@ -114,31 +114,31 @@ module _ (input : List ℕ) (calls : List Done) (fits : EachFits 1 (calls_of cal
       heard_fits : EachFits 1 (calls_of heard)
       heard_fits = first_fits unheard heard calls e fits
 
-      no_next : (x : Outcome) → None ≡ Some x → ⊥
+      no_next : (x : Done) → ◌≡◌ {A = Option Done} None (Some x) → ⊥
       no_next x q = cc
 
-      one : (x y : Outcome) → Some x ≡ Some y → x ≡ y
+      one : (x y : Done) → Some x ≡ Some y → x ≡ y
       one x y q = cc
 
-      go : (o : Option Outcome) → next_of unheard ≡ o → HasLinesFor input heard o
+      go : (o : Option Done) → next_of unheard ≡ o → HasLinesFor input heard o
       go None q = record { others = asked_lines (script_of (calls_of unheard)) ++ others; lines = lines_of unheard heard e; asks = λ x p. absurd (no_next x p) }
       go (Some y) q =
           let n = next_is unheard y q in
-          let is : n.newer ++ (n.done ∷ heard) ≡ calls = sym (append_assoc n.newer (n.done ∷ []) heard) ∙ (ap (λ (ys : List Done). ys ++ heard) (sym n.is) ∙ e) in
-          let w : Answered = in_words n.done.outcome in
-          let fit = first_fits n.newer (n.done ∷ heard) calls is fits in
+          let is : n.0 ++ (y ∷ heard) ≡ calls = sym (append_assoc n.0 (y ∷ []) heard) ∙ (ap (λ (ys : List Done). ys ++ heard) (sym n.1) ∙ e) in
+          let w : Answered = in_words y.outcome in
+          let fit = first_fits n.0 (y ∷ heard) calls is fits in
           let low = fit.1.first in
           let high = fit.1.last in
-          let session : n.done.outcome.session ≡ 1 = omega arith in
-          let rest : List (List ℕ) = asked_lines (script_of (calls_of n.newer)) ++ others in
+          let session : y.outcome.session ≡ 1 = omega arith in
+          let rest : List (List ℕ) = asked_lines (script_of (calls_of n.0)) ++ others in
           record {
             others = ask w.session w.call ∷ rest;
-            lines = lines_of n.newer (n.done ∷ heard) is
+            lines = lines_of n.0 (y ∷ heard) is
                 ∙ (ap (λ (ls : List (List ℕ)). ls ++ rest) (script_more w (calls_of heard) heard_fits) ∙ append_assoc (asked_lines (script_of (calls_of heard))) (ask w.session w.call ∷ []) rest);
             asks = λ x p. record {
-              session = ap (λ (z : Outcome). z.session) (sym (one y x p) ∙ sym n.outcome) ∙ session;
+              session = ap (λ (z : Done). z.outcome.session) (sym (one y x p)) ∙ session;
               more = rest;
-              is = ap (λ (v : ℕ). ask v (asked n.done.outcome.deed) ∷ rest) session ∙ ap (λ (z : Outcome). ask 1 (asked z.deed) ∷ rest) (n.outcome ∙ one y x p);
+              is = ap (λ (v : ℕ). ask v (asked y.outcome.deed) ∷ rest) session ∙ ap (λ (z : Done). ask 1 (asked z.outcome.deed) ∷ rest) (one y x p);
             };
           }
 
@@ -148,10 +148,10 @@ module _ (input : List ℕ) (calls : List Done) (fits : EachFits 1 (calls_of cal
   lines_for_part x session rest is (u ∷ []) heard e not_all = record {
     others = others;
     lines = lines ∙ ap (λ (xs : List Done). asked_lines (script_of (calls_of xs)) ++ others) (sym (tail_of u x heard calls e));
-    asks = λ y p. let q : x.outcome ≡ y = ap (λ (z : Done). z.outcome) (sym (head_of u x heard calls e)) ∙ one u.outcome y p in
-        record { session = ap (λ (z : Outcome). z.session) (sym q) ∙ session; more = rest; is = is ∙ ap (λ (z : Outcome). ask 1 (asked z.deed) ∷ rest) q };
+    asks = λ y p. let q : x ≡ y = sym (head_of u x heard calls e) ∙ one u y p in
+        record { session = ap (λ (z : Done). z.outcome.session) (sym q) ∙ session; more = rest; is = is ∙ ap (λ (z : Done). ask 1 (asked z.outcome.deed) ∷ rest) q };
   }
     where
-      one : (x y : Outcome) → Some x ≡ Some y → x ≡ y
+      one : (x y : Done) → Some x ≡ Some y → x ≡ y
       one x y q = cc
   lines_for_part x session rest is (u ∷ v ∷ us) heard e not_all = lines_for_all (v ∷ us) heard (tail_of u x (v ∷ us ++ heard) calls e)

@@ -63,10 +63,10 @@ pub record AsksNext (x : Outcome) (others : List (List ℕ)) : Type 0 where
   pub is : others ≡ ask 1 (asked x.deed) ∷ more
 
 -- A script begins with the lines that ask these outcomes' calls; if one comes next, its line does.
-pub record HasLinesFor (input : List ℕ) (heard : List Done) (next : Option Outcome) : Type 0 where
+pub record HasLinesFor (input : List ℕ) (heard : List Done) (next : Option Done) : Type 0 where
   pub others : List (List ℕ)
   pub lines : script_lines input ≡ asked_lines (script_of (calls_of heard)) ++ others
-  pub asks : (x : Outcome) → next ≡ Some x → AsksNext x others
+  pub asks : (x : Done) → next ≡ Some x → AsksNext x.outcome others
 
 -- A crash of a run of these outcomes, with another count of notes: as so many lines of an output were out, which have the lines that were out in the run.
 pub record WasOut (g : Opening) (xs : List Done) (c0 : Crash) (m : Master) (s0 sa : Story) (input put : List ℕ) (generation winners undone : ℕ) (d : Crash) : Type 0 where
