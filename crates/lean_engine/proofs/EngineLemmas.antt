@@ -1,5 +1,6 @@
 -- An engine on a disk that was recovered.
 use Rattle.std.proofs.Common.{◌≡◌, ℕ, true, false, List, [], replicate, refl, sym, ap, ◌∙◌, subst}
+use Rattle.page_model.specs.Nodes.{Format}
 use Rattle.page_model.specs.Page.{Page}
 use Rattle.image_model.specs.Laws.{EveryUndone}
 use Rattle.core_state.specs.Openings.{Opening}
@@ -34,10 +35,12 @@ module _ (law : EveryOpened) (r : Recovered) (log : Log) (made : IsMadeBy r.mast
   pub works : x.works ≡ true
   works = is.session.works
 
-  pub has_opened : (s0 s1 : Story) → EveryUndone → EveryOwn → runs.EveryOpened s1 → HasRecovered s0 s1 r → pages ≡ r.pages.items → HasOpened s0 s1 v log r.master.generation r.winners r.undone
+  pub has_opened : (s0 s1 : Story) → EveryUndone → EveryOwn → runs.EveryOpened s1 → HasRecovered s0 s1 r → pages ≡ r.pages.items → HasOpened locks s0 s1 v log r.master.generation r.winners r.undone
   has_opened s0 s1 undone own stands has same = record {
     opening = g;
     in_run = (on.workers, both.1);
+    rows = λ k. ap (λ (row : ℕ → ℕ). row k) on.locks;
+    frames = is.opens.frames ∙ (is.rows.tree.given ∙ (on.frames ∙ sym (ap (λ (f : Format). f.pages) on.format)));
     from = laws.from;
     recovered = r;
     is = has;

@@ -1,5 +1,5 @@
 -- What the opening of a disk gives to an engine's run.
-use Rattle.std.specs.Prelude.{◌≡◌, ◌<◌, ℕ, suc, List, [], length, Some}
+use Rattle.std.specs.Prelude.{◌≡◌, ◌<◌, ◌%◌, ℕ, suc, List, [], length, Some}
 use Rattle.page_model.specs.Page.{Page}
 use Rattle.image_model.specs.Images.{lost_by, map_of, won_by}
 use Rattle.core_state.specs.Openings.{Opening, first_map, start_page}
@@ -87,10 +87,13 @@ pub record OpeningLaws (g : Opening) (r : Recovered) (log : Log) (s0 s1 : Story)
 
 -- ## An engine
 
--- An engine that has seen this, with this log, stands at the start of a run, which is so.
-pub record HasOpened (s0 s1 : Story) (v : View) (log : Log) (generation won lost : ℕ) : Type 0 where
+-- An engine with so many lock rows, that has seen this, with this log, stands at the start of a run, which is so.
+pub record HasOpened (locks : ℕ) (s0 s1 : Story) (v : View) (log : Log) (generation won lost : ℕ) : Type 0 where
   pub opening : Opening
   pub in_run : InRun v opening []
+  -- the row of a key, and a frame for each page
+  pub rows : (k : ℕ) → opening.row_of k ≡ k % locks
+  pub frames : opening.frames ≡ opening.format.pages
   pub from : TellsAll s0 → IsFrom opening s0 generation won lost
   -- what recovery gave
   pub recovered : Recovered

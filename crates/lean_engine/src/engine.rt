@@ -54,7 +54,7 @@ pub struct Unopened<D> {
 /// Opens a disk, with so many lock rows, which keys share.
 pub fn open<D: Disk>(alloc: Global, mut disk: D, locks: u32) -> Result<Opened<D>, Unopened<D>>
     requires locks { (1 ≤ locks) × (locks ≤ 65536) }
-    ensures opened { IfOk result (λ o. HasOpened (D.story disk) (D.story o.engine.disk) o.engine.view o.engine.log o.generation o.winners o.undone) }
+    ensures opened { IfOk result (λ o. HasOpened locks (D.story disk) (D.story o.engine.disk) o.engine.view o.engine.log o.generation o.winners o.undone) }
     ensures works { IfOk result (λ o. o.engine.works ≡ true) }
     ensures keeps { MatchResult result (λ o. OpenKeeps (D.story disk) (D.story o.engine.disk)) (λ u. OpenKeeps (D.story disk) (D.story u.disk)) }
 

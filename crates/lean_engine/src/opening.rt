@@ -36,7 +36,7 @@ pub(crate) fn open_parts<D: Disk>(
     locks: u32,
 ) -> Result<Parts, Unrecovered>
     requires locks { (1 ≤ locks) × (locks ≤ 65536) }
-    ensures opened { IfOk result (λ o. HasOpened (D.story disk.old) (D.story disk.new) o.seat.view o.log o.generation o.winners o.undone) }
+    ensures opened { IfOk result (λ o. HasOpened locks (D.story disk.old) (D.story disk.new) o.seat.view o.log o.generation o.winners o.undone) }
     ensures engine { IfOk result (λ o. IsEngine o.rows.frames o.rows.locks o.rows.workers o.rows.words.items o.seat.view o.session o.log o.latches) }
     ensures works { IfOk result (λ o. o.session.works ≡ true) }
     ensures keeps { OpenKeeps (D.story disk.old) (D.story disk.new) }

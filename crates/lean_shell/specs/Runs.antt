@@ -1,5 +1,5 @@
 -- How a run of a script ended.
-use Rattle.std.specs.Prelude.{◌≡◌, ◌⊎◌, ◌++◌, ◌<◌, ◌^◌, ℕ, suc, List, [], length, take, IsTrue, Some}
+use Rattle.std.specs.Prelude.{◌≡◌, ◌⊎◌, ◌++◌, ◌<◌, ◌%◌, ◌^◌, ℕ, suc, List, [], length, take, IsTrue, Some}
 use Rattle.image_model.specs.Images.{won_by, lost_by, map_of}
 use Rattle.lean_disk.specs.Faults.{Rose}
 use Rattle.lean_disk.specs.Story.{Story, areas_of}
@@ -100,6 +100,9 @@ pub record Executed (s0 : Story) (counts : Counts) (calls : List Done) : Type 0 
   pub opening : Opening
   pub workers : opening.workers ≡ 1
   pub changes : opening.changes ≡ 64
+  -- which lock row a key has, and that each page has a frame
+  pub rows : (k : ℕ) → opening.row_of k ≡ k % 65536
+  pub frames : opening.frames ≡ opening.format.pages
   pub from : TellsAll s0 → IsFrom opening s0 counts
   pub first : Log
   pub log : TellsAll s0 → (m : Master) → master_on (areas_of s0 0) ≡ Some m → first ≡ first_log m opening.base

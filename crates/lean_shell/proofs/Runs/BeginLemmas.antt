@@ -87,6 +87,8 @@ pub every_beginning : (s0 sa : Story) → EveryBeginning s0 sa
 every_beginning s0 sa r g first x = record {
   workers = x.workers;
   changes = x.changes;
+  rows = x.rows;
+  frames = x.frames;
   from = x.from;
   log = log r s0 sa g first x;
   begins = λ m tells clean. begins r s0 sa g first x m (recovered r s0 sa g first x tells m clean.master) (x.opened tells m clean) (x.begins tells m clean);

@@ -11,7 +11,7 @@ use Rattle.lean_shell.specs.Inside.Begins.{BeginsBy, HasStarted, began}
 use Rattle.lean_shell.specs.Runs.{Counts, IsFrom}
 use Rattle.lean_shell.proofs.Runs.BeginLemmas.{every_beginning}
 
-module _ (s0 sa : Story) (v : View) (log : Log) (generation won lost : ℕ) (o : HasOpened s0 sa v log generation won lost) where
+module _ (s0 sa : Story) (v : View) (log : Log) (generation won lost : ℕ) (o : HasOpened 65536 s0 sa v log generation won lost) where
   abbrev pub counts : Counts
   counts = record { generation = generation; winners = won; undone = lost }
 
@@ -45,6 +45,8 @@ module _ (s0 sa : Story) (v : View) (log : Log) (generation won lost : ℕ) (o :
     log_is = o.made.is;
     workers = o.in_run.0;
     changes = o.in_run.1.opens.changes;
+    rows = o.rows;
+    frames = o.frames;
     from = λ tells. subst (IsFrom o.opening s0) (sym same) (from tells);
     begins = λ tells m clean. begins m (o.clean tells m clean);
   }))

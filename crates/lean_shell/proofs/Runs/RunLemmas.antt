@@ -640,7 +640,7 @@ module _ (laws : RunLaws) (s0 sa sb sc s1 : Story) (law_a : IsLawful sa) (law_c 
       counts = counts;
       calls = r.newer;
       few = let f = r.few in let e = length_calls r.newer in omega arith;
-      executed = record { opening = g; workers = o.workers; changes = o.changes; from = o.from; first = first; log = o.log; last = r.log; executes = r.executes };
+      executed = record { opening = g; workers = o.workers; changes = o.changes; rows = o.rows; frames = o.frames; from = o.from; first = first; log = o.log; last = r.log; executes = r.executes };
       read = read;
       printed = record { told = r.told; tail = r.tail; prints = r.prints; cut = λ failed. r.cut (ap (λ (s : Stop). Some s) failed); last = l.text; last_is = l.went sink0 sinks; put_is = refl };
       told = λ tells. record { heard = h.heard; unheard = h.unheard; calls_are = h.calls_are; all_heard = h.all_heard; transcript_is = (all_tells tells).transcript_is };

@@ -1,5 +1,5 @@
 -- Words of private functions: a run of the core begins on a disk that was opened.
-use Rattle.std.specs.Prelude.{◌≡◌, ◌+◌, ℕ, [], Some}
+use Rattle.std.specs.Prelude.{◌≡◌, ◌+◌, ◌%◌, ℕ, [], Some}
 use Rattle.lean_disk.specs.Story.{Crash, Story, areas_of}
 use Rattle.disk_slots.specs.declared.master.Master.{Master}
 use Rattle.disk_image.specs.Masters.{IsOfRun}
@@ -37,6 +37,8 @@ pub record Begins (m : Master) (s0 sa : Story) (g : Opening) (log : Log) : Type 
 pub record HasStarted (s0 sa : Story) (g : Opening) (first : Log) (n : Counts) : Type 0 where
   pub workers : g.workers ≡ 1
   pub changes : g.changes ≡ 64
+  pub rows : (k : ℕ) → g.row_of k ≡ k % 65536
+  pub frames : g.frames ≡ g.format.pages
   pub from : TellsAll s0 → IsFrom g s0 n
   pub log : TellsAll s0 → (m : Master) → master_on (areas_of s0 0) ≡ Some m → first ≡ first_log m g.base
   pub begins : (m : Master) → TellsAll s0 → IsCleanDisk m (areas_of s0) → Begins m s0 sa g first
@@ -59,6 +61,8 @@ pub record IsRecoveredTo (r : Recovered) (s0 sa : Story) (g : Opening) (first : 
   pub log_is : first ≡ record { generation = r.master.generation; log = 1; blocks = r.master.blocks; head = 0; next = 0; payload = []; count = 0; last = r.master.floor; flushed = r.master.floor }
   pub workers : g.workers ≡ 1
   pub changes : g.changes ≡ 64
+  pub rows : (k : ℕ) → g.row_of k ≡ k % 65536
+  pub frames : g.frames ≡ g.format.pages
   pub from : TellsAll s0 → IsFrom g s0 (record { generation = r.master.generation; winners = r.winners; undone = r.undone })
   pub begins : TellsAll s0 → (m : Master) → IsCleanDisk m (areas_of s0) → BeginsBy m r s0 sa g first
 
