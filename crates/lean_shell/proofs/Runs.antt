@@ -5,6 +5,7 @@ pub mod AboveLemmas
 pub mod FoundLemmas
 pub mod LeftLemmas
 pub mod ScriptLemmas
+pub mod SpentLemmas
 pub mod BeginLemmas
 pub mod QuietLemmas
 pub mod OpeningLemmas

@@ -14,10 +14,14 @@ use Rattle.recovery.specs.Telling.{TellsAll}
 use Rattle.recovery.specs.declared.opening.Unrecovered.{Unrecovered}
 use Rattle.recovery.specs.declared.opening.Unrecovered.TheVariants as why
 use Rattle.core_state.specs.Openings.{Opening, first_map}
+use Rattle.core_calls.specs.Deeds.{answered}
 use Rattle.core_calls.specs.Fronts.{Done}
 use Rattle.worker_log.specs.Logs.{Log}
+use Rattle.map_model.specs.Lists.{Has}
 use Rattle.map_model.specs.Outputs.{Reply}
+use Rattle.map_model.specs.declared.call.Answer.TheVariants as answer
 use Rattle.map_model.specs.declared.call.Answered.{Answered}
+use Rattle.map_model.specs.declared.call.Refusal.TheVariants.{RowSpent}
 use Rattle.transcripts.specs.Told.{opened_line, replies, text_of}
 use Rattle.map_model.specs.Pairings.{in_turn}
 use Rattle.transcripts.specs.Transcripts.{transcript}
@@ -160,6 +164,8 @@ pub record Ran (status : ℕ) (s0 s1 : Story) (feed0 feed1 : Feed) (put : List �
   pub calls : List Done
   pub few : length calls < 2 ^ 40
   pub executed : Executed s0 counts calls
+  -- too few for a latch to be spent
+  pub none_spent : (x : Done) → Has x calls → answered x.outcome.deed ≡ answer.Refused RowSpent → ⊥
   -- the script begins with the lines that ask them, and why no more were executed
   pub read : IsTrue feed0.tells → LinesRead stop (calls_of calls) feed0.left
   pub printed : Printed stop counts calls put sink0 sink1

@@ -82,6 +82,7 @@ use Rattle.lean_shell.proofs.Runs.MomentLemmas.{line_moments, put_moments, same_
 use Rattle.lean_shell.proofs.Runs.OutputLemmas.{Out, earlier_fit, few_replies, no_tail, older_fit, out_of, prefix_few, same_prefix}
 use Rattle.lean_shell.proofs.Runs.PrintedLemmas.{replies_are, tells_first}
 use Rattle.lean_shell.proofs.Runs.QuietLemmas.{master_leaves, run_leaves}
+use Rattle.lean_shell.proofs.Runs.SpentLemmas.{none_spent}
 use Rattle.lean_shell.proofs.Runs.ScriptLemmas.{answered_out, executes_tell, first_fits, first_of, lacks, lines_for_all, lines_for_part, split_calls}
 
 -- where the sink did not fail, the output has the replies that were noted and no other
@@ -640,6 +641,7 @@ module _ (laws : RunLaws) (s0 sa sb sc s1 : Story) (law_a : IsLawful sa) (law_c 
       counts = counts;
       calls = r.newer;
       few = let f = r.few in let e = length_calls r.newer in omega arith;
+      none_spent = none_spent g first r.newer r.log r.executes (let f = r.few in let e = length_calls r.newer in omega arith);
       executed = record { opening = g; workers = o.workers; changes = o.changes; rows = o.rows; frames = o.frames; from = o.from; first = first; log = o.log; last = r.log; executes = r.executes };
       read = read;
       printed = record { told = r.told; tail = r.tail; prints = r.prints; cut = λ failed. r.cut (ap (λ (s : Stop). Some s) failed); last = l.text; last_is = l.went sink0 sinks; put_is = refl };
