@@ -1,6 +1,7 @@
--- Words of private functions: how a command ended; what an opening leaves, and lines that are put.
+-- Words of private functions: how a command ended; what an opening leaves, and lines that are put; the laws that a run stands on.
 pub mod Commands
 pub mod Lefts
 pub mod Begins
 pub mod Assembled
 pub mod Openings
+pub mod Laws

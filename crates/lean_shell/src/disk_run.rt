@@ -5,6 +5,7 @@ ghost use Rattle.lean_edge.specs.Outside.{added};
 ghost use Rattle.recovery.specs.Telling.{TellsAll};
 ghost use Rattle.lean_shell.specs.Ends.{RunEnds};
 ghost use Rattle.lean_shell.specs.Headline.{Headline};
+ghost use Rattle.lean_shell.specs.Inside.Laws.{Laws};
 ghost use Rattle.lean_shell.specs.Inside.Openings.{Refuses};
 ghost use Rattle.lean_shell.specs.Runs.{ended, status_of};
 
@@ -75,27 +76,8 @@ pub fn run_disk<S: Source, K: Sink<D>, D: Hosts>(
     ensures cause_write_fault { IsBlamed (K.faults sink.old) (K.faults sink.new) (result.status ≡ 5) }
     ensures cause_disk_fault { HasCause (D.faults disk) (D.faults result.disk) (result.status ≡ 6) }
 {
-    // What holds of calls and their crashes, of transcripts, of images that agree, and of logs.
-    core_commit::every_rise();
-    core_calls::every_alone();
-    core_calls::every_commit();
-    core_calls::every_told();
-    core_calls::every_run_crash();
-    core_disk::every_shown();
-    transcripts::every_in_turn();
-    transcripts::every_next_in_turn();
-    transcripts::every_moment();
-    transcripts::every_heard();
-    transcripts::every_end();
-    transcripts::every_next();
-    transcripts::every_notice();
-    transcripts::every_tail();
-    script_run::every_script();
-    disk_image::every_agreement();
-    disk_image::every_block_in();
-    disk_image::every_sealed();
-    worker_log::every_kept();
-    worker_log::every_prefix();
+    // What a crash leaves at each moment of a run, and what its lines tell.
+    laws();
     let Ok(mut reader) = LineReader::new(alloc) else {
         return refuse(Unrecovered::Memory, sink, disk);
     };
@@ -121,4 +103,30 @@ pub fn run_disk<S: Source, K: Sink<D>, D: Hosts>(
         status: ended(stop),
         disk: engine.close(),
     }
+}
+
+// What other crates prove of calls and their crashes, of transcripts, of images that agree, and of logs.
+fn laws()
+    ensures { Laws }
+{
+    core_commit::every_rise();
+    core_calls::every_alone();
+    core_calls::every_commit();
+    core_calls::every_told();
+    core_calls::every_run_crash();
+    core_disk::every_shown();
+    transcripts::every_in_turn();
+    transcripts::every_next_in_turn();
+    transcripts::every_moment();
+    transcripts::every_heard();
+    transcripts::every_end();
+    transcripts::every_next();
+    transcripts::every_notice();
+    transcripts::every_tail();
+    script_run::every_script();
+    disk_image::every_agreement();
+    disk_image::every_block_in();
+    disk_image::every_sealed();
+    worker_log::every_kept();
+    worker_log::every_prefix();
 }

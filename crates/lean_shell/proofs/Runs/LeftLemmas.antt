@@ -25,18 +25,15 @@ use Rattle.disk_slots.specs.declared.master.Master.{Master}
 use Rattle.disk_slots.specs.Slots as slots
 use Rattle.log_block.specs.Block as blocks
 use Rattle.disk_image.specs.Fair.{IsFairCrash}
-use Rattle.disk_image.specs.Laws.{EveryBlockIn}
 use Rattle.disk_image.specs.MasterSlots.{master_on}
 use Rattle.disk_image.specs.Runs.{entries_in}
 use Rattle.disk_image.specs.Shown.{Areas, DiskStandsFor, image_by, logged_in, run_of, shown_by}
 use Rattle.recovery.specs.Crashes.{IsNextOf}
 use Rattle.core_state.specs.Openings.{Opening, first_map, start_page}
-use Rattle.core_commit.specs.Rises.{EveryRise}
-use Rattle.core_calls.specs.Alone.{EveryAlone}
 use Rattle.core_calls.specs.Crashes.{HasOneInHand}
 use Rattle.core_calls.specs.Deeds.{Committed, Deed, Outcome, answered, asked, in_words}
 use Rattle.core_calls.specs.Deeds as deeds
-use Rattle.core_calls.specs.Durables.{CommitLaws, EveryCommit}
+use Rattle.core_calls.specs.Durables.{CommitLaws}
 use Rattle.core_calls.specs.Fronts.{Done, front, outcomes}
 use Rattle.core_calls.specs.Runs.{EachTells}
 use Rattle.core_disk.specs.Held.{HoldsLog}
@@ -45,10 +42,11 @@ use Rattle.disk_runs.specs.Fair.{EveryFair, IsAsRead, IsFairFrom}
 use Rattle.run_crashes.specs.Lines.{Recovers, RunLeft, next_of, outcome_of}
 use Rattle.engine_trait.specs.Limits.{limits}
 use Rattle.script_lang.specs.Replies.{reply_line}
-use Rattle.transcripts.specs.Laws.{EveryInTurn, EveryNextInTurn, TellsInTurn}
+use Rattle.transcripts.specs.Laws.{TellsInTurn}
 use Rattle.transcripts.specs.Told.{ask, asked_lines, Heard}
 use Rattle.transcripts.specs.Transcripts.{first_lines, transcript}
 use Rattle.lean_shell.specs.Headline.{IsInHand, Survives}
+use Rattle.lean_shell.specs.Inside.Laws.{Laws}
 use Rattle.lean_shell.specs.Inside.Lefts.{AsksNext, EveryLeft, IsBegun, Lives, WasOut}
 use Rattle.script_run.specs.Runs.{NoEvents, calls_of}
 use Rattle.lean_shell.specs.Starts.{IsLeft}
@@ -84,15 +82,6 @@ some_is x y e = cc
 
 -- ## A crash
 
--- what holds of runs and of texts
-pub record Laws : Type 0 where
-  pub rises : EveryRise
-  pub alone : EveryAlone
-  pub commits : EveryCommit
-  pub tells : EveryInTurn
-  pub next : EveryNextInTurn
-  pub blocks : EveryBlockIn
-
 module _ (laws : Laws) (m : Master) (s0 sa : Story) (g : Opening) (n1 : Master) (b : IsBegun m s0 sa g n1) (xs : List Done) (each : EachTells limits g 1 xs) (c0 : Crash) (input put : List ℕ) (generation winners undone : ℕ)
     (d : Crash) (o : WasOut g xs c0 m s0 sa input put generation winners undone d) where
   abbrev c : Crash
@@ -114,7 +103,7 @@ module _ (laws : Laws) (m : Master) (s0 sa : Story) (g : Opening) (n1 : Master) 
   hears = heard_lines said o.left.missing o.left.out (o.left.lines ∙ replies_are laws.alone g b.workers o.left.heard each_heard)
 
   t : TellsInTurn 1 said o.left.out input out
-  t = laws.tells 1 generation winners undone said o.left.out o.script.others input out (omega arith) o.fits o.script.lines hears o.output
+  t = laws.in_turn 1 generation winners undone said o.left.out o.script.others input out (omega arith) o.fits o.script.lines hears o.output
 
   zero_is : o.crash.image 0 ≡ (sa.area 0).bytes
   zero_is = (o.areas 0 (omega arith)).clean (b.settled 0 (omega arith)).clean
@@ -234,7 +223,7 @@ module _ (laws : Laws) (m : Master) (s0 sa : Story) (g : Opening) (n1 : Master) 
 
       more_is : transcript 1 input (out ++ reply_line (Reply.Answered 1 a)) ≡ in_turn said ++ x ∷ []
       more_is = let z = bounds end_of.end end_of.has in
-          laws.next 1 generation winners undone x said o.left.out asks.more input put o.lines (omega arith)
+          laws.next_in_turn 1 generation winners undone x said o.left.out asks.more input put o.lines (omega arith)
           (o.fits, record { first = omega arith; last = omega arith; fits = tt }, (omega arith, (z.txn, z.number))) begins_next hears o.output
 
       in_hand : IsInHand input out (found image) r.by_then

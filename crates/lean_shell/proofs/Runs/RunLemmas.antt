@@ -24,7 +24,7 @@ use Rattle.script_lang.specs.Lines.{CallFits}
 use Rattle.script_lang.specs.Notices.{Notice, NoticeFits}
 use Rattle.script_lang.specs.Reading.{Reading, Unread}
 use Rattle.disk_slots.specs.declared.master.Master.{Master}
-use Rattle.disk_image.specs.Laws.{EveryAgreement, EverySealed}
+use Rattle.disk_image.specs.Laws.{EveryAgreement}
 use Rattle.disk_image.specs.Masters.{IsOfRun}
 use Rattle.disk_image.specs.Shown.{DiskStandsFor, IsCleanDisk, image_by}
 use Rattle.recovery.specs.Crashes.{RecoveryLeaves}
@@ -38,14 +38,12 @@ use Rattle.core_calls.specs.Fronts.{Done, front, outcomes}
 use Rattle.core_calls.specs.Printed.{durable_lines, printed}
 use Rattle.core_calls.specs.Runs.{EachTells}
 use Rattle.core_calls.specs.Runs as told_by
-use Rattle.core_calls.specs.Told.{EveryTold}
 use Rattle.core_calls.proofs.RunLemmas.{answers_all}
 use Rattle.core_disk.specs.Held.{HoldsRun}
 use Rattle.core_disk.specs.Shows.{EveryShown}
 use Rattle.core_state.specs.Steps.{state_after}
 use Rattle.disk_runs.specs.Fair.{IsAsRead}
 use Rattle.disk_runs.proofs.ReadLemmas.{every_read}
-use Rattle.worker_log.specs.Laws.{EveryKept, EveryPrefix}
 use Rattle.disk_runs.specs.Stands.{Known, Stands}
 use Rattle.disk_runs.proofs.LineLemmas.{every_fair}
 use Rattle.disk_runs.proofs.StandLemmas.{every_same}
@@ -54,7 +52,7 @@ use Rattle.engine_trait.specs.Limits.{limits}
 use Rattle.run_crashes.specs.Lines.{Recovers, RunLeft, next_of}
 use Rattle.run_crashes.proofs.ReopenLemmas.{every_reopened_for}
 use Rattle.worker_log.specs.Logs.{Log}
-use Rattle.transcripts.specs.Laws.{ComesNext, EveryEnd, EveryHeard, EveryMoment, EveryNext, TellsInTurn}
+use Rattle.transcripts.specs.Laws.{ComesNext, TellsInTurn}
 use Rattle.transcripts.proofs.AskedLemmas.{replies_append}
 use Rattle.transcripts.proofs.TranscriptLemmas.{lines_fit}
 use Rattle.transcripts.specs.Told.{ask, asked_text, opened_line, replies, text_of, EachFits, EachReplyFits, Heard, IsOutput}
@@ -62,13 +60,14 @@ use Rattle.transcripts.specs.Told.Heard.{Whole}
 use Rattle.transcripts.specs.Transcripts.{first_lines, transcript, IsQuiet}
 use Rattle.script_run.specs.Runs.{CallMissing, DiskTo, IsLastCut, NoEvents, PrintsTo, ReadsTo, ScriptRuns, StaysIn2, calls_of}
 use Rattle.script_run.specs.Runs.CallMissing.{Nothing, Part}
-use Rattle.script_run.specs.Texts.{EveryScript, LinesRead}
+use Rattle.script_run.specs.Texts.{LinesRead}
 use Rattle.script_run.specs.declared.stop.Stop.{Stop}
 use Rattle.script_run.specs.declared.stop.Stop.TheVariants as stops
 use Rattle.lean_shell.specs.Crashes.{IsYoung, MasterLeaves, TellsCrashes, as_read}
 use Rattle.lean_shell.specs.Ends.{RunEnds}
 use Rattle.lean_shell.specs.Headline.{Headline, RunLeaves, Survives}
 use Rattle.lean_shell.specs.Inside.Begins.{Begins, HasStarted, began}
+use Rattle.lean_shell.specs.Inside.Laws.{Laws}
 use Rattle.lean_shell.specs.Inside.Lefts.{HasLinesFor, IsSameBut, KeepsAreas, LivesOn, WasOut}
 use Rattle.lean_shell.specs.Inside.Assembled.{EveryRun}
 use Rattle.lean_shell.specs.Inside.Openings.{EndsWith}
@@ -77,7 +76,7 @@ use Rattle.lean_shell.specs.Runs.{Counts, ended, first_line}
 use Rattle.lean_shell.specs.Starts.{IsLeft}
 use Rattle.lean_shell.proofs.Runs.EndLemmas.{HasLines, HeardOf, final_tail, heard_of, lines_of}
 use Rattle.lean_shell.proofs.Runs.LastLemmas.{Last, last_of}
-use Rattle.lean_shell.proofs.Runs.LeftLemmas.{Laws, left_now, lives_as, lives_now}
+use Rattle.lean_shell.proofs.Runs.LeftLemmas.{left_now, lives_as, lives_now}
 use Rattle.lean_shell.proofs.Runs.MomentLemmas.{line_moments, put_moments, same_but, then}
 use Rattle.lean_shell.proofs.Runs.OutputLemmas.{Out, earlier_fit, few_replies, no_tail, older_fit, out_of, prefix_few, same_prefix}
 use Rattle.lean_shell.proofs.Runs.PrintedLemmas.{replies_are, tells_first}
@@ -208,22 +207,7 @@ heard_now g (x ∷ earlier) newer told each e cut = ⊎_elim (λ l. record {
 
 -- ## A run
 
-pub record RunLaws : Type 0 where
-  pub lefts : Laws
-  pub told : EveryTold
-  pub moment : EveryMoment
-  pub prefix : EveryHeard
-  pub script : EveryScript
-  pub end : EveryEnd
-  pub next : EveryNext
-  pub agrees : EveryAgreement
-  pub shown : EveryShown
-  pub kept : EveryKept
-  pub prefixes : EveryPrefix
-  pub seals : EverySealed
-  pub crashes : EveryRunCrash
-
-module _ (laws : RunLaws) (s0 sa sb sc s1 : Story) (law_a : IsLawful sa) (law_c : IsLawful sc) (law_1 : IsLawful s1) (g : Opening) (first : Log) (counts : Counts) (o : HasStarted s0 sa g first counts) (keeps : Keeps s0 sa)
+module _ (laws : Laws) (s0 sa sb sc s1 : Story) (law_a : IsLawful sa) (law_c : IsLawful sc) (law_1 : IsLawful s1) (g : Opening) (first : Log) (counts : Counts) (o : HasStarted s0 sa g first counts) (keeps : Keeps s0 sa)
     (any : (m : Master) → TellsAll s0 → IsCleanDisk m (areas_of s0) → LeavesOnly s0 sa (RecoveryLeaves m s0))
     (held0 held_b held_c held1 : Held) (opened_fits : NoticeFits (Notice.Opened counts.generation counts.winners counts.undone)) (p : IsPut (first_line counts) PutDone held0 held_b sa sb)
     (feed0 feed1 : Feed) (reader : Unread) (stop : Stop) (log1 : Log) (r : ScriptRuns (Some stop) g [] 0 feed0 [] first log1 reader feed1 held_b held_c sb sc)
@@ -244,10 +228,10 @@ module _ (laws : RunLaws) (s0 sa sb sc s1 : Story) (law_a : IsLawful sa) (law_c 
   each = executes_tell g first r.newer r.log r.executes
 
   printed_is : printed g r.newer ≡ replies said
-  printed_is = replies_are laws.lefts.alone g o.workers r.newer each
+  printed_is = replies_are laws.alone g o.workers r.newer each
 
   fit_replies : EachReplyFits (replies said)
-  fit_replies = (((laws.prefix said).prefix [] (replies said) refl).fit 1 r.fits).1
+  fit_replies = (((laws.heard said).prefix [] (replies said) refl).fit 1 r.fits).1
 
   abbrev out : Out said r.told r.tail
   out = out_of stop said r.told r.tail fit_replies r.prints
@@ -279,7 +263,7 @@ module _ (laws : RunLaws) (s0 sa sb sc s1 : Story) (law_a : IsLawful sa) (law_c 
       ∙ ap (λ (t : List ℕ). held0.bytes ++ (first_line counts ++ t)) (append_assoc (text_of r.told) r.tail l.text))))
 
   abbrev h : HeardOf stop said out.all
-  h = heard_of laws.prefix stop said r.told r.tail fit_replies r.prints
+  h = heard_of laws.heard stop said r.told r.tail fit_replies r.prints
 
   read : IsTrue feed0.tells → LinesRead stop said input
   read = (laws.script stop said feed0 feed1 reader r.told r.tail held_b held_c r.fits r.reads r.prints r.holds).read
@@ -292,7 +276,7 @@ module _ (laws : RunLaws) (s0 sa sb sc s1 : Story) (law_a : IsLawful sa) (law_c 
   tells_of tells later heard e told text hears is =
       let fits : EachFits 1 heard = earlier_fit later heard (subst (EachFits 1) (sym e) r.fits) in
       let ls : HasLines input heard = Rattle.lean_shell.proofs.Runs.EndLemmas.first_lines_of input later heard said e fits (lines tells) in
-      laws.lefts.tells 1 counts.generation counts.winners counts.undone heard told ls.others input text (omega arith) fits ls.is hears is
+      laws.in_turn 1 counts.generation counts.winners counts.undone heard told ls.others input text (omega arith) fits ls.is hears is
 
   all_tells : IsTrue feed0.tells → TellsInTurn 1 h.heard out.all input put
   all_tells tells = tells_of tells h.unheard h.heard h.calls_are out.all put h.hears output
@@ -414,7 +398,7 @@ module _ (laws : RunLaws) (s0 sa sb sc s1 : Story) (law_a : IsLawful sa) (law_c 
         let each_first = tells_first g unheard heard (subst (EachTells limits g 1) (sym e) each) in (
           replies (calls_of unheard) ++ durable_lines missing,
           append_assoc (replies (calls_of unheard)) (durable_lines missing) told
-              ∙ (ap (λ (rs : List Reply). replies (calls_of unheard) ++ rs) (is ∙ replies_are laws.lefts.alone g o.workers heard each_first)
+              ∙ (ap (λ (rs : List Reply). replies (calls_of unheard) ++ rs) (is ∙ replies_are laws.alone g o.workers heard each_first)
               ∙ (sym (replies_append (calls_of unheard) (calls_of heard)) ∙ ap replies (sym (Rattle.lean_shell.proofs.Runs.PrintedLemmas.calls_append unheard heard) ∙ ap calls_of e))),
         )
 
@@ -493,7 +477,7 @@ module _ (laws : RunLaws) (s0 sa sb sc s1 : Story) (law_a : IsLawful sa) (law_c 
       script = both sb sc (StaysIn2 (length r.told) sb) (RunLeft g NoEvents xs c0 m) disk.0 run
 
       lives_on : (d : Crash) → WasOut g xs c0 m s0 sa input put counts.generation counts.winners counts.undone d → LivesOn m s0 input put d
-      lives_on d w = inr (λ fair. lives_as laws.lefts m s0 sa g b.n b.begun xs each_x c0 input put counts.generation counts.winners counts.undone d w (every_fair s0) as_began fair)
+      lives_on d w = inr (λ fair. lives_as laws m s0 sa g b.n b.begun xs each_x c0 input put counts.generation counts.winners counts.undone d w (every_fair s0) as_began fair)
 
       in_script : (c : Crash) → Q c → LivesOn m s0 input put c
       in_script c q =
@@ -559,7 +543,7 @@ module _ (laws : RunLaws) (s0 sa sb sc s1 : Story) (law_a : IsLawful sa) (law_c 
               let a = ap (λ (rs : List Reply). length rs) (q.told_are ∙ ap (λ (ys : List Answered). q.said ++ replies ys) (sym earlier_is)) in
               let b = Rattle.std.proofs.lemmas.List.length-append q.said (replies (calls_of xs)) in
               let each_x : EachTells limits g 1 (x ∷ xs) = subst (EachTells limits g 1) e each in
-              let c = ap (λ (rs : List Reply). length rs) (replies_are laws.lefts.alone g o.workers xs each_x.0) in
+              let c = ap (λ (rs : List Reply). length rs) (replies_are laws.alone g o.workers xs each_x.0) in
               omega arith
             where
               tail_is : (y z : Answered) (ys zs : List Answered) → y ∷ ys ≡ z ∷ zs → ys ≡ zs
@@ -611,14 +595,14 @@ module _ (laws : RunLaws) (s0 sa sb sc s1 : Story) (law_a : IsLawful sa) (law_c 
 
       pub stands : Survives m s0 input put (as_read s1)
       stands = ⊎_elim
-          (λ (e : s1.notes ≡ sc.notes). (lives_now laws.lefts m s0 sa g b.n b.begun r.newer each c0 input put counts.generation counts.winners counts.undone (as_read s1) (was_now (suc (length r.told)) (let n = notes_c in let b = notes_b in omega arith) (first_output [] r.told refl)) recovered).survives)
-          (λ (e : (s1.notes ≡ sc.notes + 1) × (stop ≡ stops.WriteFault → ⊥)). (lives_now laws.lefts m s0 sa g b.n b.begun r.newer each c0 input put counts.generation counts.winners counts.undone (as_read s1) (was_now (suc (suc (length r.told))) (let n = notes_c in let b = notes_b in let f = e.0 in omega arith) (last_output e.1)) recovered).survives)
+          (λ (e : s1.notes ≡ sc.notes). (lives_now laws m s0 sa g b.n b.begun r.newer each c0 input put counts.generation counts.winners counts.undone (as_read s1) (was_now (suc (length r.told)) (let n = notes_c in let b = notes_b in omega arith) (first_output [] r.told refl)) recovered).survives)
+          (λ (e : (s1.notes ≡ sc.notes + 1) × (stop ≡ stops.WriteFault → ⊥)). (lives_now laws m s0 sa g b.n b.begun r.newer each c0 input put counts.generation counts.winners counts.undone (as_read s1) (was_now (suc (suc (length r.told))) (let n = notes_c in let b = notes_b in let f = e.0 in omega arith) (last_output e.1)) recovered).survives)
           (l.noted (let a = told_few in let b = notes_b in let y = young.notes in let n = notes_c in omega arith) (as_read s1) now)
 
       pub stays : IsLeft m s0 input put (as_read s1)
       stays = ⊎_elim
-          (λ (e : s1.notes ≡ sc.notes). left_now laws.lefts m s0 sa g b.n b.begun r.newer each c0 input put counts.generation counts.winners counts.undone (as_read s1) (was_now (suc (length r.told)) (let n = notes_c in let b = notes_b in omega arith) (first_output [] r.told refl)) recovered)
-          (λ (e : (s1.notes ≡ sc.notes + 1) × (stop ≡ stops.WriteFault → ⊥)). left_now laws.lefts m s0 sa g b.n b.begun r.newer each c0 input put counts.generation counts.winners counts.undone (as_read s1) (was_now (suc (suc (length r.told))) (let n = notes_c in let b = notes_b in let f = e.0 in omega arith) (last_output e.1)) recovered)
+          (λ (e : s1.notes ≡ sc.notes). left_now laws m s0 sa g b.n b.begun r.newer each c0 input put counts.generation counts.winners counts.undone (as_read s1) (was_now (suc (length r.told)) (let n = notes_c in let b = notes_b in omega arith) (first_output [] r.told refl)) recovered)
+          (λ (e : (s1.notes ≡ sc.notes + 1) × (stop ≡ stops.WriteFault → ⊥)). left_now laws m s0 sa g b.n b.begun r.newer each c0 input put counts.generation counts.winners counts.undone (as_read s1) (was_now (suc (suc (length r.told))) (let n = notes_c in let b = notes_b in let f = e.0 in omega arith) (last_output e.1)) recovered)
           (l.noted (let a = told_few in let b = notes_b in let y = young.notes in let n = notes_c in omega arith) (as_read s1) now)
 
   pub run_says : IsTrue feed0.tells → TellsAll s0 → Headline s0 s1 input put
@@ -663,7 +647,7 @@ module _ (laws : RunLaws) (s0 sa sb sc s1 : Story) (law_a : IsLawful sa) (law_c 
   pub run_headline : IsTrue feed0.tells → IsTrue held0.tells → TellsAll s0 → Headline s0 s1 input (added held0 held1)
   run_headline tells sink_tells all = subst (Headline s0 s1 input) (sym (ap (drop (length held0.bytes)) (holds sink_tells) ∙ drop-append_seam held0.bytes put)) (run_says tells all)
 
-pub every_run : RunLaws → (s0 sa sb sc s1 : Story) → EveryRun s0 sa sb sc s1
+pub every_run : Laws → (s0 sa sb sc s1 : Story) → EveryRun s0 sa sb sc s1
 every_run laws s0 sa sb sc s1 feed0 feed1 held0 held_b held_c held1 stop sink_c sink1 x = record {
   ends = run_ends laws s0 sa sb sc s1 x.law_a x.law_c x.law_1 x.g x.first x.counts x.starts x.keeps x.any held0 held_b held_c held1 x.opened_fits x.put feed0 feed1 x.reader stop x.log1 x.runs sink_c sink1 x.last;
   headline = run_headline laws s0 sa sb sc s1 x.law_a x.law_c x.law_1 x.g x.first x.counts x.starts x.keeps x.any held0 held_b held_c held1 x.opened_fits x.put feed0 feed1 x.reader stop x.log1 x.runs sink_c sink1 x.last;
