@@ -1,5 +1,5 @@
 -- How a run of a script ended.
-use Rattle.std.specs.Prelude.{◌≡◌, ◌⊎◌, ◌++◌, ◌<◌, ◌%◌, ◌^◌, ℕ, suc, List, [], length, take, IsTrue, Some}
+use Rattle.std.specs.Prelude.{◌≡◌, ◌⊎◌, ◌++◌, ◌<◌, ◌^◌, ℕ, suc, List, [], length, take, IsTrue, Some}
 use Rattle.image_model.specs.Images.{won_by, lost_by, map_of}
 use Rattle.lean_disk.specs.Faults.{Rose}
 use Rattle.lean_disk.specs.Story.{Story, areas_of}
@@ -33,7 +33,7 @@ use Rattle.lean_engine.specs.Openings.{Shows}
 use Rattle.lean_shell.specs.Crashes.{IsYoung, TellsCrashes, as_read}
 use Rattle.lean_shell.specs.Headline.{Survives}
 use Rattle.lean_shell.specs.Lines.{line_of, WentOut}
-use Rattle.lean_shell.specs.Starts.{IsLeft}
+use Rattle.lean_shell.specs.Starts.{IsLeft, IsOfOne}
 use Rattle.recovery.specs.Starts.{IsStartOf}
 
 -- ## A disk that was not opened
@@ -102,11 +102,7 @@ pub record CutFirst (status : ℕ) (s0 : Story) (feed0 feed1 : Feed) (put : List
 -- the core: each refusal has its cause in the state at its place and in its log.
 pub record Executed (s0 : Story) (counts : Counts) (calls : List Done) : Type 0 where
   pub opening : Opening
-  pub workers : opening.workers ≡ 1
-  pub changes : opening.changes ≡ 64
-  -- which lock row a key has, and that each page has a frame
-  pub rows : (k : ℕ) → opening.row_of k ≡ k % 65536
-  pub frames : opening.frames ≡ opening.format.pages
+  pub of_one : IsOfOne opening
   pub from : TellsAll s0 → IsFrom opening s0 counts
   pub first : Log
   pub log : TellsAll s0 → (m : Master) → master_on (areas_of s0 0) ≡ Some m → first ≡ first_log m opening.base

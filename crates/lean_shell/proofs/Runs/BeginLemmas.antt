@@ -60,7 +60,7 @@ module _ (r : Recovered) (s0 sa : Story) (g : Opening) (first : Log) (x : IsReco
         settled = λ a lt. o.settled a (omega arith);
         starts = b.starts;
         map = b.map;
-        workers = x.workers;
+        of_one = x.of_one;
       };
       of_run = next_of_run m r.master r.master.floor is.master;
       known = b.known;
@@ -85,10 +85,7 @@ module _ (r : Recovered) (s0 sa : Story) (g : Opening) (first : Log) (x : IsReco
 
 pub every_beginning : (s0 sa : Story) → EveryBeginning s0 sa
 every_beginning s0 sa r g first x = record {
-  workers = x.workers;
-  changes = x.changes;
-  rows = x.rows;
-  frames = x.frames;
+  of_one = x.of_one;
   from = x.from;
   log = log r s0 sa g first x;
   begins = λ m tells clean. begins r s0 sa g first x m (recovered r s0 sa g first x tells m clean.master) (x.opened tells m clean) (x.begins tells m clean);

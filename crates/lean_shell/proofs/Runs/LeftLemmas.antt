@@ -100,7 +100,7 @@ module _ (laws : Laws) (m : Master) (s0 sa : Story) (g : Opening) (n1 : Master) 
   each_heard = tells_first g o.left.unheard o.left.heard (subst (EachTells limits g 1) (sym o.left.calls) each)
 
   hears : Heard said o.left.out
-  hears = heard_lines said o.left.missing o.left.out (o.left.lines ∙ replies_are laws.alone g b.workers o.left.heard each_heard)
+  hears = heard_lines said o.left.missing o.left.out (o.left.lines ∙ replies_are laws.alone g b.of_one.workers o.left.heard each_heard)
 
   t : TellsInTurn 1 said o.left.out input out
   t = laws.in_turn 1 generation winners undone said o.left.out o.script.others input out (omega arith) o.fits o.script.lines hears o.output
@@ -127,7 +127,7 @@ module _ (laws : Laws) (m : Master) (s0 sa : Story) (g : Opening) (n1 : Master) 
     n_is = some_is r.n n1 (sym r.holds.master ∙ (ap master_on zero_is ∙ b.master))
 
     one_log : length r.n.heads ≡ 1
-    one_log = r.holds.is.logs ∙ b.workers
+    one_log = r.holds.is.logs ∙ b.of_one.workers
 
     abbrev image : Image
     image = image_by r.n o.crash.image
@@ -139,7 +139,7 @@ module _ (laws : Laws) (m : Master) (s0 sa : Story) (g : Opening) (n1 : Master) 
     found_is = ap (gathered image.log) one_log ∙ append-nil logged
 
     h : HoldsLog g (state_after g (front o.left.heard ++ r.behind)) r.n 1 (o.crash.image 2)
-    h = r.holds.logs 1 (omega arith) (let w = b.workers in omega arith)
+    h = r.holds.logs 1 (omega arith) (let w = b.of_one.workers in omega arith)
 
     bounds : (e : Entry) → Has e (found image) → IsBounded 1 e
     bounds e i = bounded laws.blocks r.n.generation 1 r.n.blocks (run_of r.n 1 (o.crash.image 2)) h.holds.readable e (subst (λ (l : List Entry). Has e l) found_is i)
@@ -284,12 +284,17 @@ module _ (laws : Laws) (m : Master) (s0 sa : Story) (g : Opening) (n1 : Master) 
       next = next;
       opening = g;
       starts = b.starts;
+      of_one = b.of_one;
       base = subst (λ (n : Master). (p : ℕ) → p < n.pages → base_of (shown_by n o.crash.image) p ≡ Some (start_page g p)) (sym n_is) (λ p lt. ap (base_in p) one_is ∙ b.base p lt);
       heard = o.left.heard;
       each = each_heard;
       told = t.transcript_is;
       next_one = next_of o.left.unheard;
-      is_next = λ x e. (next_tells g o.left.unheard o.left.heard xs x o.left.calls each (next_is o.left.unheard x e)).1;
+      is_next = λ x e. let a = o.script.asks x e in record {
+        session = a.session;
+        line = record { others = a.more; begins = o.script.lines ∙ ap (λ (ls : List (List ℕ)). asked_lines (script_of said) ++ ls) a.is };
+        tells = (next_tells g o.left.unheard o.left.heard xs x o.left.calls each (next_is o.left.unheard x e)).1;
+      };
       behind = r.behind;
       fell = r.fell;
       newer = h.holds.prefix.0;

@@ -43,10 +43,7 @@ module _ (s0 sa : Story) (v : View) (log : Log) (generation won lost : ℕ) (o :
     answer = o.is.answer;
     opened = o.is.opened;
     log_is = o.made.is;
-    workers = o.in_run.0;
-    changes = o.in_run.1.opens.changes;
-    rows = o.rows;
-    frames = o.frames;
+    of_one = record { workers = o.in_run.0; changes = o.in_run.1.opens.changes; joined = o.in_run.1.opens.joined; rows = o.rows; frames = o.frames };
     from = λ tells. subst (IsFrom o.opening s0) (sym same) (from tells);
     begins = λ tells m clean. begins m (o.clean tells m clean);
   }))

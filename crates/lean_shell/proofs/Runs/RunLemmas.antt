@@ -228,7 +228,7 @@ module _ (laws : Laws) (s0 sa sb sc s1 : Story) (law_a : IsLawful sa) (law_c : I
   each = executes_tell g first r.newer r.log r.executes
 
   printed_is : printed g r.newer ≡ replies said
-  printed_is = replies_are laws.alone g o.workers r.newer each
+  printed_is = replies_are laws.alone g o.of_one.workers r.newer each
 
   fit_replies : EachReplyFits (replies said)
   fit_replies = (((laws.heard said).prefix [] (replies said) refl).fit 1 r.fits).1
@@ -380,7 +380,7 @@ module _ (laws : Laws) (s0 sa sb sc s1 : Story) (law_a : IsLawful sa) (law_c : I
 
     -- the areas of the master and of the pages are those of the opening
     tells_b : (a : ℕ) → a < 2 → Tells sb a
-    tells_b a low = stands_b.tells a (let w = o.workers in omega arith)
+    tells_b a low = stands_b.tells a (let w = o.of_one.workers in omega arith)
 
     areas_kept : (c : Crash) → StaysIn2 (length r.told) sb c → KeepsAreas sa c
     areas_kept c stays a low = subst (λ (x : Area). Leaves x (c.image a)) (noted.area a) (stays.leaves a (λ e. omega arith) (tells_b a low))
@@ -398,7 +398,7 @@ module _ (laws : Laws) (s0 sa sb sc s1 : Story) (law_a : IsLawful sa) (law_c : I
         let each_first = tells_first g unheard heard (subst (EachTells limits g 1) (sym e) each) in (
           replies (calls_of unheard) ++ durable_lines missing,
           append_assoc (replies (calls_of unheard)) (durable_lines missing) told
-              ∙ (ap (λ (rs : List Reply). replies (calls_of unheard) ++ rs) (is ∙ replies_are laws.alone g o.workers heard each_first)
+              ∙ (ap (λ (rs : List Reply). replies (calls_of unheard) ++ rs) (is ∙ replies_are laws.alone g o.of_one.workers heard each_first)
               ∙ (sym (replies_append (calls_of unheard) (calls_of heard)) ∙ ap replies (sym (Rattle.lean_shell.proofs.Runs.PrintedLemmas.calls_append unheard heard) ∙ ap calls_of e))),
         )
 
@@ -543,7 +543,7 @@ module _ (laws : Laws) (s0 sa sb sc s1 : Story) (law_a : IsLawful sa) (law_c : I
               let a = ap (λ (rs : List Reply). length rs) (q.told_are ∙ ap (λ (ys : List Answered). q.said ++ replies ys) (sym earlier_is)) in
               let b = Rattle.std.proofs.lemmas.List.length-append q.said (replies (calls_of xs)) in
               let each_x : EachTells limits g 1 (x ∷ xs) = subst (EachTells limits g 1) e each in
-              let c = ap (λ (rs : List Reply). length rs) (replies_are laws.alone g o.workers xs each_x.0) in
+              let c = ap (λ (rs : List Reply). length rs) (replies_are laws.alone g o.of_one.workers xs each_x.0) in
               omega arith
             where
               tail_is : (y z : Answered) (ys zs : List Answered) → y ∷ ys ≡ z ∷ zs → ys ≡ zs
@@ -575,7 +575,7 @@ module _ (laws : Laws) (s0 sa sb sc s1 : Story) (law_a : IsLawful sa) (law_c : I
       areas_1 : KeepsAreas sa c1
       areas_1 a low =
           let same : s1.area a ≡ sa.area a = l.notes.area a ∙ (r.others.area a (λ e. omega arith) ∙ noted.area a) in
-          subst (λ (x : Area). Leaves x (areas_of s1 a)) same (law_1.reads_so a (stands_1.tells a (let w = o.workers in omega arith)))
+          subst (λ (x : Area). Leaves x (areas_of s1 a)) same (law_1.reads_so a (stands_1.tells a (let w = o.of_one.workers in omega arith)))
 
       abbrev was_now : (lines_out : ℕ) → s1.notes ≡ s0.notes + lines_out → IsOutput counts.generation counts.winners counts.undone r.told (first_lines lines_out put) → WasOut g r.newer c0 m s0 sa input put counts.generation counts.winners counts.undone (as_read s1)
       was_now lines_out notes is = record {
@@ -626,7 +626,7 @@ module _ (laws : Laws) (s0 sa sb sc s1 : Story) (law_a : IsLawful sa) (law_c : I
       calls = r.newer;
       few = let f = r.few in let e = length_calls r.newer in omega arith;
       none_spent = none_spent g first r.newer r.log r.executes (let f = r.few in let e = length_calls r.newer in omega arith);
-      executed = record { opening = g; workers = o.workers; changes = o.changes; rows = o.rows; frames = o.frames; from = o.from; first = first; log = o.log; last = r.log; executes = r.executes };
+      executed = record { opening = g; of_one = o.of_one; from = o.from; first = first; log = o.log; last = r.log; executes = r.executes };
       read = read;
       printed = record { told = r.told; tail = r.tail; prints = r.prints; cut = λ failed. r.cut (ap (λ (s : Stop). Some s) failed); last = l.text; last_is = l.went sink0 sinks; put_is = refl };
       told = λ tells. record { heard = h.heard; unheard = h.unheard; calls_are = h.calls_are; all_heard = h.all_heard; transcript_is = (all_tells tells).transcript_is };

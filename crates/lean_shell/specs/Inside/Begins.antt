@@ -1,5 +1,5 @@
 -- Words of private functions: a run of the core begins on a disk that was opened.
-use Rattle.std.specs.Prelude.{◌≡◌, ◌+◌, ◌%◌, ℕ, [], Some}
+use Rattle.std.specs.Prelude.{◌≡◌, ◌+◌, ℕ, [], Some}
 use Rattle.lean_disk.specs.Story.{Crash, Story, areas_of}
 use Rattle.disk_slots.specs.declared.master.Master.{Master}
 use Rattle.disk_image.specs.Masters.{IsOfRun}
@@ -18,6 +18,7 @@ use Rattle.recovery.specs.declared.opening.Recovered.{Recovered}
 use Rattle.core_state.specs.Openings.{first_map}
 use Rattle.lean_shell.specs.Inside.Lefts.{IsBegun}
 use Rattle.lean_shell.specs.Runs.{Counts, IsFrom, first_log}
+use Rattle.lean_shell.specs.Starts.{IsOfOne}
 
 -- the disk on entry as a read gives it, with the first line out
 abbrev pub began : Story → Crash
@@ -35,10 +36,7 @@ pub record Begins (m : Master) (s0 sa : Story) (g : Opening) (log : Log) : Type 
 
 -- A disk was opened: an engine of one session stands on the start that it gave, with an empty log.
 pub record HasStarted (s0 sa : Story) (g : Opening) (first : Log) (n : Counts) : Type 0 where
-  pub workers : g.workers ≡ 1
-  pub changes : g.changes ≡ 64
-  pub rows : (k : ℕ) → g.row_of k ≡ k % 65536
-  pub frames : g.frames ≡ g.format.pages
+  pub of_one : IsOfOne g
   pub from : TellsAll s0 → IsFrom g s0 n
   pub log : TellsAll s0 → (m : Master) → master_on (areas_of s0 0) ≡ Some m → first ≡ first_log m g.base
   pub begins : (m : Master) → TellsAll s0 → IsCleanDisk m (areas_of s0) → Begins m s0 sa g first
@@ -59,10 +57,7 @@ pub record IsRecoveredTo (r : Recovered) (s0 sa : Story) (g : Opening) (first : 
   pub answer : TellsAll s0 → (m : Master) × IsOpenable m × IsRecovered m (areas_of s0) r
   pub opened : TellsAll s0 → (m : Master) → IsCleanDisk m (areas_of s0) → IsOpened m (areas_of s0) r sa
   pub log_is : first ≡ record { generation = r.master.generation; log = 1; blocks = r.master.blocks; head = 0; next = 0; payload = []; count = 0; last = r.master.floor; flushed = r.master.floor }
-  pub workers : g.workers ≡ 1
-  pub changes : g.changes ≡ 64
-  pub rows : (k : ℕ) → g.row_of k ≡ k % 65536
-  pub frames : g.frames ≡ g.format.pages
+  pub of_one : IsOfOne g
   pub from : TellsAll s0 → IsFrom g s0 (record { generation = r.master.generation; winners = r.winners; undone = r.undone })
   pub begins : TellsAll s0 → (m : Master) → IsCleanDisk m (areas_of s0) → BeginsBy m r s0 sa g first
 

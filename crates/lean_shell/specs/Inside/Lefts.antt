@@ -24,6 +24,7 @@ use Rattle.transcripts.specs.Told.{ask, asked_lines, EachFits, IsOutput}
 use Rattle.transcripts.specs.Transcripts.{first_lines}
 use Rattle.lean_shell.specs.Crashes.{HasMasterOf, IsUnwritten}
 use Rattle.lean_shell.specs.Headline.{Survives}
+use Rattle.lean_shell.specs.Starts.{IsOfOne}
 use Rattle.script_run.specs.Runs.{NoEvents, calls_of}
 
 -- A crash with the writes and the bytes of another.
@@ -50,7 +51,7 @@ pub record IsBegun (m : Master) (s0 sa : Story) (g : Opening) (n : Master) : Typ
   pub settled : (a : ℕ) → a < 2 → IsSettled (sa.area a)
   pub starts : IsStartOf m (areas_of s0) g
   pub map : (k : ℕ) → first_map g k ≡ map_of (image_by m (areas_of s0)) k
-  pub workers : g.workers ≡ 1
+  pub of_one : IsOfOne g
 
 -- the master's area and the pages' are as a crash at s might leave them
 abbrev pub KeepsAreas : Story → Crash → Type 0
