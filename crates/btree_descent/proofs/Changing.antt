@@ -3,6 +3,7 @@ use Rattle.std.proofs.Common.{◌≡◌, ◌==◌, ◌/◌, ◌%◌, ◌^◌, �
 use Rattle.std.proofs.lemmas.Bool.{cond-true}
 use Rattle.map_model.proofs.ListLemmas.{upd_same}
 use Rattle.page_model.specs.Pairs.{find}
+use Rattle.page_model.specs.Nodes.{holds}
 use Rattle.page_model.specs.Tree.{word_or}
 use Rattle.image_model.specs.Entries.{Contents}
 use Rattle.core_state.specs.States.{Worker, State}
@@ -32,7 +33,8 @@ use Rattle.btree_descent.specs.declared.descent.Stop.TheVariants as stop
 use Rattle.btree_descent.specs.declared.put.Put.{Put}
 use Rattle.btree_descent.specs.declared.put.Put.TheVariants.{Done, Full, Cold, Moved, Latched, RowSpent, ClockSpent, Unstaged}
 use Rattle.btree_descent.specs.declared.put.Spot.{Spot}
-use Rattle.btree_descent.specs.Puts.{clock_in, drawn_at, change_of, Onward, Changed, NotStaged, Refused, Wrote, Drew, last_after, PutCaused, IsUndisturbed}
+use Rattle.btree_descent.specs.Trails.{ChangedIn, HadLeaf}
+use Rattle.btree_descent.specs.Puts.{clock_in, drawn_at, change_of, IsLeafAt, Onward, Changed, NotStaged, Refused, Wrote, Drew, last_after, PutCaused, IsUndisturbed}
 use Rattle.btree_descent.specs.Spots.{IsUndrawn, record_of, IsPutting, put_of}
 use Rattle.btree_descent.proofs.Spots.{place_find}
 
@@ -99,30 +101,54 @@ own_miss : (alone : Bool) (u : View) → may alone u u.actor ≡ true
 own_miss true u = refl
 own_miss false u = eq-eqb u.actor u.actor refl
 
--- a leaf that was given up as it stood
+-- the leaf that it changed stood in the row that was held
+pub placed_at : (z : Shape) (u w : View) (row : ℕ) (c : Changes) (s : Spot) (l t : ℕ) (d : Clock) (n : ℕ) → IsPutting z u row c s l t d n → Ran z.alone u (event.Change c.worker c.page c.key c.word ∷ []) w → WasMet z u row c.worker c.page c.key c.word w
+    → ChangedIn c.worker c.key row w
+placed_at z u w row c s l t d n it ran met = record {
+  page = c.page;
+  word = c.word;
+  past = u.seen ++ met.before;
+  seen = met.seen;
+  leaf = subst (λ (q : Given). IsLeafAt q (after_all q (u.seen ++ met.before)) row c.page c.key) (sym ran.given)
+      (record { below = it.leaf.below; hot = met.met.hot; leaf = ap (λ (y : Contents). holds y.node c.key) met.met.page ∙ it.among });
+}
+
+-- a held leaf is given up as it stood
+released_ran : (z : Shape) (u w : View) (row : ℕ) (c : Changes) (s : Spot) (l t : ℕ) (d : Clock) (n : ℕ) → IsPutting z u row c s l t d n → Released z row u w → Ran z.alone u (event.Miss u.actor ∷ []) w
+released_ran z u w row c s l t d n it r =
+    let at : held_at u.held row ≡ hold row it.leaf.version it.leaf.was it.leaf.was false = ap (λ h. held_at h row) it.leaf.held ∙ cond-true (row == row) (hold row it.leaf.version it.leaf.was it.leaf.was false) (hold row 0 [] [] false) (eq-eqb row row refl) in
+    ran_goes z u (event.Miss u.actor ∷ []) w (own_miss z.alone u, tt) (subst (λ es. Goes z u es w) (ap (λ h. cond h.done [] (event.Miss u.actor ∷ [])) at) r.goes)
+
 pub not_staged : (z : Shape) (u w : View) (row : ℕ) (c : Changes) (s : Spot) (l t : ℕ) (d : Clock) (last : ℕ) (rs ys : List Record) (e : Clock) → IsPutting z u row c s l t d last → Released z row u w
     → e ≡ drawn (touched l d s.prev (s.leaf.head.packed / 65536 % 256)) → ys ≡ rs → NotStaged z.alone c.worker c.key c.word u rs w e ys
-not_staged z u w row c s l t d last rs ys e it r clock same = record {
-  page = c.page;
-  past = u.seen;
-  onward = record { between = []; whole = sym (append-nil u.seen); quiet = λ y. refl };
-  later = ran.more;
-  ran = ran;
-  seen = ran.seen;
-  met = subst (λ (q : Given). core.may (opening q) (after_all q u.seen).core (happening.Event.Change c.worker c.page c.key c.word) ≡ true) (sym ran.given) it.leaf.met;
-  staged = same;
-  clock = subst (λ (q : Given). e ≡ drawn_at c.worker c.page (after_all q u.seen)) (sym ran.given) (clock ∙ (λ i. drawn (touched (it.draws.log i) (it.draws.clock i) (it.prev i) (it.last i))));
-}
-  where
-    at : held_at u.held row ≡ hold row it.leaf.version it.leaf.was it.leaf.was false
-    at = ap (λ h. held_at h row) it.leaf.held ∙ cond-true (row == row) (hold row it.leaf.version it.leaf.was it.leaf.was false) (hold row 0 [] [] false) (eq-eqb row row refl)
+not_staged z u w row c s l t d last rs ys e it r clock same =
+    let ran = released_ran z u w row c s l t d last it r in record {
+      page = c.page;
+      past = u.seen;
+      onward = record { between = []; whole = sym (append-nil u.seen); quiet = λ y. refl };
+      later = ran.more;
+      ran = ran;
+      seen = ran.seen;
+      met = subst (λ (q : Given). core.may (opening q) (after_all q u.seen).core (happening.Event.Change c.worker c.page c.key c.word) ≡ true) (sym ran.given) it.leaf.met;
+      staged = same;
+      clock = subst (λ (q : Given). e ≡ drawn_at c.worker c.page (after_all q u.seen)) (sym ran.given) (clock ∙ (λ i. drawn (touched (it.draws.log i) (it.draws.clock i) (it.prev i) (it.last i))));
+    }
 
-    ran : Ran z.alone u (event.Miss u.actor ∷ []) w
-    ran = ran_goes z u (event.Miss u.actor ∷ []) w (own_miss z.alone u, tt) (subst (λ es. Goes z u es w) (ap (λ h. cond h.done [] (event.Miss u.actor ∷ [])) at) r.goes)
+-- it stood in the row that was held
+pub had_leaf : (z : Shape) (u w : View) (row : ℕ) (c : Changes) (s : Spot) (l t : ℕ) (d : Clock) (n : ℕ) → IsPutting z u row c s l t d n → Released z row u w → HadLeaf z.alone c.key row u w
+had_leaf z u w row c s l t d n it r =
+    let ran = released_ran z u w row c s l t d n it r in record {
+      past = u.seen;
+      onward = record { between = []; whole = sym (append-nil u.seen); quiet = λ y. refl };
+      later = ran.more;
+      seen = ran.seen;
+      page = c.page;
+      leaf = subst (λ (q : Given). IsLeafAt q (after_all q u.seen) row c.page c.key) (sym ran.given) (record { below = it.leaf.below; hot = it.leaf.hot; leaf = it.among });
+    }
 
 -- ## After the way
 
-onward_after : (alone : Bool) (v u : View) (past : List Event) → Ran alone v [] u → Onward alone u past → Onward alone v past
+pub onward_after : (alone : Bool) (v u : View) (past : List Event) → Ran alone v [] u → Onward alone u past → Onward alone v past
 onward_after alone v u past r o = record {
   between = r.more ++ o.between;
   whole = o.whole ∙ (ap (λ es. es ++ o.between) r.seen ∙ append_assoc v.seen r.more o.between);

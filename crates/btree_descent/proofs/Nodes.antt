@@ -9,6 +9,8 @@ use Rattle.page_model.specs.Needs.{key_at}
 use Rattle.page_model.specs.Page as stored
 use Rattle.page_model.specs.Tree.{value_of}
 use Rattle.page_model.proofs.Laws.{every_tree}
+use Rattle.page_model.proofs.Spans.{route_span}
+use Rattle.page_model.proofs.Tree.{down_to}
 use Rattle.btree_node.specs.Words.{words_of, Fits}
 use Rattle.btree_node.proofs.SpellingLemmas.{page_of-words_of, spells-count}
 use Rattle.btree_node.proofs.PlaceLemmas.{rising-ordered}
@@ -34,6 +36,7 @@ use Rattle.rows_trait.proofs.Causes.{since_after}
 use Rattle.btree_descent.specs.declared.descent.Head.{Head}
 use Rattle.btree_descent.specs.Inside.{Agrees, IsSeen, mark, IsHead, IsNode, OnWay, Follows}
 use Rattle.btree_descent.specs.Known.{Sound, said, Says, IsCold}
+use Rattle.btree_descent.specs.Trails.{Routes, IsAbove, IsColdBelow}
 
 -- a frame row shows a frame
 pub shown_frame : (v : Given) (m : Moment) (row i x : ℕ) → row < (opening v).frames → Shown v m row i x → ShowsFrame (opening v) m.core row i x
@@ -193,9 +196,11 @@ way_node v m row version key far h acts lt sound way shown head =
       small = (let e = w.number in let a = way.below in let b = sound.few in omega arith);
     }
 
--- the page to which a page leads with the key, and the word that names it
-pub record IsChild (v : Given) (m : Moment) (page key x : ℕ) : Type 0 where
+-- the page to which a page in a row leads with the key, and the word that names it
+pub record IsChild (v : Given) (m : Moment) (row page key x : ℕ) : Type 0 where
   pub child : ℕ
+  pub routes : Routes v m key row
+  pub is : routes.span.child ≡ child
   pub names : child ≡ route (m.core.page page).node.pairs key 0
   pub word : x ≡ swip (m.core.place child) child
   pub below : child < (opening v).format.pages
@@ -210,7 +215,7 @@ module _ (v : Given) (m : Moment) (row version key far : ℕ) (h : Head) (x : �
   up_page : 0 < (m.core.page way.page).node.level
   up_page = let w = way_heads v m row version key far h acts lt sound way shown head in let e = w.level ∙ framed_level m.core.place (m.core.page way.page).node in omega arith
 
-  way_child : IsChild v m way.page key x
+  way_child : IsChild v m row way.page key x
   way_child =
       let g = opening v in
       let s = m.core in
@@ -230,8 +235,11 @@ module _ (v : Given) (m : Moment) (row version key far : ℕ) (h : Head) (x : �
       let x_is : x ≡ route (framed s.place n).pairs key 0 = routed (framed_page s way.page 0) (record { fits = fit; agrees = agrees; size = sym w.count }) some' above' in
       let le : key_at 0 n.pairs ≤ key = (let a = way.above in omega arith) in
       let child = route n.pairs key 0 in
-      let t = (every_tree g.format (nodes_of s) sound.tree).routed way.page key way.below way.live way.above way.under up in record {
+      let t = (every_tree g.format (nodes_of s) sound.tree).routed way.page key way.below way.live way.above way.under up in
+      let d = down_to g.format (nodes_of s) sound.tree way.page key way.below (record { live = way.live; low = way.above; high = way.under }) up in record {
         child = child;
+        routes = record { parent = way.page; below = way.below; hot = way.hot; span = d.0; names = d.1; low = d.2; high = d.3 };
+        is = sym (route_span n.low n.pairs n.high key 0 d.0 ok.rising d.1.has d.2 d.3);
         names = refl;
         word = x_is ∙ (ap (λ z. route z key 0) pairs_is ∙ swips_routed s.place n.pairs key some le);
         below = t.0;
@@ -250,7 +258,7 @@ module _ (v : Given) (m : Moment) (row version key far : ℕ) (h : Head) (x : �
       first_at (x ∷ xs) high h = refl
 
   -- The child to which a node leads is on the way.
-  pub way_down : 2 ^ 63 ≤ x → (f : ℕ) × (x ≡ 2 ^ 63 + f) × (f < (opening v).frames) × ((less : ℕ) × (suc less ≡ far) × OnWay v m f key less)
+  pub way_down : 2 ^ 63 ≤ x → (f : ℕ) × (x ≡ 2 ^ 63 + f) × (f < (opening v).frames) × ((less : ℕ) × (suc less ≡ far) × OnWay v m f key less) × IsAbove v m key row f
   way_down high_bit =
       let s = m.core in
       let c = way_child in
@@ -272,24 +280,29 @@ module _ (v : Given) (m : Moment) (row version key far : ℕ) (h : Head) (x : �
             level = (let a = way.level in let e = c.level in omega arith);
           },
         ),
+        record { routes = c.routes; child = ap s.place c.is ∙ hot.1 },
       )
 
   -- where its word is no frame's, it is not hot
-  pub way_cold : x < 2 ^ 63 → IsCold v m key x
+  pub way_cold : x < 2 ^ 63 → IsCold v m key x × IsColdBelow v m key row x
   way_cold low_bit =
       let c = way_child in
       let it = cold_swip (m.core.place c.child) c.child (let e = c.word in omega arith) in
-      subst (IsCold v m key) (sym (c.word ∙ it.1)) (record {
-        below = c.below;
-        cold = it.0;
-        parent = way.page;
-        within = way.below;
-        hot = ap is_hot way.hot;
-        above = way.above;
-        under = way.under;
-        inner = up_page;
-        names = c.names;
-      })
+      let P : ℕ → Type 0 = λ page. IsCold v m key page × IsColdBelow v m key row page in
+      subst P (sym (c.word ∙ it.1)) (
+        record {
+          below = c.below;
+          cold = it.0;
+          parent = way.page;
+          within = way.below;
+          hot = ap is_hot way.hot;
+          above = way.above;
+          under = way.under;
+          inner = up_page;
+          names = c.names;
+        },
+        record { routes = c.routes; child = c.is; cold = it.0 },
+      )
 
 -- the root is on the way of each key
 pub way_root : (v : Given) (m : Moment) (key : ℕ) → Sound v m → key < 2 ^ 64 - 1 → OnWay v m 0 key 7

@@ -194,6 +194,7 @@ putting z v u worker frames key x s l t c n at room small none m d taken =
         packed_is = sym (taken.known 3 h.packed a.head.packed);
         log = m.small;
       };
+      among = stand.leaf.leaf;
       place = stand.place;
       room = full;
       prev = stand.prev;

@@ -63,6 +63,7 @@ pub stopped_on : (alone : Bool) (worker key : ℕ) (g : Glimpse) (v u w : View) 
 stopped_on alone worker key g v u w s ran held loads last d = record {
   held = d.held ∙ held;
   went = went_after alone worker key v u w (answer_of s) ran d.went;
+  ends = d.ends;
   cause = λ a f. d.cause a (found_after g.row g.version a v u f loads);
   quiet = λ a none l. d.quiet a (held ∙ none) (last a l);
 }

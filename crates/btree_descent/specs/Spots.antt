@@ -1,6 +1,7 @@
 -- What is known of the place of a key in its leaf before the leaf is latched, and while it is held: words of a put's private functions.
 use Rattle.std.specs.Prelude.{◌≡◌, ◌<◌, ◌/◌, ◌%◌, ◌^◌, ℕ, suc, max, Bool, true, List, [], length, Option, Some, None}
 use Rattle.page_model.specs.Pairs.{Pair, find}
+use Rattle.page_model.specs.Nodes as nodes
 use Rattle.page_model.specs.Page as stored
 use Rattle.page_model.specs.Tree.{word_or}
 use Rattle.btree_node.specs.Inside.{IsAt, IsGap}
@@ -72,6 +73,7 @@ record_of txn number page prev key before after = record { txn = txn; gsn = numb
 -- the seat holds the leaf, in which the spot is the key's, and may make the change; the draw is of its worker
 pub record IsPutting (z : Shape) (v : View) (row : ℕ) (c : Changes) (s : Spot) (l t : ℕ) (clock : Clock) (n : ℕ) : Type 0 where
   pub leaf : HasLeaf z v row c.worker c.page c.key c.word (suc (max ((state v).core.worker c.worker).clock ((state v).core.page c.page).gsn)) s.leaf.head.packed
+  pub among : nodes.holds ((state v).core.page c.page).node c.key ≡ true
   pub place : IsPlace c.key ((state v).core.page c.page).node.pairs s.at s.before
   pub room : s.before ≡ None → length ((state v).core.page c.page).node.pairs < 60
   pub prev : s.prev ≡ ((state v).core.page c.page).gsn

@@ -8,14 +8,14 @@ ghost use Rattle.rows_trait.specs.declared.view.View.{View};
 ghost use Rattle.rows_trait.specs.Views.{Has, Knows, latest, may};
 ghost use Rattle.rows_trait.specs.Causes.{HasFound};
 ghost use Rattle.version_latch.specs.Kept.{Kept};
-ghost use Rattle.btree_descent.specs.Inside.{IsHead, IsNode, OnWay, IsOn, AtLeaf, IsAgain, answer_of, IsStopped, IsBeside, IsDown, Steps, Reached, FellShort};
+ghost use Rattle.btree_descent.specs.Inside.{IsHead, IsNode, OnWay, IsOn, AtLeaf, IsAgain, answer_of, IsStopped, IsBeside, IsDown, Steps, Traced, Parted, Reached, FellShort};
 ghost use Rattle.btree_descent.specs.Known.{IsSound, Sound, IsCold, said};
 ghost use Rattle.btree_descent.specs.Descents.{Sized, Went, IsSettled, Caused};
-ghost use Rattle.btree_descent.specs.Trails.{IsTrail};
+ghost use Rattle.btree_descent.specs.Trails.{IsColdBelow};
 
 use crate::events::Reads;
 use crate::node::{entry, route};
-use lean_proto::path::Path;
+use crate::trace::{Trace, Untraced};
 use rows_trait::rows::Rows;
 use version_latch::events::{Checks, Misses};
 use version_latch::{Glimpse, Latched, Moved};
@@ -194,7 +194,7 @@ fn cold<R: Rows>(
 ) -> Stop
     requires fits { R.fits rows.old seat.old }
     requires on { IsOn (R.shape rows.old) (R.view seat.old) worker frames key glimpse.now }
-    requires cold { (m : Moment) (far : ℕ) → Sound (R.view seat.old).given m → ((i x : ℕ) → Knows glimpse.now.row glimpse.now.version i x (R.view seat.old).steps → Shown (R.view seat.old).given m glimpse.now.row i x) → OnWay (R.view seat.old).given m glimpse.now.row key far → IsCold (R.view seat.old).given m key page }
+    requires cold { (m : Moment) (far : ℕ) → Sound (R.view seat.old).given m → ((i x : ℕ) → Knows glimpse.now.row glimpse.now.version i x (R.view seat.old).steps → Shown (R.view seat.old).given m glimpse.now.row i x) → OnWay (R.view seat.old).given m glimpse.now.row key far → IsCold (R.view seat.old).given m key page × IsColdBelow (R.view seat.old).given m key glimpse.now.row page }
     ensures fits { R.fits rows.new seat.new × (R.shape rows.new ≡ R.shape rows.old) }
     ensures stop { IsStopped (R.shape rows.old).alone worker key glimpse.now (R.view seat.old) result (R.view seat.new) }
 {
@@ -290,27 +290,27 @@ fn look_at<R: Rows>(
 
 // The way from the root to the key's leaf. What was loaded of the leaf is still to be checked.
 #[inline(always)]
-pub(crate) fn way<R: Rows>(
+pub(crate) fn way<R: Rows, T: Trace>(
     rows: &mut R,
     seat: &mut R::Seat,
     worker: u32,
     frames: u32,
     key: u64,
-    path: &mut Path,
+    trace: &mut T,
 ) -> Result<Leaf, Stop>
     requires fits { R.fits rows.old seat.old }
     requires sized { Sized (R.shape rows.old) (R.view seat.old) frames }
     requires actor { may (R.shape rows.old).alone (R.view seat.old) worker ≡ true }
     requires sound { IsSound (R.view seat.old).given }
     requires key { key < 2 ^ 64 - 1 }
-    requires path { path.old ≡ [] }
+    requires trace { T.shows trace.old [] }
     ensures fits { R.fits rows.new seat.new × (R.shape rows.new ≡ R.shape rows.old) }
-    ensures trail { IfOk result (λ l. IsTrail frames path.new l.glimpse.row) }
-    ensures part { IfErr result (λ _. (row : ℕ) × IsTrail frames path.new row) }
+    ensures trail { IfOk result (λ l. Traced (T.shows trace.new) (R.shape rows.old).alone frames key l.glimpse.row (R.view seat.old) (R.view seat.new)) }
+    ensures part { IfErr result (λ s. Parted (T.shows trace.new) (R.shape rows.old).alone frames key (R.view seat.old) s (R.view seat.new)) }
     ensures leaf { IfOk result (λ l. Reached (R.shape rows.old) worker frames key (R.view seat.old) l.glimpse l.head (R.view seat.new)) }
     ensures stop { IfErr result (λ s. FellShort (R.shape rows.old).alone worker key (R.view seat.old) s (R.view seat.new)) }
 {
-    path.push(0);
+    trace.push(0);
     let mut glimpse = match Glimpse::start(rows, seat, 0, &Misses { worker }) {
         Err(latched) => return Err(Stop::Latched(latched)),
         Ok(found) => found,
@@ -318,7 +318,7 @@ pub(crate) fn way<R: Rows>(
     for i in 0..8u32 {
         match look_at(rows, seat, &glimpse, worker, frames, key) {
             Step::Child(found) => {
-                path.push(found.row);
+                trace.push(found.row);
                 glimpse = found;
             }
             Step::Leaf(head) => return Ok(Leaf { glimpse, head }),
@@ -376,30 +376,24 @@ fn answer_of(stop: Stop) -> Answer
 /// Found has the key's word as its leaf has it at the last check, a tombstone's too, and appends the read of it. Cold names a page
 /// on the way that is not hot and appends nothing: bring it into a frame and try again. Moved and Latched append a miss and say
 /// which row, and which numbers of its latch were loaded: try again. Where nobody else steps these two never come.
-///
-/// `path` is empty before, and has the frames of the way after it, whatever the answer: the last is that of the leaf, or of the node at
-/// which the descent ended.
 pub fn find<R: Rows>(
     rows: &mut R,
     seat: &mut R::Seat,
     worker: u32,
     frames: u32,
     key: u64,
-    path: &mut Path,
 ) -> Answer
     requires fits { R.fits rows.old seat.old }
     requires sized { Sized (R.shape rows.old) (R.view seat.old) frames }
     requires actor { may (R.shape rows.old).alone (R.view seat.old) worker ≡ true }
     requires sound { IsSound (R.view seat.old).given }
     requires key { key < 2 ^ 64 - 1 }
-    requires path { path.old ≡ [] }
     ensures fits { R.fits rows.new seat.new × (R.shape rows.new ≡ R.shape rows.old) × ((R.view seat.new).held ≡ (R.view seat.old).held) }
-    ensures trail { (row : ℕ) × IsTrail frames path.new row }
     ensures went { Went (R.shape rows.old).alone worker key (R.view seat.old) result (R.view seat.new) }
     ensures cause { Caused (R.view seat.old) result (R.view seat.new) }
     ensures quiet { (R.shape rows.old).alone ≡ true → (R.view seat.old).held ≡ [] → IsSettled result }
 {
-    match way(rows, seat, worker, frames, key, path) {
+    match way(rows, seat, worker, frames, key, &mut Untraced) {
         Ok(leaf) => read(rows, seat, &leaf, worker, frames, key),
         Err(stop) => answer_of(stop),
     }

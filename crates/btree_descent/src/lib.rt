@@ -8,3 +8,4 @@ pub mod descent;
 pub mod events;
 mod node;
 pub mod put;
+mod trace;

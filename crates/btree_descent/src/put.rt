@@ -13,9 +13,9 @@ ghost use Rattle.draw_trait.specs.Clocks.{touched, drawn};
 ghost use Rattle.btree_descent.specs.Known.{IsSound};
 ghost use Rattle.btree_descent.specs.Descents.{Sized};
 ghost use Rattle.version_latch.specs.Kept.{Kept};
-ghost use Rattle.btree_descent.specs.Inside.{IsSeen, IsOn, IsAgain, FellShort};
+ghost use Rattle.btree_descent.specs.Inside.{IsSeen, IsOn, IsAgain, Parted, FellShort};
 ghost use Rattle.btree_descent.specs.Puts.{MayPut, DrawsFor, Changed, Refused, NotStaged, Wrote, Drew, last_after, PutCaused, IsUndisturbed};
-ghost use Rattle.btree_descent.specs.Trails.{IsTrail, IsFullAt};
+ghost use Rattle.btree_descent.specs.Trails.{IsTrail, ChangedIn, HadLeaf, EndsAt, Came};
 ghost use Rattle.btree_descent.specs.Spots.{IsPlace, IsSpot, AtSpot, Located, put_of, IsUndrawn, IsRefused, record_of, IsPutting};
 
 use crate::descent::{Leaf, Stop, TOMBSTONE, again, way};
@@ -114,8 +114,8 @@ fn locate<R: Rows>(
     requires key { key < 2 ^ 64 - 1 }
     requires path { path.old ≡ [] }
     ensures fits { R.fits rows.new seat.new × (R.shape rows.new ≡ R.shape rows.old) }
-    ensures trail { IfOk result (λ s. IsTrail frames path.new s.leaf.glimpse.row) }
-    ensures part { IfErr result (λ _. (row : ℕ) × IsTrail frames path.new row) }
+    ensures trail { IfOk result (λ s. IsTrail (R.shape rows.old).alone frames key path.new s.leaf.glimpse.row (R.view seat.old) (R.view seat.new)) }
+    ensures part { IfErr result (λ s. Parted (λ p. path.new ≡ p) (R.shape rows.old).alone frames key (R.view seat.old) s (R.view seat.new)) }
     ensures spot { IfOk result (λ s. Located (R.shape rows.old) worker frames key (R.view seat.old) s (R.view seat.new)) }
     ensures stop { IfErr result (λ s. FellShort (R.shape rows.old).alone worker key (R.view seat.old) s (R.view seat.new)) }
 {
@@ -135,12 +135,12 @@ fn refuse<R: Rows>(
 ) -> Put
     requires fits { R.fits rows.old seat.old }
     requires on { IsOn (R.shape rows.old) (R.view seat.old) worker frames key glimpse.now }
-    requires why { (w : View) → IsAgain (R.shape rows.old) worker key glimpse.now (R.view seat.old) w → Refused (R.shape rows.old).alone worker key (R.view seat.old) why w }
+    requires why { (w : View) → IsAgain (R.shape rows.old) worker key glimpse.now (R.view seat.old) w → Refused (R.shape rows.old).alone worker key (R.view seat.old) why w × EndsAt (R.shape rows.old).alone worker key glimpse.now.row (R.view seat.old) why w }
     requires none { ((u w : View) → PutCaused u why w) × IsUndisturbed why × IsUndrawn why }
     ensures fits { R.fits rows.new seat.new × (R.shape rows.new ≡ R.shape rows.old) }
     ensures refused { IsRefused (R.shape rows.old).alone worker key glimpse.now (R.view seat.old) result (R.view seat.new) }
+    ensures ends { EndsAt (R.shape rows.old).alone worker key glimpse.now.row (R.view seat.old) result (R.view seat.new) }
     ensures undrawn { IsUndrawn result }
-    ensures full { (row : ℕ) → IsFullAt why row → IsFullAt result row }
 {
     match again(rows, seat, glimpse, worker, frames, key) {
         Ok(()) => why,
@@ -225,6 +225,8 @@ fn put_held<R: Rows, D: Draw>(
     ensures fits { R.fits rows.new seat.new × (R.shape rows.new ≡ R.shape rows.old) × ((R.view seat.new).held ≡ []) }
     ensures ok { IfOk result (λ _. Changed (R.shape rows.old).alone change.now.worker change.now.key change.now.word spot.now.before (R.view seat.old) (D.staged_of draw.old) (R.view seat.new) (D.clock_of draw.new) (D.staged_of draw.new)) }
     ensures last { IfOk result (λ _. D.last_of draw.new ≡ (D.clock_of draw.new).clock) }
+    ensures placed { IfOk result (λ _. ChangedIn change.now.worker change.now.key hold.row (R.view seat.new)) }
+    ensures had { IfErr result (λ _. HadLeaf (R.shape rows.old).alone change.now.key hold.row (R.view seat.old) (R.view seat.new)) }
     ensures err { IfErr result (λ _. NotStaged (R.shape rows.old).alone change.now.worker change.now.key change.now.word (R.view seat.old) (D.staged_of draw.old) (R.view seat.new) (D.clock_of draw.new) (D.staged_of draw.new)) }
     ensures same_last { IfErr result (λ _. D.last_of draw.new ≡ D.last_of draw.old) }
     ensures kept { (D.log_of draw.new ≡ D.log_of draw.old) × (D.txn_of draw.new ≡ D.txn_of draw.old) × (D.loans_of draw.new ≡ D.loans_of draw.old) }
@@ -274,7 +276,7 @@ fn put_at<R: Rows, D: Draw>(
     ensures drew { Drew result (λ r. D.stages draw.old r draw.new) (draw.new ≡ draw.old) }
     ensures last { D.last_of draw.new ≡ last_after result (D.last_of draw.old) (D.clock_of draw.new).clock }
     ensures kept { (D.log_of draw.new ≡ D.log_of draw.old) × (D.txn_of draw.new ≡ D.txn_of draw.old) × (D.loans_of draw.new ≡ D.loans_of draw.old) }
-    ensures full { (row : ℕ) → IsFullAt result row }
+    ensures ends { EndsAt (R.shape rows.old).alone worker key spot.now.leaf.glimpse.row (R.view seat.old) result (R.view seat.new) }
     ensures cause { (u : View) → HasFound spot.now.leaf.glimpse.row spot.now.leaf.glimpse.version u (R.view seat.old) → PutCaused u result (R.view seat.new) }
     ensures quiet { (R.shape rows.old).alone ≡ true → latest spot.now.leaf.glimpse.row (R.view seat.old).steps ≡ Some spot.now.leaf.glimpse.version → IsUndisturbed result }
 {
@@ -321,7 +323,8 @@ fn put_of(stop: Stop) -> Put
 /// again; the other two are for good. Moved and Latched append a miss, as `find` has it: try again. Where nobody else steps
 /// these two never come.
 ///
-/// `path` is empty before, and has the frames of the way after it, as `find` has it: the last is that of the leaf, where it is Full.
+/// `path` is empty before, and has the frames of the way after it, from the root's to that of the leaf, or of the node that names a page
+/// that is not hot. After Moved and Latched the way may have come to any node: begin again with an empty one.
 pub fn leaf_put<R: Rows, D: Draw>(
     rows: &mut R,
     seat: &mut R::Seat,
@@ -346,7 +349,7 @@ pub fn leaf_put<R: Rows, D: Draw>(
     ensures drew { Drew result (λ r. D.stages draw.old r draw.new) (draw.new ≡ draw.old) }
     ensures last { D.last_of draw.new ≡ last_after result (D.last_of draw.old) (D.clock_of draw.new).clock }
     ensures kept { (D.log_of draw.new ≡ D.log_of draw.old) × (D.txn_of draw.new ≡ D.txn_of draw.old) × (D.loans_of draw.new ≡ D.loans_of draw.old) }
-    ensures trail { (row : ℕ) × IsTrail frames path.new row × IsFullAt result row }
+    ensures trail { Came (R.shape rows.old).alone worker frames key path.new (R.view seat.old) result (R.view seat.new) }
     ensures cause { PutCaused (R.view seat.old) result (R.view seat.new) }
     ensures quiet { (R.shape rows.old).alone ≡ true → IsUndisturbed result }
 {

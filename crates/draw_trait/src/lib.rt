@@ -5,3 +5,4 @@
 #![tactic(auto)]
 
 pub mod draw;
+pub mod staged;

@@ -12,7 +12,6 @@ use crate::taking::take_row;
 use btree_descent::descent::{Answer, TOMBSTONE, find};
 use key_locks::mode::Mode;
 use lean_disk::Disk;
-use lean_proto::path::Path;
 use map_model::Refusal;
 use rows_trait::rows::Rows;
 
@@ -63,8 +62,7 @@ pub fn get<R: Rows, D: Disk>(
         key,
         Mode::Shared,
     )?;
-    let mut path = Path::new();
-    match find(rows, seat, 1, store.session.frames, key, &mut path) {
+    match find(rows, seat, 1, store.session.frames, key) {
         Answer::Found(word) => Ok(value_of(word)),
         // A page that a hot page names is live, and each live page is hot.
         Answer::Cold(_) => unreachable!(),

@@ -17,10 +17,11 @@ mod taking;
 
 pub use begins::begin;
 pub use commits::{Ended, commit};
+pub use draw_trait::staged::Staged;
 pub use gets::get;
 pub use held::HeldRows;
 pub use laws::every_opened;
 pub use opening::open_session;
 pub use puts::put;
 pub use session::Session;
-pub use store::{Staged, Stages, Store};
+pub use store::{Stages, Store};

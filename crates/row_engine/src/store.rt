@@ -1,6 +1,5 @@
 // What session 1 works on beside its rows.
 ghost use Rattle.std.specs.Prelude.{◌≡◌, ◌≤◌, ◌<◌, ◌+◌, ◌↔◌, List, max, Err, OnOk, IsErr, IsErrAnd};
-ghost use Rattle.std.specs.Borrow.{ftrue};
 ghost use Rattle.lean_disk.specs.Faults.{HasCause};
 ghost use Rattle.lean_disk.specs.Moments.{Framed};
 ghost use Rattle.log_record.specs.Spelling.{Fits};
@@ -14,51 +13,11 @@ ghost use Rattle.row_engine.specs.Staging.{touched_session};
 
 use crate::session::Session;
 use draw_trait::draw::{Draw, Unstaged};
+use draw_trait::staged::{Staged, one_more};
 use lean_disk::{Disk, MemDisk};
 use log_record::Record;
-use std::marker::{Brand, Model, PhantomData};
+use std::marker::Brand;
 use worker_log::{Staging, WorkerLog};
-
-/// Records that take no bytes: what was staged, the newest first.
-#[derive(Drop)]
-pub struct Staged {
-    of: PhantomData<Record>,
-    pub ghost list: { List Record },
-}
-
-impl Model for Staged {
-    ghost also_owns = { λ _. ftrue };
-}
-
-/// Which records those are.
-pub trait Which {
-    ghost use Rattle.std.specs.Prelude.{List};
-    ghost use Rattle.log_record.specs.declared.record.Record.{Record};
-
-    ghost which: { List Record };
-}
-
-impl Which for Brand {
-    ghost use Rattle.std.specs.Prelude.{[]};
-
-    ghost which = { [] };
-}
-
-impl Staged {
-    /// Those records.
-    pub fn of<K: Which>() -> Staged
-        ensures { result.list ≡ K.which }
-    {
-        Staged { of: PhantomData }
-    }
-}
-
-// The records with one more, which stands here for the proof alone.
-fn one_more<K: Which>(before: &Staged, entry: &Record) -> Staged
-    ensures { result.list ≡ K.which }
-{
-    Staged::of::<K>()
-}
 
 // The greater of two numbers.
 fn greater(a: u64, b: u64) -> u64

@@ -1,54 +1,13 @@
 //! What a put draws from its session: numbers, and a record that is written to a buffer.
 ghost use Rattle.std.specs.Prelude.{◌≡◌, List};
-ghost use Rattle.std.specs.Borrow.{ftrue};
 ghost use Rattle.log_record.specs.declared.record.Record.{Record};
 ghost use Rattle.row_sessions.specs.Drawn.{clock_of};
 
 use crate::session::Session;
 use draw_trait::draw::{Draw, Unstaged};
+use draw_trait::staged::{Staged, one_more};
 use log_record::{LARGEST, Record, record_bytes};
-use std::marker::{Brand, Model, PhantomData};
-
-/// Records that take no bytes.
-#[derive(Drop)]
-pub struct Staged {
-    of: PhantomData<Record>,
-    pub ghost list: { List Record },
-}
-
-impl Model for Staged {
-    ghost also_owns = { λ _. ftrue };
-}
-
-/// Which records those are.
-pub trait Which {
-    ghost use Rattle.std.specs.Prelude.{List};
-    ghost use Rattle.log_record.specs.declared.record.Record.{Record};
-
-    ghost which: { List Record };
-}
-
-impl Which for Brand {
-    ghost use Rattle.std.specs.Prelude.{[]};
-
-    ghost which = { [] };
-}
-
-impl Staged {
-    /// Those records.
-    pub fn of<K: Which>() -> Staged
-        ensures { result.list ≡ K.which }
-    {
-        Staged { of: PhantomData }
-    }
-}
-
-// The records with one more, which stands here for the proof alone.
-fn one_more<K: Which>(before: &Staged, entry: &Record) -> Staged
-    ensures { result.list ≡ K.which }
-{
-    Staged::of::<K>()
-}
+use std::marker::Brand;
 
 /// A worker's session as its put goes on, and the bytes of the last record.
 #[derive(Drop)]

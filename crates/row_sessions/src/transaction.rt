@@ -6,7 +6,6 @@ use crate::events::{Begins, Ends};
 use crate::session::{session_of, set_session};
 use crate::sessions::Sessions;
 use btree_descent::descent::{Answer, find};
-use lean_proto::path::Path;
 use rows_trait::rows::Rows;
 
 impl Sessions {
@@ -37,15 +36,7 @@ impl Sessions {
         ensures stands { Stands self.new }
         ensures same { self.new.rows.workers ≡ self.old.rows.workers }
     {
-        let mut path = Path::new();
-        find(
-            &mut self.rows,
-            &mut self.seat,
-            0,
-            self.frames,
-            key,
-            &mut path,
-        )
+        find(&mut self.rows, &mut self.seat, 0, self.frames, key)
     }
 
     /// Commits a worker's transaction: the number of its end becomes its last end number. False where it has none open, or where

@@ -3,23 +3,28 @@ use Rattle.rows_trait.specs.Views.{Shape}
 use Rattle.btree_descent.specs.Inside.{IsOn}
 use Rattle.btree_descent.specs.Puts.{Refused, Wrote}
 use Rattle.btree_descent.specs.Spots.{AtSpot}
-use Rattle.btree_descent.proofs.Spots.{not_some, met_full, met_spent, may_after, draws_after}
+use Rattle.btree_descent.proofs.Spots.{not_some, again_stands, met_full, met_spent, may_after, draws_after}
 use Rattle.btree_descent.proofs.Changing.{undrawn_same, undrawn_last, stop_undrawn, fell_wrote, fell_caused, fell_quiet, refused_after, refused_wrote, wrote_after}
+use Rattle.btree_descent.specs.Trails.{EndsAt}
+use Rattle.btree_descent.proofs.Trails.{came_short, came_to, later_refused, later_wrote}
 use Rattle.btree_descent.proofs.put.leaf_put.Goals as goal
 
 pub refuse-requires-clause-why : goal.refuse-requires-clause-why
 refuse-requires-clause-why g c w it =
     let u = g.R.Rows.view c.locate.new.seat in
     let s = c.in-Ok.spot in
-    met_full (g.R.Rows.shape c.locate.new.rows) c.args.worker c.args.frames c.args.key s u w (subst (λ (z : Shape). AtSpot z u c.args.worker c.args.frames c.args.key s) (sym c.in-Ok.ensures.fits.1) c.in-Ok.ensures.spot.spot)
-    (not_some s.before c.if-is_none.ensures) c.if-spot-eq-ROOM.true it
+    let full = met_full (g.R.Rows.shape c.locate.new.rows) c.args.worker c.args.frames c.args.key s u w (subst (λ (z : Shape). AtSpot z u c.args.worker c.args.frames c.args.key s) (sym c.in-Ok.ensures.fits.1) c.in-Ok.ensures.spot.spot)
+    (not_some s.before c.if-is_none.ensures) c.if-spot-eq-ROOM.true it in
+    (full, refl)
 
 pub refuse-requires-then-spot-ge-LAST_NUMBER-clause-why : goal.refuse-requires-then-spot-ge-LAST_NUMBER-clause-why
 refuse-requires-then-spot-ge-LAST_NUMBER-clause-why g c w it =
     let u = g.R.Rows.view c.locate.new.seat in
     let s = c.in-Ok.spot in
-    met_spent (g.R.Rows.shape c.locate.new.rows) c.args.worker c.args.frames c.args.key s u w (subst (λ (z : Shape). AtSpot z u c.args.worker c.args.frames c.args.key s) (sym c.in-Ok.ensures.fits.1) c.in-Ok.ensures.spot.spot)
-    c.if-spot-ge-LAST_NUMBER.true it
+    let z = g.R.Rows.shape c.locate.new.rows in
+    let at = subst (λ (y : Shape). AtSpot y u c.args.worker c.args.frames c.args.key s) (sym c.in-Ok.ensures.fits.1) c.in-Ok.ensures.spot.spot in
+    let spent = met_spent z c.args.worker c.args.frames c.args.key s u w at c.if-spot-ge-LAST_NUMBER.true it in
+    (spent, (s.leaf.head.page, (again_stands z c.args.worker c.args.frames c.args.key s u w at it).leaf))
 
 pub returns-then-spot-eq-ROOM-clause-put : goal.returns-then-spot-eq-ROOM-clause-put
 returns-then-spot-eq-ROOM-clause-put g c =
@@ -178,3 +183,44 @@ returns-clause-cause g c = c.put_at.ensures.cause (g.R.Rows.view c.args.seat.now
 
 pub returns-clause-quiet : goal.returns-clause-quiet
 returns-clause-quiet g c alone = c.put_at.ensures.quiet (ap (λ (z : Shape). z.alone) c.in-Ok.ensures.fits.1 ∙ alone) (c.in-Ok.ensures.spot.latest alone c.requires.held)
+
+pub locate-requires-clause-path : goal.locate-requires-clause-path
+locate-requires-clause-path g c = c.requires.path
+
+pub returns-in-Err-clause-trail : goal.returns-in-Err-clause-trail
+returns-in-Err-clause-trail g c =
+    came_short (g.R.Rows.shape c.args.rows.now).alone c.args.worker c.args.frames c.args.key c.locate.new.path (g.R.Rows.view c.args.seat.now) (g.R.Rows.view c.locate.new.seat) c.put_of.result c.in-Err.stop c.put_of.ensures c.in-Err.ensures.part
+
+pub returns-then-spot-eq-ROOM-clause-trail : goal.returns-then-spot-eq-ROOM-clause-trail
+returns-then-spot-eq-ROOM-clause-trail g c =
+    let z = g.R.Rows.shape c.locate.new.rows in
+    let alone = (g.R.Rows.shape c.args.rows.now).alone in
+    let u = g.R.Rows.view c.locate.new.seat in
+    let w = g.R.Rows.view c.refuse.new.seat in
+    let row = c.in-Ok.spot.leaf.glimpse.row in
+    let put = c.refuse.result in
+    let e = c.refuse.ensures in
+    came_to alone c.args.worker c.args.frames c.args.key c.locate.new.path row (g.R.Rows.view c.args.seat.now) u w put c.in-Ok.ensures.trail c.in-Ok.ensures.spot.ran (later_refused z.alone c.args.worker c.args.key u w put e.refused.refused)
+    (subst (λ (s : Shape). EndsAt s.alone c.args.worker c.args.key row u put w) c.in-Ok.ensures.fits.1 e.ends)
+
+pub returns-then-spot-ge-LAST_NUMBER-clause-trail : goal.returns-then-spot-ge-LAST_NUMBER-clause-trail
+returns-then-spot-ge-LAST_NUMBER-clause-trail g c =
+    let z = g.R.Rows.shape c.locate.new.rows in
+    let alone = (g.R.Rows.shape c.args.rows.now).alone in
+    let u = g.R.Rows.view c.locate.new.seat in
+    let w = g.R.Rows.view c.refuse-then-spot-ge-LAST_NUMBER.new.seat in
+    let row = c.in-Ok.spot.leaf.glimpse.row in
+    let put = c.refuse-then-spot-ge-LAST_NUMBER.result in
+    let e = c.refuse-then-spot-ge-LAST_NUMBER.ensures in
+    came_to alone c.args.worker c.args.frames c.args.key c.locate.new.path row (g.R.Rows.view c.args.seat.now) u w put c.in-Ok.ensures.trail c.in-Ok.ensures.spot.ran (later_refused z.alone c.args.worker c.args.key u w put e.refused.refused)
+    (subst (λ (s : Shape). EndsAt s.alone c.args.worker c.args.key row u put w) c.in-Ok.ensures.fits.1 e.ends)
+
+pub returns-clause-trail : goal.returns-clause-trail
+returns-clause-trail g c =
+    let alone = (g.R.Rows.shape c.args.rows.now).alone in
+    let u = g.R.Rows.view c.locate.new.seat in
+    let w = g.R.Rows.view c.put_at.new.seat in
+    let row = c.in-Ok.spot.leaf.glimpse.row in
+    let put = c.put_at.result in
+    came_to alone c.args.worker c.args.frames c.args.key c.locate.new.path row (g.R.Rows.view c.args.seat.now) u w put c.in-Ok.ensures.trail c.in-Ok.ensures.spot.ran (later_wrote (g.R.Rows.shape c.locate.new.rows).alone c.args.worker c.args.key c.args.word u (g.D.Draw.staged_of c.args.draw.now) w (g.D.Draw.clock_of c.put_at.new.draw) (g.D.Draw.staged_of c.put_at.new.draw) put c.put_at.ensures.put)
+    (subst (λ (s : Shape). EndsAt s.alone c.args.worker c.args.key row u put w) c.in-Ok.ensures.fits.1 c.put_at.ensures.ends)

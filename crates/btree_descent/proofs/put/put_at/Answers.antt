@@ -15,6 +15,8 @@ use Rattle.version_latch.proofs.Naming.{checked_silent, checked_other}
 use Rattle.version_latch.proofs.Keeping.{looked_ran}
 use Rattle.btree_descent.proofs.Spots.{taken_ran, putting}
 use Rattle.btree_descent.proofs.Changing.{wrote_after}
+use Rattle.btree_descent.specs.Trails.{ChangedIn, HadLeaf}
+use Rattle.btree_descent.proofs.Trails.{ends_after}
 use Rattle.btree_descent.proofs.put.put_at.Goals as goal
 
 pub upgrade-requires-clause-event : goal.upgrade-requires-clause-event
@@ -172,3 +174,24 @@ returns-in-Err-RowSpent-clause-cause g c u found =
     let names = checked c.args.worker glimpse.version in
     let e : NotHeld y glimpse.row glimpse.version names v RowSpent w = subst (λ q. NotHeld y glimpse.row glimpse.version names v q w) c.in-Err-RowSpent.field-0-is c.in-Err-RowSpent.ensures.err in
     record { version = glimpse.version; spent = e.0; found = subst (λ x. HasFound glimpse.row glimpse.version u x) (sym e.1) found }
+
+pub returns-in-Ok-put_held-clause-ends : goal.returns-in-Ok-put_held-clause-ends
+returns-in-Ok-put_held-clause-ends g c = subst (λ row. ChangedIn c.args.worker c.args.key row (g.R.Rows.view c.put_held.new.seat)) c.in-Ok.ensures.ok.0 c.in-Ok-put_held.ensures.placed
+
+pub returns-in-Err-clause-ends : goal.returns-in-Err-clause-ends
+returns-in-Err-clause-ends g c =
+    let y = g.R.Rows.shape c.args.rows.now in
+    let v = g.R.Rows.view c.args.seat.now in
+    let u = g.R.Rows.view c.upgrade.new.seat in
+    let w = g.R.Rows.view c.put_held.new.seat in
+    let glimpse = c.args.spot.now.leaf.glimpse in
+    let t = c.in-Ok.ensures.ok in
+    let same = c.in-Ok.ensures.fits.1 in
+    let At : Shape × ℕ → Type 0 = λ q. HadLeaf q.0.alone c.args.key q.1 u w in
+    ends_after y.alone c.args.worker c.args.key glimpse.row v u w (Unstaged c.in-Err.unstaged) (taken_ran y v u glimpse.row glimpse.version c.args.worker t.1) (subst At (λ i. (same i, t.0 i)) c.in-Err.ensures.had)
+
+pub returns-in-Err-Moved-clause-ends : goal.returns-in-Err-Moved-clause-ends
+returns-in-Err-Moved-clause-ends g c = tt
+
+pub returns-in-Err-RowSpent-clause-ends : goal.returns-in-Err-RowSpent-clause-ends
+returns-in-Err-RowSpent-clause-ends g c = refl

@@ -1,4 +1,4 @@
-use Rattle.btree_descent.proofs.Changing.{changed_at, not_staged}
+use Rattle.btree_descent.proofs.Changing.{changed_at, placed_at, not_staged, had_leaf}
 use Rattle.btree_descent.proofs.put.put_held.Goals as goal
 
 pub returns-in-Ok-clause-ok : goal.returns-in-Ok-clause-ok
@@ -53,3 +53,15 @@ returns-in-Err-clause-same_last g c = c.in-Err.ensures.same.1
 
 pub returns-in-Err-clause-stages : goal.returns-in-Err-clause-stages
 returns-in-Err-clause-stages g c = c.in-Err.ensures.refused
+
+pub returns-in-Ok-clause-placed : goal.returns-in-Ok-clause-placed
+returns-in-Ok-clause-placed g c =
+    let d = c.args.draw.now in
+    placed_at (g.R.Rows.shape c.args.rows.now) (g.R.Rows.view c.args.seat.now) (g.R.Rows.view c.store.new.seat) c.args.hold.row c.args.change.now c.args.spot.now (g.D.Draw.log_of d) (g.D.Draw.txn_of d) (g.D.Draw.clock_of d) (g.D.Draw.last_of d)
+    c.requires.putting c.store.ensures.ran c.store.ensures.met
+
+pub returns-in-Err-clause-had : goal.returns-in-Err-clause-had
+returns-in-Err-clause-had g c =
+    let d = c.args.draw.now in
+    had_leaf (g.R.Rows.shape c.args.rows.now) (g.R.Rows.view c.args.seat.now) (g.R.Rows.view c.release.new.seat) c.args.hold.row c.args.change.now c.args.spot.now (g.D.Draw.log_of d) (g.D.Draw.txn_of d) (g.D.Draw.clock_of d) (g.D.Draw.last_of d)
+    c.requires.putting c.release.ensures.step

@@ -3,11 +3,11 @@ use Rattle.atomic_table.proofs.Names.{◌≡◌, [], ◌∷◌, refl, a_type, dc
 use Rattle.atomic_table.proofs.Walks.{proved, leaves}
 use denote.Struct.Struct.{Struct}
 use denote.Struct.Owning.{shape}
-use Rattle.row_sessions.specs.contracts.drawing.Staged as staged
-use Rattle.row_sessions.specs.contracts.drawing.Staged.of.{ended, clauses}
-use Rattle.row_sessions.specs.contracts.drawing.Staged.of.Key.{name as #self}
-use Rattle.row_sessions.proofs.drawing.Staged.of.Statement.{statement}
-use Rattle.row_sessions.proofs.drawing.Staged.of.Code as code
+use Rattle.draw_trait.specs.contracts.staged.Staged as staged
+use Rattle.draw_trait.specs.contracts.staged.Staged.of.{ended, clauses}
+use Rattle.draw_trait.specs.contracts.staged.Staged.of.Key.{name as #self}
+use Rattle.draw_trait.proofs.staged.Staged.of.Statement.{statement}
+use Rattle.draw_trait.proofs.staged.Staged.of.Code as code
 
 abbrev token_val : Val
 token_val = vstruct (vcons (vstruct vnil) vnil)
