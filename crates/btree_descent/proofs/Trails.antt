@@ -1,5 +1,5 @@
 -- A path grows by a frame, and stays a trail over what is seen later.
-use Rattle.std.proofs.Common.{◌≡◌, ◌≤◌, ◌<◌, ◌+◌, ◌-◌, ltb, inl, inr, ℕ, zero, suc, Bool, true, List, [], ◌∷◌, ◌++◌, length, Option, Some, None, ◌∙◌, refl, sym, ap, subst, arith, cond, append-nil, append_assoc, length-append, true≢false}
+use Rattle.std.proofs.Common.{◌≡◌, ◌≤◌, ◌<◌, ◌-◌, ltb, inl, inr, ℕ, zero, suc, Bool, true, List, [], ◌∷◌, ◌++◌, length, Some, None, ◌∙◌, refl, sym, ap, subst, arith, append-nil, append_assoc}
 use Rattle.std.specs.Prelude.{slice_index}
 use Rattle.std.proofs.lemmas.Bool.{cases_Bool, cond-true, cond-false, lt-ltb, ltb-true, ltb-false, le-ltb}
 use Rattle.std.proofs.lemmas.Option.{none-some}
@@ -49,17 +49,17 @@ above_last path next =
 above_push : (path : List ℕ) (next n : ℕ) → above (path ++ next ∷ []) (suc n) ≡ above path n
 above_push path next n = elim (cases_Bool (ltb n (length path))) [
   | inl y ↦ (
-    let more = trail_more path next in
-    let lt = ltb-true n (length path) y in
-    let at : length (path ++ next ∷ []) - suc (suc n) ≡ length path - suc n = omega arith in
-    cond-true (ltb (suc n) (length (path ++ next ∷ []))) (Some (slice_index (path ++ next ∷ []) (length (path ++ next ∷ []) - suc (suc n)))) None (lt-ltb (suc n) (length (path ++ next ∷ [])) (omega arith))
-    ∙ (ap Some (ap (slice_index (path ++ next ∷ [])) at ∙ get_or_append_left path (next ∷ []) 0 (length path - suc n) (omega arith))
-    ∙ sym (cond-true (ltb n (length path)) (Some (slice_index path (length path - suc n))) None y)))
+      let more = trail_more path next in
+      let lt = ltb-true n (length path) y in
+      let at : length (path ++ next ∷ []) - suc (suc n) ≡ length path - suc n = omega arith in
+      cond-true (ltb (suc n) (length (path ++ next ∷ []))) (Some (slice_index (path ++ next ∷ []) (length (path ++ next ∷ []) - suc (suc n)))) None (lt-ltb (suc n) (length (path ++ next ∷ [])) (omega arith))
+      ∙ (ap Some (ap (slice_index (path ++ next ∷ [])) at ∙ get_or_append_left path (next ∷ []) 0 (length path - suc n) (omega arith))
+      ∙ sym (cond-true (ltb n (length path)) (Some (slice_index path (length path - suc n))) None y)))
   | inr off ↦ (
-    let more = trail_more path next in
-    let ge : length path ≤ n = ltb-false n (length path) off in
-    cond-false (ltb (suc n) (length (path ++ next ∷ []))) (Some (slice_index (path ++ next ∷ []) (length (path ++ next ∷ []) - suc (suc n)))) None (le-ltb (suc n) (length (path ++ next ∷ [])) (omega arith))
-    ∙ sym (cond-false (ltb n (length path)) (Some (slice_index path (length path - suc n))) None off))
+      let more = trail_more path next in
+      let ge : length path ≤ n = ltb-false n (length path) off in
+      cond-false (ltb (suc n) (length (path ++ next ∷ []))) (Some (slice_index (path ++ next ∷ []) (length (path ++ next ∷ []) - suc (suc n)))) None (le-ltb (suc n) (length (path ++ next ∷ [])) (omega arith))
+      ∙ sym (cond-false (ltb n (length path)) (Some (slice_index path (length path - suc n))) None off))
 ]
 
 same_frame : (x y : ℕ) → Some x ≡ Some y → x ≡ y

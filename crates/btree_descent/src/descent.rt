@@ -376,13 +376,7 @@ fn answer_of(stop: Stop) -> Answer
 /// Found has the key's word as its leaf has it at the last check, a tombstone's too, and appends the read of it. Cold names a page
 /// on the way that is not hot and appends nothing: bring it into a frame and try again. Moved and Latched append a miss and say
 /// which row, and which numbers of its latch were loaded: try again. Where nobody else steps these two never come.
-pub fn find<R: Rows>(
-    rows: &mut R,
-    seat: &mut R::Seat,
-    worker: u32,
-    frames: u32,
-    key: u64,
-) -> Answer
+pub fn find<R: Rows>(rows: &mut R, seat: &mut R::Seat, worker: u32, frames: u32, key: u64) -> Answer
     requires fits { R.fits rows.old seat.old }
     requires sized { Sized (R.shape rows.old) (R.view seat.old) frames }
     requires actor { may (R.shape rows.old).alone (R.view seat.old) worker ≡ true }
