@@ -1,9 +1,8 @@
 // What session 1 works on beside its rows.
-ghost use Rattle.std.specs.Prelude.{◌≡◌, ◌≤◌, ◌<◌, ◌+◌, ◌↔◌, List, max, Err, OnOk, IsErr, IsErrAnd};
+ghost use Rattle.std.specs.Prelude.{◌≡◌, ◌≤◌, ◌<◌, ◌+◌, ◌↔◌, max, Err, OnOk, IsErr, IsErrAnd};
 ghost use Rattle.lean_disk.specs.Faults.{HasCause};
 ghost use Rattle.lean_disk.specs.Moments.{Framed};
 ghost use Rattle.log_record.specs.Spelling.{Fits};
-ghost use Rattle.log_record.specs.declared.record.Record.{Record};
 ghost use Rattle.worker_log.specs.Calls.{After};
 ghost use Rattle.worker_log.specs.Causes.{IsFull, IsLogFull};
 ghost use Rattle.worker_log.specs.Kept.{IsInRange};

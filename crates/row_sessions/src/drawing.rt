@@ -1,6 +1,5 @@
 //! What a put draws from its session: numbers, and a record that is written to a buffer.
-ghost use Rattle.std.specs.Prelude.{◌≡◌, List};
-ghost use Rattle.log_record.specs.declared.record.Record.{Record};
+ghost use Rattle.std.specs.Prelude.{◌≡◌};
 ghost use Rattle.row_sessions.specs.Drawn.{clock_of};
 
 use crate::session::Session;
