@@ -3,7 +3,9 @@ pub mod Holds
 pub mod EventLemmas
 pub mod Memory
 pub mod Keeping
+pub mod Stepping
 pub mod Steps
+pub mod ControlSteps
 pub mod Runs
 pub mod OneSeat
 pub mod First

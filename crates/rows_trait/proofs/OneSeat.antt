@@ -11,7 +11,8 @@ use Rattle.rows_trait.specs.declared.view.View.{View}
 use Rattle.rows_trait.specs.Views.{IsEven, after_all, state, no_place, Shape, AreLow, hold, holds, held_at, without, write, settle, AreApart, AreSilent, may}
 use Rattle.rows_trait.specs.Turns.{Looked, Loaded, Taken, Stored, MayPublish, Published, Released, Heard, MayTurn, Turned, MaySync, Synced}
 use Rattle.rows_trait.specs.Rule.{Plan, plan, Keeps, IsAlone, IsPicture}
-use Rattle.rows_trait.proofs.Steps.{looks, loads, stores, takes, publishing, releases, latch_of, hears, turns, syncs}
+use Rattle.rows_trait.proofs.Steps.{looks, loads, stores, takes, publishing, releases, latch_of}
+use Rattle.rows_trait.proofs.ControlSteps.{hears, turns, syncs}
 
 module _ (k : Plan) (words : List ℕ) (v : View) (p : IsPicture k words v) where
   whole : p.happened ≡ v.seen ++ []
