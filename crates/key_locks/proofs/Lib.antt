@@ -9,3 +9,4 @@ pub mod Holding
 pub mod Taking
 pub mod Marking
 pub mod Soundness
+pub mod Again

@@ -1,5 +1,6 @@
 -- What a lock appends, what holds after it, and why it was refused.
 use Rattle.std.specs.Prelude.{◌≡◌, ◌≤◌, ℕ, Bool, true, List, [], ◌∷◌, ◌++◌}
+use Rattle.core_state.specs.Events as happening
 use Rattle.core_state.specs.States.{Row}
 use Rattle.core_state.specs.Needs as core
 use Rattle.core_state.specs.Steps.{locked}
@@ -40,6 +41,15 @@ pub record HasLock (alone : Bool) (worker i : ℕ) (mode : Mode) (v : View) (sta
   pub row : Row
   pub published : IsPublished alone (Lock worker i (event_mode mode)) i row (locked row worker (core_mode mode)) v w
   pub stamped : IsStamp row stamp
+
+-- The worker has the lock in this mode: it may have it, and to take it again leaves the row as it is.
+pub record HasAlready (o : Row) (worker : ℕ) (mode : happening.Mode) : Type 0 where
+  pub may : core.may_hold o worker mode ≡ true
+  pub same : locked o worker mode ≡ o
+
+-- the worker has taken the lock of row i again, by which the row did not change
+abbrev pub HasAgain : Bool → (worker i : ℕ) → Mode → View → View → Type 0
+HasAgain alone worker i mode v w = IsPublished alone (Lock worker i (event_mode mode)) i ((state v).core.row i) ((state v).core.row i) v w
 
 -- nothing was appended, and b stands in the way
 pub record IsRefused (alone : Bool) (worker i : ℕ) (mode : Mode) (b : ℕ) (v w : View) : Type 0 where

@@ -11,7 +11,7 @@ ghost use Rattle.rows_trait.specs.Turns.{Ran};
 ghost use Rattle.key_locks.specs.Rows.{IsWorker, IsRow, IsSound, Sized, IsBlocking, core_mode};
 ghost use Rattle.version_latch.specs.Kept.{Kept};
 ghost use Rattle.key_locks.specs.Inside.{IsSaid, IsAt, AreKnown};
-ghost use Rattle.key_locks.specs.Locking.{HasLock, Refuses, IsUnmet};
+ghost use Rattle.key_locks.specs.Locking.{HasLock, HasAlready, HasAgain, IsSpent, Refuses, IsUnmet};
 
 use crate::events::Locks;
 use crate::held::publish_lock;
@@ -42,6 +42,10 @@ pub enum Refusal {
     /// The version of the row has come to the last one.
     RowSpent { row: u32 },
 }
+
+/// The version of a lock row has come to the last one.
+#[derive(Clone, Copy, Debug)]
+pub struct RowSpent;
 
 // The words of a lock row. They count once the version is found again.
 pub(crate) fn look<R: Rows>(rows: &mut R, seat: &mut R::Seat, glimpse: &Glimpse) -> Words
@@ -172,5 +176,48 @@ pub fn lock<R: Rows>(
     match words.blocker(worker, mode) {
         None => take(rows, seat, &glimpse, &locks, &words),
         Some(other) => Err(refuse(rows, seat, &glimpse, &locks, &words, other)),
+    }
+}
+
+/// Takes a lock again that `worker` has in this mode, in an open transaction, over rows on which nobody else steps: lock row `row`
+/// behind `frames` frame rows. No word of the row changes, so it is latched and given up, and not looked at.
+///
+/// Ok appends the lock. The one error is that the version of the row has come to the last one, and appends nothing.
+pub fn lock_again<R: Rows>(
+    rows: &mut R,
+    seat: &mut R::Seat,
+    worker: u32,
+    frames: u32,
+    locks: u32,
+    row: u32,
+    mode: Mode,
+) -> Result<(), RowSpent>
+    requires fits { R.fits rows.old seat.old }
+    requires sized { Sized (R.shape rows.old) (R.view seat.old) worker frames locks }
+    requires row { row < locks }
+    requires alone { (R.shape rows.old).alone ≡ true }
+    requires free { holds (R.view seat.old).held (frames + row) ≡ false }
+    requires open_is { ((state (R.view seat.old)).core.worker worker).is_open ≡ true }
+    requires has { HasAlready ((state (R.view seat.old)).core.row row) worker (core_mode mode) }
+    ensures fits { R.fits rows.new seat.new × (R.shape rows.new ≡ R.shape rows.old) × ((R.view seat.new).held ≡ (R.view seat.old).held) }
+    ensures ok { IfOk result (λ _. HasAgain (R.shape rows.old).alone worker row mode (R.view seat.old) (R.view seat.new)) }
+    ensures spent { IfErr result (λ _. IsSpent (R.shape rows.old).alone (frames + row) (frames + row) (R.view seat.old) (R.view seat.new)) }
+{
+    let Ok(glimpse) = Glimpse::start(rows, seat, frames + row, &Misses { worker }) else {
+        // Nobody holds the row.
+        unreachable!()
+    };
+    let checks = Checks {
+        worker,
+        version: glimpse.version,
+    };
+    match glimpse.upgrade(rows, seat, &checks) {
+        Ok(hold) => {
+            hold.publish_as(rows, seat, &Locks { worker, row, mode });
+            Ok(())
+        }
+        // Nobody else steps.
+        Err(Unheld::Moved(_)) => unreachable!(),
+        Err(Unheld::RowSpent) => Err(RowSpent),
     }
 }

@@ -74,6 +74,18 @@ none_marked marks rows count most m r few room = subst (λ ms. AreMarked ms rows
     not_one i e = true≢false (lies i true e)
 
 module _ (marks : List Bool) (rows : List ℕ) (most row : ℕ) (m : AreMarked marks rows most) (lt : row < length marks) (b : Bool) (read : b ≡ get_or marks row b) where
+  -- the mark says whether the row is held
+  pub mark_is : b ≡ is_reader row rows
+  mark_is = go b refl (is_reader row rows) refl
+    where
+      mark : get_or marks row false ≡ b
+      mark = get_or_default marks row false b lt ∙ sym read
+
+      go : (c : Bool) → b ≡ c → (d : Bool) → is_reader row rows ≡ d → b ≡ is_reader row rows
+      go true e d f = e ∙ sym (has_reader row rows ((m.marked row).0 (mark ∙ e)))
+      go false e true f = absurd (true≢false (sym ((m.marked row).1 (reader_has row rows f)) ∙ (mark ∙ e)))
+      go false e false f = e ∙ sym f
+
   free : b ≡ false → get_or marks row false ≡ false
   free e = get_or_default marks row false b lt ∙ (sym read ∙ e)
 

@@ -403,6 +403,54 @@ no_conflict z v w x log h row mode b r = true≢false (sym (may_take ((state w).
     is_row : IsRow 1 ((state w).core.row row)
     is_row = subst (λ n. IsRow n ((state w).core.row row)) (ap (λ k. (opening k).workers) r.ran.given ∙ h.rows.one) (subst (λ k. IsSound k) (sym r.ran.given) h.rows.locks_sound w.seen row)
 
+-- ## A row that is held already
+
+-- to take it shared again leaves it as it is
+shared_again : (o : Row) → holds_row o 1 ≡ true → locked o 1 happening.Mode.Shared ≡ o
+shared_again o e = go (is_held_by o.holder 1) refl
+  where
+    reader : (b : Bool) → b ≡ true → record o { readers = cond b o.readers (1 ∷ o.readers) } ≡ o
+    reader true p = refl
+    reader false p = absurd (true≢false (sym p))
+
+    go : (b : Bool) → is_held_by o.holder 1 ≡ b → cond b o (record o { readers = cond (is_reader 1 o.readers) o.readers (1 ∷ o.readers) }) ≡ o
+    go true p = refl
+    go false p = reader (is_reader 1 o.readers) (sym (ap (λ b. b || is_reader 1 o.readers) p) ∙ e)
+
+module _ (z : Shape) (v : View) (x : Session) (log : Log) (h : Holds z v x log) (row : ℕ) (has : is_reader row x.held.rows ≡ true) where
+  abbrev held_row : Row
+  held_row = (state v).core.row row
+
+  pub already : locking.HasAlready held_row 1 (core_mode Shared)
+  already = record {
+    may = may_take held_row happening.Mode.Shared (subst (λ n. IsRow n held_row) h.rows.one (h.rows.locks_sound v.seen row));
+    same = shared_again held_row ((h.held row).1 (reader_has row x.held.rows has));
+  }
+
+  same_held : with_row x.held row ≡ x.held
+  same_held = ap (λ b. cond b x.held (record { count = x.held.count; rows = x.held.rows ++ row ∷ [] })) has
+
+  same_session : record x { held = with_row x.held row } ≡ x
+  same_session = ap (λ k. record x { held = k }) same_held
+
+  module _ (w : View) (is_open : x.is_open ≡ true) (low : row < x.held.count) (t : locking.HasAgain z.alone 1 row Shared v w) (held_is : w.held ≡ v.held) where
+    abbrev stamp : Stamp
+    stamp = record { number = held_row.number; log = held_row.log; readers = held_row.read_end }
+
+    lock_of : locking.HasLock z.alone 1 row Shared v stamp w
+    lock_of = record {
+      row = held_row;
+      published = subst (λ o. locking.IsPublished z.alone (Lock 1 row (event_mode Shared)) row held_row o v w) (sym already.same) t;
+      stamped = record { number = refl; log = refl; readers = refl };
+    }
+
+    pub holds_again : Holds z w x log
+    holds_again = subst (λ k. Holds z w k log) same_session
+        (holds_taken z v w x log h is_open row low Shared stamp lock_of held_is (subst (λ k. length k.rows ≤ k.count) (sym same_held) h.fewer))
+
+    pub takes_again : Takes v w x x row Shared
+    takes_again = takes z v w x log h is_open row low Shared stamp lock_of held_is x (sym same_session)
+
 -- ## A row that is spent
 
 pub spent : (z : Shape) (v w : View) → z.alone ≡ true → EveryLow → AreLow (length w.seen) w.steps → (row r : ℕ) → locking.IsSpent z.alone row r v w → IsSpent v w

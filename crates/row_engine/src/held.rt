@@ -1,5 +1,6 @@
 // The lock rows that a session holds.
 ghost use Rattle.std.specs.Prelude.{◌≡◌, ◌≤◌, ◌<◌, [], length, slice_index, IfOk};
+ghost use Rattle.core_state.specs.Needs.{is_reader};
 ghost use Rattle.row_engine.specs.Held.{with_row};
 
 use std::alloc::{AllocError, Global};
@@ -62,6 +63,14 @@ impl HeldRows {
         ensures within { result < self.now.count }
     {
         self.rows[at]
+    }
+
+    /// Whether a row is held.
+    pub fn has(&self, row: u32) -> bool
+        requires { row < self.now.count }
+        ensures { result ≡ is_reader row self.now.rows }
+    {
+        self.marks[row as usize]
     }
 
     /// A row is taken, if it is not held already.

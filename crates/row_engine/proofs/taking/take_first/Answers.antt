@@ -3,7 +3,7 @@ use Rattle.key_locks.specs.Locking.{Refuses}
 use Rattle.row_engine.specs.Takes.{Takes}
 use Rattle.row_engine.specs.declared.session.Session.{Session}
 use Rattle.row_engine.proofs.TakeLemmas.{holds_as, holds_still, holds_taken, no_conflict, spent, takes}
-use Rattle.row_engine.proofs.taking.take_row.Goals as goal
+use Rattle.row_engine.proofs.taking.take_first.Goals as goal
 
 pub unreachable-requires : goal.unreachable-requires
 unreachable-requires g c =
