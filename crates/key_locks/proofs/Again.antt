@@ -1,15 +1,14 @@
 -- A lock that the worker has already is taken again, where nobody else steps.
-use Rattle.std.proofs.Common.{◌≡◌, ◌==◌, ◌||◌, ◌+◌, ◌≤◌, ◌<◌, ◌%◌, ℕ, Bool, true, List, [], ◌∷◌, ◌++◌, cond, length, Option, Some, refl, sym, ap, subst, ◌∙◌, append-nil, arith, eq-eqb}
-use Rattle.core_state.specs.States.{Row, State}
+use Rattle.std.proofs.Common.{◌≡◌, ◌==◌, ◌||◌, ◌+◌, ◌≤◌, ◌<◌, ◌%◌, ℕ, Bool, true, List, [], ◌++◌, cond, Some, refl, sym, ap, subst, ◌∙◌, append-nil, arith, eq-eqb}
+use Rattle.core_state.specs.States.{Row}
 use Rattle.core_state.specs.Steps.{locked}
 use Rattle.row_words.specs.declared.event.Event.{Event}
 use Rattle.row_words.specs.declared.event.Event.TheVariants.{Lock}
-use Rattle.row_words.specs.declared.given.Given.{Given}
 use Rattle.row_words.specs.Moments.{Moment}
 use Rattle.row_words.specs.Openings.{opening}
 use Rattle.row_words.specs.Words.{lock_words}
 use Rattle.rows_trait.specs.declared.view.View.{View}
-use Rattle.rows_trait.specs.Views.{Shape, Spells, after_all, state, holds, held_at, latest, may, without}
+use Rattle.rows_trait.specs.Views.{Shape, Spells, after_all, state, holds, held_at, latest, may}
 use Rattle.rows_trait.specs.Turns.{Looked, Taken, Published, MayPublish, Ran}
 use Rattle.rows_trait.specs.Causes.{HasFound}
 use Rattle.rows_trait.proofs.Runs.{ran_append}

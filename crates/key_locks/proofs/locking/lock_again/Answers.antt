@@ -1,4 +1,4 @@
-use Rattle.std.proofs.Common.{◌≡◌, ◌∙◌, ◌+◌, ℕ, refl, sym, ap, subst}
+use Rattle.std.proofs.Common.{◌∙◌, ℕ, refl, sym, ap, subst}
 use Rattle.row_words.specs.declared.event.Event.TheVariants.{Lock}
 use Rattle.rows_trait.specs.Inside.{first_of}
 use Rattle.rows_trait.specs.Turns.{Looked}

@@ -1,7 +1,4 @@
-use Rattle.std.proofs.Common.{◌≡◌, ◌∙◌, refl, subst, sym, ap}
-use Rattle.rows_trait.specs.Views.{Shape}
-use Rattle.key_locks.specs.declared.mode.Mode.TheVariants.{Shared}
-use Rattle.key_locks.specs.Locking.{HasAgain}
+use Rattle.std.proofs.Common.{refl}
 use Rattle.row_engine.proofs.TakeLemmas.{already, holds_again, holds_as, holds_still, spent, takes_again}
 use Rattle.row_engine.proofs.taking.take_again.Goals as goal
 
