@@ -30,7 +30,7 @@ pub record IsOfOne (g : Opening) : Type 0 where
   pub workers : g.workers ≡ 1
   pub changes : g.changes ≡ 64
   pub joined : g.joined ≡ 45
-  pub rows : (k : ℕ) → g.row_of k ≡ k % 65536
+  pub rows : (k : ℕ) → g.row_of k ≡ k % 256
   pub frames : g.frames ≡ g.format.pages
 
 -- A call of session 1 behind these: its line is the script's next, and it is told by its events.

@@ -21,7 +21,7 @@ use script_run::{Stop, run_script};
 use std::alloc::Global;
 
 // The lock rows of the engine, which keys share.
-const LOCKS: u32 = 65536;
+const LOCKS: u32 = 256;
 
 fn status_of(reason: Unrecovered) -> u8
     ensures { result ≡ status_of reason }

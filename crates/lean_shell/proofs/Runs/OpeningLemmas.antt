@@ -11,7 +11,7 @@ use Rattle.lean_shell.specs.Inside.Begins.{BeginsBy, HasStarted, began}
 use Rattle.lean_shell.specs.Runs.{Counts, IsFrom}
 use Rattle.lean_shell.proofs.Runs.BeginLemmas.{every_beginning}
 
-module _ (s0 sa : Story) (v : View) (log : Log) (generation won lost : ℕ) (o : HasOpened 65536 s0 sa v log generation won lost) where
+module _ (s0 sa : Story) (v : View) (log : Log) (generation won lost : ℕ) (o : HasOpened 256 s0 sa v log generation won lost) where
   abbrev pub counts : Counts
   counts = record { generation = generation; winners = won; undone = lost }
 
