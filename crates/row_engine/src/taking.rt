@@ -51,6 +51,7 @@ fn take_first<R: Rows>(
 }
 
 // Takes a lock row shared that the session has.
+#[inline(always)]
 fn take_again<R: Rows>(
     rows: &mut R,
     seat: &mut R::Seat,
@@ -80,6 +81,7 @@ fn take_again<R: Rows>(
 }
 
 /// Takes the lock row of a key for the session. It is refused only where the row is spent.
+#[inline(always)]
 pub(crate) fn take_row<R: Rows>(
     rows: &mut R,
     seat: &mut R::Seat,

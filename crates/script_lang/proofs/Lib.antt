@@ -4,4 +4,5 @@ pub mod PieceLemmas
 pub mod ReplyLemmas
 pub mod NoticeLemmas
 pub mod TextLemmas
+pub mod Newlines
 pub mod ReaderLemmas

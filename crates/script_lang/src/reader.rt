@@ -8,6 +8,7 @@ ghost use Rattle.script_lang.specs.Inside.{IsNewline, Looked};
 
 use crate::line::LINE;
 use lean_edge::{Next, Source};
+use memchr::memchr;
 use std::alloc::{AllocError, Global};
 use std::marker::Model;
 
@@ -168,12 +169,7 @@ fn newline_in(bytes: &[u8]) -> Option<usize>
     ensures some { IfSome result (IsNewline bytes.now) }
     ensures none { IfNone result (IsLine bytes.now) }
 {
-    for (at, byte) in bytes.iter().enumerate() {
-        if *byte == b'\n' {
-            return Some(at);
-        }
-    }
-    None
+    memchr(b'\n', bytes)
 }
 
 // Moves `count` bytes from `from` on to the prefix.

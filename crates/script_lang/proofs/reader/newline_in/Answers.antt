@@ -1,5 +1,8 @@
-use Rattle.script_lang.proofs.TextLemmas.{line_more}
+use Rattle.script_lang.proofs.Newlines.{first_newline}
 use Rattle.script_lang.proofs.reader.newline_in.Goals as goal
 
-pub loop-at-preserved : goal.loop-at-preserved
-loop-at-preserved c = line_more c.args.bytes.now c.loop-at.at c.loop-at-test.true c.loop-at.invariant c.if-byte-eq10.false
+pub returns-clause-some : goal.returns-clause-some
+returns-clause-some c = (first_newline c.args.bytes.now c.memchr.result c.memchr.ensures).0
+
+pub returns-clause-none : goal.returns-clause-none
+returns-clause-none c = (first_newline c.args.bytes.now c.memchr.result c.memchr.ensures).1
