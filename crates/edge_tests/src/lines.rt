@@ -12,7 +12,6 @@ use script_lang::{
     refused_bytes, reply_bytes,
 };
 use std::alloc::{AllocError, Global};
-use std::process::Abort;
 
 const WORKERS: u32 = 16;
 
@@ -202,74 +201,87 @@ fn is_spelled(said: &Said, line: &[u8]) -> bool {
     n == line.len() && into.get(..n) == Some(line) && into.get(n) == Some(&b'x')
 }
 
-// The reply is the line, and what is behind it in the buffer stands.
-fn says(rt: &impl Abort, session: u32, answer: Answer, line: &[u8])
-    requires { AnswerFits answer }
+// An answer that a script is told.
+enum Told {
+    Begun(u64),
+    Value(u64),
+    NoValue,
+    Was(u64),
+    WasNone,
+    Committed(u64, u64),
+    InTransaction,
+    NoTransaction,
+    TooLong,
+    LogFull(u32, u32),
+    ClockSpent,
+    RowSpent,
+    Full,
+}
+
+static REPLIES: [(u32, Told, &[u8]); 15] = [
+    (1, Told::Begun(1), b"1 begun 1.1\n"),
+    (1, Told::Value(7), b"1 value 7\n"),
+    (1, Told::NoValue, b"1 none\n"),
+    (
+        2,
+        Told::Was(9223372036854775807),
+        b"2 was 9223372036854775807\n",
+    ),
+    (2, Told::WasNone, b"2 was none\n"),
+    (3, Told::Was(0), b"3 was 0\n"),
+    (1, Told::Committed(1, 2), b"1 committed 1.1 at 2\n"),
+    (1, Told::InTransaction, b"1 in-transaction\n"),
+    (2, Told::NoTransaction, b"2 no-transaction\n"),
+    (1, Told::TooLong, b"1 too-long\n"),
+    (1, Told::LogFull(48, 48), b"1 log-full 48 48\n"),
+    (1, Told::ClockSpent, b"1 clock-spent\n"),
+    (1, Told::RowSpent, b"1 row-spent\n"),
+    (1, Told::Full, b"1 full\n"),
+    (
+        4294967295,
+        Told::Committed(18446744073709551615, 18446744073709551615),
+        b"4294967295 committed 4294967295.18446744073709551615 at 18446744073709551615\n",
+    ),
+];
+
+fn answer_of(told: &Told) -> Answer
+    ensures { AnswerFits result }
 {
+    match told {
+        Told::Begun(number) => Answer::Begun { number: *number },
+        Told::Value(value) => Answer::Value(Some(*value)),
+        Told::NoValue => Answer::Value(None),
+        Told::Was(value) => Answer::Was(Some(*value)),
+        Told::WasNone => Answer::Was(None),
+        Told::Committed(number, at) => Answer::Committed {
+            number: *number,
+            at: *at,
+        },
+        Told::InTransaction => Answer::Refused(Refusal::InTransaction),
+        Told::NoTransaction => Answer::Refused(Refusal::NoTransaction),
+        Told::TooLong => Answer::Refused(Refusal::TooLong),
+        Told::LogFull(used, limit) => Answer::Refused(Refusal::LogFull {
+            used: *used,
+            limit: *limit,
+        }),
+        Told::ClockSpent => Answer::Refused(Refusal::ClockSpent),
+        Told::RowSpent => Answer::Refused(Refusal::RowSpent),
+        Told::Full => Answer::Refused(Refusal::Full),
+    }
+}
+
+// The reply is the line, and what is behind it in the buffer stands.
+fn is_reply(session: u32, told: &Told, line: &[u8]) -> bool {
     let mut into = [b'x'; REPLY];
-    let n = reply_bytes(session, &answer, &mut into);
-    let spelled = n == line.len() && into.get(..n) == Some(line) && into.get(n) == Some(&b'x');
-    assert!(rt; spelled, "{line:?}");
+    let n = reply_bytes(session, &answer_of(told), &mut into);
+    n == line.len() && into.get(..n) == Some(line) && into.get(n) == Some(&b'x')
 }
 
 #[test]
 fn replies_are_spelled(rt: HostRuntime) {
-    says(&rt, 1, Answer::Begun { number: 1 }, b"1 begun 1.1\n");
-    says(&rt, 1, Answer::Value(Some(7)), b"1 value 7\n");
-    says(&rt, 1, Answer::Value(None), b"1 none\n");
-    says(
-        &rt,
-        2,
-        Answer::Was(Some(9223372036854775807)),
-        b"2 was 9223372036854775807\n",
-    );
-    says(&rt, 2, Answer::Was(None), b"2 was none\n");
-    says(&rt, 3, Answer::Was(Some(0)), b"3 was 0\n");
-    says(
-        &rt,
-        1,
-        Answer::Committed { number: 1, at: 2 },
-        b"1 committed 1.1 at 2\n",
-    );
-    says(
-        &rt,
-        1,
-        Answer::Refused(Refusal::InTransaction),
-        b"1 in-transaction\n",
-    );
-    says(
-        &rt,
-        2,
-        Answer::Refused(Refusal::NoTransaction),
-        b"2 no-transaction\n",
-    );
-    says(&rt, 1, Answer::Refused(Refusal::TooLong), b"1 too-long\n");
-    says(
-        &rt,
-        1,
-        Answer::Refused(Refusal::LogFull {
-            used: 48,
-            limit: 48,
-        }),
-        b"1 log-full 48 48\n",
-    );
-    says(
-        &rt,
-        1,
-        Answer::Refused(Refusal::ClockSpent),
-        b"1 clock-spent\n",
-    );
-    says(&rt, 1, Answer::Refused(Refusal::RowSpent), b"1 row-spent\n");
-    says(&rt, 1, Answer::Refused(Refusal::Full), b"1 full\n");
-    says(
-        &rt,
-        4294967295,
-        Answer::Committed {
-            number: 18446744073709551615,
-            at: 18446744073709551615,
-        },
-        b"4294967295 committed 4294967295.18446744073709551615 at 18446744073709551615\n",
-    );
+    for (session, told, line) in &REPLIES {
+        assert!(rt; is_reply(*session, told, line), "{line:?}");
+    }
 }
 
 #[test]
