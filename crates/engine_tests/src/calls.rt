@@ -5,7 +5,7 @@ use crate::cases::expect;
 use crate::disks::formatted;
 use engine_trait::calls::{Calls, Unanswered};
 use lean_disk::MemDisk;
-use lean_engine::{Opened, Unopened, open};
+use lean_engine::{Engine, Opened, Size, Unopened};
 use map_model::{Answer, Call, Refusal};
 use std::alloc::{AllocError, Global};
 
@@ -262,7 +262,7 @@ const OPENING: u64 = 41;
 fn is_met(alloc: Global, case: &Case) -> Result<bool, AllocError> {
     let mut disk = formatted(alloc, case.clock)?;
     disk.fail_at(2, Vec::from_slice(alloc, case.failing)?);
-    let mut engine = match open(alloc, disk, 64) {
+    let mut engine = match Engine::open(alloc, disk, Size { rows: 64 }) {
         Ok(
             Opened {
                 engine,

@@ -14,6 +14,8 @@ mod masters;
 #[cfg(test)]
 mod openings;
 #[cfg(test)]
+mod sessions;
+#[cfg(test)]
 mod stores;
 #[cfg(test)]
 mod trees;

@@ -1,5 +1,5 @@
 -- What a caller is told of a call.
-use Rattle.std.proofs.Common.{◌≡◌, ◌⊎◌, inl, inr, ◌↔◌, ℕ, true, false, Option, Result, Ok, Err, IfErr, IfOk, IsErr, IsErrAnd, refl, sym, ap, ◌∙◌, subst, true≢false}
+use Rattle.std.proofs.Common.{◌≡◌, ◌⊎◌, inl, inr, ◌↔◌, ℕ, true, false, ◌∷◌, Option, Result, Ok, Err, IfErr, IfOk, IsErr, IsErrAnd, refl, sym, ap, ◌∙◌, subst, true≢false}
 use Rattle.std.proofs.lemmas.Bool.{cases_Bool}
 use Rattle.map_model.specs.declared.call.Answer.{Answer}
 use Rattle.map_model.specs.declared.call.Answer.TheVariants as answer
@@ -14,8 +14,10 @@ use Rattle.engine_trait.specs.declared.calls.Unanswered.TheVariants as unanswere
 use Rattle.row_engine.specs.Calls.{CallDoes, Comes, DoesOn, begin_answer, commit_answer, get_answer, put_answer}
 use Rattle.row_engine.specs.Puts.{IsEarly, works_after}
 use Rattle.row_engine.specs.declared.commits.Ended.{Ended}
-use Rattle.lean_engine.specs.Calls.{Answered, Asked, Failed, MayBe, told}
-use Rattle.lean_engine.specs.States.{State}
+use Rattle.lean_engine.specs.Calls.{Answered, Asked, Failed, MayBe, began_answer, receipt_answer, told}
+use Rattle.lean_engine.specs.States.{HasRun, State}
+use Rattle.lean_engine.specs.declared.calls.Began.{Began}
+use Rattle.lean_engine.specs.declared.receipts.Receipt.{Receipt}
 
 abbrev no_device : Answer
 no_device = answer.Refused refusal.Broken
@@ -57,6 +59,10 @@ not_broken a is e = no_both unanswered.Broken a (sym (ap told e) ∙ is)
 
 not_fault : (a : Answer) → told a ≡ Ok a → a ≡ fault → ⊥
 not_fault a is e = no_both unanswered.DiskFault a (sym (ap told e) ∙ is)
+
+did : (a : Answer) (d f : Type 0) → (a ≡ fault → ⊥) → Comes a d f → d
+did (answer.Refused refusal.DiskFault) d f other x = absurd (other refl)
+did _ d f other x = x
 
 module _ {D : Type 0} (c : Call) (a : Answer) (was is : State D) (old new : Story) (asked : Asked c a was is old new) where
   worked : (a ≡ no_device → ⊥) → was.works ≡ true
@@ -117,6 +123,14 @@ module _ {D : Type 0} (c : Call) (a : Answer) (was is : State D) (old new : Stor
           go (Broken q) = absurd (ok (subst (λ x. IsErr (told x)) (sym q) refl))
           go (Fault q) = absurd (ok (subst (λ x. IsErr (told x)) (sym q) refl))
           go (Came t) = asked.works.1 (worked (not_broken a t.is), not_fault a t.is)
+
+  -- an engine that works on stands in a run, by one outcome more
+  pub runs : (was.works ≡ true → HasRun was.view) → is.works ≡ true → HasRun is.view
+  runs stood w =
+      let p = asked.works.0 w in
+      let run = stood p.0 in
+      let d = did a (DoesOn run.opening run.outcomes c a is.view was.log is.log old new) _ p.1 (asked.does p.0 run.opening run.outcomes run.is.1) in
+      record { opening = run.opening; outcomes = d.does.done ∷ run.outcomes; is = (run.is.0, d.ties) }
 
   pub same : told a ≡ Err unanswered.Broken → is ≡ was
   same e = asked.same (is_broken e)
@@ -232,3 +246,32 @@ module _ {D : Type 0} (was is : State D) (old new : Story) where
   pub commit_asked : (r : Result Ended Refusal) → (was.works ≡ true → CallDoes Call.Commit (commit_answer r) was.view is.view was.log is.log old new) → IsTellable r → (r ≡ Err refusal.Broken → is ≡ was)
       → (is.works ≡ true) ↔ ((was.works ≡ true) × (r ≡ Err refusal.DiskFault → ⊥)) → (r ≡ Err refusal.Broken) ↔ (was.works ≡ false) → (a : Answer) → commit_answer r ≡ a → Asked Call.Commit a was is old new
   commit_asked = asked_of Call.Commit commit_answer commits was is old new
+
+-- ## Answers of an engine's calls
+
+began : IsAnswer began_answer
+began = record { refused = λ q. refl; come = λ x. tt; apart = λ x q e. absurd (cc) }
+
+receipts : IsAnswer receipt_answer
+receipts = record { refused = λ q. refl; come = λ x. tt; apart = λ x q e. absurd (cc) }
+
+-- a fault of the disk, as an answer
+module _ {T : Type 0} (f : Result T Refusal → Answer) (k : IsAnswer f) (was is : ℕ) (r : Result T Refusal) (h : HasCause was is (r ≡ Err refusal.DiskFault)) where
+  cause_of : HasCause was is (f r ≡ answer.Refused refusal.DiskFault)
+  cause_of = record { later = h.later; cause = λ e. h.cause (refusal_of r e); calm = λ never. h.calm (λ q. never (ap f q ∙ k.refused refusal.DiskFault)) }
+    where
+      refusal_of : (x : Result T Refusal) → f x ≡ answer.Refused refusal.DiskFault → x ≡ Err refusal.DiskFault
+      refusal_of (Ok x) e = absurd (k.apart x refusal.DiskFault e)
+      refusal_of (Err why) e = ap Err (refused_is why refusal.DiskFault (sym (k.refused why) ∙ e))
+
+pub begin_cause : (was is : ℕ) (r : Result Began Refusal) → HasCause was is (r ≡ Err refusal.DiskFault) → HasCause was is (began_answer r ≡ answer.Refused refusal.DiskFault)
+begin_cause = cause_of began_answer began
+
+pub get_cause : (was is : ℕ) (r : Result (Option ℕ) Refusal) → HasCause was is (r ≡ Err refusal.DiskFault) → HasCause was is (get_answer r ≡ answer.Refused refusal.DiskFault)
+get_cause = cause_of get_answer gets
+
+pub put_cause : (was is : ℕ) (r : Result (Option ℕ) Refusal) → HasCause was is (r ≡ Err refusal.DiskFault) → HasCause was is (put_answer r ≡ answer.Refused refusal.DiskFault)
+put_cause = cause_of put_answer puts
+
+pub commit_cause : (was is : ℕ) (r : Result Receipt Refusal) → HasCause was is (r ≡ Err refusal.DiskFault) → HasCause was is (receipt_answer r ≡ answer.Refused refusal.DiskFault)
+commit_cause = cause_of receipt_answer receipts

@@ -59,4 +59,5 @@ module _ (law : EveryOpened) (r : Recovered) (log : Log) (made : IsMadeBy r.mast
     fits = fits;
     holds = λ _. subst (λ (y : Shape). Holds y v x log) same both.0;
     unmarked = λ _. free ∙ ap (λ n. replicate n false) (sym on.rows);
+    run = λ _. record { opening = g; outcomes = []; is = (on.workers, both.1) };
   }

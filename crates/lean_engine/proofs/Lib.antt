@@ -2,3 +2,4 @@ pub mod OpeningLemmas
 pub mod PageLemmas
 pub mod EngineLemmas
 pub mod CallLemmas
+pub mod ReceiptLemmas

@@ -3,6 +3,7 @@ use Rattle.std.specs.Prelude.{◌≡◌, ◌↔◌, true, false, List, ◌∷◌
 use Rattle.map_model.specs.declared.call.Answer.{Answer}
 use Rattle.map_model.specs.declared.call.Answer.TheVariants as answer
 use Rattle.map_model.specs.declared.call.Call.{Call}
+use Rattle.map_model.specs.declared.call.Refusal.{Refusal}
 use Rattle.map_model.specs.declared.call.Refusal.TheVariants as refusal
 use Rattle.core_state.specs.Openings.{Opening}
 use Rattle.core_calls.specs.Fronts.{Done}
@@ -12,6 +13,8 @@ use Rattle.engine_trait.specs.declared.calls.Unanswered.{Unanswered}
 use Rattle.engine_trait.specs.declared.calls.Unanswered.TheVariants as unanswered
 use Rattle.row_engine.specs.Calls.{CallDoes}
 use Rattle.lean_engine.specs.States.{InRun, State}
+use Rattle.lean_engine.specs.declared.calls.Began.{Began}
+use Rattle.lean_engine.specs.declared.receipts.Receipt.{Receipt}
 
 -- the answer, or why there is none
 abbrev pub told : Answer → Result Answer Unanswered
@@ -24,6 +27,18 @@ abbrev pub MayBe : Answer → Type 0
 MayBe (answer.Refused refusal.Broken) = Unit {0}
 MayBe (answer.Refused refusal.DiskFault) = Unit {0}
 MayBe a = HasCome a
+
+-- ## Results as answers
+
+abbrev pub began_answer : Result Began Refusal → Answer
+began_answer (Ok began) = answer.Begun began.number
+began_answer (Err why) = answer.Refused why
+
+abbrev pub receipt_answer : Result Receipt Refusal → Answer
+receipt_answer (Ok receipt) = answer.Committed receipt.txn receipt.gsn
+receipt_answer (Err why) = answer.Refused why
+
+-- ## A call
 
 -- One call, which took the engine from one state to another.
 pub record Asked {D : Type 0} (c : Call) (a : Answer) (was is : State D) (old new : Story) : Type 0 where

@@ -22,9 +22,16 @@ pub record State (D : Type 0) : Type 0 where
 abbrev pub InRun : View → Opening → List Done → Type 0
 InRun v g xs = (g.workers ≡ 1) × Ties g xs v
 
--- Its parts belong together: the seat to the rows, and while no device has failed, the session and the log to what the seat has seen; and no lock row
--- is latched.
+-- it stands in some run
+pub record HasRun (v : View) : Type 0 where
+  pub opening : Opening
+  pub outcomes : List Done
+  pub is : InRun v opening outcomes
+
+-- Its parts belong together: the seat to the rows, and while no device has failed, the session and the log to what the seat has seen; no lock row
+-- is latched; and it stands in a run.
 pub record IsEngine (frames locks workers : ℕ) (words : List ℕ) (v : View) (x : Session) (log : Log) (marks : List Bool) : Type 0 where
   pub fits : IsPicture (plan (sizes frames locks workers) v.given) words v
   pub holds : x.works ≡ true → Holds (plain_shape frames locks workers) v x log
   pub unmarked : x.works ≡ true → marks ≡ replicate x.held.count false
+  pub run : x.works ≡ true → HasRun v

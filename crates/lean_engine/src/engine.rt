@@ -1,17 +1,13 @@
 // The engine.
 ghost use Rattle.std.specs.Prelude.{◌≡◌, ◌≤◌, ℕ, IfErr, IfOk, MatchResult, true};
-ghost use Rattle.lean_disk.specs.Calls.{Noted};
 ghost use Rattle.lean_disk.specs.Faults.{HasCause};
-ghost use Rattle.lean_edge.specs.Outside.{IsWholeLine, Puts};
 ghost use Rattle.recovery.specs.Opened.{IsRefusal, IsUntouched};
 ghost use Rattle.recovery.specs.declared.opening.Unrecovered.{Unrecovered};
-ghost use Rattle.lean_edge.specs.declared.sink.Put.{Put};
 ghost use Rattle.lean_engine.specs.Openings.{HasOpened, OpenKeeps, Shows};
 
 use crate::opening::{Parts, open_parts};
 use key_locks::latches::Latches;
 use lean_disk::Disk;
-use lean_edge::{Put, Sink};
 use recovery::Unrecovered;
 use row_engine::{Staged, Store};
 use rows_trait::plain::PlainRows;
@@ -51,53 +47,60 @@ pub struct Unopened<D> {
     pub reason: Unrecovered,
 }
 
-/// Opens a disk, with so many lock rows, which keys share.
-pub fn open<D: Disk>(alloc: Global, mut disk: D, locks: u32) -> Result<Opened<D>, Unopened<D>>
-    requires locks { (1 ≤ locks) × (locks ≤ 65536) }
-    ensures opened { IfOk result (λ o. HasOpened locks (D.story disk) (D.story o.engine.disk) o.engine.view o.engine.log o.generation o.winners o.undone) }
-    ensures works { IfOk result (λ o. o.engine.works ≡ true) }
-    ensures keeps { MatchResult result (λ o. OpenKeeps (D.story disk) (D.story o.engine.disk)) (λ u. OpenKeeps (D.story disk) (D.story u.disk)) }
-
-    // A disk that is refused is left as it was.
-    ensures left { IfErr result (λ u. IsRefusal u.reason → (a : ℕ) → IsUntouched ((D.story disk).area a) ((D.story u.disk).area a)) }
-    ensures shown { IfErr result (λ u. Shows (D.story disk) u.reason) }
-    ensures cause_disk_fault { IfErr result (λ u. HasCause (D.faults disk) (D.faults u.disk) (u.reason ≡ Unrecovered.DiskFault)) }
-    ensures no_fault { IfOk result (λ o. D.faults o.engine.disk ≡ D.faults disk) }
-{
-    let made = match open_parts(alloc, &mut disk, locks) {
-        Ok(made) => made,
-        Err(reason) => return Err(Unopened { disk, reason }),
-    };
-    let Parts {
-        rows,
-        seat,
-        session,
-        log,
-        latches,
-        generation,
-        winners,
-        undone,
-    } = made;
-    let store = Store {
-        disk,
-        log,
-        session,
-        staged: Staged::of::<Brand>(),
-    };
-    Ok(Opened {
-        engine: Engine {
-            rows,
-            seat,
-            store,
-            latches,
-        },
-        generation,
-        winners,
-        undone,
-    })
+/// How large an engine is: how many lock rows there are, which keys share. There are as many frames as pages, and each commit is
+/// flushed.
+#[derive(Clone, Copy, Debug, PartialEq, Eq)]
+pub struct Size {
+    pub rows: u32,
 }
 
 impl<D: Disk> Engine<D> {
+    /// Opens a disk.
+    pub fn open(alloc: Global, mut disk: D, size: Size) -> Result<Opened<D>, Unopened<D>>
+        requires rows { (1 ≤ size.rows) × (size.rows ≤ 65536) }
+        ensures opened { IfOk result (λ o. HasOpened size.rows (D.story disk) (D.story o.engine.disk) o.engine.view o.engine.log o.generation o.winners o.undone) }
+        ensures works { IfOk result (λ o. o.engine.works ≡ true) }
+        ensures keeps { MatchResult result (λ o. OpenKeeps (D.story disk) (D.story o.engine.disk)) (λ u. OpenKeeps (D.story disk) (D.story u.disk)) }
+
+        // A disk that is refused is left as it was.
+        ensures left { IfErr result (λ u. IsRefusal u.reason → (a : ℕ) → IsUntouched ((D.story disk).area a) ((D.story u.disk).area a)) }
+        ensures shown { IfErr result (λ u. Shows (D.story disk) u.reason) }
+        ensures cause_disk_fault { IfErr result (λ u. HasCause (D.faults disk) (D.faults u.disk) (u.reason ≡ Unrecovered.DiskFault)) }
+        ensures no_fault { IfOk result (λ o. D.faults o.engine.disk ≡ D.faults disk) }
+    {
+        let made = match open_parts(alloc, &mut disk, size.rows) {
+            Ok(made) => made,
+            Err(reason) => return Err(Unopened { disk, reason }),
+        };
+        let Parts {
+            rows,
+            seat,
+            session,
+            log,
+            latches,
+            generation,
+            winners,
+            undone,
+        } = made;
+        let store = Store {
+            disk,
+            log,
+            session,
+            staged: Staged::of::<Brand>(),
+        };
+        Ok(Opened {
+            engine: Engine {
+                rows,
+                seat,
+                store,
+                latches,
+            },
+            generation,
+            winners,
+            undone,
+        })
+    }
+
     /// Its disk. What it has in memory is let go.
     pub fn close(self) -> D
         ensures { result ≡ self.disk }
@@ -115,18 +118,5 @@ impl<D: Disk> Engine<D> {
             staged: _,
         } = store;
         disk
-    }
-
-    /// Puts a line into a sink, which its disk notes. Nothing else changes.
-    pub fn put_line<K: Sink<D>>(&mut self, sink: &mut K, line: &[u8]) -> Put
-        requires { IsWholeLine line.now }
-        ensures put { Puts line.now result (K.held sink.old) (K.held sink.new) }
-        ensures noted { result ≡ Put.Done → Noted (D.story self.old.disk) (D.story self.new.disk) }
-        ensures not_noted { result ≡ Put.Failed → self.new ≡ self.old }
-        ensures same { (self.new.view ≡ self.old.view) × (self.new.log ≡ self.old.log) × (self.new.works ≡ self.old.works) × (D.faults self.new.disk ≡ D.faults self.old.disk) }
-
-        ensures cause { HasCause (K.faults sink.old) (K.faults sink.new) (result ≡ Put.Failed) }
-    {
-        sink.put(&mut self.store.disk, line)
     }
 }

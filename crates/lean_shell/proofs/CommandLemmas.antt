@@ -19,7 +19,7 @@ use Rattle.lean_shell.specs.Inside.Commands.{CommandEnds, Counts}
 use Rattle.lean_shell.specs.Words.{Asks, AsksFormat, AsksRun, IsNumberIn}
 use Rattle.lean_shell.specs.declared.words.Command.{Command}
 use Rattle.lean_shell.specs.declared.words.Command.TheVariants.{Format, Run}
-use Rattle.lean_shell.specs.declared.words.Shape.{Shape}
+use Rattle.disk_format.specs.declared.shape.Shape.{Shape}
 use Rattle.lean_shell.proofs.PutLemmas.{IsOfBytes, noted_moments}
 
 -- ## Words

@@ -10,12 +10,12 @@ use Rattle.lean_edge.specs.declared.sink.Put.{Put}
 use Rattle.lean_edge.specs.declared.sink.Put.TheVariants as put
 use Rattle.lean_shell.specs.Endings.{FinishedPut, FormatEnds, IsFormatStatus, WentOut, finished, last_line, number_of}
 use Rattle.lean_disk.specs.Told.{TellsOn, OnlyNotes}
-use Rattle.lean_shell.specs.Formatted.{FormatLeaves, HasMaster, HasPages, IsFormatted, IsMaster, IsNewDisk, IsUntouched, Keeps}
+use Rattle.disk_format.specs.Formatted.{FormatLeaves, HasMaster, HasPages, IsFormatted, IsMaster, IsNewDisk, IsUntouched, Keeps}
 use Rattle.lean_shell.specs.declared.failure.Failure.{Failure}
 use Rattle.lean_shell.specs.declared.failure.Failure.TheVariants.{Usage, DiskFault, Memory, AlreadyFormatted}
-use Rattle.lean_shell.specs.declared.words.Shape.{Shape}
+use Rattle.disk_format.specs.declared.shape.Shape.{Shape}
 use Rattle.lean_disk.proofs.MomentLemmas.{started}
-use Rattle.lean_shell.proofs.CrashLemmas.{not_touched}
+use Rattle.disk_format.proofs.CrashLemmas.{not_touched}
 use Rattle.lean_shell.proofs.PutLemmas.{noted_moments, format_of_bytes}
 
 -- each failure has a status of its own

@@ -1,12 +1,5 @@
 mod CommandLemmas
-mod ComposeLemmas
-mod CrashLemmas
 mod EndLemmas
-mod FormatLemmas
-mod FreshLemmas
-mod MasterLemmas
-mod NewDiskLemmas
 mod NumberLemmas
-mod PieceLemmas
 mod PutLemmas
 mod Runs

@@ -8,9 +8,9 @@ use Rattle.lean_disk.proofs.MomentLemmas.{goes_on_by}
 use Rattle.lean_edge.specs.declared.sink.Put.{Put}
 use Rattle.lean_edge.specs.declared.sink.Put.TheVariants.{Done, Failed}
 use Rattle.image_model.specs.Fair.{piece, IsFair}
-use Rattle.lean_shell.specs.Formatted.{FormatLeaves, HasFairMasters, HasMaster, HasPages, IsFormatted, IsMaster, IsSealedMaster, writes_since}
+use Rattle.disk_format.specs.Formatted.{FormatLeaves, HasFairMasters, HasMaster, HasPages, IsFormatted, IsMaster, IsSealedMaster, writes_since}
 use Rattle.lean_disk.specs.Told.{OnlyNotes}
-use Rattle.lean_shell.specs.declared.words.Shape.{Shape}
+use Rattle.disk_format.specs.declared.shape.Shape.{Shape}
 
 no_notes : (s : Story) → OnlyNotes s s
 no_notes s = record { area = λ a. refl; tells = λ a. refl; areas = refl; counts = refl; later = omega arith; nothing_else = λ m c left. inl left }

@@ -12,8 +12,8 @@ use Rattle.lean_edge.specs.declared.sink.Put.{Put}
 use Rattle.lean_edge.specs.declared.sink.Put.TheVariants as put
 use Rattle.lean_shell.specs.declared.failure.Failure.{Failure}
 use Rattle.lean_shell.specs.declared.failure.Failure.TheVariants.{Usage, DiskFault, Memory, AlreadyFormatted}
-use Rattle.lean_shell.specs.Formatted.{FormatLeaves, HasMaster, IsNewDisk, IsUntouched}
-use Rattle.lean_shell.specs.declared.words.Shape.{Shape}
+use Rattle.disk_format.specs.Formatted.{FormatLeaves, HasMaster, IsNewDisk, IsUntouched}
+use Rattle.disk_format.specs.declared.shape.Shape.{Shape}
 
 -- the status of each failure; 0 is none, and 5 is that of a sink that failed
 abbrev pub number_of : Failure → ℕ

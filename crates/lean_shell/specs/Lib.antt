@@ -1,10 +1,6 @@
--- Of `format` read Words, Fresh, Formatted and Endings, then Laws; of `run` Headline first, with Crashes; then Lines, Starts, Runs and Ends. Inside has the words of private functions.
+-- Of `format` read Words and Endings, behind disk_format's; of `run` Headline first, with Crashes; then Lines, Starts, Runs and Ends. Inside has the words of private functions.
 pub mod Words
-pub mod Pieces
-pub mod Fresh
-pub mod Formatted
 pub mod Endings
-pub mod Laws
 pub mod Lines
 pub mod Crashes
 pub mod Headline

@@ -14,14 +14,14 @@ use crate::lines::put_reason;
 use crate::program::Ended;
 use lean_disk::Disk;
 use lean_edge::{Put, Sink, Source};
-use lean_engine::{Hosts, Opened, Unopened, open};
+use lean_engine::{Engine, Hosts, Opened, Size, Unopened};
 use recovery::Unrecovered;
 use script_lang::LineReader;
 use script_run::{Stop, run_script};
 use std::alloc::Global;
 
-// The lock rows of the engine, which keys share.
-const LOCKS: u32 = 256;
+// How large the engine is.
+const SIZE: Size = Size { rows: 256 };
 
 fn status_of(reason: Unrecovered) -> u8
     ensures { result ≡ status_of reason }
@@ -81,7 +81,7 @@ pub fn run_disk<S: Source, K: Sink<D>, D: Hosts>(
     let Ok(mut reader) = LineReader::new(alloc) else {
         return refuse(Unrecovered::Memory, sink, disk);
     };
-    let opened = match open(alloc, disk, LOCKS) {
+    let opened = match Engine::open(alloc, disk, SIZE) {
         Ok(opened) => opened,
         Err(Unopened { disk, reason }) => return refuse(reason, sink, disk),
     };

@@ -3,16 +3,9 @@ ghost use Rattle.std.specs.Prelude.{◌≡◌, ◌^◌, ◌<◌, ℕ, length, �
 ghost use Rattle.std.specs.Fmt.{decimal};
 ghost use Rattle.lean_shell.specs.Words.{Asks, AsksFormat, AsksRun, HasOptions, IsNumberIn, IsPlain, SpellsShape, texts, word_at};
 ghost use Rattle.lean_shell.specs.declared.words.Command.{Command};
-ghost use Rattle.lean_shell.specs.declared.words.Shape.{Shape};
+ghost use Rattle.disk_format.specs.declared.shape.Shape.{Shape};
 
-/// The numbers that `format` is given.
-#[derive(Clone, Copy, Debug, PartialEq, Eq)]
-pub struct Shape {
-    /// 16 to 4,096.
-    pub pages: u32,
-    /// Blocks of each log, 64 to 4,096.
-    pub blocks: u32,
-}
+use lean_engine::Shape;
 
 /// What the words of a command line ask for.
 #[derive(Clone, Copy, Debug, PartialEq, Eq)]

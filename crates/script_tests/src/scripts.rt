@@ -2,7 +2,7 @@
 use crate::cases::expect;
 use crate::commands::formatted;
 use lean_edge::{MemSink, MemSource};
-use lean_engine::{Opened, Unopened, open};
+use lean_engine::{Engine, Opened, Size, Unopened};
 use script_lang::LineReader;
 use script_run::{Stop, run_script};
 use std::alloc::{AllocError, Global};
@@ -66,7 +66,7 @@ fn is_met<R: Threads + Wait + Sync>(
     let mut sink = MemSink::new(alloc);
     sink.fail_at(Vec::from_slice(alloc, case.failing_puts)?);
     sink.keep_prefix(3);
-    let mut engine = match open(alloc, formatted(rt, alloc)?, 64) {
+    let mut engine = match Engine::open(alloc, formatted(rt, alloc)?, Size { rows: 64 }) {
         Ok(
             Opened {
                 engine,

@@ -8,7 +8,7 @@ use Rattle.lean_shell.specs.Endings.{FormatEnds, IsStatus, UsageEnds}
 use Rattle.lean_shell.specs.Words.{Asks}
 use Rattle.lean_shell.specs.declared.words.Command.{Command}
 use Rattle.lean_shell.specs.declared.words.Command.TheVariants.{Format, Run}
-use Rattle.lean_shell.specs.declared.words.Shape.{Shape}
+use Rattle.disk_format.specs.declared.shape.Shape.{Shape}
 
 -- how often source, sink and disk had failed
 pub record Counts : Type 0 where

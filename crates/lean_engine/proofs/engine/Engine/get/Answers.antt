@@ -1,17 +1,28 @@
-use Rattle.std.proofs.Common.{sym, ap, inl, ◌∙◌, subst}
+use Rattle.std.proofs.Common.{inl, refl, subst, rules}
 use Rattle.map_model.specs.declared.call.Call.TheVariants as calls
 use Rattle.row_engine.specs.Calls.{get_answer}
 use Rattle.lean_engine.specs.Calls.{Asked}
 use Rattle.lean_engine.specs.States.{State}
-use Rattle.lean_engine.proofs.CallLemmas.{get_asked, no_fault_comes, untouched}
+use Rattle.lean_engine.proofs.CallLemmas.{get_asked, no_fault_comes, runs, untouched}
 use Rattle.lean_engine.proofs.engine.Engine.get.Goals as goal
-use Rattle.lean_engine.proofs.engine.Engine.get.Goals.{in-Ok, in-Err}
 
 pub returns-clause-asked : goal.returns-clause-asked
 returns-clause-asked g c =
     let e = c.get.ensures in
     let was : State g.row.D.Denot = record { view = c.self.inside.seat.view; disk = c.self.inside.store.disk; log = c.self.inside.store.log; works = c.self.inside.store.session.works } in
     let new : State g.row.D.Denot = record { view = c.get.new.seat.view; disk = c.get.new.store.disk; log = c.get.new.store.log; works = c.get.new.store.session.works } in
-    subst (λ (s : State g.row.D.Denot). Asked (calls.Get c.args.key) c.match-get.result s new (g.D.Disk.story s.disk) (g.D.Disk.story c.get.new.store.disk)) c.self.view_is
+    subst (λ (s : State g.row.D.Denot). Asked (calls.Get c.args.key) (get_answer c.get.result) s new (g.D.Disk.story s.disk) (g.D.Disk.story c.get.new.store.disk)) c.self.view_is
     (get_asked was new _ _ c.args.key c.get.result e.does (no_fault_comes c.get.result e.come) (λ b. let s = e.same (inl b) in λ i. record { view = s.0 i; disk = (s.1 i).disk; log = (s.1 i).log; works = (s.1 i).session.works }) (untouched was new c.get.result e.same_disk.2 e.no_disk_fault) e.cause_broken
-    c.match-get.result (elim c.match-get.branch [ in-Ok w ↦ ap get_answer w.in-Ok.is ∙ sym w.result-is | in-Err w ↦ ap get_answer w.in-Err.is ∙ sym w.result-is ]))
+    (get_answer c.get.result) refl)
+
+pub invariant_of-self : goal.invariant_of-self
+invariant_of-self g c =
+    let e = c.get.ensures in
+    let was : State g.row.D.Denot = record { view = c.self.inside.seat.view; disk = c.self.inside.store.disk; log = c.self.inside.store.log; works = c.self.inside.store.session.works } in
+    let new : State g.row.D.Denot = record { view = c.get.new.seat.view; disk = c.get.new.store.disk; log = c.get.new.store.log; works = c.get.new.store.session.works } in
+    record {
+      fits = search rules;
+      holds = search rules;
+      unmarked = search rules;
+      run = runs (calls.Get c.args.key) (get_answer c.get.result) was new (g.D.Disk.story c.self.inside.store.disk) (g.D.Disk.story c.get.new.store.disk) (get_asked was new _ _ c.args.key c.get.result e.does (no_fault_comes c.get.result e.come) (λ b. let s = e.same (inl b) in λ i. record { view = s.0 i; disk = (s.1 i).disk; log = (s.1 i).log; works = (s.1 i).session.works }) (untouched was new c.get.result e.same_disk.2 e.no_disk_fault) e.cause_broken (get_answer c.get.result) refl) c.self.invariant.run;
+    }

@@ -1,0 +1,7 @@
+mod ComposeLemmas
+pub mod CrashLemmas
+mod FormatLemmas
+mod FreshLemmas
+mod MasterLemmas
+mod NewDiskLemmas
+mod PieceLemmas

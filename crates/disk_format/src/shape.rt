@@ -1,0 +1,10 @@
+// The numbers of a disk.
+
+/// The numbers that `format` is given.
+#[derive(Clone, Copy, Debug, PartialEq, Eq)]
+pub struct Shape {
+    /// 16 to 4,096.
+    pub pages: u32,
+    /// Blocks of each log, 64 to 4,096.
+    pub blocks: u32,
+}
