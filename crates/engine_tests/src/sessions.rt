@@ -126,6 +126,11 @@ const SHAPE: Shape = Shape {
     blocks: 64,
 };
 
+fn formats(alloc: Global, disk: &mut MemDisk) -> Result<Formatted, AllocError> {
+    let mut buffer = vec![in alloc; 0; 65536]?;
+    Ok(format(disk, SHAPE, &mut buffer))
+}
+
 // Whether a disk is formatted so, once and again, where these calls of its pages fail.
 fn is_formatted(
     alloc: Global,
@@ -133,10 +138,9 @@ fn is_formatted(
     failing: &[u64],
     wants: &[Formatted],
 ) -> Result<bool, AllocError> {
-    let mut buffer = vec![in alloc; 0; 65536]?;
     disk.fail_at(1, Vec::from_slice(alloc, failing)?);
     for want in wants {
-        if format(disk, SHAPE, &mut buffer) != *want {
+        if formats(alloc, disk)? != *want {
             return Ok(false);
         }
     }
