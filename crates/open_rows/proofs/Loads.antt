@@ -1,7 +1,8 @@
--- The loads of all levels, the greatest first: each need is met, and then each live page is hot in the frame of its own number.
+-- The loads of all levels, the greatest first, and of the free pages behind them: each need is met, and then each page is hot in the frame
+-- of its own number.
 use Rattle.std.proofs.Common.{◌≡◌, ◌<◌, ◌≤◌, ◌+◌, ◌&&◌, ◌||◌, ◌==◌, not, ltb, leb, ℕ, zero, suc, Bool, true, false, List, [], ◌∷◌, ◌++◌, length, refl, sym, ap, ◌∙◌, subst, true≢false, arith}
 use Rattle.std.specs.Prelude.{if◌then◌else◌}
-use Rattle.std.proofs.lemmas.Bool.{lt-ltb, eqb-true, and_parts, not-true, and_from, or_left, or_right, cond-true, cond-false}
+use Rattle.std.proofs.lemmas.Bool.{lt-ltb, le-ltb, eqb-true, and_parts, not-true, and_from, or_left, or_right, cond-true, cond-false}
 use Rattle.std.proofs.lemmas.Bool.Decides.{nat_tests}
 use Rattle.map_model.specs.Lists.{upd}
 use Rattle.page_model.specs.Nodes.{Node}
@@ -23,7 +24,7 @@ use Rattle.row_words.specs.Moments.{Moment, page_in, first_state, events_of}
 use Rattle.row_words.specs.Moments as moments
 use Rattle.row_words.specs.Openings.{opening}
 use Rattle.row_words.specs.Sealed.{begun}
-use Rattle.open_rows.specs.Opened.{comes, loads_at, loads}
+use Rattle.open_rows.specs.Opened.{comes, loads_at, loads, frees}
 
 -- ## Tests
 
@@ -73,6 +74,20 @@ at_first live level n q = same_tests (in_by live level n 0 q) (in_from live leve
 
 at_last : (live : Bool) (level n p q : ℕ) → (live ≡ true → q < p) → in_by live level n p q ≡ in_from live level n q
 at_last live level n p q h = same_tests (in_by live level n p q) (in_from live level n q) (λ t. grind (arith, nat_tests)) (λ t. grind (arith, nat_tests))
+
+-- page p, which is free, comes in behind the free ones below it
+one_free : (live : Bool) (p q : ℕ) → (live || ltb q (suc p)) ≡ ((live || ltb q p) || (q == p))
+one_free live p q = same_tests (live || ltb q (suc p)) ((live || ltb q p) || (q == p)) (λ t. grind (arith, nat_tests)) (λ t. grind (arith, nat_tests))
+
+-- page p does not: it is live
+no_free : (live : Bool) (p q : ℕ) → (q ≡ p → live ≡ true) → (live || ltb q (suc p)) ≡ (live || ltb q p)
+no_free live p q h = same_tests (live || ltb q (suc p)) (live || ltb q p) (λ t. grind (arith, nat_tests)) (λ t. grind (arith, nat_tests))
+
+at_first_free : (live : Bool) (q : ℕ) → (live || ltb q 0) ≡ live
+at_first_free live q = same_tests (live || ltb q 0) live (λ t. grind (arith, nat_tests)) (λ t. grind (arith, nat_tests))
+
+at_last_free : (live : Bool) (n q : ℕ) → (live ≡ true → q < n) → (live || ltb q n) ≡ ltb q n
+at_last_free live n q h = same_tests (live || ltb q n) (ltb q n) (λ t. grind (arith, nat_tests)) (λ t. grind (arith, nat_tests))
 
 -- ## States
 
@@ -281,13 +296,68 @@ module _ (v : Given) (tree : IsTree (opening v).format (node_in v.pages)) (some 
       all_in : (l : Bool) (k q : ℕ) → in_from l k 0 q ≡ l
       all_in l k q = same_tests (in_from l k 0 q) l (λ t. grind (arith, nat_tests)) (λ t. grind (arith, nat_tests))
 
-  module _ (all : v.before ≡ loads 8 v.pages) where
-    pub begins : begun v ≡ at v (λ q. (node q).live)
+  -- ## Free pages
+
+  -- each live page is hot, and of the free ones those below p
+  abbrev with_free : ℕ → ℕ → Bool
+  with_free p q = (node q).live || ltb q p
+
+  -- no page names a free one
+  free_loaded : (p : ℕ) → p < length v.pages → (node p).live ≡ false → Loaded (told.Load p p ∷ []) (with_free p) (with_free (suc p))
+  free_loaded p within free = record {
+    met = (may_load (with_free p) p within off parents, tt);
+    comes_to = after (with_free p) p within off parents ∙ ap (at v) (same_hot (λ q. with_free p q || (q == p)) (with_free (suc p)) (λ q. sym (one_free (node q).live p q)));
+  }
+    where
+      off : with_free p p ≡ false
+      off = ap (λ b. b || ltb p p) free ∙ le-ltb p p (omega arith)
+
+      parents : (q : ℕ) → q < g.format.pages → names_page (node q) p ≡ true → with_free p q ≡ true
+      parents q l named =
+          let z = names_to (node q) p named in
+          let c = tree.down q l z.0 z.1 in
+          absurd (true≢false (sym c.live ∙ (ap (λ c. (node c).live) z.2 ∙ free)))
+
+  -- page p stands first
+  free_or_not : (p : ℕ) (x : plain.Page) (xs : List plain.Page) → p < length v.pages → page_in (x ∷ xs) 0 ≡ page_in v.pages p → Loaded (frees (suc p) xs) (with_free (suc p)) (with_free (length v.pages)) →
+      (b : Bool) → x.live ≡ b → Loaded (if b then frees (suc p) xs else told.Load p p ∷ frees (suc p) xs) (with_free p) (with_free (length v.pages))
+  free_or_not p x xs within here rest true e = subst (λ f. Loaded (frees (suc p) xs) f (with_free (length v.pages))) (same_hot (with_free (suc p)) (with_free p) (λ q. no_free (node q).live p q
+      (λ s. ap (λ z. (node z).live) s ∙ (sym (ap (λ z. z.node.live) here) ∙ e)))) rest
+  free_or_not p x xs within here rest false e = both (told.Load p p ∷ []) (frees (suc p) xs) (with_free p) (with_free (suc p)) (with_free (length v.pages))
+      (free_loaded p within (sym (ap (λ z. z.node.live) here) ∙ e)) rest
+
+  free_from : (p : ℕ) (xs : List plain.Page) → p + length xs ≡ length v.pages → ((i : ℕ) → page_in xs i ≡ page_in v.pages (p + i)) → Loaded (frees p xs) (with_free p) (with_free (length v.pages))
+  free_from p [] size same = let e : p ≡ length v.pages = omega arith in none_loaded (with_free p) (with_free (length v.pages)) (λ q. ap (λ z. with_free z q) e)
+  free_from p (x ∷ xs) size same =
+      let e : p + 0 ≡ p = omega arith in
+      let rest = free_from (suc p) xs (omega arith) (λ i. let e : p + suc i ≡ suc p + i = omega arith in same (suc i) ∙ ap (page_in v.pages) e) in
+      free_or_not p x xs (omega arith) (same 0 ∙ ap (page_in v.pages) e) rest x.live refl
+
+  -- ## All pages
+
+  abbrev every_load : List Event
+  every_load = loads 8 v.pages ++ frees 0 v.pages
+
+  -- each page is hot
+  abbrev among : ℕ → Bool
+  among q = ltb q (length v.pages)
+
+  loaded_all : Loaded every_load (from_level 8) among
+  loaded_all = both (loads 8 v.pages) (frees 0 v.pages) (from_level 8) (from_level 0) among (levels 8)
+      (subst (λ (z : (ℕ → Bool) × (ℕ → Bool)). Loaded (frees 0 v.pages) z.0 z.1) (λ i. (first i, last i)) (free_from 0 v.pages (omega arith) (λ i. let e : 0 + i ≡ i = omega arith in ap (page_in v.pages) (sym e))))
+    where
+      first : with_free 0 ≡ from_level 0
+      first = same_hot (with_free 0) (from_level 0) (λ q. at_first_free (node q).live q ∙ sym (ends q))
+
+      last : with_free (length v.pages) ≡ among
+      last = same_hot (with_free (length v.pages)) among (λ q. at_last_free (node q).live (length v.pages) q (live_below v.pages q))
+
+  module _ (all : v.before ≡ every_load) where
+    pub begins : begun v ≡ at v among
     unfolding begun
     begins =
         ap (λ es. moments.run g (record { core = first_state v; answer = λ _. 0 }) es) all
-        ∙ (ap (λ s. moments.run g (record { core = s; answer = λ _. 0 }) (loads 8 v.pages)) (sym starts)
-        ∙ ((levels 8).comes_to ∙ ap (at v) (same_hot (from_level 0) (λ q. (node q).live) ends)))
+        ∙ (ap (λ s. moments.run g (record { core = s; answer = λ _. 0 }) every_load) (sym starts) ∙ loaded_all.comes_to)
 
     pub met : AllMet g (first_state v) (events_of v.before)
-    met = subst (λ es. AllMet g (first_state v) (events_of es)) (sym all) (subst (λ s. AllMet g s (events_of (loads 8 v.pages))) starts (levels 8).met)
+    met = subst (λ es. AllMet g (first_state v) (events_of es)) (sym all) (subst (λ s. AllMet g s (events_of every_load)) starts loaded_all.met)

@@ -1,6 +1,6 @@
 -- What is given of pages: the pages as they are, and an opening of the core that opens so.
-use Rattle.std.proofs.Common.{◌≡◌, ◌<◌, ◌≤◌, ◌-◌, ◌^◌, ℕ, zero, suc, true, List, [], ◌∷◌, length, refl, sym, ap, subst, ◌∙◌, inl, inr, arith}
-use Rattle.std.proofs.lemmas.Bool.{cases_lt, cases_Bool, ltb-true}
+use Rattle.std.proofs.Common.{◌≡◌, ◌<◌, ◌≤◌, ◌-◌, ◌^◌, ltb, ℕ, zero, suc, true, List, Some, None, slice_get, [], ◌∷◌, length, refl, sym, ap, subst, ◌∙◌, inl, inr, arith}
+use Rattle.std.proofs.lemmas.Bool.{cases_lt, cases_Bool, lt-ltb, le-ltb, ltb-true}
 use Rattle.image_model.specs.Entries.{Contents}
 use Rattle.page_model.specs.Pairs.{Pair}
 use Rattle.page_model.specs.Nodes.{Node, free}
@@ -36,6 +36,18 @@ pub page_behind : (pages : List Page) (p : ℕ) → length pages ≤ p → page_
 page_behind [] p h = refl
 page_behind (x ∷ xs) zero h = absurd (omega arith)
 page_behind (x ∷ xs) (suc p) h = page_behind xs p (omega arith)
+
+-- what stands in the list
+pub some_at : (pages : List Page) (p : ℕ) → p < length pages → slice_get pages p ≡ Some (page_at pages p)
+some_at [] p h = absurd (omega arith)
+some_at (x ∷ xs) zero h = refl
+some_at (x ∷ xs) (suc p) h = some_at xs p (omega arith)
+
+-- behind the last page nothing does
+pub none_at : (pages : List Page) (p : ℕ) → length pages ≤ p → slice_get pages p ≡ None
+none_at [] p h = refl
+none_at (x ∷ xs) zero h = absurd (omega arith)
+none_at (x ∷ xs) (suc p) h = none_at xs p (omega arith)
 
 module _ (pages : List Page) (workers base : ℕ) (are : ArePages pages base) where
   gsn_low : (p : ℕ) → (page_at pages p).gsn ≤ base
@@ -89,7 +101,7 @@ module _ (pages : List Page) (workers base : ℕ) (are : ArePages pages base) wh
         let P : ℕ × (ℕ → Node) → Type 0 = λ z. IsTree (format_of z.0) z.1 in
         subst P (λ i. (e i, nodes i)) are.tree
 
-    pub began : begun v ≡ record { core = stands v (λ q. (node_in v.pages q).live); answer = λ _. 0 }
+    pub began : begun v ≡ record { core = stands v (λ q. ltb q (length v.pages)); answer = λ _. 0 }
     began = begins v tree many fits refl
 
     abbrev start : Opening
@@ -125,13 +137,10 @@ module _ (pages : List Page) (workers base : ℕ) (are : ArePages pages base) wh
       logs = λ p. let a = log_low p in let b = ap (λ (c : Contents). c.last) (page_back pages p) in omega arith;
     }
 
-    live_same : (p : ℕ) → (node_in v.pages p).live ≡ (page_at pages p).node.live
-    live_same p = ap (λ c. c.node.live) (page_back pages p)
-
     pub opened : IsOpened pages v
     opened = record {
-      hot = λ p t. ap (λ m. m.core.place p) began ∙ ap (λ b. place_of b p) (live_same p ∙ t);
-      cold = λ p f. ap (λ m. m.core.place p) began ∙ ap (λ b. place_of b p) (live_same p ∙ f);
+      hot = λ p l. ap (λ m. m.core.place p) began ∙ ap (λ b. place_of b p) (lt-ltb p (length v.pages) (let a = pages_long pages in omega arith));
+      cold = λ p h. ap (λ m. m.core.place p) began ∙ ap (λ b. place_of b p) (le-ltb p (length v.pages) (let a = pages_long pages in omega arith));
       page = λ p. ap (λ m. m.core.page p) began ∙ page_back pages p;
       rest = subst (λ (m : Moment). m ≡ record { core = record (first_state v) { place = m.core.place }; answer = λ _. 0 }) (sym began) refl;
       met = met v tree many fits refl;

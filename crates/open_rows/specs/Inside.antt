@@ -1,5 +1,5 @@
 -- Words of private functions: the words of a frame row, and of a worker.
-use Rattle.std.specs.Prelude.{◌≡◌, ◌<◌, ◌≤◌, ◌+◌, ◌*◌, ◌^◌, ◌⊎◌, ℕ, zero, suc, ltb, true, List, [], ◌∷◌, ◌++◌, length, replicate, slice_index, if◌then◌else◌}
+use Rattle.std.specs.Prelude.{◌≡◌, ◌<◌, ◌≤◌, ◌+◌, ◌*◌, ◌^◌, ◌⊎◌, ℕ, zero, suc, ltb, true, List, [], ◌∷◌, ◌++◌, Option, Some, None, length, replicate, slice_index, if◌then◌else◌}
 use Rattle.page_model.specs.Pairs.{Pair}
 use Rattle.page_model.specs.Page.{Page, with_pairs}
 use Rattle.btree_node.specs.Words.{words_of, pair_words}
@@ -29,9 +29,10 @@ ArePlain (suc n) (k ∷ w ∷ ws) = (w < 2 ^ 63) × ArePlain n ws
 abbrev pub HasPlain : Page → Type 0
 HasPlain p = ltb 0 p.node.level ≡ true → ArePlain (length p.node.pairs) (pair_words p.node.pairs)
 
--- a row with its latch: of a live page its words, no hint, and its number; of any other frame the mark
-abbrev pub frame_row : Page → List ℕ
-frame_row p = if p.node.live then 0 ∷ words_of (linked_page p) ++ (2 ^ 63 ∷ p.gsn ∷ []) else replicate 127 0 ++ ((2 ^ 63 + 1) ∷ 0 ∷ [])
+-- a row with its latch: of a page its words, no hint, and its number; where there is none the mark
+abbrev pub frame_row : Option Page → List ℕ
+frame_row (Some p) = 0 ∷ words_of (linked_page p) ++ (2 ^ 63 ∷ p.gsn ∷ [])
+frame_row None = replicate 127 0 ++ ((2 ^ 63 + 1) ∷ 0 ∷ [])
 
 -- the words of a worker: flushed number, last end number, outside, no answer
 abbrev pub worker_row : ℕ → List ℕ

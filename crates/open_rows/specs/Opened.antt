@@ -1,5 +1,5 @@
 -- What plain rows begin with that are opened from pages.
-use Rattle.std.specs.Prelude.{◌≡◌, ◌<◌, ◌≤◌, ◌++◌, ◌&&◌, ◌==◌, ℕ, zero, suc, Bool, true, false, not, List, [], ◌∷◌, Option, Some, None, length, slice_get, if◌then◌else◌}
+use Rattle.std.specs.Prelude.{◌≡◌, ◌<◌, ◌≤◌, ◌++◌, ◌&&◌, ◌==◌, ℕ, zero, suc, Bool, not, List, [], ◌∷◌, Option, Some, None, length, slice_get, if◌then◌else◌}
 use Rattle.page_model.specs.Pairs.{Pair}
 use Rattle.page_model.specs.Nodes.{free}
 use Rattle.page_model.specs.Page.{Page, new_page}
@@ -67,9 +67,14 @@ abbrev pub loads : ℕ → List plain.Page → List Event
 loads zero xs = []
 loads (suc n) xs = loads_at n 0 xs ++ loads n xs
 
--- the pages as they are, and loads of all levels, 7 to 0
+-- each free page, of those from page p on, is loaded into the frame of its own number
+abbrev pub frees : ℕ → List plain.Page → List Event
+frees p [] = []
+frees p (x ∷ xs) = if x.live then frees (suc p) xs else told.Load p p ∷ frees (suc p) xs
+
+-- the pages as they are, and loads of all levels, 7 to 0, and of the free pages behind them
 abbrev pub given_of : (frames locks workers base : ℕ) → List Page → Given
-given_of frames locks workers base pages = record { workers = workers; frames = frames; rows = locks; base = base; pages = pages_of pages; before = loads 8 (pages_of pages) }
+given_of frames locks workers base pages = record { workers = workers; frames = frames; rows = locks; base = base; pages = pages_of pages; before = loads 8 (pages_of pages) ++ frees 0 (pages_of pages) }
 
 -- ## The moment at which the rows begin
 
@@ -77,10 +82,11 @@ given_of frames locks workers base pages = record { workers = workers; frames = 
 abbrev pub contents_of : Page → Contents
 contents_of x = record { gsn = x.gsn; last = x.last_log; node = x.node }
 
--- each live page is hot in the frame of its own number, the others are in none, and each page is as it was given
+-- each page, also a free one, is hot in the frame of its own number, and each is as it was given
 pub record IsOpened (pages : List Page) (v : Given) : Type 0 where
-  pub hot : (p : ℕ) → (page_at pages p).node.live ≡ true → (begun v).core.place p ≡ Place.Hot p
-  pub cold : (p : ℕ) → (page_at pages p).node.live ≡ false → (begun v).core.place p ≡ Place.Cold
+  pub hot : (p : ℕ) → p < length pages → (begun v).core.place p ≡ Place.Hot p
+  -- what is behind the last page is in no frame
+  pub cold : (p : ℕ) → length pages ≤ p → (begun v).core.place p ≡ Place.Cold
   pub page : (p : ℕ) → (begun v).core.page p ≡ contents_of (page_at pages p)
   -- but for the places all is as before the loads, each of which found its need met
   pub rest : begun v ≡ record { core = record (first_state v) { place = (begun v).core.place }; answer = λ _. 0 }

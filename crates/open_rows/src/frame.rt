@@ -1,5 +1,5 @@
 // The words of frame rows.
-ghost use Rattle.std.specs.Prelude.{◌≡◌, ◌+◌, ◌*◌, ◌<◌, ◌≤◌, ◌^◌, ◌++◌, ◌∷◌, [], true, length, replicate};
+ghost use Rattle.std.specs.Prelude.{◌≡◌, ◌+◌, ◌*◌, ◌<◌, ◌≤◌, ◌^◌, ◌++◌, ◌∷◌, [], length, replicate, slice_get};
 ghost use Rattle.btree_node.specs.Words.{words_of};
 ghost use Rattle.open_rows.specs.Opened.{page_at};
 ghost use Rattle.open_rows.specs.Inside.{linked_page, turned, ArePlain, HasPlain, frame_row, AreTiled};
@@ -15,14 +15,14 @@ const NO_HINT: u64 = 1 << 63;
 /// The word that names frame 0 in place of a page.
 const FRAME: u64 = 1 << 63;
 
-/// Sets the words of each frame row: a live page stands in the frame of its own number, and the other frames are empty. The rows lie
-/// from `first` on, each behind its latch.
+/// Sets the words of each frame row: each page stands in the frame of its own number, and the frames behind the last one are empty. The
+/// rows lie from `first` on, each behind its latch.
 pub(crate) fn set_frames(words: &mut [u64], first: usize, frames: u32, pages: &[Node])
     requires size { first + 129 * frames ≤ length words.old }
     requires few { first + 129 * frames < 2 ^ 63 }
     requires zeros { words.old ≡ replicate (length words.old) 0 }
     requires children { (p : _) → HasPlain (page_at pages.now p) }
-    ensures { AreTiled (λ p. frame_row (page_at pages.now p)) first 129 frames words.old words.new }
+    ensures { AreTiled (λ p. frame_row (slice_get pages.now p)) first 129 frames words.old words.new }
 {
     for frame in 0..frames as usize {
         let at = first + 129 * frame;
@@ -34,16 +34,16 @@ pub(crate) fn set_frames(words: &mut [u64], first: usize, frames: u32, pages: &[
 fn set_frame(row: &mut [u64], pages: &[Node], frame: usize)
     requires zeros { row.old ≡ replicate 129 0 }
     requires children { HasPlain (page_at pages.now frame) }
-    ensures { row.new ≡ frame_row (page_at pages.now frame) }
+    ensures { row.new ≡ frame_row (slice_get pages.now frame) }
 {
-    if frame < pages.len() && pages[frame].is_live() {
+    if frame < pages.len() {
         set_page(row, &pages[frame]);
     } else {
         row[127] = MARK;
     }
 }
 
-/// Sets the words of a live page, which was saved as it stands. Its children stand in the frames of their own numbers.
+/// Sets the words of a page, which was saved as it stands. Its children stand in the frames of their own numbers.
 fn set_page(row: &mut [u64], page: &Node)
     requires zeros { row.old ≡ replicate 129 0 }
     requires children { HasPlain page.now }

@@ -1,4 +1,4 @@
-//! Plain rows from the pages that an opening gives: each live page stands in the frame of its own number.
+//! Plain rows from the pages that an opening gives: each page, also a free one, stands in the frame of its own number.
 //! Read specs/Opened.antt: what the rows begin with, and the moment at which they begin.
 #![tactic(auto)]
 
@@ -19,8 +19,8 @@ use std::alloc::{AllocError, Global};
 use std::marker::Brand;
 use worker::set_workers;
 
-/// Plain rows in which each live page stands in the frame of its own number, and their seat. Every other frame is empty. There are
-/// `locks` lock rows, and numbers are drawn above `base`. The one error is that memory is refused.
+/// Plain rows in which each page, also a free one, stands in the frame of its own number, and their seat. The frames behind the last
+/// page are empty. There are `locks` lock rows, and numbers are drawn above `base`. The one error is that memory is refused.
 pub fn open_rows(
     alloc: Global,
     pages: &[Node],

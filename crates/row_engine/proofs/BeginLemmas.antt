@@ -11,7 +11,7 @@ use Rattle.map_model.specs.Pairings.{is_last_refusal}
 use Rattle.rfa_model.specs.Reaches.{least}
 use Rattle.rfa_model.specs.Stamps.{debt_at_begin}
 use Rattle.core_state.specs.Openings.{Opening}
-use Rattle.core_state.specs.States.{State, flushed_by_all, is_hot}
+use Rattle.core_state.specs.States.{State, flushed_by_all}
 use Rattle.core_state.specs.Events as happening
 use Rattle.core_state.specs.Needs.{may, holds_row}
 use Rattle.core_state.specs.Steps.{happens, state_after}
@@ -52,7 +52,7 @@ use Rattle.row_engine.specs.Ties.{Ties}
 use Rattle.row_engine.specs.declared.session.Session.{Session}
 use Rattle.row_engine.proofs.Behind as behind
 use Rattle.row_engine.proofs.Behind.{rows_on}
-use Rattle.row_engine.proofs.Moments.{acts, goes_seen, goes_state, met_core}
+use Rattle.row_engine.proofs.Moments.{acts, goes_seen, goes_state, met_core, resident_on}
 use Rattle.row_engine.proofs.Waiting.{few_wait}
 
 -- ## The moment
@@ -225,7 +225,7 @@ module _ (begins : controls.EveryBegin) (z : Shape) (v w : View) (x : Session) (
     };
     flushed = ap (λ s. s.flushed 1) core_is ∙ h.flushed;
     stamps = subst (λ s. AreStamps s x.clock f) (sym core_is) (record { page = h.stamps.page; log = λ p. raised (h.stamps.log p); row = h.stamps.row; read_end = h.stamps.read_end });
-    hot = λ p lt live. ap (λ s. is_hot (s.place p)) core_is ∙ h.hot p (subst (λ k. p < (opening k).format.pages) e.goes.given lt) (ap (λ s. (s.page p).node.live) (sym core_is) ∙ live);
+    resident = resident_on z v w e.goes.given (ap (λ s. s.place) core_is) h.resident;
     held = λ i. subst (λ s. holds_row (s.row i) 1 ≡ true ↔ Has i x.held.rows) (sym core_is) (h.held i);
     within = h.within;
     fewer = h.fewer;

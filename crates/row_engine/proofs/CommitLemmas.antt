@@ -13,7 +13,7 @@ use Rattle.rfa_model.specs.Reaches.{least}
 use Rattle.rfa_model.specs.Stamps.{need_of}
 use Rattle.core_state.specs.Openings.{Opening}
 use Rattle.core_state.specs.Events as happening
-use Rattle.core_state.specs.States.{Row, State, Worker, flushed_by_all, is_hot}
+use Rattle.core_state.specs.States.{Row, State, Worker, flushed_by_all}
 use Rattle.core_state.specs.Needs.{holds_row, is_held_by, may}
 use Rattle.core_state.specs.Steps.{AllMet, end_entry, ends, finished, happens, run, state_after, step, unlocked}
 use Rattle.core_state.proofs.Runs.{run_more}
@@ -66,7 +66,7 @@ use Rattle.row_engine.specs.declared.session.Session.{Session}
 use Rattle.row_engine.proofs.Behind as behind
 use Rattle.row_engine.proofs.Behind.{rows_on}
 use Rattle.row_engine.proofs.LatchLemmas.{gives_events, sized_on}
-use Rattle.row_engine.proofs.Moments.{acts, goes_seen, goes_state, met_core}
+use Rattle.row_engine.proofs.Moments.{acts, goes_seen, goes_state, met_core, resident_on}
 
 -- ## Views that have seen the same
 
@@ -289,7 +289,7 @@ module _ (turns : controls.EveryTurn) (z : Shape) (b : View) (x : Session) (log 
         row = λ i. (low_u i).0;
         read_end = λ i. (low_u i).1;
       };
-      hot = λ p lt live. ap (λ k. is_hot (k p)) place_u ∙ h.hot p (subst (λ k. p < (opening k).format.pages) (d.goes.given ∙ e.given) lt) (ap (λ k. (k p).node.live) (sym page_u) ∙ live);
+      resident = resident_on z b u (d.goes.given ∙ e.given) place_u h.resident;
       held = λ i. ((λ q. absurd (true≢false (sym q ∙ (ap (λ k. holds_row (k i) 1) row_u ∙ e.free i)))), (λ q. absurd q));
       within = λ i q. absurd q;
       fewer = omega arith;

@@ -1,5 +1,5 @@
 -- A commit that is refused, and one whose rows are latched.
-use Rattle.std.proofs.Common.{Result, Ok, IfErr, ◌≡◌, ◌⊎◌, ◌↔◌, inl, inr, ◌≤◌, ◌<◌, ◌^◌, ℕ, Bool, true, false, cond, List, [], ◌∷◌, ◌++◌, length, replicate, Some, None, Err, refl, sym, ap, ◌∙◌, subst, arith, append-nil, length-append, true≢false}
+use Rattle.std.proofs.Common.{Result, Ok, IfErr, ◌≡◌, ◌⊎◌, ◌↔◌, inl, inr, ◌≤◌, ◌^◌, ℕ, Bool, true, false, cond, List, [], ◌∷◌, ◌++◌, length, replicate, Some, None, Err, refl, sym, ap, ◌∙◌, subst, arith, append-nil, length-append, true≢false}
 use Rattle.std.proofs.lemmas.List.{length-replicate}
 use Rattle.map_model.specs.declared.call.Answer.TheVariants as answer
 use Rattle.map_model.specs.declared.call.Call.TheVariants as call
@@ -9,7 +9,7 @@ use Rattle.map_model.specs.Lists.{Has, all, any}
 use Rattle.map_model.specs.Pairings.{is_last_refusal}
 use Rattle.core_state.specs.Openings.{Opening}
 use Rattle.core_state.specs.Events as happening
-use Rattle.core_state.specs.States.{State, is_hot}
+use Rattle.core_state.specs.States.{State}
 use Rattle.core_state.specs.Needs.{holds_row}
 use Rattle.core_state.specs.Steps.{AllMet, run, state_after}
 use Rattle.core_state.proofs.Runs.{run_more}
@@ -40,7 +40,6 @@ use Rattle.row_words.specs.declared.event.Event.{Event}
 use Rattle.row_words.specs.declared.event.Event.TheVariants.{Miss}
 use Rattle.row_words.specs.declared.given.Given.{Given}
 use Rattle.row_words.specs.Moments.{Moment, events_of}
-use Rattle.row_words.specs.Openings.{opening}
 use Rattle.row_words.specs.Sealed as sealed
 use Rattle.row_opening.specs.Openings.{EveryNeed, EveryReached}
 use Rattle.rows_trait.specs.declared.view.Hold.{Hold}
@@ -56,7 +55,7 @@ use Rattle.row_engine.specs.declared.session.Session.{Session}
 use Rattle.row_engine.proofs.Behind as behind
 use Rattle.row_engine.proofs.Behind.{rows_on}
 use Rattle.row_engine.proofs.LatchLemmas.{replicated, seen_state}
-use Rattle.row_engine.proofs.Moments.{met_core}
+use Rattle.row_engine.proofs.Moments.{met_core, resident_on}
 
 -- ## Tests
 
@@ -162,7 +161,7 @@ holds_missed z y v w x log same m h = subst (λ k. Holds k w x log) (sym same) (
   numbers = h.numbers;
   flushed = ap (λ k. k.flushed 1) core_is ∙ h.flushed;
   stamps = subst (λ k. AreStamps k x.clock x.floor) (sym core_is) h.stamps;
-  hot = λ p lt live. ap (λ k. is_hot (k.place p)) core_is ∙ h.hot p (subst (λ k. p < (opening k).format.pages) m.given lt) (ap (λ k. (k.page p).node.live) (sym core_is) ∙ live);
+  resident = resident_on z v w m.given (ap (λ k. k.place) core_is) h.resident;
   held = λ i. subst (λ (k : State). holds_row (k.row i) 1 ≡ true ↔ Has i x.held.rows) (sym core_is) (h.held i);
   within = h.within;
   fewer = h.fewer;

@@ -6,11 +6,9 @@ use Rattle.map_model.specs.declared.call.Call.TheVariants as call
 use Rattle.map_model.specs.declared.call.Refusal.{Refusal}
 use Rattle.map_model.specs.declared.call.Refusal.TheVariants as refusal
 use Rattle.map_model.specs.Lists.{Has, any, keep}
-use Rattle.page_model.specs.Nodes.{Format, Node, WellFormed, holds}
-use Rattle.page_model.specs.Tree.{IsTree}
-use Rattle.page_model.proofs.Tree.{Lies, route_lies}
+use Rattle.page_model.specs.Nodes.{holds}
 use Rattle.core_state.specs.Openings.{Opening}
-use Rattle.core_state.specs.States.{State, is_hot, nodes_of}
+use Rattle.core_state.specs.States.{State, is_hot}
 use Rattle.core_state.specs.Events as happening
 use Rattle.core_state.specs.Needs.{holds_row, is_value, may, value_in}
 use Rattle.core_state.specs.Steps.{at_pages, happens, state_after}
@@ -46,6 +44,7 @@ use Rattle.row_engine.specs.Inside.{call_test}
 use Rattle.row_engine.specs.Takes.{IsSpent, Takes}
 use Rattle.row_engine.specs.Ties.{Ties}
 use Rattle.row_engine.specs.declared.session.Session.{Session}
+use Rattle.row_engine.proofs.Moments.{resident_on}
 use Rattle.row_engine.proofs.Behind as behind
 use Rattle.row_engine.proofs.Behind.{rows_on}
 use Rattle.row_engine.proofs.Refusing.{is_refusal, refused_does, spent_behind, spent_end, taken_behind}
@@ -82,29 +81,10 @@ call_closed x why works e = open_case x.is_open refl ((λ i. cond (sym works i) 
 -- ## No page on the way is cold
 
 pub no_cold : (z : Shape) (v w : View) (x : Session) (log : Log) → Holds z v x log → (key page : ℕ) → descents.MetCold z.alone key page v w → w.held ≡ v.held → ⊥
-no_cold z v w x log h key page m held_is = true≢false (sym hot ∙ m.cold.cold)
+no_cold z v w x log h key page m held_is = true≢false (sym (ap is_hot (now.resident.hot page m.cold.below)) ∙ m.cold.cold)
   where
     now : Holds z w x log
     now = holds_still z v w x log m.ran.given (ran_seen z.alone v w [] h.alone m.ran ∙ append-nil v.seen) held_is h
-
-    tree : IsTree (opening w.given).format (nodes_of (state w).core)
-    tree = (now.rows.tree_sound w.seen).tree
-
-    live_of : (f : Format) (n : Node) → WellFormed f n → 0 < n.level → n.live ≡ true
-    live_of f n ok inner = go n.live refl
-      where
-        go : (b : Bool) → n.live ≡ b → b ≡ true
-        go true e = refl
-        go false e = let q = ap (λ (k : Node). k.level) (ok.other e) in absurd (omega arith)
-
-    parent : Lies ((state w).core.page m.cold.parent).node key
-    parent = record { live = live_of (opening w.given).format _ (tree.formed m.cold.parent m.cold.within) m.cold.inner; low = m.cold.above; high = m.cold.under }
-
-    live : ((state w).core.page page).node.live ≡ true
-    live = ap (λ p. ((state w).core.page p).node.live) m.cold.names ∙ (route_lies (opening w.given).format (nodes_of (state w).core) tree m.cold.parent key 0 m.cold.within parent m.cold.inner).1.live
-
-    hot : is_hot ((state w).core.place page) ≡ true
-    hot = now.hot page m.cold.below live
 
 -- ## The read
 
@@ -192,7 +172,7 @@ module _ (z : Shape) (v w : View) (x : Session) (log : Log) (h : Holds z v x log
     numbers = h.numbers;
     flushed = ap (λ k. k.flushed 1) core_is ∙ h.flushed;
     stamps = subst (λ k. AreStamps k x.clock x.floor) (sym core_is) (record { page = h.stamps.page; log = h.stamps.log; row = h.stamps.row; read_end = h.stamps.read_end });
-    hot = λ p lt live. ap (λ k. is_hot (k.place p)) core_is ∙ h.hot p (subst (λ k. p < (opening k).format.pages) read_given lt) (ap (λ k. (k.page p).node.live) (sym core_is) ∙ live);
+    resident = resident_on z v w read_given (ap (λ k. k.place) core_is) h.resident;
     held = λ i. subst (λ k. holds_row (k.row i) 1 ≡ true ↔ Has i x.held.rows) (sym core_is) (h.held i);
     within = h.within;
     fewer = h.fewer;

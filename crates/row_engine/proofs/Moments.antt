@@ -1,5 +1,5 @@
 -- What the seat sees where nobody else steps, and what it is in a run.
-use Rattle.std.proofs.Common.{◌≡◌, ℕ, true, List, [], ◌∷◌, ◌++◌, refl, ap, ◌∙◌, append-nil}
+use Rattle.std.proofs.Common.{◌≡◌, ◌≤◌, ◌<◌, ℕ, true, List, [], ◌∷◌, ◌++◌, refl, sym, ap, subst, ◌∙◌, append-nil}
 use Rattle.core_state.specs.Needs.{may}
 use Rattle.core_state.specs.Steps.{happens}
 use Rattle.row_words.specs.declared.event.Event.{Event}
@@ -11,6 +11,7 @@ use Rattle.row_words.proofs.SealedLemmas.{run_append}
 use Rattle.rows_trait.specs.declared.view.View.{View}
 use Rattle.rows_trait.specs.Views.{Shape, after_all, may as plays, state}
 use Rattle.rows_trait.specs.Turns.{Goes}
+use Rattle.lean_proto.specs.Paging.{IsResident}
 
 -- a seat acts for everyone
 pub acts : (z : Shape) (v : View) (w : ℕ) → z.alone ≡ true → plays z.alone v w ≡ true
@@ -28,6 +29,13 @@ goes_state z v w es alone g = (λ i. after_all (g.given i) (goes_seen z v w es a
 pub met_core : (v : Given) (m : Moment) (e : Event) → may (opening v) m.core (event_of e) ≡ true → (stepped v m e).core ≡ happens (opening v) m.core (event_of e)
 unfolding stepped
 met_core v m e h = rw h refl
+
+-- each page stands in the frame of its own number still, where no page moved
+pub resident_on : (z : Shape) (v w : View) → w.given ≡ v.given → (state w).core.place ≡ (state v).core.place → IsResident z v → IsResident z w
+resident_on z v w given place r = record {
+  room = subst (λ k. (opening k).format.pages ≤ z.sizes.frames) (sym given) r.room;
+  hot = λ p lt. ap (λ k. k p) place ∙ r.hot p (subst (λ k. p < (opening k).format.pages) given lt);
+}
 
 pub events_more : (es fs : List Event) → events_of (es ++ fs) ≡ events_of es ++ events_of fs
 events_more [] fs = refl

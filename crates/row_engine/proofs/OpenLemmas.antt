@@ -66,7 +66,7 @@ module _ (g : Opening) (z : Shape) (v : View) (x : Session) (log : Log) (o : IsO
     numbers = numbers;
     flushed = at (λ s. s.flushed 1 ≡ log.flushed) (sym o.flushed);
     stamps = stamps;
-    hot = λ p lt live. o.hot p (let e = ap (λ f. f.pages) o.opens.format in omega arith) (sym (ap (λ s. (s.page p).node.live) o.rest) ∙ live);
+    resident = o.resident;
     held = λ i. at (λ s. holds_row (s.row i) 1 ≡ true ↔ Has i x.held.rows) ((λ q. absurd (true≢false (sym q)), λ h. absurd (subst (Has i) o.session.rows h)));
     within = λ i h. absurd (subst (Has i) o.session.rows h);
     fewer = let e = ap length o.session.rows in omega arith;

@@ -1,11 +1,10 @@
 -- An engine on the rows that are opened from pages.
 use Rattle.std.proofs.Common.{◌≡◌, ◌≤◌, ◌<◌, ◌+◌, ◌-◌, ◌^◌, ◌++◌, ◌&&◌, ◌==◌, not, leb, ltb, ℕ, zero, suc, Bool, true, false, cond, List, [], ◌∷◌, length, refl, sym, ap, ◌∙◌, subst, arith, true≢false}
-use Rattle.std.proofs.lemmas.Bool.{and_parts, eqb-true, ltb-true, ltb-false, leb-true}
+use Rattle.std.proofs.lemmas.Bool.{and_from, and_parts, eqb-true, ltb-true, ltb-false, leb-true}
 use Rattle.std.proofs.lemmas.List.{length-append}
-use Rattle.image_model.specs.Entries.{Contents}
 use Rattle.page_model.specs.Page.{Page}
 use Rattle.core_state.specs.Openings.{Opening, start_page}
-use Rattle.core_state.specs.States.{State, is_hot, start}
+use Rattle.core_state.specs.States.{State, start}
 use Rattle.core_state.specs.Events as happening
 use Rattle.core_state.specs.Needs.{is_worker}
 use Rattle.core_state.specs.Steps as core
@@ -23,7 +22,8 @@ use Rattle.key_locks.specs.Rows as locking
 use Rattle.key_locks.specs.Rows.{IsWorker}
 use Rattle.key_locks.specs.Soundness.{EverySound, unbegun}
 use Rattle.open_rows.specs.Opened as opened
-use Rattle.open_rows.specs.Opened.{ArePages, comes, contents_of, given_of, loads, loads_at, page_at, pages_of}
+use Rattle.open_rows.specs.Opened.{ArePages, comes, contents_of, frees, given_of, loads, loads_at, page_at, pages_of}
+use Rattle.lean_proto.specs.Paging.{IsResident}
 use Rattle.worker_log.specs.Logs.{Log}
 use Rattle.engine_trait.specs.Limits.{AreLoads}
 use Rattle.row_engine.specs.Holds.{AreRows}
@@ -46,9 +46,20 @@ level_loads level p (x ∷ xs) = go (comes level p x) (level_loads level (suc p)
     go true r = r
     go false r = r
 
-pub all_loads : (n : ℕ) (xs : List plain.Page) → AreLoads (events_of (loads n xs))
+all_loads : (n : ℕ) (xs : List plain.Page) → AreLoads (events_of (loads n xs))
 all_loads zero xs = tt
 all_loads (suc n) xs = subst AreLoads (sym (events_more (loads_at n 0 xs) (loads n xs))) (loads_join (events_of (loads_at n 0 xs)) (events_of (loads n xs)) (level_loads n 0 xs) (all_loads n xs))
+
+free_loads : (p : ℕ) (xs : List plain.Page) → AreLoads (events_of (frees p xs))
+free_loads p [] = tt
+free_loads p (x ∷ xs) = go x.live (free_loads (suc p) xs)
+  where
+    go : (b : Bool) → AreLoads (events_of (frees (suc p) xs)) → AreLoads (events_of (cond b (frees (suc p) xs) (Rattle.row_words.specs.declared.event.Event.TheVariants.Load p p ∷ frees (suc p) xs)))
+    go true r = r
+    go false r = r
+
+every_load : (xs : List plain.Page) → AreLoads (events_of (loads 8 xs ++ frees 0 xs))
+every_load xs = subst AreLoads (sym (events_more (loads 8 xs) (frees 0 xs))) (loads_join (events_of (loads 8 xs)) (events_of (frees 0 xs)) (all_loads 8 xs) (free_loads 0 xs))
 
 -- ## How many
 
@@ -56,45 +67,53 @@ events_long : (es : List Event) → length (events_of es) ≡ length es
 events_long [] = refl
 events_long (e ∷ es) = ap suc (events_long es)
 
--- pages of a level, and of those below it
+-- live pages of a level, those below it, and free pages
 abbrev at_level : ℕ → List plain.Page → ℕ
 at_level n [] = 0
-at_level n (x ∷ xs) = cond (x.level == n) (suc (at_level n xs)) (at_level n xs)
+at_level n (x ∷ xs) = cond (x.live && (x.level == n)) (suc (at_level n xs)) (at_level n xs)
 
 abbrev below : ℕ → List plain.Page → ℕ
 below n [] = 0
-below n (x ∷ xs) = cond (ltb x.level n) (suc (below n xs)) (below n xs)
+below n (x ∷ xs) = cond (x.live && ltb x.level n) (suc (below n xs)) (below n xs)
 
-below_few : (n : ℕ) (xs : List plain.Page) → below n xs ≤ length xs
+abbrev not_live : List plain.Page → ℕ
+not_live [] = 0
+not_live (x ∷ xs) = cond x.live (not_live xs) (suc (not_live xs))
+
+below_few : (n : ℕ) (xs : List plain.Page) → below n xs + not_live xs ≤ length xs
 below_few n [] = omega arith
-below_few n (x ∷ xs) = go (ltb x.level n) (below_few n xs)
+below_few n (x ∷ xs) = go x.live (ltb x.level n) (below_few n xs)
   where
-    go : (b : Bool) → below n xs ≤ length xs → cond b (suc (below n xs)) (below n xs) ≤ suc (length xs)
-    go true l = omega arith
-    go false l = omega arith
+    go : (a b : Bool) → below n xs + not_live xs ≤ length xs → cond (a && b) (suc (below n xs)) (below n xs) + cond a (not_live xs) (suc (not_live xs)) ≤ suc (length xs)
+    go true true l = omega arith
+    go true false l = omega arith
+    go false b l = omega arith
 
 below_more : (n : ℕ) (xs : List plain.Page) → at_level n xs + below n xs ≤ below (suc n) xs
 below_more n [] = omega arith
-below_more n (x ∷ xs) = go (x.level == n) refl (ltb x.level n) refl (ltb x.level (suc n)) refl (below_more n xs)
+below_more n (x ∷ xs) = go x.live (x.level == n) refl (ltb x.level n) refl (ltb x.level (suc n)) refl (below_more n xs)
   where
-    go : (b : Bool) → (x.level == n) ≡ b → (c : Bool) → ltb x.level n ≡ c → (d : Bool) → ltb x.level (suc n) ≡ d → at_level n xs + below n xs ≤ below (suc n) xs
-        → cond b (suc (at_level n xs)) (at_level n xs) + cond c (suc (below n xs)) (below n xs) ≤ cond d (suc (below (suc n) xs)) (below (suc n) xs)
-    go true e true l d f ih = let a = eqb-true x.level n e in let q = ltb-true x.level n l in absurd (omega arith)
-    go true e false l true f ih = omega arith
-    go true e false l false f ih = let a = eqb-true x.level n e in let q = ltb-false x.level (suc n) f in absurd (omega arith)
-    go false e true l true f ih = omega arith
-    go false e true l false f ih = let a = ltb-true x.level n l in let q = ltb-false x.level (suc n) f in absurd (omega arith)
-    go false e false l true f ih = omega arith
-    go false e false l false f ih = omega arith
+    go : (a b : Bool) → (x.level == n) ≡ b → (c : Bool) → ltb x.level n ≡ c → (d : Bool) → ltb x.level (suc n) ≡ d → at_level n xs + below n xs ≤ below (suc n) xs
+        → cond (a && b) (suc (at_level n xs)) (at_level n xs) + cond (a && c) (suc (below n xs)) (below n xs) ≤ cond (a && d) (suc (below (suc n) xs)) (below (suc n) xs)
+    go false b e c l d f ih = ih
+    go true true e true l d f ih = let a = eqb-true x.level n e in let q = ltb-true x.level n l in absurd (omega arith)
+    go true true e false l true f ih = omega arith
+    go true true e false l false f ih = let a = eqb-true x.level n e in let q = ltb-false x.level (suc n) f in absurd (omega arith)
+    go true false e true l true f ih = omega arith
+    go true false e true l false f ih = let a = ltb-true x.level n l in let q = ltb-false x.level (suc n) f in absurd (omega arith)
+    go true false e false l true f ih = omega arith
+    go true false e false l false f ih = omega arith
 
 level_few : (n p : ℕ) (xs : List plain.Page) → length (loads_at n p xs) ≤ at_level n xs
 level_few n p [] = omega arith
-level_few n p (x ∷ xs) = go (comes n p x) refl (x.level == n) refl (level_few n (suc p) xs)
+level_few n p (x ∷ xs) = go (comes n p x) refl (x.live && (x.level == n)) refl (level_few n (suc p) xs)
   where
-    go : (b : Bool) → comes n p x ≡ b → (c : Bool) → (x.level == n) ≡ c → length (loads_at n (suc p) xs) ≤ at_level n xs
+    go : (b : Bool) → comes n p x ≡ b → (c : Bool) → (x.live && (x.level == n)) ≡ c → length (loads_at n (suc p) xs) ≤ at_level n xs
         → length (cond b (Rattle.row_words.specs.declared.event.Event.TheVariants.Load p p ∷ loads_at n (suc p) xs) (loads_at n (suc p) xs)) ≤ cond c (suc (at_level n xs)) (at_level n xs)
     go true e true l ih = omega arith
-    go true e false l ih = absurd (true≢false (sym (and_parts (x.level == n) (not (p == 0)) (and_parts x.live ((x.level == n) && not (p == 0)) e).1).0 ∙ l))
+    go true e false l ih =
+        let a = and_parts x.live ((x.level == n) && not (p == 0)) e in
+        absurd (true≢false (sym (and_from x.live (x.level == n) a.0 (and_parts (x.level == n) (not (p == 0)) a.1).0) ∙ l))
     go false e true l ih = omega arith
     go false e false l ih = ih
 
@@ -102,8 +121,17 @@ loads_below : (n : ℕ) (xs : List plain.Page) → length (loads n xs) ≤ below
 loads_below zero xs = omega arith
 loads_below (suc n) xs = let a = level_few n 0 xs in let b = loads_below n xs in let c = below_more n xs in let d = length-append (loads_at n 0 xs) (loads n xs) in omega arith
 
-pub loads_few : (n : ℕ) (xs : List plain.Page) → length (loads n xs) ≤ length xs
-loads_few n xs = let a = loads_below n xs in let b = below_few n xs in omega arith
+frees_few : (p : ℕ) (xs : List plain.Page) → length (frees p xs) ≤ not_live xs
+frees_few p [] = omega arith
+frees_few p (x ∷ xs) = go x.live (frees_few (suc p) xs)
+  where
+    go : (b : Bool) → length (frees (suc p) xs) ≤ not_live xs
+        → length (cond b (frees (suc p) xs) (Rattle.row_words.specs.declared.event.Event.TheVariants.Load p p ∷ frees (suc p) xs)) ≤ cond b (not_live xs) (suc (not_live xs))
+    go true l = l
+    go false l = omega arith
+
+loads_few : (xs : List plain.Page) → length (loads 8 xs ++ frees 0 xs) ≤ length xs
+loads_few xs = let a = loads_below 8 xs in let b = frees_few 0 xs in let c = below_few 8 xs in let d = length-append (loads 8 xs) (frees 0 xs) in omega arith
 
 -- what may be loaded, and what comes of it, is the same to both openings
 module _ (need : EveryNeed) (g : Opening) (v : Given) (o : Opens g v) where
@@ -156,7 +184,7 @@ module _ (every : EveryOpened) (need : EveryNeed) (sound : EverySound) (pages : 
     format_is = o.opens.format ∙ ap format_of long
 
     met : AllMet g (start g) (events_of v.before)
-    met = subst (λ s. AllMet g s (events_of v.before)) (sym o.opens.first) (met_too need g v o.opens (events_of v.before) (first_state v) (all_loads 8 v.pages) o.met)
+    met = subst (λ s. AllMet g s (events_of v.before)) (sym o.opens.first) (met_too need g v o.opens (events_of v.before) (first_state v) (every_load v.pages) o.met)
 
     tree_sound : descent.IsSound v
     tree_sound es = let at = every g v o.opens es in record {
@@ -165,6 +193,9 @@ module _ (every : EveryOpened) (need : EveryNeed) (sound : EverySound) (pages : 
       logs = at.logs (omega arith);
       few = let l = long in omega arith;
     }
+
+    resident : IsResident (plain_shape (length pages) count 1) (first_plain v)
+    resident = record { room = let a = long in omega arith; hot = λ p lt. o.hot p (let a = long in omega arith) }
 
     rows : AreRows (plain_shape (length pages) count 1) (first_plain v) (length pages) count
     rows = record {
@@ -181,11 +212,11 @@ module _ (every : EveryOpened) (need : EveryNeed) (sound : EverySound) (pages : 
       is : (log : Log) → log.last ≡ base → log.flushed ≡ base → IsOpened g (plain_shape (length pages) count 1) (first_plain v) x log
       is log last flushed = record {
         opens = o.opens;
-        loads = all_loads 8 v.pages;
-        few = let a = events_long (loads 8 v.pages) in let b = loads_few 8 v.pages in let c = pages_long pages in omega arith;
+        loads = every_load v.pages;
+        few = let a = events_long (loads 8 v.pages ++ frees 0 v.pages) in let b = loads_few v.pages in let c = pages_long pages in omega arith;
         met = met;
         rest = ap (λ m. m.core) o.rest ∙ ap (λ (s : State). record s { place = (state (first_plain v)).core.place }) (sym o.opens.first);
-        hot = λ p lt live. ap is_hot (o.hot p (sym (ap (λ (c : Contents). c.node.live) (page_is p)) ∙ live));
+        resident = resident;
         seen = refl;
         alone = refl;
         idle = refl;

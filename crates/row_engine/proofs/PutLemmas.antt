@@ -1,15 +1,11 @@
 -- A put behind the taking of its row.
-use Rattle.std.proofs.Common.{◌≡◌, ◌⊎◌, inl, inr, ◌↔◌, ◌≤◌, ◌<◌, ◌^◌, ◌+◌, ◌++◌, ◌==◌, ◌&&◌, ◌||◌, ℕ, suc, Bool, true, false, cond, leb, List, [], ◌∷◌, length, Option, Ok, refl, sym, ap, ◌∙◌, subst, arith, true≢false, append-nil}
-use Rattle.std.proofs.lemmas.Bool.{and_parts, eqb-true, le-leb, leb-true}
+use Rattle.std.proofs.Common.{◌≡◌, ◌⊎◌, inl, inr, ◌↔◌, ◌≤◌, ◌^◌, ◌+◌, ◌++◌, ℕ, suc, Bool, true, false, cond, leb, List, [], ◌∷◌, length, Option, Ok, refl, sym, ap, ◌∙◌, subst, arith, true≢false, append-nil}
+use Rattle.std.proofs.lemmas.Bool.{le-leb, leb-true}
 use Rattle.map_model.specs.Lists.{Has}
-use Rattle.page_model.specs.Nodes.{Node, free}
-use Rattle.page_model.specs.Pairs.{route}
-use Rattle.page_model.specs.Tree.{IsTree}
-use Rattle.page_model.proofs.Laws.{every_tree}
 use Rattle.image_model.specs.Entries.{Entry, Kind, touches, written}
 use Rattle.core_state.specs.Events as happening
-use Rattle.core_state.specs.Needs.{holds_row, may, needs}
-use Rattle.core_state.specs.States.{State, Worker, is_hot, nodes_of}
+use Rattle.core_state.specs.Needs.{holds_row, may}
+use Rattle.core_state.specs.States.{State, Worker, is_hot}
 use Rattle.core_state.specs.Steps.{at_pages, happens, write_entry}
 use Rattle.lean_disk.specs.Story.{Story}
 use Rattle.log_record.specs.declared.record.Record.{Record}
@@ -35,7 +31,7 @@ use Rattle.row_engine.specs.Takes.{IsSpent}
 use Rattle.row_engine.specs.declared.session.Session.{Session}
 use Rattle.row_engine.proofs.TakeLemmas.{own_log}
 use Rattle.row_engine.proofs.Behind.{rows_on}
-use Rattle.row_engine.proofs.Moments.{met_core}
+use Rattle.row_engine.proofs.Moments.{met_core, resident_on}
 
 -- ## What a seat that is alone has seen
 
@@ -68,32 +64,19 @@ holds_still z v w x log given seen held h =
       numbers = h.numbers;
       flushed = ap (λ s. s.flushed 1) core ∙ h.flushed;
       stamps = subst (λ s. AreStamps s x.clock x.floor) (sym core) h.stamps;
-      hot = λ p lt live. ap (λ s. is_hot (s.place p)) core ∙ h.hot p (subst (λ k. p < (opening k).format.pages) given lt) (ap (λ s. (s.page p).node.live) (sym core) ∙ live);
+      resident = resident_on z v w given (ap (λ s. s.place) core) h.resident;
       held = λ i. subst (λ s. holds_row (s.row i) 1 ≡ true ↔ Has i x.held.rows) (sym core) (h.held i);
       within = h.within;
       fewer = h.fewer;
       none = h.none;
     }
 
--- each page on the way stands in a frame
+-- each page stands in a frame
 pub not_cold : (z : Shape) (v w : View) (x : Session) (log : Log) (key page : ℕ) → Holds z v x log → w.held ≡ [] → MetCold z.alone key page v w → ⊥
-not_cold z v w x log key page h held m = true≢false (sym (hw.hot page m.cold.below (subst (λ p. ((state w).core.page p).node.live ≡ true) (sym m.cold.names) way.1)) ∙ m.cold.cold)
+not_cold z v w x log key page h held m = true≢false (sym (ap is_hot (hw.resident.hot page m.cold.below)) ∙ m.cold.cold)
   where
     hw : Holds z w x log
     hw = holds_still z v w x log m.ran.given (none_seen z.alone v w h.alone m.ran) held h
-
-    tree : IsTree (opening w.given).format (nodes_of (state w).core)
-    tree = (hw.rows.tree_sound w.seen).tree
-
-    is_live : (n : Node) → 0 < n.level → (b : Bool) → n.live ≡ b → (n.live ≡ false → n ≡ free) → n.live ≡ true
-    is_live n up true e other = e
-    is_live n up false e other = let q = ap (λ k. k.level) (other e) in absurd (omega arith)
-
-    live : ((state w).core.page m.cold.parent).node.live ≡ true
-    live = is_live ((state w).core.page m.cold.parent).node m.cold.inner ((state w).core.page m.cold.parent).node.live refl (tree.formed m.cold.parent m.cold.within).other
-
-    way : (route ((state w).core.page m.cold.parent).node.pairs key 0 < (opening w.given).format.pages) × (((state w).core.page (route ((state w).core.page m.cold.parent).node.pairs key 0)).node.live ≡ true)
-    way = let q = (every_tree (opening w.given).format (nodes_of (state w).core) tree).routed m.cold.parent key m.cold.within live m.cold.above m.cold.under m.cold.inner in (q.0, q.1)
 
 -- a version that was loaded is low, so many events were seen
 pub spent_many : EveryLow → (row : ℕ) (v w : View) → AreLow (length w.seen) w.steps → IsRowSpent row v w → 2 ^ 61 ≤ length w.seen
@@ -114,13 +97,6 @@ same_flushed r old new a = go (leb (length old.payload + length (records_text (r
     go : (b : Bool) → leb (length old.payload + length (records_text (r ∷ []))) 2000 ≡ b → new.flushed ≡ old.flushed
     go true e = ap (λ k. k.flushed) (a.room (leb-true (length old.payload + length (records_text (r ∷ []))) 2000 e))
     go false e = ap (λ k. k.flushed) (a.full (λ le. true≢false (sym (le-leb (length old.payload + length (records_text (r ∷ []))) 2000 le) ∙ e)))
-
-pub touched_page : (p page : ℕ) → ((page == p) || false) ≡ true → page ≡ p
-touched_page p page e = go (page == p) refl e
-  where
-    go : (b : Bool) → (page == p) ≡ b → (b || false) ≡ true → page ≡ p
-    go true q u = eqb-true page p q
-    go false q u = absurd (true≢false (sym u))
 
 module _ (z : Shape) (v w : View) (x : Session) (log : Log) (h : Holds z v x log) (key value : ℕ) (f : MayChange v x log key value) (before : Option ℕ) (rs now : List Record) (y : Session) (log_now : Log)
     (d : Changed z.alone 1 key value before v rs w (session_clock y) now) where
@@ -147,9 +123,6 @@ module _ (z : Shape) (v w : View) (x : Session) (log : Log) (h : Holds z v x log
 
   core_is : (state w).core ≡ happens (opening v.given) s (happening.Event.Change 1 page key value)
   core_is = seen_core v w (Change 1 page key value) d.ran.given seen_is change_met
-
-  page_hot : is_hot (s.place page) ≡ true
-  page_hot = (and_parts (is_hot (s.place page)) true (and_parts (is_hot (s.place page) && true) (needs (opening v.given) s (happening.Event.Change 1 page key value)) change_met).0).0
 
   clock_at : a.clock ≡ x.clock
   clock_at = let q = h.session.clock in let b = h.stamps.page page in omega arith
@@ -179,10 +152,6 @@ module _ (z : Shape) (v w : View) (x : Session) (log : Log) (h : Holds z v x log
     log_on : (p : ℕ) (b : Bool) → ((cond b (written r p (s.page p)) (s.page p)).last ≤ 1) ⊎ ((cond b (written r p (s.page p)) (s.page p)).gsn ≤ x.floor)
     log_on p true = inl (omega arith)
     log_on p false = h.stamps.log p
-
-    hot_on : (p : ℕ) (b : Bool) → touches p r ≡ b → p < (opening v.given).format.pages → (cond b (written r p (s.page p)) (s.page p)).node.live ≡ true → is_hot (s.place p) ≡ true
-    hot_on p true e lt live = subst (λ q. is_hot (s.place q) ≡ true) (touched_page p page e) page_hot
-    hot_on p false e lt live = h.hot p lt live
 
     session_on : IsOf u ((happens (opening v.given) s (happening.Event.Change 1 page key value)).worker 1)
     session_on = record {
@@ -224,7 +193,7 @@ module _ (z : Shape) (v w : View) (x : Session) (log : Log) (h : Holds z v x log
         row = λ i. let q = clock_is in let e = h.stamps.row i in omega arith;
         read_end = λ i. let q = clock_is in let e = h.stamps.read_end i in omega arith;
       });
-      hot = λ p lt live. ap (λ k. is_hot (k.place p)) core_is ∙ hot_on p (touches p r) refl (subst (λ k. p < (opening k).format.pages) d.ran.given lt) (ap (λ k. (k.page p).node.live) (sym core_is) ∙ live);
+      resident = resident_on z v w d.ran.given (ap (λ k. k.place) core_is) h.resident;
       held = λ i. subst (λ k. holds_row (k.row i) 1 ≡ true ↔ Has i x.held.rows) (sym core_is) (h.held i);
       within = h.within;
       fewer = h.fewer;

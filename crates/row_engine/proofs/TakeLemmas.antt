@@ -7,7 +7,7 @@ use Rattle.map_model.proofs.ListLemmas.{any_has, has_cases, has_left, has_right}
 use Rattle.rfa_model.specs.Stamps.{is_remote, owed}
 use Rattle.core_state.specs.Events as happening
 use Rattle.core_state.specs.Needs.{holds_row, is_free, is_held_by, is_reader, may, may_hold}
-use Rattle.core_state.specs.States.{Row, State, Worker, is_hot}
+use Rattle.core_state.specs.States.{Row, State, Worker}
 use Rattle.core_state.specs.Steps.{at_row, happens, locked, touch}
 use Rattle.worker_log.specs.Logs.{Log}
 use Rattle.row_words.specs.declared.event.Event.{Event}
@@ -31,7 +31,7 @@ use Rattle.row_engine.specs.Takes.{IsSpent, Takes}
 use Rattle.row_engine.specs.declared.session.Session.{Session}
 use Rattle.row_engine.proofs.Behind.{rows_on}
 use Rattle.row_engine.proofs.HeldLemmas.{has_reader, reader_has}
-use Rattle.row_engine.proofs.Moments.{met_core}
+use Rattle.row_engine.proofs.Moments.{met_core, resident_on}
 
 -- ## What a seat that is alone has seen
 
@@ -227,7 +227,7 @@ holds_still z v w x log given seen held h = record {
   numbers = h.numbers;
   flushed = ap (λ m. m.core.flushed 1) same ∙ h.flushed;
   stamps = subst (λ m. AreStamps m.core x.clock x.floor) (sym same) h.stamps;
-  hot = λ p lt live. ap (λ m. is_hot (m.core.place p)) same ∙ h.hot p (subst (λ k. p < (opening k).format.pages) given lt) (ap (λ m. (m.core.page p).node.live) (sym same) ∙ live);
+  resident = resident_on z v w given (ap (λ m. m.core.place) same) h.resident;
   held = λ i. subst (λ m. holds_row (m.core.row i) 1 ≡ true ↔ Has i x.held.rows) (sym same) (h.held i);
   within = h.within;
   fewer = h.fewer;
@@ -311,7 +311,7 @@ module _ (z : Shape) (v w : View) (x : Session) (log : Log) (h : Holds z v x log
     numbers = numbers_on x log (with_row x.held row) h.numbers;
     flushed = ap (λ k. k.flushed 1) core_is ∙ h.flushed;
     stamps = subst (λ k. AreStamps k x.clock x.floor) (sym core_is) (record { page = h.stamps.page; log = h.stamps.log; row = row_number; read_end = row_end });
-    hot = λ p lt live. ap (λ k. is_hot (k.place p)) core_is ∙ h.hot p (subst (λ k. p < (opening k).format.pages) given lt) (ap (λ k. (k.page p).node.live) (sym core_is) ∙ live);
+    resident = resident_on z v w given (ap (λ k. k.place) core_is) h.resident;
     held = λ i. subst (λ k. holds_row (k.row i) 1 ≡ true ↔ Has i (with_row x.held row).rows) (sym core_is) (row_held i);
     within = row_within;
     fewer = few;

@@ -1,7 +1,7 @@
 -- What an engine of one session has in memory between two calls, by the moment that its seat has seen.
 use Rattle.std.specs.Prelude.{◌≡◌, ◌⊎◌, ◌↔◌, ◌≤◌, ◌<◌, ◌+◌, ◌^◌, ℕ, suc, true, false, [], length}
 use Rattle.map_model.specs.Lists.{Has}
-use Rattle.core_state.specs.States.{State, Worker, is_hot}
+use Rattle.core_state.specs.States.{State, Worker}
 use Rattle.core_state.specs.Needs.{holds_row}
 use Rattle.row_words.specs.Openings.{opening}
 use Rattle.rows_trait.specs.declared.view.View.{View}
@@ -9,6 +9,7 @@ use Rattle.rows_trait.specs.Views.{Shape, state}
 use Rattle.btree_descent.specs.Descents as descents
 use Rattle.btree_descent.specs.Known as pages
 use Rattle.key_locks.specs.Rows as locking
+use Rattle.lean_proto.specs.Paging.{IsResident}
 use Rattle.worker_log.specs.Logs.{Log, used}
 use Rattle.row_engine.specs.declared.session.Session.{Session}
 
@@ -59,7 +60,8 @@ pub record AreRows (z : Shape) (v : View) (frames count : ℕ) : Type 0 where
   pub few : count ≤ 2 ^ 16
 
 -- There is one worker and nobody else steps, and no row is latched. The session is the worker's at the moment that the seat has seen, where the log
--- is flushed as it says, each page of the tree stands in a frame, and the lock rows that the worker holds are those that the session has.
+-- is flushed as it says, each page, also a free one, is hot in the frame of its own number, and the lock rows that the worker holds are those that the
+-- session has.
 pub record Holds (z : Shape) (v : View) (x : Session) (log : Log) : Type 0 where
   pub alone : z.alone ≡ true
   pub idle : v.held ≡ []
@@ -68,7 +70,7 @@ pub record Holds (z : Shape) (v : View) (x : Session) (log : Log) : Type 0 where
   pub numbers : AreNumbers x log
   pub flushed : (state v).core.flushed 1 ≡ log.flushed
   pub stamps : AreStamps (state v).core x.clock x.floor
-  pub hot : (p : ℕ) → p < (opening v.given).format.pages → ((state v).core.page p).node.live ≡ true → is_hot ((state v).core.place p) ≡ true
+  pub resident : IsResident z v
   pub held : (i : ℕ) → holds_row ((state v).core.row i) 1 ≡ true ↔ Has i x.held.rows
   pub within : (i : ℕ) → Has i x.held.rows → i < x.held.count
   pub fewer : length x.held.rows ≤ x.held.count

@@ -2,7 +2,7 @@
 use Rattle.std.specs.Prelude.{◌≡◌, ◌≤◌, ◌<◌, ◌%◌, ◌^◌, ℕ, true, false, List, [], length}
 use Rattle.page_model.specs.Page.{Page}
 use Rattle.core_state.specs.Openings.{Opening, start_page}
-use Rattle.core_state.specs.States.{is_hot, start}
+use Rattle.core_state.specs.States.{start}
 use Rattle.core_state.specs.Steps.{AllMet}
 use Rattle.row_words.specs.Moments.{events_of, format_of}
 use Rattle.rows_trait.specs.declared.view.View.{View}
@@ -10,6 +10,7 @@ use Rattle.rows_trait.specs.Plain.{sizes}
 use Rattle.rows_trait.specs.Views.{Shape, no_place, state}
 use Rattle.open_rows.specs.Opened.{contents_of, page_at}
 use Rattle.row_opening.specs.Openings.{Opens}
+use Rattle.lean_proto.specs.Paging.{IsResident}
 use Rattle.worker_log.specs.Logs.{Log}
 use Rattle.row_engine.specs.Holds.{AreRows, Holds}
 use Rattle.engine_trait.specs.Limits.{AreLoads}
@@ -28,14 +29,15 @@ pub record IsFirst (base : ℕ) (x : Session) : Type 0 where
   pub changes : x.changes ≡ 0
   pub rows : x.held.rows ≡ []
 
--- The rows began as an opening of one worker, behind loads alone by which each live page came into a frame. The seat is alone, and has seen nothing.
+-- The rows began as an opening of one worker, behind loads alone by which each page, also a free one, came into the frame of its own number. The seat is
+-- alone, and has seen nothing.
 pub record IsOpened (g : Opening) (z : Shape) (v : View) (x : Session) (log : Log) : Type 0 where
   pub opens : Opens g v.given
   pub loads : AreLoads (events_of v.given.before)
   pub few : length (events_of v.given.before) ≤ 2 ^ 16
   pub met : AllMet g (start g) (events_of v.given.before)
   pub rest : (state v).core ≡ record (start g) { place = (state v).core.place }
-  pub hot : (p : ℕ) → p < g.format.pages → (g.node p).live ≡ true → is_hot ((state v).core.place p) ≡ true
+  pub resident : IsResident z v
   pub seen : v.seen ≡ []
   pub alone : z.alone ≡ true
   pub idle : v.held ≡ []

@@ -64,7 +64,7 @@ pub fn get<R: Rows, D: Disk>(
     )?;
     match find(rows, seat, 1, store.session.frames, key) {
         Answer::Found(word) => Ok(value_of(word)),
-        // A page that a hot page names is live, and each live page is hot.
+        // Each page is hot.
         Answer::Cold(_) => unreachable!(),
         // Nobody else steps.
         Answer::Moved(_) => unreachable!(),

@@ -13,7 +13,7 @@ use rows_trait::plain::PlainRows;
 use rows_trait::trace::Trace;
 use std::alloc::{AllocError, Global};
 
-/// Rows on these pages, each live one in the frame of its number, with `count` lock rows; their seat; and a session that has done
+/// Rows on these pages, each one hot in the frame of its number, with `count` lock rows; their seat; and a session that has done
 /// nothing, where all is flushed up to `base`. The one error is that memory is refused.
 pub fn open_session(
     alloc: Global,

@@ -53,7 +53,7 @@ fn put_held<R: Rows, D: Stages>(
             store.session.works = false;
             Err(Refusal::DiskFault)
         }
-        // The log has a block, each page of the tree stands in a frame, no number is above the clock, and nobody else steps.
+        // The log has a block, each page stands in a frame, no number is above the clock, and nobody else steps.
         Put::Unstaged(Unstaged::LogFull { .. }) => unreachable!(),
         Put::Cold(_) => unreachable!(),
         Put::ClockSpent => unreachable!(),

@@ -37,7 +37,7 @@ static ONE_LEAF: [Word; 14] = [
 ];
 
 // With two workers the first frame row lies behind 10 control words.
-static TWO_LEAVES: [Word; 21] = [
+static TWO_LEAVES: [Word; 24] = [
     // the second worker's
     Word(6, 9),
     Word(7, 9),
@@ -57,8 +57,11 @@ static TWO_LEAVES: [Word; 21] = [
     Word(10 + ROW + 1, 1),
     Word(10 + ROW + 8, 7),
     Word(10 + ROW + 128, 4),
-    // page 2 is free
-    Word(10 + 2 * ROW + 127, MARK),
+    // the free page in frame 2: its number, its kind, no parent, and no change
+    Word(10 + 2 * ROW + 1, 2),
+    Word(10 + 2 * ROW + 4, 2 << 24),
+    Word(10 + 2 * ROW + 127, FRAME),
+    Word(10 + 2 * ROW + 128, 0),
     // the leaf in frame 3
     Word(10 + 3 * ROW + 1, 3),
     Word(10 + 3 * ROW + 127, FRAME),
