@@ -1,4 +1,4 @@
-// The words of an inner node's pairs: where they name frames they become the numbers of the pages that stand there.
+//! The words of an inner node's pairs: where they name frames they become the numbers of the pages that stand there.
 ghost use Rattle.std.specs.Prelude.{◌≡◌, ◌<◌, ◌≤◌, ◌-◌, ◌^◌, true, IfOk, IfErr};
 ghost use Rattle.rows_trait.specs.Layout.{rows_of, width};
 ghost use Rattle.row_words.specs.Sealed.{Shown};
@@ -78,8 +78,8 @@ fn name_pairs<R: Rows>(
     Ok(())
 }
 
-// The words of a page as they are written: those of a leaf name no pages.
-pub(crate) fn name_children<R: Rows>(
+/// The words of a page as they are written: those of a leaf name no pages. No row is latched.
+pub fn name_children<R: Rows>(
     rows: &mut R,
     seat: &mut R::Seat,
     actor: u32,

@@ -5,7 +5,7 @@
 //! when the frame was looked at.
 #![tactic(auto)]
 
-mod children;
+pub mod children;
 pub mod page;
 pub mod refusal;
 

@@ -1,0 +1,14 @@
+pub mod Waiting
+pub mod Latching
+pub mod Words
+pub mod Storing
+pub mod Standing
+pub mod Releasing
+pub mod Leaving
+pub mod Publishing
+pub mod Raising
+pub mod Reading
+pub mod Looking
+pub mod LiftedPages
+pub mod Entering
+pub mod Answering

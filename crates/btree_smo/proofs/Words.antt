@@ -1,0 +1,74 @@
+-- Words that are copied one by one, and pairs of a record.
+use Rattle.std.proofs.Common.{◌≡◌, ◌≢◌, ◌==◌, ◌<◌, ◌≤◌, ◌+◌, ◌-◌, ◌*◌, ◌^◌, ℕ, zero, suc, Bool, true, false, List, [], ◌∷◌, ◌++◌, length, map, set, take, drop, replicate, refl, sym, ap, subst, ◌∙◌, arith}
+use Rattle.std.specs.Prelude.{slice_index}
+use Rattle.std.specs.List.{All}
+use Rattle.std.proofs.lemmas.List.{get_or-set_same, get_or-set_other, take_more, drop_more, set_at, append_assoc, length-take-le, take_more_set, map-append}
+use Rattle.std.proofs.lemmas.List.Elements.{All-push, All-nil}
+use Rattle.std.proofs.lemmas.Bool.Decides.{nat_tests}
+use Rattle.page_model.specs.Pairs as model
+use Rattle.btree_node.specs.Words.{pairs_in}
+use Rattle.log_record.specs.Model.{model_pair}
+use Rattle.log_record.specs.Spelling.{PairFits, no_pair}
+use Rattle.log_record.specs.declared.record.Pair.{Pair}
+
+-- the first words are those of another list, and one more
+pub one_more : (xs ys : List ℕ) (n x : ℕ) → n < length xs → ((i : ℕ) → i < n → slice_index xs i ≡ slice_index ys i) → x ≡ slice_index ys n → (i : ℕ) → i < n + 1 → slice_index (set xs n x) i ≡ slice_index ys i
+one_more xs ys n x long first one i lt = at (i == n) refl
+  where
+    at : (b : Bool) → (i == n) ≡ b → slice_index (set xs n x) i ≡ slice_index ys i
+    at true e = let is : i ≡ n = grind (arith, nat_tests) in ap (slice_index (set xs n x)) is ∙ (get_or-set_same xs n x 0 long ∙ (one ∙ ap (slice_index ys) (sym is)))
+    at false e = let ne : i ≢ n = grind (arith, nat_tests) in get_or-set_other xs n i x 0 ne ∙ first i (omega arith)
+
+-- one more word is written over
+pub over_more : (ws now : List ℕ) (i : ℕ) → i < length ws → i < length now → set (take i ws ++ drop i now) i (slice_index ws i) ≡ take (i + 1) ws ++ drop (i + 1) now
+over_more ws now i short long =
+    let x = slice_index ws i in
+    let a : take (i + 1) ws ≡ take i ws ++ x ∷ [] = take_more ws i 0 short in
+    let b : drop i now ≡ slice_index now i ∷ drop (i + 1) now = drop_more now i 0 long in
+    ap (λ (ys : List ℕ). set (take i ws ++ ys) i x) b
+    ∙ (set_at (take i ws) (slice_index now i) (drop (i + 1) now) x i (length-take-le i ws (omega arith))
+    ∙ (sym (append_assoc (take i ws) (x ∷ []) (drop (i + 1) now)) ∙ ap (λ (ys : List ℕ). ys ++ drop (i + 1) now) (sym a)))
+
+-- ## Pairs
+
+pairs_suc : (n : ℕ) (ws : List ℕ) → pairs_in (suc n) ws ≡ pairs_in n ws ++ record { key = slice_index ws (2 * n); word = slice_index ws (2 * n + 1) } ∷ []
+pairs_suc zero ws = (λ i. record { key = slice_index ws 0; word = slice_index ws 1 } ∷ [])
+pairs_suc (suc n) ws =
+    let e = pairs_suc n (drop 2 ws) in
+    let k : 2 * n + 2 ≡ 2 * suc n = omega arith in
+    let j : 2 * n + 1 + 2 ≡ 2 * suc n + 1 = omega arith in
+    let a : slice_index (drop 2 ws) (2 * n) ≡ slice_index ws (2 * suc n) = dropped ws (2 * n) ∙ ap (slice_index ws) k in
+    let b : slice_index (drop 2 ws) (2 * n + 1) ≡ slice_index ws (2 * suc n + 1) = dropped ws (2 * n + 1) ∙ ap (slice_index ws) j in
+    ap (λ (ps : List model.Pair). record { key = slice_index ws 0; word = slice_index ws 1 } ∷ ps) (e ∙ (λ i. pairs_in n (drop 2 ws) ++ record { key = a i; word = b i } ∷ []))
+  where
+    dropped : (xs : List ℕ) (i : ℕ) → slice_index (drop 2 xs) i ≡ slice_index xs (i + 2)
+    dropped [] i = refl
+    dropped (x ∷ []) i = let e : suc (suc i) ≡ i + 2 = omega arith in ap (slice_index (x ∷ [])) e
+    dropped (x ∷ y ∷ xs) i = let e : suc (suc i) ≡ i + 2 = omega arith in ap (slice_index (x ∷ y ∷ xs)) e
+
+pairs_next : (n : ℕ) (ws : List ℕ) → pairs_in (n + 1) ws ≡ pairs_in n ws ++ record { key = slice_index ws (2 * n); word = slice_index ws (2 * n + 1) } ∷ []
+pairs_next n ws = let e : n + 1 ≡ suc n = omega arith in ap (λ k. pairs_in k ws) e ∙ pairs_suc n ws
+
+-- one more pair is set
+pub first_more : (ws : List ℕ) (ps : List Pair) (n : ℕ) → n < length ps → map model_pair (take n ps) ≡ pairs_in n ws
+    → map model_pair (take (n + 1) (set ps n (record { key = slice_index ws (2 * n); word = slice_index ws (2 * n + 1) }))) ≡ pairs_in (n + 1) ws
+first_more ws ps n lt e =
+    let p : Pair = record { key = slice_index ws (2 * n); word = slice_index ws (2 * n + 1) } in
+    ap (map model_pair) (take_more_set ps n p lt) ∙ (map-append model_pair (take n ps) (p ∷ []) ∙ (ap (λ (qs : List model.Pair). qs ++ model_pair p ∷ []) e ∙ sym (pairs_next n ws)))
+
+pub fits_more : (ps : List Pair) (n : ℕ) (p : Pair) → n < length ps → All PairFits (take n ps) → PairFits p → All PairFits (take (n + 1) (set ps n p))
+fits_more ps n p lt f one = subst (All PairFits) (sym (take_more_set ps n p lt)) (All-push PairFits (take n ps) p f one)
+
+pub behind : (ps : List Pair) (n count : ℕ) (p : Pair) → n < count → drop count (set ps n p) ≡ drop count ps
+behind [] n count p lt = refl
+behind (x ∷ xs) n zero p lt = absurd (omega arith)
+behind (x ∷ xs) zero (suc count) p lt = refl
+behind (x ∷ xs) (suc n) (suc count) p lt = behind xs n count p (omega arith)
+
+pub none_behind : (count : ℕ) → count ≤ 60 → drop count (replicate {A = Pair} 60 no_pair) ≡ replicate (60 - count) no_pair
+none_behind count le = go 60 count le
+  where
+    go : (n a : ℕ) → a ≤ n → drop a (replicate {A = Pair} n no_pair) ≡ replicate (n - a) no_pair
+    go n zero l = let e : n - 0 ≡ n = omega arith in ap (λ k. replicate {A = Pair} k no_pair) (sym e)
+    go zero (suc a) l = absurd (omega arith)
+    go (suc n) (suc a) l = let e : suc n - suc a ≡ n - a = omega arith in go n a (omega arith) ∙ ap (λ k. replicate {A = Pair} k no_pair) (sym e)

@@ -1,0 +1,123 @@
+use Rattle.std.proofs.Common.{◌≡◌, ◌≢◌, ◌∙◌, ◌<◌, ◌≤◌, refl, ap, sym, subst, arith, Bool, true, false}
+use Rattle.core_state.specs.States.{Worker}
+use Rattle.rows_trait.specs.Views.{Shape, state}
+use Rattle.lean_proto.proofs.Owns.{own_after}
+use Rattle.btree_descent.proofs.Calls.{sound_given, sound_after}
+use Rattle.row_image.specs.Images.{written}
+use Rattle.btree_smo.specs.Inside.{IsFrame, StandsIn, Stood}
+use Rattle.btree_smo.proofs.Waiting.{stood_then, stood_shape, frame_on, stands_on}
+use Rattle.btree_smo.proofs.Reading.{refused_after}
+use Rattle.btree_smo.proofs.Looking.{not_full, tall, root_spent, none_there, not_free, child_spent, root_there, lifting_at, missed_unfit}
+use Rattle.btree_smo.proofs.lift.look.Goals as goal
+
+pub page_in-requires-2-clause-frame : goal.page_in-requires-2-clause-frame
+page_in-requires-2-clause-frame g c =
+    subst (λ (y : Shape). IsFrame y (g.R.Rows.view c.page_in.new.seat) c.args.child.now.row) (sym c.page_in.ensures.fits.1) (frame_on c.page_in.ensures.stood c.requires.two.second)
+
+pub page_in-requires-2-clause-sound : goal.page_in-requires-2-clause-sound
+page_in-requires-2-clause-sound g c = sound_given (g.R.Rows.view c.args.seat.now) (g.R.Rows.view c.page_in.new.seat) c.page_in.ensures.stood.waited.ran.given c.requires.sound
+
+pub returns-in_default-page_in-clause-err : goal.returns-in_default-page_in-clause-err
+returns-in_default-page_in-clause-err g c =
+    let k = stood_then c.page_in.ensures.stood (stood_shape c.page_in.ensures.fits.1 c.page_in-2.ensures.stood) in
+    let sound = sound_after (g.R.Rows.view c.args.seat.now) (g.R.Rows.view c.page_in-2.new.seat) k.waited.ran.given c.requires.sound in
+    (k, none_there sound c.in_default-page_in.ensures.none)
+
+pub returns-then-count-ne-ROOM-clause-err : goal.returns-then-count-ne-ROOM-clause-err
+returns-then-count-ne-ROOM-clause-err g c =
+    let s1 = c.page_in.ensures.stood in
+    let s2 = stood_shape c.page_in.ensures.fits.1 c.page_in-2.ensures.stood in
+    let k = stood_then s1 s2 in
+    let w = g.R.Rows.view c.page_in-2.new.seat in
+    let sound = sound_after (g.R.Rows.view c.args.seat.now) w k.waited.ran.given c.requires.sound in
+    let f = frame_on s1 c.requires.two.first in
+    let root = subst (λ q. StandsIn w.given (state w) q c.in-Some.node) c.requires.first (stands_on s2.waited f.frames f.mine c.in-Some.ensures.some) in
+    (k, not_full sound c.in-Some.node root c.args.root.now.row c.requires.first (λ e. c.if-count-ne-ROOM.true (c.count.ensures.answer ∙ e)))
+
+pub returns-then-is_live-clause-err : goal.returns-then-is_live-clause-err
+returns-then-is_live-clause-err g c =
+    let s2 = stood_shape c.page_in.ensures.fits.1 c.page_in-2.ensures.stood in
+    let k = stood_then c.page_in.ensures.stood s2 in
+    let w = g.R.Rows.view c.page_in-2.new.seat in
+    let sound = sound_after (g.R.Rows.view c.args.seat.now) w k.waited.ran.given c.requires.sound in
+    (k, not_free sound c.in-Some-page_in.free c.in-Some-page_in.ensures.some (sym c.is_live.ensures ∙ c.if-is_live.true))
+
+pub returns-then-level-eq-TOP-clause-err : goal.returns-then-level-eq-TOP-clause-err
+returns-then-level-eq-TOP-clause-err g c =
+    let s1 = c.page_in.ensures.stood in
+    let s2 = stood_shape c.page_in.ensures.fits.1 c.page_in-2.ensures.stood in
+    let k = stood_then s1 s2 in
+    let w = g.R.Rows.view c.page_in-2.new.seat in
+    let sound = sound_after (g.R.Rows.view c.args.seat.now) w k.waited.ran.given c.requires.sound in
+    let f = frame_on s1 c.requires.two.first in
+    let root = subst (λ q. StandsIn w.given (state w) q c.in-Some.node) c.requires.first (stands_on s2.waited f.frames f.mine c.in-Some.ensures.some) in
+    (k, tall sound c.in-Some.node root (sym c.level.ensures.answer ∙ c.if-level-eq-TOP.true))
+
+pub returns-then-gsn-ge-LAST_NUMBER-clause-err : goal.returns-then-gsn-ge-LAST_NUMBER-clause-err
+returns-then-gsn-ge-LAST_NUMBER-clause-err g c =
+    let s1 = c.page_in.ensures.stood in
+    let s2 = stood_shape c.page_in.ensures.fits.1 c.page_in-2.ensures.stood in
+    let k = stood_then s1 s2 in
+    let w = g.R.Rows.view c.page_in-2.new.seat in
+    let sound = sound_after (g.R.Rows.view c.args.seat.now) w k.waited.ran.given c.requires.sound in
+    let f = frame_on s1 c.requires.two.first in
+    let root = subst (λ q. StandsIn w.given (state w) q c.in-Some.node) c.requires.first (stands_on s2.waited f.frames f.mine c.in-Some.ensures.some) in
+    (k, root_spent sound c.in-Some.node root (subst (λ x. Rattle.btree_descent.specs.declared.put.TheConstants.LAST_NUMBER ≤ x) c.gsn.ensures c.if-gsn-ge-LAST_NUMBER.true))
+
+pub returns-then-gsn-ge-LAST_NUMBER-2-clause-err : goal.returns-then-gsn-ge-LAST_NUMBER-2-clause-err
+returns-then-gsn-ge-LAST_NUMBER-2-clause-err g c =
+    let s2 = stood_shape c.page_in.ensures.fits.1 c.page_in-2.ensures.stood in
+    let k = stood_then c.page_in.ensures.stood s2 in
+    let w = g.R.Rows.view c.page_in-2.new.seat in
+    let sound = sound_after (g.R.Rows.view c.args.seat.now) w k.waited.ran.given c.requires.sound in
+    (k, child_spent sound c.in-Some-page_in.free c.in-Some-page_in.ensures.some (subst (λ x. Rattle.btree_descent.specs.declared.put.TheConstants.LAST_NUMBER ≤ x) c.gsn-2.ensures c.if-gsn-ge-LAST_NUMBER-2.true))
+
+pub image-requires-clause-sound : goal.image-requires-clause-sound
+image-requires-clause-sound g c =
+    let k = stood_then c.page_in.ensures.stood (stood_shape c.page_in.ensures.fits.1 c.page_in-2.ensures.stood) in
+    sound_given (g.R.Rows.view c.args.seat.now) (g.R.Rows.view c.page_in-2.new.seat) k.waited.ran.given c.requires.sound
+
+pub image-requires-clause-frame : goal.image-requires-clause-frame
+image-requires-clause-frame g c =
+    let k = stood_then c.page_in.ensures.stood (stood_shape c.page_in.ensures.fits.1 c.page_in-2.ensures.stood) in
+    subst (λ (y : Shape). IsFrame y (g.R.Rows.view c.page_in-2.new.seat) c.args.root.now.row) (sym (c.page_in-2.ensures.fits.1 ∙ c.page_in.ensures.fits.1)) (frame_on k c.requires.two.first)
+
+pub image-requires-clause-stands : goal.image-requires-clause-stands
+image-requires-clause-stands g c =
+    let s2 = stood_shape c.page_in.ensures.fits.1 c.page_in-2.ensures.stood in
+    let f = frame_on c.page_in.ensures.stood c.requires.two.first in
+    stands_on s2.waited f.frames f.mine c.in-Some.ensures.some
+
+pub returns-in-Ok-clause-stood : goal.returns-in-Ok-clause-stood
+returns-in-Ok-clause-stood g c =
+    let k = stood_then c.page_in.ensures.stood (stood_shape c.page_in.ensures.fits.1 c.page_in-2.ensures.stood) in
+    stood_then k (stood_shape (c.page_in-2.ensures.fits.1 ∙ c.page_in.ensures.fits.1) c.in-Ok.ensures.stood)
+
+pub returns-in-Ok-clause-ok : goal.returns-in-Ok-clause-ok
+returns-in-Ok-clause-ok g c =
+    let y = g.R.Rows.shape c.args.rows.now in
+    let v = g.R.Rows.view c.args.seat.now in
+    let w = g.R.Rows.view c.image.new.seat in
+    let s1 = c.page_in.ensures.stood in
+    let s2 = stood_shape c.page_in.ensures.fits.1 c.page_in-2.ensures.stood in
+    let s3 = stood_shape (c.page_in-2.ensures.fits.1 ∙ c.page_in.ensures.fits.1) c.in-Ok.ensures.stood in
+    let f1 = frame_on s1 c.requires.two.first in
+    let f2 = frame_on (stood_then s1 s2) c.requires.two.second in
+    let k = stood_then (stood_then s1 s2) s3 in
+    let s23 = stood_then s2 s3 in
+    let root = subst (λ q. StandsIn w.given (state w) q c.in-Some.node) c.requires.first (stands_on s23.waited f1.frames f1.mine c.in-Some.ensures.some) in
+    let child = stands_on s3.waited f2.frames f2.mine c.in-Some-page_in.ensures.some in
+    let own = own_after y.alone v w c.args.worker c.requires.actor k.waited.ran in
+    let bound = c.level.ensures.bound in
+    let top : c.level.result ≢ 7 = c.if-level-eq-TOP.false in
+    let low : c.in-Some.node.node.level < 7 = (let e = c.level.ensures.answer in omega arith) in
+    let a : c.in-Some.node.gsn < Rattle.btree_descent.specs.declared.put.TheConstants.LAST_NUMBER = (let e = c.gsn.ensures in let h = c.if-gsn-ge-LAST_NUMBER.false in omega arith) in
+    let b : c.in-Some-page_in.free.gsn < Rattle.btree_descent.specs.declared.put.TheConstants.LAST_NUMBER = (let e = c.gsn-2.ensures in let h = c.if-gsn-ge-LAST_NUMBER-2.false in omega arith) in
+    lifting_at c.args.worker c.args.child.now.row (record { root = c.in-Some.node; child = c.in-Some-page_in.free; image = c.in-Ok.image }) (sound_given v w k.waited.ran.given c.requires.sound) (ap (λ (q : Worker). q.is_open) own.worker ∙ c.requires.may.is_open)
+    root child c.in-Ok.ensures.ok (sym c.count.ensures.answer ∙ c.if-count-ne-ROOM.false) (sym c.is_live.ensures ∙ c.if-is_live.false) low a b
+
+pub returns-in-Err-clause-err : goal.returns-in-Err-clause-err
+returns-in-Err-clause-err g c =
+    let k = stood_then c.page_in.ensures.stood (stood_shape c.page_in.ensures.fits.1 c.page_in-2.ensures.stood) in
+    let e = c.in-Err.ensures.err in
+    missed_unfit c.args.child.now.row c.in-Err.why e.0 (refused_after k (subst (λ (y : Shape). Rattle.btree_smo.specs.Inside.Refused y.alone (g.R.Rows.view c.page_in-2.new.seat) (g.R.Rows.view c.image.new.seat)) (c.page_in-2.ensures.fits.1 ∙ c.page_in.ensures.fits.1) e.1))
