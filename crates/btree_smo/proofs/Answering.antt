@@ -145,17 +145,17 @@ unfit_raised worker frame v rs now c (Unstaged u) n m = absurd n
 
 -- ## After the latches
 
-onward_after : {alone : Bool} {v u : View} {past : List Event} → Ran alone v [] u → Onward alone u past → Onward alone v past
+pub onward_after : {alone : Bool} {v u : View} {past : List Event} → Ran alone v [] u → Onward alone u past → Onward alone v past
 onward_after {v = v} r o = record {
   between = r.more ++ o.between;
   whole = o.whole ∙ (ap (λ es. es ++ o.between) r.seen ∙ append_assoc v.seen r.more o.between);
   quiet = λ y i. r.all y i ++ o.quiet y i;
 }
 
-missed_after : {alone : Bool} {v u w : View} → Ran alone v [] u → Missed alone u w → Missed alone v w
+pub missed_after : {alone : Bool} {v u w : View} → Ran alone v [] u → Missed alone u w → Missed alone v w
 missed_after {alone} {v} {u} {w} r m = record { events = m.events; ran = ran_append alone v [] u m.events w r m.ran; misses = m.misses }
 
-so_after : {alone : Bool} {v u w : View} {P : Moment → Type 0} → Ran alone v [] u → WasSo alone u w P → WasSo alone v w P
+unfoldable pub so_after : {alone : Bool} {v u w : View} {P : Moment → Type 0} → Ran alone v [] u → WasSo alone u w P → WasSo alone v w P
 so_after r s = record { past = s.past; onward = onward_after r s.onward; later = s.later; seen = s.seen; so = s.so }
 
 pub raised_after : {alone : Bool} {v u : View} (worker frame : ℕ) (w : View) (rs now : List Record) (c : Clock) (why : Outcome) → Ran alone v [] u → Raised alone worker frame u rs why w c now → Raised alone worker frame v rs why w c now

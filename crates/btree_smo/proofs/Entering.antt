@@ -149,7 +149,7 @@ module _ {z : Shape} {u : View} {worker a b : ℕ} (l : Lifting) (t : HoldsTwo z
 
 -- ## The whole call
 
-onward_all : {alone : Bool} {v u : View} (s : Waited alone v u) (between : List Event) → (alone ≡ true → between ≡ []) → Onward alone v (u.seen ++ between)
+pub onward_all : {alone : Bool} {v u : View} (s : Waited alone v u) (between : List Event) → (alone ≡ true → between ≡ []) → Onward alone v (u.seen ++ between)
 onward_all {v = v} s between quiet = record {
   between = s.between ++ between;
   whole = ap (λ ys. ys ++ between) s.seen ∙ append_assoc v.seen s.between between;
@@ -187,7 +187,7 @@ lifted_done {z} {v} {u} {w} {worker} {a} {b} l t first it actor sound stood went
 pub given_up : {alone : Bool} {v u w : View} → Stood alone v u → Missed alone u w → Missed alone v w
 given_up {alone} {v} {u} {w} s m = record { events = m.events; ran = ran_append alone v [] u m.events w s.waited.ran m.ran; misses = m.misses }
 
-pub was_so : {alone : Bool} {v u w : View} {P : Moment → Type 0} → Stood alone v u → Missed alone u w → P (state u) → WasSo alone v w P
+unfoldable pub was_so : {alone : Bool} {v u w : View} {P : Moment → Type 0} → Stood alone v u → Missed alone u w → P (state u) → WasSo alone v w P
 was_so {alone} {v} {u} {w} {P} s m so = record {
   past = u.seen;
   onward = record { between = s.waited.between; whole = s.waited.seen; quiet = s.waited.quiet };

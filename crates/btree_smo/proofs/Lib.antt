@@ -12,3 +12,10 @@ pub mod Looking
 pub mod LiftedPages
 pub mod Entering
 pub mod Answering
+pub mod PublishingThree
+pub mod Parting
+pub mod SplitPages
+pub mod Naming
+pub mod LookingSplit
+pub mod EnteringSplit
+pub mod AnsweringSplit

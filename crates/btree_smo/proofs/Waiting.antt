@@ -24,7 +24,7 @@ use Rattle.lean_proto.proofs.Meanwhile.{apart_as}
 use Rattle.lean_proto.proofs.Near.{SameNear, near_on}
 use Rattle.page_model.specs.Page as stored
 use Rattle.row_image.specs.Inside.{Watched}
-use Rattle.btree_smo.specs.Inside.{Waited, Stood, IsFrame, HoldsTwo, StandsIn}
+use Rattle.btree_smo.specs.Inside.{Waited, Stood, IsFrame, HoldsTwo, HoldsThree, StandsIn}
 
 -- ## One after another
 
@@ -133,3 +133,6 @@ stands_on {v = v} {w = w} {row = row} {n = n} k lt mine s =
 -- two held frames
 pub two_on : {z : Shape} {v w : View} {a b : ℕ} → Stood z.alone v w → HoldsTwo z v a b → HoldsTwo z w a b
 two_on s t = record { first = frame_on s t.first; second = frame_on s t.second; apart = t.apart; only = λ q h. t.only q (sym (s.waited.rows q) ∙ h) }
+
+pub three_on : {z : Shape} {v w : View} {a b d : ℕ} → Stood z.alone v w → HoldsThree z v a b d → HoldsThree z w a b d
+three_on s t = record { first = frame_on s t.first; second = frame_on s t.second; third = frame_on s t.third; apart = t.apart; far = t.far; near = t.near; only = λ q h. t.only q (sym (s.waited.rows q) ∙ h) }

@@ -68,6 +68,16 @@ pub record HoldsTwo (z : Shape) (v : View) (a b : ℕ) : Type 0 where
   pub apart : a ≢ b
   pub only : (q : ℕ) → holds v.held q ≡ true → (q ≡ a) ⊎ (q ≡ b)
 
+-- three of them
+pub record HoldsThree (z : Shape) (v : View) (a b d : ℕ) : Type 0 where
+  pub first : IsFrame z v a
+  pub second : IsFrame z v b
+  pub third : IsFrame z v d
+  pub apart : a ≢ b
+  pub far : a ≢ d
+  pub near : b ≢ d
+  pub only : (q : ℕ) → holds v.held q ≡ true → (q ≡ a) ⊎ ((q ≡ b) ⊎ (q ≡ d))
+
 -- a row that is held with the words that it had
 pub record IsKept (z : Shape) (v : View) (row : ℕ) : Type 0 where
   pub mine : holds v.held row ≡ true
@@ -81,6 +91,16 @@ pub record KeepsTwo (z : Shape) (v : View) (a b : ℕ) : Type 0 where
   pub second : IsKept z v b
   pub apart : a ≢ b
   pub only : (q : ℕ) → holds v.held q ≡ true → (q ≡ a) ⊎ (q ≡ b)
+
+-- three of them
+pub record KeepsThree (z : Shape) (v : View) (a b d : ℕ) : Type 0 where
+  pub first : IsKept z v a
+  pub second : IsKept z v b
+  pub third : IsKept z v d
+  pub apart : a ≢ b
+  pub far : a ≢ d
+  pub near : b ≢ d
+  pub only : (q : ℕ) → holds v.held q ≡ true → (q ≡ a) ⊎ ((q ≡ b) ⊎ (q ≡ d))
 
 -- other words were stored in a row
 pub record Wrote (alone : Bool) (row : ℕ) (words : List ℕ) (v w : View) : Type 0 where

@@ -13,3 +13,4 @@ pub mod lift;
 pub mod outcome;
 mod record;
 mod release;
+pub mod split;
