@@ -55,13 +55,20 @@ cant_fit {parent = parent} (Full row) sound s l r p c = (s, record { row_is = c.
 cant_fit TooTall sound s l r p c = absurd c
 cant_fit {w = w} {left = left} (Stale row) sound s l r p (inl c) = (s, record { either = inl (c.0, λ q h e. c.1 ((reads l).count ∙ (ap (λ x. length ((state w).core.page x).node.pairs) (one_page left.number q sound.residence l.stands h) ∙ e))) })
 cant_fit {w = w} {right = right} (Stale row) sound s l r p (inr (inl c)) = (s, record { either = inr (inl (c.0, λ q h. ap (λ x. ((state w).core.page x).node.live) (one_page q right.number sound.residence h r.stands) ∙ (sym (reads r).live ∙ c.1))) })
-cant_fit {w = w} {a = a} {left = left} {parent = parent} (Stale row) sound s l r p (inr (inr c)) =
-    (s, record { either = inr (inr (c.0, λ x y h k named.
-        let xl = one_page x left.number sound.residence h l.stands in
-        let yp = one_page y parent.number sound.residence k p.stands in
-        let full : length ((state w).core.page x).node.pairs ≡ 60 = ap (λ z. length ((state w).core.page z).node.pairs) xl ∙ (sym (reads l).count ∙ c.1) in
-        let it = named_leads sound parent p a x h full (subst (λ z. names_page ((state w).core.page z).node x ≡ true) yp named) in
-        c.2 (subst (λ z. Leads z a parent) (ap (λ z. key_at 30 ((state w).core.page z).node.pairs) xl ∙ sym (sep_is left l)) it))) })
+cant_fit {w = w} {a = a} {left = left} {parent = parent} (Stale row) sound s l r p (inr (inr c)) = (
+  s,
+  record {
+    either = inr (inr (
+      c.0,
+      λ x y h k named.
+          let xl = one_page x left.number sound.residence h l.stands in
+          let yp = one_page y parent.number sound.residence k p.stands in
+          let full : length ((state w).core.page x).node.pairs ≡ 60 = ap (λ z. length ((state w).core.page z).node.pairs) xl ∙ (sym (reads l).count ∙ c.1) in
+          let it = named_leads sound parent p a x h full (subst (λ z. names_page ((state w).core.page z).node x ≡ true) yp named) in
+          c.2 (subst (λ z. Leads z a parent) (ap (λ z. key_at 30 ((state w).core.page z).node.pairs) xl ∙ sym (sep_is left l)) it),
+    ));
+  },
+)
 cant_fit (Moved m) sound s l r p c = absurd c
 cant_fit (Latched x) sound s l r p c = absurd c
 cant_fit (RowSpent row) sound s l r p c = absurd c

@@ -310,7 +310,9 @@ fn make<R: Rows>(
         worker,
         number,
     );
-    finish(rows, seat, first, second, third, &left, &right, &parent, &event);
+    finish(
+        rows, seat, first, second, third, &left, &right, &parent, &event,
+    );
 }
 
 // Splits the page of the first held row into the second one, under the third.

@@ -23,9 +23,12 @@ publish_as-requires-clause-event g c =
     let child = c.args.child.now in
     let f1 = c.store.ensures.fits in
     let f2 = c.store-2.ensures.fits in
-    let w2 = subst (λ (y : Shape). Wrote y.alone c.args.second.row (words_of child ++ drop 126 (held_at u1.held c.args.second.row).now) u1 u2) f1.1 c.store-2.ensures.wrote in
-    (e, refl, may_publish_at z (g.R.Rows.shape c.store-2.new.rows) c.args.first.row c.store.new.hold.row e u2 (f2.1 ∙ f1.1) f1.2
-    (may_raise it (two_waited root child it.two c.store.ensures.wrote w2) (first_node root child it.two c.store.ensures.wrote w2) (second_node root child it.two c.store.ensures.wrote w2)))
+    let w2 = subst (λ (y : Shape). Wrote y.alone c.args.second.row (words_of child ++ drop 126 (held_at u1.held c.args.second.row).now) u1 u2) f1.1 c.store-2.ensures.wrote in (
+      e,
+      refl,
+      may_publish_at z (g.R.Rows.shape c.store-2.new.rows) c.args.first.row c.store.new.hold.row e u2 (f2.1 ∙ f1.1) f1.2
+          (may_raise it (two_waited root child it.two c.store.ensures.wrote w2) (first_node root child it.two c.store.ensures.wrote w2) (second_node root child it.two c.store.ensures.wrote w2)),
+    )
 
 pub release-requires-clause-held : goal.release-requires-clause-held
 release-requires-clause-held g c =

@@ -31,9 +31,12 @@ publish_as-requires-clause-event g c =
     let f3 = c.store-3.ensures.fits in
     let w2 = subst (λ (y : Shape). Wrote y.alone b (words_of right ++ drop 126 (held_at u1.held b).now) u1 u2) f1.1 c.store-2.ensures.wrote in
     let w3 = subst (λ (y : Shape). Wrote y.alone d (words_of parent ++ drop 126 (held_at u2.held d).now) u2 u3) (f2.1 ∙ f1.1) c.store-3.ensures.wrote in
-    let k = three_waited left right parent it.three c.store.ensures.wrote w2 w3 in
-    (e, (λ i. Split n.worker n.left n.right n.parent (c.requires.place i) ∷ []), may_publish_at z (g.R.Rows.shape c.store-3.new.rows) c.args.first.row c.store.new.hold.row e u3 (f3.1 ∙ (f2.1 ∙ f1.1)) f1.2
-    (may_part it k (node_a left right parent it.three c.store.ensures.wrote w2 w3) (node_b left right parent it.three c.store.ensures.wrote w2 w3) (node_d left right parent it.three c.store.ensures.wrote w2 w3)))
+    let k = three_waited left right parent it.three c.store.ensures.wrote w2 w3 in (
+      e,
+      (λ i. Split n.worker n.left n.right n.parent (c.requires.place i) ∷ []),
+      may_publish_at z (g.R.Rows.shape c.store-3.new.rows) c.args.first.row c.store.new.hold.row e u3 (f3.1 ∙ (f2.1 ∙ f1.1)) f1.2
+          (may_part it k (node_a left right parent it.three c.store.ensures.wrote w2 w3) (node_b left right parent it.three c.store.ensures.wrote w2 w3) (node_d left right parent it.three c.store.ensures.wrote w2 w3)),
+    )
 
 pub release-requires-clause-held : goal.release-requires-clause-held
 release-requires-clause-held g c =

@@ -23,4 +23,3 @@ finish-requires-clause-parted g c =
     subst (λ x. IsParted z v c.args.worker x c.number-2.result c.number-3.result a b d c.part.new.left c.part.new.right c.part.new.parent) (sym c.number.ensures)
     (subst (λ x. IsParted z v c.args.worker l.left.number x c.number-3.result a b d c.part.new.left c.part.new.right c.part.new.parent) (sym c.number-2.ensures)
     (subst (λ x. IsParted z v c.args.worker l.left.number l.right.number x a b d c.part.new.left c.part.new.right c.part.new.parent) (sym c.number-3.ensures) it))
-
