@@ -42,6 +42,10 @@ missed_then {alone} {v} {u} {w} a b = record { events = a.events ++ b.events; ra
 
 -- ## Rows that are latched one after the other
 
+-- another row than the one that was latched is held as before
+pub took_other : {z : Shape} {v u : View} {a : ℕ} (q : ℕ) → a ≢ q → Took z a v u → holds v.held q ≡ false → holds u.held q ≡ false
+took_other {v = v} {a = a} q ne t none = ap (λ hs. holds hs q) t.held ∙ (cond-false (a == q) true (holds v.held q) (ne_eqb a q ne) ∙ none)
+
 module _ {z : Shape} {v u w : View} {a b : ℕ} (none : v.held ≡ []) (first : Took z a v u) (second : Took z b u w) where
   held_is : w.held ≡ hold b second.version second.was second.was false ∷ hold a first.version first.was first.was false ∷ []
   held_is = second.held ∙ ap (λ hs. hold b second.version second.was second.was false ∷ hs) (first.held ∙ ap (λ hs. hold a first.version first.was first.was false ∷ hs) none)

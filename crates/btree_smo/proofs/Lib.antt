@@ -8,6 +8,7 @@ pub mod Leaving
 pub mod Publishing
 pub mod Raising
 pub mod Reading
+pub mod Children
 pub mod Looking
 pub mod LiftedPages
 pub mod Entering

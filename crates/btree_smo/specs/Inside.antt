@@ -1,5 +1,6 @@
 -- Words of private functions: rows that are held, and the pages that stand in them.
 use Rattle.std.specs.Prelude.{◌≡◌, ◌≢◌, ◌≤◌, ◌<◌, ◌+◌, ◌-◌, ◌^◌, ◌⊎◌, ℕ, Bool, true, false, List, [], ◌∷◌, ◌++◌, length}
+use Rattle.page_model.specs.Check.{names_page}
 use Rattle.page_model.specs.Page as stored
 use Rattle.core_state.specs.States.{Place, State}
 use Rattle.core_state.specs.Events as happening
@@ -140,6 +141,10 @@ IsUndrawn _ = Unit {0}
 pub record StandsIn (v : Given) (m : Moment) (row : ℕ) (n : stored.Page) : Type 0 where
   pub stands : IsHotIn v m row n.number
   pub page : n ≡ framed_page m.core n.number n.generation
+
+-- no frame is held in which a page stands hot that this page names
+abbrev pub NoChildHeld : View → ℕ → Type 0
+NoChildHeld v p = (c f : ℕ) → names_page ((state v).core.page p).node c ≡ true → (state v).core.place c ≡ Place.Hot f → holds v.held f ≡ false
 
 -- no page does
 abbrev pub IsBare : Given → Moment → ℕ → Type 0

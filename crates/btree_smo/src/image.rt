@@ -4,7 +4,7 @@ ghost use Rattle.rows_trait.specs.Views.{may, state};
 ghost use Rattle.btree_descent.specs.Known.{IsSound};
 ghost use Rattle.btree_descent.specs.Descents.{Sized};
 ghost use Rattle.row_image.specs.Images.{written};
-ghost use Rattle.btree_smo.specs.Inside.{Stood, IsFrame, StandsIn, Refused, IsMissed};
+ghost use Rattle.btree_smo.specs.Inside.{Stood, IsFrame, StandsIn, Refused, IsMissed, NoChildHeld};
 
 use crate::outcome::Outcome;
 use btree_node::Node;
@@ -30,6 +30,7 @@ pub(crate) fn image<R: Rows>(
     ensures fits { R.fits rows.new seat.new × (R.shape rows.new ≡ R.shape rows.old) }
     ensures stood { IfOk result (λ _. Stood (R.shape rows.old).alone (R.view seat.old) (R.view seat.new)) }
     ensures ok { IfOk result (λ page. page ≡ written (state (R.view seat.new)).core node.now.number node.now.generation) }
+    ensures quiet { IfErr result (λ _. (R.shape rows.old).alone ≡ true → NoChildHeld (R.view seat.old) node.now.number → ⊥) }
     ensures err { IfErr result (λ why. IsMissed why × Refused (R.shape rows.old).alone (R.view seat.old) (R.view seat.new)) }
 {
     let mut words = *node.words();

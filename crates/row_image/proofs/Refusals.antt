@@ -1,5 +1,5 @@
 -- The two ways in which a part of a call refuses.
-use Rattle.std.proofs.Common.{◌≡◌, ◌≢◌, ◌%◌, ℕ, true, [], ◌∷◌, Some, sym, ap, ◌∙◌, arith}
+use Rattle.std.proofs.Common.{◌≡◌, ◌≢◌, ◌%◌, ℕ, true, [], ◌∷◌, Some, refl, sym, ap, ◌∙◌, arith}
 use Rattle.row_words.specs.declared.event.Event.TheVariants.{Miss}
 use Rattle.rows_trait.specs.declared.view.View.{View}
 use Rattle.rows_trait.specs.Views.{Shape, latest, holds, may}
@@ -17,19 +17,25 @@ use Rattle.row_image.specs.Inside.{Watched, Refused}
 
 -- a row was held
 pub start_refused : {z : Shape} {row : ℕ} {v w : View} (actor : ℕ) (l : Latched) → may z.alone v actor ≡ true → l.word % 2 ≡ 1 → Looked z row (missed actor) v l.word w → IsLatched l.row l.word v w
-    → Refused z.alone actor v (unseen.Latched l) w
+    → Refused z.alone actor (λ q. q ≡ row) v (unseen.Latched l) w
 start_refused {z = z} {row = row} {v = v} {w = w} actor l m odd look why = record {
   ran = looked_ran z row l.word (missed actor) v w (Miss actor ∷ []) look (missed_odd actor l.word odd) (m, tt);
   cause = λ u o. latched_before l.row l.word u v w o why;
-  never = λ alone none. let e = look.free alone (ap (λ z. holds z row) none) in absurd (omega arith);
+  held = look.held;
+  at = row;
+  one = refl;
+  never = λ alone none. let e = look.free alone none in absurd (omega arith);
 }
 
 -- a row had moved
 pub check_refused : {z : Shape} {row version : ℕ} {v u w : View} (actor : ℕ) (m : Moved) → may z.alone v actor ≡ true → Watched z.alone v u → HasFound row version v u
     → (z.alone ≡ true → latest row u.steps ≡ Some version) → m.seen ≡ version → m.found ≢ m.seen → Looked z row (checked actor version) u m.found w
-    → ((a : View) → HasFound row version a u → HasMoved m.row m.seen m.found a w) → Refused z.alone actor v (unseen.Moved m) w
+    → ((a : View) → HasFound row version a u → HasMoved m.row m.seen m.found a w) → Refused z.alone actor (λ q. q ≡ row) v (unseen.Moved m) w
 check_refused {z = z} {row = row} {version = version} {v = v} {u = u} {w = w} actor m own k found last seen ne look why = record {
   ran = ran_append z.alone v [] u (Miss actor ∷ []) w k.ran (looked_ran z row m.found (checked actor version) u w (Miss actor ∷ []) look (checked_other actor version m.found (λ e. ne (e ∙ sym seen))) (may_ran z.alone v u [] actor k.ran own, tt));
   cause = λ a o. why a (found_before row version a v u o found);
+  held = look.held ∙ k.held;
+  at = row;
+  one = refl;
   never = λ alone none. ne (look.steady alone version (last alone) ∙ sym seen);
 }

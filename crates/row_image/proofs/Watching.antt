@@ -163,15 +163,26 @@ named_more alone frames n v w u was now y size small before step a one = record 
 
 -- ## Refusals
 
-pub refused_after : {alone : Bool} {actor : ℕ} {v w u : View} {why : Unseen} → Watched alone v w → Refused alone actor w why u → Refused alone actor v why u
+pub refused_after : {alone : Bool} {actor : ℕ} {IsOne : ℕ → Type 0} {v w u : View} {why : Unseen} → Watched alone v w → Refused alone actor IsOne w why u → Refused alone actor IsOne v why u
 refused_after {alone = alone} {actor = actor} {v = v} {w = w} {u = u} {why = why} k r = record {
   ran = ran_append alone v [] w (Miss actor ∷ []) u k.ran r.ran;
   cause = λ a l. r.cause a (loads_then a v w l k.loads);
-  never = λ y none. r.never y (k.held ∙ none);
+  held = r.held ∙ k.held;
+  at = r.at;
+  one = r.one;
+  never = λ y none. r.never y (ap (λ hs. holds hs r.at) k.held ∙ none);
 }
 
-pub refused_shape : {z y : Shape} {actor : ℕ} {v w : View} {why : Unseen} → z ≡ y → Refused z.alone actor v why w → Refused y.alone actor v why w
-refused_shape {actor = actor} {v = v} {w = w} {why = why} same r = subst (λ (s : Shape). Refused s.alone actor v why w) same r
+-- at one of fewer rows
+pub refused_one : {alone : Bool} {actor : ℕ} {IsOne IsOther : ℕ → Type 0} {v w : View} {why : Unseen} → ((q : ℕ) → IsOne q → IsOther q) → Refused alone actor IsOne v why w → Refused alone actor IsOther v why w
+refused_one f r = record { ran = r.ran; cause = r.cause; held = r.held; at = r.at; one = f r.at r.one; never = r.never }
+
+-- no row is held
+pub never_refused : {alone : Bool} {actor : ℕ} {IsOne : ℕ → Type 0} {v w : View} {why : Unseen} → Refused alone actor IsOne v why w → alone ≡ true → v.held ≡ [] → ⊥
+never_refused r y none = r.never y (ap (λ hs. holds hs r.at) none)
+
+pub refused_shape : {z y : Shape} {actor : ℕ} {IsOne : ℕ → Type 0} {v w : View} {why : Unseen} → z ≡ y → Refused z.alone actor IsOne v why w → Refused y.alone actor IsOne v why w
+refused_shape {actor = actor} {IsOne = IsOne} {v = v} {w = w} {why = why} same r = subst (λ (s : Shape). Refused s.alone actor IsOne v why w) same r
 
 -- what a fact of an error says of its answer
 pub if_err : {A E : Type 0} (r : Result A E) (e : E) (P : E → Type 0) → r ≡ Err e → P e → IfErr r P
@@ -206,5 +217,5 @@ children_within alone frames t v w u was now before after h = record {
   };
 }
 
-pub missed_refused : (alone : Bool) (actor : ℕ) (v w : View) (why : Unseen) → Refused alone actor v why w → IsMissed alone actor v why w
+pub missed_refused : {IsOne : ℕ → Type 0} (alone : Bool) (actor : ℕ) (v w : View) (why : Unseen) → Refused alone actor IsOne v why w → IsMissed alone actor v why w
 missed_refused alone actor v w why r = record { ran = r.ran; cause = r.cause v (loads_none v) }

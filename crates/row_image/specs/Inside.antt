@@ -1,5 +1,5 @@
 -- What is known on the way: of views between which rows were only looked at, of words, and of the children's numbers.
-use Rattle.std.specs.Prelude.{◌≡◌, ◌<◌, ◌≤◌, ◌+◌, ◌-◌, ◌*◌, ◌/◌, ◌%◌, ◌^◌, ℕ, Bool, true, List, [], ◌∷◌, ◌++◌, slice_index, Some}
+use Rattle.std.specs.Prelude.{◌≡◌, ◌<◌, ◌≤◌, ◌+◌, ◌-◌, ◌*◌, ◌/◌, ◌%◌, ◌^◌, ℕ, Bool, true, false, List, [], ◌∷◌, ◌++◌, slice_index, Some}
 use Rattle.btree_node.specs.Words.{Spells}
 use Rattle.core_state.specs.States.{in_frame}
 use Rattle.row_words.specs.declared.event.Event.{Event}
@@ -7,7 +7,7 @@ use Rattle.row_words.specs.declared.event.Event.TheVariants.{Miss}
 use Rattle.row_words.specs.Sealed.{Shown}
 use Rattle.rows_trait.specs.declared.view.Act.{Act}
 use Rattle.rows_trait.specs.declared.view.View.{View}
-use Rattle.rows_trait.specs.Views.{IsEven, AreApart, Has, Knows, latest, state}
+use Rattle.rows_trait.specs.Views.{IsEven, AreApart, Has, Knows, latest, holds, state}
 use Rattle.rows_trait.specs.Causes.{OnlyLoads, HasFound}
 use Rattle.rows_trait.specs.Turns.{Ran}
 use Rattle.row_image.specs.declared.refusal.Unseen.{Unseen}
@@ -53,12 +53,34 @@ pub record HasChildren (alone : Bool) (frames : ℕ) (v : View) (was now : List 
   pub leaf : slice_index was 3 / 256 % 256 ≡ 0 → now ≡ was
   pub inner : 0 < slice_index was 3 / 256 % 256 → AreNamed alone frames 60 v was now w
 
--- A part of a call refused: a miss was appended, with its cause in the whole call; where nobody else steps and no row is held it
--- does not.
-pub record Refused (alone : Bool) (actor : ℕ) (v : View) (why : Unseen) (w : View) : Type 0 where
+-- A part of a call refused at one of these rows: a miss was appended, with its cause in the whole call; where nobody else steps and
+-- the row is not held it does not.
+pub record Refused (alone : Bool) (actor : ℕ) (IsOne : ℕ → Type 0) (v : View) (why : Unseen) (w : View) : Type 0 where
   pub ran : Ran alone v (Miss actor ∷ []) w
   pub cause : (u : View) → OnlyLoads u v → Caused u why w
-  pub never : alone ≡ true → v.held ≡ [] → ⊥
+  pub held : w.held ≡ v.held
+  pub at : ℕ
+  pub one : IsOne at
+  pub never : alone ≡ true → holds v.held at ≡ false → ⊥
+
+-- the row that a word names
+abbrev pub IsRowOf : (frames word : ℕ) → ℕ → Type 0
+IsRowOf frames word row = (2 ^ 63 ≤ word) × (word - 2 ^ 63 < frames → row ≡ word - 2 ^ 63)
+
+-- the row that one of the first sixty pairs' words names
+pub record IsRowIn (frames : ℕ) (words : List ℕ) (row : ℕ) : Type 0 where
+  pub pair : ℕ
+  pub few : pair < 60
+  pub names : IsRowOf frames (slice_index words (7 + 2 * pair)) row
+
+-- the same in a node above leaves
+pub record IsChildRow (frames : ℕ) (words : List ℕ) (row : ℕ) : Type 0 where
+  pub inner : 0 < slice_index words 3 / 256 % 256
+  pub names : IsRowIn frames words row
+
+-- any row
+abbrev pub AnyRow : ℕ → Type 0
+AnyRow row = Unit {0}
 
 -- the page stands in the row, and the words spell it as it is written
 pub record IsSpelled (w : View) (row p generation : ℕ) (words : List ℕ) : Type 0 where

@@ -4,7 +4,7 @@ ghost use Rattle.rows_trait.specs.Layout.{rows_of, width};
 ghost use Rattle.row_words.specs.Sealed.{Shown};
 ghost use Rattle.rows_trait.specs.Views.{may, state};
 ghost use Rattle.btree_descent.specs.Descents.{Sized};
-ghost use Rattle.row_image.specs.Inside.{Watched, IsNamed, AreNamed, HasChildren, Refused};
+ghost use Rattle.row_image.specs.Inside.{Watched, IsNamed, AreNamed, HasChildren, Refused, IsRowOf, IsRowIn, IsChildRow};
 
 use crate::refusal::Unseen;
 use btree_descent::descent::{FRAME, row_of};
@@ -19,7 +19,7 @@ fn number<R: Rows>(rows: &mut R, seat: &mut R::Seat, actor: u32, row: u32) -> Re
     requires actor { may (R.shape rows.old).alone (R.view seat.old) actor ≡ true }
     ensures fits { R.fits rows.new seat.new × (R.shape rows.new ≡ R.shape rows.old) × ((R.view seat.new).held ≡ (R.view seat.old).held) }
     ensures ok { IfOk result (λ n. Watched (R.shape rows.old).alone (R.view seat.old) (R.view seat.new) × Shown (R.view seat.new).given (state (R.view seat.new)) row 0 n) }
-    ensures err { IfErr result (λ why. Refused (R.shape rows.old).alone actor (R.view seat.old) why (R.view seat.new)) }
+    ensures err { IfErr result (λ why. Refused (R.shape rows.old).alone actor (λ q. q ≡ row) (R.view seat.old) why (R.view seat.new)) }
 {
     let glimpse = match Glimpse::start(rows, seat, row, &Misses { worker: actor }) {
         Err(latched) => return Err(Unseen::Latched(latched)),
@@ -49,7 +49,7 @@ fn named<R: Rows>(
     requires actor { may (R.shape rows.old).alone (R.view seat.old) actor ≡ true }
     ensures fits { R.fits rows.new seat.new × (R.shape rows.new ≡ R.shape rows.old) × ((R.view seat.new).held ≡ (R.view seat.old).held) }
     ensures ok { IfOk result (λ n. Watched (R.shape rows.old).alone (R.view seat.old) (R.view seat.new) × IsNamed (R.shape rows.old).alone frames (R.view seat.old) word n (R.view seat.new)) }
-    ensures err { IfErr result (λ why. Refused (R.shape rows.old).alone actor (R.view seat.old) why (R.view seat.new)) }
+    ensures err { IfErr result (λ why. Refused (R.shape rows.old).alone actor (IsRowOf frames word) (R.view seat.old) why (R.view seat.new)) }
 {
     if word < FRAME {
         return Ok(word);
@@ -70,7 +70,7 @@ fn name_pairs<R: Rows>(
     requires actor { may (R.shape rows.old).alone (R.view seat.old) actor ≡ true }
     ensures fits { R.fits rows.new seat.new × (R.shape rows.new ≡ R.shape rows.old) × ((R.view seat.new).held ≡ (R.view seat.old).held) }
     ensures ok { IfOk result (λ _. Watched (R.shape rows.old).alone (R.view seat.old) (R.view seat.new) × AreNamed (R.shape rows.old).alone frames 60 (R.view seat.old) words.old words.new (R.view seat.new)) }
-    ensures err { IfErr result (λ why. Refused (R.shape rows.old).alone actor (R.view seat.old) why (R.view seat.new)) }
+    ensures err { IfErr result (λ why. Refused (R.shape rows.old).alone actor (IsRowIn frames words.old) (R.view seat.old) why (R.view seat.new)) }
 {
     for i in 0..60usize {
         words[7 + 2 * i] = named(rows, seat, actor, frames, words[7 + 2 * i])?;
@@ -91,7 +91,7 @@ pub fn name_children<R: Rows>(
     requires actor { may (R.shape rows.old).alone (R.view seat.old) actor ≡ true }
     ensures fits { R.fits rows.new seat.new × (R.shape rows.new ≡ R.shape rows.old) × ((R.view seat.new).held ≡ (R.view seat.old).held) }
     ensures ok { IfOk result (λ _. Watched (R.shape rows.old).alone (R.view seat.old) (R.view seat.new) × HasChildren (R.shape rows.old).alone frames (R.view seat.old) words.old words.new (R.view seat.new)) }
-    ensures err { IfErr result (λ why. Refused (R.shape rows.old).alone actor (R.view seat.old) why (R.view seat.new)) }
+    ensures err { IfErr result (λ why. Refused (R.shape rows.old).alone actor (IsChildRow frames words.old) (R.view seat.old) why (R.view seat.new)) }
 {
     if words[3] / 256 % 256 == 0 {
         return Ok(());

@@ -10,6 +10,8 @@ use Rattle.btree_smo.specs.Inside.{Took, Refused}
 use Rattle.btree_smo.specs.Lifts.{Raised}
 use Rattle.btree_smo.specs.Outcomes.{Missed}
 use Rattle.btree_smo.proofs.Answering.{took_two, took_one, one_gone, released_missed, missed_then, missed_raised, raised_after}
+use Rattle.rows_trait.specs.Views.{holds}
+use Rattle.btree_smo.proofs.Answering.{took_other}
 use Rattle.btree_smo.proofs.lift.lift.Goals as goal
 
 pub returns-in-Err-latch-clause-raised : goal.returns-in-Err-latch-clause-raised
@@ -76,3 +78,14 @@ returns-clause-raised g c =
     let ran = both z (g.R.Rows.shape c.latch.new.rows) v u w 0 c.args.frame c.in-Ok.ensures.fits.1 c.in-Ok.ensures.ok.1 c.in-Ok-latch.ensures.ok.1 in
     raised_after c.args.worker c.args.frame x rs now clock c.lift_held.result ran
     (subst (λ (q : Shape × ℕ). Raised q.0.alone c.args.worker q.1 w rs c.lift_held.result x clock now) (λ i. (shape i, c.in-Ok-latch.ensures.ok.0 i)) c.lift_held.ensures.raised)
+
+pub returns-in-Err-clause-quiet : goal.returns-in-Err-clause-quiet
+returns-in-Err-clause-quiet g c alone ne = c.in-Err.ensures.quiet alone (ap (λ hs. holds hs 0) c.requires.held)
+
+pub returns-in-Err-latch-clause-quiet : goal.returns-in-Err-latch-clause-quiet
+returns-in-Err-latch-clause-quiet g c alone ne =
+    let o = c.in-Ok.ensures in
+    c.in-Err-latch.ensures.quiet (ap (λ (y : Shape). y.alone) o.fits.1 ∙ alone) (took_other c.args.frame (λ e. ne (sym e)) o.ok.1 (ap (λ hs. holds hs c.args.frame) c.requires.held))
+
+pub returns-clause-quiet : goal.returns-clause-quiet
+returns-clause-quiet g c alone ne = c.lift_held.ensures.quiet (ap (λ (y : Shape). y.alone) (c.in-Ok-latch.ensures.fits.1 ∙ c.in-Ok.ensures.fits.1) ∙ alone)

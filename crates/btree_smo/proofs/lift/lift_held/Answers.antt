@@ -72,3 +72,6 @@ returns-in-Err-stage-clause-raised g c =
     let t = two_on o.stood c.requires.two in
     let missed = subst (λ (y : Shape). Missed y.alone u w) o.fits.1 c.give_up-in-Err-stage.ensures.missed in
     not_lifted c.in-Ok.lifting t c.requires.first o.ok (may_ran z.alone v u [] c.args.worker ran c.requires.actor) (sound_given v u ran.given c.requires.sound) o.stood missed (g.D.Draw.log_of d) (g.D.Draw.txn_of d) (g.D.Draw.clock_of d) (g.D.Draw.clock_of c.stage.new.draw) (g.D.Draw.last_of d) (g.D.Draw.staged_of d) (g.D.Draw.staged_of c.stage.new.draw) dr c.in-Err-stage.ensures.clock c.in-Err-stage.ensures.same.0
+
+pub returns-in-Err-clause-quiet : goal.returns-in-Err-clause-quiet
+returns-in-Err-clause-quiet g c alone = c.in-Err.ensures.quiet alone

@@ -8,6 +8,8 @@ use Rattle.btree_smo.specs.Inside.{IsFrame, StandsIn, Stood}
 use Rattle.btree_smo.proofs.Waiting.{stood_then, stood_shape, frame_on, stands_on}
 use Rattle.btree_smo.proofs.Reading.{refused_after}
 use Rattle.btree_smo.proofs.Looking.{not_full, tall, root_spent, none_there, not_free, child_spent, root_there, lifting_at, missed_unfit}
+use Rattle.btree_smo.proofs.Children.{no_child_two}
+use Rattle.btree_smo.proofs.Waiting.{two_on}
 use Rattle.btree_smo.proofs.lift.look.Goals as goal
 
 pub page_in-requires-2-clause-frame : goal.page_in-requires-2-clause-frame
@@ -121,3 +123,16 @@ returns-in-Err-clause-err g c =
     let k = stood_then c.page_in.ensures.stood (stood_shape c.page_in.ensures.fits.1 c.page_in-2.ensures.stood) in
     let e = c.in-Err.ensures.err in
     missed_unfit c.args.child.now.row c.in-Err.why e.0 (refused_after k (subst (λ (y : Shape). Rattle.btree_smo.specs.Inside.Refused y.alone (g.R.Rows.view c.page_in-2.new.seat) (g.R.Rows.view c.image.new.seat)) (c.page_in-2.ensures.fits.1 ∙ c.page_in.ensures.fits.1) e.1))
+
+pub returns-in-Err-clause-quiet : goal.returns-in-Err-clause-quiet
+returns-in-Err-clause-quiet g c alone =
+    let e1 = c.page_in.ensures.fits.1 in
+    let s1 = c.page_in.ensures.stood in
+    let s2 = stood_shape e1 c.page_in-2.ensures.stood in
+    let k = stood_then s1 s2 in
+    let v = g.R.Rows.view c.args.seat.now in
+    let u = g.R.Rows.view c.page_in-2.new.seat in
+    let f1 = frame_on s1 c.requires.two.first in
+    let root = stands_on s2.waited f1.frames f1.mine c.in-Some.ensures.some in
+    let none = no_child_two (two_on k c.requires.two) c.in-Some.node c.in-Some-page_in.free root c.in-Some-page_in.ensures.some (sym c.is_live.ensures ∙ c.if-is_live.false) (sound_given v u k.waited.ran.given c.requires.sound) in
+    absurd (c.in-Err.ensures.quiet (ap (λ (y : Shape). y.alone) (c.page_in-2.ensures.fits.1 ∙ e1) ∙ alone) none)

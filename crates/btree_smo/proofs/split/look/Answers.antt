@@ -7,6 +7,9 @@ use Rattle.btree_smo.specs.Inside.{IsFrame, Refused}
 use Rattle.btree_smo.proofs.Waiting.{stood_then, stood_shape, frame_on, stands_on}
 use Rattle.btree_smo.proofs.Reading.{refused_after}
 use Rattle.btree_smo.proofs.LookingSplit.{left_bare, right_bare, parent_bare, cant_fit, missed_unfit, splitting_at}
+use Rattle.btree_smo.proofs.Children.{no_child_three}
+use Rattle.btree_smo.proofs.Naming.{leads_to}
+use Rattle.btree_smo.proofs.Waiting.{three_on}
 use Rattle.btree_smo.proofs.split.look.Goals as goal
 
 pub page_in-requires-2-clause-frame : goal.page_in-requires-2-clause-frame
@@ -177,3 +180,25 @@ returns-in-Err-clause-err g c =
     let left = stands_on (stood_then s2 s3).waited f1.frames f1.mine c.in-Some.ensures.some in
     let right = stands_on s3.waited f2.frames f2.mine c.in-Some-page_in.ensures.some in
     cant_fit c.in-Err.why (sound_after v u k.waited.ran.given c.requires.sound) k left right c.in-Some-page_in-2.ensures.some c.in-Err.ensures.err
+
+pub returns-in-Err-image-clause-quiet : goal.returns-in-Err-image-clause-quiet
+returns-in-Err-image-clause-quiet g c alone =
+    let v = g.R.Rows.view c.args.seat.now in
+    let e1 = c.page_in.ensures.fits.1 in
+    let e2 = c.page_in-2.ensures.fits.1 ∙ e1 in
+    let s1 = c.page_in.ensures.stood in
+    let s2 = stood_shape e1 c.page_in-2.ensures.stood in
+    let s3 = stood_shape e2 c.page_in-3.ensures.stood in
+    let s12 = stood_then s1 s2 in
+    let k = stood_then s12 s3 in
+    let f1 = frame_on s1 c.requires.three.first in
+    let f2 = frame_on s12 c.requires.three.second in
+    let u = g.R.Rows.view c.page_in-3.new.seat in
+    let left = stands_on (stood_then s2 s3).waited f1.frames f1.mine c.in-Some.ensures.some in
+    let right = stands_on s3.waited f2.frames f2.mine c.in-Some-page_in.ensures.some in
+    let parent = c.in-Some-page_in-2.ensures.some in
+    let sound = sound_given v u k.waited.ran.given c.requires.sound in
+    let can = c.in-Ok.ensures.ok in
+    let above = leads_to (sound u.seen) c.in-Some-page_in-2.parent parent c.args.first.now.row c.in-Ok.separator c.in-Some.left left can.leads in
+    let none = no_child_three (three_on k c.requires.three) c.in-Some.left c.in-Some-page_in.right c.in-Some-page_in-2.parent left right parent can.free above sound in
+    absurd (c.in-Err-image.ensures.quiet (ap (λ (y : Shape). y.alone) (c.page_in-3.ensures.fits.1 ∙ e2) ∙ alone) none)

@@ -11,6 +11,8 @@ use Rattle.btree_smo.specs.Splits.{Parted}
 use Rattle.btree_smo.specs.Outcomes.{Missed}
 use Rattle.btree_smo.proofs.Answering.{took_two, took_one, one_gone, released_missed, missed_then}
 use Rattle.btree_smo.proofs.AnsweringSplit.{took_third, missed_parted, parted_after}
+use Rattle.rows_trait.specs.Views.{holds}
+use Rattle.btree_smo.proofs.Answering.{took_other}
 use Rattle.btree_smo.proofs.split.split.Goals as goal
 
 pub returns-in-Err-latch-clause-parted : goal.returns-in-Err-latch-clause-parted
@@ -184,3 +186,21 @@ returns-clause-parted g c =
     (subst (λ q. Parted z.alone worker c.in-Ok.hold.row q d u3 rs result x clock now) o2.ok.0
     (subst (λ q. Parted z.alone worker c.in-Ok.hold.row c.in-Ok-latch.hold.row q u3 rs result x clock now) o3.ok.0
     (subst (λ (y : Shape). Parted y.alone worker c.in-Ok.hold.row c.in-Ok-latch.hold.row c.in-Ok-latch-2.hold.row u3 rs result x clock now) s3 c.split_held.ensures.parted))))
+
+pub returns-in-Err-clause-quiet : goal.returns-in-Err-clause-quiet
+returns-in-Err-clause-quiet g c alone lr lp rp = c.in-Err.ensures.quiet alone (ap (λ hs. holds hs c.args.left) c.requires.held)
+
+pub returns-in-Err-latch-clause-quiet : goal.returns-in-Err-latch-clause-quiet
+returns-in-Err-latch-clause-quiet g c alone lr lp rp =
+    let o = c.in-Ok.ensures in
+    c.in-Err-latch.ensures.quiet (ap (λ (y : Shape). y.alone) o.fits.1 ∙ alone) (took_other c.args.right lr o.ok.1 (ap (λ hs. holds hs c.args.right) c.requires.held))
+
+pub returns-in-Err-latch-2-clause-quiet : goal.returns-in-Err-latch-2-clause-quiet
+returns-in-Err-latch-2-clause-quiet g c alone lr lp rp =
+    let o = c.in-Ok.ensures in
+    let p = c.in-Ok-latch.ensures in
+    let d = c.args.parent in
+    c.in-Err-latch-2.ensures.quiet (ap (λ (y : Shape). y.alone) (p.fits.1 ∙ o.fits.1) ∙ alone) (took_other d rp p.ok.1 (took_other d lp o.ok.1 (ap (λ hs. holds hs d) c.requires.held)))
+
+pub returns-clause-quiet : goal.returns-clause-quiet
+returns-clause-quiet g c alone lr lp rp = c.split_held.ensures.quiet (ap (λ (y : Shape). y.alone) (c.in-Ok-latch-2.ensures.fits.1 ∙ (c.in-Ok-latch.ensures.fits.1 ∙ c.in-Ok.ensures.fits.1)) ∙ alone)

@@ -141,3 +141,6 @@ pub stage-requires-clause-full : goal.stage-requires-clause-full
 stage-requires-clause-full g c =
     let it = c.in-Ok.ensures.ok in
     ap (λ (m : stored.Page). length m.node.pairs) it.image ∙ (sym (reads it.left).count ∙ it.can.full)
+
+pub returns-in-Err-clause-quiet : goal.returns-in-Err-clause-quiet
+returns-in-Err-clause-quiet g c alone = c.in-Err.ensures.quiet alone

@@ -2,9 +2,9 @@ use Rattle.std.proofs.Common.{◌≡◌, ◌+◌, ◌*◌, ◌∙◌, suc, set, 
 use Rattle.std.specs.Prelude.{slice_index}
 use Rattle.std.proofs.lemmas.Result.{err_from_is_err_and}
 use Rattle.row_image.specs.declared.refusal.Unseen.{Unseen}
-use Rattle.row_image.specs.Inside.{AreNamed, IsNamed, Refused}
+use Rattle.row_image.specs.Inside.{AreNamed, IsNamed, Refused, IsRowOf, IsRowIn}
 use Rattle.rows_trait.specs.Views.{Shape}
-use Rattle.row_image.proofs.Watching.{watched_none, watched_then, watched_shape, named_none, named_more, refused_after, refused_shape, if_err}
+use Rattle.row_image.proofs.Watching.{watched_none, watched_then, watched_shape, named_none, named_more, refused_after, refused_one, refused_shape, if_err}
 use Rattle.row_image.proofs.children.name_pairs.Goals as goal
 
 pub loop-i-init : goal.loop-i-init
@@ -26,8 +26,11 @@ returns-in_err-words-clause-err g c =
     let p2 = p.2 in
     let why = c.in_err-words.field-0.0 in
     let e : why ≡ p.0 = cc in
-    let P : Unseen → Type 0 = λ q. Refused y.alone c.args.actor v q w in
-    if_err c.from_residual.result p.0 P p.1 (subst P e (refused_after c.loop-i.invariant.watched (refused_shape c.loop-i.invariant.fits.1 c.in_err-words.ensures.err)))
+    let i = c.loop-i.i in
+    let same = c.loop-i.invariant.named.same (7 + 2 * i) (λ j lt z. absurd (omega arith)) in
+    let P : Unseen → Type 0 = λ q. Refused y.alone c.args.actor (IsRowIn c.args.frames c.args.words.now) v q w in
+    let r = refused_after c.loop-i.invariant.watched (refused_shape c.loop-i.invariant.fits.1 c.in_err-words.ensures.err) in
+    if_err c.from_residual.result p.0 P p.1 (subst P e (refused_one (λ q x. record { pair = i; few = c.loop-i-test.true; names = subst (λ z. IsRowOf c.args.frames z q) same x }) r))
 
 pub loop-i-preserved : goal.loop-i-preserved
 loop-i-preserved g c =

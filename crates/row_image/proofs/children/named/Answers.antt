@@ -1,9 +1,9 @@
-use Rattle.std.proofs.Common.{ℕ, refl, subst, arith}
-use Rattle.std.proofs.lemmas.Result.{IfOk-weaker}
+use Rattle.std.proofs.Common.{◌≤◌, ◌^◌, ◌∙◌, ℕ, refl, subst, arith}
+use Rattle.std.proofs.lemmas.Result.{IfOk-weaker, IfErr-weaker}
 use Rattle.row_words.specs.Sealed.{Shown}
 use Rattle.rows_trait.specs.Views.{state}
 use Rattle.row_image.specs.Inside.{Watched, IsNamed}
-use Rattle.row_image.proofs.Watching.{watched_none}
+use Rattle.row_image.proofs.Watching.{watched_none, refused_one}
 use Rattle.row_image.proofs.children.named.Goals as goal
 
 pub returns-then-word-lt-FRAME-clause-ok : goal.returns-then-word-lt-FRAME-clause-ok
@@ -25,3 +25,8 @@ returns-clause-ok g c =
       },
     ) in
     IfOk-weaker c.number.result _ _ one c.number.ensures.ok
+
+pub returns-clause-err : goal.returns-clause-err
+returns-clause-err g c =
+    let h : 2 ^ 63 ≤ c.args.word = (let t = c.if-word-lt-FRAME.false in omega arith) in
+    IfErr-weaker c.number.result _ _ (λ why r. refused_one (λ q is. (h, λ l. is ∙ c.row_of.ensures.same l)) r) c.number.ensures.err

@@ -7,7 +7,7 @@ use Rattle.rows_trait.proofs.Causes.{found_after}
 use Rattle.version_latch.specs.Named.{missed, checked}
 use Rattle.version_latch.proofs.Naming.{missed_silent}
 use Rattle.version_latch.proofs.Keeping.{looked_latest}
-use Rattle.row_image.proofs.Watching.{watched_start, watched_check, watched_load, watched_then, watched_shape, check_silent}
+use Rattle.row_image.proofs.Watching.{refused_one, watched_start, watched_check, watched_load, watched_then, watched_shape, check_silent}
 use Rattle.row_image.proofs.Refusals.{start_refused, check_refused}
 use Rattle.row_image.proofs.children.number.Goals as goal
 
@@ -57,5 +57,6 @@ returns-in-Err-check-clause-err g c =
     let load = watched_shape c.in-Ok.ensures.fits.1 (watched_load c.word-number.ensures.step) in
     let found = found_after row version v u t (subst (λ q. HasFound q version v u) (sym o.0) c.in-Ok.ensures.since.1) load.loads in
     let last : latest row u.steps ≡ Some version = subst (λ q. latest q u.steps ≡ Some version) (sym o.0) (looked_latest y c.args.row version (missed c.args.actor) v u o.3) in
+    refused_one (λ q is. is ∙ o.0) (
     check_refused c.args.actor c.in-Err-check.moved c.requires.actor (watched_then look load) found (λ alone. load.latest alone row version last) e.1 e.2
-    (subst (λ (s : Shape). Looked s row (checked c.args.actor version) t c.in-Err-check.moved.found w) same e.3) c.in-Err-check.ensures.cause
+    (subst (λ (s : Shape). Looked s row (checked c.args.actor version) t c.in-Err-check.moved.found w) same e.3) c.in-Err-check.ensures.cause)

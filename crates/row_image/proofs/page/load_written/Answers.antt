@@ -14,7 +14,7 @@ use Rattle.row_image.specs.declared.refusal.Unseen.{Unseen}
 use Rattle.row_image.specs.declared.refusal.Unseen.TheVariants as unseen
 use Rattle.row_image.specs.Images.{IsMissed}
 use Rattle.row_image.specs.Inside.{AreKnown, HasChildren, Refused}
-use Rattle.row_image.proofs.Watching.{watched_start, watched_check, watched_then, watched_shape, check_silent, refused_after, refused_shape, missed_refused, if_err}
+use Rattle.row_image.proofs.Watching.{watched_start, watched_check, watched_then, watched_shape, check_silent, refused_after, refused_shape, never_refused, missed_refused, if_err}
 use Rattle.row_image.proofs.Refusals.{start_refused, check_refused}
 use Rattle.row_image.proofs.Writing.{whole}
 use Rattle.row_image.proofs.page.load_written.Goals as goal
@@ -62,7 +62,7 @@ check-requires-clause-event g c n =
     check_silent c.args.actor c.in-Ok.found.version n c.requires.actor (c.name_children.ensures.fits.1 ∙ s2) k
 
 -- the row had moved
-moved : (g : _) (c : goal.In-Err-check g) → Refused (g.R.Rows.shape c.args.rows.now).alone c.args.actor (g.R.Rows.view c.args.seat.now) (unseen.Moved c.in-Err-check.moved) (g.R.Rows.view c.check.new.seat)
+moved : (g : _) (c : goal.In-Err-check g) → Refused (g.R.Rows.shape c.args.rows.now).alone c.args.actor (λ q. q ≡ c.args.row) (g.R.Rows.view c.args.seat.now) (unseen.Moved c.in-Err-check.moved) (g.R.Rows.view c.check.new.seat)
 moved g c =
     let y = g.R.Rows.shape c.args.rows.now in
     let v = g.R.Rows.view c.args.seat.now in
@@ -93,7 +93,7 @@ returns-in-Err-check-clause-cause g c =
     missed_refused (g.R.Rows.shape c.args.rows.now).alone c.args.actor (g.R.Rows.view c.args.seat.now) (g.R.Rows.view c.check.new.seat) (unseen.Moved c.in-Err-check.moved) (moved g c)
 
 pub returns-in-Err-check-clause-quiet : goal.returns-in-Err-check-clause-quiet
-returns-in-Err-check-clause-quiet g c = (moved g c).never
+returns-in-Err-check-clause-quiet g c = never_refused (moved g c)
 
 pub returns-in-Ok-check-clause-answer : goal.returns-in-Ok-check-clause-answer
 returns-in-Ok-check-clause-answer g c =
