@@ -1,3 +1,4 @@
+pub mod Causes
 pub mod Waiting
 pub mod Latching
 pub mod Words

@@ -19,7 +19,7 @@ use Rattle.row_image.specs.Images.{written}
 use Rattle.btree_smo.specs.declared.split.Splitting.{Splitting}
 use Rattle.btree_smo.specs.declared.outcome.Outcome.{Outcome}
 use Rattle.btree_smo.specs.declared.outcome.Outcome.TheVariants.{Done, Full, TooTall, Stale, Moved, Latched, RowSpent, ClockSpent, Unstaged}
-use Rattle.btree_smo.specs.Outcomes.{IsHotIn, IsSpentIn}
+use Rattle.btree_smo.specs.Outcomes.{IsHotIn, IsSpentIn, Caused}
 use Rattle.btree_smo.specs.Splits.{IsFull, IsUnfit, IsSpent}
 use Rattle.btree_smo.specs.Inside.{Stood, Refused, StandsIn, IsBare, IsMissed}
 use Rattle.btree_smo.specs.Splitting.{Leads, CanSplit, CantSplit, IsSplitting, NotFit}
@@ -118,3 +118,15 @@ splitting_at {w} worker a b d l sound open_is left right parent image can =
       can = can;
       met = rw (hot0, hot1, hot2, open_is, full_is, below, free_is, over, named, few, half) refl;
     }
+
+-- the nodes alone do not say that a row was in the way
+pub cant_caused : (v w : View) (a b d : ℕ) (left right parent : stored.Page) (why : Outcome) → CantSplit a b d left right parent why → Caused v why w
+cant_caused v w a b d left right parent Done c = absurd c
+cant_caused v w a b d left right parent (Full row) c = tt
+cant_caused v w a b d left right parent TooTall c = absurd c
+cant_caused v w a b d left right parent (Stale row) c = tt
+cant_caused v w a b d left right parent (Moved m) c = absurd c
+cant_caused v w a b d left right parent (Latched l) c = absurd c
+cant_caused v w a b d left right parent (RowSpent row) c = absurd c
+cant_caused v w a b d left right parent ClockSpent c = tt
+cant_caused v w a b d left right parent (Unstaged u) c = absurd c

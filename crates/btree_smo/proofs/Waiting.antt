@@ -24,6 +24,8 @@ use Rattle.lean_proto.proofs.Meanwhile.{apart_as}
 use Rattle.lean_proto.proofs.Near.{SameNear, near_on}
 use Rattle.page_model.specs.Page as stored
 use Rattle.row_image.specs.Inside.{Watched}
+use Rattle.rows_trait.specs.declared.view.Act.TheVariants.{Load}
+use Rattle.btree_smo.proofs.Causes.{stepped_none, stepped_then, stepped_loads}
 use Rattle.btree_smo.specs.Inside.{Waited, Stood, IsFrame, HoldsTwo, HoldsThree, StandsIn}
 
 -- ## One after another
@@ -55,19 +57,19 @@ pub waited_shape : {z y : Shape} {v w : View} → z ≡ y → Waited z.alone v w
 waited_shape {v = v} {w = w} same k = subst (λ (s : Shape). Waited s.alone v w) same k
 
 pub stood_none : (alone : Bool) (v : View) → Stood alone v v
-stood_none alone v = record { waited = waited_none alone v; held = refl }
+stood_none alone v = record { waited = waited_none alone v; held = refl; since = stepped_none v }
 
 pub stood_then : {alone : Bool} {v w u : View} → Stood alone v w → Stood alone w u → Stood alone v u
-stood_then a b = record { waited = waited_then a.waited b.waited; held = b.held ∙ a.held }
+stood_then a b = record { waited = waited_then a.waited b.waited; held = b.held ∙ a.held; since = stepped_then a.since b.since }
 
 pub stood_shape : {z y : Shape} {v w : View} → z ≡ y → Stood z.alone v w → Stood y.alone v w
 stood_shape {v = v} {w = w} same k = subst (λ (s : Shape). Stood s.alone v w) same k
 
 pub stood_load : {z : Shape} {row i n : ℕ} {v w : View} → Loaded z row i v n w → Stood z.alone v w
-stood_load l = record { waited = waited_goes l.goes (λ q. ap (λ hs. holds hs q) l.held); held = l.held }
+stood_load l = record { waited = waited_goes l.goes (λ q. ap (λ hs. holds hs q) l.held); held = l.held; since = record { acts = Load _ _ _ ∷ []; steps = l.steps } }
 
 pub stood_watched : {alone : Bool} {v w : View} → Watched alone v w → Stood alone v w
-stood_watched k = record { waited = record { ran = k.ran; between = k.between; quiet = k.quiet; apart = k.apart; seen = k.seen; rows = λ q. ap (λ hs. holds hs q) k.held }; held = k.held }
+stood_watched k = record { waited = record { ran = k.ran; between = k.between; quiet = k.quiet; apart = k.apart; seen = k.seen; rows = λ q. ap (λ hs. holds hs q) k.held }; held = k.held; since = stepped_loads k.loads }
 
 -- where others are apart from a view, the view goes on by what they did
 pub waited_apart : (z : Shape) (v : View) (between : List Event) → (z.alone ≡ true → between ≡ []) → AreApart v (state v) between → Waited z.alone v (record v { seen = v.seen ++ between })

@@ -18,7 +18,7 @@ use Rattle.rows_trait.specs.Views.{Shape, AreApart, Spells, hold, holds, held_at
 use Rattle.rows_trait.specs.Turns.{Ran}
 use Rattle.btree_smo.specs.declared.outcome.Outcome.{Outcome}
 use Rattle.btree_smo.specs.declared.outcome.Outcome.TheVariants.{Done, Moved, Latched, RowSpent, Unstaged}
-use Rattle.btree_smo.specs.Outcomes.{IsHotIn, Missed}
+use Rattle.btree_smo.specs.Outcomes.{IsHotIn, Missed, Stepped}
 
 -- ## Rows
 
@@ -35,10 +35,12 @@ pub record Waited (alone : Bool) (v w : View) : Type 0 where
 pub record Stood (alone : Bool) (v w : View) : Type 0 where
   pub waited : Waited alone v w
   pub held : w.held ≡ v.held
+  pub since : Stepped v w
 
 -- a row was latched
 pub record Took (z : Shape) (row : ℕ) (v w : View) : Type 0 where
   pub ran : Ran z.alone v [] w
+  pub since : Stepped v w
   pub version : ℕ
   pub was : List ℕ
   pub held : w.held ≡ hold row version was was false ∷ v.held

@@ -1,5 +1,5 @@
 -- What a change of the structure needs, what it appends and stages, and what its draw has after it.
-use Rattle.std.specs.Prelude.{◌≡◌, ◌≤◌, ◌<◌, ℕ, Bool, true, List, [], ◌∷◌, ◌++◌, Result, Ok, Err}
+use Rattle.std.specs.Prelude.{◌≡◌, ◌≢◌, ◌≤◌, ◌<◌, ◌%◌, ℕ, Bool, true, List, [], ◌∷◌, ◌++◌, Result, Ok, Err}
 use Rattle.image_model.specs.Entries.{Entry}
 use Rattle.core_state.specs.States.{Place, State}
 use Rattle.core_state.specs.Needs as core
@@ -9,7 +9,10 @@ use Rattle.row_words.specs.declared.event.Event.TheVariants.{Miss}
 use Rattle.row_words.specs.declared.given.Given.{Given}
 use Rattle.row_words.specs.Moments.{Moment, event_of}
 use Rattle.row_words.specs.Openings.{opening}
+use Rattle.rows_trait.specs.declared.view.Act.{Act}
 use Rattle.rows_trait.specs.declared.view.View.{View}
+use Rattle.rows_trait.specs.Causes.{Finds}
+use Rattle.version_latch.specs.declared.glimpse.TheConstants.{LAST}
 use Rattle.rows_trait.specs.Views.{after_all, state}
 use Rattle.rows_trait.specs.Turns.{Ran}
 use Rattle.log_record.specs.declared.record.Record.{Record}
@@ -86,6 +89,23 @@ abbrev pub IsUndisturbed : Outcome → Type 0
 IsUndisturbed (Moved m) = ⊥
 IsUndisturbed (Latched l) = ⊥
 IsUndisturbed _ = Unit {0}
+
+-- since the view v the seat has made these steps
+pub record Stepped (v w : View) : Type 0 where
+  pub acts : List Act
+  pub steps : w.steps ≡ acts ++ v.steps
+
+-- and found the latch of the row to be n
+pub record Found (row n : ℕ) (v w : View) : Type 0 where
+  pub since : Stepped v w
+  pub finds : Finds row n since.acts
+
+-- what a call that began at the view v has found by the time at which it refused: two versions of a row, an odd latch, or a last version
+abbrev pub Caused : View → Outcome → View → Type 0
+Caused v (Moved m) w = (m.found ≢ m.seen) × Found m.row m.seen v w × Found m.row m.found v w
+Caused v (Latched l) w = (l.word % 2 ≡ 1) × Found l.row l.word v w
+Caused v (outcome.RowSpent row) w = (version : ℕ) × (LAST ≤ version) × Found row version v w
+Caused v _ w = Unit {0}
 
 -- ## The draw
 

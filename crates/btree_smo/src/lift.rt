@@ -8,7 +8,7 @@ ghost use Rattle.draw_trait.specs.Clocks.{touched, drawn};
 ghost use Rattle.btree_descent.specs.Known.{IsSound};
 ghost use Rattle.btree_descent.specs.Descents.{Sized};
 ghost use Rattle.btree_descent.specs.Puts.{DrawsFor};
-ghost use Rattle.btree_smo.specs.Outcomes.{MayChange, Drew, last_after, IsUndisturbed};
+ghost use Rattle.btree_smo.specs.Outcomes.{MayChange, Drew, last_after, Caused, IsUndisturbed};
 ghost use Rattle.btree_smo.specs.Lifts.{Raised, lift_entry};
 ghost use Rattle.btree_smo.specs.Inside.{HoldsTwo, Stood, Went};
 ghost use Rattle.btree_smo.specs.Lifting.{IsLifting, NotFit, IsRecord, root_after, child_after, IsRaised};
@@ -62,6 +62,7 @@ fn look<R: Rows>(
     ensures stood { IfOk result (λ _. Stood (R.shape rows.old).alone (R.view seat.old) (R.view seat.new)) }
     ensures ok { IfOk result (λ l. IsLifting (R.view seat.new) worker child.now.row l) }
     ensures held { (R.view seat.new).held ≡ (R.view seat.old).held }
+    ensures cause { IfErr result (λ why. Caused (R.view seat.old) why (R.view seat.new)) }
     ensures quiet { IfErr result (λ why. (R.shape rows.old).alone ≡ true → IsUndisturbed why) }
     ensures err { IfErr result (λ why. NotFit (R.shape rows.old).alone child.now.row (R.view seat.old) why (R.view seat.new)) }
 {
@@ -228,6 +229,7 @@ fn lift_held<R: Rows, D: Draw>(
     ensures drew { Drew result (λ r. D.stages draw.old r draw.new) (draw.new ≡ draw.old) }
     ensures last { D.last_of draw.new ≡ last_after result (D.last_of draw.old) (D.clock_of draw.new).clock }
     ensures kept { (D.log_of draw.new ≡ D.log_of draw.old) × (D.txn_of draw.new ≡ D.txn_of draw.old) × (D.loans_of draw.new ≡ D.loans_of draw.old) }
+    ensures cause { Caused (R.view seat.old) result (R.view seat.new) }
     ensures quiet { (R.shape rows.old).alone ≡ true → IsUndisturbed result }
 {
     let lifting = match look(rows, seat, worker, frames, &first, &second) {
@@ -279,6 +281,7 @@ pub fn lift<R: Rows, D: Draw>(
     ensures drew { Drew result (λ r. D.stages draw.old r draw.new) (draw.new ≡ draw.old) }
     ensures last { D.last_of draw.new ≡ last_after result (D.last_of draw.old) (D.clock_of draw.new).clock }
     ensures kept { (D.log_of draw.new ≡ D.log_of draw.old) × (D.txn_of draw.new ≡ D.txn_of draw.old) × (D.loans_of draw.new ≡ D.loans_of draw.old) }
+    ensures cause { Caused (R.view seat.old) result (R.view seat.new) }
     ensures quiet { (R.shape rows.old).alone ≡ true → frame ≢ 0 → IsUndisturbed result }
 {
     let first = match latch(rows, seat, worker, 0) {

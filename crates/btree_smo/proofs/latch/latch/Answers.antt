@@ -10,6 +10,8 @@ use Rattle.version_latch.specs.declared.glimpse.Unheld.TheVariants.{Moved, RowSp
 use Rattle.version_latch.proofs.Naming.{missed_silent, missed_odd, missed_even, checked_silent, checked_same, checked_other}
 use Rattle.version_latch.proofs.Keeping.{looked_ran, looked_latest, may_ran, may_shape}
 use Rattle.btree_smo.proofs.Latching.{latched_refused, latched_quiet, took_all, moved_refused, moved_quiet, spent_refused}
+use Rattle.rows_trait.specs.Causes.{HasFound}
+use Rattle.btree_smo.proofs.Causes.{found_loads, moved_loads}
 use Rattle.btree_smo.proofs.latch.latch.Goals as goal
 
 pub start-requires-clause-event : goal.start-requires-clause-event
@@ -73,3 +75,25 @@ returns-in-Err-RowSpent-clause-err g c =
     let version = c.in-Ok.glimpse.version in
     let e = subst (λ q. NotHeld (g.R.Rows.shape c.start.new.rows) c.in-Ok.glimpse.row version (checked c.args.worker version) u q w) c.in-Err-RowSpent.field-0-is c.in-Err-RowSpent.ensures.err in
     (tt, spent_refused c.args.worker c.requires.actor o.1 o.3 (subst (λ (q : Shape × ℕ). NotHeld q.0 q.1 version (checked c.args.worker version) u RowSpent w) (λ i. (c.in-Ok.ensures.fits.1 i, o.0 i)) e))
+
+pub returns-in-Err-clause-cause : goal.returns-in-Err-clause-cause
+returns-in-Err-clause-cause g c = let e = c.in-Err.ensures.cause in (e.odd, found_loads e.found)
+
+pub returns-in-Err-Moved-clause-cause : goal.returns-in-Err-Moved-clause-cause
+returns-in-Err-Moved-clause-cause g c =
+    let v = g.R.Rows.view c.args.seat.now in
+    let u = g.R.Rows.view c.start.new.seat in
+    let w = g.R.Rows.view c.upgrade.new.seat in
+    let o = c.in-Ok.ensures.ok in
+    let version = c.in-Ok.glimpse.version in
+    let e = subst (λ q. NotHeld (g.R.Rows.shape c.start.new.rows) c.in-Ok.glimpse.row version (checked c.args.worker version) u q w) c.in-Err-Moved.field-0-is c.in-Err-Moved.ensures.err in
+    moved_loads (e.3 v (subst (λ q. HasFound q version v u) (sym o.0) c.in-Ok.ensures.since.1))
+
+pub returns-in-Err-RowSpent-clause-cause : goal.returns-in-Err-RowSpent-clause-cause
+returns-in-Err-RowSpent-clause-cause g c =
+    let v = g.R.Rows.view c.args.seat.now in
+    let u = g.R.Rows.view c.start.new.seat in
+    let w = g.R.Rows.view c.upgrade.new.seat in
+    let version = c.in-Ok.glimpse.version in
+    let e = subst (λ q. NotHeld (g.R.Rows.shape c.start.new.rows) c.in-Ok.glimpse.row version (checked c.args.worker version) u q w) c.in-Err-RowSpent.field-0-is c.in-Err-RowSpent.ensures.err in
+    (version, e.0, found_loads (subst (λ x. HasFound c.args.row version v x) (sym e.1) c.in-Ok.ensures.since.1))

@@ -12,6 +12,7 @@ use Rattle.btree_smo.specs.Outcomes.{Missed}
 use Rattle.btree_smo.proofs.Answering.{took_two, took_one, one_gone, released_missed, missed_then, missed_raised, raised_after}
 use Rattle.rows_trait.specs.Views.{holds}
 use Rattle.btree_smo.proofs.Answering.{took_other}
+use Rattle.btree_smo.proofs.Causes.{caused_before, caused_after, stepped_then, stepped_released}
 use Rattle.btree_smo.proofs.lift.lift.Goals as goal
 
 pub returns-in-Err-latch-clause-raised : goal.returns-in-Err-latch-clause-raised
@@ -89,3 +90,14 @@ returns-in-Err-latch-clause-quiet g c alone ne =
 
 pub returns-clause-quiet : goal.returns-clause-quiet
 returns-clause-quiet g c alone ne = c.lift_held.ensures.quiet (ap (λ (y : Shape). y.alone) (c.in-Ok-latch.ensures.fits.1 ∙ c.in-Ok.ensures.fits.1) ∙ alone)
+
+pub returns-in-Err-clause-cause : goal.returns-in-Err-clause-cause
+returns-in-Err-clause-cause g c = c.in-Err.ensures.cause
+
+pub returns-in-Err-latch-clause-cause : goal.returns-in-Err-latch-clause-cause
+returns-in-Err-latch-clause-cause g c =
+    let why = c.in-Err-latch.why in
+    caused_before (g.R.Rows.view c.release.new.seat) why c.in-Ok.ensures.ok.1.since (caused_after (g.R.Rows.view c.latch.new.seat) why c.in-Err-latch.ensures.cause (stepped_released c.release.ensures.step))
+
+pub returns-clause-cause : goal.returns-clause-cause
+returns-clause-cause g c = caused_before (g.R.Rows.view c.lift_held.new.seat) c.lift_held.result (stepped_then c.in-Ok.ensures.ok.1.since c.in-Ok-latch.ensures.ok.1.since) c.lift_held.ensures.cause

@@ -10,6 +10,7 @@ use Rattle.btree_smo.proofs.Waiting.{two_on}
 use Rattle.btree_smo.proofs.Releasing.{keeps_two}
 use Rattle.btree_smo.proofs.Entering.{lifted_done, not_lifted, number_is}
 use Rattle.btree_smo.proofs.Answering.{unfit_raised}
+use Rattle.btree_smo.proofs.Causes.{caused_after}
 use Rattle.btree_smo.proofs.lift.lift_held.Goals as goal
 
 pub give_up-requires-clause-two : goal.give_up-requires-clause-two
@@ -75,3 +76,6 @@ returns-in-Err-stage-clause-raised g c =
 
 pub returns-in-Err-clause-quiet : goal.returns-in-Err-clause-quiet
 returns-in-Err-clause-quiet g c alone = c.in-Err.ensures.quiet alone
+
+pub returns-in-Err-clause-cause : goal.returns-in-Err-clause-cause
+returns-in-Err-clause-cause g c = caused_after (g.R.Rows.view c.args.seat.now) c.in-Err.why c.in-Err.ensures.cause c.give_up.ensures.since

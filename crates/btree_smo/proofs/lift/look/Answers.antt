@@ -10,6 +10,7 @@ use Rattle.btree_smo.proofs.Reading.{refused_after}
 use Rattle.btree_smo.proofs.Looking.{not_full, tall, root_spent, none_there, not_free, child_spent, root_there, lifting_at, missed_unfit}
 use Rattle.btree_smo.proofs.Children.{no_child_two}
 use Rattle.btree_smo.proofs.Waiting.{two_on}
+use Rattle.btree_smo.proofs.Causes.{caused_before}
 use Rattle.btree_smo.proofs.lift.look.Goals as goal
 
 pub page_in-requires-2-clause-frame : goal.page_in-requires-2-clause-frame
@@ -136,3 +137,6 @@ returns-in-Err-clause-quiet g c alone =
     let root = stands_on s2.waited f1.frames f1.mine c.in-Some.ensures.some in
     let none = no_child_two (two_on k c.requires.two) c.in-Some.node c.in-Some-page_in.free root c.in-Some-page_in.ensures.some (sym c.is_live.ensures ∙ c.if-is_live.false) (sound_given v u k.waited.ran.given c.requires.sound) in
     absurd (c.in-Err.ensures.quiet (ap (λ (y : Shape). y.alone) (c.page_in-2.ensures.fits.1 ∙ e1) ∙ alone) none)
+
+pub returns-in-Err-clause-cause : goal.returns-in-Err-clause-cause
+returns-in-Err-clause-cause g c = caused_before (g.R.Rows.view c.image.new.seat) c.in-Err.why (stood_then c.page_in.ensures.stood (stood_shape c.page_in.ensures.fits.1 c.page_in-2.ensures.stood)).since c.in-Err.ensures.cause

@@ -10,6 +10,8 @@ use Rattle.btree_smo.proofs.LookingSplit.{left_bare, right_bare, parent_bare, ca
 use Rattle.btree_smo.proofs.Children.{no_child_three}
 use Rattle.btree_smo.proofs.Naming.{leads_to}
 use Rattle.btree_smo.proofs.Waiting.{three_on}
+use Rattle.btree_smo.proofs.Causes.{caused_before}
+use Rattle.btree_smo.proofs.LookingSplit.{cant_caused}
 use Rattle.btree_smo.proofs.split.look.Goals as goal
 
 pub page_in-requires-2-clause-frame : goal.page_in-requires-2-clause-frame
@@ -202,3 +204,12 @@ returns-in-Err-image-clause-quiet g c alone =
     let above = leads_to (sound u.seen) c.in-Some-page_in-2.parent parent c.args.first.now.row c.in-Ok.separator c.in-Some.left left can.leads in
     let none = no_child_three (three_on k c.requires.three) c.in-Some.left c.in-Some-page_in.right c.in-Some-page_in-2.parent left right parent can.free above sound in
     absurd (c.in-Err-image.ensures.quiet (ap (λ (y : Shape). y.alone) (c.page_in-3.ensures.fits.1 ∙ e2) ∙ alone) none)
+
+pub returns-in-Err-image-clause-cause : goal.returns-in-Err-image-clause-cause
+returns-in-Err-image-clause-cause g c =
+    let e1 = c.page_in.ensures.fits.1 in
+    let k = stood_then (stood_then c.page_in.ensures.stood (stood_shape e1 c.page_in-2.ensures.stood)) (stood_shape (c.page_in-2.ensures.fits.1 ∙ e1) c.page_in-3.ensures.stood) in
+    caused_before (g.R.Rows.view c.image.new.seat) c.in-Err-image.why k.since c.in-Err-image.ensures.cause
+
+pub returns-in-Err-clause-cause : goal.returns-in-Err-clause-cause
+returns-in-Err-clause-cause g c = cant_caused (g.R.Rows.view c.args.seat.now) (g.R.Rows.view c.page_in-3.new.seat) c.args.first.now.row c.args.second.now.row c.args.third.now.row c.in-Some.left c.in-Some-page_in.right c.in-Some-page_in-2.parent c.in-Err.why c.in-Err.ensures.err

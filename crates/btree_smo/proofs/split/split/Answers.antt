@@ -13,6 +13,7 @@ use Rattle.btree_smo.proofs.Answering.{took_two, took_one, one_gone, released_mi
 use Rattle.btree_smo.proofs.AnsweringSplit.{took_third, missed_parted, parted_after}
 use Rattle.rows_trait.specs.Views.{holds}
 use Rattle.btree_smo.proofs.Answering.{took_other}
+use Rattle.btree_smo.proofs.Causes.{caused_before, caused_after, stepped_then, stepped_released}
 use Rattle.btree_smo.proofs.split.split.Goals as goal
 
 pub returns-in-Err-latch-clause-parted : goal.returns-in-Err-latch-clause-parted
@@ -204,3 +205,20 @@ returns-in-Err-latch-2-clause-quiet g c alone lr lp rp =
 
 pub returns-clause-quiet : goal.returns-clause-quiet
 returns-clause-quiet g c alone lr lp rp = c.split_held.ensures.quiet (ap (λ (y : Shape). y.alone) (c.in-Ok-latch-2.ensures.fits.1 ∙ (c.in-Ok-latch.ensures.fits.1 ∙ c.in-Ok.ensures.fits.1)) ∙ alone)
+
+pub returns-in-Err-clause-cause : goal.returns-in-Err-clause-cause
+returns-in-Err-clause-cause g c = c.in-Err.ensures.cause
+
+pub returns-in-Err-latch-clause-cause : goal.returns-in-Err-latch-clause-cause
+returns-in-Err-latch-clause-cause g c =
+    let why = c.in-Err-latch.why in
+    caused_before (g.R.Rows.view c.release.new.seat) why c.in-Ok.ensures.ok.1.since (caused_after (g.R.Rows.view c.latch.new.seat) why c.in-Err-latch.ensures.cause (stepped_released c.release.ensures.step))
+
+pub returns-in-Err-latch-2-clause-cause : goal.returns-in-Err-latch-2-clause-cause
+returns-in-Err-latch-2-clause-cause g c =
+    let why = c.in-Err-latch-2.why in
+    caused_before (g.R.Rows.view c.give_up.new.seat) why (stepped_then c.in-Ok.ensures.ok.1.since c.in-Ok-latch.ensures.ok.1.since) (caused_after (g.R.Rows.view c.latch-2.new.seat) why c.in-Err-latch-2.ensures.cause c.give_up.ensures.since)
+
+pub returns-clause-cause : goal.returns-clause-cause
+returns-clause-cause g c =
+    caused_before (g.R.Rows.view c.split_held.new.seat) c.split_held.result (stepped_then (stepped_then c.in-Ok.ensures.ok.1.since c.in-Ok-latch.ensures.ok.1.since) c.in-Ok-latch-2.ensures.ok.1.since) c.split_held.ensures.cause

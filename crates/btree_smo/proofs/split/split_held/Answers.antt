@@ -12,6 +12,7 @@ use Rattle.btree_smo.proofs.Reading.{reads}
 use Rattle.btree_smo.proofs.PublishingThree.{keeps_three}
 use Rattle.btree_smo.proofs.EnteringSplit.{divided, not_divided, number_is}
 use Rattle.btree_smo.proofs.AnsweringSplit.{unfit_parted}
+use Rattle.btree_smo.proofs.Causes.{caused_after}
 use Rattle.btree_smo.proofs.split.split_held.Goals as goal
 
 pub give_up_all-requires-clause-three : goal.give_up_all-requires-clause-three
@@ -144,3 +145,6 @@ stage-requires-clause-full g c =
 
 pub returns-in-Err-clause-quiet : goal.returns-in-Err-clause-quiet
 returns-in-Err-clause-quiet g c alone = c.in-Err.ensures.quiet alone
+
+pub returns-in-Err-clause-cause : goal.returns-in-Err-clause-cause
+returns-in-Err-clause-cause g c = caused_after (g.R.Rows.view c.args.seat.now) c.in-Err.why c.in-Err.ensures.cause c.give_up_all.ensures.since
