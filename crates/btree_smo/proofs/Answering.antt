@@ -1,6 +1,5 @@
 -- What a lift answers, from the answers of its parts.
 use Rattle.std.proofs.Common.{◌≡◌, ◌≢◌, ◌==◌, cond, ◌<◌, ◌⊎◌, inl, inr, ℕ, Bool, true, false, List, [], ◌∷◌, ◌++◌, append_assoc, length, refl, sym, ap, subst, ◌∙◌, eq-eqb, arith, true≢false}
-use Rattle.std.specs.Prelude.{slice_index}
 use Rattle.std.proofs.lemmas.Bool.{cond-true, cond-false, ne_eqb}
 use Rattle.std.proofs.lemmas.Bool.Decides.{nat_tests}
 use Rattle.row_words.specs.declared.event.Event.{Event}
@@ -9,24 +8,20 @@ use Rattle.row_words.specs.declared.event.Event.TheVariants.{Miss, Lift}
 use Rattle.row_words.specs.declared.given.Given.{Given}
 use Rattle.row_words.specs.Moments.{Moment}
 use Rattle.row_words.specs.Openings.{opening}
-use Rattle.row_words.specs.Sealed.{Shown}
 use Rattle.rows_trait.specs.declared.view.View.{View}
-use Rattle.rows_trait.specs.declared.view.Hold.{Hold}
 use Rattle.rows_trait.specs.Layout.{rows_of, width}
-use Rattle.rows_trait.specs.Views.{Shape, Spells, after_all, state, hold, holds, held_at}
+use Rattle.rows_trait.specs.Views.{Shape, state, hold, holds, held_at}
 use Rattle.rows_trait.specs.Turns.{Ran, Released}
 use Rattle.rows_trait.proofs.Runs.{ran_append}
 use Rattle.log_record.specs.declared.record.Record.{Record}
 use Rattle.draw_trait.specs.Clocks.{Clock}
 use Rattle.btree_descent.specs.Puts.{Onward}
-use Rattle.btree_descent.specs.Descents.{Sized}
 use Rattle.btree_smo.specs.declared.outcome.Outcome.{Outcome}
 use Rattle.btree_smo.specs.declared.outcome.Outcome.TheVariants.{Done, Full, TooTall, Stale, Moved, Latched, RowSpent, ClockSpent, Unstaged}
-use Rattle.btree_smo.specs.Outcomes.{AreMisses, Missed, WasSo, Changed, NotStaged}
-use Rattle.btree_smo.specs.Lifts.{Lifted, NotLifted, IsTall, IsUnfit, IsSpent, Raised}
-use Rattle.btree_smo.specs.Inside.{Waited, Stood, Took, Refused, IsMissed, IsFrame, HoldsTwo, IsKept}
+use Rattle.btree_smo.specs.Outcomes.{AreMisses, Missed, WasSo}
+use Rattle.btree_smo.specs.Lifts.{IsUnfit, IsSpent, Raised}
+use Rattle.btree_smo.specs.Inside.{Took, IsMissed, IsFrame, HoldsTwo, IsKept}
 use Rattle.btree_smo.specs.Lifting.{NotFit}
-use Rattle.btree_smo.proofs.Waiting.{frame_on}
 use Rattle.btree_smo.proofs.Entering.{given_up, was_so}
 use Rattle.btree_smo.proofs.Releasing.{released_ran, none_held, none_left}
 

@@ -1,9 +1,8 @@
 -- What a lift has appended and staged.
-use Rattle.std.proofs.Common.{◌≡◌, ◌==◌, ◌^◌, ◌-◌, inl, inr, ℕ, suc, Bool, true, false, List, [], ◌∷◌, ◌++◌, append_assoc, append-nil, refl, sym, ap, subst, ◌∙◌, true≢false}
+use Rattle.std.proofs.Common.{◌≡◌, ◌^◌, ◌-◌, inl, inr, ℕ, suc, Bool, true, List, [], ◌∷◌, ◌++◌, append_assoc, refl, sym, ap, subst, ◌∙◌, true≢false}
 use Rattle.std.proofs.lemmas.Bool.{cond-true}
 use Rattle.map_model.specs.Lists.{Has}
 use Rattle.map_model.proofs.ListLemmas.{upd_same}
-use Rattle.page_model.specs.Pairs as model
 use Rattle.page_model.specs.Page as stored
 use Rattle.page_model.specs.Records as records
 use Rattle.image_model.specs.Entries.{Entry, Kind, Contents}
@@ -16,30 +15,27 @@ use Rattle.row_words.specs.declared.event.Event.TheVariants.{Lift}
 use Rattle.row_words.specs.declared.given.Given.{Given}
 use Rattle.row_words.specs.Moments.{Moment}
 use Rattle.row_words.specs.Openings.{opening}
-use Rattle.row_words.specs.Sealed.{begun, stepped, run}
+use Rattle.row_words.specs.Sealed.{begun, stepped}
 use Rattle.row_words.proofs.SealedLemmas.{run_append}
 use Rattle.rows_trait.specs.declared.view.View.{View}
 use Rattle.rows_trait.specs.Views.{Shape, after_all, state, may}
-use Rattle.rows_trait.specs.Turns.{Ran}
 use Rattle.rows_trait.proofs.Runs.{ran_append}
 use Rattle.lean_proto.proofs.Again.{Rest, again_lift}
 use Rattle.lean_proto.proofs.Near.{SameNear}
 use Rattle.lean_proto.proofs.Owns.{own_after}
 use Rattle.lean_proto.specs.Kept.{OwnKept}
 use Rattle.log_record.specs.declared.record.Record.{Record}
-use Rattle.log_record.specs.declared.record.Body.TheVariants as body
 use Rattle.draw_trait.specs.Clocks.{Clock, touched, drawn}
 use Rattle.disk_image.specs.Records.{entry_of}
-use Rattle.disk_image.specs.Records as disk
 use Rattle.btree_descent.specs.Known.{IsSound}
 use Rattle.btree_descent.specs.Puts.{Onward, DrawsFor, clock_in}
 use Rattle.btree_smo.specs.declared.lift.Lifting.{Lifting}
-use Rattle.btree_smo.specs.Outcomes.{Missed, WasSo, NotStaged}
+use Rattle.btree_smo.specs.Outcomes.{Missed, WasSo}
 use Rattle.btree_smo.specs.Lifts.{lift_entry, Lifted, NotLifted}
 use Rattle.btree_smo.specs.Inside.{Waited, Stood, HoldsTwo, Went}
 use Rattle.btree_smo.specs.Lifting.{IsLifting, IsRecord}
-use Rattle.btree_smo.proofs.Waiting.{near_wait, waited_apart, moment_run}
-use Rattle.btree_smo.proofs.Reading.{reads, Reads}
+use Rattle.btree_smo.proofs.Waiting.{near_wait, waited_apart}
+use Rattle.btree_smo.proofs.Reading.{reads}
 
 -- ## The entry
 

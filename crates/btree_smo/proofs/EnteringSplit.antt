@@ -1,11 +1,10 @@
 -- What a split has appended and staged.
-use Rattle.std.proofs.Common.{◌≡◌, ◌==◌, ◌<◌, inl, inr, ℕ, suc, Bool, true, false, List, [], ◌∷◌, ◌++◌, append_assoc, length, drop, refl, sym, ap, subst, ◌∙◌, true≢false, arith}
+use Rattle.std.proofs.Common.{◌≡◌, ◌<◌, inl, inr, ℕ, suc, true, List, [], ◌∷◌, ◌++◌, length, drop, refl, sym, ap, subst, ◌∙◌, true≢false, arith}
 use Rattle.std.proofs.lemmas.Bool.{cond-true}
 use Rattle.map_model.specs.Lists.{Has}
 use Rattle.map_model.proofs.ListLemmas.{upd_same}
 use Rattle.page_model.specs.Pairs.{onward}
 use Rattle.page_model.specs.Needs.{key_at}
-use Rattle.page_model.specs.Nodes.{Node}
 use Rattle.page_model.specs.Page as stored
 use Rattle.page_model.specs.Records as records
 use Rattle.image_model.specs.Entries.{Entry, Kind, Contents}
@@ -19,11 +18,10 @@ use Rattle.row_words.specs.declared.event.Event.TheVariants.{Split}
 use Rattle.row_words.specs.declared.given.Given.{Given}
 use Rattle.row_words.specs.Moments.{Moment}
 use Rattle.row_words.specs.Openings.{opening}
-use Rattle.row_words.specs.Sealed.{begun, stepped, run}
+use Rattle.row_words.specs.Sealed.{begun, stepped}
 use Rattle.row_words.proofs.SealedLemmas.{run_append}
 use Rattle.rows_trait.specs.declared.view.View.{View}
 use Rattle.rows_trait.specs.Views.{Shape, AreApart, after_all, state, may}
-use Rattle.rows_trait.specs.Turns.{Ran}
 use Rattle.rows_trait.proofs.Runs.{ran_append}
 use Rattle.lean_proto.proofs.Again.{Rest, again_split}
 use Rattle.lean_proto.proofs.Near.{SameNear}
@@ -41,7 +39,7 @@ use Rattle.btree_smo.specs.Splits.{split_entry, Divided, NotDivided}
 use Rattle.btree_smo.specs.Inside.{Waited, Stood, HoldsThree, Went}
 use Rattle.btree_smo.specs.Splitting.{IsSplitting, IsRecord}
 use Rattle.btree_smo.proofs.Waiting.{near_wait, waited_apart}
-use Rattle.btree_smo.proofs.Reading.{reads, Reads}
+use Rattle.btree_smo.proofs.Reading.{reads}
 use Rattle.btree_smo.proofs.Entering.{onward_all, given_up, was_so}
 use Rattle.btree_smo.proofs.LookingSplit.{sep_is}
 use Rattle.btree_smo.proofs.SplitPages.{full_live}

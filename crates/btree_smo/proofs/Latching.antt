@@ -1,19 +1,18 @@
 -- A row that was latched from the version that it had, or was not.
-use Rattle.std.proofs.Common.{◌≡◌, ◌≢◌, ◌==◌, ◌%◌, ◌+◌, ℕ, Bool, true, false, List, [], ◌∷◌, ◌++◌, refl, sym, ap, subst, ◌∙◌, arith}
+use Rattle.std.proofs.Common.{◌≡◌, ◌%◌, ◌+◌, ℕ, true, false, List, [], ◌∷◌, sym, ap, subst, ◌∙◌, arith}
 use Rattle.row_words.specs.declared.event.Event.{Event}
 use Rattle.row_words.specs.declared.event.Event.TheVariants.{Miss}
 use Rattle.rows_trait.specs.declared.view.Act.TheVariants.{Look, Set}
 use Rattle.rows_trait.specs.declared.view.View.{View}
 use Rattle.rows_trait.specs.Views.{Shape, IsEven, holds, may}
 use Rattle.rows_trait.specs.Turns.{Goes, Looked, Taken, Ran}
-use Rattle.rows_trait.proofs.Runs.{ran_goes, ran_append, ran_none}
+use Rattle.rows_trait.proofs.Runs.{ran_goes, ran_append}
 use Rattle.version_latch.specs.Named.{missed, checked}
 use Rattle.version_latch.specs.Unheld.{NotHeld}
 use Rattle.version_latch.specs.declared.glimpse.Moved.{Moved as Two}
 use Rattle.version_latch.specs.declared.glimpse.Unheld.TheVariants.{Moved, RowSpent}
 use Rattle.version_latch.proofs.Naming.{missed_odd, missed_even, checked_same, checked_other}
 use Rattle.version_latch.proofs.Keeping.{looked_ran, looked_latest, may_ran}
-use Rattle.btree_smo.specs.Outcomes.{Missed}
 use Rattle.btree_smo.specs.Inside.{Took, Refused}
 
 module _ {z : Shape} {row : ℕ} {v u : View} (worker : ℕ) where

@@ -1,5 +1,5 @@
 -- An event of three held rows is published at one of them, and then the other two are given up.
-use Rattle.std.proofs.Common.{◌≡◌, ◌≢◌, ◌==◌, ◌<◌, cond, ◌⊎◌, inl, inr, ℕ, Bool, true, false, List, [], ◌∷◌, ◌++◌, append_assoc, append-nil, length, drop, refl, sym, ap, subst, ◌∙◌, arith, true≢false}
+use Rattle.std.proofs.Common.{◌≡◌, ◌≢◌, ◌==◌, ◌<◌, cond, ◌⊎◌, inl, inr, ℕ, Bool, true, false, List, [], ◌∷◌, ◌++◌, append_assoc, append-nil, drop, refl, sym, ap, subst, ◌∙◌, arith, true≢false}
 use Rattle.std.proofs.lemmas.Bool.Decides.{nat_tests}
 use Rattle.map_model.specs.Lists.{Has}
 use Rattle.page_model.specs.Page as stored
@@ -8,19 +8,18 @@ use Rattle.core_state.specs.Local.{published}
 use Rattle.row_words.specs.declared.event.Event.{Event}
 use Rattle.row_words.specs.declared.event.Event.TheVariants.{Miss}
 use Rattle.row_words.specs.declared.given.Given.{Given}
-use Rattle.row_words.specs.Moments.{Moment, event_of, actor_of}
+use Rattle.row_words.specs.Moments.{event_of, actor_of}
 use Rattle.row_words.specs.Openings.{opening}
 use Rattle.row_words.specs.Sealed.{changes}
 use Rattle.rows_trait.specs.declared.view.View.{View}
-use Rattle.rows_trait.specs.declared.view.Hold.{Hold}
-use Rattle.rows_trait.specs.Views.{Shape, after_all, state, holds, held_at, without, settle, may}
-use Rattle.rows_trait.specs.Turns.{Goes, Published, Released, Ran}
+use Rattle.rows_trait.specs.Views.{Shape, after_all, state, holds, held_at, without, may}
+use Rattle.rows_trait.specs.Turns.{Goes, Published, Released}
 use Rattle.rows_trait.proofs.Holds.{holds_without, holds_without_here, without_apart, holds_settle, settle_at, settled}
 use Rattle.rows_trait.proofs.Runs.{ran_goes, ran_append}
 use Rattle.version_latch.proofs.Keeping.{may_ran}
 use Rattle.lean_proto.proofs.Again.{IsPlain}
 use Rattle.btree_smo.specs.Outcomes.{IsHotIn, Missed}
-use Rattle.btree_smo.specs.Inside.{Waited, Wrote, IsFrame, HoldsThree, KeepsTwo, KeepsThree, IsKept, Went}
+use Rattle.btree_smo.specs.Inside.{Waited, Wrote, IsFrame, HoldsThree, KeepsTwo, KeepsThree, Went}
 use Rattle.btree_smo.proofs.Waiting.{waited_then, waited_apart, near_wait}
 use Rattle.btree_smo.proofs.Leaving.{HasNode}
 use Rattle.btree_smo.proofs.Publishing.{changes_at}

@@ -1,22 +1,18 @@
 -- What the node of a row says of the page that stands there.
-use Rattle.std.proofs.Common.{◌≡◌, ◌==◌, ◌<◌, ◌≤◌, ℕ, Bool, true, false, List, [], ◌∷◌, ◌++◌, length, refl, sym, ap, subst, ◌∙◌}
+use Rattle.std.proofs.Common.{◌≡◌, ℕ, Bool, true, false, [], length, refl, ap, ◌∙◌}
 use Rattle.std.specs.Prelude.{if◌then◌else◌}
 use Rattle.page_model.specs.Nodes.{Node}
 use Rattle.page_model.specs.Page as stored
 use Rattle.core_state.specs.States.{Place, State}
 use Rattle.core_paging.specs.Paging.{Residence}
-use Rattle.row_words.specs.declared.event.Event.{Event}
-use Rattle.row_words.specs.declared.event.Event.TheVariants.{Miss}
 use Rattle.row_words.specs.declared.given.Given.{Given}
 use Rattle.row_words.specs.Moments.{Moment}
 use Rattle.row_words.specs.Openings.{opening}
-use Rattle.row_words.specs.Words.{swips, is_inner, framed, framed_page}
+use Rattle.row_words.specs.Words.{swips, is_inner, framed}
 use Rattle.row_words.proofs.Frames.{hot_place, framed_live, framed_level, framed_low, framed_high, swips_length}
 use Rattle.rows_trait.specs.declared.view.View.{View}
-use Rattle.rows_trait.specs.Views.{state}
-use Rattle.rows_trait.specs.Turns.{Ran}
 use Rattle.rows_trait.proofs.Runs.{ran_append}
-use Rattle.btree_smo.specs.Outcomes.{IsHotIn, Missed}
+use Rattle.btree_smo.specs.Outcomes.{IsHotIn}
 use Rattle.btree_smo.specs.Inside.{Stood, Refused, StandsIn}
 
 -- the parts of a page that do not hang on swips

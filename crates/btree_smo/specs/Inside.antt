@@ -1,13 +1,10 @@
 -- Words of private functions: rows that are held, and the pages that stand in them.
-use Rattle.std.specs.Prelude.{◌≡◌, ◌≢◌, ◌≤◌, ◌<◌, ◌+◌, ◌-◌, ◌^◌, ◌⊎◌, ℕ, Bool, true, false, List, [], ◌∷◌, ◌++◌, length}
+use Rattle.std.specs.Prelude.{◌≡◌, ◌≢◌, ◌≤◌, ◌<◌, ◌⊎◌, ℕ, Bool, true, false, List, [], ◌∷◌, ◌++◌, length}
 use Rattle.page_model.specs.Check.{names_page}
 use Rattle.page_model.specs.Page as stored
-use Rattle.core_state.specs.States.{Place, State}
-use Rattle.core_state.specs.Events as happening
-use Rattle.core_state.specs.Needs as core
+use Rattle.core_state.specs.States.{Place}
 use Rattle.core_state.specs.Steps.{happens}
 use Rattle.row_words.specs.declared.event.Event.{Event}
-use Rattle.row_words.specs.declared.event.Event.TheVariants.{Miss}
 use Rattle.row_words.specs.declared.given.Given.{Given}
 use Rattle.row_words.specs.Moments.{Moment, event_of}
 use Rattle.row_words.specs.Openings.{opening}

@@ -4,11 +4,9 @@ use Rattle.image_model.specs.Entries.{Entry, Kind}
 use Rattle.page_model.specs.Needs.{lift_record}
 use Rattle.core_state.specs.States.{Place, State, nodes_of, gsns_of}
 use Rattle.core_state.specs.Steps.{at_pages, page_entry}
-use Rattle.row_words.specs.declared.event.Event.{Event}
 use Rattle.row_words.specs.declared.event.Event.TheVariants.{Lift}
 use Rattle.row_words.specs.declared.given.Given.{Given}
 use Rattle.row_words.specs.Moments.{Moment}
-use Rattle.row_words.specs.Openings.{opening}
 use Rattle.rows_trait.specs.declared.view.View.{View}
 use Rattle.rows_trait.specs.Views.{after_all}
 use Rattle.log_record.specs.declared.record.Record.{Record}

@@ -1,8 +1,8 @@
 -- The two ways in which a part of a call refuses.
-use Rattle.std.proofs.Common.{◌≡◌, ◌≢◌, ◌%◌, ℕ, true, [], ◌∷◌, Some, refl, sym, ap, ◌∙◌, arith}
+use Rattle.std.proofs.Common.{◌≡◌, ◌≢◌, ◌%◌, ℕ, true, [], ◌∷◌, Some, refl, sym, ◌∙◌, arith}
 use Rattle.row_words.specs.declared.event.Event.TheVariants.{Miss}
 use Rattle.rows_trait.specs.declared.view.View.{View}
-use Rattle.rows_trait.specs.Views.{Shape, latest, holds, may}
+use Rattle.rows_trait.specs.Views.{Shape, latest, may}
 use Rattle.rows_trait.specs.Causes.{HasFound, IsLatched, HasMoved}
 use Rattle.rows_trait.specs.Turns.{Looked}
 use Rattle.rows_trait.proofs.Runs.{ran_append}

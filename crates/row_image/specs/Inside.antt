@@ -78,10 +78,6 @@ pub record IsChildRow (frames : ℕ) (words : List ℕ) (row : ℕ) : Type 0 whe
   pub inner : 0 < slice_index words 3 / 256 % 256
   pub names : IsRowIn frames words row
 
--- any row
-abbrev pub AnyRow : ℕ → Type 0
-AnyRow row = Unit {0}
-
 -- the page stands in the row, and the words spell it as it is written
 pub record IsSpelled (w : View) (row p generation : ℕ) (words : List ℕ) : Type 0 where
   pub stands : in_frame ((state w).core.place p) row ≡ true

@@ -1,4 +1,4 @@
-use Rattle.std.proofs.Common.{◌≡◌, ◌∙◌, ◌++◌, [], ℕ, ap, sym, subst}
+use Rattle.std.proofs.Common.{◌≡◌, ◌∙◌, [], ℕ, ap, sym, subst}
 use Rattle.core_state.specs.States.{Worker}
 use Rattle.rows_trait.specs.Views.{Shape}
 use Rattle.rows_trait.specs.Turns.{Released, Ran}
@@ -9,7 +9,7 @@ use Rattle.btree_descent.proofs.Spots.{draws_after}
 use Rattle.btree_smo.specs.Inside.{Took, Refused}
 use Rattle.btree_smo.specs.Lifts.{Raised}
 use Rattle.btree_smo.specs.Outcomes.{Missed}
-use Rattle.btree_smo.proofs.Answering.{took_two, took_one, one_gone, released_missed, missed_then, missed_raised, raised_after}
+use Rattle.btree_smo.proofs.Answering.{took_one, released_missed, missed_then, missed_raised, raised_after}
 use Rattle.rows_trait.specs.Views.{holds}
 use Rattle.btree_smo.proofs.Answering.{took_other}
 use Rattle.btree_smo.proofs.Causes.{caused_before, caused_after, stepped_then, stepped_released}

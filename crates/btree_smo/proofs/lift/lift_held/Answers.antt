@@ -1,5 +1,5 @@
-use Rattle.std.proofs.Common.{◌≡◌, ◌∙◌, [], ap, sym, subst}
-use Rattle.rows_trait.specs.Views.{Shape, may}
+use Rattle.std.proofs.Common.{[], sym, subst}
+use Rattle.rows_trait.specs.Views.{Shape}
 use Rattle.row_words.specs.declared.event.Event.TheVariants.{Lift}
 use Rattle.version_latch.proofs.Keeping.{may_ran}
 use Rattle.btree_descent.proofs.Calls.{sound_given}

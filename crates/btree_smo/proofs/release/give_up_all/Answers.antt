@@ -1,4 +1,4 @@
-use Rattle.std.proofs.Common.{◌≡◌, ◌∙◌, sym, subst}
+use Rattle.std.proofs.Common.{sym, subst}
 use Rattle.rows_trait.specs.Views.{Shape}
 use Rattle.btree_smo.specs.Outcomes.{Missed}
 use Rattle.btree_smo.specs.Inside.{KeepsTwo}

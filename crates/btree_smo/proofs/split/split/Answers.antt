@@ -1,7 +1,7 @@
-use Rattle.std.proofs.Common.{◌≡◌, ◌∙◌, ◌++◌, [], ℕ, ap, sym, subst}
+use Rattle.std.proofs.Common.{◌∙◌, [], ℕ, ap, sym, subst}
 use Rattle.core_state.specs.States.{Worker}
 use Rattle.rows_trait.specs.Views.{Shape}
-use Rattle.rows_trait.specs.Turns.{Released, Ran}
+use Rattle.rows_trait.specs.Turns.{Released}
 use Rattle.rows_trait.proofs.Runs.{ran_append}
 use Rattle.lean_proto.proofs.Owns.{own_after}
 use Rattle.btree_descent.proofs.Calls.{frame_row, frames_after, sound_given}
@@ -9,7 +9,7 @@ use Rattle.btree_descent.proofs.Spots.{draws_after}
 use Rattle.btree_smo.specs.Inside.{Took, Refused, HoldsThree}
 use Rattle.btree_smo.specs.Splits.{Parted}
 use Rattle.btree_smo.specs.Outcomes.{Missed}
-use Rattle.btree_smo.proofs.Answering.{took_two, took_one, one_gone, released_missed, missed_then}
+use Rattle.btree_smo.proofs.Answering.{took_two, took_one, released_missed, missed_then}
 use Rattle.btree_smo.proofs.AnsweringSplit.{took_third, missed_parted, parted_after}
 use Rattle.rows_trait.specs.Views.{holds}
 use Rattle.btree_smo.proofs.Answering.{took_other}

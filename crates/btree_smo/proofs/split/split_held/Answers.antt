@@ -1,7 +1,7 @@
-use Rattle.std.proofs.Common.{◌≡◌, ◌∙◌, ◌<◌, [], length, ap, sym, subst, arith}
+use Rattle.std.proofs.Common.{◌∙◌, [], length, ap, sym, subst, arith}
 use Rattle.page_model.specs.Page as stored
 use Rattle.row_words.specs.declared.event.Event.TheVariants.{Split}
-use Rattle.rows_trait.specs.Views.{Shape, may, state}
+use Rattle.rows_trait.specs.Views.{Shape}
 use Rattle.version_latch.proofs.Keeping.{may_ran}
 use Rattle.btree_descent.proofs.Calls.{sound_given}
 use Rattle.btree_descent.proofs.Spots.{draws_after}
