@@ -10,6 +10,7 @@ ghost use Rattle.core_calls.specs.Controls.{EveryControl};
 ghost use Rattle.core_calls.specs.Lines.{EveryRoundScript, EveryScript};
 ghost use Rattle.core_calls.specs.Printed.{EveryPrinted};
 ghost use Rattle.core_calls.specs.Refusals.{EveryHinder};
+ghost use Rattle.core_calls.specs.Room.{EveryRoom};
 ghost use Rattle.core_calls.specs.Rounds.{EveryFinish, EveryRound, EveryRoundSynced};
 ghost use Rattle.core_calls.specs.Rows.{Rows};
 ghost use Rattle.core_calls.specs.Told.{EveryTold};
@@ -155,3 +156,8 @@ pub fn every_alone()
     every_durable();
     every_commit();
 }
+
+/// How much room a key needs, and which pages are free.
+pub fn every_room()
+    ensures { EveryRoom }
+{}

@@ -7,15 +7,14 @@ use Rattle.map_model.specs.declared.call.Call.TheVariants as call
 use Rattle.map_model.specs.Maps.{key_end, value_end}
 use Rattle.map_model.specs.declared.call.Refusal.{Refusal}
 use Rattle.map_model.specs.declared.call.Refusal.TheVariants as refusal
-use Rattle.page_model.specs.Nodes.{holds}
 use Rattle.core_state.specs.Openings.{Opening}
 use Rattle.core_state.specs.Events.{Event}
 use Rattle.core_state.specs.States.{State}
-use Rattle.core_state.specs.Steps.{state_after}
+use Rattle.core_state.specs.Steps.{state_after, step}
 use Rattle.lean_disk.specs.Moments.{CrashIn, Framed, LeavesOnly}
 use Rattle.lean_disk.specs.Story.{Crash, Story}
-use Rattle.log_record.specs.declared.record.Body.TheVariants as body
 use Rattle.log_record.specs.declared.record.Record.{Record}
+use Rattle.disk_image.specs.Records.{entry_of}
 use Rattle.worker_log.specs.Calls.{After, flushed_log}
 use Rattle.worker_log.specs.Logs.{Log}
 use Rattle.core_calls.specs.Deeds.{answered, asked}
@@ -25,38 +24,40 @@ use Rattle.disk_runs.specs.Stands.{Known}
 use Rattle.log_calls.specs.Calls.{Anything}
 use Rattle.run_crashes.specs.Lines.{CallLeaves}
 use Rattle.engine_calls.specs.Clauses.{Between, CallAnswers}
-use Rattle.engine_calls.specs.Entries.{change_record}
 use Rattle.engine_trait.specs.Refusals.{IsRefusedFor, refusal_in}
 use Rattle.engine_trait.specs.Limits.{AreLoads, limits}
+use Rattle.engine_trait.specs.Rooms.{AreRoom, MakesRoom}
 
 -- ## The log
 
--- with the change of the key in its leaf, by the next number
-pub record LogsChange (g : Opening) (s : State) (key value : ℕ) (was is : Log) : Type 0 where
-  pub page : ℕ
-  pub within : page < g.format.pages
-  pub leaf : holds (s.page page).node key ≡ true
-  pub after : After (change_record g s (s.worker 1) page key value) was is
+-- the event enters a record, which the log has behind those that it had
+pub record LogsEntry (g : Opening) (s : State) (e : Event) (was is : Log) : Type 0 where
+  pub record_of : Record
+  pub entry : (step g s e).entries ≡ entry_of 1 record_of ∷ s.entries
+  pub after : After record_of was is
 
--- the record of a commit, by the next number, which needs nothing of other logs
-abbrev pub commit_of : State → Record
-commit_of s = record { txn = (s.worker 1).txn; gsn = suc (s.worker 1).clock; body = body.Commit 0 }
+-- what an event does to the log of session 1
+abbrev pub LogsOne : Opening → State → Event → (was is : Log) → Type 0
+LogsOne g s (Event.Change w p k v) was is = LogsEntry g s (Event.Change w p k v) was is
+LogsOne g s (Event.Put_back w p) was is = LogsEntry g s (Event.Put_back w p) was is
+LogsOne g s (Event.Split w l r q i) was is = LogsEntry g s (Event.Split w l r q i) was is
+LogsOne g s (Event.Lift w c) was is = LogsEntry g s (Event.Lift w c) was is
+LogsOne g s (Event.Join w l r q) was is = LogsEntry g s (Event.Join w l r q) was is
+LogsOne g s (Event.Drop w c) was is = LogsEntry g s (Event.Drop w c) was is
+LogsOne g s (Event.Purge w p keys) was is = LogsEntry g s (Event.Purge w p keys) was is
+LogsOne g s (Event.End w commit f) was is = LogsEntry g s (Event.End w commit f) was is
+LogsOne g s (Event.Flush w n) was is = is ≡ flushed_log was
+LogsOne g s _ was is = is ≡ was
 
--- with a commit, and flushed
-pub record LogsCommit (s : State) (was is : Log) : Type 0 where
-  pub mid : Log
-  pub staged : After (commit_of s) was mid
-  pub flushed : is ≡ flushed_log mid
-
--- The log after a call with this answer: with its change, by a put; with its commit, and flushed, by a commit; and else as it was.
-abbrev pub LogAfter : Opening → State → Call → Answer → (was is : Log) → Type 0
-LogAfter g s (call.Put key value) (answer.Was w) was is = LogsChange g s key value was is
-LogAfter g s call.Commit (answer.Committed number at) was is = LogsCommit s was is
-LogAfter g s c a was is = is ≡ was
+-- what events do to it, one after another
+abbrev pub Logs : Opening → State → List Event → (was is : Log) → Type 0
+Logs g s [] was is = is ≡ was
+Logs g s (e ∷ es) was is = (mid : Log) × LogsOne g s e was mid × Logs g (step g s e) es mid is
 
 -- ## The answer
 
--- In the state at its place, behind loads of the opening, a refusal has its cause, and comes where it has; and the log is what it makes of it.
+-- Behind loads of the opening come its own events. In the state behind all of them and with the log as it is then, a refusal has its cause; it comes where
+-- the state before them has one. The log has the records of its events. A put makes room for its key, and no call else.
 pub record Answers (g : Opening) (xs : List Done) (x : Done) (was is : Log) : Type 0 where
   pub first : List Event
   pub own : List Event
@@ -64,9 +65,10 @@ pub record Answers (g : Opening) (xs : List Done) (x : Done) (was is : Log) : Ty
   pub loads : AreLoads first
   -- they are few, so in a run of fewer than 2^40 calls no latch is ever spent
   pub few : length x.events ≤ 2 ^ 18
-  pub refused : (why : Refusal) → answered x.outcome.deed ≡ answer.Refused why → IsRefusedFor g (state_after g (front xs ++ first)) was (asked x.outcome.deed) why
+  pub refused : (why : Refusal) → answered x.outcome.deed ≡ answer.Refused why → IsRefusedFor g (state_after g (front xs ++ x.events)) is (asked x.outcome.deed) why
   pub refuses : (why : Refusal) → refusal_in g (state_after g (front xs ++ first)) was (asked x.outcome.deed) ≡ Some why → (answered x.outcome.deed ≡ answer.Refused why) ⊎ (answered x.outcome.deed ≡ answer.Refused refusal.RowSpent)
-  pub log : LogAfter g (state_after g (front xs ++ first)) (asked x.outcome.deed) (answered x.outcome.deed) was is
+  pub log : Logs g (state_after g (front xs ++ first)) own was is
+  pub room : (key value : ℕ) → asked x.outcome.deed ≡ call.Put key value → MakesRoom g (state_after g (front xs ++ first)) key own
 
 -- ## The disk
 
@@ -77,9 +79,10 @@ pub record Keeps (g : Opening) (xs : List Done) (x : Done) (s0 : Crash) (k : Kno
   pub master_is : answers.known.master ≡ k.master
   pub within : LeavesOnly old new (CrashIn old 2 Anything)
 
--- A device failed: a crash leaves what one before the call does, or what one after the first events of a commit that would be answered so.
+-- A device failed: a crash leaves what one before the call does, or behind some first events by which it made room; or what one after the first events of a
+-- commit that would be answered so.
 pub data Stops (g : Opening) (xs : List Done) (c : Call) (s0 : Crash) (k : Known) (old new : Story) : Type 0 where
-  Nothing : LeavesOnly old new (CallLeaves g xs [] s0 k.master) → Stops g xs c s0 k old new
+  Nothing : (es : List Event) → AreRoom es → LeavesOnly old new (CallLeaves g xs es s0 k.master) → Stops g xs c s0 k old new
   Part : (x : Done) → asked x.outcome.deed ≡ c → x.outcome.session ≡ 1 → Tells limits g 1 xs x → LeavesOnly old new (CallLeaves g xs x.events s0 k.master) → Stops g xs c s0 k old new
 
 -- and all areas but the log's are as they were
@@ -123,7 +126,8 @@ IsTold refusal.TooLong = Unit {0}
 IsTold (refusal.LogFull used limit) = Unit {0}
 IsTold refusal.ClockSpent = Unit {0}
 IsTold refusal.RowSpent = Unit {0}
-IsTold refusal.Full = Unit {0}
+IsTold refusal.TooTall = Unit {0}
+IsTold refusal.NoPages = Unit {0}
 IsTold _ = ⊥
 
 -- an answer that has come

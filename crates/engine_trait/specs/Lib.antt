@@ -1,4 +1,5 @@
--- Read Limits, Refusals and Calls in this order.
+-- Read Limits, Refusals, Rooms and Calls in this order.
 pub mod Limits
 pub mod Refusals
+pub mod Rooms
 pub mod Calls

@@ -1,19 +1,24 @@
 -- When a call is refused: by the first of its tests that holds.
-use Rattle.std.specs.Prelude.{◌≡◌, ◌⊎◌, ◌==◌, ◌&&◌, ◌^◌, ℕ, Bool, not, leb, Option, Some, None, length, if◌then◌else◌}
+use Rattle.std.specs.Prelude.{◌≡◌, ◌⊎◌, ◌==◌, ◌&&◌, ◌^◌, ℕ, Bool, not, leb, ltb, Option, Some, None, length, if◌then◌else◌}
 use Rattle.map_model.specs.declared.call.Call.{Call}
 use Rattle.map_model.specs.declared.call.Call.TheVariants as call
 use Rattle.map_model.specs.declared.call.Refusal.{Refusal}
-use Rattle.map_model.specs.declared.call.Refusal.TheVariants.{ClockSpent, Full, InTransaction, LogFull, NoTransaction, RowSpent, TooLong}
+use Rattle.map_model.specs.declared.call.Refusal.TheVariants.{ClockSpent, InTransaction, LogFull, NoPages, NoTransaction, RowSpent, TooLong, TooTall}
 use Rattle.page_model.specs.Check.{some_below}
 use Rattle.page_model.specs.Nodes.{holds}
 use Rattle.page_model.specs.Redo.{has_key}
 use Rattle.core_state.specs.Openings.{Opening}
-use Rattle.core_state.specs.States.{State}
+use Rattle.core_state.specs.States.{State, nodes_of}
+use Rattle.core_calls.specs.Room.{free_list, is_all_full, room_takes}
 use Rattle.worker_log.specs.Logs.{Log, limit, used}
 
 -- the leaf with the key in its fences has no room, and has not the key
 abbrev pub is_full_for : Opening → State → ℕ → Bool
 is_full_for g s k = some_below g.format.pages (λ p. holds (s.page p).node k && ((length (s.page p).node.pairs == g.format.room) && not (has_key k (s.page p).node)))
+
+-- room for the key would take one level more than there can be, or more pages than are free
+abbrev pub room_refusal : Opening → State → ℕ → Option Refusal
+room_refusal g s k = if is_all_full g s k && ((nodes_of s 0).level == g.format.levels) then Some TooTall else (if ltb (length (free_list g s)) (room_takes g s k) then Some NoPages else None)
 
 -- the blocks for changes are used, or the clock has reached its end; else what comes later
 abbrev pub log_refusal : (clock : ℕ) → Log → Option Refusal → Option Refusal
@@ -24,7 +29,7 @@ abbrev pub refusal_in : Opening → State → Log → Call → Option Refusal
 refusal_in g s log call.Begin = if (s.worker 1).is_open then Some InTransaction else log_refusal (s.worker 1).clock log None
 refusal_in g s log (call.Get key) = if (s.worker 1).is_open then None else Some NoTransaction
 refusal_in g s log (call.Put key value) =
-    if (s.worker 1).is_open then (if leb 64 (length (s.worker 1).changes) then Some TooLong else log_refusal (s.worker 1).clock log (if is_full_for g s key then Some Full else None)) else Some NoTransaction
+    if (s.worker 1).is_open then (if leb 64 (length (s.worker 1).changes) then Some TooLong else log_refusal (s.worker 1).clock log (if is_full_for g s key then room_refusal g s key else None)) else Some NoTransaction
 refusal_in g s log call.Commit = if (s.worker 1).is_open then None else Some NoTransaction
 refusal_in g s log _ = None
 

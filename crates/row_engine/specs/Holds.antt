@@ -3,6 +3,7 @@ use Rattle.std.specs.Prelude.{◌≡◌, ◌⊎◌, ◌↔◌, ◌≤◌, ◌<�
 use Rattle.map_model.specs.Lists.{Has}
 use Rattle.core_state.specs.States.{State, Worker}
 use Rattle.core_state.specs.Needs.{holds_row}
+use Rattle.core_calls.specs.Room.{free_list}
 use Rattle.row_words.specs.Openings.{opening}
 use Rattle.rows_trait.specs.declared.view.View.{View}
 use Rattle.rows_trait.specs.Views.{Shape, state}
@@ -60,8 +61,8 @@ pub record AreRows (z : Shape) (v : View) (frames count : ℕ) : Type 0 where
   pub few : count ≤ 2 ^ 16
 
 -- There is one worker and nobody else steps, and no row is latched. The session is the worker's at the moment that the seat has seen, where the log
--- is flushed as it says, each page, also a free one, is hot in the frame of its own number, and the lock rows that the worker holds are those that the
--- session has.
+-- is flushed as it says, each page, also a free one, is hot in the frame of its own number, the lock rows that the worker holds are those that the
+-- session has, and so are the free pages.
 pub record Holds (z : Shape) (v : View) (x : Session) (log : Log) : Type 0 where
   pub alone : z.alone ≡ true
   pub idle : v.held ≡ []
@@ -75,3 +76,4 @@ pub record Holds (z : Shape) (v : View) (x : Session) (log : Log) : Type 0 where
   pub within : (i : ℕ) → Has i x.held.rows → i < x.held.count
   pub fewer : length x.held.rows ≤ x.held.count
   pub none : x.is_open ≡ false → x.held.rows ≡ []
+  pub free : x.free ≡ free_list (opening v.given) (state v).core

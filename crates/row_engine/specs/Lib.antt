@@ -1,4 +1,5 @@
 pub mod Held
+pub mod Free
 pub mod Holds
 pub mod Ties
 pub mod Calls
@@ -8,3 +9,5 @@ pub mod Inside
 pub mod Takes
 pub mod Staging
 pub mod Puts
+pub mod Rooms
+pub mod Outcomes

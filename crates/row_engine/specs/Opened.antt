@@ -1,6 +1,7 @@
 -- An engine as it begins, on rows that were opened.
 use Rattle.std.specs.Prelude.{◌≡◌, ◌≤◌, ◌<◌, ◌%◌, ◌^◌, ℕ, true, false, List, [], length}
 use Rattle.page_model.specs.Page.{Page}
+use Rattle.core_calls.specs.Room.{free_list}
 use Rattle.core_state.specs.Openings.{Opening, start_page}
 use Rattle.core_state.specs.States.{start}
 use Rattle.core_state.specs.Steps.{AllMet}
@@ -44,6 +45,7 @@ pub record IsOpened (g : Opening) (z : Shape) (v : View) (x : Session) (log : Lo
   pub rows : AreRows z v x.frames x.held.count
   pub small : g.base < 2 ^ 64
   pub session : IsFirst g.base x
+  pub free : x.free ≡ free_list g (start g)
   pub last : log.last ≡ g.base
   pub flushed : log.flushed ≡ g.base
 

@@ -22,7 +22,7 @@ use Rattle.row_engine.specs.declared.session.Session.{Session}
 use Rattle.row_engine.specs.Takes.{IsSpent}
 
 -- no test refuses it, and its row is held alone
-pub record MayChange (v : View) (x : Session) (log : Log) (key value : ℕ) : Type 0 where
+pub record MayChange (v : View) (x : Session) (log : Log) (key : ℕ) : Type 0 where
   pub works : x.works ≡ true
   pub is_open : x.is_open ≡ true
   pub few : x.changes < 64
@@ -30,7 +30,6 @@ pub record MayChange (v : View) (x : Session) (log : Log) (key value : ℕ) : Ty
   pub room : used log < limit log
   pub row : is_held_by ((state v).core.row (key % x.held.count)).holder 1 ≡ true
   pub key_low : key < 2 ^ 64 - 1
-  pub value_low : value < 2 ^ 63
 
 -- what a log and its disk keep whatever comes of a record
 pub record KeepsLog (was : Log) (old new : Story) : Type 0 where
@@ -50,24 +49,6 @@ pub record IsChanged (v w : View) (key value : ℕ) (before : Option ℕ) (was i
   pub after : After entry was is
   pub stands : StagesOn 1 entry was is old new
   pub keeps : KeepsLog was old new
-
--- nothing was seen, and the key's leaf is full and has no entry of it
-pub record IsUnfit (v w : View) (key : ℕ) : Type 0 where
-  pub given : w.given ≡ v.given
-  pub seen : w.seen ≡ v.seen
-  pub page : ℕ
-  pub below : page < (opening v.given).format.pages
-  pub leaf : holds ((state v).core.page page).node key ≡ true
-  pub none : find key ((state v).core.page page).node.pairs ≡ None
-  pub full : length ((state v).core.page page).node.pairs ≡ 60
-
--- by answer
-abbrev pub Puts : Result (Option ℕ) Refusal → (v w : View) → (key value : ℕ) → (was is : Log) → (old new : Story) → (same broken : Type 0) → Type 0
-Puts (Ok before) v w key value was is old new same broken = IsChanged v w key value before was is old new
-Puts (Err refusal.Full) v w key value was is old new same broken = IsUnfit v w key × same
-Puts (Err refusal.RowSpent) v w key value was is old new same broken = IsSpent v w × same
-Puts (Err refusal.DiskFault) v w key value was is old new same broken = KeepsLog was old new × broken
-Puts (Err why) v w key value was is old new same broken = ⊥
 
 -- ## As its caller sees it
 

@@ -6,11 +6,13 @@
 
 mod begins;
 mod commits;
+mod free;
 mod gets;
 mod held;
 mod laws;
 mod opening;
 mod puts;
+mod room;
 mod session;
 mod store;
 mod taking;
@@ -18,6 +20,7 @@ mod taking;
 pub use begins::begin;
 pub use commits::{Ended, commit};
 pub use draw_trait::staged::Staged;
+pub use free::FreePages;
 pub use gets::get;
 pub use held::HeldRows;
 pub use laws::every_opened;

@@ -5,6 +5,7 @@ ghost use Rattle.rows_trait.specs.Rule.{IsPicture, plan};
 ghost use Rattle.open_rows.specs.Opened.{ArePages};
 ghost use Rattle.row_engine.specs.Opened.{IsOpenedOn, plain_shape};
 
+use crate::free::FreePages;
 use crate::held::HeldRows;
 use crate::session::Session;
 use btree_node::Node;
@@ -43,6 +44,7 @@ pub fn open_session(
         changes: 0,
         frames,
         held: HeldRows::new(alloc, count)?,
+        free: FreePages::new(alloc, pages)?,
     };
     Ok((rows, seat, session))
 }

@@ -7,9 +7,11 @@ ghost use Rattle.lean_disk.specs.Moments.{Framed};
 ghost use Rattle.engine_trait.specs.Calls.{IsTold};
 ghost use Rattle.row_engine.specs.Calls.{CallDoes, put_answer};
 ghost use Rattle.row_engine.specs.Holds.{Holds};
-ghost use Rattle.row_engine.specs.Puts.{IsEarly, MayChange, Puts, works_after};
+ghost use Rattle.row_engine.specs.Outcomes.{Puts, Tries};
+ghost use Rattle.row_engine.specs.Puts.{IsEarly, MayChange, works_after};
 
 use crate::gets::value_of;
+use crate::room::make_room;
 use crate::store::{Stages, Store};
 use crate::taking::take_row;
 use btree_descent::put::{Put, leaf_put};
@@ -19,32 +21,43 @@ use lean_proto::path::Path;
 use map_model::Refusal;
 use rows_trait::rows::Rows;
 
-// The key, whose row is held, gets its value.
-fn put_held<R: Rows, D: Stages>(
+// What came of a try to put.
+#[derive(Clone, Copy)]
+enum Tried {
+    // The value that the key had.
+    Done(Option<u64>),
+    // The leaf has no room for the key.
+    Full,
+}
+
+// The key, whose row is held, gets its value, if its leaf has room for it.
+fn put_in_leaf<R: Rows, D: Stages>(
     rows: &mut R,
     seat: &mut R::Seat,
     store: &mut Store<D>,
     key: u64,
     value: u64,
-) -> Result<Option<u64>, Refusal>
+    path: &mut Path,
+) -> Result<Tried, Refusal>
     requires fits { R.fits rows.old seat.old }
     requires holds { Holds (R.shape rows.old) (R.view seat.old) store.old.session store.old.log }
-    requires may { MayChange (R.view seat.old) store.old.session store.old.log key value }
+    requires may { MayChange (R.view seat.old) store.old.session store.old.log key }
+    requires value { value < 2 ^ 63 }
+    requires path { path.old ≡ [] }
     ensures fits { R.fits rows.new seat.new × (R.shape rows.new ≡ R.shape rows.old) }
     ensures holds { store.new.session.works ≡ true → Holds (R.shape rows.new) (R.view seat.new) store.new.session store.new.log }
-    ensures puts { Puts result (R.view seat.old) (R.view seat.new) key value store.old.log store.new.log (D.story store.old.disk) (D.story store.new.disk) (store.new ≡ store.old) (store.new.session.works ≡ false) }
+    ensures tries { Tries result (R.view seat.old) (R.view seat.new) key value store.old.session store.new.session store.old.log store.new.log (D.story store.old.disk) (D.story store.new.disk) path.new (store.new ≡ store.old) (store.new.session.works ≡ false) }
     ensures works { store.new.session.works ≡ works_after result }
     ensures cause_disk_fault { HasCause (D.faults store.old.disk) (D.faults store.new.disk) (result ≡ Err Refusal.DiskFault) }
 {
     rows_trait::every_low();
     let frames = store.session.frames;
-    let mut path = Path::new();
-    match leaf_put(rows, seat, 1, frames, key, value, &mut path, store) {
+    match leaf_put(rows, seat, 1, frames, key, value, path, store) {
         Put::Done(before) => {
             store.session.changes += 1;
-            Ok(value_of(before))
+            Ok(Tried::Done(value_of(before)))
         }
-        Put::Full { row: _ } => Err(Refusal::Full),
+        Put::Full { row: _ } => Ok(Tried::Full),
         Put::RowSpent { row: _ } => {
             rows.versions(seat);
             Err(Refusal::RowSpent)
@@ -59,6 +72,40 @@ fn put_held<R: Rows, D: Stages>(
         Put::ClockSpent => unreachable!(),
         Put::Moved(_) => unreachable!(),
         Put::Latched(_) => unreachable!(),
+    }
+}
+
+// The key, whose row is held, gets its value. Room is made for it, one change of the tree after another; each takes a free page.
+fn put_held<R: Rows, D: Stages>(
+    rows: &mut R,
+    seat: &mut R::Seat,
+    store: &mut Store<D>,
+    key: u64,
+    value: u64,
+) -> Result<Option<u64>, Refusal>
+    requires fits { R.fits rows.old seat.old }
+    requires holds { Holds (R.shape rows.old) (R.view seat.old) store.old.session store.old.log }
+    requires may { MayChange (R.view seat.old) store.old.session store.old.log key }
+    requires value { value < 2 ^ 63 }
+    ensures fits { R.fits rows.new seat.new × (R.shape rows.new ≡ R.shape rows.old) }
+    ensures holds { store.new.session.works ≡ true → Holds (R.shape rows.new) (R.view seat.new) store.new.session store.new.log }
+    ensures puts { Puts result (R.view seat.old) (R.view seat.new) key value store.old.session store.new.session store.old.log store.new.log (D.story store.old.disk) (D.story store.new.disk) }
+    ensures works { store.new.session.works ≡ works_after result }
+    ensures cause_disk_fault { HasCause (D.faults store.old.disk) (D.faults store.new.disk) (result ≡ Err Refusal.DiskFault) }
+{
+    'room: loop {
+        let mut path = Path::new();
+        match put_in_leaf(rows, seat, store, key, value, &mut path) {
+            Err(why) => return Err(why),
+            Ok(Tried::Done(before)) => return Ok(before),
+            Ok(Tried::Full) => {}
+        }
+        if let Err(why) = make_room(rows, seat, store, key, &path) {
+            return Err(why);
+        }
+        if let Some(why) = store.session.block_refusal(&store.log) {
+            return Err(why);
+        }
     }
 }
 

@@ -4,11 +4,12 @@ ghost use Rattle.std.specs.Prelude.{None};
 ghost use Rattle.engine_trait.specs.Refusals.{log_refusal};
 ghost use Rattle.row_engine.specs.Inside.{begin_test, begun_session, call_test, put_test};
 
+use crate::free::FreePages;
 use crate::held::HeldRows;
 use map_model::Refusal;
 use worker_log::WorkerLog;
 
-/// Whether no device has failed; what the core's worker has; how many frames there are; and the lock rows that it holds.
+/// Whether no device has failed; what the core's worker has; how many frames there are; the lock rows that it holds; and the pages that are free.
 #[derive(Drop)]
 pub struct Session {
     pub works: bool,
@@ -21,6 +22,7 @@ pub struct Session {
     pub changes: u32,
     pub frames: u32,
     pub held: HeldRows,
+    pub free: FreePages,
 }
 
 /// Where the clock ends.
@@ -81,6 +83,13 @@ impl Session {
         if CHANGES <= self.changes {
             return Some(Refusal::TooLong);
         }
+        log_refusal(self.clock, log)
+    }
+
+    // Why no further record of a change may be staged.
+    pub(crate) fn block_refusal(&self, log: &WorkerLog) -> Option<Refusal>
+        ensures { result ≡ log_refusal self.now.clock log.now None }
+    {
         log_refusal(self.clock, log)
     }
 

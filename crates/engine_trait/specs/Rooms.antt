@@ -1,0 +1,43 @@
+-- Room that a put makes for its key before it changes it.
+use Rattle.std.specs.Prelude.{◌≡◌, ℕ, suc, Bool, true, false, List, [], ◌∷◌}
+use Rattle.map_model.specs.Lists.{all}
+use Rattle.page_model.specs.Nodes.{covers}
+use Rattle.core_state.specs.Openings.{Opening}
+use Rattle.core_state.specs.States.{State, nodes_of}
+use Rattle.core_state.specs.Events.{Event}
+use Rattle.core_state.specs.Steps.{step}
+use Rattle.core_calls.specs.Room.{free_list, full_run, is_all_full}
+use Rattle.engine_trait.specs.Refusals.{is_full_for}
+
+-- ## Which events
+
+-- it changes no value and ends nothing: a page is loaded, a row is taken or given up as it stood, the tree gets a page
+abbrev pub makes_room : Event → Bool
+makes_room (Event.Load p f) = true
+makes_room (Event.Lock w i mode) = true
+makes_room (Event.Miss w) = true
+makes_room (Event.Split w l r q i) = true
+makes_room (Event.Lift w c) = true
+makes_room _ = false
+
+-- each of them
+abbrev pub AreRoom : List Event → Type 0
+AreRoom es = all makes_room es ≡ true
+
+-- ## In which order
+
+-- the page is the least free one
+abbrev pub IsLeastFree : Opening → State → ℕ → Type 0
+IsLeastFree g s p = (rest : List ℕ) × (free_list g s ≡ p ∷ rest)
+
+-- The key's leaf has no room. Of the full nodes above it, without a gap, the topmost is split in halves; if all nodes of the way are full, the root is lifted.
+abbrev pub IsNextRoom : Opening → State → (key : ℕ) → Event → Type 0
+IsNextRoom g s key (Event.Split w l r q i) =
+    (is_full_for g s key ≡ true) × (is_all_full g s key ≡ false) × (covers (nodes_of s l) key ≡ true) × (suc (nodes_of s l).level ≡ full_run g s key) × IsLeastFree g s r × (i ≡ 30)
+IsNextRoom g s key (Event.Lift w c) = (is_full_for g s key ≡ true) × (is_all_full g s key ≡ true) × IsLeastFree g s c
+IsNextRoom g s key _ = Unit {0}
+
+-- so does each event, at its place
+abbrev pub MakesRoom : Opening → State → (key : ℕ) → List Event → Type 0
+MakesRoom g s key [] = Unit {0}
+MakesRoom g s key (e ∷ es) = IsNextRoom g s key e × MakesRoom g (step g s e) key es
