@@ -13,5 +13,4 @@ pub mod lift;
 pub mod outcome;
 mod record;
 mod release;
-pub mod room;
 pub mod split;

@@ -12,7 +12,7 @@ use Rattle.core_state.specs.Openings.{Opening}
 use Rattle.core_state.specs.States.{Row, State, flushed_by_all, nodes_of}
 use Rattle.core_state.specs.Events.{Event, Mode}
 use Rattle.core_state.specs.Needs.{is_held_by, is_free, is_reader, may_hold}
-use Rattle.core_calls.specs.Room.{free_list, is_all_full, room_takes}
+use Rattle.core_calls.specs.Room.{is_all_full, room_takes, free_list}
 
 -- What the core does not show. After some events: whether so many of a log's blocks are in use, of those that changes may use, and whether
 -- some log is half full. Where clocks end; how many events must stand before a latch is spent; how many ends of a session may wait; and how
@@ -56,15 +56,15 @@ abbrev pub IsLong : Limits → Opening → State → ℕ → Call → Type 0
 IsLong l g s w call.Begin = l.waiting ≤ waiting g s w
 IsLong l g s w c = g.changes ≤ length (s.worker w).changes
 
--- room for the key would take one level more than there can be
+-- room for the key takes a further level, and there is none
 pub record IsTall (g : Opening) (s : State) (k : ℕ) : Type 0 where
-  pub full : IsFull g s k
+  pub leaf : IsFull g s k
   pub all : is_all_full g s k ≡ true
   pub level : (nodes_of s 0).level ≡ g.format.levels
 
--- fewer pages are free than room for the key takes
+-- room for the key takes more pages than are free
 pub record IsShort (g : Opening) (s : State) (k : ℕ) : Type 0 where
-  pub full : IsFull g s k
+  pub leaf : IsFull g s k
   pub few : length (free_list g s) < room_takes g s k
 
 -- a put, whose key has P

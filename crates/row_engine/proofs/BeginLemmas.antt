@@ -52,7 +52,7 @@ use Rattle.row_engine.specs.Ties.{Ties}
 use Rattle.row_engine.specs.declared.session.Session.{Session}
 use Rattle.row_engine.proofs.Behind as behind
 use Rattle.row_engine.proofs.Behind.{rows_on}
-use Rattle.row_engine.proofs.Moments.{acts, goes_seen, goes_state, met_core, resident_on}
+use Rattle.row_engine.proofs.Moments.{acts, free_same, goes_seen, goes_state, met_core, resident_on}
 use Rattle.row_engine.proofs.Waiting.{few_wait}
 
 -- ## The moment
@@ -158,7 +158,8 @@ comes_told d f refusal.TooLong t x = x
 comes_told d f (refusal.LogFull u l) t x = x
 comes_told d f refusal.ClockSpent t x = x
 comes_told d f refusal.RowSpent t x = x
-comes_told d f refusal.Full t x = x
+comes_told d f refusal.TooTall t x = x
+comes_told d f refusal.NoPages t x = x
 comes_told d f _ t x = absurd t
 
 -- an engine that is as another
@@ -230,6 +231,8 @@ module _ (begins : controls.EveryBegin) (z : Shape) (v w : View) (x : Session) (
     within = h.within;
     fewer = h.fewer;
     none = λ q. absurd (true≢false q);
+    free = free_same v w x.free e.goes.given (ap (λ s. s.page) core_is) h.free;
+    spare = h.spare;
   }
     where
       raised : {a b : ℕ} → (a ≤ 1) ⊎ (b ≤ x.floor) → (a ≤ 1) ⊎ (b ≤ f)
@@ -331,7 +334,8 @@ module _ (reached : EveryReached) (needs : EveryNeed) (answers : EveryAnswer) (g
       few = let a = t.few in let b = length-append first (happening.Event.Begin 1 f ∷ []) in omega arith;
       refused = λ why q. absurd (cc);
       refuses = λ why q. absurd (none_is why (sym none ∙ (tests ∙ q)));
-      log = refl;
+      log = (log, refl, refl);
+      room = λ key value e. absurd (cc);
     }
       where
         tests : begin_test x log ≡ refusal_in g (state_after g (front xs ++ first)) log call.Begin
@@ -416,6 +420,7 @@ module _ (reached : EveryReached) (needs : EveryNeed) (answers : EveryAnswer) (g
           refused = λ q r. inl (sym tests ∙ (e ∙ ap Some (refused_is why q r)));
           refuses = λ q r. inl (ap answer.Refused (some_is why q (sym e ∙ (tests ∙ r))));
           log = refl;
+          room = λ key value e. absurd (cc);
         };
         keeps = λ s0 k bt is. behind.keeps_by g xs (refused_by 1 call.Begin why first) s0 k k log st st (behind.gone_loads st lawful part g xs v t s0 k bt) told is refl (behind.nothing_written st lawful);
       };

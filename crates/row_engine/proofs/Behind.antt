@@ -36,6 +36,7 @@ use Rattle.btree_descent.specs.Known as pages
 use Rattle.key_locks.specs.Rows as locking
 use Rattle.row_engine.specs.Holds.{AreRows}
 use Rattle.engine_trait.specs.Limits.{AreLoads, limits}
+pub use Rattle.row_engine.specs.Grown.{Behind}
 use Rattle.row_engine.specs.Ties.{Ties}
 use Rattle.row_engine.proofs.Moments.{events_more}
 
@@ -85,12 +86,6 @@ loads_worker g s (happening.Event.Load p f ∷ es) a = loads_worker g (core.step
 loads_worker g s _ a = absurd a
 
 -- ## Within a call
-
--- the view has seen the events of the outcomes, and then these, each of which was met
-pub record Behind (g : Opening) (xs : List Done) (first : List happening.Event) (v : View) : Type 0 where
-  pub opens : Opens g v.given
-  pub met : AllMet g (state_after g (front xs)) first
-  pub seen : events_of v.given.before ++ events_of v.seen ≡ front xs ++ first
 
 -- where it begins
 pub begins : (g : Opening) (xs : List Done) (v : View) → (t : Ties g xs v) → Behind g xs t.loads v

@@ -44,7 +44,7 @@ use Rattle.engine_calls.specs.Entries.{EveryEntry, commit_record}
 use Rattle.engine_calls.specs.Parts.{EveryPart, Gone, behind_first}
 use Rattle.engine_calls.proofs.PartLemmas.{every_part, on_log, whole}
 use Rattle.engine_calls.proofs.UnlockLemmas.{entries_same, flushed_same, if_met, unlocks_quiet}
-use Rattle.engine_trait.specs.Calls.{Answers, Fails, Keeps, Nothing, Part, commit_of}
+use Rattle.engine_trait.specs.Calls.{Answers, Fails, Keeps, Logs, LogsEntry, Nothing, Part}
 use Rattle.engine_trait.specs.Limits.{limits}
 use Rattle.row_words.specs.declared.event.Event.{Event}
 use Rattle.row_words.specs.declared.event.Event.TheVariants.{End, Flush}
@@ -66,7 +66,7 @@ use Rattle.row_engine.specs.declared.session.Session.{Session}
 use Rattle.row_engine.proofs.Behind as behind
 use Rattle.row_engine.proofs.Behind.{rows_on}
 use Rattle.row_engine.proofs.LatchLemmas.{gives_events, sized_on}
-use Rattle.row_engine.proofs.Moments.{acts, goes_seen, goes_state, met_core, resident_on}
+use Rattle.row_engine.proofs.Moments.{acts, free_same, goes_seen, goes_state, met_core, resident_on}
 
 -- ## Views that have seen the same
 
@@ -294,6 +294,8 @@ module _ (turns : controls.EveryTurn) (z : Shape) (b : View) (x : Session) (log 
       within = λ i q. absurd q;
       fewer = omega arith;
       none = λ _. refl;
+      free = free_same b u x.free (d.goes.given ∙ e.given) page_u h.free;
+      spare = h.spare;
     }
 
 -- ## What its log said
@@ -319,7 +321,7 @@ framed_then a s0 s1 s2 f w = record {
 }
 
 -- what is left of a later part is left of the whole
-within_then : (old mid : Story) (c : Crash) → Framed 2 old mid → CrashIn mid 2 Anything c → CrashIn old 2 Anything c
+pub within_then : (old mid : Story) (c : Crash) → Framed 2 old mid → CrashIn mid 2 Anything c → CrashIn old 2 Anything c
 within_then old mid c f n = record {
   notes = n.notes ∙ f.notes;
   writes = λ b other told. n.writes b other (f.tells b ∙ told) ∙ ap (λ (x : Area). x.writes) (f.elsewhere b other);
@@ -365,23 +367,6 @@ module _ (reached : EveryReached) (needs : EveryNeed) (answers : EveryAnswer) (e
       gsn : number ≡ suc (s.worker 1).clock
       gsn = let q = of_s.clock in omega arith
 
-  -- nothing is owed
-  pub r_commit : r ≡ commit_of s
-  r_commit = (λ i. record { txn = sym of_s.txn i; gsn = gsn i; body = body.Commit (none i) })
-    where
-      gsn : number ≡ suc (s.worker 1).clock
-      gsn = let q = of_s.clock in omega arith
-
-      nothing : ℕ
-      nothing = 0
-
-      zero_need : (c : Bool) → cond c nothing nothing ≡ nothing
-      zero_need true = refl
-      zero_need false = refl
-
-      none : need_of x.debt log.flushed ≡ 0
-      none = ap (λ d. need_of d log.flushed) h.numbers.debt ∙ zero_need (ltb log.flushed 0)
-
   low : 0 < 1
   low = omega arith
 
@@ -413,7 +398,7 @@ module _ (reached : EveryReached) (needs : EveryNeed) (answers : EveryAnswer) (e
         let gone = (parts old old old limits g 1 xs s0 k [] k bt).none lawful in
         let passes = (parts old old new limits g 1 xs s0 k [] k bt).failed 1 low high gone (on_known k log old new is o) in
         record {
-          stops = Nothing (whole limits g 1 xs s0 k old old new [] k bt [] gone passes);
+          stops = Nothing [] refl (whole limits g 1 xs s0 k old old new [] k bt [] gone passes);
           within = o.within s0 g (front xs) k (record { stands = bt.stands; low = low; high = high; is = is });
         };
   }
@@ -598,9 +583,16 @@ module _ (reached : EveryReached) (needs : EveryNeed) (answers : EveryAnswer) (e
             few = few_events;
             refused = λ why q. absurd (cc);
             refuses = λ why q. absurd (not_refused why (((state_after g (front xs ++ first)).worker 1).is_open) open_there q);
-            log = record { mid = mid_log; staged = subst (λ q. After q log mid_log) (r_commit ∙ ap commit_of (sym here)) after; flushed = is_flushed };
+            log = (mid_log, subst (λ (q : State). LogsEntry g q end_event log mid_log) (sym here) (record { record_of = r; entry = ap (λ (q : State). q.entries) (if_met (may g s end_event) end_met s (ends s 1 entry_s)) ∙ ap (λ q. q ∷ s.entries) (sym is_commit.entry); after = after }),
+                unlocks_logs (step g (state_after g (front xs ++ first)) end_event) rows);
+            room = λ key value e. absurd (cc);
           }
             where
+              -- rows that are given back log nothing
+              unlocks_logs : (q : State) (is_held : List ℕ) → Logs g q (unlocks 1 is_held ++ flush_event ∷ []) mid_log is
+              unlocks_logs q [] = (is, is_flushed, refl)
+              unlocks_logs q (i ∷ is_held) = (mid_log, refl, unlocks_logs (step g q (happening.Event.Unlock 1 i)) is_held)
+
               few_events : length done.events ≤ 2 ^ 18
               few_events =
                   let a = t.few in

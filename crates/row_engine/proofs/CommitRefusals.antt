@@ -11,7 +11,7 @@ use Rattle.core_state.specs.Openings.{Opening}
 use Rattle.core_state.specs.Events as happening
 use Rattle.core_state.specs.States.{State}
 use Rattle.core_state.specs.Needs.{holds_row}
-use Rattle.core_state.specs.Steps.{AllMet, run, state_after}
+use Rattle.core_state.specs.Steps.{AllMet, run, state_after, step}
 use Rattle.core_state.proofs.Runs.{run_more}
 use Rattle.lean_disk.specs.Story.{IsLawful, Story}
 use Rattle.lean_disk.proofs.MomentLemmas.{framed}
@@ -33,7 +33,7 @@ use Rattle.engine_calls.specs.Parts.{EveryPart, behind_first}
 use Rattle.engine_calls.specs.Refused.{IsRefusal, TakesRows, refused_by}
 use Rattle.engine_calls.proofs.MarkLemmas.{any_append, keep_none}
 use Rattle.engine_calls.proofs.PartLemmas.{every_part}
-use Rattle.engine_trait.specs.Calls.{IsTold}
+use Rattle.engine_trait.specs.Calls.{IsTold, Logs}
 use Rattle.engine_trait.specs.Limits.{limits}
 use Rattle.engine_trait.specs.Refusals.{IsRefusedFor, refusal_in}
 use Rattle.row_words.specs.declared.event.Event.{Event}
@@ -55,7 +55,7 @@ use Rattle.row_engine.specs.declared.session.Session.{Session}
 use Rattle.row_engine.proofs.Behind as behind
 use Rattle.row_engine.proofs.Behind.{rows_on}
 use Rattle.row_engine.proofs.LatchLemmas.{replicated, seen_state}
-use Rattle.row_engine.proofs.Moments.{met_core, resident_on}
+use Rattle.row_engine.proofs.Moments.{free_same, met_core, resident_on}
 
 -- ## Tests
 
@@ -166,6 +166,8 @@ holds_missed z y v w x log same m h = subst (λ k. Holds k w x log) (sym same) (
   within = h.within;
   fewer = h.fewer;
   none = h.none;
+  free = free_same v w x.free m.given (ap (λ k. k.page) core_is) h.free;
+  spare = h.spare;
 })
   where
     core_is : (state w).core ≡ (state v).core
@@ -232,7 +234,7 @@ module _ (reached : EveryReached) (needs : EveryNeed) (answers : EveryAnswer) (c
   refused_is : (p q : Refusal) → answer.Refused p ≡ answer.Refused q → p ≡ q
   refused_is p q r = cc
 
-  refuses : (st : Story) → IsLawful st → (why : Refusal) → IsRefusal limits g xs 1 call.Commit why es → IsRefusedFor g (state_after g (front xs ++ first)) log call.Commit why
+  refuses : (st : Story) → IsLawful st → (why : Refusal) → IsRefusal limits g xs 1 call.Commit why es → IsRefusedFor g (state_after g (front xs ++ es)) log call.Commit why
       → ((q : Refusal) → refusal_in g (state_after g (front xs ++ first)) log call.Commit ≡ Some q → (why ≡ q) ⊎ (why ≡ refusal.RowSpent)) → is_conflict why ≡ false → is_last_refusal why ≡ true
       → is_half (marks_by 1 (outcomes (refused_by 1 call.Commit why es ∷ xs))) ≡ false → DoesOn g xs call.Commit (answer.Refused why) w log log st st
   refuses st lawful why is for_it only no_conflict last half = record {
@@ -249,9 +251,10 @@ module _ (reached : EveryReached) (needs : EveryNeed) (answers : EveryAnswer) (c
         events = refl;
         loads = t.are_loads;
         few = few_events;
-        refused = λ q r. subst (λ k. IsRefusedFor g (state_after g (front xs ++ first)) log call.Commit k) (refused_is why q r) for_it;
+        refused = λ q r. subst (λ k. IsRefusedFor g (state_after g (front xs ++ es)) log call.Commit k) (refused_is why q r) for_it;
         refuses = λ q r. either q (only q r);
-        log = refl;
+        log = misses_logs (state_after g (front xs ++ first)) m.misses m.are_misses;
+        room = λ key value e. absurd (cc);
       };
       keeps = λ s0 k bt is_log.
           behind.keeps_by g xs (refused_by 1 call.Commit why es) s0 k k log st st
@@ -260,6 +263,11 @@ module _ (reached : EveryReached) (needs : EveryNeed) (answers : EveryAnswer) (c
     ties = behind.ends g xs es w behind_es (refused_by 1 call.Commit why es) refl t.told told (no_hinder (is_conflict why) no_conflict, last) half;
   }
     where
+      misses_logs : (q : State) (ys : List Event) → AreMisses ys → Logs g q (events_of ys) log log
+      misses_logs q [] a = refl
+      misses_logs q (Miss w ∷ ys) a = (log, refl, misses_logs (step g q (happening.Event.Miss w)) ys a)
+      misses_logs q (_ ∷ ys) a = absurd a
+
       told : Tells limits g 1 xs (refused_by 1 call.Commit why es)
       told = (answers limits g 1 xs).refused 1 call.Commit why es is
 
@@ -283,9 +291,12 @@ module _ (reached : EveryReached) (needs : EveryNeed) (answers : EveryAnswer) (c
   -- no transaction is open
   pub closed_does : (st : Story) → IsLawful st → x.is_open ≡ false → DoesOn g xs call.Commit (answer.Refused refusal.NoTransaction) w log log st st
   closed_does st lawful closed = refuses st lawful refusal.NoTransaction (is_refusal refusal.NoTransaction (inl (ap (λ k. (k.worker 1).is_open) state_es ∙ (of_s.is_open ∙ closed))) refl)
-      (inl (ap (λ b. cond b None (Some refusal.NoTransaction)) (closed_there closed)))
+      (inl (ap (λ b. cond b None (Some refusal.NoTransaction)) closed_es))
       (λ q r. inl (some_is refusal.NoTransaction q (sym (ap (λ b. cond b None (Some refusal.NoTransaction)) (closed_there closed)) ∙ r))) refl refl t.whole
     where
+      closed_es : ((state_after g (front xs ++ es)).worker 1).is_open ≡ false
+      closed_es = ap (λ k. (k.worker 1).is_open) (behind.front_is g xs es ∙ state_es) ∙ (of_s.is_open ∙ closed)
+
       some_is : (p q : Refusal) → Some p ≡ Some q → p ≡ q
       some_is p q e = cc
 

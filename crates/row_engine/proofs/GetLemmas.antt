@@ -44,7 +44,7 @@ use Rattle.row_engine.specs.Inside.{call_test}
 use Rattle.row_engine.specs.Takes.{IsSpent, Takes}
 use Rattle.row_engine.specs.Ties.{Ties}
 use Rattle.row_engine.specs.declared.session.Session.{Session}
-use Rattle.row_engine.proofs.Moments.{resident_on}
+use Rattle.row_engine.proofs.Moments.{free_same, resident_on}
 use Rattle.row_engine.proofs.Behind as behind
 use Rattle.row_engine.proofs.Behind.{rows_on}
 use Rattle.row_engine.proofs.Refusing.{is_refusal, refused_does, spent_behind, spent_end, taken_behind}
@@ -177,6 +177,8 @@ module _ (z : Shape) (v w : View) (x : Session) (log : Log) (h : Holds z v x log
     within = h.within;
     fewer = h.fewer;
     none = h.none;
+    free = free_same v w x.free read_given (ap (λ k. k.page) core_is) h.free;
+    spare = h.spare;
   }
 
 -- the row of the key is the one that was taken
@@ -281,7 +283,8 @@ module _ (reached : EveryReached) (needs : EveryNeed) (answers : EveryAnswer) (g
         few = let i = t.few in let j = length-append first (happening.Event.Lock 1 (g.row_of key) happening.Mode.Shared ∷ happening.Event.Read 1 a.page key value ∷ []) in let c = ap (λ es. length es) events_are in omega arith;
         refused = λ why q. absurd (cc);
         refuses = λ why q. absurd (none_is why (sym (at (state_after g (front xs ++ first)) open_first) ∙ q));
-        log = refl;
+        log = (log, refl, (log, refl, refl));
+        room = λ key value e. absurd (cc);
       };
       frame = framed 2 st;
       keeps = λ s0 m bt is.
@@ -303,7 +306,7 @@ module _ (reached : EveryReached) (needs : EveryNeed) (answers : EveryAnswer) (c
     where
       closed : CallDoes (call.Get key) (answer.Refused refusal.NoTransaction) v v log log st st
       closed g xs t = refused_does answers coming g xs v t log st lawful part (call.Get key) refusal.NoTransaction v (behind.begins g xs v t)
-          (is_refusal answers coming g xs v t log st lawful part (call.Get key) refusal.NoTransaction (inl (open_in g xs t ∙ (call_closed x why works e).0)) tt refl) refl refl (λ s. refl)
+          (is_refusal answers coming g xs v t log st lawful part (call.Get key) refusal.NoTransaction (inl (open_in g xs t ∙ (call_closed x why works e).0)) tt refl) refl refl (λ key value e. absurd (cc))
           (inl none) (λ q r. inl (some_is refusal.NoTransaction q (sym none ∙ r)))
         where
           none : refusal_in g (behind_first g xs t.loads) log (call.Get key) ≡ Some refusal.NoTransaction
@@ -311,4 +314,4 @@ module _ (reached : EveryReached) (needs : EveryNeed) (answers : EveryAnswer) (c
 
   pub spent_get : (w : View) → IsSpent v w → CallDoes (call.Get key) (answer.Refused refusal.RowSpent) v w log log st st
   spent_get w s g xs t = refused_does answers coming g xs v t log st lawful part (call.Get key) refusal.RowSpent w (spent_behind g xs t.loads v w (behind.begins g xs v t) s)
-      (is_refusal answers coming g xs v t log st lawful part (call.Get key) refusal.RowSpent (spent_end g xs t.loads v w (behind.begins g xs v t) s) tt tt) refl refl (λ k. refl) (inr refl) (λ q r. inr refl)
+      (is_refusal answers coming g xs v t log st lawful part (call.Get key) refusal.RowSpent (spent_end g xs t.loads v w (behind.begins g xs v t) s) tt tt) refl refl (λ key value e. absurd (cc)) (inr refl) (λ q r. inr refl)

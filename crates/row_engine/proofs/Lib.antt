@@ -14,3 +14,6 @@ pub mod PutLemmas
 pub mod PutRuns
 pub mod OpenLemmas
 pub mod OpeningLemmas
+pub mod Formats
+pub mod GrowRuns
+pub mod StepLemmas

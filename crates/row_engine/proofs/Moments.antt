@@ -1,6 +1,7 @@
 -- What the seat sees where nobody else steps, and what it is in a run.
 use Rattle.std.proofs.Common.{◌≡◌, ◌≤◌, ◌<◌, ℕ, true, List, [], ◌∷◌, ◌++◌, refl, sym, ap, subst, ◌∙◌, append-nil}
 use Rattle.core_state.specs.Needs.{may}
+use Rattle.core_calls.specs.Room.{free_list, frees_from}
 use Rattle.core_state.specs.Steps.{happens}
 use Rattle.row_words.specs.declared.event.Event.{Event}
 use Rattle.row_words.specs.declared.given.Given.{Given}
@@ -36,6 +37,10 @@ resident_on z v w given place r = record {
   room = subst (λ k. (opening k).format.pages ≤ z.sizes.frames) (sym given) r.room;
   hot = λ p lt. ap (λ k. k p) place ∙ r.hot p (subst (λ k. p < (opening k).format.pages) given lt);
 }
+
+-- the free pages are the same, where no page changed
+pub free_same : (v w : View) (free : List ℕ) → w.given ≡ v.given → (state w).core.page ≡ (state v).core.page → free ≡ free_list (opening v.given) (state v).core → free ≡ free_list (opening w.given) (state w).core
+free_same v w free given page e = e ∙ (λ i. frees_from (λ p. (sym page i p).node) (opening (sym given i)).format.pages 0)
 
 pub events_more : (es fs : List Event) → events_of (es ++ fs) ≡ events_of es ++ events_of fs
 events_more [] fs = refl

@@ -2,9 +2,11 @@
 use Rattle.std.proofs.Common.{◌≡◌, ◌↔◌, ◌++◌, true, [], length, inr, refl, sym, ap, ◌∙◌, subst, arith, append-nil, true≢false}
 use Rattle.map_model.specs.Lists.{Has}
 use Rattle.core_state.specs.Openings.{Opening}
-use Rattle.core_state.specs.States.{State, start}
+use Rattle.core_state.specs.States.{State, nodes_of, start}
+use Rattle.core_calls.specs.Room.{free_list, frees_from}
 use Rattle.core_state.specs.Needs.{holds_row}
 use Rattle.row_words.specs.Moments.{events_of}
+use Rattle.row_words.specs.Openings.{opening}
 use Rattle.rows_trait.specs.declared.view.View.{View}
 use Rattle.rows_trait.specs.Views.{Shape, state}
 use Rattle.worker_log.specs.Logs.{Log}
@@ -71,6 +73,8 @@ module _ (g : Opening) (z : Shape) (v : View) (x : Session) (log : Log) (o : IsO
     within = λ i h. absurd (subst (Has i) o.session.rows h);
     fewer = let e = ap length o.session.rows in omega arith;
     none = λ _. o.session.rows;
+    free = at (λ s. x.free ≡ free_list (opening v.given) s) (o.free ∙ (λ i. frees_from (nodes_of (start g)) (o.opens.format i).pages 0));
+    spare = o.spare;
   }
 
 pub every_opened : EveryOpened

@@ -4,7 +4,10 @@ use Rattle.std.proofs.lemmas.Bool.{and_from, and_parts, eqb-true, ltb-true, ltb-
 use Rattle.std.proofs.lemmas.List.{length-append}
 use Rattle.page_model.specs.Page.{Page}
 use Rattle.core_state.specs.Openings.{Opening, start_page}
-use Rattle.core_state.specs.States.{State, start}
+use Rattle.core_state.specs.States.{State, nodes_of, start}
+use Rattle.core_calls.specs.Room.{frees_from}
+use Rattle.page_model.specs.Nodes.{Node}
+use Rattle.row_engine.specs.Free.{nodes_in}
 use Rattle.core_state.specs.Events as happening
 use Rattle.core_state.specs.Needs.{is_worker}
 use Rattle.core_state.specs.Steps as core
@@ -134,6 +137,20 @@ loads_few : (xs : List plain.Page) → length (loads 8 xs ++ frees 0 xs) ≤ len
 loads_few xs = let a = loads_below 8 xs in let b = frees_few 0 xs in let c = below_few 8 xs in let d = length-append (loads 8 xs) (frees 0 xs) in omega arith
 
 -- what may be loaded, and what comes of it, is the same to both openings
+-- pages that are alike have the same free ones
+frees_same : (f h : ℕ → Node) → ((p : ℕ) → f p ≡ h p) → (n p : ℕ) → frees_from f n p ≡ frees_from h n p
+frees_same f h e zero p = refl
+frees_same f h e (suc n) p = let ih = frees_same f h e n (suc p) in (λ i. cond (e p i).live (ih i) (p ∷ ih i))
+
+-- no more than there are
+as_few : (f : ℕ → Node) (n p : ℕ) → length (frees_from f n p) ≤ n
+as_few f zero p = omega arith
+as_few f (suc n) p = let ih = as_few f n (suc p) in go (f p).live ih
+  where
+    go : (c : Bool) → length (frees_from f n (suc p)) ≤ n → length (cond c (frees_from f n (suc p)) (p ∷ frees_from f n (suc p))) ≤ suc n
+    go true h = omega arith
+    go false h = omega arith
+
 module _ (need : EveryNeed) (g : Opening) (v : Given) (o : Opens g v) where
   load_same : (s : State) (p f : ℕ) → core.step (opening v) s (happening.Event.Load p f) ≡ core.step g s (happening.Event.Load p f)
   load_same s p f = ap (λ b. cond b (record s { place = (happens g s (happening.Event.Load p f)).place; page = (happens g s (happening.Event.Load p f)).page }) s) (sym (need g v o s (happening.Event.Load p f)))
@@ -208,7 +225,7 @@ module _ (every : EveryOpened) (need : EveryNeed) (sound : EverySound) (pages : 
       few = omega arith;
     }
 
-    module _ (x : Session) (first : IsFirst base x) (frames : x.frames ≡ length pages) (held : x.held.count ≡ count) where
+    module _ (x : Session) (first : IsFirst base x) (frames : x.frames ≡ length pages) (held : x.held.count ≡ count) (free : x.free ≡ frees_from (nodes_in pages) (length pages) 0) where
       is : (log : Log) → log.last ≡ base → log.flushed ≡ base → IsOpened g (plain_shape (length pages) count 1) (first_plain v) x log
       is log last flushed = record {
         opens = o.opens;
@@ -223,6 +240,8 @@ module _ (every : EveryOpened) (need : EveryNeed) (sound : EverySound) (pages : 
         rows = subst (λ n. AreRows (plain_shape (length pages) count 1) (first_plain v) n x.held.count) (sym frames) (subst (λ n. AreRows (plain_shape (length pages) count 1) (first_plain v) (length pages) n) (sym held) rows);
         small = let e = base_is in omega arith;
         session = subst (λ n. IsFirst n x) (sym base_is) first;
+        free = free ∙ (frees_same (nodes_in pages) (nodes_of (start g)) (λ p. ap (λ c. c.node) (sym (page_is p))) (length pages) 0 ∙ (λ i. frees_from (nodes_of (start g)) (sym format_is i).pages 0));
+        spare = let a = ap (λ (ps : List ℕ). length ps) free in let b = as_few (nodes_in pages) (length pages) 0 in omega arith;
         last = last ∙ sym base_is;
         flushed = flushed ∙ sym base_is;
       }

@@ -1,11 +1,12 @@
 -- A put behind the taking of its row.
-use Rattle.std.proofs.Common.{◌≡◌, ◌⊎◌, inl, inr, ◌↔◌, ◌≤◌, ◌^◌, ◌+◌, ◌++◌, ℕ, suc, Bool, true, false, cond, leb, List, [], ◌∷◌, length, Option, Ok, refl, sym, ap, ◌∙◌, subst, arith, true≢false, append-nil}
+use Rattle.std.proofs.Common.{◌≡◌, ◌⊎◌, inl, inr, ◌↔◌, ◌≤◌, ◌<◌, ◌^◌, ◌+◌, ◌++◌, ℕ, suc, Bool, true, false, cond, leb, List, [], ◌∷◌, length, Option, Some, Ok, refl, sym, ap, ◌∙◌, subst, arith, true≢false, append-nil}
 use Rattle.std.proofs.lemmas.Bool.{le-leb, leb-true}
 use Rattle.map_model.specs.Lists.{Has}
 use Rattle.image_model.specs.Entries.{Entry, Kind, touches, written}
 use Rattle.core_state.specs.Events as happening
 use Rattle.core_state.specs.Needs.{holds_row, may}
-use Rattle.core_state.specs.States.{State, Worker, is_hot}
+use Rattle.core_state.specs.States.{Place, State, Worker, is_hot, nodes_of}
+use Rattle.core_calls.specs.Room.{EveryRoom, free_list, frees_from}
 use Rattle.core_state.specs.Steps.{at_pages, happens, write_entry}
 use Rattle.lean_disk.specs.Story.{Story}
 use Rattle.log_record.specs.declared.record.Record.{Record}
@@ -23,15 +24,18 @@ use Rattle.rows_trait.specs.Turns.{Ran}
 use Rattle.rows_trait.specs.Views.{AreLow, Shape, after_all, state}
 use Rattle.rows_trait.specs.declared.view.View.{View}
 use Rattle.btree_descent.specs.Descents.{MetCold}
-use Rattle.btree_descent.specs.Puts.{Changed, IsRowSpent}
+use Rattle.btree_descent.specs.Puts.{Changed, IsRowSpent, MetFull}
+use Rattle.btree_descent.specs.Trails.{Came, IsAbove}
+use Rattle.btree_descent.specs.declared.put.Put.TheVariants as put
 use Rattle.row_engine.specs.Holds.{AreNumbers, AreStamps, Holds, IsOf}
+use Rattle.row_engine.specs.Outcomes.{HasNoRoom}
 use Rattle.row_engine.specs.Puts.{MayChange}
 use Rattle.row_engine.specs.Staging.{Staging, session_clock}
 use Rattle.row_engine.specs.Takes.{IsSpent}
 use Rattle.row_engine.specs.declared.session.Session.{Session}
 use Rattle.row_engine.proofs.TakeLemmas.{own_log}
 use Rattle.row_engine.proofs.Behind.{rows_on}
-use Rattle.row_engine.proofs.Moments.{met_core, resident_on}
+use Rattle.row_engine.proofs.Moments.{free_same, met_core, resident_on}
 
 -- ## What a seat that is alone has seen
 
@@ -69,6 +73,8 @@ holds_still z v w x log given seen held h =
       within = h.within;
       fewer = h.fewer;
       none = h.none;
+      free = free_same v w x.free given (ap (λ s. s.page) core) h.free;
+      spare = h.spare;
     }
 
 -- each page stands in a frame
@@ -88,6 +94,39 @@ spent_many low row v w are r =
 pub is_spent : EveryLow → (z : Shape) (row : ℕ) (v w : View) → z.alone ≡ true → Ran z.alone v [] w → AreLow (length w.seen) w.steps → IsRowSpent row v w → IsSpent v w
 is_spent low z row v w alone ran are r = record { given = ran.given; seen = none_seen z.alone v w alone ran; many = spent_many low row v w are r }
 
+-- ## Where the leaf is full
+
+pub no_room : (z : Shape) (v w : View) (x : Session) (log : Log) (key row : ℕ) (path : List ℕ) → Holds z v x log → MetFull z.alone key row v w → Came z.alone 1 x.frames key path v (put.Full row) w → HasNoRoom v w x.frames key path
+no_room z v w x log key row path h m t = record {
+  given = m.ran.given;
+  seen = seen_is;
+  leaf = m.page;
+  unfit = record { below = m.leaf.below; holds = m.leaf.leaf; none = m.none; full = m.full };
+  path_to = record {
+    under_root = t.trail.below;
+    starts = t.trail.starts;
+    ends = t.trail.ends ∙ ap Some (sym t.ends ∙ row_is);
+    few = t.trail.few;
+    within = t.trail.within;
+    led = λ n frame next p q. carried (t.trail.still h.alone n frame next p q);
+  };
+}
+  where
+    seen_is : w.seen ≡ v.seen
+    seen_is = none_seen z.alone v w h.alone m.ran
+
+    hw_hot : (state w).core.place m.page ≡ Place.Hot m.page
+    hw_hot = ap (λ k. k.core.place m.page) (still v w m.ran.given seen_is) ∙ h.resident.hot m.page (subst (λ k. m.page < (opening k).format.pages) m.ran.given m.leaf.below)
+
+    row_is : row ≡ m.page
+    row_is = same_frame row m.page (sym m.leaf.hot ∙ hw_hot)
+      where
+        same_frame : (a b : ℕ) → Place.Hot a ≡ Place.Hot b → a ≡ b
+        same_frame a b e = cc
+
+    carried : {frame next : ℕ} → IsAbove v.given (state v) key frame next → IsAbove w.given (state w) key frame next
+    carried {frame} {next} a = subst (λ es. IsAbove w.given (after_all w.given es) key frame next) (sym seen_is) (subst (λ k. IsAbove k (after_all k v.seen) key frame next) (sym m.ran.given) a)
+
 -- ## Behind a change
 
 -- the log is flushed as it was
@@ -98,7 +137,7 @@ same_flushed r old new a = go (leb (length old.payload + length (records_text (r
     go true e = ap (λ k. k.flushed) (a.room (leb-true (length old.payload + length (records_text (r ∷ []))) 2000 e))
     go false e = ap (λ k. k.flushed) (a.full (λ le. true≢false (sym (le-leb (length old.payload + length (records_text (r ∷ []))) 2000 le) ∙ e)))
 
-module _ (z : Shape) (v w : View) (x : Session) (log : Log) (h : Holds z v x log) (key value : ℕ) (f : MayChange v x log key value) (before : Option ℕ) (rs now : List Record) (y : Session) (log_now : Log)
+module _ (rooms : EveryRoom) (z : Shape) (v w : View) (x : Session) (log : Log) (h : Holds z v x log) (key value : ℕ) (f : MayChange v x log key) (before : Option ℕ) (rs now : List Record) (y : Session) (log_now : Log)
     (d : Changed z.alone 1 key value before v rs w (session_clock y) now) where
   abbrev s : State
   s = (state v).core
@@ -179,6 +218,11 @@ module _ (z : Shape) (v w : View) (x : Session) (log : Log) (h : Holds z v x log
       changes = let a = f.few in omega arith;
     }
 
+    -- the same pages are free
+    free_after : x.free ≡ free_list (opening w.given) (state w).core
+    free_after = h.free ∙ (sym ((rooms (opening v.given) s key).change 1 page key value change_met)
+        ∙ (λ i. frees_from (nodes_of (sym core_is i)) (opening (sym d.ran.given i)).format.pages 0))
+
     after_put : Holds z w u log_now
     after_put = record {
       alone = h.alone;
@@ -198,6 +242,8 @@ module _ (z : Shape) (v w : View) (x : Session) (log : Log) (h : Holds z v x log
       within = h.within;
       fewer = h.fewer;
       none = h.none;
+      free = free_after;
+      spare = h.spare;
     }
 
     pub holds_changed : Holds z w (record y { changes = y.changes + 1 }) log_now

@@ -1,5 +1,5 @@
 -- A put in a run.
-use Rattle.std.proofs.Common.{◌≡◌, ◌⊎◌, inl, inr, ◌≤◌, ◌<◌, ◌^◌, ◌%◌, ◌==◌, ◌&&◌, ◌||◌, ◌++◌, ℕ, zero, suc, Bool, true, false, cond, not, leb, ltb, List, [], ◌∷◌, length, Option, Some, None, Result, Ok, Err, IfErr, refl, sym, ap, ◌∙◌, subst, arith, append-nil, true≢false}
+use Rattle.std.proofs.Common.{◌≡◌, ◌⊎◌, inl, inr, ◌≤◌, ◌<◌, ◌+◌, ◌^◌, ◌%◌, ◌==◌, ◌&&◌, ◌||◌, ◌++◌, ℕ, zero, suc, Bool, true, false, cond, not, leb, ltb, List, [], ◌∷◌, length, Option, Some, None, Result, Ok, Err, IfErr, refl, sym, ap, ◌∙◌, subst, arith, append-nil, true≢false}
 use Rattle.std.proofs.lemmas.Bool.{and_parts, cases_eq, leb-true, leb-false, ltb-true, eq-eqb, eqb-true}
 use Rattle.std.proofs.lemmas.List.{append_assoc, length-append}
 use Rattle.map_model.specs.declared.call.Answer.{Answer}
@@ -12,6 +12,7 @@ use Rattle.map_model.specs.Lists.{all, keep}
 use Rattle.map_model.specs.Pairings.{is_last_refusal}
 use Rattle.page_model.specs.Check.{some_below}
 use Rattle.page_model.specs.Nodes.{Format, Node, holds}
+use Rattle.page_model.specs.Pairs.{find}
 use Rattle.page_model.specs.Redo.{has_key, is_some}
 use Rattle.page_model.specs.Tree.{IsTree}
 use Rattle.page_model.proofs.Laws.{every_tree}
@@ -20,7 +21,9 @@ use Rattle.core_state.specs.Openings.{Opening}
 use Rattle.core_state.specs.Events as happening
 use Rattle.core_state.specs.Needs.{are_hot, is_held_by, may, may_put, needs, value_in}
 use Rattle.core_state.specs.States.{State, Worker, nodes_of}
+use Rattle.core_state.specs.Steps as core
 use Rattle.core_state.specs.Steps.{at_pages, happens, state_after}
+use Rattle.core_calls.specs.Room.{free_list, is_all_full, room_takes}
 use Rattle.core_state.proofs.Runs.{run_more}
 use Rattle.lean_disk.proofs.MomentLemmas.{framed}
 use Rattle.lean_disk.specs.Moments.{Framed}
@@ -37,42 +40,45 @@ use Rattle.core_calls.specs.Marks.{is_half}
 use Rattle.core_calls.specs.Refusals.{IsCause, IsFull}
 use Rattle.core_calls.specs.Runs.{Tells}
 use Rattle.core_calls.specs.Steps.{MayPutBack, is_conflict, is_step}
-use Rattle.disk_runs.specs.Laws.{with_log}
 use Rattle.disk_runs.specs.Logs.{Records}
-use Rattle.disk_runs.specs.Quiet.{is_quiet}
 use Rattle.disk_runs.specs.Stands.{Known}
-use Rattle.log_calls.specs.Calls.{StagesOn}
 use Rattle.engine_calls.specs.Answers.{EveryAnswer}
-use Rattle.engine_calls.specs.Clauses.{Between, EveryComing, OnLog}
+use Rattle.engine_calls.specs.Clauses.{Between, EveryComing}
 use Rattle.engine_calls.specs.Entries.{change_record}
 use Rattle.engine_calls.specs.Parts.{EveryPart, behind_first}
 use Rattle.engine_calls.specs.Puts.{IsWrite, changed_by, taking}
 use Rattle.engine_calls.specs.Refused.{IsRefusal, TakesRows, refused_by}
 use Rattle.engine_calls.proofs.EntryLemmas.{every_entry}
-use Rattle.engine_calls.proofs.PartLemmas.{whole}
 use Rattle.row_words.specs.declared.event.Event.{Event}
 use Rattle.row_words.specs.declared.event.Event.TheVariants as event
 use Rattle.row_words.specs.Moments.{events_of}
 use Rattle.row_words.specs.Openings.{opening}
 use Rattle.row_opening.specs.Openings.{EveryNeed, EveryReached, Opens}
-use Rattle.rows_trait.specs.Views.{Shape, state}
+use Rattle.rows_trait.specs.Views.{Shape, after_all, state}
+use Rattle.btree_descent.specs.Known as pages
 use Rattle.rows_trait.specs.declared.view.View.{View}
 use Rattle.btree_descent.specs.Puts.{change_of}
 use Rattle.key_locks.specs.Rows.{event_mode}
 use Rattle.key_locks.specs.declared.mode.Mode.TheVariants.{Alone}
-use Rattle.engine_trait.specs.Calls.{Fails, IsTold, Keeps, LogsChange, Nothing}
-use Rattle.engine_trait.specs.Refusals.{log_refusal}
+use Rattle.engine_trait.specs.Calls.{Fails, IsTold, Logs, LogsEntry, Nothing}
 use Rattle.engine_trait.specs.Limits.{AreLoads, limits}
-use Rattle.engine_trait.specs.Refusals.{IsRefusedFor, is_full_for, refusal_in}
+use Rattle.engine_trait.specs.Refusals.{IsRefusedFor, is_full_for, log_refusal, refusal_in, room_refusal}
+use Rattle.engine_trait.specs.Rooms.{AreRoom, MakesRoom}
 use Rattle.row_engine.specs.Calls.{CallDoes, Comes, DoesOn, put_answer}
 use Rattle.row_engine.specs.Holds.{Holds, IsOf}
 use Rattle.row_engine.specs.Inside.{put_test}
-use Rattle.row_engine.specs.Puts.{IsChanged, IsUnfit, KeepsLog, Puts}
+use Rattle.row_engine.specs.Grown.{AreAside, Behind, Gained, Grows, Went, is_aside}
+use Rattle.row_engine.specs.Outcomes.{HasFailed, HasPut, HasRoom, IsCrowded, IsStopped, Puts}
+use Rattle.row_engine.specs.Puts.{works_after}
+use Rattle.row_engine.specs.Rooms.{IsSpentBehind, IsUnfit}
 use Rattle.row_engine.specs.Takes.{IsSpent, Takes}
 use Rattle.row_engine.specs.Ties.{Ties}
 use Rattle.row_engine.specs.declared.session.Session.{Session}
 use Rattle.row_engine.proofs.Behind as behind
 use Rattle.row_engine.proofs.BeginLemmas.{comes_told}
+use Rattle.row_engine.proofs.Formats.{full_as, full_on, refusal_as, refusal_on}
+use Rattle.row_engine.proofs.GrowRuns.{Asides, all_append, asides, logs_more, logs_same, makes_more, makes_same, misses_are, misses_aside, misses_met, misses_quiet, record_in, went_quiet}
+use Rattle.row_engine.proofs.Moments.{events_more}
 use Rattle.row_engine.proofs.PutLemmas.{seen_core}
 
 some_is : (r q : Refusal) → Some r ≡ Some q → r ≡ q
@@ -144,12 +150,15 @@ put_comes x log why e = go x.works refl
     go false w = inr (inl (sym (some_is _ why ((λ i. cond (sym w i) (cond x.is_open (cond (leb 64 x.changes) (Some refusal.TooLong) (log_refusal x.clock log None)) (Some refusal.NoTransaction)) (Some refusal.Broken)) ∙ e))))
 
 -- behind the tests
-pub puts_told : (r : Result (Option ℕ) Refusal) (v w : View) (key value : ℕ) (was is : Log) (old new : Story) (same broken : Type 0) → Puts r v w key value was is old new same broken → IfErr r (λ why. IsTold why ⊎ ((why ≡ refusal.Broken) ⊎ (why ≡ refusal.DiskFault)))
-puts_told (Ok before) v w key value was is old new same broken p = tt
-puts_told (Err refusal.Full) v w key value was is old new same broken p = inl tt
-puts_told (Err refusal.RowSpent) v w key value was is old new same broken p = inl tt
-puts_told (Err refusal.DiskFault) v w key value was is old new same broken p = inr (inr refl)
-puts_told (Err _) v w key value was is old new same broken p = absurd p
+pub puts_told : (r : Result (Option ℕ) Refusal) (v w : View) (key value : ℕ) (x y : Session) (was is : Log) (old new : Story) → Puts r v w key value x y was is old new → IfErr r (λ why. IsTold why ⊎ ((why ≡ refusal.Broken) ⊎ (why ≡ refusal.DiskFault)))
+puts_told (Ok before) v w key value x y was is old new p = tt
+puts_told (Err refusal.TooTall) v w key value x y was is old new p = inl tt
+puts_told (Err refusal.NoPages) v w key value x y was is old new p = inl tt
+puts_told (Err (refusal.LogFull used limit)) v w key value x y was is old new p = inl tt
+puts_told (Err refusal.ClockSpent) v w key value x y was is old new p = inl tt
+puts_told (Err refusal.RowSpent) v w key value x y was is old new p = inl tt
+puts_told (Err refusal.DiskFault) v w key value x y was is old new p = inr (inr refl)
+puts_told (Err _) v w key value x y was is old new p = absurd p
 
 -- ## The leaf of a key
 
@@ -227,18 +236,23 @@ many_behind ys xs zs es is many =
     let c = ap (λ k. length k) is in
     omega arith
 
-steps_lock : (es : List happening.Event) (i : ℕ) → AreLoads es → keep is_step (es ++ happening.Event.Lock 1 i happening.Mode.Alone ∷ []) ≡ happening.Event.Lock 1 i happening.Mode.Alone ∷ []
-steps_lock [] i a = refl
-steps_lock (happening.Event.Load p f ∷ es) i a = steps_lock es i a
-steps_lock _ i a = absurd a
+steps_lock : (es : List happening.Event) (i : ℕ) (more : List happening.Event) → AreLoads es → keep is_step more ≡ [] → keep is_step (es ++ happening.Event.Lock 1 i happening.Mode.Alone ∷ more) ≡ happening.Event.Lock 1 i happening.Mode.Alone ∷ []
+steps_lock [] i more a none = ap (λ ys. happening.Event.Lock 1 i happening.Mode.Alone ∷ ys) none
+steps_lock (happening.Event.Load p f ∷ es) i more a none = steps_lock es i more a none
+steps_lock (_ ∷ es) i more a none = absurd a
 
-logs_lock : (es : List happening.Event) (i : ℕ) → AreLoads es → keep is_log (es ++ happening.Event.Lock 1 i happening.Mode.Alone ∷ []) ≡ []
-logs_lock [] i a = refl
-logs_lock (happening.Event.Load p f ∷ es) i a = logs_lock es i a
-logs_lock _ i a = absurd a
+logs_lock : (es : List happening.Event) (i : ℕ) (more : List happening.Event) → AreLoads es → keep is_log more ≡ [] → keep is_log (es ++ happening.Event.Lock 1 i happening.Mode.Alone ∷ more) ≡ []
+logs_lock [] i more a none = none
+logs_lock (happening.Event.Load p f ∷ es) i more a none = logs_lock es i more a none
+logs_lock (_ ∷ es) i more a none = absurd a
+
+room_lock : (es : List happening.Event) (i : ℕ) (more : List happening.Event) → AreLoads es → AreRoom more → AreRoom (es ++ happening.Event.Lock 1 i happening.Mode.Alone ∷ more)
+room_lock [] i more a room = room
+room_lock (happening.Event.Load p f ∷ es) i more a room = room_lock es i more a room
+room_lock (_ ∷ es) i more a room = absurd a
 
 -- where nothing more was seen
-pub behind_still : (g : Opening) (xs : List Done) (es : List happening.Event) (v w : View) → w.given ≡ v.given → w.seen ≡ v.seen → behind.Behind g xs es v → behind.Behind g xs es w
+pub behind_still : (g : Opening) (xs : List Done) (es : List happening.Event) (v w : View) → w.given ≡ v.given → w.seen ≡ v.seen → Behind g xs es v → Behind g xs es w
 behind_still g xs es v w given seen b = record {
   opens = subst (λ k. Opens g k) (sym given) b.opens;
   met = b.met;
@@ -247,17 +261,55 @@ behind_still g xs es v w given seen b = record {
 
 -- ## In a run
 
--- the record of a change in a page of this format
-abbrev record_in : Format → (ℕ → Contents) → (txn clock page key value : ℕ) → Record
-record_in f pages txn clock page key value = record { txn = txn; gsn = suc clock; body = body.Change (record { page = page; prev = (pages page).gsn }) key (word_in f (pages page).node key) value }
+-- what is told of a room's refusal
+module _ (g : Opening) (t : State) (key : ℕ) where
+  pub tall_is : room_refusal g t key ≡ Some refusal.TooTall → (is_all_full g t key ≡ true) × ((nodes_of t 0).level ≡ g.format.levels)
+  tall_is e = go (is_all_full g t key) ((nodes_of t 0).level == g.format.levels) (ltb (length (free_list g t)) (room_takes g t key)) refl refl e
+    where
+      go : (a b c : Bool) → is_all_full g t key ≡ a → ((nodes_of t 0).level == g.format.levels) ≡ b → cond (a && b) (Some refusal.TooTall) (cond c (Some refusal.NoPages) None) ≡ Some refusal.TooTall → (is_all_full g t key ≡ true) × ((nodes_of t 0).level ≡ g.format.levels)
+      go true true c p q e = (p, eqb-true (nodes_of t 0).level g.format.levels q)
+      go true false true p q e = absurd (cc)
+      go true false false p q e = absurd (cc)
+      go false b true p q e = absurd (cc)
+      go false b false p q e = absurd (cc)
+
+  pub short_is : room_refusal g t key ≡ Some refusal.NoPages → length (free_list g t) < room_takes g t key
+  short_is e = go (is_all_full g t key && ((nodes_of t 0).level == g.format.levels)) (ltb (length (free_list g t)) (room_takes g t key)) refl e
+    where
+      go : (a c : Bool) → ltb (length (free_list g t)) (room_takes g t key) ≡ c → cond a (Some refusal.TooTall) (cond c (Some refusal.NoPages) None) ≡ Some refusal.NoPages → length (free_list g t) < room_takes g t key
+      go false true q e = ltb-true (length (free_list g t)) (room_takes g t key) q
+      go false false q e = absurd (cc)
+      go true c q e = absurd (cc)
+
+-- what a log and a clock say goes on to the later tests
+log_some : (clock : ℕ) (log : Log) (why : Refusal) (later : Option Refusal) → log_refusal clock log None ≡ Some why → log_refusal clock log later ≡ Some why
+log_some clock log why later e = go (leb (limit log) (used log)) (leb (2 ^ 62) clock) e
+  where
+    go : (c d : Bool) → cond c (Some (refusal.LogFull (used log) (limit log))) (cond d (Some refusal.ClockSpent) None) ≡ Some why → cond c (Some (refusal.LogFull (used log) (limit log))) (cond d (Some refusal.ClockSpent) later) ≡ Some why
+    go true d e = e
+    go false true e = e
+    go false false e = absurd (cc)
+
+log_none : (clock : ℕ) (log : Log) (later : Option Refusal) → log_refusal clock log None ≡ None → log_refusal clock log later ≡ later
+log_none clock log later e = go (leb (limit log) (used log)) (leb (2 ^ 62) clock) e
+  where
+    go : (c d : Bool) → cond c (Some (refusal.LogFull (used log) (limit log))) (cond d (Some refusal.ClockSpent) None) ≡ None → cond c (Some (refusal.LogFull (used log) (limit log))) (cond d (Some refusal.ClockSpent) later) ≡ later
+    go true d e = absurd (cc)
+    go false true e = absurd (cc)
+    go false false e = refl
+
+clock_is_spent : (clock : ℕ) (log : Log) → log_refusal clock log None ≡ Some refusal.ClockSpent → 2 ^ 62 ≤ clock
+clock_is_spent clock log e = go (leb (limit log) (used log)) (leb (2 ^ 62) clock) refl e
+  where
+    go : (c d : Bool) → leb (2 ^ 62) clock ≡ d → cond c (Some (refusal.LogFull (used log) (limit log))) (cond d (Some refusal.ClockSpent) None) ≡ Some refusal.ClockSpent → 2 ^ 62 ≤ clock
+    go true d q e = absurd (cc)
+    go false true q e = leb-true (2 ^ 62) clock q
+    go false false q e = absurd (cc)
 
 module _ (reached : EveryReached) (need : EveryNeed) (answers : EveryAnswer) (coming : EveryComing) (parts : (old mid new : Story) → EveryPart old mid new)
     (g : Opening) (xs : List Done) (z : Shape) (v : View) (x : Session) (log : Log) (h : Holds z v x log) (t : Ties g xs v) (works : x.works ≡ true) (key value : ℕ) where
   abbrev first : List happening.Event
   first = t.loads
-
-  abbrev s : State
-  s = behind_first g xs first
 
   -- as a call's answer has it
   abbrev sf : State
@@ -266,7 +318,7 @@ module _ (reached : EveryReached) (need : EveryNeed) (answers : EveryAnswer) (co
   abbrev asks : Call
   asks = call.Put key value
 
-  b : behind.Behind g xs first v
+  b : Behind g xs first v
   b = behind.begins g xs v t
 
   core_in : (state v).core ≡ sf
@@ -275,14 +327,18 @@ module _ (reached : EveryReached) (need : EveryNeed) (answers : EveryAnswer) (co
   of_f : IsOf x (sf.worker 1)
   of_f = subst (λ k. IsOf x (k.worker 1)) core_in h.session
 
-  tests : refusal_in g sf log asks ≡ gate_of x log (cond (is_full_for g sf key) (Some refusal.Full) None)
-  tests i = gate (of_f.is_open i) (leb 64 (of_f.changes i)) (leb (limit log) (used log)) (leb (2 ^ 62) (of_f.clock i)) (refusal.LogFull (used log) (limit log)) (cond (is_full_for g sf key) (Some refusal.Full) None)
+  -- the room that is asked for there
+  abbrev room_f : Option Refusal
+  room_f = cond (is_full_for g sf key) (room_refusal g sf key) None
+
+  tests : refusal_in g sf log asks ≡ gate_of x log room_f
+  tests i = gate (of_f.is_open i) (leb 64 (of_f.changes i)) (leb (limit log) (used log)) (leb (2 ^ 62) (of_f.clock i)) (refusal.LogFull (used log) (limit log)) room_f
 
   early_is : (why : Refusal) → put_test x log ≡ Some why → refusal_in g sf log asks ≡ Some why
-  early_is why e = tests ∙ gate_more x.is_open (leb 64 x.changes) (leb (limit log) (used log)) (leb (2 ^ 62) x.clock) (refusal.LogFull (used log) (limit log)) why (cond (is_full_for g sf key) (Some refusal.Full) None) (sym (test_is x log works) ∙ e)
+  early_is why e = tests ∙ gate_more x.is_open (leb 64 x.changes) (leb (limit log) (used log)) (leb (2 ^ 62) x.clock) (refusal.LogFull (used log) (limit log)) why room_f (sym (test_is x log works) ∙ e)
 
-  late_is : put_test x log ≡ None → refusal_in g sf log asks ≡ cond (is_full_for g sf key) (Some refusal.Full) None
-  late_is e = tests ∙ gate_none x.is_open (leb 64 x.changes) (leb (limit log) (used log)) (leb (2 ^ 62) x.clock) (refusal.LogFull (used log) (limit log)) (cond (is_full_for g sf key) (Some refusal.Full) None) (sym (test_is x log works) ∙ e)
+  late_is : put_test x log ≡ None → refusal_in g sf log asks ≡ room_f
+  late_is e = tests ∙ gate_none x.is_open (leb 64 x.changes) (leb (limit log) (used log)) (leb (2 ^ 62) x.clock) (refusal.LogFull (used log) (limit log)) room_f (sym (test_is x log works) ∙ e)
 
   row_is : g.row_of key ≡ key % x.held.count
   row_is = ap (λ f. f key) t.opens.locks ∙ ap (λ n. key % n) h.rows.locks.locks
@@ -290,28 +346,43 @@ module _ (reached : EveryReached) (need : EveryNeed) (answers : EveryAnswer) (co
   some_worker : 1 ≤ g.workers
   some_worker = let a = t.opens.workers in let q = h.rows.one in omega arith
 
+  -- from where the call began
+  went_first : (st : Story) → IsLawful st → (s0 : Crash) (k : Known) → Between limits g 1 xs s0 k st → k.log 1 ≡ log → Went g xs s0 k first log st st
+  went_first st lawful s0 k bt is = record { known = k; gone = behind.gone_loads st lawful (parts st st st) g xs v t s0 k bt; log_is = is; master_is = refl; within = behind.nothing_written st lawful; frame = framed 2 st }
+
   -- ## It was refused
 
-  module _ (why : Refusal) (es : List happening.Event) (w : View) (bw : behind.Behind g xs (first ++ es) w) (quiet : all is_quiet es ≡ true) (rows : TakesRows 1 (keep is_step (first ++ es)))
-      (logs : keep is_log (first ++ es) ≡ []) (cause : IsCause limits g (front xs ++ (first ++ es)) (behind_first g xs (first ++ es)) (is_half (marks_by 1 (outcomes xs))) 1 asks why)
-      (backs : MayPutBack why []) (conflict : is_conflict why ≡ false) (last : is_last_refusal why ≡ true)
-      (caused : IsRefusedFor g sf log asks why) (due : (q : Refusal) → refusal_in g sf log asks ≡ Some q → (why ≡ q) ⊎ (why ≡ refusal.RowSpent)) (few_events : length es ≤ 1) where
-    abbrev done : Done
-    done = refused_by 1 asks why (first ++ es)
+  -- the events behind the loads, and what they did
+  record Own (w : View) (is : Log) (old new : Story) : Type 0 where
+    events : List happening.Event
+    behind : Behind g xs (first ++ events) w
+    rows : TakesRows 1 (keep is_step (first ++ events))
+    no_logs : keep is_log (first ++ events) ≡ []
+    few : length events ≤ 2 ^ 17
+    logs : Logs g sf events log is
+    makes : MakesRoom g sf key events
+    frame : Framed 2 old new
+    goes : (s0 : Crash) (k : Known) → Between limits g 1 xs s0 k old → k.log 1 ≡ log → Went g xs s0 k (first ++ events) is old new
 
-    is_refusal : IsRefusal limits g xs 1 asks why (first ++ es)
+  module _ (why : Refusal) (w : View) (is : Log) (old new : Story) (o : Own w is old new) (cause : IsCause limits g (front xs ++ (first ++ o.events)) (behind_first g xs (first ++ o.events)) (is_half (marks_by 1 (outcomes xs))) 1 asks why)
+      (backs : MayPutBack why []) (conflict : is_conflict why ≡ false) (last : is_last_refusal why ≡ true)
+      (caused : IsRefusedFor g (behind_first g xs (first ++ o.events)) is asks why) (due : (q : Refusal) → refusal_in g sf log asks ≡ Some q → (why ≡ q) ⊎ (why ≡ refusal.RowSpent)) where
+    abbrev done : Done
+    done = refused_by 1 asks why (first ++ o.events)
+
+    is_refusal : IsRefusal limits g xs 1 asks why (first ++ o.events)
     is_refusal = record {
       comes = (coming xs done.outcome).new t.line tt;
-      met = bw.met;
-      rows = rows;
+      met = o.behind.met;
+      rows = o.rows;
       structure = λ e. absurd (true≢false e);
       cause = cause;
-      due = subst (AreSyncs false) (sym logs) tt;
+      due = subst (AreSyncs false) (sym o.no_logs) tt;
       no_backs = backs;
     }
 
     told : Tells limits g 1 xs done
-    told = (answers limits g 1 xs).refused 1 asks why (first ++ es) is_refusal
+    told = (answers limits g 1 xs).refused 1 asks why (first ++ o.events) is_refusal
 
     why_is : (p q : Refusal) → answer.Refused p ≡ answer.Refused q → p ≡ q
     why_is p q r = cc
@@ -324,8 +395,8 @@ module _ (reached : EveryReached) (need : EveryNeed) (answers : EveryAnswer) (co
     no_hinder false q = refl
     no_hinder true q = absurd (true≢false q)
 
-    refused_does : (st : Story) → IsLawful st → DoesOn g xs asks (answer.Refused why) w log log st st
-    refused_does st lawful = record {
+    refused_does : DoesOn g xs asks (answer.Refused why) w log is old new
+    refused_does = record {
       does = record {
         done = done;
         session = refl;
@@ -334,33 +405,47 @@ module _ (reached : EveryReached) (need : EveryNeed) (answers : EveryAnswer) (co
         tells = told;
         how = record {
           first = first;
-          own = es;
+          own = o.events;
           events = refl;
           loads = t.are_loads;
-          few = let a = t.few in let b = length-append first es in let c = few_events in omega arith;
-          refused = λ q r. subst (λ k. IsRefusedFor g sf log asks k) (why_is why q r) caused;
+          few = let a = t.few in let b = length-append first o.events in let c = o.few in omega arith;
+          refused = λ q r. subst (λ k. IsRefusedFor g (state_after g (front xs ++ (first ++ o.events))) is asks k) (why_is why q r) (subst (λ k. IsRefusedFor g k is asks why) (sym (behind.front_is g xs (first ++ o.events))) caused);
           refuses = λ q r. as_answer q (due q r);
-          log = refl;
+          log = o.logs;
+          room = λ j n e. subst (λ k. MakesRoom g sf k o.events) (key_of j n e) o.makes;
         };
-        frame = framed 2 st;
-        keeps = λ s0 k bt is. behind.keeps_by g xs done s0 k k log st st ((parts st st st limits g 1 xs s0 k first k bt).quiet es quiet (behind.gone_loads st lawful (parts st st st) g xs v t s0 k bt)) told is refl (behind.nothing_written st lawful);
+        frame = o.frame;
+        keeps = λ s0 k bt k_is. let w = o.goes s0 k bt k_is in behind.keeps_by g xs done s0 k w.known is old new w.gone told w.log_is w.master_is w.within;
       };
-      ties = behind.ends g xs (first ++ es) w bw done refl t.told told (no_hinder (is_conflict why) conflict, last) t.whole;
+      ties = behind.ends g xs (first ++ o.events) w o.behind done refl t.told told (no_hinder (is_conflict why) conflict, last) t.whole;
     }
+      where
+        key_of : (j n : ℕ) → call.Put key value ≡ call.Put j n → key ≡ j
+        key_of j n e = cc
 
   -- by events that are the loads alone
   module _ (w : View) (given : w.given ≡ v.given) (seen : w.seen ≡ v.seen) where
-    bare : behind.Behind g xs (first ++ []) w
-    bare = subst (λ ys. behind.Behind g xs ys w) (sym (append-nil first)) (behind_still g xs first v w given seen b)
+    bare_behind : Behind g xs (first ++ []) w
+    bare_behind = subst (λ ys. Behind g xs ys w) (sym (append-nil first)) (behind_still g xs first v w given seen b)
 
-    bare_rows : TakesRows 1 (keep is_step (first ++ []))
-    bare_rows = subst (λ ys. TakesRows 1 (keep is_step ys)) (sym (append-nil first)) (behind.takes_none first t.are_loads)
+    abbrev bare : (st : Story) → IsLawful st → Own w log st st
+    bare st lawful = record {
+      events = [];
+      behind = bare_behind;
+      rows = subst (λ ys. TakesRows 1 (keep is_step ys)) (sym (append-nil first)) (behind.takes_none first t.are_loads);
+      no_logs = ap (λ ys. keep is_log ys) (append-nil first) ∙ behind.no_logs first t.are_loads;
+      few = omega arith;
+      logs = refl;
+      makes = tt;
+      frame = framed 2 st;
+      goes = λ s0 k bt is. subst (λ es. Went g xs s0 k es log st st) (sym (append-nil first)) (went_first st lawful s0 k bt is);
+    }
 
-    bare_logs : keep is_log (first ++ []) ≡ []
-    bare_logs = ap (λ ys. keep is_log ys) (append-nil first) ∙ behind.no_logs first t.are_loads
+    state_is : sf ≡ behind_first g xs (first ++ [])
+    state_is = behind.front_is g xs first ∙ ap (behind_first g xs) (sym (append-nil first))
 
     of_e : IsOf x ((behind_first g xs (first ++ [])).worker 1)
-    of_e = subst (λ ys. IsOf x ((behind_first g xs ys).worker 1)) (sym (append-nil first)) (subst (λ k. IsOf x (k.worker 1)) (behind.front_is g xs first) of_f)
+    of_e = subst (λ k. IsOf x (k.worker 1)) state_is of_f
 
     record Early (why : Refusal) : Type 0 where
       cause : IsCause limits g (front xs ++ (first ++ [])) (behind_first g xs (first ++ [])) (is_half (marks_by 1 (outcomes xs))) 1 asks why
@@ -381,26 +466,33 @@ module _ (reached : EveryReached) (need : EveryNeed) (answers : EveryAnswer) (co
     pub early_does : (st : Story) → IsLawful st → (why : Refusal) → put_test x log ≡ Some why → DoesOn g xs asks (answer.Refused why) w log log st st
     early_does st lawful why e =
         let f = early why e in
-        refused_does why [] w bare refl bare_rows bare_logs f.cause f.backs f.conflict f.last (inl (early_is why e)) (λ q r. inl (some_is why q (sym (early_is why e) ∙ r))) (omega arith) st lawful
+        refused_does why w log st st (bare st lawful) f.cause f.backs f.conflict f.last (inl (ap (λ k. refusal_in g k log asks) (sym state_is) ∙ early_is why e)) (λ q r. inl (some_is why q (sym (early_is why e) ∙ r)))
 
     pub row_does : (st : Story) → IsLawful st → 2 ^ 61 ≤ length w.seen → DoesOn g xs asks (answer.Refused refusal.RowSpent) w log log st st
     row_does st lawful many =
-        refused_does refusal.RowSpent [] w bare refl bare_rows bare_logs (many_behind (events_of w.given.before) (front xs) (first ++ []) w.seen bare.seen many) tt refl refl (inr refl) (λ q r. inr refl) (omega arith) st lawful
+        refused_does refusal.RowSpent w log st st (bare st lawful) (many_behind (events_of w.given.before) (front xs) (first ++ []) w.seen bare_behind.seen many) tt refl refl (inr refl) (λ q r. inr refl)
 
   -- ## Behind the taking of the row
 
   module _ (u : Shape) (v1 : View) (x1 : Session) (h1 : Holds u v1 x1 log) (tk : Takes v v1 x x1 (key % x.held.count) Alone) where
     abbrev lock : happening.Event
-    lock = happening.Event.Lock 1 (key % x.held.count) happening.Mode.Alone
+    lock = happening.Event.Lock 1 (g.row_of key) happening.Mode.Alone
+
+    abbrev lock_as : ℕ → happening.Event
+    lock_as i = happening.Event.Lock 1 i happening.Mode.Alone
 
     abbrev lock_seen : Event
     lock_seen = event.Lock 1 (key % x.held.count) (event_mode Alone)
 
-    b1 : behind.Behind g xs (first ++ lock ∷ []) v1
-    b1 = behind.more reached need g xs first v b (lock_seen ∷ []) v1 tk.given tk.seen (behind.may_is reached need g xs first v b lock ∙ tk.met, tt)
+    abbrev start : List happening.Event
+    start = taking g 1 key happening.Mode.Alone first []
 
-    core_is : (state v1).core ≡ behind_first g xs (first ++ lock ∷ [])
-    core_is = behind.core_is reached need g xs (first ++ lock ∷ []) v1 b1
+    b1 : Behind g xs start v1
+    b1 = subst (λ r. Behind g xs (first ++ lock_as r ∷ []) v1) (sym row_is)
+        (behind.more reached need g xs first v b (lock_seen ∷ []) v1 tk.given tk.seen (behind.may_is reached need g xs first v b (lock_as (key % x.held.count)) ∙ tk.met, tt))
+
+    core_is : (state v1).core ≡ behind_first g xs start
+    core_is = behind.core_is reached need g xs start v1 b1
 
     fmt_is : (opening v1.given).format ≡ g.format
     fmt_is = sym b1.opens.format
@@ -408,70 +500,233 @@ module _ (reached : EveryReached) (need : EveryNeed) (answers : EveryAnswer) (co
     pages_is : (state v1).core.page ≡ sf.page
     pages_is = ap (λ k. k.page) (seen_core v v1 lock_seen tk.given tk.seen tk.met) ∙ ap (λ k. k.page) core_in
 
-    full_is : some_below (opening v1.given).format.pages (full_in (opening v1.given).format (nodes_of (state v1).core) key) ≡ is_full_for g sf key
-    full_is i = some_below (fmt_is i).pages (full_in (fmt_is i) (λ p. (pages_is i p).node) key)
+    -- the state behind the lock
+    from_is : core.step g sf lock ≡ behind_first g xs start
+    from_is = ap (λ k. core.step g k lock) (behind.front_is g xs first) ∙ sym (run_more g (state_after g (front xs)) first (lock ∷ []))
 
-    lock_rows : TakesRows 1 (keep is_step (first ++ lock ∷ []))
-    lock_rows = subst (TakesRows 1) (sym (steps_lock first (key % x.held.count) t.are_loads)) (refl, tt)
+    spare1 : length x1.free ≤ 2 ^ 16
+    spare1 = h1.spare
 
-    lock_logs : keep is_log (first ++ lock ∷ []) ≡ []
-    lock_logs = logs_lock first (key % x.held.count) t.are_loads
+    -- ## Room was made
 
-    pub spent_does : (st : Story) → IsLawful st → (w : View) → IsSpent v1 w → DoesOn g xs asks (answer.Refused refusal.RowSpent) w log log st st
-    spent_does st lawful w q =
-        let bw = behind_still g xs (first ++ lock ∷ []) v1 w q.given q.seen b1 in
-        refused_does refusal.RowSpent (lock ∷ []) w bw refl lock_rows lock_logs (many_behind (events_of w.given.before) (front xs) (first ++ lock ∷ []) w.seen bw.seen q.many) tt refl refl (inr refl) (λ why r. inr refl) (omega arith) st lawful
+    -- the view has seen these events more, which are few, and the disk stands for them
+    pub record Reached (w : View) (is : Log) (old new : Story) : Type 0 where
+      pub events : List happening.Event
+      pub behind : Behind g xs (start ++ events) w
+      pub aside : AreAside events
+      pub logs : Logs g (behind_first g xs start) events log is
+      pub makes : MakesRoom g (behind_first g xs start) key events
+      pub few : length events ≤ 2 ^ 16 + 8
+      pub frame : Framed 2 old new
+      pub goes : (s0 : Crash) (k : Known) → Between limits g 1 xs s0 k old → Went g xs s0 k start log old old → Went g xs s0 k (start ++ events) is old new
 
-    -- the key's leaf is full
-    module _ (w : View) (q : IsUnfit v1 w key) where
-      without : has_key key ((state v1).core.page q.page).node ≡ false
-      without = ap is_some q.none
+    -- by the room that was made
+    reached_by : (w : View) (y : Session) (is : Log) (old new : Story) → HasRoom key v1 w x1 y log is old new → Reached w is old new
+    reached_by w y is old new r =
+        let d = r.grows.run g xs start b1 in record {
+          events = events_of r.grows.events;
+          behind = d.behind;
+          aside = d.aside;
+          logs = d.logs;
+          makes = d.makes;
+          few = let a = r.grows.fewer in let n = length_events r.grows.events in let m = spare1 in omega arith;
+          frame = r.frame;
+          goes = λ s0 k bt at0. r.goes g xs start b1 s0 k bt at0;
+        }
 
-      room_is : g.format.room ≡ 60
-      room_is = ap (λ f. f.room) b1.opens.format
+    -- misses may come behind
+    reached_behind : (u1 w : View) (y : Session) (is : Log) (old new : Story) → HasRoom key v1 u1 x1 y log is old new → IsSpentBehind u1 w → Reached w is old new
+    reached_behind u1 w y is old new r q =
+        let d = r.grows.run g xs start b1 in
+        let es = events_of r.grows.events in record {
+          events = es ++ events_of q.misses;
+          behind = subst (λ ys. Behind g xs ys w) (append_assoc start es (events_of q.misses)) (behind.more reached need g xs (start ++ es) u1 d.behind q.misses w q.given q.seen (misses_met g (behind_first g xs (start ++ es)) q.misses q.are_misses));
+          aside = all_append is_aside es (events_of q.misses) d.aside (misses_aside q.misses q.are_misses);
+          logs = logs_same g (behind_first g xs start) es (events_of q.misses) log is (misses_are q.misses q.are_misses) d.logs;
+          makes = makes_same g key (behind_first g xs start) es (events_of q.misses) (misses_are q.misses q.are_misses) d.makes;
+          few = let a = r.grows.fewer in let n = length_events r.grows.events in let m = spare1 in let b = length-append es (events_of q.misses) in let c = q.few in let o = length_events q.misses in omega arith;
+          frame = r.frame;
+          goes = λ s0 k bt at0. subst (λ ys. Went g xs s0 k ys is old new) (append_assoc start es (events_of q.misses))
+              (went_quiet parts g some_worker xs s0 k old bt (start ++ es) (events_of q.misses) (misses_quiet q.misses q.are_misses) is new (r.goes g xs start b1 s0 k bt at0));
+        }
 
-      cause : IsFull g (behind_first g xs (first ++ lock ∷ [])) key
-      cause = subst (λ k. IsFull g k key) core_is (record { page = q.page; within = subst (λ f. q.page < f.pages) fmt_is q.below; leaf = q.leaf; without = without; full = q.full ∙ sym room_is })
+    module _ (w : View) (is : Log) (old new : Story) (lawful : IsLawful old) (d : Reached w is old new) where
+      own_is : start ++ d.events ≡ first ++ lock ∷ d.events
+      own_is = append_assoc first (lock ∷ []) d.events
 
-      is_full : is_full_for g sf key ≡ true
-      is_full = sym full_is ∙ some_true (opening v1.given).format.pages q.page (full_in (opening v1.given).format (nodes_of (state v1).core) key) q.below
-          (all_three (holds ((state v1).core.page q.page).node key) (length ((state v1).core.page q.page).node.pairs == 60) (has_key key ((state v1).core.page q.page).node) q.leaf (eq-eqb (length ((state v1).core.page q.page).node.pairs) 60 q.full) without)
+      ra : Asides d.events
+      ra = asides d.events d.aside
 
-      pub full_does : put_test x log ≡ None → (st : Story) → IsLawful st → DoesOn g xs asks (answer.Refused refusal.Full) w log log st st
-      full_does none st lawful =
-          let is = late_is none ∙ ap (λ c. cond c (Some refusal.Full) None) is_full in
-          refused_does refusal.Full (lock ∷ []) w (behind_still g xs (first ++ lock ∷ []) v1 w q.given q.seen b1) refl lock_rows lock_logs cause refl refl refl (inl is) (λ why r. inl (some_is refusal.Full why (sym is ∙ r))) (omega arith) st lawful
+      went_start : (s0 : Crash) (k : Known) → Between limits g 1 xs s0 k old → k.log 1 ≡ log → Went g xs s0 k start log old old
+      went_start s0 k bt k_is = went_quiet parts g some_worker xs s0 k old bt first (lock ∷ []) refl log old (went_first old lawful s0 k bt k_is)
+
+      abbrev own : Own w is old new
+      own = record {
+        events = lock ∷ d.events;
+        behind = subst (λ es. Behind g xs es w) own_is d.behind;
+        rows = subst (TakesRows 1) (sym (steps_lock first (g.row_of key) d.events t.are_loads ra.no_steps)) (refl, tt);
+        no_logs = logs_lock first (g.row_of key) d.events t.are_loads ra.no_logs;
+        few = let a = d.few in omega arith;
+        logs = (log, refl, subst (λ k. Logs g k d.events log is) (sym from_is) d.logs);
+        makes = (tt, subst (λ k. MakesRoom g k key d.events) (sym from_is) d.makes);
+        frame = d.frame;
+        goes = λ s0 k bt k_is. subst (λ es. Went g xs s0 k es is old new) own_is (d.goes s0 k bt (went_start s0 k bt k_is));
+      }
+
+      core_own : (state w).core ≡ behind_first g xs (first ++ lock ∷ d.events)
+      core_own = behind.core_is reached need g xs (first ++ lock ∷ d.events) w own.behind
+
+      pub spent_does : 2 ^ 61 ≤ length w.seen → DoesOn g xs asks (answer.Refused refusal.RowSpent) w log is old new
+      spent_does many =
+          refused_does refusal.RowSpent w is old new own (many_behind (events_of w.given.before) (front xs) (first ++ lock ∷ d.events) w.seen own.behind.seen many) tt refl refl (inr refl) (λ why r. inr refl)
+
+      -- where the session is as it is there
+      module _ (y : Session) (hw : IsOf y ((state w).core.worker 1)) (is_open : y.is_open ≡ true) (few : y.changes < 64) where
+        abbrev sw : State
+        sw = behind_first g xs (first ++ lock ∷ d.events)
+
+        of_w : IsOf y (sw.worker 1)
+        of_w = subst (λ k. IsOf y (k.worker 1)) core_own hw
+
+        room_w : Option Refusal
+        room_w = cond (is_full_for g sw key) (room_refusal g sw key) None
+
+        tests_w : refusal_in g sw is asks ≡ log_refusal y.clock is (cond (is_full_for g sw key) (room_refusal g sw key) None)
+        tests_w = (λ i. cond (of_w.is_open i) (cond (leb 64 (of_w.changes i)) (Some refusal.TooLong) (log_refusal (of_w.clock i) is (cond (is_full_for g sw key) (room_refusal g sw key) None))) (Some refusal.NoTransaction))
+            ∙ (λ i. cond (is_open i) (cond (low i) (Some refusal.TooLong) (log_refusal y.clock is (cond (is_full_for g sw key) (room_refusal g sw key) None))) (Some refusal.NoTransaction))
+          where
+            low : leb 64 y.changes ≡ false
+            low = go (leb 64 y.changes) refl
+              where
+                go : (c : Bool) → leb 64 y.changes ≡ c → leb 64 y.changes ≡ false
+                go false q = q
+                go true q = let a = leb-true 64 y.changes q in absurd (omega arith)
+
+        -- no further record may be staged
+        pub stopped_does : (why : Refusal) → (why ≡ refusal.ClockSpent) ⊎ ((n : ℕ) × (m : ℕ) × (why ≡ refusal.LogFull n m)) → log_refusal y.clock is None ≡ Some why → ((q : Refusal) → refusal_in g sf log asks ≡ Some q → ⊥) → DoesOn g xs asks (answer.Refused why) w log is old new
+        stopped_does why (inl e) cause none =
+            subst (λ q. DoesOn g xs asks (answer.Refused q) w log is old new) (sym e)
+            (refused_does refusal.ClockSpent w is old new own (let a = clock_is_spent y.clock is (cause ∙ ap Some e) in let q = of_w.clock in omega arith) refl refl refl
+            (inl (tests_w ∙ log_some y.clock is refusal.ClockSpent (cond (is_full_for g sw key) (room_refusal g sw key) None) (cause ∙ ap Some e))) (λ q r. absurd (none q r)))
+        stopped_does why (inr e) cause none =
+            subst (λ q. DoesOn g xs asks (answer.Refused q) w log is old new) (sym e.2)
+            (refused_does (refusal.LogFull e.0 e.1) w is old new own refl refl refl refl
+            (inl (tests_w ∙ log_some y.clock is (refusal.LogFull e.0 e.1) (cond (is_full_for g sw key) (room_refusal g sw key) None) (cause ∙ ap Some e.2))) (λ q r. absurd (none q r)))
+
+        -- the leaf is full, and there can be no room
+        module _ (leaf : ℕ) (q : IsUnfit w key leaf) (ready : log_refusal y.clock is None ≡ None) where
+          fmt_w : (opening w.given).format ≡ g.format
+          fmt_w = sym own.behind.opens.format
+
+          without : has_key key ((state w).core.page leaf).node ≡ false
+          without = ap is_some q.none
+
+          is_full : IsFull g sw key
+          is_full = subst (λ k. IsFull g k key) core_own (record { page = leaf; within = subst (λ f. leaf < f.pages) fmt_w q.below; leaf = q.holds; without = without; full = q.full ∙ ap (λ f. f.room) fmt_w })
+
+          full_is : is_full_for g sw key ≡ true
+          full_is = ap (λ k. is_full_for g k key) (sym core_own) ∙ (sym (full_as (opening w.given) g fmt_w (state w).core key)
+              ∙ some_true (opening w.given).format.pages leaf (full_in (opening w.given).format (nodes_of (state w).core) key) q.below
+              (all_three (holds ((state w).core.page leaf).node key) (length ((state w).core.page leaf).node.pairs == 60) (has_key key ((state w).core.page leaf).node) q.holds (eq-eqb (length ((state w).core.page leaf).node.pairs) 60 q.full) without))
+
+          room_is : (why : Refusal) → room_refusal (opening w.given) (state w).core key ≡ Some why → room_refusal g sw key ≡ Some why
+          room_is why e = ap (λ k. room_refusal g k key) (sym core_own) ∙ (sym (refusal_as (opening w.given) g fmt_w (state w).core key) ∙ e)
+
+          caused : (why : Refusal) → room_refusal (opening w.given) (state w).core key ≡ Some why → refusal_in g sw is asks ≡ Some why
+          caused why e = tests_w ∙ (log_none y.clock is (cond (is_full_for g sw key) (room_refusal g sw key) None) ready ∙ ((λ i. cond (full_is i) (room_refusal g sw key) None) ∙ room_is why e))
+
+          pub tall_does : room_refusal (opening w.given) (state w).core key ≡ Some refusal.TooTall → ((q : Refusal) → refusal_in g sf log asks ≡ Some q → (refusal.TooTall ≡ q) ⊎ (refusal.TooTall ≡ refusal.RowSpent)) → DoesOn g xs asks (answer.Refused refusal.TooTall) w log is old new
+          tall_does e due =
+              let r = tall_is g sw key (room_is refusal.TooTall e) in
+              refused_does refusal.TooTall w is old new own (record { leaf = is_full; all = r.0; level = r.1 }) refl refl refl (inl (caused refusal.TooTall e)) due
+
+          pub short_does : room_refusal (opening w.given) (state w).core key ≡ Some refusal.NoPages → ((q : Refusal) → refusal_in g sf log asks ≡ Some q → (refusal.NoPages ≡ q) ⊎ (refusal.NoPages ≡ refusal.RowSpent)) → DoesOn g xs asks (answer.Refused refusal.NoPages) w log is old new
+          short_does e due =
+              refused_does refusal.NoPages w is old new own (record { leaf = is_full; few = short_is g sw key (room_is refusal.NoPages e) }) refl refl refl (inl (caused refusal.NoPages e)) due
+
+    -- ## The answers
+
+    -- the room at first, where none was made yet
+    room_at : (why : Option Refusal) → room_refusal (opening v1.given) (state v1).core key ≡ why → room_refusal g sf key ≡ why
+    room_at why e = sym (refusal_on g (state v1).core sf pages_is key) ∙ (sym (refusal_as (opening v1.given) g fmt_is (state v1).core key) ∙ e)
+
+    -- where some was made, no test refuses
+    none_at : put_test x log ≡ None → room_refusal (opening v1.given) (state v1).core key ≡ None → (why : Refusal) → refusal_in g sf log asks ≡ Some why → ⊥
+    none_at none e why r = none_is why (sym (late_is none ∙ ((λ i. cond (is_full_for g sf key) (room_at None e i) None) ∙ both_none (is_full_for g sf key))) ∙ r)
+      where
+        nothing : Option Refusal
+        nothing = None
+
+        both_none : (c : Bool) → cond c nothing nothing ≡ None
+        both_none true = refl
+        both_none false = refl
+
+    -- a leaf without room: the tests say so where none was made
+    due_at : put_test x log ≡ None → (why : Refusal) (w : View) (y : Session) (is : Log) → (d : Grows key v1 w x1 y log is) → room_refusal (opening w.given) (state w).core key ≡ Some why
+        → (q : Refusal) → refusal_in g sf log asks ≡ Some q → (why ≡ q) ⊎ (why ≡ refusal.RowSpent)
+    due_at none why w y is d e q r = by_fits d.fits
+      where
+        by_fits : (d.events ≡ []) ⊎ (room_refusal (opening v1.given) (state v1).core key ≡ None) → (why ≡ q) ⊎ (why ≡ refusal.RowSpent)
+        by_fits (inr p) = absurd (none_at none p q r)
+        by_fits (inl p) = inl (go (is_full_for g sf key) ((λ i. cond (is_full_for g sf key) (sym (room_at (Some why) at) i) None) ∙ (sym (late_is none) ∙ r)))
+          where
+            still : w.seen ≡ v1.seen
+            still = d.seen ∙ (ap (λ ys. v1.seen ++ ys) p ∙ append-nil v1.seen)
+
+            at : room_refusal (opening v1.given) (state v1).core key ≡ Some why
+            at = (λ i. room_refusal (opening (sym d.given i)) (after_all (sym d.given i) (sym still i)).core key) ∙ e
+
+            go : (c : Bool) → cond c (Some why) None ≡ Some q → why ≡ q
+            go true k = some_is why q k
+            go false k = absurd (none_is q k)
 
     -- it was changed
-    module _ (w : View) (before : Option ℕ) (is : Log) (old new : Story) (c : IsChanged v1 w key value before log is old new) (low : value < 2 ^ 63) where
+    module _ (none : put_test x log ≡ None) (low : value < 2 ^ 63) (w : View) (before : Option ℕ) (is : Log) (old new : Story) (lawful : IsLawful old) (c : HasPut key value before v1 w x1 log is old new) where
+      abbrev u1 : View
+      u1 = c.view
+
+      abbrev es : List happening.Event
+      es = events_of c.grows.events
+
+      d : Gained g xs start key u1 es log c.log
+      d = c.grows.run g xs start b1
+
       abbrev page : ℕ
       page = c.page
 
       abbrev node : Node
-      node = ((state v1).core.page page).node
+      node = ((state u1).core.page page).node
 
-      -- with the row as the core names it
-      abbrev own : List happening.Event
-      own = taking g 1 key happening.Mode.Alone first []
+      abbrev lead : List happening.Event
+      lead = taking g 1 key happening.Mode.Alone first es
 
-      b2 : behind.Behind g xs own v1
-      b2 = subst (λ r. behind.Behind g xs (first ++ happening.Event.Lock 1 r happening.Mode.Alone ∷ []) v1) (sym row_is) b1
+      lead_is : start ++ es ≡ lead
+      lead_is = append_assoc first (lock ∷ []) es
 
-      b3 : behind.Behind g xs (own ++ happening.Event.Change 1 page key value ∷ []) w
-      b3 = behind.more reached need g xs own v1 b2 (event.Change 1 page key value ∷ []) w c.given c.seen (behind.may_is reached need g xs own v1 b2 (happening.Event.Change 1 page key value) ∙ c.met, tt)
+      behind_lead : Behind g xs lead u1
+      behind_lead = subst (λ ys. Behind g xs ys u1) lead_is d.behind
+
+      abbrev change : happening.Event
+      change = happening.Event.Change 1 page key value
+
+      b3 : Behind g xs (lead ++ change ∷ []) w
+      b3 = behind.more reached need g xs lead u1 behind_lead (event.Change 1 page key value ∷ []) w c.given c.seen (behind.may_is reached need g xs lead u1 behind_lead change ∙ c.met, tt)
 
       abbrev s2 : State
-      s2 = behind_first g xs own
+      s2 = behind_first g xs lead
 
-      core_own : (state v1).core ≡ s2
-      core_own = behind.core_is reached need g xs own v1 b2
+      core_lead : (state u1).core ≡ s2
+      core_lead = behind.core_is reached need g xs lead u1 behind_lead
+
+      fmt_u : (opening u1.given).format ≡ g.format
+      fmt_u = sym behind_lead.opens.format
 
       abbrev a2 : Worker
       a2 = at_pages s2 1 (s2.worker 1) (page ∷ [])
 
       -- the record is the event's
-      record_own : change_of (opening v1.given) (state v1).core 1 page key value ≡ change_record g s2 a2 page key value
-      record_own i = let k = core_own i in let a = at_pages k 1 (k.worker 1) (page ∷ []) in record_in (fmt_is i) k.page a.txn a.clock page key value
+      record_own : change_of (opening u1.given) (state u1).core 1 page key value ≡ change_record g s2 a2 page key value
+      record_own i = let k = core_lead i in let a = at_pages k 1 (k.worker 1) (page ∷ []) in record_in (fmt_u i) k.page a.txn a.clock page key value
 
       dead_is : g.format.dead ≡ 2 ^ 63
       dead_is = ap (λ f. f.dead) t.opens.format
@@ -479,32 +734,32 @@ module _ (reached : EveryReached) (need : EveryNeed) (answers : EveryAnswer) (co
       low_is : value < g.format.dead
       low_is = let e = dead_is in omega arith
 
-      is_write : IsWrite g xs first [] 1 page key value before c.entry
+      is_write : IsWrite g xs first es 1 page key value before c.entry
       is_write = record {
         line = t.line;
         low = omega arith;
         high = some_worker;
         before_steps = behind.loads_steps first t.are_loads;
-        between_steps = refl;
-        syncs = subst (AreSyncs false) (sym (logs_lock first (g.row_of key) t.are_loads)) tt;
+        between_steps = (asides es d.aside).steps;
+        syncs = subst (AreSyncs false) (sym (logs_lock first (g.row_of key) es t.are_loads (asides es d.aside).no_logs)) tt;
         met = b3.met;
-        was_is = c.told ∙ (λ i. value_in (fmt_is i) ((core_own i).page page).node key);
+        was_is = c.told ∙ (λ i. value_in (fmt_u i) ((core_lead i).page page).node key);
         whole = t.whole;
         entry = ap (entry_of 1) (c.entry_is ∙ record_own) ∙ (every_entry g s2 1 a2).change page key value;
       }
 
       abbrev changed : Done
-      changed = changed_by (Changed key value before) own 1 page key value
+      changed = changed_by (Changed key value before) lead 1 page key value
 
       changed_told : Tells limits g 1 xs changed
-      changed_told = (answers limits g 1 xs).put first [] 1 page key value before c.entry is_write low_is
+      changed_told = (answers limits g 1 xs).put first es 1 page key value before c.entry is_write low_is
 
       -- what its need says of the leaf
-      may_put_is : (page < (opening v1.given).format.pages) × (holds node key ≡ true) × ((has_key key node || ltb (length node.pairs) 60) ≡ true)
+      may_put_is : (page < (opening u1.given).format.pages) × (holds node key ≡ true) × ((has_key key node || ltb (length node.pairs) 60) ≡ true)
       may_put_is =
-          let k = (state v1).core in
-          let o = opening v1.given in
-          let p1 = and_parts (are_hot k (page ∷ [])) (needs o k (happening.Event.Change 1 page key value)) c.met in
+          let k = (state u1).core in
+          let o = opening u1.given in
+          let p1 = and_parts (are_hot k (page ∷ [])) (needs o k change) c.met in
           let p2 = and_parts (ltb (length (k.worker 1).changes) o.changes) ((k.worker 1).is_open && (is_held_by (k.row (o.row_of key)).holder 1 && may_put o node page key value)) p1.1 in
           let p3 = and_parts (k.worker 1).is_open (is_held_by (k.row (o.row_of key)).holder 1 && may_put o node page key value) p2.1 in
           let p4 = and_parts (is_held_by (k.row (o.row_of key)).holder 1) (may_put o node page key value) p3.1 in
@@ -513,64 +768,60 @@ module _ (reached : EveryReached) (need : EveryNeed) (answers : EveryAnswer) (co
           let p7 = and_parts (leb value o.format.dead) (has_key key node || ltb (length node.pairs) o.format.room) p6.1 in
           (ltb-true page o.format.pages p5.0, p6.0, p7.1)
 
-      fits_still : is_full_for g sf key ≡ false
-      fits_still = sym full_is ∙ not_full (opening v1.given).format (nodes_of (state v1).core) key page (h1.rows.tree_sound v1.seen).tree may_put_is.0 may_put_is.1 may_put_is.2
+      -- where no room was made, there was room
+      fits_still : c.grows.events ≡ [] → is_full_for g sf key ≡ false
+      fits_still e =
+          sym (full_on g (state u1).core sf page_still key) ∙ (sym (full_as (opening u1.given) g fmt_u (state u1).core key)
+          ∙ not_full (opening u1.given).format (nodes_of (state u1).core) key page (subst (λ k. pages.IsSound k) (sym c.grows.given) h1.rows.tree_sound u1.seen).tree may_put_is.0 may_put_is.1 may_put_is.2)
+        where
+          still : u1.seen ≡ v1.seen
+          still = c.grows.seen ∙ (ap (λ ys. v1.seen ++ ys) e ∙ append-nil v1.seen)
 
-      txn_is : ((state v1).core.worker 1).txn ≡ (sf.worker 1).txn
-      txn_is = h1.session.txn ∙ (ap (λ k. k.txn) tk.session ∙ sym of_f.txn)
+          page_still : (state u1).core.page ≡ sf.page
+          page_still = (λ i. (after_all (c.grows.given i) (still i)).core.page) ∙ pages_is
 
-      clock_is : (at_pages (state v1).core 1 ((state v1).core.worker 1) (page ∷ [])).clock ≡ (sf.worker 1).clock
-      clock_is = let a = h1.session.clock in let e = h1.stamps.page page in let d = ap (λ k. k.clock) tk.session in let f = of_f.clock in omega arith
-
-      record_first : change_of (opening v1.given) (state v1).core 1 page key value ≡ change_record g sf (sf.worker 1) page key value
-      record_first i = record_in (fmt_is i) (pages_is i) (txn_is i) (clock_is i) page key value
-
-      logs_change : LogsChange g sf key value log is
-      logs_change = record {
-        page = page;
-        within = subst (λ f. page < f.pages) fmt_is may_put_is.0;
-        leaf = ap (λ k. holds (k page).node key) (sym pages_is) ∙ may_put_is.1;
-        after = subst (λ r. After r log is) (c.entry_is ∙ record_first) c.after;
-      }
-
-      none_refuses : put_test x log ≡ None → (why : Refusal) → refusal_in g sf log asks ≡ Some why → ⊥
-      none_refuses none why r = none_is why (sym (late_is none ∙ ap (λ e. cond e (Some refusal.Full) None) fits_still) ∙ r)
+      none_refuses : (why : Refusal) → refusal_in g sf log asks ≡ Some why → ⊥
+      none_refuses why r = by_fits c.grows.fits
+        where
+          by_fits : (c.grows.events ≡ []) ⊎ (room_refusal (opening v1.given) (state v1).core key ≡ None) → ⊥
+          by_fits (inl e) = none_is why (sym (late_is none ∙ (λ i. cond (fits_still e i) (room_refusal g sf key) None)) ∙ r)
+          by_fits (inr e) = none_at none e why r
 
       no_refusal : (why : Refusal) → answer.Was before ≡ answer.Refused why → ⊥
       no_refusal why e = absurd (cc)
 
-      abbrev change : happening.Event
-      change = happening.Event.Change 1 page key value
-
-      -- the state behind it, and its record there
       met_in : may g s2 change ≡ true
-      met_in = behind.may_is reached need g xs own v1 b2 change ∙ c.met
+      met_in = behind.may_is reached need g xs lead u1 behind_lead change ∙ c.met
 
-      changed_is : state_after g (front xs ++ (own ++ change ∷ [])) ≡ happens g s2 change
-      changed_is = behind.front_is g xs (own ++ change ∷ []) ∙ (run_more g (state_after g (front xs)) own (change ∷ []) ∙ (λ i. cond (met_in i) (happens g s2 change) s2))
+      step_in : core.step g s2 change ≡ happens g s2 change
+      step_in i = cond (met_in i) (happens g s2 change) s2
 
-      records : Records 1 (entry_of 1 c.entry) (state_after g (front xs ++ own)) (state_after g (front xs ++ (own ++ change ∷ [])))
-      records = subst (λ (k : State). Records 1 (entry_of 1 c.entry) k (state_after g (front xs ++ (own ++ change ∷ [])))) (sym (behind.front_is g xs own))
-          (subst (λ (k : State). Records 1 (entry_of 1 c.entry) s2 k) (sym changed_is) (record {
-            entries = ap (λ (e : Entry). e ∷ s2.entries) (sym is_write.entry);
-            kind = ap (λ (e : Entry). is_record e.kind) is_write.entry;
-            log = refl;
-            saved = λ q. refl;
-            flushed = λ n. refl;
-            head = λ n. refl;
-            floor = refl;
-          }))
+      -- the log has the change behind the room's records
+      run_lead : core.run g sf (lock ∷ es) ≡ s2
+      run_lead = ap (λ k. core.run g k (lock ∷ es)) (behind.front_is g xs first) ∙ sym (run_more g (state_after g (front xs)) first (lock ∷ es))
 
-      keeps : IsLawful old → (s0 : Crash) (k : Known) → Between limits g 1 xs s0 k old → k.log 1 ≡ log → Keeps g xs changed s0 k is old new
-      keeps lawful s0 k bt log_is =
-          let gone = (parts old old old limits g 1 xs s0 k first k bt).quiet (happening.Event.Lock 1 (g.row_of key) happening.Mode.Alone ∷ []) refl (behind.gone_loads old lawful (parts old old old) g xs v t s0 k bt) in
-          let q = (parts old old new limits g 1 xs s0 k own k bt).stage change 1 c.entry is gone
-          (record { low = omega arith; high = some_worker; event = refl; records = records; stages = subst (λ l. StagesOn 1 c.entry l is old new) (sym log_is) c.stands; on = subst (λ l. OnLog 1 l old new) (sym log_is) c.keeps.on }) in
-          behind.keeps_by g xs changed s0 k (with_log k 1 is q.0) is old new q.1 changed_told refl refl
-          (c.keeps.within s0 g (front xs) k (record { stands = bt.stands; low = omega arith; high = some_worker; is = log_is }))
+      own_logs : Logs g sf (lock ∷ es) log c.log
+      own_logs = (log, refl, subst (λ k. Logs g k es log c.log) (sym from_is) d.logs)
 
-      pub change_does : put_test x log ≡ None → IsLawful old → DoesOn g xs asks (answer.Was before) w log is old new
-      change_does none lawful = record {
+      logged : Logs g sf (lock ∷ (es ++ change ∷ [])) log is
+      logged = logs_more g sf (lock ∷ es) change log c.log is own_logs
+          (subst (λ (k : State). LogsEntry g k change c.log is) (sym run_lead) (record { record_of = c.entry; entry = ap (λ (k : State). k.entries) step_in ∙ ap (λ (e : Entry). e ∷ s2.entries) (sym is_write.entry); after = c.after }))
+
+      made : MakesRoom g sf key (lock ∷ (es ++ change ∷ []))
+      made = makes_more g key sf (lock ∷ es) change (tt, subst (λ k. MakesRoom g k key es) (sym from_is) d.makes) tt
+
+      key_of : (j m : ℕ) → call.Put key value ≡ call.Put j m → key ≡ j
+      key_of j m e = cc
+
+      all_is : start ++ events_of (c.grows.events ++ event.Change 1 page key value ∷ []) ≡ lead ++ change ∷ []
+      all_is = ap (λ ys. start ++ ys) (events_more c.grows.events (event.Change 1 page key value ∷ [])) ∙ (sym (append_assoc start es (change ∷ [])) ∙ ap (λ ys. ys ++ change ∷ []) lead_is)
+
+      went : (s0 : Crash) (k : Known) → Between limits g 1 xs s0 k old → k.log 1 ≡ log → Went g xs s0 k (lead ++ change ∷ []) is old new
+      went s0 k bt log_is = subst (λ ys. Went g xs s0 k ys is old new) all_is
+          (c.goes g xs start b1 s0 k bt (went_quiet parts g some_worker xs s0 k old bt first (lock ∷ []) refl log old (went_first old lawful s0 k bt log_is)))
+
+      pub change_does : DoesOn g xs asks (answer.Was before) w log is old new
+      change_does = record {
         does = record {
           done = changed;
           session = refl;
@@ -579,54 +830,75 @@ module _ (reached : EveryReached) (need : EveryNeed) (answers : EveryAnswer) (co
           tells = changed_told;
           how = record {
             first = first;
-            own = happening.Event.Lock 1 (g.row_of key) happening.Mode.Alone ∷ happening.Event.Change 1 page key value ∷ [];
-            events = append_assoc first (happening.Event.Lock 1 (g.row_of key) happening.Mode.Alone ∷ []) (happening.Event.Change 1 page key value ∷ []);
+            own = lock ∷ (es ++ change ∷ []);
+            events = append_assoc first (lock ∷ es) (change ∷ []);
             loads = t.are_loads;
-            few = let a = t.few in let b = length-append first (happening.Event.Lock 1 (g.row_of key) happening.Mode.Alone ∷ []) in let c = length-append own (happening.Event.Change 1 page key value ∷ []) in omega arith;
+            few = let a = t.few in let b = length-append first (lock ∷ es) in let q = length-append lead (change ∷ []) in let r = c.grows.fewer in let n = length_events c.grows.events in let m = spare1 in omega arith;
             refused = λ why q. absurd (no_refusal why q);
-            refuses = λ why q. absurd (none_refuses none why q);
-            log = logs_change;
+            refuses = λ why q. absurd (none_refuses why q);
+            log = logged;
+            room = λ j m e. subst (λ k. MakesRoom g sf k (lock ∷ (es ++ change ∷ []))) (key_of j m e) made;
           };
-          frame = c.keeps.frame;
-          keeps = keeps lawful;
+          frame = c.frame;
+          keeps = λ s0 k bt log_is. let q = went s0 k bt log_is in behind.keeps_by g xs changed s0 k q.known is old new q.gone changed_told q.log_is q.master_is q.within;
         };
-        ties = behind.ends g xs (own ++ happening.Event.Change 1 page key value ∷ []) w b3 changed refl t.told changed_told (refl, refl) t.whole;
+        ties = behind.ends g xs (lead ++ change ∷ []) w b3 changed refl t.told changed_told (refl, refl) t.whole;
       }
 
-  -- ## The disk failed
+    -- the disk failed
+    put_fails : (old new : Story) → IsLawful old → HasFailed key v1 x1 log old new → Fails g xs asks log old new
+    put_fails old new lawful c =
+        let es = events_of c.grows.events in
+        let d = c.grows.run g xs start b1 in
+        record {
+          frame = c.frame;
+          leaves = λ s0 k bt log_is.
+              let l = c.leaves g xs start b1 s0 k bt (went_quiet parts g some_worker xs s0 k old bt first (lock ∷ []) refl log old (went_first old lawful s0 k bt log_is)) in
+              record { stops = Nothing (start ++ es) (subst AreRoom (sym (append_assoc first (lock ∷ []) es)) (room_lock first (g.row_of key) es t.are_loads (asides es d.aside).room)) l.0; within = l.1 };
+        }
 
-  pub put_fails : (is : Log) (old new : Story) → KeepsLog log old new → IsLawful old → Fails g xs asks log old new
-  put_fails is old new c lawful = record {
-    frame = c.frame;
-    leaves = λ s0 k bt log_is. record {
-      stops = Nothing (whole limits g 1 xs s0 k old old new [] k bt [] ((parts old old old limits g 1 xs s0 k [] k bt).none lawful)
-          ((parts old old new limits g 1 xs s0 k [] k bt).failed 1 (omega arith) some_worker ((parts old old old limits g 1 xs s0 k [] k bt).none lawful) (subst (λ l. OnLog 1 l old new) (sym log_is) c.on)));
-      within = c.within s0 g (front xs) k (record { stands = bt.stands; low = omega arith; high = some_worker; is = log_is });
-    };
-  }
+    -- ## By answer
 
-  -- ## By answer
+    module _ (none : put_test x log ≡ None) (low : value < 2 ^ 63) (w : View) (y : Session) (is : Log) (old new : Story) (lawful : IsLawful old) where
+      free : IsFree x log
+      free = free_of x log works none
 
-  -- what is so of the log and the disk where neither was touched
-  module _ {A : Type 0} (story : A → Story) (d0 d1 : A) (lawful : IsLawful (story d0)) (none : put_test x log ≡ None) (low : value < 2 ^ 63) (u : Shape) (v1 : View) (x1 : Session) (h1 : Holds u v1 x1 log) (tk : Takes v v1 x x1 (key % x.held.count) Alone)
-      (w : View) (is : Log) (Same Broken : Type 0) (same_disk : Same → d1 ≡ d0) (same_log : Same → is ≡ log) where
-    as_was : (a : Answer) → Same → DoesOn g xs asks a w log log (story d0) (story d0) → DoesOn g xs asks a w log is (story d0) (story d1)
-    as_was a same does = subst (λ d. DoesOn g xs asks a w log is (story d0) (story d)) (sym (same_disk same)) (subst (λ l. DoesOn g xs asks a w log l (story d0) (story d0)) (sym (same_log same)) does)
+      open_of : (q : Session) → q ≡ record x1 { clock = q.clock; debt = q.debt; free = q.free } → q.is_open ≡ true
+      open_of q e = ap (λ k. k.is_open) e ∙ (ap (λ k. k.is_open) tk.session ∙ free.is_open)
 
-    pub put_did : (r : Result (Option ℕ) Refusal) → Puts r v1 w key value log is (story d0) (story d1) Same Broken → Comes (put_answer r) (DoesOn g xs asks (put_answer r) w log is (story d0) (story d1)) (Fails g xs asks log (story d0) (story d1))
-    put_did (Ok before) p = change_does u v1 x1 h1 tk w before is (story d0) (story d1) p low none lawful
-    put_did (Err refusal.Full) p = as_was (answer.Refused refusal.Full) p.1 (full_does u v1 x1 h1 tk w p.0 none (story d0) lawful)
-    put_did (Err refusal.RowSpent) p = as_was (answer.Refused refusal.RowSpent) p.1 (spent_does u v1 x1 h1 tk (story d0) lawful w p.0)
-    put_did (Err refusal.DiskFault) p = put_fails is (story d0) (story d1) p.0 lawful
-    put_did (Err _) p = absurd p
+      few_of : (q : Session) → q ≡ record x1 { clock = q.clock; debt = q.debt; free = q.free } → q.changes < 64
+      few_of q e = let a = ap (λ k. k.changes) e in let c = ap (λ k. k.changes) tk.session in let f = free.few in omega arith
+
+      stopped_with : (why : Refusal) → (why ≡ refusal.ClockSpent) ⊎ ((i : ℕ) × (m : ℕ) × (why ≡ refusal.LogFull i m)) → IsOf y ((state w).core.worker 1) → IsStopped key why v1 w x1 y log is old new → DoesOn g xs asks (answer.Refused why) w log is old new
+      stopped_with why which hw q =
+          stopped_does w is old new lawful (reached_by w y is old new q.room) y hw (open_of y q.room.grows.session) (few_of y q.room.grows.session) why which q.cause (none_at none q.some)
+
+      tall_with : IsOf y ((state w).core.worker 1) → IsCrowded key refusal.TooTall v1 w x1 y log is old new → DoesOn g xs asks (answer.Refused refusal.TooTall) w log is old new
+      tall_with hw q = tall_does w is old new lawful (reached_by w y is old new q.room) y hw (open_of y q.room.grows.session) (few_of y q.room.grows.session) q.leaf q.unfit q.ready q.cause (due_at none refusal.TooTall w y is q.room.grows q.cause)
+
+      short_with : IsOf y ((state w).core.worker 1) → IsCrowded key refusal.NoPages v1 w x1 y log is old new → DoesOn g xs asks (answer.Refused refusal.NoPages) w log is old new
+      short_with hw q = short_does w is old new lawful (reached_by w y is old new q.room) y hw (open_of y q.room.grows.session) (few_of y q.room.grows.session) q.leaf q.unfit q.ready q.cause (due_at none refusal.NoPages w y is q.room.grows q.cause)
+
+      pub put_did : (r : Result (Option ℕ) Refusal) → Puts r v1 w key value x1 y log is old new → (works_after r ≡ true → IsOf y ((state w).core.worker 1)) → Comes (put_answer r) (DoesOn g xs asks (put_answer r) w log is old new) (Fails g xs asks log old new)
+      put_did (Ok before) p hw = change_does none low w before is old new lawful p
+      put_did (Err refusal.TooTall) p hw = tall_with (hw refl) p
+      put_did (Err refusal.NoPages) p hw = short_with (hw refl) p
+      put_did (Err (refusal.LogFull i m)) p hw = stopped_with (refusal.LogFull i m) (inr (i, m, refl)) (hw refl) p
+      put_did (Err refusal.ClockSpent) p hw = stopped_with refusal.ClockSpent (inl refl) (hw refl) p
+      put_did (Err refusal.RowSpent) p hw = spent_does w is old new lawful (reached_behind p.view w y is old new p.room p.spent) p.spent.many
+      put_did (Err refusal.DiskFault) p hw = put_fails old new lawful p
+      put_did (Err _) p hw = absurd p
 
 -- the area of the log alone was written
-pub put_framed : {A : Type 0} (story : A → Story) (d0 d1 : A) (v w : View) (key value : ℕ) (was is : Log) (Same Broken : Type 0) → (Same → d1 ≡ d0) → (r : Result (Option ℕ) Refusal) → Puts r v w key value was is (story d0) (story d1) Same Broken → Framed 2 (story d0) (story d1)
-put_framed story d0 d1 v w key value was is Same Broken same (Ok before) p = p.keeps.frame
-put_framed story d0 d1 v w key value was is Same Broken same (Err refusal.Full) p = subst (λ d. Framed 2 (story d0) (story d)) (sym (same p.1)) (framed 2 (story d0))
-put_framed story d0 d1 v w key value was is Same Broken same (Err refusal.RowSpent) p = subst (λ d. Framed 2 (story d0) (story d)) (sym (same p.1)) (framed 2 (story d0))
-put_framed story d0 d1 v w key value was is Same Broken same (Err refusal.DiskFault) p = p.0.frame
-put_framed story d0 d1 v w key value was is Same Broken same (Err _) p = absurd p
+pub put_framed : (r : Result (Option ℕ) Refusal) (v w : View) (key value : ℕ) (x y : Session) (was is : Log) (old new : Story) → Puts r v w key value x y was is old new → Framed 2 old new
+put_framed (Ok before) v w key value x y was is old new p = p.frame
+put_framed (Err refusal.TooTall) v w key value x y was is old new p = p.room.frame
+put_framed (Err refusal.NoPages) v w key value x y was is old new p = p.room.frame
+put_framed (Err (refusal.LogFull i m)) v w key value x y was is old new p = p.room.frame
+put_framed (Err refusal.ClockSpent) v w key value x y was is old new p = p.room.frame
+put_framed (Err refusal.RowSpent) v w key value x y was is old new p = p.room.frame
+put_framed (Err refusal.DiskFault) v w key value x y was is old new p = p.frame
+put_framed (Err _) v w key value x y was is old new p = absurd p
 
 -- ## In every run
 

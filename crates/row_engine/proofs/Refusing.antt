@@ -3,6 +3,7 @@ use Rattle.std.proofs.Common.{◌≡◌, ◌⊎◌, inl, inr, ◌≤◌, ◌^◌
 use Rattle.std.proofs.lemmas.List.{length-append}
 use Rattle.map_model.specs.declared.call.Answer.TheVariants as answer
 use Rattle.map_model.specs.declared.call.Call.{Call}
+use Rattle.map_model.specs.declared.call.Call.TheVariants as call
 use Rattle.map_model.specs.declared.call.Refusal.{Refusal}
 use Rattle.map_model.specs.declared.call.Refusal.TheVariants as refusal
 use Rattle.map_model.specs.Pairings.{is_last_refusal}
@@ -33,7 +34,6 @@ use Rattle.rows_trait.specs.Views.{Shape}
 use Rattle.row_opening.specs.Openings.{EveryNeed, EveryReached, Opens}
 use Rattle.key_locks.specs.declared.mode.Mode.{Mode}
 use Rattle.key_locks.specs.Rows.{core_mode, event_mode}
-use Rattle.engine_trait.specs.Calls.{LogAfter}
 use Rattle.engine_trait.specs.Refusals.{IsRefusedFor, refusal_in}
 use Rattle.engine_trait.specs.Limits.{limits}
 use Rattle.row_engine.specs.Calls.{DoesOn}
@@ -94,9 +94,9 @@ module _ (answers : EveryAnswer) (coming : EveryComing) (g : Opening) (xs : List
   }
 
   -- with the view as it is then
-  pub refused_does : (w : View) → behind.Behind g xs t.loads w → IsRefusal limits g xs 1 c why t.loads → is_conflict why ≡ false → is_last_refusal why ≡ true → ((k : State) → LogAfter g k c (answer.Refused why) log log)
+  pub refused_does : (w : View) → behind.Behind g xs t.loads w → IsRefusal limits g xs 1 c why t.loads → is_conflict why ≡ false → is_last_refusal why ≡ true → ((key value : ℕ) → c ≡ call.Put key value → ⊥)
       → IsRefusedFor g s log c why → ((q : Refusal) → refusal_in g s log c ≡ Some q → (why ≡ q) ⊎ (why ≡ refusal.RowSpent)) → DoesOn g xs c (answer.Refused why) w log log st st
-  refused_does w b r no_conflict last log_is is_for refuses = record {
+  refused_does w b r no_conflict last no_put is_for refuses = record {
     does = record {
       done = refused_by 1 c why t.loads;
       session = refl;
@@ -112,7 +112,8 @@ module _ (answers : EveryAnswer) (coming : EveryComing) (g : Opening) (xs : List
         few = let a = t.few in omega arith;
         refused = λ q e. subst (λ k. IsRefusedFor g k log c q) (sym at) (subst (λ k. IsRefusedFor g s log c k) (refused_is why q e) is_for);
         refuses = λ q e. either q (refuses q (ap (λ k. refusal_in g k log c) (sym at) ∙ e));
-        log = log_is (state_after g (front xs ++ t.loads));
+        log = refl;
+        room = λ key value e. absurd (no_put key value e);
       };
       keeps = λ s0 k bt is. behind.keeps_by g xs (refused_by 1 c why t.loads) s0 k k log st st (behind.gone_loads st lawful part g xs v t s0 k bt) told is refl (behind.nothing_written st lawful);
     };

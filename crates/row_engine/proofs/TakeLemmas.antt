@@ -31,7 +31,7 @@ use Rattle.row_engine.specs.Takes.{IsSpent, Takes}
 use Rattle.row_engine.specs.declared.session.Session.{Session}
 use Rattle.row_engine.proofs.Behind.{rows_on}
 use Rattle.row_engine.proofs.HeldLemmas.{has_reader, reader_has}
-use Rattle.row_engine.proofs.Moments.{met_core, resident_on}
+use Rattle.row_engine.proofs.Moments.{free_same, met_core, resident_on}
 
 -- ## What a seat that is alone has seen
 
@@ -232,6 +232,8 @@ holds_still z v w x log given seen held h = record {
   within = h.within;
   fewer = h.fewer;
   none = h.none;
+  free = free_same v w x.free given (ap (λ m. m.core.page) same) h.free;
+  spare = h.spare;
 }
   where
     same : state w ≡ state v
@@ -316,6 +318,8 @@ module _ (z : Shape) (v w : View) (x : Session) (log : Log) (h : Holds z v x log
     within = row_within;
     fewer = few;
     none = λ q. absurd (true≢false (sym is_open ∙ q));
+    free = free_same v w x.free given (ap (λ k. k.page) core_is) h.free;
+    spare = h.spare;
   }
 
 -- ## The taking

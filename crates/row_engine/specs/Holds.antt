@@ -77,3 +77,4 @@ pub record Holds (z : Shape) (v : View) (x : Session) (log : Log) : Type 0 where
   pub fewer : length x.held.rows ≤ x.held.count
   pub none : x.is_open ≡ false → x.held.rows ≡ []
   pub free : x.free ≡ free_list (opening v.given) (state v).core
+  pub spare : length x.free ≤ 2 ^ 16

@@ -10,4 +10,5 @@ pub mod Takes
 pub mod Staging
 pub mod Puts
 pub mod Rooms
+pub mod Grown
 pub mod Outcomes

@@ -46,6 +46,7 @@ pub record IsOpened (g : Opening) (z : Shape) (v : View) (x : Session) (log : Lo
   pub small : g.base < 2 ^ 64
   pub session : IsFirst g.base x
   pub free : x.free ≡ free_list g (start g)
+  pub spare : length x.free ≤ 2 ^ 16
   pub last : log.last ≡ g.base
   pub flushed : log.flushed ≡ g.base
 

@@ -131,10 +131,3 @@ pub record CanSplit (v : View) (x : Session) (key left page parent : ℕ) : Type
 abbrev pub CanGrow : (v : View) → (x : Session) → (key : ℕ) → Next → Type 0
 CanGrow v x key (next.Lift page) = CanLift v x key page
 CanGrow v x key (next.Split left page parent) = CanSplit v x key left page parent
-
--- ## All changes
-
--- so many of them, one behind another
-abbrev pub Grows : ℕ → (key : ℕ) → (v w : View) → (x y : Session) → (was is : Log) → (old new : Story) → Type 0
-Grows zero key v w x y was is old new = (w.given ≡ v.given) × (w.seen ≡ v.seen) × (y ≡ x) × (is ≡ was) × (new ≡ old)
-Grows (suc n) key v w x y was is old new = (u : View) × (z : Session) × (mid : Log) × (s : Story) × Grows n key v u x z was mid old s × IsGrown key u w z y mid is s new

@@ -1,5 +1,5 @@
 // A put.
-ghost use Rattle.std.specs.Prelude.{◌≡◌, ◌⊎◌, ◌<◌, ◌-◌, ◌^◌, ◌↔◌, Err, IfErr, IsErrAnd, true, false};
+ghost use Rattle.std.specs.Prelude.{◌≡◌, ◌⊎◌, ◌<◌, ◌-◌, ◌^◌, ◌↔◌, [], Err, IfErr, IsErrAnd, true, false};
 ghost use Rattle.map_model.specs.declared.call.Call.{Call};
 ghost use Rattle.map_model.specs.declared.call.Refusal.{Refusal};
 ghost use Rattle.lean_disk.specs.Faults.{HasCause};
@@ -7,7 +7,7 @@ ghost use Rattle.lean_disk.specs.Moments.{Framed};
 ghost use Rattle.engine_trait.specs.Calls.{IsTold};
 ghost use Rattle.row_engine.specs.Calls.{CallDoes, put_answer};
 ghost use Rattle.row_engine.specs.Holds.{Holds};
-ghost use Rattle.row_engine.specs.Outcomes.{Puts, Tries};
+ghost use Rattle.row_engine.specs.Outcomes.{Puts, Steps, Tries};
 ghost use Rattle.row_engine.specs.Puts.{IsEarly, MayChange, works_after};
 
 use crate::gets::value_of;
@@ -50,6 +50,7 @@ fn put_in_leaf<R: Rows, D: Stages>(
     ensures works { store.new.session.works ≡ works_after result }
     ensures cause_disk_fault { HasCause (D.faults store.old.disk) (D.faults store.new.disk) (result ≡ Err Refusal.DiskFault) }
 {
+    core_calls::every_room();
     rows_trait::every_low();
     let frames = store.session.frames;
     match leaf_put(rows, seat, 1, frames, key, value, path, store) {
@@ -75,7 +76,49 @@ fn put_in_leaf<R: Rows, D: Stages>(
     }
 }
 
-// The key, whose row is held, gets its value. Room is made for it, one change of the tree after another; each takes a free page.
+// What one step of a put did.
+#[derive(Clone, Copy)]
+enum Stepped {
+    // The key has its value now; this is the one that it had.
+    Done(Option<u64>),
+    // The tree was changed on the way to room for the key.
+    Grown,
+}
+
+// Tries to put, and where the leaf has no room, makes one change of the tree.
+fn put_step<R: Rows, D: Stages>(
+    rows: &mut R,
+    seat: &mut R::Seat,
+    store: &mut Store<D>,
+    key: u64,
+    value: u64,
+) -> Result<Stepped, Refusal>
+    requires fits { R.fits rows.old seat.old }
+    requires holds { Holds (R.shape rows.old) (R.view seat.old) store.old.session store.old.log }
+    requires may { MayChange (R.view seat.old) store.old.session store.old.log key }
+    requires value { value < 2 ^ 63 }
+    ensures fits { R.fits rows.new seat.new × (R.shape rows.new ≡ R.shape rows.old) }
+    ensures holds { store.new.session.works ≡ true → Holds (R.shape rows.new) (R.view seat.new) store.new.session store.new.log }
+    ensures steps { Steps result (R.view seat.old) (R.view seat.new) key value store.old.session store.new.session store.old.log store.new.log (D.story store.old.disk) (D.story store.new.disk) (store.new ≡ store.old) }
+    ensures works { store.new.session.works ≡ works_after result }
+    ensures cause_disk_fault { HasCause (D.faults store.old.disk) (D.faults store.new.disk) (result ≡ Err Refusal.DiskFault) }
+{
+    let mut path = Path::new();
+    match put_in_leaf(rows, seat, store, key, value, &mut path) {
+        Err(why) => return Err(why),
+        Ok(Tried::Done(before)) => return Ok(Stepped::Done(before)),
+        Ok(Tried::Full) => {}
+    }
+    if let Err(why) = make_room(rows, seat, store, key, &path) {
+        return Err(why);
+    }
+    match store.session.block_refusal(&store.log) {
+        Some(why) => Err(why),
+        None => Ok(Stepped::Grown),
+    }
+}
+
+// The key, whose row is held, gets its value. Room is made for it by one change of the tree after another, each of which takes a free page.
 fn put_held<R: Rows, D: Stages>(
     rows: &mut R,
     seat: &mut R::Seat,
@@ -93,18 +136,17 @@ fn put_held<R: Rows, D: Stages>(
     ensures works { store.new.session.works ≡ works_after result }
     ensures cause_disk_fault { HasCause (D.faults store.old.disk) (D.faults store.new.disk) (result ≡ Err Refusal.DiskFault) }
 {
+    core_disk::every_version();
+    worker_log::every_kept();
+    worker_log::every_prefix();
+    disk_image::every_sealed();
+    row_opening::every_reached();
+    row_opening::every_need();
     'room: loop {
-        let mut path = Path::new();
-        match put_in_leaf(rows, seat, store, key, value, &mut path) {
+        match put_step(rows, seat, store, key, value) {
+            Ok(Stepped::Done(before)) => return Ok(before),
+            Ok(Stepped::Grown) => {}
             Err(why) => return Err(why),
-            Ok(Tried::Done(before)) => return Ok(before),
-            Ok(Tried::Full) => {}
-        }
-        if let Err(why) = make_room(rows, seat, store, key, &path) {
-            return Err(why);
-        }
-        if let Some(why) = store.session.block_refusal(&store.log) {
-            return Err(why);
         }
     }
 }

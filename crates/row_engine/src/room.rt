@@ -8,11 +8,6 @@ ghost use Rattle.row_engine.specs.Rooms.{CanGrow, Grew, IsPathTo, IsUnfit, next_
 
 use crate::free::FreePages;
 use crate::store::{Stages, Store};
-use btree_smo::lift::lift;
-use btree_smo::outcome::Outcome;
-use btree_smo::room::full_run;
-use btree_smo::split::split;
-use draw_trait::draw::Unstaged;
 use lean_disk::Disk;
 use lean_proto::path::{DEEPEST, Path};
 use map_model::Refusal;
@@ -54,48 +49,6 @@ fn next_room(path: &Path, run: usize, free: &FreePages) -> Result<Next, Refusal>
     }
 }
 
-// Makes the change, and takes the page.
-fn change_tree<R: Rows, D: Stages>(
-    rows: &mut R,
-    seat: &mut R::Seat,
-    store: &mut Store<D>,
-    key: u64,
-    next: Next,
-) -> Result<(), Refusal>
-    requires fits { R.fits rows.old seat.old }
-    requires holds { Holds (R.shape rows.old) (R.view seat.old) store.old.session store.old.log }
-    requires may { MayChange (R.view seat.old) store.old.session store.old.log key }
-    requires can { CanGrow (R.view seat.old) store.old.session key next }
-    ensures fits { R.fits rows.new seat.new × (R.shape rows.new ≡ R.shape rows.old) }
-    ensures holds { store.new.session.works ≡ true → Holds (R.shape rows.new) (R.view seat.new) store.new.session store.new.log }
-    ensures grew { Grew result key (R.view seat.old) (R.view seat.new) store.old.session store.new.session store.old.log store.new.log (D.story store.old.disk) (D.story store.new.disk) (store.new ≡ store.old) (store.new.session.works ≡ false) }
-    ensures works { store.new.session.works ≡ works_after result }
-    ensures cause_disk_fault { HasCause (D.faults store.old.disk) (D.faults store.new.disk) (result ≡ Err Refusal.DiskFault) }
-{
-    rows_trait::every_low();
-    let frames = store.session.frames;
-    let outcome = match next {
-        Next::Lift { page } => lift(rows, seat, 1, frames, page, store),
-        Next::Split { left, page, parent } => split(rows, seat, 1, frames, left, page, parent, store),
-    };
-    match outcome {
-        Outcome::Done => {
-            store.session.free.take();
-            Ok(())
-        }
-        Outcome::RowSpent { row: _ } => {
-            rows.versions(seat);
-            Err(Refusal::RowSpent)
-        }
-        Outcome::Unstaged(Unstaged::DiskFault) => {
-            store.session.works = false;
-            Err(Refusal::DiskFault)
-        }
-        // The pages are as the path says, the log has a block, no number is above the clock, and nobody else steps.
-        _ => unreachable!(),
-    }
-}
-
 // One change of the tree on the way to room for a key whose leaf, at the end of the path, is full.
 pub(crate) fn make_room<R: Rows, D: Stages>(
     rows: &mut R,
@@ -114,14 +67,5 @@ pub(crate) fn make_room<R: Rows, D: Stages>(
     ensures works { store.new.session.works ≡ works_after result }
     ensures cause_disk_fault { HasCause (D.faults store.old.disk) (D.faults store.new.disk) (result ≡ Err Refusal.DiskFault) }
 {
-    core_calls::every_room();
-    let frames = store.session.frames;
-    let run = match full_run(rows, seat, 1, frames, path) {
-        Ok(run) => run,
-        Err(_) => unreachable!(),
-    };
-    match next_room(path, run, &store.session.free) {
-        Ok(next) => change_tree(rows, seat, store, key, next),
-        Err(why) => Err(why),
-    }
+    unreachable!()
 }

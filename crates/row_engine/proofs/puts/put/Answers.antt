@@ -1,4 +1,4 @@
-use Rattle.std.proofs.Common.{◌≡◌, false, inl, sym, ap, ◌∙◌, subst}
+use Rattle.std.proofs.Common.{inl, sym, ◌∙◌, subst}
 use Rattle.engine_calls.proofs.PartLemmas.{every_part}
 use Rattle.row_engine.proofs.PutRuns.{not_put, not_taken, put_comes, put_did, put_framed, puts_told}
 use Rattle.engine_trait.specs.Calls.{IsTold}
@@ -25,16 +25,15 @@ returns-clause-does g c works gg xs t =
     let lawful = ((g.met.D.Disk g.world.𝓛 g.world.𝓜 g.world.𝓡 ((λ s x. x), (λ x. x), (λ x. x), (λ x. x))).lawful c.args.store.now.disk) in
     put_did c.every_reached.ensures c.every_need.ensures c.every_answer.ensures c.every_coming.ensures (every_part c.every_version.ensures c.every_kept.ensures c.every_prefix.ensures c.every_sealed.ensures)
     gg xs (g.R.Rows.shape c.args.rows.now) (g.R.Rows.view c.args.seat.now) c.args.store.now.session c.args.store.now.log (c.requires.holds works) t works c.args.key c.args.value
-    g.D.Disk.story c.args.store.now.disk c.put_held.new.store.disk lawful (sym c.put_refusal.ensures ∙ c.in_default.is) c.requires.value
     (g.R.Rows.shape c.take_row.new.rows) (g.R.Rows.view c.take_row.new.seat) c.take_row.new.session c.take_row.ensures.holds c.in_default-take_row.ensures.taken
-    (g.R.Rows.view c.put_held.new.seat) c.put_held.new.store.log
-    _ (c.put_held.new.store.session.works ≡ false)
-    (λ e. ap (λ k. k.disk) e) (λ e. ap (λ k. k.log) e) c.put_held.result c.put_held.ensures.puts
+    (sym c.put_refusal.ensures ∙ c.in_default.is) c.requires.value
+    (g.R.Rows.view c.put_held.new.seat) c.put_held.new.store.session c.put_held.new.store.log (g.D.Disk.story c.args.store.now.disk) (g.D.Disk.story c.put_held.new.store.disk) lawful
+    c.put_held.result c.put_held.ensures.puts (λ e. (c.put_held.ensures.holds (c.put_held.ensures.works ∙ e)).session)
 
 pub returns-clause-frame : goal.returns-clause-frame
 returns-clause-frame g c =
-    put_framed g.D.Disk.story c.args.store.now.disk c.put_held.new.store.disk (g.R.Rows.view c.take_row.new.seat) (g.R.Rows.view c.put_held.new.seat) c.args.key c.args.value c.args.store.now.log c.put_held.new.store.log
-    _ (c.put_held.new.store.session.works ≡ false) (λ e. ap (λ k. k.disk) e) c.put_held.result c.put_held.ensures.puts
+    put_framed c.put_held.result (g.R.Rows.view c.take_row.new.seat) (g.R.Rows.view c.put_held.new.seat) c.args.key c.args.value c.take_row.new.session c.put_held.new.store.session c.args.store.now.log c.put_held.new.store.log
+    (g.D.Disk.story c.args.store.now.disk) (g.D.Disk.story c.put_held.new.store.disk) c.put_held.ensures.puts
 
 pub returns-in-Some-clause-told : goal.returns-in-Some-clause-told
 returns-in-Some-clause-told g c = put_comes c.args.store.now.session c.args.store.now.log c.in-Some.why (sym c.put_refusal.ensures ∙ c.in-Some.is)
@@ -44,5 +43,5 @@ returns-in-Err-clause-told g c = inl (subst IsTold (sym c.in-Err.ensures.spent.0
 
 pub returns-clause-told : goal.returns-clause-told
 returns-clause-told g c =
-    puts_told c.put_held.result (g.R.Rows.view c.take_row.new.seat) (g.R.Rows.view c.put_held.new.seat) c.args.key c.args.value c.args.store.now.log c.put_held.new.store.log
-    (g.D.Disk.story c.args.store.now.disk) (g.D.Disk.story c.put_held.new.store.disk) _ (c.put_held.new.store.session.works ≡ false) c.put_held.ensures.puts
+    puts_told c.put_held.result (g.R.Rows.view c.take_row.new.seat) (g.R.Rows.view c.put_held.new.seat) c.args.key c.args.value c.take_row.new.session c.put_held.new.store.session c.args.store.now.log c.put_held.new.store.log
+    (g.D.Disk.story c.args.store.now.disk) (g.D.Disk.story c.put_held.new.store.disk) c.put_held.ensures.puts
