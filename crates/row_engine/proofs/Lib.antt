@@ -14,3 +14,9 @@ pub mod PutLemmas
 pub mod PutRuns
 pub mod OpenLemmas
 pub mod OpeningLemmas
+pub mod FreeLemmas
+pub mod GrowthLemmas
+pub mod ChangeLemmas
+pub mod LiftLemmas
+pub mod SplitLemmas
+pub mod RoomLemmas
