@@ -17,3 +17,9 @@ pub mod OpeningLemmas
 pub mod Formats
 pub mod GrowRuns
 pub mod StepLemmas
+pub mod FreeLemmas
+pub mod GrowthLemmas
+pub mod ChangeLemmas
+pub mod LiftLemmas
+pub mod SplitLemmas
+pub mod RoomLemmas

@@ -1,5 +1,5 @@
 -- Room for a further key in a full leaf: what one change of the tree does, and all of them.
-use Rattle.std.specs.Prelude.{◌≡◌, ◌≢◌, ◌≤◌, ◌<◌, ◌-◌, ◌++◌, ◌^◌, ◌==◌, ◌&&◌, ltb, ℕ, zero, suc, true, List, [], ◌∷◌, length, slice_index, Option, Some, None, Result, Ok, Err, if◌then◌else◌}
+use Rattle.std.specs.Prelude.{◌≡◌, ◌≢◌, ◌≤◌, ◌<◌, ◌-◌, ◌++◌, ◌^◌, ◌==◌, ◌&&◌, ltb, ℕ, zero, suc, true, false, List, [], ◌∷◌, length, slice_index, Option, Some, None, Result, Ok, Err, if◌then◌else◌}
 use Rattle.map_model.specs.Lists.{Has}
 use Rattle.map_model.specs.declared.call.Refusal.{Refusal}
 use Rattle.map_model.specs.declared.call.Refusal.TheVariants as refusal
@@ -19,15 +19,18 @@ use Rattle.rows_trait.specs.declared.view.View.{View}
 use Rattle.rows_trait.specs.Views.{state}
 use Rattle.disk_image.specs.Records.{entry_of}
 use Rattle.lean_proto.specs.Paths.{above}
+use Rattle.draw_trait.specs.declared.draw.Unstaged.TheVariants.{DiskFault}
 use Rattle.btree_descent.specs.Trails.{IsAbove}
 use Rattle.btree_smo.specs.Outcomes.{AreMisses}
+use Rattle.btree_smo.specs.declared.outcome.Outcome.{Outcome}
+use Rattle.btree_smo.specs.declared.outcome.Outcome.TheVariants as outcome
 use Rattle.worker_log.specs.Calls.{After}
 use Rattle.worker_log.specs.Logs.{Log}
 use Rattle.log_calls.specs.Calls.{StagesOn}
 use Rattle.engine_trait.specs.Refusals.{room_refusal}
 use Rattle.engine_trait.specs.Rooms.{IsNextRoom}
 use Rattle.row_engine.specs.declared.session.Session.{Session}
-use Rattle.row_engine.specs.Free.{first_of}
+use Rattle.row_engine.specs.Free.{first_of, without_first}
 use Rattle.row_engine.specs.declared.room.Next.{Next}
 use Rattle.row_engine.specs.declared.room.Next.TheVariants as next
 use Rattle.row_engine.specs.Puts.{KeepsLog}
@@ -99,6 +102,27 @@ Grew (Err refusal.NoPages) key v w x y was is old new same broken = IsNoRoom v w
 Grew (Err refusal.RowSpent) key v w x y was is old new same broken = IsSpentBehind v w × same
 Grew (Err refusal.DiskFault) key v w x y was is old new same broken = KeepsLog was old new × broken
 Grew (Err why) key v w x y was is old new same broken = ⊥
+
+-- ## How a change ends
+
+-- a change of the tree that can be made, where nobody else steps and the log has a block, ends so
+abbrev pub IsExpected : Outcome → Type 0
+IsExpected outcome.Done = Unit {0}
+IsExpected (outcome.RowSpent row) = Unit {0}
+IsExpected (outcome.Unstaged DiskFault) = Unit {0}
+IsExpected _ = ⊥
+
+-- and is answered so
+abbrev pub answer_of : Outcome → Result (Unit {0}) Refusal
+answer_of (outcome.RowSpent row) = Err refusal.RowSpent
+answer_of (outcome.Unstaged why) = Err refusal.DiskFault
+answer_of _ = Ok tt
+
+-- the session behind it: where the change was made, its page is free no more
+abbrev pub session_after : Outcome → Session → Session
+session_after outcome.Done x = record x { free = without_first x.free }
+session_after (outcome.Unstaged why) x = record x { works = false }
+session_after _ x = x
 
 -- ## Which change is next
 

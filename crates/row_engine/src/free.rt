@@ -1,8 +1,7 @@
 // The pages that are free.
-ghost use Rattle.std.specs.Prelude.{◌≡◌, ◌∷◌, [], length, suc, OnOk, IfOk, IfSome, None, Some};
+ghost use Rattle.std.specs.Prelude.{◌≡◌, ◌<◌, ◌^◌, length, IfOk};
 ghost use Rattle.core_calls.specs.Room.{frees_from};
-ghost use Rattle.open_rows.specs.Opened.{page_at};
-ghost use Rattle.row_engine.specs.Free.{first_of, without_first, nodes_in};
+ghost use Rattle.row_engine.specs.Free.{first_of, nodes_in, without_first};
 
 use btree_node::Node;
 use std::alloc::{AllocError, Global};
@@ -27,10 +26,12 @@ impl Model for FreePages {
 impl FreePages {
     /// Those of these pages. The one error is that memory is refused.
     pub fn new(alloc: Global, pages: &[Node]) -> Result<FreePages, AllocError>
+        requires few { length pages.now < 2 ^ 32 }
         ensures { IfOk result (λ f. f ≡ frees_from (nodes_in pages.now) (length pages.now) 0) }
     {
         let mut falling = Vec::with_capacity(alloc, pages.len())?;
-        for page in (0..pages.len()).rev() {
+        for n in 0..pages.len() {
+            let page = pages.len() - (n + 1);
             if !pages[page].is_live() {
                 falling.push_reserved(page as u32);
             }
