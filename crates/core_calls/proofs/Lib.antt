@@ -17,6 +17,8 @@ pub mod NumberLemmas
 pub mod CrashLemmas
 pub mod LineLemmas
 pub mod HinderLemmas
+pub mod RoomLemmas
+pub mod RoomByHand
 pub mod OrderLemmas
 pub mod ReleaseLemmas
 pub mod AloneLemmas

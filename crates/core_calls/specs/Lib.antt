@@ -1,7 +1,8 @@
--- Read Marks, Deeds and Told; then Refusals, Fronts, Steps, LogEvents and Runs; then Durables, Alone, Printed, Lines and Crashes.
+-- Read Marks, Deeds and Told; then Room, Refusals, Fronts, Steps, LogEvents and Runs; then Durables, Alone, Printed, Lines and Crashes.
 pub mod Marks
 pub mod Deeds
 pub mod Told
+pub mod Room
 pub mod Refusals
 pub mod Fronts
 pub mod Steps

@@ -11,7 +11,8 @@ use Rattle.image_model.specs.Entries.{is_end}
 use Rattle.core_state.specs.Openings.{Opening}
 use Rattle.core_state.specs.States.{Row, State, flushed_by_all, nodes_of}
 use Rattle.core_state.specs.Events.{Event, Mode}
-use Rattle.core_state.specs.Needs.{is_held_by, is_free, is_reader, may_hold, free_pages}
+use Rattle.core_state.specs.Needs.{is_held_by, is_free, is_reader, may_hold}
+use Rattle.core_calls.specs.Room.{is_all_full, room_takes, free_list}
 
 -- What the core does not show. After some events: whether so many of a log's blocks are in use, of those that changes may use, and whether
 -- some log is half full. Where clocks end; how many events must stand before a latch is spent; how many ends of a session may wait; and how
@@ -55,10 +56,16 @@ abbrev pub IsLong : Limits → Opening → State → ℕ → Call → Type 0
 IsLong l g s w call.Begin = l.waiting ≤ waiting g s w
 IsLong l g s w c = g.changes ≤ length (s.worker w).changes
 
--- no further level can be had
-pub record IsTall (g : Opening) (s : State) : Type 0 where
+-- room for the key takes a further level, and there is none
+pub record IsTall (g : Opening) (s : State) (k : ℕ) : Type 0 where
+  pub leaf : IsFull g s k
+  pub all : is_all_full g s k ≡ true
   pub level : (nodes_of s 0).level ≡ g.format.levels
-  pub full : length (nodes_of s 0).pairs ≡ g.format.room
+
+-- room for the key takes more pages than are free
+pub record IsShort (g : Opening) (s : State) (k : ℕ) : Type 0 where
+  pub leaf : IsFull g s k
+  pub few : length (free_list g s) < room_takes g s k
 
 -- a put, whose key has P
 abbrev pub asks_put : Call → (ℕ → Type 0) → Type 0
@@ -74,8 +81,8 @@ IsCause l g es s half w c (refusal.LogFull used limit) = l.is_full es w used lim
 IsCause l g es s half w c refusal.ClockSpent = l.clock_end ≤ (s.worker w).clock
 IsCause l g es s half w c refusal.RowSpent = l.latch_end ≤ length es
 IsCause l g es s half w c (refusal.Conflict h) = IsHindered g s w c h
-IsCause l g es s half w c refusal.TooTall = IsTall g s × asks_put c (IsFull g s)
-IsCause l g es s half w c refusal.NoPages = (m : ℕ) × (0 < m) × (free_pages g s < m)
+IsCause l g es s half w c refusal.TooTall = asks_put c (IsTall g s)
+IsCause l g es s half w c refusal.NoPages = asks_put c (IsShort g s)
 IsCause l g es s half w c refusal.Full = asks_put c (IsFull g s)
 IsCause l g es s half w c _ = ⊥
 

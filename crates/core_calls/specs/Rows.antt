@@ -1,4 +1,5 @@
--- Scripts of two sessions by hand, on one empty leaf: each line with its events, its outcomes, and the durable lines behind them.
+-- Scripts of two sessions by hand, on one empty leaf: each line with its events, its outcomes, and the durable lines behind them. Then a full
+-- leaf, and room that is made in it.
 use Rattle.std.specs.Prelude.{◌≡◌, ◌^◌, ◌-◌, ℕ, Bool, true, false, List, [], ◌∷◌, Some, None}
 use Rattle.map_model.specs.declared.call.Call.{Call}
 use Rattle.map_model.specs.declared.call.Call.TheVariants as call
@@ -6,10 +7,13 @@ use Rattle.map_model.specs.declared.call.Refusal.TheVariants as refusal
 use Rattle.map_model.specs.Maps.{MapCall, MapAnswer}
 use Rattle.map_model.specs.Transcripts.{journal}
 use Rattle.core_state.specs.Openings.{Opening, first_map}
+use Rattle.core_state.specs.States.{State}
 use Rattle.core_state.specs.Events.{Event, Mode}
+use Rattle.core_state.specs.Steps.{step, state_after}
 use Rattle.map_model.specs.Pairings.{paired, answers_in}
 use Rattle.core_calls.specs.Deeds.{Deed, Begun, Got, Changed, Deleted, Absent, Met, Over, Committed, Aborted, Refused, Synced, transcript}
-use Rattle.core_calls.specs.Refusals.{Limits}
+use Rattle.core_calls.specs.Room.{room_takes, free_list}
+use Rattle.core_calls.specs.Refusals.{Limits, IsTall, IsShort}
 use Rattle.core_calls.specs.Fronts.{Done, outcomes}
 use Rattle.core_calls.specs.Runs.{EachTells}
 use Rattle.core_calls.specs.Durables.{durables, moments}
@@ -114,3 +118,35 @@ pub record Rows : Type 0 where
   pub hindered_paired : IsPaired hindered_script hindered
   pub scanned_paired : IsPaired scanned_script scanned
   pub at_once : durables opening (moments scanned) ≡ record { session = 1; number = 1 } ∷ []
+
+-- ## Room
+
+-- key 5's row is held alone, and pages 1 and 2, which are free, stand in frames
+abbrev pub ready : Opening → State
+ready g = state_after g (Event.Begin 1 0 ∷ Event.Lock 1 5 Mode.Alone ∷ Event.Load 1 1 ∷ Event.Load 2 2 ∷ [])
+
+-- the root is lifted onto page 1,
+abbrev pub lifted : Opening → State
+lifted g = step g (ready g) (Event.Lift 1 1)
+
+-- which is split with page 2,
+abbrev pub divided : Opening → State
+divided g = step g (lifted g) (Event.Split 1 1 2 0 1)
+
+-- and the key is put
+abbrev pub grown : Opening → State
+grown g = step g (divided g) (Event.Change 1 2 5 50)
+
+-- An opening with three pages of two pairs each, of which page 0 is a full leaf, and one level above it. Room for key 5 takes the two free pages,
+-- one at the lift and one at the split. Behind the put no further key has room: it would take three pages and a further level.
+pub record WorkedRoom : Type 0 where
+  pub opening : Opening
+  pub takes_two : room_takes opening (ready opening) 5 ≡ 2
+  pub two_free : free_list opening (ready opening) ≡ 1 ∷ 2 ∷ []
+  pub takes_one : room_takes opening (lifted opening) 5 ≡ 1
+  pub one_free : free_list opening (lifted opening) ≡ 2 ∷ []
+  pub takes_none : room_takes opening (divided opening) 5 ≡ 0
+  pub none_free : free_list opening (divided opening) ≡ []
+  pub takes_three : room_takes opening (grown opening) 6 ≡ 3
+  pub tall : IsTall opening (grown opening) 6
+  pub short : IsShort opening (grown opening) 6

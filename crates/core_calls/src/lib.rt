@@ -11,7 +11,8 @@ ghost use Rattle.core_calls.specs.Lines.{EveryRoundScript, EveryScript};
 ghost use Rattle.core_calls.specs.Printed.{EveryPrinted};
 ghost use Rattle.core_calls.specs.Refusals.{EveryHinder};
 ghost use Rattle.core_calls.specs.Rounds.{EveryFinish, EveryRound, EveryRoundSynced};
-ghost use Rattle.core_calls.specs.Rows.{Rows};
+ghost use Rattle.core_calls.specs.Room.{EveryRoom};
+ghost use Rattle.core_calls.specs.Rows.{Rows, WorkedRoom};
 ghost use Rattle.core_calls.specs.Told.{EveryTold};
 
 /// The journal that the outcomes of lines tell is the core's: it is serial, and what an image keeps of it is closed and
@@ -121,6 +122,17 @@ pub fn every_script()
 /// Who may not have a row is hindered by one, the holder or else the least other reader.
 pub fn every_hinder()
     ensures { EveryHinder }
+{}
+
+/// The nodes of a key's way tell how many of them are full, from the leaf up to the lowest that is not; a split and a lift take the least
+/// free page where they name it, and a change takes none.
+pub fn every_room()
+    ensures { EveryRoom }
+{}
+
+/// A full leaf by hand: how many pages room takes before the lift, before the split and behind it, and when there is none.
+pub fn worked_room()
+    ensures { WorkedRoom }
 {}
 
 /// Durable lines stand in the order of commit numbers, ties by session.
