@@ -51,6 +51,7 @@ room = record {
   takes_none = refl;
   none_free = refl;
   takes_three = refl;
+  takes_none_there = refl;
   tall = record { leaf = record { page = 2; within = omega arith; leaf = refl; without = refl; full = refl }; all = refl; level = refl };
   short = record { leaf = record { page = 2; within = omega arith; leaf = refl; without = refl; full = refl }; few = fewer _ _ refl refl };
 }

@@ -138,7 +138,7 @@ abbrev pub grown : Opening → State
 grown g = step g (divided g) (Event.Change 1 2 5 50)
 
 -- An opening with three pages of two pairs each, of which page 0 is a full leaf, and one level above it. Room for key 5 takes the two free pages,
--- one at the lift and one at the split. Behind the put no further key has room: it would take three pages and a further level.
+-- one at the lift and one at the split. Behind the put its leaf and the root are full: a further key would take three pages and a further level.
 pub record WorkedRoom : Type 0 where
   pub opening : Opening
   pub takes_two : room_takes opening (ready opening) 5 ≡ 2
@@ -148,5 +148,7 @@ pub record WorkedRoom : Type 0 where
   pub takes_none : room_takes opening (divided opening) 5 ≡ 0
   pub none_free : free_list opening (divided opening) ≡ []
   pub takes_three : room_takes opening (grown opening) 6 ≡ 3
+  -- in the other leaf there is room
+  pub takes_none_there : room_takes opening (grown opening) 1 ≡ 0
   pub tall : IsTall opening (grown opening) 6
   pub short : IsShort opening (grown opening) 6
