@@ -172,4 +172,4 @@ raised_after worker frame w rs now c (Moved x) r d = missed_after r d
 raised_after worker frame w rs now c (Latched l) r d = missed_after r d
 raised_after worker frame w rs now c (RowSpent row) r d = missed_after r d
 raised_after worker frame w rs now c ClockSpent r d = (missed_after r d.0, so_after r d.1)
-raised_after worker frame w rs now c (Unstaged x) r d = let n = d.refused in record { page = d.page; refused = record { missed = missed_after r n.missed; met = so_after r n.met; staged = n.staged; clock = n.clock } }
+raised_after worker frame w rs now c (Unstaged x) r d = let n = d.refused in record { page = d.page; refused = record { missed = missed_after r n.missed; met = so_after r n.met; staged = n.staged; clock = n.clock }; hot = d.hot }

@@ -117,4 +117,4 @@ parted_after worker a b d w rs now c (Moved y) r x = missed_after r x
 parted_after worker a b d w rs now c (Latched l) r x = missed_after r x
 parted_after worker a b d w rs now c (RowSpent row) r x = missed_after r x
 parted_after worker a b d w rs now c ClockSpent r x = (missed_after r x.0, so_after r x.1)
-parted_after worker a b d w rs now c (Unstaged y) r x = let n = x.refused in record { left = x.left; right = x.right; parent = x.parent; refused = record { missed = missed_after r n.missed; met = so_after r n.met; staged = n.staged; clock = n.clock } }
+parted_after worker a b d w rs now c (Unstaged y) r x = let n = x.refused in record { left = x.left; right = x.right; parent = x.parent; refused = record { missed = missed_after r n.missed; met = so_after r n.met; staged = n.staged; clock = n.clock }; left_hot = x.left_hot; right_hot = x.right_hot; parent_hot = x.parent_hot }

@@ -203,4 +203,5 @@ not_lifted {z} {v} {u} {w} {worker} {a} {b} l t first it actor sound stood misse
     staged = same;
     clock = subst (λ (g : Given). e ≡ drawn (clock_in (at_pages (after_all g u.seen).core worker ((after_all g u.seen).core.worker worker) (0 ∷ l.child.number ∷ [])))) (sym missed.ran.given) (clock ∙ draws_clock l t first it actor sound lg tx d n dr);
   };
+  hot = subst (λ (g : Given). (after_all g u.seen).core.place l.child.number ≡ Place.Hot b) (sym missed.ran.given) it.child.stands.hot;
 }

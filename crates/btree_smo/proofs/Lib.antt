@@ -9,6 +9,7 @@ pub mod Leaving
 pub mod Publishing
 pub mod Raising
 pub mod Reading
+pub mod Counting
 pub mod Children
 pub mod Looking
 pub mod LiftedPages

@@ -25,7 +25,7 @@ pub record Reads (s : State) (n : stored.Page) : Type 0 where
   pub gsn : n.gsn ≡ (s.page n.number).gsn
   pub last : n.last_log ≡ (s.page n.number).last
 
-framed_count : (place : ℕ → Place) (v : Node) → length (framed place v).pairs ≡ length v.pairs
+pub framed_count : (place : ℕ → Place) (v : Node) → length (framed place v).pairs ≡ length v.pairs
 framed_count place v = go (is_inner v)
   where
     go : (b : Bool) → length (if b then (record v { pairs = swips place v.pairs }) else v).pairs ≡ length v.pairs

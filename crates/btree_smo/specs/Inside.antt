@@ -141,6 +141,10 @@ pub record StandsIn (v : Given) (m : Moment) (row : ℕ) (n : stored.Page) : Typ
   pub stands : IsHotIn v m row n.number
   pub page : n ≡ framed_page m.core n.number n.generation
 
+-- each page that stands hot in the row has so many pairs
+abbrev pub HasCount : Given → (row n : ℕ) → Moment → Type 0
+HasCount v row n m = (p : ℕ) → IsHotIn v m row p → length (m.core.page p).node.pairs ≡ n
+
 -- no frame is held in which a page stands hot that this page names
 abbrev pub NoChildHeld : View → ℕ → Type 0
 NoChildHeld v p = (c f : ℕ) → names_page ((state v).core.page p).node c ≡ true → (state v).core.place c ≡ Place.Hot f → holds v.held f ≡ false

@@ -13,4 +13,5 @@ pub mod lift;
 pub mod outcome;
 mod record;
 mod release;
+pub mod room;
 pub mod split;

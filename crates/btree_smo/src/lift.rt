@@ -32,7 +32,7 @@ use version_latch::Hold;
 const TOP: u8 = 7;
 
 /// The most pairs of a node.
-const ROOM: usize = 60;
+pub(crate) const ROOM: usize = 60;
 
 // The root and the new page as they stand in their rows, and the root as it is written.
 #[derive(Drop)]

@@ -19,6 +19,7 @@ use crate::events::Splits;
 use crate::held::{page_in, store};
 use crate::image::image;
 use crate::latch::latch;
+use crate::lift::ROOM;
 use crate::outcome::Outcome;
 use crate::record::pairs_of;
 use crate::release::{give_up, give_up_all};
@@ -29,9 +30,6 @@ use draw_trait::draw::{Draw, Unstaged};
 use log_record::{Body, PageRef, Record};
 use rows_trait::rows::Rows;
 use version_latch::Hold;
-
-/// The most pairs of a node.
-const ROOM: usize = 60;
 
 /// The pair at which a full page is split.
 const HALF: usize = 30;

@@ -5,3 +5,4 @@ pub mod Opens
 pub mod Locks
 pub mod Unlocks
 pub mod Changes
+pub mod Reshaping

@@ -45,6 +45,10 @@ touched_session worker s number log = record s { clock = max s.clock number; deb
 abbrev pub changed_session : Session → Session → Session
 changed_session s drawn = record s { clock = drawn.clock; debt = drawn.debt; last = drawn.last; changes = s.changes + 1 }
 
+-- the session after a change of the tree's structure for which another was drawn
+abbrev pub drawn_session : Session → Session → Session
+drawn_session s drawn = record s { clock = drawn.clock; debt = drawn.debt; last = drawn.last }
+
 -- the session of worker w; that of the main actor stands at 0
 abbrev pub session_at : List Session → ℕ → Session
 session_at sessions w = slice_index_or sessions w no_session
@@ -91,6 +95,11 @@ pub record Stands (s : Sessions) : Type 0 where
 pub record IsPutter (s : Session) : Type 0 where
   pub is_open : s.is_open ≡ true
   pub few : s.changes < 64
+  pub room : s.clock < 2 ^ 62
+
+-- the session may draw a number
+pub record IsDrawer (s : Session) : Type 0 where
+  pub is_open : s.is_open ≡ true
   pub room : s.clock < 2 ^ 62
 
 -- the worker holds the key's lock row alone

@@ -1,4 +1,4 @@
-//! What a put draws from its session: numbers, and a record that is written to a buffer.
+//! What a change draws from its session: numbers, and a record that is written to a buffer.
 ghost use Rattle.std.specs.Prelude.{◌≡◌};
 ghost use Rattle.row_sessions.specs.Drawn.{clock_of};
 
@@ -8,13 +8,14 @@ use draw_trait::staged::{Staged, one_more};
 use log_record::{LARGEST, Record, record_bytes};
 use std::marker::Brand;
 
-/// A worker's session as its put goes on, and the bytes of the last record.
+/// A worker's session as its change goes on, and the bytes of the last record. The log takes no record where it is full.
 #[derive(Drop)]
 pub struct Drawing {
     pub worker: u32,
     pub session: Session,
     pub buffer: [u8; LARGEST],
     pub staged: Staged,
+    pub is_full: bool,
 }
 
 impl Drawing {
@@ -25,6 +26,7 @@ impl Drawing {
             session: Session::first(0),
             buffer: [0; LARGEST],
             staged: Staged::of::<Brand>(),
+            is_full: false,
         }
     }
 
@@ -70,6 +72,9 @@ impl Draw for Drawing {
     }
 
     fn stage(&mut self, entry: &Record) -> Result<(), Unstaged> {
+        if self.is_full {
+            return Err(Unstaged::LogFull { used: 1, limit: 1 });
+        }
         let _ = record_bytes(entry, &mut self.buffer);
         self.staged = one_more::<Brand>(&self.staged, entry);
         self.session.last = entry.gsn;

@@ -12,4 +12,5 @@ pub mod pages;
 pub mod puts;
 pub mod session;
 pub mod sessions;
+pub mod structure;
 pub mod transaction;

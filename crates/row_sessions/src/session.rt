@@ -2,7 +2,7 @@
 ghost use Rattle.std.specs.Prelude.{◌≡◌, ◌+◌, ◌<◌, ◌≤◌, ◌^◌, ℕ, suc, max, length, slice_set};
 ghost use Rattle.core_state.specs.States.{Worker, Row};
 ghost use Rattle.core_state.specs.Steps.{begun, finished, at_row};
-ghost use Rattle.row_sessions.specs.Standing.{IsOf, first_session, touched_session, changed_session, session_at};
+ghost use Rattle.row_sessions.specs.Standing.{IsOf, first_session, touched_session, changed_session, drawn_session, session_at};
 ghost use Rattle.key_locks.specs.Locking.{IsStamp};
 
 use key_locks::locking::Stamp;
@@ -81,6 +81,18 @@ impl Session {
             debt: drawn.debt,
             last: drawn.last,
             changes: self.changes + 1,
+            ..*self
+        }
+    }
+
+    // After a change of the tree's structure, for which this was drawn.
+    pub(crate) fn drew(&self, drawn: &Session) -> Session
+        ensures { result ≡ drawn_session self.now drawn.now }
+    {
+        Session {
+            clock: drawn.clock,
+            debt: drawn.debt,
+            last: drawn.last,
             ..*self
         }
     }

@@ -15,3 +15,5 @@ mod openings;
 mod random;
 #[cfg(test)]
 mod stores;
+#[cfg(test)]
+mod structure;

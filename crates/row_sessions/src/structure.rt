@@ -1,0 +1,135 @@
+//! Changes of the tree's structure, and runs of full nodes.
+ghost use Rattle.std.specs.Prelude.{◌≡◌, ◌<◌, ◌≤◌, true, IsTrue, EachIndex, slice_index};
+ghost use Rattle.row_sessions.specs.Standing.{Stands, IsDrawer};
+
+use crate::session::{Session, session_of, set_session};
+use crate::sessions::Sessions;
+use btree_descent::put::LAST_NUMBER;
+use btree_smo::lift::lift;
+use btree_smo::outcome::Outcome;
+use btree_smo::room::full_run;
+use btree_smo::split::split;
+use lean_proto::path::Path;
+
+/// Why the tree stayed as it was.
+#[derive(Clone, Copy)]
+pub enum Unchanged {
+    /// The worker has no transaction open, or its clock has come to the last number.
+    Spent,
+    /// There are fewer frames.
+    NoFrame,
+    /// The pages did not take it.
+    Refused(Outcome),
+}
+
+// The session may draw a number.
+fn may_draw(session: &Session) -> bool
+    ensures { result ≡ true → IsDrawer session.now }
+{
+    session.is_open && session.clock < LAST_NUMBER
+}
+
+// Each frame of the path is one of so many.
+fn are_frames(path: &Path, frames: u32) -> bool
+    ensures { IsTrue result → EachIndex path.now (λ k. slice_index path.now k < frames) }
+{
+    path.frames().iter().all(|frame| *frame < frames)
+}
+
+impl Sessions {
+    /// Lifts the root into the free page of a frame.
+    pub fn lift(&mut self, worker: u32, frame: u32) -> Result<(), Unchanged>
+        requires stands { Stands self.old }
+        requires worker { (0 < worker) × (worker ≤ self.old.rows.workers) }
+        ensures stands { Stands self.new }
+        ensures same { self.new.rows.workers ≡ self.old.rows.workers }
+    {
+        if frame >= self.frames {
+            return Err(Unchanged::NoFrame);
+        }
+        let session = session_of(&self.sessions, worker);
+        if !may_draw(&session) {
+            return Err(Unchanged::Spent);
+        }
+        self.drawing.start(worker, &session);
+        match lift(
+            &mut self.rows,
+            &mut self.seat,
+            worker,
+            self.frames,
+            frame,
+            &mut self.drawing,
+        ) {
+            Outcome::Done => {
+                let drew = session.drew(&self.drawing.session);
+                set_session(&mut self.sessions, worker, drew);
+                Ok(())
+            }
+            outcome => Err(Unchanged::Refused(outcome)),
+        }
+    }
+
+    /// Splits the page of frame `left` into the free one of frame `right`, under the page of frame `parent`.
+    pub fn split(
+        &mut self,
+        worker: u32,
+        left: u32,
+        right: u32,
+        parent: u32,
+    ) -> Result<(), Unchanged>
+        requires stands { Stands self.old }
+        requires worker { (0 < worker) × (worker ≤ self.old.rows.workers) }
+        ensures stands { Stands self.new }
+        ensures same { self.new.rows.workers ≡ self.old.rows.workers }
+    {
+        if left >= self.frames || right >= self.frames || parent >= self.frames {
+            return Err(Unchanged::NoFrame);
+        }
+        let session = session_of(&self.sessions, worker);
+        if !may_draw(&session) {
+            return Err(Unchanged::Spent);
+        }
+        self.drawing.start(worker, &session);
+        match split(
+            &mut self.rows,
+            &mut self.seat,
+            worker,
+            self.frames,
+            left,
+            right,
+            parent,
+            &mut self.drawing,
+        ) {
+            Outcome::Done => {
+                let drew = session.drew(&self.drawing.session);
+                set_session(&mut self.sessions, worker, drew);
+                Ok(())
+            }
+            outcome => Err(Unchanged::Refused(outcome)),
+        }
+    }
+
+    /// How many nodes at the end of a path are full, seen by the main actor. None where a frame of the path is none of these.
+    pub fn full_run(&mut self, path: &Path) -> Option<usize>
+        requires stands { Stands self.old }
+        ensures stands { Stands self.new }
+        ensures same { self.new.rows.workers ≡ self.old.rows.workers }
+    {
+        if !are_frames(path, self.frames) {
+            return None;
+        }
+        match full_run(&mut self.rows, &mut self.seat, 0, self.frames, path) {
+            Ok(run) => Some(run),
+            Err(_) => None,
+        }
+    }
+
+    /// From now on the log takes no record.
+    pub fn fill_log(&mut self)
+        requires stands { Stands self.old }
+        ensures stands { Stands self.new }
+        ensures same { self.new.rows.workers ≡ self.old.rows.workers }
+    {
+        self.drawing.is_full = true;
+    }
+}
