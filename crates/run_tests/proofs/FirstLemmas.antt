@@ -245,11 +245,7 @@ module _ (g : Opening) where
       go : (m : Bool) → ((cond m (happens g s (Event.Sync n)) s).worker 1).is_open ≡ (s.worker 1).is_open
       go true = refl
       go false = refl
-  same_opens s e a b = go (is_sync e) refl
-    where
-      go : (c : Bool) → is_sync e ≡ c → ((step g s e).worker 1).is_open ≡ (s.worker 1).is_open
-      go true q = absurd (true≢false q)
-      go false q = ap (λ (r : ℕ → Worker). (r 1).is_open) (same_step s e a b q)
+  same_opens s e a b = ap (λ (r : ℕ → Worker). (r 1).is_open) (same_step s e a b refl)
 
   pub tries_open : (s : State) (es : List Event) → AllMet g s es → any is_structure es ≡ false → Tries 1 (keep is_step es) → (s.worker 1).is_open ≡ true → ((run g s es).worker 1).is_open ≡ true
   tries_open s [] met calm t o = o
