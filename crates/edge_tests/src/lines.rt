@@ -215,10 +215,12 @@ enum Told {
     LogFull(u32, u32),
     ClockSpent,
     RowSpent,
+    TooTall,
+    NoPages,
     Full,
 }
 
-static REPLIES: [(u32, Told, &[u8]); 15] = [
+static REPLIES: [(u32, Told, &[u8]); 17] = [
     (1, Told::Begun(1), b"1 begun 1.1\n"),
     (1, Told::Value(7), b"1 value 7\n"),
     (1, Told::NoValue, b"1 none\n"),
@@ -236,6 +238,8 @@ static REPLIES: [(u32, Told, &[u8]); 15] = [
     (1, Told::LogFull(48, 48), b"1 log-full 48 48\n"),
     (1, Told::ClockSpent, b"1 clock-spent\n"),
     (1, Told::RowSpent, b"1 row-spent\n"),
+    (1, Told::TooTall, b"1 too-tall\n"),
+    (1, Told::NoPages, b"1 no-pages\n"),
     (1, Told::Full, b"1 full\n"),
     (
         4294967295,
@@ -266,6 +270,8 @@ fn answer_of(told: &Told) -> Answer
         }),
         Told::ClockSpent => Answer::Refused(Refusal::ClockSpent),
         Told::RowSpent => Answer::Refused(Refusal::RowSpent),
+        Told::TooTall => Answer::Refused(Refusal::TooTall),
+        Told::NoPages => Answer::Refused(Refusal::NoPages),
         Told::Full => Answer::Refused(Refusal::Full),
     }
 }

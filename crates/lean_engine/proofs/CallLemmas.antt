@@ -174,7 +174,8 @@ told_may refusal.TooLong (inl t) = t
 told_may (refusal.LogFull u l) (inl t) = t
 told_may refusal.ClockSpent (inl t) = t
 told_may refusal.RowSpent (inl t) = t
-told_may refusal.Full (inl t) = t
+told_may refusal.TooTall (inl t) = t
+told_may refusal.NoPages (inl t) = t
 told_may _ (inl t) = absurd t
 
 refused_is : (p q : Refusal) → answer.Refused p ≡ answer.Refused q → p ≡ q

@@ -18,11 +18,12 @@ use Rattle.core_calls.specs.Fronts.{Done, front}
 use Rattle.core_calls.specs.Runs.{EachTells, Tells}
 use Rattle.run_crashes.specs.Lines.{FellIn}
 use Rattle.engine_trait.specs.Limits.{limits}
+use Rattle.engine_trait.specs.Rooms.{AreRoom}
 use Rattle.map_model.specs.Pairings.{in_turn, script_of}
 use Rattle.transcripts.specs.Laws.{ComesNext}
 use Rattle.transcripts.specs.Told.{ask}
 use Rattle.transcripts.specs.Transcripts.{first_lines, transcript}
-use Rattle.script_run.specs.Runs.{NoEvents, calls_of}
+use Rattle.script_run.specs.Runs.{calls_of}
 
 -- An opening of an engine of one session: how many changes a transaction makes, of how many pairs pages are joined, which lock row a key has, and that each
 -- page has a frame.
@@ -40,7 +41,8 @@ pub record IsNextCall (g : Opening) (input : List ℕ) (heard : List Done) (x : 
   pub tells : Tells limits g 1 heard x
 
 -- By the next master each page's base is the start's, and the records are the oldest of those that a run of the core logs from there: of the calls of
--- which the lines that were out tell, and of the first events of at most one more.
+-- which the lines that were out tell, and of the first events of at most one more, or of the loads, locks and changes of the tree by which a put that was
+-- not answered made room.
 pub record IsLeft (m : Master) (s : Story) (input output : List ℕ) (c : Crash) : Type 0 where
   pub lines : ℕ
   pub notes : c.notes ≡ s.notes + lines
@@ -58,7 +60,7 @@ pub record IsLeft (m : Master) (s : Story) (input output : List ℕ) (c : Crash)
   pub next_one : Option Done
   pub is_next : (x : Done) → next_one ≡ Some x → IsNextCall opening input heard x
   pub behind : List Event
-  pub fell : FellIn NoEvents next_one behind
+  pub fell : FellIn AreRoom next_one behind
   pub newer : List Entry
   pub left : List Entry
   pub logged : newer ++ left ≡ log_of 1 (state_after opening (front heard ++ behind)).entries

@@ -1,17 +1,20 @@
 -- Events among which one step is taken: what they tell of session 1, and how it stands behind them.
-use Rattle.std.proofs.Common.{◌≡◌, ℕ, suc, Bool, true, false, cond, List, [], ◌∷◌, ◌++◌, Option, Some, None, refl, sym, ◌∙◌, ap, subst, true≢false}
-use Rattle.std.proofs.lemmas.Bool.{or_parts}
+use Rattle.std.proofs.Common.{◌≡◌, ℕ, suc, Bool, true, false, cond, ◌&&◌, List, [], ◌∷◌, ◌++◌, Option, Some, None, refl, sym, ◌∙◌, ap, subst, true≢false}
+use Rattle.std.proofs.lemmas.Bool.{and_parts, or_parts}
 use Rattle.map_model.specs.Lists.{any, keep}
+use Rattle.map_model.specs.Maps.{MapAnswer}
+use Rattle.image_model.specs.Entries.{Entry}
 use Rattle.core_state.specs.Events.{Event}
 use Rattle.core_state.specs.Local.{is_of}
-use Rattle.core_state.specs.Needs.{may}
+use Rattle.core_state.specs.Needs.{are_hot, following, holds_answer, is_following, is_leaf_of, may, may_hold, may_put_back, needs}
 use Rattle.core_state.specs.Openings.{Opening}
 use Rattle.core_state.specs.States.{State, Worker}
-use Rattle.core_state.specs.Steps.{AllMet, begun, happens, run, step}
+use Rattle.core_state.specs.Steps.{AllMet, begun, happens, put_back, run, step}
 use Rattle.core_calls.specs.LogEvents.{is_log}
 use Rattle.core_calls.specs.Marks.{Mark, Began, Ended, mark, marks, onto}
-use Rattle.core_calls.specs.Steps.{Unlocks, is_step, is_structure}
-use Rattle.engine_trait.specs.Limits.{AreLoads}
+use Rattle.core_calls.specs.Steps.{Tries, Unlocks, is_step, is_structure}
+use Rattle.engine_trait.specs.Calls.{Logs, LogsOne}
+use Rattle.worker_log.specs.Logs.{Log}
 
 abbrev is_sync : Event → Bool
 is_sync (Event.Sync n) = true
@@ -43,6 +46,30 @@ still_flush (e ∷ es) b w n a q =
     let l = or_parts (is_log e) (any is_log es) q in
     (p.0, no_sync e l.0, still_flush es b w n p.1 l.1)
 
+-- no event changes the session, the tree or the log
+abbrev pub AreIdle : List Event → Type 0
+AreIdle [] = Unit {0}
+AreIdle (e ∷ es) = (is_step e ≡ false) × (is_structure e ≡ false) × (is_log e ≡ false) × AreIdle es
+
+none_kept : (p : Event → Bool) (e : Event) (es : List Event) → keep p (e ∷ es) ≡ [] → (p e ≡ false) × (keep p es ≡ [])
+none_kept p e es = go (p e)
+  where
+    go : (b : Bool) → cond b (e ∷ keep p es) (keep p es) ≡ [] → (b ≡ false) × (keep p es ≡ [])
+    go true h = absurd (cc)
+    go false h = (refl, h)
+
+pub idle : (es : List Event) → any is_structure es ≡ false → keep is_log es ≡ [] → keep is_step es ≡ [] → AreIdle es
+idle [] a b c = tt
+idle (e ∷ es) a b c =
+    let structure = or_parts (is_structure e) (any is_structure es) a in
+    let log = none_kept is_log e es b in
+    let steps = none_kept is_step e es c in
+    (steps.0, structure.0, log.0, idle es structure.1 log.1 steps.1)
+
+pub idle_behind : (first own : List Event) → AreIdle (first ++ own) → AreIdle own
+idle_behind [] own i = i
+idle_behind (e ∷ first) own i = idle_behind first own i.3
+
 -- ## Events that are no steps
 
 module _ (g : Opening) where
@@ -69,18 +96,13 @@ module _ (g : Opening) where
       go true = same_workers s e a b c
       go false = refl
 
-  same_run : (s : State) (es : List Event) → AreStill es → keep is_step es ≡ [] → (run g s es).worker ≡ s.worker
+  pub same_run : (s : State) (es : List Event) → AreStill es → keep is_step es ≡ [] → (run g s es).worker ≡ s.worker
   same_run s [] still k = refl
   same_run s (e ∷ es) still k = go (is_step e) refl (same_run (step g s e) es still.2) k
     where
       go : (b : Bool) → is_step e ≡ b → (keep is_step es ≡ [] → (run g (step g s e) es).worker ≡ (step g s e).worker) → cond b (e ∷ keep is_step es) (keep is_step es) ≡ [] → (run g (step g s e) es).worker ≡ s.worker
       go true q ih h = absurd (cc)
       go false q ih h = ih h ∙ same_step s e q still.0 still.1
-
-  pub loaded : (s : State) (es : List Event) → AreLoads es → (run g s es).worker ≡ s.worker
-  loaded s [] l = refl
-  loaded s (Event.Load p f ∷ es) l = loaded (step g s (Event.Load p f)) es l ∙ same_step s (Event.Load p f) refl refl refl
-  loaded s (_ ∷ es) l = absurd l
 
   -- they tell nothing
   no_mark : (s : State) (e : Event) → is_step e ≡ false → mark g s e ≡ None
@@ -168,3 +190,88 @@ module _ (g : Opening) where
   commit_tells s es others f met still k u =
       one_mark s es others (Event.End 1 true f) (Ended true (s.worker 1).txn (suc (s.worker 1).clock)) met still k u refl
       (λ t same. ap (λ (r : ℕ → Worker). Some (Ended true (r 1).txn (suc (r 1).clock))) same)
+
+  -- ## A call that is refused
+
+  -- a step of it needs an open transaction
+  try_is_open : (s : State) (e : Event) (es : List Event) → Tries 1 (e ∷ es) → may g s e ≡ true → (s.worker 1).is_open ≡ true
+  try_is_open s (Event.Lock v i mode) es t met =
+      subst (λ (w : ℕ). (s.worker w).is_open ≡ true) t.0 (and_parts (s.worker v).is_open (may_hold (s.row i) v mode) (and_parts (are_hot s []) (needs g s (Event.Lock v i mode)) met).1).0
+  try_is_open s (Event.Next v p k a) es t met =
+      subst (λ (w : ℕ). (s.worker w).is_open ≡ true) t.0
+      (and_parts (s.worker v).is_open (is_leaf_of g (s.page p).node p k && (is_following a (following g.format k (s.page p).node.pairs (s.page p).node.high) && holds_answer g s v a)) (and_parts (are_hot s (p ∷ [])) (needs g s (Event.Next v p k a)) met).1).0
+  try_is_open s (Event.Put_back v p) es t met =
+      subst (λ (w : ℕ). (s.worker w).is_open ≡ true) t.0
+      (and_parts (s.worker v).is_open (may_put_back g (s.page p).node p (s.worker v).changes) (and_parts (are_hot s (p ∷ [])) (needs g s (Event.Put_back v p)) met).1).0
+  try_is_open s _ es t met = absurd t
+
+  -- so without one it takes none
+  pub tries_none : (s : State) (es : List Event) → AllMet g s es → AreStill es → Tries 1 (keep is_step es) → (s.worker 1).is_open ≡ false → keep is_step es ≡ []
+  tries_none s [] met still t closed = refl
+  tries_none s (e ∷ es) met still t closed =
+      go (is_step e) refl t (λ rest same. tries_none (step g s e) es met.1 still.2 rest (ap (λ (r : ℕ → Worker). (r 1).is_open) same ∙ closed))
+    where
+      go : (b : Bool) → is_step e ≡ b → Tries 1 (cond b (e ∷ keep is_step es) (keep is_step es)) → (Tries 1 (keep is_step es) → (step g s e).worker ≡ s.worker → keep is_step es ≡ []) →
+          cond b (e ∷ keep is_step es) (keep is_step es) ≡ []
+      go true q h ih = absurd (true≢false (sym (try_is_open s e (keep is_step es) h met.0) ∙ closed))
+      go false q h ih = ih h (same_step s e q still.0 still.1)
+
+  -- and with one it leaves it open
+  try_opens : (s : State) (e : Event) (es : List Event) → Tries 1 (e ∷ es) → (s.worker 1).is_open ≡ true → ((happens g s e).worker 1).is_open ≡ true
+  try_opens s (Event.Lock v i mode) es t o = subst (λ (w : ℕ). ((happens g s (Event.Lock w i mode)).worker 1).is_open ≡ true) (sym t.0) o
+  try_opens s (Event.Next v p k a) es t o = subst (λ (w : ℕ). ((happens g s (Event.Next w p k a)).worker 1).is_open ≡ true) (sym t.0) (go a)
+    where
+      go : (b : MapAnswer) → ((happens g s (Event.Next 1 p k b)).worker 1).is_open ≡ true
+      go (MapAnswer.Pair j x) = o
+      go (MapAnswer.Gap h) = o
+      go _ = o
+  try_opens s (Event.Put_back v p) es t o = subst (λ (w : ℕ). ((happens g s (Event.Put_back w p)).worker 1).is_open ≡ true) (sym t.0) (go (s.worker 1).changes)
+    where
+      go : (cs : List Entry) → ((put_back g s 1 p cs).worker 1).is_open ≡ true
+      go [] = o
+      go (c ∷ cs) = o
+  try_opens s _ es t o = absurd t
+
+  try_rest : (e : Event) (es : List Event) → Tries 1 (e ∷ es) → Tries 1 es
+  try_rest (Event.Lock v i mode) es t = t.1
+  try_rest (Event.Next v p k a) es t = t.1
+  try_rest (Event.Put_back v p) es t = t.1
+  try_rest _ es t = absurd t
+
+  -- a sync leaves it open too
+  same_opens : (s : State) (e : Event) → is_step e ≡ false → is_structure e ≡ false → ((step g s e).worker 1).is_open ≡ (s.worker 1).is_open
+  same_opens s (Event.Sync n) a b = go (may g s (Event.Sync n))
+    where
+      go : (m : Bool) → ((cond m (happens g s (Event.Sync n)) s).worker 1).is_open ≡ (s.worker 1).is_open
+      go true = refl
+      go false = refl
+  same_opens s e a b = ap (λ (r : ℕ → Worker). (r 1).is_open) (same_step s e a b refl)
+
+  pub tries_open : (s : State) (es : List Event) → AllMet g s es → any is_structure es ≡ false → Tries 1 (keep is_step es) → (s.worker 1).is_open ≡ true → ((run g s es).worker 1).is_open ≡ true
+  tries_open s [] met calm t o = o
+  tries_open s (e ∷ es) met calm t o =
+      let parts = or_parts (is_structure e) (any is_structure es) calm in
+      let here = go (is_step e) refl parts.0 t in
+      tries_open (step g s e) es met.1 parts.1 here.0 here.1
+    where
+      go : (b : Bool) → is_step e ≡ b → is_structure e ≡ false → Tries 1 (cond b (e ∷ keep is_step es) (keep is_step es)) → Tries 1 (keep is_step es) × (((step g s e).worker 1).is_open ≡ true)
+      go true q calm h = (try_rest e (keep is_step es) h, ap (λ (m : Bool). ((cond m (happens g s e) s).worker 1).is_open) met.0 ∙ try_opens s e (keep is_step es) h o)
+      go false q calm h = (h, same_opens s e q calm ∙ o)
+
+  -- ## Events that leave the log as it was
+
+  idle_one : (s : State) (e : Event) (was is : Log) → is_step e ≡ false → is_structure e ≡ false → is_log e ≡ false → LogsOne g s e was is → is ≡ was
+  idle_one s (Event.Change w p k v) was is a b c h = absurd (true≢false a)
+  idle_one s (Event.Put_back w p) was is a b c h = absurd (true≢false a)
+  idle_one s (Event.End w commit f) was is a b c h = absurd (true≢false a)
+  idle_one s (Event.Split w l r q i) was is a b c h = absurd (true≢false b)
+  idle_one s (Event.Lift w d) was is a b c h = absurd (true≢false b)
+  idle_one s (Event.Join w l r q) was is a b c h = absurd (true≢false b)
+  idle_one s (Event.Drop w d) was is a b c h = absurd (true≢false b)
+  idle_one s (Event.Purge w p keys) was is a b c h = absurd (true≢false b)
+  idle_one s (Event.Flush w n) was is a b c h = absurd (true≢false c)
+  idle_one s _ was is a b c h = h
+
+  pub idle_log : (s : State) (es : List Event) (was is : Log) → AreIdle es → Logs g s es was is → is ≡ was
+  idle_log s [] was is i h = h
+  idle_log s (e ∷ es) was is i h = idle_log (step g s e) es h.0 is i.3 h.2 ∙ idle_one s e was h.0 i.0 i.1 i.2 h.1

@@ -7,7 +7,7 @@ use Rattle.map_model.specs.declared.call.Call.{Call}
 use Rattle.map_model.specs.declared.call.Call.TheVariants as call
 use Rattle.map_model.specs.declared.call.Refusal.{Refusal}
 use Rattle.map_model.specs.declared.call.Refusal.TheVariants.{ClockSpent, InTransaction, LogFull, NoTransaction}
-use Rattle.map_model.specs.Lists.{Has, any}
+use Rattle.map_model.specs.Lists.{Has, any, keep}
 use Rattle.map_model.specs.Maps.{Map, MapCall, write_of, writes_key}
 use Rattle.map_model.specs.Histories.{Step, first_of, last_write, write_or}
 use Rattle.map_model.specs.Journals.{Journal, Txn, after}
@@ -29,12 +29,12 @@ use Rattle.core_state.specs.Steps.{begun, run, state_after}
 use Rattle.core_state.proofs.Runs.{run_more}
 use Rattle.core_calls.specs.Deeds.{Deed, Begun, Committed, Aborted, Refused, Unsaid, answered, asked}
 use Rattle.core_calls.specs.Fronts.{Done, front}
-use Rattle.core_calls.specs.LogEvents.{behind}
+use Rattle.core_calls.specs.LogEvents.{RefusedLogs, behind, is_log}
 use Rattle.core_calls.specs.Marks.{Mark, Began, Ended}
 use Rattle.core_calls.specs.Runs.{IsRefused, Tells}
-use Rattle.core_calls.specs.Steps.{IsBehind, hindered_in, is_structure}
+use Rattle.core_calls.specs.Steps.{IsBehind, hindered_in, is_change_call, is_structure}
 use Rattle.engine_trait.specs.Calls.{Answers}
-use Rattle.engine_trait.specs.Limits.{AreLoads, limits}
+use Rattle.engine_trait.specs.Limits.{limits}
 use Rattle.engine_trait.specs.Refusals.{log_refusal, refusal_in}
 use Rattle.worker_log.specs.Logs.{Log}
 use Rattle.transcripts.specs.Transcripts.{first_lines}
@@ -42,7 +42,7 @@ use Rattle.script_run.specs.Runs.{Executes}
 use Rattle.lean_shell.specs.Headline.{Survives}
 use Rattle.lean_shell.specs.Runs.{Counts, Executed, IsFrom, first_log}
 use Rattle.run_tests.specs.RuledOut.{BeginsAt, EveryDurableIsFound, EveryFirstBegin, EveryFirstCommit, EveryKeyStands, EveryOtherKeyStands, HasItsCommit, NoneWrites}
-use Rattle.run_tests.proofs.FirstLemmas.{AreStill, begin_tells, begun_at, commit_tells, loaded, still, still_flush}
+use Rattle.run_tests.proofs.FirstLemmas.{AreIdle, AreStill, begin_tells, begun_at, commit_tells, idle, idle_behind, idle_log, same_run, still, still_flush, tries_none, tries_open}
 use Rattle.run_tests.proofs.KeyLemmas.{asks_to_write}
 
 -- ## Keys
@@ -159,11 +159,11 @@ by_one d us es = record { outcome = record { session = 1; deed = d; unsaid = us 
 is_by_one : (x : Done) → x.outcome.session ≡ 1 → x ≡ by_one x.outcome.deed x.outcome.unsaid x.events
 is_by_one x e = ap (λ (w : ℕ). record { outcome = record { session = w; deed = x.outcome.deed; unsaid = x.outcome.unsaid }; events = x.events }) e
 
--- Where the tests refuse nothing, no refusal is answered: no latch is spent yet.
+-- Where the tests refuse nothing behind its events, no refusal is answered: no latch is spent yet.
 not_refused : (g : Opening) (xs : List Done) (was is : Log) (c : Call) (why : Refusal) (backs : List Step) (us : List Unsaid) (es : List Event) → let x : Done = by_one (Refused c why backs) us es in
-    Answers g xs x was is → Tells limits g 1 xs x → length (front xs) ≤ 2 ^ 18 → ((loads : List Event) → AreLoads loads → refusal_in g (state_after g (front xs ++ loads)) was c ≡ None) → ⊥
+    Answers g xs x was is → Tells limits g 1 xs x → length (front xs) ≤ 2 ^ 18 → refusal_in g (state_after g (front xs ++ es)) is c ≡ None → ⊥
 not_refused g xs was is c why backs us es a t few none = elim (a.refused why refl) [
-  | inl there ↦ let clash : None ≡ Some why = sym (none a.first a.loads) ∙ there in absurd (cc)
+  | inl there ↦ let clash : None ≡ Some why = sym none ∙ there in absurd (cc)
   | inr spent ↦
       let r = subst (λ (w : Refusal). IsRefused limits g xs (by_one (Refused c why backs) us es) (Refused c w backs)) spent t.refused in
       let e : length es ≡ length (r.0 ++ r.1) = ap (λ (l : List Event). length l) r.2 in
@@ -173,6 +173,11 @@ not_refused g xs was is c why backs us es a t few none = elim (a.refused why ref
       let late = r.3 in
       absurd (omega (arith, e, f, h, l, few, late))
 ]
+
+-- a first begin that is refused has prepared nothing, since no end waits
+begin_logs : (g : Opening) (why : Refusal) (es : List Event) → RefusedLogs limits g [] 1 call.Begin why es → es ≡ []
+begin_logs g InTransaction es h = h
+begin_logs g _ es h = h
 
 -- the deed of which a mark tells
 abbrev as_begun : List Mark → Deed
@@ -219,9 +224,22 @@ module _ (master : EveryMasterIn) (s : Story) (base : ℕ) (at : BeginsAt s base
       ∙ (ap (λ (b : Bool). cond b (Some (LogFull 0 (at.m.blocks - 16))) (cond (leb (2 ^ 62) g.base) (Some ClockSpent) None)) room
       ∙ ap (λ (b : Bool). cond b (Some ClockSpent) None) clock)
 
-  begin_open : (es : List Event) → AreLoads es → refusal_in g (state_after g es) y.first call.Begin ≡ None
-  begin_open es loads =
-      ap (λ (r : ℕ → Worker). cond (r 1).is_open (Some InTransaction) (log_refusal (r 1).clock y.first None)) (loaded g (start g) es loads) ∙ open_log
+  -- where the session and the log stand as at the start
+  begin_open : (es : List Event) (log : Log) → (state_after g es).worker ≡ (start g).worker → log ≡ y.first → refusal_in g (state_after g es) log call.Begin ≡ None
+  begin_open es log same is =
+      ap (λ (r : ℕ → Worker). cond (r 1).is_open (Some InTransaction) (log_refusal (r 1).clock log None)) same ∙ (ap (λ (l : Log). log_refusal g.base l None) is ∙ open_log)
+
+  -- as they do behind a begin that is refused
+  begin_refused : (d : Call) (why : Refusal) (backs : List Step) (us : List Unsaid) (es : List Event) (before after : Log) → d ≡ call.Begin → Tells limits g 1 [] (by_one (Refused d why backs) us es) → Answers g [] (by_one (Refused d why backs) us es) before after →
+      before ≡ y.first → refusal_in g (state_after g es) after d ≡ None
+  begin_refused d why backs us es before after c t a log =
+      let calm = t.structure (ap is_change_call c) in
+      let none = begin_logs g why (keep is_log es) (subst (λ (e : Call). RefusedLogs limits g [] 1 e why (keep is_log es)) c t.logs) in
+      let quiet = still es calm none in
+      let steps = tries_none g (start g) es t.met quiet t.steps.2 refl in
+      let own = idle_behind a.first a.own (subst AreIdle a.events (idle es calm none steps)) in
+      ap (refusal_in g (state_after g es) after) c
+      ∙ begin_open es after (same_run g (start g) es quiet steps) (idle_log g (state_after g (front [] ++ a.first)) a.own before after own a.log ∙ log)
 
   begins : (d : Deed) (us : List Unsaid) (es : List Event) (before after : Log) → asked d ≡ call.Begin → Tells limits g 1 [] (by_one d us es) → Answers g [] (by_one d us es) before after → before ≡ y.first → HasBegun g d es
   begins (Begun n) us es before after c t a log =
@@ -230,16 +248,18 @@ module _ (master : EveryMasterIn) (s : Story) (base : ℕ) (at : BeginsAt s base
       record { deed = ap as_begun (sym (t.told 1) ∙ tells); floor = t.steps.1; session = begun_at g (start g) es t.steps.1 t.met calm t.steps.2 }
   begins (Aborted d n at backs) us es before after c t a log = let abort : d ≡ call.Abort = t.hindered in absurd (cc)
   begins (Refused d why backs) us es before after c t a log =
-      absurd (not_refused g [] before after d why backs us es a t (omega arith)
-      (λ loads are. ap (refusal_in g (state_after g loads) before) c ∙ (ap (λ (l : Log). refusal_in g (state_after g loads) l call.Begin) log ∙ begin_open loads are)))
+      absurd (not_refused g [] before after d why backs us es a t (omega arith) (begin_refused d why backs us es before after c t a log))
   begins _ us es before after c t a log = absurd (cc)
 
   module _ (x : Done) (few : length x.events ≤ 2 ^ 18) (b : HasBegun g x.outcome.deed x.events) where
-    commit_open : (was : Log) (loads : List Event) → AreLoads loads → refusal_in g (state_after g (x.events ++ loads)) was call.Commit ≡ None
-    commit_open was loads are =
-        ap (λ (z : State). cond (z.worker 1).is_open None (Some NoTransaction)) (run_more g (start g) x.events loads)
-        ∙ (ap (λ (r : ℕ → Worker). cond (r 1).is_open None (Some NoTransaction)) (loaded g (state_after g x.events) loads are)
-        ∙ ap (λ (w : Worker). cond w.is_open None (Some NoTransaction)) b.session)
+    -- behind a commit that is refused the transaction is open as before
+    commit_open : (d : Call) (why : Refusal) (backs : List Step) (us : List Unsaid) (es : List Event) (log : Log) → d ≡ call.Commit → Tells limits g 1 (x ∷ []) (by_one (Refused d why backs) us es) → refusal_in g (state_after g (x.events ++ es)) log d ≡ None
+    commit_open d why backs us es log c t =
+        let calm = t.structure (ap is_change_call c) in
+        let stays = tries_open g (state_after g x.events) es t.met calm t.steps.2 (ap (λ (w : Worker). w.is_open) b.session) in
+        ap (refusal_in g (state_after g (x.events ++ es)) log) c
+        ∙ (ap (λ (z : State). cond (z.worker 1).is_open None (Some NoTransaction)) (run_more g (start g) x.events es)
+        ∙ ap (λ (o : Bool). cond o None (Some NoTransaction)) stays)
 
     commits : (d : Deed) (us : List Unsaid) (es : List Event) (was is : Log) → asked d ≡ call.Commit → Tells limits g 1 (x ∷ []) (by_one d us es) → Answers g (x ∷ []) (by_one d us es) was is → d ≡ Committed 1 (suc base)
     commits (Committed n at) us es was is c t a =
@@ -251,7 +271,7 @@ module _ (master : EveryMasterIn) (s : Story) (base : ℕ) (at : BeginsAt s base
         let abort : d ≡ call.Abort = subst (λ (e : Deed). IsBehind (hindered_in e) x.outcome.session (by_one (Aborted d n at backs) us es).outcome) b.deed t.hindered in
         absurd (cc)
     commits (Refused d why backs) us es was is c t a =
-        absurd (not_refused g (x ∷ []) was is d why backs us es a t few (λ loads are. ap (refusal_in g (state_after g (x.events ++ loads)) was) c ∙ commit_open was loads are))
+        absurd (not_refused g (x ∷ []) was is d why backs us es a t few (commit_open d why backs us es is c t))
     commits _ us es was is c t a = absurd (cc)
 
   -- the oldest call is a begin

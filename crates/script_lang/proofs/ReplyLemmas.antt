@@ -13,7 +13,7 @@ use Rattle.script_lang.specs.Text.{IsLine}
 use Rattle.map_model.specs.Outputs.Reply.{Answered, Durable}
 use Rattle.map_model.specs.declared.call.Answer.{Answer}
 use Rattle.map_model.specs.declared.call.Answer.TheVariants.{Begun, Value, Was, Committed, Refused}
-use Rattle.map_model.specs.declared.call.Refusal.TheVariants.{InTransaction, NoTransaction, TooLong, LogFull, ClockSpent, RowSpent, Full}
+use Rattle.map_model.specs.declared.call.Refusal.TheVariants.{InTransaction, NoTransaction, TooLong, LogFull, ClockSpent, RowSpent, TooTall, NoPages, Full}
 use Rattle.script_lang.proofs.NumberLemmas.{Digits, digits, word_number, word_name, word_last, after_last, word_before, after_before, number_is}
 
 prefix_is : (prefix ds : List ℕ) → after_prefix prefix (prefix ++ ds) ≡ number_of ds
@@ -51,6 +51,8 @@ said_back s (Refused (LogFull u l)) small h =
     rw (word_before (decimal u) (decimal l) d, after_before (decimal u) (decimal l) d, number_is u used, word_last (decimal l) e, number_is l limit, after_last (decimal l) e) refl
 said_back s (Refused ClockSpent) small h = refl
 said_back s (Refused RowSpent) small h = refl
+said_back s (Refused TooTall) small h = refl
+said_back s (Refused NoPages) small h = refl
 said_back s (Refused Full) small h = refl
 said_back s (Refused _) small h = absurd h
 said_back s _ small h = absurd h
@@ -109,6 +111,8 @@ answer_line s (Refused (LogFull u l)) small h =
     search (rules, t)
 answer_line s (Refused ClockSpent) small h = search rules
 answer_line s (Refused RowSpent) small h = search rules
+answer_line s (Refused TooTall) small h = search rules
+answer_line s (Refused NoPages) small h = search rules
 answer_line s (Refused Full) small h = search rules
 answer_line s (Refused _) small h = absurd h
 answer_line s _ small h = absurd h

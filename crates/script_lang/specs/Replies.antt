@@ -9,7 +9,7 @@ use Rattle.map_model.specs.declared.call.Answer.TheVariants.{Begun, Value, Was, 
 use Rattle.map_model.specs.declared.call.Refusal.{Refusal}
 use Rattle.map_model.specs.Outputs.{Reply}
 use Rattle.map_model.specs.Outputs.Reply.{Answered, Durable}
-use Rattle.map_model.specs.declared.call.Refusal.TheVariants.{InTransaction, NoTransaction, TooLong, LogFull, ClockSpent, RowSpent, Full}
+use Rattle.map_model.specs.declared.call.Refusal.TheVariants.{InTransaction, NoTransaction, TooLong, LogFull, ClockSpent, RowSpent, TooTall, NoPages, Full}
 
 -- A refusal or an answer with no line yet has no text.
 abbrev pub refusal_text : Refusal → List ℕ
@@ -19,6 +19,8 @@ refusal_text TooLong = codes "too-long"
 refusal_text (LogFull used limit) = codes "log-full " ++ (decimal used ++ 32 ∷ decimal limit)
 refusal_text ClockSpent = codes "clock-spent"
 refusal_text RowSpent = codes "row-spent"
+refusal_text TooTall = codes "too-tall"
+refusal_text NoPages = codes "no-pages"
 refusal_text Full = codes "full"
 refusal_text _ = []
 
@@ -66,6 +68,8 @@ refused_of s words =
     with_two (λ u l. Answered s (Refused (LogFull u l))) (number_of (word (rest words))) (number_of (word (rest (rest words)))) (rest (rest (rest words)))
     else if bytes_eq (word words) (codes "clock-spent") then ends (Answered s (Refused ClockSpent)) (rest words)
     else if bytes_eq (word words) (codes "row-spent") then ends (Answered s (Refused RowSpent)) (rest words)
+    else if bytes_eq (word words) (codes "too-tall") then ends (Answered s (Refused TooTall)) (rest words)
+    else if bytes_eq (word words) (codes "no-pages") then ends (Answered s (Refused NoPages)) (rest words)
     else if bytes_eq (word words) (codes "full") then ends (Answered s (Refused Full)) (rest words)
     else None
 
@@ -94,6 +98,8 @@ RefusalFits TooLong = Unit {0}
 RefusalFits (LogFull used limit) = (used < 2 ^ 32) × (limit < 2 ^ 32)
 RefusalFits ClockSpent = Unit {0}
 RefusalFits RowSpent = Unit {0}
+RefusalFits TooTall = Unit {0}
+RefusalFits NoPages = Unit {0}
 RefusalFits Full = Unit {0}
 RefusalFits _ = ⊥
 

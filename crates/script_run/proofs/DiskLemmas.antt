@@ -1,5 +1,6 @@
 -- What the disk stands for, and what a crash at any moment leaves.
-use Rattle.std.proofs.Common.{◌≡◌, ◌++◌, ◌∷◌, [], ◌≤◌, ◌<◌, ◌+◌, ◌^◌, ℕ, List, Option, Some, None, IsTrue, length, refl, sym, ap, ◌∙◌, subst, arith}
+use Rattle.std.proofs.Common.{◌≡◌, ◌++◌, ◌∷◌, [], ◌≤◌, ◌<◌, ◌+◌, ◌^◌, ℕ, true, false, List, Option, Some, None, IsTrue, length, refl, sym, ap, ◌∙◌, subst, arith, true≢false}
+use Rattle.std.proofs.lemmas.Bool.{and_parts, and_from}
 use Rattle.std.proofs.lemmas.List.{length-append}
 use mathlib.Core.List.{append_assoc}
 use Rattle.lean_edge.specs.Outside.{Feed}
@@ -8,9 +9,11 @@ use Rattle.lean_disk.specs.Moments.{CrashIn, Framed, LeavesOnly}
 use Rattle.lean_disk.specs.Story.{Crash, IsLawful, Story}
 use Rattle.lean_disk.proofs.MomentLemmas.{started, then, weaker}
 use Rattle.map_model.specs.declared.call.Call.{Call}
+use Rattle.map_model.specs.Lists.{all, any}
 use Rattle.map_model.specs.Outputs.{Reply}
 use Rattle.core_state.specs.Events.{Event}
 use Rattle.core_state.specs.Openings.{Opening}
+use Rattle.core_state.specs.Steps.{state_after}
 use Rattle.disk_slots.specs.declared.master.Master.{Master}
 use Rattle.disk_image.specs.Laws.{EveryAgreement}
 use Rattle.disk_image.specs.Masters.{IsOfRun}
@@ -23,21 +26,55 @@ use Rattle.disk_runs.specs.Fair.{TellsAll}
 use Rattle.disk_runs.specs.Stands.{Known}
 use Rattle.disk_runs.proofs.StandLemmas.{every_same}
 use Rattle.log_calls.specs.Calls.{Anything}
+use Rattle.run_crashes.specs.Laws.{CommitsNone, OfEachFirst}
 use Rattle.run_crashes.specs.Lines.{CallLeaves, RunLeft, lines_of, notes_of}
 use Rattle.run_crashes.proofs.LineLemmas.{every_crashed_line_for, every_stop_for}
 use Rattle.engine_calls.specs.Clauses.{Between}
 use Rattle.engine_calls.specs.Runs.{LineCrash, LinesOut, Runs}
+use Rattle.engine_calls.proofs.MarkLemmas.{commits_none, either_false, has_mark}
 use Rattle.engine_calls.proofs.MomentLemmas.{still}
 use Rattle.engine_calls.proofs.RunLemmas.{every_run_for, line}
 use Rattle.engine_trait.specs.Calls.{Keeps, Stops, Stops as stops}
 use Rattle.engine_trait.specs.Limits.{limits}
+use Rattle.engine_trait.specs.Rooms.{AreRoom, makes_room}
 use Rattle.script_lang.specs.Reading.{Unread}
-use Rattle.script_run.specs.Runs.{CallMissing, DiskTo, LinesMissing, NoEvents, OthersStand, PrintsTo, ReadsTo, RunStands, StaysIn2, CallMissing as missing}
+use Rattle.script_run.specs.Runs.{CallMissing, DiskTo, LinesMissing, OthersStand, PrintsTo, ReadsTo, RunStands, StaysIn2, CallMissing as missing}
 use Rattle.script_run.specs.Inside.{IsOfPutting, IsOfReading, Laws, OnlyNotes, PutLeaves}
 use Rattle.script_run.specs.declared.stop.Stop.{Stop}
 use Rattle.script_run.specs.declared.stop.Stop.TheVariants.{End, Refused, ReadFault, WriteFault, DiskFault}
 use Rattle.script_run.proofs.DueLemmas.{printed_more}
 use Rattle.script_run.proofs.ReadLemmas.{FirstOf, first_of, reads_same}
+
+-- ## Room for a key
+
+-- nothing is told of an event that makes room
+no_mark_of_room : (e : Event) → makes_room e ≡ true → has_mark e ≡ false
+no_mark_of_room (Event.Load p f) room = refl
+no_mark_of_room (Event.Lock w i mode) room = refl
+no_mark_of_room (Event.Miss w) room = refl
+no_mark_of_room (Event.Split w l r q i) room = refl
+no_mark_of_room (Event.Lift w c) room = refl
+no_mark_of_room _ room = absurd (true≢false (sym room))
+
+no_marks_of_room : (es : List Event) → AreRoom es → any has_mark es ≡ false
+no_marks_of_room [] room = refl
+no_marks_of_room (e ∷ es) room =
+    let parts = and_parts (makes_room e) (all makes_room es) room in
+    either_false (has_mark e) (any has_mark es) (no_mark_of_room e parts.0) (no_marks_of_room es parts.1)
+
+-- such events commit nothing
+room_commits_none : (g : Opening) (xs : List Done) (es : List Event) → AreRoom es → CommitsNone g xs es
+room_commits_none g xs es room = commits_none g (state_after g (front xs)) es (no_marks_of_room es room)
+
+front_of_room : (first rest : List Event) → AreRoom (first ++ rest) → AreRoom first
+front_of_room [] rest room = refl
+front_of_room (e ∷ first) rest room =
+    let parts = and_parts (makes_room e) (all makes_room (first ++ rest)) room in
+    and_from (makes_room e) (all makes_room first) parts.0 (front_of_room first rest parts.1)
+
+-- and the first of them are such events too
+room_of_each_first : (es : List Event) → AreRoom es → OfEachFirst AreRoom es
+room_of_each_first es room first rest is = front_of_room first rest (subst AreRoom (sym is) room)
 
 -- ## Other areas
 
@@ -113,13 +150,13 @@ disk_same (Some DiskFault) p n start feed reader seen other number bytes reads g
 
 module _ (shown : EveryShown) (crashes : EveryRunCrash) (agrees : EveryAgreement) (g : Opening) (s0 : Crash) (m : Master) where
   -- more calls
-  left_more : (newer ys : List Done) (c : Crash) → RunLeft g NoEvents ys s0 m c → RunLeft g NoEvents (newer ++ ys) s0 m c
+  left_more : (newer ys : List Done) (c : Crash) → RunLeft g AreRoom ys s0 m c → RunLeft g AreRoom (newer ++ ys) s0 m c
   left_more [] ys c l = l
-  left_more (x ∷ newer) ys c l = (every_crashed_line_for shown crashes agrees NoEvents limits g 1 s0 m m (newer ++ ys) c).more x (left_more newer ys c l)
+  left_more (x ∷ newer) ys c l = (every_crashed_line_for shown crashes agrees AreRoom limits g 1 s0 m m (newer ++ ys) c).more x (left_more newer ys c l)
 
-  module _ (ys : List Done) (from old new : Story) (first : LeavesOnly from old (RunLeft g NoEvents ys s0 m)) where
-    moments : (newer : List Done) → LeavesOnly old new (RunLeft g NoEvents (newer ++ ys) s0 m) → LeavesOnly from new (RunLeft g NoEvents (newer ++ ys) s0 m)
-    moments newer second = then from old new (RunLeft g NoEvents (newer ++ ys) s0 m) (weaker from old (RunLeft g NoEvents ys s0 m) (RunLeft g NoEvents (newer ++ ys) s0 m) (left_more newer ys) first) second
+  module _ (ys : List Done) (from old new : Story) (first : LeavesOnly from old (RunLeft g AreRoom ys s0 m)) where
+    moments : (newer : List Done) → LeavesOnly old new (RunLeft g AreRoom (newer ++ ys) s0 m) → LeavesOnly from new (RunLeft g AreRoom (newer ++ ys) s0 m)
+    moments newer second = then from old new (RunLeft g AreRoom (newer ++ ys) s0 m) (weaker from old (RunLeft g AreRoom ys s0 m) (RunLeft g AreRoom (newer ++ ys) s0 m) (left_more newer ys) first) second
 
     module _ (newer : List Done) (k known : Known) (same : known.master ≡ k.master) (log : Log) where
       runs_later : RunStands g (newer ++ ys) s0 m known old new log → RunStands g (newer ++ ys) s0 m k from new log
@@ -149,27 +186,24 @@ module _ (shown : EveryShown) (crashes : EveryRunCrash) (agrees : EveryAgreement
 
 -- ## One call
 
-nil_first : (first rest : List Event) → first ++ rest ≡ [] → first ≡ []
-nil_first [] rest e = refl
-nil_first (x ∷ first) rest e = cc
-
 module _ (laws : Laws) (g : Opening) (s0 : Crash) (m : Master) where
   module _ (xs : List Done) (k : Known) (old : Story) (law : IsLawful old) (between : Between limits g 1 xs s0 k old) (of_run : IsOfRun m k.master) where
     -- nothing happened yet
-    pub rests : Runs limits g 1 NoEvents xs s0 m k old old
+    pub rests : Runs limits g 1 AreRoom xs s0 m k old old
     rests = record {
       between = between;
       of_run = of_run;
-      any_moment = weaker old old (CallLeaves g xs [] s0 k.master) (RunLeft g NoEvents xs s0 m)
-          (λ c. (every_crashed_line_for laws.shown laws.crashes laws.agrees NoEvents limits g 1 s0 m k.master xs c).behind between.told of_run)
+      any_moment = weaker old old (CallLeaves g xs [] s0 k.master) (RunLeft g AreRoom xs s0 m)
+          (λ c. (every_crashed_line_for laws.shown laws.crashes laws.agrees AreRoom limits g 1 s0 m k.master xs c).behind between.told of_run)
           (still laws.keeps laws.prefixes laws.seals g xs [] s0 k old law between.stands between.notes);
     }
 
     -- the disk failed
     pub stopped : (mid : Story) (c : Call) → Stops g xs c s0 k old mid → CallMissing g xs c s0 m old mid
-    stopped mid c (stops.Nothing l) = missing.Nothing ((every_stop_for laws.shown laws.crashes laws.agrees NoEvents old old mid limits g 1 s0 m k.master xs).nothing [] between.told (λ w. refl) nil_first of_run rests.any_moment l)
+    stopped mid c (stops.Nothing es room l) =
+        missing.Nothing ((every_stop_for laws.shown laws.crashes laws.agrees AreRoom old old mid limits g 1 s0 m k.master xs).nothing es between.told (room_commits_none g xs es room) (room_of_each_first es room) of_run rests.any_moment l)
     stopped mid c (stops.Part x asks session tells l) =
-        missing.Part x asks session tells ((every_stop_for laws.shown laws.crashes laws.agrees NoEvents old old mid limits g 1 s0 m k.master xs).part x (between.told, tells) of_run rests.any_moment l)
+        missing.Part x asks session tells ((every_stop_for laws.shown laws.crashes laws.agrees AreRoom old old mid limits g 1 s0 m k.master xs).part x (between.told, tells) of_run rests.any_moment l)
 
     -- it was answered, and these lines of it were put
     module _ (x : Done) (log : Log) (mid new : Story) (frame : Framed 2 old mid) (kept : Keeps g xs x s0 k log old mid) (told : List Reply) (notes : OnlyNotes told mid new) (puts : LeavesOnly mid new (PutLeaves told mid)) (few : old.notes + length told < 2 ^ 64) where
@@ -217,12 +251,12 @@ module _ (laws : Laws) (g : Opening) (s0 : Crash) (m : Master) where
         known = kept.answers.known;
         log_is = kept.log_is;
         master_is = kept.master_is;
-        runs = (every_run_for laws.shown laws.crashes laws.agrees laws.keeps laws.prefixes laws.seals NoEvents old old mid new limits g 1 s0 m k).answered xs x rests kept.answers (out all);
+        runs = (every_run_for laws.shown laws.crashes laws.agrees laws.keeps laws.prefixes laws.seals AreRoom old old mid new limits g 1 s0 m k).answered xs x rests kept.answers (out all);
       }
 
       some_out : (lacks : List Reply) → lacks ++ told ≡ lines_of g xs x → LinesMissing g (x ∷ xs) s0 m k old new log
       some_out lacks all = record {
-        any_moment = line laws.shown laws.crashes laws.agrees laws.keeps laws.prefixes laws.seals NoEvents limits g 1 s0 m k old old mid new xs x rests kept.answers (lines lacks all);
+        any_moment = line laws.shown laws.crashes laws.agrees laws.keeps laws.prefixes laws.seals AreRoom limits g 1 s0 m k old old mid new xs x rests kept.answers (lines lacks all);
         known = kept.answers.known;
         stands = every_same mid new s0 g (front (x ∷ xs)) kept.answers.known kept.answers.stands tells (λ a high. notes.area a);
         log_is = kept.log_is;

@@ -24,11 +24,12 @@ use Rattle.disk_runs.specs.Stands.{Known}
 use Rattle.engine_calls.specs.Clauses.{Between}
 use Rattle.engine_trait.specs.Calls.{Answers}
 use Rattle.engine_trait.specs.Limits.{limits}
+use Rattle.engine_trait.specs.Rooms.{AreRoom}
 use Rattle.script_lang.specs.Reading.{Unread, Reading}
 use Rattle.transcripts.specs.Told.{EachFits, asked_text, replies, text_of}
 use Rattle.transcripts.proofs.AskedLemmas.{text_append, replies_append}
 use Rattle.transcripts.proofs.TranscriptLemmas.{fits_closed}
-use Rattle.script_run.specs.Runs.{DiskTo, Executes, Holds, IsLastCut, NoEvents, OthersStand, PrintsTo, ReadsTo, RunStands, ScriptRuns, StaysIn2, calls_of}
+use Rattle.script_run.specs.Runs.{DiskTo, Executes, Holds, IsLastCut, OthersStand, PrintsTo, ReadsTo, RunStands, ScriptRuns, StaysIn2, calls_of}
 use Rattle.script_run.specs.Inside.{Laws, Stepped}
 use Rattle.script_run.specs.declared.stop.Stop.{Stop}
 use Rattle.script_run.specs.declared.stop.Stop.TheVariants.{WriteFault, DiskFault}
@@ -213,7 +214,7 @@ module _ (stop : Option Stop) (g : Opening) (xs : List Done) (before : ℕ) (sta
       omega arith
 
   -- a run that began at an earlier story
-  pub disk_from : EveryShown → EveryRunCrash → EveryAgreement → (s0 : Crash) (m : Master) (k : Known) (from : Story) → runs.Runs limits g 1 NoEvents xs s0 m k from old → k.log 1 ≡ log0 → old.notes + length a.told < 2 ^ 64
+  pub disk_from : EveryShown → EveryRunCrash → EveryAgreement → (s0 : Crash) (m : Master) (k : Known) (from : Story) → runs.Runs limits g 1 AreRoom xs s0 m k from old → k.log 1 ≡ log0 → old.notes + length a.told < 2 ^ 64
       → LeavesOnly old new (StaysIn2 (length a.told) old) × DiskTo stop (suc (before + length (calls_of a.newer))) start feed reader (seen ++ asked_text (script_of (calls_of a.newer))) a.reads g (a.newer ++ xs) s0 m k from new a.log
   disk_from shown crashes agrees s0 m k from run log_is room =
       let d = a.disk s0 m k run.between run.of_run log_is room in (

@@ -4,7 +4,6 @@ use Rattle.map_model.specs.declared.call.Call.{Call}
 use Rattle.map_model.specs.declared.call.Answered.{Answered}
 use Rattle.map_model.specs.Outputs.{Reply}
 use Rattle.map_model.specs.Pairings.{script_of}
-use Rattle.core_state.specs.Events.{Event}
 use Rattle.core_state.specs.Openings.{Opening}
 use Rattle.lean_edge.specs.Outside.{Feed, Held}
 use Rattle.lean_disk.specs.Area.{Leaves}
@@ -23,6 +22,7 @@ use Rattle.engine_calls.specs.Clauses.{Between}
 use Rattle.engine_calls.specs.Runs as runs
 use Rattle.engine_trait.specs.Calls.{Answers}
 use Rattle.engine_trait.specs.Limits.{limits}
+use Rattle.engine_trait.specs.Rooms.{AreRoom}
 use Rattle.script_lang.specs.Lines.{CallFits, Spells, line_of}
 use Rattle.script_lang.specs.Reading.{Unread, Reading, LineIs, LineIsLong, AtEnd}
 use Rattle.script_lang.specs.Replies.{reply_line}
@@ -38,7 +38,7 @@ abbrev pub calls_of : List Done → List Answered
 calls_of xs = map in_words (outcomes xs)
 
 -- Behind the outcomes xs session 1 was answered call by call, the newest first: each outcome is told by its events, a refusal has its cause
--- and comes where it has, and the log is what the call makes of it.
+-- and comes where it has, and the log has the records of its events.
 abbrev pub Executes : Opening → List Done → Log → List Done → Log → Type 0
 Executes g xs log0 [] log = log ≡ log0
 Executes g xs log0 (x ∷ earlier) log = (before : Log) × Executes g xs log0 earlier before × (x.outcome.session ≡ 1) × told.Tells limits g 1 (earlier ++ xs) x × Answers g (earlier ++ xs) x before log
@@ -114,10 +114,6 @@ pub record OthersStand (told : List Reply) (old new : Story) : Type 0 where
 
 -- ## The disk at every moment
 
--- there are none
-abbrev pub NoEvents : List Event → Type 0
-NoEvents es = es ≡ []
-
 -- A crash leaves all areas but the log's as one might have left them at s, and so many notes more at most.
 pub record StaysIn2 (count : ℕ) (s : Story) (c : Crash) : Type 0 where
   pub notes : c.notes ≤ s.notes + count
@@ -129,20 +125,21 @@ pub record RunStands (g : Opening) (calls : List Done) (s0 : Crash) (m : Master)
   pub known : Known
   pub log_is : known.log 1 ≡ log
   pub master_is : known.master ≡ k.master
-  pub runs : runs.Runs limits g 1 NoEvents calls s0 m known from now
+  pub runs : runs.Runs limits g 1 AreRoom calls s0 m known from now
 
 -- Lines of the last call are missing: the disk stands for all events, and a crash leaves what the lines that were out by then say.
 pub record LinesMissing (g : Opening) (calls : List Done) (s0 : Crash) (m : Master) (k : Known) (from now : Story) (log : Log) : Type 0 where
-  pub any_moment : LeavesOnly from now (RunLeft g NoEvents calls s0 m)
+  pub any_moment : LeavesOnly from now (RunLeft g AreRoom calls s0 m)
   pub known : Known
   pub stands : Stands g (front calls) s0 known now
   pub log_is : known.log 1 ≡ log
   pub master_is : known.master ≡ k.master
 
--- One more was asked and not answered: a crash leaves what the lines say, behind the calls that were answered or in this one.
+-- One more was asked and not answered: a crash leaves what the lines say, behind the calls that were answered, or in this one. There it fell behind
+-- some of the loads, locks and changes of the tree by which a put made room, or behind the first events of one that would be answered so.
 pub data CallMissing (g : Opening) (calls : List Done) (c : Call) (s0 : Crash) (m : Master) (from now : Story) : Type 0 where
-  Nothing : LeavesOnly from now (RunLeft g NoEvents calls s0 m) → CallMissing g calls c s0 m from now
-  Part : (x : Done) → asked x.outcome.deed ≡ c → x.outcome.session ≡ 1 → told.Tells limits g 1 calls x → LeavesOnly from now (RunLeft g NoEvents (x ∷ calls) s0 m) → CallMissing g calls c s0 m from now
+  Nothing : LeavesOnly from now (RunLeft g AreRoom calls s0 m) → CallMissing g calls c s0 m from now
+  Part : (x : Done) → asked x.outcome.deed ≡ c → x.outcome.session ≡ 1 → told.Tells limits g 1 calls x → LeavesOnly from now (RunLeft g AreRoom (x ∷ calls) s0 m) → CallMissing g calls c s0 m from now
 
 -- By why the script stopped there, or goes on; the call that was not answered is the one that was read.
 abbrev pub DiskTo : (stop : Option Stop) (number : ℕ) (start feed : Feed) (reader : Unread) (seen : List ℕ) → ReadsTo stop number start feed reader seen

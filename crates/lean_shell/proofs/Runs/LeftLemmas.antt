@@ -41,6 +41,7 @@ use Rattle.core_state.specs.Steps.{state_after}
 use Rattle.disk_runs.specs.Fair.{EveryFair, IsAsRead, IsFairFrom}
 use Rattle.run_crashes.specs.Lines.{Recovers, RunLeft, next_of, outcome_of}
 use Rattle.engine_trait.specs.Limits.{limits}
+use Rattle.engine_trait.specs.Rooms.{AreRoom}
 use Rattle.script_lang.specs.Replies.{reply_line}
 use Rattle.transcripts.specs.Laws.{TellsInTurn}
 use Rattle.transcripts.specs.Told.{ask, asked_lines, Heard}
@@ -48,7 +49,7 @@ use Rattle.transcripts.specs.Transcripts.{first_lines, transcript}
 use Rattle.lean_shell.specs.Headline.{IsInHand, Survives}
 use Rattle.lean_shell.specs.Inside.Laws.{Laws}
 use Rattle.lean_shell.specs.Inside.Lefts.{AsksNext, EveryLeft, IsBegun, Lives, WasOut}
-use Rattle.script_run.specs.Runs.{NoEvents, calls_of}
+use Rattle.script_run.specs.Runs.{calls_of}
 use Rattle.lean_shell.specs.Starts.{IsLeft}
 use Rattle.lean_shell.proofs.Runs.AboveLemmas.{above}
 use Rattle.lean_shell.proofs.Runs.FoundLemmas.{IsBounded, bounded}
@@ -87,7 +88,7 @@ module _ (laws : Laws) (m : Master) (s0 sa : Story) (g : Opening) (n1 : Master) 
   abbrev c : Crash
   c = o.crash
 
-  abbrev q : RunLeft g NoEvents xs c0 m o.crash
+  abbrev q : RunLeft g AreRoom xs c0 m o.crash
   q = o.left
 
   abbrev said : List Answered
@@ -121,7 +122,7 @@ module _ (laws : Laws) (m : Master) (s0 sa : Story) (g : Opening) (n1 : Master) 
         log = λ w low high since e. subst (IsFair 2048 blocks.IsSealed (c0.image (suc w)) since) (o.same.image (suc w)) (f.log w low (let l = b.starts.logs in omega arith) since (o.same.writes (suc w) ∙ e));
       }
 
-  module _ (r : Recovers g NoEvents o.left.heard (next_of o.left.unheard) o.left.out m o.crash.image) where
+  module _ (r : Recovers g AreRoom o.left.heard (next_of o.left.unheard) o.left.out m o.crash.image) where
     -- the master that counts is that of the opening
     n_is : r.n ≡ n1
     n_is = some_is r.n n1 (sym r.holds.master ∙ (ap master_on zero_is ∙ b.master))
@@ -311,10 +312,10 @@ module _ (laws : Laws) (m : Master) (s0 sa : Story) (g : Opening) (n1 : Master) 
         (record { survives = survives; master = record { n = r.n; counts = r.holds.master; is = inr next; left = inr left } })
 
   -- from what recovery gives
-  pub lives_now : Recovers g NoEvents o.left.heard (next_of o.left.unheard) o.left.out m o.crash.image → Lives m s0 input put d
+  pub lives_now : Recovers g AreRoom o.left.heard (next_of o.left.unheard) o.left.out m o.crash.image → Lives m s0 input put d
   lives_now r = lives r
 
-  pub left_now : Recovers g NoEvents o.left.heard (next_of o.left.unheard) o.left.out m o.crash.image → IsLeft m s0 input put d
+  pub left_now : Recovers g AreRoom o.left.heard (next_of o.left.unheard) o.left.out m o.crash.image → IsLeft m s0 input put d
   left_now r = left_there r
 
   pub lives_as : EveryFair s0 → IsAsRead s0 c0 → IsFairCrash (length m.heads) s0 d → Lives m s0 input put d

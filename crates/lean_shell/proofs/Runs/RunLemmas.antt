@@ -49,6 +49,7 @@ use Rattle.disk_runs.proofs.LineLemmas.{every_fair}
 use Rattle.disk_runs.proofs.StandLemmas.{every_same}
 use Rattle.engine_calls.specs.Clauses.{Between}
 use Rattle.engine_trait.specs.Limits.{limits}
+use Rattle.engine_trait.specs.Rooms.{AreRoom}
 use Rattle.run_crashes.specs.Lines.{Recovers, RunLeft, next_of}
 use Rattle.run_crashes.proofs.ReopenLemmas.{every_reopened_for}
 use Rattle.worker_log.specs.Logs.{Log}
@@ -58,7 +59,7 @@ use Rattle.transcripts.proofs.TranscriptLemmas.{lines_fit}
 use Rattle.transcripts.specs.Told.{ask, asked_text, opened_line, replies, text_of, EachFits, EachReplyFits, Heard, IsOutput}
 use Rattle.transcripts.specs.Told.Heard.{Whole}
 use Rattle.transcripts.specs.Transcripts.{first_lines, transcript, IsQuiet}
-use Rattle.script_run.specs.Runs.{CallMissing, DiskTo, IsLastCut, NoEvents, PrintsTo, ReadsTo, ScriptRuns, StaysIn2, calls_of}
+use Rattle.script_run.specs.Runs.{CallMissing, DiskTo, IsLastCut, PrintsTo, ReadsTo, ScriptRuns, StaysIn2, calls_of}
 use Rattle.script_run.specs.Runs.CallMissing.{Nothing, Part}
 use Rattle.script_run.specs.Texts.{LinesRead}
 use Rattle.script_run.specs.declared.stop.Stop.{Stop}
@@ -112,7 +113,7 @@ record IsPart (stop : Stop) (start feed : Feed) (reader : Unread) (seen : List �
 
 abbrev Moved : (stop : Stop) (start feed : Feed) (reader : Unread) (seen : List ℕ) → Opening → List Done → Crash → Master → (from now : Story) → Type 0
 Moved stop start feed reader seen g xs c0 m from now =
-    LeavesOnly from now (RunLeft g NoEvents xs c0 m) ⊎ ((x : Done) × IsPart stop start feed reader seen g xs x × LeavesOnly from now (RunLeft g NoEvents (x ∷ xs) c0 m))
+    LeavesOnly from now (RunLeft g AreRoom xs c0 m) ⊎ ((x : Done) × IsPart stop start feed reader seen g xs x × LeavesOnly from now (RunLeft g AreRoom (x ∷ xs) c0 m))
 
 moved : (stop : Stop) (number : ℕ) (start feed : Feed) (reader : Unread) (seen : List ℕ) (reads : ReadsTo (Some stop) number start feed reader seen) (g : Opening) (xs : List Done) (c0 : Crash) (m : Master) (k : Known) (from now : Story) (log : Log) →
     DiskTo (Some stop) number start feed reader seen reads g xs c0 m k from now log → Moved stop start feed reader seen g xs c0 m from now
@@ -166,7 +167,7 @@ record HeardNow (g : Opening) (calls : List Done) (told : List Reply) : Type 0 w
   are : unheard ++ heard ≡ calls
   missing : List Name
   lines : durable_lines missing ++ told ≡ printed g heard
-  recovers : (shows : EveryShown) (crashes : EveryRunCrash) (agrees : EveryAgreement) (m n : Master) (area : ℕ → List ℕ) → IsOfRun m n → HoldsRun g (front calls) n area → Recovers g NoEvents heard (next_of unheard) told m area
+  recovers : (shows : EveryShown) (crashes : EveryRunCrash) (agrees : EveryAgreement) (m n : Master) (area : ℕ → List ℕ) → IsOfRun m n → HoldsRun g (front calls) n area → Recovers g AreRoom heard (next_of unheard) told m area
 
 -- the replies to all calls but the last are told
 abbrev IsCutLast : Opening → List Done → List Reply → Type 0
@@ -180,7 +181,7 @@ heard_now g [] newer told each e cut = record {
   are = refl;
   missing = [];
   lines = none newer told e;
-  recovers = λ shows crashes agrees m n area of_run h. (every_reopened_for shows crashes agrees NoEvents limits g 1 [] m n area).behind [] told tt (none newer told e) of_run h;
+  recovers = λ shows crashes agrees m n area of_run h. (every_reopened_for shows crashes agrees AreRoom limits g 1 [] m n area).behind [] told tt (none newer told e) of_run h;
 }
   where
     none : (newer told : List Reply) → newer ++ told ≡ [] → told ≡ []
@@ -192,14 +193,14 @@ heard_now g (x ∷ earlier) newer told each e cut = ⊎_elim (λ l. record {
   are = refl;
   missing = l.missing;
   lines = l.is;
-  recovers = λ shows crashes agrees m n area of_run h. (every_reopened_for shows crashes agrees NoEvents limits g 1 (x ∷ earlier) m n area).behind (durable_lines l.missing) told each l.is of_run h;
+  recovers = λ shows crashes agrees m n area of_run h. (every_reopened_for shows crashes agrees AreRoom limits g 1 (x ∷ earlier) m n area).behind (durable_lines l.missing) told each l.is of_run h;
 }) (λ l. record {
   unheard = x ∷ [];
   heard = earlier;
   are = refl;
   missing = [];
   lines = same l.0 l.1;
-  recovers = λ shows crashes agrees m n area of_run h. (every_reopened_for shows crashes agrees NoEvents limits g 1 earlier m n area).between x x.events [] [] told each (append-nil x.events) (same l.0 l.1) of_run h;
+  recovers = λ shows crashes agrees m n area of_run h. (every_reopened_for shows crashes agrees AreRoom limits g 1 earlier m n area).between x x.events [] [] told each (append-nil x.events) (same l.0 l.1) of_run h;
 }) (lacks (due g (state_after g (front (x ∷ earlier))) (durables g (moments_in earlier))) x.outcome.session (answered x.outcome.deed) (printed g earlier) newer told e)
   where
     same : (n : List Reply) → n ++ told ≡ printed g earlier → told ≡ printed g earlier
@@ -406,17 +407,17 @@ module _ (laws : Laws) (s0 sa sb sc s1 : Story) (law_a : IsLawful sa) (law_c : I
     ls = lines tells
 
     -- of a crash in the run: its replies, its calls, and what the script asks next
-    record Knows (xs : List Done) (c : Crash) (q : RunLeft g NoEvents xs c0 m c) : Type 0 where
+    record Knows (xs : List Done) (c : Crash) (q : RunLeft g AreRoom xs c0 m c) : Type 0 where
       later : List Reply
       first_told : later ++ q.out ≡ r.told
       fits : EachFits 1 (calls_of q.heard)
       script : HasLinesFor input q.heard (next_of q.unheard)
 
     -- its notes are those of these replies
-    few_out : (xs : List Done) (c : Crash) (q : RunLeft g NoEvents xs c0 m c) → c.notes ≤ sb.notes + length r.told → length q.out ≤ length r.told
+    few_out : (xs : List Done) (c : Crash) (q : RunLeft g AreRoom xs c0 m c) → c.notes ≤ sb.notes + length r.told → length q.out ≤ length r.told
     few_out xs c q few = let e = q.notes in let f = notes_b in omega arith
 
-    knows_all : (c : Crash) (q : RunLeft g NoEvents r.newer c0 m c) → c.notes ≤ sb.notes + length r.told → Knows r.newer c q
+    knows_all : (c : Crash) (q : RunLeft g AreRoom r.newer c0 m c) → c.notes ≤ sb.notes + length r.told → Knows r.newer c q
     knows_all c q few =
         let f = firsts q.out (older_of q.unheard q.heard q.missing q.out q.calls q.lines) (few_out r.newer c q few) in
         record { later = f.0; first_told = f.1; fits = first_fits q.unheard q.heard r.newer q.calls r.fits; script = lines_for_all input r.newer r.fits ls.others ls.is q.unheard q.heard q.calls }
@@ -431,7 +432,7 @@ module _ (laws : Laws) (s0 sa sb sc s1 : Story) (law_a : IsLawful sa) (law_c : I
           go : (s : Stop) → s ≡ stops.DiskFault → PrintsTo (Some s) (replies said) r.told r.tail → r.told ≡ replies said
           go s is q = (subst (λ (z : Stop). PrintsTo (Some z) (replies said) r.told r.tail) is q).told_is
 
-      knows_part : (c : Crash) (q : RunLeft g NoEvents (x ∷ r.newer) c0 m c) → c.notes ≤ sb.notes + length r.told → Knows (x ∷ r.newer) c q
+      knows_part : (c : Crash) (q : RunLeft g AreRoom (x ∷ r.newer) c0 m c) → c.notes ≤ sb.notes + length r.told → Knows (x ∷ r.newer) c q
       knows_part c q few = record {
         later = f.0;
         first_told = f.1;
@@ -461,7 +462,7 @@ module _ (laws : Laws) (s0 sa sb sc s1 : Story) (law_a : IsLawful sa) (law_c : I
           f = let v = rest_of q.unheard q.calls in firsts q.out (older_of v.0 q.heard q.missing q.out v.1 q.lines) (few_out (x ∷ r.newer) c q few)
 
     -- so it was out
-    was_out : (xs : List Done) (c : Crash) (q : RunLeft g NoEvents xs c0 m c) → Knows xs c q → StaysIn2 (length r.told) sb c → (d : Crash) → IsSameBut c d → (lines_out : ℕ) → d.notes ≡ s0.notes + lines_out → IsOutput counts.generation counts.winners counts.undone q.out (first_lines lines_out put) →
+    was_out : (xs : List Done) (c : Crash) (q : RunLeft g AreRoom xs c0 m c) → Knows xs c q → StaysIn2 (length r.told) sb c → (d : Crash) → IsSameBut c d → (lines_out : ℕ) → d.notes ≡ s0.notes + lines_out → IsOutput counts.generation counts.winners counts.undone q.out (first_lines lines_out put) →
         WasOut g xs c0 m s0 sa input put counts.generation counts.winners counts.undone d
     was_out xs c q k stays d same lines_out notes is = record { crash = c; left = q; areas = areas_kept c stays; same = same; lines = lines_out; notes = notes; output = is; fits = k.fits; script = k.script }
 
@@ -469,12 +470,12 @@ module _ (laws : Laws) (s0 sa sb sc s1 : Story) (law_a : IsLawful sa) (law_c : I
     as_began = record { image = λ a. refl; writes = λ a. refl }
 
     -- as these lines were out, and behind the last line
-    module _ (xs : List Done) (each_x : EachTells limits g 1 xs) (knows : (c : Crash) (q : RunLeft g NoEvents xs c0 m c) → c.notes ≤ sb.notes + length r.told → Knows xs c q) (run : LeavesOnly sb sc (RunLeft g NoEvents xs c0 m)) where
+    module _ (xs : List Done) (each_x : EachTells limits g 1 xs) (knows : (c : Crash) (q : RunLeft g AreRoom xs c0 m c) → c.notes ≤ sb.notes + length r.told → Knows xs c q) (run : LeavesOnly sb sc (RunLeft g AreRoom xs c0 m)) where
       abbrev Q : Crash → Type 0
-      Q c = StaysIn2 (length r.told) sb c × RunLeft g NoEvents xs c0 m c
+      Q c = StaysIn2 (length r.told) sb c × RunLeft g AreRoom xs c0 m c
 
       script : LeavesOnly sb sc Q
-      script = both sb sc (StaysIn2 (length r.told) sb) (RunLeft g NoEvents xs c0 m) disk.0 run
+      script = both sb sc (StaysIn2 (length r.told) sb) (RunLeft g AreRoom xs c0 m) disk.0 run
 
       lives_on : (d : Crash) → WasOut g xs c0 m s0 sa input put counts.generation counts.winners counts.undone d → LivesOn m s0 input put d
       lives_on d w = inr (λ fair. lives_as laws m s0 sa g b.n b.begun xs each_x c0 input put counts.generation counts.winners counts.undone d w (every_fair s0) as_began fair)
@@ -509,7 +510,7 @@ module _ (laws : Laws) (s0 sa sb sc s1 : Story) (law_a : IsLawful sa) (law_c : I
     pub leaves : LeavesOnly s0 s1 (LivesOn m s0 input put)
     leaves = ⊎_elim
         (λ run. leaves_all r.newer each knows_all run)
-        (λ (e : (x : Done) × IsPart stop feed0 feed1 reader (asked_text (script_of said)) g r.newer x × LeavesOnly sb sc (RunLeft g NoEvents (x ∷ r.newer) c0 m)).
+        (λ (e : (x : Done) × IsPart stop feed0 feed1 reader (asked_text (script_of said)) g r.newer x × LeavesOnly sb sc (RunLeft g AreRoom (x ∷ r.newer) c0 m)).
         leaves_all (e.0 ∷ r.newer) (each, e.1.tells) (knows_part e.0 e.1) e.2)
         (subst (λ (xs : List Done). Moved stop feed0 feed1 reader (asked_text (script_of said)) g xs c0 m sb sc) nil
         (moved stop (suc (0 + length (calls_of r.newer))) feed0 feed1 reader (asked_text (script_of said)) r.reads g (r.newer ++ []) c0 m b.known sb sc r.log disk.1))
@@ -562,14 +563,14 @@ module _ (laws : Laws) (s0 sa sb sc s1 : Story) (law_a : IsLawful sa) (law_c : I
       now_heard : HeardNow g r.newer r.told
       now_heard = let t = told_first stop (replies said) r.told r.tail r.prints in heard_now g r.newer t.0 r.told each (t.1 ∙ sym printed_is) cut
 
-      recovered : Recovers g NoEvents now_heard.heard (next_of now_heard.unheard) r.told m (areas_of s1)
+      recovered : Recovers g AreRoom now_heard.heard (next_of now_heard.unheard) r.told m (areas_of s1)
       recovered = now_heard.recovers laws.shown laws.crashes laws.agrees m st.known.master (areas_of s1) (subst (IsOfRun m) (sym st.master_is) of_known) holds_now
 
       -- that crash, with the notes of these replies
       abbrev c1 : Crash
       c1 = record { notes = s0.notes + 1 + length r.told; writes = λ a. (s1.area a).writes; image = areas_of s1 }
 
-      abbrev q1 : RunLeft g NoEvents r.newer c0 m c1
+      abbrev q1 : RunLeft g AreRoom r.newer c0 m c1
       q1 = record { unheard = now_heard.unheard; heard = now_heard.heard; calls = now_heard.are; missing = now_heard.missing; out = r.told; lines = now_heard.lines; notes = refl; recovers = λ fair. recovered }
 
       areas_1 : KeepsAreas sa c1

@@ -18,6 +18,7 @@ use Rattle.core_calls.specs.Runs.{EachTells}
 use Rattle.disk_runs.specs.Fair.{IsAsRead}
 use Rattle.run_crashes.specs.Lines.{RunLeft, next_of}
 use Rattle.engine_trait.specs.Limits.{limits}
+use Rattle.engine_trait.specs.Rooms.{AreRoom}
 use Rattle.map_model.specs.Pairings.{script_of}
 use Rattle.script_lang.specs.Text.{script_lines}
 use Rattle.transcripts.specs.Told.{ask, asked_lines, EachFits, IsOutput}
@@ -25,7 +26,7 @@ use Rattle.transcripts.specs.Transcripts.{first_lines}
 use Rattle.lean_shell.specs.Crashes.{HasMasterOf, IsUnwritten}
 use Rattle.lean_shell.specs.Headline.{Survives}
 use Rattle.lean_shell.specs.Starts.{IsOfOne}
-use Rattle.script_run.specs.Runs.{NoEvents, calls_of}
+use Rattle.script_run.specs.Runs.{calls_of}
 
 -- A crash with the writes and the bytes of another.
 pub record IsSameBut (c d : Crash) : Type 0 where
@@ -72,7 +73,7 @@ pub record HasLinesFor (input : List ℕ) (heard : List Done) (next : Option Don
 -- A crash of a run of these outcomes, with another count of notes: as so many lines of an output were out, which have the lines that were out in the run.
 pub record WasOut (g : Opening) (xs : List Done) (c0 : Crash) (m : Master) (s0 sa : Story) (input put : List ℕ) (generation winners undone : ℕ) (d : Crash) : Type 0 where
   pub crash : Crash
-  pub left : RunLeft g NoEvents xs c0 m crash
+  pub left : RunLeft g AreRoom xs c0 m crash
   pub areas : KeepsAreas sa crash
   pub same : IsSameBut crash d
   pub lines : ℕ
