@@ -306,7 +306,7 @@ module _ (reached : EveryReached) (need : EveryNeed) (parts : (old mid new : Sto
         (went_more parts g some_worker xs s0 k base bt (start ++ es) e c.entry mid is s new at0 f.cut records c.stands c.keeps)
 
   -- none
-  pub grows_none : (key : ℕ) (v w : View) (x : Session) (log : Log) → w.given ≡ v.given → w.seen ≡ v.seen → Grows key v w x x log log
+  abbrev pub grows_none : (key : ℕ) (v w : View) (x : Session) (log : Log) → w.given ≡ v.given → w.seen ≡ v.seen → Grows key v w x x log log
   grows_none key v w x log given seen = record {
     events = [];
     given = given;
@@ -326,7 +326,7 @@ module _ (reached : EveryReached) (need : EveryNeed) (parts : (old mid new : Sto
   goes_none v log old g xs start b s0 k bt at0 = subst (λ es. Went g xs s0 k es log old old) (sym (append-nil start)) at0
 
   -- one more
-  pub grows_more : (key : ℕ) (v u w : View) (x z y : Session) (was mid is : Log) (s new : Story) → (opening v.given).workers ≡ 1 → Grows key v u x z was mid → IsGrown key u w z y mid is s new → Grows key v w x y was is
+  abbrev pub grows_more : (key : ℕ) (v u w : View) (x z y : Session) (was mid is : Log) (s new : Story) → (opening v.given).workers ≡ 1 → Grows key v u x z was mid → IsGrown key u w z y mid is s new → Grows key v w x y was is
   grows_more key v u w x z y was mid is s new one d c = record {
     events = d.events ++ c.event ∷ [];
     given = c.given ∙ d.given;
@@ -335,11 +335,8 @@ module _ (reached : EveryReached) (need : EveryNeed) (parts : (old mid new : Sto
     fewer = let a = d.fewer in let b = c.fewer in let l = length-append d.events (c.event ∷ []) in omega arith;
     fits = inr (first_fits key v u x z was mid d c.fits);
     run = λ g xs start b. subst (λ es. Gained g xs start key w es was is) (sym (events_more d.events (c.event ∷ [])))
-        (gained_more g (worker_in g xs start b) xs start key u w (events_of d.events) z y was mid is s new (d.run g xs start b) c);
+        (gained_more g (let a = b.opens.workers in omega arith) xs start key u w (events_of d.events) z y was mid is s new (d.run g xs start b) c);
   }
-    where
-      worker_in : (g : Opening) (xs : List Done) (start : List happening.Event) → Behind g xs start v → 1 ≤ g.workers
-      worker_in g xs start b = let a = b.opens.workers in omega arith
 
   pub goes_more : (key : ℕ) (v u w : View) (x z y : Session) (was mid is : Log) (old s new : Story) → (opening v.given).workers ≡ 1 → (d : Grows key v u x z was mid) → Goes d.events v was mid old s → (c : IsGrown key u w z y mid is s new) → Goes (d.events ++ c.event ∷ []) v was is old new
   goes_more key v u w x z y was mid is old s new one d go c g xs start b s0 k bt at0 =
@@ -401,7 +398,7 @@ module _ (reached : EveryReached) (need : EveryNeed) (parts : (old mid new : Sto
   goes_put key value v u w x z was mid is old s new before one d go c g xs start b s0 k bt at0 = went_put key value v u w x z was mid is old s new before one d c g xs start b s0 k bt (go g xs start b s0 k bt at0)
 
   -- behind which nothing was seen
-  pub grows_still : (key : ℕ) (v u w : View) (x z : Session) (was mid : Log) → w.given ≡ u.given → w.seen ≡ u.seen → Grows key v u x z was mid → Grows key v w x z was mid
+  abbrev pub grows_still : (key : ℕ) (v u w : View) (x z : Session) (was mid : Log) → w.given ≡ u.given → w.seen ≡ u.seen → Grows key v u x z was mid → Grows key v w x z was mid
   grows_still key v u w x z was mid given seen d = record {
     events = d.events;
     given = given ∙ d.given;

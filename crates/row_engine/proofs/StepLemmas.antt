@@ -24,8 +24,9 @@ use Rattle.worker_log.specs.Logs.{Log, limit, used}
 use Rattle.engine_trait.specs.Refusals.{log_refusal, room_refusal}
 use Rattle.engine_trait.specs.Rooms.{IsNextRoom}
 use Rattle.row_engine.specs.Grown.{Goes, Grows, Went}
-use Rattle.row_engine.specs.Outcomes.{Crowded, HasFailed, HasPut, HasRoom, IsCrowded, IsStopped, Puts, Steps, Stopped, Tries}
-use Rattle.row_engine.specs.Puts.{IsChanged, KeepsLog, MayChange}
+use Rattle.row_engine.specs.Outcomes.{Crowded, HasFailed, HasNoRoom, HasPut, HasRoom, IsCrowded, IsStopped, Puts, Steps, Stopped, Tries}
+use Rattle.lean_disk.specs.Faults.{HasCause}
+use Rattle.row_engine.specs.Puts.{IsChanged, KeepsLog, MayChange, works_after}
 use Rattle.row_engine.specs.Rooms.{Grew, IsGrown, IsNoRoom, IsSpentBehind, IsUnfit}
 use Rattle.row_engine.specs.Takes.{IsSpent}
 use Rattle.row_engine.specs.declared.puts.Stepped.{Stepped}
@@ -58,6 +59,35 @@ is_ready v x log key f = go (leb (limit log) (used log)) (leb (2 ^ 62) x.clock) 
     go true b p q = let r = f.room in let l = leb-true (limit log) (used log) p in absurd (omega arith)
     go false true p q = let r = f.small in let l = leb-true (2 ^ 62) x.clock q in absurd (omega arith)
     go false false p q = refl
+
+-- the answer of a fault
+abbrev pub the_fault : (A : Type 0) → Result A Refusal
+the_fault A = Err refusal.DiskFault
+
+-- whoever is refused by these tests has met no fault
+by_tests : (clock : ℕ) (log : Log) (why : Refusal) → log_refusal clock log None ≡ Some why → (P : Refusal → Type 0) → P (refusal.LogFull (used log) (limit log)) → P refusal.ClockSpent → P why
+by_tests clock log why e P full spent = go (leb (limit log) (used log)) (leb (2 ^ 62) clock) e
+  where
+    some_is : (r q : Refusal) → Some r ≡ Some q → r ≡ q
+    some_is r q p = cc
+
+    go : (a b : Bool) → cond a (Some (refusal.LogFull (used log) (limit log))) (cond b (Some refusal.ClockSpent) None) ≡ Some why → P why
+    go true b p = subst P (some_is (refusal.LogFull (used log) (limit log)) why p) full
+    go false true p = subst P (some_is refusal.ClockSpent why p) spent
+    go false false p = absurd (cc)
+
+pub stopped_works : (A : Type 0) (clock : ℕ) (log : Log) (why : Refusal) → log_refusal clock log None ≡ Some why → works_after {A = A} (Err why) ≡ true
+stopped_works A clock log why e = by_tests clock log why e (λ k. works_after {A = A} (Err k) ≡ true) refl refl
+
+pub not_fault : (A : Type 0) (clock : ℕ) (log : Log) (why : Refusal) → log_refusal clock log None ≡ Some why → (Err why ≡ the_fault A) → ⊥
+not_fault A clock log why e = by_tests clock log why e (λ k. (Err k ≡ the_fault A) → ⊥) (λ p. absurd (cc)) (λ p. absurd (cc))
+
+pub ok_calm : {A : Type 0} (a : A) (why : Refusal) → Ok a ≡ Err why → ⊥
+ok_calm a why e = absurd (cc)
+
+-- two calls without a fault are one
+pub calm_then : (a b c : ℕ) (P Q R : Type 0) → HasCause a b P → (P → ⊥) → HasCause b c Q → (Q → ⊥) → (R → ⊥) → HasCause a c R
+calm_then a b c P Q R p no_p q no_q no_r = record { later = let x = p.later in let y = q.later in omega arith; cause = λ r. absurd (no_r r); calm = λ _. q.calm no_q ∙ p.calm no_p }
 
 -- ## From a view at which as much was seen
 
@@ -124,6 +154,10 @@ may_after key v w x y was is old new f c e = let r = ready y.clock is e in recor
 }
 
 -- ## A step
+
+-- a try that found the leaf full
+pub tried_full : (r : Tried) → r ≡ tried.Full → (v w : View) (key value : ℕ) (x y : Session) (was is : Log) (old new : Story) (path : List ℕ) (same broken : Type 0) → Tries (Ok r) v w key value x y was is old new path same broken → HasNoRoom v w x.frames key path × same
+tried_full r e v w key value x y was is old new path same broken t = subst (λ k. Tries (Ok k) v w key value x y was is old new path same broken) e t
 
 -- where the try found no room, by what came of the change of the tree
 pub step_refused : (key value leaf : ℕ) (v u w : View) (x y : Session) (was is : Log) (old new : Story) (same broken : Type 0) → u.given ≡ v.given → u.seen ≡ v.seen → MayChange v x was key → IsUnfit u key leaf

@@ -43,4 +43,4 @@ returns-in-RowSpent-clause-tries g c =
 
 pub returns-in-Full-clause-tries : goal.returns-in-Full-clause-tries
 returns-in-Full-clause-tries g c =
-    (no_room (g.R.Rows.shape c.args.rows.now) (g.R.Rows.view c.args.seat.now) (g.R.Rows.view c.leaf_put.new.seat) c.args.store.now.session c.args.store.now.log c.args.key c.in-Full.row c.leaf_put.new.path c.requires.holds c.in-Full.ensures.put c.leaf_put.ensures.trail, c.in-Full.ensures.drew)
+    (no_room (g.R.Rows.shape c.args.rows.now) (g.R.Rows.view c.args.seat.now) (g.R.Rows.view c.leaf_put.new.seat) c.args.store.now.session c.args.store.now.log c.args.key c.in-Full.row c.leaf_put.new.path c.requires.holds c.in-Full.ensures.put c.in-Full.ensures.trail, c.in-Full.ensures.drew)

@@ -1,35 +1,47 @@
-use Rattle.std.proofs.Common.{rules, ◌≡◌, ◌⊎◌, ◌<◌, ◌-◌, ◌^◌, ◌↔◌, [], Err, IfErr, IsErrAnd, true, false, ℕ, ◌+◌, ◌*◌, ◌≤◌, length, ◌/◌, ◌%◌, Bool, nat_eq, nat_lt, List, ◌∷◌, ◌++◌, slice_index_or, slice_set, bit_and, bit_or, Fits, w8, w32, w64, Bor, MutBor}
-use Rattle.map_model.specs.declared.call.Call.{Call}
-use Rattle.map_model.specs.declared.call.Refusal.{Refusal}
-use Rattle.lean_disk.specs.Faults.{HasCause}
-use Rattle.lean_disk.specs.Moments.{Framed}
-use Rattle.engine_trait.specs.Calls.{IsTold}
-use Rattle.row_engine.specs.Calls.{CallDoes, put_answer}
-use Rattle.row_engine.specs.Holds.{Holds}
-use Rattle.row_engine.specs.Outcomes.{Puts, Steps, Tries}
-use Rattle.row_engine.specs.Puts.{IsEarly, MayChange, works_after}
+use Rattle.std.proofs.Common.{◌≡◌, ◌∙◌, false, Err, sym, subst}
+use Rattle.row_engine.specs.Rooms.{Grew, IsGrown}
+use Rattle.row_engine.proofs.StepLemmas.{calm_then, grown_from, may_after, not_fault, ok_calm, step_refused, step_stopped, stopped_works, tried_full}
 use Rattle.row_engine.proofs.puts.put_step.Goals as goal
 
--- src/puts.rt:113:9
 pub returns-in-Err-make_room-clause-steps : goal.returns-in-Err-make_room-clause-steps
-returns-in-Err-make_room-clause-steps g c = ?
+returns-in-Err-make_room-clause-steps g c =
+    let t = tried_full c.in-Ok-Full.field-0 c.in-Ok-Full.field-0-is (g.R.Rows.view c.args.seat.now) (g.R.Rows.view c.put_in_leaf.new.seat) c.args.key c.args.value c.args.store.now.session c.put_in_leaf.new.store.session c.args.store.now.log c.put_in_leaf.new.store.log
+        (g.D.Disk.story c.args.store.now.disk) (g.D.Disk.story c.put_in_leaf.new.store.disk) c.put_in_leaf.new.path (c.put_in_leaf.new.store ≡ c.args.store.now) (c.put_in_leaf.new.store.session.works ≡ false) c.in-Ok-Full.ensures.tries in
+    step_refused c.args.key c.args.value t.0.leaf (g.R.Rows.view c.args.seat.now) (g.R.Rows.view c.put_in_leaf.new.seat) (g.R.Rows.view c.make_room.new.seat)
+    c.args.store.now.session c.make_room.new.store.session c.args.store.now.log c.make_room.new.store.log (g.D.Disk.story c.args.store.now.disk) (g.D.Disk.story c.make_room.new.store.disk)
+    (c.make_room.new.store ≡ c.args.store.now) (c.make_room.new.store.session.works ≡ false) t.0.given t.0.seen c.requires.may t.0.unfit c.in-Err-make_room.why
+    (subst (λ k. Grew (Err c.in-Err-make_room.why) c.args.key (g.R.Rows.view c.put_in_leaf.new.seat) (g.R.Rows.view c.make_room.new.seat) k.session c.make_room.new.store.session k.log c.make_room.new.store.log (g.D.Disk.story k.disk) (g.D.Disk.story c.make_room.new.store.disk) (c.make_room.new.store ≡ k) (c.make_room.new.store.session.works ≡ false))
+    t.1 c.in-Err-make_room.ensures.grew)
 
--- src/puts.rt:89:1
 pub returns-in-Some-clause-steps : goal.returns-in-Some-clause-steps
-returns-in-Some-clause-steps g c = ?
+returns-in-Some-clause-steps g c =
+    let t = tried_full c.in-Ok-Full.field-0 c.in-Ok-Full.field-0-is (g.R.Rows.view c.args.seat.now) (g.R.Rows.view c.put_in_leaf.new.seat) c.args.key c.args.value c.args.store.now.session c.put_in_leaf.new.store.session c.args.store.now.log c.put_in_leaf.new.store.log
+        (g.D.Disk.story c.args.store.now.disk) (g.D.Disk.story c.put_in_leaf.new.store.disk) c.put_in_leaf.new.path (c.put_in_leaf.new.store ≡ c.args.store.now) (c.put_in_leaf.new.store.session.works ≡ false) c.in-Ok-Full.ensures.tries in
+    step_stopped c.args.key c.args.value (g.R.Rows.view c.args.seat.now) (g.R.Rows.view c.make_room.new.seat) c.args.store.now.session c.make_room.new.store.session c.args.store.now.log c.make_room.new.store.log
+    (g.D.Disk.story c.args.store.now.disk) (g.D.Disk.story c.make_room.new.store.disk) _
+    (grown_from (g.R.Rows.view c.args.seat.now) (g.R.Rows.view c.put_in_leaf.new.seat) t.0.given t.0.seen c.args.key (g.R.Rows.view c.make_room.new.seat) c.args.store.now.session c.make_room.new.store.session c.args.store.now.log c.make_room.new.store.log
+    (g.D.Disk.story c.args.store.now.disk) (g.D.Disk.story c.make_room.new.store.disk)
+    (subst (λ k. IsGrown c.args.key (g.R.Rows.view c.put_in_leaf.new.seat) (g.R.Rows.view c.make_room.new.seat) k.session c.make_room.new.store.session k.log c.make_room.new.store.log (g.D.Disk.story k.disk) (g.D.Disk.story c.make_room.new.store.disk)) t.1 c.in_default.ensures.grew))
+    c.in-Some.why (sym c.block_refusal.ensures ∙ c.in-Some.is)
 
--- src/puts.rt:89:1
 pub returns-in-Some-clause-works : goal.returns-in-Some-clause-works
-returns-in-Some-clause-works g c = ?
+returns-in-Some-clause-works g c = c.in_default.ensures.works ∙ sym (stopped_works _ c.make_room.new.store.session.clock c.make_room.new.store.log c.in-Some.why (sym c.block_refusal.ensures ∙ c.in-Some.is))
 
--- src/puts.rt:89:1
 pub returns-in-Some-clause-cause_disk_fault : goal.returns-in-Some-clause-cause_disk_fault
-returns-in-Some-clause-cause_disk_fault g c = ?
+returns-in-Some-clause-cause_disk_fault g c =
+    calm_then (g.D.Disk.faults c.args.store.now.disk) (g.D.Disk.faults c.put_in_leaf.new.store.disk) (g.D.Disk.faults c.make_room.new.store.disk) _ _ _ c.in-Ok-Full.ensures.cause_disk_fault (ok_calm _ _) c.in_default.ensures.cause_disk_fault (ok_calm _ _)
+    (not_fault _ c.make_room.new.store.session.clock c.make_room.new.store.log c.in-Some.why (sym c.block_refusal.ensures ∙ c.in-Some.is))
 
--- src/puts.rt:89:1
 pub returns-in-None-clause-steps : goal.returns-in-None-clause-steps
-returns-in-None-clause-steps g c = ?
+returns-in-None-clause-steps g c =
+    let t = tried_full c.in-Ok-Full.field-0 c.in-Ok-Full.field-0-is (g.R.Rows.view c.args.seat.now) (g.R.Rows.view c.put_in_leaf.new.seat) c.args.key c.args.value c.args.store.now.session c.put_in_leaf.new.store.session c.args.store.now.log c.put_in_leaf.new.store.log
+        (g.D.Disk.story c.args.store.now.disk) (g.D.Disk.story c.put_in_leaf.new.store.disk) c.put_in_leaf.new.path (c.put_in_leaf.new.store ≡ c.args.store.now) (c.put_in_leaf.new.store.session.works ≡ false) c.in-Ok-Full.ensures.tries in
+    let grown = grown_from (g.R.Rows.view c.args.seat.now) (g.R.Rows.view c.put_in_leaf.new.seat) t.0.given t.0.seen c.args.key (g.R.Rows.view c.make_room.new.seat) c.args.store.now.session c.make_room.new.store.session c.args.store.now.log c.make_room.new.store.log
+        (g.D.Disk.story c.args.store.now.disk) (g.D.Disk.story c.make_room.new.store.disk)
+        (subst (λ k. IsGrown c.args.key (g.R.Rows.view c.put_in_leaf.new.seat) (g.R.Rows.view c.make_room.new.seat) k.session c.make_room.new.store.session k.log c.make_room.new.store.log (g.D.Disk.story k.disk) (g.D.Disk.story c.make_room.new.store.disk)) t.1 c.in_default.ensures.grew) in
+    (grown, may_after c.args.key (g.R.Rows.view c.args.seat.now) (g.R.Rows.view c.make_room.new.seat) c.args.store.now.session c.make_room.new.store.session c.args.store.now.log c.make_room.new.store.log
+    (g.D.Disk.story c.args.store.now.disk) (g.D.Disk.story c.make_room.new.store.disk) c.requires.may grown (sym c.block_refusal.ensures ∙ c.in-None.is))
 
--- src/puts.rt:89:1
 pub returns-in-None-clause-cause_disk_fault : goal.returns-in-None-clause-cause_disk_fault
-returns-in-None-clause-cause_disk_fault g c = ?
+returns-in-None-clause-cause_disk_fault g c =
+    calm_then (g.D.Disk.faults c.args.store.now.disk) (g.D.Disk.faults c.put_in_leaf.new.store.disk) (g.D.Disk.faults c.make_room.new.store.disk) _ _ _ c.in-Ok-Full.ensures.cause_disk_fault (ok_calm _ _) c.in_default.ensures.cause_disk_fault (ok_calm _ _) (ok_calm _ _)
