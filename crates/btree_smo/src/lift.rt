@@ -257,7 +257,7 @@ fn lift_held<R: Rows, D: Draw>(
 /// Both rows are latched, and each page is looked at in its held row. Between the latches and the publish the lift is drawn from
 /// `draw` and its record staged.
 ///
-/// Done appends the lift. All other answers append misses alone, and the rows are given up as they stood; of these Unstaged alone has
+/// Done appends the lift. All other answers append nothing but a few misses, and the rows are given up as they stood; of these Unstaged alone has
 /// drawn. TooTall: the root has level 7. Stale: the root is not full, or no free page stands hot in the frame. ClockSpent: the number of
 /// one of the two pages has come to `LAST_NUMBER`. Moved and Latched: a row was another seat's, one of the two or one of a child; try again.
 pub fn lift<R: Rows, D: Draw>(

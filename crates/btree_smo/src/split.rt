@@ -367,7 +367,7 @@ fn split_held<R: Rows, D: Draw>(
 /// The three rows are latched, and each page is looked at in its held row. Between the latches and the publish the split is drawn from
 /// `draw` and its record staged.
 ///
-/// Done appends the split. All other answers append misses alone, and the rows are given up as they stood; of these Unstaged alone has
+/// Done appends the split. All other answers append nothing but a few misses, and the rows are given up as they stood; of these Unstaged alone has
 /// drawn. Full: the parent has sixty pairs, so it is to be split first, or lifted if it is the root. Stale: no full page stands hot in the
 /// left frame, no free one in the right frame, or the page in the parent's frame does not name the left one. ClockSpent: the number of one
 /// of the three pages has come to `LAST_NUMBER`. Moved and Latched: a row was another seat's, one of the three or one of a child; try again.
