@@ -1,5 +1,5 @@
 -- A put in a run.
-use Rattle.std.proofs.Common.{◌≡◌, ◌⊎◌, inl, inr, ◌≤◌, ◌<◌, ◌+◌, ◌^◌, ◌%◌, ◌==◌, ◌&&◌, ◌||◌, ◌++◌, ℕ, zero, suc, Bool, true, false, cond, not, leb, ltb, List, [], ◌∷◌, length, Option, Some, None, Result, Ok, Err, IfErr, refl, sym, ap, ◌∙◌, subst, arith, append-nil, true≢false}
+use Rattle.std.proofs.Common.{◌≡◌, ◌⊎◌, inl, inr, ◌≤◌, ◌<◌, ◌+◌, ◌-◌, ◌^◌, ◌%◌, ◌==◌, ◌&&◌, ◌||◌, ◌++◌, ℕ, zero, suc, Bool, true, false, cond, not, leb, ltb, List, [], ◌∷◌, length, Option, Some, None, Result, Ok, Err, IfErr, IsErrAnd, refl, sym, ap, ◌∙◌, subst, arith, append-nil, true≢false}
 use Rattle.std.proofs.lemmas.Bool.{and_parts, cases_eq, leb-true, leb-false, ltb-true, eq-eqb, eqb-true}
 use Rattle.std.proofs.lemmas.List.{append_assoc, length-append}
 use Rattle.map_model.specs.declared.call.Answer.{Answer}
@@ -69,7 +69,7 @@ use Rattle.row_engine.specs.Holds.{Holds, IsOf}
 use Rattle.row_engine.specs.Inside.{put_test}
 use Rattle.row_engine.specs.Grown.{AreAside, Behind, Gained, Grows, Went, is_aside}
 use Rattle.row_engine.specs.Outcomes.{HasFailed, HasPut, HasRoom, IsCrowded, IsStopped, Puts}
-use Rattle.row_engine.specs.Puts.{works_after}
+use Rattle.row_engine.specs.Puts.{IsEarly, MayChange, works_after}
 use Rattle.row_engine.specs.Rooms.{IsSpentBehind, IsUnfit}
 use Rattle.row_engine.specs.Takes.{IsSpent, Takes}
 use Rattle.row_engine.specs.Ties.{Ties}
@@ -79,12 +79,13 @@ use Rattle.row_engine.proofs.BeginLemmas.{comes_told}
 use Rattle.row_engine.proofs.Formats.{full_as, full_on, refusal_as, refusal_on}
 use Rattle.row_engine.proofs.GrowRuns.{Asides, all_append, asides, logs_more, logs_same, makes_more, makes_same, misses_are, misses_aside, misses_met, misses_quiet, record_in, went_quiet}
 use Rattle.row_engine.proofs.Moments.{events_more}
+use Rattle.row_engine.proofs.TakeLemmas.{with_count}
 use Rattle.row_engine.proofs.PutLemmas.{seen_core}
 
-some_is : (r q : Refusal) → Some r ≡ Some q → r ≡ q
+pub some_is : (r q : Refusal) → Some r ≡ Some q → r ≡ q
 some_is r q e = cc
 
-none_is : (r : Refusal) → None ≡ Some r → ⊥
+pub none_is : (r : Refusal) → None ≡ Some r → ⊥
 none_is r e = absurd (cc)
 
 -- ## Tests
@@ -130,6 +131,29 @@ free_of x log works e = go x.is_open (leb 64 x.changes) (leb (limit log) (used l
     go true false false true p q r u e = absurd (none_is _ (sym e))
     go true false false false p q r u e = record { is_open = p; few = leb-false 64 x.changes q; small = leb-false (2 ^ 62) x.clock u; room = leb-false (limit log) (used log) r }
 
+-- then the engine works
+works_of : (x : Session) (log : Log) → put_test x log ≡ None → x.works ≡ true
+works_of x log e = go x.works refl
+  where
+    go : (b : Bool) → x.works ≡ b → x.works ≡ true
+    go true w = w
+    go false w = absurd (none_is refusal.Broken (sym e ∙ (λ i. cond (w i) (cond x.is_open (cond (leb 64 x.changes) (Some refusal.TooLong) (log_refusal x.clock log None)) (Some refusal.NoTransaction)) (Some refusal.Broken))))
+
+-- and once its row is taken, the key may be changed
+pub may_taken : (v v1 : View) (x x1 : Session) (log : Log) (key : ℕ) → put_test x log ≡ None → Takes v v1 x x1 (key % x.held.count) Alone → key < 2 ^ 64 - 1 → MayChange v1 x1 log key
+may_taken v v1 x x1 log key e t low =
+    let works = works_of x log e in
+    let f = free_of x log works e in
+    record {
+      works = ap (λ (s : Session). s.works) t.session ∙ works;
+      is_open = ap (λ (s : Session). s.is_open) t.session ∙ f.is_open;
+      few = let a = ap (λ (s : Session). s.changes) t.session in let b = f.few in omega arith;
+      small = let a = ap (λ (s : Session). s.clock) t.session in let b = f.small in omega arith;
+      room = f.room;
+      row = ap (λ (n : ℕ). is_held_by ((state v1).core.row (key % n)).holder 1) (ap (λ (s : Session). s.held.count) t.session ∙ with_count x.held (key % x.held.count)) ∙ t.alone refl;
+      key_low = low;
+    }
+
 -- a script is told of what they refuse
 pub put_told : (x : Session) (log : Log) (why : Refusal) → x.works ≡ true → put_test x log ≡ Some why → IsTold why
 put_told x log why works e = go x.is_open (leb 64 x.changes) (leb (limit log) (used log)) (leb (2 ^ 62) x.clock) (sym (test_is x log works) ∙ e)
@@ -159,6 +183,17 @@ puts_told (Err refusal.ClockSpent) v w key value x y was is old new p = inl tt
 puts_told (Err refusal.RowSpent) v w key value x y was is old new p = inl tt
 puts_told (Err refusal.DiskFault) v w key value x y was is old new p = inr (inr refl)
 puts_told (Err _) v w key value x y was is old new p = absurd p
+
+-- none of which comes before all that is done
+pub never_early : (r : Result (Option ℕ) Refusal) (v w : View) (key value : ℕ) (x y : Session) (was is : Log) (old new : Story) → Puts r v w key value x y was is old new → IsErrAnd r IsEarly → ⊥
+never_early (Ok before) v w key value x y was is old new p e = e
+never_early (Err refusal.TooTall) v w key value x y was is old new p e = e
+never_early (Err refusal.NoPages) v w key value x y was is old new p e = e
+never_early (Err (refusal.LogFull used limit)) v w key value x y was is old new p e = e
+never_early (Err refusal.ClockSpent) v w key value x y was is old new p e = e
+never_early (Err refusal.RowSpent) v w key value x y was is old new p e = e
+never_early (Err refusal.DiskFault) v w key value x y was is old new p e = e
+never_early (Err _) v w key value x y was is old new p e = absurd p
 
 -- ## The leaf of a key
 

@@ -85,6 +85,10 @@ not_fault A clock log why e = by_tests clock log why e (λ k. (Err k ≡ the_fau
 pub ok_calm : {A : Type 0} (a : A) (why : Refusal) → Ok a ≡ Err why → ⊥
 ok_calm a why e = absurd (cc)
 
+-- a call behind ones without a fault
+pub cause_from : (a b c : ℕ) (P Q : Type 0) → b ≡ a → HasCause b c P → (Q → P) → (P → Q) → HasCause a c Q
+cause_from a b c P Q same h back on = subst (λ n. HasCause n c Q) same (record { later = h.later; cause = λ q. h.cause (back q); calm = λ no. h.calm (λ p. no (on p)) })
+
 -- two calls without a fault are one
 pub calm_then : (a b c : ℕ) (P Q R : Type 0) → HasCause a b P → (P → ⊥) → HasCause b c Q → (Q → ⊥) → (R → ⊥) → HasCause a c R
 calm_then a b c P Q R p no_p q no_q no_r = record { later = let x = p.later in let y = q.later in omega arith; cause = λ r. absurd (no_r r); calm = λ _. q.calm no_q ∙ p.calm no_p }
@@ -185,6 +189,10 @@ pub step_failed : (key value : ℕ) (v w : View) (x y : Session) (was is : Log) 
 step_failed key value v w x y was is old new path same broken refusal.RowSpent t = (record { misses = []; are_misses = tt; few = omega arith; given = t.0.given; seen = t.0.seen ∙ sym (append-nil v.seen); many = t.0.many }, t.1)
 step_failed key value v w x y was is old new path same broken refusal.DiskFault t = t.0
 step_failed key value v w x y was is old new path same broken _ t = absurd t
+
+-- a step that came out so
+pub stepped_as : (r e : Stepped) → r ≡ e → (v w : View) (key value : ℕ) (x y : Session) (was is : Log) (old new : Story) (same : Type 0) → Steps (Ok r) v w key value x y was is old new same → Steps (Ok e) v w key value x y was is old new same
+stepped_as r e is_so v w key value x y was is old new same t = subst (λ k. Steps (Ok k) v w key value x y was is old new same) is_so t
 
 -- ## All steps
 

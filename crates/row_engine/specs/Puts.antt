@@ -58,11 +58,9 @@ works_after (Err refusal.Broken) = false
 works_after (Err refusal.DiskFault) = false
 works_after _ = true
 
--- a refusal by a test that comes before all that is done
+-- a refusal that comes before all that is done; one by the log or the clock may come behind room that was made
 abbrev pub IsEarly : Refusal → Type 0
 IsEarly refusal.Broken = Unit {0}
 IsEarly refusal.NoTransaction = Unit {0}
 IsEarly refusal.TooLong = Unit {0}
-IsEarly (refusal.LogFull used limit) = Unit {0}
-IsEarly refusal.ClockSpent = Unit {0}
 IsEarly _ = ⊥

@@ -1,5 +1,5 @@
 // A put.
-ghost use Rattle.std.specs.Prelude.{◌≡◌, ◌⊎◌, ◌<◌, ◌-◌, ◌^◌, ◌↔◌, [], Err, IfErr, IsErrAnd, true, false};
+ghost use Rattle.std.specs.Prelude.{◌≡◌, ◌⊎◌, ◌<◌, ◌-◌, ◌^◌, ◌↔◌, [], Err, IfErr, IsErrAnd, Some, true, false};
 ghost use Rattle.map_model.specs.declared.call.Call.{Call};
 ghost use Rattle.map_model.specs.declared.call.Refusal.{Refusal};
 ghost use Rattle.lean_disk.specs.Faults.{HasCause};
@@ -8,6 +8,7 @@ ghost use Rattle.engine_trait.specs.Calls.{IsTold};
 ghost use Rattle.row_engine.specs.Calls.{CallDoes, put_answer};
 ghost use Rattle.row_engine.specs.Holds.{Holds};
 ghost use Rattle.row_engine.specs.Outcomes.{Puts, Steps, Tries};
+ghost use Rattle.row_engine.specs.Inside.{put_test};
 ghost use Rattle.row_engine.specs.Puts.{IsEarly, MayChange, works_after};
 
 use crate::gets::value_of;
@@ -173,6 +174,8 @@ pub fn put<R: Rows, D: Stages>(
     // It stays within the area of its log.
     ensures frame { Framed 2 (D.story store.old.disk) (D.story store.new.disk) }
     ensures same { IsErrAnd result IsEarly → (R.view seat.new ≡ R.view seat.old) × (store.new ≡ store.old) }
+    // A test of the session and its log that refuses it comes before all else.
+    ensures tested { (why : Refusal) → put_test store.old.session store.old.log ≡ Some why → (result ≡ Err why) × (R.view seat.new ≡ R.view seat.old) × (store.new ≡ store.old) }
 
     ensures cause_broken { (result ≡ Err Refusal.Broken) ↔ (store.old.session.works ≡ false) }
     ensures cause_disk_fault { HasCause (D.faults store.old.disk) (D.faults store.new.disk) (result ≡ Err Refusal.DiskFault) }

@@ -1,6 +1,6 @@
-use Rattle.std.proofs.Common.{inl, sym, ◌∙◌, subst}
+use Rattle.std.proofs.Common.{Err, ap, inl, refl, sym, ◌∙◌, subst}
 use Rattle.engine_calls.proofs.PartLemmas.{every_part}
-use Rattle.row_engine.proofs.PutRuns.{not_put, not_taken, put_comes, put_did, put_framed, puts_told}
+use Rattle.row_engine.proofs.PutRuns.{may_taken, never_early, none_is, not_put, not_taken, put_comes, put_did, put_framed, puts_told, some_is}
 use Rattle.engine_trait.specs.Calls.{IsTold}
 use Rattle.row_engine.proofs.puts.put.Goals as goal
 
@@ -45,3 +45,21 @@ pub returns-clause-told : goal.returns-clause-told
 returns-clause-told g c =
     puts_told c.put_held.result (g.R.Rows.view c.take_row.new.seat) (g.R.Rows.view c.put_held.new.seat) c.args.key c.args.value c.take_row.new.session c.put_held.new.store.session c.args.store.now.log c.put_held.new.store.log
     (g.D.Disk.story c.args.store.now.disk) (g.D.Disk.story c.put_held.new.store.disk) c.put_held.ensures.puts
+
+pub put_held-requires-clause-may : goal.put_held-requires-clause-may
+put_held-requires-clause-may g c κs within =
+    may_taken (g.R.Rows.view c.args.seat.now) (g.R.Rows.view c.take_row.new.seat) c.args.store.now.session c.take_row.new.session c.args.store.now.log c.args.key (sym c.put_refusal.ensures ∙ c.in_default.is) c.in_default-take_row.ensures.taken c.requires.key
+
+pub returns-in-Some-clause-tested : goal.returns-in-Some-clause-tested
+returns-in-Some-clause-tested g c why e = (ap Err (some_is c.in-Some.why why (sym c.in-Some.is ∙ (c.put_refusal.ensures ∙ e))), refl, refl)
+
+pub returns-in-Err-clause-tested : goal.returns-in-Err-clause-tested
+returns-in-Err-clause-tested g c why e = absurd (none_is why (sym (sym c.put_refusal.ensures ∙ c.in_default.is) ∙ e))
+
+pub returns-clause-tested : goal.returns-clause-tested
+returns-clause-tested g c why e = absurd (none_is why (sym (sym c.put_refusal.ensures ∙ c.in_default.is) ∙ e))
+
+pub returns-clause-same : goal.returns-clause-same
+returns-clause-same g c early =
+    absurd (never_early c.put_held.result (g.R.Rows.view c.take_row.new.seat) (g.R.Rows.view c.put_held.new.seat) c.args.key c.args.value c.take_row.new.session c.put_held.new.store.session c.args.store.now.log c.put_held.new.store.log
+    (g.D.Disk.story c.args.store.now.disk) (g.D.Disk.story c.put_held.new.store.disk) c.put_held.ensures.puts early)

@@ -1,5 +1,6 @@
 use Rattle.std.proofs.Common.{◌≡◌, ◌+◌, ap, refl}
 use Rattle.row_engine.proofs.PutLemmas.{holds_as, holds_changed, holds_still, is_spent, no_room, none_seen, not_cold}
+use Rattle.row_engine.proofs.StepLemmas.{cause_from, ok_calm}
 use Rattle.row_engine.proofs.puts.put_in_leaf.Goals as goal
 
 pub unreachable-requires-in-Cold : goal.unreachable-requires-in-Cold
@@ -44,3 +45,7 @@ returns-in-RowSpent-clause-tries g c =
 pub returns-in-Full-clause-tries : goal.returns-in-Full-clause-tries
 returns-in-Full-clause-tries g c =
     (no_room (g.R.Rows.shape c.args.rows.now) (g.R.Rows.view c.args.seat.now) (g.R.Rows.view c.leaf_put.new.seat) c.args.store.now.session c.args.store.now.log c.args.key c.in-Full.row c.leaf_put.new.path c.requires.holds c.in-Full.ensures.put c.in-Full.ensures.trail, c.in-Full.ensures.drew)
+
+pub returns-in-Done-clause-cause_disk_fault : goal.returns-in-Done-clause-cause_disk_fault
+returns-in-Done-clause-cause_disk_fault g c =
+    cause_from (g.D.Disk.faults c.args.store.now.disk) (g.D.Disk.faults c.args.store.now.disk) (g.D.Disk.faults c.leaf_put.new.draw.disk) _ _ refl c.in-Done.ensures.drew.cause (λ q. absurd (ok_calm _ _ q)) (λ p. absurd (cc))

@@ -1,4 +1,5 @@
 use Rattle.std.proofs.Common.{◌≡◌, ◌∙◌, false, Err, sym, subst}
+use Rattle.row_engine.specs.declared.puts.Stepped.{Stepped}
 use Rattle.row_engine.specs.Rooms.{Grew, IsGrown}
 use Rattle.row_engine.proofs.StepLemmas.{calm_then, grown_from, may_after, not_fault, ok_calm, step_refused, step_stopped, stopped_works, tried_full}
 use Rattle.row_engine.proofs.puts.put_step.Goals as goal
@@ -25,7 +26,7 @@ returns-in-Some-clause-steps g c =
     c.in-Some.why (sym c.block_refusal.ensures ∙ c.in-Some.is)
 
 pub returns-in-Some-clause-works : goal.returns-in-Some-clause-works
-returns-in-Some-clause-works g c = c.in_default.ensures.works ∙ sym (stopped_works _ c.make_room.new.store.session.clock c.make_room.new.store.log c.in-Some.why (sym c.block_refusal.ensures ∙ c.in-Some.is))
+returns-in-Some-clause-works g c = c.in_default.ensures.works ∙ sym (stopped_works Stepped c.make_room.new.store.session.clock c.make_room.new.store.log c.in-Some.why (sym c.block_refusal.ensures ∙ c.in-Some.is))
 
 pub returns-in-Some-clause-cause_disk_fault : goal.returns-in-Some-clause-cause_disk_fault
 returns-in-Some-clause-cause_disk_fault g c =
