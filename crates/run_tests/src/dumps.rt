@@ -5,7 +5,7 @@ use crate::openings::disk_of_two;
 use crate::runs::{
     CHOICES, MANY, copy_of, count_lines, dump, dump_into, formatted, lines_of, run_script,
 };
-use crate::scripts::SIX;
+use crate::scripts::SIX_TEXT;
 use lean_disk::{Choice, MemDisk};
 use lean_edge::MemSink;
 use std::alloc::{AllocError, Global};
@@ -42,7 +42,7 @@ static ROWS: [Row; 5] = [
     },
     Row {
         name: "six transactions",
-        text: SIX.text,
+        text: SIX_TEXT,
         lines: "pair 1 51;pair 2 12;pair 3 53;end;",
     },
 ];
@@ -168,7 +168,7 @@ fn is_kept<R: Threads + Wait + Sync>(
     alloc: Global,
     sweep: &Sweep,
 ) -> Result<bool, AllocError> {
-    let disk = run_script(rt, alloc, formatted(rt, alloc)?, SIX.text)?.disk;
+    let disk = run_script(rt, alloc, formatted(rt, alloc)?, SIX_TEXT)?.disk;
     let mut kept = [0; 7];
     for moment in 0..=disk.moment() {
         let done = dump(rt, alloc, disk.crash(moment, sweep.choice)?)?;
@@ -215,6 +215,17 @@ fn is_cut<R: Threads + Wait + Sync>(
     Ok(false)
 }
 
+fn is_cut_behind<R: Threads + Wait + Sync>(
+    rt: &R,
+    alloc: Global,
+    row: &Row,
+    prefix: usize,
+) -> Result<bool, AllocError> {
+    let ran = run_script(rt, alloc, formatted(rt, alloc)?, row.text)?.disk;
+    let disk = ran.crash(ran.moment(), Choice::AllBytes)?;
+    is_cut(rt, alloc, &disk, row.lines, prefix)
+}
+
 #[test]
 fn a_dump_ends_at_a_line_that_does_not_go_out(rt: HostRuntime) {
     let alloc = rt.alloc();
@@ -223,16 +234,6 @@ fn a_dump_ends_at_a_line_that_does_not_go_out(rt: HostRuntime) {
             expect(&rt, row.name, is_cut_behind(&rt, alloc, row, prefix));
         }
     }
-}
-
-fn is_cut_behind<R: Threads + Wait + Sync>(
-    rt: &R,
-    alloc: Global,
-    row: &Row,
-    prefix: usize,
-) -> Result<bool, AllocError> {
-    let disk = run_script(rt, alloc, formatted(rt, alloc)?, row.text)?.disk;
-    is_cut(rt, alloc, &disk, row.lines, prefix)
 }
 
 // An area, and how many calls of it an opening of the disk of two transactions makes.
