@@ -7,9 +7,9 @@ ghost use Rattle.script_lang.specs.Replies.{AnswerFits};
 use lean_edge::{Next, Source};
 use map_model::{Answer, Call, Refusal};
 use script_lang::{
-    ALREADY_FORMATTED, DISK_FAULT, LineReader, NO_MEMORY, NOT_FORMATTED, NextLine, READ_FAULT,
-    REPLY, USAGE, damaged_bytes, durable_bytes, formatted_bytes, opened_bytes, read_line,
-    refused_bytes, reply_bytes,
+    ALREADY_FORMATTED, DISK_FAULT, END, LineReader, NO_MEMORY, NOT_FORMATTED, NextLine, READ_FAULT,
+    REPLY, USAGE, damaged_bytes, durable_bytes, formatted_bytes, opened_bytes, pair_bytes,
+    read_line, refused_bytes, reply_bytes,
 };
 use std::alloc::{AllocError, Global};
 
@@ -160,17 +160,24 @@ enum Said {
     Formatted(u32, u32, u32),
     Refused(u64),
     Damaged(u32, u64),
+    Pair(u64, u64),
 }
 
-static LINES: [(Said, &[u8]); 5] = [
+static LINES: [(Said, &[u8]); 7] = [
     (Said::Durable(1, 1), b"1 durable 1.1\n"),
     (Said::Opened(2, 1, 0), b"open 2 winners 1 undone 0\n"),
     (Said::Formatted(1, 64, 64), b"formatted 1 64 64\n"),
     (Said::Refused(2), b"lean: line 2 refused\n"),
     (Said::Damaged(2, 63), b"lean: damaged area 2 place 63\n"),
+    (Said::Pair(0, 7), b"pair 0 7\n"),
+    (
+        Said::Pair(18446744073709551614, 9223372036854775807),
+        b"pair 18446744073709551614 9223372036854775807\n",
+    ),
 ];
 
-static FIXED: [(&[u8], &[u8]); 6] = [
+static FIXED: [(&[u8], &[u8]); 7] = [
+    (END, b"end\n"),
     (USAGE, b"lean: usage\n"),
     (READ_FAULT, b"lean: read fault\n"),
     (DISK_FAULT, b"lean: disk fault\n"),
@@ -191,6 +198,7 @@ fn line_of(said: &Said, into: &mut [u8; REPLY]) -> usize {
         }
         Said::Refused(line) => refused_bytes(*line, into),
         Said::Damaged(area, place) => damaged_bytes(*area, *place, into),
+        Said::Pair(key, value) => pair_bytes(*key, *value, into),
     }
 }
 

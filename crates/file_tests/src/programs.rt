@@ -29,7 +29,7 @@ struct Command {
 }
 
 // One after the other, from an empty folder on.
-static COMMANDS: [Command; 3] = [
+static COMMANDS: [Command; 4] = [
     Command {
         words: "lean format --workers 1 --pages 16 --blocks 64",
         script: b"",
@@ -108,6 +108,40 @@ static COMMANDS: [Command; 3] = [
                 ],
             ),
             // Page 0 with key 5, in its slot 1.
+            FileRow(
+                "lean.pages",
+                32768,
+                2032,
+                &[
+                    147, 29, 131, 119, 109, 229, 5, 137, 170, 127, 179, 196, 173, 184, 9, 43,
+                ],
+            ),
+            FileRow(
+                "lean.log.1",
+                2048,
+                2032,
+                &[
+                    102, 226, 156, 186, 148, 31, 161, 121, 19, 173, 224, 181, 88, 18, 40, 45,
+                ],
+            ),
+        ],
+        absent: &["lean.log.2"],
+    },
+    Command {
+        words: "lean dump",
+        script: b"1 begin\n",
+        status: 0,
+        printed: b"pair 5 7\nend\n",
+        files: &[
+            // The fourth master in slot 1.
+            FileRow(
+                "lean.master",
+                2048,
+                2032,
+                &[
+                    221, 77, 26, 193, 69, 79, 45, 54, 103, 235, 72, 78, 130, 106, 22, 47,
+                ],
+            ),
             FileRow(
                 "lean.pages",
                 32768,

@@ -1,4 +1,5 @@
 mod CommandLemmas
+mod Dumps
 mod EndLemmas
 mod NumberLemmas
 mod PutLemmas

@@ -1,7 +1,8 @@
--- Words of private functions: how a command ended; what an opening leaves, and lines that are put; the laws that a run stands on.
+-- Words of private functions: how a command ended; what an opening leaves, and lines that are put, one or several; the laws that a run stands on.
 pub mod Commands
 pub mod Lefts
 pub mod Begins
 pub mod Assembled
 pub mod Openings
 pub mod Laws
+pub mod Puts

@@ -50,13 +50,12 @@ status_of (why.Damaged area place) = 7
 status_of why.DiskFault = 6
 status_of why.Memory = 8
 
--- The line of the reason was put, or a prefix of it and the sink failed; the script was not read, and a disk that is refused is left as it was.
-pub record NotOpened (status : ℕ) (s0 s1 : Story) (feed0 feed1 : Feed) (put : List ℕ) (sink0 sink1 : ℕ) : Type 0 where
+-- The line of the reason was put, or a prefix of it and the sink failed; and a disk that is refused is left as it was.
+pub record NotOpened (status : ℕ) (s0 s1 : Story) (put : List ℕ) (sink0 sink1 : ℕ) : Type 0 where
   pub reason : Unrecovered
   pub status_is : status ≡ status_of reason
   pub shown : Shows s0 reason
   pub printed : WentOut (line_of (notice_of reason)) put sink0 sink1
-  pub unread : feed1 ≡ feed0
   pub left : IsRefusal reason → (a : ℕ) → IsUntouched (s0.area a) (s1.area a)
 
 -- ## A disk that was opened
@@ -171,7 +170,7 @@ pub record Ran (status : ℕ) (s0 s1 : Story) (feed0 feed1 : Feed) (put : List �
   pub left : (stop ≡ stops.DiskFault → ⊥) → IsTrue feed0.tells → (m : Master) → TellsCrashes s0 → IsCleanDisk m (areas_of s0) → IsYoung m s0 → IsLeft m s0 feed0.left put (as_read s1)
 
 -- How a run ended, on a disk that told s0 and tells s1, with a source that told feed0 and tells feed1, and a sink into which these bytes were put; and
--- how often the sink had failed before and has now.
+-- how often the sink had failed before and has now. The script of a disk that was not opened was not read.
 abbrev pub HowRun : (status : ℕ) (s0 s1 : Story) (feed0 feed1 : Feed) (put : List ℕ) (sink0 sink1 : ℕ) → Type 0
 HowRun status s0 s1 feed0 feed1 put sink0 sink1 =
-    NotOpened status s0 s1 feed0 feed1 put sink0 sink1 ⊎ (CutFirst status s0 feed0 feed1 put sink0 sink1 ⊎ Ran status s0 s1 feed0 feed1 put sink0 sink1)
+    (NotOpened status s0 s1 put sink0 sink1 × (feed1 ≡ feed0)) ⊎ (CutFirst status s0 feed0 feed1 put sink0 sink1 ⊎ Ran status s0 s1 feed0 feed1 put sink0 sink1)

@@ -4,7 +4,7 @@ use Rattle.std.specs.declared.alloc.Global.{Global}
 use Rattle.std.specs.Fmt.{decimal}
 use Rattle.disk_format.specs.declared.shape.Shape.{Shape}
 use Rattle.lean_shell.specs.declared.words.Command.{Command}
-use Rattle.lean_shell.specs.declared.words.Command.TheVariants.{Format, Run}
+use Rattle.lean_shell.specs.declared.words.Command.TheVariants.{Dump, Format, Run}
 
 -- a text with no sign and no leading zero
 pub record IsPlain (text : List ℕ) : Type 0 where
@@ -49,7 +49,13 @@ pub record AsksRun (words : List (List ℕ)) : Type 0 where
   pub count : length words ≡ 2
   pub command : word_at words 1 ≡ codes "run"
 
+-- `NAME dump`
+pub record AsksDump (words : List (List ℕ)) : Type 0 where
+  pub count : length words ≡ 2
+  pub command : word_at words 1 ≡ codes "dump"
+
 -- the words ask for this
 abbrev pub Asks : List (List ℕ) → Command → Type 0
 Asks words (Format shape) = AsksFormat words shape
 Asks words Run = AsksRun words
+Asks words Dump = AsksDump words

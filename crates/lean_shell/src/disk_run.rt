@@ -23,7 +23,8 @@ use std::alloc::Global;
 // How large the engine is.
 const SIZE: Size = Size { rows: 256 };
 
-fn status_of(reason: Unrecovered) -> u8
+/// The status of a disk that was not opened.
+pub(crate) fn status_of(reason: Unrecovered) -> u8
     ensures { result ≡ status_of reason }
 {
     match reason {

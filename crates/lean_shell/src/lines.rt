@@ -1,4 +1,4 @@
-// The line of a disk that was not opened.
+// Lines that are put while no engine has the disk.
 ghost use Rattle.std.specs.Prelude.{◌≡◌};
 ghost use Rattle.lean_disk.specs.Faults.{HasCause};
 ghost use Rattle.script_lang.specs.Notices.{Notice, NoticeFits};
@@ -11,7 +11,8 @@ use lean_disk::Disk;
 use lean_edge::{Put, Sink};
 use recovery::Unrecovered;
 use script_lang::{
-    DISK_FAULT, NO_MEMORY, NOT_FORMATTED, REPLY, damaged_bytes, fixed_lines, notices_are_no_replies,
+    DISK_FAULT, END, NO_MEMORY, NOT_FORMATTED, REPLY, damaged_bytes, fixed_lines,
+    notices_are_no_replies, pair_bytes,
 };
 
 /// Puts one line.
@@ -57,4 +58,29 @@ pub(crate) fn put_reason<K: Sink<D>, D: Disk>(
         Unrecovered::DiskFault => put_line(DISK_FAULT, sink, disk),
         Unrecovered::Memory => put_line(NO_MEMORY, sink, disk),
     }
+}
+
+/// Puts the line of a key and its value.
+pub(crate) fn put_pair<K: Sink<D>, D: Disk>(key: u64, value: u64, sink: &mut K, disk: &mut D) -> Put
+    ensures put { IsPut (line_of (Notice.Pair key value)) result (K.held sink.old) (K.held sink.new) (D.story disk.old) (D.story disk.new) }
+    ensures faults { D.faults disk.new ≡ D.faults disk.old }
+
+    ensures cause { HasCause (K.faults sink.old) (K.faults sink.new) (result ≡ Put.Failed) }
+{
+    notices_are_no_replies();
+    let mut line = [0; REPLY];
+    let end = pair_bytes(key, value, &mut line);
+    put_line(&line[..end], sink, disk)
+}
+
+/// Puts the line behind the last pair.
+pub(crate) fn put_end<K: Sink<D>, D: Disk>(sink: &mut K, disk: &mut D) -> Put
+    ensures put { IsPut (line_of Notice.End) result (K.held sink.old) (K.held sink.new) (D.story disk.old) (D.story disk.new) }
+    ensures faults { D.faults disk.new ≡ D.faults disk.old }
+
+    ensures cause { HasCause (K.faults sink.old) (K.faults sink.new) (result ≡ Put.Failed) }
+{
+    fixed_lines();
+    notices_are_no_replies();
+    put_line(END, sink, disk)
 }

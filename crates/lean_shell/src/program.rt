@@ -3,6 +3,7 @@ ghost use Rattle.std.specs.Prelude.{◌≡◌, ◌↔◌, ◌≤◌, IsTrue};
 ghost use Rattle.lean_disk.specs.Faults.{HasCause, IsBlamed};
 ghost use Rattle.lean_edge.specs.Outside.{added};
 ghost use Rattle.recovery.specs.Telling.{TellsAll};
+ghost use Rattle.lean_shell.specs.Dumps.{DumpEnds};
 ghost use Rattle.lean_shell.specs.Ends.{RunEnds};
 ghost use Rattle.lean_shell.specs.Headline.{Headline};
 ghost use Rattle.lean_shell.specs.Endings.{FinishedPut, FormatEnds, IsStatus, UsageEnds, WentOut, last_line, number_of};
@@ -10,11 +11,12 @@ ghost use Rattle.lean_disk.specs.Told.{OnlyNotes};
 ghost use Rattle.lean_shell.specs.Inside.Commands.{CommandEnds};
 ghost use Rattle.lean_shell.specs.Words.{Asks, texts};
 ghost use Rattle.lean_shell.specs.declared.words.Command.{Command};
-ghost use Rattle.lean_shell.specs.declared.words.Command.TheVariants.{Format, Run};
+ghost use Rattle.lean_shell.specs.declared.words.Command.TheVariants.{Dump, Format, Run};
 ghost use Rattle.disk_format.specs.declared.shape.Shape.{Shape};
 
 use crate::Gate;
 use crate::disk_run::run_disk;
+use crate::dump::dump_disk;
 use crate::failure::Failure;
 use crate::words::{Command, read_words};
 use lean_disk::Disk;
@@ -91,6 +93,10 @@ fn run_alone<S: Source, K: Sink<D>, D: Hosts>(
             Ended { status, disk }
         }
         Some(Command::Run) => run_disk(alloc, source, sink, disk),
+        Some(Command::Dump) => {
+            let status = dump_disk(alloc, sink, &mut disk);
+            Ended { status, disk }
+        }
         None => {
             let status = fail(Failure::Usage, sink, &mut disk);
             Ended { status, disk }
@@ -126,6 +132,7 @@ pub fn run<R: Threads + Wait + Sync, S: Source, K: Sink<D>, D: Hosts, G: Gate + 
     // What each command does.
     ensures format { (shape : Shape) → Asks (texts words.now) (Format shape) → FormatEnds shape result.status (D.story disk) (D.story result.disk) (K.held sink.old) (K.held sink.new) (K.faults sink.old) (K.faults sink.new) (D.faults disk) (D.faults result.disk) }
     ensures run { Asks (texts words.now) Run → RunEnds result.status (D.story disk) (D.story result.disk) (S.feed source.old) (S.feed source.new) (K.held sink.old) (K.held sink.new) (K.faults sink.old) (K.faults sink.new) }
+    ensures dump { Asks (texts words.now) Dump → DumpEnds result.status (D.story disk) (D.story result.disk) (K.held sink.old) (K.held sink.new) (K.faults sink.old) (K.faults sink.new) }
     ensures none { ((command : Command) → Asks (texts words.now) command → ⊥) → UsageEnds result.status (D.story disk) (D.story result.disk) (K.held sink.old) (K.held sink.new) (K.faults sink.old) (K.faults sink.new) (D.faults disk) (D.faults result.disk) }
 
     // The source is read by a run alone.

@@ -1,7 +1,7 @@
 // The words of a command line.
 ghost use Rattle.std.specs.Prelude.{◌≡◌, ◌^◌, ◌<◌, ℕ, length, ◌↔◌, IfSome, IfNone, IsTrue, string_bytes};
 ghost use Rattle.std.specs.Fmt.{decimal};
-ghost use Rattle.lean_shell.specs.Words.{Asks, AsksFormat, AsksRun, HasOptions, IsNumberIn, IsPlain, SpellsShape, texts, word_at};
+ghost use Rattle.lean_shell.specs.Words.{Asks, AsksDump, AsksFormat, AsksRun, HasOptions, IsNumberIn, IsPlain, SpellsShape, texts, word_at};
 ghost use Rattle.lean_shell.specs.declared.words.Command.{Command};
 ghost use Rattle.disk_format.specs.declared.shape.Shape.{Shape};
 
@@ -12,6 +12,7 @@ use lean_engine::Shape;
 pub enum Command {
     Format(Shape),
     Run,
+    Dump,
 }
 
 // Whether the text has no sign and no leading zero.
@@ -102,6 +103,13 @@ fn is_run(words: &[String]) -> bool
     words.len() == 2 && is_word(words, 1, "run")
 }
 
+// Whether the words ask for a dump.
+fn is_dump(words: &[String]) -> bool
+    ensures { IsTrue result ↔ AsksDump (texts words.now) }
+{
+    words.len() == 2 && is_word(words, 1, "dump")
+}
+
 /// What the words of a command line ask for, the program's name first.
 pub fn read_words(words: &[String]) -> Option<Command>
     ensures some { IfSome result (Asks (texts words.now)) }
@@ -109,6 +117,9 @@ pub fn read_words(words: &[String]) -> Option<Command>
 {
     if is_run(words) {
         return Some(Command::Run);
+    }
+    if is_dump(words) {
+        return Some(Command::Dump);
     }
     let shape = read_format(words)?;
     Some(Command::Format(shape))

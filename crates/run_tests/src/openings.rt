@@ -14,9 +14,12 @@ const GETS: &str = "1 begin;1 get 5;1 get 6;";
 // Of the committed transaction alone.
 const ANSWERS: &str = "1 begun 1.1;1 value 7;1 none;";
 
-// The disk that a crash leaves after two transactions, with all that was written. One puts key 5 and commits. The next one puts
-// it too, and key 6 37 times. A block has room for 37 changes, so the block of its first 37 is written.
-fn disk_of_two<R: Threads + Wait + Sync>(rt: &R, alloc: Global) -> Result<MemDisk, AllocError> {
+/// The disk that a crash leaves after two transactions, with all that was written. One puts key 5 and commits. The next one puts
+/// it too, and key 6 37 times. A block has room for 37 changes, so the block of its first 37 is written.
+pub(crate) fn disk_of_two<R: Threads + Wait + Sync>(
+    rt: &R,
+    alloc: Global,
+) -> Result<MemDisk, AllocError> {
     let mut script = String::from_str(alloc, "1 begin;1 put 5 7;1 commit;1 begin;1 put 5 8;")?;
     for value in 1..=37u32 {
         script.push_str(&format!(in alloc; "1 put 6 {value};")?)?;

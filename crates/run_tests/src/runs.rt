@@ -121,6 +121,24 @@ pub(crate) fn run_up_to<R: Threads + Wait + Sync>(
     run_words(rt, alloc, "lean run", text, copy_of(disk)?, sink)
 }
 
+/// A dump of a disk into this sink.
+pub(crate) fn dump_into<R: Threads + Wait + Sync>(
+    rt: &R,
+    alloc: Global,
+    disk: MemDisk,
+    sink: MemSink,
+) -> Result<Outcome, AllocError> {
+    run_words(rt, alloc, "lean dump", "", disk, sink)
+}
+
+pub(crate) fn dump<R: Threads + Wait + Sync>(
+    rt: &R,
+    alloc: Global,
+    disk: MemDisk,
+) -> Result<Outcome, AllocError> {
+    dump_into(rt, alloc, disk, MemSink::new(alloc))
+}
+
 /// The moments at which the lines of a run went out, one after another.
 pub(crate) fn out_at<R: Threads + Wait + Sync>(
     rt: &R,

@@ -2,7 +2,7 @@
 use Rattle.std.proofs.Common.{◌≡◌, ◌++◌, ◌∷◌, None, codes, refl, arith, rules}
 use Rattle.std.specs.Fmt.{decimal}
 use Rattle.script_lang.specs.Notices.{Notice, notice_text, NoticeFits}
-use Rattle.script_lang.specs.Notices.Notice.{Opened, Formatted, Refused, Damaged, Usage, ReadFault, DiskFault, NoMemory, NotFormatted, AlreadyFormatted}
+use Rattle.script_lang.specs.Notices.Notice.{Opened, Formatted, Refused, Damaged, Pair, End, Usage, ReadFault, DiskFault, NoMemory, NotFormatted, AlreadyFormatted}
 use Rattle.script_lang.specs.Replies.{reply_of}
 use Rattle.script_lang.specs.Text.{IsLine}
 use Rattle.script_lang.proofs.ReplyLemmas.{line_number, line_with_number}
@@ -12,6 +12,8 @@ no_reply (Opened g w u) = refl
 no_reply (Formatted w p n) = refl
 no_reply (Refused n) = refl
 no_reply (Damaged a p) = refl
+no_reply (Pair k v) = refl
+no_reply End = refl
 no_reply Usage = refl
 no_reply ReadFault = refl
 no_reply DiskFault = refl
@@ -43,6 +45,12 @@ one_line (Damaged a p) h =
     let place : IsLine (codes " place " ++ decimal p) = search (rules, last) in
     let first = line_with_number a (codes " place " ++ decimal p) (omega arith) place in
     search (rules, first)
+one_line (Pair k v) h =
+    let last = line_number v h.1 in
+    let value : IsLine (32 ∷ decimal v) = search (rules, last) in
+    let first = line_with_number k (32 ∷ decimal v) h.0 value in
+    search (rules, first)
+one_line End h = search rules
 one_line Usage h = search rules
 one_line ReadFault h = search rules
 one_line DiskFault h = search rules

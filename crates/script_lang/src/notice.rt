@@ -2,13 +2,15 @@
 ghost use Rattle.std.specs.Prelude.{◌≡◌, ◌≤◌, ◌+◌, ◌++◌, ◌∷◌, [], ℕ, List, None, length};
 ghost use Rattle.script_lang.specs.Pieces.{Holds};
 ghost use Rattle.script_lang.specs.Notices.{Notice, notice_text, NoticeFits};
-ghost use Rattle.script_lang.specs.Notices.Notice.{Opened, Formatted, Refused, Damaged, Usage, ReadFault, DiskFault, NoMemory, NotFormatted, AlreadyFormatted};
+ghost use Rattle.script_lang.specs.Notices.Notice.{Opened, Formatted, Refused, Damaged, Pair, End, Usage, ReadFault, DiskFault, NoMemory, NotFormatted, AlreadyFormatted};
 ghost use Rattle.script_lang.specs.Replies.{reply_of};
 ghost use Rattle.script_lang.specs.Text.{IsLine};
 ghost use Rattle.script_lang.specs.declared.reply.TheConstants.{REPLY};
 
 use crate::text::{put_text, put_with_number};
 
+/// All pairs of a map were put.
+pub const END: &[u8] = b"end\n";
 /// The words were no command.
 pub const USAGE: &[u8] = b"lean: usage\n";
 /// The script could not be read on.
@@ -24,6 +26,7 @@ pub const ALREADY_FORMATTED: &[u8] = b"lean: already formatted\n";
 
 /// The fixed lines are these.
 pub fn fixed_lines()
+    ensures end { END.now ≡ notice_text End ++ 10 ∷ [] }
     ensures usage { USAGE.now ≡ notice_text Usage ++ 10 ∷ [] }
     ensures read_fault { READ_FAULT.now ≡ notice_text ReadFault ++ 10 ∷ [] }
     ensures disk_fault { DISK_FAULT.now ≡ notice_text DiskFault ++ 10 ∷ [] }
@@ -76,5 +79,15 @@ pub fn damaged_bytes(area: u32, place: u64, into: &mut [u8]) -> usize
 {
     let at = put_with_number(into, 0, b"lean: damaged area ", area as u64);
     let at = put_with_number(into, at, b" place ", place);
+    put_text(into, at, b"\n")
+}
+
+/// Writes the line of a key and its value. The answer is how many bytes that are.
+pub fn pair_bytes(key: u64, value: u64, into: &mut [u8]) -> usize
+    requires { REPLY ≤ length into.old }
+    ensures { Holds (notice_text (Pair key value) ++ 10 ∷ []) into.old into.new result }
+{
+    let at = put_with_number(into, 0, b"pair ", key);
+    let at = put_with_number(into, at, b" ", value);
     put_text(into, at, b"\n")
 }

@@ -80,12 +80,15 @@ pub(crate) fn formatted<R: Threads + Wait + Sync>(
 }
 
 // None of them is a command.
-static OTHER_WORDS: [&str; 23] = [
+static OTHER_WORDS: [&str; 26] = [
     "",
     "lean",
     "lean run 1",
     "lean run --frames 32",
     "lean Run",
+    "lean dump x",
+    "lean Dump",
+    "lean dump ",
     "lean --help",
     "lean format --help",
     "lean format --workers 0 --pages 64 --blocks 64",

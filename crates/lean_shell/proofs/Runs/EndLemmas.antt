@@ -95,14 +95,16 @@ refused_ends notice_law tail_law status s0 old new law keeps others any feed rea
     let t = line_text notice_law s0 old new law keeps any feed (notice_of reason) r.fits r.answer held0 held1 r.line in record {
       put = t.text;
       holds = t.holds;
-      how = inl (record {
-        reason = reason;
-        status_is = is;
-        shown = shown;
-        printed = went_out (line_of (notice_of reason)) t.text r.answer sink0 sink1 t.prefix t.is_prefix t.whole r.cause;
-        unread = refl;
-        left = λ refused a. subst (λ (x : Area). IsUntouched (s0.area a) x) (sym ((put_notes old new r.answer r.line.noted r.line.same).area a)) (left refused a);
-      });
+      how = inl (
+        record {
+          reason = reason;
+          status_is = is;
+          shown = shown;
+          printed = went_out (line_of (notice_of reason)) t.text r.answer sink0 sink1 t.prefix t.is_prefix t.whole r.cause;
+          left = λ refused a. subst (λ (x : Area). IsUntouched (s0.area a) x) (sym ((put_notes old new r.answer r.line.noted r.line.same).area a)) (left refused a);
+        },
+        refl,
+      );
       others = λ a lt. (put_notes old new r.answer r.line.noted r.line.same).area a ∙ others a lt;
       tells_on = line_on notice_law s0 old new law keeps any feed (notice_of reason) r.fits r.answer held0 held1 r.line;
       headline = λ tells. line_says notice_law s0 old new law keeps any feed (notice_of reason) r.fits r.answer held0 held1 r.line tail_law;

@@ -3,11 +3,12 @@ use Rattle.std.specs.Prelude.{◌≡◌, ◌↔◌, ℕ, List}
 use Rattle.lean_disk.specs.Faults.{HasCause, IsBlamed}
 use Rattle.lean_disk.specs.Story.{Story}
 use Rattle.lean_edge.specs.Outside.{Feed, Held}
+use Rattle.lean_shell.specs.Dumps.{DumpEnds}
 use Rattle.lean_shell.specs.Ends.{RunEnds}
 use Rattle.lean_shell.specs.Endings.{FormatEnds, IsStatus, UsageEnds}
 use Rattle.lean_shell.specs.Words.{Asks}
 use Rattle.lean_shell.specs.declared.words.Command.{Command}
-use Rattle.lean_shell.specs.declared.words.Command.TheVariants.{Format, Run}
+use Rattle.lean_shell.specs.declared.words.Command.TheVariants.{Dump, Format, Run}
 use Rattle.disk_format.specs.declared.shape.Shape.{Shape}
 
 -- how often source, sink and disk had failed
@@ -25,4 +26,5 @@ pub record CommandEnds (words : List (List ℕ)) (status : ℕ) (s0 s1 : Story) 
   pub cause_disk_fault : HasCause before.disk now.disk (status ≡ 6)
   pub format : (shape : Shape) → Asks words (Format shape) → FormatEnds shape status s0 s1 held0 held1 before.sink now.sink before.disk now.disk
   pub run : Asks words Run → RunEnds status s0 s1 feed0 feed1 held0 held1 before.sink now.sink
+  pub dump : Asks words Dump → DumpEnds status s0 s1 held0 held1 before.sink now.sink
   pub none : ((command : Command) → Asks words command → ⊥) → UsageEnds status s0 s1 held0 held1 before.sink now.sink before.disk now.disk

@@ -1,0 +1,5 @@
+pub mod TextLemmas
+pub mod PutLemmas
+pub mod LeafLemmas
+pub mod MapLemmas
+pub mod EndLemmas

@@ -1,0 +1,80 @@
+-- How a dump ended: the pairs that it put, and the disk that it leaves.
+use Rattle.std.specs.Prelude.{◌≡◌, ◌⊎◌, ◌++◌, ◌<◌, ℕ, List, [], ◌∷◌, take, IsTrue, Some}
+use Rattle.map_model.specs.Maps.{key_end}
+use Rattle.page_model.specs.Pairs.{Pair, Rising}
+use Rattle.image_model.specs.Images.{map_of}
+use Rattle.pair_walk.specs.Listings.{ArePairsOf}
+use Rattle.lean_disk.specs.Faults.{Rose}
+use Rattle.lean_disk.specs.Moments.{LeavesOnly}
+use Rattle.lean_disk.specs.Story.{Crash, Story, areas_of}
+use Rattle.lean_disk.specs.Told.{TellsOn}
+use Rattle.lean_edge.specs.Outside.{Held}
+use Rattle.script_lang.specs.Notices.{Notice}
+use Rattle.disk_slots.specs.declared.master.Master.{Master}
+use Rattle.disk_image.specs.MasterSlots.{master_on}
+use Rattle.disk_image.specs.Shown.{image_by, IsCleanDisk, IsSoundDisk}
+use Rattle.recovery.specs.Crashes.{RecoveryLeaves}
+use Rattle.recovery.specs.Installed.{HasInstalled}
+use Rattle.recovery.specs.Masters.{IsOpenable}
+use Rattle.recovery.specs.Opened.{IsOpened, IsRecovered, IsUntouched}
+use Rattle.recovery.specs.Telling.{TellsAll}
+use Rattle.recovery.specs.declared.opening.Recovered.{Recovered}
+use Rattle.lean_shell.specs.Lines.{line_of}
+use Rattle.lean_shell.specs.Runs.{NotOpened}
+
+-- ## What is put
+
+-- a line for each pair
+abbrev pub pair_lines : List Pair → List ℕ
+pair_lines [] = []
+pair_lines (x ∷ xs) = line_of (Notice.Pair x.key x.word) ++ pair_lines xs
+
+-- and `end` behind them
+abbrev pub dump_text : List Pair → List ℕ
+dump_text pairs = pair_lines pairs ++ line_of Notice.End
+
+-- These are all pairs of the map for which the disk stands, by the master by which it is opened.
+pub record AreOfDisk (s : Story) (pairs : List Pair) : Type 0 where
+  pub m : Master
+  pub openable : IsOpenable m
+  pub sound : IsSoundDisk m (areas_of s)
+  pub are : ArePairsOf (map_of (image_by m (areas_of s))) pairs
+
+-- the whole text was put, and the status is 0; or a prefix of it, since the sink failed, and the status is 5
+abbrev pub PutOrCut : (status : ℕ) (text put : List ℕ) (sink0 sink1 : ℕ) → Type 0
+PutOrCut status text put sink0 sink1 = ((status ≡ 0) × (put ≡ text) × (sink1 ≡ sink0)) ⊎ ((status ≡ 5) × ((prefix : ℕ) × (put ≡ take prefix text)) × Rose sink0 sink1)
+
+-- ## The disk
+
+-- It is as its opening leaves it, which saved pages that have changed and the next master.
+pub record IsAsOpened (s0 s1 : Story) : Type 0 where
+  pub recovered : Recovered
+  pub is : TellsAll s0 → (m : Master) × IsOpenable m × IsRecovered m (areas_of s0) recovered
+  pub installed : TellsAll s0 → (m : Master) → master_on (areas_of s0 0) ≡ Some m → HasInstalled m recovered s0 s1
+  pub opened : TellsAll s0 → (m : Master) → IsCleanDisk m (areas_of s0) → IsOpened m (areas_of s0) recovered s1
+
+-- a crash leaves what one in an opening may leave, however many lines were out
+abbrev pub DumpLeaves : Master → Story → Crash → Type 0
+DumpLeaves m s c = RecoveryLeaves m s (record c { notes = s.notes })
+
+-- ## All of it
+
+-- Pairs were put, with keys that rise strictly, and `end`; where the disk told of all, they are those of the map for which it stood on entry.
+pub record Dumped (status : ℕ) (s0 s1 : Story) (put : List ℕ) (sink0 sink1 : ℕ) : Type 0 where
+  pub pairs : List Pair
+  pub rising : Rising 0 pairs key_end
+  pub of_disk : TellsAll s0 → AreOfDisk s0 pairs
+  pub printed : PutOrCut status (dump_text pairs) put sink0 sink1
+  pub left : IsAsOpened s0 s1
+
+-- How a dump ended, on a disk that told s0 and tells s1, with a sink that held held0 and holds held1; and how often the sink had failed before and has now.
+pub record DumpEnds (status : ℕ) (s0 s1 : Story) (held0 held1 : Held) (sink0 sink1 : ℕ) : Type 0 where
+  pub put : List ℕ
+  pub holds : IsTrue held0.tells → held1.bytes ≡ held0.bytes ++ put
+  pub how : NotOpened status s0 s1 put sink0 sink1 ⊎ Dumped status s0 s1 put sink0 sink1
+  -- nothing is written to a log, no other area is touched, and the disk tells on
+  pub logs : (a : ℕ) → 1 < a → IsUntouched (s0.area a) (s1.area a)
+  pub others : (a : ℕ) → 2 < a → s1.area a ≡ s0.area a
+  pub tells_on : TellsOn s0 s1
+  -- wherever a crash falls, a clean disk stands for the same map
+  pub any_moment : TellsAll s0 → (m : Master) → IsCleanDisk m (areas_of s0) → LeavesOnly s0 s1 (DumpLeaves m s0)
