@@ -583,8 +583,11 @@ module _ (reached : EveryReached) (needs : EveryNeed) (answers : EveryAnswer) (e
             few = few_events;
             refused = λ why q. absurd (cc);
             refuses = λ why q. absurd (not_refused why (((state_after g (front xs ++ first)).worker 1).is_open) open_there q);
-            log = (mid_log, subst (λ (q : State). LogsEntry g q end_event log mid_log) (sym here) (record { record_of = r; entry = ap (λ (q : State). q.entries) (if_met (may g s end_event) end_met s (ends s 1 entry_s)) ∙ ap (λ q. q ∷ s.entries) (sym is_commit.entry); after = after }),
-                unlocks_logs (step g (state_after g (front xs ++ first)) end_event) rows);
+            log = (
+              mid_log,
+              subst (λ (q : State). LogsEntry g q end_event log mid_log) (sym here) (record { record_of = r; entry = ap (λ (q : State). q.entries) (if_met (may g s end_event) end_met s (ends s 1 entry_s)) ∙ ap (λ q. q ∷ s.entries) (sym is_commit.entry); after = after }),
+              unlocks_logs (step g (state_after g (front xs ++ first)) end_event) rows,
+            );
             room = λ key value e. absurd (cc);
           }
             where

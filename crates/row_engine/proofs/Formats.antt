@@ -1,6 +1,5 @@
 -- What room takes hangs on the format of an opening alone.
-use Rattle.std.proofs.Common.{◌≡◌, ◌&&◌, ◌==◌, ℕ, zero, suc, Bool, true, cond, not, ltb, length, Option, Some, None, refl, sym, ap, ◌∙◌, subst, List, ◌∷◌}
-use Rattle.map_model.specs.declared.call.Refusal.{Refusal}
+use Rattle.std.proofs.Common.{◌≡◌, ◌&&◌, ◌==◌, ℕ, zero, suc, cond, not, ltb, length, Some, None, refl, sym, ap, ◌∙◌}
 use Rattle.map_model.specs.declared.call.Refusal.TheVariants.{NoPages, TooTall}
 use Rattle.page_model.specs.Check.{some_below}
 use Rattle.page_model.specs.Nodes.{Format, covers, holds}

@@ -1,5 +1,5 @@
 -- Room that was made, in a run.
-use Rattle.std.proofs.Common.{◌≡◌, ◌⊎◌, inl, inr, ◌≤◌, ◌++◌, ◌&&◌, ◌||◌, ℕ, suc, Bool, true, false, cond, List, [], ◌∷◌, length, Option, None, refl, sym, ap, ◌∙◌, subst, arith, append-nil, true≢false}
+use Rattle.std.proofs.Common.{◌≡◌, ◌⊎◌, inl, inr, ◌≤◌, ◌++◌, ◌&&◌, ◌||◌, ℕ, suc, Bool, true, false, cond, List, [], ◌∷◌, Option, None, refl, sym, ap, ◌∙◌, subst, arith, append-nil, true≢false}
 use Rattle.std.proofs.lemmas.List.{append_assoc, length-append}
 use Rattle.map_model.specs.Lists.{all, any, keep}
 use Rattle.image_model.specs.Entries.{Contents, Entry, Kind, is_record, word_in}
@@ -26,16 +26,14 @@ use Rattle.disk_runs.specs.Quiet.{is_quiet}
 use Rattle.btree_smo.specs.Outcomes.{AreMisses}
 use Rattle.map_model.proofs.ListLemmas.{upd_same}
 use Rattle.disk_runs.specs.Stands.{Known}
-use Rattle.lean_disk.specs.Moments.{CrashIn, Framed, LeavesOnly}
+use Rattle.lean_disk.specs.Moments.{CrashIn, LeavesOnly}
 use Rattle.lean_disk.specs.Story.{Crash, Story}
 use Rattle.lean_disk.proofs.MomentLemmas as moments
 use Rattle.log_record.specs.declared.record.Record.{Record}
 use Rattle.log_calls.specs.Calls.{Anything, StagesOn}
-use Rattle.worker_log.specs.Accounts.{Account}
-use Rattle.worker_log.specs.Calls.{After}
 use Rattle.worker_log.specs.Logs.{Log}
 use Rattle.engine_calls.specs.Clauses.{Between, OnLog}
-use Rattle.engine_calls.specs.Parts.{EveryPart, Gone, behind_first}
+use Rattle.engine_calls.specs.Parts.{EveryPart, behind_first}
 use Rattle.engine_calls.proofs.PartLemmas.{whole}
 use Rattle.run_crashes.specs.Lines.{CallLeaves}
 use Rattle.engine_trait.specs.Calls.{Logs, LogsEntry, LogsOne}
@@ -213,10 +211,11 @@ module _ (parts : (old mid new : Story) → EveryPart old mid new) (g : Opening)
 
   -- it was not, since the disk failed
   pub went_failed : (es : List happening.Event) (mid : Log) (s new : Story) → Went g xs s0 k es mid base s → KeepsLog mid s new → LeavesOnly base new (CallLeaves g xs es s0 k.master) × LeavesOnly base new (CrashIn base 2 Anything)
-  went_failed es mid s new w q =
-      (subst (λ ys. LeavesOnly base new (CallLeaves g xs ys s0 k.master)) (append-nil es) (whole limits g 1 xs s0 k base s new es w.known bt [] w.gone
-          ((parts base s new limits g 1 xs s0 k es w.known bt).failed 1 (omega arith) some_worker w.gone (subst (λ (l : Log). OnLog 1 l s new) (sym w.log_is) q.on))),
-      later_within es mid s new w q)
+  went_failed es mid s new w q = (
+    subst (λ ys. LeavesOnly base new (CallLeaves g xs ys s0 k.master)) (append-nil es) (whole limits g 1 xs s0 k base s new es w.known bt [] w.gone
+        ((parts base s new limits g 1 xs s0 k es w.known bt).failed 1 (omega arith) some_worker w.gone (subst (λ (l : Log). OnLog 1 l s new) (sym w.log_is) q.on))),
+    later_within es mid s new w q,
+  )
 
 -- where there was a way to room behind the changes, there was one at first
 pub first_fits : (key : ℕ) (v u : View) (x z : Session) (was mid : Log) (d : Grows key v u x z was mid) → room_refusal (opening u.given) (state u).core key ≡ None → room_refusal (opening v.given) (state v).core key ≡ None

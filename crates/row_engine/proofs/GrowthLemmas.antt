@@ -1,5 +1,5 @@
 -- A change of the tree that was staged: what holds behind it, and what was done.
-use Rattle.std.proofs.Common.{◌≡◌, ◌⊎◌, inl, inr, ◌↔◌, ◌≤◌, ◌<◌, ◌+◌, ◌++◌, ℕ, suc, Bool, true, false, cond, List, [], ◌∷◌, length, None, Ok, refl, sym, ap, ◌∙◌, subst, arith, true≢false, eq-eqb, append-nil}
+use Rattle.std.proofs.Common.{◌≡◌, ◌⊎◌, inl, inr, ◌↔◌, ◌≤◌, ◌<◌, ◌++◌, ℕ, suc, Bool, true, false, cond, List, [], ◌∷◌, length, None, Ok, refl, sym, ap, ◌∙◌, subst, arith, true≢false, eq-eqb, append-nil}
 use Rattle.map_model.specs.Lists.{Has}
 use Rattle.page_model.specs.Records as records
 use Rattle.image_model.specs.Entries.{Entry, Kind, touches, written}

@@ -2,21 +2,19 @@
 use Rattle.std.proofs.Common.{◌≡◌, ◌⊎◌, inl, inr, ◌≤◌, ◌<◌, ◌+◌, ◌-◌, ◌^◌, ◌%◌, ◌==◌, ◌&&◌, ◌||◌, ◌++◌, ℕ, zero, suc, Bool, true, false, cond, not, leb, ltb, List, [], ◌∷◌, length, Option, Some, None, Result, Ok, Err, IfErr, IsErrAnd, refl, sym, ap, ◌∙◌, subst, arith, append-nil, true≢false}
 use Rattle.std.proofs.lemmas.Bool.{and_parts, cases_eq, leb-true, leb-false, ltb-true, eq-eqb, eqb-true}
 use Rattle.std.proofs.lemmas.List.{append_assoc, length-append}
-use Rattle.map_model.specs.declared.call.Answer.{Answer}
 use Rattle.map_model.specs.declared.call.Answer.TheVariants as answer
 use Rattle.map_model.specs.declared.call.Call.{Call}
 use Rattle.map_model.specs.declared.call.Call.TheVariants as call
 use Rattle.map_model.specs.declared.call.Refusal.{Refusal}
 use Rattle.map_model.specs.declared.call.Refusal.TheVariants as refusal
-use Rattle.map_model.specs.Lists.{all, keep}
+use Rattle.map_model.specs.Lists.{keep}
 use Rattle.map_model.specs.Pairings.{is_last_refusal}
 use Rattle.page_model.specs.Check.{some_below}
 use Rattle.page_model.specs.Nodes.{Format, Node, holds}
-use Rattle.page_model.specs.Pairs.{find}
 use Rattle.page_model.specs.Redo.{has_key, is_some}
 use Rattle.page_model.specs.Tree.{IsTree}
 use Rattle.page_model.proofs.Laws.{every_tree}
-use Rattle.image_model.specs.Entries.{Contents, Entry, is_record, word_in}
+use Rattle.image_model.specs.Entries.{Entry}
 use Rattle.core_state.specs.Openings.{Opening}
 use Rattle.core_state.specs.Events as happening
 use Rattle.core_state.specs.Needs.{are_hot, is_held_by, may, may_put, needs, value_in}
@@ -28,10 +26,7 @@ use Rattle.core_state.proofs.Runs.{run_more}
 use Rattle.lean_disk.proofs.MomentLemmas.{framed}
 use Rattle.lean_disk.specs.Moments.{Framed}
 use Rattle.lean_disk.specs.Story.{Crash, IsLawful, Story}
-use Rattle.log_record.specs.declared.record.Body.TheVariants as body
-use Rattle.log_record.specs.declared.record.Record.{Record}
 use Rattle.disk_image.specs.Records.{entry_of}
-use Rattle.worker_log.specs.Calls.{After}
 use Rattle.worker_log.specs.Logs.{Log, limit, used}
 use Rattle.core_calls.specs.Deeds.{Changed, marks_by}
 use Rattle.core_calls.specs.Fronts.{Done, front, outcomes}
@@ -40,7 +35,6 @@ use Rattle.core_calls.specs.Marks.{is_half}
 use Rattle.core_calls.specs.Refusals.{IsCause, IsFull}
 use Rattle.core_calls.specs.Runs.{Tells}
 use Rattle.core_calls.specs.Steps.{MayPutBack, is_conflict, is_step}
-use Rattle.disk_runs.specs.Logs.{Records}
 use Rattle.disk_runs.specs.Stands.{Known}
 use Rattle.engine_calls.specs.Answers.{EveryAnswer}
 use Rattle.engine_calls.specs.Clauses.{Between, EveryComing}

@@ -1,5 +1,5 @@
 -- One step of a put: a try, and a change of the tree where the leaf has no room.
-use Rattle.std.proofs.Common.{◌≡◌, ◌≤◌, ◌<◌, ◌^◌, ◌%◌, ◌++◌, ◌==◌, ℕ, zero, suc, Bool, true, false, cond, leb, List, [], ◌∷◌, length, Option, Some, None, Result, Ok, Err, refl, sym, ap, ◌∙◌, subst, arith, append-nil}
+use Rattle.std.proofs.Common.{◌≡◌, ◌<◌, ◌^◌, ◌%◌, ◌++◌, ℕ, Bool, true, false, cond, leb, List, [], ◌∷◌, length, Option, Some, None, Result, Ok, Err, refl, sym, ap, ◌∙◌, subst, arith, append-nil}
 use Rattle.std.proofs.lemmas.Bool.{leb-false, leb-true}
 use Rattle.map_model.specs.declared.call.Refusal.{Refusal}
 use Rattle.map_model.specs.declared.call.Refusal.TheVariants as refusal
@@ -23,12 +23,10 @@ use Rattle.rows_trait.specs.declared.view.View.{View}
 use Rattle.worker_log.specs.Logs.{Log, limit, used}
 use Rattle.engine_trait.specs.Refusals.{log_refusal, room_refusal}
 use Rattle.engine_trait.specs.Rooms.{IsNextRoom}
-use Rattle.row_engine.specs.Grown.{Goes, Grows, Went}
 use Rattle.row_engine.specs.Outcomes.{Crowded, HasFailed, HasNoRoom, HasPut, HasRoom, IsCrowded, IsStopped, Puts, Steps, Stopped, Tries}
 use Rattle.lean_disk.specs.Faults.{HasCause}
 use Rattle.row_engine.specs.Puts.{IsChanged, KeepsLog, MayChange, works_after}
 use Rattle.row_engine.specs.Rooms.{Grew, IsGrown, IsNoRoom, IsSpentBehind, IsUnfit}
-use Rattle.row_engine.specs.Takes.{IsSpent}
 use Rattle.row_engine.specs.declared.puts.Stepped.{Stepped}
 use Rattle.row_engine.specs.declared.puts.Stepped.TheVariants as stepped
 use Rattle.row_engine.specs.declared.puts.Tried.{Tried}

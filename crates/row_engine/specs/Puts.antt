@@ -1,9 +1,7 @@
 -- What a put does behind the taking of its row.
-use Rattle.std.specs.Prelude.{◌≡◌, ◌<◌, ◌%◌, ◌-◌, ◌^◌, ℕ, Bool, ◌++◌, true, false, [], ◌∷◌, length, Option, None, Result, Ok, Err}
+use Rattle.std.specs.Prelude.{◌≡◌, ◌<◌, ◌%◌, ◌-◌, ◌^◌, ℕ, Bool, ◌++◌, true, false, [], ◌∷◌, Option, Result, Err}
 use Rattle.map_model.specs.declared.call.Refusal.{Refusal}
 use Rattle.map_model.specs.declared.call.Refusal.TheVariants as refusal
-use Rattle.page_model.specs.Nodes.{holds}
-use Rattle.page_model.specs.Pairs.{find}
 use Rattle.core_state.specs.Events as happening
 use Rattle.core_state.specs.Needs.{is_held_by, may, value_in}
 use Rattle.lean_disk.specs.Moments.{Framed}
@@ -19,7 +17,6 @@ use Rattle.worker_log.specs.Logs.{Log, limit, used}
 use Rattle.log_calls.specs.Calls.{KeepsWithin, StagesOn}
 use Rattle.engine_calls.specs.Clauses.{OnLog}
 use Rattle.row_engine.specs.declared.session.Session.{Session}
-use Rattle.row_engine.specs.Takes.{IsSpent}
 
 -- no test refuses it, and its row is held alone
 pub record MayChange (v : View) (x : Session) (log : Log) (key : ℕ) : Type 0 where

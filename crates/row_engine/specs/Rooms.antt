@@ -1,5 +1,5 @@
 -- Room for a further key in a full leaf: what one change of the tree does, and all of them.
-use Rattle.std.specs.Prelude.{◌≡◌, ◌≢◌, ◌≤◌, ◌<◌, ◌-◌, ◌++◌, ◌^◌, ◌==◌, ◌&&◌, ltb, ℕ, zero, suc, true, false, List, [], ◌∷◌, length, slice_index, Option, Some, None, Result, Ok, Err, if◌then◌else◌}
+use Rattle.std.specs.Prelude.{◌≡◌, ◌≢◌, ◌≤◌, ◌<◌, ◌-◌, ◌++◌, ◌^◌, ◌==◌, ◌&&◌, ltb, ℕ, suc, true, false, List, [], ◌∷◌, length, slice_index, Some, None, Result, Ok, Err, if◌then◌else◌}
 use Rattle.map_model.specs.Lists.{Has}
 use Rattle.map_model.specs.declared.call.Refusal.{Refusal}
 use Rattle.map_model.specs.declared.call.Refusal.TheVariants as refusal

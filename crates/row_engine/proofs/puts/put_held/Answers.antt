@@ -1,4 +1,4 @@
-use Rattle.std.proofs.Common.{◌≡◌, ◌∙◌, Ok, Err, refl, sym}
+use Rattle.std.proofs.Common.{◌≡◌, ◌∙◌, Ok, Err, refl}
 use Rattle.row_engine.specs.declared.puts.Stepped.TheVariants as stepped
 use Rattle.engine_calls.proofs.PartLemmas.{every_part}
 use Rattle.row_engine.proofs.StepLemmas.{cause_from, ok_calm, put_last, room_more, room_none, stepped_as}
@@ -30,7 +30,7 @@ room-preserved g c =
     let i = c.room.invariant in
     let e = c.in-Ok-Grown.ensures in
     let t = stepped_as c.in-Ok-Grown.field-0 stepped.Grown c.in-Ok-Grown.field-0-is (g.R.Rows.view c.room.seat) (g.R.Rows.view c.put_step.new.seat) c.args.key c.args.value c.room.store.session c.put_step.new.store.session c.room.store.log c.put_step.new.store.log
-        (g.D.Disk.story c.room.store.disk) (g.D.Disk.story c.put_step.new.store.disk) (c.put_step.new.store ≡ c.room.store) e.steps in
+    (g.D.Disk.story c.room.store.disk) (g.D.Disk.story c.put_step.new.store.disk) (c.put_step.new.store ≡ c.room.store) e.steps in
     record {
       fits = (e.fits.0, e.fits.1 ∙ i.fits.1);
       holds = e.holds t.1.works;

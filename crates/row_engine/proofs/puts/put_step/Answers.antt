@@ -7,7 +7,7 @@ use Rattle.row_engine.proofs.puts.put_step.Goals as goal
 pub returns-in-Err-make_room-clause-steps : goal.returns-in-Err-make_room-clause-steps
 returns-in-Err-make_room-clause-steps g c =
     let t = tried_full c.in-Ok-Full.field-0 c.in-Ok-Full.field-0-is (g.R.Rows.view c.args.seat.now) (g.R.Rows.view c.put_in_leaf.new.seat) c.args.key c.args.value c.args.store.now.session c.put_in_leaf.new.store.session c.args.store.now.log c.put_in_leaf.new.store.log
-        (g.D.Disk.story c.args.store.now.disk) (g.D.Disk.story c.put_in_leaf.new.store.disk) c.put_in_leaf.new.path (c.put_in_leaf.new.store ≡ c.args.store.now) (c.put_in_leaf.new.store.session.works ≡ false) c.in-Ok-Full.ensures.tries in
+    (g.D.Disk.story c.args.store.now.disk) (g.D.Disk.story c.put_in_leaf.new.store.disk) c.put_in_leaf.new.path (c.put_in_leaf.new.store ≡ c.args.store.now) (c.put_in_leaf.new.store.session.works ≡ false) c.in-Ok-Full.ensures.tries in
     step_refused c.args.key c.args.value t.0.leaf (g.R.Rows.view c.args.seat.now) (g.R.Rows.view c.put_in_leaf.new.seat) (g.R.Rows.view c.make_room.new.seat)
     c.args.store.now.session c.make_room.new.store.session c.args.store.now.log c.make_room.new.store.log (g.D.Disk.story c.args.store.now.disk) (g.D.Disk.story c.make_room.new.store.disk)
     (c.make_room.new.store ≡ c.args.store.now) (c.make_room.new.store.session.works ≡ false) t.0.given t.0.seen c.requires.may t.0.unfit c.in-Err-make_room.why
@@ -17,7 +17,7 @@ returns-in-Err-make_room-clause-steps g c =
 pub returns-in-Some-clause-steps : goal.returns-in-Some-clause-steps
 returns-in-Some-clause-steps g c =
     let t = tried_full c.in-Ok-Full.field-0 c.in-Ok-Full.field-0-is (g.R.Rows.view c.args.seat.now) (g.R.Rows.view c.put_in_leaf.new.seat) c.args.key c.args.value c.args.store.now.session c.put_in_leaf.new.store.session c.args.store.now.log c.put_in_leaf.new.store.log
-        (g.D.Disk.story c.args.store.now.disk) (g.D.Disk.story c.put_in_leaf.new.store.disk) c.put_in_leaf.new.path (c.put_in_leaf.new.store ≡ c.args.store.now) (c.put_in_leaf.new.store.session.works ≡ false) c.in-Ok-Full.ensures.tries in
+    (g.D.Disk.story c.args.store.now.disk) (g.D.Disk.story c.put_in_leaf.new.store.disk) c.put_in_leaf.new.path (c.put_in_leaf.new.store ≡ c.args.store.now) (c.put_in_leaf.new.store.session.works ≡ false) c.in-Ok-Full.ensures.tries in
     step_stopped c.args.key c.args.value (g.R.Rows.view c.args.seat.now) (g.R.Rows.view c.make_room.new.seat) c.args.store.now.session c.make_room.new.store.session c.args.store.now.log c.make_room.new.store.log
     (g.D.Disk.story c.args.store.now.disk) (g.D.Disk.story c.make_room.new.store.disk) _
     (grown_from (g.R.Rows.view c.args.seat.now) (g.R.Rows.view c.put_in_leaf.new.seat) t.0.given t.0.seen c.args.key (g.R.Rows.view c.make_room.new.seat) c.args.store.now.session c.make_room.new.store.session c.args.store.now.log c.make_room.new.store.log
@@ -36,12 +36,14 @@ returns-in-Some-clause-cause_disk_fault g c =
 pub returns-in-None-clause-steps : goal.returns-in-None-clause-steps
 returns-in-None-clause-steps g c =
     let t = tried_full c.in-Ok-Full.field-0 c.in-Ok-Full.field-0-is (g.R.Rows.view c.args.seat.now) (g.R.Rows.view c.put_in_leaf.new.seat) c.args.key c.args.value c.args.store.now.session c.put_in_leaf.new.store.session c.args.store.now.log c.put_in_leaf.new.store.log
-        (g.D.Disk.story c.args.store.now.disk) (g.D.Disk.story c.put_in_leaf.new.store.disk) c.put_in_leaf.new.path (c.put_in_leaf.new.store ≡ c.args.store.now) (c.put_in_leaf.new.store.session.works ≡ false) c.in-Ok-Full.ensures.tries in
+    (g.D.Disk.story c.args.store.now.disk) (g.D.Disk.story c.put_in_leaf.new.store.disk) c.put_in_leaf.new.path (c.put_in_leaf.new.store ≡ c.args.store.now) (c.put_in_leaf.new.store.session.works ≡ false) c.in-Ok-Full.ensures.tries in
     let grown = grown_from (g.R.Rows.view c.args.seat.now) (g.R.Rows.view c.put_in_leaf.new.seat) t.0.given t.0.seen c.args.key (g.R.Rows.view c.make_room.new.seat) c.args.store.now.session c.make_room.new.store.session c.args.store.now.log c.make_room.new.store.log
-        (g.D.Disk.story c.args.store.now.disk) (g.D.Disk.story c.make_room.new.store.disk)
-        (subst (λ k. IsGrown c.args.key (g.R.Rows.view c.put_in_leaf.new.seat) (g.R.Rows.view c.make_room.new.seat) k.session c.make_room.new.store.session k.log c.make_room.new.store.log (g.D.Disk.story k.disk) (g.D.Disk.story c.make_room.new.store.disk)) t.1 c.in_default.ensures.grew) in
-    (grown, may_after c.args.key (g.R.Rows.view c.args.seat.now) (g.R.Rows.view c.make_room.new.seat) c.args.store.now.session c.make_room.new.store.session c.args.store.now.log c.make_room.new.store.log
-    (g.D.Disk.story c.args.store.now.disk) (g.D.Disk.story c.make_room.new.store.disk) c.requires.may grown (sym c.block_refusal.ensures ∙ c.in-None.is))
+    (g.D.Disk.story c.args.store.now.disk) (g.D.Disk.story c.make_room.new.store.disk)
+    (subst (λ k. IsGrown c.args.key (g.R.Rows.view c.put_in_leaf.new.seat) (g.R.Rows.view c.make_room.new.seat) k.session c.make_room.new.store.session k.log c.make_room.new.store.log (g.D.Disk.story k.disk) (g.D.Disk.story c.make_room.new.store.disk)) t.1 c.in_default.ensures.grew) in (
+      grown,
+      may_after c.args.key (g.R.Rows.view c.args.seat.now) (g.R.Rows.view c.make_room.new.seat) c.args.store.now.session c.make_room.new.store.session c.args.store.now.log c.make_room.new.store.log
+          (g.D.Disk.story c.args.store.now.disk) (g.D.Disk.story c.make_room.new.store.disk) c.requires.may grown (sym c.block_refusal.ensures ∙ c.in-None.is),
+    )
 
 pub returns-in-None-clause-cause_disk_fault : goal.returns-in-None-clause-cause_disk_fault
 returns-in-None-clause-cause_disk_fault g c =
