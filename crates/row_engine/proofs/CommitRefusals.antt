@@ -5,13 +5,13 @@ use Rattle.map_model.specs.declared.call.Answer.TheVariants as answer
 use Rattle.map_model.specs.declared.call.Call.TheVariants as call
 use Rattle.map_model.specs.declared.call.Refusal.{Refusal}
 use Rattle.map_model.specs.declared.call.Refusal.TheVariants as refusal
-use Rattle.map_model.specs.Lists.{Has, all, any}
+use Rattle.map_model.specs.Lists.{Has, any}
 use Rattle.map_model.specs.Pairings.{is_last_refusal}
 use Rattle.core_state.specs.Openings.{Opening}
 use Rattle.core_state.specs.Events as happening
 use Rattle.core_state.specs.States.{State}
 use Rattle.core_state.specs.Needs.{holds_row}
-use Rattle.core_state.specs.Steps.{AllMet, run, state_after, step}
+use Rattle.core_state.specs.Steps.{state_after, step}
 use Rattle.core_state.proofs.Runs.{run_more}
 use Rattle.lean_disk.specs.Story.{IsLawful, Story}
 use Rattle.lean_disk.proofs.MomentLemmas.{framed}
@@ -26,7 +26,6 @@ use Rattle.core_calls.specs.Marks.{is_half}
 use Rattle.core_calls.specs.Refusals.{IsCause}
 use Rattle.core_calls.specs.Runs.{Tells}
 use Rattle.core_calls.specs.Steps.{MayPutBack, is_conflict, is_step, is_structure}
-use Rattle.disk_runs.specs.Quiet.{is_quiet}
 use Rattle.engine_calls.specs.Answers.{EveryAnswer}
 use Rattle.engine_calls.specs.Clauses.{EveryComing}
 use Rattle.engine_calls.specs.Parts.{EveryPart, behind_first}
@@ -38,15 +37,14 @@ use Rattle.engine_trait.specs.Limits.{limits}
 use Rattle.engine_trait.specs.Refusals.{IsRefusedFor, refusal_in}
 use Rattle.row_words.specs.declared.event.Event.{Event}
 use Rattle.row_words.specs.declared.event.Event.TheVariants.{Miss}
-use Rattle.row_words.specs.declared.given.Given.{Given}
-use Rattle.row_words.specs.Moments.{Moment, events_of}
-use Rattle.row_words.specs.Sealed as sealed
+use Rattle.row_words.specs.Moments.{events_of}
 use Rattle.row_opening.specs.Openings.{EveryNeed, EveryReached}
 use Rattle.rows_trait.specs.declared.view.Hold.{Hold}
 use Rattle.rows_trait.specs.declared.view.View.{View}
 use Rattle.rows_trait.specs.Views.{Shape, state}
 use Rattle.row_engine.specs.Calls.{CallDoes, DoesOn, commit_answer}
-use Rattle.row_engine.specs.Ends.{AreMine, AreMisses, Missed}
+use Rattle.btree_smo.specs.Outcomes.{AreMisses}
+use Rattle.row_engine.specs.Ends.{AreMine, Missed}
 use Rattle.row_engine.specs.Holds.{AreStamps, Holds, IsOf}
 use Rattle.row_engine.specs.Inside.{call_test}
 use Rattle.row_engine.specs.Ties.{Ties}
@@ -55,7 +53,8 @@ use Rattle.row_engine.specs.declared.session.Session.{Session}
 use Rattle.row_engine.proofs.Behind as behind
 use Rattle.row_engine.proofs.Behind.{rows_on}
 use Rattle.row_engine.proofs.LatchLemmas.{replicated, seen_state}
-use Rattle.row_engine.proofs.Moments.{free_same, met_core, resident_on}
+use Rattle.row_engine.proofs.Misses.{misses_core, misses_log, misses_met, misses_quiet, misses_run, misses_steps, misses_structure}
+use Rattle.row_engine.proofs.Moments.{free_same, resident_on}
 
 -- ## Tests
 
@@ -100,43 +99,6 @@ start_mine frames count marks hs m e = subst (λ ms. AreMine frames count ms hs)
   latched = record { marked = λ j on. absurd (replicated count j on); others = λ j lt off. refl };
   only = λ row held. absurd (true≢false (sym held));
 }))
-
--- ## Misses
-
-misses_met : (g : Opening) (s : State) (es : List Event) → AreMisses es → AllMet g s (events_of es)
-misses_met g s [] m = tt
-misses_met g s (Miss a ∷ es) m = (refl, misses_met g s es m)
-misses_met g s _ m = absurd m
-
-misses_run : (g : Opening) (s : State) (es : List Event) → AreMisses es → run g s (events_of es) ≡ s
-misses_run g s [] m = refl
-misses_run g s (Miss a ∷ es) m = misses_run g s es m
-misses_run g s _ m = absurd m
-
-misses_steps : (es : List Event) → AreMisses es → any is_step (events_of es) ≡ false
-misses_steps [] m = refl
-misses_steps (Miss a ∷ es) m = misses_steps es m
-misses_steps _ m = absurd m
-
-misses_structure : (es : List Event) → AreMisses es → any is_structure (events_of es) ≡ false
-misses_structure [] m = refl
-misses_structure (Miss a ∷ es) m = misses_structure es m
-misses_structure _ m = absurd m
-
-misses_log : (es : List Event) → AreMisses es → any is_log (events_of es) ≡ false
-misses_log [] m = refl
-misses_log (Miss a ∷ es) m = misses_log es m
-misses_log _ m = absurd m
-
-misses_quiet : (es : List Event) → AreMisses es → all is_quiet (events_of es) ≡ true
-misses_quiet [] m = refl
-misses_quiet (Miss a ∷ es) m = misses_quiet es m
-misses_quiet _ m = absurd m
-
-misses_core : (v : Given) (k : Moment) (es : List Event) → AreMisses es → (sealed.run v k es).core ≡ k.core
-misses_core v k [] m = refl
-misses_core v k (Miss a ∷ es) m = misses_core v (sealed.stepped v k (Miss a)) es m ∙ met_core v k (Miss a) refl
-misses_core v k _ m = absurd m
 
 length_events : (es : List Event) → length (events_of es) ≡ length es
 length_events [] = refl

@@ -23,7 +23,6 @@ use Rattle.disk_image.specs.Records.{entry_of}
 use Rattle.disk_runs.specs.Laws.{with_log}
 use Rattle.disk_runs.specs.Logs.{Records}
 use Rattle.disk_runs.specs.Quiet.{is_quiet}
-use Rattle.btree_smo.specs.Outcomes.{AreMisses}
 use Rattle.map_model.proofs.ListLemmas.{upd_same}
 use Rattle.disk_runs.specs.Stands.{Known}
 use Rattle.lean_disk.specs.Moments.{CrashIn, LeavesOnly}
@@ -53,14 +52,11 @@ use Rattle.row_engine.specs.Grown.{AreAside, Behind, Gained, Goes, Grows, Went, 
 use Rattle.row_engine.specs.Rooms.{IsGrown, IsGrowth}
 use Rattle.row_engine.proofs.Behind as behind
 use Rattle.row_engine.proofs.Formats.{next_as}
+use Rattle.row_engine.proofs.Misses.{is_miss}
 use Rattle.row_engine.proofs.Moments.{events_more}
 use Rattle.row_engine.proofs.CommitLemmas.{framed_then, within_then}
 
 -- ## Changes of the tree
-
-abbrev pub is_miss : happening.Event → Bool
-is_miss (happening.Event.Miss w) = true
-is_miss _ = false
 
 -- what is so of one
 pub record Aside (e : happening.Event) : Type 0 where
@@ -412,25 +408,3 @@ module _ (reached : EveryReached) (need : EveryNeed) (parts : (old mid new : Sto
       makes = q.makes;
     };
   }
-
--- ## Misses
-
-pub misses_met : (g : Opening) (t : State) (es : List Event) → AreMisses es → AllMet g t (events_of es)
-misses_met g t [] a = tt
-misses_met g t (event.Miss v ∷ es) a = (refl, misses_met g (core.step g t (happening.Event.Miss v)) es a)
-misses_met g t (_ ∷ es) a = absurd a
-
-pub misses_aside : (es : List Event) → AreMisses es → AreAside (events_of es)
-misses_aside [] a = refl
-misses_aside (event.Miss v ∷ es) a = misses_aside es a
-misses_aside (_ ∷ es) a = absurd a
-
-pub misses_are : (es : List Event) → AreMisses es → all is_miss (events_of es) ≡ true
-misses_are [] a = refl
-misses_are (event.Miss v ∷ es) a = misses_are es a
-misses_are (_ ∷ es) a = absurd a
-
-pub misses_quiet : (es : List Event) → AreMisses es → all is_quiet (events_of es) ≡ true
-misses_quiet [] a = refl
-misses_quiet (event.Miss v ∷ es) a = misses_quiet es a
-misses_quiet (_ ∷ es) a = absurd a

@@ -12,18 +12,16 @@ use Rattle.log_record.specs.declared.record.Record.{Record}
 use Rattle.disk_image.specs.Records.{entry_of}
 use Rattle.worker_log.specs.Logs.{Log}
 use Rattle.row_words.specs.declared.event.Event.{Event}
-use Rattle.row_words.specs.declared.event.Event.TheVariants.{Miss}
-use Rattle.row_words.specs.declared.given.Given.{Given}
 use Rattle.row_words.specs.Moments.{Moment, event_of}
 use Rattle.row_words.specs.Openings.{opening}
-use Rattle.row_words.specs.Sealed.{begun, run, stepped}
+use Rattle.row_words.specs.Sealed.{begun}
 use Rattle.row_words.proofs.SealedLemmas.{run_append}
 use Rattle.rows_trait.specs.Causes.{EveryLow}
 use Rattle.rows_trait.specs.Views.{AreLow, Shape, after_all, state}
 use Rattle.rows_trait.specs.declared.view.View.{View}
 use Rattle.btree_descent.specs.Known.{Sound}
 use Rattle.btree_descent.specs.Puts.{Onward, clock_in}
-use Rattle.btree_smo.specs.Outcomes.{AreMisses, Caused, Changed, IsHotIn, Missed, WasSo}
+use Rattle.btree_smo.specs.Outcomes.{Caused, Changed, IsHotIn, Missed, WasSo}
 use Rattle.btree_smo.specs.declared.outcome.Outcome.TheVariants.{RowSpent}
 use Rattle.engine_trait.specs.Refusals.{room_refusal}
 use Rattle.engine_trait.specs.Rooms.{IsNextRoom}
@@ -34,7 +32,8 @@ use Rattle.row_engine.specs.Rooms.{IsGrown, IsGrowth, IsSpentBehind}
 use Rattle.row_engine.specs.Staging.{Staging, session_clock}
 use Rattle.row_engine.specs.declared.session.Session.{Session}
 use Rattle.row_engine.proofs.Behind.{rows_on}
-use Rattle.row_engine.proofs.Moments.{met_core, resident_on}
+use Rattle.row_engine.proofs.Moments.{resident_on}
+use Rattle.row_engine.proofs.Misses.{misses_core}
 use Rattle.row_engine.proofs.PutLemmas.{ran_seen, same_flushed, seen_core}
 use Rattle.row_engine.proofs.TakeLemmas.{touch_still}
 
@@ -50,16 +49,10 @@ now_is alone v w past is given o =
 pub was_then : (alone : Bool) (v w : View) (P : Moment → Type 0) → alone ≡ true → w.given ≡ v.given → WasSo alone v w P → P (state v)
 was_then alone v w P is given so = subst P (now_is alone v w so.past is given so.onward) so.so
 
--- misses leave the core as it was
-miss_run : (v : Given) (m : Moment) (es : List Event) → AreMisses es → (run v m es).core ≡ m.core
-miss_run v m [] are = refl
-miss_run v m (Miss w ∷ es) are = miss_run v (stepped v m (Miss w)) es are ∙ met_core v m (Miss w) refl
-miss_run v m (_ ∷ es) are = absurd are
-
 pub missed_core : (alone : Bool) (v w : View) → alone ≡ true → Missed alone v w → (state w).core ≡ (state v).core
 missed_core alone v w is m =
     ap (λ n. n.core) ((λ i. after_all (m.ran.given i) (ran_seen alone v w m.events is m.ran i)) ∙ run_append v.given (begun v.given) v.seen m.events)
-    ∙ miss_run v.given (state v) m.events m.misses
+    ∙ misses_core v.given (state v) m.events m.misses
 
 -- ## Where the core is as it was
 

@@ -33,7 +33,8 @@ use Rattle.key_locks.specs.declared.latches.Unlatched.TheVariants.{Moved, Latche
 use Rattle.key_locks.specs.Latching.{AreLatched, IsAlone, IsGivenUp, NotLatched, is_marked}
 use Rattle.key_locks.specs.Rows.{IsWorker, Sized, Spans}
 use Rattle.key_locks.proofs.Masks.{others_not}
-use Rattle.row_engine.specs.Ends.{AreAmong, AreHeld, AreMarkedTo, AreMine, AreMisses, Gave, Gives, Giving, Latching, Missed, Missing, gives}
+use Rattle.btree_smo.specs.Outcomes.{AreMisses}
+use Rattle.row_engine.specs.Ends.{AreAmong, AreHeld, AreMarkedTo, AreMine, Gave, Gives, Giving, Latching, Missed, Missing, gives}
 use Rattle.row_engine.specs.Held.{Held}
 use Rattle.row_engine.proofs.Moments.{met_core}
 

@@ -1,4 +1,5 @@
 pub mod Moments
+pub mod Misses
 pub mod Waiting
 pub mod Behind
 pub mod BeginLemmas

@@ -71,7 +71,8 @@ use Rattle.row_engine.specs.declared.session.Session.{Session}
 use Rattle.row_engine.proofs.Behind as behind
 use Rattle.row_engine.proofs.BeginLemmas.{comes_told}
 use Rattle.row_engine.proofs.Formats.{full_as, full_on, refusal_as, refusal_on}
-use Rattle.row_engine.proofs.GrowRuns.{Asides, all_append, asides, logs_more, logs_same, makes_more, makes_same, misses_are, misses_aside, misses_met, misses_quiet, record_in, went_quiet}
+use Rattle.row_engine.proofs.GrowRuns.{Asides, all_append, asides, logs_more, logs_same, makes_more, makes_same, record_in, went_quiet}
+use Rattle.row_engine.proofs.Misses.{misses_are, misses_aside, misses_met, misses_quiet}
 use Rattle.row_engine.proofs.Moments.{events_more}
 use Rattle.row_engine.proofs.TakeLemmas.{with_count}
 use Rattle.row_engine.proofs.PutLemmas.{seen_core}

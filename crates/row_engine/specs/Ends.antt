@@ -5,7 +5,7 @@ use Rattle.core_state.specs.Needs.{holds_row}
 use Rattle.core_state.specs.Steps.{AllMet, run}
 use Rattle.engine_calls.specs.Commits.{ending, unlocks}
 use Rattle.row_words.specs.declared.event.Event.{Event}
-use Rattle.row_words.specs.declared.event.Event.TheVariants.{End, Miss, Unlock}
+use Rattle.row_words.specs.declared.event.Event.TheVariants.{End, Unlock}
 use Rattle.row_words.specs.Openings.{opening}
 use Rattle.rows_trait.specs.declared.view.Hold.{Hold}
 use Rattle.rows_trait.specs.declared.view.View.{View}
@@ -14,6 +14,7 @@ use Rattle.key_locks.specs.Latching.{AreLatched, is_marked}
 use Rattle.key_locks.specs.Rows.{Sized}
 use Rattle.lean_proto.specs.Controls.{CanEnd}
 use Rattle.worker_log.specs.Logs.{Log}
+use Rattle.btree_smo.specs.Outcomes.{AreMisses}
 use Rattle.row_engine.specs.Held.{Held}
 use Rattle.row_engine.specs.Holds.{Holds}
 use Rattle.row_engine.specs.declared.session.Session.{Session}
@@ -49,12 +50,6 @@ pub record Latched (z : Shape) (v : View) (x : Session) (log : Log) (marks : Lis
   pub all : (i : ℕ) → Has i x.held.rows → is_marked marks i ≡ true
 
 -- ## Latches that are given back
-
--- misses, and nothing else
-abbrev pub AreMisses : List Event → Type 0
-AreMisses [] = Unit {0}
-AreMisses (Miss a ∷ es) = AreMisses es
-AreMisses _ = ⊥
 
 -- no row is latched, and all that was seen are so many misses at most
 pub record Missed (most : ℕ) (v w : View) : Type 0 where
