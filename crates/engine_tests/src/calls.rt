@@ -142,19 +142,21 @@ static CASES: [Case; 7] = [
         moment: 96,
     },
     Case {
-        name: "a leaf has room for sixty keys",
+        name: "a leaf has room for sixty keys and the next one makes room",
         clock: 0,
         failing: &[],
         steps: &[
             Step::Begun(1),
             Step::Keys(60),
-            Step::Call(Asked::Put(60, 7), refused!(Refusal::Full)),
+            // The root is lifted and the leaf is split: numbers 61 and 62.
+            Step::Call(Asked::Put(60, 7), WAS_NONE),
             Step::Call(Asked::Put(59, 8), WAS_7),
             Step::Call(Asked::Get(59), VALUE_8),
-            committed!(1, 62),
+            committed!(1, 65),
         ],
-        bytes: 4096,
-        moment: 3,
+        // 37 changes in the first block and 23 in the second one, which has no room for the 999 bytes of the lift.
+        bytes: 6144,
+        moment: 4,
     },
     Case {
         name: "the clock ends",
