@@ -1,5 +1,5 @@
 -- What stands of a run's calls on the disk that it leaves.
-use Rattle.std.specs.Prelude.{◌≡◌, ◌++◌, ◌+◌, ◌<◌, ◌%◌, ℕ, List, Option, Some}
+use Rattle.std.specs.Prelude.{◌≡◌, ◌++◌, ◌+◌, ◌<◌, ◌%◌, ℕ, List, [], Option, Some}
 use Rattle.image_model.specs.Entries.{Entry}
 use Rattle.image_model.specs.Images.{found}
 use Rattle.image_model.specs.Slots.{base_of}
@@ -18,7 +18,6 @@ use Rattle.core_calls.specs.Fronts.{Done, front}
 use Rattle.core_calls.specs.Runs.{EachTells, Tells}
 use Rattle.run_crashes.specs.Lines.{FellIn}
 use Rattle.engine_trait.specs.Limits.{limits}
-use Rattle.engine_trait.specs.Rooms.{AreRoom}
 use Rattle.map_model.specs.Pairings.{in_turn, script_of}
 use Rattle.transcripts.specs.Laws.{ComesNext}
 use Rattle.transcripts.specs.Told.{ask}
@@ -40,10 +39,13 @@ pub record IsNextCall (g : Opening) (input : List ℕ) (heard : List Done) (x : 
   pub line : ComesNext (script_of (calls_of heard)) (ask 1 (asked x.outcome.deed)) input
   pub tells : Tells limits g 1 heard x
 
+-- there are none
+abbrev pub NoEvents : List Event → Type 0
+NoEvents es = es ≡ []
+
 -- By the next master each page's base is the start's, and the records are the oldest of those that a run of the core logs from there: of the calls of
--- which the lines that were out tell, and of the first events of at most one more, or of the loads, locks and changes of the tree by which a put that was
--- not answered made room.
-pub record IsLeft (m : Master) (s : Story) (input output : List ℕ) (c : Crash) : Type 0 where
+-- which the lines that were out tell, and of the first events of at most one more; or of such events of a call that was not answered.
+pub record IsLeft (Such : List Event → Type 0) (m : Master) (s : Story) (input output : List ℕ) (c : Crash) : Type 0 where
   pub lines : ℕ
   pub notes : c.notes ≡ s.notes + lines
   pub n : Master
@@ -60,7 +62,7 @@ pub record IsLeft (m : Master) (s : Story) (input output : List ℕ) (c : Crash)
   pub next_one : Option Done
   pub is_next : (x : Done) → next_one ≡ Some x → IsNextCall opening input heard x
   pub behind : List Event
-  pub fell : FellIn AreRoom next_one behind
+  pub fell : FellIn Such next_one behind
   pub newer : List Entry
   pub left : List Entry
   pub logged : newer ++ left ≡ log_of 1 (state_after opening (front heard ++ behind)).entries

@@ -29,6 +29,7 @@ use Rattle.disk_image.specs.MasterSlots.{master_on}
 use Rattle.disk_image.specs.Runs.{entries_in}
 use Rattle.disk_image.specs.Shown.{Areas, DiskStandsFor, image_by, logged_in, run_of, shown_by}
 use Rattle.recovery.specs.Crashes.{IsNextOf}
+use Rattle.core_state.specs.Events.{Event}
 use Rattle.core_state.specs.Openings.{Opening, first_map, start_page}
 use Rattle.core_calls.specs.Crashes.{HasOneInHand}
 use Rattle.core_calls.specs.Deeds.{Committed, Deed, Outcome, answered, asked, in_words}
@@ -84,11 +85,11 @@ some_is x y e = cc
 -- ## A crash
 
 module _ (laws : Laws) (m : Master) (s0 sa : Story) (g : Opening) (n1 : Master) (b : IsBegun m s0 sa g n1) (xs : List Done) (each : EachTells limits g 1 xs) (c0 : Crash) (input put : List ℕ) (generation winners undone : ℕ)
-    (d : Crash) (o : WasOut g xs c0 m s0 sa input put generation winners undone d) where
+    (d : Crash) (Such : List Event → Type 0) (o : WasOut Such g xs c0 m s0 sa input put generation winners undone d) where
   abbrev c : Crash
   c = o.crash
 
-  abbrev q : RunLeft g AreRoom xs c0 m o.crash
+  abbrev q : RunLeft g Such xs c0 m o.crash
   q = o.left
 
   abbrev said : List Answered
@@ -122,7 +123,7 @@ module _ (laws : Laws) (m : Master) (s0 sa : Story) (g : Opening) (n1 : Master) 
         log = λ w low high since e. subst (IsFair 2048 blocks.IsSealed (c0.image (suc w)) since) (o.same.image (suc w)) (f.log w low (let l = b.starts.logs in omega arith) since (o.same.writes (suc w) ∙ e));
       }
 
-  module _ (r : Recovers g AreRoom o.left.heard (next_of o.left.unheard) o.left.out m o.crash.image) where
+  module _ (r : Recovers g Such o.left.heard (next_of o.left.unheard) o.left.out m o.crash.image) where
     -- the master that counts is that of the opening
     n_is : r.n ≡ n1
     n_is = some_is r.n n1 (sym r.holds.master ∙ (ap master_on zero_is ∙ b.master))
@@ -276,7 +277,7 @@ module _ (laws : Laws) (m : Master) (s0 sa : Story) (g : Opening) (n1 : Master) 
     next : IsNextOf m (areas_of s0) r.n
     next = subst (IsNextOf m (areas_of s0)) (sym n_is) b.next
 
-    left : IsLeft m s0 input put (with_bytes o.crash.image)
+    left : IsLeft Such m s0 input put (with_bytes o.crash.image)
     left = record {
       lines = o.lines;
       notes = o.notes;
@@ -304,22 +305,30 @@ module _ (laws : Laws) (m : Master) (s0 sa : Story) (g : Opening) (n1 : Master) 
       records = found_is ∙ h.holds.entries;
     }
 
-    left_there : IsLeft m s0 input put d
-    left_there = subst (λ (i : Areas). IsLeft m s0 input put (with_bytes i)) (sym (fun_ext o.same.image)) left
+    left_there : IsLeft Such m s0 input put d
+    left_there = subst (λ (i : Areas). IsLeft Such m s0 input put (with_bytes i)) (sym (fun_ext o.same.image)) left
 
-    lives : Lives m s0 input put d
-    lives = subst (λ (i : Areas). Lives m s0 input put (with_bytes i)) (sym (fun_ext o.same.image))
-        (record { survives = survives; master = record { n = r.n; counts = r.holds.master; is = inr next; left = inr left } })
+    survives_there : Survives m s0 input put d
+    survives_there = subst (λ (i : Areas). Survives m s0 input put (with_bytes i)) (sym (fun_ext o.same.image)) survives
 
   -- from what recovery gives
-  pub lives_now : Recovers g AreRoom o.left.heard (next_of o.left.unheard) o.left.out m o.crash.image → Lives m s0 input put d
-  lives_now r = lives r
+  pub survives_now : Recovers g Such o.left.heard (next_of o.left.unheard) o.left.out m o.crash.image → Survives m s0 input put d
+  survives_now r = survives_there r
 
-  pub left_now : Recovers g AreRoom o.left.heard (next_of o.left.unheard) o.left.out m o.crash.image → IsLeft m s0 input put d
+  pub left_now : Recovers g Such o.left.heard (next_of o.left.unheard) o.left.out m o.crash.image → IsLeft Such m s0 input put d
   left_now r = left_there r
 
+-- where a put may have been stopped
+module _ (laws : Laws) (m : Master) (s0 sa : Story) (g : Opening) (n1 : Master) (b : IsBegun m s0 sa g n1) (xs : List Done) (each : EachTells limits g 1 xs) (c0 : Crash) (input put : List ℕ) (generation winners undone : ℕ)
+    (d : Crash) (o : WasOut AreRoom g xs c0 m s0 sa input put generation winners undone d) where
+  module _ (r : Recovers g AreRoom o.left.heard (next_of o.left.unheard) o.left.out m o.crash.image) where
+    lives : Lives m s0 input put d
+    lives =
+        let l = left_now laws m s0 sa g n1 b xs each c0 input put generation winners undone d AreRoom o r in
+        record { survives = survives_now laws m s0 sa g n1 b xs each c0 input put generation winners undone d AreRoom o r; master = record { n = l.n; counts = l.counts; is = inr l.next; left = inr l } }
+
   pub lives_as : EveryFair s0 → IsAsRead s0 c0 → IsFairCrash (length m.heads) s0 d → Lives m s0 input put d
-  lives_as fair_law read fair = lives (o.left.recovers (fair_from fair_law read fair))
+  lives_as fair_law read fair = lives (o.left.recovers (fair_from laws m s0 sa g n1 b xs each c0 input put generation winners undone d AreRoom o fair_law read fair))
 
 pub every_left : Laws → (s0 sa : Story) → EveryFair s0 → EveryLeft s0 sa
 every_left laws s0 sa fair_law m n g xs c0 b each read input put generation winners undone d o fair =

@@ -74,10 +74,10 @@ use Rattle.lean_shell.specs.Inside.Assembled.{EveryRun}
 use Rattle.lean_shell.specs.Inside.Openings.{EndsWith}
 use Rattle.lean_shell.specs.Lines.{IsPut}
 use Rattle.lean_shell.specs.Runs.{Counts, ended, first_line}
-use Rattle.lean_shell.specs.Starts.{IsLeft}
+use Rattle.lean_shell.specs.Starts.{IsLeft, NoEvents}
 use Rattle.lean_shell.proofs.Runs.EndLemmas.{HasLines, HeardOf, final_tail, heard_of, lines_of}
 use Rattle.lean_shell.proofs.Runs.LastLemmas.{Last, last_of}
-use Rattle.lean_shell.proofs.Runs.LeftLemmas.{left_now, lives_as, lives_now}
+use Rattle.lean_shell.proofs.Runs.LeftLemmas.{left_now, lives_as, survives_now}
 use Rattle.lean_shell.proofs.Runs.MomentLemmas.{line_moments, put_moments, same_but, then}
 use Rattle.lean_shell.proofs.Runs.OutputLemmas.{Out, earlier_fit, few_replies, no_tail, older_fit, out_of, prefix_few, same_prefix}
 use Rattle.lean_shell.proofs.Runs.PrintedLemmas.{replies_are, tells_first}
@@ -167,7 +167,7 @@ record HeardNow (g : Opening) (calls : List Done) (told : List Reply) : Type 0 w
   are : unheard ++ heard ≡ calls
   missing : List Name
   lines : durable_lines missing ++ told ≡ printed g heard
-  recovers : (shows : EveryShown) (crashes : EveryRunCrash) (agrees : EveryAgreement) (m n : Master) (area : ℕ → List ℕ) → IsOfRun m n → HoldsRun g (front calls) n area → Recovers g AreRoom heard (next_of unheard) told m area
+  recovers : (shows : EveryShown) (crashes : EveryRunCrash) (agrees : EveryAgreement) (m n : Master) (area : ℕ → List ℕ) → IsOfRun m n → HoldsRun g (front calls) n area → Recovers g NoEvents heard (next_of unheard) told m area
 
 -- the replies to all calls but the last are told
 abbrev IsCutLast : Opening → List Done → List Reply → Type 0
@@ -181,7 +181,7 @@ heard_now g [] newer told each e cut = record {
   are = refl;
   missing = [];
   lines = none newer told e;
-  recovers = λ shows crashes agrees m n area of_run h. (every_reopened_for shows crashes agrees AreRoom limits g 1 [] m n area).behind [] told tt (none newer told e) of_run h;
+  recovers = λ shows crashes agrees m n area of_run h. (every_reopened_for shows crashes agrees NoEvents limits g 1 [] m n area).behind [] told tt (none newer told e) of_run h;
 }
   where
     none : (newer told : List Reply) → newer ++ told ≡ [] → told ≡ []
@@ -193,14 +193,14 @@ heard_now g (x ∷ earlier) newer told each e cut = ⊎_elim (λ l. record {
   are = refl;
   missing = l.missing;
   lines = l.is;
-  recovers = λ shows crashes agrees m n area of_run h. (every_reopened_for shows crashes agrees AreRoom limits g 1 (x ∷ earlier) m n area).behind (durable_lines l.missing) told each l.is of_run h;
+  recovers = λ shows crashes agrees m n area of_run h. (every_reopened_for shows crashes agrees NoEvents limits g 1 (x ∷ earlier) m n area).behind (durable_lines l.missing) told each l.is of_run h;
 }) (λ l. record {
   unheard = x ∷ [];
   heard = earlier;
   are = refl;
   missing = [];
   lines = same l.0 l.1;
-  recovers = λ shows crashes agrees m n area of_run h. (every_reopened_for shows crashes agrees AreRoom limits g 1 earlier m n area).between x x.events [] [] told each (append-nil x.events) (same l.0 l.1) of_run h;
+  recovers = λ shows crashes agrees m n area of_run h. (every_reopened_for shows crashes agrees NoEvents limits g 1 earlier m n area).between x x.events [] [] told each (append-nil x.events) (same l.0 l.1) of_run h;
 }) (lacks (due g (state_after g (front (x ∷ earlier))) (durables g (moments_in earlier))) x.outcome.session (answered x.outcome.deed) (printed g earlier) newer told e)
   where
     same : (n : List Reply) → n ++ told ≡ printed g earlier → told ≡ printed g earlier
@@ -463,7 +463,7 @@ module _ (laws : Laws) (s0 sa sb sc s1 : Story) (law_a : IsLawful sa) (law_c : I
 
     -- so it was out
     was_out : (xs : List Done) (c : Crash) (q : RunLeft g AreRoom xs c0 m c) → Knows xs c q → StaysIn2 (length r.told) sb c → (d : Crash) → IsSameBut c d → (lines_out : ℕ) → d.notes ≡ s0.notes + lines_out → IsOutput counts.generation counts.winners counts.undone q.out (first_lines lines_out put) →
-        WasOut g xs c0 m s0 sa input put counts.generation counts.winners counts.undone d
+        WasOut AreRoom g xs c0 m s0 sa input put counts.generation counts.winners counts.undone d
     was_out xs c q k stays d same lines_out notes is = record { crash = c; left = q; areas = areas_kept c stays; same = same; lines = lines_out; notes = notes; output = is; fits = k.fits; script = k.script }
 
     as_began : IsAsRead s0 c0
@@ -477,7 +477,7 @@ module _ (laws : Laws) (s0 sa sb sc s1 : Story) (law_a : IsLawful sa) (law_c : I
       script : LeavesOnly sb sc Q
       script = both sb sc (StaysIn2 (length r.told) sb) (RunLeft g AreRoom xs c0 m) disk.0 run
 
-      lives_on : (d : Crash) → WasOut g xs c0 m s0 sa input put counts.generation counts.winners counts.undone d → LivesOn m s0 input put d
+      lives_on : (d : Crash) → WasOut AreRoom g xs c0 m s0 sa input put counts.generation counts.winners counts.undone d → LivesOn m s0 input put d
       lives_on d w = inr (λ fair. lives_as laws m s0 sa g b.n b.begun xs each_x c0 input put counts.generation counts.winners counts.undone d w (every_fair s0) as_began fair)
 
       in_script : (c : Crash) → Q c → LivesOn m s0 input put c
@@ -563,14 +563,14 @@ module _ (laws : Laws) (s0 sa sb sc s1 : Story) (law_a : IsLawful sa) (law_c : I
       now_heard : HeardNow g r.newer r.told
       now_heard = let t = told_first stop (replies said) r.told r.tail r.prints in heard_now g r.newer t.0 r.told each (t.1 ∙ sym printed_is) cut
 
-      recovered : Recovers g AreRoom now_heard.heard (next_of now_heard.unheard) r.told m (areas_of s1)
+      recovered : Recovers g NoEvents now_heard.heard (next_of now_heard.unheard) r.told m (areas_of s1)
       recovered = now_heard.recovers laws.shown laws.crashes laws.agrees m st.known.master (areas_of s1) (subst (IsOfRun m) (sym st.master_is) of_known) holds_now
 
       -- that crash, with the notes of these replies
       abbrev c1 : Crash
       c1 = record { notes = s0.notes + 1 + length r.told; writes = λ a. (s1.area a).writes; image = areas_of s1 }
 
-      abbrev q1 : RunLeft g AreRoom r.newer c0 m c1
+      abbrev q1 : RunLeft g NoEvents r.newer c0 m c1
       q1 = record { unheard = now_heard.unheard; heard = now_heard.heard; calls = now_heard.are; missing = now_heard.missing; out = r.told; lines = now_heard.lines; notes = refl; recovers = λ fair. recovered }
 
       areas_1 : KeepsAreas sa c1
@@ -578,7 +578,7 @@ module _ (laws : Laws) (s0 sa sb sc s1 : Story) (law_a : IsLawful sa) (law_c : I
           let same : s1.area a ≡ sa.area a = l.notes.area a ∙ (r.others.area a (λ e. omega arith) ∙ noted.area a) in
           subst (λ (x : Area). Leaves x (areas_of s1 a)) same (law_1.reads_so a (stands_1.tells a (let w = o.of_one.workers in omega arith)))
 
-      abbrev was_now : (lines_out : ℕ) → s1.notes ≡ s0.notes + lines_out → IsOutput counts.generation counts.winners counts.undone r.told (first_lines lines_out put) → WasOut g r.newer c0 m s0 sa input put counts.generation counts.winners counts.undone (as_read s1)
+      abbrev was_now : (lines_out : ℕ) → s1.notes ≡ s0.notes + lines_out → IsOutput counts.generation counts.winners counts.undone r.told (first_lines lines_out put) → WasOut NoEvents g r.newer c0 m s0 sa input put counts.generation counts.winners counts.undone (as_read s1)
       was_now lines_out notes is = record {
         crash = c1;
         left = q1;
@@ -596,14 +596,14 @@ module _ (laws : Laws) (s0 sa sb sc s1 : Story) (law_a : IsLawful sa) (law_c : I
 
       pub stands : Survives m s0 input put (as_read s1)
       stands = ⊎_elim
-          (λ (e : s1.notes ≡ sc.notes). (lives_now laws m s0 sa g b.n b.begun r.newer each c0 input put counts.generation counts.winners counts.undone (as_read s1) (was_now (suc (length r.told)) (let n = notes_c in let b = notes_b in omega arith) (first_output [] r.told refl)) recovered).survives)
-          (λ (e : (s1.notes ≡ sc.notes + 1) × (stop ≡ stops.WriteFault → ⊥)). (lives_now laws m s0 sa g b.n b.begun r.newer each c0 input put counts.generation counts.winners counts.undone (as_read s1) (was_now (suc (suc (length r.told))) (let n = notes_c in let b = notes_b in let f = e.0 in omega arith) (last_output e.1)) recovered).survives)
+          (λ (e : s1.notes ≡ sc.notes). survives_now laws m s0 sa g b.n b.begun r.newer each c0 input put counts.generation counts.winners counts.undone (as_read s1) NoEvents (was_now (suc (length r.told)) (let n = notes_c in let b = notes_b in omega arith) (first_output [] r.told refl)) recovered)
+          (λ (e : (s1.notes ≡ sc.notes + 1) × (stop ≡ stops.WriteFault → ⊥)). survives_now laws m s0 sa g b.n b.begun r.newer each c0 input put counts.generation counts.winners counts.undone (as_read s1) NoEvents (was_now (suc (suc (length r.told))) (let n = notes_c in let b = notes_b in let f = e.0 in omega arith) (last_output e.1)) recovered)
           (l.noted (let a = told_few in let b = notes_b in let y = young.notes in let n = notes_c in omega arith) (as_read s1) now)
 
-      pub stays : IsLeft m s0 input put (as_read s1)
+      pub stays : IsLeft NoEvents m s0 input put (as_read s1)
       stays = ⊎_elim
-          (λ (e : s1.notes ≡ sc.notes). left_now laws m s0 sa g b.n b.begun r.newer each c0 input put counts.generation counts.winners counts.undone (as_read s1) (was_now (suc (length r.told)) (let n = notes_c in let b = notes_b in omega arith) (first_output [] r.told refl)) recovered)
-          (λ (e : (s1.notes ≡ sc.notes + 1) × (stop ≡ stops.WriteFault → ⊥)). left_now laws m s0 sa g b.n b.begun r.newer each c0 input put counts.generation counts.winners counts.undone (as_read s1) (was_now (suc (suc (length r.told))) (let n = notes_c in let b = notes_b in let f = e.0 in omega arith) (last_output e.1)) recovered)
+          (λ (e : s1.notes ≡ sc.notes). left_now laws m s0 sa g b.n b.begun r.newer each c0 input put counts.generation counts.winners counts.undone (as_read s1) NoEvents (was_now (suc (length r.told)) (let n = notes_c in let b = notes_b in omega arith) (first_output [] r.told refl)) recovered)
+          (λ (e : (s1.notes ≡ sc.notes + 1) × (stop ≡ stops.WriteFault → ⊥)). left_now laws m s0 sa g b.n b.begun r.newer each c0 input put counts.generation counts.winners counts.undone (as_read s1) NoEvents (was_now (suc (suc (length r.told))) (let n = notes_c in let b = notes_b in let f = e.0 in omega arith) (last_output e.1)) recovered)
           (l.noted (let a = told_few in let b = notes_b in let y = young.notes in let n = notes_c in omega arith) (as_read s1) now)
 
   pub run_says : IsTrue feed0.tells → TellsAll s0 → Headline s0 s1 input put

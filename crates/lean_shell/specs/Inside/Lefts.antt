@@ -12,6 +12,7 @@ use Rattle.recovery.specs.Crashes.{IsNextOf}
 use Rattle.recovery.specs.Opened.{IsSettled}
 use Rattle.recovery.specs.Starts.{IsStartOf}
 use Rattle.core_state.specs.Openings.{Opening, start_page, first_map}
+use Rattle.core_state.specs.Events.{Event}
 use Rattle.core_calls.specs.Deeds.{Outcome, asked}
 use Rattle.core_calls.specs.Fronts.{Done}
 use Rattle.core_calls.specs.Runs.{EachTells}
@@ -71,9 +72,9 @@ pub record HasLinesFor (input : List ℕ) (heard : List Done) (next : Option Don
   pub asks : (x : Done) → next ≡ Some x → AsksNext x.outcome others
 
 -- A crash of a run of these outcomes, with another count of notes: as so many lines of an output were out, which have the lines that were out in the run.
-pub record WasOut (g : Opening) (xs : List Done) (c0 : Crash) (m : Master) (s0 sa : Story) (input put : List ℕ) (generation winners undone : ℕ) (d : Crash) : Type 0 where
+pub record WasOut (Such : List Event → Type 0) (g : Opening) (xs : List Done) (c0 : Crash) (m : Master) (s0 sa : Story) (input put : List ℕ) (generation winners undone : ℕ) (d : Crash) : Type 0 where
   pub crash : Crash
-  pub left : RunLeft g AreRoom xs c0 m crash
+  pub left : RunLeft g Such xs c0 m crash
   pub areas : KeepsAreas sa crash
   pub same : IsSameBut crash d
   pub lines : ℕ
@@ -85,4 +86,4 @@ pub record WasOut (g : Opening) (xs : List Done) (c0 : Crash) (m : Master) (s0 s
 -- Such a crash survives, if it is fair.
 abbrev pub EveryLeft : (s0 sa : Story) → Type 0
 EveryLeft s0 sa = (m n : Master) (g : Opening) (xs : List Done) (c0 : Crash) → IsBegun m s0 sa g n → EachTells limits g 1 xs → IsAsRead s0 c0 → (input put : List ℕ) (generation winners undone : ℕ) (d : Crash) →
-    WasOut g xs c0 m s0 sa input put generation winners undone d → IsFairCrash (length m.heads) s0 d → Lives m s0 input put d
+    WasOut AreRoom g xs c0 m s0 sa input put generation winners undone d → IsFairCrash (length m.heads) s0 d → Lives m s0 input put d
