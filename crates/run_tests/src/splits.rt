@@ -26,7 +26,8 @@ const TEXT: &str =
     "1 begin;1 put 3662 8;1 commit;1 begin;1 put 61 9;1 commit;1 begin;1 put 2 10;1 commit;";
 
 // 1,860 changes, 31 commits, 59 splits and a lift went before.
-const LINES: &str = "open 3 winners 0 undone 0;1 begun 1.1;1 was none;1 committed 1.1 at 1956;1 durable 1.1;1 begun 1.2;1 was none;1 committed 1.2 at 1959;1 durable 1.2;1 begun 1.3;1 was 3;1 committed 1.3 at 1961;1 durable 1.3;";
+const LINES: &str =
+    "open 3 winners 0 undone 0;1 begun 1.1;1 was none;1 committed 1.1 at 1956;1 durable 1.1;1 begun 1.2;1 was none;1 committed 1.2 at 1959;1 durable 1.2;1 begun 1.3;1 was 3;1 committed 1.3 at 1961;1 durable 1.3;";
 
 // How many lines are out as each commit begins. Its own two follow.
 static COMMITS: [u64; 3] = [3, 7, 11];
@@ -296,6 +297,10 @@ fn each_call_that_fails_in_splits_loses_nothing_that_was_told(rt: HostRuntime) {
         return expect(&rt, "memory", Ok(false));
     };
     for failures in &FAILURES {
-        expect(&rt, failures.name, is_well(&rt, alloc, &disk, &maps, failures));
+        expect(
+            &rt,
+            failures.name,
+            is_well(&rt, alloc, &disk, &maps, failures),
+        );
     }
 }
