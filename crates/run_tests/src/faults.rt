@@ -68,8 +68,8 @@ static FAILURES: [Failures; 6] = [
     },
 ];
 
-// The lines that went out before that of the fault, where they are a prefix of the whole lines.
-fn prefix_of<'a>(whole: &str, printed: &'a str) -> Option<&'a str> {
+/// The lines that went out before that of the fault, where they are a prefix of the whole lines.
+pub(crate) fn prefix_of<'a>(whole: &str, printed: &'a str) -> Option<&'a str> {
     let prefix = printed.strip_suffix(FAULT)?;
     if whole.starts_with(prefix) && (prefix.is_empty() || prefix.ends_with('\n')) {
         Some(prefix)

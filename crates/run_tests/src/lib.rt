@@ -64,8 +64,12 @@ mod faults;
 #[cfg(test)]
 mod openings;
 #[cfg(test)]
+mod orders;
+#[cfg(test)]
 mod rows;
 #[cfg(test)]
 mod runs;
 #[cfg(test)]
 mod scripts;
+#[cfg(test)]
+mod splits;

@@ -70,14 +70,23 @@ fn run_words<R: Threads + Wait + Sync>(
     Ok(Outcome { status, disk, sink })
 }
 
+/// The disk that a format of these words makes, on which no call was made.
+pub(crate) fn formatted_as<R: Threads + Wait + Sync>(
+    rt: &R,
+    alloc: Global,
+    words: &str,
+) -> Result<MemDisk, AllocError> {
+    let disk = MemDisk::new(alloc, 3)?;
+    let Outcome { disk, .. } = run_words(rt, alloc, words, "", disk, MemSink::new(alloc))?;
+    disk.crash(disk.moment(), Choice::AllBytes)
+}
+
 /// A new disk of 16 pages and 64 blocks, on which no call was made.
 pub(crate) fn formatted<R: Threads + Wait + Sync>(
     rt: &R,
     alloc: Global,
 ) -> Result<MemDisk, AllocError> {
-    let disk = MemDisk::new(alloc, 3)?;
-    let Outcome { disk, .. } = run_words(rt, alloc, FORMAT, "", disk, MemSink::new(alloc))?;
-    disk.crash(disk.moment(), Choice::AllBytes)
+    formatted_as(rt, alloc, FORMAT)
 }
 
 /// The same disk once more, where no call was made on it.
