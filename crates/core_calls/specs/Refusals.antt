@@ -83,7 +83,6 @@ IsCause l g es s half w c refusal.RowSpent = l.latch_end ≤ length es
 IsCause l g es s half w c (refusal.Conflict h) = IsHindered g s w c h
 IsCause l g es s half w c refusal.TooTall = asks_put c (IsTall g s)
 IsCause l g es s half w c refusal.NoPages = asks_put c (IsShort g s)
-IsCause l g es s half w c refusal.Full = asks_put c (IsFull g s)
 IsCause l g es s half w c _ = ⊥
 
 -- Who may not have a row is hindered by one, so a conflict is answered exactly where a row is held so.

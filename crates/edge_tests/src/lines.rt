@@ -225,10 +225,9 @@ enum Told {
     RowSpent,
     TooTall,
     NoPages,
-    Full,
 }
 
-static REPLIES: [(u32, Told, &[u8]); 17] = [
+static REPLIES: [(u32, Told, &[u8]); 16] = [
     (1, Told::Begun(1), b"1 begun 1.1\n"),
     (1, Told::Value(7), b"1 value 7\n"),
     (1, Told::NoValue, b"1 none\n"),
@@ -248,7 +247,6 @@ static REPLIES: [(u32, Told, &[u8]); 17] = [
     (1, Told::RowSpent, b"1 row-spent\n"),
     (1, Told::TooTall, b"1 too-tall\n"),
     (1, Told::NoPages, b"1 no-pages\n"),
-    (1, Told::Full, b"1 full\n"),
     (
         4294967295,
         Told::Committed(18446744073709551615, 18446744073709551615),
@@ -280,7 +278,6 @@ fn answer_of(told: &Told) -> Answer
         Told::RowSpent => Answer::Refused(Refusal::RowSpent),
         Told::TooTall => Answer::Refused(Refusal::TooTall),
         Told::NoPages => Answer::Refused(Refusal::NoPages),
-        Told::Full => Answer::Refused(Refusal::Full),
     }
 }
 

@@ -13,7 +13,7 @@ use Rattle.script_lang.specs.Text.{IsLine}
 use Rattle.map_model.specs.Outputs.Reply.{Answered, Durable}
 use Rattle.map_model.specs.declared.call.Answer.{Answer}
 use Rattle.map_model.specs.declared.call.Answer.TheVariants.{Begun, Value, Was, Committed, Refused}
-use Rattle.map_model.specs.declared.call.Refusal.TheVariants.{InTransaction, NoTransaction, TooLong, LogFull, ClockSpent, RowSpent, TooTall, NoPages, Full}
+use Rattle.map_model.specs.declared.call.Refusal.TheVariants.{InTransaction, NoTransaction, TooLong, LogFull, ClockSpent, RowSpent, TooTall, NoPages}
 use Rattle.script_lang.proofs.NumberLemmas.{Digits, digits, word_number, word_name, word_last, after_last, word_before, after_before, number_is}
 
 prefix_is : (prefix ds : List ℕ) → after_prefix prefix (prefix ++ ds) ≡ number_of ds
@@ -53,7 +53,6 @@ said_back s (Refused ClockSpent) small h = refl
 said_back s (Refused RowSpent) small h = refl
 said_back s (Refused TooTall) small h = refl
 said_back s (Refused NoPages) small h = refl
-said_back s (Refused Full) small h = refl
 said_back s (Refused _) small h = absurd h
 said_back s _ small h = absurd h
 
@@ -113,7 +112,6 @@ answer_line s (Refused ClockSpent) small h = search rules
 answer_line s (Refused RowSpent) small h = search rules
 answer_line s (Refused TooTall) small h = search rules
 answer_line s (Refused NoPages) small h = search rules
-answer_line s (Refused Full) small h = search rules
 answer_line s (Refused _) small h = absurd h
 answer_line s _ small h = absurd h
 

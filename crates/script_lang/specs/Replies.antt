@@ -9,7 +9,7 @@ use Rattle.map_model.specs.declared.call.Answer.TheVariants.{Begun, Value, Was, 
 use Rattle.map_model.specs.declared.call.Refusal.{Refusal}
 use Rattle.map_model.specs.Outputs.{Reply}
 use Rattle.map_model.specs.Outputs.Reply.{Answered, Durable}
-use Rattle.map_model.specs.declared.call.Refusal.TheVariants.{InTransaction, NoTransaction, TooLong, LogFull, ClockSpent, RowSpent, TooTall, NoPages, Full}
+use Rattle.map_model.specs.declared.call.Refusal.TheVariants.{InTransaction, NoTransaction, TooLong, LogFull, ClockSpent, RowSpent, TooTall, NoPages}
 
 -- A refusal or an answer with no line yet has no text.
 abbrev pub refusal_text : Refusal → List ℕ
@@ -21,7 +21,6 @@ refusal_text ClockSpent = codes "clock-spent"
 refusal_text RowSpent = codes "row-spent"
 refusal_text TooTall = codes "too-tall"
 refusal_text NoPages = codes "no-pages"
-refusal_text Full = codes "full"
 refusal_text _ = []
 
 -- an answer, behind the session
@@ -70,7 +69,6 @@ refused_of s words =
     else if bytes_eq (word words) (codes "row-spent") then ends (Answered s (Refused RowSpent)) (rest words)
     else if bytes_eq (word words) (codes "too-tall") then ends (Answered s (Refused TooTall)) (rest words)
     else if bytes_eq (word words) (codes "no-pages") then ends (Answered s (Refused NoPages)) (rest words)
-    else if bytes_eq (word words) (codes "full") then ends (Answered s (Refused Full)) (rest words)
     else None
 
 abbrev pub said_of : ℕ → Option (List ℕ) → Option Reply
@@ -100,7 +98,6 @@ RefusalFits ClockSpent = Unit {0}
 RefusalFits RowSpent = Unit {0}
 RefusalFits TooTall = Unit {0}
 RefusalFits NoPages = Unit {0}
-RefusalFits Full = Unit {0}
 RefusalFits _ = ⊥
 
 abbrev pub AnswerFits : Answer → Type 0

@@ -78,7 +78,6 @@ fn put_refusal(into: &mut [u8], at: usize, refusal: &Refusal) -> usize
         Refusal::RowSpent => put_text(into, at, b" row-spent"),
         Refusal::TooTall => put_text(into, at, b" too-tall"),
         Refusal::NoPages => put_text(into, at, b" no-pages"),
-        Refusal::Full => put_text(into, at, b" full"),
         _ => unreachable!(),
     }
 }
