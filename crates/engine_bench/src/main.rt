@@ -1,0 +1,146 @@
+// How long gets and puts of an engine take, over a tree of three levels. With no argument a handful of each, and what they add up to; with
+// a number N, N rounds, with times.
+#![tactic(auto)]
+
+ghost use Rattle.std.specs.Prelude.{◌≤◌, ◌<◌, ◌^◌, IfOk};
+
+use disk_format::{Formatted, Shape, format};
+use lean_disk::MemDisk;
+use lean_engine::{Engine, Opened, Size, Unopened};
+use std::alloc::Global;
+use std::time::Instant;
+use std::{env, io};
+
+const SHAPE: Shape = Shape {
+    pages: 1024,
+    blocks: 4096,
+};
+
+const SIZE: Size = Size { rows: 256 };
+
+/// As many keys are put, and as many puts make a transaction.
+const KEYS: u64 = 16000;
+
+const PUTS: u64 = 20;
+
+/// No factor in common with the number of keys: the keys come in mixed order.
+const STRIDE: u64 = 6007;
+
+// The next of a row of random numbers.
+fn next(state: &mut u64) -> u64 {
+    *state = state
+        .wrapping_mul(6364136223846793005)
+        .wrapping_add(1442695040888963407);
+    *state >> 33
+}
+
+// An engine over a new disk in memory.
+fn opened(alloc: Global) -> io::Result<Engine<MemDisk>> {
+    let mut disk = MemDisk::new(alloc, 3)?;
+    let mut buffer = vec![in alloc; 0; 65536]?;
+    match format(&mut disk, SHAPE, &mut buffer) {
+        Formatted::Done => {}
+        _ => return Err(io::Error::from(io::ErrorKind::Other)),
+    }
+    match Engine::open(alloc, disk, SIZE) {
+        Ok(
+            Opened {
+                engine,
+                generation: _,
+                winners: _,
+                undone: _,
+            },
+        ) => Ok(engine),
+        Err(Unopened { disk: _, reason: _ }) => Err(io::Error::from(io::ErrorKind::OutOfMemory)),
+    }
+}
+
+// Puts some of the keys, in order of their turns. How many had no value.
+fn puts(engine: &mut Engine<MemDisk>, first: u64) -> u64
+    requires { first < 2 ^ 32 }
+{
+    let mut sum = 0u64;
+    for turn in first..first + PUTS {
+        if let Ok(None) = engine.put(turn * STRIDE % KEYS, turn) {
+            sum = sum.wrapping_add(1);
+        }
+    }
+    sum
+}
+
+// Gets random keys. What they add up to.
+fn gets(engine: &mut Engine<MemDisk>, times: u64) -> u64 {
+    let mut state = 1u64;
+    let mut sum = 0u64;
+    for _ in 0..times {
+        if let Ok(Some(value)) = engine.get(next(&mut state) % KEYS) {
+            sum = sum.wrapping_add(value);
+        }
+    }
+    sum
+}
+
+// Puts all keys, without the time of begins and commits. How many had no value, and the microseconds.
+fn fill(rt: &HostRuntime, engine: &mut Engine<MemDisk>) -> io::Result<(u64, u128)> {
+    let mut sum = 0u64;
+    let mut took = 0u128;
+    for transaction in 0..KEYS / PUTS {
+        let _ = engine.begin();
+        let start = Instant::now(rt)?;
+        sum = sum.wrapping_add(puts(engine, transaction * PUTS));
+        took = took.wrapping_add(start.elapsed(rt)?.as_nanos());
+        let _ = engine.commit();
+    }
+    Ok((sum, took / 1000))
+}
+
+// The argument, up to a thousand.
+fn argument(rt: &HostRuntime) -> io::Result<u64>
+    ensures { IfOk result (λ times. times ≤ 1000) }
+{
+    let mut times = 0u64;
+    for word in env::args(rt)? {
+        times = word.as_str().parse::<u64>().unwrap_or(0);
+    }
+    Ok(times.min(1000))
+}
+
+// Gets in a transaction of their own. What they add up to, and the microseconds.
+fn look(rt: &HostRuntime, engine: &mut Engine<MemDisk>, times: u64) -> io::Result<(u64, u128)> {
+    let _ = engine.begin();
+    let start = Instant::now(rt)?;
+    let sum = gets(engine, times);
+    Ok((sum, start.elapsed(rt)?.as_micros()))
+}
+
+fn round(rt: &HostRuntime, times: u64) -> io::Result<()> {
+    let mut engine = opened(rt.alloc())?;
+    let filled = fill(rt, &mut engine);
+    let looked = look(rt, &mut engine, times);
+    let _disk = engine.close();
+    let (sum, took) = filled?;
+    println!(rt; "new keys {sum} {took} us")?;
+    let (sum, took) = looked?;
+    println!(rt; "gets {sum} {took} us")
+}
+
+// A handful, with no times.
+fn handful(rt: &HostRuntime) -> io::Result<()> {
+    let mut engine = opened(rt.alloc())?;
+    let _ = engine.begin();
+    let new = puts(&mut engine, 0);
+    let sum = gets(&mut engine, 1000);
+    let _disk = engine.close();
+    println!(rt; "{new} {sum}")
+}
+
+fn main(rt: HostRuntime) -> io::Result<()> {
+    let rounds = argument(&rt)?;
+    if rounds == 0 {
+        return handful(&rt);
+    }
+    for _ in 0..rounds {
+        round(&rt, 1000000)?;
+    }
+    Ok(())
+}
