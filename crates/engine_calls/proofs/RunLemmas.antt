@@ -38,7 +38,7 @@ as_now keeps prefixes seals g es s0 x s stands c fair writes leaves = record {
 }
 
 module _ (shown : EveryShown) (crashes : EveryRunCrash) (agrees : EveryAgreement) (keeps : EveryKept) (prefixes : EveryPrefix) (seals : EverySealed)
-    (Such : List Event → Type 0) (l : Limits) (g : Opening) (group : ℕ) (s0 : Crash) (m : Master) (k : Known) (from old new : Story) where
+    (Such : List Done → List Event → Type 0) (l : Limits) (g : Opening) (group : ℕ) (s0 : Crash) (m : Master) (k : Known) (from old new : Story) where
   -- while lines are put the disk stands for the events of the call
   puts : (out : Story) (xs : List Done) (x : Done) → Runs l g group Such xs s0 m k from old → (a : CallAnswers l g group xs x s0 k old new)
       → LeavesOnly new out (LineCrash g xs x s0 new) → LeavesOnly new out (PutLeaves g xs x s0 a.known.master)
@@ -58,7 +58,7 @@ module _ (shown : EveryShown) (crashes : EveryRunCrash) (agrees : EveryAgreement
       r.any_moment a.any_moment (puts out xs x r a p)
 
   -- a call that committed nothing, with such events, and the first part of one that would be answered so
-  pub stop : (xs : List Done) → Runs l g group Such xs s0 m k from old → (es : List Event) → CommitsNone g xs es → OfEachFirst Such es
+  pub stop : (xs : List Done) → Runs l g group Such xs s0 m k from old → (es : List Event) → CommitsNone g xs es → OfEachFirst (Such xs) es
       → LeavesOnly old new (CallLeaves g xs es s0 k.master) → LeftOf l g group Such s0 m from new
   stop xs r es none such p = record {
     calls = xs;
@@ -75,7 +75,7 @@ module _ (shown : EveryShown) (crashes : EveryRunCrash) (agrees : EveryAgreement
   }
 
 -- with events of any kind
-pub every_run_for : EveryShown → EveryRunCrash → EveryAgreement → EveryKept → EveryPrefix → EverySealed → (Such : List Event → Type 0) → (from old new out : Story) → EveryRunFor Such from old new out
+pub every_run_for : EveryShown → EveryRunCrash → EveryAgreement → EveryKept → EveryPrefix → EverySealed → (Such : List Done → List Event → Type 0) → (from old new out : Story) → EveryRunFor Such from old new out
 every_run_for shown crashes agrees keeps prefixes seals Such from old new out l g group s0 m k = record {
   begins = λ law counts stands of_run notes. record {
     between = record { told = tt; stands = stands; counts = counts; notes = notes };

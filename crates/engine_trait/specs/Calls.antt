@@ -26,7 +26,7 @@ use Rattle.run_crashes.specs.Lines.{CallLeaves}
 use Rattle.engine_calls.specs.Clauses.{Between, CallAnswers}
 use Rattle.engine_trait.specs.Refusals.{IsRefusedFor, refusal_in}
 use Rattle.engine_trait.specs.Limits.{AreLoads, limits}
-use Rattle.engine_trait.specs.Rooms.{AreRoom, MakesRoom}
+use Rattle.engine_trait.specs.Rooms.{IsRoomFor, MakesRoom}
 
 -- ## The log
 
@@ -82,7 +82,7 @@ pub record Keeps (g : Opening) (xs : List Done) (x : Done) (s0 : Crash) (k : Kno
 -- A device failed: a crash leaves what one before the call does, or behind some first events by which it made room; or what one after the first events of a
 -- commit that would be answered so.
 pub data Stops (g : Opening) (xs : List Done) (c : Call) (s0 : Crash) (k : Known) (old new : Story) : Type 0 where
-  Nothing : (es : List Event) → AreRoom es → LeavesOnly old new (CallLeaves g xs es s0 k.master) → Stops g xs c s0 k old new
+  Nothing : (es : List Event) → IsRoomFor g xs c es → LeavesOnly old new (CallLeaves g xs es s0 k.master) → Stops g xs c s0 k old new
   Part : (x : Done) → asked x.outcome.deed ≡ c → x.outcome.session ≡ 1 → Tells limits g 1 xs x → LeavesOnly old new (CallLeaves g xs x.events s0 k.master) → Stops g xs c s0 k old new
 
 -- and all areas but the log's are as they were

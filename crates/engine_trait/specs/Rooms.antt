@@ -1,12 +1,16 @@
 -- Room that a put makes for its key before it changes it.
 use Rattle.std.specs.Prelude.{◌≡◌, ℕ, suc, Bool, true, false, List, [], ◌∷◌}
 use Rattle.map_model.specs.Lists.{all}
+use Rattle.map_model.specs.declared.call.Call.{Call}
+use Rattle.map_model.specs.declared.call.Call.TheVariants as call
 use Rattle.page_model.specs.Nodes.{covers}
 use Rattle.core_state.specs.Openings.{Opening}
 use Rattle.core_state.specs.States.{State, nodes_of}
 use Rattle.core_state.specs.Events.{Event}
-use Rattle.core_state.specs.Steps.{step}
+use Rattle.core_state.specs.Steps.{state_after, step}
+use Rattle.core_calls.specs.Fronts.{Done, front}
 use Rattle.core_calls.specs.Room.{free_list, full_run, is_all_full}
+use Rattle.engine_trait.specs.Limits.{AreLoads}
 use Rattle.engine_trait.specs.Refusals.{is_full_for}
 
 -- ## Which events
@@ -41,3 +45,10 @@ IsNextRoom g s key _ = Unit {0}
 abbrev pub MakesRoom : Opening → State → (key : ℕ) → List Event → Type 0
 MakesRoom g s key [] = Unit {0}
 MakesRoom g s key (e ∷ es) = IsNextRoom g s key e × MakesRoom g (step g s e) key es
+
+-- ## Where the call was not answered
+
+-- Behind these outcomes: by these events a put made room for its key, and any other call loaded pages.
+abbrev pub IsRoomFor : Opening → List Done → Call → List Event → Type 0
+IsRoomFor g xs (call.Put key value) es = AreRoom es × MakesRoom g (state_after g (front xs)) key es
+IsRoomFor g xs _ es = AreLoads es

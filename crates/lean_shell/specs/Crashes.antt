@@ -8,8 +8,7 @@ use Rattle.disk_image.specs.MasterSlots.{master_on}
 use Rattle.recovery.specs.Crashes.{IsNextOf, ShowsStill}
 use Rattle.recovery.specs.Telling.{TellsAll}
 use Rattle.transcripts.specs.Transcripts.{IsQuiet, first_lines}
-use Rattle.engine_trait.specs.Rooms.{AreRoom}
-use Rattle.lean_shell.specs.Starts.{IsLeft}
+use Rattle.lean_shell.specs.Starts.{IsLeft, IsRoomOfNext}
 
 -- It tells of the areas that an opening asks for and, with none of them split off, of crashes.
 pub record TellsCrashes (s : Story) : Type 0 where
@@ -47,7 +46,7 @@ pub record HasMasterOf (m : Master) (s : Story) (input output : List ℕ) (c : C
   pub n : Master
   pub counts : master_on (c.image 0) ≡ Some n
   pub is : (n ≡ m) ⊎ IsNextOf m (areas_of s) n
-  pub left : IsNoneTold m s input output n c ⊎ IsLeft AreRoom m s input output c
+  pub left : IsNoneTold m s input output n c ⊎ IsLeft (IsRoomOfNext input) m s input output c
 
 -- so it is in a crash that leaves a fair image, once something is written
 abbrev pub MasterLeaves : (m : Master) (s : Story) (input output : List ℕ) (c : Crash) → Type 0

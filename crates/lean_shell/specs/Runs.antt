@@ -33,7 +33,7 @@ use Rattle.lean_engine.specs.Openings.{Shows}
 use Rattle.lean_shell.specs.Crashes.{IsYoung, TellsCrashes, as_read}
 use Rattle.lean_shell.specs.Headline.{Survives}
 use Rattle.lean_shell.specs.Lines.{line_of, WentOut}
-use Rattle.lean_shell.specs.Starts.{IsLeft, IsOfOne, NoEvents}
+use Rattle.lean_shell.specs.Starts.{AllAnswered, IsLeft, IsOfOne}
 use Rattle.recovery.specs.Starts.{IsStartOf}
 
 -- ## A disk that was not opened
@@ -167,7 +167,7 @@ pub record Ran (status : ℕ) (s0 s1 : Story) (feed0 feed1 : Feed) (put : List �
   pub told : IsTrue feed0.tells → AreTold stop calls feed0.left put
   -- unless the disk failed, it stands as a crash would have left it
   pub stands : (stop ≡ stops.DiskFault → ⊥) → IsTrue feed0.tells → (m : Master) → TellsCrashes s0 → IsCleanDisk m (areas_of s0) → IsYoung m s0 → Survives m s0 feed0.left put (as_read s1)
-  pub left : (stop ≡ stops.DiskFault → ⊥) → IsTrue feed0.tells → (m : Master) → TellsCrashes s0 → IsCleanDisk m (areas_of s0) → IsYoung m s0 → IsLeft NoEvents m s0 feed0.left put (as_read s1)
+  pub left : (stop ≡ stops.DiskFault → ⊥) → IsTrue feed0.tells → (m : Master) → TellsCrashes s0 → IsCleanDisk m (areas_of s0) → IsYoung m s0 → IsLeft AllAnswered m s0 feed0.left put (as_read s1)
 
 -- How a run ended, on a disk that told s0 and tells s1, with a source that told feed0 and tells feed1, and a sink into which these bytes were put; and
 -- how often the sink had failed before and has now. The script of a disk that was not opened was not read.

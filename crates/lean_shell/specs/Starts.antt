@@ -16,9 +16,12 @@ use Rattle.core_crash.specs.Crashes.{from_head, log_of}
 use Rattle.core_calls.specs.Deeds.{asked}
 use Rattle.core_calls.specs.Fronts.{Done, front}
 use Rattle.core_calls.specs.Runs.{EachTells, Tells}
-use Rattle.run_crashes.specs.Lines.{FellIn}
+use Rattle.run_crashes.specs.Lines.{FellIn, NoneStopped}
 use Rattle.engine_trait.specs.Limits.{limits}
+use Rattle.engine_trait.specs.Rooms.{IsRoomFor}
+use Rattle.map_model.specs.declared.call.Call.{Call}
 use Rattle.map_model.specs.Pairings.{in_turn, script_of}
+use Rattle.script_lang.specs.Lines.{CallFits}
 use Rattle.transcripts.specs.Laws.{ComesNext}
 use Rattle.transcripts.specs.Told.{ask}
 use Rattle.transcripts.specs.Transcripts.{first_lines, transcript}
@@ -39,13 +42,20 @@ pub record IsNextCall (g : Opening) (input : List ℕ) (heard : List Done) (x : 
   pub line : ComesNext (script_of (calls_of heard)) (ask 1 (asked x.outcome.deed)) input
   pub tells : Tells limits g 1 heard x
 
--- there are none
-abbrev pub NoEvents : List Event → Type 0
-NoEvents es = es ≡ []
+-- every call was answered
+abbrev pub AllAnswered : Opening → List Done → List Event → Type 0
+AllAnswered g = NoneStopped
+
+-- Events of a call of session 1 behind these that was not answered: its line is the script's next, and by them it made room for its key.
+pub record IsRoomOfNext (input : List ℕ) (g : Opening) (heard : List Done) (es : List Event) : Type 0 where
+  pub call : Call
+  pub fits : CallFits call
+  pub line : ComesNext (script_of (calls_of heard)) (ask 1 call) input
+  pub room : IsRoomFor g heard call es
 
 -- By the next master each page's base is the start's, and the records are the oldest of those that a run of the core logs from there: of the calls of
 -- which the lines that were out tell, and of the first events of at most one more; or of such events of a call that was not answered.
-pub record IsLeft (Such : List Event → Type 0) (m : Master) (s : Story) (input output : List ℕ) (c : Crash) : Type 0 where
+pub record IsLeft (Such : Opening → List Done → List Event → Type 0) (m : Master) (s : Story) (input output : List ℕ) (c : Crash) : Type 0 where
   pub lines : ℕ
   pub notes : c.notes ≡ s.notes + lines
   pub n : Master
@@ -62,7 +72,7 @@ pub record IsLeft (Such : List Event → Type 0) (m : Master) (s : Story) (input
   pub next_one : Option Done
   pub is_next : (x : Done) → next_one ≡ Some x → IsNextCall opening input heard x
   pub behind : List Event
-  pub fell : FellIn Such next_one behind
+  pub fell : FellIn (Such opening heard) next_one behind
   pub newer : List Entry
   pub left : List Entry
   pub logged : newer ++ left ≡ log_of 1 (state_after opening (front heard ++ behind)).entries

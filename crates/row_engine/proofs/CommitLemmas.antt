@@ -398,7 +398,7 @@ module _ (reached : EveryReached) (needs : EveryNeed) (answers : EveryAnswer) (e
         let gone = (parts old old old limits g 1 xs s0 k [] k bt).none lawful in
         let passes = (parts old old new limits g 1 xs s0 k [] k bt).failed 1 low high gone (on_known k log old new is o) in
         record {
-          stops = Nothing [] refl (whole limits g 1 xs s0 k old old new [] k bt [] gone passes);
+          stops = Nothing [] tt (whole limits g 1 xs s0 k old old new [] k bt [] gone passes);
           within = o.within s0 g (front xs) k (record { stands = bt.stands; low = low; high = high; is = is });
         };
   }

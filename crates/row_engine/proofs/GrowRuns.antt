@@ -36,7 +36,7 @@ use Rattle.engine_calls.specs.Parts.{EveryPart, behind_first}
 use Rattle.engine_calls.proofs.PartLemmas.{whole}
 use Rattle.run_crashes.specs.Lines.{CallLeaves}
 use Rattle.engine_trait.specs.Calls.{Logs, LogsEntry, LogsOne}
-use Rattle.engine_trait.specs.Limits.{limits}
+use Rattle.engine_trait.specs.Limits.{AreLoads, limits}
 use Rattle.engine_trait.specs.Refusals.{room_refusal}
 use Rattle.engine_trait.specs.Rooms.{AreRoom, IsNextRoom, MakesRoom, makes_room}
 use Rattle.row_words.specs.declared.event.Event.{Event}
@@ -153,6 +153,13 @@ module _ (g : Opening) where
   makes_same key s [] (happening.Event.Miss w ∷ fs) a m = (tt, makes_same key (core.step g s (happening.Event.Miss w)) [] fs a tt)
   makes_same key s [] (_ ∷ fs) a m = absurd (true≢false (sym a))
   makes_same key s (x ∷ es) fs a m = (m.0, makes_same key (core.step g s x) es fs a m.1)
+
+  -- behind loads and a lock
+  pub makes_behind : (key i : ℕ) (s : State) (first es : List happening.Event) → AreLoads first → MakesRoom g (core.run g s (first ++ happening.Event.Lock 1 i happening.Mode.Alone ∷ [])) key es
+      → MakesRoom g s key ((first ++ happening.Event.Lock 1 i happening.Mode.Alone ∷ []) ++ es)
+  makes_behind key i s [] es a m = (tt, m)
+  makes_behind key i s (happening.Event.Load p f ∷ first) es a m = (tt, makes_behind key i (core.step g s (happening.Event.Load p f)) first es a m)
+  makes_behind key i s (_ ∷ first) es a m = absurd a
 
   -- misses log nothing
   pub logs_same : (s : State) (es fs : List happening.Event) (was is : Log) → all is_miss fs ≡ true → Logs g s es was is → Logs g s (es ++ fs) was is

@@ -71,7 +71,7 @@ use Rattle.row_engine.specs.declared.session.Session.{Session}
 use Rattle.row_engine.proofs.Behind as behind
 use Rattle.row_engine.proofs.BeginLemmas.{comes_told}
 use Rattle.row_engine.proofs.Formats.{full_as, full_on, refusal_as, refusal_on}
-use Rattle.row_engine.proofs.GrowRuns.{Asides, all_append, asides, logs_more, logs_same, makes_more, makes_same, record_in, went_quiet}
+use Rattle.row_engine.proofs.GrowRuns.{Asides, all_append, asides, logs_more, logs_same, makes_behind, makes_more, makes_same, record_in, went_quiet}
 use Rattle.row_engine.proofs.Misses.{misses_are, misses_aside, misses_met, misses_quiet}
 use Rattle.row_engine.proofs.Moments.{events_more}
 use Rattle.row_engine.proofs.TakeLemmas.{with_count}
@@ -880,11 +880,13 @@ module _ (reached : EveryReached) (need : EveryNeed) (answers : EveryAnswer) (co
     put_fails old new lawful c =
         let es = events_of c.grows.events in
         let d = c.grows.run g xs start b1 in
+        let are_room : AreRoom (start ++ es) = subst AreRoom (sym (append_assoc first (lock ∷ []) es)) (room_lock first (g.row_of key) es t.are_loads (asides es d.aside).room) in
+        let makes : MakesRoom g (state_after g (front xs)) key (start ++ es) = makes_behind g key (g.row_of key) (state_after g (front xs)) first es t.are_loads d.makes in
         record {
           frame = c.frame;
           leaves = λ s0 k bt log_is.
               let l = c.leaves g xs start b1 s0 k bt (went_quiet parts g some_worker xs s0 k old bt first (lock ∷ []) refl log old (went_first old lawful s0 k bt log_is)) in
-              record { stops = Nothing (start ++ es) (subst AreRoom (sym (append_assoc first (lock ∷ []) es)) (room_lock first (g.row_of key) es t.are_loads (asides es d.aside).room)) l.0; within = l.1 };
+              record { stops = Nothing (start ++ es) (are_room, makes) l.0; within = l.1 };
         }
 
     -- ## By answer

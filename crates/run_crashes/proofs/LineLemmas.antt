@@ -117,13 +117,13 @@ none_fell Such next es (InCall x is after e) = absurd (no x is)
     no y q = cc
 none_fell Such next es (Stopped such) = Stopped such
 
-any_next : (g : Opening) (Such : List Event → Type 0) (heard : List Done) (next : Option Done) (out : List Reply) (m : Master) (area : Areas) → Recovers g Such heard None out m area
+any_next : (g : Opening) (Such : List Done → List Event → Type 0) (heard : List Done) (next : Option Done) (out : List Reply) (m : Master) (area : Areas) → Recovers g Such heard None out m area
     → Recovers g Such heard next out m area
 any_next g Such heard next out m area r = record {
   n = r.n;
   of_run = r.of_run;
   behind = r.behind;
-  fell = none_fell Such next r.behind r.fell;
+  fell = none_fell (Such heard) next r.behind r.fell;
   holds = r.holds;
   by_then = r.by_then;
   by_then_is = none_in_hand (image_by r.n area) (outcomes heard) (outcome_of next) r.by_then r.by_then_is;
@@ -139,10 +139,51 @@ any_next g Such heard next out m area r = record {
 }
 
 -- the oldest stays so where one more comes, or comes where there was none
-one_more : (g : Opening) (Such : List Event → Type 0) (x : Done) (unheard heard : List Done) (out : List Reply) (m : Master) (area : Areas) → Recovers g Such heard (next_of unheard) out m area
+one_more : (g : Opening) (Such : List Done → List Event → Type 0) (x : Done) (unheard heard : List Done) (out : List Reply) (m : Master) (area : Areas) → Recovers g Such heard (next_of unheard) out m area
     → Recovers g Such heard (next_of (x ∷ unheard)) out m area
 one_more g Such x [] heard out m area r = any_next g Such heard (Some x) out m area r
 one_more g Such x (y ∷ unheard) heard out m area r = r
+
+-- ## Wider
+
+-- what is such an event of the one is such of the other
+pub wider : (g : Opening) (Such Other : List Done → List Event → Type 0) → ((heard : List Done) (es : List Event) → Such heard es → Other heard es) → (s0 : Crash) (m : Master) (xs : List Done) (c : Crash)
+    → RunLeft g Such xs s0 m c → RunLeft g Other xs s0 m c
+wider g Such Other so s0 m xs c r = record {
+  unheard = r.unheard;
+  heard = r.heard;
+  calls = r.calls;
+  missing = r.missing;
+  out = r.out;
+  lines = r.lines;
+  notes = r.notes;
+  recovers = λ fair. recovered (r.recovers fair);
+}
+  where
+    fell : (next : Option Done) (es : List Event) → FellIn (Such r.heard) next es → FellIn (Other r.heard) next es
+    fell next es (Between e) = Between e
+    fell next es (InCall x is after e) = InCall x is after e
+    fell next es (Stopped such) = Stopped (so r.heard es such)
+
+    recovered : Recovers g Such r.heard (next_of r.unheard) r.out m c.image → Recovers g Other r.heard (next_of r.unheard) r.out m c.image
+    recovered a = record {
+      n = a.n;
+      of_run = a.of_run;
+      behind = a.behind;
+      fell = fell (next_of r.unheard) a.behind a.fell;
+      holds = a.holds;
+      by_then = a.by_then;
+      by_then_is = a.by_then_is;
+      falls = a.falls;
+      serial = a.serial;
+      numbers = a.numbers;
+      kept_ones = a.kept_ones;
+      kept_is = a.kept_is;
+      closed = a.closed;
+      reported = a.reported;
+      clean = a.clean;
+      stands = a.stands;
+    }
 
 -- ## Moments
 
@@ -152,7 +193,7 @@ names_of g xs x = due g (state_after g (front (x ∷ xs))) (durables g (durable.
 abbrev reply_of : Done → Reply
 reply_of x = Reply.Answered x.outcome.session (answered x.outcome.deed)
 
-module _ (Such : List Event → Type 0) (reopened : EveryReopenedFor Such) (l : Limits) (g : Opening) (group : ℕ) (s0 : Crash) (m n : Master) where
+module _ (Such : List Done → List Event → Type 0) (reopened : EveryReopenedFor Such) (l : Limits) (g : Opening) (group : ℕ) (s0 : Crash) (m n : Master) where
   pub more : (xs : List Done) (c : Crash) (x : Done) → RunLeft g Such xs s0 m c → RunLeft g Such (x ∷ xs) s0 m c
   more xs c x r = record {
     unheard = x ∷ r.unheard;
@@ -179,7 +220,7 @@ module _ (Such : List Event → Type 0) (reopened : EveryReopenedFor Such) (l : 
         (reopened l g group xs m a.master c.image).between x a.first a.rest [] (printed g xs) t a.is refl (opened m n a.master q a.no_earlier) a.holds;
   }
 
-  pub stopped : (xs : List Done) (c : Crash) (es : List Event) → EachTells l g group xs → CommitsNone g xs es → OfEachFirst Such es → IsOfRun m n → CallLeaves g xs es s0 n c → RunLeft g Such xs s0 m c
+  pub stopped : (xs : List Done) (c : Crash) (es : List Event) → EachTells l g group xs → CommitsNone g xs es → OfEachFirst (Such xs) es → IsOfRun m n → CallLeaves g xs es s0 n c → RunLeft g Such xs s0 m c
   stopped xs c es t none such q h = record {
     unheard = [];
     heard = xs;
@@ -253,7 +294,7 @@ module _ (Such : List Event → Type 0) (reopened : EveryReopenedFor Such) (l : 
 
 -- ## Of events of any kind
 
-pub every_crashed_line_for : EveryShown → EveryRunCrash → EveryAgreement → (Such : List Event → Type 0) → EveryCrashedLineFor Such
+pub every_crashed_line_for : EveryShown → EveryRunCrash → EveryAgreement → (Such : List Done → List Event → Type 0) → EveryCrashedLineFor Such
 every_crashed_line_for shown crashes agrees Such l g group s0 m n xs c = let r = every_reopened_for shown crashes agrees Such in record {
   call = call Such r l g group s0 m n xs c;
   stopped = stopped Such r l g group s0 m n xs c;
@@ -262,7 +303,7 @@ every_crashed_line_for shown crashes agrees Such l g group s0 m n xs c = let r =
   more = more Such r l g group s0 m n xs c;
 }
 
-pub every_line_for : EveryShown → EveryRunCrash → EveryAgreement → (Such : List Event → Type 0) → (from old mid new : Story) → EveryLineFor Such from old mid new
+pub every_line_for : EveryShown → EveryRunCrash → EveryAgreement → (Such : List Done → List Event → Type 0) → (from old mid new : Story) → EveryLineFor Such from old mid new
 every_line_for shown crashes agrees Such from old mid new l g group s0 m n k xs x t q p so_far calls puts =
     let r = every_reopened_for shown crashes agrees Such in
     moments.then from mid new (RunLeft g Such (x ∷ xs) s0 m)
@@ -271,7 +312,7 @@ every_line_for shown crashes agrees Such from old mid new l g group s0 m n k xs 
     (weaker old mid (CallLeaves g xs x.events s0 n) (RunLeft g Such (x ∷ xs) s0 m) (λ c. call Such r l g group s0 m n xs c x t q) calls))
     (weaker mid new (PutLeaves g xs x s0 k) (RunLeft g Such (x ∷ xs) s0 m) (λ c. put Such r l g group s0 m k xs c x t p) puts)
 
-pub every_stop_for : EveryShown → EveryRunCrash → EveryAgreement → (Such : List Event → Type 0) → (from old new : Story) → EveryStopFor Such from old new
+pub every_stop_for : EveryShown → EveryRunCrash → EveryAgreement → (Such : List Done → List Event → Type 0) → (from old new : Story) → EveryStopFor Such from old new
 every_stop_for shown crashes agrees Such from old new l g group s0 m n xs = let r = every_reopened_for shown crashes agrees Such in record {
   nothing = λ es t none such q so_far calls. moments.then from old new (RunLeft g Such xs s0 m) so_far
       (weaker old new (CallLeaves g xs es s0 n) (RunLeft g Such xs s0 m) (λ c. stopped Such r l g group s0 m n xs c es t none such q) calls);

@@ -48,8 +48,8 @@ in_hand i j told next by_then same (inr h) = inr (record {
   only = h.only;
 })
 
-module _ (agrees : EveryAgreement) (g : Opening) (Such : List Event → Type 0) (m n : Master) (area : Areas) (heard : List Done) (next : Option Done) (newer out : List Reply) (lines : newer ++ out ≡ printed g heard)
-    (of_run : IsOfRun m n) (behind : List Event) (fell : FellIn Such next behind) (h : HoldsRun g (front heard ++ behind) n area) (x : Shows g (front heard ++ behind) n area)
+module _ (agrees : EveryAgreement) (g : Opening) (Such : List Done → List Event → Type 0) (m n : Master) (area : Areas) (heard : List Done) (next : Option Done) (newer out : List Reply) (lines : newer ++ out ≡ printed g heard)
+    (of_run : IsOfRun m n) (behind : List Event) (fell : FellIn (Such heard) next behind) (h : HoldsRun g (front heard ++ behind) n area) (x : Shows g (front heard ++ behind) n area)
     (r : RunSurvives g (front heard ++ behind) x.logs x.page heard (outcome_of next)) where
   abbrev es : List Event
   es = front heard ++ behind
@@ -112,7 +112,7 @@ module _ (agrees : EveryAgreement) (g : Opening) (Such : List Event → Type 0) 
   }
 
 -- of events of any kind
-pub every_reopened_for : EveryShown → EveryRunCrash → EveryAgreement → (Such : List Event → Type 0) → EveryReopenedFor Such
+pub every_reopened_for : EveryShown → EveryRunCrash → EveryAgreement → (Such : List Done → List Event → Type 0) → EveryReopenedFor Such
 every_reopened_for shows crashes agrees Such l g group xs m n area = record {
   between = λ x before after newer out t e lines q h. let s = shows g (front xs ++ before) n area h in
       recovers agrees g Such m n area xs (Some x) newer out lines q before (InCall x refl after e) h s ((crashes l g group).between xs x before after t (sym e) s.logs s.page s.leaves);

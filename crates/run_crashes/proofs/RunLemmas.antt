@@ -16,13 +16,13 @@ use Rattle.run_crashes.specs.Lines.{CallLeaves, PutLeaves, RunLeft}
 use Rattle.run_crashes.proofs.LineLemmas.{every_line_for}
 
 -- From one story to another by these calls, the newest first: each answered, and its lines put. Its master is n while it runs, and k behind it.
-pub data Ran (l : Limits) (g : Opening) (group : ℕ) (Such : List Event → Type 0) (s0 : Crash) (m : Master) (from : Story) : List Done → Story → Type 1 where
+pub data Ran (l : Limits) (g : Opening) (group : ℕ) (Such : List Done → List Event → Type 0) (s0 : Crash) (m : Master) (from : Story) : List Done → Story → Type 1 where
   Begins : (now : Story) → LeavesOnly from now (RunLeft g Such [] s0 m) → Ran l g group Such s0 m from [] now
   Line : (xs : List Done) (x : Done) (n k : Master) (old mid new : Story) → Ran l g group Such s0 m from xs old → EachTells l g group (x ∷ xs) → IsOfRun m n → IsOfRun m k
       → LeavesOnly old mid (CallLeaves g xs x.events s0 n) → LeavesOnly mid new (PutLeaves g xs x s0 k) → Ran l g group Such s0 m from (x ∷ xs) new
 
 -- A crash at whatever moment of it leaves what the lines that were out by then say.
-pub every_moment : EveryShown → EveryRunCrash → EveryAgreement → (l : Limits) (g : Opening) (group : ℕ) (Such : List Event → Type 0) (s0 : Crash) (m : Master) (from : Story) (xs : List Done) (now : Story)
+pub every_moment : EveryShown → EveryRunCrash → EveryAgreement → (l : Limits) (g : Opening) (group : ℕ) (Such : List Done → List Event → Type 0) (s0 : Crash) (m : Master) (from : Story) (xs : List Done) (now : Story)
     → Ran l g group Such s0 m from xs now → LeavesOnly from now (RunLeft g Such xs s0 m)
 every_moment shown crashes agrees l g group Such s0 m from xs now (Begins _ run) = run
 every_moment shown crashes agrees l g group Such s0 m from xs now (Line ys x n k old mid _ ran t q p calls puts) =

@@ -25,10 +25,10 @@ use Rattle.run_crashes.specs.Lines.{CallLeaves, PutLeaves, Recovers, RunLeft}
 abbrev pub CommitsNone : Opening → List Done → List Event → Type 0
 CommitsNone g xs es = (w : ℕ) → commits (marks g (state_after g (front xs)) es w []) ≡ false
 
--- Of which events a test says so. A law of each crash has such a test, since a law of all `List Event → Type 0` is of `Type 1`, and no contract; the lemmas
--- in proofs/ are of any.
-abbrev pub Passing : (List Event → Bool) → List Event → Type 0
-Passing test es = test es ≡ true
+-- Of which events behind which outcomes a test says so. A law of each crash has such a test, since a law of all `List Done → List Event → Type 0` is of
+-- `Type 1`, and no contract; the lemmas in proofs/ are of any.
+abbrev pub Passing : (List Done → List Event → Bool) → List Done → List Event → Type 0
+Passing test xs es = test xs es ≡ true
 
 -- it is so of the first of these events, however many
 abbrev pub OfEachFirst : (List Event → Type 0) → List Event → Type 0
@@ -37,39 +37,39 @@ OfEachFirst Such es = (first rest : List Event) → first ++ rest ≡ es → Suc
 -- ## A disk that a crash left
 
 -- What a disk holds where some outcomes were heard: among the events of the next one, among such events that commit nothing, and behind these outcomes.
-pub record ReopenedLaws (l : Limits) (g : Opening) (group : ℕ) (Such : List Event → Type 0) (xs : List Done) (m n : Master) (area : Areas) : Type 0 where
+pub record ReopenedLaws (l : Limits) (g : Opening) (group : ℕ) (Such : List Done → List Event → Type 0) (xs : List Done) (m n : Master) (area : Areas) : Type 0 where
   pub between : (x : Done) (before after : List Event) (newer out : List Reply) → EachTells l g group (x ∷ xs) → before ++ after ≡ x.events → newer ++ out ≡ printed g xs →
       IsOfRun m n → HoldsRun g (front xs ++ before) n area → Recovers g Such xs (Some x) out m area
-  pub stopped : (es : List Event) (newer out : List Reply) → EachTells l g group xs → CommitsNone g xs es → Such es → newer ++ out ≡ printed g xs →
+  pub stopped : (es : List Event) (newer out : List Reply) → EachTells l g group xs → CommitsNone g xs es → Such xs es → newer ++ out ≡ printed g xs →
       IsOfRun m n → HoldsRun g (front xs ++ es) n area → Recovers g Such xs None out m area
   pub behind : (newer out : List Reply) → EachTells l g group xs → newer ++ out ≡ printed g xs → IsOfRun m n → HoldsRun g (front xs) n area → Recovers g Such xs None out m area
 
 -- in each run, on each disk
-abbrev pub EveryReopenedFor : (List Event → Type 0) → Type 0
+abbrev pub EveryReopenedFor : (List Done → List Event → Type 0) → Type 0
 EveryReopenedFor Such = (l : Limits) (g : Opening) (group : ℕ) (xs : List Done) (m n : Master) (area : Areas) → ReopenedLaws l g group Such xs m n area
 
 -- and for each test
 abbrev pub EveryReopened : Type 0
-EveryReopened = (test : List Event → Bool) → EveryReopenedFor (Passing test)
+EveryReopened = (test : List Done → List Event → Bool) → EveryReopenedFor (Passing test)
 
 -- ## One crash
 
 -- a crash in a call that is answered, in one that is not, while lines are put, and between two calls
-pub record CrashedLaws (l : Limits) (g : Opening) (group : ℕ) (Such : List Event → Type 0) (s0 : Crash) (m n : Master) (xs : List Done) (c : Crash) : Type 0 where
+pub record CrashedLaws (l : Limits) (g : Opening) (group : ℕ) (Such : List Done → List Event → Type 0) (s0 : Crash) (m n : Master) (xs : List Done) (c : Crash) : Type 0 where
   pub call : (x : Done) → EachTells l g group (x ∷ xs) → IsOfRun m n → CallLeaves g xs x.events s0 n c → RunLeft g Such (x ∷ xs) s0 m c
-  pub stopped : (es : List Event) → EachTells l g group xs → CommitsNone g xs es → OfEachFirst Such es → IsOfRun m n → CallLeaves g xs es s0 n c → RunLeft g Such xs s0 m c
+  pub stopped : (es : List Event) → EachTells l g group xs → CommitsNone g xs es → OfEachFirst (Such xs) es → IsOfRun m n → CallLeaves g xs es s0 n c → RunLeft g Such xs s0 m c
   pub put : (x : Done) → EachTells l g group (x ∷ xs) → IsOfRun m n → PutLeaves g xs x s0 n c → RunLeft g Such (x ∷ xs) s0 m c
   pub behind : EachTells l g group xs → IsOfRun m n → CallLeaves g xs [] s0 n c → RunLeft g Such xs s0 m c
   -- and one more call
   pub more : (x : Done) → RunLeft g Such xs s0 m c → RunLeft g Such (x ∷ xs) s0 m c
 
 -- whatever the crash
-abbrev pub EveryCrashedLineFor : (List Event → Type 0) → Type 0
+abbrev pub EveryCrashedLineFor : (List Done → List Event → Type 0) → Type 0
 EveryCrashedLineFor Such = (l : Limits) (g : Opening) (group : ℕ) (s0 : Crash) (m n : Master) (xs : List Done) (c : Crash) → CrashedLaws l g group Such s0 m n xs c
 
 -- and for each test
 abbrev pub EveryCrashedLine : Type 0
-EveryCrashedLine = (test : List Event → Bool) → EveryCrashedLineFor (Passing test)
+EveryCrashedLine = (test : List Done → List Event → Bool) → EveryCrashedLineFor (Passing test)
 
 -- ## All moments
 
@@ -79,25 +79,25 @@ EveryPut s = (s0 : Crash) (g : Opening) (es : List Event) (x : Known) → Stands
     → ((a : ℕ) → Tells s a → c.writes a ≡ (s.area a).writes) → ((a : ℕ) → Tells s a → Leaves (s.area a) (c.image a)) → LeavesRun g es s0 x.master c
 
 -- One line more: the call is answered, by when the master may be a later one, and its lines are put, all or some.
-abbrev pub EveryLineFor : (List Event → Type 0) → (from old mid new : Story) → Type 0
+abbrev pub EveryLineFor : (List Done → List Event → Type 0) → (from old mid new : Story) → Type 0
 EveryLineFor Such from old mid new = (l : Limits) (g : Opening) (group : ℕ) (s0 : Crash) (m n k : Master) (xs : List Done) (x : Done) → EachTells l g group (x ∷ xs) → IsOfRun m n → IsOfRun m k
     → LeavesOnly from old (RunLeft g Such xs s0 m) → LeavesOnly old mid (CallLeaves g xs x.events s0 n) → LeavesOnly mid new (PutLeaves g xs x s0 k) → LeavesOnly from new (RunLeft g Such (x ∷ xs) s0 m)
 
 -- and for each test
 abbrev pub EveryLine : (from old mid new : Story) → Type 0
-EveryLine from old mid new = (test : List Event → Bool) → EveryLineFor (Passing test) from old mid new
+EveryLine from old mid new = (test : List Done → List Event → Bool) → EveryLineFor (Passing test) from old mid new
 
 -- A call that is not answered: it committed nothing, and its events are such, however many happened; or it is the first part of one whose reply is never out.
-pub record StopLaws (l : Limits) (g : Opening) (group : ℕ) (Such : List Event → Type 0) (s0 : Crash) (m n : Master) (xs : List Done) (from old new : Story) : Type 0 where
-  pub nothing : (es : List Event) → EachTells l g group xs → CommitsNone g xs es → OfEachFirst Such es → IsOfRun m n
+pub record StopLaws (l : Limits) (g : Opening) (group : ℕ) (Such : List Done → List Event → Type 0) (s0 : Crash) (m n : Master) (xs : List Done) (from old new : Story) : Type 0 where
+  pub nothing : (es : List Event) → EachTells l g group xs → CommitsNone g xs es → OfEachFirst (Such xs) es → IsOfRun m n
       → LeavesOnly from old (RunLeft g Such xs s0 m) → LeavesOnly old new (CallLeaves g xs es s0 n) → LeavesOnly from new (RunLeft g Such xs s0 m)
   pub part : (x : Done) → EachTells l g group (x ∷ xs) → IsOfRun m n
       → LeavesOnly from old (RunLeft g Such xs s0 m) → LeavesOnly old new (CallLeaves g xs x.events s0 n) → LeavesOnly from new (RunLeft g Such (x ∷ xs) s0 m)
 
 -- of any such call
-abbrev pub EveryStopFor : (List Event → Type 0) → (from old new : Story) → Type 0
+abbrev pub EveryStopFor : (List Done → List Event → Type 0) → (from old new : Story) → Type 0
 EveryStopFor Such from old new = (l : Limits) (g : Opening) (group : ℕ) (s0 : Crash) (m n : Master) (xs : List Done) → StopLaws l g group Such s0 m n xs from old new
 
 -- and for each test
 abbrev pub EveryStop : (from old new : Story) → Type 0
-EveryStop from old new = (test : List Event → Bool) → EveryStopFor (Passing test) from old new
+EveryStop from old new = (test : List Done → List Event → Bool) → EveryStopFor (Passing test) from old new

@@ -39,16 +39,20 @@ outcome_of (Some x) = Some x.outcome
 
 -- ## What recovery gives
 
+-- these outcomes, and so no call that was not answered
+abbrev pub NoneStopped : List Done → List Event → Type 0
+NoneStopped heard es = ⊥
+
 -- These outcomes were heard, with these lines out, and the next one, if there is one, may be in hand. The image is clean; it stands for the map
 -- after the kept transactions, by its own winners. The kept are those up to its master's floor and its winners: a closed part of the
 -- transactions by then, with each that was reported durable. The run began with a master of m's run. The disk holds what a crash behind the events
 -- of these outcomes and those that it fell behind leaves, by the master that counts.
-pub record Recovers (g : Opening) (Such : List Event → Type 0) (heard : List Done) (next : Option Done) (out : List Reply) (m : Master) (area : Areas) : Type 0 where
+pub record Recovers (g : Opening) (Such : List Done → List Event → Type 0) (heard : List Done) (next : Option Done) (out : List Reply) (m : Master) (area : Areas) : Type 0 where
   pub n : Master
   pub of_run : IsOfRun m n
   -- where the crash fell
   pub behind : List Event
-  pub fell : FellIn Such next behind
+  pub fell : FellIn (Such heard) next behind
   pub holds : HoldsRun g (front heard ++ behind) n area
   -- the transactions by then: those that were told, and one in hand, if there is one; each commit in the image has the number of its transaction
   pub by_then : Journal
@@ -75,7 +79,7 @@ next_of (x ∷ y ∷ earlier) = next_of (y ∷ earlier)
 
 -- A crash in a run of these calls that began as s0, on a disk whose master was m: the first of them were heard, and of the last of these some
 -- durable lines may be missing.
-pub record RunLeft (g : Opening) (Such : List Event → Type 0) (xs : List Done) (s0 : Crash) (m : Master) (c : Crash) : Type 0 where
+pub record RunLeft (g : Opening) (Such : List Done → List Event → Type 0) (xs : List Done) (s0 : Crash) (m : Master) (c : Crash) : Type 0 where
   pub unheard : List Done
   pub heard : List Done
   pub calls : unheard ++ heard ≡ xs

@@ -9,11 +9,13 @@ use Rattle.lean_disk.specs.Moments.{CrashIn, Framed, LeavesOnly}
 use Rattle.lean_disk.specs.Story.{Crash, IsLawful, Story}
 use Rattle.lean_disk.proofs.MomentLemmas.{started, then, weaker}
 use Rattle.map_model.specs.declared.call.Call.{Call}
+use Rattle.map_model.specs.declared.call.Call.TheVariants as call
 use Rattle.map_model.specs.Lists.{all, any}
 use Rattle.map_model.specs.Outputs.{Reply}
 use Rattle.core_state.specs.Events.{Event}
 use Rattle.core_state.specs.Openings.{Opening}
-use Rattle.core_state.specs.Steps.{state_after}
+use Rattle.core_state.specs.States.{State}
+use Rattle.core_state.specs.Steps.{state_after, step}
 use Rattle.disk_slots.specs.declared.master.Master.{Master}
 use Rattle.disk_image.specs.Laws.{EveryAgreement}
 use Rattle.disk_image.specs.Masters.{IsOfRun}
@@ -27,18 +29,18 @@ use Rattle.disk_runs.specs.Stands.{Known}
 use Rattle.disk_runs.proofs.StandLemmas.{every_same}
 use Rattle.log_calls.specs.Calls.{Anything}
 use Rattle.run_crashes.specs.Laws.{CommitsNone, OfEachFirst}
-use Rattle.run_crashes.specs.Lines.{CallLeaves, RunLeft, lines_of, notes_of}
-use Rattle.run_crashes.proofs.LineLemmas.{every_crashed_line_for, every_stop_for}
+use Rattle.run_crashes.specs.Lines.{CallLeaves, NoneStopped, RunLeft, lines_of, notes_of}
+use Rattle.run_crashes.proofs.LineLemmas.{every_crashed_line_for, every_stop_for, wider}
 use Rattle.engine_calls.specs.Clauses.{Between}
 use Rattle.engine_calls.specs.Runs.{LineCrash, LinesOut, Runs}
 use Rattle.engine_calls.proofs.MarkLemmas.{commits_none, either_false, has_mark}
 use Rattle.engine_calls.proofs.MomentLemmas.{still}
 use Rattle.engine_calls.proofs.RunLemmas.{every_run_for, line}
 use Rattle.engine_trait.specs.Calls.{Keeps, Stops, Stops as stops}
-use Rattle.engine_trait.specs.Limits.{limits}
-use Rattle.engine_trait.specs.Rooms.{AreRoom, makes_room}
+use Rattle.engine_trait.specs.Limits.{AreLoads, limits}
+use Rattle.engine_trait.specs.Rooms.{AreRoom, IsRoomFor, MakesRoom, makes_room}
 use Rattle.script_lang.specs.Reading.{Unread}
-use Rattle.script_run.specs.Runs.{CallMissing, DiskTo, LinesMissing, OthersStand, PrintsTo, ReadsTo, RunStands, StaysIn2, CallMissing as missing}
+use Rattle.script_run.specs.Runs.{CallMissing, DiskTo, LinesMissing, OthersStand, PrintsTo, ReadsTo, RunStands, StaysIn2, StoppedIn, CallMissing as missing}
 use Rattle.script_run.specs.Inside.{IsOfPutting, IsOfReading, Laws, OnlyNotes, PutLeaves}
 use Rattle.script_run.specs.declared.stop.Stop.{Stop}
 use Rattle.script_run.specs.declared.stop.Stop.TheVariants.{End, Refused, ReadFault, WriteFault, DiskFault}
@@ -62,9 +64,18 @@ no_marks_of_room (e ∷ es) room =
     let parts = and_parts (makes_room e) (all makes_room es) room in
     either_false (has_mark e) (any has_mark es) (no_mark_of_room e parts.0) (no_marks_of_room es parts.1)
 
+loads_are_room : (es : List Event) → AreLoads es → AreRoom es
+loads_are_room [] loads = refl
+loads_are_room (Event.Load p f ∷ es) loads = loads_are_room es loads
+loads_are_room (_ ∷ es) loads = absurd loads
+
+room_of : (g : Opening) (xs : List Done) (c : Call) (es : List Event) → IsRoomFor g xs c es → AreRoom es
+room_of g xs (call.Put key value) es room = room.0
+room_of g xs _ es room = loads_are_room es room
+
 -- such events commit nothing
-room_commits_none : (g : Opening) (xs : List Done) (es : List Event) → AreRoom es → CommitsNone g xs es
-room_commits_none g xs es room = commits_none g (state_after g (front xs)) es (no_marks_of_room es room)
+room_commits_none : (g : Opening) (xs : List Done) (c : Call) (es : List Event) → IsRoomFor g xs c es → CommitsNone g xs es
+room_commits_none g xs c es room = commits_none g (state_after g (front xs)) es (no_marks_of_room es (room_of g xs c es room))
 
 front_of_room : (first rest : List Event) → AreRoom (first ++ rest) → AreRoom first
 front_of_room [] rest room = refl
@@ -72,9 +83,26 @@ front_of_room (e ∷ first) rest room =
     let parts = and_parts (makes_room e) (all makes_room (first ++ rest)) room in
     and_from (makes_room e) (all makes_room first) parts.0 (front_of_room first rest parts.1)
 
+front_of_loads : (first rest : List Event) → AreLoads (first ++ rest) → AreLoads first
+front_of_loads [] rest loads = tt
+front_of_loads (Event.Load p f ∷ first) rest loads = front_of_loads first rest loads
+front_of_loads (_ ∷ first) rest loads = absurd loads
+
+front_makes : (g : Opening) (s : State) (key : ℕ) (first rest : List Event) → MakesRoom g s key (first ++ rest) → MakesRoom g s key first
+front_makes g s key [] rest makes = tt
+front_makes g s key (e ∷ first) rest makes = (makes.0, front_makes g (step g s e) key first rest makes.1)
+
+front_for : (g : Opening) (xs : List Done) (c : Call) (first rest : List Event) → IsRoomFor g xs c (first ++ rest) → IsRoomFor g xs c first
+front_for g xs (call.Put key value) first rest room = (front_of_room first rest room.0, front_makes g (state_after g (front xs)) key first rest room.1)
+front_for g xs _ first rest loads = front_of_loads first rest loads
+
 -- and the first of them are such events too
-room_of_each_first : (es : List Event) → AreRoom es → OfEachFirst AreRoom es
-room_of_each_first es room first rest is = front_of_room first rest (subst AreRoom (sym is) room)
+stopped_of_each_first : (g : Opening) (xs : List Done) (c : Call) (es : List Event) → IsRoomFor g xs c es → OfEachFirst (StoppedIn g xs c xs) es
+stopped_of_each_first g xs c es room first rest is = (refl, front_for g xs c first rest (subst (IsRoomFor g xs c) (sym is) room))
+
+-- a run without such a call
+unstopped : (g : Opening) (Such : List Done → List Event → Type 0) (s0 : Crash) (m : Master) (xs : List Done) (from now : Story) → LeavesOnly from now (RunLeft g NoneStopped xs s0 m) → LeavesOnly from now (RunLeft g Such xs s0 m)
+unstopped g Such s0 m xs from now run = weaker from now (RunLeft g NoneStopped xs s0 m) (RunLeft g Such xs s0 m) (wider g NoneStopped Such (λ heard es none. absurd none) s0 m xs) run
 
 -- ## Other areas
 
@@ -150,13 +178,16 @@ disk_same (Some DiskFault) p n start feed reader seen other number bytes reads g
 
 module _ (shown : EveryShown) (crashes : EveryRunCrash) (agrees : EveryAgreement) (g : Opening) (s0 : Crash) (m : Master) where
   -- more calls
-  left_more : (newer ys : List Done) (c : Crash) → RunLeft g AreRoom ys s0 m c → RunLeft g AreRoom (newer ++ ys) s0 m c
+  left_more : (newer ys : List Done) (c : Crash) → RunLeft g NoneStopped ys s0 m c → RunLeft g NoneStopped (newer ++ ys) s0 m c
   left_more [] ys c l = l
-  left_more (x ∷ newer) ys c l = (every_crashed_line_for shown crashes agrees AreRoom limits g 1 s0 m m (newer ++ ys) c).more x (left_more newer ys c l)
+  left_more (x ∷ newer) ys c l = (every_crashed_line_for shown crashes agrees NoneStopped limits g 1 s0 m m (newer ++ ys) c).more x (left_more newer ys c l)
 
-  module _ (ys : List Done) (from old new : Story) (first : LeavesOnly from old (RunLeft g AreRoom ys s0 m)) where
-    moments : (newer : List Done) → LeavesOnly old new (RunLeft g AreRoom (newer ++ ys) s0 m) → LeavesOnly from new (RunLeft g AreRoom (newer ++ ys) s0 m)
-    moments newer second = then from old new (RunLeft g AreRoom (newer ++ ys) s0 m) (weaker from old (RunLeft g AreRoom ys s0 m) (RunLeft g AreRoom (newer ++ ys) s0 m) (left_more newer ys) first) second
+  module _ (ys : List Done) (from old new : Story) (first : LeavesOnly from old (RunLeft g NoneStopped ys s0 m)) where
+    first_later : (newer : List Done) → LeavesOnly from old (RunLeft g NoneStopped (newer ++ ys) s0 m)
+    first_later newer = weaker from old (RunLeft g NoneStopped ys s0 m) (RunLeft g NoneStopped (newer ++ ys) s0 m) (left_more newer ys) first
+
+    moments : (newer : List Done) → LeavesOnly old new (RunLeft g NoneStopped (newer ++ ys) s0 m) → LeavesOnly from new (RunLeft g NoneStopped (newer ++ ys) s0 m)
+    moments newer second = then from old new (RunLeft g NoneStopped (newer ++ ys) s0 m) (first_later newer) second
 
     module _ (newer : List Done) (k known : Known) (same : known.master ≡ k.master) (log : Log) where
       runs_later : RunStands g (newer ++ ys) s0 m known old new log → RunStands g (newer ++ ys) s0 m k from new log
@@ -171,7 +202,9 @@ module _ (shown : EveryShown) (crashes : EveryRunCrash) (agrees : EveryAgreement
       missing_later d = record { any_moment = moments newer d.any_moment; known = d.known; stands = d.stands; log_is = d.log_is; master_is = d.master_is ∙ same }
 
       call_later : (c : Call) → CallMissing g (newer ++ ys) c s0 m old new → CallMissing g (newer ++ ys) c s0 m from new
-      call_later c (missing.Nothing l) = missing.Nothing (moments newer l)
+      call_later c (missing.Nothing l) =
+          let Left : Crash → Type 0 = RunLeft g (StoppedIn g (newer ++ ys) c) (newer ++ ys) s0 m in
+          missing.Nothing (then from old new Left (unstopped g (StoppedIn g (newer ++ ys) c) s0 m (newer ++ ys) from old (first_later newer)) l)
       call_later c (missing.Part x asks session tells l) = missing.Part x asks session tells (moments (x ∷ newer) l)
 
       -- A run that began at another story goes on so.
@@ -189,21 +222,22 @@ module _ (shown : EveryShown) (crashes : EveryRunCrash) (agrees : EveryAgreement
 module _ (laws : Laws) (g : Opening) (s0 : Crash) (m : Master) where
   module _ (xs : List Done) (k : Known) (old : Story) (law : IsLawful old) (between : Between limits g 1 xs s0 k old) (of_run : IsOfRun m k.master) where
     -- nothing happened yet
-    pub rests : Runs limits g 1 AreRoom xs s0 m k old old
+    pub rests : Runs limits g 1 NoneStopped xs s0 m k old old
     rests = record {
       between = between;
       of_run = of_run;
-      any_moment = weaker old old (CallLeaves g xs [] s0 k.master) (RunLeft g AreRoom xs s0 m)
-          (λ c. (every_crashed_line_for laws.shown laws.crashes laws.agrees AreRoom limits g 1 s0 m k.master xs c).behind between.told of_run)
+      any_moment = weaker old old (CallLeaves g xs [] s0 k.master) (RunLeft g NoneStopped xs s0 m)
+          (λ c. (every_crashed_line_for laws.shown laws.crashes laws.agrees NoneStopped limits g 1 s0 m k.master xs c).behind between.told of_run)
           (still laws.keeps laws.prefixes laws.seals g xs [] s0 k old law between.stands between.notes);
     }
 
     -- the disk failed
     pub stopped : (mid : Story) (c : Call) → Stops g xs c s0 k old mid → CallMissing g xs c s0 m old mid
     stopped mid c (stops.Nothing es room l) =
-        missing.Nothing ((every_stop_for laws.shown laws.crashes laws.agrees AreRoom old old mid limits g 1 s0 m k.master xs).nothing es between.told (room_commits_none g xs es room) (room_of_each_first es room) of_run rests.any_moment l)
+        missing.Nothing ((every_stop_for laws.shown laws.crashes laws.agrees (StoppedIn g xs c) old old mid limits g 1 s0 m k.master xs).nothing es between.told (room_commits_none g xs c es room)
+        (stopped_of_each_first g xs c es room) of_run (unstopped g (StoppedIn g xs c) s0 m xs old old rests.any_moment) l)
     stopped mid c (stops.Part x asks session tells l) =
-        missing.Part x asks session tells ((every_stop_for laws.shown laws.crashes laws.agrees AreRoom old old mid limits g 1 s0 m k.master xs).part x (between.told, tells) of_run rests.any_moment l)
+        missing.Part x asks session tells ((every_stop_for laws.shown laws.crashes laws.agrees NoneStopped old old mid limits g 1 s0 m k.master xs).part x (between.told, tells) of_run rests.any_moment l)
 
     -- it was answered, and these lines of it were put
     module _ (x : Done) (log : Log) (mid new : Story) (frame : Framed 2 old mid) (kept : Keeps g xs x s0 k log old mid) (told : List Reply) (notes : OnlyNotes told mid new) (puts : LeavesOnly mid new (PutLeaves told mid)) (few : old.notes + length told < 2 ^ 64) where
@@ -251,12 +285,12 @@ module _ (laws : Laws) (g : Opening) (s0 : Crash) (m : Master) where
         known = kept.answers.known;
         log_is = kept.log_is;
         master_is = kept.master_is;
-        runs = (every_run_for laws.shown laws.crashes laws.agrees laws.keeps laws.prefixes laws.seals AreRoom old old mid new limits g 1 s0 m k).answered xs x rests kept.answers (out all);
+        runs = (every_run_for laws.shown laws.crashes laws.agrees laws.keeps laws.prefixes laws.seals NoneStopped old old mid new limits g 1 s0 m k).answered xs x rests kept.answers (out all);
       }
 
       some_out : (lacks : List Reply) → lacks ++ told ≡ lines_of g xs x → LinesMissing g (x ∷ xs) s0 m k old new log
       some_out lacks all = record {
-        any_moment = line laws.shown laws.crashes laws.agrees laws.keeps laws.prefixes laws.seals AreRoom limits g 1 s0 m k old old mid new xs x rests kept.answers (lines lacks all);
+        any_moment = line laws.shown laws.crashes laws.agrees laws.keeps laws.prefixes laws.seals NoneStopped limits g 1 s0 m k old old mid new xs x rests kept.answers (lines lacks all);
         known = kept.answers.known;
         stands = every_same mid new s0 g (front (x ∷ xs)) kept.answers.known kept.answers.stands tells (λ a high. notes.area a);
         log_is = kept.log_is;

@@ -15,6 +15,8 @@ use Rattle.disk_image.specs.Laws.{EveryAgreement}
 use Rattle.disk_image.specs.Masters.{IsOfRun}
 use Rattle.core_disk.specs.Shows.{EveryShown}
 use Rattle.core_calls.specs.Crashes.{EveryRunCrash}
+use Rattle.run_crashes.specs.Lines.{NoneStopped}
+use Rattle.run_crashes.specs.Lines.{NoneStopped}
 use Rattle.engine_calls.specs.Runs as runs
 use Rattle.worker_log.specs.Logs.{Log}
 use Rattle.core_calls.specs.Fronts.{Done}
@@ -24,7 +26,6 @@ use Rattle.disk_runs.specs.Stands.{Known}
 use Rattle.engine_calls.specs.Clauses.{Between}
 use Rattle.engine_trait.specs.Calls.{Answers}
 use Rattle.engine_trait.specs.Limits.{limits}
-use Rattle.engine_trait.specs.Rooms.{AreRoom}
 use Rattle.script_lang.specs.Reading.{Unread, Reading}
 use Rattle.transcripts.specs.Told.{EachFits, asked_text, replies, text_of}
 use Rattle.transcripts.proofs.AskedLemmas.{text_append, replies_append}
@@ -214,7 +215,7 @@ module _ (stop : Option Stop) (g : Opening) (xs : List Done) (before : ℕ) (sta
       omega arith
 
   -- a run that began at an earlier story
-  pub disk_from : EveryShown → EveryRunCrash → EveryAgreement → (s0 : Crash) (m : Master) (k : Known) (from : Story) → runs.Runs limits g 1 AreRoom xs s0 m k from old → k.log 1 ≡ log0 → old.notes + length a.told < 2 ^ 64
+  pub disk_from : EveryShown → EveryRunCrash → EveryAgreement → (s0 : Crash) (m : Master) (k : Known) (from : Story) → runs.Runs limits g 1 NoneStopped xs s0 m k from old → k.log 1 ≡ log0 → old.notes + length a.told < 2 ^ 64
       → LeavesOnly old new (StaysIn2 (length a.told) old) × DiskTo stop (suc (before + length (calls_of a.newer))) start feed reader (seen ++ asked_text (script_of (calls_of a.newer))) a.reads g (a.newer ++ xs) s0 m k from new a.log
   disk_from shown crashes agrees s0 m k from run log_is room =
       let d = a.disk s0 m k run.between run.of_run log_is room in (

@@ -4,6 +4,7 @@ use Rattle.map_model.specs.declared.call.Call.{Call}
 use Rattle.map_model.specs.declared.call.Answered.{Answered}
 use Rattle.map_model.specs.Outputs.{Reply}
 use Rattle.map_model.specs.Pairings.{script_of}
+use Rattle.core_state.specs.Events.{Event}
 use Rattle.core_state.specs.Openings.{Opening}
 use Rattle.lean_edge.specs.Outside.{Feed, Held}
 use Rattle.lean_disk.specs.Area.{Leaves}
@@ -17,12 +18,12 @@ use Rattle.core_calls.specs.Fronts.{Done, front, outcomes}
 use Rattle.core_calls.specs.Printed.{printed}
 use Rattle.core_calls.specs.Runs as told
 use Rattle.disk_runs.specs.Stands.{Known, Stands}
-use Rattle.run_crashes.specs.Lines.{RunLeft}
+use Rattle.run_crashes.specs.Lines.{NoneStopped, RunLeft}
 use Rattle.engine_calls.specs.Clauses.{Between}
 use Rattle.engine_calls.specs.Runs as runs
 use Rattle.engine_trait.specs.Calls.{Answers}
 use Rattle.engine_trait.specs.Limits.{limits}
-use Rattle.engine_trait.specs.Rooms.{AreRoom}
+use Rattle.engine_trait.specs.Rooms.{IsRoomFor}
 use Rattle.script_lang.specs.Lines.{CallFits, Spells, line_of}
 use Rattle.script_lang.specs.Reading.{Unread, Reading, LineIs, LineIsLong, AtEnd}
 use Rattle.script_lang.specs.Replies.{reply_line}
@@ -125,21 +126,25 @@ pub record RunStands (g : Opening) (calls : List Done) (s0 : Crash) (m : Master)
   pub known : Known
   pub log_is : known.log 1 ≡ log
   pub master_is : known.master ≡ k.master
-  pub runs : runs.Runs limits g 1 AreRoom calls s0 m known from now
+  pub runs : runs.Runs limits g 1 NoneStopped calls s0 m known from now
 
 -- Lines of the last call are missing: the disk stands for all events, and a crash leaves what the lines that were out by then say.
 pub record LinesMissing (g : Opening) (calls : List Done) (s0 : Crash) (m : Master) (k : Known) (from now : Story) (log : Log) : Type 0 where
-  pub any_moment : LeavesOnly from now (RunLeft g AreRoom calls s0 m)
+  pub any_moment : LeavesOnly from now (RunLeft g NoneStopped calls s0 m)
   pub known : Known
   pub stands : Stands g (front calls) s0 known now
   pub log_is : known.log 1 ≡ log
   pub master_is : known.master ≡ k.master
 
+-- behind all of these outcomes, the events of this call, which was not answered
+abbrev pub StoppedIn : Opening → List Done → Call → List Done → List Event → Type 0
+StoppedIn g calls c heard es = (heard ≡ calls) × IsRoomFor g heard c es
+
 -- One more was asked and not answered: a crash leaves what the lines say, behind the calls that were answered, or in this one. There it fell behind
--- some of the loads, locks and changes of the tree by which a put made room, or behind the first events of one that would be answered so.
+-- some of the loads, locks and changes of the tree by which it made room for its key, or behind the first events of one that would be answered so.
 pub data CallMissing (g : Opening) (calls : List Done) (c : Call) (s0 : Crash) (m : Master) (from now : Story) : Type 0 where
-  Nothing : LeavesOnly from now (RunLeft g AreRoom calls s0 m) → CallMissing g calls c s0 m from now
-  Part : (x : Done) → asked x.outcome.deed ≡ c → x.outcome.session ≡ 1 → told.Tells limits g 1 calls x → LeavesOnly from now (RunLeft g AreRoom (x ∷ calls) s0 m) → CallMissing g calls c s0 m from now
+  Nothing : LeavesOnly from now (RunLeft g (StoppedIn g calls c) calls s0 m) → CallMissing g calls c s0 m from now
+  Part : (x : Done) → asked x.outcome.deed ≡ c → x.outcome.session ≡ 1 → told.Tells limits g 1 calls x → LeavesOnly from now (RunLeft g NoneStopped (x ∷ calls) s0 m) → CallMissing g calls c s0 m from now
 
 -- By why the script stopped there, or goes on; the call that was not answered is the one that was read.
 abbrev pub DiskTo : (stop : Option Stop) (number : ℕ) (start feed : Feed) (reader : Unread) (seen : List ℕ) → ReadsTo stop number start feed reader seen

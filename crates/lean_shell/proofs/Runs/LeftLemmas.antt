@@ -42,7 +42,6 @@ use Rattle.core_state.specs.Steps.{state_after}
 use Rattle.disk_runs.specs.Fair.{EveryFair, IsAsRead, IsFairFrom}
 use Rattle.run_crashes.specs.Lines.{Recovers, RunLeft, next_of, outcome_of}
 use Rattle.engine_trait.specs.Limits.{limits}
-use Rattle.engine_trait.specs.Rooms.{AreRoom}
 use Rattle.script_lang.specs.Replies.{reply_line}
 use Rattle.transcripts.specs.Laws.{TellsInTurn}
 use Rattle.transcripts.specs.Told.{ask, asked_lines, Heard}
@@ -51,7 +50,7 @@ use Rattle.lean_shell.specs.Headline.{IsInHand, Survives}
 use Rattle.lean_shell.specs.Inside.Laws.{Laws}
 use Rattle.lean_shell.specs.Inside.Lefts.{AsksNext, EveryLeft, IsBegun, Lives, WasOut}
 use Rattle.script_run.specs.Runs.{calls_of}
-use Rattle.lean_shell.specs.Starts.{IsLeft}
+use Rattle.lean_shell.specs.Starts.{IsLeft, IsRoomOfNext}
 use Rattle.lean_shell.proofs.Runs.AboveLemmas.{above}
 use Rattle.lean_shell.proofs.Runs.FoundLemmas.{IsBounded, bounded}
 use Rattle.lean_shell.proofs.Runs.PrintedLemmas.{HasOutcome, heard_lines, next_is, next_tells, replies_are, tells_first, with_outcome}
@@ -85,11 +84,11 @@ some_is x y e = cc
 -- ## A crash
 
 module _ (laws : Laws) (m : Master) (s0 sa : Story) (g : Opening) (n1 : Master) (b : IsBegun m s0 sa g n1) (xs : List Done) (each : EachTells limits g 1 xs) (c0 : Crash) (input put : List ℕ) (generation winners undone : ℕ)
-    (d : Crash) (Such : List Event → Type 0) (o : WasOut Such g xs c0 m s0 sa input put generation winners undone d) where
+    (d : Crash) (Such : Opening → List Done → List Event → Type 0) (o : WasOut (Such g) g xs c0 m s0 sa input put generation winners undone d) where
   abbrev c : Crash
   c = o.crash
 
-  abbrev q : RunLeft g Such xs c0 m o.crash
+  abbrev q : RunLeft g (Such g) xs c0 m o.crash
   q = o.left
 
   abbrev said : List Answered
@@ -123,7 +122,7 @@ module _ (laws : Laws) (m : Master) (s0 sa : Story) (g : Opening) (n1 : Master) 
         log = λ w low high since e. subst (IsFair 2048 blocks.IsSealed (c0.image (suc w)) since) (o.same.image (suc w)) (f.log w low (let l = b.starts.logs in omega arith) since (o.same.writes (suc w) ∙ e));
       }
 
-  module _ (r : Recovers g Such o.left.heard (next_of o.left.unheard) o.left.out m o.crash.image) where
+  module _ (r : Recovers g (Such g) o.left.heard (next_of o.left.unheard) o.left.out m o.crash.image) where
     -- the master that counts is that of the opening
     n_is : r.n ≡ n1
     n_is = some_is r.n n1 (sym r.holds.master ∙ (ap master_on zero_is ∙ b.master))
@@ -312,23 +311,23 @@ module _ (laws : Laws) (m : Master) (s0 sa : Story) (g : Opening) (n1 : Master) 
     survives_there = subst (λ (i : Areas). Survives m s0 input put (with_bytes i)) (sym (fun_ext o.same.image)) survives
 
   -- from what recovery gives
-  pub survives_now : Recovers g Such o.left.heard (next_of o.left.unheard) o.left.out m o.crash.image → Survives m s0 input put d
+  pub survives_now : Recovers g (Such g) o.left.heard (next_of o.left.unheard) o.left.out m o.crash.image → Survives m s0 input put d
   survives_now r = survives_there r
 
-  pub left_now : Recovers g Such o.left.heard (next_of o.left.unheard) o.left.out m o.crash.image → IsLeft Such m s0 input put d
+  pub left_now : Recovers g (Such g) o.left.heard (next_of o.left.unheard) o.left.out m o.crash.image → IsLeft Such m s0 input put d
   left_now r = left_there r
 
 -- where a put may have been stopped
 module _ (laws : Laws) (m : Master) (s0 sa : Story) (g : Opening) (n1 : Master) (b : IsBegun m s0 sa g n1) (xs : List Done) (each : EachTells limits g 1 xs) (c0 : Crash) (input put : List ℕ) (generation winners undone : ℕ)
-    (d : Crash) (o : WasOut AreRoom g xs c0 m s0 sa input put generation winners undone d) where
-  module _ (r : Recovers g AreRoom o.left.heard (next_of o.left.unheard) o.left.out m o.crash.image) where
+    (d : Crash) (o : WasOut (IsRoomOfNext input g) g xs c0 m s0 sa input put generation winners undone d) where
+  module _ (r : Recovers g (IsRoomOfNext input g) o.left.heard (next_of o.left.unheard) o.left.out m o.crash.image) where
     lives : Lives m s0 input put d
     lives =
-        let l = left_now laws m s0 sa g n1 b xs each c0 input put generation winners undone d AreRoom o r in
-        record { survives = survives_now laws m s0 sa g n1 b xs each c0 input put generation winners undone d AreRoom o r; master = record { n = l.n; counts = l.counts; is = inr l.next; left = inr l } }
+        let l = left_now laws m s0 sa g n1 b xs each c0 input put generation winners undone d (IsRoomOfNext input) o r in
+        record { survives = survives_now laws m s0 sa g n1 b xs each c0 input put generation winners undone d (IsRoomOfNext input) o r; master = record { n = l.n; counts = l.counts; is = inr l.next; left = inr l } }
 
   pub lives_as : EveryFair s0 → IsAsRead s0 c0 → IsFairCrash (length m.heads) s0 d → Lives m s0 input put d
-  lives_as fair_law read fair = lives (o.left.recovers (fair_from laws m s0 sa g n1 b xs each c0 input put generation winners undone d AreRoom o fair_law read fair))
+  lives_as fair_law read fair = lives (o.left.recovers (fair_from laws m s0 sa g n1 b xs each c0 input put generation winners undone d (IsRoomOfNext input) o fair_law read fair))
 
 pub every_left : Laws → (s0 sa : Story) → EveryFair s0 → EveryLeft s0 sa
 every_left laws s0 sa fair_law m n g xs c0 b each read input put generation winners undone d o fair =

@@ -5,6 +5,7 @@ use mathlib.Core.List.{append_assoc}
 use mathlib.Core.Path.{fun_ext}
 use Rattle.std.proofs.Math.Seq.{drop-append_seam}
 use Rattle.map_model.specs.declared.call.Answered.{Answered}
+use Rattle.map_model.specs.declared.call.Call.{Call}
 use Rattle.map_model.specs.Journals.{Journal, Name, Serial}
 use Rattle.map_model.specs.Maps.{Map}
 use Rattle.map_model.specs.Outputs.{Reply}
@@ -30,6 +31,7 @@ use Rattle.disk_image.specs.Shown.{DiskStandsFor, IsCleanDisk, image_by}
 use Rattle.recovery.specs.Crashes.{RecoveryLeaves}
 use Rattle.recovery.specs.Opened.{Keeps}
 use Rattle.recovery.specs.Telling.{TellsAll}
+use Rattle.core_state.specs.Events.{Event}
 use Rattle.core_state.specs.Openings.{Opening, first_map}
 use Rattle.core_calls.specs.Crashes.{EveryRunCrash}
 use Rattle.core_calls.specs.Deeds.{answered, asked}
@@ -49,8 +51,8 @@ use Rattle.disk_runs.proofs.LineLemmas.{every_fair}
 use Rattle.disk_runs.proofs.StandLemmas.{every_same}
 use Rattle.engine_calls.specs.Clauses.{Between}
 use Rattle.engine_trait.specs.Limits.{limits}
-use Rattle.engine_trait.specs.Rooms.{AreRoom}
-use Rattle.run_crashes.specs.Lines.{Recovers, RunLeft, next_of}
+use Rattle.run_crashes.specs.Lines.{NoneStopped, Recovers, RunLeft, next_of}
+use Rattle.run_crashes.proofs.LineLemmas.{wider}
 use Rattle.run_crashes.proofs.ReopenLemmas.{every_reopened_for}
 use Rattle.worker_log.specs.Logs.{Log}
 use Rattle.transcripts.specs.Laws.{ComesNext, TellsInTurn}
@@ -59,7 +61,7 @@ use Rattle.transcripts.proofs.TranscriptLemmas.{lines_fit}
 use Rattle.transcripts.specs.Told.{ask, asked_text, opened_line, replies, text_of, EachFits, EachReplyFits, Heard, IsOutput}
 use Rattle.transcripts.specs.Told.Heard.{Whole}
 use Rattle.transcripts.specs.Transcripts.{first_lines, transcript, IsQuiet}
-use Rattle.script_run.specs.Runs.{CallMissing, DiskTo, IsLastCut, PrintsTo, ReadsTo, ScriptRuns, StaysIn2, calls_of}
+use Rattle.script_run.specs.Runs.{CallMissing, DiskTo, IsLastCut, PrintsTo, ReadsTo, ScriptRuns, StaysIn2, StoppedIn, calls_of}
 use Rattle.script_run.specs.Runs.CallMissing.{Nothing, Part}
 use Rattle.script_run.specs.Texts.{LinesRead}
 use Rattle.script_run.specs.declared.stop.Stop.{Stop}
@@ -74,7 +76,7 @@ use Rattle.lean_shell.specs.Inside.Assembled.{EveryRun}
 use Rattle.lean_shell.specs.Inside.Openings.{EndsWith}
 use Rattle.lean_shell.specs.Lines.{IsPut}
 use Rattle.lean_shell.specs.Runs.{Counts, ended, first_line}
-use Rattle.lean_shell.specs.Starts.{IsLeft, NoEvents}
+use Rattle.lean_shell.specs.Starts.{AllAnswered, IsLeft, IsRoomOfNext}
 use Rattle.lean_shell.proofs.Runs.EndLemmas.{HasLines, HeardOf, final_tail, heard_of, lines_of}
 use Rattle.lean_shell.proofs.Runs.LastLemmas.{Last, last_of}
 use Rattle.lean_shell.proofs.Runs.LeftLemmas.{left_now, lives_as, survives_now}
@@ -104,38 +106,32 @@ told_first stops.DiskFault all told tail p = ([], p.told_is)
 -- ## The disk, by why the script stopped
 
 -- a call that was asked and not answered
-record IsPart (stop : Stop) (start feed : Feed) (reader : Unread) (seen : List ℕ) (g : Opening) (xs : List Done) (x : Done) : Type 0 where
+record IsAsked (stop : Stop) (start feed : Feed) (reader : Unread) (seen : List ℕ) (c : Call) : Type 0 where
   stop_is : stop ≡ stops.DiskFault
-  session : x.outcome.session ≡ 1
-  tells : told_by.Tells limits g 1 xs x
-  fits : CallFits (asked x.outcome.deed)
-  read : Reading start feed reader (seen ++ (ask 1 (asked x.outcome.deed) ++ 10 ∷ []))
+  fits : CallFits c
+  read : Reading start feed reader (seen ++ (ask 1 c ++ 10 ∷ []))
 
-abbrev Moved : (stop : Stop) (start feed : Feed) (reader : Unread) (seen : List ℕ) → Opening → List Done → Crash → Master → (from now : Story) → Type 0
-Moved stop start feed reader seen g xs c0 m from now =
-    LeavesOnly from now (RunLeft g AreRoom xs c0 m) ⊎ ((x : Done) × IsPart stop start feed reader seen g xs x × LeavesOnly from now (RunLeft g AreRoom (x ∷ xs) c0 m))
+-- All calls were answered; or one was not, behind events by which it made room, or behind the first of those by which it would be answered.
+data Moved (stop : Stop) (start feed : Feed) (reader : Unread) (seen : List ℕ) (g : Opening) (xs : List Done) (c0 : Crash) (m : Master) (from now : Story) : Type 0 where
+  InRun : LeavesOnly from now (RunLeft g NoneStopped xs c0 m) → Moved stop start feed reader seen g xs c0 m from now
+  InRoom : (c : Call) → IsAsked stop start feed reader seen c → LeavesOnly from now (RunLeft g (StoppedIn g xs c) xs c0 m) → Moved stop start feed reader seen g xs c0 m from now
+  InPart : (x : Done) → IsAsked stop start feed reader seen (asked x.outcome.deed) → x.outcome.session ≡ 1 → told_by.Tells limits g 1 xs x → LeavesOnly from now (RunLeft g NoneStopped (x ∷ xs) c0 m)
+      → Moved stop start feed reader seen g xs c0 m from now
 
 moved : (stop : Stop) (number : ℕ) (start feed : Feed) (reader : Unread) (seen : List ℕ) (reads : ReadsTo (Some stop) number start feed reader seen) (g : Opening) (xs : List Done) (c0 : Crash) (m : Master) (k : Known) (from now : Story) (log : Log) →
     DiskTo (Some stop) number start feed reader seen reads g xs c0 m k from now log → Moved stop start feed reader seen g xs c0 m from now
-moved stops.End number start feed reader seen reads g xs c0 m k from now log d = inl d.runs.any_moment
-moved (stops.Refused line) number start feed reader seen reads g xs c0 m k from now log d = inl d.runs.any_moment
-moved stops.ReadFault number start feed reader seen reads g xs c0 m k from now log d = inl d.runs.any_moment
-moved stops.WriteFault number start feed reader seen reads g xs c0 m k from now log d = inl d.any_moment
+moved stops.End number start feed reader seen reads g xs c0 m k from now log d = InRun d.runs.any_moment
+moved (stops.Refused line) number start feed reader seen reads g xs c0 m k from now log d = InRun d.runs.any_moment
+moved stops.ReadFault number start feed reader seen reads g xs c0 m k from now log d = InRun d.runs.any_moment
+moved stops.WriteFault number start feed reader seen reads g xs c0 m k from now log d = InRun d.any_moment
 moved stops.DiskFault number start feed reader seen reads g xs c0 m k from now log d = go d
   where
+    asks : IsAsked stops.DiskFault start feed reader seen reads.0
+    asks = record { stop_is = refl; fits = reads.1; read = reads.2 }
+
     go : CallMissing g xs reads.0 c0 m from now → Moved stops.DiskFault start feed reader seen g xs c0 m from now
-    go (Nothing l) = inl l
-    go (Part x is session tells l) = inr (
-      x,
-      record {
-        stop_is = refl;
-        session = session;
-        tells = tells;
-        fits = subst CallFits (sym is) reads.1;
-        read = subst (λ (c : Rattle.map_model.specs.declared.call.Call.Call). Reading start feed reader (seen ++ (ask 1 c ++ 10 ∷ []))) (sym is) reads.2;
-      },
-      l,
-    )
+    go (Nothing l) = InRoom reads.0 asks l
+    go (Part x is session tells l) = InPart x (subst (IsAsked stops.DiskFault start feed reader seen) (sym is) asks) session tells l
 
 -- unless the disk failed, it stands for all events
 record StandsNow (g : Opening) (xs : List Done) (c0 : Crash) (k : Known) (now : Story) : Type 0 where
@@ -167,7 +163,7 @@ record HeardNow (g : Opening) (calls : List Done) (told : List Reply) : Type 0 w
   are : unheard ++ heard ≡ calls
   missing : List Name
   lines : durable_lines missing ++ told ≡ printed g heard
-  recovers : (shows : EveryShown) (crashes : EveryRunCrash) (agrees : EveryAgreement) (m n : Master) (area : ℕ → List ℕ) → IsOfRun m n → HoldsRun g (front calls) n area → Recovers g NoEvents heard (next_of unheard) told m area
+  recovers : (shows : EveryShown) (crashes : EveryRunCrash) (agrees : EveryAgreement) (m n : Master) (area : ℕ → List ℕ) → IsOfRun m n → HoldsRun g (front calls) n area → Recovers g NoneStopped heard (next_of unheard) told m area
 
 -- the replies to all calls but the last are told
 abbrev IsCutLast : Opening → List Done → List Reply → Type 0
@@ -181,7 +177,7 @@ heard_now g [] newer told each e cut = record {
   are = refl;
   missing = [];
   lines = none newer told e;
-  recovers = λ shows crashes agrees m n area of_run h. (every_reopened_for shows crashes agrees NoEvents limits g 1 [] m n area).behind [] told tt (none newer told e) of_run h;
+  recovers = λ shows crashes agrees m n area of_run h. (every_reopened_for shows crashes agrees NoneStopped limits g 1 [] m n area).behind [] told tt (none newer told e) of_run h;
 }
   where
     none : (newer told : List Reply) → newer ++ told ≡ [] → told ≡ []
@@ -193,14 +189,14 @@ heard_now g (x ∷ earlier) newer told each e cut = ⊎_elim (λ l. record {
   are = refl;
   missing = l.missing;
   lines = l.is;
-  recovers = λ shows crashes agrees m n area of_run h. (every_reopened_for shows crashes agrees NoEvents limits g 1 (x ∷ earlier) m n area).behind (durable_lines l.missing) told each l.is of_run h;
+  recovers = λ shows crashes agrees m n area of_run h. (every_reopened_for shows crashes agrees NoneStopped limits g 1 (x ∷ earlier) m n area).behind (durable_lines l.missing) told each l.is of_run h;
 }) (λ l. record {
   unheard = x ∷ [];
   heard = earlier;
   are = refl;
   missing = [];
   lines = same l.0 l.1;
-  recovers = λ shows crashes agrees m n area of_run h. (every_reopened_for shows crashes agrees NoEvents limits g 1 earlier m n area).between x x.events [] [] told each (append-nil x.events) (same l.0 l.1) of_run h;
+  recovers = λ shows crashes agrees m n area of_run h. (every_reopened_for shows crashes agrees NoneStopped limits g 1 earlier m n area).between x x.events [] [] told each (append-nil x.events) (same l.0 l.1) of_run h;
 }) (lacks (due g (state_after g (front (x ∷ earlier))) (durables g (moments_in earlier))) x.outcome.session (answered x.outcome.deed) (printed g earlier) newer told e)
   where
     same : (n : List Reply) → n ++ told ≡ printed g earlier → told ≡ printed g earlier
@@ -406,25 +402,37 @@ module _ (laws : Laws) (s0 sa sb sc s1 : Story) (law_a : IsLawful sa) (law_c : I
     abbrev ls : HasLines input said
     ls = lines tells
 
+    -- what a crash in it may leave, with the events of a call that was not answered
+    abbrev Left : List Done → Crash → Type 0
+    Left xs c = RunLeft g (IsRoomOfNext input g) xs c0 m c
+
     -- of a crash in the run: its replies, its calls, and what the script asks next
-    record Knows (xs : List Done) (c : Crash) (q : RunLeft g AreRoom xs c0 m c) : Type 0 where
+    record Knows (xs : List Done) (c : Crash) (q : Left xs c) : Type 0 where
       later : List Reply
       first_told : later ++ q.out ≡ r.told
       fits : EachFits 1 (calls_of q.heard)
       script : HasLinesFor input q.heard (next_of q.unheard)
 
     -- its notes are those of these replies
-    few_out : (xs : List Done) (c : Crash) (q : RunLeft g AreRoom xs c0 m c) → c.notes ≤ sb.notes + length r.told → length q.out ≤ length r.told
+    few_out : (xs : List Done) (c : Crash) (q : Left xs c) → c.notes ≤ sb.notes + length r.told → length q.out ≤ length r.told
     few_out xs c q few = let e = q.notes in let f = notes_b in omega arith
 
-    knows_all : (c : Crash) (q : RunLeft g AreRoom r.newer c0 m c) → c.notes ≤ sb.notes + length r.told → Knows r.newer c q
+    knows_all : (c : Crash) (q : Left r.newer c) → c.notes ≤ sb.notes + length r.told → Knows r.newer c q
     knows_all c q few =
         let f = firsts q.out (older_of q.unheard q.heard q.missing q.out q.calls q.lines) (few_out r.newer c q few) in
         record { later = f.0; first_told = f.1; fits = first_fits q.unheard q.heard r.newer q.calls r.fits; script = lines_for_all input r.newer r.fits ls.others ls.is q.unheard q.heard q.calls }
 
-    module _ (x : Done) (part : IsPart stop feed0 feed1 reader (asked_text (script_of said)) g r.newer x) where
+    -- the line of the call that was not answered is the script's next
+    comes_next : (c : Call) → IsAsked stop feed0 feed1 reader (asked_text (script_of said)) c → ComesNext (script_of said) (ask 1 c) input
+    comes_next c a = (laws.next 1 feed0 feed1 reader (script_of said) (omega arith) (lines_fit 1 said r.fits) tells).asks 1 c (record { first = omega arith; last = omega arith; fits = a.fits }) a.read
+
+    -- so what it did is what the script's next line did
+    room_of_next : (c : Call) → IsAsked stop feed0 feed1 reader (asked_text (script_of said)) c → (heard : List Done) (es : List Event) → StoppedIn g r.newer c heard es → IsRoomOfNext input g heard es
+    room_of_next c a heard es s = record { call = c; fits = a.fits; line = subst (λ (xs : List Done). ComesNext (script_of (calls_of xs)) (ask 1 c) input) (sym s.0) (comes_next c a); room = s.1 }
+
+    module _ (x : Done) (part : IsAsked stop feed0 feed1 reader (asked_text (script_of said)) (asked x.outcome.deed)) (session : x.outcome.session ≡ 1) where
       comes : ComesNext (script_of said) (ask 1 (asked x.outcome.deed)) input
-      comes = (laws.next 1 feed0 feed1 reader (script_of said) (omega arith) (lines_fit 1 said r.fits) tells).asks 1 (asked x.outcome.deed) (record { first = omega arith; last = omega arith; fits = part.fits }) part.read
+      comes = comes_next (asked x.outcome.deed) part
 
       told_all : r.told ≡ replies said
       told_all = go stop part.stop_is r.prints
@@ -432,12 +440,12 @@ module _ (laws : Laws) (s0 sa sb sc s1 : Story) (law_a : IsLawful sa) (law_c : I
           go : (s : Stop) → s ≡ stops.DiskFault → PrintsTo (Some s) (replies said) r.told r.tail → r.told ≡ replies said
           go s is q = (subst (λ (z : Stop). PrintsTo (Some z) (replies said) r.told r.tail) is q).told_is
 
-      knows_part : (c : Crash) (q : RunLeft g AreRoom (x ∷ r.newer) c0 m c) → c.notes ≤ sb.notes + length r.told → Knows (x ∷ r.newer) c q
+      knows_part : (c : Crash) (q : Left (x ∷ r.newer) c) → c.notes ≤ sb.notes + length r.told → Knows (x ∷ r.newer) c q
       knows_part c q few = record {
         later = f.0;
         first_told = f.1;
         fits = heard_fits q.unheard q.calls;
-        script = lines_for_part input r.newer r.fits (ask 1 (asked x.outcome.deed) ∷ comes.others) comes.begins x part.session comes.others refl q.unheard q.heard q.calls not_all;
+        script = lines_for_part input r.newer r.fits (ask 1 (asked x.outcome.deed) ∷ comes.others) comes.begins x session comes.others refl q.unheard q.heard q.calls not_all;
       }
         where
           -- the one that was not answered was not heard
@@ -462,22 +470,22 @@ module _ (laws : Laws) (s0 sa sb sc s1 : Story) (law_a : IsLawful sa) (law_c : I
           f = let v = rest_of q.unheard q.calls in firsts q.out (older_of v.0 q.heard q.missing q.out v.1 q.lines) (few_out (x ∷ r.newer) c q few)
 
     -- so it was out
-    was_out : (xs : List Done) (c : Crash) (q : RunLeft g AreRoom xs c0 m c) → Knows xs c q → StaysIn2 (length r.told) sb c → (d : Crash) → IsSameBut c d → (lines_out : ℕ) → d.notes ≡ s0.notes + lines_out → IsOutput counts.generation counts.winners counts.undone q.out (first_lines lines_out put) →
-        WasOut AreRoom g xs c0 m s0 sa input put counts.generation counts.winners counts.undone d
+    was_out : (xs : List Done) (c : Crash) (q : Left xs c) → Knows xs c q → StaysIn2 (length r.told) sb c → (d : Crash) → IsSameBut c d → (lines_out : ℕ) → d.notes ≡ s0.notes + lines_out → IsOutput counts.generation counts.winners counts.undone q.out (first_lines lines_out put) →
+        WasOut (IsRoomOfNext input g) g xs c0 m s0 sa input put counts.generation counts.winners counts.undone d
     was_out xs c q k stays d same lines_out notes is = record { crash = c; left = q; areas = areas_kept c stays; same = same; lines = lines_out; notes = notes; output = is; fits = k.fits; script = k.script }
 
     as_began : IsAsRead s0 c0
     as_began = record { image = λ a. refl; writes = λ a. refl }
 
     -- as these lines were out, and behind the last line
-    module _ (xs : List Done) (each_x : EachTells limits g 1 xs) (knows : (c : Crash) (q : RunLeft g AreRoom xs c0 m c) → c.notes ≤ sb.notes + length r.told → Knows xs c q) (run : LeavesOnly sb sc (RunLeft g AreRoom xs c0 m)) where
+    module _ (xs : List Done) (each_x : EachTells limits g 1 xs) (knows : (c : Crash) (q : Left xs c) → c.notes ≤ sb.notes + length r.told → Knows xs c q) (run : LeavesOnly sb sc (Left xs)) where
       abbrev Q : Crash → Type 0
-      Q c = StaysIn2 (length r.told) sb c × RunLeft g AreRoom xs c0 m c
+      Q c = StaysIn2 (length r.told) sb c × Left xs c
 
       script : LeavesOnly sb sc Q
-      script = both sb sc (StaysIn2 (length r.told) sb) (RunLeft g AreRoom xs c0 m) disk.0 run
+      script = both sb sc (StaysIn2 (length r.told) sb) (Left xs) disk.0 run
 
-      lives_on : (d : Crash) → WasOut AreRoom g xs c0 m s0 sa input put counts.generation counts.winners counts.undone d → LivesOn m s0 input put d
+      lives_on : (d : Crash) → WasOut (IsRoomOfNext input g) g xs c0 m s0 sa input put counts.generation counts.winners counts.undone d → LivesOn m s0 input put d
       lives_on d w = inr (λ fair. lives_as laws m s0 sa g b.n b.begun xs each_x c0 input put counts.generation counts.winners counts.undone d w (every_fair s0) as_began fair)
 
       in_script : (c : Crash) → Q c → LivesOn m s0 input put c
@@ -507,12 +515,16 @@ module _ (laws : Laws) (s0 sa sb sc s1 : Story) (law_a : IsLawful sa) (law_c : I
       leaves_all : LeavesOnly s0 s1 (LivesOn m s0 input put)
       leaves_all = moments.then s0 sb s1 (LivesOn m s0 input put) before (put_moments sb sc s1 Q (LivesOn m s0 input put) script in_script law_c r.others.later l.notes at_last)
 
+    left_by : (Such : List Done → List Event → Type 0) → ((heard : List Done) (es : List Event) → Such heard es → IsRoomOfNext input g heard es) → (xs : List Done) → LeavesOnly sb sc (RunLeft g Such xs c0 m) → LeavesOnly sb sc (Left xs)
+    left_by Such so xs run = weaker sb sc (RunLeft g Such xs c0 m) (Left xs) (wider g Such (IsRoomOfNext input g) so c0 m xs) run
+
+    leaves_by : Moved stop feed0 feed1 reader (asked_text (script_of said)) g r.newer c0 m sb sc → LeavesOnly s0 s1 (LivesOn m s0 input put)
+    leaves_by (InRun run) = leaves_all r.newer each knows_all (left_by NoneStopped (λ heard es none. absurd none) r.newer run)
+    leaves_by (InRoom c a run) = leaves_all r.newer each knows_all (left_by (StoppedIn g r.newer c) (room_of_next c a) r.newer run)
+    leaves_by (InPart x a session told run) = leaves_all (x ∷ r.newer) (each, told) (knows_part x a session) (left_by NoneStopped (λ heard es none. absurd none) (x ∷ r.newer) run)
+
     pub leaves : LeavesOnly s0 s1 (LivesOn m s0 input put)
-    leaves = ⊎_elim
-        (λ run. leaves_all r.newer each knows_all run)
-        (λ (e : (x : Done) × IsPart stop feed0 feed1 reader (asked_text (script_of said)) g r.newer x × LeavesOnly sb sc (RunLeft g AreRoom (x ∷ r.newer) c0 m)).
-        leaves_all (e.0 ∷ r.newer) (each, e.1.tells) (knows_part e.0 e.1) e.2)
-        (subst (λ (xs : List Done). Moved stop feed0 feed1 reader (asked_text (script_of said)) g xs c0 m sb sc) nil
+    leaves = leaves_by (subst (λ (xs : List Done). Moved stop feed0 feed1 reader (asked_text (script_of said)) g xs c0 m sb sc) nil
         (moved stop (suc (0 + length (calls_of r.newer))) feed0 feed1 reader (asked_text (script_of said)) r.reads g (r.newer ++ []) c0 m b.known sb sc r.log disk.1))
 
     -- as a read gives it
@@ -563,14 +575,14 @@ module _ (laws : Laws) (s0 sa sb sc s1 : Story) (law_a : IsLawful sa) (law_c : I
       now_heard : HeardNow g r.newer r.told
       now_heard = let t = told_first stop (replies said) r.told r.tail r.prints in heard_now g r.newer t.0 r.told each (t.1 ∙ sym printed_is) cut
 
-      recovered : Recovers g NoEvents now_heard.heard (next_of now_heard.unheard) r.told m (areas_of s1)
+      recovered : Recovers g NoneStopped now_heard.heard (next_of now_heard.unheard) r.told m (areas_of s1)
       recovered = now_heard.recovers laws.shown laws.crashes laws.agrees m st.known.master (areas_of s1) (subst (IsOfRun m) (sym st.master_is) of_known) holds_now
 
       -- that crash, with the notes of these replies
       abbrev c1 : Crash
       c1 = record { notes = s0.notes + 1 + length r.told; writes = λ a. (s1.area a).writes; image = areas_of s1 }
 
-      abbrev q1 : RunLeft g NoEvents r.newer c0 m c1
+      abbrev q1 : RunLeft g NoneStopped r.newer c0 m c1
       q1 = record { unheard = now_heard.unheard; heard = now_heard.heard; calls = now_heard.are; missing = now_heard.missing; out = r.told; lines = now_heard.lines; notes = refl; recovers = λ fair. recovered }
 
       areas_1 : KeepsAreas sa c1
@@ -578,7 +590,7 @@ module _ (laws : Laws) (s0 sa sb sc s1 : Story) (law_a : IsLawful sa) (law_c : I
           let same : s1.area a ≡ sa.area a = l.notes.area a ∙ (r.others.area a (λ e. omega arith) ∙ noted.area a) in
           subst (λ (x : Area). Leaves x (areas_of s1 a)) same (law_1.reads_so a (stands_1.tells a (let w = o.of_one.workers in omega arith)))
 
-      abbrev was_now : (lines_out : ℕ) → s1.notes ≡ s0.notes + lines_out → IsOutput counts.generation counts.winners counts.undone r.told (first_lines lines_out put) → WasOut NoEvents g r.newer c0 m s0 sa input put counts.generation counts.winners counts.undone (as_read s1)
+      abbrev was_now : (lines_out : ℕ) → s1.notes ≡ s0.notes + lines_out → IsOutput counts.generation counts.winners counts.undone r.told (first_lines lines_out put) → WasOut NoneStopped g r.newer c0 m s0 sa input put counts.generation counts.winners counts.undone (as_read s1)
       was_now lines_out notes is = record {
         crash = c1;
         left = q1;
@@ -596,14 +608,14 @@ module _ (laws : Laws) (s0 sa sb sc s1 : Story) (law_a : IsLawful sa) (law_c : I
 
       pub stands : Survives m s0 input put (as_read s1)
       stands = ⊎_elim
-          (λ (e : s1.notes ≡ sc.notes). survives_now laws m s0 sa g b.n b.begun r.newer each c0 input put counts.generation counts.winners counts.undone (as_read s1) NoEvents (was_now (suc (length r.told)) (let n = notes_c in let b = notes_b in omega arith) (first_output [] r.told refl)) recovered)
-          (λ (e : (s1.notes ≡ sc.notes + 1) × (stop ≡ stops.WriteFault → ⊥)). survives_now laws m s0 sa g b.n b.begun r.newer each c0 input put counts.generation counts.winners counts.undone (as_read s1) NoEvents (was_now (suc (suc (length r.told))) (let n = notes_c in let b = notes_b in let f = e.0 in omega arith) (last_output e.1)) recovered)
+          (λ (e : s1.notes ≡ sc.notes). survives_now laws m s0 sa g b.n b.begun r.newer each c0 input put counts.generation counts.winners counts.undone (as_read s1) AllAnswered (was_now (suc (length r.told)) (let n = notes_c in let b = notes_b in omega arith) (first_output [] r.told refl)) recovered)
+          (λ (e : (s1.notes ≡ sc.notes + 1) × (stop ≡ stops.WriteFault → ⊥)). survives_now laws m s0 sa g b.n b.begun r.newer each c0 input put counts.generation counts.winners counts.undone (as_read s1) AllAnswered (was_now (suc (suc (length r.told))) (let n = notes_c in let b = notes_b in let f = e.0 in omega arith) (last_output e.1)) recovered)
           (l.noted (let a = told_few in let b = notes_b in let y = young.notes in let n = notes_c in omega arith) (as_read s1) now)
 
-      pub stays : IsLeft NoEvents m s0 input put (as_read s1)
+      pub stays : IsLeft AllAnswered m s0 input put (as_read s1)
       stays = ⊎_elim
-          (λ (e : s1.notes ≡ sc.notes). left_now laws m s0 sa g b.n b.begun r.newer each c0 input put counts.generation counts.winners counts.undone (as_read s1) NoEvents (was_now (suc (length r.told)) (let n = notes_c in let b = notes_b in omega arith) (first_output [] r.told refl)) recovered)
-          (λ (e : (s1.notes ≡ sc.notes + 1) × (stop ≡ stops.WriteFault → ⊥)). left_now laws m s0 sa g b.n b.begun r.newer each c0 input put counts.generation counts.winners counts.undone (as_read s1) NoEvents (was_now (suc (suc (length r.told))) (let n = notes_c in let b = notes_b in let f = e.0 in omega arith) (last_output e.1)) recovered)
+          (λ (e : s1.notes ≡ sc.notes). left_now laws m s0 sa g b.n b.begun r.newer each c0 input put counts.generation counts.winners counts.undone (as_read s1) AllAnswered (was_now (suc (length r.told)) (let n = notes_c in let b = notes_b in omega arith) (first_output [] r.told refl)) recovered)
+          (λ (e : (s1.notes ≡ sc.notes + 1) × (stop ≡ stops.WriteFault → ⊥)). left_now laws m s0 sa g b.n b.begun r.newer each c0 input put counts.generation counts.winners counts.undone (as_read s1) AllAnswered (was_now (suc (suc (length r.told))) (let n = notes_c in let b = notes_b in let f = e.0 in omega arith) (last_output e.1)) recovered)
           (l.noted (let a = told_few in let b = notes_b in let y = young.notes in let n = notes_c in omega arith) (as_read s1) now)
 
   pub run_says : IsTrue feed0.tells → TellsAll s0 → Headline s0 s1 input put

@@ -19,14 +19,13 @@ use Rattle.core_calls.specs.Runs.{EachTells}
 use Rattle.disk_runs.specs.Fair.{IsAsRead}
 use Rattle.run_crashes.specs.Lines.{RunLeft, next_of}
 use Rattle.engine_trait.specs.Limits.{limits}
-use Rattle.engine_trait.specs.Rooms.{AreRoom}
 use Rattle.map_model.specs.Pairings.{script_of}
 use Rattle.script_lang.specs.Text.{script_lines}
 use Rattle.transcripts.specs.Told.{ask, asked_lines, EachFits, IsOutput}
 use Rattle.transcripts.specs.Transcripts.{first_lines}
 use Rattle.lean_shell.specs.Crashes.{HasMasterOf, IsUnwritten}
 use Rattle.lean_shell.specs.Headline.{Survives}
-use Rattle.lean_shell.specs.Starts.{IsOfOne}
+use Rattle.lean_shell.specs.Starts.{IsOfOne, IsRoomOfNext}
 use Rattle.script_run.specs.Runs.{calls_of}
 
 -- A crash with the writes and the bytes of another.
@@ -72,7 +71,7 @@ pub record HasLinesFor (input : List ℕ) (heard : List Done) (next : Option Don
   pub asks : (x : Done) → next ≡ Some x → AsksNext x.outcome others
 
 -- A crash of a run of these outcomes, with another count of notes: as so many lines of an output were out, which have the lines that were out in the run.
-pub record WasOut (Such : List Event → Type 0) (g : Opening) (xs : List Done) (c0 : Crash) (m : Master) (s0 sa : Story) (input put : List ℕ) (generation winners undone : ℕ) (d : Crash) : Type 0 where
+pub record WasOut (Such : List Done → List Event → Type 0) (g : Opening) (xs : List Done) (c0 : Crash) (m : Master) (s0 sa : Story) (input put : List ℕ) (generation winners undone : ℕ) (d : Crash) : Type 0 where
   pub crash : Crash
   pub left : RunLeft g Such xs c0 m crash
   pub areas : KeepsAreas sa crash
@@ -86,4 +85,4 @@ pub record WasOut (Such : List Event → Type 0) (g : Opening) (xs : List Done) 
 -- Such a crash survives, if it is fair.
 abbrev pub EveryLeft : (s0 sa : Story) → Type 0
 EveryLeft s0 sa = (m n : Master) (g : Opening) (xs : List Done) (c0 : Crash) → IsBegun m s0 sa g n → EachTells limits g 1 xs → IsAsRead s0 c0 → (input put : List ℕ) (generation winners undone : ℕ) (d : Crash) →
-    WasOut AreRoom g xs c0 m s0 sa input put generation winners undone d → IsFairCrash (length m.heads) s0 d → Lives m s0 input put d
+    WasOut (IsRoomOfNext input g) g xs c0 m s0 sa input put generation winners undone d → IsFairCrash (length m.heads) s0 d → Lives m s0 input put d
