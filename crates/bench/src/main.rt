@@ -184,35 +184,67 @@ fn times(rt: &HostRuntime) -> io::Result<u64>
     Ok(millions.min(1000000))
 }
 
+// What is done over and over.
+#[derive(Clone, Copy)]
+enum Work {
+    Lines,
+    Replies,
+    Records,
+    Searches,
+    Blocks,
+}
+
+// How often for each million that is asked for.
+static WORKS: [(&str, Work, u32); 5] = [
+    ("lines", Work::Lines, 250000),
+    ("replies", Work::Replies, 250000),
+    ("records", Work::Records, 1000000),
+    ("searches", Work::Searches, 1000000),
+    ("blocks", Work::Blocks, 10000),
+];
+
+fn sum_of(work: Work, times: u64) -> u64 {
+    match work {
+        Work::Lines => lines(times),
+        Work::Replies => replies(times),
+        Work::Records => records(times),
+        Work::Searches => searches(times),
+        Work::Blocks => blocks(times),
+    }
+}
+
+// What so many add up to, and the milliseconds that they took.
+fn time(rt: &HostRuntime, name: &str, work: Work, times: u64) -> io::Result<()> {
+    let start = Instant::now(rt)?;
+    let sum = sum_of(work, times);
+    let took = start.elapsed(rt)?.as_millis();
+    println!(rt; "{name} {sum} {took} ms")
+}
+
+// A handful of each.
+fn try_all(rt: &HostRuntime) -> io::Result<()> {
+    let (a, b, c, d, e) = (lines(3), replies(3), records(3), searches(3), blocks(3));
+    println!(rt; "{a} {b} {c} {d} {e}")?;
+    recover(rt, 2, 64, false)
+}
+
+fn time_all(rt: &HostRuntime, millions: u64) -> io::Result<()>
+    requires { millions ≤ 1000000 }
+{
+    for (name, work, each) in &WORKS {
+        time(rt, name, *work, millions * u64::from(*each))?;
+    }
+    for logs in [1, 1, 4, 16] {
+        recover(rt, logs, 4096, true)?;
+    }
+    Ok(())
+}
+
 fn main(rt: HostRuntime) -> io::Result<()> {
     let millions = times(&rt)?;
     if millions == 0 {
-        let (a, b, c, d, e) = (lines(3), replies(3), records(3), searches(3), blocks(3));
-        println!(rt; "{a} {b} {c} {d} {e}")?;
-        return recover(&rt, 2, 64, false);
+        try_all(&rt)
+    } else {
+        time_all(&rt, millions)
     }
-    let start = Instant::now(&rt)?;
-    let sum = lines(millions * 250000);
-    let took = start.elapsed(&rt)?.as_millis();
-    println!(rt; "lines {sum} {took} ms")?;
-    let start = Instant::now(&rt)?;
-    let sum = replies(millions * 250000);
-    let took = start.elapsed(&rt)?.as_millis();
-    println!(rt; "replies {sum} {took} ms")?;
-    let start = Instant::now(&rt)?;
-    let sum = records(millions * 1000000);
-    let took = start.elapsed(&rt)?.as_millis();
-    println!(rt; "records {sum} {took} ms")?;
-    let start = Instant::now(&rt)?;
-    let sum = searches(millions * 1000000);
-    let took = start.elapsed(&rt)?.as_millis();
-    println!(rt; "searches {sum} {took} ms")?;
-    let start = Instant::now(&rt)?;
-    let sum = blocks(millions * 10000);
-    let took = start.elapsed(&rt)?.as_millis();
-    println!(rt; "blocks {sum} {took} ms")?;
-    for logs in [1, 1, 4, 16] {
-        recover(&rt, logs, 4096, true)?;
-    }
-    Ok(())
 }

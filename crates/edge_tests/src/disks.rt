@@ -1,7 +1,7 @@
 // Disks in memory, called through their traits.
+use crate::cases::expect;
 use lean_disk::{AreaOf, Choice, Did, Disk, MemDisk, Part, Read};
-use std::alloc::Global;
-use std::test::Fail;
+use std::alloc::{AllocError, Global};
 
 // What a disk begins with: so many empty areas, or areas of these bytes.
 enum First {
@@ -10,7 +10,6 @@ enum First {
 }
 
 // A call, and its answer; or what is seen of the disk.
-#[derive(Debug)]
 enum Step {
     Write(u32, u64, &'static [u8], Did),
     /// It and the sync go through a part.
@@ -96,33 +95,26 @@ static CASES: [Case; 5] = [
     },
 ];
 
-fn disk_of(alloc: Global, first: &First) -> Result<MemDisk, Fail> {
+fn disk_of(alloc: Global, first: &First) -> Result<MemDisk, AllocError> {
     match first {
-        First::Empty(areas) => Ok(MemDisk::new(alloc, (*areas).max(1))?),
+        First::Empty(areas) => MemDisk::new(alloc, (*areas).max(1)),
         First::Areas(all) => {
             let mut areas = Vec::new(alloc);
             for bytes in *all {
                 areas.push(bytes.to_vec(alloc)?)?;
             }
             if areas.is_empty() {
-                return Ok(MemDisk::new(alloc, 1)?);
+                return MemDisk::new(alloc, 1);
             }
-            Ok(MemDisk::from_areas(alloc, areas)?)
+            MemDisk::from_areas(alloc, areas)
         }
     }
 }
 
-fn read_into<D: Disk>(disk: &mut D, area: u32, at: u64, into: [u8; 4]) -> (Read, [u8; 4]) {
+fn read_into(disk: &mut MemDisk, area: u32, at: u64, into: [u8; 4]) -> (Read, [u8; 4]) {
     let mut into = into;
     let read = disk.read(area, at, &mut into);
     (read, into)
-}
-
-fn write_by_part<P: Part>(part: &mut P, bytes: &[u8]) -> Did {
-    match part.write(0, bytes) {
-        Did::Done => part.sync(),
-        Did::Failed => Did::Failed,
-    }
 }
 
 fn has_bytes(disk: &MemDisk, area: u32, wanted: &[u8]) -> bool {
@@ -130,50 +122,49 @@ fn has_bytes(disk: &MemDisk, area: u32, wanted: &[u8]) -> bool {
 }
 
 fn write_by_area(disk: &mut MemDisk, area: u32, bytes: &[u8]) -> Did {
-    let mut area = AreaOf::new(disk, area);
-    write_by_part(&mut area, bytes)
+    let mut part = AreaOf::new(disk, area);
+    match part.write(0, bytes) {
+        Did::Done => part.sync(),
+        Did::Failed => Did::Failed,
+    }
 }
 
-fn goes(disk: &mut MemDisk, step: &Step) -> Result<bool, Fail> {
-    match step {
-        Step::Write(area, at, bytes, wanted) => Ok(disk.write(*area, *at, bytes) == *wanted),
-        Step::WriteByPart(area, bytes, wanted) => Ok(write_by_area(disk, *area, bytes) == *wanted),
-        Step::Sync(area, wanted) => Ok(disk.sync(*area) == *wanted),
+// Whether a step goes as is written.
+fn goes(disk: &mut MemDisk, step: &Step) -> Result<bool, AllocError> {
+    let goes = match step {
+        Step::Write(area, at, bytes, wanted) => disk.write(*area, *at, bytes) == *wanted,
+        Step::WriteByPart(area, bytes, wanted) => write_by_area(disk, *area, bytes) == *wanted,
+        Step::Sync(area, wanted) => disk.sync(*area) == *wanted,
         Step::Read(area, at, wanted, bytes) => {
-            Ok(read_into(disk, *area, *at, [0; 4]) == (*wanted, *bytes))
+            read_into(disk, *area, *at, [0; 4]) == (*wanted, *bytes)
         }
         Step::Note => {
             disk.note();
-            Ok(true)
+            true
         }
-        Step::Moment(wanted) => Ok(disk.moment() == *wanted),
-        Step::Bytes(area, wanted) => Ok(has_bytes(disk, *area, wanted)),
+        Step::Moment(wanted) => disk.moment() == *wanted,
+        Step::Bytes(area, wanted) => has_bytes(disk, *area, wanted),
         Step::Crash(moment, choice, area, wanted) => {
             let mut left = disk.crash(*moment, *choice)?;
-            Ok(read_into(&mut left, *area, 0, [9; 4]).1 == *wanted)
+            read_into(&mut left, *area, 0, [9; 4]).1 == *wanted
         }
-    }
+    };
+    Ok(goes)
 }
 
-// The first step that goes otherwise.
-fn first_wrong(disk: &mut MemDisk, steps: &[Step]) -> Result<Option<usize>, Fail> {
-    for (place, step) in steps.iter().enumerate() {
+fn all_go(disk: &mut MemDisk, steps: &[Step]) -> Result<bool, AllocError> {
+    for step in steps {
         if !goes(disk, step)? {
-            return Ok(Some(place));
+            return Ok(false);
         }
     }
-    Ok(None)
+    Ok(true)
 }
 
-#[test]
-fn disks_in_memory_go_as_they_are_told(rt: HostRuntime) -> Result<(), Fail> {
-    let alloc = rt.alloc();
-    for case in &CASES {
-        let mut disk = disk_of(alloc, &case.first)?;
-        disk.fail_at(1, case.failing.to_vec(alloc)?);
-        assert_eq!(rt; first_wrong(&mut disk, case.steps)?, None, "{}", case.name);
-    }
-    Ok(())
+fn is_met(alloc: Global, case: &Case) -> Result<bool, AllocError> {
+    let mut disk = disk_of(alloc, &case.first)?;
+    disk.fail_at(1, case.failing.to_vec(alloc)?);
+    all_go(&mut disk, case.steps)
 }
 
 // What is seen of the disk behind a write and a sync of a part.
@@ -183,16 +174,31 @@ static BEHIND_A_PART: [Step; 3] = [
     Step::Crash(1, Choice::NoBytes, 1, *b"part"),
 ];
 
-#[test]
-fn what_a_part_wrote_is_the_disks_when_it_is_back(rt: HostRuntime) -> Result<(), Fail> {
+// A disk to which a part was lent, and the answers of the part's write and of its sync.
+fn lent(alloc: Global) -> Result<(MemDisk, Did, Did), AllocError> {
     lean_disk::every_area();
-    let mut disk = MemDisk::new(rt.alloc(), 2)?;
+    let mut disk = MemDisk::new(alloc, 2)?;
     let mut part = disk.split(1);
     let wrote = part.write(0, b"part");
     let synced = part.sync();
     disk.rejoin(1, part);
-    assert_eq!(rt; wrote, Did::Done);
-    assert_eq!(rt; synced, Did::Done);
-    assert_eq!(rt; first_wrong(&mut disk, &BEHIND_A_PART)?, None);
-    Ok(())
+    Ok((disk, wrote, synced))
+}
+
+fn is_the_disks(alloc: Global) -> Result<bool, AllocError> {
+    let (mut disk, wrote, synced) = lent(alloc)?;
+    Ok(wrote == Did::Done && synced == Did::Done && all_go(&mut disk, &BEHIND_A_PART)?)
+}
+
+#[test]
+fn disks_in_memory_go_as_is_written(rt: HostRuntime) {
+    let alloc = rt.alloc();
+    for case in &CASES {
+        expect(&rt, case.name, is_met(alloc, case));
+    }
+    expect(
+        &rt,
+        "what a part wrote is the disk's when it is back",
+        is_the_disks(alloc),
+    );
 }

@@ -1,11 +1,12 @@
 // Sources and sinks as they are used.
 ghost use Rattle.std.specs.Prelude.{◌≤◌, IfOk};
 
+use crate::cases::expect;
 use lean_disk::MemDisk;
 use lean_edge::{MemSink, MemSource, Next, Put, Sink, Source, StdSink, StdSource};
+use std::alloc::{AllocError, Global};
 use std::io;
 use std::io::{ErrorKind, Read, Write};
-use std::test::Fail;
 
 // The answers of a source of `abcde` that gives two bytes at a time and fails at calls 2 and 7, and what stands then in four bytes
 // that were zeros.
@@ -20,19 +21,21 @@ static NEXTS: [(Next, [u8; 4]); 8] = [
     (Next::End, *b"ed\0\0"),
 ];
 
-#[test]
-fn a_source_in_memory_gives_pieces_and_fails_where_it_was_told(
-    rt: HostRuntime,
-) -> Result<(), Fail> {
-    let alloc = rt.alloc();
-    let mut source = MemSource::new(alloc, b"abcde", 2)?;
-    source.fail_at(vec![in alloc; 2, 7]?);
+fn gives<S: Source>(source: &mut S, nexts: &[(Next, [u8; 4])]) -> bool {
     let mut into = [0u8; 4];
-    for (place, (want, bytes)) in NEXTS.iter().enumerate() {
-        assert_eq!(rt; source.next(&mut into), *want, "at {place}");
-        assert_eq!(rt; into, *bytes, "at {place}");
+    for (want, bytes) in nexts {
+        if source.next(&mut into) != *want || into != *bytes {
+            return false;
+        }
     }
-    Ok(())
+    true
+}
+
+// Whether the source in memory gives pieces, and fails where it was told.
+fn memory_gives(alloc: Global) -> Result<bool, AllocError> {
+    let mut source = MemSource::new(alloc, b"abcde", 2)?;
+    source.fail_at([2, 7].to_vec(alloc)?);
+    Ok(gives(&mut source, &NEXTS))
 }
 
 // Lines that are put into a sink that keeps two bytes where it fails, at calls 2 and 3, and what it holds then.
@@ -43,18 +46,18 @@ static PUTS: [(&[u8], Put, &str); 4] = [
     (b"ten\n", Put::Done, "one\ntwsiten\n"),
 ];
 
-#[test]
-fn a_sink_in_memory_holds_the_prefix_of_a_piece_that_failed(rt: HostRuntime) -> Result<(), Fail> {
-    let alloc = rt.alloc();
+// Whether the sink in memory holds the prefix of a piece that failed.
+fn memory_holds(alloc: Global) -> Result<bool, AllocError> {
     let mut disk = MemDisk::new(alloc, 1)?;
     let mut sink = MemSink::new(alloc);
-    sink.fail_at(vec![in alloc; 2, 3]?);
+    sink.fail_at([2, 3].to_vec(alloc)?);
     sink.keep_prefix(2);
     for (line, want, held) in &PUTS {
-        assert_eq!(rt; sink.put(&mut disk, line), *want, "at {held}");
-        assert_eq!(rt; sink.bytes(), held.as_bytes(), "at {held}");
+        if sink.put(&mut disk, line) != *want || sink.bytes() != held.as_bytes() {
+            return Ok(false);
+        }
     }
-    Ok(())
+    Ok(true)
 }
 
 // What a stream's next call does.
@@ -127,15 +130,10 @@ static READS: [(Next, [u8; 4]); 5] = [
     (Next::End, *b"xxxx"),
 ];
 
-#[test]
-fn a_reader_is_read_again_where_it_was_interrupted_and_ends_for_good(rt: HostRuntime) {
+// Whether a reader is read again where it was interrupted, and ends for good.
+fn reader_gives() -> bool {
     let mut source = StdSource::new(Stream { turns: &READ_TURNS });
-    let mut into = [0u8; 4];
-    assert_eq!(rt; source.next(&mut []), Next::Got(0));
-    for (place, (want, bytes)) in READS.iter().enumerate() {
-        assert_eq!(rt; source.next(&mut into), *want, "at {place}");
-        assert_eq!(rt; into, *bytes, "at {place}");
-    }
+    source.next(&mut []) == Next::Got(0) && gives(&mut source, &READS)
 }
 
 static WRITE_TURNS: [Turn; 8] = [
@@ -151,14 +149,25 @@ static WRITE_TURNS: [Turn; 8] = [
 
 static WRITES: [Put; 5] = [Put::Done, Put::Done, Put::Failed, Put::Done, Put::Failed];
 
-#[test]
-fn a_writer_is_written_to_until_it_has_all(rt: HostRuntime) -> Result<(), Fail> {
-    let mut disk = MemDisk::new(rt.alloc(), 1)?;
+// Whether a writer is written to until it has all.
+fn writer_takes(alloc: Global) -> Result<bool, AllocError> {
+    let mut disk = MemDisk::new(alloc, 1)?;
     let mut sink = StdSink::new(Stream {
         turns: &WRITE_TURNS,
     });
-    for (place, want) in WRITES.iter().enumerate() {
-        assert_eq!(rt; sink.put(&mut disk, b"one\n"), *want, "at {place}");
+    for want in &WRITES {
+        if sink.put(&mut disk, b"one\n") != *want {
+            return Ok(false);
+        }
     }
-    Ok(())
+    Ok(true)
+}
+
+#[test]
+fn sources_and_sinks_answer_as_is_written(rt: HostRuntime) {
+    let alloc = rt.alloc();
+    expect(&rt, "a source in memory", memory_gives(alloc));
+    expect(&rt, "a sink in memory", memory_holds(alloc));
+    expect(&rt, "a reader", Ok(reader_gives()));
+    expect(&rt, "a writer", writer_takes(alloc));
 }

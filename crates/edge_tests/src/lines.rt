@@ -4,6 +4,7 @@ ghost use Rattle.std.specs.Prelude.{ℕ, [], false};
 ghost use Rattle.lean_edge.specs.Outside.{Feed};
 ghost use Rattle.script_lang.specs.Replies.{AnswerFits};
 
+use crate::cases::expect;
 use lean_edge::{Next, Source};
 use map_model::{Answer, Call, Refusal};
 use script_lang::{
@@ -12,6 +13,7 @@ use script_lang::{
     read_line, refused_bytes, reply_bytes,
 };
 use std::alloc::{AllocError, Global};
+use std::str;
 
 const WORKERS: u32 = 16;
 
@@ -143,13 +145,18 @@ fn is_read(bytes: &[u8], session: u32, call: Call) -> bool {
     }
 }
 
+// How a failed case names its line.
+fn text_of(line: &[u8]) -> &str {
+    str::from_utf8(line).unwrap_or("a line that is no text")
+}
+
 #[test]
 fn lines_of_the_grammar_are_read_and_others_are_refused(rt: HostRuntime) {
-    for (bytes, session, call) in &GOOD {
-        assert!(rt; is_read(bytes, *session, *call), "{bytes:?}");
+    for (line, session, call) in &GOOD {
+        expect(&rt, text_of(line), Ok(is_read(line, *session, *call)));
     }
-    for bytes in &BAD {
-        assert!(rt; read_line(WORKERS, bytes).is_err(), "{bytes:?}");
+    for line in &BAD {
+        expect(&rt, text_of(line), Ok(read_line(WORKERS, line).is_err()));
     }
 }
 
@@ -289,19 +296,15 @@ fn is_reply(session: u32, told: &Told, line: &[u8]) -> bool {
 }
 
 #[test]
-fn replies_are_spelled(rt: HostRuntime) {
-    for (session, told, line) in &REPLIES {
-        assert!(rt; is_reply(*session, told, line), "{line:?}");
-    }
-}
-
-#[test]
 fn lines_of_output_are_spelled(rt: HostRuntime) {
+    for (session, told, line) in &REPLIES {
+        expect(&rt, text_of(line), Ok(is_reply(*session, told, line)));
+    }
     for (said, line) in &LINES {
-        assert!(rt; is_spelled(said, line), "{line:?}");
+        expect(&rt, text_of(line), Ok(is_spelled(said, line)));
     }
     for (line, wanted) in &FIXED {
-        assert!(rt; line == wanted, "{wanted:?}");
+        expect(&rt, text_of(wanted), Ok(line == wanted));
     }
 }
 
@@ -483,19 +486,21 @@ fn is_cut(alloc: Global, case: &Case, piece: usize, fail_in: usize) -> Result<bo
     )
 }
 
-#[test]
-fn texts_are_cut_into_lines(rt: HostRuntime) -> Result<(), AllocError> {
-    for case in &CASES {
-        for piece in case.pieces {
-            for fail_in in case.fails {
-                let is_cut = is_cut(rt.alloc(), case, *piece, *fail_in)?;
-                assert!(rt;
-                    is_cut,
-                    "{} in pieces of {piece}, fault {fail_in}",
-                    case.name
-                );
+// Whether it is cut so in each size of pieces, whichever call fails.
+fn is_met(alloc: Global, case: &Case) -> Result<bool, AllocError> {
+    for piece in case.pieces {
+        for fail_in in case.fails {
+            if !is_cut(alloc, case, *piece, *fail_in)? {
+                return Ok(false);
             }
         }
     }
-    Ok(())
+    Ok(true)
+}
+
+#[test]
+fn texts_are_cut_into_lines(rt: HostRuntime) {
+    for case in &CASES {
+        expect(&rt, case.name, is_met(rt.alloc(), case));
+    }
 }

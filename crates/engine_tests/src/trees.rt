@@ -4,7 +4,6 @@ use btree_node::Node;
 use node_tree::{first_break, is_leaf_with, leaf_of};
 use page_model::every_check;
 use std::alloc::{AllocError, Global};
-use std::process::Abort;
 
 const TOP: u64 = u64::MAX;
 
@@ -21,14 +20,14 @@ const LEVEL: u64 = 1 << 8;
 struct Page(u64, u64, u64, [u64; 4]);
 
 // The node that it spells.
-fn node_of(rt: &impl Abort, page: &Page) -> Node {
+fn node_of(page: &Page) -> Option<Node> {
     let Page(packed, low, high, pairs) = page;
     let mut words = [0; 126];
     words[3] = *packed;
     words[4] = *low;
     words[5] = *high;
     words[6..10].copy_from_slice(pairs);
-    Node::from_words(words).expect(rt, "these words spell a page")
+    Node::from_words(words)
 }
 
 // A root over the pages 1 and 2, and a page that no node names.
@@ -175,16 +174,6 @@ static HOLDS: [(usize, u64, bool); 5] = [
     (4, 9, false),
 ];
 
-// The nodes that they spell.
-fn nodes_of(rt: &impl Abort, pages: &[Page; 4]) -> [Node; 4] {
-    [
-        node_of(rt, &pages[0]),
-        node_of(rt, &pages[1]),
-        node_of(rt, &pages[2]),
-        node_of(rt, &pages[3]),
-    ]
-}
-
 // The page of a key's leaf, where the pages are a tree.
 fn leaf_in(alloc: Global, pages: &[Node], key: u64) -> Option<usize> {
     every_check();
@@ -211,24 +200,46 @@ fn leads_to_leaves(alloc: Global, pages: &[Node]) -> bool {
     true
 }
 
-fn is_least(rt: &impl Abort, alloc: Global, case: &Case) -> Result<bool, AllocError> {
-    let mut nodes = nodes_of(rt, &PAGES);
-    for (place, page) in case.instead {
-        if let Some(node) = nodes.get_mut(*place) {
-            *node = node_of(rt, page);
+// The page that stands in a place, if others stand in the place of some.
+fn page_in<'a>(instead: &'a [(usize, Page)], place: usize, page: &'a Page) -> &'a Page {
+    for (at, other) in instead {
+        if *at == place {
+            return other;
         }
     }
-    Ok(first_break(alloc, &nodes)? == case.least)
+    page
+}
+
+// The nodes of the tree, with these pages in the place of some; none of a page that spells none.
+fn nodes_with(alloc: Global, instead: &[(usize, Page)]) -> Result<Vec<Node>, AllocError> {
+    let mut nodes = Vec::new(alloc);
+    for (place, page) in PAGES.iter().enumerate() {
+        if let Some(node) = node_of(page_in(instead, place, page)) {
+            nodes.push(node)?;
+        }
+    }
+    Ok(nodes)
+}
+
+fn is_least(alloc: Global, case: &Case) -> Result<bool, AllocError> {
+    let nodes = nodes_with(alloc, case.instead)?;
+    Ok(nodes.len() == PAGES.len() && first_break(alloc, &nodes)? == case.least)
+}
+
+fn has_leaves(alloc: Global) -> Result<bool, AllocError> {
+    Ok(leads_to_leaves(alloc, &nodes_with(alloc, &[])?))
+}
+
+fn no_pages_break_nothing(alloc: Global) -> Result<bool, AllocError> {
+    Ok(first_break(alloc, &[])?.is_none())
 }
 
 #[test]
 fn a_tree_keeps_the_rule_and_leads_to_each_leaf(rt: HostRuntime) {
     let alloc = rt.alloc();
     for case in &CASES {
-        expect(&rt, case.name, is_least(&rt, alloc, case));
+        expect(&rt, case.name, is_least(alloc, case));
     }
-    let nodes = nodes_of(&rt, &PAGES);
-    expect(&rt, "the leaves", Ok(leads_to_leaves(alloc, &nodes)));
-    let none = matches!(first_break(alloc, &[]), Ok(None));
-    expect(&rt, "no pages", Ok(none));
+    expect(&rt, "the leaves", has_leaves(alloc));
+    expect(&rt, "no pages", no_pages_break_nothing(alloc));
 }

@@ -3,11 +3,11 @@ ghost use Rattle.std.specs.Prelude.{◌≤◌, IfOk};
 ghost use Rattle.row_sessions.specs.Standing.{Stands, workers_of};
 
 use crate::answers::{Call, TOMBSTONE, Told, answer};
+use crate::expect::expect;
 use key_locks::mode::Mode;
 use row_sessions::pages::two_levels;
 use row_sessions::sessions::{Sessions, Unopened};
 use std::alloc::Global;
-use std::process::Abort;
 
 /// A worker's call, and what it is to be told.
 #[derive(Clone, Copy)]
@@ -84,8 +84,8 @@ static A_TRANSACTION_MAKES_NO_MORE_CHANGES: [Case; 4] = [
     Case(1, Call::Put(1000, 64), Told::Word(Some(63))),
 ];
 
-// Three workers and eight lock rows over two leaves, which begin at 0 and 1000, with entries ten apart.
-fn opened(alloc: Global, entries: u64) -> Result<Sessions, Unopened>
+/// Three workers and eight lock rows over two leaves, which begin at 0 and 1000, with entries ten apart.
+pub fn opened(alloc: Global, entries: u64) -> Result<Sessions, Unopened>
     requires { entries ≤ 60 }
     ensures { IfOk result (λ s. Stands s × (3 ≤ workers_of s)) }
 {
@@ -95,17 +95,7 @@ fn opened(alloc: Global, entries: u64) -> Result<Sessions, Unopened>
     }
 }
 
-pub fn sessions(rt: &impl Abort, alloc: Global, entries: u64) -> Sessions
-    requires { entries ≤ 60 }
-    ensures { Stands result × (3 ≤ workers_of result) }
-{
-    match opened(alloc, entries) {
-        Ok(sessions) => sessions,
-        Err(_) => panic!(rt; "not opened"),
-    }
-}
-
-// Whether a call of one of the three workers is told what it is to be.
+/// Whether a call of one of the three workers is told what it is to be.
 pub fn is_told(sessions: &mut Sessions, case: &Case) -> bool
     requires { Stands sessions.old × (3 ≤ workers_of sessions.old) }
     ensures { Stands sessions.new × (3 ≤ workers_of sessions.new) }
@@ -114,36 +104,61 @@ pub fn is_told(sessions: &mut Sessions, case: &Case) -> bool
     1 <= worker && worker <= 3 && answer(sessions, worker, call) == told
 }
 
-// The place of the first row that is not told what it is to be.
-fn first_wrong(sessions: &mut Sessions, cases: &[Case]) -> Option<usize>
+// Whether each call is told what its row says.
+fn are_told(sessions: &mut Sessions, cases: &[Case]) -> bool
     requires { Stands sessions.old × (3 ≤ workers_of sessions.old) }
     ensures { Stands sessions.new × (3 ≤ workers_of sessions.new) }
 {
-    for (place, case) in cases.iter().enumerate() {
+    for case in cases {
         if !is_told(sessions, case) {
-            return Some(place);
+            return false;
         }
     }
-    None
+    true
+}
+
+fn is_met(alloc: Global, scenario: &Scenario) -> bool {
+    match opened(alloc, 60) {
+        Ok(mut sessions) => are_told(&mut sessions, scenario.cases),
+        Err(_) => false,
+    }
+}
+
+// Whether sixty-four changes of a transaction are told what was there before.
+fn makes_changes(sessions: &mut Sessions) -> bool
+    requires { Stands sessions.old × (3 ≤ workers_of sessions.old) }
+    ensures { Stands sessions.new × (3 ≤ workers_of sessions.new) }
+{
+    for change in 0..64u64 {
+        // the entry that is there has the word 0
+        let before = Told::Word(Some(change.saturating_sub(1)));
+        if !is_told(sessions, &Case(1, Call::Put(1000, change), before)) {
+            return false;
+        }
+    }
+    true
+}
+
+fn makes_no_more_changes(alloc: Global) -> bool {
+    match opened(alloc, 60) {
+        Ok(mut sessions) => {
+            is_told(&mut sessions, &Case(1, Call::Begin, Told::Did(true)))
+                && makes_changes(&mut sessions)
+                && are_told(&mut sessions, &A_TRANSACTION_MAKES_NO_MORE_CHANGES)
+        }
+        Err(_) => false,
+    }
 }
 
 #[test]
 fn each_call_is_told_what_its_row_says(rt: HostRuntime) {
+    let alloc = rt.alloc();
     for scenario in &SCENARIOS {
-        let mut sessions = sessions(&rt, rt.alloc(), 60);
-        let wrong = first_wrong(&mut sessions, scenario.cases);
-        assert!(rt; wrong.is_none(), "{}: row {wrong:?}", scenario.name);
+        expect(&rt, scenario.name, is_met(alloc, scenario));
     }
-}
-
-#[test]
-fn a_transaction_makes_sixty_four_changes(rt: HostRuntime) {
-    let mut sessions = sessions(&rt, rt.alloc(), 60);
-    let mut goes = is_told(&mut sessions, &Case(1, Call::Begin, Told::Did(true)));
-    for change in 0..64u64 {
-        // the entry that is there has the word 0
-        let before = Told::Word(Some(change.saturating_sub(1)));
-        goes &= is_told(&mut sessions, &Case(1, Call::Put(1000, change), before));
-    }
-    assert!(rt; goes && first_wrong(&mut sessions, &A_TRANSACTION_MAKES_NO_MORE_CHANGES).is_none());
+    expect(
+        &rt,
+        "a transaction makes sixty-four changes",
+        makes_no_more_changes(alloc),
+    );
 }

@@ -8,6 +8,8 @@ mod cases;
 #[cfg(test)]
 mod draws;
 #[cfg(test)]
+mod expect;
+#[cfg(test)]
 mod model;
 #[cfg(test)]
 mod openings;

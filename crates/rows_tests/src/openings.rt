@@ -1,7 +1,8 @@
 // The words of two openings, written down by hand.
+use crate::expect::expect;
 use btree_node::Node;
 use row_sessions::sessions::Sessions;
-use std::process::Abort;
+use std::alloc::Global;
 
 /// A word: where it lies, and what it is.
 struct Word(usize, u64);
@@ -90,45 +91,64 @@ static LEFT_LEAF: [Word; 6] = [
     Word(7, 7),
 ];
 
-fn node(rt: &impl Abort, words: &[Word]) -> Node {
+fn node(words: &[Word]) -> Option<Node> {
     let mut spelled = [0; 126];
     for Word(at, value) in words {
         if let Some(word) = spelled.get_mut(*at) {
             *word = *value;
         }
     }
-    Node::from_words(spelled).expect(rt, "the words of a node")
+    Node::from_words(spelled)
 }
 
-// The place of the first of these words that is not there.
-fn first_missing(words: &[u64], expected: &[Word]) -> Option<usize> {
+fn are_there(words: &[u64], expected: &[Word]) -> bool {
     for Word(at, value) in expected {
         if words.get(*at) != Some(value) {
-            return Some(*at);
+            return false;
         }
     }
-    None
+    true
 }
 
-#[test]
-fn an_empty_tree_is_one_leaf_in_the_first_frame(rt: HostRuntime) {
+// Whether so many frames and workers over these pages, with one lock row and from this number on, have these words.
+fn has_words(
+    alloc: Global,
+    pages: &[Node],
+    frames: u32,
+    workers: u32,
+    number: u64,
+    expected: &[Word],
+) -> bool {
+    match Sessions::open(alloc, pages, frames, 1, workers, number) {
+        Ok(sessions) => are_there(sessions.words(), expected),
+        Err(_) => false,
+    }
+}
+
+fn is_one_leaf(alloc: Global) -> bool {
     let pages = [Node::empty_leaf(0, 0, u64::MAX)];
-    let Ok(sessions) = Sessions::open(rt.alloc(), &pages, 2, 1, 1, 5) else {
-        panic!(&rt; "not opened");
+    has_words(alloc, &pages, 2, 1, 5, &ONE_LEAF)
+}
+
+fn is_root_over_leaves(alloc: Global) -> bool {
+    let (Some(root), Some(left)) = (node(&ROOT), node(&LEFT_LEAF)) else {
+        return false;
     };
-    assert!(rt; first_missing(sessions.words(), &ONE_LEAF).is_none());
+    let pages = [root, left, Node::free(2), Node::empty_leaf(3, 10, u64::MAX)];
+    has_words(alloc, &pages, 6, 2, 9, &TWO_LEAVES)
 }
 
 #[test]
-fn a_root_names_the_frames_of_its_leaves(rt: HostRuntime) {
-    let pages = [
-        node(&rt, &ROOT),
-        node(&rt, &LEFT_LEAF),
-        Node::free(2),
-        Node::empty_leaf(3, 10, u64::MAX),
-    ];
-    let Ok(sessions) = Sessions::open(rt.alloc(), &pages, 6, 1, 2, 9) else {
-        panic!(&rt; "not opened");
-    };
-    assert!(rt; first_missing(sessions.words(), &TWO_LEAVES).is_none());
+fn each_opening_has_the_words_that_its_rows_name(rt: HostRuntime) {
+    let alloc = rt.alloc();
+    expect(
+        &rt,
+        "an empty tree is one leaf in the first frame",
+        is_one_leaf(alloc),
+    );
+    expect(
+        &rt,
+        "a root names the frames of its leaves",
+        is_root_over_leaves(alloc),
+    );
 }

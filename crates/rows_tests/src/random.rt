@@ -1,16 +1,16 @@
 // Random calls of several workers, each answer compared with the model's.
-ghost use Rattle.std.specs.Prelude.{◌≡◌, ◌<◌, ◌≤◌};
+ghost use Rattle.std.specs.Prelude.{◌≡◌, ◌<◌, ◌≤◌, IfOk};
 ghost use Rattle.row_sessions.specs.Standing.{Stands, workers_of};
 
 use crate::answers::{Call, TOMBSTONE, Told, answer};
+use crate::expect::expect;
 use crate::model::{Model, Place};
 use key_locks::mode::Mode;
 use rand_core::utils::NextWord;
 use rand_pcg::Pcg32;
 use row_sessions::pages::two_levels;
-use row_sessions::sessions::Sessions;
+use row_sessions::sessions::{Sessions, Unopened};
 use std::alloc::Global;
-use std::process::Abort;
 
 /// The keys of a leaf begin at multiples of this.
 const SPAN: u32 = 1000;
@@ -22,6 +22,7 @@ const GAP: u32 = 10;
 const SLOTS: u32 = 80;
 
 struct Case {
+    name: &'static str,
     seed: u64,
     workers: u32,
     leaves: u32,
@@ -33,6 +34,7 @@ struct Case {
 
 static CASES: [Case; 5] = [
     Case {
+        name: "one worker and one lock",
         seed: 1,
         workers: 1,
         leaves: 2,
@@ -42,6 +44,7 @@ static CASES: [Case; 5] = [
         steps: 500,
     },
     Case {
+        name: "three workers over full leaves",
         seed: 2,
         workers: 3,
         leaves: 2,
@@ -51,6 +54,7 @@ static CASES: [Case; 5] = [
         steps: 600,
     },
     Case {
+        name: "four workers over five leaves",
         seed: 3,
         workers: 4,
         leaves: 5,
@@ -60,6 +64,7 @@ static CASES: [Case; 5] = [
         steps: 500,
     },
     Case {
+        name: "sixteen workers",
         seed: 4,
         workers: 16,
         leaves: 3,
@@ -69,6 +74,7 @@ static CASES: [Case; 5] = [
         steps: 600,
     },
     Case {
+        name: "sixty leaves",
         seed: 5,
         workers: 2,
         leaves: 60,
@@ -79,39 +85,24 @@ static CASES: [Case; 5] = [
     },
 ];
 
-/// How often each kind of answer came.
+// What kind of answer came.
 #[derive(Clone, Copy)]
-struct Counts {
-    begun: u32,
-    words: u32,
-    none: u32,
-    over: u32,
-    new: u32,
-    full: u32,
-    conflicts: u32,
-    locked: u32,
-    not_open: u32,
-    ended: u32,
-    unlocked: u32,
+enum Kind {
+    Begun,
+    Word,
+    None,
+    Over,
+    New,
+    Full,
+    Conflict,
+    Locked,
+    NotOpen,
+    Ended,
+    Unlocked,
 }
 
-const NONE: Counts = Counts {
-    begun: 0,
-    words: 0,
-    none: 0,
-    over: 0,
-    new: 0,
-    full: 0,
-    conflicts: 0,
-    locked: 0,
-    not_open: 0,
-    ended: 0,
-    unlocked: 0,
-};
-
-fn more(count: &mut u32) {
-    *count = count.saturating_add(1);
-}
+// How often each kind of answer came.
+type Counts = [u32; 11];
 
 // A number below a limit.
 fn choose(random: &mut Pcg32, limit: u32) -> u32
@@ -184,15 +175,40 @@ fn any_call(random: &mut Pcg32, key: u32) -> Call {
     }
 }
 
-// One call, of a random worker on a random key.
+// The kind of an answer that tells of a call that was done, or of what was in its way.
+fn kind_of(call: Call, told: Told) -> Option<Kind> {
+    match (told, call) {
+        (Told::Did(true), Call::Begin) => Some(Kind::Begun),
+        (Told::Did(true), Call::End) => Some(Kind::Ended),
+        (Told::Did(true), _) => Some(Kind::Unlocked),
+        (Told::Locked, _) => Some(Kind::Locked),
+        (Told::Word(Some(_)), Call::Find(_)) => Some(Kind::Word),
+        (Told::Word(None), Call::Find(_)) => Some(Kind::None),
+        (Told::Word(Some(_)), _) => Some(Kind::Over),
+        (Told::Word(None), _) => Some(Kind::New),
+        (Told::NotOpen, _) => Some(Kind::NotOpen),
+        (Told::Conflict(_), _) => Some(Kind::Conflict),
+        (Told::Full, _) => Some(Kind::Full),
+        _ => None,
+    }
+}
+
+fn count(counts: &mut Counts, kind: Option<Kind>) {
+    if let Some(kind) = kind
+        && let Some(count) = counts.get_mut(kind as usize)
+    {
+        *count = count.saturating_add(1);
+    }
+}
+
+// One call, of a random worker on a random key. Whether it is told what the model says.
 fn step(
-    rt: &impl Abort,
     sessions: &mut Sessions,
     model: &mut Model,
     random: &mut Pcg32,
     case: &Case,
     counts: &mut Counts,
-)
+) -> bool
     requires stands { Stands sessions.old }
     requires workers { (0 < case.now.workers) × (case.now.workers ≤ workers_of sessions.old) × (case.now.workers < 17) }
     requires sizes { (0 < case.now.leaves) × (case.now.leaves ≤ 60) × (0 < case.now.locks) }
@@ -208,97 +224,73 @@ fn step(
     };
     let call = any_call(random, slot.key());
     let told = answer(sessions, worker, call);
-    assert!(rt;
-        told == model.answer(worker, place, call),
-        "case {}",
-        case.seed
-    );
-    count(call, told, counts);
+    count(counts, kind_of(call, told));
+    told == model.answer(worker, place, call)
 }
 
-fn count(call: Call, told: Told, counts: &mut Counts) {
-    match told {
-        Told::Did(true) => count_done(call, counts),
-        Told::Locked => more(&mut counts.locked),
-        Told::Word(word) => count_word(call, word.is_some(), counts),
-        Told::NotOpen => more(&mut counts.not_open),
-        Told::Conflict(_) => more(&mut counts.conflicts),
-        Told::Full => more(&mut counts.full),
-        _ => {}
+// Sessions over so many leaves, frames, locks and workers.
+fn opened(alloc: Global, case: &Case) -> Result<Sessions, Unopened>
+    requires entries { case.now.entries ≤ 60 }
+    requires leaves { case.now.leaves ≤ 60 }
+    ensures { IfOk result (λ s. Stands s × (case.now.workers ≤ workers_of s)) }
+{
+    let (span, gap) = (u64::from(SPAN), u64::from(GAP));
+    match two_levels(alloc, case.leaves, span, gap, u64::from(case.entries)) {
+        Ok(pages) => Sessions::open(alloc, &pages, case.frames, case.locks, case.workers, 9),
+        Err(_) => Err(Unopened::Memory),
     }
 }
 
-fn count_done(call: Call, counts: &mut Counts) {
-    match call {
-        Call::Begin => more(&mut counts.begun),
-        Call::End => more(&mut counts.ended),
-        _ => more(&mut counts.unlocked),
-    }
-}
-
-fn count_word(call: Call, some: bool, counts: &mut Counts) {
-    match call {
-        Call::Find(_) if some => more(&mut counts.words),
-        Call::Find(_) => more(&mut counts.none),
-        _ if some => more(&mut counts.over),
-        _ => more(&mut counts.new),
-    }
-}
-
-fn run(rt: &impl Abort, alloc: Global, case: &Case, counts: &mut Counts) {
-    assert!(rt; 0 < case.workers && case.workers < 17 && 0 < case.leaves && case.leaves <= 60);
-    assert!(rt; 0 < case.locks && case.entries <= 60);
-    let Ok(pages) = two_levels(
-        alloc,
-        case.leaves,
-        u64::from(SPAN),
-        u64::from(GAP),
-        u64::from(case.entries),
-    ) else {
-        panic!(rt; "no memory");
-    };
-    let Ok(mut sessions) = Sessions::open(alloc, &pages, case.frames, case.locks, case.workers, 9)
-    else {
-        panic!(rt; "not opened");
-    };
-    let Ok(mut model) = Model::new(
-        alloc,
-        case.leaves as usize,
-        SLOTS as usize,
-        case.entries as usize,
-        case.locks as usize,
-    ) else {
-        panic!(rt; "no memory");
-    };
+// Whether each call is told what the model says.
+fn are_told(sessions: &mut Sessions, model: &mut Model, case: &Case, counts: &mut Counts) -> bool
+    requires stands { Stands sessions.old }
+    requires workers { (0 < case.now.workers) × (case.now.workers ≤ workers_of sessions.old) × (case.now.workers < 17) }
+    requires sizes { (0 < case.now.leaves) × (case.now.leaves ≤ 60) × (0 < case.now.locks) }
+{
     let mut random = Pcg32::new(case.seed, 54);
     for _ in 0..case.steps {
-        step(rt, &mut sessions, &mut model, &mut random, case, counts);
+        if !step(sessions, model, &mut random, case, counts) {
+            return false;
+        }
     }
+    true
+}
+
+fn is_met(alloc: Global, case: &Case, counts: &mut Counts) -> bool {
+    if case.workers < 1 || case.workers > 16 || case.leaves < 1 || case.leaves > 60 {
+        return false;
+    }
+    if case.locks < 1 || case.entries > 60 {
+        return false;
+    }
+    let Ok(mut sessions) = opened(alloc, case) else {
+        return false;
+    };
+    let (leaves, entries) = (case.leaves as usize, case.entries as usize);
+    match Model::new(alloc, leaves, SLOTS as usize, entries, case.locks as usize) {
+        Ok(mut model) => are_told(&mut sessions, &mut model, case, counts),
+        Err(_) => false,
+    }
+}
+
+fn came_often(counts: &Counts) -> bool {
+    for count in counts {
+        if *count < 10 {
+            return false;
+        }
+    }
+    true
 }
 
 #[test]
 fn each_answer_is_that_of_a_map_and_of_lists_of_holders(rt: HostRuntime) {
-    let mut counts = NONE;
+    let mut counts = [0; 11];
     for case in &CASES {
-        run(&rt, rt.alloc(), case, &mut counts);
+        expect(&rt, case.name, is_met(rt.alloc(), case, &mut counts));
     }
-    let Counts {
-        begun,
-        words,
-        none,
-        over,
-        new,
-        full,
-        conflicts,
-        locked,
-        not_open,
-        ended,
-        unlocked,
-    } = counts;
-    let all = [
-        begun, words, none, over, new, full, conflicts, locked, not_open, ended, unlocked,
-    ];
-    for count in &all {
-        assert!(rt; *count >= 10);
-    }
+    expect(
+        &rt,
+        "each kind of answer came ten times",
+        came_often(&counts),
+    );
 }

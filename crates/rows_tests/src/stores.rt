@@ -4,11 +4,11 @@ ghost use Rattle.std.specs.Prelude.{◌≤◌};
 ghost use Rattle.row_sessions.specs.Standing.{Stands, workers_of};
 
 use crate::answers::{Call, Told};
-use crate::cases::{Case, is_told, sessions};
+use crate::cases::{Case, is_told, opened};
+use crate::expect::expect;
 use key_locks::mode::Mode;
 use row_sessions::sessions::Sessions;
 use std::alloc::Global;
-use std::process::Abort;
 
 /// A word of the rows: where it lies, and what it is.
 #[derive(Clone, Copy)]
@@ -125,21 +125,24 @@ fn goes(sessions: &mut Sessions, alloc: Global, call: &Stores) -> bool
     is_told(sessions, case) && change(&mut words, changes) && words.as_slice() == sessions.words()
 }
 
-fn run(rt: &impl Abort, alloc: Global, scenario: &Scenario) {
-    assert!(rt; scenario.entries <= 60);
-    let mut sessions = sessions(rt, alloc, scenario.entries);
-    for (place, call) in scenario.calls.iter().enumerate() {
-        assert!(rt;
-            goes(&mut sessions, alloc, call),
-            "{}: row {place}",
-            scenario.name
-        );
+fn is_met(alloc: Global, scenario: &Scenario) -> bool {
+    if scenario.entries > 60 {
+        return false;
     }
+    let Ok(mut sessions) = opened(alloc, scenario.entries) else {
+        return false;
+    };
+    for call in scenario.calls {
+        if !goes(&mut sessions, alloc, call) {
+            return false;
+        }
+    }
+    true
 }
 
 #[test]
 fn each_call_changes_the_words_that_its_row_names(rt: HostRuntime) {
     for scenario in &SCENARIOS {
-        run(&rt, rt.alloc(), scenario);
+        expect(&rt, scenario.name, is_met(rt.alloc(), scenario));
     }
 }

@@ -3,6 +3,7 @@ ghost use Rattle.std.specs.Prelude.{◌≤◌, IfOk};
 ghost use Rattle.row_sessions.specs.Standing.{Stands, workers_of};
 
 use crate::answers::{Call, Told, answer};
+use crate::expect::expect;
 use btree_node::Node;
 use btree_smo::outcome::Outcome;
 use lean_proto::path::{DEEPEST, Path};
@@ -10,7 +11,6 @@ use row_sessions::pages::{eight_levels, one_leaf, two_levels};
 use row_sessions::sessions::{Sessions, Unopened};
 use row_sessions::structure::Unchanged;
 use std::alloc::{AllocError, Global};
-use std::process::Abort;
 
 /// What came of a lift or a split.
 #[derive(Clone, Copy, PartialEq, Eq)]
@@ -276,15 +276,6 @@ fn opened(alloc: Global, tree: Tree) -> Result<Sessions, Unopened>
     Sessions::open(alloc, &pages, frames, 8, 3, 7)
 }
 
-fn sessions(rt: &impl Abort, alloc: Global, tree: Tree) -> Sessions
-    ensures { Stands result × (3 ≤ workers_of result) }
-{
-    match opened(alloc, tree) {
-        Ok(sessions) => sessions,
-        Err(_) => panic!(rt; "not opened"),
-    }
-}
-
 fn made_of(outcome: Result<(), Unchanged>) -> Made {
     match outcome {
         Ok(()) => Made::Done,
@@ -418,24 +409,29 @@ fn goes(sessions: &mut Sessions, alloc: Global, step: Step) -> bool
     comes(sessions, step) && (!changes_nothing(step) || are_alike(&before, sessions.words()))
 }
 
-// The place of the first step that does not come out as it says.
-fn first_wrong(sessions: &mut Sessions, alloc: Global, steps: &[Step]) -> Option<usize>
+// Whether each step comes out as it says.
+fn all_go(sessions: &mut Sessions, alloc: Global, steps: &[Step]) -> bool
     requires { Stands sessions.old × (3 ≤ workers_of sessions.old) }
     ensures { Stands sessions.new × (3 ≤ workers_of sessions.new) }
 {
-    for (place, step) in steps.iter().enumerate() {
+    for step in steps {
         if !goes(sessions, alloc, *step) {
-            return Some(place);
+            return false;
         }
     }
-    None
+    true
+}
+
+fn is_met(alloc: Global, scenario: &Scenario) -> bool {
+    match opened(alloc, scenario.tree) {
+        Ok(mut sessions) => all_go(&mut sessions, alloc, scenario.steps),
+        Err(_) => false,
+    }
 }
 
 #[test]
 fn each_step_comes_out_as_its_row_says(rt: HostRuntime) {
     for scenario in &SCENARIOS {
-        let mut sessions = sessions(&rt, rt.alloc(), scenario.tree);
-        let wrong = first_wrong(&mut sessions, rt.alloc(), scenario.steps);
-        assert!(rt; wrong.is_none(), "{}: row {wrong:?}", scenario.name);
+        expect(&rt, scenario.name, is_met(rt.alloc(), scenario));
     }
 }

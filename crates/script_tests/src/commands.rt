@@ -4,7 +4,6 @@ use lean_disk::{Choice, MemDisk};
 use lean_edge::{MemSink, MemSource};
 use lean_shell::{Ended, Gate, run};
 use std::alloc::{AllocError, Global};
-use std::str;
 use std::sync::Wait;
 use std::thread::Threads;
 
@@ -13,8 +12,8 @@ pub(crate) const FORMAT: &str = "lean format --workers 1 --pages 16 --blocks 64"
 
 pub(crate) const RUN: &str = "lean run";
 
-// Holds no worker.
-struct Open;
+/// Holds no worker.
+pub(crate) struct Open;
 
 impl Gate for Open {
     fn pass(&self, _: u32, _: u64) {}
@@ -30,13 +29,8 @@ pub(crate) struct Outcome {
     pub sink: MemSink,
 }
 
-impl Outcome {
-    pub(crate) fn printed(&self) -> &str {
-        str::from_utf8(self.sink.bytes()).unwrap_or("no text")
-    }
-}
-
-fn words_of(alloc: Global, text: &str) -> Result<Vec<String>, AllocError> {
+/// The words of a command line.
+pub(crate) fn words_of(alloc: Global, text: &str) -> Result<Vec<String>, AllocError> {
     let mut words = Vec::new(alloc);
     for word in text.split(' ') {
         words.push(String::from_str(alloc, word)?)?;
@@ -109,6 +103,8 @@ static OTHER_WORDS: [&str; 26] = [
     "lean format --workers=1 --pages=64 --blocks=64",
 ];
 
+const USAGE: &[u8] = b"lean: usage\n";
+
 // Whether the words end as ones that are no command, and leave the disk.
 fn is_no_command<R: Threads + Wait + Sync>(
     rt: &R,
@@ -117,7 +113,7 @@ fn is_no_command<R: Threads + Wait + Sync>(
 ) -> Result<bool, AllocError> {
     let disk = MemDisk::new(alloc, 3)?;
     let done = run_alone(rt, alloc, words, disk, MemSink::new(alloc))?;
-    Ok(done.status == 2 && done.printed() == "lean: usage\n" && done.disk.bytes(1).is_empty())
+    Ok(done.status == 2 && done.sink.bytes() == USAGE && done.disk.bytes(1).is_empty())
 }
 
 // Whether a format whose line does not go out, and one behind it, end with their statuses.
@@ -130,7 +126,24 @@ fn is_unchanged_by_a_line<R: Threads + Wait + Sync>(
     let disk = MemDisk::new(alloc, 3)?;
     let Outcome { status, disk, sink } = run_alone(rt, alloc, FORMAT, disk, sink)?;
     let second = run_alone(rt, alloc, FORMAT, disk, sink)?;
-    Ok(status == 5 && second.status == 9 && second.printed().is_empty())
+    Ok(status == 5 && second.status == 9 && second.sink.bytes().is_empty())
+}
+
+// Whether a crash of a format left a formatted disk, which has all its pages, or no master; none where it left another.
+fn is_formatted<R: Threads + Wait + Sync>(
+    rt: &R,
+    alloc: Global,
+    whole: &MemDisk,
+    moment: u64,
+    choice: Choice,
+) -> Result<Option<bool>, AllocError> {
+    let left = whole.crash(moment, choice)?;
+    let has_pages = left.bytes(1) == whole.bytes(1);
+    match run_alone(rt, alloc, FORMAT, left, MemSink::new(alloc))?.status {
+        0 => Ok(Some(false)),
+        9 if has_pages => Ok(Some(true)),
+        _ => Ok(None),
+    }
 }
 
 // Whether so many crashes of a format leave a formatted disk, and the others no master.
@@ -144,13 +157,10 @@ fn is_formatted_by<R: Threads + Wait + Sync>(
     let whole = run_alone(rt, alloc, FORMAT, disk, MemSink::new(alloc))?.disk;
     let mut formatted = 0u32;
     for moment in 0..=whole.moment() {
-        let left = whole.crash(moment, choice)?;
-        let has_pages = left.bytes(1) == whole.bytes(1);
-        let status = run_alone(rt, alloc, FORMAT, left, MemSink::new(alloc))?.status;
-        if status == 9 && has_pages {
-            formatted = formatted.saturating_add(1);
-        } else if status != 0 {
-            return Ok(false);
+        match is_formatted(rt, alloc, &whole, moment, choice)? {
+            Some(true) => formatted = formatted.saturating_add(1),
+            Some(false) => {}
+            None => return Ok(false),
         }
     }
     Ok(formatted == count)

@@ -1,4 +1,4 @@
-//! Tests of scripts, of runs on a disk in memory, and of the program's commands.
+//! Tests of scripts and of the program's commands, on a disk in memory and on files.
 #![tactic(auto)]
 
 #[cfg(test)]
@@ -6,8 +6,12 @@ mod cases;
 #[cfg(test)]
 mod commands;
 #[cfg(test)]
-mod rows;
+mod file_disks;
 #[cfg(test)]
-mod runs;
+mod files;
+#[cfg(test)]
+mod programs;
+#[cfg(test)]
+mod rows;
 #[cfg(test)]
 mod scripts;

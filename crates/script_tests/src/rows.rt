@@ -2,7 +2,8 @@
 // `;` for each newline. Seals were computed by another SHA-256.
 use crate::cases::expect;
 use crate::commands::{FORMAT, Outcome, RUN, formatted, run_words};
-use lean_disk::{Choice, MemDisk};
+use itoa::Buffer;
+use lean_disk::{Choice, Disk, MemDisk};
 use lean_edge::{MemSink, MemSource};
 use std::alloc::{AllocError, Global};
 use std::sync::Wait;
@@ -11,18 +12,26 @@ use std::thread::Threads;
 // Text so many times, for each number from the first to the last: `#` stands for it, `@` for its double.
 struct Text(&'static str, u32, u32);
 
-macro_rules! once {
-    ($text:expr) => {
-        &[Text($text, 1, 1)]
-    };
+// A text as it stands, or texts.
+enum Lines {
+    Once(&'static str),
+    Many(&'static [Text]),
+}
+
+// On so many pages, for a format.
+enum Command {
+    Format16,
+    Format64,
+    Run,
+    Dump,
 }
 
 // A command and its script; its status, and what is printed.
 struct Run {
-    words: &'static str,
-    script: &'static [Text],
+    command: Command,
+    script: Lines,
     status: u8,
-    printed: &'static [Text],
+    printed: Lines,
 }
 
 // Bytes of an area at a place, and so many zeros behind them.
@@ -33,29 +42,42 @@ struct Bytes {
     zeros: usize,
 }
 
-// Runs on an empty disk, one after another, and what the disk holds then: how many bytes of an area, and some of them.
-struct Case {
-    name: &'static str,
-    runs: &'static [Run],
+// How many bytes of an area a disk holds, and some of them.
+struct Leaves {
     lens: &'static [(u32, usize)],
     bytes: &'static [Bytes],
 }
 
+// Runs on an empty disk, one after another, and what the disk holds then, if it is looked at. Behind each run a page may be left out.
+struct Case {
+    name: &'static str,
+    left_out: Option<u32>,
+    runs: &'static [Run],
+    leaves: Option<Leaves>,
+}
+
 const FORMATTED: Run = Run {
-    words: "lean format --workers 1 --pages 64 --blocks 64",
-    script: &[],
+    command: Command::Format64,
+    script: Lines::Once(""),
     status: 0,
-    printed: once!("formatted 1 64 64;"),
+    printed: Lines::Once("formatted 1 64 64;"),
+};
+
+const FORMATTED_16: Run = Run {
+    command: Command::Format16,
+    script: Lines::Once(""),
+    status: 0,
+    printed: Lines::Once("formatted 1 16 64;"),
 };
 
 // A run of this script, of these lines.
 macro_rules! script {
     ($script:expr, $status:expr, $printed:expr) => {
         Run {
-            words: RUN,
-            script: once!($script),
+            command: Command::Run,
+            script: Lines::Once($script),
             status: $status,
-            printed: once!($printed),
+            printed: Lines::Once($printed),
         }
     };
 }
@@ -68,77 +90,79 @@ const PUT_LINES: &str =
 static CASES: [Case; 14] = [
     Case {
         name: "a new disk holds every page and the first master",
+        left_out: None,
         runs: &[
+            FORMATTED_16,
             Run {
-                words: FORMAT,
-                script: &[],
-                status: 0,
-                printed: once!("formatted 1 16 64;"),
-            },
-            Run {
-                words: FORMAT,
-                script: &[],
+                command: Command::Format16,
+                script: Lines::Once(""),
                 status: 9,
-                printed: once!("lean: already formatted;"),
+                printed: Lines::Once("lean: already formatted;"),
             },
         ],
-        lens: &[(0, 1024), (1, 32768), (2, 0)],
-        // The seals of the master, of page 0 and of page 15.
-        bytes: &[
-            Bytes {
-                area: 0,
-                at: 1008,
-                bytes: &[
-                    79, 87, 210, 244, 236, 251, 97, 254, 91, 105, 225, 125, 41, 116, 104, 134,
-                ],
-                zeros: 0,
-            },
-            Bytes {
-                area: 1,
-                at: 1008,
-                bytes: &[
-                    70, 195, 208, 9, 61, 252, 124, 71, 33, 181, 53, 161, 93, 140, 52, 243,
-                ],
-                zeros: 0,
-            },
-            Bytes {
-                area: 1,
-                at: 31728,
-                bytes: &[
-                    201, 49, 23, 16, 42, 13, 98, 182, 219, 180, 251, 161, 186, 253, 214, 229,
-                ],
-                zeros: 0,
-            },
-        ],
+        leaves: Some(Leaves {
+            lens: &[(0, 1024), (1, 32768), (2, 0)],
+            // The seals of the master, of page 0 and of page 15.
+            bytes: &[
+                Bytes {
+                    area: 0,
+                    at: 1008,
+                    bytes: &[
+                        79, 87, 210, 244, 236, 251, 97, 254, 91, 105, 225, 125, 41, 116, 104, 134,
+                    ],
+                    zeros: 0,
+                },
+                Bytes {
+                    area: 1,
+                    at: 1008,
+                    bytes: &[
+                        70, 195, 208, 9, 61, 252, 124, 71, 33, 181, 53, 161, 93, 140, 52, 243,
+                    ],
+                    zeros: 0,
+                },
+                Bytes {
+                    area: 1,
+                    at: 31728,
+                    bytes: &[
+                        201, 49, 23, 16, 42, 13, 98, 182, 219, 180, 251, 161, 186, 253, 214, 229,
+                    ],
+                    zeros: 0,
+                },
+            ],
+        }),
     },
     Case {
         name: "no line",
+        left_out: None,
         runs: &[FORMATTED, script!("", 0, "open 1 winners 0 undone 0;")],
-        lens: &[],
-        bytes: &[],
+        leaves: None,
     },
     Case {
         name: "a put",
+        left_out: None,
         runs: &[FORMATTED, script!(PUT, 0, PUT_LINES)],
-        lens: &[(2, 2048)],
-        bytes: &[
-            // Generation, log, number, bytes and records; the change; the commit.
-            Bytes {
-                area: 2,
-                at: 0,
-                bytes: &[
-                    1, 0, 0, 0, 0, 0, 0, 0, 1, 0, 0, 0, 0, 0, 0, 0, 0, 0, 0, 0, 0, 0, 0, 0, 78, 0,
-                    0, 0, 2, 0, 0, 0, 1, 1, 0, 0, 0, 0, 0, 0, 0, 1, 0, 0, 0, 0, 0, 0, 0, 0, 0, 0,
-                    0, 0, 0, 0, 0, 0, 0, 0, 0, 5, 0, 0, 0, 0, 0, 0, 0, 0, 0, 0, 0, 0, 0, 0, 128, 7,
-                    0, 0, 0, 0, 0, 0, 0, 8, 1, 0, 0, 0, 0, 0, 0, 0, 2, 0, 0, 0, 0, 0, 0, 0, 0, 0,
-                    0, 0, 0, 0, 0, 0,
-                ],
-                zeros: 1922,
-            },
-        ],
+        leaves: Some(Leaves {
+            lens: &[(2, 2048)],
+            bytes: &[
+                // Generation, log, number, bytes and records; the change; the commit.
+                Bytes {
+                    area: 2,
+                    at: 0,
+                    bytes: &[
+                        1, 0, 0, 0, 0, 0, 0, 0, 1, 0, 0, 0, 0, 0, 0, 0, 0, 0, 0, 0, 0, 0, 0, 0, 78,
+                        0, 0, 0, 2, 0, 0, 0, 1, 1, 0, 0, 0, 0, 0, 0, 0, 1, 0, 0, 0, 0, 0, 0, 0, 0,
+                        0, 0, 0, 0, 0, 0, 0, 0, 0, 0, 0, 5, 0, 0, 0, 0, 0, 0, 0, 0, 0, 0, 0, 0, 0,
+                        0, 128, 7, 0, 0, 0, 0, 0, 0, 0, 8, 1, 0, 0, 0, 0, 0, 0, 0, 2, 0, 0, 0, 0,
+                        0, 0, 0, 0, 0, 0, 0, 0, 0, 0, 0,
+                    ],
+                    zeros: 1922,
+                },
+            ],
+        }),
     },
     Case {
         name: "the greatest key and value",
+        left_out: None,
         runs: &[
             FORMATTED,
             script!(
@@ -147,11 +171,11 @@ static CASES: [Case; 14] = [
                 "open 1 winners 0 undone 0;1 begun 1.1;1 was none;1 was none;1 value 9223372036854775807;1 committed 1.1 at 3;1 durable 1.1;"
             ),
         ],
-        lens: &[],
-        bytes: &[],
+        leaves: None,
     },
     Case {
         name: "a key that is too great",
+        left_out: None,
         runs: &[
             FORMATTED,
             script!(
@@ -160,11 +184,11 @@ static CASES: [Case; 14] = [
                 "open 1 winners 0 undone 0;1 begun 1.1;lean: line 2 refused;"
             ),
         ],
-        lens: &[],
-        bytes: &[],
+        leaves: None,
     },
     Case {
         name: "a value that is too great",
+        left_out: None,
         runs: &[
             FORMATTED,
             script!(
@@ -173,11 +197,11 @@ static CASES: [Case; 14] = [
                 "open 1 winners 0 undone 0;1 begun 1.1;lean: line 2 refused;"
             ),
         ],
-        lens: &[],
-        bytes: &[],
+        leaves: None,
     },
     Case {
         name: "a last line without its newline",
+        left_out: None,
         runs: &[
             FORMATTED,
             script!(
@@ -186,11 +210,11 @@ static CASES: [Case; 14] = [
                 "open 1 winners 0 undone 0;1 begun 1.1;1 none;"
             ),
         ],
-        lens: &[],
-        bytes: &[],
+        leaves: None,
     },
     Case {
         name: "a last line that is cut off",
+        left_out: None,
         runs: &[
             FORMATTED,
             script!(
@@ -199,11 +223,11 @@ static CASES: [Case; 14] = [
                 "open 1 winners 0 undone 0;1 begun 1.1;lean: line 2 refused;"
             ),
         ],
-        lens: &[],
-        bytes: &[],
+        leaves: None,
     },
     Case {
         name: "calls that are refused",
+        left_out: None,
         runs: &[
             FORMATTED,
             script!(
@@ -212,11 +236,11 @@ static CASES: [Case; 14] = [
                 "open 1 winners 0 undone 0;1 begun 1.1;1 in-transaction;1 committed 1.1 at 1;1 durable 1.1;1 no-transaction;"
             ),
         ],
-        lens: &[],
-        bytes: &[],
+        leaves: None,
     },
     Case {
         name: "a session that there is not",
+        left_out: None,
         runs: &[
             FORMATTED,
             script!(
@@ -225,11 +249,11 @@ static CASES: [Case; 14] = [
                 "open 1 winners 0 undone 0;lean: line 1 refused;"
             ),
         ],
-        lens: &[],
-        bytes: &[],
+        leaves: None,
     },
     Case {
         name: "a second run finds what the first committed",
+        left_out: None,
         runs: &[
             FORMATTED,
             script!(PUT, 0, PUT_LINES),
@@ -239,44 +263,44 @@ static CASES: [Case; 14] = [
                 "open 2 winners 1 undone 0;1 begun 1.1;1 value 7;1 committed 1.1 at 3;1 durable 1.1;"
             ),
         ],
-        lens: &[],
-        bytes: &[],
+        leaves: None,
     },
     Case {
         name: "a transaction makes 64 changes",
+        left_out: None,
         runs: &[
             FORMATTED,
             Run {
-                words: RUN,
-                script: &[
+                command: Command::Run,
+                script: Lines::Many(&[
                     Text("1 begin;", 1, 1),
                     Text("1 put 5 #;", 1, 65),
                     Text("1 commit;", 1, 1),
-                ],
+                ]),
                 status: 0,
-                printed: &[
+                printed: Lines::Many(&[
                     Text("open 1 winners 0 undone 0;1 begun 1.1;1 was none;", 1, 1),
                     Text("1 was #;", 1, 63),
                     Text("1 too-long;1 committed 1.1 at 65;1 durable 1.1;", 1, 1),
-                ],
+                ]),
             },
         ],
-        lens: &[],
-        bytes: &[],
+        leaves: None,
     },
     Case {
         name: "a leaf has room for 60 keys and the next one makes room",
+        left_out: None,
         runs: &[
             FORMATTED,
             Run {
-                words: RUN,
-                script: &[
+                command: Command::Run,
+                script: Lines::Many(&[
                     Text("1 begin;", 1, 1),
                     Text("1 put # 1;", 0, 60),
                     Text("1 put 59 2;1 get 60;1 commit;", 1, 1),
-                ],
+                ]),
                 status: 0,
-                printed: &[
+                printed: Lines::Many(&[
                     Text("open 1 winners 0 undone 0;1 begun 1.1;", 1, 1),
                     Text("1 was none;", 0, 60),
                     Text(
@@ -284,24 +308,24 @@ static CASES: [Case; 14] = [
                         1,
                         1,
                     ),
-                ],
+                ]),
             },
         ],
-        lens: &[],
-        bytes: &[],
+        leaves: None,
     },
     Case {
         name: "a log of 64 blocks takes 48 of them",
+        left_out: None,
         runs: &[
             FORMATTED,
             Run {
-                words: RUN,
-                script: &[
+                command: Command::Run,
+                script: Lines::Many(&[
                     Text("1 begin;1 put 5 7;1 commit;", 1, 48),
                     Text("1 begin;", 1, 1),
-                ],
+                ]),
                 status: 0,
-                printed: &[
+                printed: Lines::Many(&[
                     Text(
                         "open 1 winners 0 undone 0;1 begun 1.1;1 was none;1 committed 1.1 at 2;1 durable 1.1;",
                         1,
@@ -313,11 +337,10 @@ static CASES: [Case; 14] = [
                         48,
                     ),
                     Text("1 log-full 48 48;", 1, 1),
-                ],
+                ]),
             },
         ],
-        lens: &[],
-        bytes: &[],
+        leaves: None,
     },
 ];
 
@@ -332,14 +355,14 @@ enum Device {
 // run ends with this status, and prints whole lines of these and then its last line. There are so many calls.
 struct Sweep {
     name: &'static str,
-    words: &'static str,
-    script: &'static [Text],
+    command: Command,
+    script: Lines,
     is_formatted: bool,
-    printed: &'static [Text],
+    printed: Lines,
     device: Device,
     status: u8,
-    before: &'static [Text],
-    last: &'static str,
+    before: Lines,
+    last: &'static [u8],
     calls: u64,
 }
 
@@ -347,27 +370,27 @@ macro_rules! sweep {
     (format, $name:expr, $area:expr, $calls:expr) => {
         Sweep {
             name: $name,
-            words: FORMAT,
-            script: &[],
+            command: Command::Format16,
+            script: Lines::Once(""),
             is_formatted: false,
-            printed: once!("formatted 1 16 64;"),
+            printed: Lines::Once("formatted 1 16 64;"),
             device: Device::Area($area),
             status: 6,
-            before: &[],
-            last: "lean: disk fault\n",
+            before: Lines::Once(""),
+            last: b"lean: disk fault\n",
             calls: $calls,
         }
     };
     (put, $name:expr, $device:expr, $status:expr, $last:expr, $calls:expr) => {
         Sweep {
             name: $name,
-            words: RUN,
-            script: once!(PUT),
+            command: Command::Run,
+            script: Lines::Once(PUT),
             is_formatted: true,
-            printed: once!(PUT_LINES),
+            printed: Lines::Once(PUT_LINES),
             device: $device,
             status: $status,
-            before: once!(PUT_LINES),
+            before: Lines::Once(PUT_LINES),
             last: $last,
             calls: $calls,
         }
@@ -383,7 +406,7 @@ static SWEEPS: [Sweep; 7] = [
         "the masters at a put",
         Device::Area(0),
         6,
-        "lean: disk fault\n",
+        b"lean: disk fault\n",
         5
     ),
     sweep!(
@@ -391,7 +414,7 @@ static SWEEPS: [Sweep; 7] = [
         "the pages at a put",
         Device::Area(1),
         6,
-        "lean: disk fault\n",
+        b"lean: disk fault\n",
         34
     ),
     sweep!(
@@ -399,7 +422,7 @@ static SWEEPS: [Sweep; 7] = [
         "the log at a put",
         Device::Area(2),
         6,
-        "lean: disk fault\n",
+        b"lean: disk fault\n",
         4
     ),
     // Four pieces, and the end.
@@ -408,46 +431,71 @@ static SWEEPS: [Sweep; 7] = [
         "the source at a put",
         Device::Source,
         4,
-        "lean: read fault\n",
+        b"lean: read fault\n",
         5
     ),
-    sweep!(put, "the sink at a put", Device::Sink, 5, "", 5),
+    sweep!(put, "the sink at a put", Device::Sink, 5, b"", 5),
 ];
 
 // How many calls of a device a sweep goes through at most.
 const MANY: u64 = 2000;
 
-fn spelled(alloc: Global, texts: &[Text]) -> Result<String, AllocError> {
-    let mut all = String::new(alloc);
-    for Text(text, first, last) in texts {
-        for number in *first..=*last {
-            let double = number.saturating_mul(2);
-            let number = format!(in alloc; "{number}")?;
-            let double = format!(in alloc; "{double}")?;
-            for letter in text.chars() {
-                match letter {
-                    ';' => all.push('\n')?,
-                    '#' => all.push_str(&number)?,
-                    '@' => all.push_str(&double)?,
-                    _ => all.push(letter)?,
-                }
-            }
+fn put_number(all: &mut Vec<u8>, number: u32) -> Result<(), AllocError> {
+    let mut digits = Buffer::new();
+    all.extend_from_slice(digits.format(number).as_bytes())
+}
+
+// Adds the text, with a number and its double in their places.
+fn put_text(all: &mut Vec<u8>, text: &str, number: u32) -> Result<(), AllocError> {
+    for letter in text.as_bytes() {
+        match *letter {
+            b';' => all.push(b'\n')?,
+            b'#' => put_number(all, number)?,
+            b'@' => put_number(all, number.saturating_mul(2))?,
+            letter => all.push(letter)?,
         }
     }
+    Ok(())
+}
+
+fn put_texts(all: &mut Vec<u8>, texts: &[Text]) -> Result<(), AllocError> {
+    for Text(text, first, last) in texts {
+        for number in *first..=*last {
+            put_text(all, text, number)?;
+        }
+    }
+    Ok(())
+}
+
+fn spelled(alloc: Global, lines: &Lines) -> Result<Vec<u8>, AllocError> {
+    let mut all = Vec::new(alloc);
+    match lines {
+        Lines::Once(text) => put_text(&mut all, text, 1)?,
+        Lines::Many(texts) => put_texts(&mut all, texts)?,
+    }
     Ok(all)
+}
+
+fn words_of(command: &Command) -> &'static str {
+    match command {
+        Command::Format16 => FORMAT,
+        Command::Format64 => "lean format --workers 1 --pages 64 --blocks 64",
+        Command::Run => RUN,
+        Command::Dump => "lean dump",
+    }
 }
 
 // A run of a command that reads this script.
 fn run_text<R: Threads + Wait + Sync>(
     rt: &R,
     alloc: Global,
-    words: &str,
+    command: &Command,
     disk: MemDisk,
-    script: &[Text],
+    script: &Lines,
     sink: MemSink,
 ) -> Result<Outcome, AllocError> {
-    let source = MemSource::new(alloc, spelled(alloc, script)?.as_bytes(), 7)?;
-    run_words(rt, alloc, words, disk, source, sink)
+    let source = MemSource::new(alloc, &spelled(alloc, script)?, 7)?;
+    run_words(rt, alloc, words_of(command), disk, source, sink)
 }
 
 // Whether the bytes stand at their place, and the zeros behind them.
@@ -466,6 +514,31 @@ fn holds(disk: &MemDisk, part: &Bytes) -> bool {
     true
 }
 
+fn has_left(disk: &MemDisk, leaves: &Option<Leaves>) -> bool {
+    let Some(Leaves { lens, bytes }) = leaves else {
+        return true;
+    };
+    for (area, len) in *lens {
+        if disk.bytes(*area).len() != *len {
+            return false;
+        }
+    }
+    for part in *bytes {
+        if !holds(disk, part) {
+            return false;
+        }
+    }
+    true
+}
+
+// Puts zeros in the page's place, as if it never was written.
+fn leave_out(disk: &mut MemDisk, page: Option<u32>) {
+    let zeros = [0; 1024];
+    if let Some(page) = page {
+        disk.write(1, 2048 * u64::from(page), &zeros);
+    }
+}
+
 // Whether each run ends and prints as is written, and the disk is so then.
 fn is_met<R: Threads + Wait + Sync>(
     rt: &R,
@@ -474,24 +547,22 @@ fn is_met<R: Threads + Wait + Sync>(
 ) -> Result<bool, AllocError> {
     let mut disk = MemDisk::new(alloc, 3)?;
     for run in case.runs {
-        let done = run_text(rt, alloc, run.words, disk, run.script, MemSink::new(alloc))?;
-        let want = spelled(alloc, run.printed)?;
-        if done.status != run.status || done.printed() != want.as_str() {
+        let done = run_text(
+            rt,
+            alloc,
+            &run.command,
+            disk,
+            &run.script,
+            MemSink::new(alloc),
+        )?;
+        let want = spelled(alloc, &run.printed)?;
+        if done.status != run.status || done.sink.bytes() != want.as_slice() {
             return Ok(false);
         }
         disk = done.disk;
+        leave_out(&mut disk, case.left_out);
     }
-    for (area, len) in case.lens {
-        if disk.bytes(*area).len() != *len {
-            return Ok(false);
-        }
-    }
-    for part in case.bytes {
-        if !holds(&disk, part) {
-            return Ok(false);
-        }
-    }
-    Ok(true)
+    Ok(has_left(&disk, &case.leaves))
 }
 
 #[test]
@@ -501,54 +572,50 @@ fn each_run_ends_and_prints_as_is_written(rt: HostRuntime) {
     }
 }
 
-// Puts that make room.
-static ROOMS: [Case; 2] = [
+// Puts that make room, and disks that hold less than a new one.
+static DISKS: [Case; 5] = [
     // 60 changes, a lift, a split, a change.
     Case {
         name: "61 keys in one transaction",
+        left_out: None,
         runs: &[
             FORMATTED,
             Run {
-                words: RUN,
-                script: &[
+                command: Command::Run,
+                script: Lines::Many(&[
                     Text("1 begin;", 1, 1),
                     Text("1 put # 1;", 1, 61),
                     Text("1 commit;", 1, 1),
-                ],
+                ]),
                 status: 0,
-                printed: &[
+                printed: Lines::Many(&[
                     Text("open 1 winners 0 undone 0;1 begun 1.1;", 1, 1),
                     Text("1 was none;", 1, 61),
                     Text("1 committed 1.1 at 64;1 durable 1.1;", 1, 1),
-                ],
+                ]),
             },
             Run {
-                words: RUN,
-                script: &[Text("1 begin;", 1, 1), Text("1 get #;", 0, 62)],
+                command: Command::Run,
+                script: Lines::Many(&[Text("1 begin;", 1, 1), Text("1 get #;", 0, 62)]),
                 status: 0,
-                printed: &[
+                printed: Lines::Many(&[
                     Text("open 2 winners 1 undone 0;1 begun 1.1;1 none;", 1, 1),
                     Text("1 value 1;", 1, 61),
                     Text("1 none;", 1, 1),
-                ],
+                ]),
             },
         ],
-        lens: &[],
-        bytes: &[],
+        leaves: None,
     },
     // The first split is for key 61, behind the lift, and one more follows for each 30 keys: 15 leaves under the root.
     Case {
         name: "16 pages take 480 keys in rising order",
+        left_out: None,
         runs: &[
+            FORMATTED_16,
             Run {
-                words: FORMAT,
-                script: &[],
-                status: 0,
-                printed: once!("formatted 1 16 64;"),
-            },
-            Run {
-                words: RUN,
-                script: &[
+                command: Command::Run,
+                script: Lines::Many(&[
                     Text("1 begin;", 1, 1),
                     Text("1 put # @;", 1, 60),
                     Text("1 commit;1 begin;", 1, 1),
@@ -566,9 +633,9 @@ static ROOMS: [Case; 2] = [
                     Text("1 commit;1 begin;", 1, 1),
                     Text("1 put # @;", 421, 480),
                     Text("1 commit;1 begin;1 put 481 1;1 commit;", 1, 1),
-                ],
+                ]),
                 status: 0,
-                printed: &[
+                printed: Lines::Many(&[
                     Text("open 1 winners 0 undone 0;1 begun 1.1;", 1, 1),
                     Text("1 was none;", 1, 60),
                     Text("1 committed 1.1 at 61;1 durable 1.1;1 begun 1.2;", 1, 1),
@@ -590,13 +657,13 @@ static ROOMS: [Case; 2] = [
                         1,
                         1,
                     ),
-                ],
+                ]),
             },
             Run {
-                words: "lean dump",
-                script: &[],
+                command: Command::Dump,
+                script: Lines::Once(""),
                 status: 0,
-                printed: &[Text("pair # @;", 1, 480), Text("end;", 1, 1)],
+                printed: Lines::Many(&[Text("pair # @;", 1, 480), Text("end;", 1, 1)]),
             },
             // A key that is there needs no room.
             script!(
@@ -605,16 +672,74 @@ static ROOMS: [Case; 2] = [
                 "open 3 winners 0 undone 0;1 begun 1.1;1 was 960;1 was none;1 was 2;1 committed 1.1 at 508;1 durable 1.1;"
             ),
         ],
-        lens: &[],
-        bytes: &[],
+        leaves: None,
+    },
+    Case {
+        name: "what is committed is there at the next opening",
+        left_out: None,
+        runs: &[
+            FORMATTED_16,
+            script!(PUT, 0, PUT_LINES),
+            script!(
+                "1 begin;1 get 5;2 begin;",
+                3,
+                "open 2 winners 1 undone 0;1 begun 1.1;1 value 7;lean: line 3 refused;"
+            ),
+        ],
+        leaves: None,
+    },
+    Case {
+        name: "an empty disk is not formatted",
+        left_out: None,
+        runs: &[script!("1 begin;", 7, "lean: not formatted;")],
+        leaves: None,
+    },
+    Case {
+        name: "a page that is missing is damaged",
+        left_out: Some(5),
+        runs: &[
+            FORMATTED_16,
+            script!("1 begin;", 7, "lean: damaged area 1 place 5;"),
+        ],
+        leaves: None,
     },
 ];
 
 #[test]
-fn each_put_makes_room_as_is_written(rt: HostRuntime) {
-    for case in &ROOMS {
+fn each_disk_is_used_as_is_written(rt: HostRuntime) {
+    for case in &DISKS {
         expect(&rt, case.name, is_met(&rt, rt.alloc(), case));
     }
+}
+
+// The disk as it was at first, whose call fails if the device is an area.
+fn disk_for(
+    alloc: Global,
+    sweep: &Sweep,
+    disk: &MemDisk,
+    call: u64,
+) -> Result<MemDisk, AllocError> {
+    let mut disk = disk.crash(0, Choice::AllBytes)?;
+    if let Device::Area(area) = sweep.device {
+        disk.fail_at(area, [call].to_vec(alloc)?);
+    }
+    Ok(disk)
+}
+
+fn source_for(alloc: Global, sweep: &Sweep, call: u64) -> Result<MemSource, AllocError> {
+    let mut source = MemSource::new(alloc, &spelled(alloc, &sweep.script)?, 7)?;
+    if let Device::Source = sweep.device {
+        source.fail_at([call].to_vec(alloc)?);
+    }
+    Ok(source)
+}
+
+fn sink_for(alloc: Global, sweep: &Sweep, call: u64) -> Result<MemSink, AllocError> {
+    let mut sink = MemSink::new(alloc);
+    if let Device::Sink = sweep.device {
+        sink.fail_at([call].to_vec(alloc)?);
+    }
+    Ok(sink)
 }
 
 // A run on the disk as it was at first, in which a call of the device fails.
@@ -625,22 +750,16 @@ fn run_failing<R: Threads + Wait + Sync>(
     disk: &MemDisk,
     call: u64,
 ) -> Result<Outcome, AllocError> {
-    let mut disk = disk.crash(0, Choice::AllBytes)?;
-    let mut source = MemSource::new(alloc, spelled(alloc, sweep.script)?.as_bytes(), 7)?;
-    let mut sink = MemSink::new(alloc);
-    let failing = [call].to_vec(alloc)?;
-    match sweep.device {
-        Device::Area(area) => disk.fail_at(area, failing),
-        Device::Source => source.fail_at(failing),
-        Device::Sink => sink.fail_at(failing),
-    }
-    run_words(rt, alloc, sweep.words, disk, source, sink)
+    let disk = disk_for(alloc, sweep, disk, call)?;
+    let source = source_for(alloc, sweep, call)?;
+    let sink = sink_for(alloc, sweep, call)?;
+    run_words(rt, alloc, words_of(&sweep.command), disk, source, sink)
 }
 
 // Whether the output is whole lines of these, and then this line.
-fn is_cut_off(lines: &str, output: &str, last: &str) -> bool {
+fn is_cut_off(lines: &[u8], output: &[u8], last: &[u8]) -> bool {
     match output.strip_suffix(last) {
-        Some(prefix) => lines.starts_with(prefix) && (prefix.is_empty() || prefix.ends_with('\n')),
+        Some(prefix) => lines.starts_with(prefix) && (prefix.is_empty() || prefix.ends_with(b"\n")),
         None => false,
     }
 }
@@ -655,11 +774,11 @@ fn ends_so<R: Threads + Wait + Sync>(
 ) -> Result<(bool, bool), AllocError> {
     let done = run_failing(rt, alloc, sweep, disk, call)?;
     if done.status == 0 {
-        let printed = spelled(alloc, sweep.printed)?;
-        return Ok((done.printed() == printed.as_str(), true));
+        let printed = spelled(alloc, &sweep.printed)?;
+        return Ok((done.sink.bytes() == printed.as_slice(), true));
     }
-    let before = spelled(alloc, sweep.before)?;
-    let is_cut_off = is_cut_off(&before, done.printed(), sweep.last);
+    let before = spelled(alloc, &sweep.before)?;
+    let is_cut_off = is_cut_off(&before, done.sink.bytes(), sweep.last);
     Ok((done.status == sweep.status && is_cut_off, false))
 }
 
@@ -690,6 +809,10 @@ fn each_call_that_fails_ends_a_run(rt: HostRuntime) {
     }
 }
 
+static PUT_SCRIPT: Lines = Lines::Once(PUT);
+
+static GET_SCRIPT: Lines = Lines::Once("1 begin;1 get 5;");
+
 // Whether a disk is opened, and key 5 has its value or none, and its value where that was told.
 fn is_well<R: Threads + Wait + Sync>(
     rt: &R,
@@ -697,10 +820,17 @@ fn is_well<R: Threads + Wait + Sync>(
     left: MemDisk,
     is_told: bool,
 ) -> Result<bool, AllocError> {
-    let script = once!("1 begin;1 get 5;");
-    let done = run_text(rt, alloc, RUN, left, script, MemSink::new(alloc))?;
-    let is_there = done.printed().ends_with("1 begun 1.1\n1 value 7\n");
-    let is_none = done.printed().ends_with("1 begun 1.1\n1 none\n");
+    let done = run_text(
+        rt,
+        alloc,
+        &Command::Run,
+        left,
+        &GET_SCRIPT,
+        MemSink::new(alloc),
+    )?;
+    let printed = done.sink.bytes();
+    let is_there = printed.ends_with(b"1 begun 1.1\n1 value 7\n");
+    let is_none = printed.ends_with(b"1 begun 1.1\n1 none\n");
     Ok(done.status == 0 && (is_there || is_none && !is_told))
 }
 
@@ -715,7 +845,7 @@ fn disk_of_put<R: Threads + Wait + Sync>(
         sink.fail_at([5].to_vec(alloc)?);
     }
     let disk = formatted(rt, alloc)?;
-    Ok(run_text(rt, alloc, RUN, disk, once!(PUT), sink)?.disk)
+    Ok(run_text(rt, alloc, &Command::Run, disk, &PUT_SCRIPT, sink)?.disk)
 }
 
 // Whether each crash of a put keeps it or not, and keeps it behind the moment at which it was told; a crash before it does not.

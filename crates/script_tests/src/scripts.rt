@@ -1,6 +1,7 @@
 // Scripts on a fresh engine, over devices in memory. The expected lines were written down by hand.
 use crate::cases::expect;
 use crate::commands::formatted;
+use lean_disk::MemDisk;
 use lean_edge::{MemSink, MemSource};
 use lean_engine::{Engine, Opened, Size, Unopened};
 use script_lang::LineReader;
@@ -54,19 +55,28 @@ static CASES: [Case; 4] = [
     },
 ];
 
-// Whether the script on a fresh engine ends and prints as is written.
-fn is_met<R: Threads + Wait + Sync>(
-    rt: &R,
-    alloc: Global,
-    case: &Case,
-) -> Result<bool, AllocError> {
-    let mut reader = LineReader::new(alloc)?;
+fn source_of(alloc: Global, case: &Case) -> Result<MemSource, AllocError> {
     let mut source = MemSource::new(alloc, case.script, 7)?;
     source.fail_at(Vec::from_slice(alloc, case.failing_reads)?);
+    Ok(source)
+}
+
+fn sink_of(alloc: Global, case: &Case) -> Result<MemSink, AllocError> {
     let mut sink = MemSink::new(alloc);
     sink.fail_at(Vec::from_slice(alloc, case.failing_puts)?);
     sink.keep_prefix(3);
-    let mut engine = match Engine::open(alloc, formatted(rt, alloc)?, Size { rows: 64 }) {
+    Ok(sink)
+}
+
+// How a script ends on the engine of a formatted disk; none where that is not opened.
+fn stop_on(
+    alloc: Global,
+    disk: MemDisk,
+    reader: &mut LineReader,
+    source: &mut MemSource,
+    sink: &mut MemSink,
+) -> Option<Stop> {
+    let mut engine = match Engine::open(alloc, disk, Size { rows: 64 }) {
         Ok(
             Opened {
                 engine,
@@ -75,11 +85,25 @@ fn is_met<R: Threads + Wait + Sync>(
                 undone: _,
             },
         ) => engine,
-        Err(Unopened { disk: _, reason: _ }) => return Ok(false),
+        Err(Unopened { disk: _, reason: _ }) => return None,
     };
-    let stop = run_script(&mut engine, &mut reader, &mut source, &mut sink);
+    let stop = run_script(&mut engine, reader, source, sink);
     engine.close();
-    Ok(stop == case.stop && sink.bytes() == case.printed)
+    Some(stop)
+}
+
+// Whether the script on a fresh engine ends and prints as is written.
+fn is_met<R: Threads + Wait + Sync>(
+    rt: &R,
+    alloc: Global,
+    case: &Case,
+) -> Result<bool, AllocError> {
+    let disk = formatted(rt, alloc)?;
+    let mut reader = LineReader::new(alloc)?;
+    let mut source = source_of(alloc, case)?;
+    let mut sink = sink_of(alloc, case)?;
+    let stop = stop_on(alloc, disk, &mut reader, &mut source, &mut sink);
+    Ok(stop == Some(case.stop) && sink.bytes() == case.printed)
 }
 
 #[test]

@@ -1,25 +1,17 @@
 // The program's one call over real files. Seals were computed by Python.
-use crate::files::{FileRow, is_so};
+use crate::commands::{Open, words_of};
+use crate::files::{FileRow, is_so, is_there};
 use host_disk::HostDisk;
 use lean_edge::{MemSink, MemSource};
-use lean_shell::{Ended, Gate, run};
+use lean_shell::{Ended, run};
 use std::alloc::{AllocError, Global};
-use std::fs;
 use std::sync::Wait;
-use std::test::Fail;
 use std::thread::Threads;
+use std::{fs, io};
 
-// Holds no worker.
-struct Open;
-
-impl Gate for Open {
-    fn pass(&self, _: u32, _: u64) {}
-
-    fn answered(&self, _: u32, _: u64) {}
-}
-
-// A command with its script, what it prints, and the files that it leaves.
-struct Command {
+/// A command with its script, what it prints, and the files that it leaves.
+pub struct Command {
+    pub name: &'static str,
     words: &'static str,
     script: &'static [u8],
     status: u8,
@@ -28,9 +20,10 @@ struct Command {
     absent: &'static [&'static str],
 }
 
-// One after the other, from an empty folder on.
-static COMMANDS: [Command; 4] = [
+/// One after the other, from an empty folder on.
+pub static COMMANDS: [Command; 4] = [
     Command {
+        name: "a format",
         words: "lean format --workers 1 --pages 16 --blocks 64",
         script: b"",
         status: 0,
@@ -58,6 +51,7 @@ static COMMANDS: [Command; 4] = [
         absent: &["lean.log.1"],
     },
     Command {
+        name: "a run that puts",
         words: "lean run",
         script: b"1 begin\n1 put 5 7\n1 commit\n",
         status: 0,
@@ -93,6 +87,7 @@ static COMMANDS: [Command; 4] = [
         absent: &["lean.log.2"],
     },
     Command {
+        name: "a run that gets",
         words: "lean run",
         script: b"1 begin\n1 get 5\n",
         status: 0,
@@ -128,6 +123,7 @@ static COMMANDS: [Command; 4] = [
         absent: &["lean.log.2"],
     },
     Command {
+        name: "a dump",
         words: "lean dump",
         script: b"1 begin\n",
         status: 0,
@@ -163,20 +159,12 @@ static COMMANDS: [Command; 4] = [
     },
 ];
 
-fn words_of(alloc: Global, text: &str) -> Result<Vec<String>, AllocError> {
-    let mut words = Vec::new(alloc);
-    for word in text.split(' ') {
-        words.push(String::from_str(alloc, word)?)?;
-    }
-    Ok(words)
-}
-
 // Whether it ends with its status and prints its lines.
 fn runs<T: Threads + Wait + Sync>(
     threads: &T,
     rt: &HostRuntime,
     command: &Command,
-) -> Result<bool, Fail> {
+) -> Result<bool, AllocError> {
     let alloc = rt.alloc();
     let words = words_of(alloc, command.words)?;
     let mut source = MemSource::new(alloc, command.script, 7)?;
@@ -189,41 +177,26 @@ fn runs<T: Threads + Wait + Sync>(
     Ok(status == command.status && sink.bytes() == command.printed)
 }
 
-// The first of its files that is otherwise.
-fn first_other_file(rt: &HostRuntime, command: &Command) -> Result<Option<&'static str>, Fail> {
+// Whether its files are there and so, and no others.
+fn leaves(rt: &HostRuntime, command: &Command) -> bool {
     for row in command.files {
-        if !is_so(rt, row)? {
-            return Ok(Some(row.0));
+        if !is_so(rt, row) {
+            return false;
         }
     }
     for name in command.absent {
-        if fs::exists(rt, *name)? {
-            return Ok(Some(name));
+        if !is_there(rt, name, false) {
+            return false;
         }
     }
-    Ok(None)
+    true
 }
 
-/// The place of the first command that ends or prints otherwise, or leaves this file otherwise.
-pub fn first_wrong_command<T: Threads + Wait + Sync>(
+/// Whether it ends, prints and leaves its files as is written.
+pub fn is_met<T: Threads + Wait + Sync>(
     threads: &T,
     rt: &HostRuntime,
-) -> Result<Option<(usize, &'static str)>, Fail> {
-    for (place, command) in COMMANDS.iter().enumerate() {
-        if !runs(threads, rt, command)? {
-            return Ok(Some((place, command.words)));
-        }
-        if let Some(name) = first_other_file(rt, command)? {
-            return Ok(Some((place, name)));
-        }
-    }
-    Ok(None)
-}
-
-/// Takes the files away that the commands leave.
-pub fn remove_files(rt: &HostRuntime) -> Result<(), Fail> {
-    fs::remove_file(rt, "lean.master")?;
-    fs::remove_file(rt, "lean.pages")?;
-    fs::remove_file(rt, "lean.log.1")?;
-    Ok(())
+    command: &Command,
+) -> Result<bool, AllocError> {
+    Ok(runs(threads, rt, command)? && leaves(rt, command))
 }
