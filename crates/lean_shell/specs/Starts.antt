@@ -1,5 +1,5 @@
 -- What stands of a run's calls on the disk that it leaves.
-use Rattle.std.specs.Prelude.{◌≡◌, ◌++◌, ◌+◌, ◌<◌, ◌%◌, ℕ, List, [], Option, Some}
+use Rattle.std.specs.Prelude.{◌≡◌, ◌++◌, ◌+◌, ◌<◌, ◌%◌, ℕ, List, Option, Some}
 use Rattle.image_model.specs.Entries.{Entry}
 use Rattle.image_model.specs.Images.{found}
 use Rattle.image_model.specs.Slots.{base_of}
