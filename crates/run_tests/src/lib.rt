@@ -56,15 +56,7 @@ pub fn every_read_is_fair()
 #[cfg(test)]
 mod cases;
 #[cfg(test)]
-mod crashes;
-#[cfg(test)]
 mod dumps;
-#[cfg(test)]
-mod faults;
-#[cfg(test)]
-mod openings;
-#[cfg(test)]
-mod orders;
 #[cfg(test)]
 mod rows;
 #[cfg(test)]
@@ -72,4 +64,6 @@ mod runs;
 #[cfg(test)]
 mod scripts;
 #[cfg(test)]
-mod splits;
+mod sweeps;
+#[cfg(test)]
+mod trees;

@@ -1,10 +1,11 @@
 // Rows of openings: what a crash or damage left, and every line that comes of it, written down by hand.
 use crate::cases::expect;
-use crate::runs::{copy_of, formatted, lines_of, run_script, run_up_to};
+use crate::runs::{FORMAT, MEMORY, at_rest, crashed, formatted, run_script};
 use crate::scripts::PUT;
 use lean_disk::{Choice, Disk, MemDisk};
 use log_block::block_bytes;
-use std::alloc::{AllocError, Global};
+use std::alloc::Global;
+use std::process::Abort;
 use std::sync::Wait;
 use std::thread::Threads;
 
@@ -38,7 +39,7 @@ macro_rules! lost {
             name: $name,
             left: $left,
             status: 0,
-            lines: "open 2 winners 0 undone 0;1 begun 1.1;1 none;",
+            lines: "open 2 winners 0 undone 0\n1 begun 1.1\n1 none\n",
         }
     };
 }
@@ -50,7 +51,7 @@ macro_rules! kept {
             name: $name,
             left: $left,
             status: 0,
-            lines: "open 2 winners 1 undone 0;1 begun 1.1;1 value 7;",
+            lines: "open 2 winners 1 undone 0\n1 begun 1.1\n1 value 7\n",
         }
     };
 }
@@ -99,33 +100,33 @@ static ROWS: [Row; 20] = [
         name: "a whole master whose sync did not return",
         left: Left::Master(Choice::AllBytes),
         status: 0,
-        lines: "open 3 winners 0 undone 0;1 begun 1.1;1 value 7;",
+        lines: "open 3 winners 0 undone 0\n1 begun 1.1\n1 value 7\n",
     },
     refused!(
         "zeros for both masters",
         Left::Bytes(0, 0, 0, 2048),
-        "lean: not formatted;"
+        "lean: not formatted\n"
     ),
     refused!(
         "zeros for both masters from the start",
         Left::NoMaster,
-        "lean: not formatted;"
+        "lean: not formatted\n"
     ),
-    refused!("an empty disk", Left::Empty, "lean: not formatted;"),
+    refused!("an empty disk", Left::Empty, "lean: not formatted\n"),
     refused!(
         "page 0 damaged in both slots",
         Left::Bytes(1, 0, 0, 2048),
-        "lean: damaged area 1 place 0;"
+        "lean: damaged area 1 place 0\n"
     ),
     refused!(
         "page 5 damaged in both slots",
         Left::Bytes(1, 10240, 255, 2048),
-        "lean: damaged area 1 place 5;"
+        "lean: damaged area 1 place 5\n"
     ),
     refused!(
         "page 15 damaged in its only slot",
         Left::Bytes(1, 30720, 0, 1024),
-        "lean: damaged area 1 place 15;"
+        "lean: damaged area 1 place 15\n"
     ),
     // It is no base, and may hold anything.
     kept!(
@@ -135,12 +136,12 @@ static ROWS: [Row; 20] = [
     refused!(
         "a sealed block of no records for the first one",
         Left::Sealed(1, 0, 0),
-        "lean: damaged area 2 place 0;"
+        "lean: damaged area 2 place 0\n"
     ),
     refused!(
         "a sealed block of no records behind the first one",
         Left::Sealed(1, 1, 1),
-        "lean: damaged area 2 place 1;"
+        "lean: damaged area 2 place 1\n"
     ),
     // None of these is of the run.
     kept!(
@@ -154,84 +155,62 @@ static ROWS: [Row; 20] = [
     kept!("a sealed block with another number", Left::Sealed(1, 2, 1)),
 ];
 
-// What a put leaves, with all that was written.
-fn disk_of_put<R: Threads + Wait + Sync>(rt: &R, alloc: Global) -> Result<MemDisk, AllocError> {
-    let disk = run_script(rt, alloc, formatted(rt, alloc)?, PUT.text)?.disk;
-    disk.crash(disk.moment(), Choice::AllBytes)
-}
+// The moments of the two writes: the block's is the call behind 41 of the opening and three lines, and the master's the last call but
+// one of an opening that makes 43.
+const BLOCK: u64 = 45;
 
-// The moment of the block's write is that of the call after the answer of the put, which is the third line.
-fn crashed_at_block<R: Threads + Wait + Sync>(
-    rt: &R,
-    alloc: Global,
-    choice: Choice,
-) -> Result<MemDisk, AllocError> {
-    let new = formatted(rt, alloc)?;
-    let moment = run_up_to(rt, alloc, &new, PUT.text, 3)?.disk.moment();
-    let disk = run_script(rt, alloc, copy_of(&new)?, PUT.text)?.disk;
-    disk.crash(moment.saturating_add(2), choice)
-}
-
-// The master's write is the last call of an opening but one, and its sync the last.
-fn crashed_at_master<R: Threads + Wait + Sync>(
-    rt: &R,
-    alloc: Global,
-    choice: Choice,
-) -> Result<MemDisk, AllocError> {
-    let put = disk_of_put(rt, alloc)?;
-    let disk = run_up_to(rt, alloc, &put, "", 1)?.disk;
-    disk.crash(disk.moment().saturating_sub(1), choice)
-}
+const MASTER: u64 = 42;
 
 // The disk, where these bytes stand at a place of an area.
-fn written(mut disk: MemDisk, area: u32, at: u64, bytes: &[u8]) -> Result<MemDisk, AllocError> {
+fn written<R: Abort>(rt: &R, mut disk: MemDisk, area: u32, at: u64, bytes: &[u8]) -> MemDisk {
     let _ = disk.write(area, at, bytes);
-    disk.crash(disk.moment(), Choice::AllBytes)
+    at_rest(rt, &disk)
 }
 
-fn without_master(alloc: Global, put: &MemDisk) -> Result<MemDisk, AllocError> {
-    let areas = vec![in alloc;
-        vec![in alloc; 0; 2048]?,
-        put.bytes(1).to_vec(alloc)?,
-        put.bytes(2).to_vec(alloc)?,
-    ]?;
-    MemDisk::from_areas(alloc, areas)
+// A disk of the same pages and log.
+fn without_master<R: Abort>(rt: &R, alloc: Global, put: &MemDisk) -> MemDisk {
+    let mut areas = Vec::new(alloc);
+    areas
+        .push(vec![in alloc; 0; 2048].expect(rt, MEMORY))
+        .expect(rt, MEMORY);
+    areas
+        .push(put.bytes(1).to_vec(alloc).expect(rt, MEMORY))
+        .expect(rt, MEMORY);
+    areas
+        .push(put.bytes(2).to_vec(alloc).expect(rt, MEMORY))
+        .expect(rt, MEMORY);
+    MemDisk::from_areas(alloc, areas).expect(rt, MEMORY)
 }
 
-fn disk_of<R: Threads + Wait + Sync>(
-    rt: &R,
-    alloc: Global,
-    left: &Left,
-) -> Result<MemDisk, AllocError> {
+fn disk_of<R: Threads + Wait + Sync + Abort>(rt: &R, alloc: Global, left: &Left) -> MemDisk {
+    let ran = run_script(rt, alloc, PUT.text, formatted(rt, alloc, &FORMAT)).disk;
+    let put = at_rest(rt, &ran);
     match left {
-        Left::Block(choice) => crashed_at_block(rt, alloc, *choice),
-        Left::Master(choice) => crashed_at_master(rt, alloc, *choice),
+        Left::Block(choice) => crashed(rt, &ran, BLOCK, *choice),
+        Left::Master(choice) => {
+            let opened = run_script(rt, alloc, "", put).disk;
+            crashed(rt, &opened, MASTER, *choice)
+        }
         Left::Bytes(area, at, byte, count) => {
-            let bytes = vec![in alloc; *byte; *count]?;
-            written(disk_of_put(rt, alloc)?, *area, *at, &bytes)
+            let bytes = vec![in alloc; *byte; *count].expect(rt, MEMORY);
+            written(rt, put, *area, *at, &bytes)
         }
         Left::Sealed(generation, block, place) => {
             let mut bytes = [0; 2048];
             block_bytes(*generation, 1, *block, 1, b"no record", &mut bytes);
-            let at = place.saturating_mul(2048);
-            written(disk_of_put(rt, alloc)?, 2, at, &bytes)
+            written(rt, put, 2, place.saturating_mul(2048), &bytes)
         }
-        Left::NoMaster => without_master(alloc, &disk_of_put(rt, alloc)?),
-        Left::Empty => MemDisk::new(alloc, 3),
+        Left::NoMaster => without_master(rt, alloc, &put),
+        Left::Empty => MemDisk::new(alloc, 3).expect(rt, MEMORY),
     }
-}
-
-// Whether a run of a get ends and prints as is written.
-fn is_met<R: Threads + Wait + Sync>(rt: &R, alloc: Global, row: &Row) -> Result<bool, AllocError> {
-    let disk = disk_of(rt, alloc, &row.left)?;
-    let next = run_script(rt, alloc, disk, PUT.gets)?;
-    let want = lines_of(alloc, row.lines)?;
-    Ok(next.status == row.status && next.printed() == want.as_str())
 }
 
 #[test]
 fn each_disk_is_opened_as_is_written(rt: HostRuntime) {
+    let alloc = rt.alloc();
     for row in &ROWS {
-        expect(&rt, row.name, is_met(&rt, rt.alloc(), row));
+        let next = run_script(&rt, alloc, PUT.next, disk_of(&rt, alloc, &row.left));
+        let is_met = next.status == row.status && next.printed() == row.lines;
+        expect(&rt, row.name, is_met);
     }
 }

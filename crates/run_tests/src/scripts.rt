@@ -1,54 +1,334 @@
-// The scripts of the tables, and what comes of them, written down by hand from the rules. A `;` stands for each newline.
+// The scripts whose runs are crashed and whose calls fail, and what is found then. All was written down by hand from the rules.
+use lean_disk::Choice;
 
-/// A script of one session on a new disk.
-#[derive(Drop)]
+/// A run of a command on a disk, and what comes of it.
 pub(crate) struct Script {
+    pub command: &'static [&'static str],
+    /// What it reads.
     pub text: &'static str,
-    /// Every line of its run.
+    /// What it prints.
     pub lines: &'static str,
-    /// A transaction that gets each of its keys.
-    pub gets: &'static str,
-    /// What this one answers after the first k of the transactions, for k from 0.
-    pub maps: &'static [&'static str],
-    /// How many lines are out as each commit begins. Its own two follow: it is committed, and it is durable.
-    pub commits: &'static [u64],
+    /// What the next run reads behind a crash.
+    pub next: &'static str,
+    pub finds: &'static [Find],
+    pub sweeps: &'static [Sweep],
+    pub failures: &'static [Failures],
 }
 
-pub(crate) const PUT: Script = Script {
-    text: "1 begin;1 put 5 7;1 commit;",
-    lines: "open 1 winners 0 undone 0;1 begun 1.1;1 was none;1 committed 1.1 at 2;1 durable 1.1;",
-    gets: "1 begin;1 get 5;",
-    maps: &["1 begun 1.1;1 none;", "1 begun 1.1;1 value 7;"],
-    commits: &[3],
-};
+/// What may be found behind a crash.
+pub(crate) struct Find {
+    /// What the next run prints.
+    pub lines: &'static str,
+    /// Which of the maps a dump prints.
+    pub map: usize,
+    /// So many lines were out before the last call: the commit of the last transaction that is kept had begun.
+    pub from: u64,
+    /// Fewer lines than these were out: the next transaction was not told durable.
+    pub below: u64,
+}
 
-/// The lines of the six transactions.
-pub(crate) const SIX_TEXT: &str =
-    "1 begin;1 put 1 11;1 put 2 12;1 commit;1 begin;1 get 1;1 put 3 23;1 commit;1 begin;1 put 1 31;1 commit;1 begin;1 get 1;1 get 3;1 commit;1 begin;1 put 2 52;1 put 3 53;1 put 1 51;1 get 2;1 commit;1 begin;1 put 2 12;1 commit;";
+/// Crashes of a whole run, one at each moment.
+pub(crate) struct Sweep {
+    pub name: &'static str,
+    pub choice: Choice,
+    /// How many runs are crashed at the moment, one behind another.
+    pub times: u32,
+    /// How many crashes each is found behind.
+    pub found: &'static [u64],
+}
 
-/// One puts twice, one reads what it wrote, one writes over it, one only reads, one puts three times, and one puts back.
-pub(crate) const SIX: Script = Script {
-    text: SIX_TEXT,
-    lines: "open 1 winners 0 undone 0;1 begun 1.1;1 was none;1 was none;1 committed 1.1 at 3;1 durable 1.1;1 begun 1.2;1 value 11;1 was none;1 committed 1.2 at 5;1 durable 1.2;1 begun 1.3;1 was 11;1 committed 1.3 at 7;1 durable 1.3;1 begun 1.4;1 value 31;1 value 23;1 committed 1.4 at 8;1 durable 1.4;1 begun 1.5;1 was 12;1 was 23;1 was 31;1 value 52;1 committed 1.5 at 12;1 durable 1.5;1 begun 1.6;1 was 52;1 committed 1.6 at 14;1 durable 1.6;",
-    gets: "1 begin;1 get 1;1 get 2;1 get 3;",
-    maps: &[
-        "1 begun 1.1;1 none;1 none;1 none;",
-        "1 begun 1.1;1 value 11;1 value 12;1 none;",
-        "1 begun 1.1;1 value 11;1 value 12;1 value 23;",
-        "1 begun 1.1;1 value 31;1 value 12;1 value 23;",
-        "1 begun 1.1;1 value 31;1 value 12;1 value 23;",
-        "1 begun 1.1;1 value 51;1 value 52;1 value 53;",
-        "1 begun 1.1;1 value 51;1 value 12;1 value 53;",
-    ],
-    commits: &[4, 9, 13, 18, 25, 29],
-};
+/// Runs in each of which a call of an area fails.
+pub(crate) struct Failures {
+    pub name: &'static str,
+    pub area: u32,
+    /// How many there are to fail.
+    pub calls: u64,
+    /// So many lines are out by then at most.
+    pub out: u64,
+    pub crashes: Crashes,
+    pub found: &'static [u64],
+}
 
-impl Script {
-    /// What the gets answer after the first k transactions.
-    pub(crate) fn map(&self, k: u64) -> &str {
-        match self.maps.get(k as usize) {
-            Some(map) => map,
-            None => "",
+/// The crashes of a run that has failed.
+pub(crate) enum Crashes {
+    /// One by each choice, when it has ended.
+    AtEnd,
+    /// One at each moment.
+    Each(Choice),
+}
+
+macro_rules! find {
+    ($lines:expr, $map:expr, $from:expr, $below:expr) => {
+        Find {
+            lines: $lines,
+            map: $map,
+            from: $from,
+            below: $below,
         }
-    }
+    };
 }
+
+macro_rules! sweep {
+    ($name:expr, $choice:ident, $times:expr, $found:expr) => {
+        Sweep {
+            name: $name,
+            choice: Choice::$choice,
+            times: $times,
+            found: &$found,
+        }
+    };
+}
+
+macro_rules! faults {
+    ($name:expr, $area:expr, $calls:expr, $out:expr, $found:expr) => {
+        Failures {
+            name: $name,
+            area: $area,
+            calls: $calls,
+            out: $out,
+            crashes: Crashes::AtEnd,
+            found: &$found,
+        }
+    };
+}
+
+macro_rules! stops {
+    ($name:expr, $area:expr, $calls:expr, $choice:ident, $found:expr) => {
+        Failures {
+            name: $name,
+            area: $area,
+            calls: $calls,
+            out: 0,
+            crashes: Crashes::Each(Choice::$choice),
+            found: &$found,
+        }
+    };
+}
+
+const MANY: u64 = u64::MAX;
+
+/// One put on a new disk. The opening syncs, reads two slots of the master, syncs the pages and the log, reads two slots of each page
+/// and a block, syncs the pages, writes its master and syncs it. The put is one block. It is kept from its sync on, at each choice,
+/// and from its write on where that leaves all bytes, whether or not the call failed.
+pub(crate) static PUT: Script = Script {
+    command: &["lean", "run"],
+    text: "1 begin\n1 put 5 7\n1 commit\n",
+    lines: "open 1 winners 0 undone 0\n1 begun 1.1\n1 was none\n1 committed 1.1 at 2\n1 durable 1.1\n",
+    next: "1 begin\n1 get 5\n",
+    finds: &[
+        find!("open 1 winners 0 undone 0\n1 begun 1.1\n1 none\n", 0, 0, 1),
+        find!("open 2 winners 0 undone 0\n1 begun 1.1\n1 none\n", 0, 0, 5),
+        find!(
+            "open 2 winners 1 undone 0\n1 begun 1.1\n1 value 7\n",
+            1,
+            3,
+            MANY
+        ),
+    ],
+    sweeps: &[
+        sweep!("PUT, no bytes", NoBytes, 1, [41, 5, 3]),
+        sweep!("PUT, all bytes", AllBytes, 1, [40, 5, 4]),
+        sweep!("PUT, halves", FirstHalf, 1, [41, 5, 3]),
+        sweep!("PUT, zeros", Zeros, 1, [41, 5, 3]),
+    ],
+    failures: &[
+        faults!("PUT, masters", 0, 5, 0, [18, 2, 0]),
+        faults!("PUT, pages", 1, 34, 0, [136, 0, 0]),
+        faults!("PUT, log", 2, 4, 3, [8, 6, 2]),
+    ],
+};
+
+/// Its dumps.
+pub(crate) static PUT_MAPS: [&str; 2] = ["end\n", "pair 5 7\nend\n"];
+
+/// The lines of the six transactions. One puts twice, one reads what it wrote, one writes over it, one only reads, one puts three
+/// times, and one puts back.
+pub(crate) const SIX_TEXT: &str =
+    "1 begin\n1 put 1 11\n1 put 2 12\n1 commit\n1 begin\n1 get 1\n1 put 3 23\n1 commit\n1 begin\n1 put 1 31\n1 commit\n1 begin\n1 get 1\n1 get 3\n1 commit\n1 begin\n1 put 2 52\n1 put 3 53\n1 put 1 51\n1 get 2\n1 commit\n1 begin\n1 put 2 12\n1 commit\n";
+
+/// Six transactions on a new disk.
+pub(crate) static SIX: Script = Script {
+    command: &["lean", "run"],
+    text: SIX_TEXT,
+    lines: "open 1 winners 0 undone 0\n1 begun 1.1\n1 was none\n1 was none\n1 committed 1.1 at 3\n1 durable 1.1\n1 begun 1.2\n1 value 11\n1 was none\n1 committed 1.2 at 5\n1 durable 1.2\n1 begun 1.3\n1 was 11\n1 committed 1.3 at 7\n1 durable 1.3\n1 begun 1.4\n1 value 31\n1 value 23\n1 committed 1.4 at 8\n1 durable 1.4\n1 begun 1.5\n1 was 12\n1 was 23\n1 was 31\n1 value 52\n1 committed 1.5 at 12\n1 durable 1.5\n1 begun 1.6\n1 was 52\n1 committed 1.6 at 14\n1 durable 1.6\n",
+    next: "1 begin\n1 get 1\n1 get 2\n1 get 3\n",
+    finds: &[
+        find!(
+            "open 1 winners 0 undone 0\n1 begun 1.1\n1 none\n1 none\n1 none\n",
+            0,
+            0,
+            1
+        ),
+        find!(
+            "open 2 winners 0 undone 0\n1 begun 1.1\n1 none\n1 none\n1 none\n",
+            0,
+            0,
+            6
+        ),
+        find!(
+            "open 2 winners 1 undone 0\n1 begun 1.1\n1 value 11\n1 value 12\n1 none\n",
+            1,
+            4,
+            11
+        ),
+        find!(
+            "open 2 winners 2 undone 0\n1 begun 1.1\n1 value 11\n1 value 12\n1 value 23\n",
+            2,
+            9,
+            15
+        ),
+        find!(
+            "open 2 winners 3 undone 0\n1 begun 1.1\n1 value 31\n1 value 12\n1 value 23\n",
+            3,
+            13,
+            20
+        ),
+        find!(
+            "open 2 winners 4 undone 0\n1 begun 1.1\n1 value 31\n1 value 12\n1 value 23\n",
+            3,
+            18,
+            27
+        ),
+        find!(
+            "open 2 winners 5 undone 0\n1 begun 1.1\n1 value 51\n1 value 52\n1 value 53\n",
+            4,
+            25,
+            31
+        ),
+        find!(
+            "open 2 winners 6 undone 0\n1 begun 1.1\n1 value 51\n1 value 12\n1 value 53\n",
+            5,
+            29,
+            MANY
+        ),
+    ],
+    sweeps: &[
+        sweep!("SIX, no bytes", NoBytes, 1, [41, 6, 7, 6, 7, 9, 6, 3]),
+        sweep!("SIX, all bytes", AllBytes, 1, [40, 6, 7, 6, 7, 9, 6, 4]),
+        sweep!("SIX, halves", FirstHalf, 1, [41, 6, 7, 6, 7, 9, 6, 3]),
+        sweep!("SIX, zeros", Zeros, 1, [41, 6, 7, 6, 7, 9, 6, 3]),
+    ],
+    failures: &[
+        faults!("SIX, masters", 0, 5, 0, [18, 2, 0, 0, 0, 0, 0, 0]),
+        faults!("SIX, pages", 1, 34, 0, [136, 0, 0, 0, 0, 0, 0, 0]),
+        faults!("SIX, log", 2, 14, 29, [8, 6, 8, 8, 8, 8, 8, 2]),
+    ],
+};
+
+pub(crate) static SIX_MAPS: [&str; 6] = [
+    "end\n",
+    "pair 1 11\npair 2 12\nend\n",
+    "pair 1 11\npair 2 12\npair 3 23\nend\n",
+    "pair 1 31\npair 2 12\npair 3 23\nend\n",
+    "pair 1 51\npair 2 52\npair 3 53\nend\n",
+    "pair 1 51\npair 2 12\npair 3 53\nend\n",
+];
+
+/// Two transactions. One puts key 5 and commits. The next one puts it too, and key 6 37 times. A block has room for 37 changes, so the
+/// block of its first 37 is written.
+pub(crate) const TWO_TEXT: &str =
+    "1 begin\n1 put 5 7\n1 commit\n1 begin\n1 put 5 8\n1 put 6 1\n1 put 6 2\n1 put 6 3\n1 put 6 4\n1 put 6 5\n1 put 6 6\n1 put 6 7\n1 put 6 8\n1 put 6 9\n1 put 6 10\n1 put 6 11\n1 put 6 12\n1 put 6 13\n1 put 6 14\n1 put 6 15\n1 put 6 16\n1 put 6 17\n1 put 6 18\n1 put 6 19\n1 put 6 20\n1 put 6 21\n1 put 6 22\n1 put 6 23\n1 put 6 24\n1 put 6 25\n1 put 6 26\n1 put 6 27\n1 put 6 28\n1 put 6 29\n1 put 6 30\n1 put 6 31\n1 put 6 32\n1 put 6 33\n1 put 6 34\n1 put 6 35\n1 put 6 36\n1 put 6 37\n";
+
+const GETS: &str = "1 begin\n1 get 5\n1 get 6\n";
+
+// The committed transaction alone. The opening finds both, or one before it has dealt with them.
+const TWO_FINDS: &[Find] = &[
+    find!(
+        "open 2 winners 1 undone 1\n1 begun 1.1\n1 value 7\n1 none\n",
+        0,
+        0,
+        1
+    ),
+    find!(
+        "open 3 winners 0 undone 0\n1 begun 1.1\n1 value 7\n1 none\n",
+        0,
+        0,
+        MANY
+    ),
+    find!(
+        "open 5 winners 0 undone 0\n1 begun 1.1\n1 value 7\n1 none\n",
+        0,
+        0,
+        MANY
+    ),
+];
+
+/// An opening behind the two. Its calls are a sync of area 0, two reads there, a sync of 1 and of 2, 32 reads of the pages, three of
+/// the log, the write of the page that has changed, its sync, the master's write, its sync: 44 in all, and there are four lines. A
+/// crash of one that has failed has two moments more than the number of the call. The master counts from its sync on, and from its
+/// write on where that leaves all bytes. Three openings that are crashed at one moment all count, or none does.
+pub(crate) static OPENING: Script = Script {
+    command: &["lean", "run"],
+    text: GETS,
+    lines: "open 2 winners 1 undone 1\n1 begun 1.1\n1 value 7\n1 none\n",
+    next: GETS,
+    finds: TWO_FINDS,
+    sweeps: &[
+        sweep!("OPENING, all bytes", AllBytes, 1, [43, 6, 0]),
+        sweep!("three times no bytes", NoBytes, 3, [44, 0, 5]),
+        sweep!("three times all bytes", AllBytes, 3, [43, 0, 6]),
+        sweep!("three times halves", FirstHalf, 3, [44, 0, 5]),
+        sweep!("three times zeros", Zeros, 3, [44, 0, 5]),
+    ],
+    failures: &[
+        stops!("OPENING, masters, no bytes", 0, 5, NoBytes, [103, 0, 0]),
+        stops!("OPENING, masters, all bytes", 0, 5, AllBytes, [98, 5, 0]),
+        stops!("OPENING, masters, halves", 0, 5, FirstHalf, [103, 0, 0]),
+        stops!("OPENING, masters, zeros", 0, 5, Zeros, [103, 0, 0]),
+        stops!("OPENING, pages, no bytes", 1, 35, NoBytes, [845, 0, 0]),
+        stops!("OPENING, pages, all bytes", 1, 35, AllBytes, [845, 0, 0]),
+        stops!("OPENING, pages, halves", 1, 35, FirstHalf, [845, 0, 0]),
+        stops!("OPENING, pages, zeros", 1, 35, Zeros, [845, 0, 0]),
+        stops!("OPENING, log, no bytes", 2, 4, NoBytes, [130, 0, 0]),
+        stops!("OPENING, log, all bytes", 2, 4, AllBytes, [130, 0, 0]),
+        stops!("OPENING, log, halves", 2, 4, FirstHalf, [130, 0, 0]),
+        stops!("OPENING, log, zeros", 2, 4, Zeros, [130, 0, 0]),
+    ],
+};
+
+/// A dump behind the two, which makes the same calls.
+pub(crate) static DUMP: Script = Script {
+    command: &["lean", "dump"],
+    text: "",
+    lines: "pair 5 7\nend\n",
+    next: GETS,
+    finds: TWO_FINDS,
+    sweeps: &[],
+    failures: &[
+        faults!("DUMP, masters", 0, 5, 0, [18, 2, 0]),
+        faults!("DUMP, pages", 1, 35, 0, [140, 0, 0]),
+        faults!("DUMP, log", 2, 4, 0, [16, 0, 0]),
+    ],
+};
+
+pub(crate) static TWO_MAPS: [&str; 1] = ["pair 5 7\nend\n"];
+
+/// Three puts in three transactions, on a tree of which the root and two leaves are full: a lift, a split of the page that
+/// the root's contents went into, a split of the leaf; a split; no more than a change. 1,860 changes, 31 commits, 59 splits and a lift
+/// went before. The opening makes 141 calls. The first put's lift and first split are in a block that is written before its line; a
+/// crash that leaves it alone undoes a transaction of no key.
+pub(crate) static SPLITS: Script = Script {
+    command: &["lean", "run"],
+    text: "1 begin\n1 put 3662 8\n1 commit\n1 begin\n1 put 61 9\n1 commit\n1 begin\n1 put 2 10\n1 commit\n",
+    lines: "open 3 winners 0 undone 0\n1 begun 1.1\n1 was none\n1 committed 1.1 at 1956\n1 durable 1.1\n1 begun 1.2\n1 was none\n1 committed 1.2 at 1959\n1 durable 1.2\n1 begun 1.3\n1 was 3\n1 committed 1.3 at 1961\n1 durable 1.3\n",
+    next: "",
+    finds: &[
+        find!("open 3 winners 0 undone 0\n", 0, 0, 1),
+        find!("open 4 winners 0 undone 0\n", 0, 0, 5),
+        find!("open 4 winners 0 undone 1\n", 0, 2, 5),
+        find!("open 4 winners 1 undone 0\n", 1, 3, 9),
+        find!("open 4 winners 2 undone 0\n", 2, 7, 13),
+        find!("open 4 winners 3 undone 0\n", 3, 11, MANY),
+    ],
+    sweeps: &[
+        sweep!("SPLITS, no bytes", NoBytes, 1, [141, 6, 0, 6, 6, 3]),
+        sweep!("SPLITS, all bytes", AllBytes, 1, [140, 4, 2, 6, 6, 4]),
+        sweep!("SPLITS, halves", FirstHalf, 1, [141, 6, 0, 6, 6, 3]),
+        sweep!("SPLITS, zeros", Zeros, 1, [141, 6, 0, 6, 6, 3]),
+    ],
+    failures: &[
+        faults!("SPLITS, masters", 0, 5, 0, [18, 2, 0, 0, 0, 0]),
+        faults!("SPLITS, pages", 1, 134, 0, [536, 0, 0, 0, 0, 0]),
+        faults!("SPLITS, log", 2, 9, 11, [8, 9, 1, 8, 8, 2]),
+    ],
+};
