@@ -1,20 +1,21 @@
 // The image of the disk after a crash.
-use crate::crashes::{Picked, is_in_log};
-use crate::runs::{Run, Version};
+use crate::crashes::is_in_log;
+use crate::runs::Run;
 use plain_images::{Image, Log, Record};
 use std::alloc::{AllocError, Global};
 
 /// The floor, of each log the records that are left from its head on, and of each page the contents that are left.
-pub fn image_of(alloc: Global, run: &Run, picked: &Picked) -> Result<Image, AllocError> {
+pub fn image_of(alloc: Global, run: &Run, crash: &[usize]) -> Result<Image, AllocError> {
+    let workers = run.core.settings.workers;
     let mut logs = Vec::new(alloc);
-    let mut log: u64 = 0;
-    for count in &picked.logs {
-        log = log.saturating_add(1);
+    for (log, count) in (1..=workers).zip(crash) {
         logs.push(log_of(alloc, run, log, *count)?)?;
     }
     let mut bases = Vec::new(alloc);
-    for place in &picked.pages {
-        bases.push(base_of(alloc, run.versions.get(*place))?)?;
+    for place in crash.iter().skip(workers as usize) {
+        if let Some(version) = run.versions.get(*place) {
+            bases.push(Some(page_of(alloc, &version.made)?))?;
+        }
     }
     Ok(Image {
         floor: run.core.floor,
@@ -33,16 +34,6 @@ fn log_of(alloc: Global, run: &Run, log: u64, count: usize) -> Result<Log, Alloc
         }
     }
     Ok(Log { records })
-}
-
-fn base_of(
-    alloc: Global,
-    version: Option<&Version>,
-) -> Result<Option<plain_images::Page>, AllocError> {
-    match version {
-        Some(version) => Ok(Some(page_of(alloc, &version.made)?)),
-        None => Ok(None),
-    }
 }
 
 fn page_of(alloc: Global, page: &plain_core::Page) -> Result<plain_images::Page, AllocError> {

@@ -148,30 +148,21 @@ pub fn opened(alloc: Global, opening: Opening) -> Result<Core, AllocError> {
 }
 
 fn page_of(alloc: Global, number: u64, contents: Contents) -> Result<Page, AllocError> {
+    let (live, level, low, high, said): (bool, u64, u64, u64, &[(u64, u64)]) = match contents {
+        Contents::Free => (false, 0, 0, 0, &[]),
+        Contents::Node(level, low, high, said) => (true, level, low, high, said),
+    };
     Ok(Page {
         number,
         log: 0,
-        node: node_of(alloc, contents)?,
-    })
-}
-
-fn node_of(alloc: Global, contents: Contents) -> Result<Node, AllocError> {
-    match contents {
-        Contents::Free => Ok(Node {
-            live: false,
-            level: 0,
-            low: 0,
-            high: 0,
-            pairs: Vec::new(alloc),
-        }),
-        Contents::Node(level, low, high, pairs) => Ok(Node {
-            live: true,
+        node: Node {
+            live,
             level,
             low,
             high,
-            pairs: pairs_of(alloc, pairs)?,
-        }),
-    }
+            pairs: pairs_of(alloc, said)?,
+        },
+    })
 }
 
 /// The pairs that are said.

@@ -1,9 +1,10 @@
 // Small images written by hand, each by a sentence, with what they stand for.
 use crate::maps::are_pairs;
 use crate::openings::{DEAD, TOP, pairs_of};
+use plain_images::pairs::find;
 use plain_images::{
-    Damage, Image, Kind, Log, Name, Node, Page, Record, Ref, first_break, first_damage, losers,
-    map, reach, recovered_page, sorted, value, winners,
+    Damage, Image, Kind, Log, Name, Node, Page, Record, Ref, first_damage, losers, map, reach,
+    recovered_page, sorted, value, winners,
 };
 use std::alloc::{AllocError, Global};
 
@@ -196,22 +197,31 @@ pub fn stands(alloc: Global, small: &Small) -> Result<bool, AllocError> {
     let records = sorted(alloc, &image.logs)?;
     let far = reach(image.logs.len(), image.floor, &records);
     let page = recovered_page(alloc, &image, 0)?;
+    let map = map(alloc, &image)?;
+    for key in 5..8 {
+        if value(alloc, &image, key)? != find(&map, key) {
+            return Ok(false);
+        }
+    }
     Ok(
         far == small.reach
             && are_named(&winners(alloc, far, &records)?, small.winners)
             && are_named(&losers(alloc, far, &records)?, small.losers)
             && page.number == small.left
             && are_pairs(&page.node.pairs, small.pairs)
-            && are_pairs(&map(alloc, &image)?, small.map)
-            && has_values(alloc, &image, small.map)?
+            && are_pairs(&map, small.map)
             && first_damage(alloc, &image)? == small.damage,
     )
 }
 
 fn image_of(alloc: Global, small: &Small) -> Result<Image, AllocError> {
     let mut logs = Vec::new(alloc);
-    for log in &small.logs {
-        logs.push(log_of(alloc, log)?)?;
+    for logged in &small.logs {
+        let mut records = Vec::new(alloc);
+        for one in *logged {
+            records.push(record_of(alloc, *one)?)?;
+        }
+        logs.push(Log { records })?;
     }
     let mut bases = Vec::new(alloc);
     bases.push(Some(Page {
@@ -232,28 +242,13 @@ fn image_of(alloc: Global, small: &Small) -> Result<Image, AllocError> {
     })
 }
 
-fn log_of(alloc: Global, logged: &[Logged]) -> Result<Log, AllocError> {
-    let mut records = Vec::new(alloc);
-    for one in logged {
-        records.push(record_of(alloc, *one)?)?;
-    }
-    Ok(Log { records })
-}
-
 fn record_of(alloc: Global, logged: Logged) -> Result<Record, AllocError> {
     match logged {
-        Logged::Write(log, txn, number, prev, key, before, after) => {
+        Logged::Write(log, txn, number, prev, key, before, after)
+        | Logged::Stray(log, txn, number, prev, key, before, after) => {
+            let page = u64::from(matches!(logged, Logged::Stray(..)));
             let mut record = bare(alloc, Kind::Change, log, txn, number);
-            record.refs.push(Ref { page: 0, prev })?;
-            record.left = Ref { page: 0, prev };
-            record.key = key;
-            record.before = before;
-            record.after = after;
-            Ok(record)
-        }
-        Logged::Stray(log, txn, number, prev, key, before, after) => {
-            let mut record = bare(alloc, Kind::Change, log, txn, number);
-            record.refs.push(Ref { page: 1, prev })?;
+            record.refs.push(Ref { page, prev })?;
             record.left = Ref { page: 0, prev };
             record.key = key;
             record.before = before;
@@ -305,25 +300,6 @@ fn are_named(names: &[Name], said: &[(u32, u64)]) -> bool {
     names.len() == said.len()
 }
 
-// Of the keys 5, 6 and 7, one by one.
-fn has_values(alloc: Global, image: &Image, said: &[(u64, u64)]) -> Result<bool, AllocError> {
-    for key in 5..8 {
-        if value(alloc, image, key)? != value_in(said, key) {
-            return Ok(false);
-        }
-    }
-    Ok(true)
-}
-
-fn value_in(said: &[(u64, u64)], key: u64) -> Option<u64> {
-    for (other, word) in said {
-        if *other == key {
-            return Some(*word);
-        }
-    }
-    None
-}
-
 /// A page: whether it is live, its level, its fences and its pairs.
 pub struct Shape(
     pub bool,
@@ -363,12 +339,8 @@ pub static TREES: [(&[Shape], Option<usize>); 3] = [
     ),
 ];
 
-/// The least page that breaks the rule.
-pub fn break_of(alloc: Global, shapes: &[Shape]) -> Result<Option<usize>, AllocError> {
-    Ok(first_break(&nodes_of(alloc, shapes)?))
-}
-
-fn nodes_of(alloc: Global, shapes: &[Shape]) -> Result<Vec<Node>, AllocError> {
+/// The pages.
+pub fn nodes_of(alloc: Global, shapes: &[Shape]) -> Result<Vec<Node>, AllocError> {
     let mut nodes = Vec::new(alloc);
     for Shape(live, level, low, high, pairs) in shapes {
         nodes.push(Node {

@@ -25,7 +25,7 @@ struct Block {
     payload: &'static [u8],
 }
 
-const BLOCKS: [Block; 3] = [
+static BLOCKS: [Block; 3] = [
     Block {
         log: 2,
         place: 70,
@@ -56,7 +56,7 @@ struct Row {
     bytes: &'static [u8],
 }
 
-const SORTED: [Row; 5] = [
+static SORTED: [Row; 5] = [
     Row {
         head: Head {
             number: 1,
@@ -142,7 +142,7 @@ struct Wrong {
     payload: &'static [u8],
 }
 
-const WRONGS: [Wrong; 5] = [
+static WRONGS: [Wrong; 5] = [
     Wrong {
         name: "a record less",
         count: 2,
@@ -193,48 +193,39 @@ fn blocks_of_two_logs_are_read_in_the_order_of_their_records(
     rt: HostRuntime,
 ) -> Result<(), AllocError> {
     let mut index = LogIndex::new(rt.alloc());
+    let mut is_as_written = true;
     for round in 0..ROUNDS {
         for block in &BLOCKS {
-            assert!(rt; is_pushed_at_last(&mut index, block, round));
+            is_as_written = is_pushed_at_last(&mut index, block, round) && is_as_written;
         }
     }
-    assert_eq!(rt; index.len(), 25);
-    assert_eq!(rt; index.bytes(), 5 * 166);
+    is_as_written = is_as_written && index.len() == 25 && index.bytes() == 5 * 166;
     if index.sort().is_err() {
         index.sort()?;
     }
     for (i, row) in SORTED.iter().enumerate() {
         for round in 0..ROUNDS {
-            assert!(rt;
-                is_there(&index, 5 * i + round as usize, row, round),
-                "{i} {round}"
-            );
+            let place = 5 * i + round as usize;
+            is_as_written = is_there(&index, place, row, round) && is_as_written;
         }
     }
+    assert!(rt; is_as_written);
     Ok(())
 }
 
 #[test]
 fn a_payload_that_is_no_such_records_leaves_the_index(rt: HostRuntime) {
     let mut index = LogIndex::new(rt.alloc());
-    assert!(rt; is_pushed_at_last(&mut index, &BLOCKS[0], 0));
+    let is_first_pushed = is_pushed_at_last(&mut index, &BLOCKS[0], 0);
     let (len, bytes) = (index.len(), index.bytes());
     for wrong in &WRONGS {
         if index.bytes() > 4096 || wrong.payload.len() > 2000 {
             break;
         }
         let pushed = index.push_block(1, 0, wrong.count, wrong.payload);
-        assert!(rt;
-            pushed == Err(PushError::Malformed)
-                || wrong.count <= 2 && pushed == Err(PushError::Memory),
-            "{}",
-            wrong.name
-        );
-        assert_eq!(rt;
-            (index.len(), index.bytes()),
-            (len, bytes),
-            "{}",
-            wrong.name
-        );
+        let is_refused = pushed == Err(PushError::Malformed)
+            || wrong.count <= 2 && pushed == Err(PushError::Memory);
+        let is_left = index.len() == len && index.bytes() == bytes;
+        assert!(rt; is_first_pushed && is_refused && is_left, "{}", wrong.name);
     }
 }

@@ -3,24 +3,24 @@ use lean_bytes::{Cur, check, put_u64, put_words, seal, take_u64, take_words};
 
 #[test]
 fn numbers_stand_lowest_byte_first_at_their_places(rt: HostRuntime) {
-    let mut bytes = [9; 12];
-    put_u64(&mut bytes, 3, 72623859790382856);
-    let wanted: [u8; 12] = [9, 9, 9, 8, 7, 6, 5, 4, 3, 2, 1, 9];
-    assert_eq!(rt; bytes, wanted);
-    assert_eq!(rt; take_u64(&bytes, 3), 72623859790382856);
-    let mut bytes = [0; 16];
-    put_words(&mut bytes, &[1, 18446744073709551614]);
-    let wanted: [u8; 16] = [
-        1, 0, 0, 0, 0, 0, 0, 0, 254, 255, 255, 255, 255, 255, 255, 255,
-    ];
-    assert_eq!(rt; bytes, wanted);
+    let mut one = [9; 12];
+    put_u64(&mut one, 3, 72623859790382856);
+    let mut two = [0; 16];
+    put_words(&mut two, &[1, 18446744073709551614]);
     let mut words = [0; 2];
-    take_words(&bytes, &mut words);
-    assert_eq!(rt; words, [1u64, 18446744073709551614]);
+    take_words(&two, &mut words);
+    assert!(rt;
+        one == [9u8, 9, 9, 8, 7, 6, 5, 4, 3, 2, 1, 9]
+            && take_u64(&one, 3) == 72623859790382856
+            && two
+                == [
+                    1u8, 0, 0, 0, 0, 0, 0, 0, 254, 255, 255, 255, 255, 255, 255, 255
+                ]
+            && words == [1u64, 18446744073709551614]
+    );
 }
 
 // What a reader's next call gives.
-#[derive(Debug)]
 enum Take {
     Byte(Option<u8>),
     Short(Option<u32>),
@@ -55,8 +55,8 @@ fn gives(reader: &mut Cur, take: &Take) -> bool {
 #[test]
 fn a_reader_takes_numbers_off_its_bytes_and_then_none(rt: HostRuntime) {
     let mut reader = Cur::new(&READ);
-    for take in &TAKES {
-        assert!(rt; gives(&mut reader, take), "{take:?}");
+    for (place, take) in TAKES.iter().enumerate() {
+        assert!(rt; gives(&mut reader, take), "call {place}");
     }
 }
 
@@ -111,13 +111,8 @@ static SEALS: [Sealing; 4] = [
 #[test]
 fn a_seal_fits_its_tag_and_its_bytes_alone(rt: HostRuntime) {
     for row in &SEALS {
-        let made = seal(row.tag, row.bytes);
-        assert_eq!(rt; made.as_slice() == row.seal, row.fits, "{}", row.name);
-        assert_eq!(rt;
-            check(row.tag, row.bytes, row.seal),
-            row.fits,
-            "{}",
-            row.name
-        );
+        let is_made = seal(row.tag, row.bytes).as_slice() == row.seal;
+        let is_found = check(row.tag, row.bytes, row.seal);
+        assert!(rt; is_made == row.fits && is_found == row.fits, "{}", row.name);
     }
 }

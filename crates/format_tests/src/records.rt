@@ -3,8 +3,8 @@ ghost use Rattle.std.specs.Prelude.{IsTrue};
 ghost use Rattle.log_record.specs.Spelling.{IsCounted};
 
 use log_record::{
-    Body, CHANGE_SIZE, END_SIZE, Keys, LARGEST, PageRef, Pair, Pairs, Record, RecordHead,
-    read_record, record_bytes, record_head, record_size,
+    Body, CHANGE_SIZE, END_SIZE, Keys, PageRef, Pair, Pairs, Record, RecordHead, read_record,
+    record_bytes, record_head, record_size,
 };
 
 // A record of each kind, and a change of other numbers.
@@ -336,21 +336,22 @@ fn is_counted(body: &Body) -> bool
     }
 }
 
+// The bytes, with sevens behind them.
+fn with_more(bytes: &[u8]) -> [u8; 1100] {
+    let mut more = [7u8; 1100];
+    for (place, byte) in more.iter_mut().zip(bytes) {
+        *place = *byte;
+    }
+    more
+}
+
 // Whether the record is written so, and nothing is written behind it.
 fn is_written(record: &Record, row: &Row) -> bool {
-    let mut into = [b'x'; LARGEST];
-    if !is_counted(&record.body) {
+    let mut into = [7u8; 1100];
+    if !is_counted(&record.body) || record_size(record) != row.size || row.size > into.len() {
         return false;
     }
-    if record_size(record) != row.size {
-        return false;
-    }
-    if record_size(record) > into.len() {
-        return false;
-    }
-    record_bytes(record, &mut into) == row.size
-        && into.starts_with(row.bytes)
-        && into.iter().skip(row.bytes.len()).all(|byte| *byte == b'x')
+    record_bytes(record, &mut into) == row.size && into == with_more(row.bytes)
 }
 
 // What held another record, of more pairs than all others.
@@ -365,15 +366,6 @@ fn lent() -> Record {
             pairs: pairs_of(60),
         },
     }
-}
-
-// The bytes, with sevens behind them.
-fn with_more(bytes: &[u8]) -> [u8; 1100] {
-    let mut more = [7u8; 1100];
-    for (place, byte) in more.iter_mut().zip(bytes) {
-        *place = *byte;
-    }
-    more
 }
 
 // Whether the record is read, with more behind it too, and not without its last byte.
@@ -404,9 +396,12 @@ fn is_passed_over(row: &Row) -> bool {
 #[test]
 fn records_stand_byte_for_byte(rt: HostRuntime) {
     for row in &ROWS {
-        assert!(rt; is_written(&record_of(row.said), row), "{}", row.name);
-        assert!(rt; is_read(row), "{}", row.name);
-        assert!(rt; is_passed_over(row), "{}", row.name);
+        let is_made = is_written(&record_of(row.said), row);
+        assert!(rt;
+            is_made && is_read(row) && is_passed_over(row),
+            "{}",
+            row.name
+        );
     }
 }
 
@@ -426,20 +421,23 @@ static KINDS: [(u8, Option<usize>); 12] = [
     (255, None),
 ];
 
+// Whether a record takes so many of the bytes, read or passed over.
+fn takes(bytes: &[u8], size: Option<usize>) -> bool {
+    let passed = match record_head(bytes) {
+        Some(head) => Some(head.size),
+        None => None,
+    };
+    read_record(bytes, &mut lent()) == size && passed == size
+}
+
 #[test]
 fn each_kind_has_its_size(rt: HostRuntime) {
-    let mut entry = lent();
+    assert!(rt; takes(&[], None));
     for (kind, size) in &KINDS {
         let mut bytes = [0u8; 100];
         bytes[0] = *kind;
-        assert!(rt; read_record(&bytes, &mut entry) == *size, "kind {kind}");
-        assert!(rt;
-            record_head(&bytes).map(|head| head.size) == *size,
-            "kind {kind}"
-        );
+        assert!(rt; takes(&bytes, *size), "kind {kind}");
     }
-    assert!(rt; read_record(&[], &mut entry).is_none());
-    assert!(rt; record_head(&[]).is_none());
 }
 
 // A kind, the place of its count, and what it takes with 60 pairs or keys.
@@ -453,25 +451,16 @@ static COUNTS: [(u8, usize, usize); 5] = [
 
 #[test]
 fn at_most_60_pairs_or_keys_are_read(rt: HostRuntime) {
-    let mut entry = lent();
     for (kind, place, size) in &COUNTS {
         let mut bytes = [0u8; 1100];
         bytes[0] = *kind;
-        if *place < bytes.len() {
-            bytes[*place] = 60;
+        if let Some(count) = bytes.get_mut(*place) {
+            *count = 60;
         }
-        assert!(rt;
-            read_record(&bytes, &mut entry) == Some(*size),
-            "kind {kind}"
-        );
-        assert!(rt;
-            record_head(&bytes).map(|head| head.size) == Some(*size),
-            "kind {kind}"
-        );
-        if *place < bytes.len() {
-            bytes[*place] = 61;
+        let is_read = takes(&bytes, Some(*size));
+        if let Some(count) = bytes.get_mut(*place) {
+            *count = 61;
         }
-        assert!(rt; read_record(&bytes, &mut entry).is_none(), "kind {kind}");
-        assert!(rt; record_head(&bytes).is_none(), "kind {kind}");
+        assert!(rt; is_read && takes(&bytes, None), "kind {kind}");
     }
 }

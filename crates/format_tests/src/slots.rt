@@ -152,46 +152,31 @@ static PAGES: [PageRow; 5] = [
     },
 ];
 
-fn has_pairs(node: &Node, pairs: &[(u64, u64)]) -> bool {
-    for (key, word) in pairs {
+fn is_page(node: &Node, row: &PageRow) -> bool {
+    for (key, word) in row.pairs {
         if node.find(*key) != Some(*word) {
             return false;
         }
     }
-    node.count() == pairs.len()
-}
-
-fn has_numbers(node: &Node, row: &PageRow) -> bool {
-    node.number() == row.number as u64
+    node.count() == row.pairs.len()
+        && node.number() == row.number as u64
         && node.gsn() == row.gsn
         && node.generation() == row.generation
         && node.last_log() == row.last_log
-}
-
-fn has_fences(node: &Node, row: &PageRow) -> bool {
-    node.is_live() == row.is_live
+        && node.is_live() == row.is_live
         && node.level() == row.level
         && node.low() == row.low
         && node.high() == row.high
 }
 
-fn is_written(node: &Node, bytes: &[u8; 1024]) -> bool {
-    let mut written = [7; SLOT];
-    page_bytes(node, &mut written);
-    written == *bytes
-}
-
 fn is_read_and_written(row: &PageRow) -> bool {
     let bytes = slot_of(row.prefix, row.seal);
-    match read_page(row.number, 32, &bytes) {
-        Ok(node) => {
-            has_numbers(&node, row)
-                && has_fences(&node, row)
-                && has_pairs(&node, row.pairs)
-                && is_written(&node, &bytes)
-        }
-        Err(_) => false,
-    }
+    let Ok(node) = read_page(row.number, 32, &bytes) else {
+        return false;
+    };
+    let mut written = [7; SLOT];
+    page_bytes(&node, &mut written);
+    is_page(&node, row) && written == bytes
 }
 
 #[test]
@@ -245,65 +230,46 @@ static MASTERS: [MasterRow; 2] = [
     },
 ];
 
-fn set_head_within(heads: &mut Heads, log: u32, block: u64) {
-    if 0 < log && log <= heads.logs() {
-        heads.set_head(log, block);
-    }
-}
-
 fn heads_of(blocks: &[u64]) -> Heads {
     let mut heads = Heads::new(blocks.len().min(16) as u32);
-    let mut log: u32 = 0;
+    let mut logs = 0;
     for block in blocks {
-        log = log.saturating_add(1);
-        set_head_within(&mut heads, log, *block);
+        if logs < heads.logs() {
+            logs += 1;
+            heads.set_head(logs, *block);
+        }
     }
     heads
 }
 
-fn head_within(heads: &Heads, log: u32) -> Option<u64> {
-    if 0 < log && log <= heads.logs() {
-        Some(heads.head(log))
-    } else {
-        None
-    }
-}
-
-fn has_heads(heads: &Heads, blocks: &[u64]) -> bool {
-    let mut log: u32 = 0;
-    for block in blocks {
-        log = log.saturating_add(1);
-        if head_within(heads, log) != Some(*block) {
+fn is_master(master: &Master, row: &MasterRow) -> bool {
+    let mut logs = 0;
+    for block in row.heads {
+        if logs >= master.heads.logs() || master.heads.head(logs + 1) != *block {
             return false;
         }
+        logs += 1;
     }
-    heads.logs() == log
+    master.heads.logs() == logs
+        && master.sequence == row.sequence
+        && master.generation == row.generation
+        && master.floor == row.floor
+        && master.pages == row.pages
+        && master.blocks == row.blocks
 }
 
-fn master_of(row: &MasterRow) -> Master {
-    Master {
+fn is_master_read_and_written(row: &MasterRow) -> bool {
+    let bytes = slot_of(row.prefix, row.seal);
+    let master = Master {
         sequence: row.sequence,
         generation: row.generation,
         floor: row.floor,
         pages: row.pages,
         blocks: row.blocks,
         heads: heads_of(row.heads),
-    }
-}
-
-fn is_master(master: &Master, row: &MasterRow) -> bool {
-    master.sequence == row.sequence
-        && master.generation == row.generation
-        && master.floor == row.floor
-        && master.pages == row.pages
-        && master.blocks == row.blocks
-        && has_heads(&master.heads, row.heads)
-}
-
-fn is_master_read_and_written(row: &MasterRow) -> bool {
-    let bytes = slot_of(row.prefix, row.seal);
+    };
     let mut written = [7; SLOT];
-    master_bytes(&master_of(row), &mut written);
+    master_bytes(&master, &mut written);
     match read_master(0, &bytes) {
         Ok(read) => is_master(&read, row) && written == bytes,
         Err(_) => false,
@@ -324,7 +290,7 @@ enum Reading {
     Master(u32),
 }
 
-#[derive(Clone, Copy, Debug, PartialEq, Eq)]
+#[derive(Clone, Copy, PartialEq, Eq)]
 enum Outcome {
     Read,
     NoSeal,
@@ -332,22 +298,11 @@ enum Outcome {
     NotValid,
 }
 
-fn outcome_of<T: Drop>(read: Result<T, Refusal>) -> Outcome {
-    match read {
-        Ok(_) => Outcome::Read,
-        Err(Refusal::NoSeal) => Outcome::NoSeal,
-        Err(Refusal::Malformed) => Outcome::Malformed,
-    }
-}
-
-fn outcome_as(reading: &Reading, bytes: &[u8]) -> Outcome {
-    match reading {
-        Reading::Page(page) => outcome_of(read_page(*page, 32, bytes)),
-        Reading::Valid(page, generation) => match read_valid(*page, 32, *generation, bytes) {
-            Some(_) => Outcome::Read,
-            None => Outcome::NotValid,
-        },
-        Reading::Master(slot) => outcome_of(read_master(*slot, bytes)),
+fn outcome_of(refused: Option<Refusal>) -> Outcome {
+    match refused {
+        None => Outcome::Read,
+        Some(Refusal::NoSeal) => Outcome::NoSeal,
+        Some(Refusal::Malformed) => Outcome::Malformed,
     }
 }
 
@@ -447,14 +402,22 @@ static READS: [ReadRow; 9] = [
 ];
 
 fn read_row(row: &ReadRow) -> Outcome {
-    let mut bytes = slot_of(row.prefix, row.seal);
-    bytes[1007] = row.last;
-    outcome_as(&row.reading, bytes.get(row.from..).unwrap_or(&[]))
+    let mut slot = slot_of(row.prefix, row.seal);
+    slot[1007] = row.last;
+    let bytes = slot.get(row.from..).unwrap_or(&[]);
+    match row.reading {
+        Reading::Page(page) => outcome_of(read_page(page, 32, bytes).err()),
+        Reading::Master(place) => outcome_of(read_master(place, bytes).err()),
+        Reading::Valid(page, generation) => match read_valid(page, 32, generation, bytes) {
+            Some(_) => Outcome::Read,
+            None => Outcome::NotValid,
+        },
+    }
 }
 
 #[test]
 fn slots_are_refused_where_a_byte_differs_or_the_place_is_another(rt: HostRuntime) {
     for row in &READS {
-        assert_eq!(rt; read_row(row), row.outcome, "{}", row.name);
+        assert!(rt; read_row(row) == row.outcome, "{}", row.name);
     }
 }

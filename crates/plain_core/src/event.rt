@@ -2,21 +2,21 @@
 use crate::table::Table;
 
 /// How a row is held: with others that read, or by one alone.
-#[derive(Clone, Copy, Debug, PartialEq, Eq)]
+#[derive(Clone, Copy)]
 pub enum Mode {
     Shared,
     Alone,
 }
 
 /// What follows a key in a leaf: the least pair at or above it, or that there is none up to the high fence.
-#[derive(Clone, Copy, Debug, PartialEq, Eq)]
+#[derive(Clone, Copy)]
 pub enum Following {
     Pair { key: u64, value: u64 },
     Gap { high: u64 },
 }
 
 /// An event, by its worker, if it has one, and what it names. `flushed` is the least flushed number as the worker found it.
-#[derive(Debug, Drop)]
+#[derive(Drop)]
 pub enum Event {
     Enter {
         worker: u64,

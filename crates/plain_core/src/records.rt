@@ -7,7 +7,7 @@ use plain_images::Pair;
 use std::alloc::{AllocError, Global};
 
 /// A node, or a free page, which is not live and has nothing else.
-#[derive(Debug, Drop)]
+#[derive(Drop)]
 pub struct Node {
     pub live: bool,
     pub level: u64,
@@ -32,7 +32,7 @@ impl Node {
 }
 
 /// A page with the number and the log of the last record that changed it.
-#[derive(Debug, Drop)]
+#[derive(Drop)]
 pub struct Page {
     pub number: u64,
     pub log: u64,
@@ -53,14 +53,14 @@ impl Page {
 }
 
 /// A page that a record changes, with the page's number before it.
-#[derive(Clone, Copy, Debug, PartialEq, Eq)]
+#[derive(Clone, Copy)]
 pub struct Ref {
     pub page: u64,
     pub previous: u64,
 }
 
 /// The seven records that change pages.
-#[derive(Clone, Copy, Debug, PartialEq, Eq)]
+#[derive(Clone, Copy)]
 pub enum PageKind {
     Change,
     PutBack,
@@ -72,7 +72,7 @@ pub enum PageKind {
 }
 
 /// What a record makes of its pages. What a kind does not have is 0.
-#[derive(Debug, Drop)]
+#[derive(Drop)]
 pub struct PageRecord {
     pub kind: PageKind,
     pub left: Ref,
@@ -111,7 +111,7 @@ impl PageRecord {
 }
 
 /// The nine kinds of record, and a read, which stands in no log.
-#[derive(Clone, Copy, Debug, PartialEq, Eq)]
+#[derive(Clone, Copy, PartialEq, Eq)]
 pub enum Kind {
     Change,
     PutBack,
@@ -126,7 +126,7 @@ pub enum Kind {
 }
 
 /// A record of a log, or a read.
-#[derive(Debug, Drop)]
+#[derive(Drop)]
 pub struct Entry {
     pub kind: Kind,
     pub log: u64,

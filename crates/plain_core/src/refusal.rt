@@ -5,7 +5,7 @@ ghost use Rattle.plain_core.specs.declared.refusal.Refusal.TheVariants as refusa
 use std::alloc::AllocError;
 
 /// Why nothing is said of a state: memory was wanting, or a number would not fit 64 bits.
-#[derive(Clone, Copy, Debug, PartialEq, Eq)]
+#[derive(Clone, Copy, PartialEq, Eq)]
 pub enum Refusal {
     Memory,
     Number,

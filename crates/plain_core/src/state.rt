@@ -11,7 +11,7 @@ use std::alloc::{AllocError, Global};
 /// The numbers of an opening. Workers and their logs are 1 to `workers`. Key k has the lock row k modulo `rows`, or k where
 /// `rows` is 0. A transaction makes at most `changes` changes, and two pages are joined that have at most `joined` pairs
 /// together. There are `pages` pages with room for `room` pairs each; `dead` is a tombstone's word.
-#[derive(Clone, Copy, Debug, PartialEq, Eq)]
+#[derive(Clone, Copy)]
 pub struct Settings {
     pub workers: u64,
     pub frames: u64,
@@ -28,7 +28,7 @@ pub struct Settings {
 
 /// Where a page stands. A cooling page has the global epoch of its cooling, and the workers that were inside then and have
 /// not left since.
-#[derive(Debug, Drop)]
+#[derive(Drop)]
 pub enum Place {
     Hot {
         frame: u64,
@@ -42,7 +42,7 @@ pub enum Place {
 }
 
 /// A lock row: who holds it alone, who shares it, the stamp of its last exclusive end, and the greatest end of a reader.
-#[derive(Debug, Drop)]
+#[derive(Drop)]
 pub struct Row {
     pub holder: Option<u64>,
     pub readers: Vec<u64>,
@@ -67,7 +67,7 @@ impl Row {
 }
 
 /// A worker: `end` is the number of its last end record; `changes` are the open transaction's, the newest first.
-#[derive(Debug, Drop)]
+#[derive(Drop)]
 pub struct Worker {
     pub clock: u64,
     pub floor: u64,
@@ -97,7 +97,7 @@ impl Worker {
 
 /// The state. Entries are what happened, the newest first; `flushed` and `heads` are of each log, `floor` the master's, `cut`
 /// the greatest number of a cut, `inside` the epoch of each worker that is inside.
-#[derive(Debug, Drop)]
+#[derive(Drop)]
 pub struct Core {
     pub settings: Settings,
     pub entries: Vec<Entry>,

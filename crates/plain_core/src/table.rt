@@ -8,14 +8,14 @@ use crate::records::Page;
 use std::alloc::{AllocError, Global};
 
 /// A value at each number: the default, or the value that was set last.
-#[derive(Debug, Drop)]
+#[derive(Drop)]
 pub struct Table<T> {
     pub default: T,
     pub changes: Vec<Placed<T>>,
 }
 
 /// A value that was set, and where.
-#[derive(Debug, Drop)]
+#[derive(Drop)]
 pub struct Placed<T> {
     pub place: u64,
     pub value: T,

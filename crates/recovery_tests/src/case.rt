@@ -10,7 +10,7 @@ use std::alloc::{AllocError, Global};
 pub fn line_of(alloc: Global, areas: Vec<Vec<u8>>) -> Result<String, AllocError> {
     match read_disk(alloc, areas) {
         Ok(opened) => recovered_line(alloc, opened),
-        Err(stop) => format!(in alloc; "{stop}"),
+        Err(stop) => stop_line(alloc, &stop),
     }
 }
 
@@ -18,33 +18,34 @@ pub fn line_of(alloc: Global, areas: Vec<Vec<u8>>) -> Result<String, AllocError>
 fn recovered_line(alloc: Global, mut opened: Opened) -> Result<String, AllocError> {
     let image = image_of(alloc, &opened)?;
     let recovered = recover(alloc, &mut opened);
-    let mut line = result_line(alloc, &opened.pages, &recovered)?;
+    let mut line = match &recovered {
+        Ok(outcome) => outcome_line(alloc, &opened.pages, outcome)?,
+        Err(stop) => stop_line(alloc, stop)?,
+    };
     if !agrees(alloc, &image, &opened, &recovered)? {
         line.push_str(" differs from plain_images")?;
     }
     Ok(line)
 }
 
-fn result_line(
-    alloc: Global,
-    pages: &[Node],
-    recovered: &Result<Outcome, Stop>,
-) -> Result<String, AllocError> {
-    match recovered {
-        Ok(outcome) => outcome_line(alloc, pages, outcome),
-        Err(stop) => format!(in alloc; "{stop}"),
+fn stop_line(alloc: Global, stop: &Stop) -> Result<String, AllocError> {
+    match stop {
+        Stop::Damaged { area, place } => format!(in alloc; "damaged {area} {place}"),
+        Stop::NoMaster => "no master".to_string(alloc),
+        Stop::DiskFault => "disk fault".to_string(alloc),
+        Stop::Memory => "no memory".to_string(alloc),
     }
 }
 
 // The counts, and the pages that are not free.
 fn outcome_line(alloc: Global, pages: &[Node], outcome: &Outcome) -> Result<String, AllocError> {
-    let Outcome {
-        winners,
-        undone,
-        base,
-        ..
-    } = outcome;
-    let mut line = format!(in alloc; "winners {winners} undone {undone} base {base}")?;
+    let mut line = String::new(alloc);
+    line.push_str("winners")?;
+    put_number(&mut line, outcome.winners)?;
+    line.push_str(" undone")?;
+    put_number(&mut line, outcome.undone)?;
+    line.push_str(" base")?;
+    put_number(&mut line, outcome.base)?;
     for page in pages {
         if page.is_live() {
             put_page(&mut line, page)?;
@@ -54,19 +55,22 @@ fn outcome_line(alloc: Global, pages: &[Node], outcome: &Outcome) -> Result<Stri
 }
 
 fn put_page(line: &mut String, page: &Node) -> Result<(), AllocError> {
-    write!(
-        line,
-        " page {} {} {} {} {} {} {}",
+    line.push_str(" page")?;
+    let numbers = [
         page.number(),
         page.gsn(),
-        page.last_log(),
-        page.level(),
+        u64::from(page.last_log()),
+        u64::from(page.level()),
         page.low(),
         page.high(),
-        page.count()
-    )?;
-    for word in page.pairs() {
-        write!(line, " {word}")?;
+        page.count() as u64,
+    ];
+    for number in numbers.iter().chain(page.pairs()) {
+        put_number(line, *number)?;
     }
     Ok(())
+}
+
+fn put_number(line: &mut String, number: u64) -> Result<(), AllocError> {
+    write!(line, " {number}")
 }

@@ -36,10 +36,9 @@ fn has_counts(alloc: Global, image: &Image, outcome: &Outcome) -> Result<bool, A
 
 // These are the recovered pages.
 fn has_pages(alloc: Global, image: &Image, nodes: &[Node]) -> Result<bool, AllocError> {
-    for page in 0..nodes.len() {
-        let node = page_of(alloc, &nodes[page])?;
+    for (page, node) in nodes.iter().enumerate() {
         let plain = recovered_page(alloc, image, page as u64)?;
-        if nodes[page].number() != page as u64 || !is_same(&node, &plain) {
+        if node.number() != page as u64 || !is_same(&page_of(alloc, node)?, &plain) {
             return Ok(false);
         }
     }
@@ -47,33 +46,25 @@ fn has_pages(alloc: Global, image: &Image, nodes: &[Node]) -> Result<bool, Alloc
 }
 
 fn is_same(a: &Page, b: &Page) -> bool {
-    a.number == b.number && a.log == b.log && is_same_node(&a.node, &b.node)
-}
-
-fn is_same_node(a: &plain_images::Node, b: &plain_images::Node) -> bool {
-    a.live == b.live
-        && a.level == b.level
-        && a.low == b.low
-        && a.high == b.high
-        && a.pairs.as_slice() == b.pairs.as_slice()
+    a.number == b.number
+        && a.log == b.log
+        && a.node.live == b.node.live
+        && a.node.level == b.node.level
+        && a.node.low == b.node.low
+        && a.node.high == b.node.high
+        && a.node.pairs.as_slice() == b.node.pairs.as_slice()
 }
 
 // It stopped at the place of the damage.
 fn is_at(index: &LogIndex, damage: Damage, stop: &Stop) -> bool {
-    match damage {
-        Damage::NoBase { page } | Damage::Broken { page } => is_damaged(stop, 1, page as u64),
+    let (at_area, at_place) = match damage {
+        Damage::NoBase { page } | Damage::Broken { page } => (1, Some(page as u64)),
         Damage::Unordered { log, number }
         | Damage::Undoable { log, number }
-        | Damage::NoEntry { log, number } => match place_of(index, log, number) {
-            Some(place) => is_damaged(stop, log.saturating_add(1), place),
-            None => false,
-        },
-    }
-}
-
-fn is_damaged(stop: &Stop, at_area: u32, at_place: u64) -> bool {
+        | Damage::NoEntry { log, number } => (log.saturating_add(1), place_of(index, log, number)),
+    };
     match stop {
-        Stop::Damaged { area, place } => *area == at_area && *place == at_place,
+        Stop::Damaged { area, place } => *area == at_area && Some(*place) == at_place,
         _ => false,
     }
 }

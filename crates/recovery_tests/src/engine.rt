@@ -13,18 +13,13 @@ use page_store::fetch;
 use recovery_redo::{Failed, Outcome, recover_pages};
 use recovery_scan::{Unread, scan_logs};
 use std::alloc::Global;
-use thiserror::Error;
 
 /// Why a disk was not recovered.
-#[derive(Clone, Copy, Debug, PartialEq, Eq, Drop, Error)]
+#[derive(Drop)]
 pub enum Stop {
-    #[error("damaged {area} {place}")]
     Damaged { area: u32, place: u64 },
-    #[error("no master")]
     NoMaster,
-    #[error("disk fault")]
     DiskFault,
-    #[error("no memory")]
     Memory,
 }
 

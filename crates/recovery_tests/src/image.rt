@@ -6,7 +6,7 @@ use std::alloc::{AllocError, Global};
 const BLOCK: usize = 2048;
 
 /// The run of a log: the number of its first block, and how many blocks it has.
-#[derive(Clone, Copy, Debug)]
+#[derive(Clone, Copy)]
 pub struct Run {
     pub log: u32,
     head: u64,
@@ -95,14 +95,19 @@ fn put_parts(alloc: Global, bytes: &mut Vec<u8>, offset: usize, parts: &[&str]) 
         bail!("an offset that falls: {offset}");
     }
     bytes.resize(offset, 0)?;
-    for part in parts.chunks(2) {
-        let [zeros, text] = part else {
-            bail!("zeros without bytes");
-        };
-        let zeros: usize = zeros.parse()?;
-        bytes.resize(bytes.len().saturating_add(zeros), 0)?;
-        let part = hex::decode(alloc, *text)?;
-        bytes.extend_from_slice(&part)?;
+    let mut are_zeros = true;
+    for part in parts {
+        if are_zeros {
+            let zeros: usize = part.parse()?;
+            bytes.resize(bytes.len().saturating_add(zeros), 0)?;
+        } else {
+            let part = hex::decode(alloc, *part)?;
+            bytes.extend_from_slice(&part)?;
+        }
+        are_zeros = !are_zeros;
+    }
+    if !are_zeros {
+        bail!("zeros without bytes");
     }
     Ok(())
 }
@@ -111,12 +116,8 @@ fn put_parts(alloc: Global, bytes: &mut Vec<u8>, offset: usize, parts: &[&str]) 
 fn cut_run(bytes: &mut [u8], head: u64, blocks: u32, cut: u32) {
     for block in cut..blocks {
         let place = (head % u64::from(blocks) + u64::from(block)) % u64::from(blocks);
-        wipe(bytes, place as usize);
-    }
-}
-
-fn wipe(bytes: &mut [u8], place: usize) {
-    if let Some(block) = bytes.chunks_mut(BLOCK).nth(place) {
-        block.fill(0);
+        if let Some(block) = bytes.chunks_mut(BLOCK).nth(place as usize) {
+            block.fill(0);
+        }
     }
 }

@@ -8,49 +8,42 @@ mod engine;
 mod image;
 mod plain;
 
-use anyhow::Result;
 use case::line_of;
-use image::{DiskImage, Run};
-use std::alloc::Global;
+use image::DiskImage;
+use std::alloc::{AllocError, Global};
 use std::fs;
 
-// The whole image, as cut 0 of log 0, and each run cut short.
-fn print_cases(rt: &impl Print, alloc: Global, image: &DiskImage) -> Result<()> {
-    print_case(rt, alloc, &image.name, 0, 0, image.areas(alloc)?)?;
+// The lines of an image: whole, as cut 0 of log 0, and with each run cut short.
+fn lines_of(alloc: Global, image: &DiskImage) -> Result<String, AllocError> {
+    let mut lines = String::new(alloc);
+    let whole = line_of(alloc, image.areas(alloc)?)?;
+    put_line(&mut lines, &image.name, 0, 0, &whole)?;
     for run in &image.runs {
-        print_cuts(rt, alloc, image, *run)?;
+        for cut in 0..run.count {
+            let line = line_of(alloc, image.areas_cut(alloc, *run, cut)?)?;
+            put_line(&mut lines, &image.name, run.log, cut, &line)?;
+        }
     }
-    Ok(())
+    Ok(lines)
 }
 
-fn print_cuts(rt: &impl Print, alloc: Global, image: &DiskImage, run: Run) -> Result<()> {
-    for cut in 0..run.count {
-        let areas = image.areas_cut(alloc, run, cut)?;
-        print_case(rt, alloc, &image.name, run.log, cut, areas)?;
-    }
-    Ok(())
-}
-
-fn print_case(
-    rt: &impl Print,
-    alloc: Global,
+fn put_line(
+    lines: &mut String,
     name: &str,
     log: u32,
     cut: u32,
-    areas: Vec<Vec<u8>>,
-) -> Result<()> {
-    let line = line_of(alloc, areas)?;
-    println!(rt; "{name} {log} {cut} {line}")?;
-    Ok(())
+    line: &str,
+) -> Result<(), AllocError> {
+    writeln!(lines, "{name} {log} {cut} {line}")
 }
 
-fn main(rt: HostRuntime) -> Result<()> {
+fn main(rt: HostRuntime) -> anyhow::Result<()> {
     let alloc = rt.alloc();
     let text = fs::read_to_string(&rt, "images.txt")?;
     let mut image = DiskImage::new(alloc);
     for line in text.lines() {
         if image.take_line(alloc, line)? {
-            print_cases(&rt, alloc, &image)?;
+            print!(rt; "{}", lines_of(alloc, &image)?)?;
         }
     }
     Ok(())
