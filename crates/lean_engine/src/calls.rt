@@ -49,6 +49,8 @@ impl<D: Stages> Engine<D> {
     }
 
     /// Gives a key a value. The answer is the value that it had.
+    // Not inlined, so that a get does not pay at entry for the locals of a put.
+    #[inline(never)]
     pub fn put(&mut self, key: u64, value: u64) -> Result<Option<u64>, Refusal>
         requires key { key < 2 ^ 64 - 1 }
         requires value { value < 2 ^ 63 }
@@ -62,6 +64,8 @@ impl<D: Stages> Engine<D> {
     }
 
     /// The session's transaction commits. Its receipt is ripe at once, since each commit is flushed.
+    // Not inlined, as a put is not.
+    #[inline(never)]
     pub fn commit(&mut self) -> Result<Receipt, Refusal>
         ensures asked { Asked calls.Commit (receipt_answer result) self.old self.new (D.story self.old.disk) (D.story self.new.disk) }
         ensures receipt { IfOk result (IsReceipt self.old self.new) }

@@ -80,6 +80,21 @@ fn take_again<R: Rows>(
     }
 }
 
+// How many lock rows the program has.
+const USUAL: u32 = 256;
+
+// The lock row of a key. Where the count is the usual one nothing is divided.
+#[inline(always)]
+fn row_of(key: u64, count: u32) -> u32
+    requires { 0 < count }
+    ensures { result ≡ key % count }
+{
+    if count == USUAL {
+        return (key % u64::from(USUAL)) as u32;
+    }
+    (key % u64::from(count)) as u32
+}
+
 /// Takes the lock row of a key for the session. It is refused only where the row is spent.
 #[inline(always)]
 pub(crate) fn take_row<R: Rows>(
@@ -98,7 +113,7 @@ pub(crate) fn take_row<R: Rows>(
     ensures taken { OnOk result (Takes (R.view seat.old) (R.view seat.new) session.old session.new (key % session.old.held.count) mode) }
     ensures spent { IfErr result (λ why. (why ≡ Refusal.RowSpent) × IsSpent (R.view seat.old) (R.view seat.new) × (session.new ≡ session.old)) }
 {
-    let row = (key % u64::from(session.held.count())) as u32;
+    let row = row_of(key, session.held.count());
     match mode {
         Mode::Shared if session.held.has(row) => take_again(rows, seat, session, log, row),
         _ => take_first(rows, seat, session, log, key, mode),

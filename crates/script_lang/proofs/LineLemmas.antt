@@ -209,3 +209,19 @@ line_says workers bytes line e =
       last = omega arith;
       call = v.fits;
     }
+
+-- what spells no call asks nothing
+pub no_call : (ws : List ℕ) → (ws ≡ codes "begin" → ⊥) → (ws ≡ codes "commit" → ⊥)
+    → ((more : List ℕ) → ws ≡ codes "get " ++ more → ⊥) → ((more : List ℕ) → ws ≡ codes "put " ++ more → ⊥) → verb_of (Some ws) ≡ None
+no_call ws begin commit get put = at (verb_of (Some ws)) refl
+  where
+    none_says : (call : Call) → Says (Some ws) call → ⊥
+    none_says Begin s = let e : ws ≡ codes "begin" = let h = s.spelled in cc in begin e
+    none_says Commit s = let e : ws ≡ codes "commit" = let h = s.spelled in cc in commit e
+    none_says (Get k) s = let e : ws ≡ codes "get " ++ decimal k = let h = s.spelled in cc in get (decimal k) e
+    none_says (Put k v) s = let e : ws ≡ codes "put " ++ (decimal k ++ 32 ∷ decimal v) = let h = s.spelled in cc in put (decimal k ++ 32 ∷ decimal v) e
+    none_says _ s = s.fits
+
+    at : (r : Option Call) → verb_of (Some ws) ≡ r → verb_of (Some ws) ≡ None
+    at None e = e
+    at (Some call) e = absurd (none_says call (verb_says (Some ws) call e))

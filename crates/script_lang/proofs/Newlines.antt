@@ -1,7 +1,7 @@
 -- The first newline among bytes.
-use Rattle.std.proofs.Common.{◌≡◌, ◌≤◌, ◌<◌, ◌+◌, ℕ, zero, suc, List, Option, Some, None, IfSome, IfNone, get_or, take, length, arith, subst, eq-eqb}
+use Rattle.std.proofs.Common.{◌≡◌, ◌≤◌, ◌<◌, ◌+◌, ℕ, zero, suc, List, Option, Some, None, IfSome, IfNone, get_or, take, length, arith, subst, sym, ◌∙◌, eq-eqb}
 use Rattle.std.proofs.lemmas.Bool.{eqb-true}
-use Rattle.std.proofs.lemmas.List.{take_all}
+use Rattle.std.proofs.lemmas.List.{take_all, take-take, length-take-le, get_or-take}
 use Rattle.memchr.specs.Find.{IsFirstByte, is_byte}
 use Rattle.script_lang.specs.Inside.{IsNewline}
 use Rattle.script_lang.specs.Text.{IsLine}
@@ -24,3 +24,15 @@ first_newline xs (Some at) first = (
   tt,
 )
 first_newline xs None first = (tt, subst IsLine (take_all (length xs) xs (omega arith)) (line_before xs (length xs) (omega arith) (λ k lt e. first k (omega arith) lt (eq-eqb (get_or xs k 0) 10 e))))
+
+-- the first newline stands among the first bytes
+pub newline_before : (xs : List ℕ) (n at : ℕ) → n ≤ length xs → IsNewline (take n xs) at → IsNewline xs at
+newline_before xs n at le is =
+    let long : length (take n xs) ≡ n = length-take-le n xs le in
+    let within : at < length (take n xs) = is.within in
+    let under : at < n = omega arith in
+    record {
+      within = omega arith;
+      line = subst IsLine (take-take at n xs (omega arith)) is.line;
+      newline = sym (get_or-take n xs at 0 under) ∙ is.newline;
+    }

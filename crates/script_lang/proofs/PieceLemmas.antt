@@ -1,6 +1,7 @@
 -- The pieces of a line, as they are written one after another.
-use Rattle.std.proofs.Common.{◌≡◌, ◌++◌, ◌∷◌, [], ℕ, List, length, take, drop, refl, sym, ap, subst, ◌∙◌}
-use Rattle.std.proofs.lemmas.List.{take_at}
+use Rattle.std.proofs.Common.{◌≡◌, ◌+◌, ◌++◌, ◌∷◌, [], ℕ, List, length, take, drop, refl, sym, ap, subst, ◌∙◌, arith}
+use Rattle.std.proofs.lemmas.List.{take_at, take-append-drop, length-append}
+use Rattle.std.proofs.lemmas.Slice.{drop-append-drop}
 use mathlib.Core.List.{append_assoc}
 use Rattle.lean_edge.specs.Outside.{IsLine, IsWholeLine}
 use Rattle.script_lang.specs.Pieces.{Holds}
@@ -38,3 +39,18 @@ held_text {first} {now} {end} text h = ap (take end) h.bytes ∙ take_at text (d
 -- a line that was written in a buffer is one line
 pub one_whole_line : (text : List ℕ) {first now : List ℕ} {end : ℕ} → IsLine text → Holds (text ++ 10 ∷ []) first now end → IsWholeLine (take end now)
 one_whole_line text is h = record { line = text; is_line = is; is = held_text (text ++ 10 ∷ []) h }
+
+-- a piece that was written in place
+pub holds_more : (prefix text first old now : List ℕ) (at end : ℕ) → Holds prefix first old at → end ≡ at + length text
+    → take at now ≡ take at old → drop at now ≡ text ++ drop end old → Holds (prefix ++ text) first now end
+holds_more prefix text first old now at end h long before written =
+    let count : at ≡ length prefix = h.count in
+    let e : end ≡ length (prefix ++ text) = omega (arith, length-append prefix text) in
+    let a : take at now ≡ prefix = before ∙ held_text prefix h in
+    let behind : drop end old ≡ drop end first = ap (drop end) h.bytes ∙ drop-append-drop (length prefix) first prefix end (omega arith) refl in
+    let b : drop at now ≡ text ++ drop (length (prefix ++ text)) first = written ∙ ap (λ (d : List ℕ). text ++ d) (behind ∙ ap (λ (n : ℕ). drop n first) e) in
+    record {
+      count = e;
+      bytes = sym (take-append-drop at now) ∙ ap (λ (x : List ℕ). x ++ drop at now) a ∙ ap (λ (x : List ℕ). prefix ++ x) b
+          ∙ sym (append_assoc prefix text (drop (length (prefix ++ text)) first));
+    }

@@ -1,5 +1,5 @@
 // Lines of a script: a session, a verb, its numbers, with one space between two words.
-ghost use Rattle.std.specs.Prelude.{◌≡◌, ◌≤◌, ◌<◌, ◌+◌, ◌-◌, ◌*◌, ◌^◌, ◌++◌, ℕ, List, Option, Some, None, Ok, IfOk, IfErr, IfSome, IfNone, length, if◌then◌else◌};
+ghost use Rattle.std.specs.Prelude.{◌≡◌, ◌≤◌, ◌<◌, ◌+◌, ◌-◌, ◌*◌, ◌^◌, ◌++◌, ℕ, List, Option, Some, None, Ok, IfOk, IfErr, IfSome, IfNone, MatchOption, length, if◌then◌else◌};
 ghost use Rattle.script_lang.specs.Words.{first_word, after_word, digits_on, goes_on, number_of, ranged};
 ghost use Rattle.script_lang.specs.Lines.{verb_of, get_of, put_of, line_of, Spells};
 
@@ -42,8 +42,8 @@ fn parse_line(workers: u32, bytes: &[u8]) -> Option<Line>
     if bytes.len() > LINE {
         return None;
     }
-    let (session, left) = cut(bytes);
-    let session = number_in(session, 1, workers as u64 + 1)?;
+    let (session, left) = session_number(bytes)?;
+    let session = in_range(session, 1, workers as u64 + 1)?;
     let call = read_call(left?)?;
     Some(Line {
         session: session as u32,
@@ -54,26 +54,21 @@ fn parse_line(workers: u32, bytes: &[u8]) -> Option<Line>
 fn read_call(words: &[u8]) -> Option<Call>
     ensures { result ≡ verb_of (Some words.now) }
 {
-    let (verb, left) = cut(words);
-    if verb == b"begin".as_slice() {
-        return if left.is_none() {
-            Some(Call::Begin)
-        } else {
-            None
-        };
+    if words == b"begin".as_slice() {
+        return Some(Call::Begin);
     }
-    if verb == b"commit".as_slice() {
-        return if left.is_none() {
-            Some(Call::Commit)
-        } else {
-            None
-        };
+    if words == b"commit".as_slice() {
+        return Some(Call::Commit);
     }
-    if verb == b"get".as_slice() {
-        return read_get(left?);
+    if words.len() < 4 {
+        return None;
     }
-    if verb == b"put".as_slice() {
-        return read_put(left?);
+    let (verb, numbers) = words.split_at(4);
+    if verb == b"get ".as_slice() {
+        return read_get(numbers);
+    }
+    if verb == b"put ".as_slice() {
+        return read_put(numbers);
     }
     None
 }
@@ -81,8 +76,8 @@ fn read_call(words: &[u8]) -> Option<Call>
 fn read_get(words: &[u8]) -> Option<Call>
     ensures { result ≡ get_of (Some words.now) }
 {
-    let (key, left) = cut(words);
-    let key = number_in(key, 0, u64::MAX)?;
+    let (key, left) = first_number(words)?;
+    let key = in_range(key, 0, u64::MAX)?;
     if left.is_none() {
         Some(Call::Get { key })
     } else {
@@ -93,10 +88,10 @@ fn read_get(words: &[u8]) -> Option<Call>
 fn read_put(words: &[u8]) -> Option<Call>
     ensures { result ≡ put_of (Some words.now) }
 {
-    let (key, left) = cut(words);
-    let key = number_in(key, 0, u64::MAX)?;
-    let (value, left) = cut(left?);
-    let value = number_in(value, 0, 1 << 63)?;
+    let (key, left) = first_number(words)?;
+    let key = in_range(key, 0, u64::MAX)?;
+    let (value, left) = first_number(left?)?;
+    let value = in_range(value, 0, 1 << 63)?;
     if left.is_none() {
         Some(Call::Put { key, value })
     } else {
@@ -104,38 +99,68 @@ fn read_put(words: &[u8]) -> Option<Call>
     }
 }
 
-// A number from `low` up to, not including, `end`.
-fn number_in(word: &[u8], low: u64, end: u64) -> Option<u64>
-    ensures value { result ≡ ranged low end (number_of word.now) }
+// A number, if it is one from `low` up to, not including, `end`.
+fn in_range(number: u64, low: u64, end: u64) -> Option<u64>
+    ensures value { result ≡ ranged low end (Some number) }
     ensures within { IfSome result (λ n. n < end) }
 {
-    let n = number(word)?;
-    if low <= n && n < end { Some(n) } else { None }
+    if low <= number && number < end {
+        Some(number)
+    } else {
+        None
+    }
 }
 
-fn number(word: &[u8]) -> Option<u64>
-    ensures { result ≡ number_of word.now }
+// The number that the first word spells, and the bytes behind its space. Most sessions have one digit.
+#[inline(always)]
+fn session_number(line: &[u8]) -> Option<(u64, Option<&[u8]>)>
+    ensures number { IfSome result (λ r. number_of (first_word line.now) ≡ Some r.0) }
+    ensures more { IfSome result (λ r. MatchOption r.1 (after_word line.now ≡ None) (λ m. after_word line.now ≡ Some m.now)) }
+    ensures none { IfNone result (number_of (first_word line.now) ≡ None) }
 {
-    if word.is_empty() {
-        return None;
+    if line.len() > 1 && line[1] == b' ' && line[0] > b'0' && line[0] <= b'9' {
+        return Some((u64::from(line[0] - b'0'), Some(&line[2..])));
     }
-    if word[0] == b'0' {
-        return if word.len() == 1 { Some(0) } else { None };
-    }
-    digits(word)
+    first_number(line)
 }
 
-fn digits(word: &[u8]) -> Option<u64>
-    ensures { result ≡ digits_on 0 word.now }
+// The number that the first word spells, and the bytes behind its space, if there is one.
+#[inline(always)]
+fn first_number(line: &[u8]) -> Option<(u64, Option<&[u8]>)>
+    ensures number { IfSome result (λ r. number_of (first_word line.now) ≡ Some r.0) }
+    ensures more { IfSome result (λ r. MatchOption r.1 (after_word line.now ≡ None) (λ m. after_word line.now ≡ Some m.now)) }
+    ensures none { IfNone result (number_of (first_word line.now) ≡ None) }
 {
-    let mut n: u64 = 0;
-    for digit in word {
-        let Some(more) = digit_more(n, *digit) else {
-            return None;
-        };
-        n = more;
+    let mut number = 0;
+    for (i, byte) in line.iter().enumerate() {
+        if *byte == b' ' {
+            let (word, back) = line.split_at(i);
+            if !are_whole(word) {
+                return None;
+            }
+            return Some((number, Some(&back[1..])));
+        }
+        match digit_more(number, *byte) {
+            Some(more) => number = more,
+            None => return None,
+        }
     }
-    Some(n)
+    if are_whole(line) {
+        Some((number, None))
+    } else {
+        None
+    }
+}
+
+// Whether digits may stand as a number: there is one, and the first is 0 only in `0`.
+fn are_whole(digits: &[u8]) -> bool
+    ensures { number_of digits.now ≡ (if result then digits_on 0 digits.now else None) }
+{
+    match digits.len() {
+        0 => false,
+        1 => true,
+        _ => digits[0] != b'0',
+    }
 }
 
 // The number with one digit more.
@@ -147,19 +172,4 @@ fn digit_more(n: u64, digit: u8) -> Option<u64>
     }
     let tens = n.checked_mul(10)?;
     tens.checked_add((digit - 48) as u64)
-}
-
-// The bytes up to the first space, and those after it.
-fn cut(line: &[u8]) -> (&[u8], Option<&[u8]>)
-    ensures word { result.0.now ≡ first_word line.now }
-    ensures more { IfSome result.1 (λ r. after_word line.now ≡ Some r.now) }
-    ensures last { IfNone result.1 (after_word line.now ≡ None) }
-{
-    for (i, byte) in line.iter().enumerate() {
-        if *byte == b' ' {
-            let (prefix, back) = line.split_at(i);
-            return (prefix, Some(&back[1..]));
-        }
-    }
-    (line, None)
 }

@@ -15,6 +15,9 @@ use std::marker::Model;
 // The bytes that are asked for at once.
 const BLOCK: usize = 65536;
 
+// Most lines have fewer bytes, the newline counted.
+const SHORT: usize = 32;
+
 /// Reads a script line by line. The line lies in the block that was read, and is lent from there.
 #[derive(Drop)]
 pub struct LineReader {
@@ -164,11 +167,16 @@ impl LineReader {
     }
 }
 
-// The place of the first newline.
+// The place of the first newline. Most lines are short, and looked for among few bytes first.
 fn newline_in(bytes: &[u8]) -> Option<usize>
     ensures some { IfSome result (IsNewline bytes.now) }
     ensures none { IfNone result (IsLine bytes.now) }
 {
+    if bytes.len() >= SHORT {
+        if let Some(at) = memchr(b'\n', &bytes[..SHORT]) {
+            return Some(at);
+        }
+    }
     memchr(b'\n', bytes)
 }
 

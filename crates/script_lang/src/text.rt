@@ -3,9 +3,10 @@ ghost use Rattle.std.specs.Prelude.{◌≡◌, ◌≤◌, ◌+◌, ◌++◌, ◌
 ghost use Rattle.std.specs.Fmt.{decimal};
 ghost use Rattle.script_lang.specs.Pieces.{Holds, name};
 
-use itoa::Buffer;
+use itoa::write_digits;
 
 /// Puts a text behind the first `at` bytes. The answer is how many bytes stand then.
+#[inline(always)]
 pub fn put_text(into: &mut [u8], at: usize, text: &[u8]) -> usize
     requires room { at + length text.now ≤ length into.old }
     ensures end { result ≡ at + length text.now }
@@ -16,17 +17,41 @@ pub fn put_text(into: &mut [u8], at: usize, text: &[u8]) -> usize
     end
 }
 
+// How many digits a number has.
+fn digit_count(number: u64) -> usize
+    ensures { result ≡ length (decimal number) }
+{
+    let mut count = 1;
+    let mut left = number;
+    while left >= 10_000 {
+        left /= 10_000;
+        count += 4;
+    }
+    if left < 10 {
+        return count;
+    }
+    if left < 100 {
+        return count + 1;
+    }
+    if left < 1000 {
+        return count + 2;
+    }
+    count + 3
+}
+
 /// Puts a number, in decimal digits.
 pub fn put_number(into: &mut [u8], at: usize, number: u64) -> usize
     requires room { at + 20 ≤ length into.old }
     ensures end { result ≤ at + 20 }
     ensures written { (prefix first : List ℕ) → Holds prefix first into.old at → Holds (prefix ++ decimal number) first into.new result }
 {
-    let mut digits = Buffer::new();
-    put_text(into, at, digits.format(number).as_bytes())
+    let end = at + digit_count(number);
+    write_digits(number, into, end);
+    end
 }
 
 /// Puts a text, and a number behind it.
+#[inline(always)]
 pub fn put_with_number(into: &mut [u8], at: usize, text: &[u8], number: u64) -> usize
     requires room { at + length text.now + 20 ≤ length into.old }
     ensures end { result ≤ at + length text.now + 20 }
