@@ -3,3 +3,4 @@ pub mod KeyLemmas
 mod FirstLemmas
 mod RuledOutLemmas
 mod ReadLemmas
+mod RoomLemmas

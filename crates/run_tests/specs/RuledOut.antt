@@ -15,14 +15,18 @@ use Rattle.lean_disk.specs.Story.{Crash, Story, areas_of}
 use Rattle.disk_slots.specs.declared.master.Master.{Master}
 use Rattle.disk_image.specs.MasterSlots.{master_on}
 use Rattle.disk_image.specs.Shown.{Areas, image_by}
+use Rattle.core_state.specs.Openings.{Opening}
+use Rattle.core_state.specs.Events.{Event}
+use Rattle.engine_trait.specs.Limits.{AreLoads}
 use Rattle.recovery.specs.Opened.{IsGreatest}
 use Rattle.recovery.specs.Telling.{TellsAll}
-use Rattle.script_lang.specs.Lines.{line_of}
+use Rattle.script_lang.specs.Lines.{Spells, line_of}
 use Rattle.script_lang.specs.Text.{script_lines}
 use Rattle.script_lang.specs.declared.line.Line.{Line}
 use Rattle.transcripts.specs.Transcripts.{durables, first_lines}
 use Rattle.lean_shell.specs.Headline.{Survives}
 use Rattle.lean_shell.specs.Runs.{Counts, Executed}
+use Rattle.lean_shell.specs.Starts.{IsRoomOfNext}
 
 -- ## A crash loses nothing
 
@@ -95,6 +99,20 @@ EveryFirstBegin s = (base : ℕ) (counts : Counts) (later : List Done) (begin : 
 abbrev pub EveryFirstCommit : Story → Type 0
 EveryFirstCommit s = (base : ℕ) (counts : Counts) (later : List Done) (commit begin : Done) → BeginsAt s base → Executed s counts (later ++ commit ∷ begin ∷ []) →
     asked begin.outcome.deed ≡ call.Begin → asked commit.outcome.deed ≡ call.Commit → answered commit.outcome.deed ≡ answer.Committed 1 (suc base)
+
+-- ## Room
+
+-- a line of the script is a put
+pub record AsksToPut (input : List ℕ) : Type 0 where
+  pub text : List ℕ
+  pub has : Has text (script_lines input)
+  pub key : ℕ
+  pub value : ℕ
+  pub spelled : Spells 1 text (record { session = 1; call = call.Put key value })
+
+-- Where no line is one, a call that was not answered leaves no change of the tree: it loaded pages.
+abbrev pub EveryRoomIsAPuts : Type 0
+EveryRoomIsAPuts = (input : List ℕ) (g : Opening) (heard : List Done) (es : List Event) → IsRoomOfNext input g heard es → (AsksToPut input → ⊥) → AreLoads es
 
 -- ## What a disk holds
 
