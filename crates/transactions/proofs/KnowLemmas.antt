@@ -1,7 +1,7 @@
 -- What a session knows after its steps.
-use Rattle.std.proofs.Common.{◌≡◌, ◌⊎◌, ℕ, suc, ◌<◌, ◌^◌, Bool, true, false, cond, ◌==◌, List, [], ◌∷◌, ◌++◌, length, map, Option, Some, None, refl, sym, ap, ap₂, ◌∙◌, subst, inl, inr, arith, set, replicate, length-set}
+use Rattle.std.proofs.Common.{◌≡◌, ◌⊎◌, ℕ, suc, ◌<◌, ◌^◌, Bool, true, false, cond, ◌==◌, List, [], ◌∷◌, ◌++◌, length, map, Option, Some, None, refl, sym, ap, ap₂, ◌∙◌, subst, inl, inr, arith, set, length-set}
 use Rattle.std.proofs.lemmas.Bool.{cases_eq, cond-true, cond-false, eq-eqb, ne_eqb}
-use Rattle.std.proofs.lemmas.List.{get_or-set_same, get_or-set_other, get_or-replicate, length-replicate}
+use Rattle.std.proofs.lemmas.List.{get_or-set_same, get_or-set_other}
 use Rattle.map_model.specs.Lists.{upd}
 use Rattle.page_model.specs.Pairs.{find}
 use Rattle.page_model.specs.Tree.{word_or}
@@ -9,11 +9,11 @@ use Rattle.image_model.specs.Entries.{Kind, Entry, word_in}
 use Rattle.core_state.specs.States.{State, Worker, Row, start}
 use Rattle.core_state.specs.Openings.{Opening}
 use Rattle.core_state.specs.Events.{Event, Mode}
-use Rattle.core_state.specs.Needs.{holds_row, is_held_by, is_worker}
+use Rattle.core_state.specs.Needs.{holds_row, is_held_by}
 use Rattle.core_state.specs.Steps.{at_pages, at_row, begun, finished, locked, unlocked, write_entry, writes, put_back, happens, state_after, AllMet}
 use Rattle.transactions.specs.declared.session.Undo.{Undo}
 use Rattle.transactions.specs.Steps.{AreQuiet, is_half_after}
-use Rattle.transactions.specs.Memory.{Memory, Ties, Knows, IsUsual, has_row, undo_of, word_before}
+use Rattle.transactions.specs.Memory.{Memory, Ties, IsUsual, has_row, undo_of, word_before}
 use Rattle.transactions.proofs.RowLemmas.{upd_here, lock_holds, lock_alone, unlock_gone}
 use Rattle.transactions.proofs.QuietLemmas.{Same, Alike, alike_pages, quiet_run, half_more, half_same}
 use Rattle.core_state.proofs.Runs.{run_more}
@@ -136,20 +136,3 @@ locked_alone g es more w row At t = t.last.alone row ∙ (ap (λ (o : Row). is_h
 
 pub locked_holds : (g : Opening) (es more : List Event) (w row : ℕ) (mode : Mode) (At : State → Type 0) → Turn g w (Event.Lock w row mode) At es more → holds_row ((state_after g (es ++ more)).row row) w ≡ true
 locked_holds g es more w row mode At t = t.last.holds row ∙ (ap (λ (o : Row). holds_row o w) (upd_here t.mid.row row (locked (t.mid.row row) w mode)) ∙ lock_holds (t.mid.row row) w mode)
-
--- ## Where nothing has happened
-
-pub fresh : (g : Opening) (session rows : ℕ) → IsUsual g rows → is_worker g session ≡ true → Knows g [] (record { session = session; is_open = false; is_half = false; held = replicate rows false; undo = [] })
-fresh g session rows u w =
-    let size : length (replicate rows false) ≡ rows = length-replicate rows false in
-    record {
-      ties = record {
-        usual = subst (λ (n : ℕ). IsUsual g n) (sym size) u;
-        worker = w;
-        is_open = refl;
-        undo = refl;
-        held = λ i l. sym (get_or-replicate rows i false false (omega (arith, l, size)));
-        half = refl;
-      };
-      closed = λ e i l. get_or-replicate rows i false false (omega (arith, l, size));
-    }
