@@ -10,6 +10,7 @@ use Rattle.core_state.specs.Openings.{Opening}
 use Rattle.core_state.specs.Events.{Event}
 use Rattle.core_state.specs.Needs.{holds_row, is_held_by, may, may_hold}
 use Rattle.core_state.specs.Steps.{at_pages, at_row, begun, finished, locked, unlocked, moves, write_entry, put_back, follows, happens, step, run, AllMet}
+use Rattle.transactions.specs.Kinds.{AllMay}
 use Rattle.transactions.specs.Steps.{is_step_of, AreQuiet, steps_of, is_half_after}
 use Rattle.transactions.proofs.RowLemmas.{upd_other, swap_ne, Stays, lock_stays, unlock_stays}
 
@@ -142,6 +143,10 @@ quiet_steps w (e ∷ a) q = cond-false (is_step_of w e) (e ∷ steps_of w a) (st
 pub quiet_more : (w : ℕ) (a b : List Event) → AreQuiet w a → AreQuiet w b → AreQuiet w (a ++ b)
 quiet_more w [] b p q = q
 quiet_more w (e ∷ a) b p q = (p.0, quiet_more w a b p.1 q)
+
+pub may_more : (p : Event → Bool) (a b : List Event) → AllMay p a → AllMay p b → AllMay p (a ++ b)
+may_more p [] b h k = k
+may_more p (e ∷ a) b h k = (h.0, may_more p a b h.1 k)
 
 -- ## Whether an abort is half done
 

@@ -3,8 +3,9 @@ ghost use Rattle.std.specs.Prelude.{◌≡◌, ◌<◌, ◌^◌, ℕ, true, fals
 ghost use Rattle.core_state.specs.Openings.{Opening};
 ghost use Rattle.core_state.specs.Events.{Event};
 ghost use Rattle.transactions.specs.declared.hindrance.Refusal.TheVariants.{InTransaction};
+ghost use Rattle.transactions.specs.Kinds.{in_any, in_flushes};
 ghost use Rattle.transactions.specs.Memory.{memory_of, Knows};
-ghost use Rattle.transactions.specs.Calls.{log_refusal, Declines, Begins, IsNoStep, MayBegin};
+ghost use Rattle.transactions.specs.Calls.{log_refusal, Declines, Begins, Starts, IsNoStep, IsBeginsFirst, MayBegin};
 
 use crate::hindrance::Refusal;
 use crate::places::Journal;
@@ -30,9 +31,9 @@ impl Session {
         ensures rows { (T.rows place.new ≡ length self.new.held.items) × (length self.new.held.items ≡ length self.old.held.items) }
         ensures does { (g : Opening) (es : List Event) → T.stands g es [] place.old → Knows g es (memory_of self.old)
             → MatchResult result
-            (Begins T.stands T.leaves T.alone T.cause g es place.old place.new (memory_of self.old) (memory_of self.new)
+            (Begins T.stands T.leaves T.alone in_flushes T.cause g es place.old place.new (memory_of self.old) (memory_of self.new)
             (λ p. (log_refusal (T.used p self.old.session) (T.limit p self.old.session) (T.clock_of p self.old.session) ≡ None) × (T.is_due p self.old.session ≡ false)))
-            (Declines T.stands T.leaves T.alone T.cause g es place.old place.new (memory_of self.old) (memory_of self.new) IsNoStep) }
+            (Declines T.stands T.leaves T.alone in_flushes T.cause g es place.old place.new (memory_of self.old) (memory_of self.new) IsNoStep (IsBeginsFirst self.old.session)) }
         ensures after { IfOk result (λ _. memory_of self.new ≡ record (memory_of self.old) { is_open = true; is_half = false; undo = [] }) }
         ensures same { IfErr result (λ _. self.new ≡ self.old) }
 
@@ -52,15 +53,14 @@ impl Session {
     fn begin_ready<T: Journal>(&mut self, place: &mut T) -> Result<u64, Refusal>
         requires rows { T.rows place.old ≡ length self.old.held.items }
         requires closed { self.old.is_open ≡ false }
-        requires ready { T.is_due place.old self.old.session ≡ false }
         ensures rows { (T.rows place.new ≡ length self.new.held.items) × (length self.new.held.items ≡ length self.old.held.items) }
         ensures does { (g : Opening) (es : List Event) → T.stands g es [] place.old → Knows g es (memory_of self.old)
             → MatchResult result
-            (Begins T.stands T.leaves T.alone T.cause g es place.old place.new (memory_of self.old) (memory_of self.new)
-            (λ p. (log_refusal (T.used p self.old.session) (T.limit p self.old.session) (T.clock_of p self.old.session) ≡ None) × (T.is_due p self.old.session ≡ false)))
-            (Declines T.stands T.leaves T.alone T.cause g es place.old place.new (memory_of self.old) (memory_of self.new) IsNoStep) }
+            (Starts T.stands T.leaves T.alone in_any T.cause g es place.old place.new (memory_of self.old) (memory_of self.new))
+            (Declines T.stands T.leaves T.alone in_flushes T.cause g es place.old place.new (memory_of self.old) (memory_of self.new) IsNoStep (IsBeginsFirst self.old.session)) }
         ensures after { IfOk result (λ _. memory_of self.new ≡ record (memory_of self.old) { is_open = true; is_half = false; undo = [] }) }
         ensures same { IfErr result (λ _. self.new ≡ self.old) }
+        ensures passes { IfOk result (λ _. log_refusal (T.used place.old self.old.session) (T.limit place.old self.old.session) (T.clock_of place.old self.old.session) ≡ None) }
 
         ensures cause_in_transaction { result ≡ Err InTransaction → ⊥ }
         ensures cause { IfErr result (λ r. MayBegin r (log_refusal (T.used place.new self.old.session) (T.limit place.new self.old.session) (T.clock_of place.new self.old.session))) }

@@ -4,8 +4,9 @@ ghost use Rattle.core_state.specs.Openings.{Opening};
 ghost use Rattle.core_state.specs.Events.{Event, Mode as core};
 ghost use Rattle.core_state.specs.Needs.{is_held_by};
 ghost use Rattle.core_state.specs.Steps.{state_after};
+ghost use Rattle.transactions.specs.Kinds.{in_any, in_changes};
 ghost use Rattle.transactions.specs.Memory.{memory_of, Knows, live_value, word_before};
-ghost use Rattle.transactions.specs.Calls.{closed_refusal, change_refusal, Declines, Gets, Puts, Dels, Changes, Removes, IsNoStep, IsTry, IsHindrance};
+ghost use Rattle.transactions.specs.Calls.{closed_refusal, change_refusal, Declines, Gets, Puts, Dels, Changes, Removes, IsNoStep, IsTry, IsLocked, IsReadsFirst, IsChangesFirst, IsDelsFirst, IsHindrance};
 
 use crate::begin::log_refusal;
 use crate::hindrance::{Mode, Refusal};
@@ -72,8 +73,8 @@ impl Session {
         ensures rows { (T.rows place.new ≡ length self.new.held.items) × (length self.new.held.items ≡ length self.old.held.items) }
         ensures does { (g : Opening) (es : List Event) → T.stands g es [] place.old → Knows g es (memory_of self.old)
             → MatchResult result
-            (Gets T.stands T.leaves T.alone T.cause g es place.old place.new (memory_of self.old) (memory_of self.new) key)
-            (Declines T.stands T.leaves T.alone T.cause g es place.old place.new (memory_of self.old) (memory_of self.new) (IsTry self.old.session (g.row_of key) core.Shared)) }
+            (Gets T.stands T.leaves T.alone in_any T.cause g es place.old place.new (memory_of self.old) (memory_of self.new) key)
+            (Declines T.stands T.leaves T.alone in_any T.cause g es place.old place.new (memory_of self.old) (memory_of self.new) (IsTry self.old.session (g.row_of key) core.Shared) (IsLocked self.old.session (g.row_of key) core.Shared (IsReadsFirst self.old.session key))) }
         ensures same { (self.new.is_open ≡ self.old.is_open) × (self.new.is_half ≡ self.old.is_half) × (self.new.undo ≡ self.old.undo) × (self.new.count ≡ self.old.count) }
 
         ensures tested { MatchOption (closed_refusal (memory_of self.old)) (IfErr result IsHindrance) (λ r. (result ≡ Err r) × (self.new ≡ self.old) × (place.new ≡ place.old)) }
@@ -102,8 +103,8 @@ impl Session {
         ensures rows { (T.rows place.new ≡ length self.new.held.items) × (length self.new.held.items ≡ length self.old.held.items) }
         ensures does { (g : Opening) (es : List Event) → T.stands g es [] place.old → Knows g es (memory_of self.old)
             → MatchResult result
-            (Puts T.stands T.leaves T.alone T.cause g es place.old place.new (memory_of self.old) (memory_of self.new) key value)
-            (Declines T.stands T.leaves T.alone T.cause g es place.old place.new (memory_of self.old) (memory_of self.new) (IsTry self.old.session (g.row_of key) core.Alone)) }
+            (Puts T.stands T.leaves T.alone in_changes T.cause g es place.old place.new (memory_of self.old) (memory_of self.new) key value)
+            (Declines T.stands T.leaves T.alone in_changes T.cause g es place.old place.new (memory_of self.old) (memory_of self.new) (IsTry self.old.session (g.row_of key) core.Alone) (IsLocked self.old.session (g.row_of key) core.Alone (IsChangesFirst self.old.session key value))) }
         ensures same { IfErr result (λ _. (self.new.is_open ≡ self.old.is_open) × (self.new.is_half ≡ self.old.is_half) × (self.new.undo ≡ self.old.undo) × (self.new.count ≡ self.old.count)) }
 
         ensures tested { MatchOption (change_refusal (memory_of self.old) (T.used place.old self.old.session) (T.limit place.old self.old.session) (T.clock_of place.old self.old.session))
@@ -132,8 +133,8 @@ impl Session {
         ensures does { (g : Opening) (es : List Event) → T.stands g es [] place.old → Knows g es (memory_of self.old) → self.old.is_open ≡ true
             → is_held_by ((state_after g es).row (g.row_of key)).holder self.old.session ≡ true
             → MatchResult result
-            (Changes T.stands T.leaves T.alone T.cause g es place.old place.new (memory_of self.old) (memory_of self.new) key value)
-            (Declines T.stands T.leaves T.alone T.cause g es place.old place.new (memory_of self.old) (memory_of self.new) IsNoStep) }
+            (Changes T.stands T.leaves T.alone in_changes T.cause g es place.old place.new (memory_of self.old) (memory_of self.new) key value)
+            (Declines T.stands T.leaves T.alone in_changes T.cause g es place.old place.new (memory_of self.old) (memory_of self.new) IsNoStep (IsChangesFirst self.old.session key value)) }
         ensures same { IfErr result (λ _. self.new ≡ self.old) }
         ensures hindered { IfErr result IsHindrance }
     {
@@ -156,8 +157,8 @@ impl Session {
         ensures rows { (T.rows place.new ≡ length self.new.held.items) × (length self.new.held.items ≡ length self.old.held.items) }
         ensures does { (g : Opening) (es : List Event) → T.stands g es [] place.old → Knows g es (memory_of self.old)
             → MatchResult result
-            (Dels T.stands T.leaves T.alone T.cause g es place.old place.new (memory_of self.old) (memory_of self.new) key)
-            (Declines T.stands T.leaves T.alone T.cause g es place.old place.new (memory_of self.old) (memory_of self.new) (IsTry self.old.session (g.row_of key) core.Alone)) }
+            (Dels T.stands T.leaves T.alone in_changes T.cause g es place.old place.new (memory_of self.old) (memory_of self.new) key)
+            (Declines T.stands T.leaves T.alone in_changes T.cause g es place.old place.new (memory_of self.old) (memory_of self.new) (IsTry self.old.session (g.row_of key) core.Alone) (IsLocked self.old.session (g.row_of key) core.Alone (IsDelsFirst self.old.session key))) }
         ensures same { IfErr result (λ _. (self.new.is_open ≡ self.old.is_open) × (self.new.is_half ≡ self.old.is_half) × (self.new.undo ≡ self.old.undo) × (self.new.count ≡ self.old.count)) }
 
         ensures tested { MatchOption (change_refusal (memory_of self.old) (T.used place.old self.old.session) (T.limit place.old self.old.session) (T.clock_of place.old self.old.session))
@@ -180,8 +181,8 @@ impl Session {
         ensures does { (g : Opening) (es : List Event) → T.stands g es [] place.old → Knows g es (memory_of self.old) → self.old.is_open ≡ true
             → is_held_by ((state_after g es).row (g.row_of key)).holder self.old.session ≡ true
             → MatchResult result
-            (Removes T.stands T.leaves T.alone T.cause g es place.old place.new (memory_of self.old) (memory_of self.new) key)
-            (Declines T.stands T.leaves T.alone T.cause g es place.old place.new (memory_of self.old) (memory_of self.new) IsNoStep) }
+            (Removes T.stands T.leaves T.alone in_changes T.cause g es place.old place.new (memory_of self.old) (memory_of self.new) key)
+            (Declines T.stands T.leaves T.alone in_changes T.cause g es place.old place.new (memory_of self.old) (memory_of self.new) IsNoStep (IsDelsFirst self.old.session key)) }
         ensures same { IfErr result (λ _. self.new ≡ self.old) }
         ensures hindered { IfErr result IsHindrance }
     {

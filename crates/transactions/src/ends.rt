@@ -5,8 +5,9 @@ ghost use Rattle.core_state.specs.Events.{Event};
 ghost use Rattle.transactions.specs.declared.hindrance.Refusal.TheVariants.{NoTransaction};
 ghost use Rattle.core_state.specs.Steps.{state_after};
 ghost use Rattle.transactions.specs.Paths.{Idles, Hindered, Breaks};
+ghost use Rattle.transactions.specs.Kinds.{in_any, in_flushes};
 ghost use Rattle.transactions.specs.Memory.{memory_of, Ties, Knows, has_row, held_rows};
-ghost use Rattle.transactions.specs.Calls.{closed_refusal, IsEnded, Declines, Refused, Ends, Commits, Aborts, Halves, Backs, Unlocked, IsNoStep, IsHindrance};
+ghost use Rattle.transactions.specs.Calls.{closed_refusal, IsEnded, Declines, Refused, Ends, Commits, Aborts, Halves, Backs, Unlocked, IsNoStep, IsCommitsFirst, IsEndsFirst, IsBacksFirst, AreBacksFirst, IsAbortsFirst, IsHindrance};
 
 use crate::hindrance::{Hindrance, Receipt, Refusal};
 use crate::places::{Index, Journal, Locks};
@@ -19,8 +20,8 @@ impl Session {
         ensures rows { (T.rows place.new ≡ length self.new.held.items) × (length self.new.held.items ≡ length self.old.held.items) }
         ensures does { (g : Opening) (es : List Event) → T.stands g es [] place.old → Knows g es (memory_of self.old)
             → MatchResult result
-            (Commits T.stands T.leaves T.alone T.cause g es place.old place.new (memory_of self.old) (memory_of self.new) (λ s. T.is_group_flushed place.new s self.old.session))
-            (Declines T.stands T.leaves T.alone T.cause g es place.old place.new (memory_of self.old) (memory_of self.new) IsNoStep) }
+            (Commits T.stands T.leaves T.alone in_flushes T.cause g es place.old place.new (memory_of self.old) (memory_of self.new) (λ s. T.group_waits place.new s self.old.session))
+            (Declines T.stands T.leaves T.alone in_flushes T.cause g es place.old place.new (memory_of self.old) (memory_of self.new) IsNoStep (IsCommitsFirst (memory_of self.old))) }
         ensures after { IfOk result (λ _. IsEnded (memory_of self.old) (memory_of self.new)) }
         ensures same { IfErr result (λ _. (self.new ≡ self.old) ⊎ (IsEnded (memory_of self.old) (memory_of self.new))) }
 
@@ -50,8 +51,8 @@ impl Session {
         ensures rows { (T.rows place.new ≡ length self.new.held.items) × (length self.new.held.items ≡ length self.old.held.items) }
         ensures does { (g : Opening) (es : List Event) → T.stands g es [] place.old → Knows g es (memory_of self.old)
             → MatchResult result
-            (λ receipt. Ends T.stands T.leaves T.alone T.cause g es place.old place.new (memory_of self.old) (memory_of self.new) commit receipt [])
-            (Refused T.stands T.leaves T.alone T.cause g es place.old place.new (memory_of self.old) (memory_of self.new) IsNoStep) }
+            (λ receipt. Ends T.stands T.leaves T.alone in_any T.cause g es place.old place.new (memory_of self.old) (memory_of self.new) commit receipt [])
+            (Refused T.stands T.leaves T.alone in_any T.cause g es place.old place.new (memory_of self.old) (memory_of self.new) IsNoStep (IsEndsFirst self.old.session commit)) }
         ensures after { IfOk result (λ _. IsEnded (memory_of self.old) (memory_of self.new)) }
         ensures same { IfErr result (λ _. self.new ≡ self.old) }
     {
@@ -73,8 +74,8 @@ impl Session {
         ensures rows { (T.rows place.new ≡ length self.new.held.items) × (length self.new.held.items ≡ length self.old.held.items) }
         ensures does { (g : Opening) (es : List Event) → T.stands g es (held_rows (memory_of self.old).held (length self.old.held.items)) place.old → Knows g es (memory_of self.old)
             → MatchResult result
-            (λ receipt. Ends T.stands T.leaves T.alone T.cause g es place.old place.new (memory_of self.old) (memory_of self.new) commit receipt [])
-            (Refused T.stands T.leaves T.alone T.cause g es place.old place.new (memory_of self.old) (memory_of self.new) IsNoStep) }
+            (λ receipt. Ends T.stands T.leaves T.alone in_any T.cause g es place.old place.new (memory_of self.old) (memory_of self.new) commit receipt [])
+            (Refused T.stands T.leaves T.alone in_any T.cause g es place.old place.new (memory_of self.old) (memory_of self.new) IsNoStep (IsEndsFirst self.old.session commit)) }
         ensures after { IfOk result (λ _. IsEnded (memory_of self.old) (memory_of self.new)) }
         ensures same { IfErr result (λ _. self.new ≡ self.old) }
     {
@@ -96,9 +97,9 @@ impl Session {
         ensures rows { (T.rows place.new ≡ length self.new.held.items) × (length self.new.held.items ≡ length self.old.held.items) }
         ensures does { (g : Opening) (es : List Event) → T.stands g es [] place.old → Knows g es (memory_of self.old)
             → MatchResult result
-            (Aborts T.stands T.leaves T.alone T.cause g es place.old place.new (memory_of self.old) (memory_of self.new))
-            (Declines T.stands T.leaves T.alone T.cause g es place.old place.new (memory_of self.old) (memory_of self.new)
-            (Halves (memory_of self.old) (memory_of self.new))) }
+            (Aborts T.stands T.leaves T.alone in_any T.cause g es place.old place.new (memory_of self.old) (memory_of self.new))
+            (Declines T.stands T.leaves T.alone in_any T.cause g es place.old place.new (memory_of self.old) (memory_of self.new)
+            (Halves (memory_of self.old) (memory_of self.new)) (IsAbortsFirst (memory_of self.old))) }
         ensures after { IfOk result (λ _. IsEnded (memory_of self.old) (memory_of self.new)) }
 
         ensures tested { MatchOption (if self.old.is_open then None else Some NoTransaction) (IfErr result IsHindrance) (λ r. (result ≡ Err r) × (self.new ≡ self.old) × (place.new ≡ place.old)) }
@@ -124,8 +125,8 @@ impl Session {
         ensures none { IfOk result (λ _. self.new.count ≡ 0) }
         ensures does { (g : Opening) (es : List Event) → T.stands g es [] place.old → Knows g es (memory_of self.old)
             → MatchResult result
-            (λ _. Backs T.stands T.leaves T.alone T.cause g es place.old place.new (memory_of self.old) (memory_of self.new))
-            (Refused T.stands T.leaves T.alone T.cause g es place.old place.new (memory_of self.old) (memory_of self.new) (Halves (memory_of self.old) (memory_of self.new))) }
+            (λ _. Backs T.stands T.leaves T.alone in_any T.cause g es place.old place.new (memory_of self.old) (memory_of self.new))
+            (Refused T.stands T.leaves T.alone in_any T.cause g es place.old place.new (memory_of self.old) (memory_of self.new) (Halves (memory_of self.old) (memory_of self.new)) (AreBacksFirst (memory_of self.old))) }
     {
         while self.count > 0 {
             if let Err(hindrance) = self.put_one_back(place) {
@@ -146,8 +147,8 @@ impl Session {
         ensures kept { IfErr result (λ _. self.new ≡ self.old) }
         ensures does { (g : Opening) (es : List Event) → T.stands g es [] place.old → Knows g es (memory_of self.old)
             → MatchResult result
-            (λ _. Backs T.stands T.leaves T.alone T.cause g es place.old place.new (memory_of self.old) (memory_of self.new))
-            (Refused T.stands T.leaves T.alone T.cause g es place.old place.new (memory_of self.old) (memory_of self.new) IsNoStep) }
+            (λ _. Backs T.stands T.leaves T.alone in_any T.cause g es place.old place.new (memory_of self.old) (memory_of self.new))
+            (Refused T.stands T.leaves T.alone in_any T.cause g es place.old place.new (memory_of self.old) (memory_of self.new) IsNoStep (IsBacksFirst self.old.session)) }
     {
         let undo = self.undo[self.count - 1];
         match place.leaf_put_back(self.session, undo.key, undo.word) {

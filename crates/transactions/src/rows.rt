@@ -5,9 +5,10 @@ ghost use Rattle.core_state.specs.Events.{Event};
 ghost use Rattle.core_state.specs.Needs.{is_held_by};
 ghost use Rattle.transactions.specs.declared.hindrance.Mode.TheVariants.{Alone};
 ghost use Rattle.core_state.specs.Steps.{state_after};
-ghost use Rattle.transactions.specs.Paths.{Any, Takes, Idles, Did, Hindered, is_fault};
+ghost use Rattle.transactions.specs.Kinds.{in_any};
+ghost use Rattle.transactions.specs.Paths.{Any, Takes, Idles, Did, Hindered, IsFirstOf, is_fault};
 ghost use Rattle.transactions.specs.Memory.{memory_of, mode_of, Ties, has_row, held_rows, HasNone};
-ghost use Rattle.transactions.specs.Calls.{Locked, Unlatched, Unlocked};
+ghost use Rattle.transactions.specs.Calls.{Locked, Unlatched, Unlocked, IsNoStep};
 
 use crate::hindrance::{Hindrance, Mode};
 use crate::places::Locks;
@@ -26,8 +27,8 @@ impl Session {
         ensures rows { (T.rows place.new ≡ length self.new.held.items) × (length self.new.held.items ≡ length self.old.held.items) }
         ensures does { (g : Opening) (es : List Event) → T.stands g es [] place.old → Ties g es (memory_of self.old)
             → MatchResult result
-            (λ _. Locked T.stands T.leaves T.alone T.cause g es place.old place.new (memory_of self.old) (memory_of self.new) key mode)
-            (λ h. Hindered T.stands T.leaves T.alone g es T.cause self.old.session [] h place.old place.new) }
+            (λ _. Locked T.stands T.leaves T.alone in_any T.cause g es place.old place.new (memory_of self.old) (memory_of self.new) key mode)
+            (λ h. Hindered T.stands T.leaves T.alone in_any g es T.cause self.old.session (IsFirstOf (Event.Lock self.old.session (g.row_of key) (mode_of mode) ∷ [])) [] h place.old place.new) }
         ensures after { IfOk result (λ _. (self.new.is_open ≡ self.old.is_open) × (self.new.is_half ≡ self.old.is_half) × (self.new.undo ≡ self.old.undo) × (self.new.count ≡ self.old.count) × (self.new.session ≡ self.old.session)) }
         ensures same { IfErr result (λ _. self.new ≡ self.old) }
     {
@@ -50,8 +51,8 @@ impl Session {
         ensures sound { IfErr result (λ h. is_fault h ≡ false) }
         ensures does { (g : Opening) (es : List Event) → T.stands g es [] place.old → Ties g es (memory_of self.now)
             → MatchResult result
-            (λ _. Idles T.stands T.leaves T.alone g es self.now.session (held_rows self.now.held.items (length self.now.held.items)) place.old place.new)
-            (Unlatched T.stands T.leaves T.alone T.cause g es place.old place.new (memory_of self.now) (memory_of self.now)) }
+            (λ _. Idles T.stands T.leaves T.alone in_any g es self.now.session (held_rows self.now.held.items (length self.now.held.items)) place.old place.new)
+            (Unlatched T.stands T.leaves T.alone in_any T.cause g es place.old place.new (memory_of self.now) (memory_of self.now)) }
     {
         for row in 0..self.held.len() {
             if let Err(hindrance) = self.latch_row(place, row) {
@@ -70,8 +71,8 @@ impl Session {
         ensures sound { IfErr result (λ h. is_fault h ≡ false) }
         ensures does { (g : Opening) (es : List Event) (latched : List ℕ) → T.stands g es latched place.old → Ties g es (memory_of self.now)
             → MatchResult result
-            (λ _. Idles T.stands T.leaves T.alone g es self.now.session (if has_row self.now.held.items row then row ∷ latched else latched) place.old place.new)
-            (λ h. Hindered T.stands T.leaves T.alone g es T.cause self.now.session latched h place.old place.new) }
+            (λ _. Idles T.stands T.leaves T.alone in_any g es self.now.session (if has_row self.now.held.items row then row ∷ latched else latched) place.old place.new)
+            (λ h. Hindered T.stands T.leaves T.alone in_any g es T.cause self.now.session IsNoStep latched h place.old place.new) }
     {
         if self.held[row] {
             return place.latch(self.session, row as u32);
@@ -85,7 +86,7 @@ impl Session {
         requires within { below ≤ length self.now.held.items }
         ensures rows { T.rows place.new ≡ T.rows place.old }
         ensures does { (g : Opening) (es : List Event) → T.stands g es (held_rows self.now.held.items below) place.old
-            → Idles T.stands T.leaves T.alone g es self.now.session [] place.old place.new }
+            → Idles T.stands T.leaves T.alone in_any g es self.now.session [] place.old place.new }
     {
         let mut row = below;
         while row > 0 {
@@ -100,7 +101,7 @@ impl Session {
         requires within { row < length self.now.held.items }
         ensures rows { T.rows place.new ≡ T.rows place.old }
         ensures does { (g : Opening) (es : List Event) (latched : List ℕ) → T.stands g es (if has_row self.now.held.items row then row ∷ latched else latched) place.old
-            → Idles T.stands T.leaves T.alone g es self.now.session latched place.old place.new }
+            → Idles T.stands T.leaves T.alone in_any g es self.now.session latched place.old place.new }
     {
         if self.held[row] {
             place.unlatch(self.session, row as u32);
@@ -114,7 +115,7 @@ impl Session {
         ensures same { (self.new.session ≡ self.old.session) × (self.new.is_open ≡ self.old.is_open) × (self.new.is_half ≡ self.old.is_half) × (self.new.count ≡ self.old.count) × (self.new.undo ≡ self.old.undo) }
         ensures none { HasNone self.new.held.items }
         ensures does { (g : Opening) (es : List Event) → T.stands g es (held_rows self.old.held.items (length self.old.held.items)) place.old → Ties g es (memory_of self.old) → self.old.is_open ≡ false
-            → Unlocked T.stands T.leaves T.alone T.cause g es place.old place.new (memory_of self.old) (memory_of self.new) (held_rows self.old.held.items (length self.old.held.items)) [] }
+            → Unlocked T.stands T.leaves T.alone in_any T.cause g es place.old place.new (memory_of self.old) (memory_of self.new) (held_rows self.old.held.items (length self.old.held.items)) [] }
     {
         let mut row = self.held.len();
         while row > 0 {
@@ -132,7 +133,7 @@ impl Session {
         ensures same { (self.new.session ≡ self.old.session) × (self.new.is_open ≡ self.old.is_open) × (self.new.is_half ≡ self.old.is_half) × (self.new.count ≡ self.old.count) × (self.new.undo ≡ self.old.undo) }
         ensures does { (g : Opening) (es : List Event) (latched : List ℕ) → T.stands g es (if has_row self.old.held.items row then row ∷ latched else latched) place.old
             → Ties g es (memory_of self.old) → self.old.is_open ≡ false
-            → Unlocked T.stands T.leaves T.alone T.cause g es place.old place.new (memory_of self.old) (memory_of self.new) (if has_row self.old.held.items row then row ∷ [] else []) latched }
+            → Unlocked T.stands T.leaves T.alone in_any T.cause g es place.old place.new (memory_of self.old) (memory_of self.new) (if has_row self.old.held.items row then row ∷ [] else []) latched }
     {
         if !self.held[row] {
             return;

@@ -1,0 +1,3 @@
+-- Read Clocks, then Laws.
+pub mod Clocks
+pub mod Laws
