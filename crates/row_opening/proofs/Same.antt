@@ -8,7 +8,7 @@ use Rattle.page_model.specs.Tree.{IsTree}
 use Rattle.core_state.specs.Openings.{Opening}
 use Rattle.core_state.specs.States.{State, start, nodes_of}
 use Rattle.core_state.specs.Events as happening
-use Rattle.core_state.specs.Needs.{is_worker, may, may_put_back}
+use Rattle.core_state.specs.Needs.{is_held_by, is_worker, may, may_put_back}
 use Rattle.core_state.specs.Steps.{happens, follows, put_back}
 use Rattle.core_state.specs.Steps as steps
 use Rattle.core_state.proofs.Runs.{run_more}
@@ -19,6 +19,8 @@ use Rattle.core_paging.proofs.Laws as paging
 use Rattle.core_paging.proofs.LogLemmas as logs
 use Rattle.core_paging.specs.Logs.{LogsWithin}
 use Rattle.core_index.proofs.Legal as index
+use Rattle.core_index.proofs.UndoLemmas as undo
+use Rattle.core_index.specs.Undo.{EachUndo}
 use Rattle.row_words.specs.declared.event.Event.{Event}
 use Rattle.row_words.specs.declared.given.Given.{Given}
 use Rattle.row_words.specs.Moments.{Moment, event_of, events_of, first_state, first_moment}
@@ -157,6 +159,16 @@ module _ (x : Opening) (v : Given) (o : Opens x v) where
   holders : (s : State) → HeldByWorkers x s → HeldByWorkers (rows.opening v) s
   holders s r = record { holder = λ j w h. worker_same w (r.holder j w h); reader = λ j w h. worker_same w (r.reader j w h); apart = r.apart; log = λ j. subst (λ n. (s.row j).log ≤ n) o.workers (r.log j) }
 
+  undone : (s : State) → EachUndo x s → EachUndo (rows.opening v) s
+  undone s u w c i = let a = u w c i in record {
+    page = a.page;
+    below = subst (λ f. a.page < f.pages) o.format a.below;
+    leaf = a.leaf;
+    has = a.has;
+    holder = subst (λ f. is_held_by (s.row (f c.key)).holder w ≡ true) o.locks a.holder;
+    word = subst (λ f. c.before ≤ f.dead) o.format a.word;
+  }
+
   within : (rows.opening v).workers < 256 → (es : List happening.Event) → LogsWithin 255 (steps.run x (start x) es)
   within few es = logs.every_last_log x 255 (let w = o.workers in omega arith) (λ p. let l = o.logs p in omega arith) es
 
@@ -167,6 +179,7 @@ module _ (x : Opening) (v : Given) (o : Opens x v) where
     logs = λ few p. subst (λ s. (s.page p).last < 256) (sym (reached es)) (let l = (within few all).page p in omega arith);
     saved = λ few p. subst (λ s. (s.saved p).last < 256) (sym (reached es)) (let l = (within few all).saved p in omega arith);
     locks = subst (λ s. HeldByWorkers (rows.opening v) s) (sym (reached es)) (holders (steps.run x (start x) all) (commit.every_holder x all));
+    undo = subst (λ s. EachUndo (rows.opening v) s) (sym (reached es)) (undone (steps.run x (start x) all) (undo.every_undo x all));
   }
 
 pub every_opened : EveryOpened

@@ -7,6 +7,7 @@ use Rattle.core_state.specs.Needs.{may}
 use Rattle.core_state.specs.States.{State, nodes_of, start}
 use Rattle.core_state.specs.Steps.{state_after}
 use Rattle.core_commit.specs.Holders.{HeldByWorkers}
+use Rattle.core_index.specs.Undo.{EachUndo}
 use Rattle.core_paging.specs.Paging.{Residence}
 use Rattle.row_words.specs.declared.event.Event.{Event}
 use Rattle.row_words.specs.declared.given.Given.{Given}
@@ -25,7 +26,8 @@ pub record Opens (x : Opening) (v : Given) : Type 0 where
   pub first : start x ≡ first_state v
   pub logs : (p : ℕ) → x.last p < 256
 
--- at that moment the pages are a tree, places are in order, last logs are below 256, and workers hold the lock rows
+-- at that moment the pages are a tree, places are in order, last logs are below 256, workers hold the lock rows, and what they
+-- have still to put back is there
 pub record Opened (v : Given) (es : List Event) : Type 0 where
   pub tree : IsTree (rows.opening v).format (nodes_of (after_all v es).core)
   pub places : Residence (rows.opening v) (after_all v es).core
@@ -33,6 +35,7 @@ pub record Opened (v : Given) (es : List Event) : Type 0 where
   pub logs : (rows.opening v).workers < 256 → (p : ℕ) → ((after_all v es).core.page p).last < 256
   pub saved : (rows.opening v).workers < 256 → (p : ℕ) → ((after_all v es).core.saved p).last < 256
   pub locks : HeldByWorkers (rows.opening v) (after_all v es).core
+  pub undo : EachUndo (rows.opening v) (after_all v es).core
 
 -- so it is after every list of events
 abbrev pub EveryOpened : Type 0

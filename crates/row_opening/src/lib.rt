@@ -5,7 +5,8 @@ ghost use Rattle.row_opening.specs.Openings.{EveryNeed, EveryOpened, EveryReache
 
 /// After every list of events the pages are a tree, and where pages stand in frames is in order: one page a frame, the root hot,
 /// the parent of a hot page hot; each page's last log is below 256, where there are fewer than 256 workers; whoever holds a lock row
-/// is a worker, and a row that is held alone has no readers.
+/// is a worker, and a row that is held alone has no readers; the key of each change that a worker has still to put back has an entry
+/// in its leaf, and the worker holds the key's row alone.
 pub fn every_opened()
     ensures { EveryOpened }
 {}

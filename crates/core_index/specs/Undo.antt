@@ -1,0 +1,28 @@
+-- What a worker has still to put back is there.
+use Rattle.map_model.specs.Lists.{Has}
+use Rattle.image_model.specs.Entries.{Entry}
+use Rattle.page_model.specs.Nodes.{holds}
+use Rattle.page_model.specs.Redo.{has_key}
+use Rattle.core_state.specs.States.{State, start}
+use Rattle.core_state.specs.Openings.{Opening}
+use Rattle.core_state.specs.Events.{Event}
+use Rattle.core_state.specs.Needs.{is_held_by}
+use Rattle.core_state.specs.Steps.{run}
+use Rattle.std.specs.Prelude.{◌≡◌, ◌<◌, ◌≤◌, ℕ, true, List}
+
+-- The key of worker w's change c has an entry in its leaf, w holds the key's row alone, and a leaf can have the word before.
+pub record IsUndo (g : Opening) (s : State) (w : ℕ) (c : Entry) : Type 0 where
+  pub page : ℕ
+  pub below : page < g.format.pages
+  pub leaf : holds (s.page page).node c.key ≡ true
+  pub has : has_key c.key (s.page page).node ≡ true
+  pub holder : is_held_by (s.row (g.row_of c.key)).holder w ≡ true
+  pub word : c.before ≤ g.format.dead
+
+-- so it is with each listed change of each worker
+abbrev pub EachUndo : Opening → State → Type 0
+EachUndo g s = (w : ℕ) (c : Entry) → Has c (s.worker w).changes → IsUndo g s w c
+
+-- and after every list of events
+abbrev pub EveryUndo : Type 0
+EveryUndo = (g : Opening) (es : List Event) → EachUndo g (run g (start g) es)
