@@ -1,19 +1,18 @@
--- What a put has appended and staged.
-use Rattle.std.proofs.Common.{◌≡◌, ◌==◌, ◌/◌, ◌%◌, ◌^◌, ℕ, suc, Bool, true, false, cond, List, [], ◌∷◌, ◌++◌, refl, sym, ap, subst, ◌∙◌, eq-eqb, append-nil, append_assoc, Result}
+-- What a write has appended and staged.
+use Rattle.std.proofs.Common.{◌≡◌, ◌==◌, ◌/◌, ◌%◌, ◌^◌, ◌<◌, ℕ, suc, Bool, true, false, cond, List, [], ◌∷◌, ◌++◌, refl, sym, ap, subst, ◌∙◌, eq-eqb, append-nil, append_assoc, Result}
 use Rattle.std.proofs.lemmas.Bool.{cond-true}
 use Rattle.map_model.proofs.ListLemmas.{upd_same}
 use Rattle.page_model.specs.Pairs.{find}
 use Rattle.page_model.specs.Nodes.{holds}
 use Rattle.page_model.specs.Tree.{word_or}
-use Rattle.image_model.specs.Entries.{Contents}
+use Rattle.image_model.specs.Entries.{Contents, Entry}
 use Rattle.core_state.specs.States.{Worker, State}
-use Rattle.core_state.specs.Events as happening
 use Rattle.core_state.specs.Needs as core
-use Rattle.core_state.specs.Steps.{touch, happens}
+use Rattle.core_state.specs.Steps.{touch, happens, put_back}
 use Rattle.row_words.specs.declared.event.Event.{Event}
 use Rattle.row_words.specs.declared.event.Event.TheVariants as event
 use Rattle.row_words.specs.declared.given.Given.{Given}
-use Rattle.row_words.specs.Moments.{Moment}
+use Rattle.row_words.specs.Moments.{Moment, event_of}
 use Rattle.row_words.specs.Openings.{opening}
 use Rattle.row_words.specs.Sealed.{begun, stepped}
 use Rattle.row_words.proofs.SealedLemmas.{run_append}
@@ -22,9 +21,13 @@ use Rattle.rows_trait.specs.Views.{Shape, after_all, state, may, hold, held_at}
 use Rattle.rows_trait.specs.Turns.{Goes, Released, Ran}
 use Rattle.rows_trait.proofs.Runs.{ran_goes, ran_append}
 use Rattle.lean_proto.specs.declared.change.Changes.{Changes}
+use Rattle.lean_proto.specs.declared.change.Write.{Write}
+use Rattle.lean_proto.specs.declared.change.Write.TheVariants as write
+use Rattle.lean_proto.specs.Writes.{event_by, IsNewest, IsOf, MayWrite}
 use Rattle.lean_proto.specs.Met.{WasMet}
 use Rattle.log_record.specs.declared.record.Record.{Record}
-use Rattle.log_record.specs.declared.record.Body.TheVariants as body
+use Rattle.log_record.specs.declared.record.PageRef.{PageRef}
+use Rattle.log_record.specs.Spelling.{RefFits, BodyFits}
 use Rattle.draw_trait.specs.Clocks.{Clock, touched, drawn}
 use Rattle.draw_trait.specs.declared.draw.Unstaged.{Unstaged as Reason}
 use Rattle.btree_descent.specs.Inside.{FellShort}
@@ -33,41 +36,57 @@ use Rattle.btree_descent.specs.declared.descent.Stop.TheVariants as stop
 use Rattle.btree_descent.specs.declared.put.Put.{Put}
 use Rattle.btree_descent.specs.declared.put.Put.TheVariants.{Done, Full, Cold, Moved, Latched, RowSpent, ClockSpent, Unstaged}
 use Rattle.btree_descent.specs.declared.put.Spot.{Spot}
-use Rattle.btree_descent.specs.Trails.{ChangedIn, HadLeaf}
-use Rattle.btree_descent.specs.Puts.{clock_in, drawn_at, change_of, IsLeafAt, Onward, Changed, NotStaged, Refused, Wrote, Drew, last_after, PutCaused, IsUndisturbed}
-use Rattle.btree_descent.specs.Spots.{IsUndrawn, record_of, IsPutting, put_of}
-use Rattle.btree_descent.proofs.Spots.{place_find}
+use Rattle.btree_descent.specs.Trails.{WrittenIn, HadLeaf}
+use Rattle.btree_descent.specs.Puts.{clock_in, drawn_at, body_by, write_of, IsLeafAt, Onward, Written, Unwritten, FullBy, MetFull, Refused, WroteBy, Drew, last_after, PutCaused, IsUndisturbed}
+use Rattle.btree_descent.specs.Spots.{MayBy, IsUndrawn, record_of, IsPutting, put_of}
+use Rattle.btree_descent.proofs.Spots.{place_find, never_none, back_after}
+use Rattle.btree_descent.proofs.Calls.{sound_after}
+use Rattle.btree_descent.specs.Known.{IsSound}
 
--- the record of a change by a worker in this state, of a page with these contents
-abbrev change_in : Worker → Contents → (w p k x : ℕ) → Record
-change_in a page w p k x =
-    let b = touch w a page.gsn page.last in record { txn = b.txn; gsn = suc b.clock; body = body.Change (record { page = p; prev = page.gsn }) k (word_or (2 ^ 63) (find k page.node.pairs)) x }
+-- the record of a write by a worker in this state, of a page with these contents
+abbrev write_in : Write → Worker → Contents → (w p k x : ℕ) → Record
+write_in how a page w p k x =
+    let b = touch w a page.gsn page.last in record { txn = b.txn; gsn = suc b.clock; body = body_by how (record { page = p; prev = page.gsn }) k (word_or (2 ^ 63) (find k page.node.pairs)) x }
 
-change_is : (v : Given) (s : State) (w p k x : ℕ) → change_of (opening v) s w p k x ≡ change_in (s.worker w) (s.page p) w p k x
-change_is v s w p k x = refl
+write_is : (how : Write) (v : Given) (s : State) (w p k x : ℕ) → write_of how (opening v) s w p k x ≡ write_in how (s.worker w) (s.page p) w p k x
+write_is how v s w p k x = refl
 
--- the clock of a worker after its change
-clock_after : (v : Given) (m : Moment) (w p k x : ℕ) → core.may (opening v) m.core (happening.Event.Change w p k x) ≡ true → clock_in ((stepped v m (event.Change w p k x)).core.worker w) ≡ drawn_at w p m
+-- the numbers of a body fit
+pub body_fits : (how : Write) (leaf : PageRef) (key before after : ℕ) → RefFits leaf → key < 2 ^ 64 → before < 2 ^ 64 → after < 2 ^ 64 → BodyFits (body_by how leaf key before after)
+body_fits write.Change leaf key before after l k b a = (l, k, b, a)
+body_fits write.PutBack leaf key before after l k b a = (l, k, b, a)
+
+-- the worker's clock after its write
+happened_clock : (how : Write) (v : Given) (m : Moment) (w p k x : ℕ) → IsOf how (opening v) m.core w k x → clock_in ((happens (opening v) m.core (event_of (event_by how w p k x))).worker w) ≡ drawn_at w p m
+happened_clock write.Change v m w p k x of = ap clock_in (upd_same m.core.worker w _ w refl)
+happened_clock write.PutBack v m w p k x of = back (m.core.worker w).changes of.0
+  where
+    back : (cs : List Entry) → IsNewest k x cs → clock_in ((put_back (opening v) m.core w p cs).worker w) ≡ drawn_at w p m
+    back [] n = absurd n
+    back (c ∷ cs) n = ap clock_in (upd_same m.core.worker w _ w refl)
+
+clock_after : (how : Write) (v : Given) (m : Moment) (w p k x : ℕ) → MayWrite how (opening v) m.core w p k x → clock_in ((stepped v m (event_by how w p k x)).core.worker w) ≡ drawn_at w p m
 unfolding stepped
-clock_after v m w p k x ok =
-    let e = happening.Event.Change w p k x in
-    ap (λ (s : State). clock_in (s.worker w)) (cond-true (core.may (opening v) m.core e) (happens (opening v) m.core e) m.core ok) ∙ ap clock_in (upd_same m.core.worker w _ w refl)
+clock_after how v m w p k x ok =
+    let e = event_of (event_by how w p k x) in
+    ap (λ (s : State). clock_in (s.worker w)) (cond-true (core.may (opening v) m.core e) (happens (opening v) m.core e) m.core ok.met) ∙ happened_clock how v m w p k x ok.of
 
--- a change that was drawn for, staged, and met
+-- a write that was drawn for, staged, and met
 pub changed_at : (z : Shape) (u w : View) (row : ℕ) (c : Changes) (s : Spot) (l t : ℕ) (d : Clock) (n last : ℕ) (rs ys : List Record) (e : Clock) → IsPutting z u row c s l t d last
-    → Ran z.alone u (event.Change c.worker c.page c.key c.word ∷ []) w → WasMet z u row c.worker c.page c.key c.word w
-    → e ≡ drawn (touched l d s.prev (s.leaf.head.packed / 65536 % 256)) → n ≡ (drawn (touched l d s.prev (s.leaf.head.packed / 65536 % 256))).clock → ys ≡ record_of t n c.page s.prev c.key s.before c.word ∷ rs
-    → Changed z.alone c.worker c.key c.word s.before u rs w e ys
+    → Ran z.alone u (event_by c.how c.worker c.page c.key c.word ∷ []) w → WasMet z u row c.how c.worker c.page c.key c.word w
+    → e ≡ drawn (touched l d s.prev (s.leaf.head.packed / 65536 % 256)) → n ≡ (drawn (touched l d s.prev (s.leaf.head.packed / 65536 % 256))).clock → ys ≡ record_of c.how t n c.page s.prev c.key s.before c.word ∷ rs
+    → Written c.how z.alone c.worker c.key c.word s.before u rs w e ys
 changed_at z u w row c s l t d n last rs ys e it ran met clock number staged = record {
   page = c.page;
   past = past;
   onward = record { between = met.before; whole = refl; quiet = met.quiet };
   ran = ran;
   seen = met.seen;
-  met = subst (λ (q : Given). core.may (opening q) (after_all q past).core (happening.Event.Change c.worker c.page c.key c.word) ≡ true) (sym ran.given) met.met.may;
+  met = subst (λ (q : Given). core.may (opening q) (after_all q past).core (event_of (event_by c.how c.worker c.page c.key c.word)) ≡ true) (sym ran.given) met.met.may.met;
+  of = subst (λ (q : Given). IsOf c.how (opening q) (after_all q past).core c.worker c.key c.word) (sym ran.given) met.met.may.of;
   told = subst (λ (q : Given). s.before ≡ find c.key ((after_all q past).core.page c.page).node.pairs) (sym ran.given) (sym found ∙ ap (λ (y : Contents). find c.key y.node.pairs) (sym met.met.page));
-  staged = subst (λ (q : Given). ys ≡ change_of (opening q) (after_all q past).core c.worker c.page c.key c.word ∷ rs) (sym ran.given) (staged ∙ ap (λ r. r ∷ rs) same_record);
-  clock = clock ∙ (same_clock ∙ sym (ap (λ (q : Moment). clock_in (q.core.worker c.worker)) reached ∙ clock_after u.given m c.worker c.page c.key c.word met.met.may));
+  staged = subst (λ (q : Given). ys ≡ write_of c.how (opening q) (after_all q past).core c.worker c.page c.key c.word ∷ rs) (sym ran.given) (staged ∙ ap (λ r. r ∷ rs) same_record);
+  clock = clock ∙ (same_clock ∙ sym (ap (λ (q : Moment). clock_in (q.core.worker c.worker)) reached ∙ clock_after c.how u.given m c.worker c.page c.key c.word met.met.may));
 }
   where
     past : List Event
@@ -79,8 +98,8 @@ changed_at z u w row c s l t d n last rs ys e it ran met clock number staged = r
     found : find c.key ((state u).core.page c.page).node.pairs ≡ s.before
     found = place_find c.key ((state u).core.page c.page).node s.at s.before it.place
 
-    reached : state w ≡ stepped u.given m (event.Change c.worker c.page c.key c.word)
-    reached = (λ i. after_all (ran.given i) (met.seen i)) ∙ run_append u.given (begun u.given) (u.seen ++ met.before) (event.Change c.worker c.page c.key c.word ∷ [])
+    reached : state w ≡ stepped u.given m (event_by c.how c.worker c.page c.key c.word)
+    reached = (λ i. after_all (ran.given i) (met.seen i)) ∙ run_append u.given (begun u.given) (u.seen ++ met.before) (event_by c.how c.worker c.page c.key c.word ∷ [])
 
     same_clock : drawn (touched l d s.prev (s.leaf.head.packed / 65536 % 256)) ≡ drawn_at c.worker c.page m
     same_clock =
@@ -89,21 +108,21 @@ changed_at z u w row c s l t d n last rs ys e it ran met clock number staged = r
         let o = it.last ∙ ap (λ (y : Contents). y.last) (sym met.met.page) in
         λ i. drawn (touched (it.draws.log i) (a i) (b i) (o i))
 
-    same_record : record_of t n c.page s.prev c.key s.before c.word ≡ change_of (opening u.given) m.core c.worker c.page c.key c.word
+    same_record : record_of c.how t n c.page s.prev c.key s.before c.word ≡ write_of c.how (opening u.given) m.core c.worker c.page c.key c.word
     same_record =
         let txn = it.draws.txn ∙ ap (λ (y : Worker). y.txn) (sym met.met.worker) in
         let gsn = number ∙ ap (λ (y : Clock). y.clock) same_clock in
         let prev = it.prev ∙ ap (λ (y : Contents). y.gsn) (sym met.met.page) in
         let word = ap (word_or (2 ^ 63)) (sym found ∙ ap (λ (y : Contents). find c.key y.node.pairs) (sym met.met.page)) in
-        (λ i. record { txn = txn i; gsn = gsn i; body = body.Change (record { page = c.page; prev = prev i }) c.key (word i) c.word }) ∙ sym (change_is u.given m.core c.worker c.page c.key c.word)
+        (λ i. record { txn = txn i; gsn = gsn i; body = body_by c.how (record { page = c.page; prev = prev i }) c.key (word i) c.word }) ∙ sym (write_is c.how u.given m.core c.worker c.page c.key c.word)
 
 own_miss : (alone : Bool) (u : View) → may alone u u.actor ≡ true
 own_miss true u = refl
 own_miss false u = eq-eqb u.actor u.actor refl
 
 -- the leaf that it changed stood in the row that was held
-pub placed_at : (z : Shape) (u w : View) (row : ℕ) (c : Changes) (s : Spot) (l t : ℕ) (d : Clock) (n : ℕ) → IsPutting z u row c s l t d n → Ran z.alone u (event.Change c.worker c.page c.key c.word ∷ []) w → WasMet z u row c.worker c.page c.key c.word w
-    → ChangedIn c.worker c.key row w
+pub placed_at : (z : Shape) (u w : View) (row : ℕ) (c : Changes) (s : Spot) (l t : ℕ) (d : Clock) (n : ℕ) → IsPutting z u row c s l t d n → Ran z.alone u (event_by c.how c.worker c.page c.key c.word ∷ []) w → WasMet z u row c.how c.worker c.page c.key c.word w
+    → WrittenIn c.how c.worker c.key row w
 placed_at z u w row c s l t d n it ran met = record {
   page = c.page;
   word = c.word;
@@ -120,7 +139,7 @@ released_ran z u w row c s l t d n it r =
     ran_goes z u (event.Miss u.actor ∷ []) w (own_miss z.alone u, tt) (subst (λ es. Goes z u es w) (ap (λ h. cond h.done [] (event.Miss u.actor ∷ [])) at) r.goes)
 
 pub not_staged : (z : Shape) (u w : View) (row : ℕ) (c : Changes) (s : Spot) (l t : ℕ) (d : Clock) (last : ℕ) (rs ys : List Record) (e : Clock) → IsPutting z u row c s l t d last → Released z row u w
-    → e ≡ drawn (touched l d s.prev (s.leaf.head.packed / 65536 % 256)) → ys ≡ rs → NotStaged z.alone c.worker c.key c.word u rs w e ys
+    → e ≡ drawn (touched l d s.prev (s.leaf.head.packed / 65536 % 256)) → ys ≡ rs → Unwritten c.how z.alone c.worker c.key c.word u rs w e ys
 not_staged z u w row c s l t d last rs ys e it r clock same =
     let ran = released_ran z u w row c s l t d last it r in record {
       page = c.page;
@@ -129,7 +148,7 @@ not_staged z u w row c s l t d last rs ys e it r clock same =
       later = ran.more;
       ran = ran;
       seen = ran.seen;
-      met = subst (λ (q : Given). core.may (opening q) (after_all q u.seen).core (happening.Event.Change c.worker c.page c.key c.word) ≡ true) (sym ran.given) it.leaf.met;
+      met = subst (λ (q : Given). core.may (opening q) (after_all q u.seen).core (event_of (event_by c.how c.worker c.page c.key c.word)) ≡ true) (sym ran.given) it.leaf.met.met;
       staged = same;
       clock = subst (λ (q : Given). e ≡ drawn_at c.worker c.page (after_all q u.seen)) (sym ran.given) (clock ∙ (λ i. drawn (touched (it.draws.log i) (it.draws.clock i) (it.prev i) (it.last i))));
     }
@@ -165,36 +184,46 @@ refused_after alone worker key v u w (RowSpent row) r d = ran_append alone v [] 
 refused_after alone worker key v u w ClockSpent r d = record { ran = ran_append alone v [] u [] w r d.ran; page = d.page; row = d.row; leaf = d.leaf; spent = d.spent }
 refused_after alone worker key v u w (Unstaged x) r d = absurd d
 
--- a put that refused wrote nothing
-pub refused_wrote : (alone : Bool) (worker key word : ℕ) (v w : View) (rs now : List Record) (c : Clock) (put : Put) → Refused alone worker key v put w → Wrote alone worker key word v rs put w c now
-refused_wrote alone worker key word v w rs now c (Done before) d = absurd d
-refused_wrote alone worker key word v w rs now c (Full row) d = d
-refused_wrote alone worker key word v w rs now c (Cold page) d = d
-refused_wrote alone worker key word v w rs now c (Moved m) d = d
-refused_wrote alone worker key word v w rs now c (Latched l) d = d
-refused_wrote alone worker key word v w rs now c (RowSpent row) d = d
-refused_wrote alone worker key word v w rs now c ClockSpent d = d
-refused_wrote alone worker key word v w rs now c (Unstaged x) d = absurd d
+-- a full leaf, whichever the write is
+full_by : (how : Write) (alone : Bool) (worker key word row : ℕ) (v w : View) → may alone v worker ≡ true → IsSound v.given → MayBy how v worker key word → MetFull alone key row v w → FullBy how alone key row v w
+full_by write.Change alone worker key word row v w actor sound m d = d
+full_by write.PutBack alone worker key word row v w actor sound m d = never_none w row d.page worker key word (sound_after v w d.ran.given sound) (back_after alone v w worker key word actor d.ran m) d.leaf d.none
 
-pub wrote_after : (alone : Bool) (worker key word : ℕ) (v u w : View) (rs now : List Record) (c : Clock) (put : Put) → Ran alone v [] u → Wrote alone worker key word u rs put w c now → Wrote alone worker key word v rs put w c now
-wrote_after alone worker key word v u w rs now c (Done before) r d = record {
+-- a write that refused wrote nothing
+pub refused_wrote : (how : Write) (alone : Bool) (worker key word : ℕ) (v w : View) (rs now : List Record) (c : Clock) (put : Put) → may alone v worker ≡ true → IsSound v.given → MayBy how v worker key word → Refused alone worker key v put w → WroteBy how alone worker key word v rs put w c now
+refused_wrote how alone worker key word v w rs now c (Done before) actor sound m d = absurd d
+refused_wrote how alone worker key word v w rs now c (Full row) actor sound m d = full_by how alone worker key word row v w actor sound m d
+refused_wrote how alone worker key word v w rs now c (Cold page) actor sound m d = d
+refused_wrote how alone worker key word v w rs now c (Moved x) actor sound m d = d
+refused_wrote how alone worker key word v w rs now c (Latched l) actor sound m d = d
+refused_wrote how alone worker key word v w rs now c (RowSpent row) actor sound m d = d
+refused_wrote how alone worker key word v w rs now c ClockSpent actor sound m d = d
+refused_wrote how alone worker key word v w rs now c (Unstaged x) actor sound m d = absurd d
+
+full_after : (how : Write) (alone : Bool) (worker key row : ℕ) (v u w : View) → Ran alone v [] u → FullBy how alone key row u w → FullBy how alone key row v w
+full_after write.Change alone worker key row v u w r d = refused_after alone worker key v u w (Full row) r d
+full_after write.PutBack alone worker key row v u w r d = d
+
+pub wrote_after : (how : Write) (alone : Bool) (worker key word : ℕ) (v u w : View) (rs now : List Record) (c : Clock) (put : Put) → Ran alone v [] u → WroteBy how alone worker key word u rs put w c now → WroteBy how alone worker key word v rs put w c now
+wrote_after how alone worker key word v u w rs now c (Done before) r d = record {
   page = d.page;
   past = d.past;
   onward = onward_after alone v u d.past r d.onward;
-  ran = ran_append alone v [] u (event.Change worker d.page key word ∷ []) w r d.ran;
+  ran = ran_append alone v [] u (event_by how worker d.page key word ∷ []) w r d.ran;
   seen = d.seen;
   met = d.met;
+  of = d.of;
   told = d.told;
   staged = d.staged;
   clock = d.clock;
 }
-wrote_after alone worker key word v u w rs now c (Full row) r d = refused_after alone worker key v u w (Full row) r d
-wrote_after alone worker key word v u w rs now c (Cold page) r d = refused_after alone worker key v u w (Cold page) r d
-wrote_after alone worker key word v u w rs now c (Moved m) r d = refused_after alone worker key v u w (Moved m) r d
-wrote_after alone worker key word v u w rs now c (Latched l) r d = refused_after alone worker key v u w (Latched l) r d
-wrote_after alone worker key word v u w rs now c (RowSpent row) r d = refused_after alone worker key v u w (RowSpent row) r d
-wrote_after alone worker key word v u w rs now c ClockSpent r d = refused_after alone worker key v u w ClockSpent r d
-wrote_after alone worker key word v u w rs now c (Unstaged x) r d = record {
+wrote_after how alone worker key word v u w rs now c (Full row) r d = full_after how alone worker key row v u w r d
+wrote_after how alone worker key word v u w rs now c (Cold page) r d = refused_after alone worker key v u w (Cold page) r d
+wrote_after how alone worker key word v u w rs now c (Moved m) r d = refused_after alone worker key v u w (Moved m) r d
+wrote_after how alone worker key word v u w rs now c (Latched l) r d = refused_after alone worker key v u w (Latched l) r d
+wrote_after how alone worker key word v u w rs now c (RowSpent row) r d = refused_after alone worker key v u w (RowSpent row) r d
+wrote_after how alone worker key word v u w rs now c ClockSpent r d = refused_after alone worker key v u w ClockSpent r d
+wrote_after how alone worker key word v u w rs now c (Unstaged x) r d = record {
   page = d.page;
   past = d.past;
   onward = onward_after alone v u d.past r d.onward;
@@ -233,13 +262,13 @@ undrawn_stop (stop.Latched l) = tt
 pub stop_undrawn : {put : Put} (s : Stop) → put ≡ put_of s → IsUndrawn put
 stop_undrawn s is = subst IsUndrawn (sym is) (undrawn_stop s)
 
-wrote_stop : {alone : Bool} {worker key : ℕ} {v w : View} (word : ℕ) (rs : List Record) (clock : Clock) (s : Stop) → FellShort alone worker key v s w → Wrote alone worker key word v rs (put_of s) w clock rs
-wrote_stop word rs clock (stop.Cold page) f = f.went
-wrote_stop word rs clock (stop.Moved m) f = f.went
-wrote_stop word rs clock (stop.Latched l) f = f.went
+wrote_stop : (how : Write) {alone : Bool} {worker key : ℕ} {v w : View} (word : ℕ) (rs : List Record) (clock : Clock) (s : Stop) → FellShort alone worker key v s w → WroteBy how alone worker key word v rs (put_of s) w clock rs
+wrote_stop how word rs clock (stop.Cold page) f = f.went
+wrote_stop how word rs clock (stop.Moved m) f = f.went
+wrote_stop how word rs clock (stop.Latched l) f = f.went
 
-pub fell_wrote : {alone : Bool} {worker key : ℕ} {v w : View} {put : Put} (word : ℕ) (rs : List Record) (clock : Clock) (s : Stop) → put ≡ put_of s → FellShort alone worker key v s w → Wrote alone worker key word v rs put w clock rs
-fell_wrote {alone} {worker} {key} {v} {w} word rs clock s is f = subst (λ p. Wrote alone worker key word v rs p w clock rs) (sym is) (wrote_stop word rs clock s f)
+pub fell_wrote : (how : Write) {alone : Bool} {worker key : ℕ} {v w : View} {put : Put} (word : ℕ) (rs : List Record) (clock : Clock) (s : Stop) → put ≡ put_of s → FellShort alone worker key v s w → WroteBy how alone worker key word v rs put w clock rs
+fell_wrote how {alone} {worker} {key} {v} {w} word rs clock s is f = subst (λ p. WroteBy how alone worker key word v rs p w clock rs) (sym is) (wrote_stop how word rs clock s f)
 
 caused_stop : {alone : Bool} {worker key : ℕ} {v w : View} (s : Stop) → FellShort alone worker key v s w → PutCaused v (put_of s) w
 caused_stop (stop.Cold page) f = tt

@@ -15,14 +15,17 @@ use Rattle.rows_trait.specs.Views.{after_all, state}
 use Rattle.rows_trait.specs.Turns.{Ran}
 use Rattle.log_record.specs.declared.record.Record.{Record}
 use Rattle.draw_trait.specs.Clocks.{Clock}
+use Rattle.lean_proto.specs.declared.change.Write.{Write}
+use Rattle.lean_proto.specs.declared.change.Write.TheVariants as write
 use Rattle.lean_proto.specs.Paths.{above}
+use Rattle.lean_proto.specs.Writes.{event_by}
 use Rattle.btree_descent.specs.declared.descent.Stop.{Stop}
 use Rattle.btree_descent.specs.declared.descent.Stop.TheVariants as stop
 use Rattle.btree_descent.specs.declared.put.Put.{Put}
 use Rattle.btree_descent.specs.declared.put.Put.TheVariants.{Done, Full, Cold, Moved, Latched, RowSpent, ClockSpent, Unstaged}
-use Rattle.btree_descent.specs.Puts.{Refused, Wrote}
+use Rattle.btree_descent.specs.Puts.{FullBy, Refused, WroteBy}
 use Rattle.btree_descent.specs.Spots.{put_of}
-use Rattle.btree_descent.specs.Trails.{IsAbove, Led, IsTrail, EndsAt, Came}
+use Rattle.btree_descent.specs.Trails.{IsAbove, Led, IsTrail, EndsBy, CameBy}
 use Rattle.btree_descent.specs.Descents.{Went}
 use Rattle.btree_descent.specs.Inside.{answer_of, StopsAt, Parted}
 use Rattle.btree_descent.proofs.Changing.{onward_after}
@@ -154,7 +157,7 @@ trail_push alone frames key row next path v u w room b t l r a = record {
     still s zero frame below x y = subst (λ (p : ℕ × ℕ). IsAbove v.given (state v) key p.0 p.1) (λ i. (upper frame x i, lower below y i)) (still_here alone key row next v w r s a)
     still s (suc n) frame below x y = t.still s n frame below (sym (above_push path next (suc n)) ∙ x) (sym (above_push path next n) ∙ y)
 
--- ## Puts
+-- ## Writes
 
 -- what was seen before a put's last steps goes on
 pub later_refused : (alone : Bool) (worker key : ℕ) (u w : View) (put : Put) → Refused alone worker key u put w → Later u w
@@ -167,40 +170,44 @@ later_refused alone worker key u w (RowSpent spent) d = later_ran alone u [] w d
 later_refused alone worker key u w ClockSpent d = later_ran alone u [] w d.ran
 later_refused alone worker key u w (Unstaged x) d = absurd d
 
-pub later_wrote : (alone : Bool) (worker key word : ℕ) (u : View) (rs : List Record) (w : View) (c : Clock) (now : List Record) (put : Put) → Wrote alone worker key word u rs put w c now → Later u w
-later_wrote alone worker key word u rs w c now (Done before) d = later_ran alone u (event.Change worker d.page key word ∷ []) w d.ran
-later_wrote alone worker key word u rs w c now (Full full) d = later_refused alone worker key u w (Full full) d
-later_wrote alone worker key word u rs w c now (Cold page) d = later_refused alone worker key u w (Cold page) d
-later_wrote alone worker key word u rs w c now (Moved m) d = later_refused alone worker key u w (Moved m) d
-later_wrote alone worker key word u rs w c now (Latched l) d = later_refused alone worker key u w (Latched l) d
-later_wrote alone worker key word u rs w c now (RowSpent spent) d = later_refused alone worker key u w (RowSpent spent) d
-later_wrote alone worker key word u rs w c now ClockSpent d = later_refused alone worker key u w ClockSpent d
-later_wrote alone worker key word u rs w c now (Unstaged x) d = later_ran alone u (event.Miss u.actor ∷ []) w d.ran
+later_full : (how : Write) (alone : Bool) (worker key row : ℕ) (u w : View) → FullBy how alone key row u w → Later u w
+later_full write.Change alone worker key row u w d = later_refused alone worker key u w (Full row) d
+later_full write.PutBack alone worker key row u w d = absurd d
+
+pub later_wrote : (how : Write) (alone : Bool) (worker key word : ℕ) (u : View) (rs : List Record) (w : View) (c : Clock) (now : List Record) (put : Put) → WroteBy how alone worker key word u rs put w c now → Later u w
+later_wrote how alone worker key word u rs w c now (Done before) d = later_ran alone u (event_by how worker d.page key word ∷ []) w d.ran
+later_wrote how alone worker key word u rs w c now (Full full) d = later_full how alone worker key full u w d
+later_wrote how alone worker key word u rs w c now (Cold page) d = later_refused alone worker key u w (Cold page) d
+later_wrote how alone worker key word u rs w c now (Moved m) d = later_refused alone worker key u w (Moved m) d
+later_wrote how alone worker key word u rs w c now (Latched l) d = later_refused alone worker key u w (Latched l) d
+later_wrote how alone worker key word u rs w c now (RowSpent spent) d = later_refused alone worker key u w (RowSpent spent) d
+later_wrote how alone worker key word u rs w c now ClockSpent d = later_refused alone worker key u w ClockSpent d
+later_wrote how alone worker key word u rs w c now (Unstaged x) d = later_ran alone u (event.Miss u.actor ∷ []) w d.ran
 
 -- where it ended, for the whole put
-pub ends_after : (alone : Bool) (worker key row : ℕ) (v u w : View) (put : Put) → Ran alone v [] u → EndsAt alone worker key row u put w → EndsAt alone worker key row v put w
-ends_after alone worker key row v u w (Done before) r d = d
-ends_after alone worker key row v u w (Full full) r d = d
-ends_after alone worker key row v u w (Cold page) r d = d
-ends_after alone worker key row v u w (Moved m) r d = tt
-ends_after alone worker key row v u w (Latched l) r d = tt
-ends_after alone worker key row v u w (RowSpent spent) r d = d
-ends_after alone worker key row v u w ClockSpent r d = d
-ends_after alone worker key row v u w (Unstaged x) r d = record { past = d.past; onward = onward_after alone v u d.past r d.onward; later = d.later; seen = d.seen; page = d.page; leaf = d.leaf }
+pub ends_after : (how : Write) (alone : Bool) (worker key row : ℕ) (v u w : View) (put : Put) → Ran alone v [] u → EndsBy how alone worker key row u put w → EndsBy how alone worker key row v put w
+ends_after how alone worker key row v u w (Done before) r d = d
+ends_after how alone worker key row v u w (Full full) r d = d
+ends_after how alone worker key row v u w (Cold page) r d = d
+ends_after how alone worker key row v u w (Moved m) r d = tt
+ends_after how alone worker key row v u w (Latched l) r d = tt
+ends_after how alone worker key row v u w (RowSpent spent) r d = d
+ends_after how alone worker key row v u w ClockSpent r d = d
+ends_after how alone worker key row v u w (Unstaged x) r d = record { past = d.past; onward = onward_after alone v u d.past r d.onward; later = d.later; seen = d.seen; page = d.page; leaf = d.leaf }
 
-stop_ends : (alone : Bool) (worker key row : ℕ) (v w : View) (s : Stop) → StopsAt key row s w → EndsAt alone worker key row v (put_of s) w
-stop_ends alone worker key row v w (stop.Cold page) d = d
-stop_ends alone worker key row v w (stop.Moved m) d = tt
-stop_ends alone worker key row v w (stop.Latched l) d = tt
+stop_ends : (how : Write) (alone : Bool) (worker key row : ℕ) (v w : View) (s : Stop) → StopsAt key row s w → EndsBy how alone worker key row v (put_of s) w
+stop_ends how alone worker key row v w (stop.Cold page) d = d
+stop_ends how alone worker key row v w (stop.Moved m) d = tt
+stop_ends how alone worker key row v w (stop.Latched l) d = tt
 
 -- a way that fell short
-pub came_short : (alone : Bool) (worker frames key : ℕ) (path : List ℕ) (v w : View) (put : Put) (s : Stop) → put ≡ put_of s → Parted (λ p. path ≡ p) alone frames key v s w → Came alone worker frames key path v put w
-came_short alone worker frames key path v w put s is d = record {
+pub came_short : (how : Write) (alone : Bool) (worker frames key : ℕ) (path : List ℕ) (v w : View) (put : Put) (s : Stop) → put ≡ put_of s → Parted (λ p. path ≡ p) alone frames key v s w → CameBy how alone worker frames key path v put w
+came_short how alone worker frames key path v w put s is d = record {
   row = d.row;
   trail = subst (λ p. IsTrail alone frames key p d.row v w) (sym d.traced.shown) d.traced.trail;
-  ends = subst (λ p. EndsAt alone worker key d.row v p w) (sym is) (stop_ends alone worker key d.row v w s d.ends);
+  ends = subst (λ p. EndsBy how alone worker key d.row v p w) (sym is) (stop_ends how alone worker key d.row v w s d.ends);
 }
 
 -- one that came to the leaf's row
-pub came_to : (alone : Bool) (worker frames key : ℕ) (path : List ℕ) (row : ℕ) (v u w : View) (put : Put) → IsTrail alone frames key path row v u → Ran alone v [] u → Later u w → EndsAt alone worker key row u put w → Came alone worker frames key path v put w
-came_to alone worker frames key path row v u w put t r l e = record { row = row; trail = trail_on alone frames key path row v u w l t; ends = ends_after alone worker key row v u w put r e }
+pub came_to : (how : Write) (alone : Bool) (worker frames key : ℕ) (path : List ℕ) (row : ℕ) (v u w : View) (put : Put) → IsTrail alone frames key path row v u → Ran alone v [] u → Later u w → EndsBy how alone worker key row u put w → CameBy how alone worker frames key path v put w
+came_to how alone worker frames key path row v u w put t r l e = record { row = row; trail = trail_on alone frames key path row v u w l t; ends = ends_after how alone worker key row v u w put r e }

@@ -109,7 +109,7 @@ fn is_node(head: &Head, key: u64) -> bool
 }
 
 // What a word says: a tombstone's says none.
-fn said(word: Option<u64>) -> Option<u64>
+pub(crate) fn said(word: Option<u64>) -> Option<u64>
     ensures { result ≡ said word }
 {
     match word {

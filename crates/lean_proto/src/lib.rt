@@ -1,4 +1,4 @@
-//! When an event may be published whatever others do meanwhile, and the stores and the publish of a change of an entry.
+//! When an event may be published whatever others do meanwhile, and the stores and the publish of a write of an entry.
 #![tactic(auto)]
 
 pub mod change;
@@ -22,8 +22,9 @@ pub fn every_ready()
     ensures { EveryReady }
 {}
 
-/// A worker that holds the lock of a key and the row of its leaf may publish the change of the key, once the words of the changed
-/// page are stored in the row. Whatever others did meanwhile, the event makes of the page what the words say.
+/// A worker that holds the lock of a key and the row of its leaf may publish the change of the key, or its newest change of it put
+/// back, once the words of the changed page are stored in the row. Whatever others did meanwhile, the event makes of the page what the
+/// words say.
 pub fn every_change()
     ensures { EveryChange }
 {}

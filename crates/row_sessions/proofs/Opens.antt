@@ -47,6 +47,7 @@ first_sound frames locks workers base pages few fit small o long es = let v = gi
   residence = at.places;
   logs = at.logs (omega arith);
   few = omega arith;
+  undo = at.undo;
 }
 
 of_worker : (g : Opening) (w : ℕ) → is_worker g w ≡ true → IsWorker g.workers w
