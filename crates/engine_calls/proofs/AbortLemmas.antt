@@ -48,7 +48,7 @@ undoes w f (Event.Put_back v p ∷ es) rest t u = (t.0, undoes w f es rest t.1 u
 undoes w f (_ ∷ es) rest t u = absurd t
 
 -- what session v has been told of these
-abbrev told_to : (w v : ℕ) → List Step → List Mark
+abbrev pub told_to : (w v : ℕ) → List Step → List Mark
 told_to w v earlier = cond (w == v) (put_backs earlier) []
 
 abbrev one : Opening → State → Event → ℕ → List Mark → List Mark
@@ -76,7 +76,7 @@ back_one g s p w v earlier m = go (may g s (Event.Put_back w p)) m (w == v) (s.w
     go false e b cs = absurd (true≢false (sym e))
 
 -- all of them
-marks_backs : (g : Opening) (s : State) (w : ℕ) (es : List Event) → PutsBack w (keep is_step es) → AllMet g s es → (v : ℕ) (earlier : List Step) → marks g s es v (told_to w v earlier) ≡ told_to w v (backs_by g s es earlier)
+pub marks_backs : (g : Opening) (s : State) (w : ℕ) (es : List Event) → PutsBack w (keep is_step es) → AllMet g s es → (v : ℕ) (earlier : List Step) → marks g s es v (told_to w v earlier) ≡ told_to w v (backs_by g s es earlier)
 marks_backs g s w [] t m v earlier = refl
 marks_backs g s w (e ∷ es) t m v earlier = go (is_step e) refl t (λ u. marks_backs g (step g s e) w es u m.1 v (back_by g s e earlier))
   where
@@ -88,7 +88,7 @@ marks_backs g s w (e ∷ es) t m v earlier = go (is_step e) refl t (λ u. marks_
         ap (marks g (step g s e) es v) (subst (λ (d : Event). may g s d ≡ true → one g s d v (told_to w v earlier) ≡ told_to w v (back_by g s d earlier)) (sym x.1) (back_one g s x.0 w v earlier) m.0) ∙ h x.2
     go false q t h = ap (marks g (step g s e) es v) (silent_one g s e w v earlier (no_step e q)) ∙ h t
 
-fresh_back : (g : Opening) (s : State) (w : ℕ) (es more : List Event) → PutsBack w (keep is_step es) → AreFresh g (run g s es) more → AreFresh g s (es ++ more)
+pub fresh_back : (g : Opening) (s : State) (w : ℕ) (es more : List Event) → PutsBack w (keep is_step es) → AreFresh g (run g s es) more → AreFresh g s (es ++ more)
 fresh_back g s w [] more t f = f
 fresh_back g s w (e ∷ es) more t f = go (is_step e) refl t (λ u. fresh_back g (step g s e) w es more u f)
   where
@@ -101,7 +101,7 @@ commits_backs false earlier = refl
 commits_backs true [] = refl
 commits_backs true (x ∷ earlier) = commits_backs true earlier
 
-no_one : (c : Bool) → ◌≡◌ {A = List Mark} [] (cond c [] [])
+pub no_one : (c : Bool) → ◌≡◌ {A = List Mark} [] (cond c [] [])
 no_one true = refl
 no_one false = refl
 

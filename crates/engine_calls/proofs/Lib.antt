@@ -11,6 +11,7 @@ pub mod PutLemmas
 pub mod ScanLemmas
 pub mod SyncLemmas
 pub mod RefusalLemmas
+pub mod HalfLemmas
 pub mod AnswerLemmas
 pub mod RunLemmas
 pub mod PlaceLemmas

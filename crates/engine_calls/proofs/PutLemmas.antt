@@ -94,6 +94,10 @@ module _ (l : Limits) (g : Opening) (group : ℕ) (xs : List Done) (before betwe
         (whole l g group xs s0 k old mid new first a b [] gone (on_log l g group xs s0 k old mid new first a b [] w i.low i.high gone on));
   }
 
+-- the word that marks a deletion is no value
+pub not_below : (n : ℕ) → ltb n n ≡ false
+not_below n = le-ltb n n (omega arith)
+
 pub put_tells : (l : Limits) (g : Opening) (group : ℕ) (xs : List Done) (before between : List Event) (w page key value : ℕ) (was : Option ℕ) (r : Record)
     → IsWrite g xs before between w page key value was r → write_call g.format key value ≡ MapCall.Put key value
     → Tells l g group xs (changed_by (Changed key value was) (taking g w key Mode.Alone before between) w page key value)
@@ -114,7 +118,7 @@ put_tells l g group xs before between w page key value was r i q =
       released = λ e. absurd (true≢false (sym e));
     }
 
-del_tells : (l : Limits) (g : Opening) (group : ℕ) (xs : List Done) (before between : List Event) (w page key was : ℕ) (r : Record)
+pub del_tells : (l : Limits) (g : Opening) (group : ℕ) (xs : List Done) (before between : List Event) (w page key was : ℕ) (r : Record)
     → IsWrite g xs before between w page key g.format.dead (Some was) r → write_call g.format key g.format.dead ≡ MapCall.Del key
     → Tells l g group xs (changed_by (Deleted key was) (taking g w key Mode.Alone before between) w page key g.format.dead)
 del_tells l g group xs before between w page key was r i q =
@@ -145,6 +149,3 @@ every_put old mid new l g group xs s0 k before between w page key b = record {
       write_laws l g group xs before between w page key g.format.dead (Some was) r i s0 k old mid new b a gone (changed_by (Deleted key was) first w page key g.format.dead) refl
       (del_tells l g group xs before between w page key was r i (ap (λ (c : Bool). cond c (MapCall.Put key g.format.dead) (MapCall.Del key)) (not_below g.format.dead)));
 }
-  where
-    not_below : (n : ℕ) → ltb n n ≡ false
-    not_below n = le-ltb n n (omega arith)

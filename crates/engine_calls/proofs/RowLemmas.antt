@@ -1,13 +1,20 @@
 -- The rows by hand, computed.
 use Rattle.std.proofs.Common.{◌≡◌, ℕ, Bool, true, false, List, [], ◌∷◌, None, refl, arith}
+use Rattle.map_model.specs.declared.call.Call.TheVariants as call
 use Rattle.core_crash.proofs.ByHand.{opening}
-use Rattle.core_calls.specs.Fronts.{Done, front}
+use Rattle.core_state.specs.Events.{Event}
+use Rattle.core_calls.specs.Fronts.{Done, front, outcomes}
 use Rattle.core_calls.proofs.HandLemmas.{free_all, limits}
+use Rattle.core_calls.specs.Refusals.{Limits}
+use Rattle.engine_calls.specs.Aborts.{IsAbort, aborted_by}
 use Rattle.engine_calls.specs.Begins.{IsBegin}
+use Rattle.engine_calls.specs.Clauses.{IsNewLine, MayCome}
 use Rattle.engine_calls.specs.Commits.{IsCommit, fills}
+use Rattle.engine_calls.specs.Halves.{IsHalved}
 use Rattle.engine_calls.specs.Parts.{behind_first}
 use Rattle.engine_calls.specs.Puts.{IsWrite}
-use Rattle.engine_calls.specs.Rows.{Rows, begun, committed, end_record, put, put_record}
+use Rattle.engine_calls.specs.Rows.{Rows, abort_record, backs, begun, committed, end_record, halved, put, put_record}
+use Rattle.engine_calls.proofs.ComingLemmas.{follows, goes_on}
 
 begin_shown : IsBegin limits opening [] [] 1 1 0
 begin_shown = record { line = tt; steps = refl; structure = refl; prepares = refl; met = (refl, tt); flushed = refl; next = refl }
@@ -48,6 +55,61 @@ commit_shown group due q = record {
   due_is = q;
 }
 
+-- an abort may come on a new line
+abort_comes : (xs : List Done) (first : List Event) → IsNewLine (outcomes xs) → MayCome xs (aborted_by opening xs call.Abort first 1 1 3 0 (5 ∷ [])).outcome
+abort_comes xs first line =
+    let x = (aborted_by opening xs call.Abort first 1 1 3 0 (5 ∷ [])).outcome in
+    record { hindered = follows (outcomes xs) x line refl; goes_on = goes_on (outcomes xs) x line }
+
+abort_shown : IsAbort opening earlier call.Abort backs 1 1 3 0 (5 ∷ []) abort_record
+abort_shown = record {
+  comes = abort_comes earlier backs (refl, refl);
+  low = omega arith;
+  high = omega arith;
+  backs = (refl, tt);
+  structure = refl;
+  syncs = tt;
+  met = (refl, (refl, (refl, tt)));
+  flushed = refl;
+  number_is = refl;
+  at_is = refl;
+  entry = refl;
+  released = free_all (front (aborted_by opening earlier call.Abort backs 1 1 3 0 (5 ∷ []) ∷ earlier)) 1 refl;
+}
+
+-- latches end at once
+abbrev soon : Limits
+soon = record limits { latch_end = 0 }
+
+halved_shown : IsHalved soon opening earlier 1 call.Abort backs
+halved_shown = record {
+  comes = record { hindered = follows (outcomes earlier) (halved opening).outcome (refl, refl) tt; goes_on = goes_on (outcomes earlier) (halved opening).outcome (refl, refl) };
+  met = (refl, tt);
+  backs = (refl, tt);
+  structure = refl;
+  cause = omega arith;
+  due = tt;
+}
+
+abbrev behind_halved : List Done
+behind_halved = halved opening ∷ earlier
+
+next_shown : IsAbort opening behind_halved call.Abort [] 1 1 3 0 (5 ∷ []) abort_record
+next_shown = record {
+  comes = abort_comes behind_halved [] (refl, refl);
+  low = omega arith;
+  high = omega arith;
+  backs = tt;
+  structure = refl;
+  syncs = tt;
+  met = (refl, (refl, tt));
+  flushed = refl;
+  number_is = refl;
+  at_is = refl;
+  entry = refl;
+  released = free_all (front (aborted_by opening behind_halved call.Abort [] 1 1 3 0 (5 ∷ []) ∷ behind_halved)) 1 refl;
+}
+
 pub rows : Rows
 rows = record {
   opening = opening;
@@ -59,4 +121,8 @@ rows = record {
   flush_shown = commit_shown 1 true refl;
   no_flush_events = refl;
   no_flush_shown = commit_shown 2 false refl;
+  abort_shown = abort_shown;
+  soon = soon;
+  halved_shown = halved_shown;
+  next_shown = next_shown;
 }

@@ -1,4 +1,4 @@
--- Read Clauses, then Begins, Puts, Commits, Aborts, Scans, Syncs and Refused; Answers for the answers alone, Parts for a call in parts, Runs for a whole run, Entries for the records, Places for sessions, Rows by hand.
+-- Read Clauses, then Begins, Puts, Commits, Aborts, Scans, Syncs, Refused and Halves; Answers for the answers alone, Parts for a call in parts, Runs for a whole run, Entries for the records, Places for sessions, Rows by hand.
 pub mod Clauses
 pub mod Parts
 pub mod Begins
@@ -8,6 +8,7 @@ pub mod Aborts
 pub mod Scans
 pub mod Syncs
 pub mod Refused
+pub mod Halves
 pub mod Answers
 pub mod Runs
 pub mod Entries

@@ -1,5 +1,6 @@
--- A begin, a put and its commit by hand, on one empty leaf: what a body shows of each can be shown.
-use Rattle.std.specs.Prelude.{◌≡◌, ◌^◌, Bool, true, false, [], ◌∷◌, None}
+-- A begin, a put and its commit or its abort by hand, on one empty leaf: what a body shows of each can be shown.
+use Rattle.std.specs.Prelude.{◌≡◌, ◌^◌, Bool, true, false, List, [], ◌∷◌, None}
+use Rattle.map_model.specs.declared.call.Call.TheVariants as call
 use Rattle.core_state.specs.Openings.{Opening}
 use Rattle.core_state.specs.Events.{Event, Mode}
 use Rattle.log_record.specs.declared.record.Body.TheVariants as body
@@ -7,8 +8,10 @@ use Rattle.log_record.specs.declared.record.Record.{Record}
 use Rattle.core_calls.specs.Deeds.{Changed}
 use Rattle.core_calls.specs.Fronts.{Done}
 use Rattle.core_calls.specs.Refusals.{Limits}
+use Rattle.engine_calls.specs.Aborts.{IsAbort, aborted_by}
 use Rattle.engine_calls.specs.Begins.{IsBegin, begun_by}
 use Rattle.engine_calls.specs.Commits.{IsCommit, committed_by}
+use Rattle.engine_calls.specs.Halves.{IsHalved, halved_by}
 use Rattle.engine_calls.specs.Puts.{IsWrite, changed_by, taking}
 
 -- session 1 begins its first transaction
@@ -31,6 +34,18 @@ committed due = committed_by [] 1 1 2 0 (5 ∷ []) due
 abbrev pub end_record : Record
 end_record = record { txn = 1; gsn = 2; body = body.Commit 0 }
 
+-- its change is put back in page 0
+abbrev pub backs : List Event
+backs = Event.Put_back 1 0 ∷ []
+
+-- the record of an abort behind that: number 3
+abbrev pub abort_record : Record
+abort_record = record { txn = 1; gsn = 3; body = body.Abort 0 }
+
+-- an abort is refused behind it
+abbrev pub halved : Opening → Done
+halved g = halved_by g (put g ∷ begun ∷ []) 1 call.Abort backs
+
 -- In an opening with two workers, one empty leaf and a lock row for each key.
 pub record Rows : Type 0 where
   pub opening : Opening
@@ -43,3 +58,9 @@ pub record Rows : Type 0 where
   pub flush_shown : IsCommit opening 1 (put opening ∷ begun ∷ []) [] 1 1 2 0 (5 ∷ []) true end_record
   pub no_flush_events : (committed false).events ≡ Event.End 1 true 0 ∷ Event.Unlock 1 5 ∷ []
   pub no_flush_shown : IsCommit opening 2 (put opening ∷ begun ∷ []) [] 1 1 2 0 (5 ∷ []) false end_record
+  -- an abort puts the change back and ends the transaction
+  pub abort_shown : IsAbort opening (put opening ∷ begun ∷ []) call.Abort backs 1 1 3 0 (5 ∷ []) abort_record
+  -- where latches end soon it may be refused behind that, and the next one goes on
+  pub soon : Limits
+  pub halved_shown : IsHalved soon opening (put opening ∷ begun ∷ []) 1 call.Abort backs
+  pub next_shown : IsAbort opening (halved opening ∷ put opening ∷ begun ∷ []) call.Abort [] 1 1 3 0 (5 ∷ []) abort_record

@@ -11,6 +11,7 @@ ghost use Rattle.engine_calls.specs.Clauses.{EveryComing};
 ghost use Rattle.engine_calls.specs.Commits.{EveryCommit};
 ghost use Rattle.engine_calls.specs.Entries.{EveryEntry};
 ghost use Rattle.engine_calls.specs.Parts.{EveryPart};
+ghost use Rattle.engine_calls.specs.Halves.{EveryHalved};
 ghost use Rattle.engine_calls.specs.Places.{EveryPlace};
 ghost use Rattle.engine_calls.specs.Puts.{EveryGet, EveryPut};
 ghost use Rattle.engine_calls.specs.Refused.{EveryRefusal};
@@ -64,6 +65,11 @@ pub fn every_abort<D: Disk>(old: &D, mid: &D, new: &D)
     core_disk::every_version();
 }
 
+/// An abort that is refused has put changes back, and may do so again.
+pub fn every_halved<D: Disk>(old: &D, new: &D)
+    ensures { EveryHalved (D.story old.now) (D.story new.now) }
+{}
+
 /// A scan: each pair that it meets, a pause, and its end.
 pub fn every_scan<D: Disk>(old: &D, new: &D)
     ensures { EveryScan (D.story old.now) (D.story new.now) }
@@ -81,7 +87,7 @@ pub fn every_refusal<D: Disk>(old: &D, new: &D)
     ensures { EveryRefusal (D.story old.now) (D.story new.now) }
 {}
 
-/// The answers of a begin, a get, a put, a commit and a refusal, whatever a disk is.
+/// The answers of a begin, a get, a put, a del, a commit, an abort and a refusal, whatever a disk is.
 pub fn every_answer()
     ensures { EveryAnswer }
 {}
@@ -117,7 +123,7 @@ pub fn every_entry()
     ensures { EveryEntry }
 {}
 
-/// A begin, a put and its commit by hand: what a body shows can be shown.
+/// A begin, a put and its commit or its abort by hand: what a body shows can be shown.
 pub fn worked_rows()
     ensures { Rows }
 {}

@@ -1,5 +1,5 @@
 -- What a call of an engine did: its answer, by which events, what its log is then, for what its disk stands, and what a crash at any moment of it leaves.
-use Rattle.std.specs.Prelude.{◌≡◌, ◌⊎◌, ◌≤◌, ◌<◌, ◌^◌, ◌++◌, ◌∷◌, ℕ, List, [], Some, length}
+use Rattle.std.specs.Prelude.{◌≡◌, ◌⊎◌, ◌≤◌, ◌<◌, ◌^◌, ◌++◌, ◌∷◌, Bool, List, [], Some, length}
 use Rattle.map_model.specs.declared.call.Answer.{Answer}
 use Rattle.map_model.specs.declared.call.Answer.TheVariants as answer
 use Rattle.map_model.specs.declared.call.Call.{Call}
@@ -17,8 +17,9 @@ use Rattle.log_record.specs.declared.record.Record.{Record}
 use Rattle.disk_image.specs.Records.{entry_of}
 use Rattle.worker_log.specs.Calls.{After, flushed_log}
 use Rattle.worker_log.specs.Logs.{Log}
-use Rattle.core_calls.specs.Deeds.{answered, asked}
-use Rattle.core_calls.specs.Fronts.{Done, front}
+use Rattle.core_calls.specs.Deeds.{answered, asked, marks_by}
+use Rattle.core_calls.specs.Fronts.{Done, front, outcomes}
+use Rattle.core_calls.specs.Marks.{is_half}
 use Rattle.core_calls.specs.Runs.{Tells}
 use Rattle.disk_runs.specs.Stands.{Known}
 use Rattle.log_calls.specs.Calls.{Anything}
@@ -26,7 +27,7 @@ use Rattle.run_crashes.specs.Lines.{CallLeaves}
 use Rattle.engine_calls.specs.Clauses.{Between, CallAnswers}
 use Rattle.engine_trait.specs.Refusals.{IsRefusedFor, refusal_in}
 use Rattle.engine_trait.specs.Limits.{AreLoads, limits}
-use Rattle.engine_trait.specs.Rooms.{IsRoomFor, MakesRoom}
+use Rattle.engine_trait.specs.Rooms.{IsRoomFor, MakesItsRoom}
 
 -- ## The log
 
@@ -56,8 +57,12 @@ Logs g s (e ∷ es) was is = (mid : Log) × LogsOne g s e was mid × Logs g (ste
 
 -- ## The answer
 
+-- an abort of session 1 has put changes back, and its transaction has not ended since
+abbrev pub is_half_done : List Done → Bool
+is_half_done xs = is_half (marks_by 1 (outcomes xs))
+
 -- Behind loads of the opening come its own events. In the state behind all of them and with the log as it is then, a refusal has its cause; it comes where
--- the state before them has one. The log has the records of its events. A put makes room for its key, and no call else.
+-- the state before them has one. The log has the records of its events. A put makes room for its key, and no call else changes the tree.
 pub record Answers (g : Opening) (xs : List Done) (x : Done) (was is : Log) : Type 0 where
   pub first : List Event
   pub own : List Event
@@ -65,10 +70,10 @@ pub record Answers (g : Opening) (xs : List Done) (x : Done) (was is : Log) : Ty
   pub loads : AreLoads first
   -- they are few, so in a run of fewer than 2^40 calls no latch is ever spent
   pub few : length x.events ≤ 2 ^ 18
-  pub refused : (why : Refusal) → answered x.outcome.deed ≡ answer.Refused why → IsRefusedFor g (state_after g (front xs ++ x.events)) is (asked x.outcome.deed) why
-  pub refuses : (why : Refusal) → refusal_in g (state_after g (front xs ++ first)) was (asked x.outcome.deed) ≡ Some why → (answered x.outcome.deed ≡ answer.Refused why) ⊎ (answered x.outcome.deed ≡ answer.Refused refusal.RowSpent)
+  pub refused : (why : Refusal) → answered x.outcome.deed ≡ answer.Refused why → IsRefusedFor g (state_after g (front xs ++ x.events)) (is_half_done xs) is (asked x.outcome.deed) why
+  pub refuses : (why : Refusal) → refusal_in g (state_after g (front xs ++ first)) (is_half_done xs) was (asked x.outcome.deed) ≡ Some why → (answered x.outcome.deed ≡ answer.Refused why) ⊎ (answered x.outcome.deed ≡ answer.Refused refusal.RowSpent)
   pub log : Logs g (state_after g (front xs ++ first)) own was is
-  pub room : (key value : ℕ) → asked x.outcome.deed ≡ call.Put key value → MakesRoom g (state_after g (front xs ++ first)) key own
+  pub room : MakesItsRoom g (state_after g (front xs ++ first)) (asked x.outcome.deed) own
 
 -- ## The disk
 
@@ -79,8 +84,8 @@ pub record Keeps (g : Opening) (xs : List Done) (x : Done) (s0 : Crash) (k : Kno
   pub master_is : answers.known.master ≡ k.master
   pub within : LeavesOnly old new (CrashIn old 2 Anything)
 
--- A device failed: a crash leaves what one before the call does, or behind some first events by which it made room; or what one after the first events of a
--- commit that would be answered so.
+-- A device failed: a crash leaves what one before the call does, or behind some first events by which it made room or put changes back; or what one after
+-- the first events of a commit that would be answered so.
 pub data Stops (g : Opening) (xs : List Done) (c : Call) (s0 : Crash) (k : Known) (old new : Story) : Type 0 where
   Nothing : (es : List Event) → IsRoomFor g xs c es → LeavesOnly old new (CallLeaves g xs es s0 k.master) → Stops g xs c s0 k old new
   Part : (x : Done) → asked x.outcome.deed ≡ c → x.outcome.session ≡ 1 → Tells limits g 1 xs x → LeavesOnly old new (CallLeaves g xs x.events s0 k.master) → Stops g xs c s0 k old new
@@ -115,7 +120,9 @@ abbrev pub IsWithin : Call → Type 0
 IsWithin call.Begin = Unit {0}
 IsWithin (call.Get key) = key < key_end
 IsWithin (call.Put key value) = (key < key_end) × (value < value_end)
+IsWithin (call.Del key) = key < key_end
 IsWithin call.Commit = Unit {0}
+IsWithin call.Abort = Unit {0}
 IsWithin _ = ⊥
 
 -- a refusal that a script is told
@@ -136,5 +143,6 @@ HasCome (answer.Begun number) = Unit {0}
 HasCome (answer.Value value) = Unit {0}
 HasCome (answer.Was value) = Unit {0}
 HasCome (answer.Committed number at) = Unit {0}
+HasCome (answer.Aborted number) = Unit {0}
 HasCome (answer.Refused why) = IsTold why
 HasCome _ = ⊥

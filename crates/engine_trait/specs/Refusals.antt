@@ -1,5 +1,5 @@
 -- When a call is refused: by the first of its tests that holds.
-use Rattle.std.specs.Prelude.{◌≡◌, ◌⊎◌, ◌==◌, ◌&&◌, ◌^◌, ℕ, Bool, not, leb, ltb, Option, Some, None, length, if◌then◌else◌}
+use Rattle.std.specs.Prelude.{◌≡◌, ◌⊎◌, ◌==◌, ◌&&◌, ◌^◌, ℕ, Bool, false, not, leb, ltb, Option, Some, None, length, if◌then◌else◌}
 use Rattle.map_model.specs.declared.call.Call.{Call}
 use Rattle.map_model.specs.declared.call.Call.TheVariants as call
 use Rattle.map_model.specs.declared.call.Refusal.{Refusal}
@@ -24,15 +24,24 @@ room_refusal g s k = if is_all_full g s k && ((nodes_of s 0).level == g.format.l
 abbrev pub log_refusal : (clock : ℕ) → Log → Option Refusal → Option Refusal
 log_refusal clock log later = if leb (limit log) (used log) then Some (LogFull (used log) (limit log)) else (if leb (2 ^ 62) clock then Some ClockSpent else later)
 
--- Session 1 asks this at a state of the core, where its log is so.
-abbrev pub refusal_in : Opening → State → Log → Call → Option Refusal
-refusal_in g s log call.Begin = if (s.worker 1).is_open then Some InTransaction else log_refusal (s.worker 1).clock log None
-refusal_in g s log (call.Get key) = if (s.worker 1).is_open then None else Some NoTransaction
-refusal_in g s log (call.Put key value) =
-    if (s.worker 1).is_open then (if leb 64 (length (s.worker 1).changes) then Some TooLong else log_refusal (s.worker 1).clock log (if is_full_for g s key then room_refusal g s key else None)) else Some NoTransaction
-refusal_in g s log call.Commit = if (s.worker 1).is_open then None else Some NoTransaction
-refusal_in g s log _ = None
+-- a call in a transaction, which is open and not half aborted
+abbrev pub in_transaction : State → (half : Bool) → Option Refusal → Option Refusal
+in_transaction s half later = if half then Some NoTransaction else (if (s.worker 1).is_open then later else Some NoTransaction)
+
+-- the transaction has all its changes
+abbrev pub change_refusal : State → Log → Option Refusal → Option Refusal
+change_refusal s log later = if leb 64 (length (s.worker 1).changes) then Some TooLong else log_refusal (s.worker 1).clock log later
+
+-- Session 1 asks this at a state of the core, where its log is so. While an abort is half done, nothing else is answered.
+abbrev pub refusal_in : Opening → State → (half : Bool) → Log → Call → Option Refusal
+refusal_in g s half log call.Begin = if (s.worker 1).is_open then Some InTransaction else log_refusal (s.worker 1).clock log None
+refusal_in g s half log (call.Get key) = in_transaction s half None
+refusal_in g s half log (call.Put key value) = in_transaction s half (change_refusal s log (if is_full_for g s key then room_refusal g s key else None))
+refusal_in g s half log (call.Del key) = in_transaction s half (change_refusal s log None)
+refusal_in g s half log call.Commit = in_transaction s half None
+refusal_in g s half log call.Abort = in_transaction s false None
+refusal_in g s half log _ = None
 
 -- so it is refused, or a latch that it needs has reached its end
-abbrev pub IsRefusedFor : Opening → State → Log → Call → Refusal → Type 0
-IsRefusedFor g s log c why = (refusal_in g s log c ≡ Some why) ⊎ (why ≡ RowSpent)
+abbrev pub IsRefusedFor : Opening → State → (half : Bool) → Log → Call → Refusal → Type 0
+IsRefusedFor g s half log c why = (refusal_in g s half log c ≡ Some why) ⊎ (why ≡ RowSpent)

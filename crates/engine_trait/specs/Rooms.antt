@@ -1,6 +1,6 @@
--- Room that a put makes for its key before it changes it.
-use Rattle.std.specs.Prelude.{◌≡◌, ℕ, suc, Bool, true, false, List, [], ◌∷◌}
-use Rattle.map_model.specs.Lists.{all}
+-- Room that a put makes for its key before it changes it, and what else a call may have done when its disk fails.
+use Rattle.std.specs.Prelude.{◌≡◌, ◌==◌, ℕ, suc, Bool, true, false, List, [], ◌∷◌}
+use Rattle.map_model.specs.Lists.{all, any}
 use Rattle.map_model.specs.declared.call.Call.{Call}
 use Rattle.map_model.specs.declared.call.Call.TheVariants as call
 use Rattle.page_model.specs.Nodes.{covers}
@@ -10,6 +10,7 @@ use Rattle.core_state.specs.Events.{Event}
 use Rattle.core_state.specs.Steps.{state_after, step}
 use Rattle.core_calls.specs.Fronts.{Done, front}
 use Rattle.core_calls.specs.Room.{free_list, full_run, is_all_full}
+use Rattle.core_calls.specs.Steps.{is_structure}
 use Rattle.engine_trait.specs.Limits.{AreLoads}
 use Rattle.engine_trait.specs.Refusals.{is_full_for}
 
@@ -46,9 +47,27 @@ abbrev pub MakesRoom : Opening → State → (key : ℕ) → List Event → Type
 MakesRoom g s key [] = Unit {0}
 MakesRoom g s key (e ∷ es) = IsNextRoom g s key e × MakesRoom g (step g s e) key es
 
+-- a put makes room for its key, and every other call leaves the tree as it is
+abbrev pub MakesItsRoom : Opening → State → Call → List Event → Type 0
+MakesItsRoom g s (call.Put key value) es = MakesRoom g s key es
+MakesItsRoom g s _ es = any is_structure es ≡ false
+
 -- ## Where the call was not answered
 
--- Behind these outcomes: by these events a put made room for its key, and any other call loaded pages.
+-- a page is loaded, a row is given up as it stood, or session 1 puts a change back
+abbrev pub puts_back : Event → Bool
+puts_back (Event.Load p f) = true
+puts_back (Event.Miss w) = true
+puts_back (Event.Put_back w p) = w == 1
+puts_back _ = false
+
+-- each of them
+abbrev pub AreBacks : List Event → Type 0
+AreBacks es = all puts_back es ≡ true
+
+-- Behind these outcomes: by these events a put made room for its key, a del took its row, an abort put changes back, and any other call loaded pages.
 abbrev pub IsRoomFor : Opening → List Done → Call → List Event → Type 0
 IsRoomFor g xs (call.Put key value) es = AreRoom es × MakesRoom g (state_after g (front xs)) key es
+IsRoomFor g xs (call.Del key) es = AreRoom es × (any is_structure es ≡ false)
+IsRoomFor g xs call.Abort es = AreBacks es
 IsRoomFor g xs _ es = AreLoads es

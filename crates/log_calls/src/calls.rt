@@ -63,6 +63,7 @@ pub fn stage_end<D: Disk>(
     ensures ranges { IsInRange log.new }
     ensures after { OnOk result (After entry.now log.old log.new) }
     ensures last { OnOk result (log.new.last ≡ entry.now.gsn) }
+    ensures failed { IsErr result → log.new ≡ log.old }
     ensures stands { OnOk result (StagesOn number entry.now log.old log.new (D.story disk.old) (D.story disk.new)) }
     ensures any_moment { KeepsMoments number log.old (D.story disk.old) (D.story disk.new) }
     ensures told { KeepsNotes number log.old (D.story disk.old) (D.story disk.new) }

@@ -52,6 +52,7 @@ pub(crate) fn stage_end_on<D: Disk>(
     requires room { used log.old + 1 ≤ log.old.blocks }
     ensures ranges { IsInRange log.new }
     ensures log { OnOk result (After entry.now log.old log.new) }
+    ensures failed { IsErr result → log.new ≡ log.old }
     ensures kept { OnOk result ((x : Account) → Tells (D.story disk.new) (1 + number) → IsKept x log.old ((D.story disk.old).area (1 + number))
         → StagesTo entry.now x log.old log.new ((D.story disk.new).area (1 + number))) }
     ensures any_moment { (x : Account) → (Tells (D.story disk.old) (1 + number) → IsKept x log.old ((D.story disk.old).area (1 + number)))

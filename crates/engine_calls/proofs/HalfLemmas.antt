@@ -1,0 +1,50 @@
+-- An abort that is refused.
+use Rattle.std.proofs.Common.{◌≡◌, ℕ, Bool, true, false, cond, ◌==◌, List, [], ◌∷◌, ◌++◌, refl, sym, ap, ◌∙◌, subst, true≢false}
+use Rattle.std.proofs.lemmas.List.{append-nil}
+use Rattle.map_model.specs.declared.call.Call.{Call}
+use Rattle.map_model.specs.Lists.{keep}
+use Rattle.core_state.specs.Openings.{Opening}
+use Rattle.core_state.specs.Events.{Event}
+use Rattle.core_state.specs.Steps.{state_after}
+use Rattle.lean_disk.specs.Story.{Story}
+use Rattle.core_calls.specs.Deeds.{put_backs}
+use Rattle.core_calls.specs.Fronts.{AreFresh, Done, front}
+use Rattle.core_calls.specs.Marks.{Mark, marks}
+use Rattle.core_calls.specs.Refusals.{Limits}
+use Rattle.core_calls.specs.Runs.{Tells}
+use Rattle.core_calls.specs.Steps.{Tries, is_step}
+use Rattle.engine_calls.specs.Aborts.{PutsBack, backs_by}
+use Rattle.engine_calls.specs.Halves.{EveryHalved, IsHalved, halved_by}
+use Rattle.engine_calls.proofs.AbortLemmas.{fresh_back, marks_backs, no_one}
+
+-- what is put back is one of what a refused call may do
+backs_try : (w : ℕ) (es : List Event) → PutsBack w es → Tries w es
+backs_try w [] t = tt
+backs_try w (Event.Put_back v p ∷ es) t = (t.0, backs_try w es t.1)
+backs_try w (_ ∷ es) t = absurd t
+
+-- nothing is told behind it
+and_none : (c : Bool) (backs : List Mark) → cond c backs [] ≡ cond c (backs ++ []) []
+and_none true backs = sym (append-nil backs)
+and_none false backs = refl
+
+pub tells : (l : Limits) (g : Opening) (group : ℕ) (xs : List Done) (w : ℕ) (c : Call) (es : List Event) → IsHalved l g xs w c es → Tells l g group xs (halved_by g xs w c es)
+tells l g group xs w c es i =
+    let s = state_after g (front xs) in
+    record {
+      met = i.met;
+      fresh = subst (AreFresh g s) (append-nil es) (fresh_back g s w es [] i.backs tt);
+      told = λ v. ap (marks g s es v) (no_one (w == v)) ∙ (marks_backs g s w es i.backs i.met v [] ∙ and_none (w == v) (put_backs (backs_by g s es [])));
+      in_turn = tt;
+      steps = (refl, tt, backs_try w (keep is_step es) i.backs);
+      hindered = i.comes.hindered;
+      goes_on = i.comes.goes_on;
+      structure = λ e. i.structure;
+      logs = i.due;
+      refused = (es, [], sym (append-nil es), i.cause);
+      released = λ e. absurd (true≢false (sym e));
+    }
+
+pub every_halved : (old new : Story) → EveryHalved old new
+every_halved old new l g group xs s0 k a w c es b x i =
+    record { answer = tells l g group xs w c es i; known = a; no_earlier = x.no_earlier; stands = x.stands; notes = x.notes; any_moment = x.any_moment }
