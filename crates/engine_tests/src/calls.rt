@@ -15,7 +15,9 @@ enum Asked {
     Begin,
     Get(u32),
     Put(u32, u32),
+    Del(u32),
     Commit,
+    Abort,
 }
 
 // Calls, and what each is answered.
@@ -72,7 +74,7 @@ macro_rules! committed {
     };
 }
 
-static CASES: [Case; 7] = [
+static CASES: [Case; 9] = [
     Case {
         name: "a put is read and committed",
         clock: 0,
@@ -93,13 +95,50 @@ static CASES: [Case; 7] = [
         moment: 2,
     },
     Case {
+        name: "a key that is deleted has no value",
+        clock: 0,
+        failing: &[],
+        steps: &[
+            Step::Begun(1),
+            Step::Call(Asked::Del(5), WAS_NONE),
+            Step::Call(Asked::Put(5, 7), WAS_NONE),
+            Step::Call(Asked::Del(5), WAS_7),
+            Step::Call(Asked::Del(5), WAS_NONE),
+            Step::Call(Asked::Get(5), NO_VALUE),
+            committed!(1, 3),
+        ],
+        bytes: 2048,
+        moment: 2,
+    },
+    Case {
+        name: "an abort puts changes back and flushes nothing",
+        clock: 0,
+        failing: &[],
+        steps: &[
+            Step::Begun(1),
+            Step::Call(Asked::Put(5, 7), WAS_NONE),
+            committed!(1, 2),
+            Step::Begun(2),
+            Step::Call(Asked::Put(5, 8), WAS_7),
+            Step::Call(Asked::Del(5), Ok(Answer::Was(Some(8)))),
+            Step::Call(Asked::Abort, Ok(Answer::Aborted { number: 2 })),
+            Step::Call(Asked::Abort, NO_TRANSACTION),
+            Step::Begun(3),
+            Step::Call(Asked::Put(5, 9), WAS_7),
+        ],
+        bytes: 2048,
+        moment: 2,
+    },
+    Case {
         name: "calls want a transaction and begin wants none",
         clock: 0,
         failing: &[],
         steps: &[
             Step::Call(Asked::Get(5), NO_TRANSACTION),
             Step::Call(Asked::Put(5, 7), NO_TRANSACTION),
+            Step::Call(Asked::Del(5), NO_TRANSACTION),
             Step::Call(Asked::Commit, NO_TRANSACTION),
+            Step::Call(Asked::Abort, NO_TRANSACTION),
             Step::Begun(1),
             Step::Call(Asked::Begin, refused!(Refusal::InTransaction)),
             committed!(1, 1),
@@ -117,6 +156,7 @@ static CASES: [Case; 7] = [
             Step::Call(Asked::Put(5, 7), WAS_NONE),
             Step::Again(63, Asked::Put(5, 7), WAS_7),
             Step::Call(Asked::Put(5, 7), refused!(Refusal::TooLong)),
+            Step::Call(Asked::Del(5), refused!(Refusal::TooLong)),
             committed!(1, 65),
         ],
         // 37 changes in the first block.
@@ -166,6 +206,7 @@ static CASES: [Case; 7] = [
             Step::Begun(1),
             Step::Call(Asked::Put(5, 7), WAS_NONE),
             Step::Call(Asked::Put(5, 7), CLOCK_SPENT),
+            Step::Call(Asked::Del(5), CLOCK_SPENT),
             committed!(1, 4611686018427387905),
             Step::Call(Asked::Begin, CLOCK_SPENT),
         ],
@@ -196,7 +237,9 @@ fn call_of(asked: &Asked) -> Call
             key: *key as u64,
             value: *value as u64,
         },
+        Asked::Del(key) => Call::Del { key: *key as u64 },
         Asked::Commit => Call::Commit,
+        Asked::Abort => Call::Abort,
     }
 }
 

@@ -3,7 +3,8 @@ use crate::cases::expect;
 use crate::disks::unused;
 use lean_disk::MemDisk;
 use lean_engine::{
-    Began, Broken, Engine, Formatted, Opened, Receipt, Ripeness, Shape, Size, Unopened, format,
+    Aborted, Began, Broken, Engine, Formatted, Opened, Receipt, Ripeness, Shape, Size, Unopened,
+    format,
 };
 use map_model::Refusal;
 use std::alloc::{AllocError, Global};
@@ -13,7 +14,9 @@ enum Step {
     Begin(Result<Began, Refusal>),
     Get(u32, Result<Option<u64>, Refusal>),
     Put(u32, u32, Result<Option<u64>, Refusal>),
+    Del(u32, Result<Option<u64>, Refusal>),
     Commit(Result<Receipt, Refusal>),
+    Abort(Result<Aborted, Refusal>),
     Ripe(Receipt, Result<Ripeness, Broken>),
     HalfDone(Result<bool, Broken>),
     Tend(Result<(), Broken>),
@@ -49,7 +52,15 @@ const NEEDY: Receipt = Receipt {
     need: 3,
 };
 
-static CASES: [Case; 3] = [
+// Of a commit behind two changes that were put back.
+const THIRD: Receipt = Receipt {
+    txn: 3,
+    log: 1,
+    gsn: 8,
+    need: 0,
+};
+
+static CASES: [Case; 4] = [
     Case {
         name: "a receipt is ripe at once",
         failing: &[],
@@ -71,12 +82,35 @@ static CASES: [Case; 3] = [
         ],
     },
     Case {
+        name: "an abort puts back what its transaction changed",
+        failing: &[],
+        steps: &[
+            Step::Begin(Ok(Began { number: 1 })),
+            Step::Put(5, 7, Ok(None)),
+            Step::Commit(Ok(FIRST)),
+            Step::Begin(Ok(Began { number: 2 })),
+            Step::Put(6, 8, Ok(None)),
+            Step::Del(5, Ok(Some(7))),
+            Step::Del(5, Ok(None)),
+            Step::Get(5, Ok(None)),
+            Step::HalfDone(Ok(false)),
+            Step::Abort(Ok(Aborted { number: 2 })),
+            Step::HalfDone(Ok(false)),
+            Step::Begin(Ok(Began { number: 3 })),
+            Step::Get(5, Ok(Some(7))),
+            Step::Get(6, Ok(None)),
+            Step::Commit(Ok(THIRD)),
+        ],
+    },
+    Case {
         name: "calls want a transaction and begin wants none",
         failing: &[],
         steps: &[
             Step::Get(5, Err(Refusal::NoTransaction)),
             Step::Put(5, 7, Err(Refusal::NoTransaction)),
+            Step::Del(5, Err(Refusal::NoTransaction)),
             Step::Commit(Err(Refusal::NoTransaction)),
+            Step::Abort(Err(Refusal::NoTransaction)),
             Step::Begin(Ok(Began { number: 1 })),
             Step::Begin(Err(Refusal::InTransaction)),
         ],
@@ -91,7 +125,9 @@ static CASES: [Case; 3] = [
             Step::Begin(Err(Refusal::Broken)),
             Step::Get(5, Err(Refusal::Broken)),
             Step::Put(5, 7, Err(Refusal::Broken)),
+            Step::Del(5, Err(Refusal::Broken)),
             Step::Commit(Err(Refusal::Broken)),
+            Step::Abort(Err(Refusal::Broken)),
             Step::Ripe(FIRST, Err(Broken)),
             Step::HalfDone(Err(Broken)),
             Step::Tend(Err(Broken)),
@@ -105,7 +141,9 @@ fn is_done(engine: &mut Engine<MemDisk>, step: &Step) -> bool {
         Step::Begin(want) => engine.begin() == *want,
         Step::Get(key, want) => engine.get(u64::from(*key)) == *want,
         Step::Put(key, value, want) => engine.put(u64::from(*key), u64::from(*value)) == *want,
+        Step::Del(key, want) => engine.del(u64::from(*key)) == *want,
         Step::Commit(want) => engine.commit() == *want,
+        Step::Abort(want) => engine.abort() == *want,
         Step::Ripe(receipt, want) => engine.ripe(receipt) == *want,
         Step::HalfDone(want) => engine.half_done() == *want,
         Step::Tend(want) => engine.tend() == *want,

@@ -11,7 +11,7 @@ use log_record::Record;
 use map_model::{Answer, Call};
 use row_engine::Stages;
 use std::alloc::Global;
-use worker_log::{Staging, WorkerLog};
+use worker_log::{DiskFault, Staging, WorkerLog};
 
 /// A `FileDisk` of the system that runs the program.
 #[derive(Drop)]
@@ -71,6 +71,10 @@ impl<'a> Disk for HostDisk<'a> {
 impl<'a> Stages for HostDisk<'a> {
     fn stage_on(&mut self, log: &mut WorkerLog, entry: &Record) -> Result<(), Staging> {
         log_calls::stage(self, log, 1, entry)
+    }
+
+    fn stage_back_on(&mut self, log: &mut WorkerLog, entry: &Record) -> Result<(), DiskFault> {
+        log_calls::stage_end(self, log, 1, entry)
     }
 }
 

@@ -1,5 +1,5 @@
 -- What a caller is told of a call.
-use Rattle.std.proofs.Common.{◌≡◌, ◌⊎◌, inl, inr, ◌↔◌, ℕ, true, false, ◌∷◌, Option, Result, Ok, Err, IfErr, IfOk, IsErr, IsErrAnd, refl, sym, ap, ◌∙◌, subst, true≢false}
+use Rattle.std.proofs.Common.{◌≡◌, ◌⊎◌, inl, inr, ◌↔◌, ℕ, Bool, true, false, ◌∷◌, Option, Result, Ok, Err, IfErr, IfOk, IsErr, IsErrAnd, refl, sym, ap, ◌∙◌, subst, true≢false}
 use Rattle.std.proofs.lemmas.Bool.{cases_Bool}
 use Rattle.map_model.specs.declared.call.Answer.{Answer}
 use Rattle.map_model.specs.declared.call.Answer.TheVariants as answer
@@ -11,13 +11,15 @@ use Rattle.lean_disk.specs.Story.{Story}
 use Rattle.engine_trait.specs.Calls.{HasCome, IsTold}
 use Rattle.engine_trait.specs.declared.calls.Unanswered.{Unanswered}
 use Rattle.engine_trait.specs.declared.calls.Unanswered.TheVariants as unanswered
-use Rattle.row_engine.specs.Calls.{CallDoes, Comes, DoesOn, begin_answer, commit_answer, get_answer, put_answer}
+use Rattle.row_engine.specs.Calls.{CallDoes, Comes, DoesOn, abort_answer, begin_answer, commit_answer, del_answer, get_answer, put_answer}
 use Rattle.row_engine.specs.Puts.{IsEarly, works_after}
 use Rattle.row_engine.specs.declared.commits.Ended.{Ended}
-use Rattle.lean_engine.specs.Calls.{Answered, Asked, Failed, MayBe, began_answer, receipt_answer, told}
+use Rattle.lean_engine.specs.Calls.{Answered, Asked, DoesIn, Failed, MayBe, aborted_answer, began_answer, receipt_answer, told}
 use Rattle.lean_engine.specs.States.{HasRun, State}
+use Rattle.lean_engine.specs.declared.calls.Aborted.{Aborted}
 use Rattle.lean_engine.specs.declared.calls.Began.{Began}
 use Rattle.lean_engine.specs.declared.receipts.Receipt.{Receipt}
+use Rattle.lean_engine.proofs.HalfLemmas.{does_in}
 
 abbrev no_device : Answer
 no_device = answer.Refused refusal.Broken
@@ -75,7 +77,7 @@ module _ {D : Type 0} (c : Call) (a : Answer) (was is : State D) (old new : Stor
       go (Broken e) = subst (λ x. IfOk (told x) (λ b. Answered c b was is old new)) (sym e) tt
       go (Fault e) = subst (λ x. IfOk (told x) (λ b. Answered c b was is old new)) (sym e) tt
       go (Came t) = subst (λ r. IfOk r (λ b. Answered c b was is old new)) (sym t.is)
-          (λ g xs run. let d = comes_of a _ _ t.is (asked.does (worked (not_broken a t.is)) g xs run.1) in (d.does, (run.0, d.ties)))
+          (λ g xs run. let d = comes_of a _ _ t.is (asked.does (worked (not_broken a t.is)) g xs run) in (d.does, d.in_run))
 
   pub come : IfOk (told a) HasCome
   come = go (kind a)
@@ -103,7 +105,7 @@ module _ {D : Type 0} (c : Call) (a : Answer) (was is : State D) (old new : Stor
       go (Came t) = absurd (no_both unanswered.Broken a (sym e ∙ t.is))
 
   pub fails : told a ≡ Err unanswered.DiskFault → Failed c was old new
-  fails e g xs run = let q = is_fault e in subst (λ x. Comes x (DoesOn g xs c a is.view was.log is.log old new) (Rattle.engine_trait.specs.Calls.Fails g xs c was.log old new)) q (asked.does (worked (λ b. fault_broken (sym q ∙ b))) g xs run.1)
+  fails e g xs run = let q = is_fault e in subst (λ x. Comes x (DoesIn g xs c a is.view was.log is.log old new) (Rattle.engine_trait.specs.Calls.Fails g xs c was.log old new)) q (asked.does (worked (λ b. fault_broken (sym q ∙ b))) g xs run)
 
   pub works : is.works ≡ true ↔ (IsErr (told a) → ⊥)
   works = (there, back)
@@ -124,14 +126,6 @@ module _ {D : Type 0} (c : Call) (a : Answer) (was is : State D) (old new : Stor
           go (Fault q) = absurd (ok (subst (λ x. IsErr (told x)) (sym q) refl))
           go (Came t) = asked.works.1 (worked (not_broken a t.is), not_fault a t.is)
 
-  -- an engine that works on stands in a run, by one outcome more
-  pub runs : (was.works ≡ true → HasRun was.view) → is.works ≡ true → HasRun is.view
-  runs stood w =
-      let p = asked.works.0 w in
-      let run = stood p.0 in
-      let d = did a (DoesOn run.opening run.outcomes c a is.view was.log is.log old new) _ p.1 (asked.does p.0 run.opening run.outcomes run.is.1) in
-      record { opening = run.opening; outcomes = d.does.done ∷ run.outcomes; is = (run.is.0, d.ties) }
-
   pub same : told a ≡ Err unanswered.Broken → is ≡ was
   same e = asked.same (is_broken e)
 
@@ -142,6 +136,33 @@ module _ {D : Type 0} (c : Call) (a : Answer) (was is : State D) (old new : Stor
   cause before now h = record { later = h.later; cause = λ e. h.cause (is_fault e); calm = λ never. h.calm (λ q. never (ap told q)) }
 
 -- ## Each call
+
+-- One call in the runs to which its view is tied; it found an abort half done, or not, and so it left it.
+pub record Called {D : Type 0} (c : Call) (a : Answer) (before now : Bool) (was is : State D) (old new : Story) : Type 0 where
+  pub does : was.works ≡ true → CallDoes c a before now was.view is.view was.log is.log old new
+  pub may : MayBe a
+  pub works : (is.works ≡ true) ↔ ((was.works ≡ true) × (a ≡ fault → ⊥))
+  pub same : a ≡ no_device → is ≡ was
+  pub broken : (a ≡ no_device) ↔ (was.works ≡ false)
+
+module _ {D : Type 0} (c : Call) (a : Answer) (before now : Bool) (was is : State D) (old new : Story) (stood : was.works ≡ true → HasRun before was.view) (called : Called c a before now was is old new) where
+  -- so in each run
+  pub asked_by : Asked c a was is old new
+  asked_by = record {
+    does = λ w. does_in c a before now was.view is.view was.log is.log old new (stood w) (called.does w);
+    may = called.may;
+    works = called.works;
+    same = called.same;
+    broken = called.broken;
+  }
+
+  -- an engine that works on stands in a run, by one outcome more
+  pub runs : is.works ≡ true → HasRun now is.view
+  runs w =
+      let p = called.works.0 w in
+      let run = stood p.0 in
+      let d = did a (DoesOn run.opening run.outcomes c a now is.view was.log is.log old new) _ p.1 (called.does p.0 run.opening run.outcomes run.ties) in
+      record { opening = run.opening; outcomes = d.does.done ∷ run.outcomes; one = run.one; ties = d.ties }
 
 stays_calm : {T : Type 0} (q : Result T Refusal) → (q ≡ Err refusal.Broken → ⊥) → (q ≡ Err refusal.DiskFault → ⊥) → works_after q ≡ true
 stays_calm (Ok x) b d = refl
@@ -191,7 +212,7 @@ record IsAnswer {T : Type 0} (f : Result T Refusal → Answer) : Type 0 where
 abbrev pub IsTellable : {T : Type 0} → Result T Refusal → Type 0
 IsTellable r = IfErr r (λ why. IsTold why ⊎ ((why ≡ refusal.Broken) ⊎ (why ≡ refusal.DiskFault)))
 
-module _ {D : Type 0} {T : Type 0} (c : Call) (f : Result T Refusal → Answer) (k : IsAnswer f) (was is : State D) (old new : Story) where
+module _ {D : Type 0} {T : Type 0} (c : Call) (f : Result T Refusal → Answer) (k : IsAnswer f) (before now : Bool) (was is : State D) (old new : Story) where
   back : (r : Result T Refusal) (q : Refusal) → f r ≡ answer.Refused q → r ≡ Err q
   back (Ok x) q e = absurd (k.apart x q e)
   back (Err why) q e = ap Err (refused_is why q (sym (k.refused why) ∙ e))
@@ -200,9 +221,9 @@ module _ {D : Type 0} {T : Type 0} (c : Call) (f : Result T Refusal → Answer) 
   may (Ok x) h = k.come x
   may (Err why) h = subst MayBe (sym (k.refused why)) (told_may why h)
 
-  asked_of : (r : Result T Refusal) → (was.works ≡ true → CallDoes c (f r) was.view is.view was.log is.log old new) → IsTellable r → (r ≡ Err refusal.Broken → is ≡ was)
-      → (is.works ≡ true) ↔ ((was.works ≡ true) × (r ≡ Err refusal.DiskFault → ⊥)) → (r ≡ Err refusal.Broken) ↔ (was.works ≡ false) → (a : Answer) → f r ≡ a → Asked c a was is old new
-  asked_of r does come same works broken a e = subst (λ x. Asked c x was is old new) e (record {
+  called_of : (r : Result T Refusal) → (was.works ≡ true → CallDoes c (f r) before now was.view is.view was.log is.log old new) → IsTellable r → (r ≡ Err refusal.Broken → is ≡ was)
+      → (is.works ≡ true) ↔ ((was.works ≡ true) × (r ≡ Err refusal.DiskFault → ⊥)) → (r ≡ Err refusal.Broken) ↔ (was.works ≡ false) → (a : Answer) → f r ≡ a → Called c a before now was is old new
+  called_of r does come same works broken a e = subst (λ x. Called c x before now was is old new) e (record {
     does = does;
     may = may r come;
     works = ((λ w. let p = works.0 w in (p.0, λ q. p.1 (back r refusal.DiskFault q))), λ p. works.1 (p.0, λ q. p.1 (ap f q ∙ k.refused refusal.DiskFault)));
@@ -228,30 +249,47 @@ gets = record { refused = λ q. refl; come = λ x. tt; apart = λ x q e. absurd 
 puts : IsAnswer put_answer
 puts = record { refused = λ q. refl; come = λ x. tt; apart = λ x q e. absurd (cc) }
 
+dels : IsAnswer del_answer
+dels = record { refused = λ q. refl; come = λ x. tt; apart = λ x q e. absurd (cc) }
+
+aborts : IsAnswer abort_answer
+aborts = record { refused = λ q. refl; come = λ x. tt; apart = λ x q e. absurd (cc) }
+
 commits : IsAnswer commit_answer
 commits = record { refused = λ q. refl; come = λ x. tt; apart = λ x q e. absurd (cc) }
 
-module _ {D : Type 0} (was is : State D) (old new : Story) where
-  pub begin_asked : (r : Result ℕ Refusal) → (was.works ≡ true → CallDoes Call.Begin (begin_answer r) was.view is.view was.log is.log old new) → IsTellable r → (r ≡ Err refusal.Broken → is ≡ was)
-      → (is.works ≡ true) ↔ ((was.works ≡ true) × (r ≡ Err refusal.DiskFault → ⊥)) → (r ≡ Err refusal.Broken) ↔ (was.works ≡ false) → (a : Answer) → begin_answer r ≡ a → Asked Call.Begin a was is old new
-  begin_asked = asked_of Call.Begin begin_answer begins was is old new
+module _ {D : Type 0} (before now : Bool) (was is : State D) (old new : Story) where
+  pub begin_called : (r : Result ℕ Refusal) → (was.works ≡ true → CallDoes Call.Begin (begin_answer r) before now was.view is.view was.log is.log old new) → IsTellable r → (r ≡ Err refusal.Broken → is ≡ was)
+      → (is.works ≡ true) ↔ ((was.works ≡ true) × (r ≡ Err refusal.DiskFault → ⊥)) → (r ≡ Err refusal.Broken) ↔ (was.works ≡ false) → (a : Answer) → begin_answer r ≡ a → Called Call.Begin a before now was is old new
+  begin_called = called_of Call.Begin begin_answer begins before now was is old new
 
-  pub get_asked : (key : ℕ) (r : Result (Option ℕ) Refusal) → (was.works ≡ true → CallDoes (Call.Get key) (get_answer r) was.view is.view was.log is.log old new) → IsTellable r → (r ≡ Err refusal.Broken → is ≡ was)
-      → (is.works ≡ true) ↔ ((was.works ≡ true) × (r ≡ Err refusal.DiskFault → ⊥)) → (r ≡ Err refusal.Broken) ↔ (was.works ≡ false) → (a : Answer) → get_answer r ≡ a → Asked (Call.Get key) a was is old new
-  get_asked key = asked_of (Call.Get key) get_answer gets was is old new
+  pub get_called : (key : ℕ) (r : Result (Option ℕ) Refusal) → (was.works ≡ true → CallDoes (Call.Get key) (get_answer r) before now was.view is.view was.log is.log old new) → IsTellable r → (r ≡ Err refusal.Broken → is ≡ was)
+      → (is.works ≡ true) ↔ ((was.works ≡ true) × (r ≡ Err refusal.DiskFault → ⊥)) → (r ≡ Err refusal.Broken) ↔ (was.works ≡ false) → (a : Answer) → get_answer r ≡ a → Called (Call.Get key) a before now was is old new
+  get_called key = called_of (Call.Get key) get_answer gets before now was is old new
 
-  pub put_asked : (key value : ℕ) (r : Result (Option ℕ) Refusal) → (was.works ≡ true → CallDoes (Call.Put key value) (put_answer r) was.view is.view was.log is.log old new) → IsTellable r → (r ≡ Err refusal.Broken → is ≡ was)
-      → (is.works ≡ true) ↔ ((was.works ≡ true) × (r ≡ Err refusal.DiskFault → ⊥)) → (r ≡ Err refusal.Broken) ↔ (was.works ≡ false) → (a : Answer) → put_answer r ≡ a → Asked (Call.Put key value) a was is old new
-  put_asked key value = asked_of (Call.Put key value) put_answer puts was is old new
+  pub put_called : (key value : ℕ) (r : Result (Option ℕ) Refusal) → (was.works ≡ true → CallDoes (Call.Put key value) (put_answer r) before now was.view is.view was.log is.log old new) → IsTellable r → (r ≡ Err refusal.Broken → is ≡ was)
+      → (is.works ≡ true) ↔ ((was.works ≡ true) × (r ≡ Err refusal.DiskFault → ⊥)) → (r ≡ Err refusal.Broken) ↔ (was.works ≡ false) → (a : Answer) → put_answer r ≡ a → Called (Call.Put key value) a before now was is old new
+  put_called key value = called_of (Call.Put key value) put_answer puts before now was is old new
 
-  pub commit_asked : (r : Result Ended Refusal) → (was.works ≡ true → CallDoes Call.Commit (commit_answer r) was.view is.view was.log is.log old new) → IsTellable r → (r ≡ Err refusal.Broken → is ≡ was)
-      → (is.works ≡ true) ↔ ((was.works ≡ true) × (r ≡ Err refusal.DiskFault → ⊥)) → (r ≡ Err refusal.Broken) ↔ (was.works ≡ false) → (a : Answer) → commit_answer r ≡ a → Asked Call.Commit a was is old new
-  commit_asked = asked_of Call.Commit commit_answer commits was is old new
+  pub commit_called : (r : Result Ended Refusal) → (was.works ≡ true → CallDoes Call.Commit (commit_answer r) before now was.view is.view was.log is.log old new) → IsTellable r → (r ≡ Err refusal.Broken → is ≡ was)
+      → (is.works ≡ true) ↔ ((was.works ≡ true) × (r ≡ Err refusal.DiskFault → ⊥)) → (r ≡ Err refusal.Broken) ↔ (was.works ≡ false) → (a : Answer) → commit_answer r ≡ a → Called Call.Commit a before now was is old new
+  commit_called = called_of Call.Commit commit_answer commits before now was is old new
+
+  pub del_called : (key : ℕ) (r : Result (Option ℕ) Refusal) → (was.works ≡ true → CallDoes (Call.Del key) (del_answer r) before now was.view is.view was.log is.log old new) → IsTellable r → (r ≡ Err refusal.Broken → is ≡ was)
+      → (is.works ≡ true) ↔ ((was.works ≡ true) × (r ≡ Err refusal.DiskFault → ⊥)) → (r ≡ Err refusal.Broken) ↔ (was.works ≡ false) → (a : Answer) → del_answer r ≡ a → Called (Call.Del key) a before now was is old new
+  del_called key = called_of (Call.Del key) del_answer dels before now was is old new
+
+  pub abort_called : (r : Result ℕ Refusal) → (was.works ≡ true → CallDoes Call.Abort (abort_answer r) before now was.view is.view was.log is.log old new) → IsTellable r → (r ≡ Err refusal.Broken → is ≡ was)
+      → (is.works ≡ true) ↔ ((was.works ≡ true) × (r ≡ Err refusal.DiskFault → ⊥)) → (r ≡ Err refusal.Broken) ↔ (was.works ≡ false) → (a : Answer) → abort_answer r ≡ a → Called Call.Abort a before now was is old new
+  abort_called = called_of Call.Abort abort_answer aborts before now was is old new
 
 -- ## Answers of an engine's calls
 
 began : IsAnswer began_answer
 began = record { refused = λ q. refl; come = λ x. tt; apart = λ x q e. absurd (cc) }
+
+aborted : IsAnswer aborted_answer
+aborted = record { refused = λ q. refl; come = λ x. tt; apart = λ x q e. absurd (cc) }
 
 receipts : IsAnswer receipt_answer
 receipts = record { refused = λ q. refl; come = λ x. tt; apart = λ x q e. absurd (cc) }
@@ -276,3 +314,9 @@ put_cause = cause_of put_answer puts
 
 pub commit_cause : (was is : ℕ) (r : Result Receipt Refusal) → HasCause was is (r ≡ Err refusal.DiskFault) → HasCause was is (receipt_answer r ≡ answer.Refused refusal.DiskFault)
 commit_cause = cause_of receipt_answer receipts
+
+pub del_cause : (was is : ℕ) (r : Result (Option ℕ) Refusal) → HasCause was is (r ≡ Err refusal.DiskFault) → HasCause was is (del_answer r ≡ answer.Refused refusal.DiskFault)
+del_cause = cause_of del_answer dels
+
+pub abort_cause : (was is : ℕ) (r : Result Aborted Refusal) → HasCause was is (r ≡ Err refusal.DiskFault) → HasCause was is (aborted_answer r ≡ answer.Refused refusal.DiskFault)
+abort_cause = cause_of aborted_answer aborted

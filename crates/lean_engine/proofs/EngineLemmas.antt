@@ -20,6 +20,7 @@ use Rattle.row_engine.specs.Ties.{Ties}
 use Rattle.row_engine.specs.declared.session.Session.{Session}
 use Rattle.lean_engine.specs.Openings.{HasOpened, HasRecovered, IsMadeBy, IsOn, OpeningLaws}
 use Rattle.lean_engine.specs.States.{IsEngine}
+use Rattle.lean_engine.proofs.HalfLemmas.{in_run}
 use Rattle.lean_engine.proofs.OpeningLemmas.{every_opening}
 
 module _ (law : EveryOpened) (r : Recovered) (log : Log) (made : IsMadeBy r.master log) (pages : List Page) (locks : ℕ) (z : Shape) (v : View) (x : Session) (on : IsOpenedOn pages locks r.master.floor z v x) where
@@ -29,7 +30,7 @@ module _ (law : EveryOpened) (r : Recovered) (log : Log) (made : IsMadeBy r.mast
   is : IsOpened g z v x log
   is = on.is log (ap (λ (l : Log). l.last) made.is) (ap (λ (l : Log). l.flushed) made.is)
 
-  both : Holds z v x log × Ties g [] v
+  both : Holds z v x log × Ties g [] x.half v
   both = law g z v x log is
 
   pub works : x.works ≡ true
@@ -38,7 +39,7 @@ module _ (law : EveryOpened) (r : Recovered) (log : Log) (made : IsMadeBy r.mast
   pub has_opened : (s0 s1 : Story) → EveryUndone → EveryOwn → runs.EveryOpened s1 → HasRecovered s0 s1 r → pages ≡ r.pages.items → HasOpened locks s0 s1 v log r.master.generation r.winners r.undone
   has_opened s0 s1 undone own stands has same = record {
     opening = g;
-    in_run = (on.workers, both.1);
+    in_run = in_run g [] x.half v on.workers both.1;
     rows = λ k. ap (λ (row : ℕ → ℕ). row k) on.locks;
     frames = is.opens.frames ∙ (is.rows.tree.given ∙ (on.frames ∙ sym (ap (λ (f : Format). f.pages) on.format)));
     from = laws.from;
@@ -59,5 +60,5 @@ module _ (law : EveryOpened) (r : Recovered) (log : Log) (made : IsMadeBy r.mast
     fits = fits;
     holds = λ _. subst (λ (y : Shape). Holds y v x log) same both.0;
     unmarked = λ _. free ∙ ap (λ n. replicate n false) (sym on.rows);
-    run = λ _. record { opening = g; outcomes = []; is = (on.workers, both.1) };
+    run = λ _. record { opening = g; outcomes = []; one = on.workers; ties = both.1 };
   }

@@ -65,7 +65,7 @@ none true = refl
 none false = refl
 
 module _ (rises : EveryRise) (commits : EveryCommit) (reached : EveryReached) where
-  module _ (g : Opening) (x : Done) (xs : List Done) (v : View) (n at : ℕ) (one : g.workers ≡ 1) (ties : Ties g (x ∷ xs) v) (session : x.outcome.session ≡ 1) (deed : x.outcome.deed ≡ Committed n at) where
+  module _ (g : Opening) (x : Done) (xs : List Done) (v : View) (n at : ℕ) (one : g.workers ≡ 1) (half : Bool) (ties : Ties g (x ∷ xs) half v) (session : x.outcome.session ≡ 1) (deed : x.outcome.deed ≡ Committed n at) where
     abbrev now : Core
     now = state_after g (front (x ∷ xs))
 
@@ -86,12 +86,12 @@ module _ (rises : EveryRise) (commits : EveryCommit) (reached : EveryReached) wh
     ]
 
   -- so it is behind a call that was answered so
-  flushed_behind : (g : Opening) (xs : List Done) (n at : ℕ) (w : View) (was is : Log) (old new : Story) → g.workers ≡ 1 → DoesOn g xs Call.Commit (answer.Committed n at) w was is old new → at ≤ (state w).core.flushed 1
-  flushed_behind g xs n at w was is old new one d = flushed_to g d.does.done xs w n at one d.ties d.does.session (deed_is d.does.done.outcome.deed n at d.does.answer_is)
+  flushed_behind : (g : Opening) (xs : List Done) (n at : ℕ) (w : View) (was is : Log) (old new : Story) (half : Bool) → g.workers ≡ 1 → DoesOn g xs Call.Commit (answer.Committed n at) half w was is old new → at ≤ (state w).core.flushed 1
+  flushed_behind g xs n at w was is old new half one d = flushed_to g d.does.done xs w n at one half d.ties d.does.session (deed_is d.does.done.outcome.deed n at d.does.answer_is)
 
-  pub receipt : {D : Type 0} (was now : State D) (z : Shape) (x : Session) (old new : Story) (n at : ℕ) → Holds z was.view x was.log → HasRun was.view → CallDoes Call.Commit (answer.Committed n at) was.view now.view was.log now.log old new
+  pub receipt : {D : Type 0} (was now : State D) (z : Shape) (x : Session) (old new : Story) (half : Bool) (n at : ℕ) → Holds z was.view x was.log → HasRun x.half was.view → CallDoes Call.Commit (answer.Committed n at) x.half half was.view now.view was.log now.log old new
       → IsReceipt was now (record { txn = n; log = 1; gsn = at; need = 0 })
-  receipt was now z x old new n at holds stood does = record {
+  receipt was now z x old new half n at holds stood does = record {
     log = refl;
     need = sym owes;
     none = refl;
@@ -99,16 +99,16 @@ module _ (rises : EveryRise) (commits : EveryCommit) (reached : EveryReached) wh
   }
     where
       flushed : at ≤ flushed_by now
-      flushed = flushed_behind stood.opening stood.outcomes n at now.view was.log now.log old new stood.is.0 (does stood.opening stood.outcomes stood.is.1)
+      flushed = flushed_behind stood.opening stood.outcomes n at now.view was.log now.log old new half stood.one (does stood.opening stood.outcomes stood.ties)
 
       owes : need_of ((state was.view).core.worker 1).debt (flushed_by was) ≡ 0
       owes = ap (λ d. need_of d (flushed_by was)) (holds.session.debt ∙ holds.numbers.debt) ∙ none (ltb (flushed_by was) 0)
 
   -- so it is of a commit that has come
-  pub receipt_of : {D : Type 0} (was now : State D) (z : Shape) (x : Session) (old new : Story) (r : Result Ended Refusal) (n at : ℕ) → (was.works ≡ true → Holds z was.view x was.log) → (was.works ≡ true → HasRun was.view)
-      → (was.works ≡ true → CallDoes Call.Commit (commit_answer r) was.view now.view was.log now.log old new) → (r ≡ Err refusal.Broken) ↔ (was.works ≡ false) → r ≡ Ok (record { number = n; at = at }) → IsReceipt was now (record { txn = n; log = 1; gsn = at; need = 0 })
-  receipt_of was now z x old new r n at holds stood does broken is =
-      receipt was now z x old new n at (holds worked) (stood worked) (subst (λ q. CallDoes Call.Commit (commit_answer q) was.view now.view was.log now.log old new) is (does worked))
+  pub receipt_of : {D : Type 0} (was now : State D) (z : Shape) (x : Session) (old new : Story) (half : Bool) (r : Result Ended Refusal) (n at : ℕ) → (was.works ≡ true → Holds z was.view x was.log) → (was.works ≡ true → HasRun x.half was.view)
+      → (was.works ≡ true → CallDoes Call.Commit (commit_answer r) x.half half was.view now.view was.log now.log old new) → (r ≡ Err refusal.Broken) ↔ (was.works ≡ false) → r ≡ Ok (record { number = n; at = at }) → IsReceipt was now (record { txn = n; log = 1; gsn = at; need = 0 })
+  receipt_of was now z x old new half r n at holds stood does broken is =
+      receipt was now z x old new half n at (holds worked) (stood worked) (subst (λ q. CallDoes Call.Commit (commit_answer q) x.half half was.view now.view was.log now.log old new) is (does worked))
     where
       worked : was.works ≡ true
       worked = elim (cases_Bool was.works) [ inl t ↦ t | inr f ↦ absurd (let e = sym (broken.1 f) ∙ is in cc) ]

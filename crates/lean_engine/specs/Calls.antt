@@ -11,8 +11,11 @@ use Rattle.lean_disk.specs.Story.{Story}
 use Rattle.engine_trait.specs.Calls.{Does, Fails, HasCome}
 use Rattle.engine_trait.specs.declared.calls.Unanswered.{Unanswered}
 use Rattle.engine_trait.specs.declared.calls.Unanswered.TheVariants as unanswered
-use Rattle.row_engine.specs.Calls.{CallDoes}
+use Rattle.worker_log.specs.Logs.{Log}
+use Rattle.rows_trait.specs.declared.view.View.{View}
+use Rattle.row_engine.specs.Calls.{Comes}
 use Rattle.lean_engine.specs.States.{InRun, State}
+use Rattle.lean_engine.specs.declared.calls.Aborted.{Aborted}
 use Rattle.lean_engine.specs.declared.calls.Began.{Began}
 use Rattle.lean_engine.specs.declared.receipts.Receipt.{Receipt}
 
@@ -38,11 +41,24 @@ abbrev pub receipt_answer : Result Receipt Refusal → Answer
 receipt_answer (Ok receipt) = answer.Committed receipt.txn receipt.gsn
 receipt_answer (Err why) = answer.Refused why
 
+abbrev pub aborted_answer : Result Aborted Refusal → Answer
+aborted_answer (Ok aborted) = answer.Aborted aborted.number
+aborted_answer (Err why) = answer.Refused why
+
 -- ## A call
+
+-- It was answered so, and who has seen it stands in the run with one outcome more.
+pub record DoesIn (g : Opening) (xs : List Done) (c : Call) (a : Answer) (w : View) (was is : Log) (old new : Story) : Type 0 where
+  pub does : Does g xs c a was is old new
+  pub in_run : InRun w g (does.done ∷ xs)
+
+-- so in each run, or its disk failed
+abbrev pub DoesInRuns : Call → Answer → (v w : View) → (was is : Log) → (old new : Story) → Type 0
+DoesInRuns c a v w was is old new = (g : Opening) (xs : List Done) → InRun v g xs → Comes a (DoesIn g xs c a w was is old new) (Fails g xs c was old new)
 
 -- One call, which took the engine from one state to another.
 pub record Asked {D : Type 0} (c : Call) (a : Answer) (was is : State D) (old new : Story) : Type 0 where
-  pub does : was.works ≡ true → CallDoes c a was.view is.view was.log is.log old new
+  pub does : was.works ≡ true → DoesInRuns c a was.view is.view was.log is.log old new
   pub may : MayBe a
   pub works : (is.works ≡ true) ↔ ((was.works ≡ true) × (a ≡ answer.Refused refusal.DiskFault → ⊥))
   pub same : a ≡ answer.Refused refusal.Broken → is ≡ was

@@ -5,10 +5,10 @@ ghost use Rattle.map_model.specs.declared.call.Refusal.TheVariants as refusal;
 ghost use Rattle.lean_disk.specs.Faults.{HasCause};
 ghost use Rattle.engine_trait.specs.Calls.{HasCome, IsWithin};
 ghost use Rattle.engine_trait.specs.declared.calls.Unanswered.{Unanswered};
-ghost use Rattle.row_engine.specs.Calls.{get_answer, put_answer};
-ghost use Rattle.lean_engine.specs.Calls.{Answered, Asked, Failed, began_answer, receipt_answer, told};
+ghost use Rattle.row_engine.specs.Calls.{del_answer, get_answer, put_answer};
+ghost use Rattle.lean_engine.specs.Calls.{Answered, Asked, Failed, aborted_answer, began_answer, receipt_answer, told};
 
-use crate::calls::Began;
+use crate::calls::{Aborted, Began};
 use crate::engine::Engine;
 use crate::receipts::Receipt;
 use engine_trait::calls::{Calls, Unanswered};
@@ -46,6 +46,15 @@ fn was(before: Result<Option<u64>, Refusal>) -> Answer
     }
 }
 
+fn removed(before: Result<Option<u64>, Refusal>) -> Answer
+    ensures { result ≡ del_answer before }
+{
+    match before {
+        Ok(value) => Answer::Was(value),
+        Err(why) => Answer::Refused(why),
+    }
+}
+
 fn committed(receipt: Result<Receipt, Refusal>) -> Answer
     ensures { result ≡ receipt_answer receipt }
 {
@@ -61,6 +70,15 @@ fn committed(receipt: Result<Receipt, Refusal>) -> Answer
             number: txn,
             at: gsn,
         },
+        Err(why) => Answer::Refused(why),
+    }
+}
+
+fn aborted(aborted: Result<Aborted, Refusal>) -> Answer
+    ensures { result ≡ aborted_answer aborted }
+{
+    match aborted {
+        Ok(Aborted { number }) => Answer::Aborted { number },
         Err(why) => Answer::Refused(why),
     }
 }
@@ -87,7 +105,9 @@ impl<D: Stages> Engine<D> {
             Call::Begin => begun(self.begin()),
             Call::Get { key } => value(self.get(key)),
             Call::Put { key, value } => was(self.put(key, value)),
+            Call::Del { key } => removed(self.del(key)),
             Call::Commit => committed(self.commit()),
+            Call::Abort => aborted(self.abort()),
             // A line of this session asks no other call.
             _ => unreachable!(),
         }

@@ -3,9 +3,9 @@ ghost use Rattle.std.specs.Prelude.{◌≡◌, ◌⊎◌, ◌↔◌, ◌<◌, �
 ghost use Rattle.map_model.specs.declared.call.Call.TheVariants as calls;
 ghost use Rattle.map_model.specs.declared.call.Refusal.{Refusal};
 ghost use Rattle.lean_disk.specs.Faults.{HasCause};
-ghost use Rattle.row_engine.specs.Calls.{get_answer, put_answer};
+ghost use Rattle.row_engine.specs.Calls.{del_answer, get_answer, put_answer};
 ghost use Rattle.row_engine.specs.Puts.{IsEarly};
-ghost use Rattle.lean_engine.specs.Calls.{Asked, began_answer, receipt_answer};
+ghost use Rattle.lean_engine.specs.Calls.{Asked, aborted_answer, began_answer, receipt_answer};
 ghost use Rattle.lean_engine.specs.Receipts.{IsReceipt};
 
 use crate::engine::Engine;
@@ -16,6 +16,12 @@ use row_engine::{Ended, Stages};
 /// A transaction has begun, with this number.
 #[derive(Clone, Copy, Debug, PartialEq, Eq)]
 pub struct Began {
+    pub number: u64,
+}
+
+/// The transaction with this number was aborted.
+#[derive(Clone, Copy, Debug, PartialEq, Eq)]
+pub struct Aborted {
     pub number: u64,
 }
 
@@ -63,6 +69,20 @@ impl<D: Stages> Engine<D> {
         row_engine::put(&mut self.rows, &mut self.seat, &mut self.store, key, value)
     }
 
+    /// Takes a key away. The answer is the value that it had, if it had one.
+    // Not inlined, as a put is not.
+    #[inline(never)]
+    pub fn del(&mut self, key: u64) -> Result<Option<u64>, Refusal>
+        requires key { key < 2 ^ 64 - 1 }
+        ensures asked { Asked (calls.Del key) (del_answer result) self.old self.new (D.story self.old.disk) (D.story self.new.disk) }
+        ensures same { IsErrAnd result IsEarly → self.new ≡ self.old }
+
+        ensures cause_broken { (result ≡ Err Refusal.Broken) ↔ (self.old.works ≡ false) }
+        ensures cause_disk_fault { HasCause (D.faults self.old.disk) (D.faults self.new.disk) (result ≡ Err Refusal.DiskFault) }
+    {
+        row_engine::del(&mut self.rows, &mut self.seat, &mut self.store, key)
+    }
+
     /// The session's transaction commits. Its receipt is ripe at once, since each commit is flushed.
     // Not inlined, as a put is not.
     #[inline(never)]
@@ -89,6 +109,27 @@ impl<D: Stages> Engine<D> {
                 gsn: at,
                 need: 0,
             }),
+            Err(why) => Err(why),
+        }
+    }
+
+    /// The session's transaction is aborted: its changes are put back. One that is refused may have put some back; then the next abort goes on.
+    // Not inlined, as a put is not.
+    #[inline(never)]
+    pub fn abort(&mut self) -> Result<Aborted, Refusal>
+        ensures asked { Asked calls.Abort (aborted_answer result) self.old self.new (D.story self.old.disk) (D.story self.new.disk) }
+        ensures same { (result ≡ Err Refusal.Broken) ⊎ (result ≡ Err Refusal.NoTransaction) → self.new ≡ self.old }
+
+        ensures cause_broken { (result ≡ Err Refusal.Broken) ↔ (self.old.works ≡ false) }
+        ensures cause_disk_fault { HasCause (D.faults self.old.disk) (D.faults self.new.disk) (result ≡ Err Refusal.DiskFault) }
+    {
+        match row_engine::abort(
+            &mut self.rows,
+            &mut self.seat,
+            &mut self.store,
+            &mut self.latches,
+        ) {
+            Ok(number) => Ok(Aborted { number }),
             Err(why) => Err(why),
         }
     }

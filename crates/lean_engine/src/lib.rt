@@ -9,7 +9,7 @@ mod pages;
 mod receipts;
 
 pub use answers::Hosts;
-pub use calls::Began;
+pub use calls::{Aborted, Began};
 pub use disk_format::{Formatted, Shape, format};
 pub use engine::{Engine, Opened, Size, Unopened};
 pub use receipts::{Broken, Receipt, Ripeness};

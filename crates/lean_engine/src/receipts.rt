@@ -1,9 +1,8 @@
 // Receipts of commits, and what is done between calls.
 ghost use Rattle.std.specs.Prelude.{◌≡◌, ◌↔◌, IsErr, IfOk, List, true, false};
 ghost use Rattle.core_state.specs.Openings.{Opening};
-ghost use Rattle.core_calls.specs.Deeds.{marks_by};
-ghost use Rattle.core_calls.specs.Fronts.{Done, outcomes};
-ghost use Rattle.core_calls.specs.Marks.{is_half};
+ghost use Rattle.core_calls.specs.Fronts.{Done};
+ghost use Rattle.engine_trait.specs.Calls.{is_half_done};
 ghost use Rattle.lean_engine.specs.Receipts.{flushed_by, ripeness_of};
 ghost use Rattle.lean_engine.specs.States.{InRun};
 
@@ -72,15 +71,14 @@ impl<D: Disk> Engine<D> {
         Ok(ripeness_at(self.flushed(), receipt))
     }
 
-    /// Whether an abort is half done, so that only an abort may come next. This engine has no aborts yet, so none ever is.
+    /// Whether an abort is half done, so that only an abort may come next: it put a change of the session's transaction back, which has not ended since.
     pub fn half_done(&self) -> Result<bool, Broken>
-        ensures half { IfOk result (λ half. (g : Opening) (xs : List Done) → InRun self.now.view g xs → half ≡ is_half (marks_by 1 (outcomes xs))) }
-        ensures never { IfOk result (λ half. half ≡ false) }
+        ensures half { IfOk result (λ half. (g : Opening) (xs : List Done) → InRun self.now.view g xs → half ≡ is_half_done xs) }
 
         ensures cause { IsErr result ↔ (self.now.works ≡ false) }
     {
         self.works()?;
-        Ok(false)
+        Ok(self.store.session.half)
     }
 
     /// The step of a checkpoint, where one is due. This engine makes no checkpoints yet, so none ever is, and nothing is done.

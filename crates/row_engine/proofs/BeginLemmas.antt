@@ -42,7 +42,7 @@ use Rattle.rows_trait.specs.Turns.{Heard}
 use Rattle.rows_trait.specs.declared.view.View.{View}
 use Rattle.lean_proto.specs.Controls as controls
 use Rattle.row_opening.specs.Openings.{EveryNeed, EveryReached}
-use Rattle.engine_trait.specs.Calls.{Answers, IsTold}
+use Rattle.engine_trait.specs.Calls.{Answers, IsTold, is_half_done}
 use Rattle.row_engine.specs.Calls.{CallDoes, Comes, DoesOn, begin_answer}
 use Rattle.row_engine.specs.Holds.{AreStamps, Holds, IsOf}
 use Rattle.row_engine.specs.Inside.{begin_test, begun_session}
@@ -117,8 +117,8 @@ free_of x log e = works_case x.works refl e
     works_case false q r = absurd (none_is _ (sym r))
 
 -- where the engine works the tests are those of the worker
-pub test_is : (g : Opening) (s : State) (x : Session) (log : Log) → x.works ≡ true → IsOf x (s.worker 1) → begin_test x log ≡ refusal_in g s log call.Begin
-test_is g s x log works of_s =
+pub test_is : (g : Opening) (s : State) (half : Bool) (x : Session) (log : Log) → x.works ≡ true → IsOf x (s.worker 1) → begin_test x log ≡ refusal_in g s half log call.Begin
+test_is g s half x log works of_s =
     (λ i. cond (works i) (cond x.is_open (Some refusal.InTransaction) (log_refusal x.clock log None)) (Some refusal.Broken))
     ∙ (λ i. cond (sym of_s.is_open i) (Some refusal.InTransaction) (log_refusal (sym of_s.clock i) log None))
 
@@ -209,7 +209,7 @@ module _ (begins : controls.EveryBegin) (z : Shape) (v w : View) (x : Session) (
       floor = refl;
       debt = ap (λ d. debt_at_begin d f) h.session.debt;
       end = h.session.end;
-      changes = refl;
+      undo = refl;
     });
     numbers = record {
       last = h.numbers.last;
@@ -222,7 +222,8 @@ module _ (begins : controls.EveryBegin) (z : Shape) (v w : View) (x : Session) (
       small = h.numbers.small;
       closed_txn = λ q. absurd (true≢false q);
       txn = let q = h.numbers.closed_txn closed in omega arith;
-      changes = omega arith;
+      undo_room = λ some. absurd (omega arith);
+      few = omega arith;
     };
     flushed = ap (λ s. s.flushed 1) core_is ∙ h.flushed;
     stamps = subst (λ s. AreStamps s x.clock f) (sym core_is) (record { page = h.stamps.page; log = λ p. raised (h.stamps.log p); row = h.stamps.row; read_end = h.stamps.read_end });
@@ -270,7 +271,7 @@ not_leb a b lt = go (leb a b) refl
     go true e = let q = leb-true a b e in absurd (omega arith)
     go false e = refl
 
-module _ (reached : EveryReached) (needs : EveryNeed) (answers : EveryAnswer) (g : Opening) (xs : List Done) (z : Shape) (v : View) (x : Session) (log : Log) (h : Holds z v x log) (t : Ties g xs v) where
+module _ (reached : EveryReached) (needs : EveryNeed) (answers : EveryAnswer) (g : Opening) (xs : List Done) (z : Shape) (v : View) (x : Session) (log : Log) (h : Holds z v x log) (t : Ties g xs x.half v) where
   abbrev first : List happening.Event
   first = t.loads
 
@@ -335,16 +336,16 @@ module _ (reached : EveryReached) (needs : EveryNeed) (answers : EveryAnswer) (g
       refused = λ why q. absurd (cc);
       refuses = λ why q. absurd (none_is why (sym none ∙ (tests ∙ q)));
       log = (log, refl, refl);
-      room = λ key value e. absurd (cc);
+      room = refl;
     }
       where
-        tests : begin_test x log ≡ refusal_in g (state_after g (front xs ++ first)) log call.Begin
-        tests = test_is g (state_after g (front xs ++ first)) x log free.works (subst (λ k. IsOf x (k.worker 1)) (sym (behind.front_is g xs first)) of_s)
+        tests : begin_test x log ≡ refusal_in g (state_after g (front xs ++ first)) (is_half_done xs) log call.Begin
+        tests = test_is g (state_after g (front xs ++ first)) (is_half_done xs) x log free.works (subst (λ k. IsOf x (k.worker 1)) (sym (behind.front_is g xs first)) of_s)
 
     told : Tells limits g 1 xs done
     told = (answers limits g 1 xs).begin first 1 number f is_begin
 
-    pub does : (st : Story) → IsLawful st → EveryPart st st st → begin_test x log ≡ None → DoesOn g xs call.Begin (answer.Begun number) w log log st st
+    pub does : (st : Story) → IsLawful st → EveryPart st st st → begin_test x log ≡ None → DoesOn g xs call.Begin (answer.Begun number) false w log log st st
     does st lawful part none = record {
       does = record {
         done = done;
@@ -363,8 +364,8 @@ module _ (reached : EveryReached) (needs : EveryNeed) (answers : EveryAnswer) (g
 
   -- ## It was refused
 
-  refused_whole : (why : Refusal) → is_half (marks_by 1 (outcomes (refused_by 1 call.Begin why first ∷ xs))) ≡ false
-  refused_whole why = t.whole
+  refused_whole : (why : Refusal) → is_half (marks_by 1 (outcomes (refused_by 1 call.Begin why first ∷ xs))) ≡ x.half
+  refused_whole why = t.half_is
 
   module _ (coming : EveryComing) (works : x.works ≡ true) where
     refused : (why : Refusal) → IsCause limits g (front xs ++ first) s (is_half (marks_by 1 (outcomes xs))) 1 call.Begin why → RefusedLogs limits g xs 1 call.Begin why (keep is_log first) → MayPutBack why [] → IsRefusal limits g xs 1 call.Begin why first
@@ -402,7 +403,7 @@ module _ (reached : EveryReached) (needs : EveryNeed) (answers : EveryAnswer) (g
         open_case true q r = subst (λ k. Refuses k) (some_is _ why r) (record { refusal = refused refusal.InTransaction (of_s.is_open ∙ q) (behind.no_logs first t.are_loads) refl; no_conflict = refl; last = refl })
         open_case false q r = full_case (leb (limit log) (used log)) refl r
 
-    pub refuses : (st : Story) → IsLawful st → EveryPart st st st → (why : Refusal) → begin_test x log ≡ Some why → DoesOn g xs call.Begin (answer.Refused why) v log log st st
+    pub refuses : (st : Story) → IsLawful st → EveryPart st st st → (why : Refusal) → begin_test x log ≡ Some why → DoesOn g xs call.Begin (answer.Refused why) x.half v log log st st
     refuses st lawful part why e = record {
       does = record {
         done = refused_by 1 call.Begin why first;
@@ -420,7 +421,7 @@ module _ (reached : EveryReached) (needs : EveryNeed) (answers : EveryAnswer) (g
           refused = λ q r. inl (sym tests ∙ (e ∙ ap Some (refused_is why q r)));
           refuses = λ q r. inl (ap answer.Refused (some_is why q (sym e ∙ (tests ∙ r))));
           log = refl;
-          room = λ key value e. absurd (cc);
+          room = refl;
         };
         keeps = λ s0 k bt is. behind.keeps_by g xs (refused_by 1 call.Begin why first) s0 k k log st st (behind.gone_loads st lawful part g xs v t s0 k bt) told is refl (behind.nothing_written st lawful);
       };
@@ -430,8 +431,8 @@ module _ (reached : EveryReached) (needs : EveryNeed) (answers : EveryAnswer) (g
         told : Tells limits g 1 xs (refused_by 1 call.Begin why first)
         told = (answers limits g 1 xs).refused 1 call.Begin why first (is_refused why e).refusal
 
-        tests : begin_test x log ≡ refusal_in g (state_after g (front xs ++ first)) log call.Begin
-        tests = test_is g (state_after g (front xs ++ first)) x log works (subst (λ k. IsOf x (k.worker 1)) (sym (behind.front_is g xs first)) of_s)
+        tests : begin_test x log ≡ refusal_in g (state_after g (front xs ++ first)) (is_half_done xs) log call.Begin
+        tests = test_is g (state_after g (front xs ++ first)) (is_half_done xs) x log works (subst (λ k. IsOf x (k.worker 1)) (sym (behind.front_is g xs first)) of_s)
 
         no_hinder : (c : Bool) → c ≡ false → cond c (Some call.Begin) None ≡ None
         no_hinder false q = refl
@@ -443,8 +444,8 @@ module _ (reached : EveryReached) (needs : EveryNeed) (answers : EveryAnswer) (g
 -- ## In every run
 
 module _ (reached : EveryReached) (needs : EveryNeed) (answers : EveryAnswer) (st : Story) (lawful : IsLawful st) (part : EveryPart st st st) (z : Shape) (v : View) (x : Session) (log : Log) (works : x.works ≡ true) (h : Holds z v x log) where
-  pub began : controls.EveryBegin → (w : View) (f number : ℕ) → Heard z 1 0 (λ n. Begin 1 n ∷ []) v f w → begin_test x log ≡ None → number ≡ x.txn + 1 → CallDoes call.Begin (begin_answer (Ok number)) v w log log st st
+  pub began : controls.EveryBegin → (w : View) (f number : ℕ) → Heard z 1 0 (λ n. Begin 1 n ∷ []) v f w → begin_test x log ≡ None → number ≡ x.txn + 1 → CallDoes call.Begin (begin_answer (Ok number)) x.half false v w log log st st
   began begins w f number e none is g xs t = does reached needs answers g xs z v x log h t w f (free_of x log none) begins e number is st lawful part none
 
-  pub not_begun : EveryComing → (why : Refusal) → begin_test x log ≡ Some why → CallDoes call.Begin (begin_answer (Err why)) v v log log st st
+  pub not_begun : EveryComing → (why : Refusal) → begin_test x log ≡ Some why → CallDoes call.Begin (begin_answer (Err why)) x.half x.half v v log log st st
   not_begun coming why e g xs t = comes_told _ _ why (begin_told x log why works e) (refuses reached needs answers g xs z v x log h t coming works st lawful part why e)

@@ -9,10 +9,8 @@ use Rattle.core_state.specs.Needs.{may}
 use Rattle.core_state.specs.Steps as core
 use Rattle.core_state.specs.Steps.{AllMet, happens, state_after}
 use Rattle.core_state.proofs.Runs.{run_more}
-use Rattle.core_calls.specs.Deeds.{marks_by}
-use Rattle.core_calls.specs.Fronts.{Done, front, outcomes}
+use Rattle.core_calls.specs.Fronts.{Done, front}
 use Rattle.core_calls.specs.LogEvents.{is_log}
-use Rattle.core_calls.specs.Marks.{is_half}
 use Rattle.core_calls.specs.Runs.{EachTells, Tells}
 use Rattle.core_calls.specs.Steps.{is_step, is_structure}
 use Rattle.disk_runs.specs.Quiet.{is_quiet}
@@ -35,6 +33,7 @@ use Rattle.rows_trait.specs.Views.{Shape, state}
 use Rattle.btree_descent.specs.Known as pages
 use Rattle.key_locks.specs.Rows as locking
 use Rattle.row_engine.specs.Holds.{AreRows}
+use Rattle.engine_trait.specs.Calls.{is_half_done}
 use Rattle.engine_trait.specs.Limits.{AreLoads, limits}
 pub use Rattle.row_engine.specs.Grown.{Behind}
 use Rattle.row_engine.specs.Ties.{Ties}
@@ -88,7 +87,7 @@ loads_worker g s _ a = absurd a
 -- ## Within a call
 
 -- where it begins
-pub begins : (g : Opening) (xs : List Done) (v : View) → (t : Ties g xs v) → Behind g xs t.loads v
+pub begins : (g : Opening) (xs : List Done) {half : Bool} (v : View) → (t : Ties g xs half v) → Behind g xs t.loads v
 begins g xs v t = record { opens = t.opens; met = t.met; seen = t.seen }
 
 module _ (reached : EveryReached) (needs : EveryNeed) (g : Opening) (xs : List Done) (first : List happening.Event) (v : View) (b : Behind g xs first v) where
@@ -116,12 +115,12 @@ module _ (reached : EveryReached) (needs : EveryNeed) (g : Opening) (xs : List D
       met_join s (e ∷ ys) zs p q = (p.0, met_join (core.step g s e) ys zs p.1 q)
 
 -- where it is answered by these events, by an outcome of one line
-pub ends : (g : Opening) (xs : List Done) (first : List happening.Event) (v : View) → Behind g xs first v → (x : Done) → x.events ≡ first → EachTells limits g 1 xs → Tells limits g 1 xs x → IsNewLine (x.outcome ∷ []) → is_half (marks_by 1 (outcomes (x ∷ xs))) ≡ false → Ties g (x ∷ xs) v
-ends g xs first v b x is told tells line whole = record {
+pub ends : (g : Opening) (xs : List Done) (first : List happening.Event) (v : View) → Behind g xs first v → (x : Done) → x.events ≡ first → EachTells limits g 1 xs → Tells limits g 1 xs x → IsNewLine (x.outcome ∷ []) → {half : Bool} → is_half_done (x ∷ xs) ≡ half → Ties g (x ∷ xs) half v
+ends g xs first v b x is told tells line half_is = record {
   opens = b.opens;
   told = (told, tells);
   line = line;
-  whole = whole;
+  half_is = half_is;
   loads = [];
   are_loads = tt;
   few = omega arith;
@@ -150,7 +149,7 @@ rows_on z v w frames count e r = record {
 -- ## On the disk
 
 -- the loads of the opening are not seen there
-pub gone_loads : (s : Story) → IsLawful s → EveryPart s s s → (g : Opening) (xs : List Done) (v : View) (t : Ties g xs v) (s0 : Crash) (k : Known) → Between limits g 1 xs s0 k s → Gone g xs t.loads s0 k s k s
+pub gone_loads : (s : Story) → IsLawful s → EveryPart s s s → (g : Opening) (xs : List Done) {half : Bool} (v : View) (t : Ties g xs half v) (s0 : Crash) (k : Known) → Between limits g 1 xs s0 k s → Gone g xs t.loads s0 k s k s
 gone_loads s lawful part g xs v t s0 k b = (part limits g 1 xs s0 k [] k b).quiet t.loads (loads_quiet t.loads t.are_loads) ((part limits g 1 xs s0 k [] k b).none lawful)
 
 -- nothing was written

@@ -22,7 +22,7 @@ use Rattle.row_engine.specs.Free.{first_of, without_first}
 use Rattle.row_engine.specs.Holds.{Holds}
 use Rattle.row_engine.specs.Puts.{KeepsLog, MayChange}
 use Rattle.row_engine.specs.Rooms.{IsExpected, answer_of}
-use Rattle.row_engine.specs.Staging.{Staging}
+use Rattle.row_engine.specs.Staging.{IsFullFor, Staging}
 use Rattle.row_engine.specs.declared.session.Session.{Session}
 use Rattle.row_engine.proofs.GrowthLemmas.{sound}
 
@@ -59,7 +59,7 @@ not_spent z v w x log key h f row t = let a = t.spent in let b = h.stamps.page t
 
 -- the log had a block
 pub not_full : (v : View) (x y : Session) (log log_now : Log) (key : ℕ) (rs now : List Record) (old new : Story) (S : Type 0) (f0 f1 used limit : ℕ) → MayChange v x log key → Staging (Err (LogFull used limit)) x y rs now log log_now old new S f0 f1 → ⊥
-not_full v x y log log_now key rs now old new S f0 f1 used limit f st = let a = st.came.full in let b = f.room in omega arith
+not_full v x y log log_now key rs now old new S f0 f1 used limit f st = let a = subst (λ b. IsFullFor b log) f.whole st.came.full in let b = f.room in omega arith
 
 abbrev failed : Result (Unit {0}) Refusal
 failed = Err refusal.DiskFault

@@ -33,6 +33,7 @@ use Rattle.worker_log.specs.Logs.{Log}
 use Rattle.core_disk.specs.Versions.{EveryVersion}
 use Rattle.core_calls.specs.Fronts.{Done, front}
 use Rattle.core_calls.specs.Runs.{Tells}
+use Rattle.core_calls.specs.Steps.{is_structure}
 use Rattle.disk_runs.specs.Laws.{with_log}
 use Rattle.disk_runs.specs.Logs.{Flushes, Records}
 use Rattle.disk_runs.specs.Stands.{Known}
@@ -44,7 +45,7 @@ use Rattle.engine_calls.specs.Entries.{EveryEntry, commit_record}
 use Rattle.engine_calls.specs.Parts.{EveryPart, Gone, behind_first}
 use Rattle.engine_calls.proofs.PartLemmas.{every_part, on_log, whole}
 use Rattle.engine_calls.proofs.UnlockLemmas.{entries_same, flushed_same, if_met, unlocks_quiet}
-use Rattle.engine_trait.specs.Calls.{Answers, Fails, Keeps, Logs, LogsEntry, Nothing, Part}
+use Rattle.engine_trait.specs.Calls.{Answers, Fails, Keeps, Logs, LogsEntry, Nothing, Part, is_half_done}
 use Rattle.engine_trait.specs.Limits.{limits}
 use Rattle.row_words.specs.declared.event.Event.{Event}
 use Rattle.row_words.specs.declared.event.Event.TheVariants.{End, Flush}
@@ -59,13 +60,14 @@ use Rattle.key_locks.specs.Latching.{is_marked}
 use Rattle.lean_proto.specs.Controls as controls
 use Rattle.lean_proto.specs.Controls.{CanEnd}
 use Rattle.row_engine.specs.Calls.{CallDoes, DoesOn}
-use Rattle.row_engine.specs.Ends.{Ended, Latched, MayEnd, ended_session, gives}
+use Rattle.row_engine.specs.Ends.{Ended, Latched, MayEnd, end_of, ended_session, gives}
 use Rattle.row_engine.specs.Holds.{Holds, IsOf}
 use Rattle.row_engine.specs.Ties.{Ties}
 use Rattle.row_engine.specs.declared.session.Session.{Session}
 use Rattle.row_engine.proofs.Behind as behind
 use Rattle.row_engine.proofs.Behind.{rows_on}
 use Rattle.row_engine.proofs.LatchLemmas.{gives_events, sized_on}
+use Rattle.row_engine.proofs.UndoLemmas.{none_left}
 use Rattle.row_engine.proofs.Moments.{acts, free_same, goes_seen, goes_state, met_core, resident_on}
 
 -- ## Views that have seen the same
@@ -76,12 +78,12 @@ over M a b xs ys p q m = subst (λ k. M k ys) p (subst (λ zs. M a zs) q m)
 same_state : (v w : View) → w.given ≡ v.given → w.seen ≡ v.seen → state w ≡ state v
 same_state v w given seen = λ i. after_all (given i) (seen i)
 
-pub ties_as : (g : Opening) (xs : List Done) (v w : View) → w.given ≡ v.given → w.seen ≡ v.seen → Ties g xs w → Ties g xs v
+pub ties_as : (g : Opening) (xs : List Done) {half : Bool} (v w : View) → w.given ≡ v.given → w.seen ≡ v.seen → Ties g xs half w → Ties g xs half v
 ties_as g xs v w given seen t = record {
   opens = subst (λ k. Opens g k) given t.opens;
   told = t.told;
   line = t.line;
-  whole = t.whole;
+  half_is = t.half_is;
   loads = t.loads;
   are_loads = t.are_loads;
   few = t.few;
@@ -89,14 +91,14 @@ ties_as g xs v w given seen t = record {
   seen = (λ i. events_of (sym given i).before ++ events_of (sym seen i)) ∙ t.seen;
 }
 
-pub ended_as : (most : ℕ) (b v w : View) (f : ℕ) → v.given ≡ b.given → v.seen ≡ b.seen → Ended most v f w → Ended most b f w
-ended_as most b v w f given seen e = record {
+pub ended_as : (most : ℕ) (commit : Bool) (b v w : View) (f : ℕ) → v.given ≡ b.given → v.seen ≡ b.seen → Ended most v commit f w → Ended most b commit f w
+ended_as most commit b v w f given seen e = record {
   given = e.given ∙ given;
   rows = e.rows;
   few = e.few;
-  seen = e.seen ∙ ap (λ ys. ys ++ End 1 true f ∷ gives e.rows) seen;
-  met = over (λ k es. AllMet (opening k) (after_all k es).core (ending 1 f e.rows)) v.given b.given v.seen b.seen given seen e.met;
-  core = e.core ∙ (λ i. run (opening (given i)) (after_all (given i) (seen i)).core (ending 1 f e.rows));
+  seen = e.seen ∙ ap (λ ys. ys ++ End 1 commit f ∷ gives e.rows) seen;
+  met = over (λ k es. AllMet (opening k) (after_all k es).core (end_of commit f e.rows)) v.given b.given v.seen b.seen given seen e.met;
+  core = e.core ∙ (λ i. run (opening (given i)) (after_all (given i) (seen i)).core (end_of commit f e.rows));
   idle = e.idle;
   free = e.free;
 }
@@ -106,17 +108,17 @@ same_bool true b p q = sym (p refl)
 same_bool false true p q = q refl
 same_bool false false p q = refl
 
--- a session whose rows are latched may end
-pub may_end : (z : Shape) (v : View) (x : Session) (log : Log) (marks : List Bool) → Latched z v x log marks → x.is_open ≡ true → MayEnd z v x log.flushed marks
-may_end z v x log marks l opened = record {
+-- a session whose rows are latched may end, by an abort where nothing is left to put back
+pub may_end : (z : Shape) (v : View) (x : Session) (log : Log) (marks : List Bool) (commit : Bool) → Latched z v x log marks → x.is_open ≡ true → (commit ≡ false → x.undo ≡ []) → MayEnd z v x commit log.flushed marks
+may_end z v x log marks commit l opened left = record {
   alone = h.alone;
   locks = sized_on z z b v x.frames x.held.count x.held.count refl a.given refl h.rows.locks;
   workers = h.rows.workers;
-  can = over (λ k es. CanEnd (opening k) (after_all k es).core 1 true log.flushed) b.given v.given b.seen v.seen (sym a.given) (sym a.seen) (record {
+  can = over (λ k es. CanEnd (opening k) (after_all k es).core 1 commit log.flushed) b.given v.given b.seen v.seen (sym a.given) (sym a.seen) (record {
     is_open = h.session.is_open ∙ opened;
     low = let c = h.session.floor in let d = h.numbers.floor in omega arith;
     flushed = λ u some among. let n = h.rows.one in let e : u ≡ 1 = omega arith in subst (λ k. log.flushed ≤ (state b).core.flushed k) (sym e) (let q = h.flushed in omega arith);
-    back = λ e. absurd (true≢false e);
+    back = λ e. none_left ((state b).core.worker 1).changes (h.session.undo ∙ left e);
   });
   clock = ap (λ m. (m.core.worker 1).clock) s ∙ h.session.clock;
   small = let q = h.numbers.open_low opened in omega arith;
@@ -175,14 +177,14 @@ low_rows g (j ∷ rows) s c lt low = low_rows g rows (step g s (happening.Event.
     each false i = low i
 
 -- their needs are met in the run too
-unlocks_met : (needs : EveryNeed) (g : Opening) (k : Given) → Opens g k → (rows : List ℕ) (s : State) → AllMet (opening k) s (unlocks 1 rows) → AllMet g s (unlocks 1 rows)
+pub unlocks_met : (needs : EveryNeed) (g : Opening) (k : Given) → Opens g k → (rows : List ℕ) (s : State) → AllMet (opening k) s (unlocks 1 rows) → AllMet g s (unlocks 1 rows)
 unlocks_met needs g k opens [] s m = tt
 unlocks_met needs g k opens (i ∷ rows) s m = (
   needs g k opens s (happening.Event.Unlock 1 i) ∙ m.0,
   subst (λ (t : State). AllMet g t (unlocks 1 rows)) (ap (λ b. cond b (happens g s (happening.Event.Unlock 1 i)) s) (sym (needs g k opens s (happening.Event.Unlock 1 i)))) (unlocks_met needs g k opens rows (step (opening k) s (happening.Event.Unlock 1 i)) m.1),
 )
 
-length_unlocks : (rows : List ℕ) → length (unlocks 1 rows) ≡ length rows
+pub length_unlocks : (rows : List ℕ) → length (unlocks 1 rows) ≡ length rows
 length_unlocks [] = refl
 length_unlocks (i ∷ rows) = let q = length_unlocks rows in omega arith
 
@@ -196,18 +198,18 @@ and_true false c e q = e
 
 -- ## Behind the end
 
-module _ (turns : controls.EveryTurn) (z : Shape) (b : View) (x : Session) (log : Log) (h : Holds z b x log) (opened : x.is_open ≡ true) (number : ℕ) (number_is : number ≡ x.clock + 1) (w : View) (e : Ended (length x.held.rows) b log.flushed w) where
+module _ (turns : controls.EveryTurn) (z : Shape) (b : View) (x : Session) (log : Log) (h : Holds z b x log) (opened : x.is_open ≡ true) (number : ℕ) (number_is : number ≡ x.clock + 1) (commit : Bool) (w : View) (e : Ended (length x.held.rows) b commit log.flushed w) where
   abbrev s0 : State
   s0 = (state b).core
 
   abbrev entry : Entry
-  entry = end_entry Kind.Commit 1 (s0.worker 1) log.flushed
+  entry = end_entry (cond commit Kind.Commit Kind.Abort) 1 (s0.worker 1) log.flushed
 
   abbrev after_end : State
   after_end = ends s0 1 entry
 
   core_w : (state w).core ≡ run (opening b.given) after_end (unlocks 1 e.rows)
-  core_w = e.core ∙ ap (λ (t : State). run (opening b.given) t (unlocks 1 e.rows)) (if_met (may (opening b.given) s0 (happening.Event.End 1 true log.flushed)) e.met.0 s0 after_end)
+  core_w = e.core ∙ ap (λ (t : State). run (opening b.given) t (unlocks 1 e.rows)) (if_met (may (opening b.given) s0 (happening.Event.End 1 commit log.flushed)) e.met.0 s0 after_end)
 
   entries_w : (state w).core.entries ≡ entry ∷ s0.entries
   entries_w = ap (λ t. t.entries) core_w ∙ entries_same (opening b.given) 1 e.rows after_end
@@ -219,7 +221,11 @@ module _ (turns : controls.EveryTurn) (z : Shape) (b : View) (x : Session) (log 
   worker_w = ap (λ t. t.worker 1) core_w ∙ (ap (λ k. k 1) (unlocks_keep (ℕ → Worker) (λ t. t.worker) (opening b.given) e.rows after_end (λ t r. refl)) ∙ upd_same s0.worker 1 (finished (s0.worker 1) (suc (s0.worker 1).clock)) 1 refl)
 
   stands : any (λ r. is_record r.kind && ((r.log == 1) && (r.number == number))) (entry ∷ s0.entries) ≡ true
-  stands = or_true _ _ (eq-eqb (suc (s0.worker 1).clock) number (let q = h.session.clock in omega arith))
+  stands = or_true _ _ (and_true _ _ (an_end commit) (eq-eqb (suc (s0.worker 1).clock) number (let q = h.session.clock in omega arith)))
+    where
+      an_end : (c : Bool) → is_record (cond c Kind.Commit Kind.Abort) ≡ true
+      an_end true = refl
+      an_end false = refl
 
   pub may_flush : may (opening w.given) (state w).core (happening.Event.Flush 1 number) ≡ true
   may_flush = and_true _ _
@@ -232,71 +238,80 @@ module _ (turns : controls.EveryTurn) (z : Shape) (b : View) (x : Session) (log 
   pub may_turn : MayTurn z 1 0 (λ _. number) (λ _. Flush 1 number ∷ []) w
   may_turn = (turns z w 1).flush number flush_known
 
-  -- ## Behind the flush
+  page_w : (state w).core.page ≡ s0.page
+  page_w = ap (λ t. t.page) core_w ∙ unlocks_keep _ (λ t. t.page) (opening b.given) e.rows after_end (λ t r. refl)
 
-  module _ (n : ℕ) (u : View) (d : Turned z 1 0 (λ _. number) (λ _. Flush 1 number ∷ []) w n u) where
-    core_u : (state u).core ≡ happens (opening w.given) (state w).core (happening.Event.Flush 1 number)
-    core_u = ap (λ m. m.core) (goes_state z w u (Flush 1 number ∷ []) h.alone d.goes) ∙ met_core w.given (state w) (Flush 1 number) may_flush
+  place_w : (state w).core.place ≡ s0.place
+  place_w = ap (λ t. t.place) core_w ∙ unlocks_keep _ (λ t. t.place) (opening b.given) e.rows after_end (λ t r. refl)
 
-    worker_u : (state u).core.worker 1 ≡ finished (s0.worker 1) (suc (s0.worker 1).clock)
-    worker_u = ap (λ t. t.worker 1) core_u ∙ worker_w
+  low_w : (i : ℕ) → IsLow number ((state w).core.row i)
+  low_w i = subst (λ (k : ℕ → Row). IsLow number (k i)) (sym (ap (λ t. t.row) core_w)) (low_rows (opening b.given) e.rows after_end number
+      (subst (λ (a : Worker). a.end ≤ number) (sym (upd_same s0.worker 1 (finished (s0.worker 1) (suc (s0.worker 1).clock)) 1 refl)) (let q = h.session.clock in omega arith))
+      (λ j. let p = h.stamps.row j in let q = h.stamps.read_end j in (omega arith, omega arith)) i)
 
-    page_u : (state u).core.page ≡ s0.page
-    page_u = ap (λ t. t.page) core_u ∙ (ap (λ t. t.page) core_w ∙ unlocks_keep _ (λ t. t.page) (opening b.given) e.rows after_end (λ t r. refl))
-
-    place_u : (state u).core.place ≡ s0.place
-    place_u = ap (λ t. t.place) core_u ∙ (ap (λ t. t.place) core_w ∙ unlocks_keep _ (λ t. t.place) (opening b.given) e.rows after_end (λ t r. refl))
-
-    row_u : (state u).core.row ≡ (state w).core.row
-    row_u = ap (λ t. t.row) core_u
-
-    low_u : (i : ℕ) → IsLow number ((state u).core.row i)
-    low_u i = subst (λ (k : ℕ → Row). IsLow number (k i)) (sym (row_u ∙ ap (λ t. t.row) core_w)) (low_rows (opening b.given) e.rows after_end number
-        (subst (λ (a : Worker). a.end ≤ number) (sym (upd_same s0.worker 1 (finished (s0.worker 1) (suc (s0.worker 1).clock)) 1 refl)) (let q = h.session.clock in omega arith))
-        (λ j. let p = h.stamps.row j in let q = h.stamps.read_end j in (omega arith, omega arith)) i)
-
-    pub after_commit : (is : Log) → is.flushed ≡ number → is.last ≡ number → Holds z u (ended_session x number) is
-    after_commit is flushed_is last_is = record {
+  -- a session whose transaction has ended, where nothing but the flushed number has changed since
+  module _ (u : View) (given : u.given ≡ w.given) (held : u.held ≡ w.held) (page_u : (state u).core.page ≡ (state w).core.page) (place_u : (state u).core.place ≡ (state w).core.place) (row_u : (state u).core.row ≡ (state w).core.row)
+      (worker_u : (state u).core.worker 1 ≡ (state w).core.worker 1) (is : Log) (flushed_u : (state u).core.flushed 1 ≡ is.flushed) (order : is.flushed ≤ number) (floor : x.floor ≤ is.flushed) (last_is : is.last ≡ number) where
+    pub holds_ended : Holds z u (ended_session x number) is
+    holds_ended = record {
       alone = h.alone;
-      idle = d.held ∙ e.idle;
-      rows = rows_on z b u x.frames x.held.count (d.goes.given ∙ e.given) h.rows;
-      session = subst (λ a. IsOf (ended_session x number) a) (sym worker_u) (record {
+      idle = held ∙ e.idle;
+      rows = rows_on z b u x.frames x.held.count (given ∙ e.given) h.rows;
+      session = subst (λ a. IsOf (ended_session x number) a) (sym (worker_u ∙ worker_w)) (record {
         is_open = refl;
         txn = h.session.txn;
         clock = let q = h.session.clock in omega arith;
         floor = h.session.floor;
         debt = h.session.debt;
         end = let q = h.session.clock in omega arith;
-        changes = refl;
+        undo = refl;
       });
       numbers = record {
         last = last_is;
         order = omega arith;
-        floor = let a = h.numbers.floor in let c = h.numbers.order in let k = h.numbers.last in omega arith;
+        floor = floor;
         debt = h.numbers.debt;
         end = omega arith;
         open_low = λ q. absurd (true≢false (sym q));
         small = let q = h.numbers.open_low opened in omega arith;
         room = λ q. absurd (true≢false (sym q));
+        undo_room = λ some. absurd (omega arith);
         closed_txn = λ _. let q = h.numbers.txn in omega arith;
         txn = let q = h.numbers.txn in omega arith;
-        changes = omega arith;
+        few = omega arith;
       };
-      flushed = ap (λ t. t.flushed 1) core_u ∙ (upd_same (state w).core.flushed 1 number 1 refl ∙ sym flushed_is);
+      flushed = flushed_u;
       stamps = record {
-        page = λ p. let q = h.stamps.page p in let k = ap (λ y. (y p).gsn) page_u in omega arith;
-        log = λ p. subst (λ (y : ℕ → Contents). ((y p).last ≤ 1) ⊎ ((y p).gsn ≤ x.floor)) (sym page_u) (h.stamps.log p);
-        row = λ i. (low_u i).0;
-        read_end = λ i. (low_u i).1;
+        page = λ p. let q = h.stamps.page p in let k = ap (λ y. (y p).gsn) (page_u ∙ page_w) in omega arith;
+        log = λ p. subst (λ (y : ℕ → Contents). ((y p).last ≤ 1) ⊎ ((y p).gsn ≤ x.floor)) (sym (page_u ∙ page_w)) (h.stamps.log p);
+        row = λ i. subst (λ (k : ℕ → Row). (k i).number ≤ number) (sym row_u) (low_w i).0;
+        read_end = λ i. subst (λ (k : ℕ → Row). (k i).read_end ≤ number) (sym row_u) (low_w i).1;
       };
-      resident = resident_on z b u (d.goes.given ∙ e.given) place_u h.resident;
+      resident = resident_on z b u (given ∙ e.given) (place_u ∙ place_w) h.resident;
       held = λ i. ((λ q. absurd (true≢false (sym q ∙ (ap (λ k. holds_row (k i) 1) row_u ∙ e.free i)))), (λ q. absurd q));
       within = λ i q. absurd q;
       fewer = omega arith;
       none = λ _. refl;
-      free = free_same b u x.free (d.goes.given ∙ e.given) page_u h.free;
+      free = free_same b u x.free (given ∙ e.given) (page_u ∙ page_w) h.free;
       spare = h.spare;
     }
+
+  -- behind an abort, which flushes nothing
+  pub after_abort : (is : Log) → is.flushed ≡ log.flushed → is.last ≡ number → Holds z w (ended_session x number) is
+  after_abort is flushed_is last_is = holds_ended w refl refl refl refl refl refl is
+      (ap (λ k. k 1) flushed_w ∙ (h.flushed ∙ sym flushed_is))
+      (let a = h.numbers.order in let k = h.numbers.last in omega arith) (let a = h.numbers.floor in omega arith) last_is
+
+  -- ## Behind the flush
+
+  module _ (n : ℕ) (u : View) (d : Turned z 1 0 (λ _. number) (λ _. Flush 1 number ∷ []) w n u) where
+    core_u : (state u).core ≡ happens (opening w.given) (state w).core (happening.Event.Flush 1 number)
+    core_u = ap (λ m. m.core) (goes_state z w u (Flush 1 number ∷ []) h.alone d.goes) ∙ met_core w.given (state w) (Flush 1 number) may_flush
+
+    pub after_commit : (is : Log) → is.flushed ≡ number → is.last ≡ number → Holds z u (ended_session x number) is
+    after_commit is flushed_is last_is = holds_ended u d.goes.given d.held (ap (λ t. t.page) core_u) (ap (λ t. t.place) core_u) (ap (λ t. t.row) core_u) (ap (λ t. t.worker 1) core_u) is
+        (ap (λ t. t.flushed 1) core_u ∙ (upd_same (state w).core.flushed 1 number 1 refl ∙ sym flushed_is)) (omega arith)
+        (let a = h.numbers.floor in let c = h.numbers.order in let k = h.numbers.last in omega arith) last_is
 
 -- ## What its log said
 
@@ -332,7 +347,7 @@ within_then old mid c f n = record {
 -- ## In a run
 
 module _ (reached : EveryReached) (needs : EveryNeed) (answers : EveryAnswer) (entries : EveryEntry) (turns : controls.EveryTurn) (versions : EveryVersion) (keeps : EveryKept) (prefixes : EveryPrefix) (seals : EverySealed)
-    (g : Opening) (xs : List Done) (z : Shape) (b : View) (x : Session) (log : Log) (h : Holds z b x log) (t : Ties g xs b) (opened : x.is_open ≡ true) (number : ℕ) (number_is : number ≡ x.clock + 1) where
+    (g : Opening) (xs : List Done) (z : Shape) (b : View) (x : Session) (log : Log) (h : Holds z b x log) (t : Ties g xs x.half b) (opened : x.is_open ≡ true) (going : x.half ≡ false) (number : ℕ) (number_is : number ≡ x.clock + 1) where
   abbrev first : List happening.Event
   first = t.loads
 
@@ -405,7 +420,7 @@ module _ (reached : EveryReached) (needs : EveryNeed) (answers : EveryAnswer) (e
 
   -- ## Behind the end
 
-  module _ (w : View) (e : Ended (length x.held.rows) b log.flushed w) where
+  module _ (w : View) (e : Ended (length x.held.rows) b true log.flushed w) where
     abbrev rows : List ℕ
     rows = e.rows
 
@@ -442,7 +457,7 @@ module _ (reached : EveryReached) (needs : EveryNeed) (answers : EveryAnswer) (e
       logs = behind.loads_log first t.are_loads;
       met = behind_lead.met;
       flushed = all_is;
-      whole = t.whole;
+      whole = t.half_is ∙ going;
       number_is = sym of_s.txn;
       at_is = let q = of_s.clock in omega arith;
       entry = ap (entry_of 1) r_is ∙ (entries g s 1 (s.worker 1)).commit log.flushed;
@@ -455,7 +470,7 @@ module _ (reached : EveryReached) (needs : EveryNeed) (answers : EveryAnswer) (e
     told = (answers limits g 1 xs).commit first 1 x.txn number log.flushed rows true r is_commit
 
     flush_met : may g (behind_first g xs lead) flush_event ≡ true
-    flush_met = behind.may_is reached needs g xs lead w behind_lead flush_event ∙ may_flush turns z b x log h opened number number_is w e
+    flush_met = behind.may_is reached needs g xs lead w behind_lead flush_event ∙ may_flush turns z b x log h opened number number_is true w e
 
     -- ## On the disk
 
@@ -582,19 +597,24 @@ module _ (reached : EveryReached) (needs : EveryNeed) (answers : EveryAnswer) (e
             loads = t.are_loads;
             few = few_events;
             refused = λ why q. absurd (cc);
-            refuses = λ why q. absurd (not_refused why (((state_after g (front xs ++ first)).worker 1).is_open) open_there q);
+            refuses = λ why q. absurd (not_refused why (is_half_done xs) (((state_after g (front xs ++ first)).worker 1).is_open) (t.half_is ∙ going) open_there q);
             log = (
               mid_log,
               subst (λ (q : State). LogsEntry g q end_event log mid_log) (sym here) (record { record_of = r; entry = ap (λ (q : State). q.entries) (if_met (may g s end_event) end_met s (ends s 1 entry_s)) ∙ ap (λ q. q ∷ s.entries) (sym is_commit.entry); after = after }),
               unlocks_logs (step g (state_after g (front xs ++ first)) end_event) rows,
             );
-            room = λ key value e. absurd (cc);
+            room = unlocks_structure rows;
           }
             where
               -- rows that are given back log nothing
               unlocks_logs : (q : State) (is_held : List ℕ) → Logs g q (unlocks 1 is_held ++ flush_event ∷ []) mid_log is
               unlocks_logs q [] = (is, is_flushed, refl)
               unlocks_logs q (i ∷ is_held) = (mid_log, refl, unlocks_logs (step g q (happening.Event.Unlock 1 i)) is_held)
+
+              -- and leave the tree
+              unlocks_structure : (is_held : List ℕ) → any is_structure (unlocks 1 is_held ++ flush_event ∷ []) ≡ false
+              unlocks_structure [] = refl
+              unlocks_structure (i ∷ is_held) = unlocks_structure is_held
 
               few_events : length done.events ≤ 2 ^ 18
               few_events =
@@ -607,11 +627,12 @@ module _ (reached : EveryReached) (needs : EveryNeed) (answers : EveryAnswer) (e
                   let n = length_unlocks rows in
                   omega arith
 
-              not_refused : (why : Refusal) (c : Bool) → c ≡ true → cond c None (Some refusal.NoTransaction) ≡ Some why → ⊥
-              not_refused why true q e = cc
-              not_refused why false q e = true≢false (sym q)
+              not_refused : (why : Refusal) (half c : Bool) → half ≡ false → c ≡ true → cond half (Some refusal.NoTransaction) (cond c None (Some refusal.NoTransaction)) ≡ Some why → ⊥
+              not_refused why true c whole q e = true≢false whole
+              not_refused why false true whole q e = cc
+              not_refused why false false whole q e = true≢false (sym q)
 
-          pub does : (n : ℕ) (u : View) → Turned z 1 0 (λ _. number) (λ _. Flush 1 number ∷ []) w n u → DoesOn g xs call.Commit (answer.Committed x.txn number) u log is old new
+          pub does : (n : ℕ) (u : View) → Turned z 1 0 (λ _. number) (λ _. Flush 1 number ∷ []) w n u → DoesOn g xs call.Commit (answer.Committed x.txn number) false u log is old new
           does n u d = record {
             does = record {
               done = done;
@@ -629,20 +650,20 @@ module _ (reached : EveryReached) (needs : EveryNeed) (answers : EveryAnswer) (e
 
 -- ## In every run, from where its rows are latched
 
-module _ (z : Shape) (v : View) (x : Session) (log : Log) (marks : List Bool) (l : Latched z v x log marks) (opened : x.is_open ≡ true) (floor number : ℕ) (floor_is : floor ≡ log.flushed) (number_is : number ≡ x.clock + 1) where
-  pub may_end_at : MayEnd z v x floor marks
-  may_end_at = subst (λ f. MayEnd z v x f marks) (sym floor_is) (may_end z v x log marks l opened)
+module _ (z : Shape) (v : View) (x : Session) (log : Log) (marks : List Bool) (l : Latched z v x log marks) (opened : x.is_open ≡ true) (going : x.half ≡ false) (floor number : ℕ) (floor_is : floor ≡ log.flushed) (number_is : number ≡ x.clock + 1) where
+  pub may_end_at : MayEnd z v x true floor marks
+  may_end_at = subst (λ f. MayEnd z v x true f marks) (sym floor_is) (may_end z v x log marks true l opened (λ e. absurd (true≢false e)))
 
-  module _ (w : View) (e : Ended (length x.held.rows) v floor w) where
-    ended : Ended (length x.held.rows) l.before log.flushed w
-    ended = ended_as (length x.held.rows) l.before v w log.flushed l.latching.given l.latching.seen (subst (λ f. Ended (length x.held.rows) v f w) floor_is e)
+  module _ (w : View) (e : Ended (length x.held.rows) v true floor w) where
+    ended : Ended (length x.held.rows) l.before true log.flushed w
+    ended = ended_as (length x.held.rows) true l.before v w log.flushed l.latching.given l.latching.seen (subst (λ f. Ended (length x.held.rows) v true f w) floor_is e)
 
     pub may_flush_at : controls.EveryTurn → (y : Shape) → y ≡ z → MayTurn y 1 0 (λ _. number) (λ _. Flush 1 number ∷ []) w
-    may_flush_at turns y same = subst (λ k. MayTurn k 1 0 (λ _. number) (λ _. Flush 1 number ∷ []) w) (sym same) (may_turn turns z l.before x log l.holds opened number number_is w ended)
+    may_flush_at turns y same = subst (λ k. MayTurn k 1 0 (λ _. number) (λ _. Flush 1 number ∷ []) w) (sym same) (may_turn turns z l.before x log l.holds opened number number_is true w ended)
 
     pub holds_after : controls.EveryTurn → (y : Shape) → y ≡ z → (n : ℕ) (u : View) → Turned y 1 0 (λ _. number) (λ _. Flush 1 number ∷ []) w n u → (is : Log) → is.flushed ≡ number → is.last ≡ number → Holds z u (ended_session x number) is
     holds_after turns y same n u d is flushed_is last_is =
-        after_commit turns z l.before x log l.holds opened number number_is w ended n u (subst (λ k. Turned k 1 0 (λ _. number) (λ _. Flush 1 number ∷ []) w n u) same d) is flushed_is last_is
+        after_commit turns z l.before x log l.holds opened number number_is true w ended n u (subst (λ k. Turned k 1 0 (λ _. number) (λ _. Flush 1 number ∷ []) w n u) same d) is flushed_is last_is
 
     module _ (reached : EveryReached) (needs : EveryNeed) (answers : EveryAnswer) (entries : EveryEntry) (turns : controls.EveryTurn) (versions : EveryVersion) (keeps : EveryKept) (prefixes : EveryPrefix) (seals : EverySealed)
         (need : ℕ) (need_is : need ≡ need_of x.debt floor) (old mid new : Story) (lawful : IsLawful old) (mid_log : Log) (stages : StagesOn 1 (record { txn = x.txn; gsn = number; body = body.Commit need }) log mid_log old mid) (staged : OnDisk log old mid) (flushing : OnDisk mid_log mid new) where
@@ -652,17 +673,17 @@ module _ (z : Shape) (v : View) (x : Session) (log : Log) (marks : List Bool) (l
       stages_at : StagesOn 1 (record { txn = x.txn; gsn = number; body = body.Commit (need_of x.debt log.flushed) }) log mid_log old mid
       stages_at = subst (λ q. StagesOn 1 (record { txn = x.txn; gsn = number; body = body.Commit q }) log mid_log old mid) need_at stages
 
-      pub unflushed_does : (u : View) (is : Log) → CallDoes call.Commit (answer.Refused refusal.DiskFault) v u log is old new
-      unflushed_does u is g xs t =
-          unflushed reached needs answers entries turns versions keeps prefixes seals g xs z l.before x log l.holds (ties_as g xs l.before v l.latching.given l.latching.seen t) opened number number_is w ended old mid lawful mid_log stages_at staged new flushing
+      pub unflushed_does : (half : Bool) (u : View) (is : Log) → CallDoes call.Commit (answer.Refused refusal.DiskFault) x.half half v u log is old new
+      unflushed_does half u is g xs t =
+          unflushed reached needs answers entries turns versions keeps prefixes seals g xs z l.before x log l.holds (ties_as g xs l.before v l.latching.given l.latching.seen t) opened going number number_is w ended old mid lawful mid_log stages_at staged new flushing
 
       pub flushed_does : (y : Shape) → y ≡ z → (n : ℕ) (u : View) → Turned y 1 0 (λ _. number) (λ _. Flush 1 number ∷ []) w n u → (is : Log) → FlushesOn 1 mid_log is mid new → mid_log.last ≡ number → After (record { txn = x.txn; gsn = number; body = body.Commit need }) log mid_log
-          → is ≡ flushed_log mid_log → CallDoes call.Commit (answer.Committed x.txn number) v u log is old new
+          → is ≡ flushed_log mid_log → CallDoes call.Commit (answer.Committed x.txn number) x.half false v u log is old new
       flushed_does y same n u d is flushes_on last after is_flushed g xs t =
-          does reached needs answers entries turns versions keeps prefixes seals g xs z l.before x log l.holds (ties_as g xs l.before v l.latching.given l.latching.seen t) opened number number_is w ended old mid lawful mid_log stages_at staged new flushing
+          does reached needs answers entries turns versions keeps prefixes seals g xs z l.before x log l.holds (ties_as g xs l.before v l.latching.given l.latching.seen t) opened going number number_is w ended old mid lawful mid_log stages_at staged new flushing
           is flushes_on last (subst (λ q. After (record { txn = x.txn; gsn = number; body = body.Commit q }) log mid_log) need_at after) is_flushed n u (subst (λ k. Turned k 1 0 (λ _. number) (λ _. Flush 1 number ∷ []) w n u) same d)
 
-  pub unstaged_does : EveryReached → EveryNeed → EveryAnswer → EveryEntry → controls.EveryTurn → EveryVersion → EveryKept → EveryPrefix → EverySealed → (old new : Story) → IsLawful old → OnDisk log old new → (u : View) (is : Log)
-      → CallDoes call.Commit (answer.Refused refusal.DiskFault) v u log is old new
-  unstaged_does reached needs answers entries turns versions keeps prefixes seals old new lawful o u is g xs t =
-      unstaged reached needs answers entries turns versions keeps prefixes seals g xs z l.before x log l.holds (ties_as g xs l.before v l.latching.given l.latching.seen t) opened number number_is old new lawful o
+  pub unstaged_does : EveryReached → EveryNeed → EveryAnswer → EveryEntry → controls.EveryTurn → EveryVersion → EveryKept → EveryPrefix → EverySealed → (old new : Story) → IsLawful old → OnDisk log old new → (half : Bool) (u : View) (is : Log)
+      → CallDoes call.Commit (answer.Refused refusal.DiskFault) x.half half v u log is old new
+  unstaged_does reached needs answers entries turns versions keeps prefixes seals old new lawful o half u is g xs t =
+      unstaged reached needs answers entries turns versions keeps prefixes seals g xs z l.before x log l.holds (ties_as g xs l.before v l.latching.given l.latching.seen t) opened going number number_is old new lawful o

@@ -32,7 +32,7 @@ use Rattle.engine_calls.specs.Parts.{EveryPart, behind_first}
 use Rattle.engine_calls.specs.Refused.{IsRefusal, TakesRows, refused_by}
 use Rattle.engine_calls.proofs.MarkLemmas.{any_append, keep_none}
 use Rattle.engine_calls.proofs.PartLemmas.{every_part}
-use Rattle.engine_trait.specs.Calls.{IsTold, Logs}
+use Rattle.engine_trait.specs.Calls.{IsTold, Logs, is_half_done}
 use Rattle.engine_trait.specs.Limits.{limits}
 use Rattle.engine_trait.specs.Refusals.{IsRefusedFor, refusal_in}
 use Rattle.row_words.specs.declared.event.Event.{Event}
@@ -46,10 +46,11 @@ use Rattle.row_engine.specs.Calls.{CallDoes, DoesOn, commit_answer}
 use Rattle.btree_smo.specs.Outcomes.{AreMisses}
 use Rattle.row_engine.specs.Ends.{AreMine, Missed}
 use Rattle.row_engine.specs.Holds.{AreStamps, Holds, IsOf}
-use Rattle.row_engine.specs.Inside.{call_test}
+use Rattle.row_engine.specs.Inside.{call_test, is_going}
 use Rattle.row_engine.specs.Ties.{Ties}
 use Rattle.row_engine.specs.declared.commits.Ended as committed
 use Rattle.row_engine.specs.declared.session.Session.{Session}
+use Rattle.row_engine.proofs.GoingLemmas.{going, not_going, tests_as}
 use Rattle.row_engine.proofs.Behind as behind
 use Rattle.row_engine.proofs.Behind.{rows_on}
 use Rattle.row_engine.proofs.LatchLemmas.{replicated, seen_state}
@@ -62,32 +63,33 @@ use Rattle.row_engine.proofs.Moments.{free_same, resident_on}
 pub record IsReady (x : Session) : Type 0 where
   pub works : x.works ≡ true
   pub is_open : x.is_open ≡ true
+  pub whole : x.half ≡ false
 
 pub ready_of : (x : Session) → call_test x ≡ None → IsReady x
 ready_of x e = works_case x.works refl e
   where
-    open_case : x.works ≡ true → (b : Bool) → x.is_open ≡ b → cond b None (Some refusal.NoTransaction) ≡ None → IsReady x
-    open_case w true q r = record { works = w; is_open = q }
+    open_case : x.works ≡ true → (b : Bool) → is_going x ≡ b → cond b None (Some refusal.NoTransaction) ≡ None → IsReady x
+    open_case w true q r = let k = going x q in record { works = w; is_open = k.is_open; whole = k.whole }
     open_case w false q r = absurd (cc)
 
-    works_case : (b : Bool) → x.works ≡ b → cond b (cond x.is_open None (Some refusal.NoTransaction)) (Some refusal.Broken) ≡ None → IsReady x
-    works_case true q r = open_case q x.is_open refl r
+    works_case : (b : Bool) → x.works ≡ b → cond b (cond (is_going x) None (Some refusal.NoTransaction)) (Some refusal.Broken) ≡ None → IsReady x
+    works_case true q r = open_case q (is_going x) refl r
     works_case false q r = absurd (cc)
 
 -- why it is refused
 pub data Tested (x : Session) (why : Refusal) : Type 0 where
   Fails : x.works ≡ false → why ≡ refusal.Broken → Tested x why
-  Closed : x.works ≡ true → x.is_open ≡ false → why ≡ refusal.NoTransaction → Tested x why
+  Closed : x.works ≡ true → is_going x ≡ false → why ≡ refusal.NoTransaction → Tested x why
 
 pub tested : (x : Session) (why : Refusal) → call_test x ≡ Some why → Tested x why
 tested x why e = works_case x.works refl e
   where
-    open_case : x.works ≡ true → (b : Bool) → x.is_open ≡ b → cond b None (Some refusal.NoTransaction) ≡ Some why → Tested x why
+    open_case : x.works ≡ true → (b : Bool) → is_going x ≡ b → cond b None (Some refusal.NoTransaction) ≡ Some why → Tested x why
     open_case w true q r = absurd (cc)
     open_case w false q r = Closed w q (cc)
 
-    works_case : (b : Bool) → x.works ≡ b → cond b (cond x.is_open None (Some refusal.NoTransaction)) (Some refusal.Broken) ≡ Some why → Tested x why
-    works_case true q r = open_case q x.is_open refl r
+    works_case : (b : Bool) → x.works ≡ b → cond b (cond (is_going x) None (Some refusal.NoTransaction)) (Some refusal.Broken) ≡ Some why → Tested x why
+    works_case true q r = open_case q (is_going x) refl r
     works_case false q r = Fails q (cc)
 
 -- ## Latches
@@ -100,7 +102,7 @@ start_mine frames count marks hs m e = subst (λ ms. AreMine frames count ms hs)
   only = λ row held. absurd (true≢false (sym held));
 }))
 
-length_events : (es : List Event) → length (events_of es) ≡ length es
+pub length_events : (es : List Event) → length (events_of es) ≡ length es
 length_events [] = refl
 length_events (e ∷ es) = let q = length_events es in omega arith
 
@@ -138,7 +140,7 @@ holds_missed z y v w x log same m h = subst (λ k. Holds k w x log) (sym same) (
 -- ## In a run
 
 module _ (reached : EveryReached) (needs : EveryNeed) (answers : EveryAnswer) (coming : EveryComing) (versions : EveryVersion) (keeps : EveryKept) (prefixes : EveryPrefix) (seals : EverySealed)
-    (g : Opening) (xs : List Done) (z : Shape) (v : View) (x : Session) (log : Log) (h : Holds z v x log) (t : Ties g xs v) (w : View) (m : Missed (length x.held.rows) v w) where
+    (g : Opening) (xs : List Done) (z : Shape) (v : View) (x : Session) (log : Log) (h : Holds z v x log) (t : Ties g xs x.half v) (w : View) (m : Missed (length x.held.rows) v w) where
   abbrev first : List happening.Event
   first = t.loads
 
@@ -196,9 +198,9 @@ module _ (reached : EveryReached) (needs : EveryNeed) (answers : EveryAnswer) (c
   refused_is : (p q : Refusal) → answer.Refused p ≡ answer.Refused q → p ≡ q
   refused_is p q r = cc
 
-  refuses : (st : Story) → IsLawful st → (why : Refusal) → IsRefusal limits g xs 1 call.Commit why es → IsRefusedFor g (state_after g (front xs ++ es)) log call.Commit why
-      → ((q : Refusal) → refusal_in g (state_after g (front xs ++ first)) log call.Commit ≡ Some q → (why ≡ q) ⊎ (why ≡ refusal.RowSpent)) → is_conflict why ≡ false → is_last_refusal why ≡ true
-      → is_half (marks_by 1 (outcomes (refused_by 1 call.Commit why es ∷ xs))) ≡ false → DoesOn g xs call.Commit (answer.Refused why) w log log st st
+  refuses : (st : Story) → IsLawful st → (why : Refusal) → IsRefusal limits g xs 1 call.Commit why es → IsRefusedFor g (state_after g (front xs ++ es)) (is_half_done xs) log call.Commit why
+      → ((q : Refusal) → refusal_in g (state_after g (front xs ++ first)) (is_half_done xs) log call.Commit ≡ Some q → (why ≡ q) ⊎ (why ≡ refusal.RowSpent)) → is_conflict why ≡ false → is_last_refusal why ≡ true
+      → is_half (marks_by 1 (outcomes (refused_by 1 call.Commit why es ∷ xs))) ≡ x.half → DoesOn g xs call.Commit (answer.Refused why) x.half w log log st st
   refuses st lawful why is for_it only no_conflict last half = record {
     does = record {
       done = refused_by 1 call.Commit why es;
@@ -213,10 +215,10 @@ module _ (reached : EveryReached) (needs : EveryNeed) (answers : EveryAnswer) (c
         events = refl;
         loads = t.are_loads;
         few = few_events;
-        refused = λ q r. subst (λ k. IsRefusedFor g (state_after g (front xs ++ es)) log call.Commit k) (refused_is why q r) for_it;
+        refused = λ q r. subst (λ k. IsRefusedFor g (state_after g (front xs ++ es)) (is_half_done xs) log call.Commit k) (refused_is why q r) for_it;
         refuses = λ q r. either q (only q r);
         log = misses_logs (state_after g (front xs ++ first)) m.misses m.are_misses;
-        room = λ key value e. absurd (cc);
+        room = misses_structure m.misses m.are_misses;
       };
       keeps = λ s0 k bt is_log.
           behind.keeps_by g xs (refused_by 1 call.Commit why es) s0 k k log st st
@@ -247,24 +249,25 @@ module _ (reached : EveryReached) (needs : EveryNeed) (answers : EveryAnswer) (c
       either q (inl e) = inl (ap answer.Refused e)
       either q (inr e) = inr (ap answer.Refused e)
 
-  closed_there : x.is_open ≡ false → ((state_after g (front xs ++ first)).worker 1).is_open ≡ false
-  closed_there closed = ap (λ k. (k.worker 1).is_open) here ∙ (of_s.is_open ∙ closed)
-
-  -- no transaction is open
-  pub closed_does : (st : Story) → IsLawful st → x.is_open ≡ false → DoesOn g xs call.Commit (answer.Refused refusal.NoTransaction) w log log st st
-  closed_does st lawful closed = refuses st lawful refusal.NoTransaction (is_refusal refusal.NoTransaction (inl (ap (λ k. (k.worker 1).is_open) state_es ∙ (of_s.is_open ∙ closed))) refl)
-      (inl (ap (λ b. cond b None (Some refusal.NoTransaction)) closed_es))
-      (λ q r. inl (some_is refusal.NoTransaction q (sym (ap (λ b. cond b None (Some refusal.NoTransaction)) (closed_there closed)) ∙ r))) refl refl t.whole
+  -- no transaction goes on
+  pub closed_does : (st : Story) → IsLawful st → is_going x ≡ false → DoesOn g xs call.Commit (answer.Refused refusal.NoTransaction) x.half w log log st st
+  closed_does st lawful closed = refuses st lawful refusal.NoTransaction (is_refusal refusal.NoTransaction (cause (not_going x closed)) refl)
+      (inl (none (state_after g (front xs ++ es)) (behind.front_is g xs es ∙ state_es)))
+      (λ q r. inl (some_is refusal.NoTransaction q (sym (none (state_after g (front xs ++ first)) here) ∙ r))) refl refl t.half_is
     where
-      closed_es : ((state_after g (front xs ++ es)).worker 1).is_open ≡ false
-      closed_es = ap (λ k. (k.worker 1).is_open) (behind.front_is g xs es ∙ state_es) ∙ (of_s.is_open ∙ closed)
+      cause : (x.half ≡ true) ⊎ (x.is_open ≡ false) → ((behind_first g xs es).worker 1).is_open ≡ false ⊎ ((is_half (marks_by 1 (outcomes xs)) ≡ true) × (call.Commit ≡ call.Abort → ⊥))
+      cause (inl half) = inr (t.half_is ∙ half, λ e. absurd (cc))
+      cause (inr shut) = inl (ap (λ k. (k.worker 1).is_open) state_es ∙ (of_s.is_open ∙ shut))
+
+      none : (q : State) → q ≡ s → refusal_in g q (is_half_done xs) log call.Commit ≡ Some refusal.NoTransaction
+      none q e = tests_as q (is_half_done xs) x (ap (λ k. (k.worker 1).is_open) e ∙ of_s.is_open) t.half_is None ∙ ap (λ b. cond b None (Some refusal.NoTransaction)) closed
 
       some_is : (p q : Refusal) → Some p ≡ Some q → p ≡ q
       some_is p q e = cc
 
   -- a latch has come to its end
-  pub spent_does : (st : Story) → IsLawful st → 2 ^ 61 ≤ length w.seen → DoesOn g xs call.Commit (answer.Refused refusal.RowSpent) w log log st st
-  spent_does st lawful many = refuses st lawful refusal.RowSpent (is_refusal refusal.RowSpent many_es tt) (inr refl) (λ q r. inr refl) refl refl t.whole
+  pub spent_does : (st : Story) → IsLawful st → 2 ^ 61 ≤ length w.seen → DoesOn g xs call.Commit (answer.Refused refusal.RowSpent) x.half w log log st st
+  spent_does st lawful many = refuses st lawful refusal.RowSpent (is_refusal refusal.RowSpent many_es tt) (inr refl) (λ q r. inr refl) refl refl t.half_is
     where
       many_es : 2 ^ 61 ≤ length (front xs ++ es)
       many_es =
@@ -276,20 +279,20 @@ module _ (reached : EveryReached) (needs : EveryNeed) (answers : EveryAnswer) (c
 -- ## In every run
 
 module _ (reached : EveryReached) (needs : EveryNeed) (answers : EveryAnswer) (coming : EveryComing) (versions : EveryVersion) (keeps : EveryKept) (prefixes : EveryPrefix) (seals : EverySealed) (z : Shape) (v : View) (x : Session) (log : Log) (h : Holds z v x log) (st : Story) (lawful : IsLawful st) where
-  pub refused_by_test : x.works ≡ true → (why : Refusal) → call_test x ≡ Some why → CallDoes call.Commit (commit_answer (Err why)) v v log log st st
+  pub refused_by_test : x.works ≡ true → (why : Refusal) → call_test x ≡ Some why → CallDoes call.Commit (commit_answer (Err why)) x.half x.half v v log log st st
   refused_by_test works why e = go (tested x why e)
     where
-      go : Tested x why → CallDoes call.Commit (answer.Refused why) v v log log st st
+      go : Tested x why → CallDoes call.Commit (answer.Refused why) x.half x.half v v log log st st
       go (Fails broken is) = absurd (true≢false (sym works ∙ broken))
-      go (Closed w closed is) = subst (λ k. CallDoes call.Commit (answer.Refused k) v v log log st st) (sym is)
+      go (Closed w closed is) = subst (λ k. CallDoes call.Commit (answer.Refused k) x.half x.half v v log log st st) (sym is)
           (λ g xs t. closed_does reached needs answers coming versions keeps prefixes seals g xs z v x log h t v (no_miss (length x.held.rows) v h.idle) st lawful closed)
 
-  pub refused_by_latch : (w : View) → Missed (length x.held.rows) v w → 2 ^ 61 ≤ length w.seen → CallDoes call.Commit (commit_answer (Err refusal.RowSpent)) v w log log st st
+  pub refused_by_latch : (w : View) → Missed (length x.held.rows) v w → 2 ^ 61 ≤ length w.seen → CallDoes call.Commit (commit_answer (Err refusal.RowSpent)) x.half x.half v w log log st st
   refused_by_latch w m many g xs t = spent_does reached needs answers coming versions keeps prefixes seals g xs z v x log h t w m st lawful many
 
 -- the answer of one whose rows are latched, from where they were not
-pub does_from : (a : Rattle.map_model.specs.declared.call.Answer.Answer) (v w u : View) (was is : Log) (old new : Story) → w.given ≡ v.given → w.seen ≡ v.seen → CallDoes call.Commit a w u was is old new → CallDoes call.Commit a v u was is old new
-does_from a v w u was is old new given seen d g xs t = d g xs (Rattle.row_engine.proofs.CommitLemmas.ties_as g xs w v (sym given) (sym seen) t)
+pub does_from : (a : Rattle.map_model.specs.declared.call.Answer.Answer) (before now : Bool) (v w u : View) (was is : Log) (old new : Story) → w.given ≡ v.given → w.seen ≡ v.seen → CallDoes call.Commit a before now w u was is old new → CallDoes call.Commit a before now v u was is old new
+does_from a before now v w u was is old new given seen d g xs t = d g xs (Rattle.row_engine.proofs.CommitLemmas.ties_as g xs w v (sym given) (sym seen) t)
 
 -- ## What is told
 

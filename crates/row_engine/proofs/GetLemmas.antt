@@ -37,13 +37,15 @@ use Rattle.btree_descent.specs.Known as pages
 use Rattle.key_locks.specs.declared.mode.Mode.TheVariants.{Shared}
 use Rattle.row_opening.specs.Openings.{EveryNeed, EveryReached}
 use Rattle.engine_trait.specs.Limits.{limits}
+use Rattle.engine_trait.specs.Calls.{is_half_done}
 use Rattle.engine_trait.specs.Refusals.{refusal_in}
 use Rattle.row_engine.specs.Calls.{CallDoes, DoesOn}
 use Rattle.row_engine.specs.Holds.{AreStamps, Holds, IsOf}
-use Rattle.row_engine.specs.Inside.{call_test}
+use Rattle.row_engine.specs.Inside.{call_test, is_going}
 use Rattle.row_engine.specs.Takes.{IsSpent, Takes}
 use Rattle.row_engine.specs.Ties.{Ties}
 use Rattle.row_engine.specs.declared.session.Session.{Session}
+use Rattle.row_engine.proofs.GoingLemmas.{going, not_going, tests_as}
 use Rattle.row_engine.proofs.Moments.{free_same, resident_on}
 use Rattle.row_engine.proofs.Behind as behind
 use Rattle.row_engine.proofs.Behind.{rows_on}
@@ -59,22 +61,22 @@ none_is : (r : Refusal) → None ≡ Some r → ⊥
 none_is r e = absurd (cc)
 
 -- no test refuses it
-pub call_open : (x : Session) → call_test x ≡ None → (x.works ≡ true) × (x.is_open ≡ true)
+pub call_open : (x : Session) → call_test x ≡ None → (x.works ≡ true) × (x.is_open ≡ true) × (x.half ≡ false)
 call_open x e = works_case x.works refl e
   where
-    open_case : x.works ≡ true → (b : Bool) → x.is_open ≡ b → cond b None (Some refusal.NoTransaction) ≡ None → (x.works ≡ true) × (x.is_open ≡ true)
-    open_case w true q r = (w, q)
+    open_case : x.works ≡ true → (b : Bool) → is_going x ≡ b → cond b None (Some refusal.NoTransaction) ≡ None → (x.works ≡ true) × (x.is_open ≡ true) × (x.half ≡ false)
+    open_case w true q r = let k = going x q in (w, k.is_open, k.whole)
     open_case w false q r = absurd (none_is _ (sym r))
 
-    works_case : (b : Bool) → x.works ≡ b → cond b (cond x.is_open None (Some refusal.NoTransaction)) (Some refusal.Broken) ≡ None → (x.works ≡ true) × (x.is_open ≡ true)
-    works_case true q r = open_case q x.is_open refl r
+    works_case : (b : Bool) → x.works ≡ b → cond b (cond (is_going x) None (Some refusal.NoTransaction)) (Some refusal.Broken) ≡ None → (x.works ≡ true) × (x.is_open ≡ true) × (x.half ≡ false)
+    works_case true q r = open_case q (is_going x) refl r
     works_case false q r = absurd (none_is _ (sym r))
 
 -- where the engine works, what refuses it is that no transaction is open
-pub call_closed : (x : Session) (why : Refusal) → x.works ≡ true → call_test x ≡ Some why → (x.is_open ≡ false) × (refusal.NoTransaction ≡ why)
-call_closed x why works e = open_case x.is_open refl ((λ i. cond (sym works i) (cond x.is_open None (Some refusal.NoTransaction)) (Some refusal.Broken)) ∙ e)
+pub call_closed : (x : Session) (why : Refusal) → x.works ≡ true → call_test x ≡ Some why → (is_going x ≡ false) × (refusal.NoTransaction ≡ why)
+call_closed x why works e = open_case (is_going x) refl ((λ i. cond (sym works i) (cond (is_going x) None (Some refusal.NoTransaction)) (Some refusal.Broken)) ∙ e)
   where
-    open_case : (b : Bool) → x.is_open ≡ b → cond b None (Some refusal.NoTransaction) ≡ Some why → (x.is_open ≡ false) × (refusal.NoTransaction ≡ why)
+    open_case : (b : Bool) → is_going x ≡ b → cond b None (Some refusal.NoTransaction) ≡ Some why → (is_going x ≡ false) × (refusal.NoTransaction ≡ why)
     open_case true q r = absurd (none_is why r)
     open_case false q r = (q, some_is _ why r)
 
@@ -191,7 +193,7 @@ open_still v w x y row k is_open = ap (λ s. s.is_open) k.session ∙ is_open
 
 -- ## In a run
 
-any_more : (p : happening.Event → Bool) (es fs : List happening.Event) → any p es ≡ false → any p fs ≡ false → any p (es ++ fs) ≡ false
+pub any_more : (p : happening.Event → Bool) (es fs : List happening.Event) → any p es ≡ false → any p fs ≡ false → any p (es ++ fs) ≡ false
 any_more p [] fs none f = f
 any_more p (x ∷ es) fs none f = go (p x) none (λ q. any_more p es fs q f)
   where
@@ -208,7 +210,7 @@ keep_none p (x ∷ es) none = go (p x) none (keep_none p es)
     go false q rest = rest q
 
 -- It was answered: the row was taken by w, and the read was seen by u.
-module _ (reached : EveryReached) (needs : EveryNeed) (answers : EveryAnswer) (g : Opening) (xs : List Done) (z : Shape) (v w u : View) (x y : Session) (log : Log) (t : Ties g xs v) (h : Holds z v x log) (i : Holds z w y log) (is_open : x.is_open ≡ true)
+module _ (reached : EveryReached) (needs : EveryNeed) (answers : EveryAnswer) (g : Opening) (xs : List Done) (z : Shape) (v w u : View) (x y : Session) (log : Log) (t : Ties g xs x.half v) (h : Holds z v x log) (i : Holds z w y log) (is_open : x.is_open ≡ true) (whole : x.half ≡ false)
     (key : ℕ) (word : Option ℕ) (k : Takes v w x y (key % x.held.count) Shared) (a : descents.Answered z.alone 1 key word w u) (held_is : u.held ≡ w.held) (st : Story) (lawful : IsLawful st) (part : EveryPart st st st) where
   abbrev first : List happening.Event
   first = t.loads
@@ -252,14 +254,14 @@ module _ (reached : EveryReached) (needs : EveryNeed) (answers : EveryAnswer) (g
     syncs = subst (λ es. AreSyncs false es) (sym no_more_logs) tt;
     met = next.met;
     value_is = value_is;
-    whole = t.whole;
+    whole = t.half_is ∙ whole;
   }
 
   told : Tells limits g 1 xs done
   told = (answers limits g 1 xs).get first [] 1 a.page key value is_read
 
-  at : (s : State) → (s.worker 1).is_open ≡ true → refusal_in g s log (call.Get key) ≡ None
-  at s e = ap (λ c. cond c None (Some refusal.NoTransaction)) e
+  at : (s : State) → (s.worker 1).is_open ≡ true → refusal_in g s (is_half_done xs) log (call.Get key) ≡ None
+  at s e i = cond ((t.half_is ∙ whole) i) (Some refusal.NoTransaction) (cond (e i) None (Some refusal.NoTransaction))
 
   open_first : ((state_after g (front xs ++ first)).worker 1).is_open ≡ true
   open_first = ap (λ s. (s.worker 1).is_open) (behind.front_is g xs first ∙ sym (behind.core_is reached needs g xs first v (behind.begins g xs v t))) ∙ (h.session.is_open ∙ is_open)
@@ -267,7 +269,7 @@ module _ (reached : EveryReached) (needs : EveryNeed) (answers : EveryAnswer) (g
   events_are : done.events ≡ first ++ (happening.Event.Lock 1 (g.row_of key) happening.Mode.Shared ∷ happening.Event.Read 1 a.page key value ∷ [])
   events_are = append_assoc first (happening.Event.Lock 1 (g.row_of key) happening.Mode.Shared ∷ []) (happening.Event.Read 1 a.page key value ∷ [])
 
-  pub got : DoesOn g xs (call.Get key) (answer.Value value) u log log st st
+  pub got : DoesOn g xs (call.Get key) (answer.Value value) x.half u log log st st
   got = record {
     does = record {
       done = done;
@@ -284,34 +286,38 @@ module _ (reached : EveryReached) (needs : EveryNeed) (answers : EveryAnswer) (g
         refused = λ why q. absurd (cc);
         refuses = λ why q. absurd (none_is why (sym (at (state_after g (front xs ++ first)) open_first) ∙ q));
         log = (log, refl, (log, refl, refl));
-        room = λ key value e. absurd (cc);
+        room = refl;
       };
       frame = framed 2 st;
       keeps = λ s0 m bt is.
           let gone = (part limits g 1 xs s0 m first m bt).quiet (happening.Event.Lock 1 (g.row_of key) happening.Mode.Shared ∷ happening.Event.Read 1 a.page key value ∷ []) refl (behind.gone_loads st lawful part g xs v t s0 m bt) in
           behind.keeps_by g xs done s0 m m log st st (subst (λ es. Gone g xs es s0 m st m st) (sym events_are) gone) told is refl (behind.nothing_written st lawful);
     };
-    ties = behind.ends g xs (taken ++ happening.Event.Read 1 a.page key value ∷ []) u next done refl t.told told (refl, refl) t.whole;
+    ties = behind.ends g xs (taken ++ happening.Event.Read 1 a.page key value ∷ []) u next done refl t.told told (refl, refl) t.half_is;
   }
 
 -- ## Refusals
 
 module _ (reached : EveryReached) (needs : EveryNeed) (answers : EveryAnswer) (coming : EveryComing) (st : Story) (lawful : IsLawful st) (part : EveryPart st st st) (z : Shape) (v : View) (x : Session) (log : Log) (h : Holds z v x log) (key : ℕ) where
   -- the worker is open as the session is, behind the loads too
-  open_in : (g : Opening) (xs : List Done) (t : Ties g xs v) → ((behind_first g xs t.loads).worker 1).is_open ≡ x.is_open
+  open_in : (g : Opening) (xs : List Done) (t : Ties g xs x.half v) → ((behind_first g xs t.loads).worker 1).is_open ≡ x.is_open
   open_in g xs t = ap (λ s. (s.worker 1).is_open) (sym (behind.core_is reached needs g xs t.loads v (behind.begins g xs v t))) ∙ h.session.is_open
 
-  pub not_got : (why : Refusal) → x.works ≡ true → call_test x ≡ Some why → CallDoes (call.Get key) (answer.Refused why) v v log log st st
-  not_got why works e = subst (λ q. CallDoes (call.Get key) (answer.Refused q) v v log log st st) (call_closed x why works e).1 closed
+  pub not_got : (why : Refusal) → x.works ≡ true → call_test x ≡ Some why → CallDoes (call.Get key) (answer.Refused why) x.half x.half v v log log st st
+  not_got why works e = subst (λ q. CallDoes (call.Get key) (answer.Refused q) x.half x.half v v log log st st) (call_closed x why works e).1 closed
     where
-      closed : CallDoes (call.Get key) (answer.Refused refusal.NoTransaction) v v log log st st
+      closed : CallDoes (call.Get key) (answer.Refused refusal.NoTransaction) x.half x.half v v log log st st
       closed g xs t = refused_does answers coming g xs v t log st lawful part (call.Get key) refusal.NoTransaction v (behind.begins g xs v t)
-          (is_refusal answers coming g xs v t log st lawful part (call.Get key) refusal.NoTransaction (inl (open_in g xs t ∙ (call_closed x why works e).0)) tt refl) refl refl (λ key value e. absurd (cc))
+          (is_refusal answers coming g xs v t log st lawful part (call.Get key) refusal.NoTransaction (cause (not_going x (call_closed x why works e).0)) tt refl) refl refl
           (inl none) (λ q r. inl (some_is refusal.NoTransaction q (sym none ∙ r)))
         where
-          none : refusal_in g (behind_first g xs t.loads) log (call.Get key) ≡ Some refusal.NoTransaction
-          none = ap (λ c. cond c None (Some refusal.NoTransaction)) (open_in g xs t ∙ (call_closed x why works e).0)
+          none : refusal_in g (behind_first g xs t.loads) (is_half_done xs) log (call.Get key) ≡ Some refusal.NoTransaction
+          none = tests_as (behind_first g xs t.loads) (is_half_done xs) x (open_in g xs t) t.half_is None ∙ ap (λ b. cond b None (Some refusal.NoTransaction)) (call_closed x why works e).0
 
-  pub spent_get : (w : View) → IsSpent v w → CallDoes (call.Get key) (answer.Refused refusal.RowSpent) v w log log st st
+          cause : (x.half ≡ true) ⊎ (x.is_open ≡ false) → ((behind_first g xs t.loads).worker 1).is_open ≡ false ⊎ ((is_half_done xs ≡ true) × (call.Get key ≡ call.Abort → ⊥))
+          cause (inl half) = inr (t.half_is ∙ half, λ q. absurd (cc))
+          cause (inr shut) = inl (open_in g xs t ∙ shut)
+
+  pub spent_get : (w : View) → IsSpent v w → CallDoes (call.Get key) (answer.Refused refusal.RowSpent) x.half x.half v w log log st st
   spent_get w s g xs t = refused_does answers coming g xs v t log st lawful part (call.Get key) refusal.RowSpent w (spent_behind g xs t.loads v w (behind.begins g xs v t) s)
-      (is_refusal answers coming g xs v t log st lawful part (call.Get key) refusal.RowSpent (spent_end g xs t.loads v w (behind.begins g xs v t) s) tt tt) refl refl (λ key value e. absurd (cc)) (inr refl) (λ q r. inr refl)
+      (is_refusal answers coming g xs v t log st lawful part (call.Get key) refusal.RowSpent (spent_end g xs t.loads v w (behind.begins g xs v t) s) tt tt) refl refl (inr refl) (λ q r. inr refl)

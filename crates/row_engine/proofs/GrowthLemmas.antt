@@ -36,6 +36,7 @@ use Rattle.row_engine.proofs.Moments.{resident_on}
 use Rattle.row_engine.proofs.Misses.{misses_core}
 use Rattle.row_engine.proofs.PutLemmas.{ran_seen, same_flushed, seen_core}
 use Rattle.row_engine.proofs.TakeLemmas.{touch_still}
+use Rattle.row_engine.proofs.UndoLemmas.{room_to_undo}
 
 -- ## Moments of a call, where nobody else steps
 
@@ -182,7 +183,7 @@ module _ (z : Shape) (v w : View) (x : Session) (log : Log) (h : Holds z v x log
       floor = h.session.floor;
       debt = sym (ap (λ c. c.debt) clock_of ∙ ap (λ k. (k.worker 1).debt) core_is);
       end = h.session.end;
-      changes = h.session.changes;
+      undo = h.session.undo;
     }
 
     numbers_on : AreNumbers u log_now
@@ -192,12 +193,13 @@ module _ (z : Shape) (v w : View) (x : Session) (log : Log) (h : Holds z v x log
       floor = let q = flushed_is in let b = h.numbers.floor in omega arith;
       debt = debt_is;
       end = let b = h.numbers.end in let k = clock_is in omega arith;
-      open_low = λ _. let k = clock_is in let b = f.small in omega arith;
+      open_low = λ _. let k = clock_is in let b = f.small in let c = f.few in omega arith;
       small = let k = clock_is in let b = f.small in omega arith;
-      room = λ _. st.came.room;
+      room = λ _. st.came.room f.whole;
       closed_txn = λ q. absurd (true≢false (sym f.is_open ∙ q));
       txn = let b = h.numbers.txn in let k = clock_is in omega arith;
-      changes = h.numbers.changes;
+      undo_room = λ _. room_to_undo st.came.entry log log_now (length x.undo) st.came.short st.came.after f.room h.numbers.few;
+      few = h.numbers.few;
     }
 
     after_growth : Holds z w u log_now

@@ -1,6 +1,8 @@
 pub mod Moments
 pub mod Misses
 pub mod Waiting
+pub mod UndoLemmas
+pub mod GoingLemmas
 pub mod Behind
 pub mod BeginLemmas
 pub mod LatchLemmas
@@ -17,6 +19,11 @@ pub mod OpenLemmas
 pub mod OpeningLemmas
 pub mod Formats
 pub mod GrowRuns
+pub mod BackLemmas
+pub mod BackRuns
+pub mod BackSteps
+pub mod AbortLemmas
+pub mod AbortRuns
 pub mod StepLemmas
 pub mod FreeLemmas
 pub mod GrowthLemmas
@@ -24,3 +31,5 @@ pub mod ChangeLemmas
 pub mod LiftLemmas
 pub mod SplitLemmas
 pub mod RoomLemmas
+pub mod DelLemmas
+pub mod DelRuns

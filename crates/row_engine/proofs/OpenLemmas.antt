@@ -1,5 +1,5 @@
 -- An engine as it begins.
-use Rattle.std.proofs.Common.{◌≡◌, ◌↔◌, ◌++◌, true, [], length, inr, refl, sym, ap, ◌∙◌, subst, arith, append-nil, true≢false}
+use Rattle.std.proofs.Common.{◌≡◌, ◌↔◌, ◌++◌, true, [], length, inr, sym, ap, ◌∙◌, subst, arith, append-nil, true≢false}
 use Rattle.map_model.specs.Lists.{Has}
 use Rattle.core_state.specs.Openings.{Opening}
 use Rattle.core_state.specs.States.{State, nodes_of, start}
@@ -16,12 +16,12 @@ use Rattle.row_engine.specs.Ties.{Ties}
 use Rattle.row_engine.specs.declared.session.Session.{Session}
 
 module _ (g : Opening) (z : Shape) (v : View) (x : Session) (log : Log) (o : IsOpened g z v x log) where
-  pub ties : Ties g [] v
+  pub ties : Ties g [] x.half v
   ties = record {
     opens = o.opens;
     told = tt;
     line = tt;
-    whole = refl;
+    half_is = sym o.session.half;
     loads = events_of v.given.before;
     are_loads = o.loads;
     few = o.few;
@@ -34,7 +34,7 @@ module _ (g : Opening) (z : Shape) (v : View) (x : Session) (log : Log) (o : IsO
   at P p = subst P (sym o.rest) p
 
   of_start : IsOf x ((start g).worker 1)
-  of_start = record { is_open = sym o.session.is_open; txn = sym o.session.txn; clock = sym o.session.clock; floor = sym o.session.floor; debt = sym o.session.debt; end = sym o.session.end; changes = sym o.session.changes }
+  of_start = record { is_open = sym o.session.is_open; txn = sym o.session.txn; clock = sym o.session.clock; floor = sym o.session.floor; debt = sym o.session.debt; end = sym o.session.end; undo = sym o.session.undo }
 
   numbers : AreNumbers x log
   numbers = record {
@@ -48,7 +48,8 @@ module _ (g : Opening) (z : Shape) (v : View) (x : Session) (log : Log) (o : IsO
     room = λ q. absurd (true≢false (sym q ∙ o.session.is_open));
     closed_txn = λ q. let a = o.session.txn in omega arith;
     txn = let a = o.session.txn in omega arith;
-    changes = let a = o.session.changes in omega arith;
+    undo_room = λ some. let a = ap length o.session.undo in absurd (omega arith);
+    few = let a = ap length o.session.undo in omega arith;
   }
 
   stamps : AreStamps (state v).core x.clock x.floor

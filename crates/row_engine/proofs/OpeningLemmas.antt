@@ -209,6 +209,7 @@ module _ (every : EveryOpened) (need : EveryNeed) (sound : EverySound) (pages : 
       residence = at.places;
       logs = at.logs (omega arith);
       few = let l = long in omega arith;
+      undo = at.undo;
     }
 
     resident : IsResident (plain_shape (length pages) count 1) (first_plain v)

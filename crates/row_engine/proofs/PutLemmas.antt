@@ -1,10 +1,13 @@
 -- A put behind the taking of its row.
-use Rattle.std.proofs.Common.{◌≡◌, ◌⊎◌, inl, inr, ◌↔◌, ◌≤◌, ◌<◌, ◌^◌, ◌+◌, ◌++◌, ℕ, suc, Bool, true, false, cond, leb, List, [], ◌∷◌, length, Option, Some, Ok, refl, sym, ap, ◌∙◌, subst, arith, true≢false, append-nil}
-use Rattle.std.proofs.lemmas.Bool.{le-leb, leb-true}
+use Rattle.std.proofs.Common.{◌≡◌, ◌⊎◌, inl, inr, ◌↔◌, ◌≤◌, ◌<◌, ◌^◌, ◌+◌, ◌++◌, ℕ, suc, Bool, true, false, cond, leb, ltb, List, [], ◌∷◌, length, Option, Some, None, Ok, refl, sym, ap, ◌∙◌, subst, arith, true≢false, append-nil}
+use Rattle.std.proofs.lemmas.Bool.{cond-true, le-leb, leb-true, lt-ltb}
 use Rattle.map_model.specs.Lists.{Has}
+use Rattle.page_model.specs.Nodes.{Format}
+use Rattle.page_model.specs.Pairs.{find}
+use Rattle.page_model.specs.Tree.{value_of, word_or}
 use Rattle.image_model.specs.Entries.{Entry, Kind, touches, written}
 use Rattle.core_state.specs.Events as happening
-use Rattle.core_state.specs.Needs.{holds_row, may}
+use Rattle.core_state.specs.Needs.{holds_row, is_held_by, may}
 use Rattle.core_state.specs.States.{Place, State, Worker, is_hot, nodes_of}
 use Rattle.core_calls.specs.Room.{EveryRoom, free_list, frees_from}
 use Rattle.core_state.specs.Steps.{at_pages, happens, write_entry}
@@ -24,16 +27,18 @@ use Rattle.rows_trait.specs.Turns.{Ran}
 use Rattle.rows_trait.specs.Views.{AreLow, Shape, after_all, state}
 use Rattle.rows_trait.specs.declared.view.View.{View}
 use Rattle.btree_descent.specs.Descents.{MetCold}
-use Rattle.btree_descent.specs.Puts.{Changed, IsRowSpent, MetFull}
+use Rattle.btree_descent.specs.Known.{said}
+use Rattle.btree_descent.specs.Puts.{Changed, IsRowSpent, MayPut, MetFull, change_of}
 use Rattle.btree_descent.specs.Trails.{Came, IsAbove}
 use Rattle.btree_descent.specs.declared.put.Put.TheVariants as put
 use Rattle.row_engine.specs.Holds.{AreNumbers, AreStamps, Holds, IsOf}
 use Rattle.row_engine.specs.Outcomes.{HasNoRoom}
-use Rattle.row_engine.specs.Puts.{MayChange}
+use Rattle.row_engine.specs.Puts.{IsChanged, MayChange}
 use Rattle.row_engine.specs.Staging.{Staging, session_clock}
 use Rattle.row_engine.specs.Takes.{IsSpent}
 use Rattle.row_engine.specs.declared.session.Session.{Session}
-use Rattle.row_engine.proofs.TakeLemmas.{own_log}
+use Rattle.row_engine.proofs.TakeLemmas.{own_log, row_is}
+use Rattle.row_engine.proofs.UndoLemmas.{many_of, room_to_undo}
 use Rattle.row_engine.proofs.Behind.{rows_on}
 use Rattle.row_engine.proofs.Moments.{free_same, met_core, resident_on}
 
@@ -127,6 +132,48 @@ no_room z v w x log key row path h m t = record {
     carried : {frame next : ℕ} → IsAbove v.given (state v) key frame next → IsAbove w.given (state w) key frame next
     carried {frame} {next} a = subst (λ es. IsAbove w.given (after_all w.given es) key frame next) (sym seen_is) (subst (λ k. IsAbove k (after_all k v.seen) key frame next) (sym m.ran.given) a)
 
+-- ## The change
+
+-- what it needs, whichever its word
+pub may_put : (z : Shape) (v : View) (x : Session) (log : Log) (key word : ℕ) → Holds z v x log → MayChange v x log key → word ≤ 2 ^ 63 → MayPut v 1 key word
+may_put z v x log key word h f low = record {
+  is_open = h.session.is_open ∙ f.is_open;
+  few = let m = many_of ((state v).core.worker 1).changes x.undo h.session.undo in let q = f.few in omega arith;
+  lock = ap (λ r. is_held_by ((state v).core.row r).holder 1) (row_is z v x.frames x.held.count key h.rows) ∙ f.row;
+  word = low;
+  small = omega arith;
+}
+
+-- a word as it is said is a value, if it is one
+said_value : (f : Format) (a : Option ℕ) → f.dead ≡ 2 ^ 63 → said a ≡ value_of f a
+said_value f None e = refl
+said_value f (Some w) e = ap (λ d. cond (ltb w d) (Some w) None) (sym e)
+
+pub value_said : (n : ℕ) → n < 2 ^ 63 → said (Some n) ≡ Some n
+value_said n lt = cond-true (ltb n (2 ^ 63)) (Some n) None (lt-ltb n (2 ^ 63) lt)
+
+-- it was seen next, and its record was staged
+pub is_changed : (z : Shape) (v w : View) (x : Session) (log : Log) (key word : ℕ) (before : Option ℕ) (rs now : List Record) (y : Session) (log_now : Log) (old new : Story) (S : Type 0) (f0 f1 : ℕ) → z.alone ≡ true
+    → Changed z.alone 1 key word before v rs w (session_clock y) now → Staging (Ok tt) x y rs now log log_now old new S f0 f1 → IsChanged v w key word (said before) log log_now old new
+is_changed z v w x log key word before rs now y log_now old new S f0 f1 alone d st = record {
+  page = d.page;
+  given = d.ran.given;
+  seen = d.seen ∙ ap (λ ys. ys ++ Change 1 d.page key word ∷ []) past_is;
+  met = (λ i. may (opening (sym d.ran.given i)) (after_all (sym d.ran.given i) (sym past_is i)).core (happening.Event.Change 1 d.page key word)) ∙ d.met;
+  told = ap said (d.told ∙ (λ i. find key ((after_all (d.ran.given i) (past_is i)).core.page d.page).node.pairs)) ∙ said_value (opening v.given).format (find key ((state v).core.page d.page).node.pairs) refl;
+  entry = st.came.entry;
+  entry_is = first_is st.came.entry (change_of (opening w.given) (after_all w.given d.past).core 1 d.page key word) rs (sym st.came.told ∙ d.staged) ∙ (λ i. change_of (opening (d.ran.given i)) (after_all (d.ran.given i) (past_is i)).core 1 d.page key word);
+  after = st.came.after;
+  stands = st.came.stands;
+  keeps = record { on = st.on; frame = st.frame; within = st.within };
+}
+  where
+    past_is : d.past ≡ v.seen
+    past_is = d.onward.whole ∙ (ap (λ ys. v.seen ++ ys) (d.onward.quiet alone) ∙ append-nil v.seen)
+
+    first_is : (a b : Record) (ts : List Record) → a ∷ ts ≡ b ∷ ts → a ≡ b
+    first_is a b ts e = cc
+
 -- ## Behind a change
 
 -- the log is flushed as it was
@@ -179,7 +226,7 @@ module _ (rooms : EveryRoom) (z : Shape) (v w : View) (x : Session) (log : Log) 
 
   module _ (old new : Story) (S : Type 0) (f0 f1 : ℕ) (held : w.held ≡ []) (st : Staging (Ok tt) x y rs now log log_now old new S f0 f1) (last : log_now.last ≡ y.clock) where
     abbrev u : Session
-    u = record x { clock = y.clock; debt = y.debt; changes = x.changes + 1 }
+    u = record x { clock = y.clock; debt = y.debt; undo = record { key = key; word = word_or (2 ^ 63) before } ∷ x.undo }
 
     flushed_is : log_now.flushed ≡ log.flushed
     flushed_is = same_flushed st.came.entry log log_now st.came.after
@@ -192,6 +239,10 @@ module _ (rooms : EveryRoom) (z : Shape) (v w : View) (x : Session) (log : Log) 
     log_on p true = inl (omega arith)
     log_on p false = h.stamps.log p
 
+    -- the word before
+    before_is : r.before ≡ word_or (2 ^ 63) before
+    before_is = ap (word_or (2 ^ 63)) ((λ i. find key ((after_all (sym d.ran.given i) (sym past_is i)).core.page page).node.pairs) ∙ sym d.told)
+
     session_on : IsOf u ((happens (opening v.given) s (happening.Event.Change 1 page key value)).worker 1)
     session_on = record {
       is_open = h.session.is_open;
@@ -200,7 +251,7 @@ module _ (rooms : EveryRoom) (z : Shape) (v w : View) (x : Session) (log : Log) 
       floor = h.session.floor;
       debt = sym (ap (λ c. c.debt) d.clock ∙ ap (λ k. (k.worker 1).debt) core_is);
       end = h.session.end;
-      changes = let q = h.session.changes in omega arith;
+      undo = λ i. record { key = key; word = before_is i } ∷ h.session.undo i;
     }
 
     numbers_on : AreNumbers u log_now
@@ -210,12 +261,13 @@ module _ (rooms : EveryRoom) (z : Shape) (v w : View) (x : Session) (log : Log) 
       floor = let a = flushed_is in let b = h.numbers.floor in omega arith;
       debt = debt_is;
       end = let a = h.numbers.end in let q = clock_is in omega arith;
-      open_low = λ _. let q = clock_is in let b = f.small in omega arith;
+      open_low = λ _. let q = clock_is in let b = f.small in let c = f.few in omega arith;
       small = let q = clock_is in let b = f.small in omega arith;
-      room = λ _. st.came.room;
+      room = λ _. st.came.room f.whole;
       closed_txn = λ e. absurd (true≢false (sym f.is_open ∙ e));
       txn = let a = h.numbers.txn in let q = clock_is in omega arith;
-      changes = let a = f.few in omega arith;
+      undo_room = λ _. let c = f.few in room_to_undo st.came.entry log log_now (suc (length x.undo)) st.came.short st.came.after f.room (omega arith);
+      few = let a = f.few in omega arith;
     }
 
     -- the same pages are free
@@ -246,8 +298,8 @@ module _ (rooms : EveryRoom) (z : Shape) (v w : View) (x : Session) (log : Log) 
       spare = h.spare;
     }
 
-    pub holds_changed : Holds z w (record y { changes = y.changes + 1 }) log_now
-    holds_changed = subst (λ k. Holds z w (record k { changes = k.changes + 1 }) log_now) (sym st.session) after_put
+    pub holds_changed : Holds z w (record y { undo = record { key = key; word = word_or (2 ^ 63) before } ∷ y.undo }) log_now
+    holds_changed = subst (λ k. Holds z w (record k { undo = record { key = key; word = word_or (2 ^ 63) before } ∷ k.undo }) log_now) (sym st.session) after_put
 
 -- an engine that is as another
 pub holds_as : (z u : Shape) (v : View) (x y : Session) (log l : Log) → u ≡ z → y ≡ x → l ≡ log → Holds z v x log → Holds u v y l

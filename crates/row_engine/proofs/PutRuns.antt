@@ -2,6 +2,7 @@
 use Rattle.std.proofs.Common.{◌≡◌, ◌⊎◌, inl, inr, ◌≤◌, ◌<◌, ◌+◌, ◌-◌, ◌^◌, ◌%◌, ◌==◌, ◌&&◌, ◌||◌, ◌++◌, ℕ, zero, suc, Bool, true, false, cond, not, leb, ltb, List, [], ◌∷◌, length, Option, Some, None, Result, Ok, Err, IfErr, IsErrAnd, refl, sym, ap, ◌∙◌, subst, arith, append-nil, true≢false}
 use Rattle.std.proofs.lemmas.Bool.{and_parts, cases_eq, leb-true, leb-false, ltb-true, eq-eqb, eqb-true}
 use Rattle.std.proofs.lemmas.List.{append_assoc, length-append}
+use Rattle.map_model.specs.declared.call.Answer.{Answer}
 use Rattle.map_model.specs.declared.call.Answer.TheVariants as answer
 use Rattle.map_model.specs.declared.call.Call.{Call}
 use Rattle.map_model.specs.declared.call.Call.TheVariants as call
@@ -54,13 +55,13 @@ use Rattle.rows_trait.specs.declared.view.View.{View}
 use Rattle.btree_descent.specs.Puts.{change_of}
 use Rattle.key_locks.specs.Rows.{event_mode}
 use Rattle.key_locks.specs.declared.mode.Mode.TheVariants.{Alone}
-use Rattle.engine_trait.specs.Calls.{Fails, IsTold, Logs, LogsEntry, Nothing}
+use Rattle.engine_trait.specs.Calls.{Fails, IsTold, Logs, LogsEntry, Nothing, is_half_done}
 use Rattle.engine_trait.specs.Limits.{AreLoads, limits}
-use Rattle.engine_trait.specs.Refusals.{IsRefusedFor, is_full_for, log_refusal, refusal_in, room_refusal}
+use Rattle.engine_trait.specs.Refusals.{IsRefusedFor, change_refusal, is_full_for, log_refusal, refusal_in, room_refusal}
 use Rattle.engine_trait.specs.Rooms.{AreRoom, MakesRoom}
 use Rattle.row_engine.specs.Calls.{CallDoes, Comes, DoesOn, put_answer}
 use Rattle.row_engine.specs.Holds.{Holds, IsOf}
-use Rattle.row_engine.specs.Inside.{put_test}
+use Rattle.row_engine.specs.Inside.{is_going, put_test}
 use Rattle.row_engine.specs.Grown.{AreAside, Behind, Gained, Grows, Went, is_aside}
 use Rattle.row_engine.specs.Outcomes.{HasFailed, HasPut, HasRoom, IsCrowded, IsStopped, Puts}
 use Rattle.row_engine.specs.Puts.{IsEarly, MayChange, works_after}
@@ -68,6 +69,8 @@ use Rattle.row_engine.specs.Rooms.{IsSpentBehind, IsUnfit}
 use Rattle.row_engine.specs.Takes.{IsSpent, Takes}
 use Rattle.row_engine.specs.Ties.{Ties}
 use Rattle.row_engine.specs.declared.session.Session.{Session}
+use Rattle.row_engine.proofs.GoingLemmas.{going, not_going, tests_as}
+use Rattle.row_engine.proofs.UndoLemmas.{many_of}
 use Rattle.row_engine.proofs.Behind as behind
 use Rattle.row_engine.proofs.BeginLemmas.{comes_told}
 use Rattle.row_engine.proofs.Formats.{full_as, full_on, refusal_as, refusal_on}
@@ -86,11 +89,11 @@ none_is r e = absurd (cc)
 -- ## Tests
 
 -- the tests of a put, and then what else there is
-abbrev gate : (a b c d : Bool) → (most : Refusal) → Option Refusal → Option Refusal
+abbrev pub gate : (a b c d : Bool) → (most : Refusal) → Option Refusal → Option Refusal
 gate a b c d most last = cond a (cond b (Some refusal.TooLong) (cond c (Some most) (cond d (Some refusal.ClockSpent) last))) (Some refusal.NoTransaction)
 
-abbrev gate_of : Session → Log → Option Refusal → Option Refusal
-gate_of x log last = gate x.is_open (leb 64 x.changes) (leb (limit log) (used log)) (leb (2 ^ 62) x.clock) (refusal.LogFull (used log) (limit log)) last
+abbrev pub gate_of : Session → Log → Option Refusal → Option Refusal
+gate_of x log last = gate (is_going x) (leb 64 (length x.undo)) (leb (limit log) (used log)) (leb (2 ^ 62) x.clock) (refusal.LogFull (used log) (limit log)) last
 
 gate_more : (a b c d : Bool) (most why : Refusal) (last : Option Refusal) → gate a b c d most None ≡ Some why → gate a b c d most last ≡ Some why
 gate_more false b c d most why last e = e
@@ -106,25 +109,26 @@ gate_none true false true d most last e = absurd (none_is _ (sym e))
 gate_none true false false true most last e = absurd (none_is _ (sym e))
 gate_none true false false false most last e = refl
 
-test_is : (x : Session) (log : Log) → x.works ≡ true → put_test x log ≡ gate_of x log None
+pub test_is : (x : Session) (log : Log) → x.works ≡ true → put_test x log ≡ gate_of x log None
 test_is x log works i = cond (works i) (gate_of x log None) (Some refusal.Broken)
 
 -- what holds where none refuses it
 pub record IsFree (x : Session) (log : Log) : Type 0 where
   pub is_open : x.is_open ≡ true
-  pub few : x.changes < 64
+  pub whole : x.half ≡ false
+  pub few : length x.undo < 64
   pub small : x.clock < 2 ^ 62
   pub room : used log < limit log
 
 pub free_of : (x : Session) (log : Log) → x.works ≡ true → put_test x log ≡ None → IsFree x log
-free_of x log works e = go x.is_open (leb 64 x.changes) (leb (limit log) (used log)) (leb (2 ^ 62) x.clock) refl refl refl refl (sym (test_is x log works) ∙ e)
+free_of x log works e = go (is_going x) (leb 64 (length x.undo)) (leb (limit log) (used log)) (leb (2 ^ 62) x.clock) refl refl refl refl (sym (test_is x log works) ∙ e)
   where
-    go : (a b c d : Bool) → x.is_open ≡ a → leb 64 x.changes ≡ b → leb (limit log) (used log) ≡ c → leb (2 ^ 62) x.clock ≡ d → gate a b c d (refusal.LogFull (used log) (limit log)) None ≡ None → IsFree x log
+    go : (a b c d : Bool) → is_going x ≡ a → leb 64 (length x.undo) ≡ b → leb (limit log) (used log) ≡ c → leb (2 ^ 62) x.clock ≡ d → gate a b c d (refusal.LogFull (used log) (limit log)) None ≡ None → IsFree x log
     go false b c d p q r u e = absurd (none_is _ (sym e))
     go true true c d p q r u e = absurd (none_is _ (sym e))
     go true false true d p q r u e = absurd (none_is _ (sym e))
     go true false false true p q r u e = absurd (none_is _ (sym e))
-    go true false false false p q r u e = record { is_open = p; few = leb-false 64 x.changes q; small = leb-false (2 ^ 62) x.clock u; room = leb-false (limit log) (used log) r }
+    go true false false false p q r u e = record { is_open = (going x p).is_open; whole = (going x p).whole; few = leb-false 64 (length x.undo) q; small = leb-false (2 ^ 62) x.clock u; room = leb-false (limit log) (used log) r }
 
 -- then the engine works
 works_of : (x : Session) (log : Log) → put_test x log ≡ None → x.works ≡ true
@@ -132,7 +136,7 @@ works_of x log e = go x.works refl
   where
     go : (b : Bool) → x.works ≡ b → x.works ≡ true
     go true w = w
-    go false w = absurd (none_is refusal.Broken (sym e ∙ (λ i. cond (w i) (cond x.is_open (cond (leb 64 x.changes) (Some refusal.TooLong) (log_refusal x.clock log None)) (Some refusal.NoTransaction)) (Some refusal.Broken))))
+    go false w = absurd (none_is refusal.Broken (sym e ∙ (λ i. cond (w i) (cond (is_going x) (cond (leb 64 (length x.undo)) (Some refusal.TooLong) (log_refusal x.clock log None)) (Some refusal.NoTransaction)) (Some refusal.Broken))))
 
 -- and once its row is taken, the key may be changed
 pub may_taken : (v v1 : View) (x x1 : Session) (log : Log) (key : ℕ) → put_test x log ≡ None → Takes v v1 x x1 (key % x.held.count) Alone → key < 2 ^ 64 - 1 → MayChange v1 x1 log key
@@ -142,7 +146,8 @@ may_taken v v1 x x1 log key e t low =
     record {
       works = ap (λ (s : Session). s.works) t.session ∙ works;
       is_open = ap (λ (s : Session). s.is_open) t.session ∙ f.is_open;
-      few = let a = ap (λ (s : Session). s.changes) t.session in let b = f.few in omega arith;
+      whole = ap (λ (s : Session). s.half) t.session ∙ f.whole;
+      few = let a = ap (λ (s : Session). length s.undo) t.session in let b = f.few in omega arith;
       small = let a = ap (λ (s : Session). s.clock) t.session in let b = f.small in omega arith;
       room = f.room;
       row = ap (λ (n : ℕ). is_held_by ((state v1).core.row (key % n)).holder 1) (ap (λ (s : Session). s.held.count) t.session ∙ with_count x.held (key % x.held.count)) ∙ t.alone refl;
@@ -151,7 +156,7 @@ may_taken v v1 x x1 log key e t low =
 
 -- a script is told of what they refuse
 pub put_told : (x : Session) (log : Log) (why : Refusal) → x.works ≡ true → put_test x log ≡ Some why → IsTold why
-put_told x log why works e = go x.is_open (leb 64 x.changes) (leb (limit log) (used log)) (leb (2 ^ 62) x.clock) (sym (test_is x log works) ∙ e)
+put_told x log why works e = go (is_going x) (leb 64 (length x.undo)) (leb (limit log) (used log)) (leb (2 ^ 62) x.clock) (sym (test_is x log works) ∙ e)
   where
     go : (a b c d : Bool) → gate a b c d (refusal.LogFull (used log) (limit log)) None ≡ Some why → IsTold why
     go false b c d e = subst IsTold (some_is _ why e) tt
@@ -166,7 +171,7 @@ put_comes x log why e = go x.works refl
   where
     go : (b : Bool) → x.works ≡ b → IsTold why ⊎ ((why ≡ refusal.Broken) ⊎ (why ≡ refusal.DiskFault))
     go true w = inl (put_told x log why w e)
-    go false w = inr (inl (sym (some_is _ why ((λ i. cond (sym w i) (cond x.is_open (cond (leb 64 x.changes) (Some refusal.TooLong) (log_refusal x.clock log None)) (Some refusal.NoTransaction)) (Some refusal.Broken)) ∙ e))))
+    go false w = inr (inl (sym (some_is _ why ((λ i. cond (sym w i) (cond (is_going x) (cond (leb 64 (length x.undo)) (Some refusal.TooLong) (log_refusal x.clock log None)) (Some refusal.NoTransaction)) (Some refusal.Broken)) ∙ e))))
 
 -- behind the tests
 pub puts_told : (r : Result (Option ℕ) Refusal) (v w : View) (key value : ℕ) (x y : Session) (was is : Log) (old new : Story) → Puts r v w key value x y was is old new → IfErr r (λ why. IsTold why ⊎ ((why ≡ refusal.Broken) ⊎ (why ≡ refusal.DiskFault)))
@@ -266,17 +271,17 @@ many_behind ys xs zs es is many =
     let c = ap (λ k. length k) is in
     omega arith
 
-steps_lock : (es : List happening.Event) (i : ℕ) (more : List happening.Event) → AreLoads es → keep is_step more ≡ [] → keep is_step (es ++ happening.Event.Lock 1 i happening.Mode.Alone ∷ more) ≡ happening.Event.Lock 1 i happening.Mode.Alone ∷ []
+pub steps_lock : (es : List happening.Event) (i : ℕ) (more : List happening.Event) → AreLoads es → keep is_step more ≡ [] → keep is_step (es ++ happening.Event.Lock 1 i happening.Mode.Alone ∷ more) ≡ happening.Event.Lock 1 i happening.Mode.Alone ∷ []
 steps_lock [] i more a none = ap (λ ys. happening.Event.Lock 1 i happening.Mode.Alone ∷ ys) none
 steps_lock (happening.Event.Load p f ∷ es) i more a none = steps_lock es i more a none
 steps_lock (_ ∷ es) i more a none = absurd a
 
-logs_lock : (es : List happening.Event) (i : ℕ) (more : List happening.Event) → AreLoads es → keep is_log more ≡ [] → keep is_log (es ++ happening.Event.Lock 1 i happening.Mode.Alone ∷ more) ≡ []
+pub logs_lock : (es : List happening.Event) (i : ℕ) (more : List happening.Event) → AreLoads es → keep is_log more ≡ [] → keep is_log (es ++ happening.Event.Lock 1 i happening.Mode.Alone ∷ more) ≡ []
 logs_lock [] i more a none = none
 logs_lock (happening.Event.Load p f ∷ es) i more a none = logs_lock es i more a none
 logs_lock (_ ∷ es) i more a none = absurd a
 
-room_lock : (es : List happening.Event) (i : ℕ) (more : List happening.Event) → AreLoads es → AreRoom more → AreRoom (es ++ happening.Event.Lock 1 i happening.Mode.Alone ∷ more)
+pub room_lock : (es : List happening.Event) (i : ℕ) (more : List happening.Event) → AreLoads es → AreRoom more → AreRoom (es ++ happening.Event.Lock 1 i happening.Mode.Alone ∷ more)
 room_lock [] i more a room = room
 room_lock (happening.Event.Load p f ∷ es) i more a room = room_lock es i more a room
 room_lock (_ ∷ es) i more a room = absurd a
@@ -337,7 +342,7 @@ clock_is_spent clock log e = go (leb (limit log) (used log)) (leb (2 ^ 62) clock
     go false false q e = absurd (cc)
 
 module _ (reached : EveryReached) (need : EveryNeed) (answers : EveryAnswer) (coming : EveryComing) (parts : (old mid new : Story) → EveryPart old mid new)
-    (g : Opening) (xs : List Done) (z : Shape) (v : View) (x : Session) (log : Log) (h : Holds z v x log) (t : Ties g xs v) (works : x.works ≡ true) (key value : ℕ) where
+    (g : Opening) (xs : List Done) (z : Shape) (v : View) (x : Session) (log : Log) (h : Holds z v x log) (t : Ties g xs x.half v) (works : x.works ≡ true) (key value : ℕ) where
   abbrev first : List happening.Event
   first = t.loads
 
@@ -347,6 +352,9 @@ module _ (reached : EveryReached) (need : EveryNeed) (answers : EveryAnswer) (co
 
   abbrev asks : Call
   asks = call.Put key value
+
+  abbrev half : Bool
+  half = is_half_done xs
 
   b : Behind g xs first v
   b = behind.begins g xs v t
@@ -361,14 +369,14 @@ module _ (reached : EveryReached) (need : EveryNeed) (answers : EveryAnswer) (co
   abbrev room_f : Option Refusal
   room_f = cond (is_full_for g sf key) (room_refusal g sf key) None
 
-  tests : refusal_in g sf log asks ≡ gate_of x log room_f
-  tests i = gate (of_f.is_open i) (leb 64 (of_f.changes i)) (leb (limit log) (used log)) (leb (2 ^ 62) (of_f.clock i)) (refusal.LogFull (used log) (limit log)) room_f
+  tests : refusal_in g sf half log asks ≡ gate_of x log room_f
+  tests = tests_as sf half x of_f.is_open t.half_is (change_refusal sf log room_f) ∙ (λ i. gate (is_going x) (leb 64 (many_of (sf.worker 1).changes x.undo of_f.undo i)) (leb (limit log) (used log)) (leb (2 ^ 62) (of_f.clock i)) (refusal.LogFull (used log) (limit log)) room_f)
 
-  early_is : (why : Refusal) → put_test x log ≡ Some why → refusal_in g sf log asks ≡ Some why
-  early_is why e = tests ∙ gate_more x.is_open (leb 64 x.changes) (leb (limit log) (used log)) (leb (2 ^ 62) x.clock) (refusal.LogFull (used log) (limit log)) why room_f (sym (test_is x log works) ∙ e)
+  early_is : (why : Refusal) → put_test x log ≡ Some why → refusal_in g sf half log asks ≡ Some why
+  early_is why e = tests ∙ gate_more (is_going x) (leb 64 (length x.undo)) (leb (limit log) (used log)) (leb (2 ^ 62) x.clock) (refusal.LogFull (used log) (limit log)) why room_f (sym (test_is x log works) ∙ e)
 
-  late_is : put_test x log ≡ None → refusal_in g sf log asks ≡ room_f
-  late_is e = tests ∙ gate_none x.is_open (leb 64 x.changes) (leb (limit log) (used log)) (leb (2 ^ 62) x.clock) (refusal.LogFull (used log) (limit log)) room_f (sym (test_is x log works) ∙ e)
+  late_is : put_test x log ≡ None → refusal_in g sf half log asks ≡ room_f
+  late_is e = tests ∙ gate_none (is_going x) (leb 64 (length x.undo)) (leb (limit log) (used log)) (leb (2 ^ 62) x.clock) (refusal.LogFull (used log) (limit log)) room_f (sym (test_is x log works) ∙ e)
 
   row_is : g.row_of key ≡ key % x.held.count
   row_is = ap (λ f. f key) t.opens.locks ∙ ap (λ n. key % n) h.rows.locks.locks
@@ -396,7 +404,7 @@ module _ (reached : EveryReached) (need : EveryNeed) (answers : EveryAnswer) (co
 
   module _ (why : Refusal) (w : View) (is : Log) (old new : Story) (o : Own w is old new) (cause : IsCause limits g (front xs ++ (first ++ o.events)) (behind_first g xs (first ++ o.events)) (is_half (marks_by 1 (outcomes xs))) 1 asks why)
       (backs : MayPutBack why []) (conflict : is_conflict why ≡ false) (last : is_last_refusal why ≡ true)
-      (caused : IsRefusedFor g (behind_first g xs (first ++ o.events)) is asks why) (due : (q : Refusal) → refusal_in g sf log asks ≡ Some q → (why ≡ q) ⊎ (why ≡ refusal.RowSpent)) where
+      (caused : IsRefusedFor g (behind_first g xs (first ++ o.events)) half is asks why) (due : (q : Refusal) → refusal_in g sf half log asks ≡ Some q → (why ≡ q) ⊎ (why ≡ refusal.RowSpent)) where
     abbrev done : Done
     done = refused_by 1 asks why (first ++ o.events)
 
@@ -425,7 +433,7 @@ module _ (reached : EveryReached) (need : EveryNeed) (answers : EveryAnswer) (co
     no_hinder false q = refl
     no_hinder true q = absurd (true≢false q)
 
-    refused_does : DoesOn g xs asks (answer.Refused why) w log is old new
+    refused_does : DoesOn g xs asks (answer.Refused why) x.half w log is old new
     refused_does = record {
       does = record {
         done = done;
@@ -439,19 +447,16 @@ module _ (reached : EveryReached) (need : EveryNeed) (answers : EveryAnswer) (co
           events = refl;
           loads = t.are_loads;
           few = let a = t.few in let b = length-append first o.events in let c = o.few in omega arith;
-          refused = λ q r. subst (λ k. IsRefusedFor g (state_after g (front xs ++ (first ++ o.events))) is asks k) (why_is why q r) (subst (λ k. IsRefusedFor g k is asks why) (sym (behind.front_is g xs (first ++ o.events))) caused);
+          refused = λ q r. subst (λ k. IsRefusedFor g (state_after g (front xs ++ (first ++ o.events))) half is asks k) (why_is why q r) (subst (λ k. IsRefusedFor g k half is asks why) (sym (behind.front_is g xs (first ++ o.events))) caused);
           refuses = λ q r. as_answer q (due q r);
           log = o.logs;
-          room = λ j n e. subst (λ k. MakesRoom g sf k o.events) (key_of j n e) o.makes;
+          room = o.makes;
         };
         frame = o.frame;
         keeps = λ s0 k bt k_is. let w = o.goes s0 k bt k_is in behind.keeps_by g xs done s0 k w.known is old new w.gone told w.log_is w.master_is w.within;
       };
-      ties = behind.ends g xs (first ++ o.events) w o.behind done refl t.told told (no_hinder (is_conflict why) conflict, last) t.whole;
+      ties = behind.ends g xs (first ++ o.events) w o.behind done refl t.told told (no_hinder (is_conflict why) conflict, last) t.half_is;
     }
-      where
-        key_of : (j n : ℕ) → call.Put key value ≡ call.Put j n → key ≡ j
-        key_of j n e = cc
 
   -- by events that are the loads alone
   module _ (w : View) (given : w.given ≡ v.given) (seen : w.seen ≡ v.seen) where
@@ -477,6 +482,10 @@ module _ (reached : EveryReached) (need : EveryNeed) (answers : EveryAnswer) (co
     of_e : IsOf x ((behind_first g xs (first ++ [])).worker 1)
     of_e = subst (λ k. IsOf x (k.worker 1)) state_is of_f
 
+    not_open : (x.half ≡ true) ⊎ (x.is_open ≡ false) → ((behind_first g xs (first ++ [])).worker 1).is_open ≡ false ⊎ ((is_half (marks_by 1 (outcomes xs)) ≡ true) × (asks ≡ call.Abort → ⊥))
+    not_open (inl q) = inr (t.half_is ∙ q, λ e. absurd (cc))
+    not_open (inr q) = inl (of_e.is_open ∙ q)
+
     record Early (why : Refusal) : Type 0 where
       cause : IsCause limits g (front xs ++ (first ++ [])) (behind_first g xs (first ++ [])) (is_half (marks_by 1 (outcomes xs))) 1 asks why
       backs : MayPutBack why []
@@ -484,21 +493,21 @@ module _ (reached : EveryReached) (need : EveryNeed) (answers : EveryAnswer) (co
       last : is_last_refusal why ≡ true
 
     early : (why : Refusal) → put_test x log ≡ Some why → Early why
-    early why e = go x.is_open (leb 64 x.changes) (leb (limit log) (used log)) (leb (2 ^ 62) x.clock) refl refl refl refl (sym (test_is x log works) ∙ e)
+    early why e = go (is_going x) (leb 64 (length x.undo)) (leb (limit log) (used log)) (leb (2 ^ 62) x.clock) refl refl refl refl (sym (test_is x log works) ∙ e)
       where
-        go : (a b c d : Bool) → x.is_open ≡ a → leb 64 x.changes ≡ b → leb (limit log) (used log) ≡ c → leb (2 ^ 62) x.clock ≡ d → gate a b c d (refusal.LogFull (used log) (limit log)) None ≡ Some why → Early why
-        go false b c d p q r u e = subst Early (some_is _ why e) (record { cause = inl (of_e.is_open ∙ p); backs = refl; conflict = refl; last = refl })
-        go true true c d p q r u e = subst Early (some_is _ why e) (record { cause = let a = leb-true 64 x.changes q in let m = of_e.changes in let n = t.opens.changes in omega arith; backs = refl; conflict = refl; last = refl })
+        go : (a b c d : Bool) → is_going x ≡ a → leb 64 (length x.undo) ≡ b → leb (limit log) (used log) ≡ c → leb (2 ^ 62) x.clock ≡ d → gate a b c d (refusal.LogFull (used log) (limit log)) None ≡ Some why → Early why
+        go false b c d p q r u e = subst Early (some_is _ why e) (record { cause = not_open (not_going x p); backs = refl; conflict = refl; last = refl })
+        go true true c d p q r u e = subst Early (some_is _ why e) (record { cause = let a = leb-true 64 (length x.undo) q in let m = many_of _ x.undo of_e.undo in let n = t.opens.changes in omega arith; backs = refl; conflict = refl; last = refl })
         go true false true d p q r u e = subst Early (some_is _ why e) (record { cause = refl; backs = refl; conflict = refl; last = refl })
         go true false false true p q r u e = subst Early (some_is _ why e) (record { cause = let a = leb-true (2 ^ 62) x.clock u in let m = of_e.clock in omega arith; backs = refl; conflict = refl; last = refl })
         go true false false false p q r u e = absurd (none_is why e)
 
-    pub early_does : (st : Story) → IsLawful st → (why : Refusal) → put_test x log ≡ Some why → DoesOn g xs asks (answer.Refused why) w log log st st
+    pub early_does : (st : Story) → IsLawful st → (why : Refusal) → put_test x log ≡ Some why → DoesOn g xs asks (answer.Refused why) x.half w log log st st
     early_does st lawful why e =
         let f = early why e in
-        refused_does why w log st st (bare st lawful) f.cause f.backs f.conflict f.last (inl (ap (λ k. refusal_in g k log asks) (sym state_is) ∙ early_is why e)) (λ q r. inl (some_is why q (sym (early_is why e) ∙ r)))
+        refused_does why w log st st (bare st lawful) f.cause f.backs f.conflict f.last (inl (ap (λ k. refusal_in g k half log asks) (sym state_is) ∙ early_is why e)) (λ q r. inl (some_is why q (sym (early_is why e) ∙ r)))
 
-    pub row_does : (st : Story) → IsLawful st → 2 ^ 61 ≤ length w.seen → DoesOn g xs asks (answer.Refused refusal.RowSpent) w log log st st
+    pub row_does : (st : Story) → IsLawful st → 2 ^ 61 ≤ length w.seen → DoesOn g xs asks (answer.Refused refusal.RowSpent) x.half w log log st st
     row_does st lawful many =
         refused_does refusal.RowSpent w log st st (bare st lawful) (many_behind (events_of w.given.before) (front xs) (first ++ []) w.seen bare_behind.seen many) tt refl refl (inr refl) (λ q r. inr refl)
 
@@ -606,12 +615,12 @@ module _ (reached : EveryReached) (need : EveryNeed) (answers : EveryAnswer) (co
       core_own : (state w).core ≡ behind_first g xs (first ++ lock ∷ d.events)
       core_own = behind.core_is reached need g xs (first ++ lock ∷ d.events) w own.behind
 
-      pub spent_does : 2 ^ 61 ≤ length w.seen → DoesOn g xs asks (answer.Refused refusal.RowSpent) w log is old new
+      pub spent_does : 2 ^ 61 ≤ length w.seen → DoesOn g xs asks (answer.Refused refusal.RowSpent) x.half w log is old new
       spent_does many =
           refused_does refusal.RowSpent w is old new own (many_behind (events_of w.given.before) (front xs) (first ++ lock ∷ d.events) w.seen own.behind.seen many) tt refl refl (inr refl) (λ why r. inr refl)
 
       -- where the session is as it is there
-      module _ (y : Session) (hw : IsOf y ((state w).core.worker 1)) (is_open : y.is_open ≡ true) (few : y.changes < 64) where
+      module _ (y : Session) (hw : IsOf y ((state w).core.worker 1)) (is_open : y.is_open ≡ true) (few : length y.undo < 64) (whole : x.half ≡ false) where
         abbrev sw : State
         sw = behind_first g xs (first ++ lock ∷ d.events)
 
@@ -621,25 +630,25 @@ module _ (reached : EveryReached) (need : EveryNeed) (answers : EveryAnswer) (co
         room_w : Option Refusal
         room_w = cond (is_full_for g sw key) (room_refusal g sw key) None
 
-        tests_w : refusal_in g sw is asks ≡ log_refusal y.clock is (cond (is_full_for g sw key) (room_refusal g sw key) None)
-        tests_w = (λ i. cond (of_w.is_open i) (cond (leb 64 (of_w.changes i)) (Some refusal.TooLong) (log_refusal (of_w.clock i) is (cond (is_full_for g sw key) (room_refusal g sw key) None))) (Some refusal.NoTransaction))
+        tests_w : refusal_in g sw half is asks ≡ log_refusal y.clock is (cond (is_full_for g sw key) (room_refusal g sw key) None)
+        tests_w = (λ i. cond ((t.half_is ∙ whole) i) (Some refusal.NoTransaction) (cond (of_w.is_open i) (cond (leb 64 (many_of (sw.worker 1).changes y.undo of_w.undo i)) (Some refusal.TooLong) (log_refusal (of_w.clock i) is (cond (is_full_for g sw key) (room_refusal g sw key) None))) (Some refusal.NoTransaction)))
             ∙ (λ i. cond (is_open i) (cond (low i) (Some refusal.TooLong) (log_refusal y.clock is (cond (is_full_for g sw key) (room_refusal g sw key) None))) (Some refusal.NoTransaction))
           where
-            low : leb 64 y.changes ≡ false
-            low = go (leb 64 y.changes) refl
+            low : leb 64 (length y.undo) ≡ false
+            low = go (leb 64 (length y.undo)) refl
               where
-                go : (c : Bool) → leb 64 y.changes ≡ c → leb 64 y.changes ≡ false
+                go : (c : Bool) → leb 64 (length y.undo) ≡ c → leb 64 (length y.undo) ≡ false
                 go false q = q
-                go true q = let a = leb-true 64 y.changes q in absurd (omega arith)
+                go true q = let a = leb-true 64 (length y.undo) q in absurd (omega arith)
 
         -- no further record may be staged
-        pub stopped_does : (why : Refusal) → (why ≡ refusal.ClockSpent) ⊎ ((n : ℕ) × (m : ℕ) × (why ≡ refusal.LogFull n m)) → log_refusal y.clock is None ≡ Some why → ((q : Refusal) → refusal_in g sf log asks ≡ Some q → ⊥) → DoesOn g xs asks (answer.Refused why) w log is old new
+        pub stopped_does : (why : Refusal) → (why ≡ refusal.ClockSpent) ⊎ ((n : ℕ) × (m : ℕ) × (why ≡ refusal.LogFull n m)) → log_refusal y.clock is None ≡ Some why → ((q : Refusal) → refusal_in g sf half log asks ≡ Some q → ⊥) → DoesOn g xs asks (answer.Refused why) x.half w log is old new
         stopped_does why (inl e) cause none =
-            subst (λ q. DoesOn g xs asks (answer.Refused q) w log is old new) (sym e)
+            subst (λ q. DoesOn g xs asks (answer.Refused q) x.half w log is old new) (sym e)
             (refused_does refusal.ClockSpent w is old new own (let a = clock_is_spent y.clock is (cause ∙ ap Some e) in let q = of_w.clock in omega arith) refl refl refl
             (inl (tests_w ∙ log_some y.clock is refusal.ClockSpent (cond (is_full_for g sw key) (room_refusal g sw key) None) (cause ∙ ap Some e))) (λ q r. absurd (none q r)))
         stopped_does why (inr e) cause none =
-            subst (λ q. DoesOn g xs asks (answer.Refused q) w log is old new) (sym e.2)
+            subst (λ q. DoesOn g xs asks (answer.Refused q) x.half w log is old new) (sym e.2)
             (refused_does (refusal.LogFull e.0 e.1) w is old new own refl refl refl refl
             (inl (tests_w ∙ log_some y.clock is (refusal.LogFull e.0 e.1) (cond (is_full_for g sw key) (room_refusal g sw key) None) (cause ∙ ap Some e.2))) (λ q r. absurd (none q r)))
 
@@ -662,15 +671,15 @@ module _ (reached : EveryReached) (need : EveryNeed) (answers : EveryAnswer) (co
           room_is : (why : Refusal) → room_refusal (opening w.given) (state w).core key ≡ Some why → room_refusal g sw key ≡ Some why
           room_is why e = ap (λ k. room_refusal g k key) (sym core_own) ∙ (sym (refusal_as (opening w.given) g fmt_w (state w).core key) ∙ e)
 
-          caused : (why : Refusal) → room_refusal (opening w.given) (state w).core key ≡ Some why → refusal_in g sw is asks ≡ Some why
+          caused : (why : Refusal) → room_refusal (opening w.given) (state w).core key ≡ Some why → refusal_in g sw half is asks ≡ Some why
           caused why e = tests_w ∙ (log_none y.clock is (cond (is_full_for g sw key) (room_refusal g sw key) None) ready ∙ ((λ i. cond (full_is i) (room_refusal g sw key) None) ∙ room_is why e))
 
-          pub tall_does : room_refusal (opening w.given) (state w).core key ≡ Some refusal.TooTall → ((q : Refusal) → refusal_in g sf log asks ≡ Some q → (refusal.TooTall ≡ q) ⊎ (refusal.TooTall ≡ refusal.RowSpent)) → DoesOn g xs asks (answer.Refused refusal.TooTall) w log is old new
+          pub tall_does : room_refusal (opening w.given) (state w).core key ≡ Some refusal.TooTall → ((q : Refusal) → refusal_in g sf half log asks ≡ Some q → (refusal.TooTall ≡ q) ⊎ (refusal.TooTall ≡ refusal.RowSpent)) → DoesOn g xs asks (answer.Refused refusal.TooTall) x.half w log is old new
           tall_does e due =
               let r = tall_is g sw key (room_is refusal.TooTall e) in
               refused_does refusal.TooTall w is old new own (record { leaf = is_full; all = r.0; level = r.1 }) refl refl refl (inl (caused refusal.TooTall e)) due
 
-          pub short_does : room_refusal (opening w.given) (state w).core key ≡ Some refusal.NoPages → ((q : Refusal) → refusal_in g sf log asks ≡ Some q → (refusal.NoPages ≡ q) ⊎ (refusal.NoPages ≡ refusal.RowSpent)) → DoesOn g xs asks (answer.Refused refusal.NoPages) w log is old new
+          pub short_does : room_refusal (opening w.given) (state w).core key ≡ Some refusal.NoPages → ((q : Refusal) → refusal_in g sf half log asks ≡ Some q → (refusal.NoPages ≡ q) ⊎ (refusal.NoPages ≡ refusal.RowSpent)) → DoesOn g xs asks (answer.Refused refusal.NoPages) x.half w log is old new
           short_does e due =
               refused_does refusal.NoPages w is old new own (record { leaf = is_full; few = short_is g sw key (room_is refusal.NoPages e) }) refl refl refl (inl (caused refusal.NoPages e)) due
 
@@ -681,7 +690,7 @@ module _ (reached : EveryReached) (need : EveryNeed) (answers : EveryAnswer) (co
     room_at why e = sym (refusal_on g (state v1).core sf pages_is key) ∙ (sym (refusal_as (opening v1.given) g fmt_is (state v1).core key) ∙ e)
 
     -- where some was made, no test refuses
-    none_at : put_test x log ≡ None → room_refusal (opening v1.given) (state v1).core key ≡ None → (why : Refusal) → refusal_in g sf log asks ≡ Some why → ⊥
+    none_at : put_test x log ≡ None → room_refusal (opening v1.given) (state v1).core key ≡ None → (why : Refusal) → refusal_in g sf half log asks ≡ Some why → ⊥
     none_at none e why r = none_is why (sym (late_is none ∙ ((λ i. cond (is_full_for g sf key) (room_at None e i) None) ∙ both_none (is_full_for g sf key))) ∙ r)
       where
         nothing : Option Refusal
@@ -693,7 +702,7 @@ module _ (reached : EveryReached) (need : EveryNeed) (answers : EveryAnswer) (co
 
     -- a leaf without room: the tests say so where none was made
     due_at : put_test x log ≡ None → (why : Refusal) (w : View) (y : Session) (is : Log) → (d : Grows key v1 w x1 y log is) → room_refusal (opening w.given) (state w).core key ≡ Some why
-        → (q : Refusal) → refusal_in g sf log asks ≡ Some q → (why ≡ q) ⊎ (why ≡ refusal.RowSpent)
+        → (q : Refusal) → refusal_in g sf half log asks ≡ Some q → (why ≡ q) ⊎ (why ≡ refusal.RowSpent)
     due_at none why w y is d e q r = by_fits d.fits
       where
         by_fits : (d.events ≡ []) ⊎ (room_refusal (opening v1.given) (state v1).core key ≡ None) → (why ≡ q) ⊎ (why ≡ refusal.RowSpent)
@@ -774,7 +783,7 @@ module _ (reached : EveryReached) (need : EveryNeed) (answers : EveryAnswer) (co
         syncs = subst (AreSyncs false) (sym (logs_lock first (g.row_of key) es t.are_loads (asides es d.aside).no_logs)) tt;
         met = b3.met;
         was_is = c.told ∙ (λ i. value_in (fmt_u i) ((core_lead i).page page).node key);
-        whole = t.whole;
+        whole = t.half_is ∙ (free_of x log works none).whole;
         entry = ap (entry_of 1) (c.entry_is ∙ record_own) ∙ (every_entry g s2 1 a2).change page key value;
       }
 
@@ -810,7 +819,7 @@ module _ (reached : EveryReached) (need : EveryNeed) (answers : EveryAnswer) (co
           page_still : (state u1).core.page ≡ sf.page
           page_still = (λ i. (after_all (c.grows.given i) (still i)).core.page) ∙ pages_is
 
-      none_refuses : (why : Refusal) → refusal_in g sf log asks ≡ Some why → ⊥
+      none_refuses : (why : Refusal) → refusal_in g sf half log asks ≡ Some why → ⊥
       none_refuses why r = by_fits c.grows.fits
         where
           by_fits : (c.grows.events ≡ []) ⊎ (room_refusal (opening v1.given) (state v1).core key ≡ None) → ⊥
@@ -840,9 +849,6 @@ module _ (reached : EveryReached) (need : EveryNeed) (answers : EveryAnswer) (co
       made : MakesRoom g sf key (lock ∷ (es ++ change ∷ []))
       made = makes_more g key sf (lock ∷ es) change (tt, subst (λ k. MakesRoom g k key es) (sym from_is) d.makes) tt
 
-      key_of : (j m : ℕ) → call.Put key value ≡ call.Put j m → key ≡ j
-      key_of j m e = cc
-
       all_is : start ++ events_of (c.grows.events ++ event.Change 1 page key value ∷ []) ≡ lead ++ change ∷ []
       all_is = ap (λ ys. start ++ ys) (events_more c.grows.events (event.Change 1 page key value ∷ [])) ∙ (sym (append_assoc start es (change ∷ [])) ∙ ap (λ ys. ys ++ change ∷ []) lead_is)
 
@@ -850,7 +856,7 @@ module _ (reached : EveryReached) (need : EveryNeed) (answers : EveryAnswer) (co
       went s0 k bt log_is = subst (λ ys. Went g xs s0 k ys is old new) all_is
           (c.goes g xs start b1 s0 k bt (went_quiet parts g some_worker xs s0 k old bt first (lock ∷ []) refl log old (went_first old lawful s0 k bt log_is)))
 
-      pub change_does : DoesOn g xs asks (answer.Was before) w log is old new
+      pub change_does : DoesOn g xs asks (answer.Was before) x.half w log is old new
       change_does = record {
         does = record {
           done = changed;
@@ -867,12 +873,12 @@ module _ (reached : EveryReached) (need : EveryNeed) (answers : EveryAnswer) (co
             refused = λ why q. absurd (no_refusal why q);
             refuses = λ why q. absurd (none_refuses why q);
             log = logged;
-            room = λ j m e. subst (λ k. MakesRoom g sf k (lock ∷ (es ++ change ∷ []))) (key_of j m e) made;
+            room = made;
           };
           frame = c.frame;
           keeps = λ s0 k bt log_is. let q = went s0 k bt log_is in behind.keeps_by g xs changed s0 k q.known is old new q.gone changed_told q.log_is q.master_is q.within;
         };
-        ties = behind.ends g xs (lead ++ change ∷ []) w b3 changed refl t.told changed_told (refl, refl) t.whole;
+        ties = behind.ends g xs (lead ++ change ∷ []) w b3 changed refl t.told changed_told (refl, refl) t.half_is;
       }
 
     -- the disk failed
@@ -898,28 +904,33 @@ module _ (reached : EveryReached) (need : EveryNeed) (answers : EveryAnswer) (co
       open_of : (q : Session) → q ≡ record x1 { clock = q.clock; debt = q.debt; free = q.free } → q.is_open ≡ true
       open_of q e = ap (λ k. k.is_open) e ∙ (ap (λ k. k.is_open) tk.session ∙ free.is_open)
 
-      few_of : (q : Session) → q ≡ record x1 { clock = q.clock; debt = q.debt; free = q.free } → q.changes < 64
-      few_of q e = let a = ap (λ k. k.changes) e in let c = ap (λ k. k.changes) tk.session in let f = free.few in omega arith
+      few_of : (q : Session) → q ≡ record x1 { clock = q.clock; debt = q.debt; free = q.free } → length q.undo < 64
+      few_of q e = let a = ap (λ k. length k.undo) e in let c = ap (λ k. length k.undo) tk.session in let f = free.few in omega arith
 
-      stopped_with : (why : Refusal) → (why ≡ refusal.ClockSpent) ⊎ ((i : ℕ) × (m : ℕ) × (why ≡ refusal.LogFull i m)) → IsOf y ((state w).core.worker 1) → IsStopped key why v1 w x1 y log is old new → DoesOn g xs asks (answer.Refused why) w log is old new
+      stopped_with : (why : Refusal) → (why ≡ refusal.ClockSpent) ⊎ ((i : ℕ) × (m : ℕ) × (why ≡ refusal.LogFull i m)) → IsOf y ((state w).core.worker 1) → IsStopped key why v1 w x1 y log is old new → DoesOn g xs asks (answer.Refused why) x.half w log is old new
       stopped_with why which hw q =
-          stopped_does w is old new lawful (reached_by w y is old new q.room) y hw (open_of y q.room.grows.session) (few_of y q.room.grows.session) why which q.cause (none_at none q.some)
+          stopped_does w is old new lawful (reached_by w y is old new q.room) y hw (open_of y q.room.grows.session) (few_of y q.room.grows.session) free.whole why which q.cause (none_at none q.some)
 
-      tall_with : IsOf y ((state w).core.worker 1) → IsCrowded key refusal.TooTall v1 w x1 y log is old new → DoesOn g xs asks (answer.Refused refusal.TooTall) w log is old new
-      tall_with hw q = tall_does w is old new lawful (reached_by w y is old new q.room) y hw (open_of y q.room.grows.session) (few_of y q.room.grows.session) q.leaf q.unfit q.ready q.cause (due_at none refusal.TooTall w y is q.room.grows q.cause)
+      tall_with : IsOf y ((state w).core.worker 1) → IsCrowded key refusal.TooTall v1 w x1 y log is old new → DoesOn g xs asks (answer.Refused refusal.TooTall) x.half w log is old new
+      tall_with hw q = tall_does w is old new lawful (reached_by w y is old new q.room) y hw (open_of y q.room.grows.session) (few_of y q.room.grows.session) free.whole q.leaf q.unfit q.ready q.cause (due_at none refusal.TooTall w y is q.room.grows q.cause)
 
-      short_with : IsOf y ((state w).core.worker 1) → IsCrowded key refusal.NoPages v1 w x1 y log is old new → DoesOn g xs asks (answer.Refused refusal.NoPages) w log is old new
-      short_with hw q = short_does w is old new lawful (reached_by w y is old new q.room) y hw (open_of y q.room.grows.session) (few_of y q.room.grows.session) q.leaf q.unfit q.ready q.cause (due_at none refusal.NoPages w y is q.room.grows q.cause)
+      short_with : IsOf y ((state w).core.worker 1) → IsCrowded key refusal.NoPages v1 w x1 y log is old new → DoesOn g xs asks (answer.Refused refusal.NoPages) x.half w log is old new
+      short_with hw q = short_does w is old new lawful (reached_by w y is old new q.room) y hw (open_of y q.room.grows.session) (few_of y q.room.grows.session) free.whole q.leaf q.unfit q.ready q.cause (due_at none refusal.NoPages w y is q.room.grows q.cause)
 
-      pub put_did : (r : Result (Option ℕ) Refusal) → Puts r v1 w key value x1 y log is old new → (works_after r ≡ true → IsOf y ((state w).core.worker 1)) → Comes (put_answer r) (DoesOn g xs asks (put_answer r) w log is old new) (Fails g xs asks log old new)
-      put_did (Ok before) p hw = change_does none low w before is old new lawful p
-      put_did (Err refusal.TooTall) p hw = tall_with (hw refl) p
-      put_did (Err refusal.NoPages) p hw = short_with (hw refl) p
-      put_did (Err (refusal.LogFull i m)) p hw = stopped_with (refusal.LogFull i m) (inr (i, m, refl)) (hw refl) p
-      put_did (Err refusal.ClockSpent) p hw = stopped_with refusal.ClockSpent (inl refl) (hw refl) p
-      put_did (Err refusal.RowSpent) p hw = spent_does w is old new lawful (reached_behind p.view w y is old new p.room p.spent) p.spent.many
-      put_did (Err refusal.DiskFault) p hw = put_fails old new lawful p
-      put_did (Err _) p hw = absurd p
+      -- the session has as much of an abort done
+      module _ (now : Bool) where
+        as_now : (a : Answer) → now ≡ x.half → DoesOn g xs asks a x.half w log is old new → DoesOn g xs asks a now w log is old new
+        as_now a e d = subst (λ k. DoesOn g xs asks a k w log is old new) (sym e) d
+
+        pub put_did : (r : Result (Option ℕ) Refusal) → Puts r v1 w key value x1 y log is old new → (works_after r ≡ true → IsOf y ((state w).core.worker 1)) → (works_after r ≡ true → now ≡ x.half) → Comes (put_answer r) (DoesOn g xs asks (put_answer r) now w log is old new) (Fails g xs asks log old new)
+        put_did (Ok before) p hw same = as_now (answer.Was before) (same refl) (change_does none low w before is old new lawful p)
+        put_did (Err refusal.TooTall) p hw same = as_now (answer.Refused refusal.TooTall) (same refl) (tall_with (hw refl) p)
+        put_did (Err refusal.NoPages) p hw same = as_now (answer.Refused refusal.NoPages) (same refl) (short_with (hw refl) p)
+        put_did (Err (refusal.LogFull i m)) p hw same = as_now (answer.Refused (refusal.LogFull i m)) (same refl) (stopped_with (refusal.LogFull i m) (inr (i, m, refl)) (hw refl) p)
+        put_did (Err refusal.ClockSpent) p hw same = as_now (answer.Refused refusal.ClockSpent) (same refl) (stopped_with refusal.ClockSpent (inl refl) (hw refl) p)
+        put_did (Err refusal.RowSpent) p hw same = as_now (answer.Refused refusal.RowSpent) (same refl) (spent_does w is old new lawful (reached_behind p.view w y is old new p.room p.spent) p.spent.many)
+        put_did (Err refusal.DiskFault) p hw same = put_fails old new lawful p
+        put_did (Err _) p hw same = absurd p
 
 -- the area of the log alone was written
 pub put_framed : (r : Result (Option ℕ) Refusal) (v w : View) (key value : ℕ) (x y : Session) (was is : Log) (old new : Story) → Puts r v w key value x y was is old new → Framed 2 old new
@@ -937,10 +948,10 @@ put_framed (Err _) v w key value x y was is old new p = absurd p
 module _ (reached : EveryReached) (need : EveryNeed) (answers : EveryAnswer) (coming : EveryComing) (parts : (old mid new : Story) → EveryPart old mid new)
     (z : Shape) (v : View) (x : Session) (log : Log) (h : Holds z v x log) (works : x.works ≡ true) (key value : ℕ) where
   -- a test refused it
-  pub not_put : (st : Story) → IsLawful st → (why : Refusal) → put_test x log ≡ Some why → CallDoes (call.Put key value) (put_answer (Err why)) v v log log st st
+  pub not_put : (st : Story) → IsLawful st → (why : Refusal) → put_test x log ≡ Some why → CallDoes (call.Put key value) (put_answer (Err why)) x.half x.half v v log log st st
   not_put st lawful why e g xs t = comes_told _ _ why (put_told x log why works e) (early_does reached need answers coming parts g xs z v x log h t works key value v refl refl st lawful why e)
 
   -- its row is spent
-  pub not_taken : (st : Story) → IsLawful st → (w : View) → IsSpent v w → (why : Refusal) → why ≡ refusal.RowSpent → CallDoes (call.Put key value) (put_answer (Err why)) v w log log st st
-  not_taken st lawful w q why e g xs t = subst (λ k. Comes (answer.Refused k) (DoesOn g xs (call.Put key value) (answer.Refused k) w log log st st) (Fails g xs (call.Put key value) log st st)) (sym e)
+  pub not_taken : (st : Story) → IsLawful st → (w : View) → IsSpent v w → (why : Refusal) → why ≡ refusal.RowSpent → CallDoes (call.Put key value) (put_answer (Err why)) x.half x.half v w log log st st
+  not_taken st lawful w q why e g xs t = subst (λ k. Comes (answer.Refused k) (DoesOn g xs (call.Put key value) (answer.Refused k) x.half w log log st st) (Fails g xs (call.Put key value) log st st)) (sym e)
       (row_does reached need answers coming parts g xs z v x log h t works key value w q.given q.seen st lawful q.many)

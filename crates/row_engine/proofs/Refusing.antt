@@ -34,7 +34,9 @@ use Rattle.rows_trait.specs.Views.{Shape}
 use Rattle.row_opening.specs.Openings.{EveryNeed, EveryReached, Opens}
 use Rattle.key_locks.specs.declared.mode.Mode.{Mode}
 use Rattle.key_locks.specs.Rows.{core_mode, event_mode}
+use Rattle.engine_trait.specs.Calls.{is_half_done}
 use Rattle.engine_trait.specs.Refusals.{IsRefusedFor, refusal_in}
+use Rattle.engine_trait.specs.Rooms.{MakesItsRoom}
 use Rattle.engine_trait.specs.Limits.{limits}
 use Rattle.row_engine.specs.Calls.{DoesOn}
 use Rattle.row_engine.specs.Holds.{AreRows}
@@ -78,9 +80,17 @@ spent_end g xs first v w b s =
 
 -- ## A call is refused
 
-module _ (answers : EveryAnswer) (coming : EveryComing) (g : Opening) (xs : List Done) (v : View) (t : Ties g xs v) (log : Log) (st : Story) (lawful : IsLawful st) (part : EveryPart st st st) (c : Call) (why : Refusal) where
+-- nothing makes no room
+no_room : (g : Opening) (q : State) (c : Call) → MakesItsRoom g q c []
+no_room g q (call.Put key value) = tt
+no_room g q _ = refl
+
+module _ (answers : EveryAnswer) (coming : EveryComing) (g : Opening) (xs : List Done) {before : Bool} (v : View) (t : Ties g xs before v) (log : Log) (st : Story) (lawful : IsLawful st) (part : EveryPart st st st) (c : Call) (why : Refusal) where
   abbrev s : State
   s = behind_first g xs t.loads
+
+  abbrev half : Bool
+  half = is_half_done xs
 
   pub is_refusal : IsCause limits g (front xs ++ t.loads) s (is_half (marks_by 1 (outcomes xs))) 1 c why → RefusedLogs limits g xs 1 c why [] → MayPutBack why [] → IsRefusal limits g xs 1 c why t.loads
   is_refusal cause due none = record {
@@ -94,9 +104,9 @@ module _ (answers : EveryAnswer) (coming : EveryComing) (g : Opening) (xs : List
   }
 
   -- with the view as it is then
-  pub refused_does : (w : View) → behind.Behind g xs t.loads w → IsRefusal limits g xs 1 c why t.loads → is_conflict why ≡ false → is_last_refusal why ≡ true → ((key value : ℕ) → c ≡ call.Put key value → ⊥)
-      → IsRefusedFor g s log c why → ((q : Refusal) → refusal_in g s log c ≡ Some q → (why ≡ q) ⊎ (why ≡ refusal.RowSpent)) → DoesOn g xs c (answer.Refused why) w log log st st
-  refused_does w b r no_conflict last no_put is_for refuses = record {
+  pub refused_does : (w : View) → behind.Behind g xs t.loads w → IsRefusal limits g xs 1 c why t.loads → is_conflict why ≡ false → is_last_refusal why ≡ true
+      → IsRefusedFor g s half log c why → ((q : Refusal) → refusal_in g s half log c ≡ Some q → (why ≡ q) ⊎ (why ≡ refusal.RowSpent)) → DoesOn g xs c (answer.Refused why) before w log log st st
+  refused_does w b r no_conflict last is_for refuses = record {
     does = record {
       done = refused_by 1 c why t.loads;
       session = refl;
@@ -110,14 +120,14 @@ module _ (answers : EveryAnswer) (coming : EveryComing) (g : Opening) (xs : List
         events = sym (append-nil t.loads);
         loads = t.are_loads;
         few = let a = t.few in omega arith;
-        refused = λ q e. subst (λ k. IsRefusedFor g k log c q) (sym at) (subst (λ k. IsRefusedFor g s log c k) (refused_is why q e) is_for);
-        refuses = λ q e. either q (refuses q (ap (λ k. refusal_in g k log c) (sym at) ∙ e));
+        refused = λ q e. subst (λ k. IsRefusedFor g k half log c q) (sym at) (subst (λ k. IsRefusedFor g s half log c k) (refused_is why q e) is_for);
+        refuses = λ q e. either q (refuses q (ap (λ k. refusal_in g k half log c) (sym at) ∙ e));
         log = refl;
-        room = λ key value e. absurd (no_put key value e);
+        room = no_room g (state_after g (front xs ++ t.loads)) c;
       };
       keeps = λ s0 k bt is. behind.keeps_by g xs (refused_by 1 c why t.loads) s0 k k log st st (behind.gone_loads st lawful part g xs v t s0 k bt) told is refl (behind.nothing_written st lawful);
     };
-    ties = behind.ends g xs t.loads w b (refused_by 1 c why t.loads) refl t.told told (no_hinder (is_conflict why) no_conflict, last) t.whole;
+    ties = behind.ends g xs t.loads w b (refused_by 1 c why t.loads) refl t.told told (no_hinder (is_conflict why) no_conflict, last) t.half_is;
   }
     where
       told : Tells limits g 1 xs (refused_by 1 c why t.loads)

@@ -283,6 +283,7 @@ pub may_on : (v w : View) (x : Session) (log : Log) (key : ℕ) → state w ≡ 
 may_on v w x log key st f = record {
   works = f.works;
   is_open = f.is_open;
+  whole = f.whole;
   few = f.few;
   small = f.small;
   room = f.room;

@@ -146,7 +146,8 @@ pub may_after : (key : ℕ) (v w : View) (x y : Session) (was is : Log) (old new
 may_after key v w x y was is old new f c e = let r = ready y.clock is e in record {
   works = ap (λ (s : Session). s.works) c.session ∙ f.works;
   is_open = ap (λ (s : Session). s.is_open) c.session ∙ f.is_open;
-  few = let a = ap (λ (s : Session). s.changes) c.session in let b = f.few in omega arith;
+  whole = ap (λ (s : Session). s.half) c.session ∙ f.whole;
+  few = let a = ap (λ (s : Session). length s.undo) c.session in let b = f.few in omega arith;
   small = r.small;
   room = r.room;
   row = ap (λ (k : State). is_held_by (k.row (key % y.held.count)).holder 1) (seen_core v w c.event c.given c.seen c.met)

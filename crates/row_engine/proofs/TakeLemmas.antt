@@ -209,13 +209,14 @@ numbers_on x log rows n = record {
   open_low = n.open_low;
   small = n.small;
   room = n.room;
+  undo_room = n.undo_room;
   closed_txn = n.closed_txn;
   txn = n.txn;
-  changes = n.changes;
+  few = n.few;
 }
 
 pub is_of_on : (x : Session) (a : Worker) (rows : Held) → IsOf x a → IsOf (record x { held = rows }) a
-is_of_on x a rows o = record { is_open = o.is_open; txn = o.txn; clock = o.clock; floor = o.floor; debt = o.debt; end = o.end; changes = o.changes }
+is_of_on x a rows o = record { is_open = o.is_open; txn = o.txn; clock = o.clock; floor = o.floor; debt = o.debt; end = o.end; undo = o.undo }
 
 -- where nothing was seen
 pub holds_still : (z : Shape) (v w : View) (x : Session) (log : Log) → w.given ≡ v.given → w.seen ≡ v.seen → w.held ≡ v.held → Holds z v x log → Holds z w x log

@@ -1,5 +1,5 @@
 -- What a call of an engine on rows did, in each run to which its view is tied.
-use Rattle.std.specs.Prelude.{ℕ, List, ◌∷◌, Option, Result, Ok, Err}
+use Rattle.std.specs.Prelude.{ℕ, Bool, List, ◌∷◌, Option, Result, Ok, Err}
 use Rattle.map_model.specs.declared.call.Answer.{Answer}
 use Rattle.map_model.specs.declared.call.Answer.TheVariants as answer
 use Rattle.map_model.specs.declared.call.Call.{Call}
@@ -14,19 +14,19 @@ use Rattle.engine_trait.specs.Calls.{Does, Fails}
 use Rattle.row_engine.specs.Ties.{Ties}
 use Rattle.row_engine.specs.declared.commits.Ended.{Ended}
 
--- It was answered so, and its view is tied to one outcome more.
-pub record DoesOn (g : Opening) (xs : List Done) (c : Call) (a : Answer) (w : View) (was is : Log) (old new : Story) : Type 0 where
+-- It was answered so, and its view is tied to one outcome more, behind which an abort may be half done.
+pub record DoesOn (g : Opening) (xs : List Done) (c : Call) (a : Answer) (half : Bool) (w : View) (was is : Log) (old new : Story) : Type 0 where
   pub does : Does g xs c a was is old new
-  pub ties : Ties g (does.done ∷ xs) w
+  pub ties : Ties g (does.done ∷ xs) half w
 
 -- where the disk failed this, and else that
 abbrev pub Comes : Answer → (does fails : Type 0) → Type 0
 Comes (answer.Refused refusal.DiskFault) does fails = fails
 Comes _ does fails = does
 
--- In each run to which the view is tied the call did so.
-abbrev pub CallDoes : Call → Answer → (v w : View) → (was is : Log) → (old new : Story) → Type 0
-CallDoes c a v w was is old new = (g : Opening) (xs : List Done) → Ties g xs v → Comes a (DoesOn g xs c a w was is old new) (Fails g xs c was old new)
+-- In each run to which the view is tied the call did so; it found an abort half done, or not, and so it left it.
+abbrev pub CallDoes : Call → Answer → (before now : Bool) → (v w : View) → (was is : Log) → (old new : Story) → Type 0
+CallDoes c a before now v w was is old new = (g : Opening) (xs : List Done) → Ties g xs before v → Comes a (DoesOn g xs c a now w was is old new) (Fails g xs c was old new)
 
 -- ## Results as answers
 
@@ -42,6 +42,14 @@ abbrev pub put_answer : Result (Option ℕ) Refusal → Answer
 put_answer (Ok was) = answer.Was was
 put_answer (Err why) = answer.Refused why
 
+abbrev pub del_answer : Result (Option ℕ) Refusal → Answer
+del_answer (Ok was) = answer.Was was
+del_answer (Err why) = answer.Refused why
+
 abbrev pub commit_answer : Result Ended Refusal → Answer
 commit_answer (Ok ended) = answer.Committed ended.number ended.at
 commit_answer (Err why) = answer.Refused why
+
+abbrev pub abort_answer : Result ℕ Refusal → Answer
+abort_answer (Ok number) = answer.Aborted number
+abort_answer (Err why) = answer.Refused why

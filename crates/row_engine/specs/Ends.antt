@@ -3,7 +3,8 @@ use Rattle.std.specs.Prelude.{◌≡◌, ◌⊎◌, ◌+◌, ◌≤◌, ◌<◌,
 use Rattle.map_model.specs.Lists.{Has}
 use Rattle.core_state.specs.Needs.{holds_row}
 use Rattle.core_state.specs.Steps.{AllMet, run}
-use Rattle.engine_calls.specs.Commits.{ending, unlocks}
+use Rattle.core_state.specs.Events as happening
+use Rattle.engine_calls.specs.Commits.{unlocks}
 use Rattle.row_words.specs.declared.event.Event.{Event}
 use Rattle.row_words.specs.declared.event.Event.TheVariants.{End, Unlock}
 use Rattle.row_words.specs.Openings.{opening}
@@ -108,28 +109,32 @@ pub record Gave (most : ℕ) (v w : View) : Type 0 where
 -- ## The end
 
 -- the session may end, and the rows that it holds are latched
-pub record MayEnd (z : Shape) (v : View) (x : Session) (floor : ℕ) (marks : List Bool) : Type 0 where
+pub record MayEnd (z : Shape) (v : View) (x : Session) (commit : Bool) (floor : ℕ) (marks : List Bool) : Type 0 where
   pub alone : z.alone ≡ true
   pub locks : Sized z v 1 x.frames x.held.count
   pub workers : z.sizes.workers ≡ 1
-  pub can : CanEnd (opening v.given) (state v).core 1 true floor
+  pub can : CanEnd (opening v.given) (state v).core 1 commit floor
   pub clock : ((state v).core.worker 1).clock ≡ x.clock
   pub small : x.clock + 1 < 2 ^ 64
   pub mine : AreMine x.frames x.held.count marks v.held
   pub among : AreAmong marks x.held.rows
   pub held : AreHeld v marks
 
+-- a commit or an abort, behind which these rows are given back
+abbrev pub end_of : Bool → (floor : ℕ) → List ℕ → List happening.Event
+end_of commit floor rows = happening.Event.End 1 commit floor ∷ unlocks 1 rows
+
 -- it has ended, where all logs were found flushed up to this number, and has given its rows back, so many at most
-pub record Ended (most : ℕ) (v : View) (floor : ℕ) (w : View) : Type 0 where
+pub record Ended (most : ℕ) (v : View) (commit : Bool) (floor : ℕ) (w : View) : Type 0 where
   pub given : w.given ≡ v.given
   pub rows : List ℕ
   pub few : length rows ≤ most
-  pub seen : w.seen ≡ v.seen ++ End 1 true floor ∷ gives rows
-  pub met : AllMet (opening v.given) (state v).core (ending 1 floor rows)
-  pub core : (state w).core ≡ run (opening v.given) (state v).core (ending 1 floor rows)
+  pub seen : w.seen ≡ v.seen ++ End 1 commit floor ∷ gives rows
+  pub met : AllMet (opening v.given) (state v).core (end_of commit floor rows)
+  pub core : (state w).core ≡ run (opening v.given) (state v).core (end_of commit floor rows)
   pub idle : w.held ≡ []
   pub free : (i : ℕ) → holds_row ((state w).core.row i) 1 ≡ false
 
 -- a session whose transaction has ended by this number
 abbrev pub ended_session : Session → ℕ → Session
-ended_session x number = record x { is_open = false; clock = number; end = number; changes = 0; held = record { count = x.held.count; rows = [] } }
+ended_session x number = record x { is_open = false; clock = number; end = number; undo = []; half = false; held = record { count = x.held.count; rows = [] } }

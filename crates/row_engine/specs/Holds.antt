@@ -13,6 +13,7 @@ use Rattle.key_locks.specs.Rows as locking
 use Rattle.lean_proto.specs.Paging.{IsResident}
 use Rattle.worker_log.specs.Logs.{Log, used}
 use Rattle.row_engine.specs.declared.session.Session.{Session}
+use Rattle.row_engine.specs.Undo.{HasRoomToUndo, undo_of}
 
 -- the session has what the core's worker has
 pub record IsOf (x : Session) (a : Worker) : Type 0 where
@@ -22,7 +23,7 @@ pub record IsOf (x : Session) (a : Worker) : Type 0 where
   pub floor : a.floor ≡ x.floor
   pub debt : a.debt ≡ x.debt
   pub end : a.end ≡ x.end
-  pub changes : length a.changes ≡ x.changes
+  pub undo : undo_of a.changes ≡ x.undo
 
 -- the numbers of a session, and those of its log
 pub record AreNumbers (x : Session) (log : Log) : Type 0 where
@@ -33,15 +34,17 @@ pub record AreNumbers (x : Session) (log : Log) : Type 0 where
   -- there is no other log, so nothing is owed
   pub debt : x.debt ≡ 0
   pub end : x.end ≤ x.clock
-  -- the clock ends, but for what an open transaction has still to come
-  pub open_low : x.is_open ≡ true → x.clock ≤ 2 ^ 62
+  -- the clock ends, but for what an open transaction has still to come: to put changes back, and to end
+  pub open_low : x.is_open ≡ true → x.clock + length x.undo ≤ 2 ^ 62 + 64
   pub small : x.clock < 2 ^ 64
   -- an open transaction finds a block for its end
   pub room : x.is_open ≡ true → used log + 1 ≤ log.blocks
+  -- behind all that it puts back
+  pub undo_room : 0 < length x.undo → HasRoomToUndo log (length x.undo)
   -- each transaction but an open one took a number for its end
   pub closed_txn : x.is_open ≡ false → x.txn ≤ x.clock
   pub txn : x.txn ≤ suc x.clock
-  pub changes : x.changes ≤ 64
+  pub few : length x.undo ≤ 64
 
 -- no stamp is above the clock, and of another log there is none but what stood before the floor
 pub record AreStamps (s : State) (clock floor : ℕ) : Type 0 where

@@ -1,5 +1,6 @@
 pub mod Held
 pub mod Free
+pub mod Undo
 pub mod Holds
 pub mod Ties
 pub mod Calls
@@ -11,4 +12,7 @@ pub mod Staging
 pub mod Puts
 pub mod Rooms
 pub mod Grown
+pub mod Backs
+pub mod Aborts
 pub mod Outcomes
+pub mod Dels

@@ -27,7 +27,8 @@ pub record IsFirst (base : ℕ) (x : Session) : Type 0 where
   pub floor : x.floor ≡ base
   pub debt : x.debt ≡ 0
   pub end : x.end ≡ base
-  pub changes : x.changes ≡ 0
+  pub undo : x.undo ≡ []
+  pub half : x.half ≡ false
   pub rows : x.held.rows ≡ []
 
 -- The rows began as an opening of one worker, behind loads alone by which each page, also a free one, came into the frame of its own number. The seat is
@@ -52,7 +53,7 @@ pub record IsOpened (g : Opening) (z : Shape) (v : View) (x : Session) (log : Lo
 
 -- Then the engine is as between two calls, and tied to a run with no outcome yet.
 abbrev pub EveryOpened : Type 0
-EveryOpened = (g : Opening) (z : Shape) (v : View) (x : Session) (log : Log) → IsOpened g z v x log → Holds z v x log × Ties g [] v
+EveryOpened = (g : Opening) (z : Shape) (v : View) (x : Session) (log : Log) → IsOpened g z v x log → Holds z v x log × Ties g [] x.half v
 
 -- ## On pages
 

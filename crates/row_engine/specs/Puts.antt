@@ -1,5 +1,5 @@
 -- What a put does behind the taking of its row.
-use Rattle.std.specs.Prelude.{◌≡◌, ◌<◌, ◌%◌, ◌-◌, ◌^◌, ℕ, Bool, ◌++◌, true, false, [], ◌∷◌, Option, Result, Err}
+use Rattle.std.specs.Prelude.{◌≡◌, ◌<◌, ◌%◌, ◌-◌, ◌^◌, ℕ, Bool, ◌++◌, true, false, [], ◌∷◌, length, Option, Result, Err}
 use Rattle.map_model.specs.declared.call.Refusal.{Refusal}
 use Rattle.map_model.specs.declared.call.Refusal.TheVariants as refusal
 use Rattle.core_state.specs.Events as happening
@@ -22,7 +22,8 @@ use Rattle.row_engine.specs.declared.session.Session.{Session}
 pub record MayChange (v : View) (x : Session) (log : Log) (key : ℕ) : Type 0 where
   pub works : x.works ≡ true
   pub is_open : x.is_open ≡ true
-  pub few : x.changes < 64
+  pub whole : x.half ≡ false
+  pub few : length x.undo < 64
   pub small : x.clock < 2 ^ 62
   pub room : used log < limit log
   pub row : is_held_by ((state v).core.row (key % x.held.count)).holder 1 ≡ true

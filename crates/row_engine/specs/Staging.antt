@@ -1,5 +1,5 @@
 -- What came of a record that a change asked its log to stage.
-use Rattle.std.specs.Prelude.{◌≡◌, ◌≤◌, ◌+◌, ℕ, max, List, ◌∷◌, Result, Ok, Err}
+use Rattle.std.specs.Prelude.{◌≡◌, ◌≤◌, ◌+◌, ℕ, max, Bool, true, false, List, [], ◌∷◌, length, Result, Ok, Err}
 use Rattle.rfa_model.specs.Stamps.{owed}
 use Rattle.draw_trait.specs.Clocks.{Clock}
 use Rattle.draw_trait.specs.declared.draw.Unstaged.{Unstaged}
@@ -8,6 +8,7 @@ use Rattle.lean_disk.specs.Faults.{HasCause}
 use Rattle.lean_disk.specs.Moments.{Framed}
 use Rattle.lean_disk.specs.Story.{Story}
 use Rattle.log_record.specs.declared.record.Record.{Record}
+use Rattle.log_block.specs.Block.{records_text}
 use Rattle.worker_log.specs.Calls.{After}
 use Rattle.worker_log.specs.Causes.{IsFull}
 use Rattle.worker_log.specs.Kept.{IsInRange}
@@ -28,30 +29,36 @@ touched_session x number log = record x { clock = max x.clock number; debt = owe
 abbrev pub IsButClock : (x y : Session) → Type 0
 IsButClock x y = y ≡ record x { clock = y.clock; debt = y.debt }
 
--- it stands in the log, and was told to the proof
-pub record WasStaged (before now : List Record) (was is : Log) (old new : Story) : Type 0 where
+-- it stands in the log, and was told to the proof; a put-back may have taken the last block
+pub record WasStaged (half : Bool) (before now : List Record) (was is : Log) (old new : Story) : Type 0 where
   pub entry : Record
   pub told : now ≡ entry ∷ before
   pub after : After entry was is
   pub last : is.last ≡ entry.gsn
-  pub room : used is + 1 ≤ is.blocks
+  pub short : length (records_text (entry ∷ [])) ≤ 2000
+  pub room : half ≡ false → used is + 1 ≤ is.blocks
   pub stands : StagesOn 1 entry was is old new
 
+-- the records of an abort may use all blocks
+abbrev pub IsFullFor : (half : Bool) → Log → Type 0
+IsFullFor true log = log.blocks ≤ used log
+IsFullFor false log = IsFull log
+
 -- the log had no block for it, and nothing was done
-pub record WasFull (was is : Log) (SameDisk : Type 0) : Type 0 where
-  pub full : IsFull was
+pub record WasFull (half : Bool) (was is : Log) (SameDisk : Type 0) : Type 0 where
+  pub full : IsFullFor half was
   pub log : is ≡ was
   pub disk : SameDisk
 
 -- by outcome
-abbrev pub Came : Result (Unit {0}) Unstaged → (before now : List Record) → (was is : Log) → (old new : Story) → (SameDisk : Type 0) → Type 0
-Came (Ok u) before now was is old new SameDisk = WasStaged before now was is old new
-Came (Err (LogFull used limit)) before now was is old new SameDisk = WasFull was is SameDisk
-Came (Err DiskFault) before now was is old new SameDisk = Unit {0}
+abbrev pub Came : Result (Unit {0}) Unstaged → (half : Bool) → (before now : List Record) → (was is : Log) → (old new : Story) → (SameDisk : Type 0) → Type 0
+Came (Ok u) half before now was is old new SameDisk = WasStaged half before now was is old new
+Came (Err (LogFull used limit)) half before now was is old new SameDisk = WasFull half was is SameDisk
+Came (Err DiskFault) half before now was is old new SameDisk = Unit {0}
 
 -- and whatever came of it: log 1 keeps the moments of a run, no other area was written, and beside log and disk the session's clock alone may have changed
 pub record Staging (r : Result (Unit {0}) Unstaged) (x y : Session) (before now : List Record) (was is : Log) (old new : Story) (SameDisk : Type 0) (faults_before faults_now : ℕ) : Type 0 where
-  pub came : Came r before now was is old new SameDisk
+  pub came : Came r x.half before now was is old new SameDisk
   pub on : OnLog 1 was old new
   pub frame : Framed 2 old new
   pub within : KeepsWithin 1 was old new

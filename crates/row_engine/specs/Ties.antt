@@ -1,25 +1,24 @@
 -- In which run an engine is.
-use Rattle.std.specs.Prelude.{◌≡◌, ◌≤◌, ◌^◌, ◌++◌, false, List, length}
+use Rattle.std.specs.Prelude.{◌≡◌, ◌≤◌, ◌^◌, ◌++◌, Bool, List, length}
 use Rattle.core_state.specs.Openings.{Opening}
 use Rattle.core_state.specs.Events.{Event}
 use Rattle.core_state.specs.Steps.{AllMet, state_after}
-use Rattle.core_calls.specs.Deeds.{marks_by}
 use Rattle.core_calls.specs.Fronts.{Done, front, outcomes}
-use Rattle.core_calls.specs.Marks.{is_half}
 use Rattle.core_calls.specs.Runs.{EachTells}
 use Rattle.engine_calls.specs.Clauses.{IsNewLine}
+use Rattle.engine_trait.specs.Calls.{is_half_done}
 use Rattle.engine_trait.specs.Limits.{AreLoads, limits}
 use Rattle.row_words.specs.Moments.{events_of}
 use Rattle.row_opening.specs.Openings.{Opens}
 use Rattle.rows_trait.specs.declared.view.View.{View}
 
 -- The rows began as the opening. The view has seen just the events of these outcomes, each of which is told behind those before it, and behind them
--- maybe the loads of the opening, which the next call takes to its own events. The next line is a new one.
-pub record Ties (g : Opening) (xs : List Done) (v : View) : Type 0 where
+-- maybe the loads of the opening, which the next call takes to its own events. The next line is a new one, and the outcomes tell whether an abort is half done.
+pub record Ties (g : Opening) (xs : List Done) (half : Bool) (v : View) : Type 0 where
   pub opens : Opens g v.given
   pub told : EachTells limits g 1 xs
   pub line : IsNewLine (outcomes xs)
-  pub whole : is_half (marks_by 1 (outcomes xs)) ≡ false
+  pub half_is : is_half_done xs ≡ half
   pub loads : List Event
   pub are_loads : AreLoads loads
   pub few : length loads ≤ 2 ^ 16

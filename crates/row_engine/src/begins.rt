@@ -32,7 +32,7 @@ pub fn begin<R: Rows, D: Disk>(
     requires holds { store.old.session.works ≡ true → Holds (R.shape rows.old) (R.view seat.old) store.old.session store.old.log }
     ensures fits { R.fits rows.new seat.new × (R.shape rows.new ≡ R.shape rows.old) }
     ensures holds { store.new.session.works ≡ true → Holds (R.shape rows.new) (R.view seat.new) store.new.session store.new.log }
-    ensures does { store.old.session.works ≡ true → CallDoes Call.Begin (begin_answer result) (R.view seat.old) (R.view seat.new) store.old.log store.new.log (D.story store.old.disk) (D.story store.new.disk) }
+    ensures does { store.old.session.works ≡ true → CallDoes Call.Begin (begin_answer result) store.old.session.half store.new.session.half (R.view seat.old) (R.view seat.new) store.old.log store.new.log (D.story store.old.disk) (D.story store.new.disk) }
     ensures same { IsErr result → (R.view seat.new ≡ R.view seat.old) × (store.new ≡ store.old) }
     ensures come { IfErr result (λ why. IsTold why ⊎ (why ≡ Refusal.Broken)) }
     // It touches no device.

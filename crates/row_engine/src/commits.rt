@@ -30,17 +30,18 @@ pub struct Ended {
     pub at: u64,
 }
 
-// The event of a commit's end, where all logs are found flushed up to this number.
+// The event of an end, by a commit or an abort, where all logs are found flushed up to this number.
 #[derive(Drop)]
 struct Ends {
+    commit: bool,
     floor: u64,
 }
 
 impl Names for Ends {
-    ghost use Rattle.std.specs.Prelude.{true, [], ◌∷◌};
+    ghost use Rattle.std.specs.Prelude.{[], ◌∷◌};
     ghost use Rattle.row_words.specs.declared.event.Event.TheVariants.{End};
 
-    ghost names = { λ s _. End 1 true s.floor ∷ [] };
+    ghost names = { λ s _. End 1 s.commit s.floor ∷ [] };
 }
 
 // The event of a flush up to this number.
@@ -57,7 +58,7 @@ impl Names for Flushes {
 }
 
 // Latches the lock rows that are held, as they stand, until one is found whose latch has come to its end. Whether all are latched.
-fn latch_rows<R: Rows>(
+pub(crate) fn latch_rows<R: Rows>(
     rows: &mut R,
     seat: &mut R::Seat,
     frames: u32,
@@ -86,7 +87,7 @@ fn latch_rows<R: Rows>(
 }
 
 // Gives the latches of the lock rows that are held back.
-fn unlatch_rows<R: Rows>(
+pub(crate) fn unlatch_rows<R: Rows>(
     rows: &mut R,
     seat: &mut R::Seat,
     frames: u32,
@@ -135,41 +136,43 @@ fn unlock_rows<R: Rows>(
 }
 
 // Stores the number of the session's end, and gives its rows back.
-fn end_rows<R: Rows>(
+pub(crate) fn end_rows<R: Rows>(
     rows: &mut R,
     seat: &mut R::Seat,
     session: &Session,
     latches: &mut Latches,
+    commit: bool,
     floor: u64,
     number: u64,
 )
     requires fits { R.fits rows.old seat.old }
-    requires may_end { MayEnd (R.shape rows.old) (R.view seat.old) session.now floor latches.old }
+    requires may_end { MayEnd (R.shape rows.old) (R.view seat.old) session.now commit floor latches.old }
     requires number { number ≡ session.now.clock + 1 }
     ensures fits { R.fits rows.new seat.new × (R.shape rows.new ≡ R.shape rows.old) }
     ensures unmarked { latches.new ≡ replicate session.now.held.count false }
-    ensures ended { HasEnded (length session.now.held.rows) (R.view seat.old) floor (R.view seat.new) }
+    ensures ended { HasEnded (length session.now.held.rows) (R.view seat.old) commit floor (R.view seat.new) }
 {
     lean_proto::every_turn();
-    rows.store_control(seat, 1, 1, number, &Ends { floor });
+    rows.store_control(seat, 1, 1, number, &Ends { commit, floor });
     unlock_rows(rows, seat, session.frames, &session.held, latches, number);
 }
 
 // What an end needs of other logs.
-fn need(debt: u64, floor: u64) -> u64
+pub(crate) fn need(debt: u64, floor: u64) -> u64
     ensures { result ≡ need_of debt floor }
 {
     if floor < debt { debt } else { 0 }
 }
 
 // The transaction of a session has ended, by this number.
-fn close(session: &mut Session, number: u64)
+pub(crate) fn close(session: &mut Session, number: u64)
     ensures { session.new ≡ ended_session session.old number }
 {
     session.is_open = false;
     session.clock = number;
     session.end = number;
-    session.changes = 0;
+    session.undo.clear();
+    session.half = false;
     session.held.clear();
 }
 
@@ -183,11 +186,12 @@ fn finish<R: Rows, D: Disk>(
     requires fits { R.fits rows.old seat.old }
     requires latched { Latched (R.shape rows.old) (R.view seat.old) store.old.session store.old.log latches.old }
     requires is_open { store.old.session.is_open ≡ true }
+    requires whole { store.old.session.half ≡ false }
     requires works { store.old.session.works ≡ true }
     ensures fits { R.fits rows.new seat.new × (R.shape rows.new ≡ R.shape rows.old) }
     ensures holds { store.new.session.works ≡ true → Holds (R.shape rows.new) (R.view seat.new) store.new.session store.new.log }
     ensures unmarked { store.new.session.works ≡ true → latches.new ≡ replicate store.old.session.held.count false }
-    ensures does { CallDoes Call.Commit (commit_answer result) (R.view seat.old) (R.view seat.new) store.old.log store.new.log (D.story store.old.disk) (D.story store.new.disk) }
+    ensures does { CallDoes Call.Commit (commit_answer result) store.old.session.half store.new.session.half (R.view seat.old) (R.view seat.new) store.old.log store.new.log (D.story store.old.disk) (D.story store.new.disk) }
     ensures works { (store.new.session.works ≡ true) ↔ IsOk result }
 
     ensures only_disk_fault { IfErr result (λ why. why ≡ Refusal.DiskFault) }
@@ -216,7 +220,7 @@ fn finish<R: Rows, D: Disk>(
         store.session.works = false;
         return Err(Refusal::DiskFault);
     }
-    end_rows(rows, seat, &store.session, latches, floor, number);
+    end_rows(rows, seat, &store.session, latches, true, floor, number);
     if let Err(_) = log_calls::flush(&mut store.disk, &mut store.log, 1) {
         store.session.works = false;
         return Err(Refusal::DiskFault);
@@ -242,7 +246,7 @@ pub fn commit<R: Rows, D: Disk>(
     ensures fits { R.fits rows.new seat.new × (R.shape rows.new ≡ R.shape rows.old) }
     ensures holds { store.new.session.works ≡ true → Holds (R.shape rows.new) (R.view seat.new) store.new.session store.new.log }
     ensures unmarked { store.new.session.works ≡ true → latches.new ≡ latches.old }
-    ensures does { store.old.session.works ≡ true → CallDoes Call.Commit (commit_answer result) (R.view seat.old) (R.view seat.new) store.old.log store.new.log (D.story store.old.disk) (D.story store.new.disk) }
+    ensures does { store.old.session.works ≡ true → CallDoes Call.Commit (commit_answer result) store.old.session.half store.new.session.half (R.view seat.old) (R.view seat.new) store.old.log store.new.log (D.story store.old.disk) (D.story store.new.disk) }
     ensures works { (store.new.session.works ≡ true) ↔ ((store.old.session.works ≡ true) × (result ≡ Err Refusal.DiskFault → ⊥)) }
     ensures told { IfErr result (λ why. IsTold why ⊎ ((why ≡ Refusal.Broken) ⊎ (why ≡ Refusal.DiskFault))) }
     ensures same_broken { result ≡ Err Refusal.Broken → (R.view seat.new ≡ R.view seat.old) × (store.new ≡ store.old) × (latches.new ≡ latches.old) }

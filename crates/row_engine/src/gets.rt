@@ -37,7 +37,7 @@ pub fn get<R: Rows, D: Disk>(
     requires key { key < 2 ^ 64 - 1 }
     ensures fits { R.fits rows.new seat.new × (R.shape rows.new ≡ R.shape rows.old) }
     ensures holds { store.new.session.works ≡ true → Holds (R.shape rows.new) (R.view seat.new) store.new.session store.new.log }
-    ensures does { store.old.session.works ≡ true → CallDoes (call.Get key) (get_answer result) (R.view seat.old) (R.view seat.new) store.old.log store.new.log (D.story store.old.disk) (D.story store.new.disk) }
+    ensures does { store.old.session.works ≡ true → CallDoes (call.Get key) (get_answer result) store.old.session.half store.new.session.half (R.view seat.old) (R.view seat.new) store.old.log store.new.log (D.story store.old.disk) (D.story store.new.disk) }
     ensures same { (result ≡ Err Refusal.Broken) ⊎ (result ≡ Err Refusal.NoTransaction) → (R.view seat.new ≡ R.view seat.old) × (store.new ≡ store.old) }
     // It touches no device.
     ensures same_disk { (store.new.disk ≡ store.old.disk) × (store.new.log ≡ store.old.log) × (store.new.session.works ≡ store.old.session.works) }

@@ -1,11 +1,15 @@
 //! An engine of one session on rows of words, over a disk that tells.
 //!
 //! Each call keeps the four clauses of engine_calls: its answer, its events, what the disk stands for, and what a crash at any moment of
-//! it leaves. Read specs/Holds, specs/Ties and specs/Calls, then `begin`, `get`, `put` and `commit`.
+//! it leaves. Read specs/Holds, specs/Ties and specs/Calls, then `begin`, `get`, `put`, `del`, `commit` and
+//! `abort`.
 #![tactic(auto)]
 
+mod aborts;
+mod backs;
 mod begins;
 mod commits;
+mod dels;
 mod free;
 mod gets;
 mod held;
@@ -16,9 +20,12 @@ mod room;
 mod session;
 mod store;
 mod taking;
+mod undo;
 
+pub use aborts::abort;
 pub use begins::begin;
 pub use commits::{Ended, commit};
+pub use dels::del;
 pub use draw_trait::staged::Staged;
 pub use free::FreePages;
 pub use gets::get;
@@ -28,3 +35,4 @@ pub use opening::open_session;
 pub use puts::put;
 pub use session::Session;
 pub use store::{Stages, Store};
+pub use undo::{UndoList, Undone};

@@ -8,6 +8,7 @@ ghost use Rattle.row_engine.specs.Opened.{IsOpenedOn, plain_shape};
 use crate::free::FreePages;
 use crate::held::HeldRows;
 use crate::session::Session;
+use crate::undo::UndoList;
 use btree_node::Node;
 use open_rows::open_rows;
 use rows_trait::plain::PlainRows;
@@ -36,13 +37,14 @@ pub fn open_session(
     let session = Session {
         works: true,
         is_open: false,
+        half: false,
         txn: 0,
         clock: base,
         floor: base,
         debt: 0,
         end: base,
-        changes: 0,
         frames,
+        undo: UndoList::new(alloc)?,
         held: HeldRows::new(alloc, count)?,
         free: FreePages::new(alloc, pages)?,
     };

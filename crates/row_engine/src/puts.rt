@@ -5,6 +5,7 @@ ghost use Rattle.map_model.specs.declared.call.Refusal.{Refusal};
 ghost use Rattle.lean_disk.specs.Faults.{HasCause};
 ghost use Rattle.lean_disk.specs.Moments.{Framed};
 ghost use Rattle.engine_trait.specs.Calls.{IsTold};
+ghost use Rattle.page_model.specs.Tree.{word_or};
 ghost use Rattle.row_engine.specs.Calls.{CallDoes, put_answer};
 ghost use Rattle.row_engine.specs.Holds.{Holds};
 ghost use Rattle.row_engine.specs.Outcomes.{Puts, Steps, Tries};
@@ -15,12 +16,20 @@ use crate::gets::value_of;
 use crate::room::make_room;
 use crate::store::{Stages, Store};
 use crate::taking::take_row;
+use btree_descent::descent::TOMBSTONE;
 use btree_descent::put::{Put, leaf_put};
 use draw_trait::draw::Unstaged;
 use key_locks::mode::Mode;
 use lean_proto::path::Path;
 use map_model::Refusal;
 use rows_trait::rows::Rows;
+
+// The word that a key had, which is a tombstone's where it had none.
+fn word_of(before: Option<u64>) -> u64
+    ensures { result ≡ word_or (2 ^ 63) before }
+{
+    before.unwrap_or(TOMBSTONE)
+}
 
 // What came of a try to put.
 #[derive(Clone, Copy)]
@@ -47,6 +56,7 @@ fn put_in_leaf<R: Rows, D: Stages>(
     requires path { path.old ≡ [] }
     ensures fits { R.fits rows.new seat.new × (R.shape rows.new ≡ R.shape rows.old) }
     ensures holds { store.new.session.works ≡ true → Holds (R.shape rows.new) (R.view seat.new) store.new.session store.new.log }
+    ensures half { store.new.session.works ≡ true → store.new.session.half ≡ store.old.session.half }
     ensures tries { Tries result (R.view seat.old) (R.view seat.new) key value store.old.session store.new.session store.old.log store.new.log (D.story store.old.disk) (D.story store.new.disk) path.new (store.new ≡ store.old) (store.new.session.works ≡ false) }
     ensures works { store.new.session.works ≡ works_after result }
     ensures cause_disk_fault { HasCause (D.faults store.old.disk) (D.faults store.new.disk) (result ≡ Err Refusal.DiskFault) }
@@ -56,7 +66,7 @@ fn put_in_leaf<R: Rows, D: Stages>(
     let frames = store.session.frames;
     match leaf_put(rows, seat, 1, frames, key, value, path, store) {
         Put::Done(before) => {
-            store.session.changes += 1;
+            store.session.undo.push(key, word_of(before));
             Ok(Tried::Done(value_of(before)))
         }
         Put::Full { row: _ } => Ok(Tried::Full),
@@ -100,6 +110,7 @@ fn put_step<R: Rows, D: Stages>(
     requires value { value < 2 ^ 63 }
     ensures fits { R.fits rows.new seat.new × (R.shape rows.new ≡ R.shape rows.old) }
     ensures holds { store.new.session.works ≡ true → Holds (R.shape rows.new) (R.view seat.new) store.new.session store.new.log }
+    ensures half { store.new.session.works ≡ true → store.new.session.half ≡ store.old.session.half }
     ensures steps { Steps result (R.view seat.old) (R.view seat.new) key value store.old.session store.new.session store.old.log store.new.log (D.story store.old.disk) (D.story store.new.disk) (store.new ≡ store.old) }
     ensures works { store.new.session.works ≡ works_after result }
     ensures cause_disk_fault { HasCause (D.faults store.old.disk) (D.faults store.new.disk) (result ≡ Err Refusal.DiskFault) }
@@ -133,6 +144,7 @@ fn put_held<R: Rows, D: Stages>(
     requires value { value < 2 ^ 63 }
     ensures fits { R.fits rows.new seat.new × (R.shape rows.new ≡ R.shape rows.old) }
     ensures holds { store.new.session.works ≡ true → Holds (R.shape rows.new) (R.view seat.new) store.new.session store.new.log }
+    ensures half { store.new.session.works ≡ true → store.new.session.half ≡ store.old.session.half }
     ensures puts { Puts result (R.view seat.old) (R.view seat.new) key value store.old.session store.new.session store.old.log store.new.log (D.story store.old.disk) (D.story store.new.disk) }
     ensures works { store.new.session.works ≡ works_after result }
     ensures cause_disk_fault { HasCause (D.faults store.old.disk) (D.faults store.new.disk) (result ≡ Err Refusal.DiskFault) }
@@ -166,7 +178,7 @@ pub fn put<R: Rows, D: Stages>(
     requires value { value < 2 ^ 63 }
     ensures fits { R.fits rows.new seat.new × (R.shape rows.new ≡ R.shape rows.old) }
     ensures holds { store.new.session.works ≡ true → Holds (R.shape rows.new) (R.view seat.new) store.new.session store.new.log }
-    ensures does { store.old.session.works ≡ true → CallDoes (Call.Put key value) (put_answer result) (R.view seat.old) (R.view seat.new) store.old.log store.new.log (D.story store.old.disk) (D.story store.new.disk) }
+    ensures does { store.old.session.works ≡ true → CallDoes (Call.Put key value) (put_answer result) store.old.session.half store.new.session.half (R.view seat.old) (R.view seat.new) store.old.log store.new.log (D.story store.old.disk) (D.story store.new.disk) }
     // Whether the engine works is seen from the answer.
     ensures works { store.new.session.works ≡ works_after result }
     // Which refusals a script is told.

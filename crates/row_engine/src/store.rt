@@ -1,5 +1,5 @@
 // What session 1 works on beside its rows.
-ghost use Rattle.std.specs.Prelude.{◌≡◌, ◌≤◌, ◌<◌, ◌+◌, ◌↔◌, max, Err, OnOk, IsErr, IsErrAnd};
+ghost use Rattle.std.specs.Prelude.{◌≡◌, ◌≤◌, ◌<◌, ◌+◌, ◌↔◌, max, Err, OnOk, IsErr, IsErrAnd, true, false};
 ghost use Rattle.lean_disk.specs.Faults.{HasCause};
 ghost use Rattle.lean_disk.specs.Moments.{Framed};
 ghost use Rattle.log_record.specs.Spelling.{Fits};
@@ -16,7 +16,7 @@ use draw_trait::staged::{Staged, one_more};
 use lean_disk::{Disk, MemDisk};
 use log_record::Record;
 use std::marker::Brand;
-use worker_log::{Staging, WorkerLog};
+use worker_log::{DiskFault, RESERVE, Staging, WorkerLog};
 
 // The greater of two numbers.
 fn greater(a: u64, b: u64) -> u64
@@ -66,12 +66,53 @@ pub trait Stages: Disk {
 
         ensures cause_log_full { IsErrAnd result IsLogFull ↔ IsFull log.old }
         ensures cause_disk_fault { HasCause (Self.faults self.old) (Self.faults self.new) (result ≡ Err Staging.DiskFault) };
+
+    /// Puts the record of a change that is put back into log 1, in the blocks that are kept back for ends too.
+    fn stage_back_on(&mut self, log: &mut WorkerLog, entry: &Record) -> Result<(), DiskFault>
+        requires fits { Fits entry.now }
+        requires rises { log.old.last < entry.now.gsn }
+        requires room { used log.old + 1 ≤ log.old.blocks }
+        ensures ranges { IsInRange log.new }
+        ensures after { OnOk result (After entry.now log.old log.new) }
+        ensures last { OnOk result (log.new.last ≡ entry.now.gsn) }
+        ensures failed { IsErr result → log.new ≡ log.old }
+        ensures stands { OnOk result (StagesOn 1 entry.now log.old log.new (Self.story self.old) (Self.story self.new)) }
+        ensures any_moment { KeepsMoments 1 log.old (Self.story self.old) (Self.story self.new) }
+        ensures told { KeepsNotes 1 log.old (Self.story self.old) (Self.story self.new) }
+        ensures within { KeepsWithin 1 log.old (Self.story self.old) (Self.story self.new) }
+        ensures frame { Framed 2 (Self.story self.old) (Self.story self.new) }
+        ensures same_notes { (Self.story self.new).notes ≡ (Self.story self.old).notes }
+
+        ensures cause_disk_fault { HasCause (Self.faults self.old) (Self.faults self.new) (IsErr result) };
 }
 
 impl Stages for MemDisk {
     fn stage_on(&mut self, log: &mut WorkerLog, entry: &Record) -> Result<(), Staging> {
         log_calls::stage(self, log, 1, entry)
     }
+
+    fn stage_back_on(&mut self, log: &mut WorkerLog, entry: &Record) -> Result<(), DiskFault> {
+        log_calls::stage_end(self, log, 1, entry)
+    }
+}
+
+// Whether the log has no block for a further record, where those serve too that are kept back for ends.
+fn is_used_up(log: &WorkerLog) -> bool
+    ensures full { result ≡ true → log.now.blocks ≤ used log.now }
+    ensures room { result ≡ false → used log.now + 1 ≤ log.now.blocks }
+{
+    // The log is in its ranges.
+    log.last();
+    log.limit() + RESERVE <= log.used()
+}
+
+// Whether a record takes a block that is kept back: while an abort is under way, and there is one.
+fn takes_back(half: bool, log: &WorkerLog) -> bool
+    ensures half { result ≡ true → half ≡ true }
+    ensures room { result ≡ true → used log.now + 1 ≤ log.now.blocks }
+    ensures full { result ≡ false → half ≡ true → log.now.blocks ≤ used log.now }
+{
+    half && !is_used_up(log)
 }
 
 impl<D: Stages> Draw for Store<D> {
@@ -109,6 +150,15 @@ impl<D: Stages> Draw for Store<D> {
     }
 
     fn stage(&mut self, entry: &Record) -> Result<(), Unstaged> {
+        if takes_back(self.session.half, &self.log) {
+            return match self.disk.stage_back_on(&mut self.log, entry) {
+                Ok(()) => {
+                    self.staged = one_more::<Brand>(&self.staged, entry);
+                    Ok(())
+                }
+                Err(DiskFault) => Err(Unstaged::DiskFault),
+            };
+        }
         match self.disk.stage_on(&mut self.log, entry) {
             Ok(()) => {
                 self.staged = one_more::<Brand>(&self.staged, entry);

@@ -1,4 +1,7 @@
-use Rattle.std.proofs.Common.{◌∙◌, sym, ap}
+use Rattle.std.proofs.Common.{◌∙◌, sym, ap, subst}
+use Rattle.map_model.specs.declared.call.Answer.TheVariants as answer
+use Rattle.map_model.specs.declared.call.Call.TheVariants as call
+use Rattle.row_engine.specs.Calls.{CallDoes}
 use Rattle.row_engine.specs.Inside.{begun_session}
 use Rattle.row_engine.proofs.BeginLemmas.{after_begin, began, begin_comes, free_of, holds_as, not_begun}
 use Rattle.row_engine.proofs.Moments.{acts}
@@ -30,8 +33,9 @@ pub returns-clause-does : goal.returns-clause-does
 returns-clause-does g c works =
     let st = g.D.Disk.story c.args.store.now.disk in
     let lawful = ((g.met.D.Disk g.world.𝓛 g.world.𝓜 g.world.𝓡 ((λ s x. x), (λ x. x), (λ x. x), (λ x. x))).lawful c.args.store.now.disk) in
-    began c.every_reached.ensures c.every_need.ensures c.every_answer.ensures st lawful c.every_part.ensures (g.R.Rows.shape c.args.rows.now) (g.R.Rows.view c.args.seat.now) c.args.store.now.session c.args.store.now.log works (c.requires.holds works)
-    c.every_begin.ensures (g.R.Rows.view c.load_control-floor.new.seat) c.load_control-floor.result c.begun.new.self.txn c.load_control-floor.ensures.step (sym c.begin_refusal.ensures ∙ c.in_default.is) (ap (λ y. y.txn) c.begun.ensures)
+    subst (λ k. CallDoes call.Begin (answer.Begun c.begun.new.self.txn) c.args.store.now.session.half k (g.R.Rows.view c.args.seat.now) (g.R.Rows.view c.load_control-floor.new.seat) c.args.store.now.log c.args.store.now.log st st) (sym (ap (λ y. y.half) c.begun.ensures))
+    (began c.every_reached.ensures c.every_need.ensures c.every_answer.ensures st lawful c.every_part.ensures (g.R.Rows.shape c.args.rows.now) (g.R.Rows.view c.args.seat.now) c.args.store.now.session c.args.store.now.log works (c.requires.holds works)
+    c.every_begin.ensures (g.R.Rows.view c.load_control-floor.new.seat) c.load_control-floor.result c.begun.new.self.txn c.load_control-floor.ensures.step (sym c.begin_refusal.ensures ∙ c.in_default.is) (ap (λ y. y.txn) c.begun.ensures))
 
 pub returns-in-Some-clause-come : goal.returns-in-Some-clause-come
 returns-in-Some-clause-come g c = begin_comes c.args.store.now.session c.args.store.now.log c.in-Some.why (sym c.begin_refusal.ensures ∙ c.in-Some.is)

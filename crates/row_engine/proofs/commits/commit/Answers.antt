@@ -46,7 +46,7 @@ finish-requires-clause-latched g c _ _ =
 pub returns-clause-does : goal.returns-clause-does
 returns-clause-does g c works =
     let l = c.latch_rows.ensures.latching in
-    does_from (commit_answer c.finish.result) (g.R.Rows.view c.args.seat.now) (g.R.Rows.view c.latch_rows.new.seat) (g.R.Rows.view c.finish.new.seat) c.args.store.now.log c.finish.new.store.log (g.D.Disk.story c.args.store.now.disk) (g.D.Disk.story c.finish.new.store.disk) l.given l.seen c.finish.ensures.does
+    does_from (commit_answer c.finish.result) c.args.store.now.session.half c.finish.new.store.session.half (g.R.Rows.view c.args.seat.now) (g.R.Rows.view c.latch_rows.new.seat) (g.R.Rows.view c.finish.new.seat) c.args.store.now.log c.finish.new.store.log (g.D.Disk.story c.args.store.now.disk) (g.D.Disk.story c.finish.new.store.disk) l.given l.seen c.finish.ensures.does
 
 pub returns-in-Some-clause-told : goal.returns-in-Some-clause-told
 returns-in-Some-clause-told g c = test_told c.args.store.now.session c.in-Some.why (sym c.call_refusal.ensures ∙ c.in-Some.is)

@@ -5,7 +5,7 @@ use Rattle.row_engine.proofs.EndLemmas.{closed, end_is, ended, held, may_turn, m
 use Rattle.row_engine.proofs.commits.end_rows.Goals as goal
 
 pub store_control-requires-clause-event : goal.store_control-requires-clause-event
-store_control-requires-clause-event g c = may_turn c.every_turn.ensures (g.R.Rows.shape c.args.rows.now) (g.R.Rows.view c.args.seat.now) c.args.session.now c.args.floor c.args.number c.args.latches.now c.requires.may_end c.requires.number
+store_control-requires-clause-event g c = may_turn c.every_turn.ensures (g.R.Rows.shape c.args.rows.now) (g.R.Rows.view c.args.seat.now) c.args.session.now c.args.commit c.args.floor c.args.number c.args.latches.now c.requires.may_end c.requires.number
 
 pub store_control-requires-clause-place : goal.store_control-requires-clause-place
 store_control-requires-clause-place g c = let q = c.requires.may_end.workers in (omega arith, omega arith)
@@ -17,13 +17,13 @@ pub unlock_rows-requires-clause-locks : goal.unlock_rows-requires-clause-locks
 unlock_rows-requires-clause-locks g c = sized_on (g.R.Rows.shape c.args.rows.now) (g.R.Rows.shape c.store_control.new.self) (g.R.Rows.view c.args.seat.now) (g.R.Rows.view c.store_control.new.seat) c.args.session.now.frames c.args.session.now.held.count _ c.store_control.ensures.shape c.store_control.ensures.step.1.goes.given refl c.requires.may_end.locks
 
 pub unlock_rows-requires-clause-mine : goal.unlock_rows-requires-clause-mine
-unlock_rows-requires-clause-mine g c = mine c.every_turn.ensures (g.R.Rows.shape c.args.rows.now) (g.R.Rows.view c.args.seat.now) c.args.session.now c.args.floor c.args.number c.args.latches.now c.requires.may_end c.requires.number c.store_control.ensures.step.0 (g.R.Rows.view c.store_control.new.seat) c.store_control.ensures.step.1
+unlock_rows-requires-clause-mine g c = mine c.every_turn.ensures (g.R.Rows.shape c.args.rows.now) (g.R.Rows.view c.args.seat.now) c.args.session.now c.args.commit c.args.floor c.args.number c.args.latches.now c.requires.may_end c.requires.number c.store_control.ensures.step.0 (g.R.Rows.view c.store_control.new.seat) c.store_control.ensures.step.1
 
 pub unlock_rows-requires-clause-held : goal.unlock_rows-requires-clause-held
-unlock_rows-requires-clause-held g c = held c.every_turn.ensures (g.R.Rows.shape c.args.rows.now) (g.R.Rows.view c.args.seat.now) c.args.session.now c.args.floor c.args.number c.args.latches.now c.requires.may_end c.requires.number c.store_control.ensures.step.0 (g.R.Rows.view c.store_control.new.seat) c.store_control.ensures.step.1
+unlock_rows-requires-clause-held g c = held c.every_turn.ensures (g.R.Rows.shape c.args.rows.now) (g.R.Rows.view c.args.seat.now) c.args.session.now c.args.commit c.args.floor c.args.number c.args.latches.now c.requires.may_end c.requires.number c.store_control.ensures.step.0 (g.R.Rows.view c.store_control.new.seat) c.store_control.ensures.step.1
 
 pub unlock_rows-requires-clause-ended : goal.unlock_rows-requires-clause-ended
-unlock_rows-requires-clause-ended g c = (closed c.every_turn.ensures (g.R.Rows.shape c.args.rows.now) (g.R.Rows.view c.args.seat.now) c.args.session.now c.args.floor c.args.number c.args.latches.now c.requires.may_end c.requires.number c.store_control.ensures.step.0 (g.R.Rows.view c.store_control.new.seat) c.store_control.ensures.step.1, end_is c.every_turn.ensures (g.R.Rows.shape c.args.rows.now) (g.R.Rows.view c.args.seat.now) c.args.session.now c.args.floor c.args.number c.args.latches.now c.requires.may_end c.requires.number c.store_control.ensures.step.0 (g.R.Rows.view c.store_control.new.seat) c.store_control.ensures.step.1)
+unlock_rows-requires-clause-ended g c = (closed c.every_turn.ensures (g.R.Rows.shape c.args.rows.now) (g.R.Rows.view c.args.seat.now) c.args.session.now c.args.commit c.args.floor c.args.number c.args.latches.now c.requires.may_end c.requires.number c.store_control.ensures.step.0 (g.R.Rows.view c.store_control.new.seat) c.store_control.ensures.step.1, end_is c.every_turn.ensures (g.R.Rows.shape c.args.rows.now) (g.R.Rows.view c.args.seat.now) c.args.session.now c.args.commit c.args.floor c.args.number c.args.latches.now c.requires.may_end c.requires.number c.store_control.ensures.step.0 (g.R.Rows.view c.store_control.new.seat) c.store_control.ensures.step.1)
 
 pub returns-clause-ended : goal.returns-clause-ended
-returns-clause-ended g c = ended c.every_turn.ensures (g.R.Rows.shape c.args.rows.now) (g.R.Rows.view c.args.seat.now) c.args.session.now c.args.floor c.args.number c.args.latches.now c.requires.may_end c.requires.number c.store_control.ensures.step.0 (g.R.Rows.view c.store_control.new.seat) c.store_control.ensures.step.1 _ (g.R.Rows.view c.unlock_rows.new.seat) c.unlock_rows.ensures.gave
+returns-clause-ended g c = ended c.every_turn.ensures (g.R.Rows.shape c.args.rows.now) (g.R.Rows.view c.args.seat.now) c.args.session.now c.args.commit c.args.floor c.args.number c.args.latches.now c.requires.may_end c.requires.number c.store_control.ensures.step.0 (g.R.Rows.view c.store_control.new.seat) c.store_control.ensures.step.1 _ (g.R.Rows.view c.unlock_rows.new.seat) c.unlock_rows.ensures.gave

@@ -1,3 +1,5 @@
+use Rattle.map_model.specs.declared.call.Call.TheVariants as call
+use Rattle.row_engine.specs.Calls.{CallDoes, put_answer}
 use Rattle.std.proofs.Common.{Err, ap, inl, refl, sym, ◌∙◌, subst}
 use Rattle.engine_calls.proofs.PartLemmas.{every_part}
 use Rattle.row_engine.proofs.PutRuns.{may_taken, never_early, none_is, not_put, not_taken, put_comes, put_did, put_framed, puts_told, some_is}
@@ -16,9 +18,10 @@ pub returns-in-Err-clause-does : goal.returns-in-Err-clause-does
 returns-in-Err-clause-does g c works =
     let st = g.D.Disk.story c.args.store.now.disk in
     let lawful = ((g.met.D.Disk g.world.𝓛 g.world.𝓜 g.world.𝓡 ((λ s x. x), (λ x. x), (λ x. x), (λ x. x))).lawful c.args.store.now.disk) in
-    not_taken c.every_reached.ensures c.every_need.ensures c.every_answer.ensures c.every_coming.ensures (every_part c.every_version.ensures c.every_kept.ensures c.every_prefix.ensures c.every_sealed.ensures)
+    subst (λ k. CallDoes (call.Put c.args.key c.args.value) (put_answer (Err c.in-Err.why)) c.args.store.now.session.half k (g.R.Rows.view c.args.seat.now) (g.R.Rows.view c.take_row.new.seat) c.args.store.now.log c.args.store.now.log st st) (sym (ap (λ k. k.half) c.in-Err.ensures.spent.2))
+    (not_taken c.every_reached.ensures c.every_need.ensures c.every_answer.ensures c.every_coming.ensures (every_part c.every_version.ensures c.every_kept.ensures c.every_prefix.ensures c.every_sealed.ensures)
     (g.R.Rows.shape c.args.rows.now) (g.R.Rows.view c.args.seat.now) c.args.store.now.session c.args.store.now.log (c.requires.holds works) works c.args.key c.args.value st lawful
-    (g.R.Rows.view c.take_row.new.seat) c.in-Err.ensures.spent.1 c.in-Err.why c.in-Err.ensures.spent.0
+    (g.R.Rows.view c.take_row.new.seat) c.in-Err.ensures.spent.1 c.in-Err.why c.in-Err.ensures.spent.0)
 
 pub returns-clause-does : goal.returns-clause-does
 returns-clause-does g c works gg xs t =
@@ -28,7 +31,8 @@ returns-clause-does g c works gg xs t =
     (g.R.Rows.shape c.take_row.new.rows) (g.R.Rows.view c.take_row.new.seat) c.take_row.new.session c.take_row.ensures.holds c.in_default-take_row.ensures.taken
     (sym c.put_refusal.ensures ∙ c.in_default.is) c.requires.value
     (g.R.Rows.view c.put_held.new.seat) c.put_held.new.store.session c.put_held.new.store.log (g.D.Disk.story c.args.store.now.disk) (g.D.Disk.story c.put_held.new.store.disk) lawful
-    c.put_held.result c.put_held.ensures.puts (λ e. (c.put_held.ensures.holds (c.put_held.ensures.works ∙ e)).session)
+    c.put_held.new.store.session.half c.put_held.result c.put_held.ensures.puts (λ e. (c.put_held.ensures.holds (c.put_held.ensures.works ∙ e)).session)
+    (λ e. c.put_held.ensures.half (c.put_held.ensures.works ∙ e) ∙ ap (λ k. k.half) c.in_default-take_row.ensures.taken.session)
 
 pub returns-clause-frame : goal.returns-clause-frame
 returns-clause-frame g c =

@@ -10,6 +10,7 @@ room-init g c = record {
   holds = c.requires.holds;
   may = c.requires.may;
   room = room_none c.every_reached.ensures c.every_need.ensures (every_part c.every_version.ensures c.every_kept.ensures c.every_prefix.ensures c.every_sealed.ensures) c.args.key c.args.value (g.R.Rows.view c.args.seat.now) c.requires.holds.rows.one c.args.store.now.session c.args.store.now.log (g.D.Disk.story c.args.store.now.disk);
+  half = refl;
   faults = refl;
 }
 
@@ -38,6 +39,7 @@ room-preserved g c =
       room = room_more c.every_reached.ensures c.every_need.ensures (every_part c.every_version.ensures c.every_kept.ensures c.every_prefix.ensures c.every_sealed.ensures) c.args.key c.args.value (g.R.Rows.view c.args.seat.now) c.requires.holds.rows.one
           c.args.store.now.session c.args.store.now.log (g.D.Disk.story c.args.store.now.disk) (g.R.Rows.view c.room.seat) c.room.store.session c.room.store.log (g.D.Disk.story c.room.store.disk) i.room
           (g.R.Rows.view c.put_step.new.seat) c.put_step.new.store.session c.put_step.new.store.log (g.D.Disk.story c.put_step.new.store.disk) t.0;
+      half = e.half t.1.works ∙ i.half;
       faults = e.cause_disk_fault.calm (ok_calm _ _) ∙ i.faults;
     }
 

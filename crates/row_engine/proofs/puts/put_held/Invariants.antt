@@ -10,6 +10,7 @@ invariant-room g l = record {
   holds : Holds (g.R.Rows.shape l.rows) (g.R.Rows.view l.seat) l.store.session l.store.log;
   may : MayChange (g.R.Rows.view l.seat) l.store.session l.store.log l.key;
   room : HasRoom l.key (g.R.Rows.view l.fn.seat) (g.R.Rows.view l.seat) l.fn.store.session l.store.session l.fn.store.log l.store.log (g.D.Disk.story l.fn.store.disk) (g.D.Disk.story l.store.disk);
+  half : l.store.session.half ≡ l.fn.store.session.half;
   faults : g.D.Disk.faults l.store.disk ≡ g.D.Disk.faults l.fn.store.disk;
 }
 
