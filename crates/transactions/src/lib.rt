@@ -10,10 +10,12 @@ mod hindrance;
 mod places;
 mod rows;
 mod session;
+mod sessions;
 
 pub use hindrance::{Hindrance, Mode, Receipt, Refusal};
 pub use places::{Index, Journal, Locks, Place};
 pub use session::{Session, Undo};
+pub use sessions::Sessions;
 
 /// What a session knows of the core lasts through events that are no steps of its own.
 pub fn every_other()

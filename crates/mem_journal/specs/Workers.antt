@@ -1,0 +1,43 @@
+-- Workers in memory, and the core's.
+use Rattle.std.specs.Prelude.{◌≡◌, ◌<◌, ◌==◌, ◌&&◌, ℕ, true, List, if◌then◌else◌, [], ◌∷◌, ◌++◌}
+use Rattle.map_model.specs.Lists.{any}
+use Rattle.image_model.specs.Entries.{Entry, is_record, is_commit}
+use Rattle.core_state.specs.States as core
+use Rattle.transactions.specs.declared.hindrance.Receipt.{Receipt}
+use Rattle.mem_journal.specs.declared.worker.Worker.{Worker}
+
+-- no worker
+abbrev pub no_worker : Worker
+no_worker = record { clock = record { log = 0; clock = 0; floor = 0; debt = 0 }; txn = 0; end = 0; flushed = 0 }
+
+-- the worker of this log, at the start
+abbrev pub new_worker : (log base : ℕ) → Worker
+new_worker log base = record { clock = record { log = log; clock = base; floor = base; debt = 0 }; txn = 0; end = base; flushed = base }
+
+-- log w has a record of this number
+abbrev pub HasRecord : List Entry → (w n : ℕ) → Type 0
+HasRecord entries w n = any (λ r. is_record r.kind && ((r.log == w) && (r.number == n))) entries ≡ true
+
+-- it is the core's worker w, but for what its transaction is
+pub record IsLike (w : ℕ) (a : core.Worker) (b : Worker) : Type 0 where
+  pub log : b.clock.log ≡ w
+  pub clock : a.clock ≡ b.clock.clock
+  pub floor : a.floor ≡ b.clock.floor
+  pub debt : a.debt ≡ b.clock.debt
+  pub txn : a.txn ≡ b.txn
+  pub end : a.end ≡ b.end
+
+-- and knows how far its log is flushed; its last end stands in its log, where it is not flushed
+pub record IsWorker (s : core.State) (w : ℕ) (b : Worker) : Type 0 where
+  pub like : IsLike w (s.worker w) b
+  pub flushed : s.flushed w ≡ b.flushed
+  pub ended : b.flushed < b.end → HasRecord s.entries w b.end
+
+-- what an end says
+abbrev pub receipt_of : Entry → Receipt
+receipt_of r = record { txn = r.txn; log = r.log; gsn = r.number; need = r.need }
+
+-- the committed transactions, the first one first
+abbrev pub committed : List Entry → List Receipt
+committed [] = []
+committed (r ∷ rs) = if is_commit r.kind then committed rs ++ receipt_of r ∷ [] else committed rs
