@@ -17,16 +17,27 @@ use std::str;
 
 const WORKERS: u32 = 16;
 
-static GOOD: [(&[u8], u32, Call); 11] = [
+static GOOD: [(&[u8], u32, Call); 16] = [
     (b"1 begin", 1, Call::Begin),
     (b"16 begin", 16, Call::Begin),
     (b"2 commit", 2, Call::Commit),
+    (b"1 abort", 1, Call::Abort),
+    (b"16 abort", 16, Call::Abort),
     (b"9 get 0", 9, Call::Get { key: 0 }),
     (b"1 get 7", 1, Call::Get { key: 7 }),
     (
         b"1 get 18446744073709551614",
         1,
         Call::Get {
+            key: 18446744073709551614,
+        },
+    ),
+    (b"1 del 0", 1, Call::Del { key: 0 }),
+    (b"12 del 5", 12, Call::Del { key: 5 }),
+    (
+        b"1 del 18446744073709551614",
+        1,
+        Call::Del {
             key: 18446744073709551614,
         },
     ),
@@ -58,7 +69,7 @@ static GOOD: [(&[u8], u32, Call); 11] = [
     ),
 ];
 
-static BAD: [&[u8]; 77] = [
+static BAD: [&[u8]; 94] = [
     b"",
     b" ",
     b"1",
@@ -124,9 +135,26 @@ static BAD: [&[u8]; 77] = [
     b"1 put 05 7",
     b"1 put 5 -7",
     b"1 put 5 none",
-    b"1 del 5",
+    b"1 dels 5",
+    b"1 del",
+    b"1 del ",
+    b"1 del  5",
+    b"1 del 05",
+    b"1 del -5",
+    b"1 del 18446744073709551615",
+    b"1 del 5 ",
+    b"1 del 5 6",
+    b"1 del 5a",
+    b"1 delete 5",
+    b"1del 5",
+    b"1 Del 5",
     b"1 scan 0 9",
-    b"1 abort",
+    b"1 aborts",
+    b"1 abort ",
+    b"1 abort 1",
+    b"1 Abort",
+    b"1 aborted",
+    b"abort",
     b"sync",
     b"checkpoint",
     b"1 durable 1.1",
@@ -224,6 +252,7 @@ enum Told {
     Was(u64),
     WasNone,
     Committed(u64, u64),
+    Aborted(u64),
     InTransaction,
     NoTransaction,
     TooLong,
@@ -234,7 +263,7 @@ enum Told {
     NoPages,
 }
 
-static REPLIES: [(u32, Told, &[u8]); 16] = [
+static REPLIES: [(u32, Told, &[u8]); 18] = [
     (1, Told::Begun(1), b"1 begun 1.1\n"),
     (1, Told::Value(7), b"1 value 7\n"),
     (1, Told::NoValue, b"1 none\n"),
@@ -246,6 +275,7 @@ static REPLIES: [(u32, Told, &[u8]); 16] = [
     (2, Told::WasNone, b"2 was none\n"),
     (3, Told::Was(0), b"3 was 0\n"),
     (1, Told::Committed(1, 2), b"1 committed 1.1 at 2\n"),
+    (1, Told::Aborted(2), b"1 aborted 1.2\n"),
     (1, Told::InTransaction, b"1 in-transaction\n"),
     (2, Told::NoTransaction, b"2 no-transaction\n"),
     (1, Told::TooLong, b"1 too-long\n"),
@@ -258,6 +288,11 @@ static REPLIES: [(u32, Told, &[u8]); 16] = [
         4294967295,
         Told::Committed(18446744073709551615, 18446744073709551615),
         b"4294967295 committed 4294967295.18446744073709551615 at 18446744073709551615\n",
+    ),
+    (
+        4294967295,
+        Told::Aborted(18446744073709551615),
+        b"4294967295 aborted 4294967295.18446744073709551615\n",
     ),
 ];
 
@@ -274,6 +309,7 @@ fn answer_of(told: &Told) -> Answer
             number: *number,
             at: *at,
         },
+        Told::Aborted(number) => Answer::Aborted { number: *number },
         Told::InTransaction => Answer::Refused(Refusal::InTransaction),
         Told::NoTransaction => Answer::Refused(Refusal::NoTransaction),
         Told::TooLong => Answer::Refused(Refusal::TooLong),

@@ -1,5 +1,5 @@
 -- A line that is spelled is read, and a line that is read was spelled so.
-use Rattle.std.proofs.Common.{◌≡◌, ◌⊎◌, inl, inr, ⊎_elim, ◌++◌, ◌∷◌, ℕ, List, Option, Some, None, codes, ◌∙◌, sym, refl, ap, subst, ◌+◌, ◌-◌, ◌^◌, ◌<◌, ◌≤◌, Bool, true, false, cond, nat_lt, length, arith}
+use Rattle.std.proofs.Common.{◌≡◌, ◌⊎◌, inl, inr, ⊎_elim, ◌++◌, ◌∷◌, ℕ, List, Option, Some, None, codes, ◌∙◌, sym, refl, ap, subst, ◌+◌, ◌-◌, ◌^◌, ◌<◌, ◌≤◌, Bool, true, false, true≢false, cond, nat_lt, length, option_map, arith}
 use Rattle.std.proofs.lemmas.List.{length-append}
 use Rattle.std.proofs.lemmas.Bool.Decides.{nat_tests}
 use Rattle.std.proofs.lemmas.Slice.Eq.{bytes_eq-Decides}
@@ -7,20 +7,25 @@ use Rattle.std.proofs.lemmas.Fmt.{length-decimal-le}
 use Rattle.std.specs.Str.{bytes_eq}
 use Rattle.std.specs.Fmt.{decimal}
 use Rattle.script_lang.specs.Words.{first_word, after_word, number_of, ranged, word, rest, ends, with_one, with_two}
-use Rattle.script_lang.specs.Lines.{call_text, line_text, CallFits, Spells, get_of, put_of, verb_of, line_with, line_of}
+use Rattle.script_lang.specs.Lines.{call_text, line_text, CallFits, Spells, key_of, put_of, lone_verb_of, verb_of, line_with, line_of}
 use Rattle.script_lang.specs.declared.line.Line.{Line}
 use Rattle.map_model.specs.declared.call.Call.{Call}
-use Rattle.map_model.specs.declared.call.Call.TheVariants.{Begin, Get, Put, Commit}
+use Rattle.map_model.specs.declared.call.Call.TheVariants.{Begin, Get, Put, Del, Commit, Abort}
 use Rattle.script_lang.proofs.NumberLemmas.{word_number, word_last, after_last, word_before, after_before, Joins, joins, guard, number_is, number_spelled, ranged_is, in_range}
 
 -- what is spelled is read
-pub call_read : (call : Call) → CallFits call → verb_of (Some (call_text call)) ≡ Some call
-call_read Begin h = refl
-call_read Commit h = refl
-call_read (Get k) h =
+key_read : (k : ℕ) → k < 2 ^ 64 - 1 → key_of (Some (decimal k)) ≡ Some k
+key_read k h =
     let small : k < 2 ^ 64 = omega arith in
     let w = word_number k small in
     rw (word_last (decimal k) w, after_last (decimal k) w, number_is k small, ranged_is 0 (2 ^ 64 - 1) k (omega arith) h) refl
+
+pub call_read : (call : Call) → CallFits call → verb_of (Some (call_text call)) ≡ Some call
+call_read Begin h = refl
+call_read Commit h = refl
+call_read Abort h = refl
+call_read (Get k) h = ap (option_map Get) (key_read k h)
+call_read (Del k) h = ap (option_map Del) (key_read k h)
 call_read (Put k v) h =
     let key : k < 2 ^ 64 - 1 = h.0 in
     let value : v < 2 ^ 63 = h.1 in
@@ -43,7 +48,9 @@ call_read _ h = absurd h
 call_short : (call : Call) → CallFits call → length (call_text call) ≤ 50
 call_short Begin h = omega arith
 call_short Commit h = omega arith
+call_short Abort h = omega arith
 call_short (Get k) h = let key : k < 2 ^ 64 - 1 = h in let l = length-decimal-le 20 k (omega arith) (omega arith) (omega arith) in omega arith
+call_short (Del k) h = let key : k < 2 ^ 64 - 1 = h in let l = length-decimal-le 20 k (omega arith) (omega arith) (omega arith) in omega arith
 call_short (Put k v) h =
     let key : k < 2 ^ 64 - 1 = h.0 in
     let value : v < 2 ^ 63 = h.1 in
@@ -76,6 +83,9 @@ split false x y a e = inr e
 
 same : (xs ys : List ℕ) → bytes_eq xs ys ≡ true → xs ≡ ys
 same xs ys e = (bytes_eq-Decides xs ys).0 e
+
+pub differ : (xs ys : List ℕ) → bytes_eq xs ys ≡ false → xs ≡ ys → ⊥
+differ xs ys unlike e = true≢false (sym ((bytes_eq-Decides xs ys).1 e) ∙ unlike)
 
 ends_is : {A : Type 0} (x y : A) (left : Option (List ℕ)) → ends x left ≡ Some y → (x ≡ y) × (left ≡ None)
 ends_is x y None e = let s : x ≡ y = cc in (s, refl)
@@ -112,29 +122,41 @@ two_are : {A : Type 0} (f : ℕ → ℕ → A) (m n : Option ℕ) (left : Option
 two_are f None n left a e = cc
 two_are f (Some m) n left a e = record { first = m; is = refl; second = one_is (f m) n left a e }
 
-begin_says : (ws : List ℕ) (call : Call) → bytes_eq (first_word ws) (codes "begin") ≡ true → ends Begin (after_word ws) ≡ Some call → Says (Some ws) call
-begin_says ws call is e =
-    let h = ends_is Begin call (after_word ws) e in
+-- a verb alone
+lone_says : (c : Call) (verb ws : List ℕ) (call : Call) → call_text c ≡ verb → CallFits c → bytes_eq (first_word ws) verb ≡ true → ends c (after_word ws) ≡ Some call → Says (Some ws) call × (ws ≡ verb)
+lone_says c verb ws call text fits is e =
+    let h = ends_is c call (after_word ws) e in
+    let words : ws ≡ verb = last_word ws verb (same (first_word ws) verb is) h.1 in
     let P : Call → Type 0 = λ call. Says (Some ws) call in
-    subst P h.0 (record { spelled = ap (λ (w : List ℕ). Some w) (last_word ws (codes "begin") (same (first_word ws) (codes "begin") is) h.1); fits = tt })
+    (subst P h.0 (record { spelled = ap (λ (w : List ℕ). Some w) (words ∙ sym text); fits = fits }), words)
 
-commit_says : (ws : List ℕ) (call : Call) → bytes_eq (first_word ws) (codes "commit") ≡ true → ends Commit (after_word ws) ≡ Some call → Says (Some ws) call
-commit_says ws call is e =
-    let h = ends_is Commit call (after_word ws) e in
-    let P : Call → Type 0 = λ call. Says (Some ws) call in
-    subst P h.0 (record { spelled = ap (λ (w : List ℕ). Some w) (last_word ws (codes "commit") (same (first_word ws) (codes "commit") is) h.1); fits = tt })
+-- a key that is the last word
+pub record KeyIs (words : List ℕ) (key : ℕ) : Type 0 where
+  pub spelled : words ≡ decimal key
+  pub fits : key < 2 ^ 64 - 1
 
-get_says : (ws : List ℕ) (call : Call) (more : Option (List ℕ)) → after_word ws ≡ more → bytes_eq (first_word ws) (codes "get") ≡ true → get_of more ≡ Some call → Says (Some ws) call
-get_says ws call None after is e = let o = one_is Get None None call e in let no = o.is in cc
-get_says ws call (Some more) after is e =
-    let o = one_is Get (ranged 0 (2 ^ 64 - 1) (number_of (first_word more))) (after_word more) call e in
-    let k : ℕ = o.number in
-    let r = in_range 0 (2 ^ 64 - 1) k (number_of (first_word more)) o.is in
-    let n = number_spelled (first_word more) k r.read in
-    let words : more ≡ decimal k = last_word more (decimal k) n.0 o.last in
-    let text : ws ≡ codes "get" ++ 32 ∷ more = then_word ws (codes "get") more (same (first_word ws) (codes "get") is) after in
-    let P : Call → Type 0 = λ call. Says (Some ws) call in
-    subst P o.made (record { spelled = ap (λ (w : List ℕ). Some w) (text ∙ ap (λ (w : List ℕ). codes "get" ++ 32 ∷ w) words); fits = r.under })
+key_is : (more : List ℕ) (key : ℕ) → key_of (Some more) ≡ Some key → KeyIs more key
+key_is more key e =
+    let o = one_is (λ (k : ℕ). k) (ranged 0 (2 ^ 64 - 1) (number_of (first_word more))) (after_word more) key e in
+    let r = in_range 0 (2 ^ 64 - 1) o.number (number_of (first_word more)) o.is in
+    let n = number_spelled (first_word more) o.number r.read in
+    let P : ℕ → Type 0 = λ key. KeyIs more key in
+    subst P o.made (record { spelled = last_word more (decimal o.number) n.0 o.last; fits = r.under })
+
+-- a verb and a key
+key_says : (c : ℕ → Call) (verb ws : List ℕ) (call : Call) (more : Option (List ℕ)) → ((k : ℕ) → call_text (c k) ≡ verb ++ 32 ∷ decimal k) → ((k : ℕ) → k < 2 ^ 64 - 1 → CallFits (c k))
+    → after_word ws ≡ more → bytes_eq (first_word ws) verb ≡ true → option_map c (key_of more) ≡ Some call → Says (Some ws) call
+key_says c verb ws call None text fits after is e = cc
+key_says c verb ws call (Some more) text fits after is e = at (key_of (Some more)) refl e
+  where
+    at : (key : Option ℕ) → key_of (Some more) ≡ key → option_map c key ≡ Some call → Says (Some ws) call
+    at None read e = cc
+    at (Some k) read e =
+        let h = key_is more k read in
+        let made : c k ≡ call = cc in
+        let words : ws ≡ verb ++ 32 ∷ more = then_word ws verb more (same (first_word ws) verb is) after in
+        let P : Call → Type 0 = λ call. Says (Some ws) call in
+        subst P made (record { spelled = ap (λ (w : List ℕ). Some w) (words ∙ ap (λ (w : List ℕ). verb ++ 32 ∷ w) h.spelled ∙ sym (text k)); fits = fits k h.fits })
 
 -- the second number of a put
 value_says : (k : ℕ) (more : List ℕ) (left : Option (List ℕ)) (call : Call) → after_word more ≡ left → first_word more ≡ decimal k
@@ -160,25 +182,42 @@ put_says ws call (Some more) after is e =
     let P : Call → Type 0 = λ call. Says (Some ws) call in
     subst P s.3 (record { spelled = ap (λ (w : List ℕ). Some w) (text ∙ ap (λ (w : List ℕ). codes "put" ++ 32 ∷ w) s.1); fits = (r.under, s.2) })
 
-abbrev put_tail : List ℕ → Option Call
-put_tail ws = cond (bytes_eq (first_word ws) (codes "put")) (put_of (after_word ws)) None
-
-abbrev get_tail : List ℕ → Option Call
-get_tail ws = cond (bytes_eq (first_word ws) (codes "get")) (get_of (after_word ws)) (put_tail ws)
+abbrev abort_tail : List ℕ → Option Call
+abort_tail ws = cond (bytes_eq (first_word ws) (codes "abort")) (ends Abort (after_word ws)) None
 
 abbrev commit_tail : List ℕ → Option Call
-commit_tail ws = cond (bytes_eq (first_word ws) (codes "commit")) (ends Commit (after_word ws)) (get_tail ws)
+commit_tail ws = cond (bytes_eq (first_word ws) (codes "commit")) (ends Commit (after_word ws)) (abort_tail ws)
+
+-- a verb that is read alone is one of three
+pub record LoneSays (ws : List ℕ) (call : Call) : Type 0 where
+  pub says : Says (Some ws) call
+  pub one : (ws ≡ codes "begin") ⊎ ((ws ≡ codes "commit") ⊎ (ws ≡ codes "abort"))
+
+lone_verb_says : (ws : List ℕ) (call : Call) → lone_verb_of (Some ws) ≡ Some call → LoneSays ws call
+lone_verb_says ws call e =
+    ⊎_elim (λ h. let s = lone_says Begin (codes "begin") ws call refl tt h.0 h.1 in record { says = s.0; one = inl s.1 })
+    (λ e. ⊎_elim (λ h. let s = lone_says Commit (codes "commit") ws call refl tt h.0 h.1 in record { says = s.0; one = inr (inl s.1) })
+    (λ e. let h = guard (bytes_eq (first_word ws) (codes "abort")) (ends Abort (after_word ws)) call e in
+    let s = lone_says Abort (codes "abort") ws call refl tt h.0 h.1 in record { says = s.0; one = inr (inr s.1) })
+    (split (bytes_eq (first_word ws) (codes "commit")) (ends Commit (after_word ws)) (abort_tail ws) call e))
+    (split (bytes_eq (first_word ws) (codes "begin")) (ends Begin (after_word ws)) (commit_tail ws) call e)
+
+abbrev del_tail : List ℕ → Option Call
+del_tail ws = cond (bytes_eq (first_word ws) (codes "del")) (option_map Del (key_of (after_word ws))) (lone_verb_of (Some ws))
+
+abbrev put_tail : List ℕ → Option Call
+put_tail ws = cond (bytes_eq (first_word ws) (codes "put")) (put_of (after_word ws)) (del_tail ws)
 
 pub verb_says : (words : Option (List ℕ)) (call : Call) → verb_of words ≡ Some call → Says words call
 verb_says None call e = cc
 verb_says (Some ws) call e =
-    ⊎_elim (λ h. begin_says ws call h.0 h.1)
-    (λ e. ⊎_elim (λ h. commit_says ws call h.0 h.1)
-    (λ e. ⊎_elim (λ h. get_says ws call (after_word ws) refl h.0 h.1)
-    (λ e. let h = guard (bytes_eq (first_word ws) (codes "put")) (put_of (after_word ws)) call e in put_says ws call (after_word ws) refl h.0 h.1)
-    (split (bytes_eq (first_word ws) (codes "get")) (get_of (after_word ws)) (put_tail ws) call e))
-    (split (bytes_eq (first_word ws) (codes "commit")) (ends Commit (after_word ws)) (get_tail ws) call e))
-    (split (bytes_eq (first_word ws) (codes "begin")) (ends Begin (after_word ws)) (commit_tail ws) call e)
+    ⊎_elim (λ h. key_says Get (codes "get") ws call (after_word ws) (λ k. refl) (λ k small. small) refl h.0 h.1)
+    (λ e. ⊎_elim (λ h. put_says ws call (after_word ws) refl h.0 h.1)
+    (λ e. ⊎_elim (λ h. key_says Del (codes "del") ws call (after_word ws) (λ k. refl) (λ k small. small) refl h.0 h.1)
+    (λ e. (lone_verb_says ws call e).says)
+    (split (bytes_eq (first_word ws) (codes "del")) (option_map Del (key_of (after_word ws))) (lone_verb_of (Some ws)) call e))
+    (split (bytes_eq (first_word ws) (codes "put")) (put_of (after_word ws)) (del_tail ws) call e))
+    (split (bytes_eq (first_word ws) (codes "get")) (option_map Get (key_of (after_word ws))) (put_tail ws) call e)
 
 pub record WithIs (n : Option ℕ) (c : Option Call) (line : Line) : Type 0 where
   pub session : n ≡ Some line.session
@@ -210,18 +249,28 @@ line_says workers bytes line e =
       call = v.fits;
     }
 
--- what spells no call asks nothing
-pub no_call : (ws : List ℕ) → (ws ≡ codes "begin" → ⊥) → (ws ≡ codes "commit" → ⊥)
-    → ((more : List ℕ) → ws ≡ codes "get " ++ more → ⊥) → ((more : List ℕ) → ws ≡ codes "put " ++ more → ⊥) → verb_of (Some ws) ≡ None
-no_call ws begin commit get put = at (verb_of (Some ws)) refl
+-- what is no verb alone is read as none
+pub no_lone_verb : (ws : List ℕ) → (ws ≡ codes "begin" → ⊥) → (ws ≡ codes "commit" → ⊥) → (ws ≡ codes "abort" → ⊥) → lone_verb_of (Some ws) ≡ None
+no_lone_verb ws begin commit abort = at (lone_verb_of (Some ws)) refl
   where
-    none_says : (call : Call) → Says (Some ws) call → ⊥
-    none_says Begin s = let e : ws ≡ codes "begin" = let h = s.spelled in cc in begin e
-    none_says Commit s = let e : ws ≡ codes "commit" = let h = s.spelled in cc in commit e
-    none_says (Get k) s = let e : ws ≡ codes "get " ++ decimal k = let h = s.spelled in cc in get (decimal k) e
-    none_says (Put k v) s = let e : ws ≡ codes "put " ++ (decimal k ++ 32 ∷ decimal v) = let h = s.spelled in cc in put (decimal k ++ 32 ∷ decimal v) e
-    none_says _ s = s.fits
-
-    at : (r : Option Call) → verb_of (Some ws) ≡ r → verb_of (Some ws) ≡ None
+    at : (r : Option Call) → lone_verb_of (Some ws) ≡ r → lone_verb_of (Some ws) ≡ None
     at None e = e
-    at (Some call) e = absurd (none_says call (verb_says (Some ws) call e))
+    at (Some call) e = absurd (⊎_elim begin (λ h. ⊎_elim commit abort h) (lone_verb_says ws call e).one)
+
+-- a verb that no further word stands behind asks nothing, if it wants a number
+passed : (verb ws : List ℕ) (of : Option (List ℕ) → Option Call) (other : Option Call) → ((more : List ℕ) → ws ≡ verb ++ 32 ∷ more → ⊥) → of None ≡ None → (ws ≡ verb → other ≡ None)
+    → cond (bytes_eq (first_word ws) verb) (of (after_word ws)) other ≡ other
+passed verb ws of other unlike none alone = at (bytes_eq (first_word ws) verb) refl (after_word ws) refl
+  where
+    at : (b : Bool) → bytes_eq (first_word ws) verb ≡ b → (more : Option (List ℕ)) → after_word ws ≡ more → cond b (of more) other ≡ other
+    at false is more after = refl
+    at true is None after = none ∙ sym (alone (last_word ws verb (same (first_word ws) verb is) after))
+    at true is (Some more) after = absurd (unlike more (then_word ws verb more (same (first_word ws) verb is) after))
+
+-- words that begin with no verb that wants a number are read as a verb alone
+pub no_numbers : (ws : List ℕ) → ((more : List ℕ) → ws ≡ codes "get " ++ more → ⊥) → ((more : List ℕ) → ws ≡ codes "put " ++ more → ⊥) → ((more : List ℕ) → ws ≡ codes "del " ++ more → ⊥)
+    → verb_of (Some ws) ≡ lone_verb_of (Some ws)
+no_numbers ws get put del =
+    passed (codes "get") ws (λ more. option_map Get (key_of more)) (put_tail ws) get refl (λ e. subst (λ (ws : List ℕ). put_tail ws ≡ None) (sym e) refl)
+    ∙ passed (codes "put") ws put_of (del_tail ws) put refl (λ e. subst (λ (ws : List ℕ). del_tail ws ≡ None) (sym e) refl)
+    ∙ passed (codes "del") ws (λ more. option_map Del (key_of more)) (lone_verb_of (Some ws)) del refl (λ e. subst (λ (ws : List ℕ). lone_verb_of (Some ws) ≡ None) (sym e) refl)

@@ -12,7 +12,7 @@ use Rattle.script_lang.specs.Replies.{reply_text, reply_of, answer_text, said_of
 use Rattle.script_lang.specs.Text.{IsLine}
 use Rattle.map_model.specs.Outputs.Reply.{Answered, Durable}
 use Rattle.map_model.specs.declared.call.Answer.{Answer}
-use Rattle.map_model.specs.declared.call.Answer.TheVariants.{Begun, Value, Was, Committed, Refused}
+use Rattle.map_model.specs.declared.call.Answer.TheVariants.{Begun, Value, Was, Committed, Aborted, Refused}
 use Rattle.map_model.specs.declared.call.Refusal.TheVariants.{InTransaction, NoTransaction, TooLong, LogFull, ClockSpent, RowSpent, TooTall, NoPages}
 use Rattle.script_lang.proofs.NumberLemmas.{Digits, digits, word_number, word_name, word_last, after_last, word_before, after_before, number_is}
 
@@ -40,6 +40,7 @@ said_back s (Committed n g) small h =
     let e = word_number g h.1 in
     let more = codes "at " ++ decimal g in
     rw (word_before (name s n) more d, after_before (name s n) more d, name_is s n h.0, word_last (decimal g) e, number_is g h.1, after_last (decimal g) e) refl
+said_back s (Aborted n) small h = let d = word_name s n small h in rw (word_last (name s n) d, after_last (name s n) d, name_is s n h) refl
 said_back s (Refused InTransaction) small h = refl
 said_back s (Refused NoTransaction) small h = refl
 said_back s (Refused TooLong) small h = refl
@@ -100,6 +101,7 @@ answer_line s (Committed n g) small h =
     let at_line : IsLine (codes " at " ++ decimal g) = search (rules, g_line) in
     let t = line_append (name s n) (codes " at " ++ decimal g) (line_name s n small h.0) at_line in
     search (rules, t)
+answer_line s (Aborted n) small h = let t = line_name s n small h in search (rules, t)
 answer_line s (Refused InTransaction) small h = search rules
 answer_line s (Refused NoTransaction) small h = search rules
 answer_line s (Refused TooLong) small h = search rules

@@ -1,18 +1,20 @@
 -- The lines of a script, each without its newline: how a line is spelled, and the line that bytes spell.
-use Rattle.std.specs.Prelude.{◌≡◌, ◌^◌, ◌-◌, ◌+◌, ◌++◌, ◌<◌, ◌≤◌, ℕ, List, [], ◌∷◌, Option, Some, None, if◌then◌else◌, codes, length, nat_lt}
+use Rattle.std.specs.Prelude.{◌≡◌, ◌^◌, ◌-◌, ◌+◌, ◌++◌, ◌<◌, ◌≤◌, ℕ, List, [], ◌∷◌, Option, Some, None, if◌then◌else◌, codes, length, nat_lt, option_map}
 use Rattle.std.specs.Str.{bytes_eq}
 use Rattle.std.specs.Fmt.{decimal}
 use Rattle.script_lang.specs.Words.{word, rest, number_of, ranged, ends, with_one, with_two}
 use Rattle.script_lang.specs.declared.line.Line.{Line}
 use Rattle.map_model.specs.declared.call.Call.{Call}
-use Rattle.map_model.specs.declared.call.Call.TheVariants.{Begin, Get, Put, Commit}
+use Rattle.map_model.specs.declared.call.Call.TheVariants.{Begin, Get, Put, Del, Commit, Abort}
 
 -- what is asked, as it is spelled; a call with no line yet has no text
 abbrev pub call_text : Call → List ℕ
 call_text Begin = codes "begin"
 call_text (Get key) = codes "get " ++ decimal key
 call_text (Put key value) = codes "put " ++ (decimal key ++ 32 ∷ decimal value)
+call_text (Del key) = codes "del " ++ decimal key
 call_text Commit = codes "commit"
+call_text Abort = codes "abort"
 call_text _ = []
 
 -- a line, as it is spelled
@@ -24,7 +26,9 @@ abbrev pub CallFits : Call → Type 0
 CallFits Begin = Unit {0}
 CallFits (Get key) = key < 2 ^ 64 - 1
 CallFits (Put key value) = (key < 2 ^ 64 - 1) × (value < 2 ^ 63)
+CallFits (Del key) = key < 2 ^ 64 - 1
 CallFits Commit = Unit {0}
+CallFits Abort = Unit {0}
 CallFits _ = ⊥
 
 -- the bytes spell this line of a script for so many workers
@@ -35,19 +39,25 @@ pub record Spells (workers : ℕ) (bytes : List ℕ) (line : Line) : Type 0 wher
   pub call : CallFits line.call
 
 -- The same, read from the bytes: what the words after the verb ask, those after the session, and the line.
-abbrev pub get_of : Option (List ℕ) → Option Call
-get_of words = with_one Get (ranged 0 (2 ^ 64 - 1) (number_of (word words))) (rest words)
+abbrev pub key_of : Option (List ℕ) → Option ℕ
+key_of words = with_one (λ key. key) (ranged 0 (2 ^ 64 - 1) (number_of (word words))) (rest words)
 
 abbrev pub put_of : Option (List ℕ) → Option Call
 put_of words = with_two Put (ranged 0 (2 ^ 64 - 1) (number_of (word words))) (ranged 0 (2 ^ 63) (number_of (word (rest words)))) (rest (rest words))
 
-abbrev pub verb_of : Option (List ℕ) → Option Call
-verb_of words =
+abbrev pub lone_verb_of : Option (List ℕ) → Option Call
+lone_verb_of words =
     if bytes_eq (word words) (codes "begin") then ends Begin (rest words)
     else if bytes_eq (word words) (codes "commit") then ends Commit (rest words)
-    else if bytes_eq (word words) (codes "get") then get_of (rest words)
-    else if bytes_eq (word words) (codes "put") then put_of (rest words)
+    else if bytes_eq (word words) (codes "abort") then ends Abort (rest words)
     else None
+
+abbrev pub verb_of : Option (List ℕ) → Option Call
+verb_of words =
+    if bytes_eq (word words) (codes "get") then option_map Get (key_of (rest words))
+    else if bytes_eq (word words) (codes "put") then put_of (rest words)
+    else if bytes_eq (word words) (codes "del") then option_map Del (key_of (rest words))
+    else lone_verb_of words
 
 abbrev pub line_with : Option ℕ → Option Call → Option Line
 line_with (Some session) (Some call) = Some (record { session = session; call = call })

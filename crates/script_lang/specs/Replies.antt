@@ -5,7 +5,7 @@ use Rattle.std.specs.Fmt.{decimal}
 use Rattle.script_lang.specs.Words.{word, rest, number_of, ends, with_one, with_two}
 use Rattle.script_lang.specs.Pieces.{name}
 use Rattle.map_model.specs.declared.call.Answer.{Answer}
-use Rattle.map_model.specs.declared.call.Answer.TheVariants.{Begun, Value, Was, Committed, Refused}
+use Rattle.map_model.specs.declared.call.Answer.TheVariants.{Begun, Value, Was, Committed, Aborted, Refused}
 use Rattle.map_model.specs.declared.call.Refusal.{Refusal}
 use Rattle.map_model.specs.Outputs.{Reply}
 use Rattle.map_model.specs.Outputs.Reply.{Answered, Durable}
@@ -31,6 +31,7 @@ answer_text s (Value None) = codes "none"
 answer_text s (Was (Some v)) = codes "was " ++ decimal v
 answer_text s (Was None) = codes "was none"
 answer_text s (Committed n g) = codes "committed " ++ (name s n ++ (codes " at " ++ decimal g))
+answer_text s (Aborted n) = codes "aborted " ++ name s n
 answer_text s (Refused r) = refusal_text r
 answer_text s _ = []
 
@@ -78,6 +79,7 @@ said_of s words =
     else if bytes_eq (word words) (codes "none") then ends (Answered s (Value None)) (rest words)
     else if bytes_eq (word words) (codes "was") then was_of s (number_of (word (rest words))) (rest words)
     else if bytes_eq (word words) (codes "committed") then committed_of s (rest words)
+    else if bytes_eq (word words) (codes "aborted") then with_one (λ n. Answered s (Aborted n)) (numbered s (word (rest words))) (rest (rest words))
     else if bytes_eq (word words) (codes "durable") then with_one (λ n. Durable s n) (numbered s (word (rest words))) (rest (rest words))
     else refused_of s words
 
@@ -107,6 +109,7 @@ AnswerFits (Value None) = Unit {0}
 AnswerFits (Was (Some v)) = v < 2 ^ 64
 AnswerFits (Was None) = Unit {0}
 AnswerFits (Committed n g) = (n < 2 ^ 64) × (g < 2 ^ 64)
+AnswerFits (Aborted n) = n < 2 ^ 64
 AnswerFits (Refused r) = RefusalFits r
 AnswerFits _ = ⊥
 

@@ -1,7 +1,7 @@
 // Lines of a script: a session, a verb, its numbers, with one space between two words.
 ghost use Rattle.std.specs.Prelude.{◌≡◌, ◌≤◌, ◌<◌, ◌+◌, ◌-◌, ◌*◌, ◌^◌, ◌++◌, ℕ, List, Option, Some, None, Ok, IfOk, IfErr, IfSome, IfNone, MatchOption, length, if◌then◌else◌};
 ghost use Rattle.script_lang.specs.Words.{first_word, after_word, digits_on, goes_on, number_of, ranged};
-ghost use Rattle.script_lang.specs.Lines.{verb_of, get_of, put_of, line_of, Spells};
+ghost use Rattle.script_lang.specs.Lines.{verb_of, lone_verb_of, key_of, put_of, line_of, Spells};
 
 use map_model::Call;
 
@@ -54,35 +54,48 @@ fn parse_line(workers: u32, bytes: &[u8]) -> Option<Line>
 fn read_call(words: &[u8]) -> Option<Call>
     ensures { result ≡ verb_of (Some words.now) }
 {
+    if words.len() < 4 {
+        return None;
+    }
+    let (verb, numbers) = words.split_at(4);
+    if verb == b"get ".as_slice() {
+        let key = read_key(numbers)?;
+        return Some(Call::Get { key });
+    }
+    if verb == b"put ".as_slice() {
+        return read_put(numbers);
+    }
+    if verb == b"del ".as_slice() {
+        let key = read_key(numbers)?;
+        return Some(Call::Del { key });
+    }
+    read_lone_verb(words)
+}
+
+// A verb that no number stands behind.
+fn read_lone_verb(words: &[u8]) -> Option<Call>
+    ensures { result ≡ lone_verb_of (Some words.now) }
+{
     if words == b"begin".as_slice() {
         return Some(Call::Begin);
     }
     if words == b"commit".as_slice() {
         return Some(Call::Commit);
     }
-    if words.len() < 4 {
-        return None;
-    }
-    let (verb, numbers) = words.split_at(4);
-    if verb == b"get ".as_slice() {
-        return read_get(numbers);
-    }
-    if verb == b"put ".as_slice() {
-        return read_put(numbers);
+    if words == b"abort".as_slice() {
+        return Some(Call::Abort);
     }
     None
 }
 
-fn read_get(words: &[u8]) -> Option<Call>
-    ensures { result ≡ get_of (Some words.now) }
+// A key, and nothing behind it.
+#[inline(always)]
+fn read_key(words: &[u8]) -> Option<u64>
+    ensures { result ≡ key_of (Some words.now) }
 {
     let (key, left) = first_number(words)?;
     let key = in_range(key, 0, u64::MAX)?;
-    if left.is_none() {
-        Some(Call::Get { key })
-    } else {
-        None
-    }
+    if left.is_none() { Some(key) } else { None }
 }
 
 fn read_put(words: &[u8]) -> Option<Call>

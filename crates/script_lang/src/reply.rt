@@ -49,6 +49,7 @@ fn put_answer(into: &mut [u8], at: usize, session: u32, answer: &Answer) -> usiz
         Answer::Committed { number, at: commit } => put_committed(
             into, at, session, *number, *commit,
         ),
+        Answer::Aborted { number } => put_with_name(into, at, b" aborted ", session, *number),
         Answer::Refused(refusal) => put_refusal(into, at, refusal),
         _ => unreachable!(),
     }

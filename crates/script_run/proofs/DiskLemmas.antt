@@ -1,5 +1,5 @@
 -- What the disk stands for, and what a crash at any moment leaves.
-use Rattle.std.proofs.Common.{◌≡◌, ◌++◌, ◌∷◌, [], ◌≤◌, ◌<◌, ◌+◌, ◌^◌, ℕ, true, false, List, Option, Some, None, IsTrue, length, refl, sym, ap, ◌∙◌, subst, arith, true≢false}
+use Rattle.std.proofs.Common.{◌≡◌, ◌++◌, ◌∷◌, [], ◌≤◌, ◌<◌, ◌+◌, ◌^◌, ℕ, Bool, true, false, cond, ◌||◌, List, Option, Some, None, IsTrue, length, refl, sym, ap, ◌∙◌, subst, arith, true≢false}
 use Rattle.std.proofs.lemmas.Bool.{and_parts, and_from}
 use Rattle.std.proofs.lemmas.List.{length-append}
 use mathlib.Core.List.{append_assoc}
@@ -11,10 +11,14 @@ use Rattle.lean_disk.proofs.MomentLemmas.{started, then, weaker}
 use Rattle.map_model.specs.declared.call.Call.{Call}
 use Rattle.map_model.specs.declared.call.Call.TheVariants as call
 use Rattle.map_model.specs.Lists.{all, any}
+use Rattle.map_model.specs.Maps.{MapAnswer}
 use Rattle.map_model.specs.Outputs.{Reply}
+use Rattle.image_model.specs.Entries.{Entry}
 use Rattle.core_state.specs.Events.{Event}
 use Rattle.core_state.specs.Openings.{Opening}
 use Rattle.core_state.specs.States.{State}
+use Rattle.core_state.specs.Local.{is_of}
+use Rattle.core_state.specs.Needs.{may}
 use Rattle.core_state.specs.Steps.{state_after, step}
 use Rattle.disk_slots.specs.declared.master.Master.{Master}
 use Rattle.disk_image.specs.Laws.{EveryAgreement}
@@ -22,8 +26,11 @@ use Rattle.disk_image.specs.Masters.{IsOfRun}
 use Rattle.core_disk.specs.Shows.{EveryShown}
 use Rattle.core_calls.specs.Crashes.{EveryRunCrash}
 use Rattle.worker_log.specs.Logs.{Log}
+use Rattle.core_calls.specs.Deeds.{commits}
 use Rattle.core_calls.specs.Fronts.{Done, front}
+use Rattle.core_calls.specs.Marks.{Ended, Mark, back_in, mark, marks, met_in, onto}
 use Rattle.core_calls.specs.Printed.{printed}
+use Rattle.core_calls.specs.Steps.{is_structure}
 use Rattle.disk_runs.specs.Fair.{TellsAll}
 use Rattle.disk_runs.specs.Stands.{Known}
 use Rattle.disk_runs.proofs.StandLemmas.{every_same}
@@ -33,12 +40,12 @@ use Rattle.run_crashes.specs.Lines.{CallLeaves, NoneStopped, RunLeft, lines_of, 
 use Rattle.run_crashes.proofs.LineLemmas.{every_crashed_line_for, every_stop_for, wider}
 use Rattle.engine_calls.specs.Clauses.{Between}
 use Rattle.engine_calls.specs.Runs.{LineCrash, LinesOut, Runs}
-use Rattle.engine_calls.proofs.MarkLemmas.{commits_none, either_false, has_mark}
+use Rattle.engine_calls.proofs.MarkLemmas.{either_false}
 use Rattle.engine_calls.proofs.MomentLemmas.{still}
 use Rattle.engine_calls.proofs.RunLemmas.{every_run_for, line}
 use Rattle.engine_trait.specs.Calls.{Keeps, Stops, Stops as stops}
 use Rattle.engine_trait.specs.Limits.{AreLoads, limits}
-use Rattle.engine_trait.specs.Rooms.{AreRoom, IsRoomFor, MakesRoom, makes_room}
+use Rattle.engine_trait.specs.Rooms.{IsRoomFor, MakesRoom, makes_room, puts_back}
 use Rattle.script_lang.specs.Reading.{Unread}
 use Rattle.script_run.specs.Runs.{CallMissing, DiskTo, LinesMissing, OthersStand, PrintsTo, ReadsTo, RunStands, StaysIn2, StoppedIn, CallMissing as missing}
 use Rattle.script_run.specs.Inside.{IsOfPutting, IsOfReading, Laws, OnlyNotes, PutLeaves}
@@ -47,41 +54,91 @@ use Rattle.script_run.specs.declared.stop.Stop.TheVariants.{End, Refused, ReadFa
 use Rattle.script_run.proofs.DueLemmas.{printed_more}
 use Rattle.script_run.proofs.ReadLemmas.{FirstOf, first_of, reads_same}
 
--- ## Room for a key
+-- ## Events of a call that was not answered
 
--- nothing is told of an event that makes room
-no_mark_of_room : (e : Event) → makes_room e ≡ true → has_mark e ≡ false
-no_mark_of_room (Event.Load p f) room = refl
-no_mark_of_room (Event.Lock w i mode) room = refl
-no_mark_of_room (Event.Miss w) room = refl
-no_mark_of_room (Event.Split w l r q i) room = refl
-no_mark_of_room (Event.Lift w c) room = refl
-no_mark_of_room _ room = absurd (true≢false (sym room))
+neither : (p q : Bool) → (p || q) ≡ false → (p ≡ false) × (q ≡ false)
+neither true q none = absurd (true≢false none)
+neither false q none = (refl, none)
 
-no_marks_of_room : (es : List Event) → AreRoom es → any has_mark es ≡ false
-no_marks_of_room [] room = refl
-no_marks_of_room (e ∷ es) room =
-    let parts = and_parts (makes_room e) (all makes_room es) room in
-    either_false (has_mark e) (any has_mark es) (no_mark_of_room e parts.0) (no_marks_of_room es parts.1)
+-- a transaction ends by it
+abbrev ends : Event → Bool
+ends (Event.End w commit f) = true
+ends _ = false
 
-loads_are_room : (es : List Event) → AreLoads es → AreRoom es
-loads_are_room [] loads = refl
-loads_are_room (Event.Load p f ∷ es) loads = loads_are_room es loads
-loads_are_room (_ ∷ es) loads = absurd loads
+-- by another event no commit is told
+abbrev IsNoCommit : Option Mark → Type 0
+IsNoCommit (Some (Ended commit number at)) = ⊥
+IsNoCommit _ = Unit {0}
 
-room_of : (g : Opening) (xs : List Done) (c : Call) (es : List Event) → IsRoomFor g xs c es → AreRoom es
-room_of g xs (call.Put key value) es room = room.0
-room_of g xs _ es room = loads_are_room es room
+no_end : (g : Opening) (s : State) (e : Event) → ends e ≡ false → IsNoCommit (mark g s e)
+no_end g s (Event.Next w p k a) q = met a
+  where
+    met : (a : MapAnswer) → IsNoCommit (met_in g s w p a)
+    met (MapAnswer.Pair j v) = tt
+    met _ = tt
+no_end g s (Event.Put_back w p) q = back (s.worker w).changes
+  where
+    back : (changes : List Entry) → IsNoCommit (back_in g s p changes)
+    back [] = tt
+    back (c ∷ earlier) = tt
+no_end g s (Event.End w commit f) q = absurd (true≢false q)
+no_end g s _ q = tt
+
+marks_no_end : (g : Opening) (s : State) (es : List Event) (w : ℕ) (ms : List Mark) → any ends es ≡ false → commits (marks g s es w ms) ≡ commits ms
+marks_no_end g s [] w ms q = refl
+marks_no_end g s (e ∷ es) w ms q =
+    let parts = neither (ends e) (any ends es) q in
+    marks_no_end g (step g s e) es w (cond (may g s e) (cond (is_of e w) (onto (mark g s e) ms) ms) ms) parts.1 ∙ one (may g s e) (is_of e w) (mark g s e) (no_end g s e parts.0)
+  where
+    one : (b c : Bool) (o : Option Mark) → IsNoCommit o → commits (cond b (cond c (onto o ms) ms) ms) ≡ commits ms
+    one false c o none = refl
+    one true false o none = refl
+    one true true None none = refl
+    one true true (Some (Ended commit number at)) none = absurd none
+    one true true (Some _) none = refl
+
+-- events that each pass a test
+pub each_none : (p q : Event → Bool) → ((e : Event) → p e ≡ true → q e ≡ false) → (es : List Event) → all p es ≡ true → any q es ≡ false
+each_none p q so [] each = refl
+each_none p q so (e ∷ es) each =
+    let parts = and_parts (p e) (all p es) each in
+    either_false (q e) (any q es) (so e parts.0) (each_none p q so es parts.1)
+
+room_ends_none : (e : Event) → makes_room e ≡ true → ends e ≡ false
+room_ends_none (Event.End w commit f) room = absurd (true≢false (sym room))
+room_ends_none _ room = refl
+
+back_ends_none : (e : Event) → puts_back e ≡ true → ends e ≡ false
+back_ends_none (Event.End w commit f) back = absurd (true≢false (sym back))
+back_ends_none _ back = refl
+
+loads_end_none : (es : List Event) → AreLoads es → any ends es ≡ false
+loads_end_none [] loads = refl
+loads_end_none (Event.Load p f ∷ es) loads = loads_end_none es loads
+loads_end_none (_ ∷ es) loads = absurd loads
+
+ends_none : (g : Opening) (xs : List Done) (c : Call) (es : List Event) → IsRoomFor g xs c es → any ends es ≡ false
+ends_none g xs (call.Put key value) es room = each_none makes_room ends room_ends_none es room.0
+ends_none g xs (call.Del key) es room = each_none makes_room ends room_ends_none es room.0
+ends_none g xs call.Abort es backs = each_none puts_back ends back_ends_none es backs
+ends_none g xs _ es loads = loads_end_none es loads
 
 -- such events commit nothing
 room_commits_none : (g : Opening) (xs : List Done) (c : Call) (es : List Event) → IsRoomFor g xs c es → CommitsNone g xs es
-room_commits_none g xs c es room = commits_none g (state_after g (front xs)) es (no_marks_of_room es (room_of g xs c es room))
+room_commits_none g xs c es room w = marks_no_end g (state_after g (front xs)) es w [] (ends_none g xs c es room)
 
-front_of_room : (first rest : List Event) → AreRoom (first ++ rest) → AreRoom first
-front_of_room [] rest room = refl
-front_of_room (e ∷ first) rest room =
-    let parts = and_parts (makes_room e) (all makes_room (first ++ rest)) room in
-    and_from (makes_room e) (all makes_room first) parts.0 (front_of_room first rest parts.1)
+-- the first events of those that each pass a test, of those of which none does, of loads, and of those that make room
+front_of_all : (p : Event → Bool) (first rest : List Event) → all p (first ++ rest) ≡ true → all p first ≡ true
+front_of_all p [] rest each = refl
+front_of_all p (e ∷ first) rest each =
+    let parts = and_parts (p e) (all p (first ++ rest)) each in
+    and_from (p e) (all p first) parts.0 (front_of_all p first rest parts.1)
+
+front_of_none : (q : Event → Bool) (first rest : List Event) → any q (first ++ rest) ≡ false → any q first ≡ false
+front_of_none q [] rest none = refl
+front_of_none q (e ∷ first) rest none =
+    let parts = neither (q e) (any q (first ++ rest)) none in
+    either_false (q e) (any q first) parts.0 (front_of_none q first rest parts.1)
 
 front_of_loads : (first rest : List Event) → AreLoads (first ++ rest) → AreLoads first
 front_of_loads [] rest loads = tt
@@ -93,7 +150,9 @@ front_makes g s key [] rest makes = tt
 front_makes g s key (e ∷ first) rest makes = (makes.0, front_makes g (step g s e) key first rest makes.1)
 
 front_for : (g : Opening) (xs : List Done) (c : Call) (first rest : List Event) → IsRoomFor g xs c (first ++ rest) → IsRoomFor g xs c first
-front_for g xs (call.Put key value) first rest room = (front_of_room first rest room.0, front_makes g (state_after g (front xs)) key first rest room.1)
+front_for g xs (call.Put key value) first rest room = (front_of_all makes_room first rest room.0, front_makes g (state_after g (front xs)) key first rest room.1)
+front_for g xs (call.Del key) first rest room = (front_of_all makes_room first rest room.0, front_of_none is_structure first rest room.1)
+front_for g xs call.Abort first rest backs = front_of_all puts_back first rest backs
 front_for g xs _ first rest loads = front_of_loads first rest loads
 
 -- and the first of them are such events too

@@ -38,7 +38,9 @@ pub within : (c : Call) → CallFits c → IsWithin c
 within call.Begin fits = tt
 within (call.Get key) fits = fits
 within (call.Put key value) fits = fits
+within (call.Del key) fits = fits
 within call.Commit fits = tt
+within call.Abort fits = tt
 within _ fits = absurd fits
 
 others_same : (s : Story) → OthersStand [] s s

@@ -141,7 +141,8 @@ abbrev pub StoppedIn : Opening → List Done → Call → List Done → List Eve
 StoppedIn g calls c heard es = (heard ≡ calls) × IsRoomFor g heard c es
 
 -- One more was asked and not answered: a crash leaves what the lines say, behind the calls that were answered, or in this one. There it fell behind
--- some of the loads, locks and changes of the tree by which it made room for its key, or behind the first events of one that would be answered so.
+-- some of the loads, locks and changes of the tree by which it made room for its key, or of the changes that it put back, if it is an abort, or behind the
+-- first events of one that would be answered so.
 pub data CallMissing (g : Opening) (calls : List Done) (c : Call) (s0 : Crash) (m : Master) (from now : Story) : Type 0 where
   Nothing : LeavesOnly from now (RunLeft g (StoppedIn g calls c) calls s0 m) → CallMissing g calls c s0 m from now
   Part : (x : Done) → asked x.outcome.deed ≡ c → x.outcome.session ≡ 1 → told.Tells limits g 1 calls x → LeavesOnly from now (RunLeft g NoneStopped (x ∷ calls) s0 m) → CallMissing g calls c s0 m from now

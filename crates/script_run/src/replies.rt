@@ -88,6 +88,7 @@ pub(crate) fn has_line(answer: &Answer)
         Answer::Value(Some(value)) => fit(value, 0),
         Answer::Was(Some(value)) => fit(value, 0),
         Answer::Committed { number, at } => fit(number, at),
+        Answer::Aborted { number } => fit(number, 0),
         Answer::Refused(Refusal::LogFull { used, limit }) => blocks_fit(used, limit),
         _ => (),
     }

@@ -37,7 +37,9 @@ asked_append (x ∷ xs) ys = ap (λ (t : List ℕ). ask x.0 x.1 ++ 10 ∷ t) (as
 call_line : (c : Call) → CallFits c → IsLine (call_text c)
 call_line call.Begin fits = search rules
 call_line call.Commit fits = search rules
+call_line call.Abort fits = search rules
 call_line (call.Get key) fits = let fits_64 : key < 2 ^ 64 = omega arith in let number = line_number key fits_64 in search (rules, number)
+call_line (call.Del key) fits = let fits_64 : key < 2 ^ 64 = omega arith in let number = line_number key fits_64 in search (rules, number)
 call_line (call.Put key value) fits =
     let key_64 : key < 2 ^ 64 = omega arith in
     let value_64 : value < 2 ^ 64 = omega arith in

@@ -2,6 +2,7 @@ pub mod LineLemmas
 pub mod ReplyLemmas
 pub mod HeardLemmas
 pub mod TranscriptLemmas
+pub mod AbortLemmas
 pub mod PrefixLemmas
 pub mod AskedLemmas
 pub mod NextLemmas

@@ -1,12 +1,13 @@
 -- What holds of a script, and of the output of a run, as far as it was printed.
 use Rattle.std.specs.Prelude.{IsTrue, ◌≡◌, ◌⊎◌, None, take, [], ◌∷◌, ◌≤◌, ◌<◌, ◌^◌, ◌++◌, ℕ, suc, List, length}
 use Rattle.map_model.specs.declared.call.Call.{Call}
+use Rattle.map_model.specs.declared.call.Answer.TheVariants as answer
 use Rattle.map_model.specs.declared.call.Answered.{Answered}
 use Rattle.map_model.specs.Journals.{Name}
 use Rattle.map_model.specs.Lists.{Has}
 use Rattle.map_model.specs.Outputs.{Reply, names}
 use Rattle.map_model.specs.Pairings.{EachIsAnswered, counted, in_turn, script_of}
-use Rattle.map_model.specs.Transcripts.{journal}
+use Rattle.map_model.specs.Transcripts.{journal, lines_in, lines_of}
 use Rattle.script_lang.specs.Lines.{line_of}
 use Rattle.script_lang.specs.Notices.{Notice, notice_text, NoticeFits}
 use Rattle.script_lang.specs.Reading.{Unread, Reading, LineIs, LineIsLong, AtEnd}
@@ -40,6 +41,15 @@ abbrev pub EveryNextReply : Type 0
 EveryNextReply = (workers generation winners undone : ℕ) (x : Answered) (xs : List Answered) (told : List Reply) (input output : List ℕ) (count : ℕ) →
     EachIsAnswered (asked workers (script_lines input)) (in_turn (x ∷ xs)) → Fits (Reply.Answered x.session x.answer) → AreAnswers xs told → IsOutput generation winners undone told (first_lines count output) →
     transcript workers input (first_lines count output ++ reply_line (Reply.Answered x.session x.answer)) ≡ counted (in_turn (x ∷ xs))
+
+-- behind the lines xs one more, of session s
+pub record AbortLaws (xs : List Answered) (s : ℕ) (x : Answered) : Type 0 where
+  pub journal_is : journal (xs ++ x ∷ []) ≡ journal xs
+  pub none_left : lines_in s (lines_of (xs ++ x ∷ [])) ≡ []
+
+-- A line by which a transaction is aborted adds none to the journal, and what its session commits later has none of the lines before.
+abbrev pub EveryAbort : Type 0
+EveryAbort = (xs : List Answered) (session number : ℕ) (call : Call) → AbortLaws xs session (record { session = session; call = call; answer = answer.Aborted number })
 
 -- the calls whose answers are among the first replies
 pub record FirstAnswers (xs : List Answered) (told : List Reply) : Type 0 where

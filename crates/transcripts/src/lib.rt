@@ -1,7 +1,7 @@
 //! The transactions that a script and its output tell of: definitions and their laws.
 #![tactic(auto)]
 
-ghost use Rattle.transcripts.specs.Laws.{EveryAsked, EveryEnd, EveryHeard, EveryInTurn, EveryMoment, EveryNext, EveryNextInTurn, EveryNextReply, EveryNotice, EveryPart, EveryPrefix, EveryReading, EveryTail, EveryTranscript};
+ghost use Rattle.transcripts.specs.Laws.{EveryAbort, EveryAsked, EveryEnd, EveryHeard, EveryInTurn, EveryMoment, EveryNext, EveryNextInTurn, EveryNextReply, EveryNotice, EveryPart, EveryPrefix, EveryReading, EveryTail, EveryTranscript};
 
 /// The lines that ask calls are read as these calls.
 pub fn every_asked()
@@ -15,6 +15,11 @@ pub fn every_transcript()
     script_lang::replies_are_read_back();
     script_lang::notices_are_no_replies();
 }
+
+/// An aborted transaction is no member of a journal, and its lines are of no later one.
+pub fn every_abort()
+    ensures { EveryAbort }
+{}
 
 /// The answer to a session's next line, behind the first lines of an output, tells of that line.
 pub fn every_next_reply()
