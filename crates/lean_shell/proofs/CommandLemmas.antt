@@ -1,5 +1,5 @@
 -- How each command ended, as an end whatever the words.
-use Rattle.std.proofs.Common.{◌≡◌, ◌⊎◌, inl, inr, ◌≤◌, ℕ, List, length, sym, ◌∙◌, ap, subst, arith}
+use Rattle.std.proofs.Common.{◌≡◌, ◌≢◌, ◌⊎◌, inl, inr, ◌≤◌, ℕ, List, length, Some, refl, sym, ◌∙◌, ap, subst, arith, codes}
 use Rattle.std.proofs.lemmas.Fmt.{decimal_injective}
 use Rattle.lean_disk.specs.Area.{Leaves}
 use Rattle.lean_disk.specs.Faults.{HasCause, IsBlamed}
@@ -14,37 +14,69 @@ use Rattle.script_run.specs.declared.stop.Stop.TheVariants as stops
 use Rattle.lean_shell.specs.Dumps.{DumpEnds, Dumped, PutOrCut, dump_text}
 use Rattle.lean_shell.specs.Ends.{RunEnds}
 use Rattle.lean_shell.specs.Runs.{HowRun, NotOpened, ended, status_of}
-use Rattle.lean_shell.specs.Endings.{FormatEnds, IsFormatStatus, IsStatus, Stays, UsageEnds}
+use Rattle.lean_shell.specs.declared.failure.Failure.TheVariants.{Usage, DiskFault, Memory, AlreadyFormatted}
+use Rattle.lean_shell.specs.Endings.{FormatEnds, IsFormatStatus, IsStatus, Stays, UsageEnds, WentOut, last_line, number_of}
 use Rattle.lean_disk.specs.Told.{TellsOn, OnlyNotes}
-use Rattle.lean_shell.specs.Inside.Commands.{CommandEnds, Counts}
-use Rattle.lean_shell.specs.Words.{Asks, AsksDump, AsksFormat, AsksRun, IsNumberIn}
-use Rattle.lean_shell.specs.declared.words.Command.{Command}
+use Rattle.lean_shell.specs.Inside.Commands.{CommandEnds, Counts, UnreadEnds}
+use Rattle.lean_shell.specs.Inside.Openings.{Refuses}
+use Rattle.lean_shell.specs.Words.{AsksDump, AsksFormat, AsksNothing, AsksRun, Gives, Names}
 use Rattle.lean_shell.specs.declared.words.Command.TheVariants.{Dump, Format, Run}
 use Rattle.disk_format.specs.declared.shape.Shape.{Shape}
+use Rattle.lean_engine.specs.declared.engine.Size.{Size}
+use Rattle.clap.specs.Words.{Row, first_of}
+use Rattle.recovery.specs.Opened.{Keeps}
+use Rattle.transcripts.specs.Laws.{EveryNotice, EveryTail}
+use Rattle.lean_shell.proofs.EndLemmas.{failed, keeps_all, unmoved}
+use Rattle.lean_shell.proofs.Dumps.EndLemmas as dumps
+use Rattle.lean_shell.proofs.Runs.EndLemmas.{refused_ends, refused_headline}
+use Rattle.lean_shell.proofs.Runs.MomentLemmas.{unmoved as not_moved}
+use Rattle.lean_shell.proofs.Runs.NoteLemmas.{put_notes}
 use Rattle.lean_shell.proofs.PutLemmas.{IsOfBytes, noted_moments}
 
 -- ## Words
 
-one_number : (from to : ℕ) (text : List ℕ) (m n : ℕ) → to ≤ 4096 → IsNumberIn from to text m → IsNumberIn from to text n → m ≡ n
-one_number from to text m n end is other = decimal_injective m n (omega (arith, end, is.most)) (omega (arith, end, other.most)) (sym is.spelled ∙ other.spelled)
+some_is : {A : Type 0} (x y : A) → Some x ≡ Some y → x ≡ y
+some_is x y e = cc
+
+-- words give one command and its options
+one_met : (words : List (List ℕ)) (a b : List ℕ) (x y : List Row) → Names words a x → Names words b y → (a ≡ b) × (x ≡ y)
+one_met words a b x y is other =
+    let pair : ◌≡◌ {A = List ℕ × List Row} (a, x) (b, y) = some_is {A = List ℕ × List Row} (a, x) (b, y) (sym is.are ∙ other.are) in
+    (ap (λ (p : List ℕ × List Row). p.0) pair, ap (λ (p : List ℕ × List Row). p.1) pair)
+
+no_command : (words : List (List ℕ)) (a b : List ℕ) (x y : List Row) → length a ≢ length b → Names words a x → Names words b y → ⊥
+no_command words a b x y differ is other = differ (ap length (one_met words a b x y is other).0)
+
+-- an option gives one number
+one_number : (name : List ℕ) (from to : ℕ) (x y : List Row) (m n : ℕ) → to ≤ 65536 → x ≡ y → Gives x name from to m → Gives y name from to n → m ≡ n
+one_number name from to x y m n end same is other =
+    let text : is.text ≡ other.text = some_is is.text other.text (sym is.value ∙ (ap (first_of name) same ∙ other.value)) in
+    decimal_injective m n (omega (arith, end, is.number.most)) (omega (arith, end, other.number.most)) (sym is.number.spelled ∙ (text ∙ other.number.spelled))
 
 -- words ask for one shape at most
 same_shape : (words : List (List ℕ)) (x y : Shape) → AsksFormat words x → AsksFormat words y → x ≡ y
 same_shape words x y is other =
-    let pages : x.pages ≡ y.pages = one_number 16 4096 _ x.pages y.pages (omega arith) is.shape_is.pages_are other.shape_is.pages_are in
-    let blocks : x.blocks ≡ y.blocks = one_number 64 4096 _ x.blocks y.blocks (omega arith) is.shape_is.blocks_are other.shape_is.blocks_are in
+    let same : is.options ≡ other.options = (one_met words (codes "format") (codes "format") is.options other.options is.names other.names).1 in
+    let pages : x.pages ≡ y.pages = one_number (codes "pages") 16 4096 is.options other.options x.pages y.pages (omega arith) same is.pages other.pages in
+    let blocks : x.blocks ≡ y.blocks = one_number (codes "blocks") 64 4096 is.options other.options x.blocks y.blocks (omega arith) same is.blocks other.blocks in
     ap (λ (p : ℕ). record x { pages = p }) pages ∙ ap (λ (b : ℕ). record y { blocks = b }) blocks
 
+-- and for one size
+same_size : (words : List (List ℕ)) (x y : Size) → AsksRun words x → AsksRun words y → x ≡ y
+same_size words x y is other =
+    let same : is.options ≡ other.options = (one_met words (codes "run") (codes "run") is.options other.options is.names other.names).1 in
+    ap (λ (n : ℕ). record x { rows = n }) (one_number (codes "rows") 16 4096 is.options other.options x.rows y.rows (omega arith) same is.rows other.rows)
+
 -- words that ask for a new disk ask for no run
-pub not_both : (words : List (List ℕ)) (shape : Shape) → AsksFormat words shape → AsksRun words → ⊥
-not_both words shape format run = let eight = format.count in let two = run.count in omega (arith, eight, two)
+pub not_both : (words : List (List ℕ)) (shape : Shape) (size : Size) → AsksFormat words shape → AsksRun words size → ⊥
+not_both words shape size format run = no_command words (codes "format") (codes "run") format.options run.options (λ e. omega (arith, e)) format.names run.names
 
 -- nor for a dump, as words that ask for a run
 pub not_dumped : (words : List (List ℕ)) (shape : Shape) → AsksFormat words shape → AsksDump words → ⊥
-not_dumped words shape format dump = let eight = format.count in let two = dump.count in omega (arith, eight, two)
+not_dumped words shape format dump = no_command words (codes "format") (codes "dump") format.options dump.options (λ e. omega (arith, e)) format.names dump.names
 
-pub not_run : (words : List (List ℕ)) → AsksDump words → AsksRun words → ⊥
-not_run words dump run = let differ : 4 ≡ 3 = ap length (sym dump.command ∙ run.command) in omega (arith, differ)
+pub not_run : (words : List (List ℕ)) (size : Size) → AsksDump words → AsksRun words size → ⊥
+not_run words size dump run = no_command words (codes "dump") (codes "run") dump.options run.options (λ e. omega (arith, e)) dump.names run.names
 
 -- ## Statuses
 
@@ -74,10 +106,10 @@ of_stop stops.ReadFault n e = (inr (inr (inr (inl e))), λ z. omega (arith, e, z
 of_stop stops.WriteFault n e = (inr (inr (inr (inr (inl e)))), λ z. omega (arith, e, z))
 of_stop stops.DiskFault n e = (inr (inr (inr (inr (inr (inl e))))), λ z. omega (arith, e, z))
 
-of_run_status : (n : ℕ) (s0 s1 : Story) (feed0 feed1 : Feed) (put : List ℕ) (sink0 sink1 : ℕ) → HowRun n s0 s1 feed0 feed1 put sink0 sink1 → IsStatus n × (n ≡ 2 → ⊥)
-of_run_status n s0 s1 feed0 feed1 put sink0 sink1 (inl x) = of_reason x.0.reason n x.0.status_is
-of_run_status n s0 s1 feed0 feed1 put sink0 sink1 (inr (inl x)) = of_stop stops.WriteFault n x.status_is
-of_run_status n s0 s1 feed0 feed1 put sink0 sink1 (inr (inr x)) = of_stop x.stop n x.status_is
+of_run_status : (locks n : ℕ) (s0 s1 : Story) (feed0 feed1 : Feed) (put : List ℕ) (sink0 sink1 : ℕ) → HowRun locks n s0 s1 feed0 feed1 put sink0 sink1 → IsStatus n × (n ≡ 2 → ⊥)
+of_run_status locks n s0 s1 feed0 feed1 put sink0 sink1 (inl x) = of_reason x.0.reason n x.0.status_is
+of_run_status locks n s0 s1 feed0 feed1 put sink0 sink1 (inr (inl x)) = of_stop stops.WriteFault n x.status_is
+of_run_status locks n s0 s1 feed0 feed1 put sink0 sink1 (inr (inr x)) = of_stop x.stop n x.status_is
 
 of_printed : (n : ℕ) (text put : List ℕ) (sink0 sink1 : ℕ) → PutOrCut n text put sink0 sink1 → IsStatus n × (n ≡ 2 → ⊥) × (n ≡ 4 → ⊥)
 of_printed n text put sink0 sink1 (inl p) = let e = p.0 in (inl e, (λ z. omega (arith, e, z)), λ z. omega (arith, e, z))
@@ -110,30 +142,30 @@ module _ (words : List (List ℕ)) (status : ℕ) (s0 s1 : Story) (feed0 feed1 :
       → FormatEnds shape status s0 s1 held0 held1 before.sink now.sink before.disk now.disk → Ends
   of_format shape asks unread ends = record {
     known = (of_format_status status ends.known).0;
-    usage = ((λ e. absurd (ends.words e)), (λ none. absurd (none (Format shape) asks)));
+    usage = λ e. absurd (ends.words e);
     cause_read_fault = record { later = omega (arith, unread); cause = λ e. absurd ((of_format_status status ends.known).1 e); calm = λ n. unread };
     cause_write_fault = ends.cause_write_fault;
     cause_disk_fault = ends.cause_disk_fault;
     format = λ other also. subst (λ (x : Shape). FormatEnds x status s0 s1 held0 held1 before.sink now.sink before.disk now.disk) (same_shape words shape other asks also) ends;
-    run = λ also. absurd (not_both words shape asks also);
+    run = λ size also. absurd (not_both words shape size asks also);
     dump = λ also. absurd (not_dumped words shape asks also);
     none = λ none. absurd (none (Format shape) asks);
   }
 
-  pub of_run : AsksRun words → RunEnds status s0 s1 feed0 feed1 held0 held1 before.sink now.sink
+  pub of_run : (size : Size) → AsksRun words size → RunEnds size.rows status s0 s1 feed0 feed1 held0 held1 before.sink now.sink
       → HasCause before.source now.source (status ≡ 4) → IsBlamed before.sink now.sink (status ≡ 5) → HasCause before.disk now.disk (status ≡ 6) → Ends
-  of_run asks ends read write disk =
-      let is = of_run_status status s0 s1 feed0 feed1 ends.put before.sink now.sink ends.how in
+  of_run size asks ends read write disk =
+      let is = of_run_status size.rows status s0 s1 feed0 feed1 ends.put before.sink now.sink ends.how in
       record {
         known = is.0;
-        usage = ((λ e. absurd (is.1 e)), (λ none. absurd (none Run asks)));
+        usage = λ e. absurd (is.1 e);
         cause_read_fault = read;
         cause_write_fault = write;
         cause_disk_fault = disk;
-        format = λ shape also. absurd (not_both words shape also asks);
-        run = λ also. ends;
-        dump = λ also. absurd (not_run words also asks);
-        none = λ none. absurd (none Run asks);
+        format = λ shape also. absurd (not_both words shape size also asks);
+        run = λ other also. subst (λ (x : Size). RunEnds x.rows status s0 s1 feed0 feed1 held0 held1 before.sink now.sink) (same_size words size other asks also) ends;
+        dump = λ also. absurd (not_run words size also asks);
+        none = λ none. absurd (none (Run size) asks);
       }
 
   pub of_dump : AsksDump words → now.source ≡ before.source → DumpEnds status s0 s1 held0 held1 before.sink now.sink
@@ -142,28 +174,75 @@ module _ (words : List (List ℕ)) (status : ℕ) (s0 s1 : Story) (feed0 feed1 :
       let is = of_dump_status status s0 s1 ends.put before.sink now.sink ends.how in
       record {
         known = is.0;
-        usage = ((λ e. absurd (is.1 e)), (λ none. absurd (none Dump asks)));
+        usage = λ e. absurd (is.1 e);
         cause_read_fault = record { later = omega (arith, unread); cause = λ e. absurd (is.2 e); calm = λ n. unread };
         cause_write_fault = write;
         cause_disk_fault = disk;
         format = λ shape also. absurd (not_dumped words shape also asks);
-        run = λ also. absurd (not_run words asks also);
+        run = λ size also. absurd (not_run words size asks also);
         dump = λ also. ends;
         none = λ none. absurd (none Dump asks);
       }
 
-  pub of_none : ((command : Command) → Asks words command → ⊥) → now.source ≡ before.source
+  pub of_none : AsksNothing words → status ≡ 2 → now.source ≡ before.source
       → UsageEnds status s0 s1 held0 held1 before.sink now.sink before.disk now.disk → Ends
-  of_none nothing unread ends =
-      let two : status ≡ 2 = ends.status_is in
+  of_none nothing two unread ends = record {
+    known = inr (inl two);
+    usage = λ e. nothing;
+    cause_read_fault = record { later = omega (arith, unread); cause = λ e. absurd (omega (arith, two, e)); calm = λ n. unread };
+    cause_write_fault = record { later = ends.printed.cause.later; cause = λ e. absurd (omega (arith, two, e)) };
+    cause_disk_fault = record { later = omega (arith, ends.faults); cause = λ e. absurd (omega (arith, two, e)); calm = λ n. ends.faults };
+    format = λ shape asks. absurd (nothing (Format shape) asks);
+    run = λ size asks. absurd (nothing (Run size) asks);
+    dump = λ asks. absurd (nothing Dump asks);
+    none = λ also. ends;
+  }
+
+  -- whatever the words
+  pub of_unread : feed1 ≡ feed0 → now.source ≡ before.source → UnreadEnds status s0 s1 held0 held1 before.sink now.sink before.disk now.disk → Ends
+  of_unread same unread ends =
+      let eight : status ≡ 8 = ends.status_is in
       record {
-        known = inr (inl two);
-        usage = ((λ e. nothing), (λ also. two));
-        cause_read_fault = record { later = omega (arith, unread); cause = λ e. absurd (omega (arith, two, e)); calm = λ n. unread };
-        cause_write_fault = record { later = ends.printed.cause.later; cause = λ e. absurd (omega (arith, two, e)) };
-        cause_disk_fault = record { later = omega (arith, ends.faults); cause = λ e. absurd (omega (arith, two, e)); calm = λ n. ends.faults };
-        format = λ shape asks. absurd (nothing (Format shape) asks);
-        run = λ asks. absurd (nothing Run asks);
-        dump = λ asks. absurd (nothing Dump asks);
-        none = λ also. ends;
+        known = inr (inr (inr (inr (inr (inr (inr (inl eight)))))));
+        usage = λ e. absurd (omega (arith, eight, e));
+        cause_read_fault = record { later = omega (arith, unread); cause = λ e. absurd (omega (arith, eight, e)); calm = λ n. unread };
+        cause_write_fault = record { later = ends.none.printed.cause.later; cause = λ e. absurd (omega (arith, eight, e)) };
+        cause_disk_fault = record { later = omega (arith, ends.none.faults); cause = λ e. absurd (omega (arith, eight, e)); calm = λ n. ends.none.faults };
+        format = λ shape asks. ends.format shape;
+        run = λ size asks. subst (λ (f : Feed). RunEnds size.rows status s0 s1 feed0 f held0 held1 before.sink now.sink) (sym same) (ends.run size.rows feed0);
+        dump = λ asks. ends.dump;
+        none = λ nothing. ends.none;
       }
+
+-- ## Words that could not be read
+
+module _ (notice_law : EveryNotice) (tail_law : EveryTail) (s0 s1 : Story) (law : IsLawful s0) (held0 held1 : Held) (sink0 sink1 disk0 disk1 status : ℕ) (eight : status ≡ 8) (r : Refuses why.Memory held0 held1 sink0 sink1 s0 s1) (calm : disk1 ≡ disk0) where
+  notes : OnlyNotes s0 s1
+  notes = put_notes s0 s1 r.answer r.line.noted r.line.same
+
+  printed : WentOut (last_line Memory) held0 held1 sink0 sink1
+  printed = record { answer = r.answer; puts = r.line.puts; cause = r.cause }
+
+  keeps : Keeps s0 s0
+  keeps = record { notes = refl; tells = λ a. refl; areas = refl; counts = refl; later = omega arith }
+
+  pub unread : UnreadEnds status s0 s1 held0 held1 sink0 sink1 disk0 disk1
+  unread = record {
+    status_is = eight;
+    format = λ shape. failed shape s0 s0 s1 law (keeps_all s0) (unmoved shape s0 law) (λ a lt. refl) notes held0 held1 sink0 sink1 disk0 disk1
+        Memory status eight (λ e. let n : number_of Memory ≡ number_of Usage = ap number_of e in omega (arith, n)) printed (λ e. absurd (let n : number_of Memory ≡ number_of AlreadyFormatted = ap number_of e in omega (arith, n))) (λ e a. refl)
+        (record { later = omega (arith, calm); cause = λ e. absurd (let n : number_of Memory ≡ number_of DiskFault = ap number_of e in omega (arith, n)); calm = λ n. calm });
+    run = λ locks feed. refused_ends locks notice_law tail_law status s0 s0 s1 law keeps (λ a lt. refl) (λ m tells clean. not_moved m s0 law) feed why.Memory eight tt (λ refused a. absurd refused) held0 held1 sink0 sink1 r;
+    headline = λ feed. refused_headline 1 notice_law tail_law s0 s0 s1 law keeps (λ m tells clean. not_moved m s0 law) feed why.Memory held0 held1 sink0 sink1 r;
+    dump = dumps.refused s0 s0 s1 law (record { keeps = keeps; logs = λ a lt. record { bytes = refl; writes = refl; first = refl }; others = λ a lt. refl; any = λ m tells clean. not_moved m s0 law }) why.Memory tt (λ refused a. absurd refused) held0 held1 sink0 sink1 r.answer status eight r.line r.cause;
+    none = record {
+      failure = Memory;
+      is = inr refl;
+      status_is = eight;
+      printed = printed;
+      same = notes.area;
+      tells_on = tells_on s0 s1 notes;
+      faults = calm;
+      any_moment = usage_moments s0 s1 law notes;
+    };
+  }

@@ -3,4 +3,5 @@ mod Dumps
 mod EndLemmas
 mod NumberLemmas
 mod PutLemmas
+mod WordLemmas
 mod Runs

@@ -42,12 +42,12 @@ pub record IsNoneTold (m : Master) (s : Story) (input output : List ℕ) (n : Ma
   pub shows : ShowsStill m (areas_of s) n c.image
 
 -- The master that counts is that of the disk on entry, or the one that its opening writes; and what stands of the run's calls.
-pub record HasMasterOf (m : Master) (s : Story) (input output : List ℕ) (c : Crash) : Type 0 where
+pub record HasMasterOf (locks : ℕ) (m : Master) (s : Story) (input output : List ℕ) (c : Crash) : Type 0 where
   pub n : Master
   pub counts : master_on (c.image 0) ≡ Some n
   pub is : (n ≡ m) ⊎ IsNextOf m (areas_of s) n
-  pub left : IsNoneTold m s input output n c ⊎ IsLeft (IsRoomOfNext input) m s input output c
+  pub left : IsNoneTold m s input output n c ⊎ IsLeft locks (IsRoomOfNext input) m s input output c
 
 -- so it is in a crash that leaves a fair image, once something is written
-abbrev pub MasterLeaves : (m : Master) (s : Story) (input output : List ℕ) (c : Crash) → Type 0
-MasterLeaves m s input output c = IsUnwritten s input output c ⊎ (IsFairCrash (length m.heads) s c → HasMasterOf m s input output c)
+abbrev pub MasterLeaves : (locks : ℕ) (m : Master) (s : Story) (input output : List ℕ) (c : Crash) → Type 0
+MasterLeaves locks m s input output c = IsUnwritten s input output c ⊎ (IsFairCrash (length m.heads) s c → HasMasterOf locks m s input output c)

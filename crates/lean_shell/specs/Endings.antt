@@ -80,10 +80,12 @@ pub record FormatEnds (shape : Shape) (status : ℕ) (s0 s1 : Story) (held0 held
 abbrev pub Stays : Story → Crash → Type 0
 Stays s c = (a : ℕ) → Tells s a → Leaves (s.area a) (c.image a)
 
--- How a command ended whose words ask for nothing.
+-- How a command ended whose words ask for nothing: so it said, or that memory to read them was refused.
 pub record UsageEnds (status : ℕ) (s0 s1 : Story) (held0 held1 : Held) (sink0 sink1 disk0 disk1 : ℕ) : Type 0 where
-  pub status_is : status ≡ number_of Usage
-  pub printed : WentOut (last_line Usage) held0 held1 sink0 sink1
+  pub failure : Failure
+  pub is : (failure ≡ Usage) ⊎ (failure ≡ Memory)
+  pub status_is : status ≡ number_of failure
+  pub printed : WentOut (last_line failure) held0 held1 sink0 sink1
   pub same : IsUntouched s0 s1
   pub tells_on : TellsOn s0 s1
   pub faults : disk1 ≡ disk0

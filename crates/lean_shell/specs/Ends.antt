@@ -11,15 +11,15 @@ use Rattle.lean_shell.specs.Crashes.{IsYoung, MasterLeaves, TellsCrashes}
 use Rattle.lean_shell.specs.Headline.{Headline}
 use Rattle.lean_shell.specs.Runs.{HowRun}
 
--- A run put these bytes into the sink.
-pub record RunEnds (status : ℕ) (s0 s1 : Story) (feed0 feed1 : Feed) (held0 held1 : Held) (sink0 sink1 : ℕ) : Type 0 where
+-- A run with so many lock rows put these bytes into the sink.
+pub record RunEnds (locks status : ℕ) (s0 s1 : Story) (feed0 feed1 : Feed) (held0 held1 : Held) (sink0 sink1 : ℕ) : Type 0 where
   pub put : List ℕ
   pub holds : IsTrue held0.tells → held1.bytes ≡ held0.bytes ++ put
-  pub how : HowRun status s0 s1 feed0 feed1 put sink0 sink1
+  pub how : HowRun locks status s0 s1 feed0 feed1 put sink0 sink1
   -- no other area is touched, and the disk tells on
   pub others : (a : ℕ) → 2 < a → s1.area a ≡ s0.area a
   pub tells_on : TellsOn s0 s1
   -- the headline holds of what was put, also where the sink does not tell what it holds
   pub headline : IsTrue feed0.tells → TellsAll s0 → Headline s0 s1 feed0.left put
   -- at every moment the master is that of the entry, or the next one; and what stands of the run's calls
-  pub masters : IsTrue feed0.tells → (m : Master) → TellsCrashes s0 → IsCleanDisk m (areas_of s0) → IsYoung m s0 → LeavesOnly s0 s1 (MasterLeaves m s0 feed0.left put)
+  pub masters : IsTrue feed0.tells → (m : Master) → TellsCrashes s0 → IsCleanDisk m (areas_of s0) → IsYoung m s0 → LeavesOnly s0 s1 (MasterLeaves locks m s0 feed0.left put)

@@ -97,11 +97,11 @@ pub record CutFirst (status : ℕ) (s0 : Story) (feed0 feed1 : Feed) (put : List
 
 -- ## What was executed
 
--- An engine of one session stands on the start that the disk on entry gives, with an empty log, and answers these calls in turn, by the events of a run of
--- the core: each refusal has its cause in the state at its place and in its log.
-pub record Executed (s0 : Story) (counts : Counts) (calls : List Done) : Type 0 where
+-- An engine of one session with so many lock rows stands on the start that the disk on entry gives, with an empty log, and answers these calls in turn, by the
+-- events of a run of the core: each refusal has its cause in the state at its place and in its log.
+pub record Executed (locks : ℕ) (s0 : Story) (counts : Counts) (calls : List Done) : Type 0 where
   pub opening : Opening
-  pub of_one : IsOfOne opening
+  pub of_one : IsOfOne locks opening
   pub from : TellsAll s0 → IsFrom opening s0 counts
   pub first : Log
   pub log : TellsAll s0 → (m : Master) → master_on (areas_of s0 0) ≡ Some m → first ≡ first_log m opening.base
@@ -152,13 +152,13 @@ pub record AreTold (stop : Stop) (calls : List Done) (input put : List ℕ) : Ty
 -- ## All of it
 
 -- The script was executed, line by line, and what came of it was put.
-pub record Ran (status : ℕ) (s0 s1 : Story) (feed0 feed1 : Feed) (put : List ℕ) (sink0 sink1 : ℕ) : Type 0 where
+pub record Ran (locks status : ℕ) (s0 s1 : Story) (feed0 feed1 : Feed) (put : List ℕ) (sink0 sink1 : ℕ) : Type 0 where
   pub stop : Stop
   pub status_is : status ≡ ended stop
   pub counts : Counts
   pub calls : List Done
   pub few : length calls < 2 ^ 40
-  pub executed : Executed s0 counts calls
+  pub executed : Executed locks s0 counts calls
   -- too few for a latch to be spent
   pub none_spent : (x : Done) → Has x calls → answered x.outcome.deed ≡ answer.Refused RowSpent → ⊥
   -- the script begins with the lines that ask them, and why no more were executed
@@ -167,10 +167,10 @@ pub record Ran (status : ℕ) (s0 s1 : Story) (feed0 feed1 : Feed) (put : List �
   pub told : IsTrue feed0.tells → AreTold stop calls feed0.left put
   -- unless the disk failed, it stands as a crash would have left it
   pub stands : (stop ≡ stops.DiskFault → ⊥) → IsTrue feed0.tells → (m : Master) → TellsCrashes s0 → IsCleanDisk m (areas_of s0) → IsYoung m s0 → Survives m s0 feed0.left put (as_read s1)
-  pub left : (stop ≡ stops.DiskFault → ⊥) → IsTrue feed0.tells → (m : Master) → TellsCrashes s0 → IsCleanDisk m (areas_of s0) → IsYoung m s0 → IsLeft AllAnswered m s0 feed0.left put (as_read s1)
+  pub left : (stop ≡ stops.DiskFault → ⊥) → IsTrue feed0.tells → (m : Master) → TellsCrashes s0 → IsCleanDisk m (areas_of s0) → IsYoung m s0 → IsLeft locks AllAnswered m s0 feed0.left put (as_read s1)
 
 -- How a run ended, on a disk that told s0 and tells s1, with a source that told feed0 and tells feed1, and a sink into which these bytes were put; and
 -- how often the sink had failed before and has now. The script of a disk that was not opened was not read.
-abbrev pub HowRun : (status : ℕ) (s0 s1 : Story) (feed0 feed1 : Feed) (put : List ℕ) (sink0 sink1 : ℕ) → Type 0
-HowRun status s0 s1 feed0 feed1 put sink0 sink1 =
-    (NotOpened status s0 s1 put sink0 sink1 × (feed1 ≡ feed0)) ⊎ (CutFirst status s0 feed0 feed1 put sink0 sink1 ⊎ Ran status s0 s1 feed0 feed1 put sink0 sink1)
+abbrev pub HowRun : (locks status : ℕ) (s0 s1 : Story) (feed0 feed1 : Feed) (put : List ℕ) (sink0 sink1 : ℕ) → Type 0
+HowRun locks status s0 s1 feed0 feed1 put sink0 sink1 =
+    (NotOpened status s0 s1 put sink0 sink1 × (feed1 ≡ feed0)) ⊎ (CutFirst status s0 feed0 feed1 put sink0 sink1 ⊎ Ran locks status s0 s1 feed0 feed1 put sink0 sink1)

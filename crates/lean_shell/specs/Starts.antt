@@ -27,13 +27,13 @@ use Rattle.transcripts.specs.Told.{ask}
 use Rattle.transcripts.specs.Transcripts.{first_lines, transcript}
 use Rattle.script_run.specs.Runs.{calls_of}
 
--- An opening of an engine of one session: how many changes a transaction makes, of how many pairs pages are joined, which lock row a key has, and that each
--- page has a frame.
-pub record IsOfOne (g : Opening) : Type 0 where
+-- An opening of an engine of one session with so many lock rows: how many changes a transaction makes, of how many pairs pages are joined, which lock row a key
+-- has, and that each page has a frame.
+pub record IsOfOne (locks : ℕ) (g : Opening) : Type 0 where
   pub workers : g.workers ≡ 1
   pub changes : g.changes ≡ 64
   pub joined : g.joined ≡ 45
-  pub rows : (k : ℕ) → g.row_of k ≡ k % 256
+  pub rows : (k : ℕ) → g.row_of k ≡ k % locks
   pub frames : g.frames ≡ g.format.pages
 
 -- A call of session 1 behind these: its line is the script's next, and it is told by its events.
@@ -46,7 +46,8 @@ pub record IsNextCall (g : Opening) (input : List ℕ) (heard : List Done) (x : 
 abbrev pub AllAnswered : Opening → List Done → List Event → Type 0
 AllAnswered g = NoneStopped
 
--- Events of a call of session 1 behind these that was not answered: its line is the script's next, and by them it made room for its key.
+-- Events of a call of session 1 behind these that was not answered: its line is the script's next, and they are what such a call may have done by then. A put
+-- made room for its key, a del took its key's row, an abort put changes back, and any other call loaded pages.
 pub record IsRoomOfNext (input : List ℕ) (g : Opening) (heard : List Done) (es : List Event) : Type 0 where
   pub call : Call
   pub fits : CallFits call
@@ -55,7 +56,7 @@ pub record IsRoomOfNext (input : List ℕ) (g : Opening) (heard : List Done) (es
 
 -- By the next master each page's base is the start's, and the records are the oldest of those that a run of the core logs from there: of the calls of
 -- which the lines that were out tell, and of the first events of at most one more; or of such events of a call that was not answered.
-pub record IsLeft (Such : Opening → List Done → List Event → Type 0) (m : Master) (s : Story) (input output : List ℕ) (c : Crash) : Type 0 where
+pub record IsLeft (locks : ℕ) (Such : Opening → List Done → List Event → Type 0) (m : Master) (s : Story) (input output : List ℕ) (c : Crash) : Type 0 where
   pub lines : ℕ
   pub notes : c.notes ≡ s.notes + lines
   pub n : Master
@@ -63,7 +64,7 @@ pub record IsLeft (Such : Opening → List Done → List Event → Type 0) (m : 
   pub next : IsNextOf m (areas_of s) n
   pub opening : Opening
   pub starts : IsStartOf m (areas_of s) opening
-  pub of_one : IsOfOne opening
+  pub of_one : IsOfOne locks opening
   pub base : (p : ℕ) → p < n.pages → base_of (shown_by n c.image) p ≡ Some (start_page opening p)
   pub heard : List Done
   pub each : EachTells limits opening 1 heard

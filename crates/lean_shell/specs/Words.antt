@@ -1,10 +1,17 @@
--- The words of a command line, and what they ask for.
-use Rattle.std.specs.Prelude.{◌≡◌, ◌≢◌, ◌≤◌, ◌<◌, ℕ, List, [], length, map, slice_index, slice_index_or, codes, String, string_bytes}
+-- The words of a command line, and what they ask for: which options there are, of clap's definitions that these are their arguments, and which numbers.
+use Rattle.std.specs.Prelude.{◌≡◌, ◌≢◌, ◌≤◌, ◌<◌, ℕ, true, List, [], ◌∷◌, length, map, slice_index, codes, Some, String, string_bytes}
 use Rattle.std.specs.declared.alloc.Global.{Global}
 use Rattle.std.specs.Fmt.{decimal}
+use Rattle.clap.specs.Words.{App, Row, Rule, fault_of, first_of, new_app, new_rule, subcommand_of, with_rule, with_subcommand}
 use Rattle.disk_format.specs.declared.shape.Shape.{Shape}
+use Rattle.lean_engine.specs.declared.engine.Size.{Size}
 use Rattle.lean_shell.specs.declared.words.Command.{Command}
 use Rattle.lean_shell.specs.declared.words.Command.TheVariants.{Dump, Format, Run}
+
+abbrev pub texts : List (String Global) → List (List ℕ)
+texts words = map string_bytes words
+
+-- ## Numbers
 
 -- a text with no sign and no leading zero
 pub record IsPlain (text : List ℕ) : Type 0 where
@@ -12,50 +19,81 @@ pub record IsPlain (text : List ℕ) : Type 0 where
   pub no_sign : slice_index text 0 ≢ 43
   pub no_zero : slice_index text 0 ≡ 48 → length text ≡ 1
 
-abbrev pub texts : List (String Global) → List (List ℕ)
-texts words = map string_bytes words
-
 -- a text that spells a number in a range
 pub record IsNumberIn (from to : ℕ) (text : List ℕ) (n : ℕ) : Type 0 where
   pub spelled : text ≡ decimal n
   pub least : from ≤ n
   pub most : n ≤ to
 
--- the numbers of pages and of blocks
-pub record SpellsShape (pages blocks : List ℕ) (shape : Shape) : Type 0 where
-  pub pages_are : IsNumberIn 16 4096 pages shape.pages
-  pub blocks_are : IsNumberIn 64 4096 blocks shape.blocks
+-- ## Commands and options
 
--- the word at a place, the program's name at 0
-abbrev pub word_at : List (List ℕ) → ℕ → List ℕ
-word_at words i = slice_index_or words i []
+-- an option that has to be there: `--NAME VALUE` or `--NAME=VALUE`, once
+abbrev pub wanted : List ℕ → Rule
+wanted name = record (new_rule name) { long = Some name; required = true }
 
--- the words that stand between the numbers
-pub record HasOptions (words : List (List ℕ)) : Type 0 where
-  pub command : word_at words 1 ≡ codes "format"
-  pub workers : word_at words 2 ≡ codes "--workers"
-  pub one : word_at words 3 ≡ codes "1"
-  pub pages : word_at words 4 ≡ codes "--pages"
-  pub blocks : word_at words 6 ≡ codes "--blocks"
+-- one that has this value where it is not there
+abbrev pub with_default : (name value : List ℕ) → Rule
+with_default name value = record (new_rule name) { long = Some name; defaults = value ∷ [] }
 
--- `NAME format --workers 1 --pages P --blocks N`, in this order, whatever the program's name
+abbrev pub format_words : App
+format_words = with_rule (with_rule (with_rule (new_app (codes "format")) (wanted (codes "workers"))) (wanted (codes "pages"))) (wanted (codes "blocks"))
+
+abbrev pub run_words : App
+run_words = with_rule (new_app (codes "run")) (with_default (codes "rows") (codes "256"))
+
+abbrev pub dump_words : App
+dump_words = new_app (codes "dump")
+
+-- a command has to be there
+abbrev pub wanting : App → App
+wanting app = record app { top = record app.top { subcommand_required = true } }
+
+-- the program's command line
+unfoldable pub lean_words : App
+lean_words = wanting (with_subcommand (with_subcommand (with_subcommand (new_app (codes "lean")) format_words.top) run_words.top) dump_words.top)
+
+-- ## What words ask for
+
+-- As clap takes words, behind the program's name, these give this command with its options; there is no fault in them, and they ask for no help.
+pub record Names (words : List (List ℕ)) (command : List ℕ) (options : List Row) : Type 0 where
+  pub no_fault : fault_of lean_words words ≡ []
+  pub are : subcommand_of lean_words words ≡ Some (command, options)
+
+-- an option's value spells a number in a range
+pub record Gives (options : List Row) (name : List ℕ) (from to n : ℕ) : Type 0 where
+  pub text : List ℕ
+  pub value : first_of name options ≡ Some text
+  pub number : IsNumberIn from to text n
+
+-- so does that of lock rows
+abbrev pub GivesRows : List Row → ℕ → Type 0
+GivesRows options = Gives options (codes "rows") 16 4096
+
+-- `format --workers 1 --pages P --blocks N`, in any order
 pub record AsksFormat (words : List (List ℕ)) (shape : Shape) : Type 0 where
-  pub count : length words ≡ 8
-  pub options : HasOptions words
-  pub shape_is : SpellsShape (word_at words 5) (word_at words 7) shape
+  pub options : List Row
+  pub names : Names words (codes "format") options
+  pub workers : Gives options (codes "workers") 1 1 1
+  pub pages : Gives options (codes "pages") 16 4096 shape.pages
+  pub blocks : Gives options (codes "blocks") 64 4096 shape.blocks
 
--- `NAME run`
-pub record AsksRun (words : List (List ℕ)) : Type 0 where
-  pub count : length words ≡ 2
-  pub command : word_at words 1 ≡ codes "run"
+-- `run`, or `run --rows R`
+pub record AsksRun (words : List (List ℕ)) (size : Size) : Type 0 where
+  pub options : List Row
+  pub names : Names words (codes "run") options
+  pub rows : GivesRows options size.rows
 
--- `NAME dump`
+-- `dump`
 pub record AsksDump (words : List (List ℕ)) : Type 0 where
-  pub count : length words ≡ 2
-  pub command : word_at words 1 ≡ codes "dump"
+  pub options : List Row
+  pub names : Names words (codes "dump") options
 
 -- the words ask for this
 abbrev pub Asks : List (List ℕ) → Command → Type 0
 Asks words (Format shape) = AsksFormat words shape
-Asks words Run = AsksRun words
+Asks words (Run size) = AsksRun words size
 Asks words Dump = AsksDump words
+
+-- they ask for nothing
+abbrev pub AsksNothing : List (List ℕ) → Type 0
+AsksNothing words = (command : Command) → Asks words command → ⊥

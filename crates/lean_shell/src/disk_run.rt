@@ -1,10 +1,11 @@
 // The run of a script.
-ghost use Rattle.std.specs.Prelude.{◌≡◌, ℕ, IsTrue};
+ghost use Rattle.std.specs.Prelude.{◌≡◌, ◌≤◌, ℕ, IsTrue};
 ghost use Rattle.lean_disk.specs.Faults.{HasCause, IsBlamed};
 ghost use Rattle.lean_edge.specs.Outside.{added};
 ghost use Rattle.recovery.specs.Telling.{TellsAll};
 ghost use Rattle.lean_shell.specs.Ends.{RunEnds};
 ghost use Rattle.lean_shell.specs.Headline.{Headline};
+ghost use Rattle.lean_shell.specs.Inside.Commands.{UnreadEnds};
 ghost use Rattle.lean_shell.specs.Inside.Laws.{Laws};
 ghost use Rattle.lean_shell.specs.Inside.Openings.{Refuses};
 ghost use Rattle.lean_shell.specs.Runs.{ended, status_of};
@@ -19,9 +20,6 @@ use recovery::Unrecovered;
 use script_lang::LineReader;
 use script_run::{Stop, run_script};
 use std::alloc::Global;
-
-// How large the engine is.
-const SIZE: Size = Size { rows: 256 };
 
 /// The status of a disk that was not opened.
 pub(crate) fn status_of(reason: Unrecovered) -> u8
@@ -60,7 +58,16 @@ fn refuse<K: Sink<D>, D: Disk>(reason: Unrecovered, sink: &mut K, mut disk: D) -
     }
 }
 
-/// Opens the disk, executes a script on it, and puts what comes of it, the last line included. The status is 0 where the script
+/// Memory to read the words of a command line was refused.
+pub(crate) fn unread<K: Sink<D>, D: Disk>(sink: &mut K, disk: D) -> Ended<D>
+    ensures { UnreadEnds result.status (D.story disk) (D.story result.disk) (K.held sink.old) (K.held sink.new) (K.faults sink.old) (K.faults sink.new) (D.faults disk) (D.faults result.disk) }
+{
+    transcripts::every_notice();
+    transcripts::every_tail();
+    refuse(Unrecovered::Memory, sink, disk)
+}
+
+/// Opens the disk, executes a script on it, with so many lock rows, and puts what comes of it, the last line included. The status is 0 where the script
 /// has ended, 3 at a line that is refused, 4 where the source failed, 5 where the sink did, 6 where the disk did, 7 where
 /// the disk has no master or is damaged, 8 where memory was refused.
 pub fn run_disk<S: Source, K: Sink<D>, D: Hosts>(
@@ -68,9 +75,11 @@ pub fn run_disk<S: Source, K: Sink<D>, D: Hosts>(
     source: &mut S,
     sink: &mut K,
     disk: D,
+    size: Size,
 ) -> Ended<D>
+    requires rows { (1 ≤ size.rows) × (size.rows ≤ 65536) }
     ensures headline { IsTrue (S.feed source.old).tells → IsTrue (K.held sink.old).tells → TellsAll (D.story disk) → Headline (D.story disk) (D.story result.disk) (S.feed source.old).left (added (K.held sink.old) (K.held sink.new)) }
-    ensures ends { RunEnds result.status (D.story disk) (D.story result.disk) (S.feed source.old) (S.feed source.new) (K.held sink.old) (K.held sink.new) (K.faults sink.old) (K.faults sink.new) }
+    ensures ends { RunEnds size.rows result.status (D.story disk) (D.story result.disk) (S.feed source.old) (S.feed source.new) (K.held sink.old) (K.held sink.new) (K.faults sink.old) (K.faults sink.new) }
 
     ensures cause_read_fault { HasCause (S.faults source.old) (S.faults source.new) (result.status ≡ 4) }
     // A last line that is cut off leaves the status as it is.
@@ -82,7 +91,7 @@ pub fn run_disk<S: Source, K: Sink<D>, D: Hosts>(
     let Ok(mut reader) = LineReader::new(alloc) else {
         return refuse(Unrecovered::Memory, sink, disk);
     };
-    let opened = match Engine::open(alloc, disk, SIZE) {
+    let opened = match Engine::open(alloc, disk, size) {
         Ok(opened) => opened,
         Err(Unopened { disk, reason }) => return refuse(reason, sink, disk),
     };

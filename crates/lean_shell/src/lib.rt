@@ -1,6 +1,7 @@
 //! The commands of the program: what it reads, what it prints, the status that it ends with.
 #![tactic(auto)]
 
+mod command_line;
 mod disk_run;
 mod dump;
 mod engine_lines;

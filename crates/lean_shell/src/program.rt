@@ -1,5 +1,5 @@
 // The program's one call.
-ghost use Rattle.std.specs.Prelude.{◌≡◌, ◌↔◌, ◌≤◌, IsTrue};
+ghost use Rattle.std.specs.Prelude.{◌≡◌, ◌≤◌, IsTrue};
 ghost use Rattle.lean_disk.specs.Faults.{HasCause, IsBlamed};
 ghost use Rattle.lean_edge.specs.Outside.{added};
 ghost use Rattle.recovery.specs.Telling.{TellsAll};
@@ -9,13 +9,13 @@ ghost use Rattle.lean_shell.specs.Headline.{Headline};
 ghost use Rattle.lean_shell.specs.Endings.{FinishedPut, FormatEnds, IsStatus, UsageEnds, WentOut, last_line, number_of};
 ghost use Rattle.lean_disk.specs.Told.{OnlyNotes};
 ghost use Rattle.lean_shell.specs.Inside.Commands.{CommandEnds};
-ghost use Rattle.lean_shell.specs.Words.{Asks, texts};
-ghost use Rattle.lean_shell.specs.declared.words.Command.{Command};
+ghost use Rattle.lean_shell.specs.Words.{Asks, AsksNothing, texts};
 ghost use Rattle.lean_shell.specs.declared.words.Command.TheVariants.{Dump, Format, Run};
 ghost use Rattle.disk_format.specs.declared.shape.Shape.{Shape};
+ghost use Rattle.lean_engine.specs.declared.engine.Size.{Size};
 
 use crate::Gate;
-use crate::disk_run::run_disk;
+use crate::disk_run::{run_disk, unread};
 use crate::dump::dump_disk;
 use crate::failure::Failure;
 use crate::words::{Command, read_words};
@@ -84,23 +84,24 @@ fn run_alone<S: Source, K: Sink<D>, D: Hosts>(
 ) -> Ended<D>
     ensures ends { CommandEnds (texts words.now) result.status (D.story disk) (D.story result.disk) (S.feed source.old) (S.feed source.new) (K.held sink.old) (K.held sink.new)
         (record { source = S.faults source.old; sink = K.faults sink.old; disk = D.faults disk }) (record { source = S.faults source.new; sink = K.faults sink.new; disk = D.faults result.disk }) }
-    ensures headline { Asks (texts words.now) Run → IsTrue (S.feed source.old).tells → IsTrue (K.held sink.old).tells → TellsAll (D.story disk) → Headline (D.story disk) (D.story result.disk) (S.feed source.old).left (added (K.held sink.old) (K.held sink.new)) }
-    ensures source { (Asks (texts words.now) Run → ⊥) → source.new ≡ source.old }
+    ensures headline { (size : Size) → Asks (texts words.now) (Run size) → IsTrue (S.feed source.old).tells → IsTrue (K.held sink.old).tells → TellsAll (D.story disk) → Headline (D.story disk) (D.story result.disk) (S.feed source.old).left (added (K.held sink.old) (K.held sink.new)) }
+    ensures source { ((size : Size) → Asks (texts words.now) (Run size) → ⊥) → source.new ≡ source.old }
 {
-    match read_words(words) {
-        Some(Command::Format(shape)) => {
+    match read_words(alloc, words) {
+        Ok(Some(Command::Format(shape))) => {
             let status = run_format(alloc, shape, sink, &mut disk);
             Ended { status, disk }
         }
-        Some(Command::Run) => run_disk(alloc, source, sink, disk),
-        Some(Command::Dump) => {
+        Ok(Some(Command::Run(size))) => run_disk(alloc, source, sink, disk, size),
+        Ok(Some(Command::Dump)) => {
             let status = dump_disk(alloc, sink, &mut disk);
             Ended { status, disk }
         }
-        None => {
+        Ok(None) => {
             let status = fail(Failure::Usage, sink, &mut disk);
             Ended { status, disk }
         }
+        Err(_) => unread(sink, disk),
     }
 }
 
@@ -120,23 +121,23 @@ pub fn run<R: Threads + Wait + Sync, S: Source, K: Sink<D>, D: Hosts, G: Gate + 
     gate: &G,
 ) -> Ended<D>
     // Whatever script runs, and wherever a crash falls.
-    ensures headline { Asks (texts words.now) Run → IsTrue (S.feed source.old).tells → IsTrue (K.held sink.old).tells → TellsAll (D.story disk) → Headline (D.story disk) (D.story result.disk) (S.feed source.old).left (added (K.held sink.old) (K.held sink.new)) }
+    ensures headline { (size : Size) → Asks (texts words.now) (Run size) → IsTrue (S.feed source.old).tells → IsTrue (K.held sink.old).tells → TellsAll (D.story disk) → Headline (D.story disk) (D.story result.disk) (S.feed source.old).left (added (K.held sink.old) (K.held sink.new)) }
 
     // Which statuses there are, and why.
     ensures known { IsStatus result.status }
-    ensures usage { (result.status ≡ 2) ↔ ((command : Command) → Asks (texts words.now) command → ⊥) }
+    ensures usage { result.status ≡ 2 → AsksNothing (texts words.now) }
     ensures cause_read_fault { HasCause (S.faults source.old) (S.faults source.new) (result.status ≡ 4) }
     ensures cause_write_fault { IsBlamed (K.faults sink.old) (K.faults sink.new) (result.status ≡ 5) }
     ensures cause_disk_fault { HasCause (D.faults disk) (D.faults result.disk) (result.status ≡ 6) }
 
     // What each command does.
     ensures format { (shape : Shape) → Asks (texts words.now) (Format shape) → FormatEnds shape result.status (D.story disk) (D.story result.disk) (K.held sink.old) (K.held sink.new) (K.faults sink.old) (K.faults sink.new) (D.faults disk) (D.faults result.disk) }
-    ensures run { Asks (texts words.now) Run → RunEnds result.status (D.story disk) (D.story result.disk) (S.feed source.old) (S.feed source.new) (K.held sink.old) (K.held sink.new) (K.faults sink.old) (K.faults sink.new) }
+    ensures run { (size : Size) → Asks (texts words.now) (Run size) → RunEnds size.rows result.status (D.story disk) (D.story result.disk) (S.feed source.old) (S.feed source.new) (K.held sink.old) (K.held sink.new) (K.faults sink.old) (K.faults sink.new) }
     ensures dump { Asks (texts words.now) Dump → DumpEnds result.status (D.story disk) (D.story result.disk) (K.held sink.old) (K.held sink.new) (K.faults sink.old) (K.faults sink.new) }
-    ensures none { ((command : Command) → Asks (texts words.now) command → ⊥) → UsageEnds result.status (D.story disk) (D.story result.disk) (K.held sink.old) (K.held sink.new) (K.faults sink.old) (K.faults sink.new) (D.faults disk) (D.faults result.disk) }
+    ensures none { AsksNothing (texts words.now) → UsageEnds result.status (D.story disk) (D.story result.disk) (K.held sink.old) (K.held sink.new) (K.faults sink.old) (K.faults sink.new) (D.faults disk) (D.faults result.disk) }
 
     // The source is read by a run alone.
-    ensures source { (Asks (texts words.now) Run → ⊥) → source.new ≡ source.old }
+    ensures source { ((size : Size) → Asks (texts words.now) (Run size) → ⊥) → source.new ≡ source.old }
 {
     run_alone(alloc, words, source, sink, disk)
 }

@@ -1,17 +1,24 @@
 // The words of a command line.
-ghost use Rattle.std.specs.Prelude.{◌≡◌, ◌^◌, ◌<◌, ℕ, length, ◌↔◌, IfSome, IfNone, IsTrue, string_bytes};
+ghost use Rattle.std.specs.Prelude.{◌≡◌, ◌^◌, ◌<◌, ℕ, ◌↔◌, IfOk, IfSome, IfNone, IsTrue};
 ghost use Rattle.std.specs.Fmt.{decimal};
-ghost use Rattle.lean_shell.specs.Words.{Asks, AsksDump, AsksFormat, AsksRun, HasOptions, IsNumberIn, IsPlain, SpellsShape, texts, word_at};
-ghost use Rattle.lean_shell.specs.declared.words.Command.{Command};
+ghost use Rattle.clap.specs.Words.{found_of, rows_of, subcommand_rows_of};
 ghost use Rattle.disk_format.specs.declared.shape.Shape.{Shape};
+ghost use Rattle.lean_engine.specs.declared.engine.Size.{Size};
+ghost use Rattle.lean_shell.specs.Inside.CommandLines.{AsksAs, AsksBy, GivesShape};
+ghost use Rattle.lean_shell.specs.Words.{Asks, AsksNothing, Gives, GivesRows, IsNumberIn, IsPlain, texts};
+ghost use Rattle.lean_shell.specs.declared.words.Command.{Command};
 
-use lean_engine::Shape;
+use crate::command_line::lean_line;
+use clap::ArgMatches;
+use clap::error::ErrorKind;
+use lean_engine::{Shape, Size};
+use std::alloc::{AllocError, Global};
 
 /// What the words of a command line ask for.
 #[derive(Clone, Copy, Debug, PartialEq, Eq)]
 pub enum Command {
     Format(Shape),
-    Run,
+    Run(Size),
     Dump,
 }
 
@@ -53,74 +60,72 @@ fn number_in(word: &str, from: u32, to: u32) -> Option<u32>
     Some(n)
 }
 
-fn read_shape(pages: &str, blocks: &str) -> Option<Shape>
-    ensures some { IfSome result (SpellsShape pages.now blocks.now) }
-    ensures none { IfNone result ((s : Shape) → SpellsShape pages.now blocks.now s → ⊥) }
+// The number that is an option's value, if it is in a range.
+fn option_in(options: &ArgMatches, name: &str, from: u32, to: u32) -> Option<u32>
+    ensures some { IfSome result (Gives (rows_of (found_of options.now)) name.now from to) }
+    ensures none { IfNone result ((n : ℕ) → Gives (rows_of (found_of options.now)) name.now from to n → ⊥) }
 {
-    let pages = number_in(pages, 16, 4096)?;
-    let blocks = number_in(blocks, 64, 4096)?;
+    let text = options.get_str(name)?;
+    number_in(text, from, to)
+}
+
+fn read_shape(options: &ArgMatches) -> Option<Shape>
+    ensures some { IfSome result (GivesShape (rows_of (found_of options.now))) }
+    ensures none { IfNone result ((s : Shape) → GivesShape (rows_of (found_of options.now)) s → ⊥) }
+{
+    // One worker, until there are more.
+    let _ = option_in(options, "workers", 1, 1)?;
+    let pages = option_in(options, "pages", 16, 4096)?;
+    let blocks = option_in(options, "blocks", 64, 4096)?;
     Some(Shape { pages, blocks })
 }
 
-// Whether the word at a place is this one.
-fn is_word(words: &[String], at: usize, text: &str) -> bool
-    requires { at < length words.now }
-    ensures { IsTrue result ↔ (word_at (texts words.now) at ≡ text.now) }
+fn read_size(options: &ArgMatches) -> Option<Size>
+    ensures some { IfSome result (λ s. GivesRows (rows_of (found_of options.now)) s.rows) }
+    ensures none { IfNone result ((s : Size) → GivesRows (rows_of (found_of options.now)) s.rows → ⊥) }
 {
-    words[at].as_str() == text
+    let rows = option_in(options, "rows", 16, 4096)?;
+    Some(Size { rows })
 }
 
-// Whether the words that are the same at each call stand at their places.
-fn is_format(words: &[String]) -> bool
-    requires { length words.now ≡ 8 }
-    ensures { IsTrue result ↔ HasOptions (texts words.now) }
+// What a command and its options ask for.
+fn asked(name: &str, options: &ArgMatches) -> Option<Command>
+    ensures some { IfSome result (AsksBy name.now (rows_of (found_of options.now))) }
+    ensures none { IfNone result ((c : Command) → AsksBy name.now (rows_of (found_of options.now)) c → ⊥) }
 {
-    is_word(words, 1, "format")
-        && is_word(words, 2, "--workers")
-        && is_word(words, 3, "1")
-        && is_word(words, 4, "--pages")
-        && is_word(words, 6, "--blocks")
-}
-
-// The shape that the words ask `format` for.
-fn read_format(words: &[String]) -> Option<Shape>
-    ensures some { IfSome result (AsksFormat (texts words.now)) }
-    ensures none { IfNone result ((s : Shape) → AsksFormat (texts words.now) s → ⊥) }
-{
-    if words.len() != 8 {
-        return None;
+    if name == "format" {
+        let shape = read_shape(options)?;
+        return Some(Command::Format(shape));
     }
-    if !is_format(words) {
-        return None;
+    if name == "run" {
+        let size = read_size(options)?;
+        return Some(Command::Run(size));
     }
-    read_shape(words[5].as_str(), words[7].as_str())
-}
-
-// Whether the words ask for a run.
-fn is_run(words: &[String]) -> bool
-    ensures { IsTrue result ↔ AsksRun (texts words.now) }
-{
-    words.len() == 2 && is_word(words, 1, "run")
-}
-
-// Whether the words ask for a dump.
-fn is_dump(words: &[String]) -> bool
-    ensures { IsTrue result ↔ AsksDump (texts words.now) }
-{
-    words.len() == 2 && is_word(words, 1, "dump")
-}
-
-/// What the words of a command line ask for, the program's name first.
-pub fn read_words(words: &[String]) -> Option<Command>
-    ensures some { IfSome result (Asks (texts words.now)) }
-    ensures none { IfNone result ((c : Command) → Asks (texts words.now) c → ⊥) }
-{
-    if is_run(words) {
-        return Some(Command::Run);
-    }
-    if is_dump(words) {
+    if name == "dump" {
         return Some(Command::Dump);
     }
-    let shape = read_format(words)?;
-    Some(Command::Format(shape))
+    None
+}
+
+// What the matches ask for.
+fn asked_by(matches: &ArgMatches) -> Option<Command>
+    ensures some { IfSome result (AsksAs (subcommand_rows_of matches.now)) }
+    ensures none { IfNone result ((c : Command) → AsksAs (subcommand_rows_of matches.now) c → ⊥) }
+{
+    let (name, options) = matches.subcommand()?;
+    asked(name, options)
+}
+
+/// What the words of a command line ask for, the program's name first, if they are a command. It fails where memory is refused.
+pub fn read_words(alloc: Global, words: &[String]) -> Result<Option<Command>, AllocError>
+    ensures some { IfOk result (λ o. IfSome o (Asks (texts words.now))) }
+    ensures none { IfOk result (λ o. IfNone o (AsksNothing (texts words.now))) }
+{
+    match lean_line(alloc)?.try_get_matches_from(words) {
+        Ok(matches) => Ok(asked_by(&matches)),
+        Err(error) => match error.kind() {
+            ErrorKind::OutOfMemory => Err(AllocError),
+            _ => Ok(None),
+        },
+    }
 }

@@ -61,14 +61,14 @@ module _ (told : EveryArea) (m : Master) (first last left : MemDisk) (x : IsCutO
   stands : c.image ≡ areas_of (disk_story first) → Ready
   stands same = ready m (inl refl) (subst (IsCleanDisk m) (sym same) x.clean) (inl same)
 
-  by_map : HasMasterOf m (disk_story first) x.feed.left x.ends.put c → RunLeaves m (disk_story first) x.feed.left x.ends.put c → Ready
+  by_map : HasMasterOf x.locks m (disk_story first) x.feed.left x.ends.put c → RunLeaves m (disk_story first) x.feed.left x.ends.put c → Ready
   by_map h leaves = elim leaves [
     | inl u ↦ stands (unwritten_image told first x.areas x.bytes x.feed.left x.ends.put c x.begins u)
     | inr survives ↦ let s : Survives m (disk_story first) x.feed.left x.ends.put c = survives fair in
         ready h.n h.is (subst (λ n. IsCleanDisk n c.image) (one_master h.n s.n (c.image 0) h.counts s.clean.master) s.clean) (inr (c, refl, s))
   ]
 
-  pub ready_by : MasterLeaves m (disk_story first) x.feed.left x.ends.put c → RunLeaves m (disk_story first) x.feed.left x.ends.put c → Ready
+  pub ready_by : MasterLeaves x.locks m (disk_story first) x.feed.left x.ends.put c → RunLeaves m (disk_story first) x.feed.left x.ends.put c → Ready
   ready_by masters leaves = elim masters [
     | inl u ↦ stands (unwritten_image told first x.areas x.bytes x.feed.left x.ends.put c x.begins u)
     | inr h ↦ by_map (h fair) leaves

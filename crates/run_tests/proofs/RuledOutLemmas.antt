@@ -27,15 +27,15 @@ use Rattle.core_state.specs.Events.{Event}
 use Rattle.core_state.specs.States.{State, Worker, start}
 use Rattle.core_state.specs.Steps.{begun, run, state_after}
 use Rattle.core_state.proofs.Runs.{run_more}
-use Rattle.core_calls.specs.Deeds.{Deed, Begun, Committed, Aborted, Refused, Unsaid, answered, asked}
+use Rattle.core_calls.specs.Deeds.{Deed, Begun, Committed, Aborted, Refused, Unsaid, answered, asked, marks_for, marks_of, reads_of}
 use Rattle.core_calls.specs.Fronts.{Done, front}
 use Rattle.core_calls.specs.LogEvents.{RefusedLogs, behind, is_log}
-use Rattle.core_calls.specs.Marks.{Mark, Began, Ended}
+use Rattle.core_calls.specs.Marks.{Mark, Began, Ended, is_half}
 use Rattle.core_calls.specs.Runs.{IsRefused, Tells}
 use Rattle.core_calls.specs.Steps.{IsBehind, hindered_in, is_change_call, is_structure}
-use Rattle.engine_trait.specs.Calls.{Answers}
+use Rattle.engine_trait.specs.Calls.{Answers, is_half_done}
 use Rattle.engine_trait.specs.Limits.{limits}
-use Rattle.engine_trait.specs.Refusals.{log_refusal, refusal_in}
+use Rattle.engine_trait.specs.Refusals.{in_transaction, log_refusal, refusal_in}
 use Rattle.worker_log.specs.Logs.{Log}
 use Rattle.transcripts.specs.Transcripts.{first_lines}
 use Rattle.script_run.specs.Runs.{Executes}
@@ -161,7 +161,7 @@ is_by_one x e = ap (λ (w : ℕ). record { outcome = record { session = w; deed 
 
 -- Where the tests refuse nothing behind its events, no refusal is answered: no latch is spent yet.
 not_refused : (g : Opening) (xs : List Done) (was is : Log) (c : Call) (why : Refusal) (backs : List Step) (us : List Unsaid) (es : List Event) → let x : Done = by_one (Refused c why backs) us es in
-    Answers g xs x was is → Tells limits g 1 xs x → length (front xs) ≤ 2 ^ 18 → refusal_in g (state_after g (front xs ++ es)) is c ≡ None → ⊥
+    Answers g xs x was is → Tells limits g 1 xs x → length (front xs) ≤ 2 ^ 18 → refusal_in g (state_after g (front xs ++ es)) (is_half_done xs) is c ≡ None → ⊥
 not_refused g xs was is c why backs us es a t few none = elim (a.refused why refl) [
   | inl there ↦ let clash : None ≡ Some why = sym none ∙ there in absurd (cc)
   | inr spent ↦
@@ -194,7 +194,15 @@ record HasBegun (g : Opening) (d : Deed) (es : List Event) : Type 0 where
   floor : ℕ
   session : (state_after g es).worker 1 ≡ begun ((start g).worker 1) floor
 
-module _ (master : EveryMasterIn) (s : Story) (base : ℕ) (at : BeginsAt s base) (counts : Counts) (calls : List Done) (y : Executed s counts calls) where
+-- behind a begin no abort is half done
+half_of_begun : (x : Done) → x.outcome.deed ≡ Begun 1 → is_half_done (x ∷ []) ≡ false
+half_of_begun x e = at (x.outcome.session == 1)
+  where
+    at : (b : Bool) → is_half (cond b (marks_for x.outcome ++ []) []) ≡ false
+    at true = ap (λ (d : Deed). is_half ((marks_of d ++ reads_of x.outcome.unsaid) ++ [])) e
+    at false = refl
+
+module _ (master : EveryMasterIn) (s : Story) (locks base : ℕ) (at : BeginsAt s base) (counts : Counts) (calls : List Done) (y : Executed locks s counts calls) where
   abbrev g : Opening
   g = y.opening
 
@@ -225,20 +233,20 @@ module _ (master : EveryMasterIn) (s : Story) (base : ℕ) (at : BeginsAt s base
       ∙ ap (λ (b : Bool). cond b (Some ClockSpent) None) clock)
 
   -- where the session and the log stand as at the start
-  begin_open : (es : List Event) (log : Log) → (state_after g es).worker ≡ (start g).worker → log ≡ y.first → refusal_in g (state_after g es) log call.Begin ≡ None
+  begin_open : (es : List Event) (log : Log) → (state_after g es).worker ≡ (start g).worker → log ≡ y.first → refusal_in g (state_after g es) false log call.Begin ≡ None
   begin_open es log same is =
       ap (λ (r : ℕ → Worker). cond (r 1).is_open (Some InTransaction) (log_refusal (r 1).clock log None)) same ∙ (ap (λ (l : Log). log_refusal g.base l None) is ∙ open_log)
 
   -- as they do behind a begin that is refused
   begin_refused : (d : Call) (why : Refusal) (backs : List Step) (us : List Unsaid) (es : List Event) (before after : Log) → d ≡ call.Begin → Tells limits g 1 [] (by_one (Refused d why backs) us es) → Answers g [] (by_one (Refused d why backs) us es) before after →
-      before ≡ y.first → refusal_in g (state_after g es) after d ≡ None
+      before ≡ y.first → refusal_in g (state_after g es) false after d ≡ None
   begin_refused d why backs us es before after c t a log =
       let calm = t.structure (ap is_change_call c) in
       let none = begin_logs g why (keep is_log es) (subst (λ (e : Call). RefusedLogs limits g [] 1 e why (keep is_log es)) c t.logs) in
       let quiet = still es calm none in
       let steps = tries_none g (start g) es t.met quiet t.steps.2 refl in
       let own = idle_behind a.first a.own (subst AreIdle a.events (idle es calm none steps)) in
-      ap (refusal_in g (state_after g es) after) c
+      ap (refusal_in g (state_after g es) false after) c
       ∙ begin_open es after (same_run g (start g) es quiet steps) (idle_log g (state_after g (front [] ++ a.first)) a.own before after own a.log ∙ log)
 
   begins : (d : Deed) (us : List Unsaid) (es : List Event) (before after : Log) → asked d ≡ call.Begin → Tells limits g 1 [] (by_one d us es) → Answers g [] (by_one d us es) before after → before ≡ y.first → HasBegun g d es
@@ -253,13 +261,14 @@ module _ (master : EveryMasterIn) (s : Story) (base : ℕ) (at : BeginsAt s base
 
   module _ (x : Done) (few : length x.events ≤ 2 ^ 18) (b : HasBegun g x.outcome.deed x.events) where
     -- behind a commit that is refused the transaction is open as before
-    commit_open : (d : Call) (why : Refusal) (backs : List Step) (us : List Unsaid) (es : List Event) (log : Log) → d ≡ call.Commit → Tells limits g 1 (x ∷ []) (by_one (Refused d why backs) us es) → refusal_in g (state_after g (x.events ++ es)) log d ≡ None
+    commit_open : (d : Call) (why : Refusal) (backs : List Step) (us : List Unsaid) (es : List Event) (log : Log) → d ≡ call.Commit → Tells limits g 1 (x ∷ []) (by_one (Refused d why backs) us es) → refusal_in g (state_after g (x.events ++ es)) (is_half_done (x ∷ [])) log d ≡ None
     commit_open d why backs us es log c t =
         let calm = t.structure (ap is_change_call c) in
         let stays = tries_open g (state_after g x.events) es t.met calm t.steps.2 (ap (λ (w : Worker). w.is_open) b.session) in
-        ap (refusal_in g (state_after g (x.events ++ es)) log) c
+        ap (refusal_in g (state_after g (x.events ++ es)) (is_half_done (x ∷ [])) log) c
+        ∙ (ap (λ (half : Bool). in_transaction (state_after g (x.events ++ es)) half None) (half_of_begun x b.deed)
         ∙ (ap (λ (z : State). cond (z.worker 1).is_open None (Some NoTransaction)) (run_more g (start g) x.events es)
-        ∙ ap (λ (o : Bool). cond o None (Some NoTransaction)) stays)
+        ∙ ap (λ (o : Bool). cond o None (Some NoTransaction)) stays))
 
     commits : (d : Deed) (us : List Unsaid) (es : List Event) (was is : Log) → asked d ≡ call.Commit → Tells limits g 1 (x ∷ []) (by_one d us es) → Answers g (x ∷ []) (by_one d us es) was is → d ≡ Committed 1 (suc base)
     commits (Committed n at) us es was is c t a =
@@ -281,16 +290,16 @@ module _ (master : EveryMasterIn) (s : Story) (base : ℕ) (at : BeginsAt s base
       begins x.outcome.deed x.outcome.unsaid x.events h.0 log asks (subst (Tells limits g 1 []) is h.3) (subst (λ (z : Done). Answers g [] z h.0 log) is h.4) h.1
 
 pub every_first_begin : EveryMasterIn → (s : Story) → EveryFirstBegin s
-every_first_begin master s base counts later x at y begin =
+every_first_begin master s locks base counts later x at y begin =
     let h = oldest y.opening y.first later (x ∷ []) y.last y.executes in
-    ap answered (begins_first master s base at counts (later ++ x ∷ []) y x h.0 begin h.1).deed
+    ap answered (begins_first master s locks base at counts (later ++ x ∷ []) y x h.0 begin h.1).deed
 
 pub every_first_commit : EveryMasterIn → (s : Story) → EveryFirstCommit s
-every_first_commit master s base counts later z x at y begin commit =
+every_first_commit master s locks base counts later z x at y begin commit =
     let h = oldest y.opening y.first later (z ∷ x ∷ []) y.last y.executes in
     let first = h.1.1 in
     let calls : List Done = later ++ z ∷ x ∷ [] in
     let is = is_by_one z h.1.2 in
-    let began = begins_first master s base at counts calls y x h.1.0 begin first in
-    ap answered (commits master s base at counts calls y x first.4.few began z.outcome.deed z.outcome.unsaid z.events h.1.0 h.0 commit
+    let began = begins_first master s locks base at counts calls y x h.1.0 begin first in
+    ap answered (commits master s locks base at counts calls y x first.4.few began z.outcome.deed z.outcome.unsaid z.events h.1.0 h.0 commit
     (subst (Tells limits y.opening 1 (x ∷ [])) is h.1.3) (subst (λ (d : Done). Answers y.opening (x ∷ []) d h.1.0 h.0) is h.1.4))

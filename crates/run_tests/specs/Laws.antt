@@ -22,6 +22,7 @@ pub record IsCutOff (m : Master) (first last left : MemDisk) : Type 0 where
   pub sequence : m.sequence + 1 < 2 ^ 62
   pub generation : m.generation + 1 < 2 ^ 62
   -- the run
+  pub locks : ℕ
   pub status : ℕ
   pub feed : Feed
   pub feed_after : Feed
@@ -29,7 +30,7 @@ pub record IsCutOff (m : Master) (first last left : MemDisk) : Type 0 where
   pub held_after : Held
   pub sink : ℕ
   pub sink_after : ℕ
-  pub ends : RunEnds status (disk_story first) (disk_story last) feed feed_after held held_after sink sink_after
+  pub ends : RunEnds locks status (disk_story first) (disk_story last) feed feed_after held held_after sink sink_after
   pub script : IsTrue feed.tells
   pub headline : Headline (disk_story first) (disk_story last) feed.left ends.put
   -- the crash

@@ -1,12 +1,13 @@
 -- What a run can't have done, by what its records say of the disk that it began on.
-use Rattle.std.specs.Prelude.{◌≡◌, ◌⊎◌, ◌<◌, ◌≤◌, ◌+◌, ◌^◌, ◌++◌, ℕ, suc, true, List, [], ◌∷◌, length, Some}
+use Rattle.std.specs.Prelude.{◌≡◌, ◌⊎◌, ◌<◌, ◌≤◌, ◌+◌, ◌^◌, ◌++◌, ℕ, suc, Bool, true, false, List, [], ◌∷◌, length, Some}
 use Rattle.map_model.specs.declared.call.Call.{Call}
 use Rattle.map_model.specs.declared.call.Call.TheVariants as call
 use Rattle.map_model.specs.declared.call.Answer.TheVariants as answer
-use Rattle.map_model.specs.Lists.{Has}
+use Rattle.map_model.specs.Lists.{Has, any}
 use Rattle.map_model.specs.Journals.{Journal, Name, Txn, Wrote}
 use Rattle.core_calls.specs.Deeds.{answered, asked}
 use Rattle.core_calls.specs.Fronts.{Done}
+use Rattle.core_calls.specs.Steps.{is_structure}
 use Rattle.image_model.specs.Entries.{Entry, is_commit}
 use Rattle.image_model.specs.Fair.{IsFair, after_writes}
 use Rattle.image_model.specs.Images.{found, map_of}
@@ -92,27 +93,50 @@ pub record BeginsAt (s : Story) (base : ℕ) : Type 0 where
 
 -- A begin that comes first is answered by number 1: it is not refused, whatever comes later.
 abbrev pub EveryFirstBegin : Story → Type 0
-EveryFirstBegin s = (base : ℕ) (counts : Counts) (later : List Done) (begin : Done) → BeginsAt s base → Executed s counts (later ++ begin ∷ []) → asked begin.outcome.deed ≡ call.Begin →
+EveryFirstBegin s = (locks base : ℕ) (counts : Counts) (later : List Done) (begin : Done) → BeginsAt s base → Executed locks s counts (later ++ begin ∷ []) → asked begin.outcome.deed ≡ call.Begin →
     answered begin.outcome.deed ≡ answer.Begun 1
 
 -- A commit behind it has the number behind the greatest.
 abbrev pub EveryFirstCommit : Story → Type 0
-EveryFirstCommit s = (base : ℕ) (counts : Counts) (later : List Done) (commit begin : Done) → BeginsAt s base → Executed s counts (later ++ commit ∷ begin ∷ []) →
+EveryFirstCommit s = (locks base : ℕ) (counts : Counts) (later : List Done) (commit begin : Done) → BeginsAt s base → Executed locks s counts (later ++ commit ∷ begin ∷ []) →
     asked begin.outcome.deed ≡ call.Begin → asked commit.outcome.deed ≡ call.Commit → answered commit.outcome.deed ≡ answer.Committed 1 (suc base)
 
--- ## Room
+-- ## Calls that were not answered
 
--- a line of the script is a put
-pub record AsksToPut (input : List ℕ) : Type 0 where
+-- a line of the script is such a call
+pub record Asks (Such : Call → Type 0) (input : List ℕ) : Type 0 where
   pub text : List ℕ
   pub has : Has text (script_lines input)
-  pub key : ℕ
-  pub value : ℕ
-  pub spelled : Spells 1 text (record { session = 1; call = call.Put key value })
+  pub call : Call
+  pub spelled : Spells 1 text (record { session = 1; call = call })
+  pub such : Such call
 
--- Where no line is one, a call that was not answered leaves no change of the tree: it loaded pages.
-abbrev pub EveryRoomIsAPuts : Type 0
-EveryRoomIsAPuts = (input : List ℕ) (g : Opening) (heard : List Done) (es : List Event) → IsRoomOfNext input g heard es → (AsksToPut input → ⊥) → AreLoads es
+abbrev pub IsPut : Call → Type 0
+IsPut (call.Put key value) = Unit {0}
+IsPut _ = ⊥
+
+abbrev pub IsDel : Call → Type 0
+IsDel (call.Del key) = Unit {0}
+IsDel _ = ⊥
+
+abbrev pub IsAbort : Call → Type 0
+IsAbort call.Abort = Unit {0}
+IsAbort _ = ⊥
+
+-- a change is put back
+abbrev pub is_back : Event → Bool
+is_back (Event.Put_back w p) = true
+is_back _ = false
+
+-- Where no line is a put, it leaves no change of the tree; where none is an abort, nothing that is put back; and where none is a put, a del or an abort, it
+-- loaded pages.
+pub record StoppedLaws (input : List ℕ) (es : List Event) : Type 0 where
+  pub structure : (Asks IsPut input → ⊥) → any is_structure es ≡ false
+  pub backs : (Asks IsAbort input → ⊥) → any is_back es ≡ false
+  pub loads : (Asks IsPut input → ⊥) → (Asks IsDel input → ⊥) → (Asks IsAbort input → ⊥) → AreLoads es
+
+abbrev pub EveryStoppedCall : Type 0
+EveryStoppedCall = (input : List ℕ) (g : Opening) (heard : List Done) (es : List Event) → IsRoomOfNext input g heard es → StoppedLaws input es
 
 -- ## What a disk holds
 

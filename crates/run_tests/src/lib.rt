@@ -5,7 +5,7 @@ ghost use Rattle.std.specs.Prelude.{codes};
 ghost use Rattle.disk_slots.specs.Slots as slots;
 ghost use Rattle.log_block.specs.Block as blocks;
 ghost use Rattle.run_tests.specs.Laws.{EveryNextRun};
-ghost use Rattle.run_tests.specs.RuledOut.{EveryDurableIsFound, EveryFirstBegin, EveryFirstCommit, EveryKeyStands, EveryOtherKeyStands, EveryReadIsFair, EveryRoomIsAPuts};
+ghost use Rattle.run_tests.specs.RuledOut.{EveryDurableIsFound, EveryFirstBegin, EveryFirstCommit, EveryKeyStands, EveryOtherKeyStands, EveryReadIsFair, EveryStoppedCall};
 
 use lean_disk::Disk;
 
@@ -46,9 +46,9 @@ pub fn every_first_commit<D: Disk>(disk: &D)
     disk_image::every_master_in();
 }
 
-/// Where no line of the script is a put, a call that was not answered leaves no change of the tree.
-pub fn every_room_is_a_puts()
-    ensures { EveryRoomIsAPuts }
+/// What a call that was not answered leaves is what a line of the script may do: only a put changes the tree, and only an abort puts back.
+pub fn every_stopped_call()
+    ensures { EveryStoppedCall }
 {}
 
 /// What an area holds after writes of any places and lengths in it is a fair image.
@@ -62,6 +62,8 @@ pub fn every_read_is_fair()
 mod cases;
 #[cfg(test)]
 mod dumps;
+#[cfg(test)]
+mod random;
 #[cfg(test)]
 mod rows;
 #[cfg(test)]

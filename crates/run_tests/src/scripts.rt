@@ -224,6 +224,115 @@ pub(crate) static SIX_MAPS: [&str; 6] = [
     "pair 1 51\npair 2 12\npair 3 53\nend\n",
 ];
 
+/// Dels and an abort, on a new disk: a transaction is committed, the next one is aborted, one more is committed, and the last one is open at
+/// the end. A commit writes one block, in which all records since the commit before are.
+pub(crate) static ABORT: Script = Script {
+    command: &["lean", "run"],
+    text: "1 begin\n1 put 5 7\n1 commit\n1 begin\n1 del 5\n1 put 6 8\n1 put 6 9\n1 abort\n1 begin\n1 del 5\n1 put 7 3\n1 commit\n1 begin\n1 put 5 1\n1 del 7\n",
+    lines: "open 1 winners 0 undone 0\n1 begun 1.1\n1 was none\n1 committed 1.1 at 2\n1 durable 1.1\n1 begun 1.2\n1 was 7\n1 was none\n1 was 8\n1 aborted 1.2\n1 begun 1.3\n1 was 7\n1 was none\n1 committed 1.3 at 12\n1 durable 1.3\n1 begun 1.4\n1 was none\n1 was 3\n",
+    next: "1 begin\n1 get 5\n1 get 6\n1 get 7\n",
+    finds: &[
+        find!(
+            "open 1 winners 0 undone 0\n1 begun 1.1\n1 none\n1 none\n1 none\n",
+            0,
+            0,
+            1
+        ),
+        find!(
+            "open 2 winners 0 undone 0\n1 begun 1.1\n1 none\n1 none\n1 none\n",
+            0,
+            0,
+            5
+        ),
+        find!(
+            "open 2 winners 1 undone 0\n1 begun 1.1\n1 value 7\n1 none\n1 none\n",
+            1,
+            3,
+            15
+        ),
+        find!(
+            "open 2 winners 2 undone 0\n1 begun 1.1\n1 none\n1 none\n1 value 3\n",
+            2,
+            13,
+            MANY
+        ),
+    ],
+    sweeps: &[
+        sweep!("ABORT, no bytes", NoBytes, 1, [41, 5, 12, 6]),
+        sweep!("ABORT, all bytes", AllBytes, 1, [40, 5, 12, 7]),
+        sweep!("ABORT, halves", FirstHalf, 1, [41, 5, 12, 6]),
+        sweep!("ABORT, zeros", Zeros, 1, [41, 5, 12, 6]),
+    ],
+    failures: &[
+        faults!("ABORT, masters", 0, 5, 0, [18, 2, 0, 0]),
+        faults!("ABORT, pages", 1, 34, 0, [136, 0, 0, 0]),
+        faults!("ABORT, log", 2, 6, 13, [8, 6, 8, 2]),
+    ],
+};
+
+/// Its dumps.
+pub(crate) static ABORT_MAPS: [&str; 3] = ["end\n", "pair 5 7\nend\n", "pair 7 3\nend\n"];
+
+/// An abort of 38 changes, of which one is a del. A block has room for 37 changes or put-backs: the first one is written before the last
+/// change is answered, the next one among the put-backs, and the third by the commit behind the abort. Where all bytes of the first are left,
+/// and not the third, the transaction is undone.
+pub(crate) static LONG_ABORT: Script = Script {
+    command: &["lean", "run"],
+    text: "1 begin\n1 put 5 7\n1 commit\n1 begin\n1 del 5\n1 put 6 1\n1 put 6 2\n1 put 6 3\n1 put 6 4\n1 put 6 5\n1 put 6 6\n1 put 6 7\n1 put 6 8\n1 put 6 9\n1 put 6 10\n1 put 6 11\n1 put 6 12\n1 put 6 13\n1 put 6 14\n1 put 6 15\n1 put 6 16\n1 put 6 17\n1 put 6 18\n1 put 6 19\n1 put 6 20\n1 put 6 21\n1 put 6 22\n1 put 6 23\n1 put 6 24\n1 put 6 25\n1 put 6 26\n1 put 6 27\n1 put 6 28\n1 put 6 29\n1 put 6 30\n1 put 6 31\n1 put 6 32\n1 put 6 33\n1 put 6 34\n1 put 6 35\n1 put 6 36\n1 put 6 37\n1 abort\n1 begin\n1 put 7 3\n1 commit\n",
+    lines: "open 1 winners 0 undone 0\n1 begun 1.1\n1 was none\n1 committed 1.1 at 2\n1 durable 1.1\n1 begun 1.2\n1 was 7\n1 was none\n1 was 1\n1 was 2\n1 was 3\n1 was 4\n1 was 5\n1 was 6\n1 was 7\n1 was 8\n1 was 9\n1 was 10\n1 was 11\n1 was 12\n1 was 13\n1 was 14\n1 was 15\n1 was 16\n1 was 17\n1 was 18\n1 was 19\n1 was 20\n1 was 21\n1 was 22\n1 was 23\n1 was 24\n1 was 25\n1 was 26\n1 was 27\n1 was 28\n1 was 29\n1 was 30\n1 was 31\n1 was 32\n1 was 33\n1 was 34\n1 was 35\n1 was 36\n1 aborted 1.2\n1 begun 1.3\n1 was none\n1 committed 1.3 at 81\n1 durable 1.3\n",
+    next: "1 begin\n1 get 5\n1 get 6\n1 get 7\n",
+    finds: &[
+        find!(
+            "open 1 winners 0 undone 0\n1 begun 1.1\n1 none\n1 none\n1 none\n",
+            0,
+            0,
+            1
+        ),
+        find!(
+            "open 2 winners 0 undone 0\n1 begun 1.1\n1 none\n1 none\n1 none\n",
+            0,
+            0,
+            5
+        ),
+        find!(
+            "open 2 winners 1 undone 0\n1 begun 1.1\n1 value 7\n1 none\n1 none\n",
+            1,
+            3,
+            49
+        ),
+        find!(
+            "open 2 winners 1 undone 1\n1 begun 1.1\n1 value 7\n1 none\n1 none\n",
+            1,
+            43,
+            49
+        ),
+        find!(
+            "open 2 winners 2 undone 0\n1 begun 1.1\n1 value 7\n1 none\n1 value 3\n",
+            2,
+            47,
+            MANY
+        ),
+    ],
+    sweeps: &[
+        sweep!("LONG_ABORT, no bytes", NoBytes, 1, [41, 5, 48, 0, 3]),
+        sweep!("LONG_ABORT, all bytes", AllBytes, 1, [40, 5, 42, 6, 4]),
+        sweep!("LONG_ABORT, halves", FirstHalf, 1, [41, 5, 48, 0, 3]),
+        sweep!("LONG_ABORT, zeros", Zeros, 1, [41, 5, 48, 0, 3]),
+    ],
+    failures: &[
+        faults!("LONG_ABORT, masters", 0, 5, 0, [18, 2, 0, 0, 0]),
+        faults!("LONG_ABORT, pages", 1, 34, 0, [136, 0, 0, 0, 0]),
+        faults!("LONG_ABORT, log", 2, 8, 47, [8, 6, 14, 2, 2]),
+    ],
+};
+
+/// Its dumps.
+pub(crate) static LONG_ABORT_MAPS: [&str; 3] = [
+    "end\n",
+    "pair 5 7\nend\n",
+    "pair 5 7\npair 7 3\nend\n",
+];
+
 /// Two transactions. One puts key 5 and commits. The next one puts it too, and key 6 37 times. A block has room for 37 changes, so the
 /// block of its first 37 is written.
 pub(crate) const TWO_TEXT: &str =

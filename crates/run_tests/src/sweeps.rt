@@ -5,8 +5,8 @@ use crate::runs::{
     failing, formatted, run_command, run_into, run_script,
 };
 use crate::scripts::{
-    Crashes, DUMP, Failures, Find, OPENING, PUT, PUT_MAPS, SIX, SIX_MAPS, SPLITS, Script, Sweep,
-    TWO_MAPS, TWO_TEXT,
+    ABORT, ABORT_MAPS, Crashes, DUMP, Failures, Find, LONG_ABORT, LONG_ABORT_MAPS, OPENING, PUT,
+    PUT_MAPS, SIX, SIX_MAPS, SPLITS, Script, Sweep, TWO_MAPS, TWO_TEXT,
 };
 use crate::trees::{grown, maps_of_splits};
 use lean_disk::{Choice, MemDisk};
@@ -244,6 +244,15 @@ fn what_six_transactions_told_is_kept(rt: HostRuntime) {
         &new,
         &copies_of(&rt, rt.alloc(), &SIX_MAPS),
     );
+}
+
+#[test]
+fn what_dels_and_aborts_told_is_kept(rt: HostRuntime) {
+    let new = formatted(&rt, rt.alloc(), &FORMAT);
+    let maps = copies_of(&rt, rt.alloc(), &ABORT_MAPS);
+    go(&rt, rt.alloc(), &ABORT, &new, &maps);
+    let maps = copies_of(&rt, rt.alloc(), &LONG_ABORT_MAPS);
+    go(&rt, rt.alloc(), &LONG_ABORT, &new, &maps);
 }
 
 #[test]

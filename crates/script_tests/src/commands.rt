@@ -52,6 +52,19 @@ pub(crate) fn run_words<R: Threads + Wait + Sync>(
     Ok(Outcome { status, disk, sink })
 }
 
+/// Runs a command of these words that reads no script.
+pub(crate) fn run_list<R: Threads + Wait + Sync>(
+    rt: &R,
+    alloc: Global,
+    words: &[String],
+    disk: MemDisk,
+    mut sink: MemSink,
+) -> Result<Outcome, AllocError> {
+    let mut source = MemSource::new(alloc, b"", 1)?;
+    let Ended { status, disk } = run(rt, alloc, words, &mut source, &mut sink, disk, &Open);
+    Ok(Outcome { status, disk, sink })
+}
+
 /// Runs a command that reads no script, into this sink.
 pub(crate) fn run_alone<R: Threads + Wait + Sync>(
     rt: &R,
@@ -71,49 +84,6 @@ pub(crate) fn formatted<R: Threads + Wait + Sync>(
     let disk = MemDisk::new(alloc, 3)?;
     let disk = run_alone(rt, alloc, FORMAT, disk, MemSink::new(alloc))?.disk;
     disk.crash(disk.moment(), Choice::AllBytes)
-}
-
-// None of them is a command.
-static OTHER_WORDS: [&str; 26] = [
-    "",
-    "lean",
-    "lean run 1",
-    "lean run --frames 32",
-    "lean Run",
-    "lean dump x",
-    "lean Dump",
-    "lean dump ",
-    "lean --help",
-    "lean format --help",
-    "lean format --workers 0 --pages 64 --blocks 64",
-    "lean format --workers 2 --pages 64 --blocks 64",
-    "lean format --workers 01 --pages 64 --blocks 64",
-    "lean format --pages 64 --workers 1 --blocks 64",
-    "lean format --workers 1 --pages 64 --blocks",
-    "lean format --workers 1 --pages 64 --blocks 64 64",
-    "lean format --workers 1 --pages 15 --blocks 64",
-    "lean format --workers 1 --pages 4097 --blocks 64",
-    "lean format --workers 1 --pages 64 --blocks 63",
-    "lean format --workers 1 --pages 64 --blocks 4097",
-    "lean format --workers 1 --pages +64 --blocks 64",
-    "lean format --workers 1 --pages -64 --blocks 64",
-    "lean format --workers 1 --pages 064 --blocks 64",
-    "lean format --workers 1 --pages 4294967360 --blocks 64",
-    "lean format --workers 1 --pages  --blocks 64",
-    "lean format --workers=1 --pages=64 --blocks=64",
-];
-
-const USAGE: &[u8] = b"lean: usage\n";
-
-// Whether the words end as ones that are no command, and leave the disk.
-fn is_no_command<R: Threads + Wait + Sync>(
-    rt: &R,
-    alloc: Global,
-    words: &str,
-) -> Result<bool, AllocError> {
-    let disk = MemDisk::new(alloc, 3)?;
-    let done = run_alone(rt, alloc, words, disk, MemSink::new(alloc))?;
-    Ok(done.status == 2 && done.sink.bytes() == USAGE && done.disk.bytes(1).is_empty())
 }
 
 // Whether a format whose line does not go out, and one behind it, end with their statuses.
@@ -173,13 +143,6 @@ static FORMATTED: [(&str, Choice, u32); 4] = [
     ("crashes that leave halves", Choice::FirstHalf, 2),
     ("crashes that leave zeros", Choice::Zeros, 2),
 ];
-
-#[test]
-fn other_words_are_no_command(rt: HostRuntime) {
-    for words in &OTHER_WORDS {
-        expect(&rt, words, is_no_command(&rt, rt.alloc(), words));
-    }
-}
 
 #[test]
 fn a_format_that_fails_or_crashes_leaves_no_master_or_a_whole_disk(rt: HostRuntime) {

@@ -15,3 +15,5 @@ mod programs;
 mod rows;
 #[cfg(test)]
 mod scripts;
+#[cfg(test)]
+mod words;

@@ -87,7 +87,7 @@ const PUT: &str = "1 begin;1 put 5 7;1 commit;";
 const PUT_LINES: &str =
     "open 1 winners 0 undone 0;1 begun 1.1;1 was none;1 committed 1.1 at 2;1 durable 1.1;";
 
-static CASES: [Case; 14] = [
+static CASES: [Case; 19] = [
     Case {
         name: "a new disk holds every page and the first master",
         left_out: None,
@@ -282,6 +282,111 @@ static CASES: [Case; 14] = [
                     Text("open 1 winners 0 undone 0;1 begun 1.1;1 was none;", 1, 1),
                     Text("1 was #;", 1, 63),
                     Text("1 too-long;1 committed 1.1 at 65;1 durable 1.1;", 1, 1),
+                ]),
+            },
+        ],
+        leaves: None,
+    },
+    Case {
+        name: "a del of a key, of one that is absent, and a put behind it",
+        left_out: None,
+        runs: &[
+            FORMATTED,
+            script!(
+                "1 begin;1 del 5;1 put 5 7;1 get 5;1 del 5;1 get 5;1 del 5;1 put 5 8;1 get 5;1 put 6 9;1 commit;",
+                0,
+                "open 1 winners 0 undone 0;1 begun 1.1;1 was none;1 was none;1 value 7;1 was 7;1 none;1 was none;1 was none;1 value 8;1 was none;1 committed 1.1 at 5;1 durable 1.1;"
+            ),
+            script!(
+                "1 begin;1 del 5;1 get 5;1 commit;",
+                0,
+                "open 2 winners 1 undone 0;1 begun 1.1;1 was 8;1 none;1 committed 1.1 at 7;1 durable 1.1;"
+            ),
+            script!(
+                "1 begin;1 get 5;1 get 6;1 del 5;1 commit;",
+                0,
+                "open 3 winners 1 undone 0;1 begun 1.1;1 none;1 value 9;1 was none;1 committed 1.1 at 8;1 durable 1.1;"
+            ),
+            Run {
+                command: Command::Dump,
+                script: Lines::Once(""),
+                status: 0,
+                printed: Lines::Once("pair 6 9;end;"),
+            },
+        ],
+        leaves: None,
+    },
+    Case {
+        name: "an abort of several changes of one key",
+        left_out: None,
+        runs: &[
+            FORMATTED,
+            script!(
+                "1 begin;1 put 5 1;1 commit;1 begin;1 put 5 2;1 del 5;1 put 5 3;1 put 6 9;1 abort;1 begin;1 get 5;1 get 6;1 commit;",
+                0,
+                "open 1 winners 0 undone 0;1 begun 1.1;1 was none;1 committed 1.1 at 2;1 durable 1.1;1 begun 1.2;1 was 1;1 was 2;1 was none;1 was none;1 aborted 1.2;1 begun 1.3;1 value 1;1 none;1 committed 1.3 at 12;1 durable 1.3;"
+            ),
+            script!(
+                "1 begin;1 get 5;1 get 6;",
+                0,
+                "open 2 winners 2 undone 0;1 begun 1.1;1 value 1;1 none;"
+            ),
+            Run {
+                command: Command::Dump,
+                script: Lines::Once(""),
+                status: 0,
+                printed: Lines::Once("pair 5 1;end;"),
+            },
+        ],
+        leaves: None,
+    },
+    Case {
+        name: "an abort of nothing",
+        left_out: None,
+        runs: &[
+            FORMATTED,
+            script!(
+                "1 begin;1 abort;1 begin;1 get 5;1 del 5;1 abort;1 begin;1 commit;",
+                0,
+                "open 1 winners 0 undone 0;1 begun 1.1;1 aborted 1.1;1 begun 1.2;1 none;1 was none;1 aborted 1.2;1 begun 1.3;1 committed 1.3 at 3;1 durable 1.3;"
+            ),
+        ],
+        leaves: None,
+    },
+    Case {
+        name: "dels and aborts that are refused",
+        left_out: None,
+        runs: &[
+            FORMATTED,
+            script!(
+                "1 del 5;1 abort;1 begin;1 put 5 7;1 abort;1 abort;1 del 5;1 begin;1 begin;1 del 5;1 commit;1 abort;1 del 5;",
+                0,
+                "open 1 winners 0 undone 0;1 no-transaction;1 no-transaction;1 begun 1.1;1 was none;1 aborted 1.1;1 no-transaction;1 no-transaction;1 begun 1.2;1 in-transaction;1 was none;1 committed 1.2 at 4;1 durable 1.2;1 no-transaction;1 no-transaction;"
+            ),
+        ],
+        leaves: None,
+    },
+    Case {
+        name: "64 changes are undone, and a del is a change",
+        left_out: None,
+        runs: &[
+            FORMATTED,
+            Run {
+                command: Command::Run,
+                script: Lines::Many(&[
+                    Text("1 begin;", 1, 1),
+                    Text("1 put 5 #;1 del 5;", 1, 32),
+                    Text("1 del 5;1 put 5 1;1 abort;1 begin;1 get 5;1 commit;", 1, 1),
+                ]),
+                status: 0,
+                printed: Lines::Many(&[
+                    Text("open 1 winners 0 undone 0;1 begun 1.1;", 1, 1),
+                    Text("1 was none;1 was #;", 1, 32),
+                    Text(
+                        "1 too-long;1 too-long;1 aborted 1.1;1 begun 1.2;1 none;1 committed 1.2 at 130;1 durable 1.2;",
+                        1,
+                        1,
+                    ),
                 ]),
             },
         ],

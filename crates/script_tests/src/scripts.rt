@@ -20,7 +20,7 @@ struct Case {
     printed: &'static [u8],
 }
 
-static CASES: [Case; 4] = [
+static CASES: [Case; 5] = [
     Case {
         name: "each line is answered up to a refused one",
         script: b"1 begin\n1 get 5\n1 put 5 7\n1 put 5 8\n1 commit\n1 begin\n1 get 5\n1 begin\n1 drop 5\n1 get 5\n",
@@ -28,6 +28,14 @@ static CASES: [Case; 4] = [
         failing_puts: &[],
         stop: Stop::Refused { line: 9 },
         printed: b"1 begun 1.1\n1 none\n1 was none\n1 was 7\n1 committed 1.1 at 3\n1 durable 1.1\n1 begun 1.2\n1 value 8\n1 in-transaction\n",
+    },
+    Case {
+        name: "an abort undoes a put and a del",
+        script: b"1 begin\n1 put 5 7\n1 commit\n1 begin\n1 put 6 1\n1 del 5\n1 get 5\n1 abort\n1 begin\n1 get 5\n1 get 6\n",
+        failing_reads: &[],
+        failing_puts: &[],
+        stop: Stop::End,
+        printed: b"1 begun 1.1\n1 was none\n1 committed 1.1 at 2\n1 durable 1.1\n1 begun 1.2\n1 was none\n1 was 7\n1 none\n1 aborted 1.2\n1 begun 1.3\n1 value 7\n1 none\n",
     },
     Case {
         name: "the last line may lack its newline",

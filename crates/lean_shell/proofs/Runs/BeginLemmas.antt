@@ -43,13 +43,13 @@ next_of_run m n base e = record {
   sequence = let q : n.sequence ≡ suc m.sequence = ap (λ (x : Master). x.sequence) e in omega arith;
 }
 
-module _ (r : Recovered) (s0 sa : Story) (g : Opening) (first : Log) (x : IsRecoveredTo r s0 sa g first) where
+module _ (locks : ℕ) (r : Recovered) (s0 sa : Story) (g : Opening) (first : Log) (x : IsRecoveredTo locks r s0 sa g first) where
   -- on a clean disk
   module _ (m : Master) (is : IsRecovered m (areas_of s0) r) (o : IsOpened m (areas_of s0) r sa) (b : BeginsBy m r s0 sa g first) where
     low : (p : ℕ) → p < r.master.pages → p < m.pages
     low p lt = let e = ap (λ (y : Master). y.pages) is.master in omega arith
 
-    begins : Begins m s0 sa g first
+    begins : Begins locks m s0 sa g first
     begins = record {
       n = r.master;
       begun = record {
@@ -84,9 +84,9 @@ module _ (r : Recovered) (s0 sa : Story) (g : Opening) (first : Log) (x : IsReco
       ∙ ap (first_log m) floor)
 
 pub every_beginning : (s0 sa : Story) → EveryBeginning s0 sa
-every_beginning s0 sa r g first x = record {
+every_beginning s0 sa locks r g first x = record {
   of_one = x.of_one;
   from = x.from;
-  log = log r s0 sa g first x;
-  begins = λ m tells clean. begins r s0 sa g first x m (recovered r s0 sa g first x tells m clean.master) (x.opened tells m clean) (x.begins tells m clean);
+  log = log locks r s0 sa g first x;
+  begins = λ m tells clean. begins locks r s0 sa g first x m (recovered locks r s0 sa g first x tells m clean.master) (x.opened tells m clean) (x.begins tells m clean);
 }

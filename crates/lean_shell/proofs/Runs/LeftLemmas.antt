@@ -14,7 +14,7 @@ use Rattle.map_model.specs.Maps.{Map}
 use Rattle.map_model.specs.Outputs.{Reply}
 use Rattle.map_model.specs.Pairings.{in_turn, script_of}
 use Rattle.map_model.specs.Transcripts as model
-use Rattle.map_model.specs.Transcripts.{Line, Told, journal, lines_in, lines_of, lines_onto, told_onto, txn_of}
+use Rattle.map_model.specs.Transcripts.{Line, Told, journal, lines_in, lines_of, told_onto, txn_of}
 use Rattle.image_model.specs.Ends.{reach, wins}
 use Rattle.image_model.specs.Entries.{Contents, Entry, is_commit}
 use Rattle.image_model.specs.Fair.{IsFair}
@@ -46,6 +46,7 @@ use Rattle.script_lang.specs.Replies.{reply_line}
 use Rattle.transcripts.specs.Laws.{TellsInTurn}
 use Rattle.transcripts.specs.Told.{ask, asked_lines, Heard}
 use Rattle.transcripts.specs.Transcripts.{first_lines, transcript}
+use Rattle.transcripts.proofs.AbortLemmas.{lines_more}
 use Rattle.lean_shell.specs.Headline.{IsInHand, Survives}
 use Rattle.lean_shell.specs.Inside.Laws.{Laws}
 use Rattle.lean_shell.specs.Inside.Lefts.{AsksNext, EveryLeft, IsBegun, Lives, WasOut}
@@ -56,10 +57,6 @@ use Rattle.lean_shell.proofs.Runs.FoundLemmas.{IsBounded, bounded}
 use Rattle.lean_shell.proofs.Runs.PrintedLemmas.{HasOutcome, heard_lines, next_is, next_tells, replies_are, tells_first, with_outcome}
 
 -- ## The transaction in hand
-
-lines_more : (h : List Line) (xs : List Answered) (x : Answered) → lines_onto h (xs ++ x ∷ []) ≡ record { place = length (lines_onto h xs); said = x } ∷ lines_onto h xs
-lines_more h [] x = refl
-lines_more h (y ∷ ys) x = lines_more (record { place = length h; said = y } ∷ h) ys x
 
 -- that of an outcome, behind others
 abbrev own_of : Outcome → List Outcome → (number at : ℕ) → Txn
@@ -83,7 +80,7 @@ some_is x y e = cc
 
 -- ## A crash
 
-module _ (laws : Laws) (m : Master) (s0 sa : Story) (g : Opening) (n1 : Master) (b : IsBegun m s0 sa g n1) (xs : List Done) (each : EachTells limits g 1 xs) (c0 : Crash) (input put : List ℕ) (generation winners undone : ℕ)
+module _ (locks : ℕ) (laws : Laws) (m : Master) (s0 sa : Story) (g : Opening) (n1 : Master) (b : IsBegun locks m s0 sa g n1) (xs : List Done) (each : EachTells limits g 1 xs) (c0 : Crash) (input put : List ℕ) (generation winners undone : ℕ)
     (d : Crash) (Such : Opening → List Done → List Event → Type 0) (o : WasOut (Such g) g xs c0 m s0 sa input put generation winners undone d) where
   abbrev c : Crash
   c = o.crash
@@ -276,7 +273,7 @@ module _ (laws : Laws) (m : Master) (s0 sa : Story) (g : Opening) (n1 : Master) 
     next : IsNextOf m (areas_of s0) r.n
     next = subst (IsNextOf m (areas_of s0)) (sym n_is) b.next
 
-    left : IsLeft Such m s0 input put (with_bytes o.crash.image)
+    left : IsLeft locks Such m s0 input put (with_bytes o.crash.image)
     left = record {
       lines = o.lines;
       notes = o.notes;
@@ -304,8 +301,8 @@ module _ (laws : Laws) (m : Master) (s0 sa : Story) (g : Opening) (n1 : Master) 
       records = found_is ∙ h.holds.entries;
     }
 
-    left_there : IsLeft Such m s0 input put d
-    left_there = subst (λ (i : Areas). IsLeft Such m s0 input put (with_bytes i)) (sym (fun_ext o.same.image)) left
+    left_there : IsLeft locks Such m s0 input put d
+    left_there = subst (λ (i : Areas). IsLeft locks Such m s0 input put (with_bytes i)) (sym (fun_ext o.same.image)) left
 
     survives_there : Survives m s0 input put d
     survives_there = subst (λ (i : Areas). Survives m s0 input put (with_bytes i)) (sym (fun_ext o.same.image)) survives
@@ -314,21 +311,21 @@ module _ (laws : Laws) (m : Master) (s0 sa : Story) (g : Opening) (n1 : Master) 
   pub survives_now : Recovers g (Such g) o.left.heard (next_of o.left.unheard) o.left.out m o.crash.image → Survives m s0 input put d
   survives_now r = survives_there r
 
-  pub left_now : Recovers g (Such g) o.left.heard (next_of o.left.unheard) o.left.out m o.crash.image → IsLeft Such m s0 input put d
+  pub left_now : Recovers g (Such g) o.left.heard (next_of o.left.unheard) o.left.out m o.crash.image → IsLeft locks Such m s0 input put d
   left_now r = left_there r
 
 -- where a put may have been stopped
-module _ (laws : Laws) (m : Master) (s0 sa : Story) (g : Opening) (n1 : Master) (b : IsBegun m s0 sa g n1) (xs : List Done) (each : EachTells limits g 1 xs) (c0 : Crash) (input put : List ℕ) (generation winners undone : ℕ)
+module _ (locks : ℕ) (laws : Laws) (m : Master) (s0 sa : Story) (g : Opening) (n1 : Master) (b : IsBegun locks m s0 sa g n1) (xs : List Done) (each : EachTells limits g 1 xs) (c0 : Crash) (input put : List ℕ) (generation winners undone : ℕ)
     (d : Crash) (o : WasOut (IsRoomOfNext input g) g xs c0 m s0 sa input put generation winners undone d) where
   module _ (r : Recovers g (IsRoomOfNext input g) o.left.heard (next_of o.left.unheard) o.left.out m o.crash.image) where
-    lives : Lives m s0 input put d
+    lives : Lives locks m s0 input put d
     lives =
-        let l = left_now laws m s0 sa g n1 b xs each c0 input put generation winners undone d (IsRoomOfNext input) o r in
-        record { survives = survives_now laws m s0 sa g n1 b xs each c0 input put generation winners undone d (IsRoomOfNext input) o r; master = record { n = l.n; counts = l.counts; is = inr l.next; left = inr l } }
+        let l = left_now locks laws m s0 sa g n1 b xs each c0 input put generation winners undone d (IsRoomOfNext input) o r in
+        record { survives = survives_now locks laws m s0 sa g n1 b xs each c0 input put generation winners undone d (IsRoomOfNext input) o r; master = record { n = l.n; counts = l.counts; is = inr l.next; left = inr l } }
 
-  pub lives_as : EveryFair s0 → IsAsRead s0 c0 → IsFairCrash (length m.heads) s0 d → Lives m s0 input put d
-  lives_as fair_law read fair = lives (o.left.recovers (fair_from laws m s0 sa g n1 b xs each c0 input put generation winners undone d (IsRoomOfNext input) o fair_law read fair))
+  pub lives_as : EveryFair s0 → IsAsRead s0 c0 → IsFairCrash (length m.heads) s0 d → Lives locks m s0 input put d
+  lives_as fair_law read fair = lives (o.left.recovers (fair_from locks laws m s0 sa g n1 b xs each c0 input put generation winners undone d (IsRoomOfNext input) o fair_law read fair))
 
 pub every_left : Laws → (s0 sa : Story) → EveryFair s0 → EveryLeft s0 sa
-every_left laws s0 sa fair_law m n g xs c0 b each read input put generation winners undone d o fair =
-    lives_as laws m s0 sa g n b xs each c0 input put generation winners undone d o fair_law read fair
+every_left laws s0 sa fair_law locks m n g xs c0 b each read input put generation winners undone d o fair =
+    lives_as locks laws m s0 sa g n b xs each c0 input put generation winners undone d o fair_law read fair

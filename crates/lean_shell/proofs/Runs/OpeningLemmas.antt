@@ -11,7 +11,7 @@ use Rattle.lean_shell.specs.Inside.Begins.{BeginsBy, HasStarted, began}
 use Rattle.lean_shell.specs.Runs.{Counts, IsFrom}
 use Rattle.lean_shell.proofs.Runs.BeginLemmas.{every_beginning}
 
-module _ (s0 sa : Story) (v : View) (log : Log) (generation won lost : ℕ) (o : HasOpened 256 s0 sa v log generation won lost) where
+module _ (locks : ℕ) (s0 sa : Story) (v : View) (log : Log) (generation won lost : ℕ) (o : HasOpened locks s0 sa v log generation won lost) where
   abbrev pub counts : Counts
   counts = record { generation = generation; winners = won; undone = lost }
 
@@ -38,8 +38,8 @@ module _ (s0 sa : Story) (v : View) (log : Log) (generation won lost : ℕ) (o :
         stands = at.stands;
       }
 
-  pub started : HasStarted s0 sa o.opening log counts
-  started = subst (HasStarted s0 sa o.opening log) same (every_beginning s0 sa o.recovered o.opening log (record {
+  pub started : HasStarted locks s0 sa o.opening log counts
+  started = subst (HasStarted locks s0 sa o.opening log) same (every_beginning s0 sa locks o.recovered o.opening log (record {
     answer = o.is.answer;
     opened = o.is.opened;
     log_is = o.made.is;

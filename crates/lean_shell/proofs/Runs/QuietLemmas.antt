@@ -20,13 +20,13 @@ use Rattle.lean_shell.specs.Crashes.{IsUnwritten, MasterLeaves}
 use Rattle.lean_shell.specs.Headline.{RunLeaves}
 use Rattle.lean_shell.specs.Inside.Lefts.{IsSameBut, Lives, LivesOn}
 
-pub run_leaves : (m : Master) (s : Story) (input put : List ℕ) (c : Crash) → LivesOn m s input put c → RunLeaves m s input put c
-run_leaves m s input put c (inl u) = inl u
-run_leaves m s input put c (inr l) = inr (λ fair. (l fair).survives)
+pub run_leaves : (locks : ℕ) (m : Master) (s : Story) (input put : List ℕ) (c : Crash) → LivesOn locks m s input put c → RunLeaves m s input put c
+run_leaves locks m s input put c (inl u) = inl u
+run_leaves locks m s input put c (inr l) = inr (λ fair. (l fair).survives)
 
-pub master_leaves : (m : Master) (s : Story) (input put : List ℕ) (c : Crash) → LivesOn m s input put c → MasterLeaves m s input put c
-master_leaves m s input put c (inl u) = inl u
-master_leaves m s input put c (inr l) = inr (λ fair. (l fair).master)
+pub master_leaves : (locks : ℕ) (m : Master) (s : Story) (input put : List ℕ) (c : Crash) → LivesOn locks m s input put c → MasterLeaves locks m s input put c
+master_leaves locks m s input put c (inl u) = inl u
+master_leaves locks m s input put c (inr l) = inr (λ fair. (l fair).master)
 
 -- what the disk shows is by the same master or the next one
 made_of : (m n : Master) (area image : Areas) → ShowsStill m area n image → (n ≡ m) ⊎ IsNextOf m area n
@@ -40,7 +40,7 @@ of_run m n same = ⊎_elim
     (λ (e : (n.sequence ≡ suc m.sequence) × (n.generation ≡ suc m.generation)). record { pages = same.pages; blocks = same.blocks; logs = same.logs; generation = inr e.1; sequence = let q : n.sequence ≡ suc m.sequence = e.0 in omega arith })
     same.numbers
 
-module _ (m : Master) (s : Story) (clean : IsCleanDisk m (areas_of s)) (input put : List ℕ) (lines : ℕ) (quiet : IsQuiet 1 input (first_lines lines put)) where
+module _ (locks : ℕ) (m : Master) (s : Story) (clean : IsCleanDisk m (areas_of s)) (input put : List ℕ) (lines : ℕ) (quiet : IsQuiet 1 input (first_lines lines put)) where
   unwritten : (c d : Crash) → IsSameBut c d → d.notes ≡ s.notes + lines → AsAt s c → IsUnwritten s input put d
   unwritten c d same notes at = record {
     lines = lines;
@@ -50,7 +50,7 @@ module _ (m : Master) (s : Story) (clean : IsCleanDisk m (areas_of s)) (input pu
     leaves = λ a told. subst (Leaves (s.area a)) (sym (same.image a)) (at.leaves a told);
   }
 
-  lasts : (c d : Crash) → IsSameBut c d → d.notes ≡ s.notes + lines → Lasts m s c → IsFairCrash (length m.heads) s d → Lives m s input put d
+  lasts : (c d : Crash) → IsSameBut c d → d.notes ≡ s.notes + lines → Lasts m s c → IsFairCrash (length m.heads) s d → Lives locks m s input put d
   lasts c d same notes l fair =
       let masters = fair.masters l.masters (same.writes 0 ∙ l.masters_are) in
       let pages = fair.pages l.pages (same.writes 1 ∙ l.pages_are) in
@@ -84,6 +84,6 @@ module _ (m : Master) (s : Story) (clean : IsCleanDisk m (areas_of s)) (input pu
         };
       }
 
-  pub quiet_leaves : (c d : Crash) → IsSameBut c d → d.notes ≡ s.notes + lines → RecoveryLeaves m s c → LivesOn m s input put d
+  pub quiet_leaves : (c d : Crash) → IsSameBut c d → d.notes ≡ s.notes + lines → RecoveryLeaves m s c → LivesOn locks m s input put d
   quiet_leaves c d same notes (inl at) = inl (unwritten c d same notes at)
   quiet_leaves c d same notes (inr l) = inr (lasts c d same notes l)

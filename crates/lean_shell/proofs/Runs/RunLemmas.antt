@@ -204,7 +204,7 @@ heard_now g (x ∷ earlier) newer told each e cut = ⊎_elim (λ l. record {
 
 -- ## A run
 
-module _ (laws : Laws) (s0 sa sb sc s1 : Story) (law_a : IsLawful sa) (law_c : IsLawful sc) (law_1 : IsLawful s1) (g : Opening) (first : Log) (counts : Counts) (o : HasStarted s0 sa g first counts) (keeps : Keeps s0 sa)
+module _ (locks : ℕ) (laws : Laws) (s0 sa sb sc s1 : Story) (law_a : IsLawful sa) (law_c : IsLawful sc) (law_1 : IsLawful s1) (g : Opening) (first : Log) (counts : Counts) (o : HasStarted locks s0 sa g first counts) (keeps : Keeps s0 sa)
     (any : (m : Master) → TellsAll s0 → IsCleanDisk m (areas_of s0) → LeavesOnly s0 sa (RecoveryLeaves m s0))
     (held0 held_b held_c held1 : Held) (opened_fits : NoticeFits (Notice.Opened counts.generation counts.winners counts.undone)) (p : IsPut (first_line counts) PutDone held0 held_b sa sb)
     (feed0 feed1 : Feed) (reader : Unread) (stop : Stop) (log1 : Log) (r : ScriptRuns (Some stop) g [] 0 feed0 [] first log1 reader feed1 held_b held_c sb sc)
@@ -331,7 +331,7 @@ module _ (laws : Laws) (s0 sa sb sc s1 : Story) (law_a : IsLawful sa) (law_c : I
     abbrev c0 : Crash
     c0 = began s0
 
-    abbrev b : Begins m s0 sa g first
+    abbrev b : Begins locks m s0 sa g first
     b = o.begins m all.all clean
 
     counts_b : IsTrue sb.counts
@@ -356,8 +356,8 @@ module _ (laws : Laws) (s0 sa sb sc s1 : Story) (law_a : IsLawful sa) (law_c : I
     quiet_none : IsQuiet 1 input (first_lines 0 put)
     quiet_none = record { transcript_is = refl; durables_are = refl }
 
-    before : LeavesOnly s0 sb (LivesOn m s0 input put)
-    before = line_moments m s0 sa sb clean young.notes input put PutDone (any m all.all clean) law_a keeps.later keeps.notes p.noted p.same quiet_none (λ e. quiet_one)
+    before : LeavesOnly s0 sb (LivesOn locks m s0 input put)
+    before = line_moments locks m s0 sa sb clean young.notes input put PutDone (any m all.all clean) law_a keeps.later keeps.notes p.noted p.same quiet_none (λ e. quiet_one)
 
     -- in it
     nil : r.newer ++ [] ≡ r.newer
@@ -485,15 +485,15 @@ module _ (laws : Laws) (s0 sa sb sc s1 : Story) (law_a : IsLawful sa) (law_c : I
       script : LeavesOnly sb sc Q
       script = both sb sc (StaysIn2 (length r.told) sb) (Left xs) disk.0 run
 
-      lives_on : (d : Crash) → WasOut (IsRoomOfNext input g) g xs c0 m s0 sa input put counts.generation counts.winners counts.undone d → LivesOn m s0 input put d
-      lives_on d w = inr (λ fair. lives_as laws m s0 sa g b.n b.begun xs each_x c0 input put counts.generation counts.winners counts.undone d w (every_fair s0) as_began fair)
+      lives_on : (d : Crash) → WasOut (IsRoomOfNext input g) g xs c0 m s0 sa input put counts.generation counts.winners counts.undone d → LivesOn locks m s0 input put d
+      lives_on d w = inr (λ fair. lives_as locks laws m s0 sa g b.n b.begun xs each_x c0 input put counts.generation counts.winners counts.undone d w (every_fair s0) as_began fair)
 
-      in_script : (c : Crash) → Q c → LivesOn m s0 input put c
+      in_script : (c : Crash) → Q c → LivesOn locks m s0 input put c
       in_script c q =
           let k = knows c q.1 q.0.notes in
           lives_on c (was_out xs c q.1 k q.0 c (record { writes = λ a. refl; image = λ a. refl }) (suc (length q.1.out)) (let e = q.1.notes in omega arith) (first_output k.later q.1.out k.first_told))
 
-      at_last : (c : Crash) → LeavesNow s1 c → Q (then sc c) → LivesOn m s0 input put c
+      at_last : (c : Crash) → LeavesNow s1 c → Q (then sc c) → LivesOn locks m s0 input put c
       at_last c now q = ⊎_elim
           (λ (e : c.notes ≡ sc.notes). lives_on c (was_out xs (then sc c) q.1 k q.0 c (same_but sc c) (suc (length q.1.out)) (let n = q.1.notes in omega arith) (first_output k.later q.1.out k.first_told)))
           (λ (e : (c.notes ≡ sc.notes + 1) × (stop ≡ stops.WriteFault → ⊥)). whole e.0 e.1)
@@ -502,7 +502,7 @@ module _ (laws : Laws) (s0 sa sb sc s1 : Story) (law_a : IsLawful sa) (law_c : I
           k : Knows xs (then sc c) q.1
           k = knows (then sc c) q.1 q.0.notes
 
-          whole : c.notes ≡ sc.notes + 1 → (stop ≡ stops.WriteFault → ⊥) → LivesOn m s0 input put c
+          whole : c.notes ≡ sc.notes + 1 → (stop ≡ stops.WriteFault → ⊥) → LivesOn locks m s0 input put c
           whole e not_write =
               let n = notes_c in
               let b = notes_b in
@@ -512,18 +512,18 @@ module _ (laws : Laws) (s0 sa sb sc s1 : Story) (law_a : IsLawful sa) (law_c : I
               lives_on c (was_out xs (then sc c) q.1 k q.0 c (same_but sc c) (suc (suc (length r.told))) (omega (arith, e, n, b))
               (subst (λ (rs : List Reply). IsOutput counts.generation counts.winners counts.undone rs (first_lines (suc (suc (length r.told))) put)) (sym told) (last_output not_write)))
 
-      leaves_all : LeavesOnly s0 s1 (LivesOn m s0 input put)
-      leaves_all = moments.then s0 sb s1 (LivesOn m s0 input put) before (put_moments sb sc s1 Q (LivesOn m s0 input put) script in_script law_c r.others.later l.notes at_last)
+      leaves_all : LeavesOnly s0 s1 (LivesOn locks m s0 input put)
+      leaves_all = moments.then s0 sb s1 (LivesOn locks m s0 input put) before (put_moments sb sc s1 Q (LivesOn locks m s0 input put) script in_script law_c r.others.later l.notes at_last)
 
     left_by : (Such : List Done → List Event → Type 0) → ((heard : List Done) (es : List Event) → Such heard es → IsRoomOfNext input g heard es) → (xs : List Done) → LeavesOnly sb sc (RunLeft g Such xs c0 m) → LeavesOnly sb sc (Left xs)
     left_by Such so xs run = weaker sb sc (RunLeft g Such xs c0 m) (Left xs) (wider g Such (IsRoomOfNext input g) so c0 m xs) run
 
-    leaves_by : Moved stop feed0 feed1 reader (asked_text (script_of said)) g r.newer c0 m sb sc → LeavesOnly s0 s1 (LivesOn m s0 input put)
+    leaves_by : Moved stop feed0 feed1 reader (asked_text (script_of said)) g r.newer c0 m sb sc → LeavesOnly s0 s1 (LivesOn locks m s0 input put)
     leaves_by (InRun run) = leaves_all r.newer each knows_all (left_by NoneStopped (λ heard es none. absurd none) r.newer run)
     leaves_by (InRoom c a run) = leaves_all r.newer each knows_all (left_by (StoppedIn g r.newer c) (room_of_next c a) r.newer run)
     leaves_by (InPart x a session told run) = leaves_all (x ∷ r.newer) (each, told) (knows_part x a session) (left_by NoneStopped (λ heard es none. absurd none) (x ∷ r.newer) run)
 
-    pub leaves : LeavesOnly s0 s1 (LivesOn m s0 input put)
+    pub leaves : LeavesOnly s0 s1 (LivesOn locks m s0 input put)
     leaves = leaves_by (subst (λ (xs : List Done). Moved stop feed0 feed1 reader (asked_text (script_of said)) g xs c0 m sb sc) nil
         (moved stop (suc (0 + length (calls_of r.newer))) feed0 feed1 reader (asked_text (script_of said)) r.reads g (r.newer ++ []) c0 m b.known sb sc r.log disk.1))
 
@@ -608,27 +608,27 @@ module _ (laws : Laws) (s0 sa sb sc s1 : Story) (law_a : IsLawful sa) (law_c : I
 
       pub stands : Survives m s0 input put (as_read s1)
       stands = ⊎_elim
-          (λ (e : s1.notes ≡ sc.notes). survives_now laws m s0 sa g b.n b.begun r.newer each c0 input put counts.generation counts.winners counts.undone (as_read s1) AllAnswered (was_now (suc (length r.told)) (let n = notes_c in let b = notes_b in omega arith) (first_output [] r.told refl)) recovered)
-          (λ (e : (s1.notes ≡ sc.notes + 1) × (stop ≡ stops.WriteFault → ⊥)). survives_now laws m s0 sa g b.n b.begun r.newer each c0 input put counts.generation counts.winners counts.undone (as_read s1) AllAnswered (was_now (suc (suc (length r.told))) (let n = notes_c in let b = notes_b in let f = e.0 in omega arith) (last_output e.1)) recovered)
+          (λ (e : s1.notes ≡ sc.notes). survives_now locks laws m s0 sa g b.n b.begun r.newer each c0 input put counts.generation counts.winners counts.undone (as_read s1) AllAnswered (was_now (suc (length r.told)) (let n = notes_c in let b = notes_b in omega arith) (first_output [] r.told refl)) recovered)
+          (λ (e : (s1.notes ≡ sc.notes + 1) × (stop ≡ stops.WriteFault → ⊥)). survives_now locks laws m s0 sa g b.n b.begun r.newer each c0 input put counts.generation counts.winners counts.undone (as_read s1) AllAnswered (was_now (suc (suc (length r.told))) (let n = notes_c in let b = notes_b in let f = e.0 in omega arith) (last_output e.1)) recovered)
           (l.noted (let a = told_few in let b = notes_b in let y = young.notes in let n = notes_c in omega arith) (as_read s1) now)
 
-      pub stays : IsLeft AllAnswered m s0 input put (as_read s1)
+      pub stays : IsLeft locks AllAnswered m s0 input put (as_read s1)
       stays = ⊎_elim
-          (λ (e : s1.notes ≡ sc.notes). left_now laws m s0 sa g b.n b.begun r.newer each c0 input put counts.generation counts.winners counts.undone (as_read s1) AllAnswered (was_now (suc (length r.told)) (let n = notes_c in let b = notes_b in omega arith) (first_output [] r.told refl)) recovered)
-          (λ (e : (s1.notes ≡ sc.notes + 1) × (stop ≡ stops.WriteFault → ⊥)). left_now laws m s0 sa g b.n b.begun r.newer each c0 input put counts.generation counts.winners counts.undone (as_read s1) AllAnswered (was_now (suc (suc (length r.told))) (let n = notes_c in let b = notes_b in let f = e.0 in omega arith) (last_output e.1)) recovered)
+          (λ (e : s1.notes ≡ sc.notes). left_now locks laws m s0 sa g b.n b.begun r.newer each c0 input put counts.generation counts.winners counts.undone (as_read s1) AllAnswered (was_now (suc (length r.told)) (let n = notes_c in let b = notes_b in omega arith) (first_output [] r.told refl)) recovered)
+          (λ (e : (s1.notes ≡ sc.notes + 1) × (stop ≡ stops.WriteFault → ⊥)). left_now locks laws m s0 sa g b.n b.begun r.newer each c0 input put counts.generation counts.winners counts.undone (as_read s1) AllAnswered (was_now (suc (suc (length r.told))) (let n = notes_c in let b = notes_b in let f = e.0 in omega arith) (last_output e.1)) recovered)
           (l.noted (let a = told_few in let b = notes_b in let y = young.notes in let n = notes_c in omega arith) (as_read s1) now)
 
   pub run_says : IsTrue feed0.tells → TellsAll s0 → Headline s0 s1 input put
   run_says tells all = record {
     serial = serial tells all;
-    any_moment = λ counts m clean young. weaker s0 s1 (LivesOn m s0 input put) (RunLeaves m s0 input put) (run_leaves m s0 input put) (leaves tells m (record { all = all; counts = counts }) clean young);
+    any_moment = λ counts m clean young. weaker s0 s1 (LivesOn locks m s0 input put) (RunLeaves m s0 input put) (run_leaves locks m s0 input put) (leaves tells m (record { all = all; counts = counts }) clean young);
   }
 
   length_calls : (xs : List Done) → length (calls_of xs) ≡ length xs
   length_calls [] = refl
   length_calls (x ∷ xs) = ap suc (length_calls xs)
 
-  pub run_ends : (status : ℕ) → status ≡ ended stop → (sink0 : ℕ) → HasCause sink0 sink_c (stop ≡ stops.WriteFault) → ((a : ℕ) → 2 < a → sa.area a ≡ s0.area a) → RunEnds status s0 s1 feed0 feed1 held0 held1 sink0 sink1
+  pub run_ends : (status : ℕ) → status ≡ ended stop → (sink0 : ℕ) → HasCause sink0 sink_c (stop ≡ stops.WriteFault) → ((a : ℕ) → 2 < a → sa.area a ≡ s0.area a) → RunEnds locks status s0 s1 feed0 feed1 held0 held1 sink0 sink1
   run_ends status is sink0 sinks others = record {
     put = put;
     holds = holds;
@@ -654,14 +654,14 @@ module _ (laws : Laws) (s0 sa sb sc s1 : Story) (law_a : IsLawful sa) (law_c : I
       later = let a = keeps.later in let b = noted.later in let c = r.others.later in let d = l.notes.later in omega arith;
     };
     headline = run_says;
-    masters = λ tells m all clean young. weaker s0 s1 (LivesOn m s0 input put) (MasterLeaves m s0 input put) (master_leaves m s0 input put) (leaves tells m all clean young);
+    masters = λ tells m all clean young. weaker s0 s1 (LivesOn locks m s0 input put) (MasterLeaves locks m s0 input put) (master_leaves locks m s0 input put) (leaves tells m all clean young);
   }
 
   pub run_headline : IsTrue feed0.tells → IsTrue held0.tells → TellsAll s0 → Headline s0 s1 input (added held0 held1)
   run_headline tells sink_tells all = subst (Headline s0 s1 input) (sym (ap (drop (length held0.bytes)) (holds sink_tells) ∙ drop-append_seam held0.bytes put)) (run_says tells all)
 
 pub every_run : Laws → (s0 sa sb sc s1 : Story) → EveryRun s0 sa sb sc s1
-every_run laws s0 sa sb sc s1 feed0 feed1 held0 held_b held_c held1 stop sink_c sink1 x = record {
-  ends = run_ends laws s0 sa sb sc s1 x.law_a x.law_c x.law_1 x.g x.first x.counts x.starts x.keeps x.any held0 held_b held_c held1 x.opened_fits x.put feed0 feed1 x.reader stop x.log1 x.runs sink_c sink1 x.last;
-  headline = run_headline laws s0 sa sb sc s1 x.law_a x.law_c x.law_1 x.g x.first x.counts x.starts x.keeps x.any held0 held_b held_c held1 x.opened_fits x.put feed0 feed1 x.reader stop x.log1 x.runs sink_c sink1 x.last;
+every_run laws s0 sa sb sc s1 locks feed0 feed1 held0 held_b held_c held1 stop sink_c sink1 x = record {
+  ends = run_ends locks laws s0 sa sb sc s1 x.law_a x.law_c x.law_1 x.g x.first x.counts x.starts x.keeps x.any held0 held_b held_c held1 x.opened_fits x.put feed0 feed1 x.reader stop x.log1 x.runs sink_c sink1 x.last;
+  headline = run_headline locks laws s0 sa sb sc s1 x.law_a x.law_c x.law_1 x.g x.first x.counts x.starts x.keeps x.any held0 held_b held_c held1 x.opened_fits x.put feed0 feed1 x.reader stop x.log1 x.runs sink_c sink1 x.last;
 }

@@ -25,7 +25,7 @@ use Rattle.lean_shell.specs.Lines.{IsPut}
 use Rattle.lean_shell.specs.Runs.{Counts, ended, first_line}
 
 -- A disk that told s0 was opened and told sa; the first line was put, which it told as sb; the script was executed, sc; and the last line was put, s1.
-pub record IsRun (s0 sa sb sc s1 : Story) (feed0 feed1 : Feed) (held0 held_b held_c held1 : Held) (stop : Stop) (sink_c sink1 : ℕ) : Type 0 where
+pub record IsRun (locks : ℕ) (s0 sa sb sc s1 : Story) (feed0 feed1 : Feed) (held0 held_b held_c held1 : Held) (stop : Stop) (sink_c sink1 : ℕ) : Type 0 where
   pub law_a : IsLawful sa
   pub law_c : IsLawful sc
   pub law_1 : IsLawful s1
@@ -33,7 +33,7 @@ pub record IsRun (s0 sa sb sc s1 : Story) (feed0 feed1 : Feed) (held0 held_b hel
   pub g : Opening
   pub first : Log
   pub counts : Counts
-  pub starts : HasStarted s0 sa g first counts
+  pub starts : HasStarted locks s0 sa g first counts
   pub keeps : Keeps s0 sa
   pub any : (m : Master) → TellsAll s0 → IsCleanDisk m (areas_of s0) → LeavesOnly s0 sa (RecoveryLeaves m s0)
   -- the first line
@@ -47,9 +47,9 @@ pub record IsRun (s0 sa sb sc s1 : Story) (feed0 feed1 : Feed) (held0 held_b hel
   pub last : EndsWith stop held_c held1 sink_c sink1 sc s1
 
 -- what is said of it
-pub record RunSays (s0 sa s1 : Story) (feed0 feed1 : Feed) (held0 held1 : Held) (stop : Stop) (sink_c sink1 : ℕ) : Type 0 where
-  pub ends : (status : ℕ) → status ≡ ended stop → (sink0 : ℕ) → HasCause sink0 sink_c (stop ≡ stops.WriteFault) → ((a : ℕ) → 2 < a → sa.area a ≡ s0.area a) → RunEnds status s0 s1 feed0 feed1 held0 held1 sink0 sink1
+pub record RunSays (locks : ℕ) (s0 sa s1 : Story) (feed0 feed1 : Feed) (held0 held1 : Held) (stop : Stop) (sink_c sink1 : ℕ) : Type 0 where
+  pub ends : (status : ℕ) → status ≡ ended stop → (sink0 : ℕ) → HasCause sink0 sink_c (stop ≡ stops.WriteFault) → ((a : ℕ) → 2 < a → sa.area a ≡ s0.area a) → RunEnds locks status s0 s1 feed0 feed1 held0 held1 sink0 sink1
   pub headline : IsTrue feed0.tells → IsTrue held0.tells → TellsAll s0 → Headline s0 s1 feed0.left (added held0 held1)
 
 abbrev pub EveryRun : (s0 sa sb sc s1 : Story) → Type 0
-EveryRun s0 sa sb sc s1 = (feed0 feed1 : Feed) (held0 held_b held_c held1 : Held) (stop : Stop) (sink_c sink1 : ℕ) → IsRun s0 sa sb sc s1 feed0 feed1 held0 held_b held_c held1 stop sink_c sink1 → RunSays s0 sa s1 feed0 feed1 held0 held1 stop sink_c sink1
+EveryRun s0 sa sb sc s1 = (locks : ℕ) (feed0 feed1 : Feed) (held0 held_b held_c held1 : Held) (stop : Stop) (sink_c sink1 : ℕ) → IsRun locks s0 sa sb sc s1 feed0 feed1 held0 held_b held_c held1 stop sink_c sink1 → RunSays locks s0 sa s1 feed0 feed1 held0 held1 stop sink_c sink1

@@ -34,17 +34,17 @@ pub record IsSameBut (c d : Crash) : Type 0 where
   pub image : (a : ℕ) → d.image a ≡ c.image a
 
 -- the image survives, by a master of the disk on entry
-pub record Lives (m : Master) (s : Story) (input put : List ℕ) (c : Crash) : Type 0 where
+pub record Lives (locks : ℕ) (m : Master) (s : Story) (input put : List ℕ) (c : Crash) : Type 0 where
   pub survives : Survives m s input put c
-  pub master : HasMasterOf m s input put c
+  pub master : HasMasterOf locks m s input put c
 
 -- so it is once something is written
-abbrev pub LivesOn : (m : Master) (s : Story) (input put : List ℕ) (c : Crash) → Type 0
-LivesOn m s input put c = IsUnwritten s input put c ⊎ (IsFairCrash (length m.heads) s c → Lives m s input put c)
+abbrev pub LivesOn : (locks : ℕ) (m : Master) (s : Story) (input put : List ℕ) (c : Crash) → Type 0
+LivesOn locks m s input put c = IsUnwritten s input put c ⊎ (IsFairCrash (length m.heads) s c → Lives locks m s input put c)
 
 -- A disk that told s0 was opened and tells sa: master n counts, whose floor is the opening's base number, the base of each page is the opening's, and the
 -- areas of both are settled. The opening is the start that the disk gave, with the map for which it stood, of one worker and one log.
-pub record IsBegun (m : Master) (s0 sa : Story) (g : Opening) (n : Master) : Type 0 where
+pub record IsBegun (locks : ℕ) (m : Master) (s0 sa : Story) (g : Opening) (n : Master) : Type 0 where
   pub next : IsNextOf m (areas_of s0) n
   pub floor : n.floor ≡ g.base
   pub master : master_on (sa.area 0).bytes ≡ Some n
@@ -52,7 +52,7 @@ pub record IsBegun (m : Master) (s0 sa : Story) (g : Opening) (n : Master) : Typ
   pub settled : (a : ℕ) → a < 2 → IsSettled (sa.area a)
   pub starts : IsStartOf m (areas_of s0) g
   pub map : (k : ℕ) → first_map g k ≡ map_of (image_by m (areas_of s0)) k
-  pub of_one : IsOfOne g
+  pub of_one : IsOfOne locks g
 
 -- the master's area and the pages' are as a crash at s might leave them
 abbrev pub KeepsAreas : Story → Crash → Type 0
@@ -84,5 +84,5 @@ pub record WasOut (Such : List Done → List Event → Type 0) (g : Opening) (xs
 
 -- Such a crash survives, if it is fair.
 abbrev pub EveryLeft : (s0 sa : Story) → Type 0
-EveryLeft s0 sa = (m n : Master) (g : Opening) (xs : List Done) (c0 : Crash) → IsBegun m s0 sa g n → EachTells limits g 1 xs → IsAsRead s0 c0 → (input put : List ℕ) (generation winners undone : ℕ) (d : Crash) →
-    WasOut (IsRoomOfNext input g) g xs c0 m s0 sa input put generation winners undone d → IsFairCrash (length m.heads) s0 d → Lives m s0 input put d
+EveryLeft s0 sa = (locks : ℕ) (m n : Master) (g : Opening) (xs : List Done) (c0 : Crash) → IsBegun locks m s0 sa g n → EachTells limits g 1 xs → IsAsRead s0 c0 → (input put : List ℕ) (generation winners undone : ℕ) (d : Crash) →
+    WasOut (IsRoomOfNext input g) g xs c0 m s0 sa input put generation winners undone d → IsFairCrash (length m.heads) s0 d → Lives locks m s0 input put d

@@ -23,14 +23,14 @@ pub returns-in_default-clause-ends : goal.returns-in_default-clause-ends
 returns-in_default-clause-ends g c =
     let s0 = g.D.Disk.story c.args.disk in
     let law = ((g.met.D.Disk g.world.𝓛 g.world.𝓜 g.world.𝓡 ((λ s x. x), (λ x. x), (λ x. x), (λ x. x))).lawful c.args.disk) in
-    refused_ends c.laws.ensures.notice c.laws.ensures.tail c.refuse.result.status s0 s0 (g.D.Disk.story c.refuse.result.disk) law (record { notes = refl; tells = λ a. refl; areas = refl; counts = refl; later = omega arith }) (λ a lt. refl) (λ m tells clean. unmoved m s0 law) (g.S.Source.feed c.args.source.now) Memory c.refuse.ensures.status tt (λ refused a. absurd refused)
+    refused_ends c.args.size.rows c.laws.ensures.notice c.laws.ensures.tail c.refuse.result.status s0 s0 (g.D.Disk.story c.refuse.result.disk) law (record { notes = refl; tells = λ a. refl; areas = refl; counts = refl; later = omega arith }) (λ a lt. refl) (λ m tells clean. unmoved m s0 law) (g.S.Source.feed c.args.source.now) Memory c.refuse.ensures.status tt (λ refused a. absurd refused)
     (g.K.Sink.held c.args.sink.now) (g.K.Sink.held c.refuse.new.sink) (g.K.Sink.faults c.args.sink.now) (g.K.Sink.faults c.refuse.new.sink) c.refuse.ensures.put
 
 pub returns-in_default-clause-headline : goal.returns-in_default-clause-headline
 returns-in_default-clause-headline g c tells =
     let s0 = g.D.Disk.story c.args.disk in
     let law = ((g.met.D.Disk g.world.𝓛 g.world.𝓜 g.world.𝓡 ((λ s x. x), (λ x. x), (λ x. x), (λ x. x))).lawful c.args.disk) in
-    refused_headline c.laws.ensures.notice c.laws.ensures.tail s0 s0 (g.D.Disk.story c.refuse.result.disk) law (record { notes = refl; tells = λ a. refl; areas = refl; counts = refl; later = omega arith }) (λ m tells clean. unmoved m s0 law) (g.S.Source.feed c.args.source.now) Memory
+    refused_headline c.args.size.rows c.laws.ensures.notice c.laws.ensures.tail s0 s0 (g.D.Disk.story c.refuse.result.disk) law (record { notes = refl; tells = λ a. refl; areas = refl; counts = refl; later = omega arith }) (λ m tells clean. unmoved m s0 law) (g.S.Source.feed c.args.source.now) Memory
     (g.K.Sink.held c.args.sink.now) (g.K.Sink.held c.refuse.new.sink) (g.K.Sink.faults c.args.sink.now) (g.K.Sink.faults c.refuse.new.sink) c.refuse.ensures.put
 
 pub returns-in-Err-clause-ends : goal.returns-in-Err-clause-ends
@@ -38,7 +38,7 @@ returns-in-Err-clause-ends g c =
     let s0 = g.D.Disk.story c.args.disk in
     let u = c.in-Err.field-0 in
     let k = c.in-Err.ensures.keeps in
-    refused_ends c.laws.ensures.notice c.laws.ensures.tail c.refuse-in-Err.result.status s0 (g.D.Disk.story u.disk) (g.D.Disk.story c.refuse-in-Err.result.disk) ((g.met.D.Disk g.world.𝓛 g.world.𝓜 g.world.𝓡 ((λ s x. x), (λ x. x), (λ x. x), (λ x. x))).lawful u.disk) k.keeps k.others k.any_moment (g.S.Source.feed c.args.source.now) u.reason c.refuse-in-Err.ensures.status c.in-Err.ensures.shown c.in-Err.ensures.left
+    refused_ends c.args.size.rows c.laws.ensures.notice c.laws.ensures.tail c.refuse-in-Err.result.status s0 (g.D.Disk.story u.disk) (g.D.Disk.story c.refuse-in-Err.result.disk) ((g.met.D.Disk g.world.𝓛 g.world.𝓜 g.world.𝓡 ((λ s x. x), (λ x. x), (λ x. x), (λ x. x))).lawful u.disk) k.keeps k.others k.any_moment (g.S.Source.feed c.args.source.now) u.reason c.refuse-in-Err.ensures.status c.in-Err.ensures.shown c.in-Err.ensures.left
     (g.K.Sink.held c.args.sink.now) (g.K.Sink.held c.refuse-in-Err.new.sink) (g.K.Sink.faults c.args.sink.now) (g.K.Sink.faults c.refuse-in-Err.new.sink) c.refuse-in-Err.ensures.put
 
 pub returns-in-Err-clause-headline : goal.returns-in-Err-clause-headline
@@ -46,7 +46,7 @@ returns-in-Err-clause-headline g c tells =
     let s0 = g.D.Disk.story c.args.disk in
     let u = c.in-Err.field-0 in
     let k = c.in-Err.ensures.keeps in
-    refused_headline c.laws.ensures.notice c.laws.ensures.tail s0 (g.D.Disk.story u.disk) (g.D.Disk.story c.refuse-in-Err.result.disk) ((g.met.D.Disk g.world.𝓛 g.world.𝓜 g.world.𝓡 ((λ s x. x), (λ x. x), (λ x. x), (λ x. x))).lawful u.disk) k.keeps k.any_moment (g.S.Source.feed c.args.source.now) u.reason
+    refused_headline c.args.size.rows c.laws.ensures.notice c.laws.ensures.tail s0 (g.D.Disk.story u.disk) (g.D.Disk.story c.refuse-in-Err.result.disk) ((g.met.D.Disk g.world.𝓛 g.world.𝓜 g.world.𝓡 ((λ s x. x), (λ x. x), (λ x. x), (λ x. x))).lawful u.disk) k.keeps k.any_moment (g.S.Source.feed c.args.source.now) u.reason
     (g.K.Sink.held c.args.sink.now) (g.K.Sink.held c.refuse-in-Err.new.sink) (g.K.Sink.faults c.args.sink.now) (g.K.Sink.faults c.refuse-in-Err.new.sink) c.refuse-in-Err.ensures.put
 
 -- ## A first line that was cut off
@@ -58,10 +58,10 @@ returns-in_default-put_opened-clause-ends g c =
     let o = c.in-Ok-open.ensures.opened in
     let k = c.in-Ok-open.ensures.keeps in
     let sa = g.D.Disk.story n.engine.disk in
-    subst (λ d. RunEnds 5 s0 (g.D.Disk.story d) (g.S.Source.feed c.args.source.now) (g.S.Source.feed c.args.source.now) (g.K.Sink.held c.args.sink.now) (g.K.Sink.held c.put_opened.new.sink) (g.K.Sink.faults c.args.sink.now) (g.K.Sink.faults c.put_opened.new.sink)) (sym c.close.ensures)
-    (cut_ends c.laws.ensures.notice s0 sa (g.D.Disk.story c.put_opened.new.engine.disk) ((g.met.D.Disk g.world.𝓛 g.world.𝓜 g.world.𝓡 ((λ s x. x), (λ x. x), (λ x. x), (λ x. x))).lawful n.engine.disk) k.keeps k.any_moment (g.S.Source.feed c.args.source.now)
-    (counts s0 sa n.engine.view n.engine.log n.generation n.winners n.undone o) c.put_opened.ensures.fits (g.K.Sink.held c.args.sink.now) (g.K.Sink.held c.put_opened.new.sink) c.put_opened.result c.put_opened.ensures.put c.laws.ensures.tail k.others o.opening
-    (from s0 sa n.engine.view n.engine.log n.generation n.winners n.undone o)
+    subst (λ d. RunEnds c.args.size.rows 5 s0 (g.D.Disk.story d) (g.S.Source.feed c.args.source.now) (g.S.Source.feed c.args.source.now) (g.K.Sink.held c.args.sink.now) (g.K.Sink.held c.put_opened.new.sink) (g.K.Sink.faults c.args.sink.now) (g.K.Sink.faults c.put_opened.new.sink)) (sym c.close.ensures)
+    (cut_ends c.args.size.rows c.laws.ensures.notice s0 sa (g.D.Disk.story c.put_opened.new.engine.disk) ((g.met.D.Disk g.world.𝓛 g.world.𝓜 g.world.𝓡 ((λ s x. x), (λ x. x), (λ x. x), (λ x. x))).lawful n.engine.disk) k.keeps k.any_moment (g.S.Source.feed c.args.source.now)
+    (counts c.args.size.rows s0 sa n.engine.view n.engine.log n.generation n.winners n.undone o) c.put_opened.ensures.fits (g.K.Sink.held c.args.sink.now) (g.K.Sink.held c.put_opened.new.sink) c.put_opened.result c.put_opened.ensures.put c.laws.ensures.tail k.others o.opening
+    (from c.args.size.rows s0 sa n.engine.view n.engine.log n.generation n.winners n.undone o)
     (g.K.Sink.faults c.args.sink.now) (g.K.Sink.faults c.put_opened.new.sink) (c.put_opened.ensures.cause.cause (put_not_done c.put_opened.result c.in_default-put_opened.not-Done)))
 
 pub returns-in_default-put_opened-clause-headline : goal.returns-in_default-put_opened-clause-headline
@@ -72,13 +72,13 @@ returns-in_default-put_opened-clause-headline g c tells =
     let k = c.in-Ok-open.ensures.keeps in
     let sa = g.D.Disk.story n.engine.disk in
     subst (λ d. IsTrue (g.K.Sink.held c.args.sink.now).tells → TellsAll s0 → Headline s0 (g.D.Disk.story d) (g.S.Source.feed c.args.source.now).left (added (g.K.Sink.held c.args.sink.now) (g.K.Sink.held c.put_opened.new.sink))) (sym c.close.ensures)
-    (cut_headline c.laws.ensures.notice s0 sa (g.D.Disk.story c.put_opened.new.engine.disk) ((g.met.D.Disk g.world.𝓛 g.world.𝓜 g.world.𝓡 ((λ s x. x), (λ x. x), (λ x. x), (λ x. x))).lawful n.engine.disk) k.keeps k.any_moment (g.S.Source.feed c.args.source.now)
-    (counts s0 sa n.engine.view n.engine.log n.generation n.winners n.undone o) c.put_opened.ensures.fits (g.K.Sink.held c.args.sink.now) (g.K.Sink.held c.put_opened.new.sink) c.put_opened.result c.put_opened.ensures.put c.laws.ensures.tail)
+    (cut_headline c.args.size.rows c.laws.ensures.notice s0 sa (g.D.Disk.story c.put_opened.new.engine.disk) ((g.met.D.Disk g.world.𝓛 g.world.𝓜 g.world.𝓡 ((λ s x. x), (λ x. x), (λ x. x), (λ x. x))).lawful n.engine.disk) k.keeps k.any_moment (g.S.Source.feed c.args.source.now)
+    (counts c.args.size.rows s0 sa n.engine.view n.engine.log n.generation n.winners n.undone o) c.put_opened.ensures.fits (g.K.Sink.held c.args.sink.now) (g.K.Sink.held c.put_opened.new.sink) c.put_opened.result c.put_opened.ensures.put c.laws.ensures.tail)
 
 -- ## A run
 
 says : (g : Over) (c : goal.After-drop-reader-inside-2 g)
-    → RunSays (g.D.Disk.story c.args.disk) (g.D.Disk.story c.in-Ok-open.opened.engine.disk) (g.D.Disk.story c.put_last.new.engine.disk) (g.S.Source.feed c.args.source.now) (g.S.Source.feed c.run_script-stop.new.source) (g.K.Sink.held c.args.sink.now) (g.K.Sink.held c.put_last.new.sink) c.run_script-stop.result (g.K.Sink.faults c.run_script-stop.new.sink) (g.K.Sink.faults c.put_last.new.sink)
+    → RunSays c.args.size.rows (g.D.Disk.story c.args.disk) (g.D.Disk.story c.in-Ok-open.opened.engine.disk) (g.D.Disk.story c.put_last.new.engine.disk) (g.S.Source.feed c.args.source.now) (g.S.Source.feed c.run_script-stop.new.source) (g.K.Sink.held c.args.sink.now) (g.K.Sink.held c.put_last.new.sink) c.run_script-stop.result (g.K.Sink.faults c.run_script-stop.new.sink) (g.K.Sink.faults c.put_last.new.sink)
 says g c =
     let s0 = g.D.Disk.story c.args.disk in
     let n = c.in-Ok-open.opened in
@@ -86,10 +86,10 @@ says g c =
     let k = c.in-Ok-open.ensures.keeps in
     let sa = g.D.Disk.story n.engine.disk in
     let feed0 = g.S.Source.feed c.args.source.now in
-    let counted = counts s0 sa n.engine.view n.engine.log n.generation n.winners n.undone o in
+    let counted = counts c.args.size.rows s0 sa n.engine.view n.engine.log n.generation n.winners n.undone o in
     every_run c.laws.ensures
     s0 sa (g.D.Disk.story c.put_opened.new.engine.disk) (g.D.Disk.story c.run_script-stop.new.engine.disk) (g.D.Disk.story c.put_last.new.engine.disk)
-    feed0 (g.S.Source.feed c.run_script-stop.new.source) (g.K.Sink.held c.args.sink.now) (g.K.Sink.held c.put_opened.new.sink) (g.K.Sink.held c.run_script-stop.new.sink) (g.K.Sink.held c.put_last.new.sink)
+    c.args.size.rows feed0 (g.S.Source.feed c.run_script-stop.new.source) (g.K.Sink.held c.args.sink.now) (g.K.Sink.held c.put_opened.new.sink) (g.K.Sink.held c.run_script-stop.new.sink) (g.K.Sink.held c.put_last.new.sink)
     c.run_script-stop.result (g.K.Sink.faults c.run_script-stop.new.sink) (g.K.Sink.faults c.put_last.new.sink)
     (record {
       law_a = ((g.met.D.Disk g.world.𝓛 g.world.𝓜 g.world.𝓡 ((λ s x. x), (λ x. x), (λ x. x), (λ x. x))).lawful n.engine.disk);
@@ -98,7 +98,7 @@ says g c =
       g = o.opening;
       first = c.put_opened.new.engine.log;
       counts = counted;
-      starts = subst (λ l. HasStarted s0 sa o.opening l counted) (sym c.put_opened.ensures.same.0) (started s0 sa n.engine.view n.engine.log n.generation n.winners n.undone o);
+      starts = subst (λ l. HasStarted c.args.size.rows s0 sa o.opening l counted) (sym c.put_opened.ensures.same.0) (started c.args.size.rows s0 sa n.engine.view n.engine.log n.generation n.winners n.undone o);
       keeps = k.keeps;
       any = k.any_moment;
       opened_fits = c.put_opened.ensures.fits;
@@ -112,7 +112,7 @@ says g c =
 pub returns-clause-ends : goal.returns-clause-ends
 returns-clause-ends g c =
     let s0 = g.D.Disk.story c.args.disk in
-    subst (λ d. RunEnds c.ended.result s0 (g.D.Disk.story d) (g.S.Source.feed c.args.source.now) (g.S.Source.feed c.run_script-stop.new.source) (g.K.Sink.held c.args.sink.now) (g.K.Sink.held c.put_last.new.sink) (g.K.Sink.faults c.args.sink.now) (g.K.Sink.faults c.put_last.new.sink)) (sym c.close-2.ensures)
+    subst (λ d. RunEnds c.args.size.rows c.ended.result s0 (g.D.Disk.story d) (g.S.Source.feed c.args.source.now) (g.S.Source.feed c.run_script-stop.new.source) (g.K.Sink.held c.args.sink.now) (g.K.Sink.held c.put_last.new.sink) (g.K.Sink.faults c.args.sink.now) (g.K.Sink.faults c.put_last.new.sink)) (sym c.close-2.ensures)
     ((says g c).ends c.ended.result c.ended.ensures (g.K.Sink.faults c.args.sink.now)
     (cause_from (g.K.Sink.faults c.args.sink.now) (g.K.Sink.faults c.put_opened.new.sink) (g.K.Sink.faults c.run_script-stop.new.sink) c.put_opened.result c.run_script-stop.result c.in-Done.is c.put_opened.ensures.cause c.run_script-stop.ensures.cause_write_fault) c.in-Ok-open.ensures.keeps.others)
 
