@@ -35,7 +35,7 @@ use Rattle.node_tree.specs.Nodes.{nodes_of}
 pub settled_moments : (m : Master) (logs : ℕ) (s0 s : Story) → OnlySettles logs s0 s → LeavesOnly s0 s (RecoveryLeaves m s0)
 settled_moments m logs s0 s settles = weaker s0 s (AsAt s0) (RecoveryLeaves m s0) (λ c at. inl at) settles.any_moment
 
-module _ (it : Prepared) (readied : IsReadied it) (s0 s4 : Story) (logs : ℕ) (settles : OnlySettles logs s0 s4) (t : TellsAll s0) (all : AreSettled (length it.master.heads) s0 s4) (prepared : IsPrepared (areas_of s0) it)
+module _ {most : ℕ} (it : Prepared) (readied : IsReadied it) (openable : IsOpenable most it.master) (s0 s4 : Story) (logs : ℕ) (settles : OnlySettles logs s0 s4) (t : TellsAll most s0) (all : AreSettled most (length it.master.heads) s0 s4) (prepared : IsPrepared (areas_of s0) it)
     (m : Master) (seated : IsTrue s4.counts → Tells s4 1) where
   abbrev these : List Save
   these = saves_to it.pages.items it.slots.items it.changed.items it.master.pages
@@ -67,7 +67,7 @@ module _ (it : Prepared) (readied : IsReadied it) (s0 s4 : Story) (logs : ℕ) (
       saving_moments : LeavesOnly s0 s6 (RecoveryLeaves it.master s0)
       saving_moments = then s0 s4 s6 (RecoveryLeaves it.master s0) (settled_moments it.master logs s0 s4 settles)
           (weaker s4 s6 (CrashIn s4 1 (LeavesSaves it.master.pages (s4.area 1) these)) (RecoveryLeaves it.master s0)
-          (λ c at. inr (saving it readied s0 s4 logs settles t (all t) prepared clean c at)) (saves ready).run.any_moment)
+          (λ c at. inr (saving it readied openable s0 s4 logs settles t (all t) prepared clean c at)) (saves ready).run.any_moment)
 
       pub saved_moments : LeavesOnly s0 s6 (RecoveryLeaves m s0)
       saved_moments = subst (λ (k : Master). LeavesOnly s0 s6 (RecoveryLeaves k s0)) same_master saving_moments
@@ -79,21 +79,21 @@ module _ (it : Prepared) (readied : IsReadied it) (s0 s4 : Story) (logs : ℕ) (
         pub written_moments : LeavesOnly s6 s7 (CrashIn s6 0 (WritesOnce (1024 * (next.sequence % 2)) (master_slot next) (s6.area 0))) → LeavesOnly s0 s7 (RecoveryLeaves m s0)
         written_moments run = subst (λ (k : Master). LeavesOnly s0 s7 (RecoveryLeaves k s0)) same_master (then s0 s6 s7 (RecoveryLeaves it.master s0) saving_moments
             (weaker s6 s7 (CrashIn s6 0 (WritesOnce (1024 * slot_of (next_master it.master it.base)) (master_slot (next_master it.master it.base)) (s6.area 0))) (RecoveryLeaves it.master s0)
-            (λ c at. inr (writing it readied s0 s4 logs settles t (all t) prepared clean s6 (saves ready).run.frame ((saves ready).are done) ((saves ready).done done told_1) wide c at))
+            (λ c at. inr (writing it readied openable s0 s4 logs settles t (all t) prepared clean s6 (saves ready).run.frame ((saves ready).are done) ((saves ready).done done told_1) wide c at))
             (subst (λ (k : Master). LeavesOnly s6 s7 (CrashIn s6 0 (WritesOnce (1024 * (k.sequence % 2)) (master_slot k) (s6.area 0)))) next_is run)))
 
         pub opens : Framed 0 s6 s7 → s7.area 0 ≡ synced (written (1024 * (next.sequence % 2)) (master_slot next) (s6.area 0)) → (r : Recovered) → r.pages ≡ it.pages → r.master ≡ next → IsOpened m (areas_of s0) r s7
         opens frame wrote r pages is = subst (λ (k : Master). IsOpened k (areas_of s0) r s7) same_master
-            (opened it readied s0 s4 logs settles t (all t) prepared clean s6 (saves ready).run.frame ((saves ready).are done) ((saves ready).done done told_1) wide s7 frame
+            (opened it readied openable s0 s4 logs settles t (all t) prepared clean s6 (saves ready).run.frame ((saves ready).are done) ((saves ready).done done told_1) wide s7 frame
             (subst (λ (k : Master). s7.area 0 ≡ synced (written (1024 * (k.sequence % 2)) (master_slot k) (s6.area 0))) next_is wrote) r pages (is ∙ next_is))
 
 -- ## The answer
 
-module _ (it : Prepared) (readied : IsReadied it) (r : Recovered) (pages : r.pages ≡ it.pages) (winners : r.winners ≡ it.winners) (undone : r.undone ≡ it.undone) (master : r.master ≡ next_master it.master it.base) where
-  pub answers : (s0 : Story) → IsPrepared (areas_of s0) it → (m : Master) × IsOpenable m × IsRecovered m (areas_of s0) r
+module _ {most : ℕ} (it : Prepared) (readied : IsReadied it) (openable : IsOpenable most it.master) (r : Recovered) (pages : r.pages ≡ it.pages) (winners : r.winners ≡ it.winners) (undone : r.undone ≡ it.undone) (master : r.master ≡ next_master it.master it.base) where
+  pub answers : (s0 : Story) → IsPrepared (areas_of s0) it → (m : Master) × IsOpenable most m × IsRecovered m (areas_of s0) r
   answers s0 prepared = (
     it.master,
-    readied.openable,
+    openable,
     record {
       sound = prepared.sound;
       count = ap (λ v. length v.items) pages ∙ readied.count;
@@ -119,4 +119,4 @@ module _ (it : Prepared) (readied : IsReadied it) (r : Recovered) (pages : r.pag
   }
     where
       next_master_valid : IsMaster (slot_of (next_master it.master it.base)) (next_master it.master it.base)
-      next_master_valid = valid_next it.master it.base (readied.valid.0, readied.valid.1) readied.openable wide
+      next_master_valid = valid_next it.master it.base (readied.valid.0, readied.valid.1) openable wide

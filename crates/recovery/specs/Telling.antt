@@ -5,8 +5,9 @@ use Rattle.disk_slots.specs.declared.master.Master.{Master}
 use Rattle.disk_image.specs.MasterSlots.{master_on}
 use Rattle.recovery.specs.Masters.{IsOpenable}
 
--- it tells of the areas of the master and of the pages, and, if the master that counts is one by which disks are opened, of each of its logs
-pub record TellsAll (s : Story) : Type 0 where
+-- it tells of the areas of the master and of the pages, and, if the master that counts is one by which disks of at most so many logs are opened, of
+-- each of its logs
+pub record TellsAll (most : ℕ) (s : Story) : Type 0 where
   pub master : Tells s 0
   pub pages : Tells s 1
-  pub logs : (m : Master) → master_on (s.area 0).bytes ≡ Some m → IsOpenable m → (w : ℕ) → 0 < w → w ≤ length m.heads → Tells s (suc w)
+  pub logs : (m : Master) → master_on (s.area 0).bytes ≡ Some m → IsOpenable most m → (w : ℕ) → 0 < w → w ≤ length m.heads → Tells s (suc w)

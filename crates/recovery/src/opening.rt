@@ -1,5 +1,5 @@
 // The opening of a disk.
-ghost use Rattle.std.specs.Prelude.{◌≡◌, ◌<◌, ◌*◌, ◌%◌, ◌^◌, ℕ, Err, IfErr, IfOk, Some, length, slice_index};
+ghost use Rattle.std.specs.Prelude.{◌≡◌, ◌<◌, ◌≤◌, ◌+◌, ◌*◌, ◌%◌, ◌^◌, ℕ, Err, IfErr, IfOk, Some, length, slice_index};
 ghost use Rattle.lean_disk.specs.Area.{synced, written};
 ghost use Rattle.lean_disk.specs.Faults.{HasCause};
 ghost use Rattle.lean_disk.specs.Moments.{CrashIn, Framed, LeavesOnly};
@@ -39,7 +39,7 @@ pub struct Recovered {
 /// Why a disk was not opened.
 #[derive(Clone, Copy, Debug, PartialEq, Eq)]
 pub enum Unrecovered {
-    /// It has no valid master, or one of several logs, or whose numbers are spent.
+    /// It has no valid master, or one of more logs than the caller can write, or whose numbers are spent.
     NotFormatted,
     /// This place of the area breaks a rule: a page of area 1, a block of log w in area 1 + w.
     Damaged { area: u32, place: u64 },
@@ -94,30 +94,33 @@ fn write_next<D: Disk>(disk: &mut D, master: &Master) -> Did
 }
 
 /// Opens a disk: syncs and reads the master, the pages and the logs; redoes and undoes; saves the pages to their spare slots
-/// under the next generation; and then writes the next master.
-pub fn recover<D: Disk>(alloc: Global, disk: &mut D) -> Result<Recovered, Unrecovered>
-    ensures answer { IfOk result (λ r. TellsAll (D.story disk.old) → (m : Master) × IsOpenable m × IsRecovered m (areas_of (D.story disk.old)) r) }
-    ensures opened { IfOk result (λ r. TellsAll (D.story disk.old) → (m : Master) → IsCleanDisk m (areas_of (D.story disk.old))
+/// under the next generation; and then writes the next master. The caller can write `most` logs, so a disk of more is not opened.
+pub fn recover<D: Disk>(alloc: Global, disk: &mut D, most: u32) -> Result<Recovered, Unrecovered>
+    ensures answer { IfOk result (λ r. TellsAll most (D.story disk.old) → (m : Master) × IsOpenable most m × IsRecovered m (areas_of (D.story disk.old)) r) }
+    ensures opened { IfOk result (λ r. TellsAll most (D.story disk.old) → (m : Master) → IsCleanDisk m (areas_of (D.story disk.old))
         → IsOpened m (areas_of (D.story disk.old)) r (D.story disk.new)) }
-    ensures installed { IfOk result (λ r. TellsAll (D.story disk.old) → (m : Master) → master_on (areas_of (D.story disk.old) 0) ≡ Some m
+    ensures installed { IfOk result (λ r. TellsAll most (D.story disk.old) → (m : Master) → master_on (areas_of (D.story disk.old) 0) ≡ Some m
         → HasInstalled m r (D.story disk.old) (D.story disk.new)) }
     ensures whole { IfOk result IsWhole }
+    ensures few { IfOk result (λ r. length r.master.heads ≤ most) }
     ensures logs { (a : ℕ) → 1 < a → IsUntouched ((D.story disk.old).area a) ((D.story disk.new).area a) }
-    ensures others { (a : ℕ) → 2 < a → (D.story disk.new).area a ≡ (D.story disk.old).area a }
+    ensures others { (a : ℕ) → 1 + most < a → (D.story disk.new).area a ≡ (D.story disk.old).area a }
+    ensures beyond { IfOk result (λ r. (a : ℕ) → 1 + length r.master.heads < a → (D.story disk.new).area a ≡ (D.story disk.old).area a) }
     ensures keeps { Keeps (D.story disk.old) (D.story disk.new) }
 
     // A disk that is refused is left as it was.
     ensures left { IfErr result (λ why. IsRefusal why → (a : ℕ) → IsUntouched ((D.story disk.old).area a) ((D.story disk.new).area a)) }
 
-    // It is refused exactly where no master is there by which it can be opened.
-    ensures cause_not_formatted { result ≡ Err Unrecovered.NotFormatted → TellsAll (D.story disk.old) → HasOpenable (areas_of (D.story disk.old)) → ⊥ }
-    ensures cause_damaged { (area place : ℕ) → result ≡ Err (Unrecovered.Damaged area place) → TellsAll (D.story disk.old) → IsDamaged (areas_of (D.story disk.old)) area place }
+    // NotFormatted is answered exactly where no master is there by which it can be opened, whatever else is wrong with it.
+    ensures cause_not_formatted { result ≡ Err Unrecovered.NotFormatted → TellsAll most (D.story disk.old) → HasOpenable most (areas_of (D.story disk.old)) → ⊥ }
+    ensures formatted { (area place : ℕ) → result ≡ Err (Unrecovered.Damaged area place) → TellsAll most (D.story disk.old) → HasOpenable most (areas_of (D.story disk.old)) }
+    ensures cause_damaged { (area place : ℕ) → result ≡ Err (Unrecovered.Damaged area place) → TellsAll most (D.story disk.old) → IsDamaged (areas_of (D.story disk.old)) area place }
     ensures cause_disk_fault { HasCause (D.faults disk.old) (D.faults disk.new) (result ≡ Err Unrecovered.DiskFault) }
 
     // Whenever it stops, a clean disk stands for the same map.
-    ensures any_moment { (m : Master) → TellsAll (D.story disk.old) → IsCleanDisk m (areas_of (D.story disk.old)) → LeavesOnly (D.story disk.old) (D.story disk.new) (RecoveryLeaves m (D.story disk.old)) }
+    ensures any_moment { (m : Master) → TellsAll most (D.story disk.old) → IsCleanDisk m (areas_of (D.story disk.old)) → LeavesOnly (D.story disk.old) (D.story disk.new) (RecoveryLeaves m (D.story disk.old)) }
 {
-    let it = match prepare(alloc, disk) {
+    let it = match prepare(alloc, disk, most) {
         Ok(it) => it,
         Err(error) => return Err(error),
     };

@@ -45,7 +45,8 @@ fn has_pages(alloc: Global, image: &Image, nodes: &[Node]) -> Result<bool, Alloc
     Ok(true)
 }
 
-fn is_same(a: &Page, b: &Page) -> bool {
+/// Whether they are the same page.
+pub fn is_same(a: &Page, b: &Page) -> bool {
     a.number == b.number
         && a.log == b.log
         && a.node.live == b.node.live

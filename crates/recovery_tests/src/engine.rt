@@ -1,4 +1,4 @@
-// Recovery by the engine, on a disk in memory.
+// Recovery by the engine's parts, on a disk in memory.
 ghost use Rattle.std.specs.Prelude.{◌≡◌, ◌<◌, ◌≤◌, length, IfOk};
 ghost use Rattle.std.proofs.Props.{props};
 ghost use Rattle.recovery_scan.specs.Scans.{AreOfLogs};
@@ -6,7 +6,7 @@ ghost use Rattle.master_store.specs.Masters.{IsOfSlot};
 
 use btree_node::Node;
 use disk_slots::Master;
-use lean_disk::{AreaOf, Disk, MemDisk};
+use lean_disk::{AreaOf, Disk};
 use log_index::LogIndex;
 use master_store::choose;
 use page_store::fetch;
@@ -35,16 +35,10 @@ pub struct Opened {
 }
 
 /// Reads the master, the pages and the logs of a disk.
-pub fn read_disk(alloc: Global, areas: Vec<Vec<u8>>) -> Result<Opened, Stop> {
-    if areas.is_empty() {
-        return Err(Stop::NoMaster);
-    }
-    let Ok(mut disk) = MemDisk::from_areas(alloc, areas) else {
-        return Err(Stop::Memory);
-    };
-    let master = read_master(&mut disk)?;
-    let pages = read_pages(alloc, &mut disk, &master)?;
-    let index = read_logs(alloc, &mut disk, &master)?;
+pub fn read_disk<D: Disk>(alloc: Global, disk: &mut D) -> Result<Opened, Stop> {
+    let master = read_master(disk)?;
+    let pages = read_pages(alloc, disk, &master)?;
+    let index = read_logs(alloc, disk, &master)?;
     Ok(Opened {
         floor: master.floor,
         logs: master.heads.logs(),

@@ -6,6 +6,7 @@ mod case;
 mod comparison;
 mod engine;
 mod image;
+mod opening;
 mod plain;
 
 use case::line_of;
