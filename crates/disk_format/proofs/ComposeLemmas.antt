@@ -1,5 +1,5 @@
 -- `format` as a whole, from what reading, the pages and the master each say.
-use Rattle.std.proofs.Common.{◌≡◌, inl, inr, ⊎_elim, ◌<◌, ◌+◌, ◌-◌, ℕ, zero, suc, List, [], ◌∷◌, ◌++◌, length, take, drop, replicate, refl, sym, ◌∙◌, ap, subst, arith}
+use Rattle.std.proofs.Common.{◌≡◌, inl, inr, ⊎_elim, ◌<◌, ◌≤◌, ◌+◌, ◌-◌, ℕ, zero, suc, List, [], ◌∷◌, ◌++◌, length, take, drop, replicate, refl, sym, ◌∙◌, ap, subst, arith}
 use Rattle.std.proofs.lemmas.Bool.{cases_eq}
 use Rattle.std.proofs.lemmas.List.{take_at, drop_at}
 use Rattle.image_model.specs.Fair.{piece}
@@ -26,7 +26,7 @@ module _ (shape : Shape) (s0 s1 : Story) (still : OnlyReads s0 s1) where
   pub read_moments : LeavesOnly s0 s1 (FormatLeaves shape s0)
   read_moments = weaker s0 s1 (AsAt s0) (FormatLeaves shape s0) (λ c was. not_touched shape s0 c was.leaves (was.writes 0)) still.any_moment
 
-  module _ (none : Tells s0 0 → HasMaster (s0.area 0).bytes → ⊥) (s2 : Story) (laying : LeavesOnly s1 s2 (CrashIn s1 1 Anything)) (frame : Framed 1 s1 s2) where
+  module _ (few : shape.workers ≤ 16) (none : Tells s0 0 → HasMaster (s0.area 0).bytes → ⊥) (s2 : Story) (laying : LeavesOnly s1 s2 (CrashIn s1 1 Anything)) (frame : Framed 1 s1 s2) where
     told_1 : (a : ℕ) → Tells s0 a → Tells s1 a
     told_1 a told = still.tells a ∙ told
 
@@ -35,7 +35,7 @@ module _ (shape : Shape) (s0 s1 : Story) (still : OnlyReads s0 s1) where
 
     lay_moments : LeavesOnly s1 s2 (FormatLeaves shape s0)
     lay_moments = weaker s1 s2 (CrashIn s1 1 Anything) (FormatLeaves shape s0)
-        (λ c in_1. besides_pages shape s0 c none
+        (λ c in_1. besides_pages shape s0 c few none
         (λ a lt told. leaves_1 c a (in_1.leaves a (λ e. absurd (omega (arith, e, lt))) (told_1 a told)))
         (λ t0. in_1.writes 0 (λ e. absurd (omega (arith, e))) (told_1 0 t0) ∙ ap (λ (x : Area). x.writes) (same_1 0)))
         laying
@@ -65,7 +65,7 @@ module _ (shape : Shape) (s0 s1 : Story) (still : OnlyReads s0 s1) where
 
       master_moments : LeavesOnly s2 s3 (FormatLeaves shape s0)
       master_moments = weaker s2 s3 (CrashIn s2 0 (WritesOnce 0 (first_slot shape) (s2.area 0))) (FormatLeaves shape s0)
-          (λ c in_0. with_master shape s0 c none
+          (λ c in_0. with_master shape s0 c few none
           (λ a lt told. subst (λ (x : Area). Leaves x (c.image a)) (same_2 a (λ e. absurd (omega (arith, e, lt)))) (in_0.leaves a (λ e. absurd (omega (arith, e, lt))) (told_2 a told)))
           (λ t0. ⊎_elim
           (λ e. inl (e ∙ ap (λ (x : Area). x.writes) area_0))
@@ -95,12 +95,12 @@ module _ (shape : Shape) (s0 s1 : Story) (still : OnlyReads s0 s1) where
       slots : (old : List ℕ) → put_over 0 (first_slot shape) old ≡ first_slot shape ++ drop 1024 old
       slots old =
           let none_before : 0 - length old ≡ 0 = omega arith in
-          let behind : 0 + length (first_slot shape) ≡ 1024 = omega (arith, length-first_slot shape) in
+          let behind : 0 + length (first_slot shape) ≡ 1024 = omega (arith, length-first_slot shape few) in
           let slot : List ℕ = first_slot shape in
           ap (λ (n : ℕ). replicate n 0 ++ slot ++ drop (0 + length slot) old) none_before ∙ ap (λ (n : ℕ). slot ++ drop n old) behind
 
       no_second : (old : List ℕ) → IsMaster 1 (piece 1024 1 (put_over 0 (first_slot shape) old)) → IsMaster 1 (piece 1024 1 old)
-      no_second old m = subst (λ (bs : List ℕ). IsMaster 1 (take 1024 bs)) (ap (drop 1024) (slots old) ∙ drop_at (first_slot shape) (drop 1024 old) 1024 (length-first_slot shape)) m
+      no_second old m = subst (λ (bs : List ℕ). IsMaster 1 (take 1024 bs)) (ap (drop 1024) (slots old) ∙ drop_at (first_slot shape) (drop 1024 old) 1024 (length-first_slot shape few)) m
 
       -- all is written and synced
       pub new_disk : (Tells s3 0 → s3.area 0 ≡ synced (written 0 (first_slot shape) (s2.area 0))) → IsNewDisk shape s0 s3
@@ -109,7 +109,7 @@ module _ (shape : Shape) (s0 s1 : Story) (still : OnlyReads s0 s1) where
             let pages : HasSyncedPages shape.pages (s2.area 1) = synced_pages (told_2 1 t1) in
             let bytes_0 : (s3.area 0).bytes ≡ put_over 0 (first_slot shape) (s0.area 0).bytes = ap (λ (x : Area). x.bytes) (is (keeps_3.tells 0 ∙ t0)) ∙ ap (λ (x : Area). put_over 0 (first_slot shape) x.bytes) area_0 in
             record {
-              master = ap (take 1024) (bytes_0 ∙ slots (s0.area 0).bytes) ∙ take_at (first_slot shape) (drop 1024 (s0.area 0).bytes) 1024 (length-first_slot shape);
+              master = ap (take 1024) (bytes_0 ∙ slots (s0.area 0).bytes) ∙ take_at (first_slot shape) (drop 1024 (s0.area 0).bytes) 1024 (length-first_slot shape few);
               no_other = λ m. none t0 (inr (no_second (s0.area 0).bytes (subst (λ (bs : List ℕ). IsMaster 1 (piece 1024 1 bs)) bytes_0 m)));
               pages = subst (λ (x : Area). HasPages shape.pages x.bytes) (sym (frame3.elsewhere 1 (λ e. absurd (omega (arith, e))))) pages.fresh;
             };

@@ -1,5 +1,5 @@
 -- What a crash in `format` may leave, by what it leaves of each area.
-use Rattle.std.proofs.Common.{◌≡◌, ◌⊎◌, inl, inr, ⊎_elim, ◌<◌, ◌-◌, ◌*◌, ℕ, true, false, List, [], ◌∷◌, length, take, sym, ◌∙◌, ap, subst, arith}
+use Rattle.std.proofs.Common.{◌≡◌, ◌⊎◌, inl, inr, ⊎_elim, ◌<◌, ◌≤◌, ◌-◌, ◌*◌, ℕ, true, false, List, [], ◌∷◌, length, take, sym, ◌∙◌, ap, subst, arith}
 use Rattle.std.proofs.lemmas.Bool.{cases_Bool, true≢false}
 use Rattle.std.proofs.lemmas.Slice.Eq.{bytes_eq-Decides}
 use Rattle.std.specs.Str.{bytes_eq}
@@ -72,7 +72,7 @@ module _ (shape : Shape) (s : Story) (c : Crash) where
     formatted = λ t0 t1 fair none. inl (λ has. none (stood_master s c fair (same t0) has));
   }
 
-  module _ (none : Tells s 0 → HasMaster (s.area 0).bytes → ⊥) (logs : (a : ℕ) → 1 < a → Tells s a → Leaves (s.area a) (c.image a)) where
+  module _ (few : shape.workers ≤ 16) (none : Tells s 0 → HasMaster (s.area 0).bytes → ⊥) (logs : (a : ℕ) → 1 < a → Tells s a → Leaves (s.area a) (c.image a)) where
     -- only pages were
     pub besides_pages : (Tells s 0 → c.writes 0 ≡ (s.area 0).writes) → FormatLeaves shape s c
     besides_pages same = record {
@@ -88,15 +88,15 @@ module _ (shape : Shape) (s : Story) (c : Crash) where
       found : (bytes_eq (piece 1024 0 (c.image 0)) slot ≡ true) ⊎ (bytes_eq (piece 1024 0 (c.image 0)) slot ≡ false) → (HasMaster (c.image 0) → ⊥) ⊎ IsFormatted shape c.image
       found (inl equal) = inr (record {
         master = (bytes_eq-Decides (piece 1024 0 (c.image 0)) slot).0 equal;
-        no_other = λ m. none t0 (inr (subst (IsMaster 1) (written_1 s c fair slot (length-first_slot shape) one m.sealed) m));
+        no_other = λ m. none t0 (inr (subst (IsMaster 1) (written_1 s c fair slot (length-first_slot shape few) one m.sealed) m));
         pages = pages;
       })
       found (inr differ) = inl (λ has. ⊎_elim
           (λ (m : IsMaster 0 (piece 1024 0 (c.image 0))). ⊎_elim
           (λ e. none t0 (inl (subst (IsMaster 0) e m)))
           (λ (e : piece 1024 0 (c.image 0) ≡ slot). absurd (let equal : bytes_eq (piece 1024 0 (c.image 0)) slot ≡ true = (bytes_eq-Decides (piece 1024 0 (c.image 0)) slot).1 e in true≢false (sym equal ∙ differ)))
-          (written_0 s c fair slot (length-first_slot shape) one m.sealed))
-          (λ (m : IsMaster 1 (piece 1024 1 (c.image 0))). none t0 (inr (subst (IsMaster 1) (written_1 s c fair slot (length-first_slot shape) one m.sealed) m)))
+          (written_0 s c fair slot (length-first_slot shape few) one m.sealed))
+          (λ (m : IsMaster 1 (piece 1024 1 (c.image 0))). none t0 (inr (subst (IsMaster 1) (written_1 s c fair slot (length-first_slot shape few) one m.sealed) m)))
           has)
 
     -- the master was, or is being

@@ -1,5 +1,5 @@
 -- A fresh page.
-use Rattle.std.proofs.Common.{◌≡◌, ◌-◌, ◌==◌, ◌^◌, ℕ, List, length, replicate, arith, length-append, Bool, true, false, if◌then◌else◌}
+use Rattle.std.proofs.Common.{◌≡◌, ◌+◌, ◌-◌, ◌==◌, ◌^◌, ◌≤◌, ℕ, List, ◌++◌, length, replicate, arith, length-append, Bool, true, false, if◌then◌else◌}
 use Rattle.std.proofs.lemmas.List.{length-replicate}
 use Rattle.page_model.specs.Nodes.{free}
 use Rattle.page_model.specs.Page.{Page, empty_leaf, new_page}
@@ -36,6 +36,11 @@ pub length-fresh_page : (p : ℕ) → length (fresh_page p) ≡ 2048
 unfolding fresh_page
 length-fresh_page p = omega (arith, length-append (page_slot (new_page p (fresh_node p))) (replicate 1024 0), length-fresh_slot p, length-replicate {A = ℕ} 1024 0)
 
-pub length-first_slot : (shape : Shape) → length (first_slot shape) ≡ 1024
+pub length-first_slot : (shape : Shape) → shape.workers ≤ 16 → length (first_slot shape) ≡ 1024
 unfolding master_slot
-length-first_slot shape = length-slot_of _ (master_words (first_master shape)) (omega (arith, length-replicate {A = ℕ} 118 0))
+length-first_slot shape few =
+    let m = first_master shape in
+    let long : length m.heads ≡ shape.workers = length-replicate {A = ℕ} shape.workers 0 in
+    let rest : length (replicate {A = ℕ} (119 - length m.heads) 0) ≡ 119 - length m.heads = length-replicate {A = ℕ} (119 - length m.heads) 0 in
+    let both : length (m.heads ++ replicate {A = ℕ} (119 - length m.heads) 0) ≡ length m.heads + length (replicate {A = ℕ} (119 - length m.heads) 0) = length-append m.heads (replicate (119 - length m.heads) 0) in
+    length-slot_of _ (master_words m) (omega (arith, both, rest, long))

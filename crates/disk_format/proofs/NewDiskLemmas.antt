@@ -1,5 +1,5 @@
 -- A disk as `format` leaves it is clean, and stands for the empty map.
-use Rattle.std.proofs.Common.{◌≡◌, ⊎_elim, ◌<◌, ◌≤◌, ◌+◌, ◌-◌, ◌*◌, ◌^◌, ◌%◌, ◌==◌, ltb, ℕ, zero, suc, Bool, true, false, cond, List, [], ◌∷◌, ◌++◌, take, drop, replicate, Option, Some, None, refl, sym, ◌∙◌, ap, subst, arith, append_assoc, get_or}
+use Rattle.std.proofs.Common.{◌≡◌, ⊎_elim, ◌<◌, ◌≤◌, ◌+◌, ◌-◌, ◌*◌, ◌^◌, ◌%◌, ◌==◌, ltb, ℕ, zero, suc, Bool, true, false, cond, List, [], ◌∷◌, ◌++◌, length, take, drop, replicate, Option, Some, None, refl, sym, ◌∙◌, ap, subst, arith, append_assoc, get_or}
 use Rattle.std.proofs.lemmas.List.{take_at, drop_at, drop-drop, take-append-drop, length-replicate}
 use Rattle.std.proofs.lemmas.Bool.{cases_Bool, and_from, lt-ltb, le-ltb, cond-true, cond-false}
 use Rattle.std.proofs.lemmas.Nat.{mod_below}
@@ -152,18 +152,29 @@ module _ (n : ℕ) (area : List ℕ) (none : HasNoBlock n area) where
 
 -- ## The disk
 
-module _ (shape : Shape) (area : ℕ → List ℕ) (fit : IsShape shape) (is : IsFormatted shape area) (none : HasNoBlock shape.blocks (area 2)) where
+zero_head : (n k : ℕ) → ◌≡◌ {A = ℕ} (get_or {A = ℕ} (replicate {A = ℕ} n 0) k 0) 0
+zero_head zero k = refl
+zero_head (suc n) zero = refl
+zero_head (suc n) (suc k) = zero_head n k
+
+module _ (shape : Shape) (area : ℕ → List ℕ) (fit : IsShape shape) (is : IsFormatted shape area) (none : (w : ℕ) → 0 < w → w ≤ shape.workers → HasNoBlock shape.blocks (area (suc w))) where
   abbrev m : Master
   m = first_master shape
 
   abbrev s : Shown
   s = shown_by m area
 
+  logs_are : length m.heads ≡ shape.workers
+  logs_are = length-replicate shape.workers 0
+
+  head_is : (k : ℕ) → get_or m.heads k 0 ≡ 0
+  head_is k = zero_head shape.workers k
+
   holds : HoldsMaster 0 m
   holds = record {
     pages = (fit.pages.0, omega (arith, fit.pages.1));
     blocks = fit.blocks;
-    logs = (omega arith, omega arith);
+    logs = (let few = fit.workers in omega (arith, logs_are, few.0), let few = fit.workers in omega (arith, logs_are, few.1));
     parity = refl;
     sequence = omega arith;
     generation = omega arith;
@@ -171,9 +182,8 @@ module _ (shape : Shape) (area : ℕ → List ℕ) (fit : IsShape shape) (is : I
     heads = heads;
   }
     where
-      heads : (k : ℕ) → k < 1 → get_or (0 ∷ []) k 0 < 2 ^ 63
-      heads zero lt = omega arith
-      heads (suc k) lt = absurd (omega (arith, lt))
+      heads : (k : ℕ) → k < length m.heads → get_or m.heads k 0 < 2 ^ 63
+      heads k lt = omega (arith, head_is k)
 
   master_is : master_on (area 0) ≡ Some m
   master_is =
@@ -183,16 +193,15 @@ module _ (shape : Shape) (area : ℕ → List ℕ) (fit : IsShape shape) (is : I
       is.no_other (record { sealed = (every_master 1 o).sealed (piece 1024 1 (area 0)) slot; master = o; is = slot })) in
       ap (λ (o : Option Master). newer o (master_in 1 (piece 1024 1 (area 0)))) zero_is ∙ ap (λ (o : Option Master). newer (Some m) o) one_is
 
-  -- the log
-  log_none : run_of m 1 (area 2) ≡ []
-  log_none = run_none shape.blocks (area 2) none 0 1 shape.blocks 0 (omega (arith, fit.blocks.0))
+  -- the logs
+  one_of : (w : ℕ) → w ≤ length m.heads → w ≤ shape.workers
+  one_of w last = omega (arith, logs_are, last)
 
-  -- what holds of the one log holds of each
-  only_log : (P : ℕ → Type 0) (w : ℕ) → 0 < w → w ≤ 1 → P 1 → P w
-  only_log P w some last h = subst P (let e : 1 ≡ w = omega (arith, some, last) in e) h
+  log_none : (w : ℕ) → 0 < w → w ≤ length m.heads → run_of m w (area (suc w)) ≡ []
+  log_none w some last = run_none shape.blocks (area (suc w)) (none w some (one_of w last)) 0 w shape.blocks (get_or m.heads (w - 1) 0) (omega (arith, fit.blocks.0))
 
   readable : IsReadable m area
-  readable w some last = only_log (λ v. AreReadable 0 v (run_of m v (area (suc v)))) w some last (subst (AreReadable 0 1) (sym log_none) tt)
+  readable w some last = subst (AreReadable 0 w) (sym (log_none w some last)) tt
 
   -- the slots
   abbrev fresh_slot : ℕ → Slot
@@ -237,8 +246,8 @@ module _ (shape : Shape) (area : ℕ → List ℕ) (fit : IsShape shape) (is : I
     pages = λ p lt. same_base p lt ∙ base_is p lt;
     beyond = no_base;
     slots = λ p i x lt two e. let first : x.generation ≡ 0 = of_first p i x lt two (sym (kept p i lt) ∙ e) in omega (arith, first);
-    logs = λ w some last. only_log (λ v. s.log v ≡ []) w some last (ap (λ (bs : List Block). entries_in (logged_onto 0 1 shape.blocks [] bs)) log_none);
-    sealed = λ w some last. only_log (λ v. s.sealed v ≡ []) w some last (sealed_none shape.blocks (area 2) none shape.blocks (omega arith));
+    logs = λ w some last. ap (λ (bs : List Block). entries_in (logged_onto 0 w shape.blocks [] bs)) (log_none w some last);
+    sealed = λ w some last. sealed_none shape.blocks (area (suc w)) (none w some (one_of w last)) shape.blocks (omega arith);
   }
 
   laws : FormattedLaws cut

@@ -1,5 +1,5 @@
 -- A page and a master as `format` writes them.
-use Rattle.std.specs.Prelude.{ℕ, ◌^◌, ◌-◌, ◌==◌, List, [], ◌∷◌, ◌++◌, replicate, if◌then◌else◌}
+use Rattle.std.specs.Prelude.{ℕ, ◌^◌, ◌-◌, ◌==◌, List, ◌++◌, replicate, if◌then◌else◌}
 use Rattle.page_model.specs.Nodes.{Node, free}
 use Rattle.page_model.specs.Page.{empty_leaf, new_page}
 use Rattle.disk_slots.specs.Masters.{master_slot}
@@ -15,9 +15,9 @@ fresh_node p = if p == 0 then empty_leaf 0 (2 ^ 64 - 1) else free
 unfoldable pub fresh_page : ℕ → List ℕ
 fresh_page p = page_slot (new_page p (fresh_node p)) ++ replicate 1024 0
 
--- the first master: of one log, whose head is block 0
+-- the first master: of a log for each worker, whose head is block 0
 abbrev pub first_master : Shape → Master
-first_master shape = record { sequence = 0; generation = 0; floor = 0; pages = shape.pages; blocks = shape.blocks; heads = 0 ∷ [] }
+first_master shape = record { sequence = 0; generation = 0; floor = 0; pages = shape.pages; blocks = shape.blocks; heads = replicate shape.workers 0 }
 
 abbrev pub first_slot : Shape → List ℕ
 first_slot shape = master_slot (first_master shape)

@@ -1,5 +1,5 @@
 -- What a new disk is: clean, and of the empty map.
-use Rattle.std.specs.Prelude.{◌≤◌, ◌<◌, ℕ, List, [], None}
+use Rattle.std.specs.Prelude.{◌≤◌, ◌<◌, ℕ, suc, List, [], None}
 use Rattle.image_model.specs.Fair.{piece}
 use Rattle.log_block.specs.Block.{IsSealed}
 use Rattle.disk_image.specs.Shown.{DiskStandsFor, IsCleanDisk}
@@ -9,6 +9,7 @@ use Rattle.disk_format.specs.declared.shape.Shape.{Shape}
 
 -- a shape that words can ask for
 pub record IsShape (shape : Shape) : Type 0 where
+  pub workers : (1 ≤ shape.workers) × (shape.workers ≤ 16)
   pub pages : (16 ≤ shape.pages) × (shape.pages ≤ 4096)
   pub blocks : (64 ≤ shape.blocks) × (shape.blocks ≤ 4096)
 
@@ -21,6 +22,6 @@ pub record IsNew (shape : Shape) (area : ℕ → List ℕ) : Type 0 where
   pub clean : IsCleanDisk (first_master shape) area
   pub stands : DiskStandsFor (first_master shape) area (λ _. None) []
 
--- So is each disk as `format` leaves it, where the log has no block yet.
+-- So is each disk as `format` leaves it, where no log has a block yet.
 abbrev pub EveryNewDisk : Type 0
-EveryNewDisk = (shape : Shape) (area : ℕ → List ℕ) → IsShape shape → IsFormatted shape area → HasNoBlock shape.blocks (area 2) → IsNew shape area
+EveryNewDisk = (shape : Shape) (area : ℕ → List ℕ) → IsShape shape → IsFormatted shape area → ((w : ℕ) → 0 < w → w ≤ shape.workers → HasNoBlock shape.blocks (area (suc w))) → IsNew shape area

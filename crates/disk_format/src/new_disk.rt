@@ -56,6 +56,7 @@ fn lay_disk_pages<D: Disk>(disk: &mut D, pages: u32, buffer: &mut [u8]) -> Did
 }
 
 fn write_disk_master<D: Disk>(disk: &mut D, shape: Shape) -> Did
+    requires { shape.workers ≤ 16 }
     ensures any_moment { LeavesOnly (D.story disk.old) (D.story disk.new) (CrashIn (D.story disk.old) 0 (WritesOnce 0 (first_slot shape) ((D.story disk.old).area 0))) }
     ensures frame { Framed 0 (D.story disk.old) (D.story disk.new) }
     ensures done { result ≡ Did.Done → Tells (D.story disk.new) 0 → (D.story disk.new).area 0 ≡ synced (written 0 (first_slot shape) ((D.story disk.old).area 0)) }
@@ -64,8 +65,9 @@ fn write_disk_master<D: Disk>(disk: &mut D, shape: Shape) -> Did
     write_next(&mut AreaOf::new(disk, 0), &first_master(shape))
 }
 
-/// Makes a new disk of a shape: page 0 an empty leaf, every other page free, one log. The buffer holds 64 KiB.
+/// Makes a new disk of a shape: page 0 an empty leaf, every other page free, a log for each worker. The buffer holds 64 KiB.
 pub fn format<D: Disk>(disk: &mut D, shape: Shape, buffer: &mut [u8]) -> Formatted
+    requires workers { shape.workers ≤ 16 }
     requires pages { shape.pages ≤ 65536 }
     requires room { length buffer.old ≡ 65536 }
 

@@ -122,6 +122,7 @@ pub(crate) fn lay_pages<P: Part>(dev: &mut P, pages: u32, buffer: &mut [u8]) -> 
 
 /// The first master.
 pub(crate) fn first_master(shape: Shape) -> Master
+    requires { shape.workers ≤ 16 }
     ensures { result ≡ first_master shape }
 {
     Master {
@@ -130,6 +131,6 @@ pub(crate) fn first_master(shape: Shape) -> Master
         floor: 0,
         pages: shape.pages,
         blocks: shape.blocks,
-        heads: Heads::new(1),
+        heads: Heads::new(shape.workers),
     }
 }

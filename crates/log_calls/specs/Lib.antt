@@ -1,2 +1,4 @@
--- Read Calls.
+-- Read Calls, then Wholes and Syncs.
 pub mod Calls
+pub mod Wholes
+pub mod Syncs

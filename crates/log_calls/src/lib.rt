@@ -3,5 +3,9 @@
 
 mod calls;
 mod parts;
+mod syncs;
+mod wholes;
 
 pub use calls::{flush, stage, stage_end};
+pub use syncs::sync_master;
+pub use wholes::flush_whole;

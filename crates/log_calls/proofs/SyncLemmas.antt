@@ -1,0 +1,20 @@
+-- The master of a sync is the next of a run.
+use Rattle.std.proofs.Common.{◌≡◌}
+use Rattle.core_state.specs.Events.{Event}
+use Rattle.disk_image.specs.Laws.{EverySealed}
+use Rattle.disk_slots.specs.declared.master.Master.{Master}
+use Rattle.lean_disk.specs.Story.{Story}
+use Rattle.lean_disk.specs.declared.disk.Did.{Did}
+use Rattle.lean_disk.specs.declared.disk.Did.TheVariants as did
+use Rattle.worker_log.specs.Laws.{EveryKept, EveryPrefix}
+use Rattle.core_disk.specs.Versions.{EveryVersion}
+use Rattle.disk_runs.specs.MasterLaws.{WritesNext, with_sync}
+use Rattle.disk_runs.proofs.NextLemmas.{every_next_master, every_sync}
+use Rattle.log_calls.specs.Syncs.{KeepsEither, SyncsOn}
+
+module _ (versions : EveryVersion) (keeps : EveryKept) (prefixes : EveryPrefix) (seals : EverySealed) (m : Master) (r : Did) (old new : Story) (writes : WritesNext m r old new) where
+  pub syncs : r ≡ did.Done → SyncsOn m old new
+  syncs done s0 g es x n stands is = (every_next_master keeps prefixes seals old new s0 g es (Event.Sync n) x (with_sync x m n) r stands (every_sync versions old s0 g es x m n stands is) writes).after done
+
+  pub either : KeepsEither m old new
+  either s0 g es x n stands is = (every_next_master keeps prefixes seals old new s0 g es (Event.Sync n) x (with_sync x m n) r stands (every_sync versions old s0 g es x m n stands is) writes).any_moment

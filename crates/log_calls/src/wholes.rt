@@ -1,0 +1,32 @@
+// A flush of log `number` as a sync needs it.
+ghost use Rattle.std.specs.Prelude.{◌≡◌, ◌≤◌, IsErr, OnOk};
+ghost use Rattle.lean_disk.specs.Faults.{HasCause};
+ghost use Rattle.worker_log.specs.Kept.{IsInRange};
+ghost use Rattle.log_calls.specs.Calls.{KeepsMoments};
+ghost use Rattle.log_calls.specs.Wholes.{FlushesWhole};
+
+use crate::calls::flush;
+use lean_disk::Disk;
+use worker_log::{DiskFault, WorkerLog};
+
+/// Flushes log `number`, if something of it is not flushed yet: nothing is left then, and no device is called where nothing was.
+pub fn flush_whole<D: Disk>(disk: &mut D, log: &mut WorkerLog, number: u32) -> Result<(), DiskFault>
+    requires number { number ≤ 16 }
+    ensures ranges { IsInRange log.new }
+    ensures same_log { log.old.last ≡ log.old.flushed → log.new ≡ log.old }
+    ensures same_disk { log.old.last ≡ log.old.flushed → disk.new ≡ disk.old }
+    ensures stands { OnOk result (FlushesWhole number log.old log.new (D.story disk.old) (D.story disk.new)) }
+    ensures any_moment { KeepsMoments number log.old (D.story disk.old) (D.story disk.new) }
+    ensures same_notes { (D.story disk.new).notes ≡ (D.story disk.old).notes }
+
+    ensures cause_disk_fault { HasCause (D.faults disk.old) (D.faults disk.new) (IsErr result) }
+{
+    worker_log::every_kept();
+    worker_log::every_prefix();
+    disk_image::every_sealed();
+    if log.last() == log.flushed() {
+        return Ok(());
+    }
+    flush(disk, log, number)?;
+    Ok(())
+}
