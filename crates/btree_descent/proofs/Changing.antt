@@ -41,6 +41,7 @@ use Rattle.btree_descent.specs.Puts.{clock_in, drawn_at, body_by, write_of, IsLe
 use Rattle.btree_descent.specs.Spots.{MayBy, IsUndrawn, record_of, IsPutting, put_of}
 use Rattle.btree_descent.proofs.Spots.{place_find, never_none, back_after}
 use Rattle.btree_descent.proofs.Calls.{sound_after}
+use Rattle.btree_descent.proofs.Pasts.{onward_after}
 use Rattle.btree_descent.specs.Known.{IsSound}
 
 -- the record of a write by a worker in this state, of a page with these contents
@@ -166,13 +167,6 @@ had_leaf z u w row c s l t d n it r =
     }
 
 -- ## After the way
-
-pub onward_after : (alone : Bool) (v u : View) (past : List Event) → Ran alone v [] u → Onward alone u past → Onward alone v past
-onward_after alone v u past r o = record {
-  between = r.more ++ o.between;
-  whole = o.whole ∙ (ap (λ es. es ++ o.between) r.seen ∙ append_assoc v.seen r.more o.between);
-  quiet = λ y i. r.all y i ++ o.quiet y i;
-}
 
 pub refused_after : (alone : Bool) (worker key : ℕ) (v u w : View) (put : Put) → Ran alone v [] u → Refused alone worker key u put w → Refused alone worker key v put w
 refused_after alone worker key v u w (Done before) r d = absurd d

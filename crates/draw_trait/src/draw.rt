@@ -37,6 +37,9 @@ pub trait Draw {
     // The loans over which it reaches its log. No call changes them, so what was lent comes back as the last call left it.
     ghost loans_of: { Self → List ℕ } = { λ _. [] };
 
+    // What touching makes of it beyond its clock, as the implementation says it.
+    ghost touches: { Self → Self → Type 0 } = { λ _ _. Unit {0} };
+
     // When staging has this outcome, and what it makes of the log and its disk beyond that, as the implementation says it. Touching and
     // drawing have no part in it.
     ghost stages: { Self → Result (Unit {0}) Unstaged → Self → Type 0 } = { λ _ _ _. Unit {0} };
@@ -55,6 +58,7 @@ pub trait Draw {
         ensures clock { clock_of self.new ≡ touched (log_of self.old) (clock_of self.old) number log }
         ensures last { last_of self.new ≡ last_of self.old }
         ensures staged { staged_of self.new ≡ staged_of self.old }
+        ensures touches { touches self.old self.new }
         ensures stages { (r : _) (s : Self) → stages self.new r s → stages self.old r s };
 
     /// Draws the next number, which is above that of the log's last record.

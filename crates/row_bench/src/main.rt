@@ -8,7 +8,7 @@ ghost use Rattle.page_model.specs.Tree.{IsTree};
 ghost use Rattle.disk_image.specs.Formats.{format_of};
 ghost use Rattle.node_tree.specs.Nodes.{nodes_of};
 
-use btree_descent::descent::Answer;
+use btree_descent::descent::{Answer, Found};
 use btree_node::Node;
 use key_locks::mode::Mode;
 use node_tree::{first_break, leaf_of};
@@ -76,7 +76,13 @@ fn finds(sessions: &mut Sessions, times: u64) -> u64
     let mut sum = 0u64;
     for _ in 0..times {
         let key = next_key(&mut state);
-        if let Answer::Found(Some(word)) = sessions.find(key) {
+        if let Answer::Found(
+            Found {
+                word: Some(word),
+                ..
+            },
+        ) = sessions.find(key)
+        {
             sum = sum.wrapping_add(word);
         }
     }

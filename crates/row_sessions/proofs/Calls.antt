@@ -23,7 +23,7 @@ use Rattle.row_sessions.proofs.Standings.{ran_state, goes_state, miss_same, read
 -- ## A find of the main actor
 
 pub went_core : (key : ℕ) (v w : View) (a : Answer) → ((state v).core.worker 0).is_open ≡ false → Went true 0 key v a w → (w.given ≡ v.given) × ((state w).core ≡ (state v).core)
-went_core key v w (answer.Found word) closed d = (d.ran.given, ap (λ m. m.core) (ran_state v w _ d.ran) ∙ read_same v.given (state v) 0 d.page key (said word) closed)
+went_core key v w (answer.Found found) closed d = (d.answered.ran.given, ap (λ m. m.core) (ran_state v w _ d.answered.ran) ∙ read_same v.given (state v) 0 d.answered.page key (said found.word) closed)
 went_core key v w (answer.Cold page) closed d = (d.ran.given, ap (λ m. m.core) (ran_state v w [] d.ran))
 went_core key v w (answer.Moved m) closed r = (r.given, ap (λ m. m.core) (ran_state v w _ r) ∙ miss_same v.given (state v) 0)
 went_core key v w (answer.Latched l) closed r = (r.given, ap (λ m. m.core) (ran_state v w _ r) ∙ miss_same v.given (state v) 0)

@@ -20,6 +20,8 @@ pub enum Call {
     End,
     /// By the main actor, whoever the worker is.
     Find(u32),
+    /// A find too, of which the leaf's stamp is told.
+    Stamp(u32),
     Lock(u32, Mode),
     Put(u32, u64),
     Unlock(u32),
@@ -34,6 +36,8 @@ pub enum Told {
     Locked,
     /// The key's word, or the word that it had.
     Word(Option<u64>),
+    /// Number and log of the last record that changed the key's leaf.
+    Stamp(u64, u32),
     /// The worker has no transaction open, or one with no change left.
     NotOpen,
     /// This worker is in the way.
@@ -55,6 +59,7 @@ pub fn answer(sessions: &mut Sessions, worker: u32, call: Call) -> Told
         Call::Begin => Told::Did(sessions.begin(worker)),
         Call::End => Told::Did(sessions.end(worker)),
         Call::Find(key) => found(sessions.find(u64::from(key))),
+        Call::Stamp(key) => stamped(sessions.find(u64::from(key))),
         Call::Lock(key, mode) => locked(sessions.lock(worker, u64::from(key), mode)),
         Call::Put(key, word) => put(sessions.put(worker, u64::from(key), word.min(TOMBSTONE))),
         Call::Unlock(key) => Told::Did(sessions.unlock(worker, u64::from(key))),
@@ -63,7 +68,14 @@ pub fn answer(sessions: &mut Sessions, worker: u32, call: Call) -> Told
 
 fn found(answer: Answer) -> Told {
     match answer {
-        Answer::Found(word) => Told::Word(word),
+        Answer::Found(found) => Told::Word(found.word),
+        _ => Told::Other,
+    }
+}
+
+fn stamped(answer: Answer) -> Told {
+    match answer {
+        Answer::Found(found) => Told::Stamp(found.number, found.log),
         _ => Told::Other,
     }
 }

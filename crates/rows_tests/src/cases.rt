@@ -19,7 +19,7 @@ struct Scenario {
     cases: &'static [Case],
 }
 
-static SCENARIOS: [Scenario; 4] = [
+static SCENARIOS: [Scenario; 5] = [
     Scenario {
         name: "a full leaf takes a key that it has and no other",
         cases: &[
@@ -41,6 +41,19 @@ static SCENARIOS: [Scenario; 4] = [
             Case(1, Call::Find(10), Told::Word(Some(TOMBSTONE))),
             Case(1, Call::Put(10, 3), Told::Word(Some(TOMBSTONE))),
             Case(1, Call::Find(10), Told::Word(Some(3))),
+        ],
+    },
+    Scenario {
+        name: "a find tells the stamp of the leaf, which the last put there left",
+        cases: &[
+            Case(1, Call::Stamp(590), Told::Stamp(0, 0)),
+            Case(1, Call::Begin, Told::Did(true)),
+            Case(2, Call::Begin, Told::Did(true)),
+            Case(1, Call::Put(10, 3), Told::Word(Some(1))),
+            Case(1, Call::Stamp(590), Told::Stamp(8, 1)),
+            Case(2, Call::Put(20, 4), Told::Word(Some(2))),
+            Case(1, Call::Stamp(5), Told::Stamp(9, 2)),
+            Case(1, Call::Stamp(1000), Told::Stamp(0, 0)),
         ],
     },
     Scenario {

@@ -88,6 +88,8 @@ impl Model {
             Call::Begin => Told::Did(self.begin(worker)),
             Call::End => Told::Did(self.end(worker)),
             Call::Find(_) => Told::Word(self.word(place.leaf, place.slot)),
+            // It keeps no numbers.
+            Call::Stamp(_) => Told::Other,
             Call::Lock(_, mode) => self.lock(worker, place.row, mode),
             Call::Put(_, word) => self.put(worker, place, word),
             Call::Unlock(_) => Told::Did(self.unlock(worker, place.row)),
