@@ -12,6 +12,7 @@ use std::time::Instant;
 use std::{env, io};
 
 const SHAPE: Shape = Shape {
+    workers: 1,
     pages: 1024,
     blocks: 4096,
 };

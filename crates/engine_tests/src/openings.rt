@@ -107,11 +107,11 @@ fn value(it: &Recovered) -> Option<u64> {
 }
 
 fn value_on(alloc: Global, disk: &mut MemDisk) -> Result<Option<u64>, Unrecovered> {
-    Ok(value(&recover(alloc, disk)?))
+    Ok(value(&recover(alloc, disk, 1)?))
 }
 
 fn opened(alloc: Global, disk: &mut MemDisk) -> Result<([u64; 5], Option<u64>), Unrecovered> {
-    let it = recover(alloc, disk)?;
+    let it = recover(alloc, disk, 1)?;
     let master = &it.master;
     let counts = [
         it.winners,

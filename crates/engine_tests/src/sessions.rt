@@ -1,12 +1,13 @@
 // An engine's calls by their types, on a disk in memory that `format` made. The expected results were written down by hand.
 use crate::cases::expect;
 use crate::disks::unused;
-use lean_disk::MemDisk;
+use lean_disk::{AreaOf, MemDisk};
 use lean_engine::{
     Aborted, Began, Broken, Engine, Formatted, Opened, Receipt, Ripeness, Shape, Size, Unopened,
     format,
 };
 use map_model::Refusal;
+use master_store::choose;
 use std::alloc::{AllocError, Global};
 
 // A call, and what it gives.
@@ -159,40 +160,69 @@ fn are_done(engine: &mut Engine<MemDisk>, steps: &[Step]) -> bool {
     true
 }
 
-const SHAPE: Shape = Shape {
-    pages: 16,
-    blocks: 64,
-};
-
-fn formats(alloc: Global, disk: &mut MemDisk) -> Result<Formatted, AllocError> {
+fn formats(alloc: Global, disk: &mut MemDisk, workers: u32) -> Result<Formatted, AllocError> {
+    let shape = Shape {
+        workers: workers.min(16),
+        pages: 16,
+        blocks: 64,
+    };
     let mut buffer = vec![in alloc; 0; 65536]?;
-    Ok(format(disk, SHAPE, &mut buffer))
+    Ok(format(disk, shape, &mut buffer))
 }
 
-// Whether a disk is formatted so, once and again, where these calls of its pages fail.
+// Whether the master has so many logs, each of which begins with block 0.
+fn has_logs(disk: &mut MemDisk, workers: u32) -> bool {
+    let Ok(Some(master)) = choose(&mut AreaOf::new(disk, 0)) else {
+        return false;
+    };
+    let logs = master.heads.logs();
+    for log in 0..logs {
+        if master.heads.head(log + 1) != 0 {
+            return false;
+        }
+    }
+    logs == workers
+}
+
+// Whether a disk is formatted so for so many workers, once and again, where these calls of its pages fail.
 fn is_formatted(
     alloc: Global,
     disk: &mut MemDisk,
+    workers: u32,
     failing: &[u64],
     wants: &[Formatted],
 ) -> Result<bool, AllocError> {
     disk.fail_at(1, Vec::from_slice(alloc, failing)?);
     for want in wants {
-        if formats(alloc, disk)? != *want {
+        if formats(alloc, disk, workers)? != *want {
             return Ok(false);
         }
     }
-    Ok(true)
+    Ok(has_logs(disk, workers))
 }
 
-static FORMATS: [(&str, &[u64], &[Formatted]); 2] = [
+static FORMATS: [(&str, u32, &[u64], &[Formatted]); 4] = [
     (
         "a disk is formatted once",
+        1,
+        &[],
+        &[Formatted::Done, Formatted::AlreadyFormatted],
+    ),
+    (
+        "a disk for two workers is formatted once",
+        2,
+        &[],
+        &[Formatted::Done, Formatted::AlreadyFormatted],
+    ),
+    (
+        "a disk for sixteen workers is formatted once",
+        16,
         &[],
         &[Formatted::Done, Formatted::AlreadyFormatted],
     ),
     (
         "a disk whose pages failed is formatted later",
+        1,
         &[1],
         &[
             Formatted::DiskFault,
@@ -202,15 +232,20 @@ static FORMATS: [(&str, &[u64], &[Formatted]); 2] = [
     ),
 ];
 
-fn is_as_told(alloc: Global, failing: &[u64], wants: &[Formatted]) -> Result<bool, AllocError> {
-    let mut disk = MemDisk::new(alloc, 3)?;
-    is_formatted(alloc, &mut disk, failing, wants)
+fn is_as_told(
+    alloc: Global,
+    workers: u32,
+    failing: &[u64],
+    wants: &[Formatted],
+) -> Result<bool, AllocError> {
+    let mut disk = MemDisk::new(alloc, 2 + workers.min(16))?;
+    is_formatted(alloc, &mut disk, workers, failing, wants)
 }
 
 // A new disk, with no call made yet.
 fn new_disk(alloc: Global) -> Result<MemDisk, AllocError> {
     let mut disk = MemDisk::new(alloc, 3)?;
-    is_formatted(alloc, &mut disk, &[], &[Formatted::Done])?;
+    is_formatted(alloc, &mut disk, 1, &[], &[Formatted::Done])?;
     unused(&disk)
 }
 
@@ -236,8 +271,8 @@ fn is_met(alloc: Global, case: &Case) -> Result<bool, AllocError> {
 #[test]
 fn each_call_gives_what_is_written(rt: HostRuntime) {
     let alloc = rt.alloc();
-    for (name, failing, wants) in &FORMATS {
-        expect(&rt, name, is_as_told(alloc, failing, wants));
+    for (name, workers, failing, wants) in &FORMATS {
+        expect(&rt, name, is_as_told(alloc, *workers, failing, wants));
     }
     for case in &CASES {
         expect(&rt, case.name, is_met(alloc, case));

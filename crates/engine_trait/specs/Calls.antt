@@ -1,5 +1,5 @@
 -- What a call of an engine did: its answer, by which events, what its log is then, for what its disk stands, and what a crash at any moment of it leaves.
-use Rattle.std.specs.Prelude.{◌≡◌, ◌⊎◌, ◌≤◌, ◌<◌, ◌^◌, ◌++◌, ◌∷◌, Bool, List, [], Some, length}
+use Rattle.std.specs.Prelude.{◌≡◌, ◌⊎◌, ◌≤◌, ◌<◌, ◌^◌, ◌++◌, ◌∷◌, ℕ, suc, Bool, List, [], Option, None, Some, length}
 use Rattle.map_model.specs.declared.call.Answer.{Answer}
 use Rattle.map_model.specs.declared.call.Answer.TheVariants as answer
 use Rattle.map_model.specs.declared.call.Call.{Call}
@@ -17,10 +17,11 @@ use Rattle.log_record.specs.declared.record.Record.{Record}
 use Rattle.disk_image.specs.Records.{entry_of}
 use Rattle.worker_log.specs.Calls.{After, flushed_log}
 use Rattle.worker_log.specs.Logs.{Log}
-use Rattle.core_calls.specs.Deeds.{answered, asked, marks_by}
+use Rattle.core_calls.specs.Deeds.{Outcome, answered, asked, marks_by}
 use Rattle.core_calls.specs.Fronts.{Done, front, outcomes}
 use Rattle.core_calls.specs.Marks.{is_half}
 use Rattle.core_calls.specs.Runs.{Tells}
+use Rattle.core_calls.specs.Steps.{hindered_in}
 use Rattle.disk_runs.specs.Stands.{Known}
 use Rattle.log_calls.specs.Calls.{Anything}
 use Rattle.run_crashes.specs.Lines.{CallLeaves}
@@ -31,35 +32,44 @@ use Rattle.engine_trait.specs.Rooms.{IsRoomFor, MakesItsRoom}
 
 -- ## The log
 
--- the event enters a record, which the log has behind those that it had
-pub record LogsEntry (g : Opening) (s : State) (e : Event) (was is : Log) : Type 0 where
+-- the event enters a record, which log `own` has behind those that it had
+pub record LogsEntry (own : ℕ) (g : Opening) (s : State) (e : Event) (was is : Log) : Type 0 where
   pub record_of : Record
-  pub entry : (step g s e).entries ≡ entry_of 1 record_of ∷ s.entries
+  pub entry : (step g s e).entries ≡ entry_of own record_of ∷ s.entries
   pub after : After record_of was is
 
--- what an event does to the log of session 1
-abbrev pub LogsOne : Opening → State → Event → (was is : Log) → Type 0
-LogsOne g s (Event.Change w p k v) was is = LogsEntry g s (Event.Change w p k v) was is
-LogsOne g s (Event.Put_back w p) was is = LogsEntry g s (Event.Put_back w p) was is
-LogsOne g s (Event.Split w l r q i) was is = LogsEntry g s (Event.Split w l r q i) was is
-LogsOne g s (Event.Lift w c) was is = LogsEntry g s (Event.Lift w c) was is
-LogsOne g s (Event.Join w l r q) was is = LogsEntry g s (Event.Join w l r q) was is
-LogsOne g s (Event.Drop w c) was is = LogsEntry g s (Event.Drop w c) was is
-LogsOne g s (Event.Purge w p keys) was is = LogsEntry g s (Event.Purge w p keys) was is
-LogsOne g s (Event.End w commit f) was is = LogsEntry g s (Event.End w commit f) was is
-LogsOne g s (Event.Flush w n) was is = is ≡ flushed_log was
-LogsOne g s _ was is = is ≡ was
+-- what an event of session `own` does to its log
+abbrev pub LogsOne : (own : ℕ) → Opening → State → Event → (was is : Log) → Type 0
+LogsOne own g s (Event.Change w p k v) was is = LogsEntry own g s (Event.Change w p k v) was is
+LogsOne own g s (Event.Put_back w p) was is = LogsEntry own g s (Event.Put_back w p) was is
+LogsOne own g s (Event.Split w l r q i) was is = LogsEntry own g s (Event.Split w l r q i) was is
+LogsOne own g s (Event.Lift w c) was is = LogsEntry own g s (Event.Lift w c) was is
+LogsOne own g s (Event.Join w l r q) was is = LogsEntry own g s (Event.Join w l r q) was is
+LogsOne own g s (Event.Drop w c) was is = LogsEntry own g s (Event.Drop w c) was is
+LogsOne own g s (Event.Purge w p keys) was is = LogsEntry own g s (Event.Purge w p keys) was is
+LogsOne own g s (Event.End w commit f) was is = LogsEntry own g s (Event.End w commit f) was is
+LogsOne own g s (Event.Flush w n) was is = is ≡ flushed_log was
+LogsOne own g s _ was is = is ≡ was
 
 -- what events do to it, one after another
-abbrev pub Logs : Opening → State → List Event → (was is : Log) → Type 0
-Logs g s [] was is = is ≡ was
-Logs g s (e ∷ es) was is = (mid : Log) × LogsOne g s e was mid × Logs g (step g s e) es mid is
+abbrev pub Logs : (own : ℕ) → Opening → State → List Event → (was is : Log) → Type 0
+Logs own g s [] was is = is ≡ was
+Logs own g s (e ∷ es) was is = (mid : Log) × LogsOne own g s e was mid × Logs own g (step g s e) es mid is
 
 -- ## The answer
 
--- an abort of session 1 has put changes back, and its transaction has not ended since
-abbrev pub is_half_done : List Done → Bool
-is_half_done xs = is_half (marks_by 1 (outcomes xs))
+-- an abort of session `own` has put changes back, and its transaction has not ended since
+abbrev pub is_half_done : (own : ℕ) → List Done → Bool
+is_half_done own xs = is_half (marks_by own (outcomes xs))
+
+-- what a call asks of the engine: behind a conflict, whatever its line asked, the abort of its transaction
+abbrev pub due_call : Option Call → Call → Call
+due_call None c = c
+due_call (Some hindered) c = call.Abort
+
+abbrev pub call_behind : List Outcome → Call → Call
+call_behind [] c = c
+call_behind (y ∷ earlier) c = due_call (hindered_in y.deed) c
 
 -- Behind loads of the opening come its own events. In the state behind all of them and with the log as it is then, a refusal has its cause; it comes where
 -- the state before them has one. The log has the records of its events. A put makes room for its key, and no call else changes the tree.
@@ -70,48 +80,51 @@ pub record Answers (g : Opening) (xs : List Done) (x : Done) (was is : Log) : Ty
   pub loads : AreLoads first
   -- they are few, so in a run of fewer than 2^40 calls no latch is ever spent
   pub few : length x.events ≤ 2 ^ 18
-  pub refused : (why : Refusal) → answered x.outcome.deed ≡ answer.Refused why → IsRefusedFor g (state_after g (front xs ++ x.events)) (is_half_done xs) is (asked x.outcome.deed) why
-  pub refuses : (why : Refusal) → refusal_in g (state_after g (front xs ++ first)) (is_half_done xs) was (asked x.outcome.deed) ≡ Some why → (answered x.outcome.deed ≡ answer.Refused why) ⊎ (answered x.outcome.deed ≡ answer.Refused refusal.RowSpent)
-  pub log : Logs g (state_after g (front xs ++ first)) own was is
-  pub room : MakesItsRoom g (state_after g (front xs ++ first)) (asked x.outcome.deed) own
+  pub refused : (why : Refusal) → answered x.outcome.deed ≡ answer.Refused why
+      → IsRefusedFor g (state_after g (front xs ++ x.events)) x.outcome.session (is_half_done x.outcome.session xs) is (call_behind (outcomes xs) (asked x.outcome.deed)) why
+  pub refuses : (why : Refusal) → refusal_in g (state_after g (front xs ++ first)) x.outcome.session (is_half_done x.outcome.session xs) was (call_behind (outcomes xs) (asked x.outcome.deed)) ≡ Some why
+      → (answered x.outcome.deed ≡ answer.Refused why) ⊎ (answered x.outcome.deed ≡ answer.Refused refusal.RowSpent)
+  pub log : Logs x.outcome.session g (state_after g (front xs ++ first)) own was is
+  pub room : MakesItsRoom g (state_after g (front xs ++ first)) (call_behind (outcomes xs) (asked x.outcome.deed)) own
 
 -- ## The disk
 
 -- The disk stands for its events too; at every moment a crash leaves what one after the first of them does, and all areas but the log's are as they were.
-pub record Keeps (g : Opening) (xs : List Done) (x : Done) (s0 : Crash) (k : Known) (is : Log) (old new : Story) : Type 0 where
-  pub answers : CallAnswers limits g 1 xs x s0 k old new
-  pub log_is : answers.known.log 1 ≡ is
+pub record Keeps (g : Opening) (group : ℕ) (xs : List Done) (x : Done) (s0 : Crash) (k : Known) (is : Log) (old new : Story) : Type 0 where
+  pub answers : CallAnswers limits g group xs x s0 k old new
+  pub log_is : answers.known.log x.outcome.session ≡ is
+  pub others : (w : ℕ) → (w ≡ x.outcome.session → ⊥) → answers.known.log w ≡ k.log w
   pub master_is : answers.known.master ≡ k.master
-  pub within : LeavesOnly old new (CrashIn old 2 Anything)
+  pub within : LeavesOnly old new (CrashIn old (suc x.outcome.session) Anything)
 
 -- A device failed: a crash leaves what one before the call does, or behind some first events by which it made room or put changes back; or what one after
 -- the first events of a commit that would be answered so.
-pub data Stops (g : Opening) (xs : List Done) (c : Call) (s0 : Crash) (k : Known) (old new : Story) : Type 0 where
-  Nothing : (es : List Event) → IsRoomFor g xs c es → LeavesOnly old new (CallLeaves g xs es s0 k.master) → Stops g xs c s0 k old new
-  Part : (x : Done) → asked x.outcome.deed ≡ c → x.outcome.session ≡ 1 → Tells limits g 1 xs x → LeavesOnly old new (CallLeaves g xs x.events s0 k.master) → Stops g xs c s0 k old new
+pub data Stops (g : Opening) (group : ℕ) (xs : List Done) (own : ℕ) (c : Call) (s0 : Crash) (k : Known) (old new : Story) : Type 0 where
+  Nothing : (es : List Event) → IsRoomFor g xs own (call_behind (outcomes xs) c) es → LeavesOnly old new (CallLeaves g xs es s0 k.master) → Stops g group xs own c s0 k old new
+  Part : (x : Done) → asked x.outcome.deed ≡ c → x.outcome.session ≡ own → Tells limits g group xs x → LeavesOnly old new (CallLeaves g xs x.events s0 k.master) → Stops g group xs own c s0 k old new
 
 -- and all areas but the log's are as they were
-pub record Leaves (g : Opening) (xs : List Done) (c : Call) (s0 : Crash) (k : Known) (old new : Story) : Type 0 where
-  pub stops : Stops g xs c s0 k old new
-  pub within : LeavesOnly old new (CrashIn old 2 Anything)
+pub record Leaves (g : Opening) (group : ℕ) (xs : List Done) (own : ℕ) (c : Call) (s0 : Crash) (k : Known) (old new : Story) : Type 0 where
+  pub stops : Stops g group xs own c s0 k old new
+  pub within : LeavesOnly old new (CrashIn old (suc own) Anything)
 
 -- ## A call
 
--- It was answered so: by one outcome more in the run.
-pub record Does (g : Opening) (xs : List Done) (c : Call) (a : Answer) (was is : Log) (old new : Story) : Type 0 where
+-- Session `own` asked it, with its log, and was answered so: by one outcome more in the run.
+pub record Does (g : Opening) (group : ℕ) (xs : List Done) (own : ℕ) (c : Call) (a : Answer) (was is : Log) (old new : Story) : Type 0 where
   pub done : Done
-  pub session : done.outcome.session ≡ 1
+  pub session : done.outcome.session ≡ own
   pub asked_is : asked done.outcome.deed ≡ c
   pub answer_is : answered done.outcome.deed ≡ a
-  pub tells : Tells limits g 1 xs done
+  pub tells : Tells limits g group xs done
   pub how : Answers g xs done was is
-  pub frame : Framed 2 old new
-  pub keeps : (s0 : Crash) (k : Known) → Between limits g 1 xs s0 k old → k.log 1 ≡ was → Keeps g xs done s0 k is old new
+  pub frame : Framed (suc own) old new
+  pub keeps : (s0 : Crash) (k : Known) → Between limits g group xs s0 k old → k.log own ≡ was → Keeps g group xs done s0 k is old new
 
 -- It was not, since its disk failed.
-pub record Fails (g : Opening) (xs : List Done) (c : Call) (was : Log) (old new : Story) : Type 0 where
-  pub frame : Framed 2 old new
-  pub leaves : (s0 : Crash) (k : Known) → Between limits g 1 xs s0 k old → k.log 1 ≡ was → Leaves g xs c s0 k old new
+pub record Fails (g : Opening) (group : ℕ) (xs : List Done) (own : ℕ) (c : Call) (was : Log) (old new : Story) : Type 0 where
+  pub frame : Framed (suc own) old new
+  pub leaves : (s0 : Crash) (k : Known) → Between limits g group xs s0 k old → k.log own ≡ was → Leaves g group xs own c s0 k old new
 
 -- ## What may be asked and answered
 

@@ -54,20 +54,20 @@ MakesItsRoom g s _ es = any is_structure es ≡ false
 
 -- ## Where the call was not answered
 
--- a page is loaded, a row is given up as it stood, or session 1 puts a change back
-abbrev pub puts_back : Event → Bool
-puts_back (Event.Load p f) = true
-puts_back (Event.Miss w) = true
-puts_back (Event.Put_back w p) = w == 1
-puts_back _ = false
+-- a page is loaded, a row is given up as it stood, or session `own` puts a change back
+abbrev pub puts_back : (own : ℕ) → Event → Bool
+puts_back own (Event.Load p f) = true
+puts_back own (Event.Miss w) = true
+puts_back own (Event.Put_back w p) = w == own
+puts_back own _ = false
 
 -- each of them
-abbrev pub AreBacks : List Event → Type 0
-AreBacks es = all puts_back es ≡ true
+abbrev pub AreBacks : (own : ℕ) → List Event → Type 0
+AreBacks own es = all (puts_back own) es ≡ true
 
 -- Behind these outcomes: by these events a put made room for its key, a del took its row, an abort put changes back, and any other call loaded pages.
-abbrev pub IsRoomFor : Opening → List Done → Call → List Event → Type 0
-IsRoomFor g xs (call.Put key value) es = AreRoom es × MakesRoom g (state_after g (front xs)) key es
-IsRoomFor g xs (call.Del key) es = AreRoom es × (any is_structure es ≡ false)
-IsRoomFor g xs call.Abort es = AreBacks es
-IsRoomFor g xs _ es = AreLoads es
+abbrev pub IsRoomFor : Opening → List Done → (own : ℕ) → Call → List Event → Type 0
+IsRoomFor g xs own (call.Put key value) es = AreRoom es × MakesRoom g (state_after g (front xs)) key es
+IsRoomFor g xs own (call.Del key) es = AreRoom es × (any is_structure es ≡ false)
+IsRoomFor g xs own call.Abort es = AreBacks own es
+IsRoomFor g xs own _ es = AreLoads es

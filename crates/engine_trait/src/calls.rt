@@ -52,9 +52,9 @@ pub trait Calls<D: Disk> {
     fn call(&mut self, call: &Call) -> Result<Answer, Unanswered>
         requires within { IsWithin call.now }
         ensures does { IfOk result (λ a. (g : Opening) (xs : List Done) → in_run self.old g xs
-            → (d : Does g xs call.now a (log_of self.old) (log_of self.new) (story self.old) (story self.new)) × in_run self.new g (d.done ∷ xs)) }
+            → (d : Does g 1 xs 1 call.now a (log_of self.old) (log_of self.new) (story self.old) (story self.new)) × in_run self.new g (d.done ∷ xs)) }
         ensures come { IfOk result HasCome }
-        ensures fails { result ≡ Err Unanswered.DiskFault → (g : Opening) (xs : List Done) → in_run self.old g xs → Fails g xs call.now (log_of self.old) (story self.old) (story self.new) }
+        ensures fails { result ≡ Err Unanswered.DiskFault → (g : Opening) (xs : List Done) → in_run self.old g xs → Fails g 1 xs 1 call.now (log_of self.old) (story self.old) (story self.new) }
         ensures works { works self.new ≡ true ↔ (IsErr result → ⊥) }
         ensures same { result ≡ Err Unanswered.Broken → self.new ≡ self.old }
 

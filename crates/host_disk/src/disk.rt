@@ -69,12 +69,17 @@ impl<'a> Disk for HostDisk<'a> {
 }
 
 impl<'a> Stages for HostDisk<'a> {
-    fn stage_on(&mut self, log: &mut WorkerLog, entry: &Record) -> Result<(), Staging> {
-        log_calls::stage(self, log, 1, entry)
+    fn stage_on(&mut self, log: &mut WorkerLog, own: u32, entry: &Record) -> Result<(), Staging> {
+        log_calls::stage(self, log, own, entry)
     }
 
-    fn stage_back_on(&mut self, log: &mut WorkerLog, entry: &Record) -> Result<(), DiskFault> {
-        log_calls::stage_end(self, log, 1, entry)
+    fn stage_back_on(
+        &mut self,
+        log: &mut WorkerLog,
+        own: u32,
+        entry: &Record,
+    ) -> Result<(), DiskFault> {
+        log_calls::stage_end(self, log, own, entry)
     }
 }
 

@@ -11,15 +11,17 @@ use Rattle.lean_disk.specs.Story.{Story}
 use Rattle.engine_trait.specs.Calls.{HasCome, IsTold}
 use Rattle.engine_trait.specs.declared.calls.Unanswered.{Unanswered}
 use Rattle.engine_trait.specs.declared.calls.Unanswered.TheVariants as unanswered
-use Rattle.row_engine.specs.Calls.{CallDoes, Comes, DoesOn, abort_answer, begin_answer, commit_answer, del_answer, get_answer, put_answer}
+use Rattle.row_engine.specs.Calls.{AbortDoes, CallDoes, Comes, IsSameSession, MayCome, DoesOn, abort_answer, begin_answer, commit_answer, del_answer, get_answer, put_answer}
 use Rattle.row_engine.specs.Puts.{IsEarly, works_after}
+use Rattle.row_engine.specs.Ties.{IsAbortDue as due}
 use Rattle.row_engine.specs.declared.commits.Ended.{Ended}
+use Rattle.row_engine.specs.declared.session.Session.{Session}
 use Rattle.lean_engine.specs.Calls.{Answered, Asked, DoesIn, Failed, MayBe, aborted_answer, began_answer, receipt_answer, told}
-use Rattle.lean_engine.specs.States.{HasRun, State}
+use Rattle.lean_engine.specs.States.{HasRun, IsOnly, State}
 use Rattle.lean_engine.specs.declared.calls.Aborted.{Aborted}
 use Rattle.lean_engine.specs.declared.calls.Began.{Began}
 use Rattle.lean_engine.specs.declared.receipts.Receipt.{Receipt}
-use Rattle.lean_engine.proofs.HalfLemmas.{does_in}
+use Rattle.lean_engine.proofs.HalfLemmas.{does_in, line_behind}
 
 abbrev no_device : Answer
 no_device = answer.Refused refusal.Broken
@@ -105,7 +107,7 @@ module _ {D : Type 0} (c : Call) (a : Answer) (was is : State D) (old new : Stor
       go (Came t) = absurd (no_both unanswered.Broken a (sym e ∙ t.is))
 
   pub fails : told a ≡ Err unanswered.DiskFault → Failed c was old new
-  fails e g xs run = let q = is_fault e in subst (λ x. Comes x (DoesIn g xs c a is.view was.log is.log old new) (Rattle.engine_trait.specs.Calls.Fails g xs c was.log old new)) q (asked.does (worked (λ b. fault_broken (sym q ∙ b))) g xs run)
+  fails e g xs run = let q = is_fault e in subst (λ x. Comes x (DoesIn g xs c a is.view was.log is.log old new) (Rattle.engine_trait.specs.Calls.Fails g 1 xs 1 c was.log old new)) q (asked.does (worked (λ b. fault_broken (sym q ∙ b))) g xs run)
 
   pub works : is.works ≡ true ↔ (IsErr (told a) → ⊥)
   works = (there, back)
@@ -139,7 +141,7 @@ module _ {D : Type 0} (c : Call) (a : Answer) (was is : State D) (old new : Stor
 
 -- One call in the runs to which its view is tied; it found an abort half done, or not, and so it left it.
 pub record Called {D : Type 0} (c : Call) (a : Answer) (before now : Bool) (was is : State D) (old new : Story) : Type 0 where
-  pub does : was.works ≡ true → CallDoes c a before now was.view is.view was.log is.log old new
+  pub does : was.works ≡ true → CallDoes 1 1 c a before now was.view is.view was.log is.log old new
   pub may : MayBe a
   pub works : (is.works ≡ true) ↔ ((was.works ≡ true) × (a ≡ fault → ⊥))
   pub same : a ≡ no_device → is ≡ was
@@ -149,7 +151,7 @@ module _ {D : Type 0} (c : Call) (a : Answer) (before now : Bool) (was is : Stat
   -- so in each run
   pub asked_by : Asked c a was is old new
   asked_by = record {
-    does = λ w. does_in c a before now was.view is.view was.log is.log old new (stood w) (called.does w);
+    does = λ w. does_in c a before now was.view is.view was.log is.log old new called.may (stood w) (called.does w);
     may = called.may;
     works = called.works;
     same = called.same;
@@ -161,8 +163,12 @@ module _ {D : Type 0} (c : Call) (a : Answer) (before now : Bool) (was is : Stat
   runs w =
       let p = called.works.0 w in
       let run = stood p.0 in
-      let d = did a (DoesOn run.opening run.outcomes c a now is.view was.log is.log old new) _ p.1 (called.does p.0 run.opening run.outcomes run.ties) in
-      record { opening = run.opening; outcomes = d.does.done ∷ run.outcomes; one = run.one; ties = d.ties }
+      let d = did a (DoesOn run.opening 1 run.done 1 c a now is.view was.log is.log old new) _ p.1 (called.does p.0 run.opening run.done run.ties run.line) in
+      record { opening = run.opening; done = d.does.done ∷ run.done; one = run.one; line = line_behind d.does.done run.done a d.does.answer_is called.may; ties = d.ties }
+
+-- the session goes on as the only one
+pub only_behind : (before now : Bool) (x y : Session) → (now ≡ true → before ≡ true) → (before ≡ true → IsOnly x) → (now ≡ true → IsSameSession x y) → now ≡ true → IsOnly y
+only_behind before now x y worked only same w = let o = only (worked w) in let s = same w in (s.0 ∙ o.0, s.1 ∙ o.1, s.2 ∙ o.2)
 
 stays_calm : {T : Type 0} (q : Result T Refusal) → (q ≡ Err refusal.Broken → ⊥) → (q ≡ Err refusal.DiskFault → ⊥) → works_after q ≡ true
 stays_calm (Ok x) b d = refl
@@ -202,6 +208,28 @@ told_may _ (inl t) = absurd t
 refused_is : (p q : Refusal) → answer.Refused p ≡ answer.Refused q → p ≡ q
 refused_is p q r = cc
 
+-- with one session no conflict comes
+told_alone : (workers : ℕ) (why : Refusal) → workers ≡ 1 → MayCome workers why → IsTold why
+told_alone workers (refusal.Conflict h) one m = absurd (m one)
+told_alone workers _ one m = m
+
+reason_is : {T : Type 0} (p q : Refusal) → ◌≡◌ {A = Result T Refusal} (Err p) (Err q) → p ≡ q
+reason_is p q e = cc
+
+come_alone : {T : Type 0} (r : Result T Refusal) (runs_on : Bool) (workers : ℕ) → (r ≡ Err refusal.Broken) ↔ (runs_on ≡ false) → (runs_on ≡ true → workers ≡ 1) → IfErr r (λ why. MayCome workers why ⊎ ((why ≡ refusal.Broken) ⊎ (why ≡ refusal.DiskFault)))
+    → IfErr r (λ why. IsTold why ⊎ ((why ≡ refusal.Broken) ⊎ (why ≡ refusal.DiskFault)))
+come_alone (Ok x) runs_on workers broken one h = tt
+come_alone (Err why) runs_on workers broken one (inr e) = inr e
+come_alone (Err why) runs_on workers broken one (inl m) = elim (cases_Bool runs_on) [
+  | inl t ↦ inl (told_alone workers why (one t) m)
+  | inr f ↦ inr (inl (reason_is why refusal.Broken (broken.1 f)))
+]
+
+pub no_fault_may : {T : Type 0} (r : Result T Refusal) (workers : ℕ) → IfErr r (λ why. MayCome workers why ⊎ (why ≡ refusal.Broken)) → IfErr r (λ why. MayCome workers why ⊎ ((why ≡ refusal.Broken) ⊎ (why ≡ refusal.DiskFault)))
+no_fault_may (Ok x) workers h = tt
+no_fault_may (Err why) workers (inl m) = inl m
+no_fault_may (Err why) workers (inr e) = inr (inl e)
+
 -- a result as an answer: what it has come to is no refusal
 record IsAnswer {T : Type 0} (f : Result T Refusal → Answer) : Type 0 where
   refused : (q : Refusal) → f (Err q) ≡ answer.Refused q
@@ -212,19 +240,19 @@ record IsAnswer {T : Type 0} (f : Result T Refusal → Answer) : Type 0 where
 abbrev pub IsTellable : {T : Type 0} → Result T Refusal → Type 0
 IsTellable r = IfErr r (λ why. IsTold why ⊎ ((why ≡ refusal.Broken) ⊎ (why ≡ refusal.DiskFault)))
 
-module _ {D : Type 0} {T : Type 0} (c : Call) (f : Result T Refusal → Answer) (k : IsAnswer f) (before now : Bool) (was is : State D) (old new : Story) where
+module _ {D : Type 0} {T : Type 0} (c : Call) (f : Result T Refusal → Answer) (k : IsAnswer f) (before now : Bool) (was is : State D) (old new : Story) (x : Session) (only : was.works ≡ true → IsOnly x) where
   back : (r : Result T Refusal) (q : Refusal) → f r ≡ answer.Refused q → r ≡ Err q
-  back (Ok x) q e = absurd (k.apart x q e)
+  back (Ok y) q e = absurd (k.apart y q e)
   back (Err why) q e = ap Err (refused_is why q (sym (k.refused why) ∙ e))
 
   may : (r : Result T Refusal) → IsTellable r → MayBe (f r)
-  may (Ok x) h = k.come x
+  may (Ok y) h = k.come y
   may (Err why) h = subst MayBe (sym (k.refused why)) (told_may why h)
 
-  called_of : (r : Result T Refusal) → (was.works ≡ true → CallDoes c (f r) before now was.view is.view was.log is.log old new) → IsTellable r → (r ≡ Err refusal.Broken → is ≡ was)
+  called_of : (r : Result T Refusal) → (was.works ≡ true → CallDoes x.own x.group c (f r) before now was.view is.view was.log is.log old new) → IsTellable r → (r ≡ Err refusal.Broken → is ≡ was)
       → (is.works ≡ true) ↔ ((was.works ≡ true) × (r ≡ Err refusal.DiskFault → ⊥)) → (r ≡ Err refusal.Broken) ↔ (was.works ≡ false) → (a : Answer) → f r ≡ a → Called c a before now was is old new
-  called_of r does come same works broken a e = subst (λ x. Called c x before now was is old new) e (record {
-    does = does;
+  called_of r does come same works broken a e = subst (λ y. Called c y before now was is old new) e (record {
+    does = λ w. let o = only w in subst (λ n. CallDoes 1 n c (f r) before now was.view is.view was.log is.log old new) o.2 (subst (λ n. CallDoes n x.group c (f r) before now was.view is.view was.log is.log old new) o.0 (does w));
     may = may r come;
     works = ((λ w. let p = works.0 w in (p.0, λ q. p.1 (back r refusal.DiskFault q))), λ p. works.1 (p.0, λ q. p.1 (ap f q ∙ k.refused refusal.DiskFault)));
     same = λ q. same (back r refusal.Broken q);
@@ -258,30 +286,30 @@ aborts = record { refused = λ q. refl; come = λ x. tt; apart = λ x q e. absur
 commits : IsAnswer commit_answer
 commits = record { refused = λ q. refl; come = λ x. tt; apart = λ x q e. absurd (cc) }
 
-module _ {D : Type 0} (before now : Bool) (was is : State D) (old new : Story) where
-  pub begin_called : (r : Result ℕ Refusal) → (was.works ≡ true → CallDoes Call.Begin (begin_answer r) before now was.view is.view was.log is.log old new) → IsTellable r → (r ≡ Err refusal.Broken → is ≡ was)
+module _ {D : Type 0} (before now : Bool) (was is : State D) (old new : Story) (x : Session) (only : was.works ≡ true → IsOnly x) where
+  pub begin_called : (r : Result ℕ Refusal) → (was.works ≡ true → CallDoes x.own x.group Call.Begin (begin_answer r) before now was.view is.view was.log is.log old new) → IsTellable r → (r ≡ Err refusal.Broken → is ≡ was)
       → (is.works ≡ true) ↔ ((was.works ≡ true) × (r ≡ Err refusal.DiskFault → ⊥)) → (r ≡ Err refusal.Broken) ↔ (was.works ≡ false) → (a : Answer) → begin_answer r ≡ a → Called Call.Begin a before now was is old new
-  begin_called = called_of Call.Begin begin_answer begins before now was is old new
+  begin_called = called_of Call.Begin begin_answer begins before now was is old new x only
 
-  pub get_called : (key : ℕ) (r : Result (Option ℕ) Refusal) → (was.works ≡ true → CallDoes (Call.Get key) (get_answer r) before now was.view is.view was.log is.log old new) → IsTellable r → (r ≡ Err refusal.Broken → is ≡ was)
+  pub get_called : (key : ℕ) (r : Result (Option ℕ) Refusal) → (was.works ≡ true → CallDoes x.own x.group (Call.Get key) (get_answer r) before now was.view is.view was.log is.log old new) → IfErr r (λ why. MayCome x.workers why ⊎ ((why ≡ refusal.Broken) ⊎ (why ≡ refusal.DiskFault))) → (r ≡ Err refusal.Broken → is ≡ was)
       → (is.works ≡ true) ↔ ((was.works ≡ true) × (r ≡ Err refusal.DiskFault → ⊥)) → (r ≡ Err refusal.Broken) ↔ (was.works ≡ false) → (a : Answer) → get_answer r ≡ a → Called (Call.Get key) a before now was is old new
-  get_called key = called_of (Call.Get key) get_answer gets before now was is old new
+  get_called key r does come same works broken = called_of (Call.Get key) get_answer gets before now was is old new x only r does (come_alone r was.works x.workers broken (λ w. (only w).1) come) same works broken
 
-  pub put_called : (key value : ℕ) (r : Result (Option ℕ) Refusal) → (was.works ≡ true → CallDoes (Call.Put key value) (put_answer r) before now was.view is.view was.log is.log old new) → IsTellable r → (r ≡ Err refusal.Broken → is ≡ was)
+  pub put_called : (key value : ℕ) (r : Result (Option ℕ) Refusal) → (was.works ≡ true → CallDoes x.own x.group (Call.Put key value) (put_answer r) before now was.view is.view was.log is.log old new) → IfErr r (λ why. MayCome x.workers why ⊎ ((why ≡ refusal.Broken) ⊎ (why ≡ refusal.DiskFault))) → (r ≡ Err refusal.Broken → is ≡ was)
       → (is.works ≡ true) ↔ ((was.works ≡ true) × (r ≡ Err refusal.DiskFault → ⊥)) → (r ≡ Err refusal.Broken) ↔ (was.works ≡ false) → (a : Answer) → put_answer r ≡ a → Called (Call.Put key value) a before now was is old new
-  put_called key value = called_of (Call.Put key value) put_answer puts before now was is old new
+  put_called key value r does come same works broken = called_of (Call.Put key value) put_answer puts before now was is old new x only r does (come_alone r was.works x.workers broken (λ w. (only w).1) come) same works broken
 
-  pub commit_called : (r : Result Ended Refusal) → (was.works ≡ true → CallDoes Call.Commit (commit_answer r) before now was.view is.view was.log is.log old new) → IsTellable r → (r ≡ Err refusal.Broken → is ≡ was)
+  pub commit_called : (r : Result Ended Refusal) → (was.works ≡ true → CallDoes x.own x.group Call.Commit (commit_answer r) before now was.view is.view was.log is.log old new) → IsTellable r → (r ≡ Err refusal.Broken → is ≡ was)
       → (is.works ≡ true) ↔ ((was.works ≡ true) × (r ≡ Err refusal.DiskFault → ⊥)) → (r ≡ Err refusal.Broken) ↔ (was.works ≡ false) → (a : Answer) → commit_answer r ≡ a → Called Call.Commit a before now was is old new
-  commit_called = called_of Call.Commit commit_answer commits before now was is old new
+  commit_called = called_of Call.Commit commit_answer commits before now was is old new x only
 
-  pub del_called : (key : ℕ) (r : Result (Option ℕ) Refusal) → (was.works ≡ true → CallDoes (Call.Del key) (del_answer r) before now was.view is.view was.log is.log old new) → IsTellable r → (r ≡ Err refusal.Broken → is ≡ was)
+  pub del_called : (key : ℕ) (r : Result (Option ℕ) Refusal) → (was.works ≡ true → CallDoes x.own x.group (Call.Del key) (del_answer r) before now was.view is.view was.log is.log old new) → IfErr r (λ why. MayCome x.workers why ⊎ ((why ≡ refusal.Broken) ⊎ (why ≡ refusal.DiskFault))) → (r ≡ Err refusal.Broken → is ≡ was)
       → (is.works ≡ true) ↔ ((was.works ≡ true) × (r ≡ Err refusal.DiskFault → ⊥)) → (r ≡ Err refusal.Broken) ↔ (was.works ≡ false) → (a : Answer) → del_answer r ≡ a → Called (Call.Del key) a before now was is old new
-  del_called key = called_of (Call.Del key) del_answer dels before now was is old new
+  del_called key r does come same works broken = called_of (Call.Del key) del_answer dels before now was is old new x only r does (come_alone r was.works x.workers broken (λ w. (only w).1) come) same works broken
 
-  pub abort_called : (r : Result ℕ Refusal) → (was.works ≡ true → CallDoes Call.Abort (abort_answer r) before now was.view is.view was.log is.log old new) → IsTellable r → (r ≡ Err refusal.Broken → is ≡ was)
+  pub abort_called : (r : Result ℕ Refusal) → (was.works ≡ true → AbortDoes x.own x.group x.is_open (abort_answer r) before now was.view is.view was.log is.log old new) → IsTellable r → (r ≡ Err refusal.Broken → is ≡ was)
       → (is.works ≡ true) ↔ ((was.works ≡ true) × (r ≡ Err refusal.DiskFault → ⊥)) → (r ≡ Err refusal.Broken) ↔ (was.works ≡ false) → (a : Answer) → abort_answer r ≡ a → Called Call.Abort a before now was is old new
-  abort_called = called_of Call.Abort abort_answer aborts before now was is old new
+  abort_called r does = called_of Call.Abort abort_answer aborts before now was is old new x only r (λ w g xs ties line. does w Call.Abort g xs ties (due.Asked line refl))
 
 -- ## Answers of an engine's calls
 

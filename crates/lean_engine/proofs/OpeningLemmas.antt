@@ -36,8 +36,11 @@ entry_same (suc n) x y k same = go (entry_same n x y k (λ p lt. same p (omega a
 some_one : {x y : Master} → Some x ≡ Some y → x ≡ y
 some_one e = cc
 
+one_log : (m : Master) → IsOpenable 1 m → length m.heads ≡ 1
+one_log m openable = let a = openable.some in let b = openable.few in omega arith
+
 module _ (undone : EveryUndone) (every_own : EveryOwn) (r : Recovered) (g : Opening) (on : IsOn r.pages.items r.master.floor g) where
-  module _ (m : Master) (openable : IsOpenable m) (area : Areas) (is : IsRecovered m area r) where
+  module _ (m : Master) (openable : IsOpenable 1 m) (area : Areas) (is : IsRecovered m area r) where
     abbrev i : Image
     i = image_by m area
 
@@ -50,7 +53,7 @@ module _ (undone : EveryUndone) (every_own : EveryOwn) (r : Recovered) (g : Open
     start_is : IsStartOf m area g
     start_is = record {
       format = on.format ∙ ap format_of is.count;
-      logs = on.workers ∙ sym openable.one;
+      logs = on.workers ∙ sym (one_log m openable);
       base = subst (IsGreatest i) (sym on.base_is) is.base;
       pages = λ p lt. let v = at p lt in on.page p ∙ (ap (λ (o : Option Page). contents_of (page_or o)) v.1 ∙ (is.page p v.0 v.1).is);
     }
@@ -70,7 +73,7 @@ module _ (undone : EveryUndone) (every_own : EveryOwn) (r : Recovered) (g : Open
         ∙ laws.values k
 
   module _ (s0 s1 : Story) (has : HasRecovered s0 s1 r) where
-    from : (tells : telling.TellsAll s0) → IsFrom g s0 r.master.generation r.winners r.undone
+    from : (tells : telling.TellsAll 1 s0) → IsFrom g s0 r.master.generation r.winners r.undone
     from tells =
         let a = has.answer tells in let is : IsRecovered a.0 (areas_of s0) r = a.2 in record {
           m = a.0;
@@ -83,12 +86,12 @@ module _ (undone : EveryUndone) (every_own : EveryOwn) (r : Recovered) (g : Open
           lost_is = is.lost;
         }
 
-    module _ (tells : telling.TellsAll s0) (m : Master) (clean : IsCleanDisk m (areas_of s0)) (log : Log) (made : IsMadeBy r.master log) (every_start : EveryStart s0 s1) where
+    module _ (tells : telling.TellsAll 1 s0) (m : Master) (clean : IsCleanDisk m (areas_of s0)) (log : Log) (made : IsMadeBy r.master log) (every_start : EveryStart s0 s1) where
       is_one : (has.answer tells).0 ≡ m
       is_one = some_one (sym (has.answer tells).2.sound.master ∙ clean.master)
 
-      given : IsOpenable m × IsRecovered m (areas_of s0) r
-      given = subst (λ (x : Master). IsOpenable x × IsRecovered x (areas_of s0) r) is_one ((has.answer tells).1, (has.answer tells).2)
+      given : IsOpenable 1 m × IsRecovered m (areas_of s0) r
+      given = subst (λ (x : Master). IsOpenable 1 x × IsRecovered x (areas_of s0) r) is_one ((has.answer tells).1, (has.answer tells).2)
 
       -- so it tells of all behind it too
       told : (a : ℕ) → Tells s0 a → Tells s1 a
@@ -97,7 +100,7 @@ module _ (undone : EveryUndone) (every_own : EveryOwn) (r : Recovered) (g : Open
       first_tells : (a : ℕ) → a ≤ suc g.workers → Tells s0 a
       first_tells zero l = tells.master
       first_tells (suc zero) l = tells.pages
-      first_tells (suc (suc a)) l = tells.logs m clean.master given.0 (suc a) (omega arith) (let e = on.workers in let o = given.0.one in omega arith)
+      first_tells (suc (suc a)) l = tells.logs m clean.master given.0 (suc a) (omega arith) (let e = on.workers in let o = one_log m given.0 in omega arith)
 
       start : IsStart m r g (λ w. log) s0 s1
       start = record {

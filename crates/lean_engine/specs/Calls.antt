@@ -49,12 +49,12 @@ aborted_answer (Err why) = answer.Refused why
 
 -- It was answered so, and who has seen it stands in the run with one outcome more.
 pub record DoesIn (g : Opening) (xs : List Done) (c : Call) (a : Answer) (w : View) (was is : Log) (old new : Story) : Type 0 where
-  pub does : Does g xs c a was is old new
+  pub does : Does g 1 xs 1 c a was is old new
   pub in_run : InRun w g (does.done ∷ xs)
 
 -- so in each run, or its disk failed
 abbrev pub DoesInRuns : Call → Answer → (v w : View) → (was is : Log) → (old new : Story) → Type 0
-DoesInRuns c a v w was is old new = (g : Opening) (xs : List Done) → InRun v g xs → Comes a (DoesIn g xs c a w was is old new) (Fails g xs c was old new)
+DoesInRuns c a v w was is old new = (g : Opening) (xs : List Done) → InRun v g xs → Comes a (DoesIn g xs c a w was is old new) (Fails g 1 xs 1 c was old new)
 
 -- One call, which took the engine from one state to another.
 pub record Asked {D : Type 0} (c : Call) (a : Answer) (was is : State D) (old new : Story) : Type 0 where
@@ -66,8 +66,8 @@ pub record Asked {D : Type 0} (c : Call) (a : Answer) (was is : State D) (old ne
 
 -- it was answered so, by one outcome more in each run
 abbrev pub Answered : {D : Type 0} → Call → Answer → (was is : State D) → (old new : Story) → Type 0
-Answered c a was is old new = (g : Opening) (xs : List Done) → InRun was.view g xs → (d : Does g xs c a was.log is.log old new) × InRun is.view g (d.done ∷ xs)
+Answered c a was is old new = (g : Opening) (xs : List Done) → InRun was.view g xs → (d : Does g 1 xs 1 c a was.log is.log old new) × InRun is.view g (d.done ∷ xs)
 
 -- its disk failed, in each run
 abbrev pub Failed : {D : Type 0} → Call → (was : State D) → (old new : Story) → Type 0
-Failed c was old new = (g : Opening) (xs : List Done) → InRun was.view g xs → Fails g xs c was.log old new
+Failed c was old new = (g : Opening) (xs : List Done) → InRun was.view g xs → Fails g 1 xs 1 c was.log old new

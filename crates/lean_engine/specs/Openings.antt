@@ -40,9 +40,9 @@ pub record IsOn (pages : List Page) (base : ℕ) (g : Opening) : Type 0 where
 
 -- a disk that told s0 was recovered, and tells s1
 pub record HasRecovered (s0 s1 : Story) (r : Recovered) : Type 0 where
-  pub answer : TellsAll s0 → (m : Master) × IsOpenable m × IsRecovered m (areas_of s0) r
-  pub opened : TellsAll s0 → (m : Master) → IsCleanDisk m (areas_of s0) → IsOpened m (areas_of s0) r s1
-  pub installed : TellsAll s0 → (m : Master) → master_on (areas_of s0 0) ≡ Some m → HasInstalled m r s0 s1
+  pub answer : TellsAll 1 s0 → (m : Master) × IsOpenable 1 m × IsRecovered m (areas_of s0) r
+  pub opened : TellsAll 1 s0 → (m : Master) → IsCleanDisk m (areas_of s0) → IsOpened m (areas_of s0) r s1
+  pub installed : TellsAll 1 s0 → (m : Master) → master_on (areas_of s0 0) ≡ Some m → HasInstalled m r s0 s1
   pub whole : IsWhole r
   pub logs : (a : ℕ) → 1 < a → IsUntouched (s0.area a) (s1.area a)
   pub keeps : Keeps s0 s1
@@ -58,7 +58,7 @@ pub record IsMadeBy (n : Master) (log : Log) : Type 0 where
 -- The opening is the start that the disk gives, with the map for which it stands; and the counts are those of its image.
 pub record IsFrom (g : Opening) (s : Story) (generation won lost : ℕ) : Type 0 where
   pub m : Master
-  pub openable : IsOpenable m
+  pub openable : IsOpenable 1 m
   pub sound : IsSoundDisk m (areas_of s)
   pub starts : IsStartOf m (areas_of s) g
   pub map : (k : ℕ) → first_map g k ≡ map_of (image_by m (areas_of s)) k
@@ -82,8 +82,8 @@ pub record BeginsOn (g : Opening) (n : Master) (log : Log) (s0 s1 : Story) (m : 
 
 -- both, where the disk tells of all
 pub record OpeningLaws (g : Opening) (r : Recovered) (log : Log) (s0 s1 : Story) : Type 0 where
-  pub from : TellsAll s0 → IsFrom g s0 r.master.generation r.winners r.undone
-  pub clean : TellsAll s0 → (m : Master) → IsCleanDisk m (areas_of s0) → BeginsOn g r.master log s0 s1 m
+  pub from : TellsAll 1 s0 → IsFrom g s0 r.master.generation r.winners r.undone
+  pub clean : TellsAll 1 s0 → (m : Master) → IsCleanDisk m (areas_of s0) → BeginsOn g r.master log s0 s1 m
 
 -- ## An engine
 
@@ -94,7 +94,7 @@ pub record HasOpened (locks : ℕ) (s0 s1 : Story) (v : View) (log : Log) (gener
   -- the row of a key, and a frame for each page
   pub rows : (k : ℕ) → opening.row_of k ≡ k % locks
   pub frames : opening.frames ≡ opening.format.pages
-  pub from : TellsAll s0 → IsFrom opening s0 generation won lost
+  pub from : TellsAll 1 s0 → IsFrom opening s0 generation won lost
   -- what recovery gave
   pub recovered : Recovered
   pub is : HasRecovered s0 s1 recovered
@@ -102,12 +102,12 @@ pub record HasOpened (locks : ℕ) (s0 s1 : Story) (v : View) (log : Log) (gener
   pub generation_is : generation ≡ recovered.master.generation
   pub won_is : won ≡ recovered.winners
   pub lost_is : lost ≡ recovered.undone
-  pub clean : TellsAll s0 → (m : Master) → IsCleanDisk m (areas_of s0) → BeginsOn opening recovered.master log s0 s1 m
+  pub clean : TellsAll 1 s0 → (m : Master) → IsCleanDisk m (areas_of s0) → BeginsOn opening recovered.master log s0 s1 m
 
 -- what the disk shows of the reason for which it was not opened
 abbrev pub Shows : Story → Unrecovered → Type 0
-Shows s why.NotFormatted = TellsAll s → HasOpenable (areas_of s) → ⊥
-Shows s (why.Damaged area place) = TellsAll s → IsDamaged (areas_of s) area place
+Shows s why.NotFormatted = TellsAll 1 s → HasOpenable 1 (areas_of s) → ⊥
+Shows s (why.Damaged area place) = TellsAll 1 s → IsDamaged (areas_of s) area place
 Shows s why.DiskFault = Unit {0}
 Shows s why.Memory = Unit {0}
 
@@ -116,4 +116,4 @@ Shows s why.Memory = Unit {0}
 pub record OpenKeeps (s0 s1 : Story) : Type 0 where
   pub others : (a : ℕ) → 2 < a → s1.area a ≡ s0.area a
   pub keeps : Keeps s0 s1
-  pub any_moment : (m : Master) → TellsAll s0 → IsCleanDisk m (areas_of s0) → LeavesOnly s0 s1 (RecoveryLeaves m s0)
+  pub any_moment : (m : Master) → TellsAll 1 s0 → IsCleanDisk m (areas_of s0) → LeavesOnly s0 s1 (RecoveryLeaves m s0)

@@ -95,6 +95,9 @@ impl<D: Stages> Engine<D> {
         ensures cause_disk_fault { HasCause (D.faults self.old.disk) (D.faults self.new.disk) (result ≡ Err Refusal.DiskFault) }
     {
         core_commit::every_rise();
+        core_commit::every_need();
+        core_commit::every_holder();
+        core_commit::every_floor();
         core_calls::every_commit();
         row_opening::every_reached();
         match row_engine::commit(

@@ -48,7 +48,7 @@ pub(crate) fn open_parts<D: Disk>(
     image_model::every_undone();
     recovery::every_own();
     row_engine::every_opened();
-    let recovered = match recover(alloc, disk) {
+    let recovered = match recover(alloc, disk, 1) {
         Ok(recovered) => recovered,
         Err(reason) => return Err(reason),
     };

@@ -73,7 +73,7 @@ impl<D: Disk> Engine<D> {
 
     /// Whether an abort is half done, so that only an abort may come next: it put a change of the session's transaction back, which has not ended since.
     pub fn half_done(&self) -> Result<bool, Broken>
-        ensures half { IfOk result (λ half. (g : Opening) (xs : List Done) → InRun self.now.view g xs → half ≡ is_half_done xs) }
+        ensures half { IfOk result (λ half. (g : Opening) (xs : List Done) → InRun self.now.view g xs → half ≡ is_half_done 1 xs) }
 
         ensures cause { IsErr result ↔ (self.now.works ≡ false) }
     {

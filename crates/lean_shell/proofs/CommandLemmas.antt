@@ -57,9 +57,10 @@ one_number name from to x y m n end same is other =
 same_shape : (words : List (List ℕ)) (x y : Shape) → AsksFormat words x → AsksFormat words y → x ≡ y
 same_shape words x y is other =
     let same : is.options ≡ other.options = (one_met words (codes "format") (codes "format") is.options other.options is.names other.names).1 in
+    let workers : x.workers ≡ y.workers = one_number (codes "workers") 1 1 is.options other.options x.workers y.workers (omega arith) same is.workers other.workers in
     let pages : x.pages ≡ y.pages = one_number (codes "pages") 16 4096 is.options other.options x.pages y.pages (omega arith) same is.pages other.pages in
     let blocks : x.blocks ≡ y.blocks = one_number (codes "blocks") 64 4096 is.options other.options x.blocks y.blocks (omega arith) same is.blocks other.blocks in
-    ap (λ (p : ℕ). record x { pages = p }) pages ∙ ap (λ (b : ℕ). record y { blocks = b }) blocks
+    ap (λ (w : ℕ). record x { workers = w }) workers ∙ (ap (λ (p : ℕ). let s : Shape = record { workers = y.workers; pages = p; blocks = x.blocks } in s) pages ∙ ap (λ (b : ℕ). record y { blocks = b }) blocks)
 
 -- and for one size
 same_size : (words : List (List ℕ)) (x y : Size) → AsksRun words x → AsksRun words y → x ≡ y

@@ -12,7 +12,7 @@ use Rattle.lean_shell.specs.Starts.{IsLeft, IsRoomOfNext}
 
 -- It tells of the areas that an opening asks for and, with none of them split off, of crashes.
 pub record TellsCrashes (s : Story) : Type 0 where
-  pub all : TellsAll s
+  pub all : TellsAll 1 s
   pub counts : IsTrue s.counts
 
 -- what a read gives now, as if a crash had left it

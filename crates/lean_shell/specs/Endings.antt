@@ -31,7 +31,7 @@ last_line AlreadyFormatted = notice_text AlreadyNotice ++ 10 ∷ []
 
 -- the line of a disk that was formatted
 abbrev pub formatted_line : Shape → List ℕ
-formatted_line shape = notice_text (Formatted 1 shape.pages shape.blocks) ++ 10 ∷ []
+formatted_line shape = notice_text (Formatted shape.workers shape.pages shape.blocks) ++ 10 ∷ []
 
 -- the statuses there are
 abbrev pub IsStatus : ℕ → Type 0

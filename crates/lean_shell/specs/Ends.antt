@@ -20,6 +20,6 @@ pub record RunEnds (locks status : ℕ) (s0 s1 : Story) (feed0 feed1 : Feed) (he
   pub others : (a : ℕ) → 2 < a → s1.area a ≡ s0.area a
   pub tells_on : TellsOn s0 s1
   -- the headline holds of what was put, also where the sink does not tell what it holds
-  pub headline : IsTrue feed0.tells → TellsAll s0 → Headline s0 s1 feed0.left put
+  pub headline : IsTrue feed0.tells → TellsAll 1 s0 → Headline s0 s1 feed0.left put
   -- at every moment the master is that of the entry, or the next one; and what stands of the run's calls
   pub masters : IsTrue feed0.tells → (m : Master) → TellsCrashes s0 → IsCleanDisk m (areas_of s0) → IsYoung m s0 → LeavesOnly s0 s1 (MasterLeaves locks m s0 feed0.left put)

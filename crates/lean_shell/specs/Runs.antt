@@ -72,7 +72,7 @@ first_line n = opened_line n.generation n.winners n.undone
 -- The opening is the start that the disk on entry gives, with the map for which it stands, and the counts are those of its image.
 pub record IsFrom (g : Opening) (s : Story) (n : Counts) : Type 0 where
   pub m : Master
-  pub openable : IsOpenable m
+  pub openable : IsOpenable 1 m
   pub sound : IsSoundDisk m (areas_of s)
   pub starts : IsStartOf m (areas_of s) g
   pub map : (k : ℕ) → first_map g k ≡ map_of (image_by m (areas_of s)) k
@@ -90,7 +90,7 @@ pub record CutFirst (status : ℕ) (s0 : Story) (feed0 feed1 : Feed) (put : List
   pub cause : Rose sink0 sink1
   pub counts : Counts
   pub opening : Opening
-  pub from : TellsAll s0 → IsFrom opening s0 counts
+  pub from : TellsAll 1 s0 → IsFrom opening s0 counts
   pub prefix : ℕ
   pub printed : put ≡ take prefix (first_line counts)
   pub unread : feed1 ≡ feed0
@@ -102,9 +102,9 @@ pub record CutFirst (status : ℕ) (s0 : Story) (feed0 feed1 : Feed) (put : List
 pub record Executed (locks : ℕ) (s0 : Story) (counts : Counts) (calls : List Done) : Type 0 where
   pub opening : Opening
   pub of_one : IsOfOne locks opening
-  pub from : TellsAll s0 → IsFrom opening s0 counts
+  pub from : TellsAll 1 s0 → IsFrom opening s0 counts
   pub first : Log
-  pub log : TellsAll s0 → (m : Master) → master_on (areas_of s0 0) ≡ Some m → first ≡ first_log m opening.base
+  pub log : TellsAll 1 s0 → (m : Master) → master_on (areas_of s0 0) ≡ Some m → first ≡ first_log m opening.base
   pub last : Log
   pub executes : Executes opening [] first calls last
 

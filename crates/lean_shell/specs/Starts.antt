@@ -52,7 +52,7 @@ pub record IsRoomOfNext (input : List ℕ) (g : Opening) (heard : List Done) (es
   pub call : Call
   pub fits : CallFits call
   pub line : ComesNext (script_of (calls_of heard)) (ask 1 call) input
-  pub room : IsRoomFor g heard call es
+  pub room : IsRoomFor g heard 1 call es
 
 -- By the next master each page's base is the start's, and the records are the oldest of those that a run of the core logs from there: of the calls of
 -- which the lines that were out tell, and of the first events of at most one more; or of such events of a call that was not answered.

@@ -73,7 +73,7 @@ GivesRows options = Gives options (codes "rows") 16 4096
 pub record AsksFormat (words : List (List ℕ)) (shape : Shape) : Type 0 where
   pub options : List Row
   pub names : Names words (codes "format") options
-  pub workers : Gives options (codes "workers") 1 1 1
+  pub workers : Gives options (codes "workers") 1 1 shape.workers
   pub pages : Gives options (codes "pages") 16 4096 shape.pages
   pub blocks : Gives options (codes "blocks") 64 4096 shape.blocks
 

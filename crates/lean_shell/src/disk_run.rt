@@ -78,7 +78,7 @@ pub fn run_disk<S: Source, K: Sink<D>, D: Hosts>(
     size: Size,
 ) -> Ended<D>
     requires rows { (1 ≤ size.rows) × (size.rows ≤ 65536) }
-    ensures headline { IsTrue (S.feed source.old).tells → IsTrue (K.held sink.old).tells → TellsAll (D.story disk) → Headline (D.story disk) (D.story result.disk) (S.feed source.old).left (added (K.held sink.old) (K.held sink.new)) }
+    ensures headline { IsTrue (S.feed source.old).tells → IsTrue (K.held sink.old).tells → TellsAll 1 (D.story disk) → Headline (D.story disk) (D.story result.disk) (S.feed source.old).left (added (K.held sink.old) (K.held sink.new)) }
     ensures ends { RunEnds size.rows result.status (D.story disk) (D.story result.disk) (S.feed source.old) (S.feed source.new) (K.held sink.old) (K.held sink.new) (K.faults sink.old) (K.faults sink.new) }
 
     ensures cause_read_fault { HasCause (S.faults source.old) (S.faults source.new) (result.status ≡ 4) }

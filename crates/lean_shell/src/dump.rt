@@ -24,7 +24,7 @@ pub fn dump_disk<K: Sink<D>, D: Disk>(alloc: Global, sink: &mut K, disk: &mut D)
     pair_walk::every_listing();
     image_model::every_undone();
     recovery::every_own();
-    let recovered = match recover(alloc, disk) {
+    let recovered = match recover(alloc, disk, 1) {
         Ok(recovered) => recovered,
         Err(reason) => {
             put_reason(reason, sink, disk);

@@ -46,7 +46,7 @@ fn finish<K: Sink<D>, D: Disk>(shape: Shape, sink: &mut K, disk: &mut D) -> u8
 {
     notices_are_no_replies();
     let mut line = [0; REPLY];
-    let end = formatted_bytes(1, shape.pages, shape.blocks, &mut line);
+    let end = formatted_bytes(shape.workers, shape.pages, shape.blocks, &mut line);
     match sink.put(disk, &line[..end]) {
         Put::Done => 0,
         Put::Failed => 5,
@@ -54,7 +54,8 @@ fn finish<K: Sink<D>, D: Disk>(shape: Shape, sink: &mut K, disk: &mut D) -> u8
 }
 
 fn run_format<K: Sink<D>, D: Disk>(alloc: Global, shape: Shape, sink: &mut K, disk: &mut D) -> u8
-    requires { shape.pages ≤ 65536 }
+    requires workers { shape.workers ≤ 16 }
+    requires pages { shape.pages ≤ 65536 }
     ensures { FormatEnds shape result (D.story disk.old) (D.story disk.new) (K.held sink.old) (K.held sink.new) (K.faults sink.old) (K.faults sink.new) (D.faults disk.old) (D.faults disk.new) }
 {
     let Ok(mut buffer) = vec![in alloc; 0; 65536] else {
@@ -84,7 +85,7 @@ fn run_alone<S: Source, K: Sink<D>, D: Hosts>(
 ) -> Ended<D>
     ensures ends { CommandEnds (texts words.now) result.status (D.story disk) (D.story result.disk) (S.feed source.old) (S.feed source.new) (K.held sink.old) (K.held sink.new)
         (record { source = S.faults source.old; sink = K.faults sink.old; disk = D.faults disk }) (record { source = S.faults source.new; sink = K.faults sink.new; disk = D.faults result.disk }) }
-    ensures headline { (size : Size) → Asks (texts words.now) (Run size) → IsTrue (S.feed source.old).tells → IsTrue (K.held sink.old).tells → TellsAll (D.story disk) → Headline (D.story disk) (D.story result.disk) (S.feed source.old).left (added (K.held sink.old) (K.held sink.new)) }
+    ensures headline { (size : Size) → Asks (texts words.now) (Run size) → IsTrue (S.feed source.old).tells → IsTrue (K.held sink.old).tells → TellsAll 1 (D.story disk) → Headline (D.story disk) (D.story result.disk) (S.feed source.old).left (added (K.held sink.old) (K.held sink.new)) }
     ensures source { ((size : Size) → Asks (texts words.now) (Run size) → ⊥) → source.new ≡ source.old }
 {
     match read_words(alloc, words) {
@@ -121,7 +122,7 @@ pub fn run<R: Threads + Wait + Sync, S: Source, K: Sink<D>, D: Hosts, G: Gate + 
     gate: &G,
 ) -> Ended<D>
     // Whatever script runs, and wherever a crash falls.
-    ensures headline { (size : Size) → Asks (texts words.now) (Run size) → IsTrue (S.feed source.old).tells → IsTrue (K.held sink.old).tells → TellsAll (D.story disk) → Headline (D.story disk) (D.story result.disk) (S.feed source.old).left (added (K.held sink.old) (K.held sink.new)) }
+    ensures headline { (size : Size) → Asks (texts words.now) (Run size) → IsTrue (S.feed source.old).tells → IsTrue (K.held sink.old).tells → TellsAll 1 (D.story disk) → Headline (D.story disk) (D.story result.disk) (S.feed source.old).left (added (K.held sink.old) (K.held sink.new)) }
 
     // Which statuses there are, and why.
     ensures known { IsStatus result.status }

@@ -74,10 +74,14 @@ fn read_shape(options: &ArgMatches) -> Option<Shape>
     ensures none { IfNone result ((s : Shape) → GivesShape (rows_of (found_of options.now)) s → ⊥) }
 {
     // One worker, until there are more.
-    let _ = option_in(options, "workers", 1, 1)?;
+    let workers = option_in(options, "workers", 1, 1)?;
     let pages = option_in(options, "pages", 16, 4096)?;
     let blocks = option_in(options, "blocks", 64, 4096)?;
-    Some(Shape { pages, blocks })
+    Some(Shape {
+        workers,
+        pages,
+        blocks,
+    })
 }
 
 fn read_size(options: &ArgMatches) -> Option<Size>

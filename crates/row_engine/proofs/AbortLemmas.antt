@@ -1,10 +1,11 @@
 -- An abort, in a run: its changes are put back, and then it ends, or a latch that it needs has come to its end.
-use Rattle.std.proofs.Common.{◌≡◌, inr, ◌≤◌, ◌^◌, ◌++◌, ◌&&◌, ℕ, suc, Bool, true, false, cond, List, [], ◌∷◌, length, Some, None, refl, sym, ap, ◌∙◌, subst, arith, append-nil, true≢false}
+use Rattle.std.proofs.Common.{◌≡◌, inr, ◌≤◌, ◌^◌, ◌++◌, ◌&&◌, ◌==◌, ℕ, suc, Bool, true, false, cond, List, [], ◌∷◌, length, Some, None, refl, sym, ap, ◌∙◌, subst, arith, append-nil, true≢false}
 use Rattle.std.proofs.lemmas.Bool.{and_parts}
 use Rattle.std.proofs.lemmas.List.{append_assoc, length-append}
 use Rattle.map_model.specs.Histories.{Step}
 use Rattle.map_model.specs.Lists.{all, any, keep}
 use Rattle.map_model.specs.declared.call.Answer.TheVariants as answer
+use Rattle.map_model.specs.declared.call.Call.{Call}
 use Rattle.map_model.specs.declared.call.Call.TheVariants as call
 use Rattle.map_model.specs.declared.call.Refusal.{Refusal}
 use Rattle.map_model.specs.declared.call.Refusal.TheVariants as refusal
@@ -16,14 +17,15 @@ use Rattle.core_state.specs.Events as happening
 use Rattle.core_state.specs.Lists.{is_empty}
 use Rattle.core_state.specs.Needs.{are_hot, holds_row, may, may_put_back}
 use Rattle.core_state.specs.States.{State, flushed_by_all}
-use Rattle.core_state.specs.Steps.{AllMet, end_entry, ends, happens, run, state_after, step}
+use Rattle.core_state.specs.Steps.{AllMet, end_entry, ends, run, state_after, step}
 use Rattle.core_state.proofs.Runs.{met_more, run_more}
-use Rattle.core_calls.specs.Deeds.{marks_by, put_backs}
+use Rattle.core_calls.specs.Deeds.{Deed, Outcome, Refused, marks_by, put_backs}
 use Rattle.core_calls.specs.Fronts.{Done, front, outcomes}
 use Rattle.core_calls.specs.LogEvents.{AreSyncs, RefusedLogs, is_log}
 use Rattle.core_calls.specs.Marks.{Mark, is_half}
-use Rattle.core_calls.specs.Runs.{Tells}
-use Rattle.core_calls.specs.Steps.{is_step, is_structure}
+use Rattle.core_calls.specs.Refusals.{IsHindered}
+use Rattle.core_calls.specs.Runs.{EachTells, IsRefused, Tells}
+use Rattle.core_calls.specs.Steps.{IsAbortOf, IsAnAbort, hindered_in, is_step, is_structure}
 use Rattle.disk_image.specs.Records.{entry_of}
 use Rattle.disk_runs.specs.Logs.{Records}
 use Rattle.disk_runs.specs.Stands.{Known}
@@ -37,16 +39,17 @@ use Rattle.worker_log.specs.Calls.{After}
 use Rattle.worker_log.specs.Logs.{Log}
 use Rattle.engine_calls.specs.Aborts.{IsAbort, PutsBack, aborted_by, back_by, backs_by, newest_back}
 use Rattle.engine_calls.specs.Answers.{EveryAnswer}
-use Rattle.engine_calls.specs.Clauses.{Between, EveryComing}
+use Rattle.engine_calls.specs.Clauses.{Between, EveryComing, MayCome}
 use Rattle.engine_calls.specs.Commits.{unlocks}
 use Rattle.engine_calls.specs.Entries.{EveryEntry, abort_record}
 use Rattle.engine_calls.specs.Halves.{IsHalved, halved_by}
 use Rattle.engine_calls.specs.Parts.{EveryPart, behind_first}
 use Rattle.engine_calls.proofs.MarkLemmas.{any_append, keep_append, keep_none}
 use Rattle.engine_calls.proofs.UnlockLemmas.{if_met, unlocks_quiet}
-use Rattle.engine_trait.specs.Calls.{Fails, Logs, Nothing}
+use Rattle.engine_trait.specs.Calls.{Fails, Logs, Nothing, call_behind, due_call, is_half_done}
 use Rattle.engine_trait.specs.Limits.{AreLoads, limits}
-use Rattle.engine_trait.specs.Rooms.{AreBacks, puts_back}
+use Rattle.engine_trait.specs.Refusals.{refusal_in}
+use Rattle.engine_trait.specs.Rooms.{AreBacks, IsRoomFor, MakesItsRoom, puts_back}
 use Rattle.row_words.specs.declared.event.Event.{Event}
 use Rattle.row_words.specs.declared.event.Event.TheVariants.{End, Miss}
 use Rattle.row_words.specs.Moments.{events_of}
@@ -62,12 +65,13 @@ use Rattle.row_engine.specs.Ends.{Ended, Missed, end_of, gives}
 use Rattle.row_engine.specs.Grown.{Behind, Goes, Went}
 use Rattle.row_engine.specs.Holds.{Holds, IsOf}
 use Rattle.row_engine.specs.Puts.{KeepsLog}
-use Rattle.row_engine.specs.Ties.{Ties}
+use Rattle.row_engine.specs.Ties.{Asked, Hindered, IsAbortDue, Ties}
 use Rattle.row_engine.specs.declared.session.Session.{Session}
 use Rattle.row_engine.proofs.BackRuns.{Backs, backs_of}
 use Rattle.row_engine.proofs.Behind as behind
-use Rattle.row_engine.proofs.CommitLemmas.{framed_then, length_unlocks, unlocks_met}
+use Rattle.row_engine.proofs.CommitRuns.{ending_met, length_unlocks}
 use Rattle.row_engine.proofs.CommitRefusals.{length_events}
+use Rattle.row_engine.proofs.Frames.{framed_then}
 use Rattle.row_engine.proofs.GrowRuns.{all_append, logs_same, went_failed, went_more, went_quiet}
 use Rattle.row_engine.proofs.LatchLemmas.{gives_events}
 use Rattle.row_engine.proofs.Misses.{misses_are, misses_log, misses_met, misses_quiet, misses_steps, misses_structure}
@@ -98,16 +102,16 @@ some_back g s w p earlier m = go (s.worker w).changes (and_parts (s.worker w).is
     go [] e = absurd (true≢false (sym e))
     go (c ∷ cs) e = refl
 
-some_backs : (g : Opening) (s : State) (es : List happening.Event) (earlier : List Step) → all is_back es ≡ true → AllMet g s es → is_empty (backs_by g s es earlier) ≡ (is_empty es && is_empty earlier)
-some_backs g s [] earlier a m = refl
-some_backs g s (happening.Event.Put_back w p ∷ es) earlier a m =
-    some_backs g (step g s (happening.Event.Put_back w p)) es (back_by g s (happening.Event.Put_back w p) earlier) (and_parts _ (all is_back es) a).1 m.1
+some_backs : (own : ℕ) (g : Opening) (s : State) (es : List happening.Event) (earlier : List Step) → all (is_back own) es ≡ true → AllMet g s es → is_empty (backs_by g s es earlier) ≡ (is_empty es && is_empty earlier)
+some_backs own g s [] earlier a m = refl
+some_backs own g s (happening.Event.Put_back w p ∷ es) earlier a m =
+    some_backs own g (step g s (happening.Event.Put_back w p)) es (back_by g s (happening.Event.Put_back w p) earlier) (and_parts (w == own) (all (is_back own) es) a).1 m.1
     ∙ (ap (λ b. is_empty es && b) (some_back g s w p earlier m.0) ∙ none (is_empty es))
   where
     none : (b : Bool) → (b && false) ≡ false
     none true = refl
     none false = refl
-some_backs g s (_ ∷ es) earlier a m = absurd (true≢false (sym a))
+some_backs own g s (_ ∷ es) earlier a m = absurd (true≢false (sym a))
 
 -- whether the transaction is half undone behind them
 half_with : (backs : List Step) (earlier : List Mark) → is_half ((put_backs backs ++ []) ++ earlier) ≡ cond (is_empty backs) (is_half earlier) true
@@ -119,10 +123,40 @@ none_of : (es : List Event) → is_empty (events_of es) ≡ is_empty es
 none_of [] = refl
 none_of (e ∷ es) = refl
 
+-- ## Which call it is
+
+-- behind a conflict too it is an abort that is asked of the engine
+abort_asked : (xs : List Done) (own : ℕ) (is_open : Bool) (c : Call) → IsAbortDue xs own is_open c → call_behind (outcomes xs) c ≡ call.Abort
+abort_asked xs own is_open c (Asked line e) = behind.line_call xs c line ∙ e
+abort_asked xs own is_open c (Hindered o y earlier is hindered same) = ap (λ ys. call_behind (outcomes ys) c) is ∙ ap (λ d. due_call d c) hindered
+
+-- it may come, with this outcome
+abort_comes : EveryComing → (xs : List Done) (own : ℕ) (is_open : Bool) (c : Call) → IsAbortDue xs own is_open c → (o : Outcome) → o.session ≡ own → (c ≡ call.Abort → IsAnAbort o.deed) → IsAbortOf c o.deed → MayCome xs o
+abort_comes coming xs own is_open c (Asked line e) o same asked of_it = (coming xs o).new line (asked e)
+abort_comes coming xs own is_open c (Hindered going y earlier is hindered other) o same asked of_it = subst (λ ys. MayCome ys o) (sym is) ((coming earlier o).abort y c hindered (same ∙ sym other) of_it)
+
+-- a call that met a conflict is no begin
+not_begin : (g : Opening) (group : ℕ) (xs : List Done) (own : ℕ) (is_open : Bool) (c : Call) → IsAbortDue xs own is_open c → EachTells limits g group xs → c ≡ call.Begin → ⊥
+not_begin g group xs own is_open c (Asked line e) told q = absurd (cc)
+not_begin g group xs own is_open c (Hindered going y earlier is hindered other) told q = from_deed y.outcome.deed hindered (subst (λ ys. EachTells limits g group ys) is told).1.refused
+  where
+    from_deed : (d : Deed) → hindered_in d ≡ Some c → IsRefused limits g earlier y d → ⊥
+    from_deed (Refused b (refusal.Conflict h) backs) e r = subst (λ k. IsHindered g (run g (state_after g (front earlier)) r.0) y.outcome.session k h) (some_is b c e ∙ q) r.3
+      where
+        some_is : (a b : Call) → Some a ≡ Some b → a ≡ b
+        some_is a b e = cc
+    from_deed (Refused b _ backs) e r = absurd (cc)
+    from_deed _ e r = absurd (cc)
+
+-- so nothing is due at the logs
+none_due : (g : Opening) (xs : List Done) (own : ℕ) (c : Call) → (c ≡ call.Begin → ⊥) → RefusedLogs limits g xs own c refusal.RowSpent []
+none_due g xs own call.Begin other = absurd (other refl)
+none_due g xs own _ other = tt
+
 -- ## In a run
 
 module _ (reached : EveryReached) (needs : EveryNeed) (answers : EveryAnswer) (coming : EveryComing) (entries : EveryEntry) (parts : (old mid new : Story) → EveryPart old mid new)
-    (g : Opening) (xs : List Done) (z : Shape) (v : View) (x : Session) (log : Log) (h : Holds z v x log) (t : Ties g xs x.half v) where
+    (g : Opening) (xs : List Done) (z : Shape) (v : View) (x : Session) (log : Log) (h : Holds z v x log) (t : Ties g x.group xs x.own x.half v) (c : Call) (due : IsAbortDue xs x.own x.is_open c) where
   abbrev first : List happening.Event
   first = t.loads
 
@@ -130,13 +164,24 @@ module _ (reached : EveryReached) (needs : EveryNeed) (answers : EveryAnswer) (c
   begun = state_after g (front xs)
 
   b : Behind g xs first v
-  b = behind.begins g xs v t
+  b = behind.begins g x.group xs x.own v t
 
-  some_worker : 1 ≤ g.workers
-  some_worker = let q = t.opens.workers in let n = h.rows.one in omega arith
+  high : x.own ≤ g.workers
+  high = let q = t.opens.workers in let n = h.rows.workers in let k = h.rows.high in omega arith
 
-  went_first : (st : Story) → IsLawful st → (s0 : Crash) (k : Known) → Between limits g 1 xs s0 k st → k.log 1 ≡ log → Went g xs s0 k first log st st
-  went_first st lawful s0 k bt is = record { known = k; gone = behind.gone_loads st lawful (parts st st st) g xs v t s0 k bt; log_is = is; master_is = refl; within = behind.nothing_written st lawful; frame = framed 2 st }
+  asks : call_behind (outcomes xs) c ≡ call.Abort
+  asks = abort_asked xs x.own x.is_open c due
+
+  went_first : (st : Story) → IsLawful st → (s0 : Crash) (k : Known) → Between limits g x.group xs s0 k st → k.log x.own ≡ log → Went x.own g xs s0 k first log st st
+  went_first st lawful s0 k bt is = record {
+    known = k;
+    gone = behind.gone_loads st lawful (parts st st st) g x.group xs x.own v t s0 k bt;
+    log_is = is;
+    others = λ w ne. refl;
+    master_is = refl;
+    within = behind.nothing_written (suc x.own) st lawful;
+    frame = framed (suc x.own) st;
+  }
 
   -- behind the changes that were put back
   module _ (u : View) (y : Session) (mid : Log) (d : Undoes v u x y log mid) where
@@ -146,11 +191,11 @@ module _ (reached : EveryReached) (needs : EveryNeed) (answers : EveryAnswer) (c
     abbrev fs : List happening.Event
     fs = first ++ backs
 
-    q : Undone g xs first u backs log mid
+    q : Undone x.own g xs first u backs log mid
     q = d.run g xs first b
 
-    facts : Backs backs
-    facts = backs_of backs q.backs
+    facts : Backs x.own backs
+    facts = backs_of x.own backs q.backs
 
     abbrev here : State
     here = behind_first g xs fs
@@ -161,10 +206,10 @@ module _ (reached : EveryReached) (needs : EveryNeed) (answers : EveryAnswer) (c
     few_backs : length backs ≤ length x.undo
     few_backs = let a = d.fewer in let n = length_events d.events in omega arith
 
-    allowed : AreBacks fs
-    allowed = all_append puts_back first backs (of_loads first t.are_loads) facts.allowed
+    allowed : AreBacks x.own fs
+    allowed = all_append (puts_back x.own) first backs (of_loads first t.are_loads) facts.allowed
       where
-        of_loads : (es : List happening.Event) → AreLoads es → all puts_back es ≡ true
+        of_loads : (es : List happening.Event) → AreLoads es → all (puts_back x.own) es ≡ true
         of_loads [] a = refl
         of_loads (happening.Event.Load p f ∷ es) a = of_loads es a
         of_loads (_ ∷ es) a = absurd a
@@ -181,7 +226,7 @@ module _ (reached : EveryReached) (needs : EveryNeed) (answers : EveryAnswer) (c
     told_none : (more : List Event) → AreMisses more → AllMet g begun (fs ++ events_of more) → is_empty (backs_by g begun (fs ++ events_of more) []) ≡ is_empty d.events
     told_none more are met =
         ap is_empty (backs_append g begun fs (events_of more) [] ∙ (misses_backs g (run g begun fs) more (backs_by g begun fs []) are ∙ (backs_append g begun first backs [] ∙ ap (backs_by g (run g begun first) backs) (loads_backs g begun first [] t.are_loads))))
-        ∙ (some_backs g (run g begun first) backs [] q.backs (met_more g begun first backs (first_met fs (events_of more) met))
+        ∙ (some_backs x.own g (run g begun first) backs [] q.backs (met_more g begun first backs (first_met fs (events_of more) met))
         ∙ (and_true (is_empty backs) ∙ none_of d.events))
       where
         and_true : (c : Bool) → (c && true) ≡ c
@@ -193,7 +238,7 @@ module _ (reached : EveryReached) (needs : EveryNeed) (answers : EveryAnswer) (c
 
     -- ## A latch has come to its end
 
-    module _ (w : View) (most : ℕ) (most_few : most ≤ 2 ^ 16) (m : Missed most u w) (many : 2 ^ 61 ≤ length w.seen) (st new : Story) (lawful : IsLawful st) (goes : Goes d.events v log mid st new) (frame : Framed 2 st new) where
+    module _ (w : View) (most : ℕ) (most_few : most ≤ 2 ^ 16) (m : Missed most u w) (many : 2 ^ 61 ≤ length w.seen) (st new : Story) (lawful : IsLawful st) (goes : Goes x.own x.group d.events v log mid st new) (frame : Framed (suc x.own) st new) where
       abbrev misses : List happening.Event
       misses = events_of m.misses
 
@@ -204,16 +249,16 @@ module _ (reached : EveryReached) (needs : EveryNeed) (answers : EveryAnswer) (c
       behind_es = behind.more reached needs g xs fs u q.behind m.misses w m.given m.seen (misses_met g here m.misses m.are_misses)
 
       abbrev half_done : Done
-      half_done = halved_by g xs 1 call.Abort es
+      half_done = halved_by g xs x.own c es
 
-      is_halved : IsHalved limits g xs 1 call.Abort es
+      is_halved : IsHalved limits g xs x.own c es
       is_halved = record {
-        comes = (coming xs half_done.outcome).new t.line tt;
+        comes = abort_comes coming xs x.own x.is_open c due half_done.outcome refl (λ e. tt) (refl, refl);
         met = behind_es.met;
-        backs = subst (PutsBack 1) (sym (keep_append is_step fs misses ∙ (ap (λ ys. keep is_step fs ++ ys) (keep_none is_step misses (misses_steps m.misses m.are_misses)) ∙ (append-nil (keep is_step fs) ∙ steps_are)))) facts.steps;
+        backs = subst (PutsBack x.own) (sym (keep_append is_step fs misses ∙ (ap (λ ys. keep is_step fs ++ ys) (keep_none is_step misses (misses_steps m.misses m.are_misses)) ∙ (append-nil (keep is_step fs) ∙ steps_are)))) facts.steps;
         structure = any_append is_structure fs misses structure (misses_structure m.misses m.are_misses);
         cause = many_es;
-        due = subst (λ ys. RefusedLogs limits g xs 1 call.Abort refusal.RowSpent ys) (sym (keep_append is_log fs misses ∙ (ap (λ ys. keep is_log fs ++ ys) (keep_none is_log misses (misses_log m.misses m.are_misses)) ∙ (append-nil (keep is_log fs) ∙ logs_are)))) tt;
+        due = subst (λ ys. RefusedLogs limits g xs x.own c refusal.RowSpent ys) (sym (keep_append is_log fs misses ∙ (ap (λ ys. keep is_log fs ++ ys) (keep_none is_log misses (misses_log m.misses m.are_misses)) ∙ (append-nil (keep is_log fs) ∙ logs_are)))) (none_due g xs x.own c (not_begin g x.group xs x.own x.is_open c due t.told));
       }
         where
           many_es : 2 ^ 61 ≤ length (front xs ++ es)
@@ -223,11 +268,11 @@ module _ (reached : EveryReached) (needs : EveryNeed) (answers : EveryAnswer) (c
               let n = length_events w.seen in
               omega arith
 
-      half_told : Tells limits g 1 xs half_done
-      half_told = (answers limits g 1 xs).halved 1 call.Abort es is_halved
+      half_told : Tells limits g x.group xs half_done
+      half_told = (answers limits g x.group xs).halved x.own c es is_halved
 
-      half_is : is_half (marks_by 1 (outcomes (half_done ∷ xs))) ≡ y.half
-      half_is = half_with (backs_by g begun es []) (marks_by 1 (outcomes xs))
+      half_is : is_half_done x.own (half_done ∷ xs) ≡ y.half
+      half_is = behind.half_own x.own half_done xs refl ∙ half_with (backs_by g begun es []) (marks_by x.own (outcomes xs))
           ∙ ((λ i. cond (told_none m.misses m.are_misses behind_es.met i) (t.half_is i) true) ∙ sym d.half)
 
       events_are : es ≡ first ++ (backs ++ misses)
@@ -244,10 +289,10 @@ module _ (reached : EveryReached) (needs : EveryNeed) (answers : EveryAnswer) (c
           let i = h.numbers.few in
           omega arith
 
-      went_es : (s0 : Crash) (k : Known) → Between limits g 1 xs s0 k st → k.log 1 ≡ log → Went g xs s0 k es mid st new
-      went_es s0 k bt is = went_quiet parts g some_worker xs s0 k st bt fs misses (misses_quiet m.misses m.are_misses) mid new (goes g xs first b s0 k bt (went_first st lawful s0 k bt is))
+      went_es : (s0 : Crash) (k : Known) → Between limits g x.group xs s0 k st → k.log x.own ≡ log → Went x.own g xs s0 k es mid st new
+      went_es s0 k bt is = went_quiet parts x.own x.group g h.rows.low high xs s0 k st bt fs misses (misses_quiet m.misses m.are_misses) mid new (goes g xs first b s0 k bt (went_first st lawful s0 k bt is))
 
-      pub halved_does : DoesOn g xs call.Abort (answer.Refused refusal.RowSpent) y.half w log mid st new
+      pub halved_does : DoesOn g x.group xs x.own c (answer.Refused refusal.RowSpent) y.half w log mid st new
       halved_does = record {
         does = record {
           done = half_done;
@@ -263,13 +308,13 @@ module _ (reached : EveryReached) (needs : EveryNeed) (answers : EveryAnswer) (c
             few = few_events;
             refused = λ why e. inr (sym (refused_is refusal.RowSpent why e));
             refuses = λ why e. inr refl;
-            log = subst (λ k. Logs g k (backs ++ misses) log mid) (sym (behind.front_is g xs first)) (logs_same g (behind_first g xs first) backs misses log mid (misses_are m.misses m.are_misses) q.logs);
-            room = any_append is_structure backs misses facts.structure (misses_structure m.misses m.are_misses);
+            log = subst (λ k. Logs x.own g k (backs ++ misses) log mid) (sym (behind.front_is g xs first)) (logs_same x.own g (behind_first g xs first) backs misses log mid (misses_are m.misses m.are_misses) q.logs);
+            room = subst (λ d. MakesItsRoom g (state_after g (front xs ++ first)) d (backs ++ misses)) (sym asks) (any_append is_structure backs misses facts.structure (misses_structure m.misses m.are_misses));
           };
           frame = frame;
-          keeps = λ s0 k bt is. let a = went_es s0 k bt is in behind.keeps_by g xs half_done s0 k a.known mid st new a.gone half_told a.log_is a.master_is a.within;
+          keeps = λ s0 k bt is. let a = went_es s0 k bt is in behind.keeps_by g x.group xs half_done s0 k a.known mid st new a.gone half_told a.log_is a.others a.master_is a.within;
         };
-        ties = behind.ends g xs es w behind_es half_done refl t.told half_told (refl, refl) half_is;
+        ties = behind.ends g x.group xs x.own es w behind_es half_done refl t.told half_told half_is;
       }
         where
           refused_is : (p o : Refusal) → answer.Refused p ≡ answer.Refused o → p ≡ o
@@ -277,99 +322,86 @@ module _ (reached : EveryReached) (needs : EveryNeed) (answers : EveryAnswer) (c
 
     -- ## The end
 
-    module _ (hu : Holds z u y mid) (st old : Story) (lawful : IsLawful st) (goes : Goes d.events v log mid st old) (frame : Framed 2 st old) where
-      abbrev end_event : happening.Event
-      end_event = happening.Event.End 1 false mid.flushed
-
-      of_here : IsOf y (here.worker 1)
-      of_here = subst (λ k. IsOf y (k.worker 1)) core_here hu.session
-
-      abbrev r : Record
-      r = abort_of y mid
-
-      r_is : r ≡ abort_record (here.worker 1) mid.flushed
-      r_is = λ i. record { txn = sym of_here.txn i; gsn = gsn i; body = body.Abort (need_of (sym of_here.debt i) mid.flushed) }
-        where
-          gsn : suc y.clock ≡ suc (here.worker 1).clock
-          gsn = ap suc (sym of_here.clock)
-
-      flushed_here : here.flushed 1 ≡ mid.flushed
-      flushed_here = ap (λ k. k.flushed 1) (sym core_here) ∙ hu.flushed
-
-      all_is : mid.flushed ≡ flushed_by_all g here
-      all_is = sym flushed_here ∙ (least_one ∙ ap (least here.flushed) (sym (t.opens.workers ∙ h.rows.one)))
-        where
-          least_one : here.flushed 1 ≡ least here.flushed 1
-          least_one = omega arith
-
-      went_here : (s0 : Crash) (k : Known) → Between limits g 1 xs s0 k st → k.log 1 ≡ log → Went g xs s0 k fs mid st old
+    module _ (hu : Holds z u y mid) (st old : Story) (lawful : IsLawful st) (goes : Goes x.own x.group d.events v log mid st old) (frame : Framed (suc x.own) st old) where
+      went_here : (s0 : Crash) (k : Known) → Between limits g x.group xs s0 k st → k.log x.own ≡ log → Went x.own g xs s0 k fs mid st old
       went_here s0 k bt is = goes g xs first b s0 k bt (went_first st lawful s0 k bt is)
 
       -- it was not staged
-      pub unended : (new : Story) → KeepsLog mid old new → Fails g xs call.Abort log st new
+      pub unended : (new : Story) → KeepsLog x.own mid old new → Fails g x.group xs x.own c log st new
       unended new o = record {
-        frame = framed_then 2 st old new frame o.frame;
-        leaves = λ s0 k bt is. let a = went_failed parts g some_worker xs s0 k st bt fs mid old new (went_here s0 k bt is) o in record { stops = Nothing fs allowed a.0; within = a.1 };
+        frame = framed_then (suc x.own) st old new frame o.frame;
+        leaves = λ s0 k bt is. let a = went_failed parts x.own x.group g h.rows.low high xs s0 k st bt fs mid old new (went_here s0 k bt is) o in record { stops = Nothing fs (subst (λ e. IsRoomFor g xs x.own e fs) (sym asks) allowed) a.0; within = a.1 };
       }
 
-      module _ (w : View) (e : Ended (length y.held.rows) u false mid.flushed w) where
+      module _ (floor : ℕ) (floor_at : floor ≡ flushed_by_all (opening u.given) (state u).core) (w : View) (e : Ended x.own (length y.held.rows) u false floor w) where
+        abbrev end_event : happening.Event
+        end_event = happening.Event.End x.own false floor
+
+        of_here : IsOf y (here.worker x.own)
+        of_here = subst (λ k. IsOf y (k.worker x.own)) core_here (subst (λ n. IsOf y ((state u).core.worker n)) (ap (λ (k : Session). k.own) d.session) hu.session)
+
+        abbrev r : Record
+        r = abort_of y floor
+
+        r_is : r ≡ abort_record (here.worker x.own) floor
+        r_is = λ i. record { txn = sym of_here.txn i; gsn = gsn i; body = body.Abort (need_of (sym of_here.debt i) floor) }
+          where
+            gsn : suc y.clock ≡ suc (here.worker x.own).clock
+            gsn = ap suc (sym of_here.clock)
+
+        all_is : floor ≡ flushed_by_all g here
+        all_is = floor_at ∙ (λ i. least (core_here i).flushed (sym q.behind.opens.workers i))
+
         abbrev rows : List ℕ
         rows = e.rows
 
         abbrev lead : List happening.Event
-        lead = fs ++ end_of false mid.flushed rows
+        lead = fs ++ end_of x.own false floor rows
 
         abbrev done : Done
-        done = aborted_by g xs call.Abort fs 1 y.txn (suc y.clock) mid.flushed rows
+        done = aborted_by g xs c fs x.own y.txn (suc y.clock) floor rows
 
-        ending_met : AllMet g here (end_of false mid.flushed rows)
-        ending_met = subst (λ (k : State). AllMet g k (end_of false mid.flushed rows)) core_here (
-          needs g u.given q.behind.opens (state u).core end_event ∙ e.met.0,
-          unlocks_met needs g u.given q.behind.opens rows (step g (state u).core end_event)
-              (subst (λ (k : State). AllMet (opening u.given) k (unlocks 1 rows)) (ap (λ c. cond c (happens g (state u).core end_event) (state u).core) (sym (needs g u.given q.behind.opens (state u).core end_event))) e.met.1),
-        )
+        end_met : AllMet g here (end_of x.own false floor rows)
+        end_met = ending_met needs g u q.behind.opens here core_here x.own false floor rows e.met
 
-        events_end : events_of (End 1 false mid.flushed ∷ gives rows) ≡ end_of false mid.flushed rows
-        events_end = ap (λ ys. end_event ∷ ys) (gives_events rows)
+        events_end : events_of (End x.own false floor ∷ gives x.own rows) ≡ end_of x.own false floor rows
+        events_end = ap (λ ys. end_event ∷ ys) (gives_events x.own rows)
 
         behind_lead : Behind g xs lead w
         behind_lead = subst (λ ys. Behind g xs (fs ++ ys) w) events_end
-            (behind.more reached needs g xs fs u q.behind (End 1 false mid.flushed ∷ gives rows) w e.given e.seen (subst (AllMet g here) (sym events_end) ending_met))
+            (behind.more reached needs g xs fs u q.behind (End x.own false floor ∷ gives x.own rows) w e.given e.seen (subst (AllMet g here) (sym events_end) end_met))
 
         core_lead : (state w).core ≡ behind_first g xs lead
         core_lead = behind.core_is reached needs g xs lead w behind_lead
 
-        is_abort : IsAbort g xs call.Abort fs 1 y.txn (suc y.clock) mid.flushed rows r
+        is_abort : IsAbort g xs c fs x.own y.txn (suc y.clock) floor rows r
         is_abort = record {
-          comes = (coming xs done.outcome).new t.line refl;
-          low = omega arith;
-          high = some_worker;
-          backs = subst (PutsBack 1) (sym steps_are) facts.steps;
+          comes = abort_comes coming xs x.own x.is_open c due done.outcome refl (λ e. e) refl;
+          low = h.rows.low;
+          high = high;
+          backs = subst (PutsBack x.own) (sym steps_are) facts.steps;
           structure = structure;
           syncs = subst (AreSyncs false) (sym logs_are) tt;
           met = behind_lead.met;
           flushed = all_is;
           number_is = sym of_here.txn;
           at_is = ap suc (sym of_here.clock);
-          entry = ap (entry_of 1) r_is ∙ (entries g here 1 (here.worker 1)).abort mid.flushed;
-          released = λ i. ap (λ (k : State). holds_row (k.row i) 1) (sym core_lead) ∙ e.free i;
+          entry = ap (entry_of x.own) r_is ∙ (entries g here x.own (here.worker x.own)).abort floor;
+          released = λ i. ap (λ (k : State). holds_row (k.row i) x.own) (sym core_lead) ∙ e.free i;
         }
 
-        told : Tells limits g 1 xs done
-        told = (answers limits g 1 xs).abort call.Abort fs 1 y.txn (suc y.clock) mid.flushed rows r is_abort
-
-        end_met : may g here end_event ≡ true
-        end_met = ending_met.0
+        told : Tells limits g x.group xs done
+        told = (answers limits g x.group xs).abort c fs x.own y.txn (suc y.clock) floor rows r is_abort
 
         abbrev entry_here : Entry
-        entry_here = end_entry Kind.Abort 1 (here.worker 1) mid.flushed
+        entry_here = end_entry Kind.Abort x.own (here.worker x.own) floor
 
-        behind_end : state_after g (front xs ++ (fs ++ end_event ∷ [])) ≡ ends here 1 entry_here
-        behind_end = behind.front_is g xs (fs ++ end_event ∷ []) ∙ (run_more g begun fs (end_event ∷ []) ∙ if_met (may g here end_event) end_met here (ends here 1 entry_here))
+        behind_end : state_after g (front xs ++ (fs ++ end_event ∷ [])) ≡ ends here x.own entry_here
+        behind_end = behind.front_is g xs (fs ++ end_event ∷ []) ∙ (run_more g begun fs (end_event ∷ []) ∙ if_met (may g here end_event) end_met.0 here (ends here x.own entry_here))
 
-        records : Records 1 (entry_of 1 r) (state_after g (front xs ++ fs)) (state_after g (front xs ++ (fs ++ end_event ∷ [])))
-        records = subst (λ (k : State). Records 1 (entry_of 1 r) k (state_after g (front xs ++ (fs ++ end_event ∷ [])))) (sym (behind.front_is g xs fs))
-            (subst (λ (k : State). Records 1 (entry_of 1 r) here k) (sym behind_end) (record {
+        records : Records x.own (entry_of x.own r) (state_after g (front xs ++ fs)) (state_after g (front xs ++ (fs ++ end_event ∷ [])))
+        records = subst (λ (k : State). Records x.own (entry_of x.own r) k (state_after g (front xs ++ (fs ++ end_event ∷ [])))) (sym (behind.front_is g xs fs))
+            (subst (λ (k : State). Records x.own (entry_of x.own r) here k) (sym behind_end) (record {
               entries = ap (λ a. a ∷ here.entries) (sym is_abort.entry);
               kind = ap (λ a. is_record a.kind) is_abort.entry;
               log = refl;
@@ -383,34 +415,34 @@ module _ (reached : EveryReached) (needs : EveryNeed) (answers : EveryAnswer) (c
         run_own : run g (state_after g (front xs ++ first)) backs ≡ here
         run_own = ap (λ k. run g k backs) (behind.front_is g xs first) ∙ sym (run_more g begun first backs)
 
-        module _ (new : Story) (is : Log) (stages : StagesOn 1 r mid is old new) (o : KeepsLog mid old new) (after : After r mid is) where
-          frame_all : Framed 2 st new
-          frame_all = framed_then 2 st old new frame o.frame
+        module _ (new : Story) (is : Log) (stages : StagesOn x.own r mid is old new) (o : KeepsLog x.own mid old new) (after : After r mid is) where
+          frame_all : Framed (suc x.own) st new
+          frame_all = framed_then (suc x.own) st old new frame o.frame
 
-          went_lead : (s0 : Crash) (k : Known) → Between limits g 1 xs s0 k st → k.log 1 ≡ log → Went g xs s0 k lead is st new
-          went_lead s0 k bt k_is = subst (λ ys. Went g xs s0 k ys is st new) (append_assoc fs (end_event ∷ []) (unlocks 1 rows))
-              (went_quiet parts g some_worker xs s0 k st bt (fs ++ end_event ∷ []) (unlocks 1 rows) (unlocks_quiet 1 rows) is new
-              (went_more parts g some_worker xs s0 k st bt fs end_event r mid is old new (went_here s0 k bt k_is) refl records stages o))
+          went_lead : (s0 : Crash) (k : Known) → Between limits g x.group xs s0 k st → k.log x.own ≡ log → Went x.own g xs s0 k lead is st new
+          went_lead s0 k bt k_is = subst (λ ys. Went x.own g xs s0 k ys is st new) (append_assoc fs (end_event ∷ []) (unlocks x.own rows))
+              (went_quiet parts x.own x.group g h.rows.low high xs s0 k st bt (fs ++ end_event ∷ []) (unlocks x.own rows) (unlocks_quiet x.own rows) is new
+              (went_more parts x.own x.group g h.rows.low high xs s0 k st bt fs end_event r mid is old new (went_here s0 k bt k_is) refl records stages o))
 
-          logged : Logs g (state_after g (front xs ++ first)) (backs ++ end_of false mid.flushed rows) log is
-          logged = logs_join (state_after g (front xs ++ first)) backs (end_of false mid.flushed rows) log
-              (subst (λ k. Logs g k backs log mid) (sym (behind.front_is g xs first)) q.logs)
-              (subst (λ k. Logs g k (end_of false mid.flushed rows) mid is) (sym run_own) (is, record { record_of = r; entry = ap (λ (k : State). k.entries) (if_met (may g here end_event) end_met here (ends here 1 entry_here)) ∙ ap (λ a. a ∷ here.entries) (sym is_abort.entry); after = after }, unlocks_logs (step g here end_event) rows))
+          logged : Logs x.own g (state_after g (front xs ++ first)) (backs ++ end_of x.own false floor rows) log is
+          logged = logs_join (state_after g (front xs ++ first)) backs (end_of x.own false floor rows) log
+              (subst (λ k. Logs x.own g k backs log mid) (sym (behind.front_is g xs first)) q.logs)
+              (subst (λ k. Logs x.own g k (end_of x.own false floor rows) mid is) (sym run_own) (is, record { record_of = r; entry = ap (λ (k : State). k.entries) (if_met (may g here end_event) end_met.0 here (ends here x.own entry_here)) ∙ ap (λ a. a ∷ here.entries) (sym is_abort.entry); after = after }, unlocks_logs (step g here end_event) rows))
             where
-              unlocks_logs : (k : State) (is_held : List ℕ) → Logs g k (unlocks 1 is_held) is is
+              unlocks_logs : (k : State) (is_held : List ℕ) → Logs x.own g k (unlocks x.own is_held) is is
               unlocks_logs k [] = refl
-              unlocks_logs k (i ∷ is_held) = (is, refl, unlocks_logs (step g k (happening.Event.Unlock 1 i)) is_held)
+              unlocks_logs k (i ∷ is_held) = (is, refl, unlocks_logs (step g k (happening.Event.Unlock x.own i)) is_held)
 
-              logs_join : (k : State) (ys zs : List happening.Event) (was : Log) → Logs g k ys was mid → Logs g (run g k ys) zs mid is → Logs g k (ys ++ zs) was is
-              logs_join k [] zs was l more = subst (λ p. Logs g k zs p is) l more
+              logs_join : (k : State) (ys zs : List happening.Event) (was : Log) → Logs x.own g k ys was mid → Logs x.own g (run g k ys) zs mid is → Logs x.own g k (ys ++ zs) was is
+              logs_join k [] zs was l more = subst (λ p. Logs x.own g k zs p is) l more
               logs_join k (a ∷ ys) zs was l more = (l.0, l.1, logs_join (step g k a) ys zs l.0 l.2 more)
 
           few_done : length done.events ≤ 2 ^ 18
           few_done =
               let a = t.few in
-              let c = length-append fs (end_of false mid.flushed rows) in
+              let c = length-append fs (end_of x.own false floor rows) in
               let k = length-append first backs in
-              let n = length_unlocks rows in
+              let n = length_unlocks x.own rows in
               let i = e.few in
               let j = hu.fewer in
               let l = hu.rows.few in
@@ -418,10 +450,10 @@ module _ (reached : EveryReached) (needs : EveryNeed) (answers : EveryAnswer) (c
               let s = h.numbers.few in
               omega arith
 
-          open_there : ((state_after g (front xs ++ first)).worker 1).is_open ≡ x.is_open
-          open_there = ap (λ (k : State). (k.worker 1).is_open) (behind.front_is g xs first ∙ sym (behind.core_is reached needs g xs first v b)) ∙ h.session.is_open
+          open_there : ((state_after g (front xs ++ first)).worker x.own).is_open ≡ x.is_open
+          open_there = ap (λ (k : State). (k.worker x.own).is_open) (behind.front_is g xs first ∙ sym (behind.core_is reached needs g xs first v b)) ∙ h.session.is_open
 
-          pub aborted_does : x.is_open ≡ true → DoesOn g xs call.Abort (answer.Aborted y.txn) false w log is st new
+          pub aborted_does : x.is_open ≡ true → DoesOn g x.group xs x.own c (answer.Aborted y.txn) false w log is st new
           aborted_does opened = record {
             does = record {
               done = done;
@@ -431,33 +463,34 @@ module _ (reached : EveryReached) (needs : EveryNeed) (answers : EveryAnswer) (c
               tells = told;
               how = record {
                 first = first;
-                own = backs ++ end_of false mid.flushed rows;
-                events = append_assoc first backs (end_of false mid.flushed rows);
+                own = backs ++ end_of x.own false floor rows;
+                events = append_assoc first backs (end_of x.own false floor rows);
                 loads = t.are_loads;
                 few = few_done;
                 refused = λ why k. absurd (cc);
-                refuses = λ why k. absurd (not_refused why ((state_after g (front xs ++ first)).worker 1).is_open (open_there ∙ opened) k);
+                refuses = λ why k. absurd (not_refused why ((state_after g (front xs ++ first)).worker x.own).is_open (open_there ∙ opened)
+                    ((λ i. refusal_in g (state_after g (front xs ++ first)) x.own (is_half_done x.own xs) log (sym asks i)) ∙ k));
                 log = logged;
-                room = any_append is_structure backs (end_of false mid.flushed rows) facts.structure (unlocks_none rows);
+                room = subst (λ e. MakesItsRoom g (state_after g (front xs ++ first)) e (backs ++ end_of x.own false floor rows)) (sym asks) (any_append is_structure backs (end_of x.own false floor rows) facts.structure (unlocks_none rows));
               };
               frame = frame_all;
-              keeps = λ s0 k bt k_is. let a = went_lead s0 k bt k_is in behind.keeps_by g xs done s0 k a.known is st new a.gone told a.log_is a.master_is a.within;
+              keeps = λ s0 k bt k_is. let a = went_lead s0 k bt k_is in behind.keeps_by g x.group xs done s0 k a.known is st new a.gone told a.log_is a.others a.master_is a.within;
             };
-            ties = behind.ends g xs lead w behind_lead done refl t.told told (refl, refl) refl;
+            ties = behind.ends g x.group xs x.own lead w behind_lead done refl t.told told (behind.half_own x.own done xs refl);
           }
             where
               not_refused : (why : Refusal) (c : Bool) → c ≡ true → cond c None (Some refusal.NoTransaction) ≡ Some why → ⊥
               not_refused why true p k = cc
               not_refused why false p k = true≢false (sym p)
 
-              unlocks_none : (is_held : List ℕ) → any is_structure (unlocks 1 is_held) ≡ false
+              unlocks_none : (is_held : List ℕ) → any is_structure (unlocks x.own is_held) ≡ false
               unlocks_none [] = refl
               unlocks_none (i ∷ is_held) = unlocks_none is_held
 
   -- ## The disk failed while changes were put back
 
-  pub failed_back : (old new : Story) → IsLawful old → HasFailedBack v x log old new → Fails g xs call.Abort log old new
-  failed_back old new lawful c = record {
-    frame = c.frame;
-    leaves = λ s0 k bt is. let l = c.leaves g xs first b s0 k bt (went_first old lawful s0 k bt is) in record { stops = Nothing (fs c.view c.session c.log c.undoes) (allowed c.view c.session c.log c.undoes) l.0; within = l.1 };
+  pub failed_back : (old new : Story) → IsLawful old → HasFailedBack v x log old new → Fails g x.group xs x.own c log old new
+  failed_back old new lawful f = record {
+    frame = f.frame;
+    leaves = λ s0 k bt is. let l = f.leaves g xs first b s0 k bt (went_first old lawful s0 k bt is) in record { stops = Nothing (fs f.view f.session f.log f.undoes) (subst (λ e. IsRoomFor g xs x.own e (fs f.view f.session f.log f.undoes)) (sym asks) (allowed f.view f.session f.log f.undoes)) l.0; within = l.1 };
   }

@@ -1,18 +1,20 @@
 -- One change is put back.
-use Rattle.std.proofs.Common.{◌≡◌, ◌==◌, ◌⊎◌, inl, inr, ◌↔◌, ◌≤◌, ◌<◌, ◌^◌, ◌+◌, ◌-◌, ◌++◌, ℕ, suc, Bool, true, false, cond, List, [], ◌∷◌, length, Option, Some, None, Ok, Err, refl, sym, ap, ◌∙◌, subst, arith, true≢false, append-nil}
+use Rattle.std.proofs.Common.{◌≡◌, ◌==◌, inl, ◌↔◌, ◌≤◌, ◌<◌, ◌^◌, ◌+◌, ◌-◌, ◌++◌, ℕ, suc, Bool, true, false, cond, List, [], ◌∷◌, length, Option, Some, Ok, refl, sym, ap, ◌∙◌, subst, arith, true≢false, append-nil}
 use Rattle.std.specs.Prelude.{if◌then◌else◌}
+use Rattle.std.proofs.Math.Bridge.{le_prop}
 use Rattle.map_model.specs.Lists.{Has}
+use Rattle.map_model.proofs.ListLemmas.{upd_same}
 use Rattle.image_model.specs.Entries.{Contents, Entry, Kind, applied_as, touches, written}
 use Rattle.page_model.proofs.Entries.{holds_to}
 use Rattle.page_model.proofs.Tree.{below_top}
 use Rattle.core_state.specs.Events as happening
 use Rattle.core_state.specs.Needs.{holds_row, may}
-use Rattle.core_state.specs.States.{State, Worker, nodes_of}
+use Rattle.core_state.specs.States.{State, Worker, flushed_by_all, nodes_of}
 use Rattle.core_state.specs.Steps.{at_pages, happens, put_back, write_entry, writes}
+use Rattle.core_calls.specs.LogEvents as commits
 use Rattle.core_calls.specs.Room.{EveryRoom, free_list}
 use Rattle.core_index.specs.Undo.{IsUndo}
 use Rattle.disk_image.specs.Records.{entry_of}
-use Rattle.draw_trait.specs.declared.draw.Unstaged.TheVariants as reason
 use Rattle.lean_disk.specs.Story.{Story}
 use Rattle.log_record.specs.declared.record.Record.{Record}
 use Rattle.log_record.specs.declared.record.Body.TheVariants as body
@@ -27,18 +29,19 @@ use Rattle.rows_trait.specs.Views.{Shape, after_all, state}
 use Rattle.rows_trait.specs.declared.view.View.{View}
 use Rattle.lean_proto.specs.declared.change.Write.TheVariants as write
 use Rattle.lean_proto.specs.Writes.{IsNewest}
-use Rattle.btree_descent.specs.Puts.{MayPutBack, MetSpent, Written, back_of}
+use Rattle.btree_descent.specs.Puts.{DrawsFor, MayPutBack, Written, back_of}
 use Rattle.row_engine.specs.Backs.{IsPutBack}
-use Rattle.row_engine.specs.Holds.{AreNumbers, AreStamps, Holds, IsOf}
+use Rattle.row_engine.specs.Holds.{AreNumbers, Holds, IsOf}
+use Rattle.row_engine.specs.Numbers.{AreLow, AreNumbered}
 use Rattle.row_engine.specs.Staging.{Staging, session_clock}
 use Rattle.row_engine.specs.Undo.{HasRoomToUndo, newest_of, undo_of, without_newest}
 use Rattle.row_engine.specs.declared.session.Session.{Session}
 use Rattle.row_engine.specs.declared.undo.Undone.{Undone}
 use Rattle.row_engine.proofs.Behind.{rows_on}
 use Rattle.row_engine.proofs.Moments.{resident_on}
-use Rattle.row_engine.proofs.PutLemmas.{holds_still, none_seen, same_flushed, seen_core}
-use Rattle.row_engine.proofs.TakeLemmas.{own_log}
-use Rattle.row_engine.proofs.UndoLemmas.{room_behind}
+use Rattle.row_engine.proofs.NumberLemmas.{low_small, numbered_back, numbered_open}
+use Rattle.row_engine.proofs.PutLemmas.{same_flushed, seen_core}
+use Rattle.row_engine.proofs.UndoLemmas.{many_of, room_behind}
 
 -- ## The newest change
 
@@ -66,23 +69,53 @@ newest_in u us (c ∷ cs) e n =
     let same : record { key = c.key; word = c.before } ≡ u = cc in
     (ap (λ (y : Undone). y.key) same, ap (λ (y : Undone). y.word) same)
 
--- there is one, where some are left
-pub some_newest : (us : List Undone) → 0 < length us → newest_of us ≡ None → ⊥
-some_newest [] lt e = absurd (omega arith)
-some_newest (c ∷ cs) lt e = absurd (cc)
+-- ## The session
+
+-- an abort is under way
+half_set : (x : Session) (half : Bool) (f : x.own ≤ 16) → record x { half = half; few = f } ≡ record x { half = half }
+half_set x half f i = record x { half = half; few = le_prop f x.few i }
+
+-- or it is not any more, and all is as it was
+pub half_back : (x y : Session) (f : x.own ≤ 16) (k : y.own ≤ 16) → y ≡ record x { half = true; few = f } → record y { half = x.half; few = k } ≡ x
+half_back x y f k e =
+    (λ i. record y { half = x.half; few = le_prop k y.few i })
+    ∙ ((λ i. record (e i) { half = x.half })
+    ∙ (λ i. record x { few = le_prop f x.few i }))
 
 -- ## What a put-back needs
 
+-- in an open transaction no number has come to the last one
+pub low_of : (z : Shape) (v : View) (x : Session) (log : Log) → Holds z v x log → x.is_open ≡ true → AreLow x.workers (state v).core
+low_of z v x log h is_open = numbered_open x.workers (state v).core x.own h.rows.most h.rows.low h.rows.high (h.session.is_open ∙ is_open) h.numbered
+
+pub clock_low : (z : Shape) (v : View) (x : Session) (log : Log) → Holds z v x log → x.is_open ≡ true → x.clock < 2 ^ 63
+clock_low z v x log h is_open =
+    let l = low_of z v x log h is_open in
+    let top = low_small x.workers (state v).core h.rows.most l in
+    let at = l.up_to.clock x.own in
+    let q = h.session.clock in
+    omega arith
+
+-- so one more may be drawn
+pub draws_back : (z : Shape) (v : View) (x : Session) (log : Log) → Holds z v x log → x.is_open ≡ true → DrawsFor v x.own x.own x.txn (session_clock x) log.last
+draws_back z v x log h is_open = record {
+  log = refl;
+  txn = sym h.session.txn;
+  clock = λ i. record { clock = sym h.session.clock i; floor = sym h.session.floor i; debt = sym h.session.debt i };
+  room = clock_low z v x log h is_open;
+  last = h.numbers.last;
+}
+
 module _ (z : Shape) (v : View) (x : Session) (log : Log) (h : Holds z v x log) (u : Undone) (is_open : x.is_open ≡ true) (newest : newest_of x.undo ≡ Some u) where
-  pub may_put_back : MayPutBack v 1 u.key u.word
-  may_put_back = record { is_open = h.session.is_open ∙ is_open; newest = newest_in u x.undo ((state v).core.worker 1).changes h.session.undo newest; small = omega arith }
+  pub may_put_back : MayPutBack v x.own u.key u.word
+  may_put_back = record { is_open = h.session.is_open ∙ is_open; newest = newest_in u x.undo ((state v).core.worker x.own).changes h.session.undo newest; small = let a = h.rows.high in let b = h.rows.most in omega arith }
 
   -- the key is below the high fence of its leaf, and so is a key
   pub key_low : u.key < 2 ^ 64 - 1
   key_low =
-      let b = begins u.key u.word ((state v).core.worker 1).changes may_put_back.newest in
+      let b = begins u.key u.word ((state v).core.worker x.own).changes may_put_back.newest in
       let sound = h.rows.tree_sound v.seen in
-      let it : IsUndo (opening v.given) (state v).core 1 b.first = sound.undo 1 b.first (subst (λ (l : List Entry). Has b.first l) (sym b.is) (inl refl)) in
+      let it : IsUndo (opening v.given) (state v).core x.own b.first = sound.undo x.own b.first (subst (λ (l : List Entry). Has b.first l) (sym b.is) (inl refl)) in
       let l = (holds_to ((state v).core.page it.page).node b.first.key it.leaf).lies in
       let a = l.high in
       let t = below_top (opening v.given).format (nodes_of (state v).core) sound.tree it.page it.below l.live in
@@ -91,15 +124,6 @@ module _ (z : Shape) (v : View) (x : Session) (log : Log) (h : Holds z v x log) 
 
   many_left : suc (length (without_newest x.undo)) ≡ length x.undo
   many_left = sym (ap length (told u x.undo newest))
-
-  pub clock_low : x.clock + length x.undo ≤ 2 ^ 62 + 64
-  clock_low = h.numbers.open_low is_open
-
-  -- no page's number has come to the last one
-  pub never_spent : (w : View) → w.held ≡ [] → MetSpent z.alone u.key v w → ⊥
-  never_spent w held m =
-      let hw = holds_still z v w x log m.ran.given (none_seen z.alone v w h.alone m.ran) held h in
-      let a = hw.stamps.page m.page in let b = m.spent in let c = clock_low in omega arith
 
 -- ## Behind it
 
@@ -121,8 +145,8 @@ written_live r p n is true = ap (λ kind. (applied_as kind r p n.node).live) is 
     put_live true = refl
     put_live false = refl
 
-module _ (rooms : EveryRoom) (z : Shape) (v w : View) (x : Session) (log : Log) (h : Holds z v x log) (u : Undone) (is_open : x.is_open ≡ true) (newest : newest_of x.undo ≡ Some u) (before : Option ℕ) (rs now : List Record) (y : Session) (log_now : Log)
-    (d : Written write.PutBack z.alone 1 u.key u.word before v rs w (session_clock y) now) where
+module _ (rooms : EveryRoom) (z : Shape) (v w : View) (x : Session) (log : Log) (h : Holds z v x log) (u : Undone) (is_open : x.is_open ≡ true) (newest : newest_of x.undo ≡ Some u) (before : Option ℕ) (few : x.own ≤ 16) (rs now : List Record) (y : Session) (log_now : Log)
+    (d : Written write.PutBack z.alone x.own u.key u.word before v rs w (session_clock y) now) where
   abbrev s : State
   s = (state v).core
 
@@ -130,55 +154,64 @@ module _ (rooms : EveryRoom) (z : Shape) (v w : View) (x : Session) (log : Log) 
   page = d.page
 
   abbrev a : Worker
-  a = at_pages s 1 (s.worker 1) (page ∷ [])
+  a = at_pages s x.own (s.worker x.own) (page ∷ [])
 
   past_is : d.past ≡ v.seen
   past_is = d.onward.whole ∙ (ap (λ ys. v.seen ++ ys) (d.onward.quiet h.alone) ∙ append-nil v.seen)
 
-  seen_is : w.seen ≡ v.seen ++ PutBack 1 page ∷ []
-  seen_is = d.seen ∙ ap (λ ys. ys ++ PutBack 1 page ∷ []) past_is
+  seen_is : w.seen ≡ v.seen ++ PutBack x.own page ∷ []
+  seen_is = d.seen ∙ ap (λ ys. ys ++ PutBack x.own page ∷ []) past_is
 
-  back_met : may (opening v.given) s (happening.Event.Put_back 1 page) ≡ true
-  back_met = (λ i. may (opening (sym d.ran.given i)) (after_all (sym d.ran.given i) (sym past_is i)).core (happening.Event.Put_back 1 page)) ∙ d.met
+  back_met : may (opening v.given) s (happening.Event.Put_back x.own page) ≡ true
+  back_met = (λ i. may (opening (sym d.ran.given i)) (after_all (sym d.ran.given i) (sym past_is i)).core (happening.Event.Put_back x.own page)) ∙ d.met
 
-  abbrev b : Begins u.key u.word (s.worker 1).changes
-  b = begins u.key u.word (s.worker 1).changes (may_put_back z v x log h u is_open newest).newest
+  abbrev b : Begins u.key u.word (s.worker x.own).changes
+  b = begins u.key u.word (s.worker x.own).changes (may_put_back z v x log h u is_open newest).newest
 
   -- what was entered
   abbrev r : Entry
-  r = write_entry (opening v.given) Kind.Put_back s 1 a page b.first.key b.first.before
+  r = write_entry (opening v.given) Kind.Put_back s x.own a page b.first.key b.first.before
+
+  -- the worker behind it
+  abbrev restored : Worker
+  restored = record a { clock = r.number; changes = b.rest }
 
   abbrev behind : State
-  behind = writes (opening v.given) s Kind.Put_back 1 page b.first.key b.first.before (λ _. b.rest)
+  behind = writes (opening v.given) s Kind.Put_back x.own page b.first.key b.first.before (λ _. b.rest)
 
-  happens_is : happens (opening v.given) s (happening.Event.Put_back 1 page) ≡ behind
-  happens_is = ap (put_back (opening v.given) s 1 page) b.is
+  happens_is : happens (opening v.given) s (happening.Event.Put_back x.own page) ≡ behind
+  happens_is = ap (put_back (opening v.given) s x.own page) b.is
+
+  core_seen : (state w).core ≡ happens (opening v.given) s (happening.Event.Put_back x.own page)
+  core_seen = seen_core v w (PutBack x.own page) d.ran.given seen_is back_met
 
   core_is : (state w).core ≡ behind
-  core_is = seen_core v w (PutBack 1 page) d.ran.given seen_is back_met ∙ happens_is
+  core_is = core_seen ∙ happens_is
 
-  clock_at : a.clock ≡ x.clock
-  clock_at = let q = h.session.clock in let o = h.stamps.page page in omega arith
+  worker_is : behind.worker x.own ≡ restored
+  worker_is = upd_same s.worker x.own restored x.own refl
 
-  clock_is : y.clock ≡ suc x.clock
-  clock_is = ap (λ c. c.clock) d.clock ∙ (ap (λ k. (k.worker 1).clock) core_is ∙ ap suc clock_at)
+  clock_is : y.clock ≡ suc a.clock
+  clock_is = ap (λ c. c.clock) d.clock ∙ (ap (λ k. (k.worker x.own).clock) core_is ∙ ap (λ (k : Worker). k.clock) worker_is)
 
-  debt_is : y.debt ≡ 0
-  debt_is = ap (λ c. c.debt) d.clock ∙ (ap (λ k. (k.worker 1).debt) core_is
-      ∙ (own_log (s.page page).gsn (s.page page).last (s.worker 1).floor (s.worker 1).debt (near (h.stamps.log page)) ∙ (h.session.debt ∙ h.numbers.debt)))
-    where
-      near : ((s.page page).last ≤ 1) ⊎ ((s.page page).gsn ≤ x.floor) → ((s.page page).last ≤ 1) ⊎ ((s.page page).gsn ≤ (s.worker 1).floor)
-      near (inl q) = inl q
-      near (inr q) = inr (let k = h.session.floor in omega arith)
+  debt_is : y.debt ≡ a.debt
+  debt_is = ap (λ c. c.debt) d.clock ∙ (ap (λ k. (k.worker x.own).debt) core_is ∙ ap (λ (k : Worker). k.debt) worker_is)
+
+  -- the clock has risen
+  clock_above : suc x.clock ≤ y.clock
+  clock_above = let q = h.session.clock in let c = clock_is in omega arith
 
   -- its record
   abbrev entry : Record
-  entry = back_of (opening v.given) s 1 page b.first.key b.first.before
+  entry = back_of (opening v.given) s x.own page b.first.key b.first.before
 
   staged_is : now ≡ entry ∷ rs
-  staged_is = d.staged ∙ (λ i. back_of (opening (d.ran.given i)) (after_all (d.ran.given i) (past_is i)).core 1 page (sym b.key i) (sym b.before i) ∷ rs)
+  staged_is = d.staged ∙ (λ i. back_of (opening (d.ran.given i)) (after_all (d.ran.given i) (past_is i)).core x.own page (sym b.key i) (sym b.before i) ∷ rs)
 
-  module _ (old new : Story) (S : Type 0) (f0 f1 : ℕ) (held : w.held ≡ []) (st : Staging (Ok tt) (record x { half = true }) y rs now log log_now old new S f0 f1) (last : log_now.last ≡ y.clock) where
+  module _ (old new : Story) (S : Type 0) (f0 f1 : ℕ) (held : w.held ≡ []) (staging : Staging (Ok tt) (record x { half = true; few = few }) y rs now log log_now old new S f0 f1) (last : log_now.last ≡ y.clock) where
+    st : Staging (Ok tt) (record x { half = true }) y rs now log log_now old new S f0 f1
+    st = subst (λ (k : Session). Staging (Ok tt) k y rs now log log_now old new S f0 f1) (half_set x true few) staging
+
     abbrev next : Session
     next = record x { half = true; clock = y.clock; debt = y.debt; undo = without_newest x.undo }
 
@@ -197,40 +230,36 @@ module _ (rooms : EveryRoom) (z : Shape) (v w : View) (x : Session) (log : Log) 
     flushed_is : log_now.flushed ≡ log.flushed
     flushed_is = same_flushed st.came.entry log log_now st.came.after
 
-    stamp_on : (p : ℕ) (c : Bool) → (cond c (written r p (s.page p)) (s.page p)).gsn ≤ y.clock
-    stamp_on p true = let q = clock_is in let e = clock_at in omega arith
-    stamp_on p false = let q = clock_is in let e = h.stamps.page p in omega arith
-
-    log_on : (p : ℕ) (c : Bool) → ((cond c (written r p (s.page p)) (s.page p)).last ≤ 1) ⊎ ((cond c (written r p (s.page p)) (s.page p)).gsn ≤ x.floor)
-    log_on p true = inl (omega arith)
-    log_on p false = h.stamps.log p
-
-    session_on : IsOf next (behind.worker 1)
+    session_on : IsOf next restored
     session_on = record {
       is_open = h.session.is_open;
       txn = h.session.txn;
-      clock = sym (ap (λ c. c.clock) d.clock ∙ ap (λ k. (k.worker 1).clock) core_is);
+      clock = sym clock_is;
       floor = h.session.floor;
-      debt = sym (ap (λ c. c.debt) d.clock ∙ ap (λ k. (k.worker 1).debt) core_is);
+      debt = sym debt_is;
       end = h.session.end;
       undo = ap without_newest (ap undo_of (sym b.is) ∙ h.session.undo);
     }
 
     numbers_on : AreNumbers next log_now
     numbers_on = record {
-      last = last;
-      order = let k = flushed_is in let o = h.numbers.order in let c = h.numbers.last in let q = clock_is in omega arith;
-      floor = let k = flushed_is in let o = h.numbers.floor in omega arith;
-      debt = debt_is;
-      end = let k = h.numbers.end in let q = clock_is in omega arith;
-      open_low = λ _. let q = clock_is in let c = clock_low z v x log h u is_open newest in let l = left_is in omega arith;
-      small = let q = clock_is in let c = clock_low z v x log h u is_open newest in let l = left_is in omega arith;
+      last = let q = last in omega arith;
+      order = let k = flushed_is in let o = h.numbers.order in let c = h.numbers.last in let q = clock_above in let t = last in omega arith;
+      end = let k = h.numbers.end in let q = clock_above in omega arith;
       room = λ _. room.1;
       closed_txn = λ e. absurd (true≢false (sym is_open ∙ e));
-      txn = let k = h.numbers.txn in let q = clock_is in omega arith;
+      txn = let k = h.numbers.txn in let q = clock_above in omega arith;
       undo_room = λ _. room.0;
       few = let k = h.numbers.few in let l = left_is in omega arith;
+      behind = h.numbers.behind;
     }
+
+    few_changes : length (s.worker x.own).changes ≤ 64
+    few_changes = let m = many_of (s.worker x.own).changes x.undo h.session.undo in let q = h.numbers.few in omega arith
+
+    numbered_on : AreNumbered x.workers (state w).core
+    numbered_on = subst (AreNumbered x.workers) (sym core_seen)
+        (numbered_back (opening v.given) x.workers s x.own page b.first b.rest h.rows.low h.rows.high (h.session.is_open ∙ is_open) b.is few_changes h.numbered)
 
     -- the same pages are free
     free_after : x.free ≡ free_list (opening w.given) (state w).core
@@ -241,18 +270,15 @@ module _ (rooms : EveryRoom) (z : Shape) (v w : View) (x : Session) (log : Log) 
     after_back = record {
       alone = h.alone;
       idle = held;
-      rows = rows_on z v w x.frames x.held.count d.ran.given h.rows;
-      session = subst (λ k. IsOf next (k.worker 1)) (sym core_is) session_on;
+      rows = rows_on z v w x.own x.workers x.frames x.held.count d.ran.given h.rows;
+      session = subst (λ k. IsOf next (k.worker x.own)) (sym core_is) (subst (IsOf next) (sym worker_is) session_on);
       numbers = numbers_on;
-      flushed = ap (λ k. k.flushed 1) core_is ∙ (h.flushed ∙ sym flushed_is);
-      stamps = subst (λ k. AreStamps k y.clock x.floor) (sym core_is) (record {
-        page = λ p. stamp_on p (touches p r);
-        log = λ p. log_on p (touches p r);
-        row = λ i. let q = clock_is in let e = h.stamps.row i in omega arith;
-        read_end = λ i. let q = clock_is in let e = h.stamps.read_end i in omega arith;
-      });
+      numbered = numbered_on;
+      flushed = ap (λ k. k.flushed x.own) core_is ∙ (h.flushed ∙ sym flushed_is);
+      floor = subst (λ n. x.floor ≤ n) (λ i. flushed_by_all (opening (sym d.ran.given i)) (sym core_is i)) h.floor;
+      behind = ap (λ k. commits.behind k x.own) core_is ∙ h.behind;
       resident = resident_on z v w d.ran.given (ap (λ k. k.place) core_is) h.resident;
-      held = λ i. subst (λ k. holds_row (k.row i) 1 ≡ true ↔ Has i x.held.rows) (sym core_is) (h.held i);
+      held = λ i. subst (λ k. holds_row (k.row i) x.own ≡ true ↔ Has i x.held.rows) (sym core_is) (h.held i);
       within = h.within;
       fewer = h.fewer;
       none = h.none;
@@ -274,15 +300,10 @@ module _ (rooms : EveryRoom) (z : Shape) (v w : View) (x : Session) (log : Log) 
       seen = seen_is;
       met = back_met;
       entry = st.came.entry;
-      entry_is = ap (λ (k : State). k.entries) happens_is ∙ ap (λ (q : Record). entry_of 1 q ∷ s.entries) (sym entry_told);
+      entry_is = ap (λ (k : State). k.entries) happens_is ∙ ap (λ (q : Record). entry_of x.own q ∷ s.entries) (sym entry_told);
       after = st.came.after;
       stands = st.came.stands;
       keeps = record { on = st.on; frame = st.frame; within = st.within };
       session = session_is;
       fewer = ap (λ (k : Session). suc (length k.undo)) session_is ∙ left_is;
     }
-
--- the log has a block for it
-pub never_full : (z : Shape) (v : View) (x y : Session) (log log_now : Log) → Holds z v x log → x.is_open ≡ true → (used_told limit_told : ℕ) (rs now : List Record) (old new : Story) (S : Type 0) (f0 f1 : ℕ)
-    → Staging (Err (reason.LogFull used_told limit_told)) (record x { half = true }) y rs now log log_now old new S f0 f1 → ⊥
-never_full z v x y log log_now h is_open used_told limit_told rs now old new S f0 f1 st = let a = h.numbers.room is_open in let b = st.came.full in omega arith

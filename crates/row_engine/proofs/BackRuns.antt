@@ -1,6 +1,6 @@
 -- Changes that are put back, in a run.
-use Rattle.std.proofs.Common.{◌≡◌, ◌≤◌, ◌++◌, ◌&&◌, ◌==◌, ℕ, Bool, true, false, cond, List, [], ◌∷◌, refl, sym, ap, ◌∙◌, subst, arith, append-nil, true≢false}
-use Rattle.std.proofs.lemmas.Bool.{and_parts, eqb-true}
+use Rattle.std.proofs.Common.{◌≡◌, ◌≤◌, ◌<◌, ◌++◌, ◌&&◌, ◌==◌, ℕ, Bool, true, false, cond, List, [], ◌∷◌, refl, sym, ap, ◌∙◌, subst, arith, append-nil, true≢false}
+use Rattle.std.proofs.lemmas.Bool.{and_parts, eq-eqb, eqb-true}
 use Rattle.std.proofs.lemmas.List.{append_assoc, length-append}
 use Rattle.map_model.specs.Lists.{all, any, keep}
 use Rattle.image_model.specs.Entries.{Entry, is_record}
@@ -35,32 +35,35 @@ use Rattle.rows_trait.specs.declared.view.View.{View}
 use Rattle.rows_trait.specs.Views.{state}
 use Rattle.row_engine.specs.declared.session.Session.{Session}
 use Rattle.row_engine.specs.Backs.{IsPutBack, Undoes, Undone, is_back}
+use Rattle.row_engine.specs.Others.{Steps}
 use Rattle.row_engine.specs.Grown.{Behind, Goes, Went}
 use Rattle.row_engine.proofs.Behind as behind
 use Rattle.row_engine.proofs.GrowRuns.{all_append, logs_more, went_more}
 use Rattle.row_engine.proofs.Moments.{events_more}
+use Rattle.row_engine.proofs.OtherLemmas.{every_steps}
+use Rattle.row_engine.proofs.OwnSteps.{back_steps, no_steps}
 use Rattle.row_engine.proofs.PutLemmas.{seen_core}
 
 -- ## Lists of them
 
--- what is so of put-backs of session 1
-pub record Backs (es : List happening.Event) : Type 0 where
-  pub steps : PutsBack 1 (keep is_step es)
+-- what is so of put-backs of session `own`
+pub record Backs (own : ℕ) (es : List happening.Event) : Type 0 where
+  pub steps : PutsBack own (keep is_step es)
   pub structure : any is_structure es ≡ false
   pub logs : keep is_log es ≡ []
-  pub allowed : all puts_back es ≡ true
+  pub allowed : all (puts_back own) es ≡ true
 
-pub backs_of : (es : List happening.Event) → all is_back es ≡ true → Backs es
-backs_of [] a = record { steps = tt; structure = refl; logs = refl; allowed = refl }
-backs_of (happening.Event.Put_back w p ∷ es) a =
-    let q = and_parts (w == 1) (all is_back es) a in
-    let r = backs_of es q.1 in
-    record { steps = (eqb-true w 1 q.0, r.steps); structure = r.structure; logs = r.logs; allowed = both (w == 1) (all puts_back es) q.0 r.allowed }
+pub backs_of : (own : ℕ) (es : List happening.Event) → all (is_back own) es ≡ true → Backs own es
+backs_of own [] a = record { steps = tt; structure = refl; logs = refl; allowed = refl }
+backs_of own (happening.Event.Put_back w p ∷ es) a =
+    let q = and_parts (w == own) (all (is_back own) es) a in
+    let r = backs_of own es q.1 in
+    record { steps = (eqb-true w own q.0, r.steps); structure = r.structure; logs = r.logs; allowed = both (w == own) (all (puts_back own) es) q.0 r.allowed }
   where
     both : (b c : Bool) → b ≡ true → c ≡ true → (b && c) ≡ true
     both true c e q = q
     both false c e q = e
-backs_of (_ ∷ es) a = absurd (true≢false (sym a))
+backs_of own (_ ∷ es) a = absurd (true≢false (sym a))
 
 -- ## One event
 
@@ -74,22 +77,25 @@ record Turned (g : Opening) (s : State) (t : State) : Type 0 where
   head : (w : ℕ) → t.head w ≡ s.head w
   floor : t.floor ≡ s.floor
 
-turned : (g : Opening) (s : State) (p : ℕ) → may g s (happening.Event.Put_back 1 p) ≡ true → Turned g s (happens g s (happening.Event.Put_back 1 p))
-turned g s p m = go (s.worker 1).changes (and_parts (s.worker 1).is_open (may_put_back g (s.page p).node p (s.worker 1).changes) (and_parts (are_hot s (p ∷ [])) ((s.worker 1).is_open && may_put_back g (s.page p).node p (s.worker 1).changes) m).1).1
+turned : (own : ℕ) (g : Opening) (s : State) (p : ℕ) → may g s (happening.Event.Put_back own p) ≡ true → Turned g s (happens g s (happening.Event.Put_back own p))
+turned own g s p m = go (s.worker own).changes (and_parts (s.worker own).is_open (may_put_back g (s.page p).node p (s.worker own).changes) (and_parts (are_hot s (p ∷ [])) ((s.worker own).is_open && may_put_back g (s.page p).node p (s.worker own).changes) m).1).1
   where
-    go : (cs : List Entry) → may_put_back g (s.page p).node p cs ≡ true → Turned g s (put_back g s 1 p cs)
+    go : (cs : List Entry) → may_put_back g (s.page p).node p cs ≡ true → Turned g s (put_back g s own p cs)
     go [] e = absurd (true≢false (sym e))
     go (c ∷ cs) e = record { entry = _; entries = refl; kind = refl; saved = λ q. refl; flushed = λ w. refl; head = λ w. refl; floor = refl }
 
 -- ## In a run
 
 module _ (reached : EveryReached) (need : EveryNeed) (parts : (old mid new : Story) → EveryPart old mid new) where
-  module _ (g : Opening) (some_worker : 1 ≤ g.workers) (xs : List Done) (start : List happening.Event) (u w : View) (es : List happening.Event) (z y : Session) (was mid is : Log) (s new : Story) (d : Undone g xs start u es was mid) (c : IsPutBack u w z y mid is s new) where
+  module _ (g : Opening) (xs : List Done) (start : List happening.Event) (u w : View) (es : List happening.Event) (z y : Session) (low : 0 < z.own) (high : z.own ≤ g.workers) (was mid is : Log) (s new : Story) (d : Undone z.own g xs start u es was mid) (c : IsPutBack u w z y mid is s new) where
+    abbrev own : ℕ
+    own = z.own
+
     abbrev from : State
     from = behind_first g xs start
 
     abbrev e : happening.Event
-    e = happening.Event.Put_back 1 c.page
+    e = happening.Event.Put_back own c.page
 
     abbrev at : State
     at = behind_first g xs (start ++ es)
@@ -107,7 +113,7 @@ module _ (reached : EveryReached) (need : EveryNeed) (parts : (old mid new : Sto
     step_is i = cond (met i) (happens g at e) at
 
     behind_more : Behind g xs ((start ++ es) ++ e ∷ []) w
-    behind_more = behind.more reached need g xs (start ++ es) u d.behind (event.PutBack 1 c.page ∷ []) w c.given c.seen (met, tt)
+    behind_more = behind.more reached need g xs (start ++ es) u d.behind (event.PutBack own c.page ∷ []) w c.given c.seen (met, tt)
 
     state_is : state_after g (front xs ++ ((start ++ es) ++ e ∷ [])) ≡ happens g at e
     state_is = behind.front_is g xs ((start ++ es) ++ e ∷ []) ∙ (run_more g (state_after g (front xs)) (start ++ es) (e ∷ []) ∙ step_is)
@@ -116,24 +122,24 @@ module _ (reached : EveryReached) (need : EveryNeed) (parts : (old mid new : Sto
     core_w : (state w).core ≡ happens g at e
     core_w = behind.core_is reached need g xs ((start ++ es) ++ e ∷ []) w behind_more ∙ (run_more g (state_after g (front xs)) (start ++ es) (e ∷ []) ∙ step_is)
 
-    entries_is : (happens g at e).entries ≡ entry_of 1 c.entry ∷ at.entries
-    entries_is = ap (λ (q : State). q.entries) (sym core_w ∙ seen_core u w (event.PutBack 1 c.page) c.given c.seen c.met) ∙ (c.entry_is ∙ ap (λ (q : State). entry_of 1 c.entry ∷ q.entries) core_is)
+    entries_is : (happens g at e).entries ≡ entry_of own c.entry ∷ at.entries
+    entries_is = ap (λ (q : State). q.entries) (sym core_w ∙ seen_core u w (event.PutBack own c.page) c.given c.seen c.met) ∙ (c.entry_is ∙ ap (λ (q : State). entry_of own c.entry ∷ q.entries) core_is)
 
     f : Turned g at (happens g at e)
-    f = turned g at c.page met
+    f = turned own g at c.page met
 
-    logged : LogsOne g (core.run g from es) e mid is
-    logged = subst (λ (q : State). LogsOne g q e mid is) (sym run_is) (record { record_of = c.entry; entry = ap (λ (q : State). q.entries) step_is ∙ entries_is; after = c.after })
+    logged : LogsOne own g (core.run g from es) e mid is
+    logged = subst (λ (q : State). LogsOne own g q e mid is) (sym run_is) (record { record_of = c.entry; entry = ap (λ (q : State). q.entries) step_is ∙ entries_is; after = c.after })
 
-    head_is : f.entry ≡ entry_of 1 c.entry
-    head_is = first_is f.entry (entry_of 1 c.entry) at.entries at.entries (sym f.entries ∙ entries_is)
+    head_is : f.entry ≡ entry_of own c.entry
+    head_is = first_is f.entry (entry_of own c.entry) at.entries at.entries (sym f.entries ∙ entries_is)
       where
         first_is : (a b : Entry) (ps qs : List Entry) → a ∷ ps ≡ b ∷ qs → a ≡ b
         first_is a b ps qs q = cc
 
-    records : Records 1 (entry_of 1 c.entry) (state_after g (front xs ++ (start ++ es))) (state_after g (front xs ++ ((start ++ es) ++ e ∷ [])))
-    records = subst (λ (q : State). Records 1 (entry_of 1 c.entry) q (state_after g (front xs ++ ((start ++ es) ++ e ∷ [])))) (sym (behind.front_is g xs (start ++ es)))
-        (subst (λ (q : State). Records 1 (entry_of 1 c.entry) at q) (sym state_is) (record {
+    records : Records own (entry_of own c.entry) (state_after g (front xs ++ (start ++ es))) (state_after g (front xs ++ ((start ++ es) ++ e ∷ [])))
+    records = subst (λ (q : State). Records own (entry_of own c.entry) q (state_after g (front xs ++ ((start ++ es) ++ e ∷ [])))) (sym (behind.front_is g xs (start ++ es)))
+        (subst (λ (q : State). Records own (entry_of own c.entry) at q) (sym state_is) (record {
           entries = entries_is;
           kind = ap (λ (a : Entry). is_record a.kind) (sym head_is) ∙ f.kind;
           log = refl;
@@ -143,16 +149,16 @@ module _ (reached : EveryReached) (need : EveryNeed) (parts : (old mid new : Sto
           floor = f.floor;
         }))
 
-    pub undone_more : Undone g xs start w (es ++ e ∷ []) was is
+    pub undone_more : Undone own g xs start w (es ++ e ∷ []) was is
     undone_more = record {
       behind = subst (λ ys. Behind g xs ys w) (append_assoc start es (e ∷ [])) behind_more;
-      backs = all_append is_back es (e ∷ []) d.backs refl;
-      logs = logs_more g from es e was mid is d.logs logged;
+      backs = all_append (is_back own) es (e ∷ []) d.backs (ap (λ (b : Bool). b && true) (eq-eqb own own refl));
+      logs = logs_more own g from es e was mid is d.logs logged;
     }
 
-    pub went_back : (s0 : Crash) (k : Known) (base : Story) → Between limits g 1 xs s0 k base → Went g xs s0 k (start ++ es) mid base s → Went g xs s0 k (start ++ (es ++ e ∷ [])) is base new
-    went_back s0 k base bt at0 = subst (λ ys. Went g xs s0 k ys is base new) (append_assoc start es (e ∷ []))
-        (went_more parts g some_worker xs s0 k base bt (start ++ es) e c.entry mid is s new at0 refl records c.stands c.keeps)
+    pub went_back : (group : ℕ) (s0 : Crash) (k : Known) (base : Story) → Between limits g group xs s0 k base → Went own g xs s0 k (start ++ es) mid base s → Went own g xs s0 k (start ++ (es ++ e ∷ [])) is base new
+    went_back group s0 k base bt at0 = subst (λ ys. Went own g xs s0 k ys is base new) (append_assoc start es (e ∷ []))
+        (went_more parts own group g low high xs s0 k base bt (start ++ es) e c.entry mid is s new at0 refl records c.stands c.keeps)
 
   -- none
   abbrev pub undoes_none : (v w : View) (x : Session) (log : Log) → w.given ≡ v.given → w.seen ≡ v.seen → Undoes v w x x log log
@@ -160,6 +166,7 @@ module _ (reached : EveryReached) (need : EveryNeed) (parts : (old mid new : Sto
     events = [];
     given = given;
     seen = seen ∙ sym (append-nil v.seen);
+    steps = no_steps x.own v w given seen;
     session = refl;
     half = refl;
     fewer = omega arith;
@@ -170,30 +177,57 @@ module _ (reached : EveryReached) (need : EveryNeed) (parts : (old mid new : Sto
     };
   }
 
-  -- one more
-  abbrev pub undoes_more : (v u w : View) (x z y : Session) (was mid is : Log) (s new : Story) → (opening v.given).workers ≡ 1 → Undoes v u x z was mid → IsPutBack u w z y mid is s new → Undoes v w x y was is
-  undoes_more v u w x z y was mid is s new one d c = record {
-    events = d.events ++ event.PutBack 1 c.page ∷ [];
-    given = c.given ∙ d.given;
-    seen = c.seen ∙ (ap (λ ys. ys ++ event.PutBack 1 c.page ∷ []) d.seen ∙ append_assoc v.seen d.events (event.PutBack 1 c.page ∷ []));
-    session = session_is y z x c.session d.session;
-    half = ap (λ (q : Session). q.half) c.session ∙ sym (some_events d.events x.half);
-    fewer = let a = d.fewer in let b = c.fewer in let l = length-append d.events (event.PutBack 1 c.page ∷ []) in omega arith;
-    run = λ g xs start b. subst (λ es. Undone g xs start w es was is) (sym (events_more d.events (event.PutBack 1 c.page ∷ [])))
-        (undone_more g (let a = b.opens.workers in omega arith) xs start u w (events_of d.events) z y was mid is s new (d.run g xs start b) c);
-  }
-    where
-      some_events : (es : List Event) (h : Bool) → cond (is_empty (es ++ event.PutBack 1 c.page ∷ [])) h true ≡ true
-      some_events [] h = refl
-      some_events (e ∷ es) h = refl
+  -- one more, by the same session
+  module _ (v u w : View) (x z y : Session) (was mid is : Log) (s new : Story) (low : 0 < x.own) (high : x.own ≤ (opening v.given).workers) (d : Undoes v u x z was mid) (c : IsPutBack u w z y mid is s new) where
+    own_is : z.own ≡ x.own
+    own_is = ap (λ (q : Session). q.own) d.session
 
-      session_is : (y z x : Session) → y ≡ record z { half = true; clock = y.clock; debt = y.debt; undo = Rattle.row_engine.specs.Undo.without_newest z.undo } → z ≡ record x { half = z.half; clock = z.clock; debt = z.debt; undo = z.undo } → y ≡ record x { half = y.half; clock = y.clock; debt = y.debt; undo = y.undo }
-      session_is y z x p q = (λ i. record (p i) { half = y.half; clock = y.clock; debt = y.debt; undo = y.undo }) ∙ (λ i. record (q i) { half = y.half; clock = y.clock; debt = y.debt; undo = y.undo })
+    -- in a run
+    module _ (g : Opening) (xs : List Done) (start : List happening.Event) (b : Behind g xs start v) where
+      low_in : 0 < z.own
+      low_in = let q = own_is in omega arith
 
-  pub goes_back : (v u w : View) (x z y : Session) (was mid is : Log) (old s new : Story) → (opening v.given).workers ≡ 1 → (d : Undoes v u x z was mid) → Goes d.events v was mid old s → (c : IsPutBack u w z y mid is s new) → Goes (d.events ++ event.PutBack 1 c.page ∷ []) v was is old new
-  goes_back v u w x z y was mid is old s new one d go c g xs start b s0 k bt at0 =
-      subst (λ es. Went g xs s0 k (start ++ es) is old new) (sym (events_more d.events (event.PutBack 1 c.page ∷ [])))
-      (went_back g (let a = b.opens.workers in omega arith) xs start u w (events_of d.events) z y was mid is s new (d.run g xs start b) c s0 k old bt (go g xs start b s0 k bt at0))
+      high_in : z.own ≤ g.workers
+      high_in = let q = own_is in let a = b.opens.workers in omega arith
+
+      so_far : Undone z.own g xs start u (events_of d.events) was mid
+      so_far = subst (λ o. Undone o g xs start u (events_of d.events) was mid) (sym own_is) (d.run g xs start b)
+
+      pub run_more_on : Undone x.own g xs start w (events_of (d.events ++ event.PutBack z.own c.page ∷ [])) was is
+      run_more_on = subst (λ o. Undone o g xs start w (events_of (d.events ++ event.PutBack z.own c.page ∷ [])) was is) own_is
+          (subst (λ es. Undone z.own g xs start w es was is) (sym (events_more d.events (event.PutBack z.own c.page ∷ [])))
+          (undone_more g xs start u w (events_of d.events) z y low_in high_in was mid is s new so_far c))
+
+      pub went_more_on : (group : ℕ) (s0 : Crash) (k : Known) (base : Story) → Between limits g group xs s0 k base → Went x.own g xs s0 k (start ++ events_of d.events) mid base s
+          → Went x.own g xs s0 k (start ++ events_of (d.events ++ event.PutBack z.own c.page ∷ [])) is base new
+      went_more_on group s0 k base bt at0 = subst (λ o. Went o g xs s0 k (start ++ events_of (d.events ++ event.PutBack z.own c.page ∷ [])) is base new) own_is
+          (subst (λ es. Went z.own g xs s0 k (start ++ es) is base new) (sym (events_more d.events (event.PutBack z.own c.page ∷ [])))
+          (went_back g xs start u w (events_of d.events) z y low_in high_in was mid is s new so_far c group s0 k base bt (subst (λ o. Went o g xs s0 k (start ++ events_of d.events) mid base s) (sym own_is) at0)))
+
+    pub steps_more : Steps x.own v w
+    steps_more = every_steps x.own v u w d.steps (subst (λ n. Steps n u w) own_is (back_steps u w z y mid is s new c))
+
+    abbrev pub undoes_more : Undoes v w x y was is
+    undoes_more = record {
+      events = d.events ++ event.PutBack z.own c.page ∷ [];
+      given = c.given ∙ d.given;
+      seen = c.seen ∙ (ap (λ ys. ys ++ event.PutBack z.own c.page ∷ []) d.seen ∙ append_assoc v.seen d.events (event.PutBack z.own c.page ∷ []));
+      steps = steps_more;
+      session = session_is y z x c.session d.session;
+      half = ap (λ (q : Session). q.half) c.session ∙ sym (some_events d.events x.half);
+      fewer = let a = d.fewer in let b = c.fewer in let l = length-append d.events (event.PutBack z.own c.page ∷ []) in omega arith;
+      run = run_more_on;
+    }
+      where
+        some_events : (es : List Event) (h : Bool) → cond (is_empty (es ++ event.PutBack z.own c.page ∷ [])) h true ≡ true
+        some_events [] h = refl
+        some_events (e ∷ es) h = refl
+
+        session_is : (y z x : Session) → y ≡ record z { half = true; clock = y.clock; debt = y.debt; undo = Rattle.row_engine.specs.Undo.without_newest z.undo } → z ≡ record x { half = z.half; clock = z.clock; debt = z.debt; undo = z.undo } → y ≡ record x { half = y.half; clock = y.clock; debt = y.debt; undo = y.undo }
+        session_is y z x p q = (λ i. record (p i) { half = y.half; clock = y.clock; debt = y.debt; undo = y.undo }) ∙ (λ i. record (q i) { half = y.half; clock = y.clock; debt = y.debt; undo = y.undo })
+
+    pub goes_back : (old : Story) → Goes x.own x.group d.events v was mid old s → Goes x.own x.group (d.events ++ event.PutBack z.own c.page ∷ []) v was is old new
+    goes_back old go g xs start b s0 k bt at0 = went_more_on g xs start b x.group s0 k old bt (go g xs start b s0 k bt at0)
 
   -- behind which nothing was seen
   abbrev pub undoes_still : (v u w : View) (x z : Session) (was mid : Log) → w.given ≡ u.given → w.seen ≡ u.seen → Undoes v u x z was mid → Undoes v w x z was mid
@@ -201,6 +235,7 @@ module _ (reached : EveryReached) (need : EveryNeed) (parts : (old mid new : Sto
     events = d.events;
     given = given ∙ d.given;
     seen = seen ∙ d.seen;
+    steps = every_steps x.own v u w d.steps (no_steps x.own u w given seen);
     session = d.session;
     half = d.half;
     fewer = d.fewer;

@@ -1,76 +1,87 @@
 -- A begin.
-use Rattle.std.proofs.Common.{◌≡◌, ◌⊎◌, inl, inr, ◌↔◌, ◌≤◌, ◌<◌, ◌^◌, ◌+◌, ◌-◌, ◌&&◌, ℕ, Bool, true, false, cond, not, leb, List, [], ◌∷◌, ◌++◌, Some, None, Ok, Err, refl, sym, ap, ◌∙◌, subst, arith, append-nil, true≢false}
-use Rattle.std.proofs.lemmas.Bool.{le-leb, leb-true, leb-false}
+use Rattle.std.proofs.Common.{◌≡◌, ◌≢◌, ◌⊎◌, inl, inr, ◌↔◌, ◌≤◌, ◌<◌, ◌^◌, ◌+◌, ◌-◌, ℕ, zero, suc, min, Bool, true, false, cond, leb, ltb, List, [], ◌∷◌, ◌++◌, Some, None, Ok, Err, refl, sym, ap, ◌∙◌, subst, arith, append-nil, true≢false, eq-eqb}
+use Rattle.std.proofs.lemmas.Bool.{and_from, cases_lt, le-leb, leb-true, leb-false, lt-ltb}
 use Rattle.std.proofs.lemmas.List.{length-append}
 use Rattle.map_model.specs.declared.call.Answer.TheVariants as answer
 use Rattle.map_model.specs.declared.call.Call.TheVariants as call
 use Rattle.map_model.specs.declared.call.Refusal.{Refusal}
 use Rattle.map_model.specs.declared.call.Refusal.TheVariants as refusal
-use Rattle.map_model.specs.Lists.{Has, keep}
-use Rattle.map_model.specs.Pairings.{is_last_refusal}
+use Rattle.map_model.specs.Lists.{Has, keep, upd}
 use Rattle.rfa_model.specs.Reaches.{least}
 use Rattle.rfa_model.specs.Stamps.{debt_at_begin}
+use Rattle.rfa_model.proofs.ReachLemmas.{least_low}
 use Rattle.core_state.specs.Openings.{Opening}
 use Rattle.core_state.specs.States.{State, flushed_by_all}
 use Rattle.core_state.specs.Events as happening
 use Rattle.core_state.specs.Needs.{may, holds_row}
-use Rattle.core_state.specs.Steps.{happens, state_after}
+use Rattle.core_state.specs.Steps.{begun, happens, state_after}
 use Rattle.lean_disk.proofs.MomentLemmas.{framed}
 use Rattle.lean_disk.specs.Story.{IsLawful, Story}
 use Rattle.worker_log.specs.Logs.{Log, used, limit}
 use Rattle.core_calls.specs.Deeds.{marks_by}
 use Rattle.core_calls.specs.Fronts.{Done, front, outcomes}
 use Rattle.core_calls.specs.LogEvents.{Prepares, PreparesBy, RefusedLogs, is_log}
+use Rattle.core_calls.specs.LogEvents.{behind as waits}
 use Rattle.core_calls.specs.Marks.{is_half}
 use Rattle.core_calls.specs.Runs.{Tells}
-use Rattle.core_calls.specs.Steps.{is_conflict}
 use Rattle.core_calls.specs.Refusals.{IsCause, waiting}
 use Rattle.core_calls.specs.Steps.{MayPutBack}
 use Rattle.engine_calls.specs.Answers.{EveryAnswer}
 use Rattle.engine_calls.specs.Begins.{IsBegin, begun_by}
-use Rattle.engine_calls.specs.Clauses.{EveryComing}
+use Rattle.engine_calls.specs.Clauses.{EveryComing, IsNewLine}
 use Rattle.engine_calls.specs.Parts.{EveryPart, behind_first}
 use Rattle.engine_calls.specs.Refused.{IsRefusal, refused_by}
+use Rattle.row_words.specs.declared.event.Event as event
 use Rattle.row_words.specs.declared.event.Event.TheVariants.{Begin}
 use Rattle.row_words.specs.declared.given.Given.{Given}
-use Rattle.row_words.specs.Moments.{Moment}
+use Rattle.row_words.specs.Moments.{Moment, events_of}
 use Rattle.row_words.specs.Openings.{opening}
 use Rattle.row_words.specs.Sealed.{heard, stepped}
-use Rattle.row_words.specs.declared.event.Event as event
 use Rattle.rows_trait.specs.Views.{Shape, after_all, state}
 use Rattle.rows_trait.specs.Turns.{Heard}
 use Rattle.rows_trait.specs.declared.view.View.{View}
 use Rattle.lean_proto.specs.Controls as controls
-use Rattle.row_opening.specs.Openings.{EveryNeed, EveryReached}
-use Rattle.engine_trait.specs.Calls.{Answers, IsTold, is_half_done}
-use Rattle.row_engine.specs.Calls.{CallDoes, Comes, DoesOn, begin_answer}
-use Rattle.row_engine.specs.Holds.{AreStamps, Holds, IsOf}
-use Rattle.row_engine.specs.Inside.{begin_test, begun_session}
-use Rattle.engine_trait.specs.Refusals.{log_refusal, refusal_in}
+use Rattle.row_opening.specs.Openings.{EveryNeed, EveryReached, Opens}
+use Rattle.engine_trait.specs.Calls.{Answers, IsTold, call_behind, is_half_done}
 use Rattle.engine_trait.specs.Limits.{limits}
+use Rattle.engine_trait.specs.Refusals.{log_refusal, refusal_in}
+use Rattle.engine_trait.specs.Rooms.{MakesItsRoom}
+use Rattle.row_engine.specs.Calls.{CallDoes, Comes, DoesOn, begin_answer}
+use Rattle.row_engine.specs.Flushed.{Looked, flushed_to}
+use Rattle.row_engine.specs.Holds.{Holds, IsOf}
+use Rattle.row_engine.specs.Inside.{begin_test, begun_session}
+use Rattle.row_engine.specs.Numbers.{AreNumbered}
+use Rattle.row_engine.specs.Others.{Steps}
 use Rattle.row_engine.specs.Ties.{Ties}
 use Rattle.row_engine.specs.declared.session.Session.{Session}
 use Rattle.row_engine.proofs.Behind as behind
 use Rattle.row_engine.proofs.Behind.{rows_on}
+use Rattle.row_engine.proofs.FlushLemmas.{flushed_all, flushed_from, flushed_low}
 use Rattle.row_engine.proofs.Moments.{acts, free_same, goes_seen, goes_state, met_core, resident_on}
+use Rattle.row_engine.proofs.NumberLemmas.{low_small, numbered_begin}
+use Rattle.row_engine.proofs.OwnSteps.{is_own, one_step}
+use Rattle.row_engine.proofs.Refusing.{refusal_comes, refused_does}
+use Rattle.row_engine.proofs.TakeLemmas.{holds_still, still}
 use Rattle.row_engine.proofs.Waiting.{few_wait}
 
 -- ## The moment
 
 -- the core behind a begin whose need was met
-begun_core : (v : Given) (m : Moment) (n : ℕ) → may (opening v) m.core (happening.Event.Begin 1 n) ≡ true → (stepped v m (Begin 1 n)).core ≡ happens (opening v) m.core (happening.Event.Begin 1 n)
-begun_core v m n met = met_core v m (Begin 1 n) met
+begun_core : (v : Given) (m : Moment) (own n : ℕ) → may (opening v) m.core (happening.Event.Begin own n) ≡ true → (stepped v m (Begin own n)).core ≡ happens (opening v) m.core (happening.Event.Begin own n)
+begun_core v m own n met = met_core v m (Begin own n) met
 
-flushed_word : (m : Moment) → heard m 1 0 ≡ m.core.flushed 1
+-- the word of a log is the number up to which it is flushed
+pub flushed_word : (m : Moment) (c : ℕ) → 0 < c → heard m c 0 ≡ m.core.flushed c
 unfolding heard
-flushed_word m = refl
+flushed_word m zero some = absurd (omega arith)
+flushed_word m (suc c) some = refl
 
 -- it changes workers alone
-begin_flushed : (v : Given) (m : Moment) (n : ℕ) → (stepped v m (Begin 1 n)).core.flushed ≡ m.core.flushed
+begin_flushed : (v : Given) (m : Moment) (own n : ℕ) → (stepped v m (Begin own n)).core.flushed ≡ m.core.flushed
 unfolding stepped
-begin_flushed v m n = go (may (opening v) m.core (happening.Event.Begin 1 n))
+begin_flushed v m own n = go (may (opening v) m.core (happening.Event.Begin own n))
   where
-    go : (b : Bool) → (cond b (happens (opening v) m.core (happening.Event.Begin 1 n)) m.core).flushed ≡ m.core.flushed
+    go : (b : Bool) → (cond b (happens (opening v) m.core (happening.Event.Begin own n)) m.core).flushed ≡ m.core.flushed
     go true = refl
     go false = refl
 
@@ -117,7 +128,7 @@ free_of x log e = works_case x.works refl e
     works_case false q r = absurd (none_is _ (sym r))
 
 -- where the engine works the tests are those of the worker
-pub test_is : (g : Opening) (s : State) (half : Bool) (x : Session) (log : Log) → x.works ≡ true → IsOf x (s.worker 1) → begin_test x log ≡ refusal_in g s half log call.Begin
+pub test_is : (g : Opening) (s : State) (half : Bool) (x : Session) (log : Log) → x.works ≡ true → IsOf x (s.worker x.own) → begin_test x log ≡ refusal_in g s x.own half log call.Begin
 test_is g s half x log works of_s =
     (λ i. cond (works i) (cond x.is_open (Some refusal.InTransaction) (log_refusal x.clock log None)) (Some refusal.Broken))
     ∙ (λ i. cond (sym of_s.is_open i) (Some refusal.InTransaction) (log_refusal (sym of_s.clock i) log None))
@@ -162,102 +173,166 @@ comes_told d f refusal.TooTall t x = x
 comes_told d f refusal.NoPages t x = x
 comes_told d f _ t x = absurd t
 
--- an engine that is as another
-pub holds_as : (z y : Shape) (v : View) (x u : Session) (log : Log) → y ≡ z → u ≡ x → Holds z v x log → Holds y v u log
-holds_as z y v x u log p q h = subst (λ s. Holds s v u log) (sym p) (subst (λ s. Holds z v s log) (sym q) h)
+-- ## Words that are loaded
+
+-- where nothing was seen but that words were loaded
+pub looked_holds : (z : Shape) (v u : View) (x : Session) (log : Log) → Looked v u → Holds z v x log → Holds z u x log
+looked_holds z v u x log l h = holds_still z v u x log l.given l.seen l.held h
+
+pub looked_ties : (g : Opening) (group : ℕ) (xs : List Done) (own : ℕ) (half : Bool) (v u : View) → Looked v u → Ties g group xs own half v → Ties g group xs own half u
+looked_ties g group xs own half v u l t = record {
+  opens = subst (λ k. Opens g k) (sym l.given) t.opens;
+  told = t.told;
+  half_is = t.half_is;
+  loads = t.loads;
+  are_loads = t.are_loads;
+  few = t.few;
+  met = t.met;
+  seen = (λ i. events_of (l.given i).before ++ events_of (l.seen i)) ∙ t.seen;
+}
+
+-- one more flushed word was loaded behind such words
+pub looked_more : (z : Shape) (v u w : View) (c n : ℕ) → z.alone ≡ true → Looked v u → Heard z c 0 (λ _. []) u n w → Looked v w
+looked_more z v u w c n alone l e = record {
+  given = e.goes.given ∙ l.given;
+  seen = (goes_seen z u w [] alone e.goes ∙ append-nil u.seen) ∙ l.seen;
+  held = e.held ∙ l.held;
+}
+
+-- it is the number of its log
+pub looked_word : (z : Shape) (v u w : View) (c n : ℕ) → z.alone ≡ true → 0 < c → Looked v u → Heard z c 0 (λ _. []) u n w → n ≡ (state v).core.flushed c
+looked_word z v u w c n alone some l e = sym e.word ∙ (flushed_word (state w) c some ∙ ap (λ m. m.core.flushed c) (still v w m.given m.seen))
+  where
+    m : Looked v w
+    m = looked_more z v u w c n alone l e
+
+-- with one more log
+pub least_more : (z : Shape) (v u w : View) (log n before now : ℕ) → z.alone ≡ true → Looked v u → Heard z (log + 1) 0 (λ _. []) u n w → before ≡ flushed_to (state v).core log → now ≡ min before n → now ≡ flushed_to (state v).core (log + 1)
+least_more z v u w log n before now alone l e before_is now_is =
+    now_is ∙ ((λ i. min (before_is i) (looked_word z v u w (log + 1) n alone (omega arith) l e i)) ∙ at (log + 1) (omega arith))
+  where
+    at : (k : ℕ) → k ≡ suc log → min (flushed_to (state v).core log) ((state v).core.flushed k) ≡ flushed_to (state v).core k
+    at k is = subst (λ m. min (flushed_to (state v).core log) ((state v).core.flushed m) ≡ flushed_to (state v).core m) (sym is) refl
+
+-- the least of the first logs is what it was
+pub looked_least : (v u : View) (n least : ℕ) → Looked v u → least ≡ flushed_to (state v).core n → least ≡ flushed_to (state u).core n
+looked_least v u n least l e = e ∙ ap (λ m. flushed_to m.core n) (sym (still v u l.given l.seen))
+
+-- no clock comes near 2^64
+clock_small : (n : ℕ) (s : State) (w : ℕ) → n ≤ 16 → AreNumbered n s → (s.worker w).clock < 2 ^ 64
+clock_small n s w few (inl l) = let a = low_small n s few l in let b = l.up_to.clock w in omega arith
+clock_small n s w few (inr p) = let a = p.small in let b = p.up_to.clock w in omega arith
 
 -- ## The session
 
 module _ (begins : controls.EveryBegin) (z : Shape) (v w : View) (x : Session) (log : Log) (h : Holds z v x log) (closed : x.is_open ≡ false) (small : x.clock < 2 ^ 62) (free : used log < limit log)
-    (f : ℕ) (e : Heard z 1 0 (λ n. Begin 1 n ∷ []) v f w) where
-  after : state w ≡ stepped v.given (state v) (Begin 1 f)
-  after = goes_state z v w (Begin 1 f ∷ []) h.alone e.goes
+    (rest last : ℕ) (rest_is : rest ≡ flushed_to (state v).core (x.workers - 1)) (fits : last < 2 ^ 64) (e : Heard z x.workers 0 (λ n. Begin x.own (min rest n) ∷ []) v last w) where
+  abbrev all_flushed : ℕ
+  all_flushed = min rest last
 
-  pub f_is : f ≡ (state v).core.flushed 1
-  f_is = sym e.word ∙ (flushed_word (state w) ∙ (ap (λ m. m.core.flushed 1) after ∙ ap (λ k. k 1) (begin_flushed v.given (state v) f)))
+  abbrev core_before : State
+  core_before = (state v).core
 
-  known : controls.IsBegin z v 1 1 (λ n. n)
+  some : 0 < x.workers
+  some = let a = h.rows.low in let b = h.rows.high in omega arith
+
+  after : state w ≡ stepped v.given (state v) (Begin x.own all_flushed)
+  after = goes_state z v w (Begin x.own all_flushed ∷ []) h.alone e.goes
+
+  last_is : last ≡ core_before.flushed x.workers
+  last_is = sym e.word ∙ (flushed_word (state w) x.workers some ∙ (ap (λ m. m.core.flushed x.workers) after ∙ ap (λ k. k x.workers) (begin_flushed v.given (state v) x.own all_flushed)))
+
+  -- with the last log it is the least of all
+  pub f_all : all_flushed ≡ flushed_by_all (opening v.given) core_before
+  f_all = (λ i. min (rest_is i) (last_is i)) ∙ (with_last x.workers some ∙ (ap (flushed_to core_before) (sym h.rows.workers) ∙ flushed_all (opening v.given) core_before low))
+    where
+      with_last : (n : ℕ) → 0 < n → min (flushed_to core_before (n - 1)) (core_before.flushed n) ≡ flushed_to core_before n
+      with_last zero some = absurd (omega arith)
+      with_last (suc n) some = ap (λ m. min (flushed_to core_before m) (core_before.flushed (suc n))) (omega arith)
+
+      low : flushed_by_all (opening v.given) core_before < 2 ^ 64
+      low = let a = least_low core_before.flushed (opening v.given).workers x.workers some (let q = h.rows.workers in omega arith) in let b = last_is in let c = fits in omega arith
+
+  -- the floor is below each of them
+  floor_low : (u : ℕ) → 0 < u → u ≤ x.workers → x.floor ≤ core_before.flushed u
+  floor_low u up high = let a = h.floor in let b = least_low core_before.flushed (opening v.given).workers u up (let q = h.rows.workers in omega arith) in omega arith
+
+  floor_rest : x.floor ≤ rest
+  floor_rest = let a = flushed_from core_before (x.workers - 1) x.floor floor_small (λ u up high. floor_low u up (omega arith)) in let b = rest_is in omega arith
+    where
+      floor_small : x.floor < 2 ^ 64
+      floor_small = let a = floor_low x.own h.rows.low h.rows.high in let b = h.flushed in let c = h.numbers.order in let d = h.numbers.last in let k = small in omega arith
+
+  known : controls.IsBegin z v x.own x.workers (λ n. min rest n)
   known = record {
-    actor = acts z v 1 h.alone;
-    worker = le-leb 1 (opening v.given).workers (let q = h.rows.one in omega arith);
+    actor = acts z v x.own h.alone;
+    worker = and_from (ltb 0 x.own) (leb x.own (opening v.given).workers) (lt-ltb 0 x.own h.rows.low) (le-leb x.own (opening v.given).workers (let q = h.rows.workers in let p = h.rows.high in omega arith));
     closed = h.session.is_open ∙ closed;
-    log = omega arith;
-    low = λ n up. let a = h.session.floor in let b = h.numbers.floor in let c = h.flushed in omega arith;
+    log = some;
+    low = λ n up. let a = h.session.floor in let b = floor_rest in let c = floor_low x.workers some (omega arith) in omega arith;
     own = λ n up. omega arith;
-    others = λ n u up some among ne. absurd (ne (let q = h.rows.one in omega arith));
+    others = λ n u up first among ne. let a = flushed_low core_before (x.workers - 1) u first (below u among ne) in let b = rest_is in omega arith;
   }
+    where
+      below : (u : ℕ) → u ≤ (opening v.given).workers → u ≢ x.workers → u ≤ x.workers - 1
+      below u among ne = elim (cases_lt u x.workers) [ inl lt ↦ (omega arith) | inr ge ↦ absurd (ne (let q = h.rows.workers in omega arith)) ]
 
   -- its need was met
-  pub met : may (opening v.given) (state v).core (happening.Event.Begin 1 f) ≡ true
-  met = subst (λ m. may (opening v.given) m.core (happening.Event.Begin 1 f) ≡ true) (still v.seen e.goes.between (e.goes.quiet h.alone)) ((begins z v 1).begun 1 (λ n. n) f w known e).met
+  pub met : may (opening v.given) core_before (happening.Event.Begin x.own all_flushed) ≡ true
+  met = subst (λ m. may (opening v.given) m.core (happening.Event.Begin x.own all_flushed) ≡ true) (quiet v.seen e.goes.between (e.goes.quiet h.alone)) ((begins z v x.own).begun x.workers (λ n. min rest n) last w known e).met
     where
-      still : (es more : List event.Event) → more ≡ [] → after_all v.given (es ++ more) ≡ after_all v.given es
-      still es more q = ap (λ ys. after_all v.given (es ++ ys)) q ∙ ap (after_all v.given) (append-nil es)
+      quiet : (es more : List event.Event) → more ≡ [] → after_all v.given (es ++ more) ≡ after_all v.given es
+      quiet es more q = ap (λ ys. after_all v.given (es ++ ys)) q ∙ ap (after_all v.given) (append-nil es)
 
-  core_is : (state w).core ≡ happens (opening v.given) (state v).core (happening.Event.Begin 1 f)
-  core_is = ap (λ m. m.core) after ∙ begun_core v.given (state v) f met
+  -- and it is all that happened
+  pub begin_steps : Steps x.own v w
+  begin_steps = one_step x.own v w (Begin x.own all_flushed) e.goes.given (goes_seen z v w (Begin x.own all_flushed ∷ []) h.alone e.goes) (is_own x.own) met
 
-  pub after_begin : Holds z w (begun_session x f) log
+  core_is : (state w).core ≡ happens (opening v.given) core_before (happening.Event.Begin x.own all_flushed)
+  core_is = ap (λ m. m.core) after ∙ begun_core v.given (state v) x.own all_flushed met
+
+  at_worker : upd core_before.worker x.own (begun (core_before.worker x.own) all_flushed) x.own ≡ begun (core_before.worker x.own) all_flushed
+  at_worker = ap (λ b. cond b (begun (core_before.worker x.own) all_flushed) (core_before.worker x.own)) (eq-eqb x.own x.own refl)
+
+  pub after_begin : Holds z w (begun_session x all_flushed) log
   after_begin = record {
     alone = h.alone;
     idle = e.held ∙ h.idle;
-    rows = rows_on z v w x.frames x.held.count e.goes.given h.rows;
-    session = subst (λ s. IsOf (begun_session x f) (s.worker 1)) (sym core_is) (record {
+    rows = rows_on z v w x.own x.workers x.frames x.held.count e.goes.given h.rows;
+    session = subst (λ k. IsOf (begun_session x all_flushed) (k.worker x.own)) (sym core_is) (subst (λ a. IsOf (begun_session x all_flushed) a) (sym at_worker) (record {
       is_open = refl;
       txn = let q = h.session.txn in omega arith;
       clock = h.session.clock;
       floor = refl;
-      debt = ap (λ d. debt_at_begin d f) h.session.debt;
+      debt = ap (λ d. debt_at_begin d all_flushed) h.session.debt;
       end = h.session.end;
       undo = refl;
-    });
+    }));
     numbers = record {
       last = h.numbers.last;
       order = h.numbers.order;
-      floor = let a = f_is in let b = h.flushed in omega arith;
-      debt = ap (λ d. debt_at_begin d f) h.numbers.debt ∙ no_debt f;
       end = h.numbers.end;
-      open_low = λ _. omega arith;
       room = λ _. block (used log) log.blocks free;
-      small = h.numbers.small;
       closed_txn = λ q. absurd (true≢false q);
       txn = let q = h.numbers.closed_txn closed in omega arith;
-      undo_room = λ some. absurd (omega arith);
+      undo_room = λ up. absurd (omega arith);
       few = omega arith;
+      behind = h.numbers.behind;
     };
-    flushed = ap (λ s. s.flushed 1) core_is ∙ h.flushed;
-    stamps = subst (λ s. AreStamps s x.clock f) (sym core_is) (record { page = h.stamps.page; log = λ p. raised (h.stamps.log p); row = h.stamps.row; read_end = h.stamps.read_end });
-    resident = resident_on z v w e.goes.given (ap (λ s. s.place) core_is) h.resident;
-    held = λ i. subst (λ s. holds_row (s.row i) 1 ≡ true ↔ Has i x.held.rows) (sym core_is) (h.held i);
+    numbered = subst (λ k. AreNumbered x.workers k) (sym core_is) (numbered_begin (opening v.given) x.workers core_before x.own all_flushed (let c = h.session.clock in let k = small in omega arith) h.rows.low h.rows.high h.numbered);
+    flushed = ap (λ k. k.flushed x.own) core_is ∙ h.flushed;
+    floor = subst (λ n. all_flushed ≤ n) (f_all ∙ (λ i. flushed_by_all (opening (sym e.goes.given i)) (sym core_is i))) (omega arith);
+    behind = ap (λ k. waits k x.own) core_is ∙ h.behind;
+    resident = resident_on z v w e.goes.given (ap (λ k. k.place) core_is) h.resident;
+    held = λ i. subst (λ k. holds_row (k.row i) x.own ≡ true ↔ Has i x.held.rows) (sym core_is) (h.held i);
     within = h.within;
     fewer = h.fewer;
     none = λ q. absurd (true≢false q);
-    free = free_same v w x.free e.goes.given (ap (λ s. s.page) core_is) h.free;
+    free = free_same v w x.free e.goes.given (ap (λ k. k.page) core_is) h.free;
     spare = h.spare;
   }
-    where
-      raised : {a b : ℕ} → (a ≤ 1) ⊎ (b ≤ x.floor) → (a ≤ 1) ⊎ (b ≤ f)
-      raised (inl q) = inl q
-      raised (inr q) = inr (let c = f_is in let d = h.flushed in let e = h.numbers.floor in omega arith)
-
-      no_debt : (n : ℕ) → debt_at_begin 0 n ≡ 0
-      no_debt n = go (leb 0 n)
-        where
-          nothing : ℕ
-          nothing = 0
-
-          go : (b : Bool) → cond b nothing nothing ≡ nothing
-          go true = refl
-          go false = refl
 
 -- ## In a run
-
-all_true : (a b c d : Bool) → a ≡ true → b ≡ false → c ≡ true → d ≡ true → ((true && a) && (not b && (c && d))) ≡ true
-all_true true false true true p q r u = refl
-all_true false b c d p q r u = p
-all_true true true c d p q r u = sym q
-all_true true false false d p q r u = r
-all_true true false true false p q r u = u
 
 by_nothing : (b c : Bool) → b ≡ false → c ≡ false → PreparesBy b c []
 by_nothing false false p q = refl
@@ -271,7 +346,7 @@ not_leb a b lt = go (leb a b) refl
     go true e = let q = leb-true a b e in absurd (omega arith)
     go false e = refl
 
-module _ (reached : EveryReached) (needs : EveryNeed) (answers : EveryAnswer) (g : Opening) (xs : List Done) (z : Shape) (v : View) (x : Session) (log : Log) (h : Holds z v x log) (t : Ties g xs x.half v) where
+module _ (reached : EveryReached) (needs : EveryNeed) (answers : EveryAnswer) (g : Opening) (xs : List Done) (line : IsNewLine (outcomes xs)) (z : Shape) (v : View) (x : Session) (log : Log) (h : Holds z v x log) (t : Ties g x.group xs x.own x.half v) where
   abbrev first : List happening.Event
   first = t.loads
 
@@ -279,45 +354,54 @@ module _ (reached : EveryReached) (needs : EveryNeed) (answers : EveryAnswer) (g
   s = behind_first g xs first
 
   b : behind.Behind g xs first v
-  b = behind.begins g xs v t
+  b = behind.begins g x.group xs x.own v t
 
   core_in : (state v).core ≡ s
   core_in = behind.core_is reached needs g xs first v b
 
-  of_s : IsOf x (s.worker 1)
-  of_s = subst (λ k. IsOf x (k.worker 1)) core_in h.session
+  of_s : IsOf x (s.worker x.own)
+  of_s = subst (λ k. IsOf x (k.worker x.own)) core_in h.session
+
+  -- the line asks for a begin
+  begin_is : call_behind (outcomes xs) call.Begin ≡ call.Begin
+  begin_is = behind.line_call xs call.Begin line
+
+  small : (s.worker x.own).clock < 2 ^ 64
+  small = subst (λ k. (k.worker x.own).clock < 2 ^ 64) core_in (clock_small x.workers (state v).core x.own h.rows.most h.numbered)
 
   -- nothing is due at the logs
-  prepares : Prepares limits g xs 1 (keep is_log first)
-  prepares = subst (λ es. Prepares limits g xs 1 es) (sym (behind.no_logs first t.are_loads))
-      (by_nothing false (leb limits.waiting (waiting g (state_after g (front xs)) 1)) refl (not_leb limits.waiting (waiting g (state_after g (front xs)) 1)
-      (let n = few_wait g (front xs) 1 in let c = of_s.clock in let q = behind.loads_worker g (state_after g (front xs)) first t.are_loads in let d = h.numbers.small in
-      let e : (s.worker 1).clock ≡ ((state_after g (front xs)).worker 1).clock = ap (λ k. (k 1).clock) q in omega arith)))
+  prepares : Prepares limits g xs x.own (keep is_log first)
+  prepares = subst (λ es. Prepares limits g xs x.own es) (sym (behind.no_logs first t.are_loads))
+      (by_nothing false (leb limits.waiting (waiting g (state_after g (front xs)) x.own)) refl (not_leb limits.waiting (waiting g (state_after g (front xs)) x.own)
+      (let n = few_wait g (front xs) x.own in let d = small in let q = behind.loads_worker g (state_after g (front xs)) first t.are_loads in
+      let e : (s.worker x.own).clock ≡ ((state_after g (front xs)).worker x.own).clock = ap (λ k. (k x.own).clock) q in omega arith)))
+
+  tests : x.works ≡ true → begin_test x log ≡ refusal_in g (state_after g (front xs ++ first)) x.own (is_half_done x.own xs) log (call_behind (outcomes xs) call.Begin)
+  tests works = test_is g (state_after g (front xs ++ first)) (is_half_done x.own xs) x log works (subst (λ k. IsOf x (k.worker x.own)) (sym (behind.front_is g xs first)) of_s)
+      ∙ ap (refusal_in g (state_after g (front xs ++ first)) x.own (is_half_done x.own xs) log) (sym begin_is)
 
   -- ## It began
 
-  module _ (w : View) (f : ℕ) (free : IsFree x log) (begins : controls.EveryBegin) (e : Heard z 1 0 (λ n. Begin 1 n ∷ []) v f w) (number : ℕ) (number_is : number ≡ x.txn + 1) where
-    f_log : f ≡ log.flushed
-    f_log = f_is begins z v w x log h free.closed free.small free.room f e ∙ h.flushed
+  module _ (w : View) (rest last : ℕ) (rest_is : rest ≡ flushed_to (state v).core (x.workers - 1)) (fits : last < 2 ^ 64) (free : IsFree x log) (begins : controls.EveryBegin) (e : Heard z x.workers 0 (λ n. Begin x.own (min rest n) ∷ []) v last w)
+      (number : ℕ) (number_is : number ≡ x.txn + 1) where
+    abbrev f : ℕ
+    f = min rest last
 
-    begin_met : may g s (happening.Event.Begin 1 f) ≡ true
-    begin_met = behind.may_is reached needs g xs first v b (happening.Event.Begin 1 f) ∙ met begins z v w x log h free.closed free.small free.room f e
+    begin_met : may g s (happening.Event.Begin x.own f) ≡ true
+    begin_met = behind.may_is reached needs g xs first v b (happening.Event.Begin x.own f) ∙ met begins z v w x log h free.closed free.small free.room rest last rest_is fits e
 
-    next : behind.Behind g xs (first ++ happening.Event.Begin 1 f ∷ []) w
-    next = behind.more reached needs g xs first v b (Begin 1 f ∷ []) w e.goes.given (goes_seen z v w (Begin 1 f ∷ []) h.alone e.goes) (begin_met, tt)
+    next : behind.Behind g xs (first ++ happening.Event.Begin x.own f ∷ []) w
+    next = behind.more reached needs g xs first v b (Begin x.own f ∷ []) w e.goes.given (goes_seen z v w (Begin x.own f ∷ []) h.alone e.goes) (begin_met, tt)
 
     all_is : f ≡ flushed_by_all g s
-    all_is = f_log ∙ (sym (ap (λ k. k.flushed 1) (sym core_in) ∙ h.flushed) ∙ (least_one ∙ ap (least s.flushed) (sym (t.opens.workers ∙ h.rows.one))))
-      where
-        least_one : s.flushed 1 ≡ least s.flushed 1
-        least_one = omega arith
+    all_is = f_all begins z v w x log h free.closed free.small free.room rest last rest_is fits e ∙ (λ i. least (core_in i).flushed (sym t.opens.workers i))
 
     abbrev done : Done
-    done = begun_by first 1 number f
+    done = begun_by first x.own number f
 
-    pub is_begin : IsBegin limits g xs first 1 number f
+    pub is_begin : IsBegin limits g xs first x.own number f
     is_begin = record {
-      line = t.line;
+      line = line;
       steps = behind.loads_steps first t.are_loads;
       structure = behind.loads_structure first t.are_loads;
       prepares = prepares;
@@ -329,23 +413,20 @@ module _ (reached : EveryReached) (needs : EveryNeed) (answers : EveryAnswer) (g
     how : begin_test x log ≡ None → Answers g xs done log log
     how none = record {
       first = first;
-      own = happening.Event.Begin 1 f ∷ [];
+      own = happening.Event.Begin x.own f ∷ [];
       events = refl;
       loads = t.are_loads;
-      few = let a = t.few in let b = length-append first (happening.Event.Begin 1 f ∷ []) in omega arith;
+      few = let a = t.few in let b = length-append first (happening.Event.Begin x.own f ∷ []) in omega arith;
       refused = λ why q. absurd (cc);
-      refuses = λ why q. absurd (none_is why (sym none ∙ (tests ∙ q)));
+      refuses = λ why q. absurd (none_is why (sym none ∙ (tests free.works ∙ q)));
       log = (log, refl, refl);
-      room = refl;
+      room = subst (λ c. MakesItsRoom g (state_after g (front xs ++ first)) c (happening.Event.Begin x.own f ∷ [])) (sym begin_is) refl;
     }
-      where
-        tests : begin_test x log ≡ refusal_in g (state_after g (front xs ++ first)) (is_half_done xs) log call.Begin
-        tests = test_is g (state_after g (front xs ++ first)) (is_half_done xs) x log free.works (subst (λ k. IsOf x (k.worker 1)) (sym (behind.front_is g xs first)) of_s)
 
-    told : Tells limits g 1 xs done
-    told = (answers limits g 1 xs).begin first 1 number f is_begin
+    told : Tells limits g x.group xs done
+    told = (answers limits g x.group xs).begin first x.own number f is_begin
 
-    pub does : (st : Story) → IsLawful st → EveryPart st st st → begin_test x log ≡ None → DoesOn g xs call.Begin (answer.Begun number) false w log log st st
+    pub does : (st : Story) → IsLawful st → EveryPart st st st → begin_test x log ≡ None → DoesOn g x.group xs x.own call.Begin (answer.Begun number) false w log log st st
     does st lawful part none = record {
       does = record {
         done = done;
@@ -354,98 +435,61 @@ module _ (reached : EveryReached) (needs : EveryNeed) (answers : EveryAnswer) (g
         answer_is = refl;
         tells = told;
         how = how none;
-        frame = framed 2 st;
+        frame = framed (suc x.own) st;
         keeps = λ s0 k bt is.
-            let gone = (part limits g 1 xs s0 k first k bt).quiet (happening.Event.Begin 1 f ∷ []) refl (behind.gone_loads st lawful part g xs v t s0 k bt) in
-            behind.keeps_by g xs done s0 k k log st st gone told is refl (behind.nothing_written st lawful);
+            let gone = (part limits g x.group xs s0 k first k bt).quiet (happening.Event.Begin x.own f ∷ []) refl (behind.gone_loads st lawful part g x.group xs x.own v t s0 k bt) in
+            behind.keeps_by g x.group xs done s0 k k log st st gone told is (λ _ _. refl) refl (behind.nothing_written (suc x.own) st lawful);
       };
-      ties = behind.ends g xs (first ++ happening.Event.Begin 1 f ∷ []) w next done refl t.told told (refl, refl) refl;
+      ties = behind.ends g x.group xs x.own (first ++ happening.Event.Begin x.own f ∷ []) w next done refl t.told told (behind.half_own x.own done xs refl);
     }
 
   -- ## It was refused
 
-  refused_whole : (why : Refusal) → is_half (marks_by 1 (outcomes (refused_by 1 call.Begin why first ∷ xs))) ≡ x.half
-  refused_whole why = t.half_is
-
   module _ (coming : EveryComing) (works : x.works ≡ true) where
-    refused : (why : Refusal) → IsCause limits g (front xs ++ first) s (is_half (marks_by 1 (outcomes xs))) 1 call.Begin why → RefusedLogs limits g xs 1 call.Begin why (keep is_log first) → MayPutBack why [] → IsRefusal limits g xs 1 call.Begin why first
+    refused : (why : Refusal) → IsCause limits g (front xs ++ first) s (is_half (marks_by x.own (outcomes xs))) x.own call.Begin why → RefusedLogs limits g xs x.own call.Begin why (keep is_log first) → MayPutBack why [] → IsRefusal limits g xs x.own call.Begin why first
     refused why cause due none = record {
-      comes = (coming xs (refused_by 1 call.Begin why first).outcome).new t.line tt;
+      comes = (coming xs (refused_by x.own call.Begin why first).outcome).new line tt;
       met = t.met;
-      rows = behind.takes_none first t.are_loads;
+      rows = behind.takes_none x.own first t.are_loads;
       structure = λ _. behind.loads_structure first t.are_loads;
       cause = cause;
       due = due;
       no_backs = none;
     }
 
-    record Refuses (why : Refusal) : Type 0 where
-      refusal : IsRefusal limits g xs 1 call.Begin why first
-      no_conflict : is_conflict why ≡ false
-      last : is_last_refusal why ≡ true
-
-    is_refused : (why : Refusal) → begin_test x log ≡ Some why → Refuses why
-    is_refused why e = open_case x.is_open refl (sym tests ∙ e)
+    is_refused : (why : Refusal) → begin_test x log ≡ Some why → IsRefusal limits g xs x.own call.Begin why first
+    is_refused why e = open_case x.is_open refl (sym same ∙ e)
       where
-        tests : begin_test x log ≡ cond x.is_open (Some refusal.InTransaction) (log_refusal x.clock log None)
-        tests = λ i. cond (works i) (cond x.is_open (Some refusal.InTransaction) (log_refusal x.clock log None)) (Some refusal.Broken)
+        same : begin_test x log ≡ cond x.is_open (Some refusal.InTransaction) (log_refusal x.clock log None)
+        same = λ i. cond (works i) (cond x.is_open (Some refusal.InTransaction) (log_refusal x.clock log None)) (Some refusal.Broken)
 
-        clock_case : (b : Bool) → leb (2 ^ 62) x.clock ≡ b → cond b (Some refusal.ClockSpent) None ≡ Some why → Refuses why
-        clock_case true q r = subst (λ k. Refuses k) (some_is _ why r)
-            (record { refusal = refused refusal.ClockSpent (let d = leb-true (2 ^ 62) x.clock q in let m = of_s.clock in omega arith) prepares refl; no_conflict = refl; last = refl })
+        clock_case : (b : Bool) → leb (2 ^ 62) x.clock ≡ b → cond b (Some refusal.ClockSpent) None ≡ Some why → IsRefusal limits g xs x.own call.Begin why first
+        clock_case true q r = subst (λ k. IsRefusal limits g xs x.own call.Begin k first) (some_is _ why r) (refused refusal.ClockSpent (let d = leb-true (2 ^ 62) x.clock q in let m = of_s.clock in omega arith) prepares refl)
         clock_case false q r = absurd (none_is why r)
 
-        full_case : (b : Bool) → leb (limit log) (used log) ≡ b → cond b (Some (refusal.LogFull (used log) (limit log))) (cond (leb (2 ^ 62) x.clock) (Some refusal.ClockSpent) None) ≡ Some why → Refuses why
-        full_case true q r = subst (λ k. Refuses k) (some_is _ why r) (record { refusal = refused (refusal.LogFull (used log) (limit log)) refl prepares refl; no_conflict = refl; last = refl })
+        full_case : (b : Bool) → leb (limit log) (used log) ≡ b → cond b (Some (refusal.LogFull (used log) (limit log))) (cond (leb (2 ^ 62) x.clock) (Some refusal.ClockSpent) None) ≡ Some why → IsRefusal limits g xs x.own call.Begin why first
+        full_case true q r = subst (λ k. IsRefusal limits g xs x.own call.Begin k first) (some_is _ why r) (refused (refusal.LogFull (used log) (limit log)) refl prepares refl)
         full_case false q r = clock_case (leb (2 ^ 62) x.clock) refl r
 
-        open_case : (b : Bool) → x.is_open ≡ b → cond b (Some refusal.InTransaction) (log_refusal x.clock log None) ≡ Some why → Refuses why
-        open_case true q r = subst (λ k. Refuses k) (some_is _ why r) (record { refusal = refused refusal.InTransaction (of_s.is_open ∙ q) (behind.no_logs first t.are_loads) refl; no_conflict = refl; last = refl })
+        open_case : (b : Bool) → x.is_open ≡ b → cond b (Some refusal.InTransaction) (log_refusal x.clock log None) ≡ Some why → IsRefusal limits g xs x.own call.Begin why first
+        open_case true q r = subst (λ k. IsRefusal limits g xs x.own call.Begin k first) (some_is _ why r) (refused refusal.InTransaction (of_s.is_open ∙ q) (behind.no_logs first t.are_loads) refl)
         open_case false q r = full_case (leb (limit log) (used log)) refl r
 
-    pub refuses : (st : Story) → IsLawful st → EveryPart st st st → (why : Refusal) → begin_test x log ≡ Some why → DoesOn g xs call.Begin (answer.Refused why) x.half v log log st st
-    refuses st lawful part why e = record {
-      does = record {
-        done = refused_by 1 call.Begin why first;
-        session = refl;
-        asked_is = refl;
-        answer_is = refl;
-        tells = told;
-        frame = framed 2 st;
-        how = record {
-          first = first;
-          own = [];
-          events = sym (append-nil first);
-          loads = t.are_loads;
-          few = let a = t.few in omega arith;
-          refused = λ q r. inl (sym tests ∙ (e ∙ ap Some (refused_is why q r)));
-          refuses = λ q r. inl (ap answer.Refused (some_is why q (sym e ∙ (tests ∙ r))));
-          log = refl;
-          room = refl;
-        };
-        keeps = λ s0 k bt is. behind.keeps_by g xs (refused_by 1 call.Begin why first) s0 k k log st st (behind.gone_loads st lawful part g xs v t s0 k bt) told is refl (behind.nothing_written st lawful);
-      };
-      ties = behind.ends g xs first v b (refused_by 1 call.Begin why first) refl t.told told (no_hinder (is_conflict why) (is_refused why e).no_conflict, (is_refused why e).last) (refused_whole why);
-    }
+    pub refuses : (st : Story) → IsLawful st → EveryPart st st st → (why : Refusal) → begin_test x log ≡ Some why → DoesOn g x.group xs x.own call.Begin (answer.Refused why) x.half v log log st st
+    refuses st lawful part why e =
+        refused_does answers g x.group xs x.own v t log st lawful part call.Begin why (refusal_comes coming xs x.own call.Begin why first line) v b (is_refused why e) call.Begin begin_is (inl now) (λ q r. inl (some_is why q (sym now ∙ r)))
       where
-        told : Tells limits g 1 xs (refused_by 1 call.Begin why first)
-        told = (answers limits g 1 xs).refused 1 call.Begin why first (is_refused why e).refusal
-
-        tests : begin_test x log ≡ refusal_in g (state_after g (front xs ++ first)) (is_half_done xs) log call.Begin
-        tests = test_is g (state_after g (front xs ++ first)) (is_half_done xs) x log works (subst (λ k. IsOf x (k.worker 1)) (sym (behind.front_is g xs first)) of_s)
-
-        no_hinder : (c : Bool) → c ≡ false → cond c (Some call.Begin) None ≡ None
-        no_hinder false q = refl
-        no_hinder true q = absurd (true≢false q)
-
-        refused_is : (p q : Refusal) → answer.Refused p ≡ answer.Refused q → p ≡ q
-        refused_is p q r = cc
+        now : refusal_in g s x.own (is_half_done x.own xs) log call.Begin ≡ Some why
+        now = sym (test_is g s (is_half_done x.own xs) x log works of_s) ∙ e
 
 -- ## In every run
 
 module _ (reached : EveryReached) (needs : EveryNeed) (answers : EveryAnswer) (st : Story) (lawful : IsLawful st) (part : EveryPart st st st) (z : Shape) (v : View) (x : Session) (log : Log) (works : x.works ≡ true) (h : Holds z v x log) where
-  pub began : controls.EveryBegin → (w : View) (f number : ℕ) → Heard z 1 0 (λ n. Begin 1 n ∷ []) v f w → begin_test x log ≡ None → number ≡ x.txn + 1 → CallDoes call.Begin (begin_answer (Ok number)) x.half false v w log log st st
-  began begins w f number e none is g xs t = does reached needs answers g xs z v x log h t w f (free_of x log none) begins e number is st lawful part none
+  -- behind flushed words that were loaded
+  pub began : controls.EveryBegin → (u w : View) (rest last number : ℕ) → Looked v u → rest ≡ flushed_to (state v).core (x.workers - 1) → last < 2 ^ 64 → Heard z x.workers 0 (λ n. Begin x.own (min rest n) ∷ []) u last w → begin_test x log ≡ None → number ≡ x.txn + 1
+      → CallDoes x.own x.group call.Begin (begin_answer (Ok number)) x.half false v w log log st st
+  began begins u w rest last number l rest_is fits e none is g xs t line =
+      does reached needs answers g xs line z u x log (looked_holds z v u x log l h) (looked_ties g x.group xs x.own x.half v u l t) w rest last (looked_least v u (x.workers - 1) rest l rest_is) fits (free_of x log none) begins e number is st lawful part none
 
-  pub not_begun : EveryComing → (why : Refusal) → begin_test x log ≡ Some why → CallDoes call.Begin (begin_answer (Err why)) x.half x.half v v log log st st
-  not_begun coming why e g xs t = comes_told _ _ why (begin_told x log why works e) (refuses reached needs answers g xs z v x log h t coming works st lawful part why e)
+  pub not_begun : EveryComing → (why : Refusal) → begin_test x log ≡ Some why → CallDoes x.own x.group call.Begin (begin_answer (Err why)) x.half x.half v v log log st st
+  not_begun coming why e g xs t line = comes_told _ _ why (begin_told x log why works e) (refuses reached needs answers g xs line z v x log h t coming works st lawful part why e)

@@ -1,6 +1,7 @@
 -- What an engine's seat has seen within a call: the events of the outcomes before, and then the first of its own.
-use Rattle.std.proofs.Common.{◌≡◌, ◌≤◌, ◌++◌, ℕ, Bool, true, false, cond, List, [], ◌∷◌, refl, sym, ap, ◌∙◌, subst, arith, append-nil}
+use Rattle.std.proofs.Common.{◌≡◌, ◌≤◌, ◌++◌, ℕ, suc, Bool, true, false, cond, List, [], ◌∷◌, refl, sym, ap, ◌∙◌, subst, arith, append-nil, eq-eqb}
 use Rattle.std.proofs.lemmas.List.{append_assoc}
+use Rattle.map_model.specs.declared.call.Call.{Call}
 use Rattle.map_model.specs.Lists.{all, any, keep}
 use Rattle.core_state.specs.Openings.{Opening}
 use Rattle.core_state.specs.States.{State, start}
@@ -9,8 +10,10 @@ use Rattle.core_state.specs.Needs.{may}
 use Rattle.core_state.specs.Steps as core
 use Rattle.core_state.specs.Steps.{AllMet, happens, state_after}
 use Rattle.core_state.proofs.Runs.{run_more}
-use Rattle.core_calls.specs.Fronts.{Done, front}
+use Rattle.core_calls.specs.Deeds.{marks_by, marks_for}
+use Rattle.core_calls.specs.Fronts.{Done, front, outcomes}
 use Rattle.core_calls.specs.LogEvents.{is_log}
+use Rattle.core_calls.specs.Marks.{is_half}
 use Rattle.core_calls.specs.Runs.{EachTells, Tells}
 use Rattle.core_calls.specs.Steps.{is_step, is_structure}
 use Rattle.disk_runs.specs.Quiet.{is_quiet}
@@ -20,7 +23,7 @@ use Rattle.lean_disk.specs.Story.{Crash, IsLawful, Story}
 use Rattle.lean_disk.proofs.MomentLemmas.{started}
 use Rattle.log_calls.specs.Calls.{Anything}
 use Rattle.worker_log.specs.Logs.{Log}
-use Rattle.engine_trait.specs.Calls.{Keeps}
+use Rattle.engine_trait.specs.Calls.{Keeps, call_behind, due_call}
 use Rattle.engine_calls.specs.Clauses.{Between, IsNewLine}
 use Rattle.engine_calls.specs.Parts.{EveryPart, Gone, behind_first}
 use Rattle.engine_calls.specs.Refused.{TakesRows}
@@ -33,6 +36,7 @@ use Rattle.rows_trait.specs.Views.{Shape, state}
 use Rattle.btree_descent.specs.Known as pages
 use Rattle.key_locks.specs.Rows as locking
 use Rattle.row_engine.specs.Holds.{AreRows}
+use Rattle.row_engine.specs.Numbers.{AreClocked}
 use Rattle.engine_trait.specs.Calls.{is_half_done}
 use Rattle.engine_trait.specs.Limits.{AreLoads, limits}
 pub use Rattle.row_engine.specs.Grown.{Behind}
@@ -71,8 +75,8 @@ no_logs [] a = refl
 no_logs (happening.Event.Load p f ∷ es) a = no_logs es a
 no_logs _ a = absurd a
 
-pub takes_none : (es : List happening.Event) → AreLoads es → TakesRows 1 (keep is_step es)
-takes_none es a = subst (TakesRows 1) (sym (no_steps es a)) tt
+pub takes_none : (own : ℕ) (es : List happening.Event) → AreLoads es → TakesRows own (keep is_step es)
+takes_none own es a = subst (TakesRows own) (sym (no_steps es a)) tt
 
 -- of workers they change nothing
 pub loads_worker : (g : Opening) (s : State) (es : List happening.Event) → AreLoads es → (core.run g s es).worker ≡ s.worker
@@ -87,8 +91,8 @@ loads_worker g s _ a = absurd a
 -- ## Within a call
 
 -- where it begins
-pub begins : (g : Opening) (xs : List Done) {half : Bool} (v : View) → (t : Ties g xs half v) → Behind g xs t.loads v
-begins g xs v t = record { opens = t.opens; met = t.met; seen = t.seen }
+pub begins : (g : Opening) (group : ℕ) (xs : List Done) (own : ℕ) {half : Bool} (v : View) → (t : Ties g group xs own half v) → Behind g xs t.loads v
+begins g group xs own v t = record { opens = t.opens; met = t.met; seen = t.seen }
 
 module _ (reached : EveryReached) (needs : EveryNeed) (g : Opening) (xs : List Done) (first : List happening.Event) (v : View) (b : Behind g xs first v) where
   -- the moment's core is the state behind these events
@@ -114,12 +118,11 @@ module _ (reached : EveryReached) (needs : EveryNeed) (g : Opening) (xs : List D
       met_join s [] zs p q = q
       met_join s (e ∷ ys) zs p q = (p.0, met_join (core.step g s e) ys zs p.1 q)
 
--- where it is answered by these events, by an outcome of one line
-pub ends : (g : Opening) (xs : List Done) (first : List happening.Event) (v : View) → Behind g xs first v → (x : Done) → x.events ≡ first → EachTells limits g 1 xs → Tells limits g 1 xs x → IsNewLine (x.outcome ∷ []) → {half : Bool} → is_half_done (x ∷ xs) ≡ half → Ties g (x ∷ xs) half v
-ends g xs first v b x is told tells line half_is = record {
+-- where it is answered by these events
+pub ends : (g : Opening) (group : ℕ) (xs : List Done) (own : ℕ) (first : List happening.Event) (v : View) → Behind g xs first v → (x : Done) → x.events ≡ first → EachTells limits g group xs → Tells limits g group xs x → {half : Bool} → is_half_done own (x ∷ xs) ≡ half → Ties g group (x ∷ xs) own half v
+ends g group xs own first v b x is told tells half_is = record {
   opens = b.opens;
   told = (told, tells);
-  line = line;
   half_is = half_is;
   loads = [];
   are_loads = tt;
@@ -128,6 +131,15 @@ ends g xs first v b x is told tells line half_is = record {
   seen = b.seen ∙ (ap (λ ys. front xs ++ ys) (sym is) ∙ sym (append-nil (front xs ++ x.events)));
 }
 
+-- on a new line a call is what its line asks
+pub line_call : (xs : List Done) (c : Call) → IsNewLine (outcomes xs) → call_behind (outcomes xs) c ≡ c
+line_call [] c line = refl
+line_call (y ∷ earlier) c line = ap (λ o. due_call o c) line.0
+
+-- whether an abort is half done behind an outcome of the session
+pub half_own : (own : ℕ) (x : Done) (xs : List Done) → x.outcome.session ≡ own → is_half_done own (x ∷ xs) ≡ is_half (marks_for x.outcome ++ marks_by own (outcomes xs))
+half_own own x xs e = ap (λ b. is_half (cond b (marks_for x.outcome ++ marks_by own (outcomes xs)) (marks_by own (outcomes xs)))) (eq-eqb x.outcome.session own e)
+
 -- the state behind the first events, as one of the run
 pub front_is : (g : Opening) (xs : List Done) (first : List happening.Event) → state_after g (front xs ++ first) ≡ behind_first g xs first
 front_is g xs first = run_more g (start g) (front xs) first
@@ -135,33 +147,38 @@ front_is g xs first = run_more g (start g) (front xs) first
 -- ## The rows
 
 -- what is so of the rows whatever has happened on them
-pub rows_on : (z : Shape) (v w : View) (frames count : ℕ) → w.given ≡ v.given → AreRows z v frames count → AreRows z w frames count
-rows_on z v w frames count e r = record {
+pub rows_on : (z : Shape) (v w : View) (own workers frames count : ℕ) → w.given ≡ v.given → AreRows z v own workers frames count → AreRows z w own workers frames count
+rows_on z v w own workers frames count e r = record {
   tree = record { some = r.tree.some; shape = r.tree.shape; given = ap (λ k. (opening k).frames) e ∙ r.tree.given };
   tree_sound = subst (λ k. pages.IsSound k) (sym e) r.tree_sound;
-  locks = record { spans = r.locks.spans; given = ap (λ k. (opening k).frames) e ∙ r.locks.given; locks = ap (λ k. k.rows) e ∙ r.locks.locks; few = subst (λ k. (opening k).workers ≤ 16) (sym e) r.locks.few; works = subst (λ k. locking.IsWorker (opening k).workers 1) (sym e) r.locks.works };
+  locks = record { spans = r.locks.spans; given = ap (λ k. (opening k).frames) e ∙ r.locks.given; locks = ap (λ k. k.rows) e ∙ r.locks.locks; few = subst (λ k. (opening k).workers ≤ 16) (sym e) r.locks.few; works = subst (λ k. locking.IsWorker (opening k).workers own) (sym e) r.locks.works };
   locks_sound = subst (λ k. locking.IsSound k) (sym e) r.locks_sound;
-  one = ap (λ k. (opening k).workers) e ∙ r.one;
-  workers = r.workers;
+  clocked = subst (λ k. AreClocked k) (sym e) r.clocked;
+  workers = ap (λ k. (opening k).workers) e ∙ r.workers;
+  sized = r.sized;
+  low = r.low;
+  high = r.high;
+  most = r.most;
   few = r.few;
 }
 
 -- ## On the disk
 
 -- the loads of the opening are not seen there
-pub gone_loads : (s : Story) → IsLawful s → EveryPart s s s → (g : Opening) (xs : List Done) {half : Bool} (v : View) (t : Ties g xs half v) (s0 : Crash) (k : Known) → Between limits g 1 xs s0 k s → Gone g xs t.loads s0 k s k s
-gone_loads s lawful part g xs v t s0 k b = (part limits g 1 xs s0 k [] k b).quiet t.loads (loads_quiet t.loads t.are_loads) ((part limits g 1 xs s0 k [] k b).none lawful)
+pub gone_loads : (s : Story) → IsLawful s → EveryPart s s s → (g : Opening) (group : ℕ) (xs : List Done) (own : ℕ) {half : Bool} (v : View) (t : Ties g group xs own half v) (s0 : Crash) (k : Known) → Between limits g group xs s0 k s → Gone g xs t.loads s0 k s k s
+gone_loads s lawful part g group xs own v t s0 k b = (part limits g group xs s0 k [] k b).quiet t.loads (loads_quiet t.loads t.are_loads) ((part limits g group xs s0 k [] k b).none lawful)
 
 -- nothing was written
-pub nothing_written : (s : Story) → IsLawful s → LeavesOnly s s (CrashIn s 2 Anything)
-nothing_written s law = started s (CrashIn s 2 Anything) law (λ c now. record { notes = now.notes; writes = λ a ne told. now.writes a told; leaves = λ a ne told. now.leaves a told; here = tt })
+pub nothing_written : (area : ℕ) (s : Story) → IsLawful s → LeavesOnly s s (CrashIn s area Anything)
+nothing_written area s law = started s (CrashIn s area Anything) law (λ c now. record { notes = now.notes; writes = λ a ne told. now.writes a told; leaves = λ a ne told. now.leaves a told; here = tt })
 
--- Where the disk has come to stand for all events of an outcome that is told, by a master as before, the call has kept it.
-pub keeps_by : (g : Opening) (xs : List Done) (x : Done) (s0 : Crash) (k a : Known) (is : Log) (old new : Story) → Gone g xs x.events s0 k old a new → Tells limits g 1 xs x → a.log 1 ≡ is → a.master ≡ k.master → LeavesOnly old new (CrashIn old 2 Anything)
-    → Keeps g xs x s0 k is old new
-keeps_by g xs x s0 k a is old new gone tells log master within = record {
+-- Where the disk has come to stand for all events of an outcome that is told, by a master and other logs as before, the call has kept it.
+pub keeps_by : (g : Opening) (group : ℕ) (xs : List Done) (x : Done) (s0 : Crash) (k a : Known) (is : Log) (old new : Story) → Gone g xs x.events s0 k old a new → Tells limits g group xs x → a.log x.outcome.session ≡ is → ((w : ℕ) → (w ≡ x.outcome.session → ⊥) → a.log w ≡ k.log w)
+    → a.master ≡ k.master → LeavesOnly old new (CrashIn old (suc x.outcome.session) Anything) → Keeps g group xs x s0 k is old new
+keeps_by g group xs x s0 k a is old new gone tells log others master within = record {
   answers = record { answer = tells; known = a; no_earlier = gone.no_earlier; stands = gone.stands; notes = gone.notes; any_moment = gone.any_moment };
   log_is = log;
+  others = others;
   master_is = master;
   within = within;
 }

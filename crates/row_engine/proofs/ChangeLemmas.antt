@@ -25,6 +25,7 @@ use Rattle.row_engine.specs.Rooms.{IsExpected, answer_of}
 use Rattle.row_engine.specs.Staging.{IsFullFor, Staging}
 use Rattle.row_engine.specs.declared.session.Session.{Session}
 use Rattle.row_engine.proofs.GrowthLemmas.{sound}
+use Rattle.row_engine.proofs.PutLemmas.{low_page}
 
 -- ## Free pages
 
@@ -53,9 +54,9 @@ module _ (rooms : EveryRoom) (z : Shape) (v : View) (x : Session) (log : Log) (h
 
 -- ## What comes of either
 
--- the number of no page is a last one
+-- the number of no page is the last one
 pub not_spent : (z : Shape) (v w : View) (x : Session) (log : Log) (key : ℕ) → Holds z v x log → MayChange v x log key → (row : ℕ) → IsSpentIn w.given (state v) row → ⊥
-not_spent z v w x log key h f row t = let a = t.spent in let b = h.stamps.page t.page in let c = f.small in omega arith
+not_spent z v w x log key h f row t = let a = t.spent in let b = low_page z v x log h f.is_open t.page in omega arith
 
 -- the log had a block
 pub not_full : (v : View) (x y : Session) (log log_now : Log) (key : ℕ) (rs now : List Record) (old new : Story) (S : Type 0) (f0 f1 used limit : ℕ) → MayChange v x log key → Staging (Err (LogFull used limit)) x y rs now log log_now old new S f0 f1 → ⊥
@@ -85,5 +86,5 @@ faults_told x y rs now log log_now old new S same f0 f1 sf (outcome.Unstaged Dis
 faults_told x y rs now log log_now old new S same f0 f1 sf _ t d = absurd t
 
 -- what it kept where the disk failed
-pub kept_log : (x y : Session) (rs now : List Record) (log log_now : Log) (old new : Story) (S : Type 0) (f0 f1 : ℕ) (r : Result (Unit {0}) Unstaged) → Staging r x y rs now log log_now old new S f0 f1 → KeepsLog log old new
+pub kept_log : (x y : Session) (rs now : List Record) (log log_now : Log) (old new : Story) (S : Type 0) (f0 f1 : ℕ) (r : Result (Unit {0}) Unstaged) → Staging r x y rs now log log_now old new S f0 f1 → KeepsLog x.own log old new
 kept_log x y rs now log log_now old new S f0 f1 r st = record { on = st.on; frame = st.frame; within = st.within }

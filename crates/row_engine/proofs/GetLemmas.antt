@@ -1,27 +1,31 @@
 -- A get.
-use Rattle.std.proofs.Common.{◌≡◌, ◌⊎◌, inl, inr, ◌↔◌, ◌≤◌, ◌<◌, ◌%◌, ◌++◌, ◌&&◌, ◌||◌, ℕ, Bool, true, false, cond, ltb, List, [], ◌∷◌, length, Option, Some, None, refl, sym, ap, ◌∙◌, subst, arith, append-nil, true≢false, eq-eqb, lt-ltb}
+use Rattle.std.proofs.Common.{◌≡◌, ◌⊎◌, inl, inr, ◌↔◌, ◌≤◌, ◌<◌, ◌%◌, ◌++◌, ◌&&◌, ◌||◌, ℕ, suc, max, Bool, true, false, cond, ltb, List, [], ◌∷◌, length, Option, Some, None, refl, sym, ap, ◌∙◌, subst, arith, append-nil, true≢false, eq-eqb, lt-ltb}
 use Rattle.std.proofs.lemmas.List.{append_assoc, length-append}
 use Rattle.map_model.specs.declared.call.Answer.TheVariants as answer
 use Rattle.map_model.specs.declared.call.Call.TheVariants as call
 use Rattle.map_model.specs.declared.call.Refusal.{Refusal}
 use Rattle.map_model.specs.declared.call.Refusal.TheVariants as refusal
-use Rattle.map_model.specs.Lists.{Has, any, keep}
+use Rattle.map_model.specs.Lists.{Has, any, keep, upd}
 use Rattle.page_model.specs.Nodes.{holds}
+use Rattle.rfa_model.specs.Stamps.{owed}
 use Rattle.core_state.specs.Openings.{Opening}
-use Rattle.core_state.specs.States.{State, is_hot}
+use Rattle.core_state.specs.States.{State, flushed_by_all, is_hot}
 use Rattle.core_state.specs.Events as happening
-use Rattle.core_state.specs.Needs.{holds_row, is_value, may, value_in}
+use Rattle.core_state.specs.Needs.{holds_row, is_value, may, may_hold, value_in}
 use Rattle.core_state.specs.Steps.{at_pages, happens, state_after}
-use Rattle.core_calls.specs.Deeds.{Got}
-use Rattle.core_calls.specs.Fronts.{Done, front}
+use Rattle.core_calls.specs.Deeds.{Got, marks_by}
+use Rattle.core_calls.specs.Fronts.{Done, front, outcomes}
 use Rattle.core_calls.specs.LogEvents.{AreSyncs, is_log}
+use Rattle.core_calls.specs.LogEvents.{behind as waits}
+use Rattle.core_calls.specs.Marks.{is_half}
+use Rattle.core_calls.specs.Refusals.{Hinders, IsCause}
 use Rattle.core_calls.specs.Runs.{Tells}
-use Rattle.core_calls.specs.Steps.{is_structure}
+use Rattle.core_calls.specs.Steps.{MayPutBack, is_structure}
 use Rattle.lean_disk.proofs.MomentLemmas.{framed}
 use Rattle.lean_disk.specs.Story.{IsLawful, Story}
 use Rattle.worker_log.specs.Logs.{Log}
 use Rattle.engine_calls.specs.Answers.{EveryAnswer}
-use Rattle.engine_calls.specs.Clauses.{EveryComing}
+use Rattle.engine_calls.specs.Clauses.{EveryComing, IsNewLine}
 use Rattle.engine_calls.specs.Parts.{EveryPart, Gone, behind_first}
 use Rattle.engine_calls.specs.Puts.{IsRead, is_alone, read_by, taking}
 use Rattle.row_words.specs.declared.event.Event.{Event}
@@ -31,26 +35,36 @@ use Rattle.row_words.specs.Moments.{Moment}
 use Rattle.row_words.specs.Openings.{opening}
 use Rattle.row_words.specs.Sealed.{stepped}
 use Rattle.rows_trait.specs.declared.view.View.{View}
-use Rattle.rows_trait.specs.Views.{Shape, state}
+use Rattle.rows_trait.specs.Views.{Shape, after_all, state}
+use Rattle.btree_descent.specs.declared.descent.Found.{Found}
 use Rattle.btree_descent.specs.Descents as descents
 use Rattle.btree_descent.specs.Known as pages
+use Rattle.key_locks.specs.declared.mode.Mode.{Mode}
 use Rattle.key_locks.specs.declared.mode.Mode.TheVariants.{Shared}
 use Rattle.row_opening.specs.Openings.{EveryNeed, EveryReached}
 use Rattle.engine_trait.specs.Limits.{limits}
-use Rattle.engine_trait.specs.Calls.{is_half_done}
-use Rattle.engine_trait.specs.Refusals.{refusal_in}
-use Rattle.row_engine.specs.Calls.{CallDoes, DoesOn}
-use Rattle.row_engine.specs.Holds.{AreStamps, Holds, IsOf}
+use Rattle.engine_trait.specs.Calls.{call_behind, is_half_done}
+use Rattle.engine_trait.specs.Refusals.{IsRefusedFor, lock_refusal, refusal_in}
+use Rattle.engine_trait.specs.Rooms.{MakesItsRoom}
+use Rattle.row_engine.specs.Calls.{CallDoes, DoesOn, MayCome}
+use Rattle.row_engine.specs.Holds.{Holds, IsOf}
 use Rattle.row_engine.specs.Inside.{call_test, is_going}
-use Rattle.row_engine.specs.Takes.{IsSpent, Takes}
+use Rattle.row_engine.specs.Numbers.{AreNumbered}
+use Rattle.row_engine.specs.Others.{Steps}
+use Rattle.row_engine.specs.Staging.{touched_session}
+use Rattle.row_engine.specs.Takes.{NotTaken, Takes}
 use Rattle.row_engine.specs.Ties.{Ties}
 use Rattle.row_engine.specs.declared.session.Session.{Session}
-use Rattle.row_engine.proofs.GoingLemmas.{going, not_going, tests_as}
-use Rattle.row_engine.proofs.Moments.{free_same, resident_on}
 use Rattle.row_engine.proofs.Behind as behind
 use Rattle.row_engine.proofs.Behind.{rows_on}
-use Rattle.row_engine.proofs.Refusing.{is_refusal, refused_does, spent_behind, spent_end, taken_behind}
-use Rattle.row_engine.proofs.TakeLemmas.{holds_still, row_is, with_count, ran_seen, seen_core, seen_state, touch_still}
+use Rattle.row_engine.proofs.ConflictLemmas.{lock_free, lock_refused}
+use Rattle.row_engine.proofs.GoingLemmas.{goes, going, not_going, tests_as}
+use Rattle.row_engine.proofs.Moments.{free_same, resident_on}
+use Rattle.row_engine.proofs.NumberLemmas.{numbered_read}
+use Rattle.row_engine.proofs.OwnSteps.{is_own, one_step}
+use Rattle.row_engine.proofs.Refusing.{hindered_behind, is_refusal, key_free, key_hindered, refusal_comes, refused_does, spent_behind, spent_end, taken_behind}
+use Rattle.row_engine.proofs.TakeLemmas.{holds_still, numbers_on, ran_seen, row_is, seen_core, seen_state, with_count}
+use Rattle.row_engine.proofs.UndoLemmas.{many_of}
 
 -- ## The tests
 
@@ -95,11 +109,11 @@ record LeavesPages (m n : State) : Type 0 where
   page : n.page ≡ m.page
   place : n.place ≡ m.place
 
-read_pages : (v : Given) (m : Moment) (p k : ℕ) (a : Option ℕ) → LeavesPages m.core (stepped v m (Read 1 p k a)).core
+read_pages : (v : Given) (m : Moment) (own p k : ℕ) (a : Option ℕ) → LeavesPages m.core (stepped v m (Read own p k a)).core
 unfolding stepped
-read_pages v m p k a = go (may (opening v) m.core (happening.Event.Read 1 p k a))
+read_pages v m own p k a = go (may (opening v) m.core (happening.Event.Read own p k a))
   where
-    go : (b : Bool) → LeavesPages m.core (cond b (happens (opening v) m.core (happening.Event.Read 1 p k a)) m.core)
+    go : (b : Bool) → LeavesPages m.core (cond b (happens (opening v) m.core (happening.Event.Read own p k a)) m.core)
     go true = record { page = refl; place = refl }
     go false = record { page = refl; place = refl }
 
@@ -115,10 +129,13 @@ same_value : (a : Option ℕ) → is_value a a ≡ true
 same_value None = refl
 same_value (Some n) = eq-eqb n n refl
 
-module _ (z : Shape) (v w : View) (x : Session) (log : Log) (h : Holds z v x log) (is_open : x.is_open ≡ true) (key : ℕ) (word : Option ℕ) (a : descents.Answered z.alone 1 key word v w) (held_is : w.held ≡ v.held)
-    (mine : holds_row ((state v).core.row ((opening v.given).row_of key)) 1 ≡ true) where
+module _ (z : Shape) (v w : View) (x : Session) (log : Log) (h : Holds z v x log) (is_open : x.is_open ≡ true) (key : ℕ) (found : Found) (st : descents.Stamped z.alone x.own key found v w) (held_is : w.held ≡ v.held)
+    (mine : holds_row ((state v).core.row ((opening v.given).row_of key)) x.own ≡ true) where
+  abbrev a : descents.Answered z.alone x.own key found.word v w
+  a = st.answered
+
   abbrev e : Event
-  e = Read 1 a.page key (pages.said word)
+  e = Read x.own a.page key (pages.said found.word)
 
   abbrev s : State
   s = (state v).core
@@ -133,7 +150,7 @@ module _ (z : Shape) (v w : View) (x : Session) (log : Log) (h : Holds z v x log
   then_is = seen_state v w (e ∷ []) read_given read_seen
 
   leaves : LeavesPages s (state w).core
-  leaves = subst (λ m. LeavesPages s m.core) (sym then_is) (read_pages v.given (state v) a.page key (pages.said word))
+  leaves = subst (λ m. LeavesPages s m.core) (sym then_is) (read_pages v.given (state v) x.own a.page key (pages.said found.word))
 
   below : a.page < (opening v.given).format.pages
   below = subst (λ k. a.page < (opening k).format.pages) read_given a.says.below
@@ -145,37 +162,67 @@ module _ (z : Shape) (v w : View) (x : Session) (log : Log) (h : Holds z v x log
   leaf = ap (λ f. holds (f a.page).node key) (sym leaves.page) ∙ a.says.leaf
 
   -- the leaf said it before the read
-  pub read_value : pages.said word ≡ value_in (opening v.given).format (s.page a.page).node key
+  pub read_value : pages.said found.word ≡ value_in (opening v.given).format (s.page a.page).node key
   read_value = a.says.value ∙ (λ i. value_in (opening (read_given i)).format (leaves.page i a.page).node key)
 
-  pub read_met : may (opening v.given) s (happening.Event.Read 1 a.page key (pages.said word)) ≡ true
-  read_met = all_true (is_hot (s.place a.page)) (s.worker 1).is_open (holds_row (s.row ((opening v.given).row_of key)) 1) (ltb a.page (opening v.given).format.pages) (holds (s.page a.page).node key) (is_value (pages.said word) (value_in (opening v.given).format (s.page a.page).node key))
-      hot (h.session.is_open ∙ is_open) mine (lt-ltb a.page (opening v.given).format.pages below) leaf (ap (λ k. is_value (pages.said word) k) (sym read_value) ∙ same_value (pages.said word))
+  pub read_met : may (opening v.given) s (happening.Event.Read x.own a.page key (pages.said found.word)) ≡ true
+  read_met = all_true (is_hot (s.place a.page)) (s.worker x.own).is_open (holds_row (s.row ((opening v.given).row_of key)) x.own) (ltb a.page (opening v.given).format.pages) (holds (s.page a.page).node key) (is_value (pages.said found.word) (value_in (opening v.given).format (s.page a.page).node key))
+      hot (h.session.is_open ∙ is_open) mine (lt-ltb a.page (opening v.given).format.pages below) leaf (ap (λ k. is_value (pages.said found.word) k) (sym read_value) ∙ same_value (pages.said found.word))
 
-  core_is : (state w).core ≡ happens (opening v.given) s (happening.Event.Read 1 a.page key (pages.said word))
+  -- the read is all that happened
+  pub read_steps : Steps x.own v w
+  read_steps = one_step x.own v w e read_given read_seen (is_own x.own) read_met
+
+  core_is : (state w).core ≡ happens (opening v.given) s (happening.Event.Read x.own a.page key (pages.said found.word))
   core_is = seen_core v w e read_given read_seen read_met
 
-  worker_is : at_pages s 1 (s.worker 1) (a.page ∷ []) ≡ s.worker 1
-  worker_is = let c = h.session.clock in let n = h.stamps.page a.page in touch_still (s.worker 1) (s.page a.page).gsn (s.page a.page).last (omega arith) (near a.page)
+  -- the leaf's stamp was that before the read
+  before : after_all w.given a.past ≡ state v
+  before = λ i. after_all (read_given i) (past i)
     where
-      near : (p : ℕ) → ((s.page p).last ≤ 1) ⊎ ((s.page p).gsn ≤ (s.worker 1).floor)
-      near p = go (h.stamps.log p)
-        where
-          go : ((s.page p).last ≤ 1) ⊎ ((s.page p).gsn ≤ x.floor) → ((s.page p).last ≤ 1) ⊎ ((s.page p).gsn ≤ (s.worker 1).floor)
-          go (inl q) = inl q
-          go (inr q) = inr (let f = h.session.floor in omega arith)
+      past : a.past ≡ v.seen
+      past = a.onward.whole ∙ (ap (λ ys. v.seen ++ ys) (a.onward.quiet h.alone) ∙ append-nil v.seen)
 
-  pub after_read : Holds z w x log
+  number_is : found.number ≡ (s.page a.page).gsn
+  number_is = st.number ∙ ap (λ m. (m.core.page a.page).gsn) before
+
+  log_is : found.log ≡ (s.page a.page).last
+  log_is = st.log ∙ ap (λ m. (m.core.page a.page).last) before
+
+  -- the session that has met it
+  abbrev now : Session
+  now = touched_session x found.number found.log
+
+  now_of : IsOf now (at_pages s x.own (s.worker x.own) (a.page ∷ []))
+  now_of = record {
+    is_open = h.session.is_open;
+    txn = h.session.txn;
+    clock = λ i. max (h.session.clock i) (sym number_is i);
+    floor = h.session.floor;
+    debt = λ i. owed x.own (h.session.floor i) (h.session.debt i) (sym number_is i) (sym log_is i);
+    end = h.session.end;
+    undo = h.session.undo;
+  }
+
+  at_worker : upd s.worker x.own (at_pages s x.own (s.worker x.own) (a.page ∷ [])) x.own ≡ at_pages s x.own (s.worker x.own) (a.page ∷ [])
+  at_worker = ap (λ b. cond b (at_pages s x.own (s.worker x.own) (a.page ∷ [])) (s.worker x.own)) (eq-eqb x.own x.own refl)
+
+  few : length (s.worker x.own).changes ≤ 64
+  few = let q = many_of (s.worker x.own).changes x.undo h.session.undo in let n = h.numbers.few in omega arith
+
+  pub after_read : Holds z w now log
   after_read = record {
     alone = h.alone;
     idle = held_is ∙ h.idle;
-    rows = rows_on z v w x.frames x.held.count read_given h.rows;
-    session = subst (λ k. IsOf x (k.worker 1)) (sym core_is) (subst (λ k. IsOf x k) (sym worker_is) h.session);
-    numbers = h.numbers;
-    flushed = ap (λ k. k.flushed 1) core_is ∙ h.flushed;
-    stamps = subst (λ k. AreStamps k x.clock x.floor) (sym core_is) (record { page = h.stamps.page; log = h.stamps.log; row = h.stamps.row; read_end = h.stamps.read_end });
+    rows = rows_on z v w x.own x.workers x.frames x.held.count read_given h.rows;
+    session = subst (λ k. IsOf now (k.worker x.own)) (sym core_is) (subst (λ k. IsOf now k) (sym at_worker) now_of);
+    numbers = numbers_on x now log x.held refl (omega arith) h.numbers;
+    numbered = subst (λ k. AreNumbered x.workers k) (sym core_is) (numbered_read (opening v.given) x.workers s x.own a.page key (pages.said found.word) h.rows.low h.rows.high (h.session.is_open ∙ is_open) few h.numbered);
+    flushed = ap (λ k. k.flushed x.own) core_is ∙ h.flushed;
+    floor = subst (λ n. x.floor ≤ n) (λ i. flushed_by_all (opening (sym read_given i)) (sym core_is i)) h.floor;
+    behind = ap (λ k. waits k x.own) core_is ∙ h.behind;
     resident = resident_on z v w read_given (ap (λ k. k.place) core_is) h.resident;
-    held = λ i. subst (λ k. holds_row (k.row i) 1 ≡ true ↔ Has i x.held.rows) (sym core_is) (h.held i);
+    held = λ i. subst (λ k. holds_row (k.row i) x.own ≡ true ↔ Has i x.held.rows) (sym core_is) (h.held i);
     within = h.within;
     fewer = h.fewer;
     none = h.none;
@@ -184,8 +231,9 @@ module _ (z : Shape) (v w : View) (x : Session) (log : Log) (h : Holds z v x log
   }
 
 -- the row of the key is the one that was taken
-pub key_mine : (z : Shape) (v w : View) (x y : Session) (log : Log) → Holds z w y log → (key : ℕ) → Takes v w x y (key % x.held.count) Shared → holds_row ((state w).core.row ((opening w.given).row_of key)) 1 ≡ true
-key_mine z v w x y log i key k = ap (λ r. holds_row ((state w).core.row r) 1) (row_is z w y.frames y.held.count key i.rows ∙ (ap (λ s. key % s.held.count) k.session ∙ ap (λ n. key % n) (with_count x.held (key % x.held.count)))) ∙ k.mine
+pub key_mine : (z : Shape) (v w : View) (x y : Session) (log : Log) → Holds z w y log → (key : ℕ) → Takes v w x y (key % x.held.count) Shared → holds_row ((state w).core.row ((opening w.given).row_of key)) y.own ≡ true
+key_mine z v w x y log i key k = ap (λ r. holds_row ((state w).core.row r) y.own) (row_is z w y.own y.workers y.frames y.held.count key i.rows ∙ (ap (λ s. key % s.held.count) k.session ∙ ap (λ n. key % n) (with_count x.held (key % x.held.count))))
+    ∙ (ap (λ s. holds_row ((state w).core.row (key % x.held.count)) s.own) k.session ∙ k.mine)
 
 -- and the session is open still
 pub open_still : (v w : View) (x y : Session) (row : ℕ) → Takes v w x y row Shared → x.is_open ≡ true → y.is_open ≡ true
@@ -209,67 +257,88 @@ keep_none p (x ∷ es) none = go (p x) none (keep_none p es)
     go true q rest = absurd (true≢false q)
     go false q rest = rest q
 
+-- no test refuses a get where its row may be had
+none_refuses : (g : Opening) (s : State) (own : ℕ) (half : Bool) (log : Log) (key : ℕ) → (s.worker own).is_open ≡ true → half ≡ false → may_hold (s.row (g.row_of key)) own happening.Mode.Shared ≡ true → refusal_in g s own half log (call.Get key) ≡ None
+none_refuses g s own half log key is_open whole free =
+    (λ i. cond (whole i) (Some refusal.NoTransaction) (cond (is_open i) (lock_refusal g s own key happening.Mode.Shared None) (Some refusal.NoTransaction))) ∙ lock_free g s own key happening.Mode.Shared free None
+
 -- It was answered: the row was taken by w, and the read was seen by u.
-module _ (reached : EveryReached) (needs : EveryNeed) (answers : EveryAnswer) (g : Opening) (xs : List Done) (z : Shape) (v w u : View) (x y : Session) (log : Log) (t : Ties g xs x.half v) (h : Holds z v x log) (i : Holds z w y log) (is_open : x.is_open ≡ true) (whole : x.half ≡ false)
-    (key : ℕ) (word : Option ℕ) (k : Takes v w x y (key % x.held.count) Shared) (a : descents.Answered z.alone 1 key word w u) (held_is : u.held ≡ w.held) (st : Story) (lawful : IsLawful st) (part : EveryPart st st st) where
+module _ (reached : EveryReached) (needs : EveryNeed) (answers : EveryAnswer) (g : Opening) (xs : List Done) (line : IsNewLine (outcomes xs)) (z : Shape) (v w u : View) (x y : Session) (log : Log) (t : Ties g x.group xs x.own x.half v) (h : Holds z v x log) (i : Holds z w y log) (is_open : x.is_open ≡ true)
+    (whole : x.half ≡ false) (key : ℕ) (found : Found) (k : Takes v w x y (key % x.held.count) Shared) (st : descents.Stamped z.alone y.own key found w u) (held_is : u.held ≡ w.held) (story : Story) (lawful : IsLawful story) (part : EveryPart story story story) where
   abbrev first : List happening.Event
   first = t.loads
 
+  abbrev answered : descents.Answered z.alone y.own key found.word w u
+  answered = st.answered
+
   abbrev taken : List happening.Event
-  taken = taking g 1 key happening.Mode.Shared first []
+  taken = taking g x.own key happening.Mode.Shared first []
 
   abbrev value : Option ℕ
-  value = pages.said word
+  value = pages.said found.word
+
+  abbrev read : happening.Event
+  read = happening.Event.Read x.own answered.page key value
 
   abbrev done : Done
-  done = read_by (Got key value (is_alone g xs taken 1 key)) taken 1 a.page key value
+  done = read_by (Got key value (is_alone g xs taken x.own key)) taken x.own answered.page key value
+
+  b0 : behind.Behind g xs first v
+  b0 = behind.begins g x.group xs x.own v t
 
   b : behind.Behind g xs taken w
-  b = taken_behind reached needs g xs first z v w x y key Shared (behind.begins g xs v t) h.rows k
+  b = taken_behind reached needs g xs first z v w x y key Shared b0 h.rows k
+
+  own_is : y.own ≡ x.own
+  own_is = ap (λ q. q.own) k.session
 
   y_open : y.is_open ≡ true
   y_open = open_still v w x y (key % x.held.count) k is_open
 
-  mine : holds_row ((state w).core.row ((opening w.given).row_of key)) 1 ≡ true
+  mine : holds_row ((state w).core.row ((opening w.given).row_of key)) y.own ≡ true
   mine = key_mine z v w x y log i key k
 
-  met : may g (behind_first g xs taken) (happening.Event.Read 1 a.page key value) ≡ true
-  met = behind.may_is reached needs g xs taken w b (happening.Event.Read 1 a.page key value) ∙ read_met z w u y log i y_open key word a held_is mine
+  met : may g (behind_first g xs taken) read ≡ true
+  met = behind.may_is reached needs g xs taken w b read
+      ∙ subst (λ o. may (opening w.given) (state w).core (happening.Event.Read o answered.page key value) ≡ true) own_is (read_met z w u y log i y_open key found st held_is mine)
 
-  next : behind.Behind g xs (taken ++ happening.Event.Read 1 a.page key value ∷ []) u
-  next = behind.more reached needs g xs taken w b (Read 1 a.page key value ∷ []) u (read_given z w u y log i y_open key word a held_is mine) (read_seen z w u y log i y_open key word a held_is mine) (met, tt)
+  seen : u.seen ≡ w.seen ++ Read x.own answered.page key value ∷ []
+  seen = subst (λ o. u.seen ≡ w.seen ++ Read o answered.page key value ∷ []) own_is (read_seen z w u y log i y_open key found st held_is mine)
 
-  value_is : value ≡ value_in g.format ((behind_first g xs taken).page a.page).node key
-  value_is = read_value z w u y log i y_open key word a held_is mine ∙ (λ j. value_in (sym b.opens.format j) ((behind.core_is reached needs g xs taken w b j).page a.page).node key)
+  next : behind.Behind g xs (taken ++ read ∷ []) u
+  next = behind.more reached needs g xs taken w b (Read x.own answered.page key value ∷ []) u (read_given z w u y log i y_open key found st held_is mine) seen (met, tt)
+
+  value_is : value ≡ value_in g.format ((behind_first g xs taken).page answered.page).node key
+  value_is = read_value z w u y log i y_open key found st held_is mine ∙ (λ j. value_in (sym b.opens.format j) ((behind.core_is reached needs g xs taken w b j).page answered.page).node key)
 
   no_more_logs : keep is_log taken ≡ []
-  no_more_logs = keep_none is_log taken (any_more is_log first (happening.Event.Lock 1 (g.row_of key) happening.Mode.Shared ∷ []) (behind.loads_log first t.are_loads) refl)
+  no_more_logs = keep_none is_log taken (any_more is_log first (happening.Event.Lock x.own (g.row_of key) happening.Mode.Shared ∷ []) (behind.loads_log first t.are_loads) refl)
 
-  is_read : IsRead g xs happening.Mode.Shared first [] 1 a.page key value
+  is_read : IsRead g xs happening.Mode.Shared first [] x.own answered.page key value
   is_read = record {
-    line = t.line;
+    line = line;
     before_steps = behind.loads_steps first t.are_loads;
     between_steps = refl;
-    structure = any_more is_structure first (happening.Event.Lock 1 (g.row_of key) happening.Mode.Shared ∷ []) (behind.loads_structure first t.are_loads) refl;
+    structure = any_more is_structure first (happening.Event.Lock x.own (g.row_of key) happening.Mode.Shared ∷ []) (behind.loads_structure first t.are_loads) refl;
     syncs = subst (λ es. AreSyncs false es) (sym no_more_logs) tt;
     met = next.met;
     value_is = value_is;
     whole = t.half_is ∙ whole;
   }
 
-  told : Tells limits g 1 xs done
-  told = (answers limits g 1 xs).get first [] 1 a.page key value is_read
+  told : Tells limits g x.group xs done
+  told = (answers limits g x.group xs).get first [] x.own answered.page key value is_read
 
-  at : (s : State) → (s.worker 1).is_open ≡ true → refusal_in g s (is_half_done xs) log (call.Get key) ≡ None
-  at s e i = cond ((t.half_is ∙ whole) i) (Some refusal.NoTransaction) (cond (e i) None (Some refusal.NoTransaction))
+  -- before it took the row no test refused it
+  none : refusal_in g (state_after g (front xs ++ first)) x.own (is_half_done x.own xs) log (call_behind (outcomes xs) (call.Get key)) ≡ None
+  none = ap (refusal_in g (state_after g (front xs ++ first)) x.own (is_half_done x.own xs) log) (behind.line_call xs (call.Get key) line)
+      ∙ (ap (λ s. refusal_in g s x.own (is_half_done x.own xs) log (call.Get key)) (behind.front_is g xs first ∙ sym (behind.core_is reached needs g xs first v b0))
+      ∙ none_refuses g (state v).core x.own (is_half_done x.own xs) log key (h.session.is_open ∙ is_open) (t.half_is ∙ whole) (key_free reached needs g xs first z v w x y key Shared b0 h.rows k))
 
-  open_first : ((state_after g (front xs ++ first)).worker 1).is_open ≡ true
-  open_first = ap (λ s. (s.worker 1).is_open) (behind.front_is g xs first ∙ sym (behind.core_is reached needs g xs first v (behind.begins g xs v t))) ∙ (h.session.is_open ∙ is_open)
+  events_are : done.events ≡ first ++ (happening.Event.Lock x.own (g.row_of key) happening.Mode.Shared ∷ read ∷ [])
+  events_are = append_assoc first (happening.Event.Lock x.own (g.row_of key) happening.Mode.Shared ∷ []) (read ∷ [])
 
-  events_are : done.events ≡ first ++ (happening.Event.Lock 1 (g.row_of key) happening.Mode.Shared ∷ happening.Event.Read 1 a.page key value ∷ [])
-  events_are = append_assoc first (happening.Event.Lock 1 (g.row_of key) happening.Mode.Shared ∷ []) (happening.Event.Read 1 a.page key value ∷ [])
-
-  pub got : DoesOn g xs (call.Get key) (answer.Value value) x.half u log log st st
+  pub got : DoesOn g x.group xs x.own (call.Get key) (answer.Value value) x.half u log log story story
   got = record {
     does = record {
       done = done;
@@ -279,45 +348,74 @@ module _ (reached : EveryReached) (needs : EveryNeed) (answers : EveryAnswer) (g
       tells = told;
       how = record {
         first = first;
-        own = happening.Event.Lock 1 (g.row_of key) happening.Mode.Shared ∷ happening.Event.Read 1 a.page key value ∷ [];
+        own = happening.Event.Lock x.own (g.row_of key) happening.Mode.Shared ∷ read ∷ [];
         events = events_are;
         loads = t.are_loads;
-        few = let i = t.few in let j = length-append first (happening.Event.Lock 1 (g.row_of key) happening.Mode.Shared ∷ happening.Event.Read 1 a.page key value ∷ []) in let c = ap (λ es. length es) events_are in omega arith;
+        few = let i = t.few in let j = length-append first (happening.Event.Lock x.own (g.row_of key) happening.Mode.Shared ∷ read ∷ []) in let c = ap (λ es. length es) events_are in omega arith;
         refused = λ why q. absurd (cc);
-        refuses = λ why q. absurd (none_is why (sym (at (state_after g (front xs ++ first)) open_first) ∙ q));
+        refuses = λ why q. absurd (none_is why (sym none ∙ q));
         log = (log, refl, (log, refl, refl));
-        room = refl;
+        room = subst (λ c. MakesItsRoom g (state_after g (front xs ++ first)) c (happening.Event.Lock x.own (g.row_of key) happening.Mode.Shared ∷ read ∷ [])) (sym (behind.line_call xs (call.Get key) line)) refl;
       };
-      frame = framed 2 st;
+      frame = framed (suc x.own) story;
       keeps = λ s0 m bt is.
-          let gone = (part limits g 1 xs s0 m first m bt).quiet (happening.Event.Lock 1 (g.row_of key) happening.Mode.Shared ∷ happening.Event.Read 1 a.page key value ∷ []) refl (behind.gone_loads st lawful part g xs v t s0 m bt) in
-          behind.keeps_by g xs done s0 m m log st st (subst (λ es. Gone g xs es s0 m st m st) (sym events_are) gone) told is refl (behind.nothing_written st lawful);
+          let gone = (part limits g x.group xs s0 m first m bt).quiet (happening.Event.Lock x.own (g.row_of key) happening.Mode.Shared ∷ read ∷ []) refl (behind.gone_loads story lawful part g x.group xs x.own v t s0 m bt) in
+          behind.keeps_by g x.group xs done s0 m m log story story (subst (λ es. Gone g xs es s0 m story m story) (sym events_are) gone) told is (λ _ _. refl) refl (behind.nothing_written (suc x.own) story lawful);
     };
-    ties = behind.ends g xs (taken ++ happening.Event.Read 1 a.page key value ∷ []) u next done refl t.told told (refl, refl) t.half_is;
+    ties = behind.ends g x.group xs x.own (taken ++ read ∷ []) u next done refl t.told told (behind.half_own x.own done xs refl ∙ t.half_is);
   }
 
 -- ## Refusals
 
+-- why a row was not taken may come, a conflict where there are several sessions
+pub may_come : (workers : ℕ) (why : Refusal) (v w : View) (own row : ℕ) (mode : Mode) → NotTaken why v w own row mode → (workers ≡ 1 → why ≡ refusal.RowSpent) → MayCome workers why
+may_come workers refusal.RowSpent v w own row mode n only = tt
+may_come workers (refusal.Conflict h) v w own row mode n only = λ one. let e = only one in absurd (cc)
+may_come workers _ v w own row mode n only = absurd n
+
 module _ (reached : EveryReached) (needs : EveryNeed) (answers : EveryAnswer) (coming : EveryComing) (st : Story) (lawful : IsLawful st) (part : EveryPart st st st) (z : Shape) (v : View) (x : Session) (log : Log) (h : Holds z v x log) (key : ℕ) where
   -- the worker is open as the session is, behind the loads too
-  open_in : (g : Opening) (xs : List Done) (t : Ties g xs x.half v) → ((behind_first g xs t.loads).worker 1).is_open ≡ x.is_open
-  open_in g xs t = ap (λ s. (s.worker 1).is_open) (sym (behind.core_is reached needs g xs t.loads v (behind.begins g xs v t))) ∙ h.session.is_open
+  open_in : (g : Opening) (xs : List Done) (t : Ties g x.group xs x.own x.half v) → ((behind_first g xs t.loads).worker x.own).is_open ≡ x.is_open
+  open_in g xs t = ap (λ s. (s.worker x.own).is_open) (sym (behind.core_is reached needs g xs t.loads v (behind.begins g x.group xs x.own v t))) ∙ h.session.is_open
 
-  pub not_got : (why : Refusal) → x.works ≡ true → call_test x ≡ Some why → CallDoes (call.Get key) (answer.Refused why) x.half x.half v v log log st st
-  not_got why works e = subst (λ q. CallDoes (call.Get key) (answer.Refused q) x.half x.half v v log log st st) (call_closed x why works e).1 closed
+  -- by one cause, which the tests find then
+  refuse : (g : Opening) (xs : List Done) (t : Ties g x.group xs x.own x.half v) → IsNewLine (outcomes xs) → (why : Refusal) (w : View) → behind.Behind g xs t.loads w
+      → IsCause limits g (front xs ++ t.loads) (behind_first g xs t.loads) (is_half (marks_by x.own (outcomes xs))) x.own (call.Get key) why → MayPutBack why []
+      → IsRefusedFor g (behind_first g xs t.loads) x.own (is_half_done x.own xs) log (call.Get key) why
+      → ((q : Refusal) → refusal_in g (behind_first g xs t.loads) x.own (is_half_done x.own xs) log (call.Get key) ≡ Some q → (why ≡ q) ⊎ (why ≡ refusal.RowSpent))
+      → DoesOn g x.group xs x.own (call.Get key) (answer.Refused why) x.half w log log st st
+  refuse g xs t line why w b cause none is_for refuses =
+      let comes = refusal_comes coming xs x.own (call.Get key) why t.loads line in
+      refused_does answers g x.group xs x.own v t log st lawful part (call.Get key) why comes w b
+      (is_refusal answers g x.group xs x.own v t log st lawful part (call.Get key) why comes cause tt none) (call.Get key) (behind.line_call xs (call.Get key) line) is_for refuses
+
+  pub not_got : (why : Refusal) → x.works ≡ true → call_test x ≡ Some why → CallDoes x.own x.group (call.Get key) (answer.Refused why) x.half x.half v v log log st st
+  not_got why works e = subst (λ q. CallDoes x.own x.group (call.Get key) (answer.Refused q) x.half x.half v v log log st st) (call_closed x why works e).1 closed
     where
-      closed : CallDoes (call.Get key) (answer.Refused refusal.NoTransaction) x.half x.half v v log log st st
-      closed g xs t = refused_does answers coming g xs v t log st lawful part (call.Get key) refusal.NoTransaction v (behind.begins g xs v t)
-          (is_refusal answers coming g xs v t log st lawful part (call.Get key) refusal.NoTransaction (cause (not_going x (call_closed x why works e).0)) tt refl) refl refl
+      closed : CallDoes x.own x.group (call.Get key) (answer.Refused refusal.NoTransaction) x.half x.half v v log log st st
+      closed g xs t line = refuse g xs t line refusal.NoTransaction v (behind.begins g x.group xs x.own v t) (cause (not_going x (call_closed x why works e).0)) refl
           (inl none) (λ q r. inl (some_is refusal.NoTransaction q (sym none ∙ r)))
         where
-          none : refusal_in g (behind_first g xs t.loads) (is_half_done xs) log (call.Get key) ≡ Some refusal.NoTransaction
-          none = tests_as (behind_first g xs t.loads) (is_half_done xs) x (open_in g xs t) t.half_is None ∙ ap (λ b. cond b None (Some refusal.NoTransaction)) (call_closed x why works e).0
+          none : refusal_in g (behind_first g xs t.loads) x.own (is_half_done x.own xs) log (call.Get key) ≡ Some refusal.NoTransaction
+          none = tests_as (behind_first g xs t.loads) (is_half_done x.own xs) x (open_in g xs t) t.half_is (lock_refusal g (behind_first g xs t.loads) x.own key happening.Mode.Shared None)
+              ∙ ap (λ b. cond b (lock_refusal g (behind_first g xs t.loads) x.own key happening.Mode.Shared None) (Some refusal.NoTransaction)) (call_closed x why works e).0
 
-          cause : (x.half ≡ true) ⊎ (x.is_open ≡ false) → ((behind_first g xs t.loads).worker 1).is_open ≡ false ⊎ ((is_half_done xs ≡ true) × (call.Get key ≡ call.Abort → ⊥))
+          cause : (x.half ≡ true) ⊎ (x.is_open ≡ false) → ((behind_first g xs t.loads).worker x.own).is_open ≡ false ⊎ ((is_half_done x.own xs ≡ true) × (call.Get key ≡ call.Abort → ⊥))
           cause (inl half) = inr (t.half_is ∙ half, λ q. absurd (cc))
           cause (inr shut) = inl (open_in g xs t ∙ shut)
 
-  pub spent_get : (w : View) → IsSpent v w → CallDoes (call.Get key) (answer.Refused refusal.RowSpent) x.half x.half v w log log st st
-  spent_get w s g xs t = refused_does answers coming g xs v t log st lawful part (call.Get key) refusal.RowSpent w (spent_behind g xs t.loads v w (behind.begins g xs v t) s)
-      (is_refusal answers coming g xs v t log st lawful part (call.Get key) refusal.RowSpent (spent_end g xs t.loads v w (behind.begins g xs v t) s) tt tt) refl refl (inr refl) (λ q r. inr refl)
+  -- its row is spent, or another session stands in the way
+  pub not_taken : x.is_open ≡ true → x.half ≡ false → (w : View) (why : Refusal) → NotTaken why v w x.own (key % x.held.count) Shared → CallDoes x.own x.group (call.Get key) (answer.Refused why) x.half x.half v w log log st st
+  not_taken is_open whole w refusal.RowSpent s g xs t line =
+      refuse g xs t line refusal.RowSpent w (spent_behind g xs t.loads v w (behind.begins g x.group xs x.own v t) s) (spent_end g xs t.loads v w (behind.begins g x.group xs x.own v t) s) tt (inr refl) (λ q r. inr refl)
+  not_taken is_open whole w (refusal.Conflict b) s g xs t line =
+      refuse g xs t line (refusal.Conflict b) w (hindered_behind g xs t.loads v w x.own (key % x.held.count) Shared b (behind.begins g x.group xs x.own v t) s) hinders refl (inl now) (λ q r. inl (some_is (refusal.Conflict b) q (sym now ∙ r)))
+    where
+      hinders : Hinders ((behind_first g xs t.loads).row (g.row_of key)) x.own happening.Mode.Shared b
+      hinders = key_hindered reached needs g xs t.loads z v w x key Shared b (behind.begins g x.group xs x.own v t) h.rows s
+
+      now : refusal_in g (behind_first g xs t.loads) x.own (is_half_done x.own xs) log (call.Get key) ≡ Some (refusal.Conflict b)
+      now = tests_as (behind_first g xs t.loads) (is_half_done x.own xs) x (open_in g xs t) t.half_is (lock_refusal g (behind_first g xs t.loads) x.own key happening.Mode.Shared None)
+          ∙ (ap (λ c. cond c (lock_refusal g (behind_first g xs t.loads) x.own key happening.Mode.Shared None) (Some refusal.NoTransaction)) (goes x is_open whole)
+          ∙ lock_refused g (behind_first g xs t.loads) x.own key happening.Mode.Shared b hinders None)
+  not_taken is_open whole w _ s g xs t line = absurd s

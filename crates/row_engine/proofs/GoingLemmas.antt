@@ -19,6 +19,9 @@ going x e = go x.half refl e
     go true q r = absurd (true≢false (cc))
     go false q r = record { is_open = r; whole = q }
 
+pub goes : (x : Session) → x.is_open ≡ true → x.half ≡ false → is_going x ≡ true
+goes x is_open whole = λ i. cond (whole i) false (is_open i)
+
 -- and where it does not
 pub not_going : (x : Session) → is_going x ≡ false → (x.half ≡ true) ⊎ (x.is_open ≡ false)
 not_going x e = go x.half refl e
@@ -32,6 +35,6 @@ as_one true a later = refl
 as_one false a later = refl
 
 -- the tests of the worker are those of its session
-pub tests_as : (s : State) (half : Bool) (x : Session) → (s.worker 1).is_open ≡ x.is_open → half ≡ x.half → (later : Option Refusal) → in_transaction s half later ≡ cond (is_going x) later (Some refusal.NoTransaction)
+pub tests_as : (s : State) (half : Bool) (x : Session) → (s.worker x.own).is_open ≡ x.is_open → half ≡ x.half → (later : Option Refusal) → in_transaction s x.own half later ≡ cond (is_going x) later (Some refusal.NoTransaction)
 tests_as s half x is_open half_is later =
     (λ i. cond (half_is i) (Some refusal.NoTransaction) (cond (is_open i) later (Some refusal.NoTransaction))) ∙ as_one x.half x.is_open later

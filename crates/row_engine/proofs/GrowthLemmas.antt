@@ -1,11 +1,13 @@
 -- A change of the tree that was staged: what holds behind it, and what was done.
-use Rattle.std.proofs.Common.{◌≡◌, ◌⊎◌, inl, inr, ◌↔◌, ◌≤◌, ◌<◌, ◌++◌, ℕ, suc, Bool, true, false, cond, List, [], ◌∷◌, length, None, Ok, refl, sym, ap, ◌∙◌, subst, arith, true≢false, eq-eqb, append-nil}
-use Rattle.map_model.specs.Lists.{Has}
+use Rattle.std.proofs.Common.{◌≡◌, ◌↔◌, ◌≤◌, ◌<◌, ◌++◌, ◌&&◌, ◌==◌, ltb, ℕ, suc, Bool, true, false, cond, List, [], ◌∷◌, length, None, Ok, refl, sym, ap, ◌∙◌, subst, arith, true≢false, eq-eqb, append-nil}
+use Rattle.map_model.specs.Lists.{Has, keep}
+use Rattle.map_model.proofs.ListLemmas.{upd_same}
 use Rattle.page_model.specs.Records as records
-use Rattle.image_model.specs.Entries.{Entry, Kind, touches, written}
+use Rattle.image_model.specs.Entries.{Entry, Kind, is_commit}
 use Rattle.core_state.specs.Needs.{holds_row, may}
 use Rattle.core_state.specs.States.{Place, State, Worker, frame_of, in_frame}
-use Rattle.core_state.specs.Steps.{at_pages, happens, moves, page_entry, records_in, touch}
+use Rattle.core_state.specs.Steps.{at_pages, happens, moves, page_entry, records_in}
+use Rattle.core_calls.specs.LogEvents.{behind}
 use Rattle.core_calls.specs.Room.{free_list}
 use Rattle.lean_disk.specs.Story.{Story}
 use Rattle.log_record.specs.declared.record.Record.{Record}
@@ -26,17 +28,19 @@ use Rattle.btree_smo.specs.declared.outcome.Outcome.TheVariants.{RowSpent}
 use Rattle.engine_trait.specs.Refusals.{room_refusal}
 use Rattle.engine_trait.specs.Rooms.{IsNextRoom}
 use Rattle.row_engine.specs.Free.{without_first}
-use Rattle.row_engine.specs.Holds.{AreNumbers, AreStamps, Holds, IsOf}
+use Rattle.row_engine.specs.Holds.{AreNumbers, Holds, IsOf}
+use Rattle.row_engine.specs.Numbers.{AreNumbered}
 use Rattle.row_engine.specs.Puts.{MayChange}
+use Rattle.row_engine.specs.Undo.{undo_of}
 use Rattle.row_engine.specs.Rooms.{IsGrown, IsGrowth, IsSpentBehind}
 use Rattle.row_engine.specs.Staging.{Staging, session_clock}
 use Rattle.row_engine.specs.declared.session.Session.{Session}
 use Rattle.row_engine.proofs.Behind.{rows_on}
 use Rattle.row_engine.proofs.Moments.{resident_on}
 use Rattle.row_engine.proofs.Misses.{misses_core}
-use Rattle.row_engine.proofs.PutLemmas.{ran_seen, same_flushed, seen_core}
-use Rattle.row_engine.proofs.TakeLemmas.{touch_still}
-use Rattle.row_engine.proofs.UndoLemmas.{room_to_undo}
+use Rattle.row_engine.proofs.NumberLemmas.{numbered_moves}
+use Rattle.row_engine.proofs.PutLemmas.{floor_same, ran_seen, same_flushed, seen_core}
+use Rattle.row_engine.proofs.UndoLemmas.{many_of, room_to_undo}
 
 -- ## Moments of a call, where nobody else steps
 
@@ -61,13 +65,15 @@ pub holds_same : (z : Shape) (v w : View) (x : Session) (log : Log) → w.given 
 holds_same z v w x log given core held h = record {
   alone = h.alone;
   idle = held;
-  rows = rows_on z v w x.frames x.held.count given h.rows;
-  session = subst (λ s. IsOf x (s.worker 1)) (sym core) h.session;
+  rows = rows_on z v w x.own x.workers x.frames x.held.count given h.rows;
+  session = subst (λ s. IsOf x (s.worker x.own)) (sym core) h.session;
   numbers = h.numbers;
-  flushed = ap (λ s. s.flushed 1) core ∙ h.flushed;
-  stamps = subst (λ s. AreStamps s x.clock x.floor) (sym core) h.stamps;
+  numbered = subst (λ s. AreNumbered x.workers s) (sym core) h.numbered;
+  flushed = ap (λ s. s.flushed x.own) core ∙ h.flushed;
+  floor = floor_same v w x.floor given (ap (λ s. s.flushed) core) h.floor;
+  behind = ap (λ s. behind s x.own) core ∙ h.behind;
   resident = resident_on z v w given (ap (λ s. s.place) core) h.resident;
-  held = λ i. subst (λ s. holds_row (s.row i) 1 ≡ true ↔ Has i x.held.rows) (sym core) (h.held i);
+  held = λ i. subst (λ s. holds_row (s.row i) x.own ≡ true ↔ Has i x.held.rows) (sym core) (h.held i);
   within = h.within;
   fewer = h.fewer;
   none = h.none;
@@ -105,23 +111,46 @@ module _ (z : Shape) (v : View) (x : Session) (log : Log) (h : Holds z v x log) 
   pub hot_in : (p : ℕ) → p < (opening v.given).format.pages → IsHotIn v.given (state v) p p
   hot_in p below = record { below = below; hot = h.resident.hot p below }
 
+-- ## What a worker touches
+
+-- but for its clock, which does not fall, and its debt it is as it was
+pub record Touched (b a : Worker) : Type 0 where
+  pub is_open : a.is_open ≡ b.is_open
+  pub txn : a.txn ≡ b.txn
+  pub clock : b.clock ≤ a.clock
+  pub floor : a.floor ≡ b.floor
+  pub end : a.end ≡ b.end
+  pub changes : a.changes ≡ b.changes
+
+pub touched : (s : State) (own : ℕ) (b : Worker) (ps : List ℕ) → Touched b (at_pages s own b ps)
+touched s own b [] = record { is_open = refl; txn = refl; clock = omega arith; floor = refl; end = refl; changes = refl }
+touched s own b (p ∷ ps) = let t = touched s own b ps in record { is_open = t.is_open; txn = t.txn; clock = let q = t.clock in omega arith; floor = t.floor; end = t.end; changes = t.changes }
+
 -- ## Behind a change
 
-module _ (z : Shape) (v w : View) (x : Session) (log : Log) (h : Holds z v x log) (key : ℕ) (f : MayChange v x log key) (kind : Kind) (e : Event) (ps : List ℕ) (made : records.Record) (entry_in : State → Entry)
-    (rs now : List Record) (y : Session) (log_now : Log) (d : Changed z.alone 1 e entry_in v rs w (session_clock y) now)
-    (does : happens (opening v.given) (state v).core (event_of e) ≡ moves (state v).core kind 1 ps made)
-    (enters : entry_in (state v).core ≡ page_entry kind (state v).core 1 (at_pages (state v).core 1 ((state v).core.worker 1) ps) ps made) where
+module _ (z : Shape) (v w : View) (x : Session) (log : Log) (h : Holds z v x log) (key : ℕ) (f : MayChange v x log key) (kind : Kind) (no_commit : is_commit kind ≡ false) (e : Event) (ps : List ℕ) (made : records.Record) (entry_in : State → Entry)
+    (rs now : List Record) (y : Session) (log_now : Log) (d : Changed z.alone x.own e entry_in v rs w (session_clock y) now)
+    (does : happens (opening v.given) (state v).core (event_of e) ≡ moves (state v).core kind x.own ps made)
+    (enters : entry_in (state v).core ≡ page_entry kind (state v).core x.own (at_pages (state v).core x.own ((state v).core.worker x.own) ps) ps made) where
   abbrev s : State
   s = (state v).core
 
+  -- the worker has met the stamps of the pages
   abbrev a : Worker
-  a = s.worker 1
+  a = at_pages s x.own (s.worker x.own) ps
 
-  abbrev entered : Worker → State
-  entered b = records_in s 1 b (page_entry kind s 1 b ps made) b.changes
+  met_by : Touched (s.worker x.own) a
+  met_by = touched s x.own (s.worker x.own) ps
 
   abbrev r : Entry
-  r = page_entry kind s 1 a ps made
+  r = page_entry kind s x.own a ps made
+
+  -- and has taken the next number
+  abbrev b : Worker
+  b = record a { clock = r.number; changes = a.changes }
+
+  abbrev t : State
+  t = records_in s x.own a r a.changes
 
   then_is : after_all w.given d.past ≡ state v
   then_is = now_is z.alone v w d.past h.alone d.ran.given d.onward
@@ -135,29 +164,31 @@ module _ (z : Shape) (v w : View) (x : Session) (log : Log) (h : Holds z v x log
   pub met : may (opening v.given) s (event_of e) ≡ true
   met = (λ i. may (opening (sym d.ran.given i)) (sym then_is i).core (event_of e)) ∙ d.met
 
-  -- no stamp is above the clock or of another log, so what the worker touches leaves it as it was
-  touched : (qs : List ℕ) → at_pages s 1 a qs ≡ a
-  touched [] = refl
-  touched (p ∷ qs) = ap (λ b. touch 1 b (s.page p).gsn (s.page p).last) (touched qs) ∙ touch_still a (s.page p).gsn (s.page p).last (let q = h.session.clock in let b = h.stamps.page p in omega arith) (near (h.stamps.log p))
-    where
-      near : ((s.page p).last ≤ 1) ⊎ ((s.page p).gsn ≤ x.floor) → ((s.page p).last ≤ 1) ⊎ ((s.page p).gsn ≤ a.floor)
-      near (inl q) = inl q
-      near (inr q) = inr (let k = h.session.floor in omega arith)
-
   happened : (state w).core ≡ happens (opening v.given) s (event_of e)
   happened = seen_core v w e d.ran.given seen_is met
 
-  core_is : (state w).core ≡ entered a
-  core_is = happened ∙ (does ∙ ap (λ b. entered b) (touched ps))
+  core_is : (state w).core ≡ t
+  core_is = happened ∙ does
 
-  clock_of : session_clock y ≡ clock_in ((state w).core.worker 1)
-  clock_of = d.clock ∙ (λ i. clock_in ((after_all w.given ((ap (λ ys. ys ++ e ∷ []) past_is ∙ sym seen_is) i)).core.worker 1))
+  worker_is : t.worker x.own ≡ b
+  worker_is = upd_same s.worker x.own b x.own refl
 
-  pub clock_is : y.clock ≡ suc x.clock
-  clock_is = ap (λ c. c.clock) clock_of ∙ (ap (λ k. (k.worker 1).clock) core_is ∙ ap suc h.session.clock)
+  clock_of : session_clock y ≡ clock_in b
+  clock_of = d.clock ∙ ((λ i. clock_in ((after_all w.given ((ap (λ ys. ys ++ e ∷ []) past_is ∙ sym seen_is) i)).core.worker x.own)) ∙ (ap (λ k. clock_in (k.worker x.own)) core_is ∙ ap clock_in worker_is))
 
-  debt_is : y.debt ≡ 0
-  debt_is = ap (λ c. c.debt) clock_of ∙ (ap (λ k. (k.worker 1).debt) core_is ∙ (h.session.debt ∙ h.numbers.debt))
+  pub clock_rises : x.clock < y.clock
+  clock_rises = let e = ap (λ c. c.clock) clock_of in let q = h.session.clock in let k = met_by.clock in omega arith
+
+  numbered_on : AreNumbered x.workers t
+  numbered_on = numbered_moves (opening v.given) x.workers s x.own kind ps made h.rows.low h.rows.high (h.session.is_open ∙ f.is_open)
+      (let m = many_of (s.worker x.own).changes x.undo h.session.undo in let q = f.few in omega arith) (let q = h.session.clock in let c = f.small in omega arith) h.numbered
+
+  -- which is no commit
+  abbrev waiting : List Entry
+  waiting = keep (λ q. is_commit q.kind && ((q.log == x.own) && ltb (s.flushed x.own) q.number)) s.entries
+
+  behind_on : behind t x.own ≡ x.behind
+  behind_on = (λ i. length (cond (no_commit i && ((r.log == x.own) && ltb (s.flushed x.own) r.number)) (r ∷ waiting) waiting)) ∙ h.behind
 
   module _ (old new : Story) (S : Type 0) (f0 f1 : ℕ) (held : w.held ≡ []) (st : Staging (Ok tt) x y rs now log log_now old new S f0 f1) (last : log_now.last ≡ y.clock)
       (page : ℕ) (rest : List ℕ) (least : x.free ≡ page ∷ rest) (left : free_list (opening v.given) (happens (opening v.given) s (event_of e)) ≡ rest) where
@@ -167,57 +198,43 @@ module _ (z : Shape) (v w : View) (x : Session) (log : Log) (h : Holds z v x log
     flushed_is : log_now.flushed ≡ log.flushed
     flushed_is = same_flushed st.came.entry log log_now st.came.after
 
-    stamp_on : (p : ℕ) (b : Bool) → (cond b (written r p (s.page p)) (s.page p)).gsn ≤ y.clock
-    stamp_on p true = let q = clock_is in let k = h.session.clock in omega arith
-    stamp_on p false = let q = clock_is in let k = h.stamps.page p in omega arith
-
-    log_on : (p : ℕ) (b : Bool) → ((cond b (written r p (s.page p)) (s.page p)).last ≤ 1) ⊎ ((cond b (written r p (s.page p)) (s.page p)).gsn ≤ x.floor)
-    log_on p true = inl (omega arith)
-    log_on p false = h.stamps.log p
-
-    session_on : IsOf u ((entered a).worker 1)
+    session_on : IsOf u b
     session_on = record {
-      is_open = h.session.is_open;
-      txn = h.session.txn;
-      clock = sym (ap (λ c. c.clock) clock_of ∙ ap (λ k. (k.worker 1).clock) core_is);
-      floor = h.session.floor;
-      debt = sym (ap (λ c. c.debt) clock_of ∙ ap (λ k. (k.worker 1).debt) core_is);
-      end = h.session.end;
-      undo = h.session.undo;
+      is_open = met_by.is_open ∙ h.session.is_open;
+      txn = met_by.txn ∙ h.session.txn;
+      clock = sym (ap (λ c. c.clock) clock_of);
+      floor = met_by.floor ∙ h.session.floor;
+      debt = sym (ap (λ c. c.debt) clock_of);
+      end = met_by.end ∙ h.session.end;
+      undo = ap undo_of met_by.changes ∙ h.session.undo;
     }
 
     numbers_on : AreNumbers u log_now
     numbers_on = record {
-      last = last;
-      order = let q = flushed_is in let b = h.numbers.order in let c = h.numbers.last in let k = clock_is in omega arith;
-      floor = let q = flushed_is in let b = h.numbers.floor in omega arith;
-      debt = debt_is;
-      end = let b = h.numbers.end in let k = clock_is in omega arith;
-      open_low = λ _. let k = clock_is in let b = f.small in let c = f.few in omega arith;
-      small = let k = clock_is in let b = f.small in omega arith;
+      last = omega arith;
+      order = let q = flushed_is in let b = h.numbers.order in let c = h.numbers.last in let k = clock_rises in omega arith;
+      end = let b = h.numbers.end in let k = clock_rises in omega arith;
       room = λ _. st.came.room f.whole;
       closed_txn = λ q. absurd (true≢false (sym f.is_open ∙ q));
-      txn = let b = h.numbers.txn in let k = clock_is in omega arith;
+      txn = let b = h.numbers.txn in let k = clock_rises in omega arith;
       undo_room = λ _. room_to_undo st.came.entry log log_now (length x.undo) st.came.short st.came.after f.room h.numbers.few;
       few = h.numbers.few;
+      behind = h.numbers.behind;
     }
 
     after_growth : Holds z w u log_now
     after_growth = record {
       alone = h.alone;
       idle = held;
-      rows = rows_on z v w x.frames x.held.count d.ran.given h.rows;
-      session = subst (λ k. IsOf u (k.worker 1)) (sym core_is) session_on;
+      rows = rows_on z v w x.own x.workers x.frames x.held.count d.ran.given h.rows;
+      session = subst (λ k. IsOf u (k.worker x.own)) (sym core_is) (subst (λ k. IsOf u k) (sym worker_is) session_on);
       numbers = numbers_on;
-      flushed = ap (λ k. k.flushed 1) core_is ∙ (h.flushed ∙ sym flushed_is);
-      stamps = subst (λ k. AreStamps k y.clock x.floor) (sym core_is) (record {
-        page = λ p. stamp_on p (touches p r);
-        log = λ p. log_on p (touches p r);
-        row = λ i. let q = clock_is in let k = h.stamps.row i in omega arith;
-        read_end = λ i. let q = clock_is in let k = h.stamps.read_end i in omega arith;
-      });
+      numbered = subst (λ k. AreNumbered x.workers k) (sym core_is) numbered_on;
+      flushed = ap (λ k. k.flushed x.own) core_is ∙ (h.flushed ∙ sym flushed_is);
+      floor = floor_same v w x.floor d.ran.given (ap (λ k. k.flushed) core_is) h.floor;
+      behind = ap (λ k. behind k x.own) core_is ∙ behind_on;
       resident = resident_on z v w d.ran.given (ap (λ k. k.place) core_is) h.resident;
-      held = λ i. subst (λ k. holds_row (k.row i) 1 ≡ true ↔ Has i x.held.rows) (sym core_is) (h.held i);
+      held = λ i. subst (λ k. holds_row (k.row i) x.own ≡ true ↔ Has i x.held.rows) (sym core_is) (h.held i);
       within = h.within;
       fewer = h.fewer;
       none = h.none;
@@ -231,13 +248,13 @@ module _ (z : Shape) (v w : View) (x : Session) (log : Log) (h : Holds z v x log
     pub holds_grown : Holds z w (record y { free = without_first y.free }) log_now
     holds_grown = subst (λ k. Holds z w k log_now) (λ i. record (sym st.session i) { free = sym free_is i }) after_growth
 
-    staged_is : entry_of 1 st.came.entry ≡ entry_in s
-    staged_is = ap (entry_of 1) same ∙ (d.staged.2 ∙ ap (λ m. entry_in m.core) then_is)
+    staged_is : entry_of x.own st.came.entry ≡ entry_in s
+    staged_is = ap (entry_of x.own) same ∙ (d.staged.2 ∙ ap (λ m. entry_in m.core) then_is)
       where
         same : st.came.entry ≡ d.staged.0
         same = let told = st.came.told in let staged = d.staged.1 in cc
 
-    pub grown : IsGrowth e → IsNextRoom (opening v.given) s key (event_of e) → room_refusal (opening v.given) s key ≡ None → IsGrown key v w x (record y { free = without_first y.free }) log log_now old new
+    pub grown : IsGrowth x.own e → IsNextRoom (opening v.given) s key (event_of e) → room_refusal (opening v.given) s key ≡ None → IsGrown key v w x (record y { free = without_first y.free }) log log_now old new
     grown growth next fits = record {
       event = e;
       growth = growth;

@@ -1,5 +1,5 @@
 -- Lock rows that are latched one after another, and given up one after another.
-use Rattle.std.proofs.Common.{◌≡◌, ◌≢◌, ◌⊎◌, inl, inr, ⊎_elim, ◌≤◌, ◌<◌, ◌+◌, ◌*◌, ◌%◌, ◌^◌, ◌&&◌, ◌||◌, not, ◌==◌, ℕ, zero, suc, Bool, true, false, cond, List, [], ◌∷◌, ◌++◌, length, set, get_or, drop, replicate, refl, sym, ap, ◌∙◌, subst, arith, append-nil, length-set, true≢false}
+use Rattle.std.proofs.Common.{◌≡◌, ◌≢◌, ◌⊎◌, inl, inr, ⊎_elim, ◌≤◌, ◌<◌, ◌+◌, ◌%◌, ◌^◌, ◌&&◌, ◌||◌, not, ◌==◌, ℕ, zero, suc, Bool, true, false, cond, List, [], ◌∷◌, ◌++◌, length, set, get_or, drop, replicate, refl, sym, ap, ◌∙◌, subst, arith, append-nil, length-set, true≢false}
 use Rattle.std.proofs.lemmas.Bool.{cases_eq, cases_lt, eq-eqb}
 use Rattle.std.proofs.lemmas.List.{append_assoc, drop_more, ext_get_or, get_or-set_same, get_or-set_other, get_or-replicate, get_or_past, length-append, length-replicate}
 use Rattle.std.proofs.Math.Nat.{mod-eq_of_lt}
@@ -41,13 +41,13 @@ use Rattle.row_engine.proofs.Moments.{met_core}
 -- ## The rows
 
 -- there are so many rows, whatever was seen
-pub sized_on : (z y : Shape) (v u : View) (frames count n : ℕ) → y ≡ z → u.given ≡ v.given → n ≡ count → Sized z v 1 frames count → Sized y u 1 frames n
-sized_on z y v u frames count n same given many s = subst (λ k. Sized k u 1 frames n) (sym same) (subst (λ k. Sized z u 1 frames k) (sym many) (record {
+pub sized_on : (z y : Shape) (v u : View) (own frames count n : ℕ) → y ≡ z → u.given ≡ v.given → n ≡ count → Sized z v own frames count → Sized y u own frames n
+sized_on z y v u own frames count n same given many s = subst (λ k. Sized k u own frames n) (sym same) (subst (λ k. Sized z u own frames k) (sym many) (record {
   spans = s.spans;
   given = ap (λ k. (opening k).frames) given ∙ s.given;
   locks = ap (λ k. k.rows) given ∙ s.locks;
   few = subst (λ k. (opening k).workers ≤ 16) (sym given) s.few;
-  works = subst (λ k. IsWorker (opening k).workers 1) (sym given) s.works;
+  works = subst (λ k. IsWorker (opening k).workers own) (sym given) s.works;
 }))
 
 pub spans_on : (z y : Shape) (frames count n : ℕ) → y ≡ z → n ≡ count → Spans z frames count → Spans y frames n
@@ -253,94 +253,94 @@ all_missed frames h at marks v w end m = record { given = m.given; misses = m.mi
 pub seen_state : (v w : View) (es : List Event) → w.given ≡ v.given → w.seen ≡ v.seen ++ es → state w ≡ run v.given (state v) es
 seen_state v w es given seen = (λ i. after_all (given i) (seen i)) ∙ run_append v.given (begun v.given) v.seen es
 
-gives_append : (rows : List ℕ) (i : ℕ) → gives (rows ++ i ∷ []) ≡ gives rows ++ Unlock 1 i ∷ []
-gives_append [] i = refl
-gives_append (j ∷ rows) i = ap (λ z. Unlock 1 j ∷ z) (gives_append rows i)
+gives_append : (own : ℕ) (rows : List ℕ) (i : ℕ) → gives own (rows ++ i ∷ []) ≡ gives own rows ++ Unlock own i ∷ []
+gives_append own [] i = refl
+gives_append own (j ∷ rows) i = ap (λ z. Unlock own j ∷ z) (gives_append own rows i)
 
-unlocks_append : (rows : List ℕ) (i : ℕ) → unlocks 1 (rows ++ i ∷ []) ≡ unlocks 1 rows ++ happening.Event.Unlock 1 i ∷ []
-unlocks_append [] i = refl
-unlocks_append (j ∷ rows) i = ap (λ z. happening.Event.Unlock 1 j ∷ z) (unlocks_append rows i)
+unlocks_append : (own : ℕ) (rows : List ℕ) (i : ℕ) → unlocks own (rows ++ i ∷ []) ≡ unlocks own rows ++ happening.Event.Unlock own i ∷ []
+unlocks_append own [] i = refl
+unlocks_append own (j ∷ rows) i = ap (λ z. happening.Event.Unlock own j ∷ z) (unlocks_append own rows i)
 
-pub gives_events : (rows : List ℕ) → events_of (gives rows) ≡ unlocks 1 rows
-gives_events [] = refl
-gives_events (i ∷ rows) = ap (λ z. happening.Event.Unlock 1 i ∷ z) (gives_events rows)
+pub gives_events : (own : ℕ) (rows : List ℕ) → events_of (gives own rows) ≡ unlocks own rows
+gives_events own [] = refl
+gives_events own (i ∷ rows) = ap (λ z. happening.Event.Unlock own i ∷ z) (gives_events own rows)
 
 -- of workers they change nothing
-pub unlocks_worker : (g : Opening) (rows : List ℕ) (s : State) → (core.run g s (unlocks 1 rows)).worker ≡ s.worker
-unlocks_worker g [] s = refl
-unlocks_worker g (i ∷ rows) s = unlocks_worker g rows (core.step g s (happening.Event.Unlock 1 i)) ∙ go (may g s (happening.Event.Unlock 1 i))
+pub unlocks_worker : (g : Opening) (own : ℕ) (rows : List ℕ) (s : State) → (core.run g s (unlocks own rows)).worker ≡ s.worker
+unlocks_worker g own [] s = refl
+unlocks_worker g own (i ∷ rows) s = unlocks_worker g own rows (core.step g s (happening.Event.Unlock own i)) ∙ go (may g s (happening.Event.Unlock own i))
   where
-    go : (c : Bool) → (cond c (happens g s (happening.Event.Unlock 1 i)) s).worker ≡ s.worker
+    go : (c : Bool) → (cond c (happens g s (happening.Event.Unlock own i)) s).worker ≡ s.worker
     go true = refl
     go false = refl
 
 -- a row that was given back is not held
-pub not_held : (o : Row) (end : ℕ) → holds_row (unlocked o 1 end) 1 ≡ false
-not_held o end = go (is_held_by o.holder 1) refl
+pub not_held : (own : ℕ) (o : Row) (end : ℕ) → holds_row (unlocked o own end) own ≡ false
+not_held own o end = go (is_held_by o.holder own) refl
   where
     row : Bool → Row
-    row b = cond b (record { holder = Rattle.std.proofs.Common.None; readers = keep (λ v. not (v == 1)) o.readers; number = Rattle.std.proofs.Common.max o.number end; log = 1; read_end = o.read_end })
-        (record { holder = o.holder; readers = keep (λ v. not (v == 1)) o.readers; number = o.number; log = o.log; read_end = Rattle.std.proofs.Common.max o.read_end end })
+    row b = cond b (record { holder = Rattle.std.proofs.Common.None; readers = keep (λ v. not (v == own)) o.readers; number = Rattle.std.proofs.Common.max o.number end; log = own; read_end = o.read_end })
+        (record { holder = o.holder; readers = keep (λ v. not (v == own)) o.readers; number = o.number; log = o.log; read_end = Rattle.std.proofs.Common.max o.read_end end })
 
-    go : (b : Bool) → is_held_by o.holder 1 ≡ b → holds_row (row (is_held_by o.holder 1)) 1 ≡ false
-    go true e = ap (λ b. holds_row (row b) 1) e ∙ others_not 1 o.readers
-    go false e = ap (λ b. holds_row (row b) 1) e ∙ (ap (λ b. b || is_reader 1 (keep (λ v. not (v == 1)) o.readers)) e ∙ others_not 1 o.readers)
+    go : (b : Bool) → is_held_by o.holder own ≡ b → holds_row (row (is_held_by o.holder own)) own ≡ false
+    go true e = ap (λ b. holds_row (row b) own) e ∙ others_not own o.readers
+    go false e = ap (λ b. holds_row (row b) own) e ∙ (ap (λ b. b || is_reader own (keep (λ v. not (v == own)) o.readers)) e ∙ others_not own o.readers)
 
-pub start_giving : (frames : ℕ) (h : Held) (marks : List Bool) (v : View) → AreMine frames h.count marks v.held → AreAmong marks h.rows → AreHeld v marks → Giving frames h 0 marks v v
-start_giving frames h marks v mine among held = record { rows = []; few = omega arith; gives = record { given = refl; seen = sym (append-nil v.seen); met = tt; core = refl }; mine = mine; left = among; held = held }
+pub start_giving : (own frames : ℕ) (h : Held) (marks : List Bool) (v : View) → AreMine frames h.count marks v.held → AreAmong marks h.rows → AreHeld own v marks → Giving own frames h 0 marks v v
+start_giving own frames h marks v mine among held = record { rows = []; few = omega arith; gives = record { given = refl; seen = sym (append-nil v.seen); met = tt; core = refl }; mine = mine; left = among; held = held }
 
 -- the worker of the session is as it was
-pub gives_worker : (v w : View) (rows : List ℕ) → Gives v rows w → (state w).core.worker ≡ (state v).core.worker
-gives_worker v w rows g = ap (λ s. s.worker) g.core ∙ unlocks_worker (opening v.given) rows (state v).core
+pub gives_worker : (own : ℕ) (v w : View) (rows : List ℕ) → Gives own v rows w → (state w).core.worker ≡ (state v).core.worker
+gives_worker own v w rows g = ap (λ s. s.worker) g.core ∙ unlocks_worker (opening v.given) own rows (state v).core
 
-pub closed_on : (v w : View) (rows : List ℕ) → Gives v rows w → ((state v).core.worker 1).is_open ≡ false → ((state w).core.worker 1).is_open ≡ false
-closed_on v w rows g closed = ap (λ k. (k 1).is_open) (gives_worker v w rows g) ∙ closed
+pub closed_on : (own : ℕ) (v w : View) (rows : List ℕ) → Gives own v rows w → ((state v).core.worker own).is_open ≡ false → ((state w).core.worker own).is_open ≡ false
+closed_on own v w rows g closed = ap (λ k. (k own).is_open) (gives_worker own v w rows g) ∙ closed
 
-pub end_on : (v w : View) (rows : List ℕ) → Gives v rows w → ((state w).core.worker 1).end ≡ ((state v).core.worker 1).end
-end_on v w rows g = ap (λ k. (k 1).end) (gives_worker v w rows g)
+pub end_on : (own : ℕ) (v w : View) (rows : List ℕ) → Gives own v rows w → ((state w).core.worker own).end ≡ ((state v).core.worker own).end
+end_on own v w rows g = ap (λ k. (k own).end) (gives_worker own v w rows g)
 
 both : (b c d : Bool) → b ≡ false → c ≡ true → (not b && c) ≡ true
 both false c d p q = q
 both true c d p q = absurd (true≢false p)
 
-module _ (v u w : View) (rows : List ℕ) (r end : ℕ) (gs : Gives v rows u) (closed : ((state v).core.worker 1).is_open ≡ false) (end_is : end ≡ ((state v).core.worker 1).end) (held : holds_row ((state u).core.row r) 1 ≡ true)
-    (given : w.given ≡ u.given) (seen : w.seen ≡ u.seen ++ Unlock 1 r ∷ []) where
+module _ (own : ℕ) (v u w : View) (rows : List ℕ) (r end : ℕ) (gs : Gives own v rows u) (closed : ((state v).core.worker own).is_open ≡ false) (end_is : end ≡ ((state v).core.worker own).end) (held : holds_row ((state u).core.row r) own ≡ true)
+    (given : w.given ≡ u.given) (seen : w.seen ≡ u.seen ++ Unlock own r ∷ []) where
   abbrev s : State
-  s = core.run (opening v.given) (state v).core (unlocks 1 rows)
+  s = core.run (opening v.given) (state v).core (unlocks own rows)
 
   worker : (state u).core.worker ≡ (state v).core.worker
-  worker = gives_worker v u rows gs
+  worker = gives_worker own v u rows gs
 
-  met : may (opening u.given) (state u).core (happening.Event.Unlock 1 r) ≡ true
-  met = both ((state u).core.worker 1).is_open (holds_row ((state u).core.row r) 1) true (ap (λ k. (k 1).is_open) worker ∙ closed) held
+  met : may (opening u.given) (state u).core (happening.Event.Unlock own r) ≡ true
+  met = both ((state u).core.worker own).is_open (holds_row ((state u).core.row r) own) true (ap (λ k. (k own).is_open) worker ∙ closed) held
 
-  met_v : may (opening v.given) (core.run (opening v.given) (state v).core (unlocks 1 rows)) (happening.Event.Unlock 1 r) ≡ true
-  met_v = (λ i. may (opening (sym gs.given i)) (sym gs.core i) (happening.Event.Unlock 1 r)) ∙ met
+  met_v : may (opening v.given) (core.run (opening v.given) (state v).core (unlocks own rows)) (happening.Event.Unlock own r) ≡ true
+  met_v = (λ i. may (opening (sym gs.given i)) (sym gs.core i) (happening.Event.Unlock own r)) ∙ met
 
-  core_u : (state w).core ≡ happens (opening u.given) (state u).core (happening.Event.Unlock 1 r)
-  core_u = ap (λ m. m.core) (seen_state u w (Unlock 1 r ∷ []) given seen) ∙ met_core u.given (state u) (Unlock 1 r) met
+  core_u : (state w).core ≡ happens (opening u.given) (state u).core (happening.Event.Unlock own r)
+  core_u = ap (λ m. m.core) (seen_state u w (Unlock own r ∷ []) given seen) ∙ met_core u.given (state u) (Unlock own r) met
 
-  pub gives_more : Gives v (rows ++ r ∷ []) w
+  pub gives_more : Gives own v (rows ++ r ∷ []) w
   gives_more = record {
     given = given ∙ gs.given;
-    seen = seen ∙ (ap (λ ys. ys ++ Unlock 1 r ∷ []) gs.seen ∙ (append_assoc v.seen (gives rows) (Unlock 1 r ∷ []) ∙ ap (λ ys. v.seen ++ ys) (sym (gives_append rows r))));
-    met = subst (AllMet (opening v.given) (state v).core) (sym (unlocks_append rows r)) (met_join (opening v.given) (state v).core (unlocks 1 rows) (happening.Event.Unlock 1 r ∷ []) gs.met (met_v, tt));
-    core = core_u ∙ ((λ i. happens (opening (gs.given i)) (gs.core i) (happening.Event.Unlock 1 r))
-        ∙ (sym (if_met (may (opening v.given) s (happening.Event.Unlock 1 r)) met_v s (happens (opening v.given) s (happening.Event.Unlock 1 r)))
-        ∙ (sym (run_more (opening v.given) (state v).core (unlocks 1 rows) (happening.Event.Unlock 1 r ∷ [])) ∙ ap (core.run (opening v.given) (state v).core) (sym (unlocks_append rows r)))));
+    seen = seen ∙ (ap (λ ys. ys ++ Unlock own r ∷ []) gs.seen ∙ (append_assoc v.seen (gives own rows) (Unlock own r ∷ []) ∙ ap (λ ys. v.seen ++ ys) (sym (gives_append own rows r))));
+    met = subst (AllMet (opening v.given) (state v).core) (sym (unlocks_append own rows r)) (met_join (opening v.given) (state v).core (unlocks own rows) (happening.Event.Unlock own r ∷ []) gs.met (met_v, tt));
+    core = core_u ∙ ((λ i. happens (opening (gs.given i)) (gs.core i) (happening.Event.Unlock own r))
+        ∙ (sym (if_met (may (opening v.given) s (happening.Event.Unlock own r)) met_v s (happens (opening v.given) s (happening.Event.Unlock own r)))
+        ∙ (sym (run_more (opening v.given) (state v).core (unlocks own rows) (happening.Event.Unlock own r ∷ [])) ∙ ap (core.run (opening v.given) (state v).core) (sym (unlocks_append own rows r)))));
   }
 
-  pub row_here : holds_row ((state w).core.row r) 1 ≡ false
-  row_here = ap (λ s. holds_row (s.row r) 1) core_u
-      ∙ (ap (λ o. holds_row o 1) (upd_same (state u).core.row r (unlocked ((state u).core.row r) 1 ((state u).core.worker 1).end) r refl) ∙ not_held ((state u).core.row r) ((state u).core.worker 1).end)
+  pub row_here : holds_row ((state w).core.row r) own ≡ false
+  row_here = ap (λ s. holds_row (s.row r) own) core_u
+      ∙ (ap (λ o. holds_row o own) (upd_same (state u).core.row r (unlocked ((state u).core.row r) own ((state u).core.worker own).end) r refl) ∙ not_held own ((state u).core.row r) ((state u).core.worker own).end)
 
-  pub row_else : (i : ℕ) → i ≢ r → holds_row ((state w).core.row i) 1 ≡ holds_row ((state u).core.row i) 1
-  row_else i ne = ap (λ s. holds_row (s.row i) 1) core_u ∙ ap (λ o. holds_row o 1) (upd_other (state u).core.row r (unlocked ((state u).core.row r) 1 ((state u).core.worker 1).end) i ne)
+  pub row_else : (i : ℕ) → i ≢ r → holds_row ((state w).core.row i) own ≡ holds_row ((state u).core.row i) own
+  row_else i ne = ap (λ s. holds_row (s.row i) own) core_u ∙ ap (λ o. holds_row o own) (upd_other (state u).core.row r (unlocked ((state u).core.row r) own ((state u).core.worker own).end) i ne)
 
-pub gave_more : (alone : Bool) (frames : ℕ) (h : Held) (at r p end : ℕ) (marks more : List Bool) (v u w : View) → alone ≡ true → at < length h.rows → r ≡ get_or h.rows at 0 → r < h.count → p ≡ r → more ≡ set marks p false
-    → AreLatched frames more w.held → without w.held (frames + p) ≡ without u.held (frames + p) → ((state v).core.worker 1).is_open ≡ false → end ≡ ((state v).core.worker 1).end
-    → (is_marked marks p ≡ true → IsGivenUp alone 1 p end u w) → (is_marked marks p ≡ false → w ≡ u) → Giving frames h at marks v u → Giving frames h (at + 1) more v w
-gave_more alone frames h at r p end marks more v u w alone_is lt r_is within p_is is tied rest closed end_is up same m = go (is_marked marks p) refl
+pub gave_more : (alone : Bool) (own frames : ℕ) (h : Held) (at r p end : ℕ) (marks more : List Bool) (v u w : View) → alone ≡ true → at < length h.rows → r ≡ get_or h.rows at 0 → r < h.count → p ≡ r → more ≡ set marks p false
+    → AreLatched frames more w.held → without w.held (frames + p) ≡ without u.held (frames + p) → ((state v).core.worker own).is_open ≡ false → end ≡ ((state v).core.worker own).end
+    → (is_marked marks p ≡ true → IsGivenUp alone own p end u w) → (is_marked marks p ≡ false → w ≡ u) → Giving own frames h at marks v u → Giving own frames h (at + 1) more v w
+gave_more alone own frames h at r p end marks more v u w alone_is lt r_is within p_is is tied rest closed end_is up same m = go (is_marked marks p) refl
   where
     mine : AreMine frames h.count more w.held
     mine = mine_more frames h.count r p false marks more u.held w.held within p_is is m.mine tied rest
@@ -354,36 +354,36 @@ gave_more alone frames h at r p end marks more v u w alone_is lt r_is within p_i
     left : AreAmong more (drop (at + 1) h.rows)
     left = left_more h.rows at r marks more lt r_is here else_where m.left
 
-    go : (b : Bool) → is_marked marks p ≡ b → Giving frames h (at + 1) more v w
+    go : (b : Bool) → is_marked marks p ≡ b → Giving own frames h (at + 1) more v w
     go true on =
         let q = (up on).ran in
-        let seen : w.seen ≡ u.seen ++ Unlock 1 r ∷ [] = q.seen ∙ (ap (λ ys. u.seen ++ ys) (q.all alone_is) ∙ ap (λ j. u.seen ++ Unlock 1 j ∷ []) p_is) in
-        let held : holds_row ((state u).core.row r) 1 ≡ true = m.held r ∙ (ap (is_marked marks) (sym p_is) ∙ on) in record {
+        let seen : w.seen ≡ u.seen ++ Unlock own r ∷ [] = q.seen ∙ (ap (λ ys. u.seen ++ ys) (q.all alone_is) ∙ ap (λ j. u.seen ++ Unlock own j ∷ []) p_is) in
+        let held : holds_row ((state u).core.row r) own ≡ true = m.held r ∙ (ap (is_marked marks) (sym p_is) ∙ on) in record {
           rows = m.rows ++ r ∷ [];
           few = let n = length-append m.rows (r ∷ []) in let k = m.few in omega arith;
-          gives = gives_more v u w m.rows r end m.gives closed end_is held q.given seen;
+          gives = gives_more own v u w m.rows r end m.gives closed end_is held q.given seen;
           mine = mine;
           left = left;
           held = λ i. ⊎_elim
-              (λ (s : i ≡ r). ap (λ j. holds_row ((state w).core.row j) 1) s ∙ (row_here v u w m.rows r end m.gives closed end_is held q.given seen ∙ sym (ap (is_marked more) s ∙ here)))
-              (λ (ne : i ≡ r → ⊥). row_else v u w m.rows r end m.gives closed end_is held q.given seen i ne ∙ (m.held i ∙ sym (else_where i ne)))
+              (λ (s : i ≡ r). ap (λ j. holds_row ((state w).core.row j) own) s ∙ (row_here own v u w m.rows r end m.gives closed end_is held q.given seen ∙ sym (ap (is_marked more) s ∙ here)))
+              (λ (ne : i ≡ r → ⊥). row_else own v u w m.rows r end m.gives closed end_is held q.given seen i ne ∙ (m.held i ∙ sym (else_where i ne)))
               (cases_eq i r);
         }
     go false off =
         let q = same off in record {
           rows = m.rows;
           few = let k = m.few in omega arith;
-          gives = subst (λ k. Gives v m.rows k) (sym q) m.gives;
+          gives = subst (λ k. Gives own v m.rows k) (sym q) m.gives;
           mine = mine;
           left = left;
-          held = λ i. ap (λ k. holds_row ((state k).core.row i) 1) q ∙ (m.held i ∙ ⊎_elim
+          held = λ i. ap (λ k. holds_row ((state k).core.row i) own) q ∙ (m.held i ∙ ⊎_elim
               (λ (s : i ≡ r). ap (is_marked marks) (s ∙ sym p_is) ∙ (off ∙ sym (ap (is_marked more) s ∙ here)))
               (λ (ne : i ≡ r → ⊥). sym (else_where i ne))
               (cases_eq i r));
         }
 
-pub all_gave : (frames : ℕ) (h : Held) (at : ℕ) (marks : List Bool) (v w : View) → at ≡ length h.rows → Giving frames h at marks v w → Gave (length h.rows) v w
-all_gave frames h at marks v w end m = record {
+pub all_gave : (own frames : ℕ) (h : Held) (at : ℕ) (marks : List Bool) (v w : View) → at ≡ length h.rows → Giving own frames h at marks v w → Gave own (length h.rows) v w
+all_gave own frames h at marks v w end m = record {
   rows = m.rows;
   few = let k = m.few in omega arith;
   gives = m.gives;

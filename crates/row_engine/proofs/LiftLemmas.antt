@@ -44,7 +44,7 @@ module _ (rooms : EveryRoom) (z : Shape) (v w : View) (x y : Session) (log log_n
   s = (state v).core
 
   abbrev Lifts : Outcome → Type 0
-  Lifts o = Raised z.alone 1 page v rs o w (session_clock y) now
+  Lifts o = Raised z.alone x.own page v rs o w (session_clock y) now
 
   abbrev Draws : Outcome → Type 0
   Draws o = Drew o (λ r. Staging r x y rs now log log_now old new S f0 f1) same
@@ -82,7 +82,7 @@ module _ (rooms : EveryRoom) (z : Shape) (v w : View) (x y : Session) (log log_n
   lift_expected (outcome.Latched l) r d q = q
   lift_expected outcome.ClockSpent r d q = spent (then_so (lifts.IsSpent page w.given) r.0 r.1)
 
-  module _ (l : Lifted z.alone 1 page v rs w (session_clock y) now) where
+  module _ (l : Lifted z.alone x.own page v rs w (session_clock y) now) where
     here : l.page ≡ page
     here = stands z v x log h l.page page (ap (λ m. m.core.place l.page) (sym (now_is z.alone v w l.change.past h.alone l.change.ran.given l.change.onward)) ∙ l.hot)
 
@@ -90,19 +90,19 @@ module _ (rooms : EveryRoom) (z : Shape) (v w : View) (x y : Session) (log log_n
     least_is = first_rest x.free page can.least ∙ ap (λ k. k ∷ without_first x.free) (sym here)
 
     module _ (held : w.held ≡ []) (st : Staging (Ok tt) x y rs now log log_now old new S f0 f1) (last : log_now.last ≡ y.clock) where
-      lift_met : may g s (happening.Event.Lift 1 l.page) ≡ true
-      lift_met = met z v w x log h key f Kind.Lift (Lift 1 l.page) (0 ∷ l.page ∷ []) (lift_record (nodes_of s) (gsns_of s) l.page) (lift_entry 1 l.page) rs now y log_now l.change refl refl
+      lift_met : may g s (happening.Event.Lift x.own l.page) ≡ true
+      lift_met = met z v w x log h key f Kind.Lift refl (Lift x.own l.page) (0 ∷ l.page ∷ []) (lift_record (nodes_of s) (gsns_of s) l.page) (lift_entry x.own l.page) rs now y log_now l.change refl refl
 
-      left_is : free_list g (happens g s (happening.Event.Lift 1 l.page)) ≡ without_first x.free
-      left_is = (rooms g s key).lift (sound z v x log h).tree 1 l.page (without_first x.free) lift_met (sym h.free ∙ least_is)
+      left_is : free_list g (happens g s (happening.Event.Lift x.own l.page)) ≡ without_first x.free
+      left_is = (rooms g s key).lift (sound z v x log h).tree x.own l.page (without_first x.free) lift_met (sym h.free ∙ least_is)
 
       pub lift_holds_on : Holds z w (record y { free = without_first y.free }) log_now
-      lift_holds_on = holds_grown z v w x log h key f Kind.Lift (Lift 1 l.page) (0 ∷ l.page ∷ []) (lift_record (nodes_of s) (gsns_of s) l.page) (lift_entry 1 l.page) rs now y log_now l.change refl refl
+      lift_holds_on = holds_grown z v w x log h key f Kind.Lift refl (Lift x.own l.page) (0 ∷ l.page ∷ []) (lift_record (nodes_of s) (gsns_of s) l.page) (lift_entry x.own l.page) rs now y log_now l.change refl refl
           old new S f0 f1 held st last l.page (without_first x.free) least_is left_is
 
       pub lift_grown : IsGrown key v w x (record y { free = without_first y.free }) log log_now old new
-      lift_grown = grown z v w x log h key f Kind.Lift (Lift 1 l.page) (0 ∷ l.page ∷ []) (lift_record (nodes_of s) (gsns_of s) l.page) (lift_entry 1 l.page) rs now y log_now l.change refl refl
-          old new S f0 f1 held st last l.page (without_first x.free) least_is left_is refl (subst (λ k. IsNextRoom g s key (happening.Event.Lift 1 k)) (sym here) can.next) can.fits
+      lift_grown = grown z v w x log h key f Kind.Lift refl (Lift x.own l.page) (0 ∷ l.page ∷ []) (lift_record (nodes_of s) (gsns_of s) l.page) (lift_entry x.own l.page) rs now y log_now l.change refl refl
+          old new S f0 f1 held st last l.page (without_first x.free) least_is left_is refl (subst (λ k. IsNextRoom g s key (happening.Event.Lift x.own k)) (sym here) can.next) can.fits
 
   module _ (low : EveryLow) (are : AreLow (length w.seen) w.steps) (held : w.held ≡ []) where
     pub lift_grew : (same_now broken : Type 0) (o : Outcome) → IsExpected o → Lifts o → Draws o → Caused v o w → log_now.last ≡ last_after o log.last y.clock

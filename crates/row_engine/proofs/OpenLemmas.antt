@@ -1,26 +1,29 @@
 -- An engine as it begins.
-use Rattle.std.proofs.Common.{◌≡◌, ◌↔◌, ◌++◌, true, [], length, inr, sym, ap, ◌∙◌, subst, arith, append-nil, true≢false}
+use Rattle.std.proofs.Common.{◌≡◌, ◌↔◌, ◌≤◌, ◌++◌, true, [], length, refl, sym, ap, ◌∙◌, subst, arith, append-nil, true≢false}
 use Rattle.map_model.specs.Lists.{Has}
 use Rattle.core_state.specs.Openings.{Opening}
-use Rattle.core_state.specs.States.{State, nodes_of, start}
+use Rattle.rfa_model.proofs.ReachLemmas.{least_from}
+use Rattle.core_state.specs.States.{State, flushed_by_all, nodes_of, start}
 use Rattle.core_calls.specs.Room.{free_list, frees_from}
+use Rattle.core_calls.specs.LogEvents.{behind}
 use Rattle.core_state.specs.Needs.{holds_row}
 use Rattle.row_words.specs.Moments.{events_of}
 use Rattle.row_words.specs.Openings.{opening}
 use Rattle.rows_trait.specs.declared.view.View.{View}
 use Rattle.rows_trait.specs.Views.{Shape, state}
 use Rattle.worker_log.specs.Logs.{Log}
-use Rattle.row_engine.specs.Holds.{AreNumbers, AreStamps, Holds, IsOf}
+use Rattle.row_engine.specs.Holds.{AreNumbers, Holds, IsOf}
+use Rattle.row_engine.specs.Numbers.{AreNumbered}
 use Rattle.row_engine.specs.Opened.{EveryOpened, IsOpened}
 use Rattle.row_engine.specs.Ties.{Ties}
 use Rattle.row_engine.specs.declared.session.Session.{Session}
+use Rattle.row_engine.proofs.NumberLemmas.{numbered_same, numbered_start}
 
 module _ (g : Opening) (z : Shape) (v : View) (x : Session) (log : Log) (o : IsOpened g z v x log) where
-  pub ties : Ties g [] x.half v
+  pub ties : Ties g x.group [] x.own x.half v
   ties = record {
     opens = o.opens;
     told = tt;
-    line = tt;
     half_is = sym o.session.half;
     loads = events_of v.given.before;
     are_loads = o.loads;
@@ -33,44 +36,43 @@ module _ (g : Opening) (z : Shape) (v : View) (x : Session) (log : Log) (o : IsO
   at : (P : State → Type 0) → P (record (start g) { place = (state v).core.place }) → P (state v).core
   at P p = subst P (sym o.rest) p
 
-  of_start : IsOf x ((start g).worker 1)
+  of_start : IsOf x ((start g).worker x.own)
   of_start = record { is_open = sym o.session.is_open; txn = sym o.session.txn; clock = sym o.session.clock; floor = sym o.session.floor; debt = sym o.session.debt; end = sym o.session.end; undo = sym o.session.undo }
 
   numbers : AreNumbers x log
   numbers = record {
-    last = o.last ∙ sym o.session.clock;
+    last = let a = o.last in let b = o.session.clock in omega arith;
     order = let a = o.last in let b = o.flushed in omega arith;
-    floor = let a = o.session.floor in let b = o.flushed in omega arith;
-    debt = o.session.debt;
     end = let a = o.session.end in let b = o.session.clock in omega arith;
-    open_low = λ q. absurd (true≢false (sym q ∙ o.session.is_open));
-    small = let a = o.session.clock in let b = o.small in omega arith;
     room = λ q. absurd (true≢false (sym q ∙ o.session.is_open));
     closed_txn = λ q. let a = o.session.txn in omega arith;
     txn = let a = o.session.txn in omega arith;
     undo_room = λ some. let a = ap length o.session.undo in absurd (omega arith);
     few = let a = ap length o.session.undo in omega arith;
+    behind = let a = o.session.behind in let b = o.session.group in omega arith;
   }
 
-  stamps : AreStamps (state v).core x.clock x.floor
-  stamps = at (λ s. AreStamps s x.clock x.floor) (record {
-    page = λ p. let a = g.low p in let b = o.session.clock in omega arith;
-    log = λ p. inr (let a = g.low p in let b = o.session.floor in omega arith);
-    row = λ i. omega arith;
-    read_end = λ i. omega arith;
-  })
+  numbered : AreNumbered x.workers (state v).core
+  numbered = at (λ s. AreNumbered x.workers s) (subst (λ n. AreNumbered n (record (start g) { place = (state v).core.place })) (o.opens.workers ∙ o.rows.workers)
+      (numbered_same g.workers (start g) (record (start g) { place = (state v).core.place }) refl refl refl (numbered_start g o.small)))
+
+  floor : x.floor ≤ flushed_by_all (opening v.given) (state v).core
+  floor = at (λ s. x.floor ≤ flushed_by_all (opening v.given) s)
+      (least_from (start g).flushed (opening v.given).workers x.floor (opening v.given).some_worker (λ u some high. let a = o.session.floor in omega arith))
 
   pub holding : Holds z v x log
   holding = record {
     alone = o.alone;
     idle = o.idle;
     rows = o.rows;
-    session = at (λ s. IsOf x (s.worker 1)) of_start;
+    session = at (λ s. IsOf x (s.worker x.own)) of_start;
     numbers = numbers;
-    flushed = at (λ s. s.flushed 1 ≡ log.flushed) (sym o.flushed);
-    stamps = stamps;
+    numbered = numbered;
+    flushed = at (λ s. s.flushed x.own ≡ log.flushed) (sym o.flushed);
+    floor = floor;
+    behind = at (λ s. behind s x.own ≡ x.behind) (sym o.session.behind);
     resident = o.resident;
-    held = λ i. at (λ s. holds_row (s.row i) 1 ≡ true ↔ Has i x.held.rows) ((λ q. absurd (true≢false (sym q)), λ h. absurd (subst (Has i) o.session.rows h)));
+    held = λ i. at (λ s. holds_row (s.row i) x.own ≡ true ↔ Has i x.held.rows) ((λ q. absurd (true≢false (sym q)), λ h. absurd (subst (Has i) o.session.rows h)));
     within = λ i h. absurd (subst (Has i) o.session.rows h);
     fewer = let e = ap length o.session.rows in omega arith;
     none = λ _. o.session.rows;

@@ -19,7 +19,7 @@ use Rattle.row_words.specs.Moments.{events_of, first_state, format_of}
 use Rattle.row_words.specs.Openings.{opening}
 use Rattle.rows_trait.specs.declared.view.View.{View}
 use Rattle.rows_trait.specs.Views.{first_plain, state}
-use Rattle.row_opening.specs.Openings.{EveryNeed, EveryOpened, Opens}
+use Rattle.row_opening.specs.Openings.{EveryNeed, EveryOpened, EveryReached, Opens}
 use Rattle.btree_descent.specs.Known as descent
 use Rattle.key_locks.specs.Rows as locking
 use Rattle.key_locks.specs.Rows.{IsWorker}
@@ -32,6 +32,7 @@ use Rattle.engine_trait.specs.Limits.{AreLoads}
 use Rattle.row_engine.specs.Holds.{AreRows}
 use Rattle.row_engine.specs.Opened.{IsFirst, IsOpened, IsOpenedOn, plain_shape}
 use Rattle.row_engine.specs.declared.session.Session.{Session}
+use Rattle.row_engine.proofs.EntryNumbers.{entries_clocked}
 use Rattle.row_engine.proofs.Moments.{events_more}
 
 -- ## Loads
@@ -180,7 +181,7 @@ locks_sound every sound g v o = sound v (λ es i. let l = (every g (unbegun v) (
 
 -- ## On pages
 
-module _ (every : EveryOpened) (need : EveryNeed) (sound : EverySound) (pages : List Page) (count base : ℕ) (are : ArePages pages base) (few : length pages ≤ 65536) (some_lock : 1 ≤ count) (few_locks : count ≤ 65536) (small : base < 2 ^ 64) where
+module _ (every : EveryOpened) (need : EveryNeed) (reached : EveryReached) (sound : EverySound) (pages : List Page) (count base : ℕ) (are : ArePages pages base) (few : length pages ≤ 65536) (some_lock : 1 ≤ count) (few_locks : count ≤ 65536) (small : base < 2 ^ 64) where
   abbrev v : Given
   v = given_of (length pages) count 1 base pages
 
@@ -215,18 +216,22 @@ module _ (every : EveryOpened) (need : EveryNeed) (sound : EverySound) (pages : 
     resident : IsResident (plain_shape (length pages) count 1) (first_plain v)
     resident = record { room = let a = long in omega arith; hot = λ p lt. o.hot p (let a = long in omega arith) }
 
-    rows : AreRows (plain_shape (length pages) count 1) (first_plain v) (length pages) count
+    rows : AreRows (plain_shape (length pages) count 1) (first_plain v) 1 1 (length pages) count
     rows = record {
       tree = record { some = are.tree.some; shape = refl; given = let a = are.tree.some in omega arith };
       tree_sound = tree_sound;
       locks = record { spans = record { shape = refl; rows = refl; some = some_lock; small = omega arith }; given = let a = are.tree.some in omega arith; locks = refl; few = omega arith; works = record { one = omega arith; among = omega arith } };
       locks_sound = locks_sound every sound g v o.opens;
-      one = refl;
+      clocked = entries_clocked reached g v o.opens;
       workers = refl;
+      sized = refl;
+      low = omega arith;
+      high = omega arith;
+      most = omega arith;
       few = omega arith;
     }
 
-    module _ (x : Session) (first : IsFirst base x) (frames : x.frames ≡ length pages) (held : x.held.count ≡ count) (free : x.free ≡ frees_from (nodes_in pages) (length pages) 0) where
+    module _ (x : Session) (own : x.own ≡ 1) (workers : x.workers ≡ 1) (first : IsFirst base x) (frames : x.frames ≡ length pages) (held : x.held.count ≡ count) (free : x.free ≡ frees_from (nodes_in pages) (length pages) 0) where
       is : (log : Log) → log.last ≡ base → log.flushed ≡ base → IsOpened g (plain_shape (length pages) count 1) (first_plain v) x log
       is log last flushed = record {
         opens = o.opens;
@@ -238,7 +243,8 @@ module _ (every : EveryOpened) (need : EveryNeed) (sound : EverySound) (pages : 
         seen = refl;
         alone = refl;
         idle = refl;
-        rows = subst (λ n. AreRows (plain_shape (length pages) count 1) (first_plain v) n x.held.count) (sym frames) (subst (λ n. AreRows (plain_shape (length pages) count 1) (first_plain v) (length pages) n) (sym held) rows);
+        rows = subst (λ n. AreRows (plain_shape (length pages) count 1) (first_plain v) x.own x.workers n x.held.count) (sym frames) (subst (λ n. AreRows (plain_shape (length pages) count 1) (first_plain v) x.own x.workers (length pages) n) (sym held)
+            (subst (λ n. AreRows (plain_shape (length pages) count 1) (first_plain v) n x.workers (length pages) count) (sym own) (subst (λ n. AreRows (plain_shape (length pages) count 1) (first_plain v) 1 n (length pages) count) (sym workers) rows)));
         small = let e = base_is in omega arith;
         session = subst (λ n. IsFirst n x) (sym base_is) first;
         free = free ∙ (frees_same (nodes_in pages) (nodes_of (start g)) (λ p. ap (λ c. c.node) (sym (page_is p))) (length pages) 0 ∙ (λ i. frees_from (nodes_of (start g)) (sym format_is i).pages 0));
@@ -250,7 +256,7 @@ module _ (every : EveryOpened) (need : EveryNeed) (sound : EverySound) (pages : 
       on_pages : IsOpenedOn pages count base (plain_shape (length pages) count 1) (first_plain v) x
       on_pages = record {
         opening = g;
-        workers = o.opens.workers;
+        workers = o.opens.workers ∙ sym workers;
         locks = o.opens.locks;
         format = format_is;
         base_is = base_is;

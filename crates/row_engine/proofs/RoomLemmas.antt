@@ -287,7 +287,7 @@ may_on v w x log key st f = record {
   few = f.few;
   small = f.small;
   room = f.room;
-  row = ap (λ m. is_held_by (m.core.row (key % x.held.count)).holder 1) st ∙ f.row;
+  row = ap (λ m. is_held_by (m.core.row (key % x.held.count)).holder x.own) st ∙ f.row;
   key_low = f.key_low;
 }
 
@@ -305,7 +305,7 @@ module _ (key : ℕ) (v u w : View) (x y : Session) (was is : Log) (old new : St
     next = subst (λ k. IsNextRoom (opening k) (state v).core key (event_of t.event)) given (subst (λ m. IsNextRoom (opening u.given) m.core key (event_of t.event)) st t.next);
     fits = (λ i. room_refusal (opening (sym given i)) (sym st i).core key) ∙ t.fits;
     entry = t.entry;
-    entry_is = (λ i. (happens (opening (sym given i)) (sym st i).core (event_of t.event)).entries) ∙ (t.entry_is ∙ ap (λ m. entry_of 1 t.entry ∷ m.core.entries) st);
+    entry_is = (λ i. (happens (opening (sym given i)) (sym st i).core (event_of t.event)).entries) ∙ (t.entry_is ∙ ap (λ m. entry_of x.own t.entry ∷ m.core.entries) st);
     after = t.after;
     stands = t.stands;
     keeps = t.keeps;

@@ -48,7 +48,7 @@ module _ (rooms : EveryRoom) (z : Shape) (v w : View) (x y : Session) (log log_n
   s = (state v).core
 
   abbrev Splits : Outcome → Type 0
-  Splits o = Parted z.alone 1 left page parent v rs o w (session_clock y) now
+  Splits o = Parted z.alone x.own left page parent v rs o w (session_clock y) now
 
   abbrev Draws : Outcome → Type 0
   Draws o = Drew o (λ r. Staging r x y rs now log log_now old new S f0 f1) same
@@ -108,7 +108,7 @@ module _ (rooms : EveryRoom) (z : Shape) (v w : View) (x y : Session) (log log_n
   split_expected (outcome.Latched l) r d q = q
   split_expected outcome.ClockSpent r d q = spent (then_so (splits.IsSpent left page parent w.given) r.0 r.1)
 
-  module _ (l : Divided z.alone 1 left page parent v rs w (session_clock y) now) where
+  module _ (l : Divided z.alone x.own left page parent v rs w (session_clock y) now) where
     here : (p frame : ℕ) → (after_all w.given l.change.past).core.place p ≡ Place.Hot frame → p ≡ frame
     here p frame hot = stands z v x log h p frame (ap (λ m. m.core.place p) (sym (now_is z.alone v w l.change.past h.alone l.change.ran.given l.change.onward)) ∙ hot)
 
@@ -118,23 +118,23 @@ module _ (rooms : EveryRoom) (z : Shape) (v w : View) (x y : Session) (log log_n
     least_is : x.free ≡ l.right ∷ without_first x.free
     least_is = first_rest x.free page can.least ∙ ap (λ k. k ∷ without_first x.free) (sym right_is)
 
-    next_is : IsNextRoom g s key (happening.Event.Split 1 l.left l.right l.parent 30)
-    next_is = subst (λ k. IsNextRoom g s key (happening.Event.Split 1 k l.right l.parent 30)) (sym (here l.left left l.left_hot))
-        (subst (λ k. IsNextRoom g s key (happening.Event.Split 1 left k l.parent 30)) (sym right_is) (subst (λ k. IsNextRoom g s key (happening.Event.Split 1 left page k 30)) (sym (here l.parent parent l.parent_hot)) can.next))
+    next_is : IsNextRoom g s key (happening.Event.Split x.own l.left l.right l.parent 30)
+    next_is = subst (λ k. IsNextRoom g s key (happening.Event.Split x.own k l.right l.parent 30)) (sym (here l.left left l.left_hot))
+        (subst (λ k. IsNextRoom g s key (happening.Event.Split x.own left k l.parent 30)) (sym right_is) (subst (λ k. IsNextRoom g s key (happening.Event.Split x.own left page k 30)) (sym (here l.parent parent l.parent_hot)) can.next))
 
     module _ (held : w.held ≡ []) (st : Staging (Ok tt) x y rs now log log_now old new S f0 f1) (last : log_now.last ≡ y.clock) where
-      split_met : may g s (happening.Event.Split 1 l.left l.right l.parent 30) ≡ true
-      split_met = met z v w x log h key f Kind.Split (Split 1 l.left l.right l.parent 30) (l.left ∷ l.right ∷ l.parent ∷ []) (split_record (nodes_of s) (gsns_of s) l.left l.right l.parent 30) (split_entry 1 l.left l.right l.parent) rs now y log_now l.change refl refl
+      split_met : may g s (happening.Event.Split x.own l.left l.right l.parent 30) ≡ true
+      split_met = met z v w x log h key f Kind.Split refl (Split x.own l.left l.right l.parent 30) (l.left ∷ l.right ∷ l.parent ∷ []) (split_record (nodes_of s) (gsns_of s) l.left l.right l.parent 30) (split_entry x.own l.left l.right l.parent) rs now y log_now l.change refl refl
 
-      left_is : free_list g (happens g s (happening.Event.Split 1 l.left l.right l.parent 30)) ≡ without_first x.free
-      left_is = (rooms g s key).split (sound z v x log h).tree 1 l.left l.right l.parent 30 (without_first x.free) split_met (sym h.free ∙ least_is)
+      left_is : free_list g (happens g s (happening.Event.Split x.own l.left l.right l.parent 30)) ≡ without_first x.free
+      left_is = (rooms g s key).split (sound z v x log h).tree x.own l.left l.right l.parent 30 (without_first x.free) split_met (sym h.free ∙ least_is)
 
       pub split_holds_on : Holds z w (record y { free = without_first y.free }) log_now
-      split_holds_on = holds_grown z v w x log h key f Kind.Split (Split 1 l.left l.right l.parent 30) (l.left ∷ l.right ∷ l.parent ∷ []) (split_record (nodes_of s) (gsns_of s) l.left l.right l.parent 30) (split_entry 1 l.left l.right l.parent) rs now y log_now l.change refl refl
+      split_holds_on = holds_grown z v w x log h key f Kind.Split refl (Split x.own l.left l.right l.parent 30) (l.left ∷ l.right ∷ l.parent ∷ []) (split_record (nodes_of s) (gsns_of s) l.left l.right l.parent 30) (split_entry x.own l.left l.right l.parent) rs now y log_now l.change refl refl
           old new S f0 f1 held st last l.right (without_first x.free) least_is left_is
 
       pub split_grown : IsGrown key v w x (record y { free = without_first y.free }) log log_now old new
-      split_grown = grown z v w x log h key f Kind.Split (Split 1 l.left l.right l.parent 30) (l.left ∷ l.right ∷ l.parent ∷ []) (split_record (nodes_of s) (gsns_of s) l.left l.right l.parent 30) (split_entry 1 l.left l.right l.parent) rs now y log_now l.change refl refl
+      split_grown = grown z v w x log h key f Kind.Split refl (Split x.own l.left l.right l.parent 30) (l.left ∷ l.right ∷ l.parent ∷ []) (split_record (nodes_of s) (gsns_of s) l.left l.right l.parent 30) (split_entry x.own l.left l.right l.parent) rs now y log_now l.change refl refl
           old new S f0 f1 held st last l.right (without_first x.free) least_is left_is refl next_is can.fits
 
   module _ (low : EveryLow) (are : AreLow (length w.seen) w.steps) (held : w.held ≡ []) where

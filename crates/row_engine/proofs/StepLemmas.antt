@@ -1,5 +1,5 @@
 -- One step of a put: a try, and a change of the tree where the leaf has no room.
-use Rattle.std.proofs.Common.{◌≡◌, ◌<◌, ◌^◌, ◌%◌, ◌++◌, ℕ, Bool, true, false, cond, leb, List, [], ◌∷◌, length, Option, Some, None, Result, Ok, Err, refl, sym, ap, ◌∙◌, subst, arith, append-nil}
+use Rattle.std.proofs.Common.{◌≡◌, ◌≤◌, ◌<◌, ◌^◌, ◌%◌, ◌++◌, ℕ, suc, Bool, true, false, cond, leb, List, [], ◌∷◌, length, Option, Some, None, Result, Ok, Err, refl, sym, ap, ◌∙◌, subst, arith, append-nil, true≢false}
 use Rattle.std.proofs.lemmas.Bool.{leb-false, leb-true}
 use Rattle.map_model.specs.declared.call.Refusal.{Refusal}
 use Rattle.map_model.specs.declared.call.Refusal.TheVariants as refusal
@@ -7,6 +7,7 @@ use Rattle.core_state.specs.Needs.{is_held_by, may}
 use Rattle.page_model.specs.Nodes.{holds}
 use Rattle.page_model.specs.Pairs.{find}
 use Rattle.lean_disk.proofs.MomentLemmas.{framed}
+use Rattle.lean_disk.specs.Moments.{Framed}
 use Rattle.engine_calls.specs.Parts.{EveryPart}
 use Rattle.row_opening.specs.Openings.{EveryNeed, EveryReached}
 use Rattle.row_words.specs.Moments.{events_of}
@@ -23,6 +24,7 @@ use Rattle.rows_trait.specs.declared.view.View.{View}
 use Rattle.worker_log.specs.Logs.{Log, limit, used}
 use Rattle.engine_trait.specs.Refusals.{log_refusal, room_refusal}
 use Rattle.engine_trait.specs.Rooms.{IsNextRoom}
+use Rattle.row_engine.specs.Calls.{IsSameSession}
 use Rattle.row_engine.specs.Outcomes.{Crowded, HasFailed, HasNoRoom, HasPut, HasRoom, IsCrowded, IsStopped, Puts, Steps, Stopped, Tries}
 use Rattle.lean_disk.specs.Faults.{HasCause}
 use Rattle.row_engine.specs.Puts.{IsChanged, KeepsLog, MayChange, works_after}
@@ -32,8 +34,8 @@ use Rattle.row_engine.specs.declared.puts.Stepped.TheVariants as stepped
 use Rattle.row_engine.specs.declared.puts.Tried.{Tried}
 use Rattle.row_engine.specs.declared.puts.Tried.TheVariants as tried
 use Rattle.row_engine.specs.declared.session.Session.{Session}
-use Rattle.row_engine.proofs.CommitLemmas.{framed_then}
 use Rattle.row_engine.proofs.GrowRuns.{first_fits, goes_more, goes_none, goes_put, grows_more, grows_none, grows_still, growth, went_failed}
+use Rattle.row_engine.proofs.Frames.{framed_then}
 use Rattle.row_engine.proofs.PutLemmas.{seen_core}
 
 -- ## What a test of the log and the clock says
@@ -107,7 +109,7 @@ module _ (v u : View) (given : u.given ≡ v.given) (seen : u.seen ≡ v.seen) w
     next = carried (λ k es. IsNextRoom (opening k) (after_all k es).core key (event_of c.event)) c.next;
     fits = carried (λ k es. room_refusal (opening k) (after_all k es).core key ≡ None) c.fits;
     entry = c.entry;
-    entry_is = carried (λ k es. (happens (opening k) (after_all k es).core (event_of c.event)).entries ≡ entry_of 1 c.entry ∷ (after_all k es).core.entries) c.entry_is;
+    entry_is = carried (λ k es. (happens (opening k) (after_all k es).core (event_of c.event)).entries ≡ entry_of x.own c.entry ∷ (after_all k es).core.entries) c.entry_is;
     after = c.after;
     stands = c.stands;
     keeps = c.keeps;
@@ -150,9 +152,9 @@ may_after key v w x y was is old new f c e = let r = ready y.clock is e in recor
   few = let a = ap (λ (s : Session). length s.undo) c.session in let b = f.few in omega arith;
   small = r.small;
   room = r.room;
-  row = ap (λ (k : State). is_held_by (k.row (key % y.held.count)).holder 1) (seen_core v w c.event c.given c.seen c.met)
-      ∙ (ap (λ o. is_held_by o.holder 1) ((growth (opening v.given) (state v).core c.event c.growth).row (key % y.held.count))
-      ∙ (ap (λ (s : Session). is_held_by ((state v).core.row (key % s.held.count)).holder 1) c.session ∙ f.row));
+  row = ap (λ (k : State). is_held_by (k.row (key % y.held.count)).holder y.own) (seen_core v w c.event c.given c.seen c.met)
+      ∙ (ap (λ o. is_held_by o.holder y.own) ((growth x.own (opening v.given) (state v).core c.event c.growth).row (key % y.held.count))
+      ∙ (ap (λ (s : Session). is_held_by ((state v).core.row (key % s.held.count)).holder s.own) c.session ∙ f.row));
   key_low = f.key_low;
 }
 
@@ -170,6 +172,20 @@ step_refused key value leaf v u w x y was is old new same broken given seen f q 
 step_refused key value leaf v u w x y was is old new same broken given seen f q refusal.RowSpent g = (spent_from v u given seen w g.0, g.1)
 step_refused key value leaf v u w x y was is old new same broken given seen f q refusal.DiskFault g = g.0
 step_refused key value leaf v u w x y was is old new same broken given seen f q _ g = absurd g
+
+-- and it is the same session
+pub refused_session : (key : ℕ) (v w : View) (x x0 y : Session) (was is : Log) (old new : Story) (same : Type 0) → (same → y ≡ x0) → (why : Refusal) → Grew (Err why) key v w x y was is old new same (y.works ≡ false) → y.works ≡ true → IsSameSession x0 y
+refused_session key v w x x0 y was is old new same so why g works = go why g
+  where
+    is_so : y ≡ x0 → IsSameSession x0 y
+    is_so e = (ap (λ (k : Session). k.own) e, ap (λ (k : Session). k.workers) e, ap (λ (k : Session). k.group) e)
+
+    go : (why : Refusal) → Grew (Err why) key v w x y was is old new same (y.works ≡ false) → IsSameSession x0 y
+    go refusal.TooTall g = is_so (so g.1)
+    go refusal.NoPages g = is_so (so g.1)
+    go refusal.RowSpent g = is_so (so g.1)
+    go refusal.DiskFault g = absurd (true≢false (sym works ∙ g.1))
+    go _ g = absurd g
 
 -- where the tree was changed, by the tests behind it
 pub step_stopped : (key value : ℕ) (v w : View) (x y : Session) (was is : Log) (old new : Story) (same : Type 0) → IsGrown key v w x y was is old new → (why : Refusal) → log_refusal y.clock is None ≡ Some why → Steps (Err why) v w key value x y was is old new same
@@ -204,18 +220,22 @@ step_of (Err why) = Err why
 pub room_same : {A : Type 0} (story : A → Story) (log : A → Log) (session : A → Session) (a d : A) → d ≡ a → (key : ℕ) (v w : View) (x : Session) (was : Log) (old : Story) → HasRoom key v w x (session a) was (log a) old (story a) → HasRoom key v w x (session d) was (log d) old (story d)
 room_same story log session a d e key v w x was old r = subst (λ k. HasRoom key v w x (session k) was (log k) old (story k)) (sym e) r
 
-module _ (reached : EveryReached) (need : EveryNeed) (parts : (old mid new : Story) → EveryPart old mid new) (key value : ℕ) (v : View) (one : (opening v.given).workers ≡ 1) (x : Session) (was : Log) (old : Story) where
+module _ (reached : EveryReached) (need : EveryNeed) (parts : (old mid new : Story) → EveryPart old mid new) (key value : ℕ) (v : View) (x : Session) (low : 0 < x.own) (high : x.own ≤ (opening v.given).workers) (was : Log) (old : Story) where
   -- so it begins
   pub room_none : HasRoom key v v x x was was old old
-  room_none = record { grows = grows_none reached need parts key v v x was refl refl; goes = goes_none reached need parts v was old; frame = framed 2 old }
+  room_none = record { grows = grows_none reached need parts key v v x was refl refl; goes = goes_none reached need parts x.own x.group v was old; frame = framed (suc x.own) old }
 
   module _ (u : View) (z : Session) (mid : Log) (s : Story) (r : HasRoom key v u x z was mid old s) where
+    -- it is the same session
+    same_own : z.own ≡ x.own
+    same_own = ap (λ (q : Session). q.own) r.grows.session
+
     -- and goes on
     pub room_more : (w : View) (y : Session) (is : Log) (new : Story) → IsGrown key u w z y mid is s new → HasRoom key v w x y was is old new
     room_more w y is new c = record {
-      grows = grows_more reached need parts key v u w x z y was mid is s new one r.grows c;
-      goes = goes_more reached need parts key v u w x z y was mid is old s new one r.grows r.goes c;
-      frame = framed_then 2 old s new r.frame c.keeps.frame;
+      grows = grows_more reached need parts key v u w x z y was mid is s new low high r.grows c;
+      goes = goes_more reached need parts key v u w x z y was mid is old s new low high r.grows r.goes c;
+      frame = framed_then (suc x.own) old s new r.frame (subst (λ n. Framed (suc n) s new) same_own c.keeps.frame);
     }
 
     -- where nothing more was seen
@@ -226,7 +246,7 @@ module _ (reached : EveryReached) (need : EveryNeed) (parts : (old mid new : Sto
     room_fits w y is new c = first_fits key v u x z was mid r.grows c.fits
 
     -- it ends with the change
-    room_put : (w : View) (before : Option ℕ) (is : Log) (new : Story) → IsChanged u w key value before mid is s new → HasPut key value before v w x was is old new
+    room_put : (w : View) (before : Option ℕ) (is : Log) (new : Story) → IsChanged x.own u w key value before mid is s new → HasPut key value before v w x was is old new
     room_put w before is new c = record {
       view = u;
       session = z;
@@ -240,42 +260,45 @@ module _ (reached : EveryReached) (need : EveryNeed) (parts : (old mid new : Sto
       entry = c.entry;
       entry_is = c.entry_is;
       after = c.after;
-      goes = goes_put reached need parts key value v u w x z was mid is old s new before one r.grows r.goes c;
-      frame = framed_then 2 old s new r.frame c.keeps.frame;
+      goes = goes_put reached need parts key value v u w x z was mid is old s new before low high r.grows r.goes c;
+      frame = framed_then (suc x.own) old s new r.frame c.keeps.frame;
     }
 
-    room_failed : (new : Story) → KeepsLog mid s new → HasFailed key v x was old new
+    room_failed : (new : Story) → KeepsLog x.own mid s new → HasFailed key v x was old new
     room_failed new q = record {
       view = u;
       session = z;
       log = mid;
       grows = r.grows;
-      frame = framed_then 2 old s new r.frame q.frame;
-      leaves = λ g xs start b s0 k bt at0. went_failed parts g (let a = b.opens.workers in omega arith) xs s0 k old bt (start ++ events_of r.grows.events) mid s new (r.goes g xs start b s0 k bt at0) q;
+      frame = framed_then (suc x.own) old s new r.frame q.frame;
+      leaves = λ g xs start b s0 k bt at0. went_failed parts x.own x.group g low (let a = b.opens.workers in omega arith) xs s0 k old bt (start ++ events_of r.grows.events) mid s new (r.goes g xs start b s0 k bt at0) q;
     }
 
 -- by its answer, where a is the store before the last step and d the one behind it
-module _ (reached : EveryReached) (need : EveryNeed) (parts : (old mid new : Story) → EveryPart old mid new) {A : Type 0} (story : A → Story) (log : A → Log) (session : A → Session) (key value : ℕ) (v u w : View) (one : (opening v.given).workers ≡ 1) (x : Session) (was : Log) (old : Story)
+module _ (reached : EveryReached) (need : EveryNeed) (parts : (old mid new : Story) → EveryPart old mid new) {A : Type 0} (story : A → Story) (log : A → Log) (session : A → Session) (key value : ℕ) (v u w : View) (x : Session) (low : 0 < x.own) (high : x.own ≤ (opening v.given).workers) (was : Log) (old : Story)
     (a d : A) (r : HasRoom key v u x (session a) was (log a) old (story a)) where
   same_room : d ≡ a → w.given ≡ u.given → w.seen ≡ u.seen → HasRoom key v w x (session d) was (log d) old (story d)
-  same_room e given seen = room_same story log session a d e key v w x was old (room_still reached need parts key value v one x was old u (session a) (log a) (story a) r w given seen)
+  same_room e given seen = room_same story log session a d e key v w x was old (room_still reached need parts key value v x low high was old u (session a) (log a) (story a) r w given seen)
 
   crowded : (why : Refusal) → Crowded key why u w (session a).clock (log a) → d ≡ a → IsCrowded key why v w x (session d) was (log d) old (story d)
   crowded why c e = record { room = same_room e c.given c.seen; leaf = c.leaf; unfit = c.unfit; ready = (λ i. log_refusal (session (e i)).clock (log (e i)) None) ∙ c.ready; cause = c.cause }
 
   stopped : (why : Refusal) → Stopped key why u w (session a) (session d) (log a) (log d) (story a) (story d) → IsStopped key why v w x (session d) was (log d) old (story d)
   stopped why c = record {
-    room = room_more reached need parts key value v one x was old u (session a) (log a) (story a) r w (session d) (log d) (story d) c.grown;
-    some = room_fits reached need parts key value v one x was old u (session a) (log a) (story a) r w (session d) (log d) (story d) c.grown;
+    room = room_more reached need parts key value v x low high was old u (session a) (log a) (story a) r w (session d) (log d) (story d) c.grown;
+    some = room_fits reached need parts key value v x low high was old u (session a) (log a) (story a) r w (session d) (log d) (story d) c.grown;
     cause = c.cause;
   }
 
+  own_is : (session a).own ≡ x.own
+  own_is = ap (λ (q : Session). q.own) r.grows.session
+
   pub put_last : (answer : Result (Option ℕ) Refusal) → Steps (step_of answer) u w key value (session a) (session d) (log a) (log d) (story a) (story d) (d ≡ a) → Puts answer v w key value x (session d) was (log d) old (story d)
-  put_last (Ok before) c = room_put reached need parts key value v one x was old u (session a) (log a) (story a) r w before (log d) (story d) c
+  put_last (Ok before) c = room_put reached need parts key value v x low high was old u (session a) (log a) (story a) r w before (log d) (story d) (subst (λ n. IsChanged n u w key value before (log a) (log d) (story a) (story d)) own_is c)
   put_last (Err refusal.TooTall) c = crowded refusal.TooTall c.0 c.1
   put_last (Err refusal.NoPages) c = crowded refusal.NoPages c.0 c.1
   put_last (Err (refusal.LogFull i m)) c = stopped (refusal.LogFull i m) c
   put_last (Err refusal.ClockSpent) c = stopped refusal.ClockSpent c
   put_last (Err refusal.RowSpent) c = record { view = u; room = room_same story log session a d c.1 key v u x was old r; spent = c.0 }
-  put_last (Err refusal.DiskFault) c = room_failed reached need parts key value v one x was old u (session a) (log a) (story a) r (story d) c
+  put_last (Err refusal.DiskFault) c = room_failed reached need parts key value v x low high was old u (session a) (log a) (story a) r (story d) (subst (λ n. KeepsLog n (log a) (story a) (story d)) own_is c)
   put_last (Err _) c = absurd c

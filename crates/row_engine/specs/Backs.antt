@@ -30,6 +30,7 @@ use Rattle.engine_trait.specs.Calls.{Logs}
 use Rattle.engine_trait.specs.Limits.{limits}
 use Rattle.row_engine.specs.declared.session.Session.{Session}
 use Rattle.row_engine.specs.Grown.{Behind, Goes, Went}
+use Rattle.row_engine.specs.Others.{Steps}
 use Rattle.row_engine.specs.Puts.{KeepsLog}
 use Rattle.row_engine.specs.Takes.{IsSpent}
 use Rattle.row_engine.specs.Undo.{without_newest}
@@ -40,13 +41,13 @@ use Rattle.row_engine.specs.Undo.{without_newest}
 pub record IsPutBack (v w : View) (x y : Session) (was is : Log) (old new : Story) : Type 0 where
   pub page : ℕ
   pub given : w.given ≡ v.given
-  pub seen : w.seen ≡ v.seen ++ PutBack 1 page ∷ []
-  pub met : may (opening v.given) (state v).core (happening.Event.Put_back 1 page) ≡ true
+  pub seen : w.seen ≡ v.seen ++ PutBack x.own page ∷ []
+  pub met : may (opening v.given) (state v).core (happening.Event.Put_back x.own page) ≡ true
   pub entry : Record
-  pub entry_is : (happens (opening v.given) (state v).core (happening.Event.Put_back 1 page)).entries ≡ entry_of 1 entry ∷ (state v).core.entries
+  pub entry_is : (happens (opening v.given) (state v).core (happening.Event.Put_back x.own page)).entries ≡ entry_of x.own entry ∷ (state v).core.entries
   pub after : After entry was is
-  pub stands : StagesOn 1 entry was is old new
-  pub keeps : KeepsLog was old new
+  pub stands : StagesOn x.own entry was is old new
+  pub keeps : KeepsLog x.own was old new
   pub session : y ≡ record x { half = true; clock = y.clock; debt = y.debt; undo = without_newest x.undo }
   pub fewer : suc (length y.undo) ≡ length x.undo
 
@@ -54,37 +55,38 @@ pub record IsPutBack (v w : View) (x y : Session) (was is : Log) (old new : Stor
 abbrev pub StepsBack : Result (Unit {0}) Refusal → (v w : View) → (x y : Session) → (was is : Log) → (old new : Story) → (same : Type 0) → Type 0
 StepsBack (Ok u) v w x y was is old new same = IsPutBack v w x y was is old new
 StepsBack (Err refusal.RowSpent) v w x y was is old new same = IsSpent v w × same
-StepsBack (Err refusal.DiskFault) v w x y was is old new same = KeepsLog was old new
+StepsBack (Err refusal.DiskFault) v w x y was is old new same = KeepsLog x.own was old new
 StepsBack (Err why) v w x y was is old new same = ⊥
 
 -- ## All of them
 
--- it puts a change of session 1 back
-abbrev pub is_back : happening.Event → Bool
-is_back (happening.Event.Put_back w p) = w == 1
-is_back _ = false
+-- it puts a change of session `own` back
+abbrev pub is_back : (own : ℕ) → happening.Event → Bool
+is_back own (happening.Event.Put_back w p) = w == own
+is_back own _ = false
 
 -- the view has seen these put-backs more, and the log has their records
-pub record Undone (g : Opening) (xs : List Done) (start : List happening.Event) (w : View) (events : List happening.Event) (was is : Log) : Type 0 where
+pub record Undone (own : ℕ) (g : Opening) (xs : List Done) (start : List happening.Event) (w : View) (events : List happening.Event) (was is : Log) : Type 0 where
   pub behind : Behind g xs (start ++ events) w
-  pub backs : all is_back events ≡ true
-  pub logs : Logs g (behind_first g xs start) events was is
+  pub backs : all (is_back own) events ≡ true
+  pub logs : Logs own g (behind_first g xs start) events was is
 
 -- From the view v on the session put so many changes back.
 pub record Undoes (v w : View) (x y : Session) (was is : Log) : Type 0 where
   pub events : List Event
   pub given : w.given ≡ v.given
   pub seen : w.seen ≡ v.seen ++ events
+  pub steps : Steps x.own v w
   pub session : y ≡ record x { half = y.half; clock = y.clock; debt = y.debt; undo = y.undo }
   pub half : y.half ≡ (if is_empty events then x.half else true)
   pub fewer : length events + length y.undo ≡ length x.undo
-  pub run : (g : Opening) (xs : List Done) (start : List happening.Event) → Behind g xs start v → Undone g xs start w (events_of events) was is
+  pub run : (g : Opening) (xs : List Done) (start : List happening.Event) → Behind g xs start v → Undone x.own g xs start w (events_of events) was is
 
 -- and the disk stands for it
 pub record HasUndone (v w : View) (x y : Session) (was is : Log) (old new : Story) : Type 0 where
   pub undoes : Undoes v w x y was is
-  pub goes : Goes undoes.events v was is old new
-  pub frame : Framed 2 old new
+  pub goes : Goes x.own x.group undoes.events v was is old new
+  pub frame : Framed (suc x.own) old new
 
 -- Then the disk failed, and a crash leaves what one behind these events does.
 pub record HasFailedBack (v : View) (x : Session) (was : Log) (old new : Story) : Type 0 where
@@ -92,9 +94,9 @@ pub record HasFailedBack (v : View) (x : Session) (was : Log) (old new : Story) 
   pub session : Session
   pub log : Log
   pub undoes : Undoes v view x session was log
-  pub frame : Framed 2 old new
-  pub leaves : (g : Opening) (xs : List Done) (start : List happening.Event) → Behind g xs start v → (s0 : Crash) (k : Known) → Between limits g 1 xs s0 k old → Went g xs s0 k start was old old
-      → LeavesOnly old new (CallLeaves g xs (start ++ events_of undoes.events) s0 k.master) × LeavesOnly old new (CrashIn old 2 Anything)
+  pub frame : Framed (suc x.own) old new
+  pub leaves : (g : Opening) (xs : List Done) (start : List happening.Event) → Behind g xs start v → (s0 : Crash) (k : Known) → Between limits g x.group xs s0 k old → Went x.own g xs s0 k start was old old
+      → LeavesOnly old new (CallLeaves g xs (start ++ events_of undoes.events) s0 k.master) × LeavesOnly old new (CrashIn old (suc x.own) Anything)
 
 -- by answer
 abbrev pub PutsAllBack : Result (Unit {0}) Refusal → (v w : View) → (x y : Session) → (was is : Log) → (old new : Story) → Type 0

@@ -1,32 +1,51 @@
 -- What a call of an engine on rows did, in each run to which its view is tied.
-use Rattle.std.specs.Prelude.{ℕ, Bool, List, ◌∷◌, Option, Result, Ok, Err}
+use Rattle.std.specs.Prelude.{◌≡◌, ℕ, Bool, List, ◌∷◌, Option, Result, Ok, Err}
 use Rattle.map_model.specs.declared.call.Answer.{Answer}
 use Rattle.map_model.specs.declared.call.Answer.TheVariants as answer
 use Rattle.map_model.specs.declared.call.Call.{Call}
 use Rattle.map_model.specs.declared.call.Refusal.{Refusal}
 use Rattle.map_model.specs.declared.call.Refusal.TheVariants as refusal
 use Rattle.core_state.specs.Openings.{Opening}
-use Rattle.core_calls.specs.Fronts.{Done}
+use Rattle.core_calls.specs.Fronts.{Done, outcomes}
 use Rattle.lean_disk.specs.Story.{Story}
 use Rattle.worker_log.specs.Logs.{Log}
 use Rattle.rows_trait.specs.declared.view.View.{View}
-use Rattle.engine_trait.specs.Calls.{Does, Fails}
-use Rattle.row_engine.specs.Ties.{Ties}
+use Rattle.engine_calls.specs.Clauses.{IsNewLine}
+use Rattle.engine_trait.specs.Calls.{Does, Fails, IsTold}
+use Rattle.row_engine.specs.Ties.{IsAbortDue, Ties}
 use Rattle.row_engine.specs.declared.commits.Ended.{Ended}
+use Rattle.row_engine.specs.declared.session.Session.{Session}
 
 -- It was answered so, and its view is tied to one outcome more, behind which an abort may be half done.
-pub record DoesOn (g : Opening) (xs : List Done) (c : Call) (a : Answer) (half : Bool) (w : View) (was is : Log) (old new : Story) : Type 0 where
-  pub does : Does g xs c a was is old new
-  pub ties : Ties g (does.done ∷ xs) half w
+pub record DoesOn (g : Opening) (group : ℕ) (xs : List Done) (own : ℕ) (c : Call) (a : Answer) (half : Bool) (w : View) (was is : Log) (old new : Story) : Type 0 where
+  pub does : Does g group xs own c a was is old new
+  pub ties : Ties g group (does.done ∷ xs) own half w
 
 -- where the disk failed this, and else that
 abbrev pub Comes : Answer → (does fails : Type 0) → Type 0
 Comes (answer.Refused refusal.DiskFault) does fails = fails
 Comes _ does fails = does
 
--- In each run to which the view is tied the call did so; it found an abort half done, or not, and so it left it.
-abbrev pub CallDoes : Call → Answer → (before now : Bool) → (v w : View) → (was is : Log) → (old new : Story) → Type 0
-CallDoes c a before now v w was is old new = (g : Opening) (xs : List Done) → Ties g xs before v → Comes a (DoesOn g xs c a now w was is old new) (Fails g xs c was old new)
+-- In each run to which the view is tied the call of session `own` did so, where it may come; it found an abort half done, or not, and so it left it.
+abbrev pub DoesWhere : (May : List Done → Type 0) → (own group : ℕ) → Call → Answer → (before now : Bool) → (v w : View) → (was is : Log) → (old new : Story) → Type 0
+DoesWhere May own group c a before now v w was is old new = (g : Opening) (xs : List Done) → Ties g group xs own before v → May xs → Comes a (DoesOn g group xs own c a now w was is old new) (Fails g group xs own c was old new)
+
+-- on a new line
+abbrev pub CallDoes : (own group : ℕ) → Call → Answer → (before now : Bool) → (v w : View) → (was is : Log) → (old new : Story) → Type 0
+CallDoes = DoesWhere (λ xs. IsNewLine (outcomes xs))
+
+-- an abort, whatever its line asked, where a transaction is open or not
+abbrev pub AbortDoes : (own group : ℕ) → (is_open : Bool) → Answer → (before now : Bool) → (v w : View) → (was is : Log) → (old new : Story) → Type 0
+AbortDoes own group is_open a before now v w was is old new = (c : Call) → DoesWhere (λ xs. IsAbortDue xs own is_open c) own group c a before now v w was is old new
+
+-- a refusal that may come where there are so many workers: one that a script is told, and a conflict, if there are several
+abbrev pub MayCome : (workers : ℕ) → Refusal → Type 0
+MayCome workers (refusal.Conflict h) = workers ≡ 1 → ⊥
+MayCome workers why = IsTold why
+
+-- it is the same session: by its number, of so many, whose commits are flushed in such groups
+abbrev pub IsSameSession : (x y : Session) → Type 0
+IsSameSession x y = (y.own ≡ x.own) × (y.workers ≡ x.workers) × (y.group ≡ x.group)
 
 -- ## Results as answers
 

@@ -15,17 +15,17 @@ use Rattle.row_engine.specs.Puts.{IsChanged, KeepsLog}
 use Rattle.row_engine.specs.Takes.{IsSpent}
 
 -- A read was seen next, at a moment at which the leaf had no value of the key.
-pub record IsAbsent (v w : View) (key : ℕ) : Type 0 where
+pub record IsAbsent (own : ℕ) (v w : View) (key : ℕ) : Type 0 where
   pub page : ℕ
   pub given : w.given ≡ v.given
-  pub seen : w.seen ≡ v.seen ++ Read 1 page key None ∷ []
-  pub met : may (opening v.given) (state v).core (happening.Event.Read 1 page key None) ≡ true
+  pub seen : w.seen ≡ v.seen ++ Read own page key None ∷ []
+  pub met : may (opening v.given) (state v).core (happening.Event.Read own page key None) ≡ true
   pub told : None ≡ value_in (opening v.given).format ((state v).core.page page).node key
 
--- The value was taken away by the change to a tombstone; or there was none, and the log and the disk are as they were.
-abbrev pub Dels : Result (Option ℕ) Refusal → (v w : View) → (key : ℕ) → (was is : Log) → (old new : Story) → (same : Type 0) → Type 0
-Dels (Ok (Some before)) v w key was is old new same = IsChanged v w key TOMBSTONE (Some before) was is old new
-Dels (Ok None) v w key was is old new same = IsAbsent v w key × same
-Dels (Err refusal.RowSpent) v w key was is old new same = IsSpent v w × same
-Dels (Err refusal.DiskFault) v w key was is old new same = KeepsLog was old new
-Dels (Err why) v w key was is old new same = ⊥
+-- The value was taken away by the change to a tombstone; or there was none, and beside the session's clock all is as it was.
+abbrev pub Dels : Result (Option ℕ) Refusal → (own : ℕ) → (v w : View) → (key : ℕ) → (was is : Log) → (old new : Story) → (same same_disk : Type 0) → Type 0
+Dels (Ok (Some before)) own v w key was is old new same same_disk = IsChanged own v w key TOMBSTONE (Some before) was is old new
+Dels (Ok None) own v w key was is old new same same_disk = IsAbsent own v w key × (is ≡ was) × same_disk
+Dels (Err refusal.RowSpent) own v w key was is old new same same_disk = IsSpent v w × same
+Dels (Err refusal.DiskFault) own v w key was is old new same same_disk = KeepsLog own was old new
+Dels (Err why) own v w key was is old new same same_disk = ⊥

@@ -1,5 +1,5 @@
 -- Room that was made for a key, in each run: what the events of it are, and for what the disk stands behind them.
-use Rattle.std.specs.Prelude.{◌≡◌, ◌⊎◌, ◌+◌, ◌++◌, ℕ, Bool, true, false, List, [], length, None}
+use Rattle.std.specs.Prelude.{◌≡◌, ◌⊎◌, ◌+◌, ◌++◌, ℕ, suc, Bool, true, false, List, [], length, None}
 use Rattle.map_model.specs.Lists.{all}
 use Rattle.core_state.specs.Openings.{Opening}
 use Rattle.core_state.specs.Events as happening
@@ -22,6 +22,7 @@ use Rattle.row_opening.specs.Openings.{Opens}
 use Rattle.rows_trait.specs.declared.view.View.{View}
 use Rattle.rows_trait.specs.Views.{state}
 use Rattle.worker_log.specs.Logs.{Log}
+use Rattle.row_engine.specs.Others.{Steps}
 use Rattle.row_engine.specs.declared.session.Session.{Session}
 
 -- ## Within a call
@@ -33,13 +34,14 @@ pub record Behind (g : Opening) (xs : List Done) (first : List happening.Event) 
   pub seen : events_of v.given.before ++ events_of v.seen ≡ front xs ++ first
 
 -- from `base` the call has come to `now` by these events; its log is so
-pub record Went (g : Opening) (xs : List Done) (s0 : Crash) (k : Known) (es : List happening.Event) (log : Log) (base now : Story) : Type 0 where
+pub record Went (own : ℕ) (g : Opening) (xs : List Done) (s0 : Crash) (k : Known) (es : List happening.Event) (log : Log) (base now : Story) : Type 0 where
   pub known : Known
   pub gone : Gone g xs es s0 k base known now
-  pub log_is : known.log 1 ≡ log
+  pub log_is : known.log own ≡ log
+  pub others : (w : ℕ) → (w ≡ own → ⊥) → known.log w ≡ k.log w
   pub master_is : known.master ≡ k.master
-  pub within : LeavesOnly base now (CrashIn base 2 Anything)
-  pub frame : Framed 2 base now
+  pub within : LeavesOnly base now (CrashIn base (suc own) Anything)
+  pub frame : Framed (suc own) base now
 
 -- ## Room
 
@@ -54,10 +56,10 @@ abbrev pub AreAside : List happening.Event → Type 0
 AreAside es = all is_aside es ≡ true
 
 -- the view has seen these changes of the tree more, each the next on the way to room for the key, and the log has their records
-pub record Gained (g : Opening) (xs : List Done) (start : List happening.Event) (key : ℕ) (w : View) (events : List happening.Event) (was is : Log) : Type 0 where
+pub record Gained (own : ℕ) (g : Opening) (xs : List Done) (start : List happening.Event) (key : ℕ) (w : View) (events : List happening.Event) (was is : Log) : Type 0 where
   pub behind : Behind g xs (start ++ events) w
   pub aside : AreAside events
-  pub logs : Logs g (behind_first g xs start) events was is
+  pub logs : Logs own g (behind_first g xs start) events was is
   pub makes : MakesRoom g (behind_first g xs start) key events
 
 -- From the view v on the session made room for the key, by these changes of the tree, each of which took a free page.
@@ -65,13 +67,14 @@ pub record Grows (key : ℕ) (v w : View) (x y : Session) (was is : Log) : Type 
   pub events : List Event
   pub given : w.given ≡ v.given
   pub seen : w.seen ≡ v.seen ++ events
+  pub steps : Steps x.own v w
   pub session : y ≡ record x { clock = y.clock; debt = y.debt; free = y.free }
   pub fewer : length events + length y.free ≡ length x.free
   -- where there were any, there was a way to room at first
   pub fits : (events ≡ []) ⊎ (room_refusal (opening v.given) (state v).core key ≡ None)
-  pub run : (g : Opening) (xs : List Done) (start : List happening.Event) → Behind g xs start v → Gained g xs start key w (events_of events) was is
+  pub run : (g : Opening) (xs : List Done) (start : List happening.Event) → Behind g xs start v → Gained x.own g xs start key w (events_of events) was is
 
 -- in each run the disk has come to stand for these events too
-abbrev pub Goes : List Event → (v : View) → (was is : Log) → (old new : Story) → Type 0
-Goes events v was is old new = (g : Opening) (xs : List Done) (start : List happening.Event) → Behind g xs start v → (s0 : Crash) (k : Known) → Between limits g 1 xs s0 k old
-    → Went g xs s0 k start was old old → Went g xs s0 k (start ++ events_of events) is old new
+abbrev pub Goes : (own group : ℕ) → List Event → (v : View) → (was is : Log) → (old new : Story) → Type 0
+Goes own group events v was is old new = (g : Opening) (xs : List Done) (start : List happening.Event) → Behind g xs start v → (s0 : Crash) (k : Known) → Between limits g group xs s0 k old
+    → Went own g xs s0 k start was old old → Went own g xs s0 k (start ++ events_of events) is old new

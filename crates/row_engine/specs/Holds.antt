@@ -1,8 +1,9 @@
--- What an engine of one session has in memory between two calls, by the moment that its seat has seen.
-use Rattle.std.specs.Prelude.{◌≡◌, ◌⊎◌, ◌↔◌, ◌≤◌, ◌<◌, ◌+◌, ◌^◌, ℕ, suc, true, false, [], length}
+-- What an engine has in memory of a session between two calls, by the moment that its seat has seen.
+use Rattle.std.specs.Prelude.{◌≡◌, ◌↔◌, ◌≤◌, ◌<◌, ◌+◌, ◌^◌, ℕ, suc, true, false, [], length}
 use Rattle.map_model.specs.Lists.{Has}
-use Rattle.core_state.specs.States.{State, Worker}
+use Rattle.core_state.specs.States.{Worker, flushed_by_all}
 use Rattle.core_state.specs.Needs.{holds_row}
+use Rattle.core_calls.specs.LogEvents.{behind}
 use Rattle.core_calls.specs.Room.{free_list}
 use Rattle.row_words.specs.Openings.{opening}
 use Rattle.rows_trait.specs.declared.view.View.{View}
@@ -13,6 +14,7 @@ use Rattle.key_locks.specs.Rows as locking
 use Rattle.lean_proto.specs.Paging.{IsResident}
 use Rattle.worker_log.specs.Logs.{Log, used}
 use Rattle.row_engine.specs.declared.session.Session.{Session}
+use Rattle.row_engine.specs.Numbers.{AreClocked, AreNumbered}
 use Rattle.row_engine.specs.Undo.{HasRoomToUndo, undo_of}
 
 -- the session has what the core's worker has
@@ -27,16 +29,10 @@ pub record IsOf (x : Session) (a : Worker) : Type 0 where
 
 -- the numbers of a session, and those of its log
 pub record AreNumbers (x : Session) (log : Log) : Type 0 where
-  -- the last record has the number of the clock
-  pub last : log.last ≡ x.clock
+  -- a session's clock rises by what it meets, and by its own records
+  pub last : log.last ≤ x.clock
   pub order : log.flushed ≤ log.last
-  pub floor : x.floor ≤ log.flushed
-  -- there is no other log, so nothing is owed
-  pub debt : x.debt ≡ 0
   pub end : x.end ≤ x.clock
-  -- the clock ends, but for what an open transaction has still to come: to put changes back, and to end
-  pub open_low : x.is_open ≡ true → x.clock + length x.undo ≤ 2 ^ 62 + 64
-  pub small : x.clock < 2 ^ 64
   -- an open transaction finds a block for its end
   pub room : x.is_open ≡ true → used log + 1 ≤ log.blocks
   -- behind all that it puts back
@@ -45,37 +41,38 @@ pub record AreNumbers (x : Session) (log : Log) : Type 0 where
   pub closed_txn : x.is_open ≡ false → x.txn ≤ x.clock
   pub txn : x.txn ≤ suc x.clock
   pub few : length x.undo ≤ 64
+  -- so few of its commits wait for a flush
+  pub behind : x.behind < x.group
 
--- no stamp is above the clock, and of another log there is none but what stood before the floor
-pub record AreStamps (s : State) (clock floor : ℕ) : Type 0 where
-  pub page : (p : ℕ) → (s.page p).gsn ≤ clock
-  pub log : (p : ℕ) → ((s.page p).last ≤ 1) ⊎ ((s.page p).gsn ≤ floor)
-  pub row : (i : ℕ) → (s.row i).number ≤ clock
-  pub read_end : (i : ℕ) → (s.row i).read_end ≤ clock
-
--- the rows are those of the opening, with one worker; the tree and the locks are sound at each moment that can come
-pub record AreRows (z : Shape) (v : View) (frames count : ℕ) : Type 0 where
+-- the rows are those of the opening, with so many workers; the tree, the locks and the entries' numbers are sound at each moment that can come
+pub record AreRows (z : Shape) (v : View) (own many frames count : ℕ) : Type 0 where
   pub tree : descents.Sized z v frames
   pub tree_sound : pages.IsSound v.given
-  pub locks : locking.Sized z v 1 frames count
+  pub locks : locking.Sized z v own frames count
   pub locks_sound : locking.IsSound v.given
-  pub one : (opening v.given).workers ≡ 1
-  pub workers : z.sizes.workers ≡ 1
+  pub clocked : AreClocked v.given
+  pub workers : (opening v.given).workers ≡ many
+  pub sized : z.sizes.workers ≡ many
+  pub low : 0 < own
+  pub high : own ≤ many
+  pub most : many ≤ 16
   pub few : count ≤ 2 ^ 16
 
--- There is one worker and nobody else steps, and no row is latched. The session is the worker's at the moment that the seat has seen, where the log
--- is flushed as it says, each page, also a free one, is hot in the frame of its own number, the lock rows that the worker holds are those that the
--- session has, and so are the free pages.
+-- Nobody else steps, and no row is latched. The session is the worker's at the moment that the seat has seen, where its log is flushed as it says, each
+-- page, also a free one, is hot in the frame of its own number, the lock rows that the worker holds are those that the session has, and so are the free
+-- pages.
 pub record Holds (z : Shape) (v : View) (x : Session) (log : Log) : Type 0 where
   pub alone : z.alone ≡ true
   pub idle : v.held ≡ []
-  pub rows : AreRows z v x.frames x.held.count
-  pub session : IsOf x ((state v).core.worker 1)
+  pub rows : AreRows z v x.own x.workers x.frames x.held.count
+  pub session : IsOf x ((state v).core.worker x.own)
   pub numbers : AreNumbers x log
-  pub flushed : (state v).core.flushed 1 ≡ log.flushed
-  pub stamps : AreStamps (state v).core x.clock x.floor
+  pub numbered : AreNumbered x.workers (state v).core
+  pub flushed : (state v).core.flushed x.own ≡ log.flushed
+  pub floor : x.floor ≤ flushed_by_all (opening v.given) (state v).core
+  pub behind : behind (state v).core x.own ≡ x.behind
   pub resident : IsResident z v
-  pub held : (i : ℕ) → holds_row ((state v).core.row i) 1 ≡ true ↔ Has i x.held.rows
+  pub held : (i : ℕ) → holds_row ((state v).core.row i) x.own ≡ true ↔ Has i x.held.rows
   pub within : (i : ℕ) → Has i x.held.rows → i < x.held.count
   pub fewer : length x.held.rows ≤ x.held.count
   pub none : x.is_open ≡ false → x.held.rows ≡ []

@@ -1,7 +1,10 @@
 pub mod Held
 pub mod Free
 pub mod Undo
+pub mod Numbers
+pub mod Flushed
 pub mod Holds
+pub mod Others
 pub mod Ties
 pub mod Calls
 pub mod Opened

@@ -20,6 +20,8 @@ use Rattle.row_engine.specs.declared.session.Session.{Session}
 
 -- a session that has done nothing, where all is flushed up to the base
 pub record IsFirst (base : ℕ) (x : Session) : Type 0 where
+  pub group : 0 < x.group
+  pub behind : x.behind ≡ 0
   pub works : x.works ≡ true
   pub is_open : x.is_open ≡ false
   pub txn : x.txn ≡ 0
@@ -31,7 +33,7 @@ pub record IsFirst (base : ℕ) (x : Session) : Type 0 where
   pub half : x.half ≡ false
   pub rows : x.held.rows ≡ []
 
--- The rows began as an opening of one worker, behind loads alone by which each page, also a free one, came into the frame of its own number. The seat is
+-- The rows began as an opening, behind loads alone by which each page, also a free one, came into the frame of its own number. The seat is
 -- alone, and has seen nothing.
 pub record IsOpened (g : Opening) (z : Shape) (v : View) (x : Session) (log : Log) : Type 0 where
   pub opens : Opens g v.given
@@ -43,7 +45,7 @@ pub record IsOpened (g : Opening) (z : Shape) (v : View) (x : Session) (log : Lo
   pub seen : v.seen ≡ []
   pub alone : z.alone ≡ true
   pub idle : v.held ≡ []
-  pub rows : AreRows z v x.frames x.held.count
+  pub rows : AreRows z v x.own x.workers x.frames x.held.count
   pub small : g.base < 2 ^ 64
   pub session : IsFirst g.base x
   pub free : x.free ≡ free_list g (start g)
@@ -53,7 +55,7 @@ pub record IsOpened (g : Opening) (z : Shape) (v : View) (x : Session) (log : Lo
 
 -- Then the engine is as between two calls, and tied to a run with no outcome yet.
 abbrev pub EveryOpened : Type 0
-EveryOpened = (g : Opening) (z : Shape) (v : View) (x : Session) (log : Log) → IsOpened g z v x log → Holds z v x log × Ties g [] x.half v
+EveryOpened = (g : Opening) (z : Shape) (v : View) (x : Session) (log : Log) → IsOpened g z v x log → Holds z v x log × Ties g x.group [] x.own x.half v
 
 -- ## On pages
 
@@ -61,11 +63,11 @@ EveryOpened = (g : Opening) (z : Shape) (v : View) (x : Session) (log : Log) →
 abbrev pub plain_shape : (frames locks workers : ℕ) → Shape
 plain_shape frames locks workers = record { sizes = sizes frames locks workers; alone = true; place = no_place }
 
--- It began as the opening of one worker on these pages, with a frame for each, so many lock rows and this base number, and with each log that is
+-- It began as the opening of the session's workers on these pages, with a frame for each, so many lock rows and this base number, and with each log that is
 -- flushed up to the base.
 pub record IsOpenedOn (pages : List Page) (count base : ℕ) (z : Shape) (v : View) (x : Session) : Type 0 where
   pub opening : Opening
-  pub workers : opening.workers ≡ 1
+  pub workers : opening.workers ≡ x.workers
   pub locks : opening.row_of ≡ (λ k. k % count)
   pub format : opening.format ≡ format_of (length pages)
   pub base_is : opening.base ≡ base

@@ -1,5 +1,5 @@
 -- What a put does behind the taking of its row, by answer.
-use Rattle.std.specs.Prelude.{◌≡◌, ◌++◌, ℕ, true, List, [], ◌∷◌, Option, Some, None, Result, Ok, Err}
+use Rattle.std.specs.Prelude.{◌≡◌, ◌++◌, ℕ, suc, true, List, [], ◌∷◌, Option, Some, None, Result, Ok, Err}
 use Rattle.map_model.specs.declared.call.Refusal.{Refusal}
 use Rattle.map_model.specs.declared.call.Refusal.TheVariants as refusal
 use Rattle.core_state.specs.Openings.{Opening}
@@ -44,10 +44,10 @@ pub record HasNoRoom (v w : View) (frames key : ℕ) (path : List ℕ) : Type 0 
   pub path_to : IsPathTo w frames key path leaf
 
 abbrev pub Tries : Result Tried Refusal → (v w : View) → (key value : ℕ) → (x y : Session) → (was is : Log) → (old new : Story) → (path : List ℕ) → (same broken : Type 0) → Type 0
-Tries (Ok (tried.Done before)) v w key value x y was is old new path same broken = IsChanged v w key value before was is old new
+Tries (Ok (tried.Done before)) v w key value x y was is old new path same broken = IsChanged x.own v w key value before was is old new
 Tries (Ok tried.Full) v w key value x y was is old new path same broken = HasNoRoom v w x.frames key path × same
 Tries (Err refusal.RowSpent) v w key value x y was is old new path same broken = IsSpent v w × same
-Tries (Err refusal.DiskFault) v w key value x y was is old new path same broken = KeepsLog was old new × broken
+Tries (Err refusal.DiskFault) v w key value x y was is old new path same broken = KeepsLog x.own was old new × broken
 Tries (Err why) v w key value x y was is old new path same broken = ⊥
 
 -- ## One step
@@ -67,14 +67,14 @@ pub record Stopped (key : ℕ) (why : Refusal) (v w : View) (x y : Session) (was
   pub cause : log_refusal y.clock is None ≡ Some why
 
 abbrev pub Steps : Result Stepped Refusal → (v w : View) → (key value : ℕ) → (x y : Session) → (was is : Log) → (old new : Story) → (same : Type 0) → Type 0
-Steps (Ok (stepped.Done before)) v w key value x y was is old new same = IsChanged v w key value before was is old new
+Steps (Ok (stepped.Done before)) v w key value x y was is old new same = IsChanged x.own v w key value before was is old new
 Steps (Ok stepped.Grown) v w key value x y was is old new same = IsGrown key v w x y was is old new × MayChange w y is key
 Steps (Err refusal.TooTall) v w key value x y was is old new same = Crowded key refusal.TooTall v w x.clock was × same
 Steps (Err refusal.NoPages) v w key value x y was is old new same = Crowded key refusal.NoPages v w x.clock was × same
 Steps (Err (refusal.LogFull used limit)) v w key value x y was is old new same = Stopped key (refusal.LogFull used limit) v w x y was is old new
 Steps (Err refusal.ClockSpent) v w key value x y was is old new same = Stopped key refusal.ClockSpent v w x y was is old new
 Steps (Err refusal.RowSpent) v w key value x y was is old new same = IsSpentBehind v w × same
-Steps (Err refusal.DiskFault) v w key value x y was is old new same = KeepsLog was old new
+Steps (Err refusal.DiskFault) v w key value x y was is old new same = KeepsLog x.own was old new
 Steps (Err why) v w key value x y was is old new same = ⊥
 
 -- ## All of it
@@ -87,20 +87,20 @@ pub record HasPut (key value : ℕ) (before : Option ℕ) (v w : View) (x : Sess
   pub grows : Grows key v view x session was log
   pub page : ℕ
   pub given : w.given ≡ view.given
-  pub seen : w.seen ≡ view.seen ++ Change 1 page key value ∷ []
-  pub met : may (opening view.given) (state view).core (happening.Event.Change 1 page key value) ≡ true
+  pub seen : w.seen ≡ view.seen ++ Change x.own page key value ∷ []
+  pub met : may (opening view.given) (state view).core (happening.Event.Change x.own page key value) ≡ true
   pub told : before ≡ value_in (opening view.given).format ((state view).core.page page).node key
   pub entry : Record
-  pub entry_is : entry ≡ change_of (opening view.given) (state view).core 1 page key value
+  pub entry_is : entry ≡ change_of (opening view.given) (state view).core x.own page key value
   pub after : After entry log is
-  pub goes : Goes (grows.events ++ Change 1 page key value ∷ []) v was is old new
-  pub frame : Framed 2 old new
+  pub goes : Goes x.own x.group (grows.events ++ Change x.own page key value ∷ []) v was is old new
+  pub frame : Framed (suc x.own) old new
 
 -- Room was made, and the disk stands for it.
 pub record HasRoom (key : ℕ) (v w : View) (x y : Session) (was is : Log) (old new : Story) : Type 0 where
   pub grows : Grows key v w x y was is
-  pub goes : Goes grows.events v was is old new
-  pub frame : Framed 2 old new
+  pub goes : Goes x.own x.group grows.events v was is old new
+  pub frame : Framed (suc x.own) old new
 
 -- and the leaf is full, with no more room to be had
 pub record IsCrowded (key : ℕ) (why : Refusal) (v w : View) (x y : Session) (was is : Log) (old new : Story) : Type 0 where
@@ -128,9 +128,9 @@ pub record HasFailed (key : ℕ) (v : View) (x : Session) (was : Log) (old new :
   pub session : Session
   pub log : Log
   pub grows : Grows key v view x session was log
-  pub frame : Framed 2 old new
-  pub leaves : (g : Opening) (xs : List Done) (start : List happening.Event) → Behind g xs start v → (s0 : Crash) (k : Known) → Between limits g 1 xs s0 k old → Went g xs s0 k start was old old
-      → LeavesOnly old new (CallLeaves g xs (start ++ events_of grows.events) s0 k.master) × LeavesOnly old new (CrashIn old 2 Anything)
+  pub frame : Framed (suc x.own) old new
+  pub leaves : (g : Opening) (xs : List Done) (start : List happening.Event) → Behind g xs start v → (s0 : Crash) (k : Known) → Between limits g x.group xs s0 k old → Went x.own g xs s0 k start was old old
+      → LeavesOnly old new (CallLeaves g xs (start ++ events_of grows.events) s0 k.master) × LeavesOnly old new (CrashIn old (suc x.own) Anything)
 
 abbrev pub Puts : Result (Option ℕ) Refusal → (v w : View) → (key value : ℕ) → (x y : Session) → (was is : Log) → (old new : Story) → Type 0
 Puts (Ok before) v w key value x y was is old new = HasPut key value before v w x was is old new

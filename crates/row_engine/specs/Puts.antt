@@ -1,5 +1,5 @@
 -- What a put does behind the taking of its row.
-use Rattle.std.specs.Prelude.{◌≡◌, ◌<◌, ◌%◌, ◌-◌, ◌^◌, ℕ, Bool, ◌++◌, true, false, [], ◌∷◌, length, Option, Result, Err}
+use Rattle.std.specs.Prelude.{◌≡◌, ◌<◌, ◌%◌, ◌-◌, ◌^◌, ℕ, suc, Bool, ◌++◌, true, false, [], ◌∷◌, length, Option, Result, Err}
 use Rattle.map_model.specs.declared.call.Refusal.{Refusal}
 use Rattle.map_model.specs.declared.call.Refusal.TheVariants as refusal
 use Rattle.core_state.specs.Events as happening
@@ -26,27 +26,27 @@ pub record MayChange (v : View) (x : Session) (log : Log) (key : ℕ) : Type 0 w
   pub few : length x.undo < 64
   pub small : x.clock < 2 ^ 62
   pub room : used log < limit log
-  pub row : is_held_by ((state v).core.row (key % x.held.count)).holder 1 ≡ true
+  pub row : is_held_by ((state v).core.row (key % x.held.count)).holder x.own ≡ true
   pub key_low : key < 2 ^ 64 - 1
 
 -- what a log and its disk keep whatever comes of a record
-pub record KeepsLog (was : Log) (old new : Story) : Type 0 where
-  pub on : OnLog 1 was old new
-  pub frame : Framed 2 old new
-  pub within : KeepsWithin 1 was old new
+pub record KeepsLog (own : ℕ) (was : Log) (old new : Story) : Type 0 where
+  pub on : OnLog own was old new
+  pub frame : Framed (suc own) old new
+  pub within : KeepsWithin own was old new
 
 -- The change was seen next, at a moment at which the leaf said this of the key, and its record was staged.
-pub record IsChanged (v w : View) (key value : ℕ) (before : Option ℕ) (was is : Log) (old new : Story) : Type 0 where
+pub record IsChanged (own : ℕ) (v w : View) (key value : ℕ) (before : Option ℕ) (was is : Log) (old new : Story) : Type 0 where
   pub page : ℕ
   pub given : w.given ≡ v.given
-  pub seen : w.seen ≡ v.seen ++ Change 1 page key value ∷ []
-  pub met : may (opening v.given) (state v).core (happening.Event.Change 1 page key value) ≡ true
+  pub seen : w.seen ≡ v.seen ++ Change own page key value ∷ []
+  pub met : may (opening v.given) (state v).core (happening.Event.Change own page key value) ≡ true
   pub told : before ≡ value_in (opening v.given).format ((state v).core.page page).node key
   pub entry : Record
-  pub entry_is : entry ≡ change_of (opening v.given) (state v).core 1 page key value
+  pub entry_is : entry ≡ change_of (opening v.given) (state v).core own page key value
   pub after : After entry was is
-  pub stands : StagesOn 1 entry was is old new
-  pub keeps : KeepsLog was old new
+  pub stands : StagesOn own entry was is old new
+  pub keeps : KeepsLog own was old new
 
 -- ## As its caller sees it
 

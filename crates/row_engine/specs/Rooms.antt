@@ -55,27 +55,27 @@ pub record IsPathTo (v : View) (frames key : ℕ) (path : List ℕ) (leaf : ℕ)
 
 -- ## One change
 
--- it changes the tree, by session 1
-abbrev pub IsGrowth : Event → Type 0
-IsGrowth (Split w l r q i) = w ≡ 1
-IsGrowth (Lift w c) = w ≡ 1
-IsGrowth _ = ⊥
+-- it changes the tree, by session `own`
+abbrev pub IsGrowth : (own : ℕ) → Event → Type 0
+IsGrowth own (Split w l r q i) = w ≡ own
+IsGrowth own (Lift w c) = w ≡ own
+IsGrowth own _ = ⊥
 
 -- There can be room for the key. One change of the tree, the next on the way there, was seen next; its record was staged, and the session has one free
 -- page less.
 pub record IsGrown (key : ℕ) (u w : View) (x y : Session) (was is : Log) (old new : Story) : Type 0 where
   pub event : Event
-  pub growth : IsGrowth event
+  pub growth : IsGrowth x.own event
   pub given : w.given ≡ u.given
   pub seen : w.seen ≡ u.seen ++ event ∷ []
   pub met : may (opening u.given) (state u).core (event_of event) ≡ true
   pub next : IsNextRoom (opening u.given) (state u).core key (event_of event)
   pub fits : room_refusal (opening u.given) (state u).core key ≡ None
   pub entry : Record
-  pub entry_is : (happens (opening u.given) (state u).core (event_of event)).entries ≡ entry_of 1 entry ∷ (state u).core.entries
+  pub entry_is : (happens (opening u.given) (state u).core (event_of event)).entries ≡ entry_of x.own entry ∷ (state u).core.entries
   pub after : After entry was is
-  pub stands : StagesOn 1 entry was is old new
-  pub keeps : KeepsLog was old new
+  pub stands : StagesOn x.own entry was is old new
+  pub keeps : KeepsLog x.own was old new
   pub session : y ≡ record x { clock = y.clock; debt = y.debt; free = y.free }
   pub fewer : suc (length y.free) ≡ length x.free
 
@@ -100,7 +100,7 @@ Grew (Ok u) key v w x y was is old new same broken = IsGrown key v w x y was is 
 Grew (Err refusal.TooTall) key v w x y was is old new same broken = IsNoRoom v w key refusal.TooTall × same
 Grew (Err refusal.NoPages) key v w x y was is old new same broken = IsNoRoom v w key refusal.NoPages × same
 Grew (Err refusal.RowSpent) key v w x y was is old new same broken = IsSpentBehind v w × same
-Grew (Err refusal.DiskFault) key v w x y was is old new same broken = KeepsLog was old new × broken
+Grew (Err refusal.DiskFault) key v w x y was is old new same broken = KeepsLog x.own was old new × broken
 Grew (Err why) key v w x y was is old new same broken = ⊥
 
 -- ## How a change ends
@@ -137,7 +137,7 @@ next_of path run (p ∷ ps) = if run == length path
 pub record CanLift (v : View) (x : Session) (key page : ℕ) : Type 0 where
   pub least : first_of x.free ≡ Some page
   pub fits : room_refusal (opening v.given) (state v).core key ≡ None
-  pub next : IsNextRoom (opening v.given) (state v).core key (happening.Event.Lift 1 page)
+  pub next : IsNextRoom (opening v.given) (state v).core key (happening.Event.Lift x.own page)
   pub full : length ((state v).core.page 0).node.pairs ≡ 60
   pub low : ((state v).core.page 0).node.level < 7
 
@@ -145,7 +145,7 @@ pub record CanLift (v : View) (x : Session) (key page : ℕ) : Type 0 where
 pub record CanSplit (v : View) (x : Session) (key left page parent : ℕ) : Type 0 where
   pub least : first_of x.free ≡ Some page
   pub fits : room_refusal (opening v.given) (state v).core key ≡ None
-  pub next : IsNextRoom (opening v.given) (state v).core key (happening.Event.Split 1 left page parent 30)
+  pub next : IsNextRoom (opening v.given) (state v).core key (happening.Event.Split x.own left page parent 30)
   pub below : left < (opening v.given).format.pages
   pub full : length ((state v).core.page left).node.pairs ≡ 60
   pub within : parent < (opening v.given).format.pages

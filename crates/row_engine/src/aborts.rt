@@ -6,12 +6,14 @@ ghost use Rattle.map_model.specs.declared.call.Call.{Call};
 ghost use Rattle.map_model.specs.declared.call.Refusal.{Refusal};
 ghost use Rattle.row_engine.specs.Aborts.{Finishes};
 ghost use Rattle.row_engine.specs.Backs.{PutsAllBack};
-ghost use Rattle.row_engine.specs.Calls.{CallDoes, abort_answer};
+ghost use Rattle.row_engine.specs.Calls.{AbortDoes, IsSameSession, abort_answer};
 ghost use Rattle.row_engine.specs.Ends.{Latched};
 ghost use Rattle.row_engine.specs.Holds.{Holds};
+ghost use Rattle.row_engine.specs.Others.{Steps};
 ghost use Rattle.row_engine.specs.Puts.{works_after};
 
 use crate::backs::put_back;
+use crate::begins::least_flushed;
 use crate::commits::{close, end_rows, latch_rows, need, unlatch_rows};
 use crate::store::{Stages, Store};
 use key_locks::latches::Latches;
@@ -65,6 +67,7 @@ fn finish<R: Rows, D: Stages>(
     requires left { store.old.session.undo ≡ [] }
     ensures fits { R.fits rows.new seat.new × (R.shape rows.new ≡ R.shape rows.old) }
     ensures holds { store.new.session.works ≡ true → Holds (R.shape rows.new) (R.view seat.new) store.new.session store.new.log }
+    ensures session { store.new.session.works ≡ true → IsSameSession store.old.session store.new.session }
     ensures unmarked { store.new.session.works ≡ true → latches.new ≡ replicate store.old.session.held.count false }
     ensures finishes { Finishes result (R.view seat.old) (R.view seat.new) store.old.session store.old.log store.new.log (D.story store.old.disk) (D.story store.new.disk) }
     ensures whole { store.new.session.works ≡ true → store.new.session.half ≡ false }
@@ -72,9 +75,10 @@ fn finish<R: Rows, D: Stages>(
     ensures cause_disk_fault { HasCause (D.faults store.old.disk) (D.faults store.new.disk) (result ≡ Err Refusal.DiskFault) }
 {
     lean_proto::every_turn();
+    let own = store.session.own;
     let txn = store.session.txn;
     let number = store.session.clock + 1;
-    let floor = store.log.flushed();
+    let floor = least_flushed(rows, seat, store.session.workers);
     let entry = Record {
         txn,
         gsn: number,
@@ -82,7 +86,7 @@ fn finish<R: Rows, D: Stages>(
             need: need(store.session.debt, floor),
         },
     };
-    if let Err(_) = log_calls::stage_end(&mut store.disk, &mut store.log, 1, &entry) {
+    if let Err(_) = log_calls::stage_end(&mut store.disk, &mut store.log, own, &entry) {
         store.session.works = false;
         return Err(Refusal::DiskFault);
     }
@@ -105,8 +109,11 @@ pub fn abort<R: Rows, D: Stages>(
     requires unmarked { store.old.session.works ≡ true → latches.old ≡ replicate store.old.session.held.count false }
     ensures fits { R.fits rows.new seat.new × (R.shape rows.new ≡ R.shape rows.old) }
     ensures holds { store.new.session.works ≡ true → Holds (R.shape rows.new) (R.view seat.new) store.new.session store.new.log }
+    ensures session { store.new.session.works ≡ true → IsSameSession store.old.session store.new.session }
+    // Whatever happened is of this session.
+    ensures steps { store.old.session.works ≡ true → store.new.session.works ≡ true → Steps store.old.session.own (R.view seat.old) (R.view seat.new) }
     ensures unmarked { store.new.session.works ≡ true → latches.new ≡ latches.old }
-    ensures does { store.old.session.works ≡ true → CallDoes Call.Abort (abort_answer result) store.old.session.half store.new.session.half (R.view seat.old) (R.view seat.new) store.old.log store.new.log (D.story store.old.disk) (D.story store.new.disk) }
+    ensures does { store.old.session.works ≡ true → AbortDoes store.old.session.own store.old.session.group store.old.session.is_open (abort_answer result) store.old.session.half store.new.session.half (R.view seat.old) (R.view seat.new) store.old.log store.new.log (D.story store.old.disk) (D.story store.new.disk) }
     ensures works { (store.new.session.works ≡ true) ↔ ((store.old.session.works ≡ true) × (result ≡ Err Refusal.DiskFault → ⊥)) }
     ensures told { IfErr result (λ why. IsTold why ⊎ ((why ≡ Refusal.Broken) ⊎ (why ≡ Refusal.DiskFault))) }
     ensures same_broken { result ≡ Err Refusal.Broken → (R.view seat.new ≡ R.view seat.old) × (store.new ≡ store.old) × (latches.new ≡ latches.old) }
@@ -131,7 +138,7 @@ pub fn abort<R: Rows, D: Stages>(
         return Err(why);
     }
     let frames = store.session.frames;
-    if !latch_rows(rows, seat, frames, &store.session.held, latches) {
+    if !latch_rows(rows, seat, &store.session, latches) {
         unlatch_rows(rows, seat, frames, &store.session.held, latches);
         return Err(Refusal::RowSpent);
     }

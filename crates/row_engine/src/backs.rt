@@ -1,17 +1,31 @@
 // A change that an abort puts back.
-ghost use Rattle.std.specs.Prelude.{◌≡◌, ◌<◌, Err, true, length};
+ghost use Rattle.std.specs.Prelude.{◌≡◌, ◌<◌, Err, Some, true, length};
 ghost use Rattle.lean_disk.specs.Faults.{HasCause};
 ghost use Rattle.map_model.specs.declared.call.Refusal.{Refusal};
 ghost use Rattle.row_engine.specs.Backs.{StepsBack};
 ghost use Rattle.row_engine.specs.Holds.{Holds};
 ghost use Rattle.row_engine.specs.Puts.{works_after};
+ghost use Rattle.row_engine.specs.Undo.{newest_of};
 
+use crate::session::Session;
 use crate::store::{Stages, Store};
+use crate::undo::Undone;
 use btree_descent::put::{Put, leaf_put_back};
 use draw_trait::draw::Unstaged;
 use lean_proto::path::Path;
 use map_model::Refusal;
 use rows_trait::rows::Rows;
+
+// The newest change that is left.
+fn newest_left(session: &Session) -> Undone
+    requires left { 0 < length session.now.undo }
+    ensures newest { newest_of session.now.undo ≡ Some result }
+{
+    let Some(undone) = session.undo.newest() else {
+        unreachable!()
+    };
+    undone
+}
 
 // Puts the newest change back that is left.
 pub(crate) fn put_back<R: Rows, D: Stages>(
@@ -32,9 +46,7 @@ pub(crate) fn put_back<R: Rows, D: Stages>(
 {
     core_calls::every_room();
     rows_trait::every_low();
-    let Some(undone) = store.session.undo.newest() else {
-        unreachable!()
-    };
+    let undone = newest_left(&store.session);
     let frames = store.session.frames;
     // From here on an abort is under way, so its records may take the blocks that are kept back.
     let half = store.session.half;
@@ -43,7 +55,7 @@ pub(crate) fn put_back<R: Rows, D: Stages>(
     match leaf_put_back(
         rows,
         seat,
-        1,
+        store.session.own,
         frames,
         undone.key,
         undone.word,

@@ -1,12 +1,12 @@
 // A del.
-ghost use Rattle.std.specs.Prelude.{◌≡◌, ◌⊎◌, ◌<◌, ◌-◌, ◌^◌, ◌↔◌, [], Err, IfErr, IsErrAnd, Some, true, false};
+ghost use Rattle.std.specs.Prelude.{◌≡◌, suc, ◌⊎◌, ◌<◌, ◌-◌, ◌^◌, ◌↔◌, [], Err, IfErr, IsErrAnd, Some, true, false};
 ghost use Rattle.map_model.specs.declared.call.Call.{Call};
 ghost use Rattle.map_model.specs.declared.call.Refusal.{Refusal};
 ghost use Rattle.lean_disk.specs.Faults.{HasCause};
 ghost use Rattle.lean_disk.specs.Moments.{Framed};
-ghost use Rattle.engine_trait.specs.Calls.{IsTold};
-ghost use Rattle.row_engine.specs.Calls.{CallDoes, del_answer};
+ghost use Rattle.row_engine.specs.Calls.{CallDoes, IsSameSession, MayCome, del_answer};
 ghost use Rattle.row_engine.specs.Holds.{Holds};
+ghost use Rattle.row_engine.specs.Others.{Steps};
 ghost use Rattle.row_engine.specs.Dels.{Dels};
 ghost use Rattle.row_engine.specs.Inside.{put_test};
 ghost use Rattle.row_engine.specs.Puts.{IsEarly, MayChange, works_after};
@@ -32,8 +32,9 @@ fn del_held<R: Rows, D: Stages>(
     requires may { MayChange (R.view seat.old) store.old.session store.old.log key }
     ensures fits { R.fits rows.new seat.new × (R.shape rows.new ≡ R.shape rows.old) }
     ensures holds { store.new.session.works ≡ true → Holds (R.shape rows.new) (R.view seat.new) store.new.session store.new.log }
+    ensures session { store.new.session.works ≡ true → IsSameSession store.old.session store.new.session }
     ensures half { store.new.session.works ≡ true → store.new.session.half ≡ store.old.session.half }
-    ensures dels { Dels result (R.view seat.old) (R.view seat.new) key store.old.log store.new.log (D.story store.old.disk) (D.story store.new.disk) (store.new ≡ store.old) }
+    ensures dels { Dels result store.old.session.own (R.view seat.old) (R.view seat.new) key store.old.log store.new.log (D.story store.old.disk) (D.story store.new.disk) (store.new ≡ store.old) (store.new.disk ≡ store.old.disk) }
     ensures works { store.new.session.works ≡ works_after result }
     ensures cause_disk_fault { HasCause (D.faults store.old.disk) (D.faults store.new.disk) (result ≡ Err Refusal.DiskFault) }
 {
@@ -41,7 +42,7 @@ fn del_held<R: Rows, D: Stages>(
     rows_trait::every_low();
     let frames = store.session.frames;
     let mut path = Path::new();
-    match leaf_del(rows, seat, 1, frames, key, &mut path, store) {
+    match leaf_del(rows, seat, store.session.own, frames, key, &mut path, store) {
         Del::Done(was) => {
             store.session.undo.push(key, was);
             Ok(Some(was))
@@ -76,13 +77,16 @@ pub fn del<R: Rows, D: Stages>(
     requires key { key < 2 ^ 64 - 1 }
     ensures fits { R.fits rows.new seat.new × (R.shape rows.new ≡ R.shape rows.old) }
     ensures holds { store.new.session.works ≡ true → Holds (R.shape rows.new) (R.view seat.new) store.new.session store.new.log }
-    ensures does { store.old.session.works ≡ true → CallDoes (Call.Del key) (del_answer result) store.old.session.half store.new.session.half (R.view seat.old) (R.view seat.new) store.old.log store.new.log (D.story store.old.disk) (D.story store.new.disk) }
+    ensures session { store.new.session.works ≡ true → IsSameSession store.old.session store.new.session }
+    // Whatever happened is of this session.
+    ensures steps { store.old.session.works ≡ true → store.new.session.works ≡ true → Steps store.old.session.own (R.view seat.old) (R.view seat.new) }
+    ensures does { store.old.session.works ≡ true → CallDoes store.old.session.own store.old.session.group (Call.Del key) (del_answer result) store.old.session.half store.new.session.half (R.view seat.old) (R.view seat.new) store.old.log store.new.log (D.story store.old.disk) (D.story store.new.disk) }
     // Whether the engine works is seen from the answer.
     ensures works { store.new.session.works ≡ works_after result }
     // Which refusals a script is told.
-    ensures told { IfErr result (λ why. IsTold why ⊎ ((why ≡ Refusal.Broken) ⊎ (why ≡ Refusal.DiskFault))) }
+    ensures told { IfErr result (λ why. MayCome store.old.session.workers why ⊎ ((why ≡ Refusal.Broken) ⊎ (why ≡ Refusal.DiskFault))) }
     // It stays within the area of its log.
-    ensures frame { Framed 2 (D.story store.old.disk) (D.story store.new.disk) }
+    ensures frame { Framed (suc store.old.session.own) (D.story store.old.disk) (D.story store.new.disk) }
     ensures same { IsErrAnd result IsEarly → (R.view seat.new ≡ R.view seat.old) × (store.new ≡ store.old) }
     // A test of the session and its log that refuses it comes before all else.
     ensures tested { (why : Refusal) → put_test store.old.session store.old.log ≡ Some why → (result ≡ Err why) × (R.view seat.new ≡ R.view seat.old) × (store.new ≡ store.old) }
@@ -102,6 +106,10 @@ pub fn del<R: Rows, D: Stages>(
         return Err(why);
     }
     if let Err(why) = take_row(rows, seat, &mut store.session, &store.log, key, Mode::Alone) {
+        return Err(why);
+    }
+    // What the row tells may have brought the clock to its end.
+    if let Some(why) = store.session.block_refusal(&store.log) {
         return Err(why);
     }
     del_held(rows, seat, store, key)

@@ -3,9 +3,9 @@ ghost use Rattle.std.specs.Prelude.{◌≡◌, ◌⊎◌, ◌↔◌, ◌<◌, �
 ghost use Rattle.map_model.specs.declared.call.Call.TheVariants as call;
 ghost use Rattle.map_model.specs.declared.call.Refusal.{Refusal};
 ghost use Rattle.btree_descent.specs.Known.{said};
-ghost use Rattle.engine_trait.specs.Calls.{IsTold};
-ghost use Rattle.row_engine.specs.Calls.{CallDoes, get_answer};
+ghost use Rattle.row_engine.specs.Calls.{CallDoes, IsSameSession, MayCome, get_answer};
 ghost use Rattle.row_engine.specs.Holds.{Holds};
+ghost use Rattle.row_engine.specs.Others.{Steps};
 
 use crate::store::Store;
 use crate::taking::take_row;
@@ -37,11 +37,14 @@ pub fn get<R: Rows, D: Disk>(
     requires key { key < 2 ^ 64 - 1 }
     ensures fits { R.fits rows.new seat.new × (R.shape rows.new ≡ R.shape rows.old) }
     ensures holds { store.new.session.works ≡ true → Holds (R.shape rows.new) (R.view seat.new) store.new.session store.new.log }
-    ensures does { store.old.session.works ≡ true → CallDoes (call.Get key) (get_answer result) store.old.session.half store.new.session.half (R.view seat.old) (R.view seat.new) store.old.log store.new.log (D.story store.old.disk) (D.story store.new.disk) }
+    ensures session { store.new.session.works ≡ true → IsSameSession store.old.session store.new.session }
+    // Whatever happened is of this session.
+    ensures steps { store.old.session.works ≡ true → store.new.session.works ≡ true → Steps store.old.session.own (R.view seat.old) (R.view seat.new) }
+    ensures does { store.old.session.works ≡ true → CallDoes store.old.session.own store.old.session.group (call.Get key) (get_answer result) store.old.session.half store.new.session.half (R.view seat.old) (R.view seat.new) store.old.log store.new.log (D.story store.old.disk) (D.story store.new.disk) }
     ensures same { (result ≡ Err Refusal.Broken) ⊎ (result ≡ Err Refusal.NoTransaction) → (R.view seat.new ≡ R.view seat.old) × (store.new ≡ store.old) }
     // It touches no device.
     ensures same_disk { (store.new.disk ≡ store.old.disk) × (store.new.log ≡ store.old.log) × (store.new.session.works ≡ store.old.session.works) }
-    ensures come { IfErr result (λ why. IsTold why ⊎ (why ≡ Refusal.Broken)) }
+    ensures come { IfErr result (λ why. MayCome store.old.session.workers why ⊎ (why ≡ Refusal.Broken)) }
 
     ensures cause_broken { (result ≡ Err Refusal.Broken) ↔ (store.old.session.works ≡ false) }
     ensures no_disk_fault { result ≡ Err Refusal.DiskFault → ⊥ }
@@ -62,8 +65,11 @@ pub fn get<R: Rows, D: Disk>(
         key,
         Mode::Shared,
     )?;
-    match find(rows, seat, 1, store.session.frames, key) {
-        Answer::Found(word) => Ok(value_of(word)),
+    match find(rows, seat, store.session.own, store.session.frames, key) {
+        Answer::Found(found) => {
+            store.session.touch(found.number, found.log);
+            Ok(value_of(found.word))
+        }
         // Each page is hot.
         Answer::Cold(_) => unreachable!(),
         // Nobody else steps.

@@ -1,4 +1,4 @@
-//! An engine of one session on rows of words, over a disk that tells.
+//! The calls of an engine's sessions on rows of words, over a disk that tells, where one thread executes.
 //!
 //! Each call keeps the four clauses of engine_calls: its answer, its events, what the disk stands for, and what a crash at any moment of
 //! it leaves. Read specs/Holds, specs/Ties and specs/Calls, then `begin`, `get`, `put`, `del`, `commit` and
@@ -18,6 +18,7 @@ mod opening;
 mod puts;
 mod room;
 mod session;
+mod steps;
 mod store;
 mod taking;
 mod undo;

@@ -1,13 +1,13 @@
 // A put.
-ghost use Rattle.std.specs.Prelude.{◌≡◌, ◌⊎◌, ◌<◌, ◌-◌, ◌^◌, ◌↔◌, [], Err, IfErr, IsErrAnd, Some, true, false};
+ghost use Rattle.std.specs.Prelude.{◌≡◌, suc, ◌⊎◌, ◌<◌, ◌-◌, ◌^◌, ◌↔◌, [], Err, IfErr, IsErrAnd, Some, true, false};
 ghost use Rattle.map_model.specs.declared.call.Call.{Call};
 ghost use Rattle.map_model.specs.declared.call.Refusal.{Refusal};
 ghost use Rattle.lean_disk.specs.Faults.{HasCause};
 ghost use Rattle.lean_disk.specs.Moments.{Framed};
-ghost use Rattle.engine_trait.specs.Calls.{IsTold};
 ghost use Rattle.page_model.specs.Tree.{word_or};
-ghost use Rattle.row_engine.specs.Calls.{CallDoes, put_answer};
+ghost use Rattle.row_engine.specs.Calls.{CallDoes, IsSameSession, MayCome, put_answer};
 ghost use Rattle.row_engine.specs.Holds.{Holds};
+ghost use Rattle.row_engine.specs.Others.{Steps as OwnSteps};
 ghost use Rattle.row_engine.specs.Outcomes.{Puts, Steps, Tries};
 ghost use Rattle.row_engine.specs.Inside.{put_test};
 ghost use Rattle.row_engine.specs.Puts.{IsEarly, MayChange, works_after};
@@ -56,6 +56,7 @@ fn put_in_leaf<R: Rows, D: Stages>(
     requires path { path.old ≡ [] }
     ensures fits { R.fits rows.new seat.new × (R.shape rows.new ≡ R.shape rows.old) }
     ensures holds { store.new.session.works ≡ true → Holds (R.shape rows.new) (R.view seat.new) store.new.session store.new.log }
+    ensures session { store.new.session.works ≡ true → IsSameSession store.old.session store.new.session }
     ensures half { store.new.session.works ≡ true → store.new.session.half ≡ store.old.session.half }
     ensures tries { Tries result (R.view seat.old) (R.view seat.new) key value store.old.session store.new.session store.old.log store.new.log (D.story store.old.disk) (D.story store.new.disk) path.new (store.new ≡ store.old) (store.new.session.works ≡ false) }
     ensures works { store.new.session.works ≡ works_after result }
@@ -64,7 +65,16 @@ fn put_in_leaf<R: Rows, D: Stages>(
     core_calls::every_room();
     rows_trait::every_low();
     let frames = store.session.frames;
-    match leaf_put(rows, seat, 1, frames, key, value, path, store) {
+    match leaf_put(
+        rows,
+        seat,
+        store.session.own,
+        frames,
+        key,
+        value,
+        path,
+        store,
+    ) {
         Put::Done(before) => {
             store.session.undo.push(key, word_of(before));
             Ok(Tried::Done(value_of(before)))
@@ -110,6 +120,7 @@ fn put_step<R: Rows, D: Stages>(
     requires value { value < 2 ^ 63 }
     ensures fits { R.fits rows.new seat.new × (R.shape rows.new ≡ R.shape rows.old) }
     ensures holds { store.new.session.works ≡ true → Holds (R.shape rows.new) (R.view seat.new) store.new.session store.new.log }
+    ensures session { store.new.session.works ≡ true → IsSameSession store.old.session store.new.session }
     ensures half { store.new.session.works ≡ true → store.new.session.half ≡ store.old.session.half }
     ensures steps { Steps result (R.view seat.old) (R.view seat.new) key value store.old.session store.new.session store.old.log store.new.log (D.story store.old.disk) (D.story store.new.disk) (store.new ≡ store.old) }
     ensures works { store.new.session.works ≡ works_after result }
@@ -144,6 +155,7 @@ fn put_held<R: Rows, D: Stages>(
     requires value { value < 2 ^ 63 }
     ensures fits { R.fits rows.new seat.new × (R.shape rows.new ≡ R.shape rows.old) }
     ensures holds { store.new.session.works ≡ true → Holds (R.shape rows.new) (R.view seat.new) store.new.session store.new.log }
+    ensures session { store.new.session.works ≡ true → IsSameSession store.old.session store.new.session }
     ensures half { store.new.session.works ≡ true → store.new.session.half ≡ store.old.session.half }
     ensures puts { Puts result (R.view seat.old) (R.view seat.new) key value store.old.session store.new.session store.old.log store.new.log (D.story store.old.disk) (D.story store.new.disk) }
     ensures works { store.new.session.works ≡ works_after result }
@@ -178,13 +190,16 @@ pub fn put<R: Rows, D: Stages>(
     requires value { value < 2 ^ 63 }
     ensures fits { R.fits rows.new seat.new × (R.shape rows.new ≡ R.shape rows.old) }
     ensures holds { store.new.session.works ≡ true → Holds (R.shape rows.new) (R.view seat.new) store.new.session store.new.log }
-    ensures does { store.old.session.works ≡ true → CallDoes (Call.Put key value) (put_answer result) store.old.session.half store.new.session.half (R.view seat.old) (R.view seat.new) store.old.log store.new.log (D.story store.old.disk) (D.story store.new.disk) }
+    ensures session { store.new.session.works ≡ true → IsSameSession store.old.session store.new.session }
+    // Whatever happened is of this session.
+    ensures steps { store.old.session.works ≡ true → store.new.session.works ≡ true → OwnSteps store.old.session.own (R.view seat.old) (R.view seat.new) }
+    ensures does { store.old.session.works ≡ true → CallDoes store.old.session.own store.old.session.group (Call.Put key value) (put_answer result) store.old.session.half store.new.session.half (R.view seat.old) (R.view seat.new) store.old.log store.new.log (D.story store.old.disk) (D.story store.new.disk) }
     // Whether the engine works is seen from the answer.
     ensures works { store.new.session.works ≡ works_after result }
     // Which refusals a script is told.
-    ensures told { IfErr result (λ why. IsTold why ⊎ ((why ≡ Refusal.Broken) ⊎ (why ≡ Refusal.DiskFault))) }
+    ensures told { IfErr result (λ why. MayCome store.old.session.workers why ⊎ ((why ≡ Refusal.Broken) ⊎ (why ≡ Refusal.DiskFault))) }
     // It stays within the area of its log.
-    ensures frame { Framed 2 (D.story store.old.disk) (D.story store.new.disk) }
+    ensures frame { Framed (suc store.old.session.own) (D.story store.old.disk) (D.story store.new.disk) }
     ensures same { IsErrAnd result IsEarly → (R.view seat.new ≡ R.view seat.old) × (store.new ≡ store.old) }
     // A test of the session and its log that refuses it comes before all else.
     ensures tested { (why : Refusal) → put_test store.old.session store.old.log ≡ Some why → (result ≡ Err why) × (R.view seat.new ≡ R.view seat.old) × (store.new ≡ store.old) }
@@ -204,6 +219,10 @@ pub fn put<R: Rows, D: Stages>(
         return Err(why);
     }
     if let Err(why) = take_row(rows, seat, &mut store.session, &store.log, key, Mode::Alone) {
+        return Err(why);
+    }
+    // What the row tells may have brought the clock to its end.
+    if let Some(why) = store.session.block_refusal(&store.log) {
         return Err(why);
     }
     put_held(rows, seat, store, key, value)

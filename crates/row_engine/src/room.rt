@@ -108,7 +108,7 @@ fn lift_root<R: Rows, D: Stages>(
     rows_trait::every_low();
     core_calls::every_room();
     let frames = store.session.frames;
-    let outcome = lift(rows, seat, 1, frames, page, store);
+    let outcome = lift(rows, seat, store.session.own, frames, page, store);
     rows.versions(seat);
     finish(&mut store.session, outcome)
 }
@@ -136,7 +136,16 @@ fn split_page<R: Rows, D: Stages>(
     rows_trait::every_low();
     core_calls::every_room();
     let frames = store.session.frames;
-    let outcome = split(rows, seat, 1, frames, left, page, parent, store);
+    let outcome = split(
+        rows,
+        seat,
+        store.session.own,
+        frames,
+        left,
+        page,
+        parent,
+        store,
+    );
     rows.versions(seat);
     finish(&mut store.session, outcome)
 }
@@ -187,7 +196,7 @@ pub(crate) fn make_room<R: Rows, D: Stages>(
 {
     core_calls::every_room();
     let frames = store.session.frames;
-    let run = match full_run(rows, seat, 1, frames, path) {
+    let run = match full_run(rows, seat, store.session.own, frames, path) {
         Ok(run) => run,
         Err(_) => unreachable!(),
     };

@@ -1,5 +1,5 @@
-// What session 1 works on beside its rows.
-ghost use Rattle.std.specs.Prelude.{◌≡◌, ◌≤◌, ◌<◌, ◌+◌, ◌↔◌, max, Err, OnOk, IsErr, IsErrAnd, true, false};
+// What a session works on beside its rows.
+ghost use Rattle.std.specs.Prelude.{◌≡◌, ◌≤◌, ◌<◌, ◌+◌, ◌↔◌, Err, OnOk, IsErr, IsErrAnd, true, false};
 ghost use Rattle.lean_disk.specs.Faults.{HasCause};
 ghost use Rattle.lean_disk.specs.Moments.{Framed};
 ghost use Rattle.log_record.specs.Spelling.{Fits};
@@ -8,7 +8,6 @@ ghost use Rattle.worker_log.specs.Causes.{IsFull, IsLogFull};
 ghost use Rattle.worker_log.specs.Kept.{IsInRange};
 ghost use Rattle.worker_log.specs.Logs.{used};
 ghost use Rattle.log_calls.specs.Calls.{KeepsMoments, KeepsNotes, KeepsWithin, StagesOn};
-ghost use Rattle.row_engine.specs.Staging.{touched_session};
 
 use crate::session::Session;
 use draw_trait::draw::{Draw, Unstaged};
@@ -18,24 +17,6 @@ use log_record::Record;
 use std::marker::Brand;
 use worker_log::{DiskFault, RESERVE, Staging, WorkerLog};
 
-// The greater of two numbers.
-fn greater(a: u64, b: u64) -> u64
-    ensures { result ≡ max a b }
-{
-    if a < b { b } else { a }
-}
-
-// The session has met a stamp.
-fn touched(session: &mut Session, number: u64, log: u32)
-    ensures { session.new ≡ touched_session session.old number log }
-{
-    let remote = session.floor < number && log != 1 && log != 0;
-    session.clock = greater(session.clock, number);
-    if remote {
-        session.debt = greater(session.debt, number);
-    }
-}
-
 /// Its disk and its log, and what it has in memory.
 pub struct Store<D> {
     pub disk: D,
@@ -44,11 +25,12 @@ pub struct Store<D> {
     pub staged: Staged,
 }
 
-/// A disk on which log 1 stages. Each disk writes it as `log_calls::stage(self, log, 1, entry)`: the method of an impl may not call
+/// A disk on which a log stages. Each disk writes it as `log_calls::stage(self, log, own, entry)`: the method of an impl may not call
 /// what is generic over its disk.
 pub trait Stages: Disk {
-    /// Puts the record of a change into log 1.
-    fn stage_on(&mut self, log: &mut WorkerLog, entry: &Record) -> Result<(), Staging>
+    /// Puts the record of a change into log `own`.
+    fn stage_on(&mut self, log: &mut WorkerLog, own: u32, entry: &Record) -> Result<(), Staging>
+        requires number { own ≤ 16 }
         requires fits { Fits entry.now }
         requires rises { log.old.last < entry.now.gsn }
         ensures ranges { IsInRange log.new }
@@ -57,18 +39,24 @@ pub trait Stages: Disk {
         ensures room { OnOk result (used log.new + 1 ≤ log.new.blocks) }
         ensures same_log { IsErr result → log.new ≡ log.old }
         ensures same_disk { IsErrAnd result IsLogFull → self.new ≡ self.old }
-        ensures stands { OnOk result (StagesOn 1 entry.now log.old log.new (Self.story self.old) (Self.story self.new)) }
-        ensures any_moment { KeepsMoments 1 log.old (Self.story self.old) (Self.story self.new) }
-        ensures told { KeepsNotes 1 log.old (Self.story self.old) (Self.story self.new) }
-        ensures within { KeepsWithin 1 log.old (Self.story self.old) (Self.story self.new) }
-        ensures frame { Framed 2 (Self.story self.old) (Self.story self.new) }
+        ensures stands { OnOk result (StagesOn own entry.now log.old log.new (Self.story self.old) (Self.story self.new)) }
+        ensures any_moment { KeepsMoments own log.old (Self.story self.old) (Self.story self.new) }
+        ensures told { KeepsNotes own log.old (Self.story self.old) (Self.story self.new) }
+        ensures within { KeepsWithin own log.old (Self.story self.old) (Self.story self.new) }
+        ensures frame { Framed (own + 1) (Self.story self.old) (Self.story self.new) }
         ensures same_notes { (Self.story self.new).notes ≡ (Self.story self.old).notes }
 
         ensures cause_log_full { IsErrAnd result IsLogFull ↔ IsFull log.old }
         ensures cause_disk_fault { HasCause (Self.faults self.old) (Self.faults self.new) (result ≡ Err Staging.DiskFault) };
 
-    /// Puts the record of a change that is put back into log 1, in the blocks that are kept back for ends too.
-    fn stage_back_on(&mut self, log: &mut WorkerLog, entry: &Record) -> Result<(), DiskFault>
+    /// Puts the record of a change that is put back into log `own`, in the blocks that are kept back for ends too.
+    fn stage_back_on(
+        &mut self,
+        log: &mut WorkerLog,
+        own: u32,
+        entry: &Record,
+    ) -> Result<(), DiskFault>
+        requires number { own ≤ 16 }
         requires fits { Fits entry.now }
         requires rises { log.old.last < entry.now.gsn }
         requires room { used log.old + 1 ≤ log.old.blocks }
@@ -76,23 +64,28 @@ pub trait Stages: Disk {
         ensures after { OnOk result (After entry.now log.old log.new) }
         ensures last { OnOk result (log.new.last ≡ entry.now.gsn) }
         ensures failed { IsErr result → log.new ≡ log.old }
-        ensures stands { OnOk result (StagesOn 1 entry.now log.old log.new (Self.story self.old) (Self.story self.new)) }
-        ensures any_moment { KeepsMoments 1 log.old (Self.story self.old) (Self.story self.new) }
-        ensures told { KeepsNotes 1 log.old (Self.story self.old) (Self.story self.new) }
-        ensures within { KeepsWithin 1 log.old (Self.story self.old) (Self.story self.new) }
-        ensures frame { Framed 2 (Self.story self.old) (Self.story self.new) }
+        ensures stands { OnOk result (StagesOn own entry.now log.old log.new (Self.story self.old) (Self.story self.new)) }
+        ensures any_moment { KeepsMoments own log.old (Self.story self.old) (Self.story self.new) }
+        ensures told { KeepsNotes own log.old (Self.story self.old) (Self.story self.new) }
+        ensures within { KeepsWithin own log.old (Self.story self.old) (Self.story self.new) }
+        ensures frame { Framed (own + 1) (Self.story self.old) (Self.story self.new) }
         ensures same_notes { (Self.story self.new).notes ≡ (Self.story self.old).notes }
 
         ensures cause_disk_fault { HasCause (Self.faults self.old) (Self.faults self.new) (IsErr result) };
 }
 
 impl Stages for MemDisk {
-    fn stage_on(&mut self, log: &mut WorkerLog, entry: &Record) -> Result<(), Staging> {
-        log_calls::stage(self, log, 1, entry)
+    fn stage_on(&mut self, log: &mut WorkerLog, own: u32, entry: &Record) -> Result<(), Staging> {
+        log_calls::stage(self, log, own, entry)
     }
 
-    fn stage_back_on(&mut self, log: &mut WorkerLog, entry: &Record) -> Result<(), DiskFault> {
-        log_calls::stage_end(self, log, 1, entry)
+    fn stage_back_on(
+        &mut self,
+        log: &mut WorkerLog,
+        own: u32,
+        entry: &Record,
+    ) -> Result<(), DiskFault> {
+        log_calls::stage_end(self, log, own, entry)
     }
 }
 
@@ -119,7 +112,7 @@ impl<D: Stages> Draw for Store<D> {
     ghost use Rattle.std.specs.Prelude.{◌≡◌};
     ghost use Rattle.row_engine.specs.Staging.{Staging, session_clock};
 
-    ghost log_of = { λ s. 1 };
+    ghost log_of = { λ s. s.session.own };
 
     ghost txn_of = { λ s. s.session.txn };
 
@@ -129,10 +122,12 @@ impl<D: Stages> Draw for Store<D> {
 
     ghost staged_of = { λ s. s.staged.list };
 
+    ghost touches = { λ s t. t ≡ record s { session = record s.session { clock = t.session.clock; debt = t.session.debt } } };
+
     ghost stages = { λ s r t. Staging r s.session t.session s.staged.list t.staged.list s.log t.log (D.story s.disk) (D.story t.disk) (t.disk ≡ s.disk) (D.faults s.disk) (D.faults t.disk) };
 
     fn log(&self) -> u32 {
-        1
+        self.session.own
     }
 
     fn txn(&self) -> u64 {
@@ -140,7 +135,7 @@ impl<D: Stages> Draw for Store<D> {
     }
 
     fn touch(&mut self, number: u64, log: u32) {
-        touched(&mut self.session, number, log);
+        self.session.touch(number, log);
     }
 
     fn next(&mut self) -> u64 {
@@ -151,7 +146,10 @@ impl<D: Stages> Draw for Store<D> {
 
     fn stage(&mut self, entry: &Record) -> Result<(), Unstaged> {
         if takes_back(self.session.half, &self.log) {
-            return match self.disk.stage_back_on(&mut self.log, entry) {
+            return match self
+                .disk
+                .stage_back_on(&mut self.log, self.session.own, entry)
+            {
                 Ok(()) => {
                     self.staged = one_more::<Brand>(&self.staged, entry);
                     Ok(())
@@ -159,7 +157,7 @@ impl<D: Stages> Draw for Store<D> {
                 Err(DiskFault) => Err(Unstaged::DiskFault),
             };
         }
-        match self.disk.stage_on(&mut self.log, entry) {
+        match self.disk.stage_on(&mut self.log, self.session.own, entry) {
             Ok(()) => {
                 self.staged = one_more::<Brand>(&self.staged, entry);
                 Ok(())

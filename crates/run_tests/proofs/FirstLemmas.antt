@@ -260,7 +260,7 @@ module _ (g : Opening) where
 
   -- ## Events that leave the log as it was
 
-  idle_one : (s : State) (e : Event) (was is : Log) → is_step e ≡ false → is_structure e ≡ false → is_log e ≡ false → LogsOne g s e was is → is ≡ was
+  idle_one : (s : State) (e : Event) (was is : Log) → is_step e ≡ false → is_structure e ≡ false → is_log e ≡ false → LogsOne 1 g s e was is → is ≡ was
   idle_one s (Event.Change w p k v) was is a b c h = absurd (true≢false a)
   idle_one s (Event.Put_back w p) was is a b c h = absurd (true≢false a)
   idle_one s (Event.End w commit f) was is a b c h = absurd (true≢false a)
@@ -272,6 +272,6 @@ module _ (g : Opening) where
   idle_one s (Event.Flush w n) was is a b c h = absurd (true≢false c)
   idle_one s _ was is a b c h = h
 
-  pub idle_log : (s : State) (es : List Event) (was is : Log) → AreIdle es → Logs g s es was is → is ≡ was
+  pub idle_log : (s : State) (es : List Event) (was is : Log) → AreIdle es → Logs 1 g s es was is → is ≡ was
   idle_log s [] was is i h = h
   idle_log s (e ∷ es) was is i h = idle_log (step g s e) es h.0 is i.3 h.2 ∙ idle_one s e was h.0 i.0 i.1 i.2 h.1

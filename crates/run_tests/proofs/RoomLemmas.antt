@@ -23,7 +23,7 @@ has_behind [] y ys = inl refl
 has_behind (x ∷ xs) y ys = inr (has_behind xs y ys)
 
 -- the events of each kind change no tree, or put nothing back
-back_grows_none : (e : Event) → puts_back e ≡ true → is_structure e ≡ false
+back_grows_none : (e : Event) → puts_back 1 e ≡ true → is_structure e ≡ false
 back_grows_none (Event.Split w l r q i) back = absurd (true≢false (sym back))
 back_grows_none (Event.Lift w c) back = absurd (true≢false (sym back))
 back_grows_none (Event.Join w l r q) back = absurd (true≢false (sym back))
@@ -51,19 +51,19 @@ module _ (input : List ℕ) (g : Opening) (heard : List Done) (es : List Event) 
     such = such;
   }
 
-structure : (input : List ℕ) (g : Opening) (heard : List Done) (es : List Event) (c : Call) → CallFits c → ComesNext (script_of (calls_of heard)) (ask 1 c) input → IsRoomFor g heard c es → (Asks IsPut input → ⊥) → any is_structure es ≡ false
+structure : (input : List ℕ) (g : Opening) (heard : List Done) (es : List Event) (c : Call) → CallFits c → ComesNext (script_of (calls_of heard)) (ask 1 c) input → IsRoomFor g heard 1 c es → (Asks IsPut input → ⊥) → any is_structure es ≡ false
 structure input g heard es (call.Put key value) fits line room none = absurd (none (asks input g heard es (call.Put key value) fits line IsPut tt))
 structure input g heard es (call.Del key) fits line room none = room.1
-structure input g heard es call.Abort fits line backs none = each_none puts_back is_structure back_grows_none es backs
+structure input g heard es call.Abort fits line backs none = each_none (puts_back 1) is_structure back_grows_none es backs
 structure input g heard es _ fits line loads none = loads_none is_structure (λ p f. refl) es loads
 
-backs : (input : List ℕ) (g : Opening) (heard : List Done) (es : List Event) (c : Call) → CallFits c → ComesNext (script_of (calls_of heard)) (ask 1 c) input → IsRoomFor g heard c es → (Asks IsAbort input → ⊥) → any is_back es ≡ false
+backs : (input : List ℕ) (g : Opening) (heard : List Done) (es : List Event) (c : Call) → CallFits c → ComesNext (script_of (calls_of heard)) (ask 1 c) input → IsRoomFor g heard 1 c es → (Asks IsAbort input → ⊥) → any is_back es ≡ false
 backs input g heard es (call.Put key value) fits line room none = each_none makes_room is_back room_backs_none es room.0
 backs input g heard es (call.Del key) fits line room none = each_none makes_room is_back room_backs_none es room.0
 backs input g heard es call.Abort fits line room none = absurd (none (asks input g heard es call.Abort fits line IsAbort tt))
 backs input g heard es _ fits line loads none = loads_none is_back (λ p f. refl) es loads
 
-loads : (input : List ℕ) (g : Opening) (heard : List Done) (es : List Event) (c : Call) → CallFits c → ComesNext (script_of (calls_of heard)) (ask 1 c) input → IsRoomFor g heard c es
+loads : (input : List ℕ) (g : Opening) (heard : List Done) (es : List Event) (c : Call) → CallFits c → ComesNext (script_of (calls_of heard)) (ask 1 c) input → IsRoomFor g heard 1 c es
     → (Asks IsPut input → ⊥) → (Asks IsDel input → ⊥) → (Asks IsAbort input → ⊥) → AreLoads es
 loads input g heard es (call.Put key value) fits line room put del abort = absurd (put (asks input g heard es (call.Put key value) fits line IsPut tt))
 loads input g heard es (call.Del key) fits line room put del abort = absurd (del (asks input g heard es (call.Del key) fits line IsDel tt))

@@ -28,12 +28,12 @@ use Rattle.core_state.specs.States.{State, Worker, start}
 use Rattle.core_state.specs.Steps.{begun, run, state_after}
 use Rattle.core_state.proofs.Runs.{run_more}
 use Rattle.core_calls.specs.Deeds.{Deed, Begun, Committed, Aborted, Refused, Unsaid, answered, asked, marks_for, marks_of, reads_of}
-use Rattle.core_calls.specs.Fronts.{Done, front}
+use Rattle.core_calls.specs.Fronts.{Done, front, outcomes}
 use Rattle.core_calls.specs.LogEvents.{RefusedLogs, behind, is_log}
 use Rattle.core_calls.specs.Marks.{Mark, Began, Ended, is_half}
 use Rattle.core_calls.specs.Runs.{IsRefused, Tells}
 use Rattle.core_calls.specs.Steps.{IsBehind, hindered_in, is_change_call, is_structure}
-use Rattle.engine_trait.specs.Calls.{Answers, is_half_done}
+use Rattle.engine_trait.specs.Calls.{Answers, call_behind, due_call, is_half_done}
 use Rattle.engine_trait.specs.Limits.{limits}
 use Rattle.engine_trait.specs.Refusals.{in_transaction, log_refusal, refusal_in}
 use Rattle.worker_log.specs.Logs.{Log}
@@ -159,11 +159,11 @@ by_one d us es = record { outcome = record { session = 1; deed = d; unsaid = us 
 is_by_one : (x : Done) → x.outcome.session ≡ 1 → x ≡ by_one x.outcome.deed x.outcome.unsaid x.events
 is_by_one x e = ap (λ (w : ℕ). record { outcome = record { session = w; deed = x.outcome.deed; unsaid = x.outcome.unsaid }; events = x.events }) e
 
--- Where the tests refuse nothing behind its events, no refusal is answered: no latch is spent yet.
+-- Where the tests refuse nothing behind its events, and it asks what its line does, no refusal is answered: no latch is spent yet.
 not_refused : (g : Opening) (xs : List Done) (was is : Log) (c : Call) (why : Refusal) (backs : List Step) (us : List Unsaid) (es : List Event) → let x : Done = by_one (Refused c why backs) us es in
-    Answers g xs x was is → Tells limits g 1 xs x → length (front xs) ≤ 2 ^ 18 → refusal_in g (state_after g (front xs ++ es)) (is_half_done xs) is c ≡ None → ⊥
-not_refused g xs was is c why backs us es a t few none = elim (a.refused why refl) [
-  | inl there ↦ let clash : None ≡ Some why = sym none ∙ there in absurd (cc)
+    Answers g xs x was is → Tells limits g 1 xs x → call_behind (outcomes xs) c ≡ c → length (front xs) ≤ 2 ^ 18 → refusal_in g (state_after g (front xs ++ es)) 1 (is_half_done 1 xs) is c ≡ None → ⊥
+not_refused g xs was is c why backs us es a t own few none = elim (a.refused why refl) [
+  | inl there ↦ let clash : None ≡ Some why = sym none ∙ (ap (refusal_in g (state_after g (front xs ++ es)) 1 (is_half_done 1 xs) is) (sym own) ∙ there) in absurd (cc)
   | inr spent ↦
       let r = subst (λ (w : Refusal). IsRefused limits g xs (by_one (Refused c why backs) us es) (Refused c w backs)) spent t.refused in
       let e : length es ≡ length (r.0 ++ r.1) = ap (λ (l : List Event). length l) r.2 in
@@ -195,7 +195,7 @@ record HasBegun (g : Opening) (d : Deed) (es : List Event) : Type 0 where
   session : (state_after g es).worker 1 ≡ begun ((start g).worker 1) floor
 
 -- behind a begin no abort is half done
-half_of_begun : (x : Done) → x.outcome.deed ≡ Begun 1 → is_half_done (x ∷ []) ≡ false
+half_of_begun : (x : Done) → x.outcome.deed ≡ Begun 1 → is_half_done 1 (x ∷ []) ≡ false
 half_of_begun x e = at (x.outcome.session == 1)
   where
     at : (b : Bool) → is_half (cond b (marks_for x.outcome ++ []) []) ≡ false
@@ -233,20 +233,20 @@ module _ (master : EveryMasterIn) (s : Story) (locks base : ℕ) (at : BeginsAt 
       ∙ ap (λ (b : Bool). cond b (Some ClockSpent) None) clock)
 
   -- where the session and the log stand as at the start
-  begin_open : (es : List Event) (log : Log) → (state_after g es).worker ≡ (start g).worker → log ≡ y.first → refusal_in g (state_after g es) false log call.Begin ≡ None
+  begin_open : (es : List Event) (log : Log) → (state_after g es).worker ≡ (start g).worker → log ≡ y.first → refusal_in g (state_after g es) 1 false log call.Begin ≡ None
   begin_open es log same is =
       ap (λ (r : ℕ → Worker). cond (r 1).is_open (Some InTransaction) (log_refusal (r 1).clock log None)) same ∙ (ap (λ (l : Log). log_refusal g.base l None) is ∙ open_log)
 
   -- as they do behind a begin that is refused
   begin_refused : (d : Call) (why : Refusal) (backs : List Step) (us : List Unsaid) (es : List Event) (before after : Log) → d ≡ call.Begin → Tells limits g 1 [] (by_one (Refused d why backs) us es) → Answers g [] (by_one (Refused d why backs) us es) before after →
-      before ≡ y.first → refusal_in g (state_after g es) false after d ≡ None
+      before ≡ y.first → refusal_in g (state_after g es) 1 false after d ≡ None
   begin_refused d why backs us es before after c t a log =
       let calm = t.structure (ap is_change_call c) in
       let none = begin_logs g why (keep is_log es) (subst (λ (e : Call). RefusedLogs limits g [] 1 e why (keep is_log es)) c t.logs) in
       let quiet = still es calm none in
       let steps = tries_none g (start g) es t.met quiet t.steps.2 refl in
       let own = idle_behind a.first a.own (subst AreIdle a.events (idle es calm none steps)) in
-      ap (refusal_in g (state_after g es) false after) c
+      ap (refusal_in g (state_after g es) 1 false after) c
       ∙ begin_open es after (same_run g (start g) es quiet steps) (idle_log g (state_after g (front [] ++ a.first)) a.own before after own a.log ∙ log)
 
   begins : (d : Deed) (us : List Unsaid) (es : List Event) (before after : Log) → asked d ≡ call.Begin → Tells limits g 1 [] (by_one d us es) → Answers g [] (by_one d us es) before after → before ≡ y.first → HasBegun g d es
@@ -256,17 +256,17 @@ module _ (master : EveryMasterIn) (s : Story) (locks base : ℕ) (at : BeginsAt 
       record { deed = ap as_begun (sym (t.told 1) ∙ tells); floor = t.steps.1; session = begun_at g (start g) es t.steps.1 t.met calm t.steps.2 }
   begins (Aborted d n at backs) us es before after c t a log = let abort : d ≡ call.Abort = t.hindered in absurd (cc)
   begins (Refused d why backs) us es before after c t a log =
-      absurd (not_refused g [] before after d why backs us es a t (omega arith) (begin_refused d why backs us es before after c t a log))
+      absurd (not_refused g [] before after d why backs us es a t refl (omega arith) (begin_refused d why backs us es before after c t a log))
   begins _ us es before after c t a log = absurd (cc)
 
   module _ (x : Done) (few : length x.events ≤ 2 ^ 18) (b : HasBegun g x.outcome.deed x.events) where
     -- behind a commit that is refused the transaction is open as before
-    commit_open : (d : Call) (why : Refusal) (backs : List Step) (us : List Unsaid) (es : List Event) (log : Log) → d ≡ call.Commit → Tells limits g 1 (x ∷ []) (by_one (Refused d why backs) us es) → refusal_in g (state_after g (x.events ++ es)) (is_half_done (x ∷ [])) log d ≡ None
+    commit_open : (d : Call) (why : Refusal) (backs : List Step) (us : List Unsaid) (es : List Event) (log : Log) → d ≡ call.Commit → Tells limits g 1 (x ∷ []) (by_one (Refused d why backs) us es) → refusal_in g (state_after g (x.events ++ es)) 1 (is_half_done 1 (x ∷ [])) log d ≡ None
     commit_open d why backs us es log c t =
         let calm = t.structure (ap is_change_call c) in
         let stays = tries_open g (state_after g x.events) es t.met calm t.steps.2 (ap (λ (w : Worker). w.is_open) b.session) in
-        ap (refusal_in g (state_after g (x.events ++ es)) (is_half_done (x ∷ [])) log) c
-        ∙ (ap (λ (half : Bool). in_transaction (state_after g (x.events ++ es)) half None) (half_of_begun x b.deed)
+        ap (refusal_in g (state_after g (x.events ++ es)) 1 (is_half_done 1 (x ∷ [])) log) c
+        ∙ (ap (λ (half : Bool). in_transaction (state_after g (x.events ++ es)) 1 half None) (half_of_begun x b.deed)
         ∙ (ap (λ (z : State). cond (z.worker 1).is_open None (Some NoTransaction)) (run_more g (start g) x.events es)
         ∙ ap (λ (o : Bool). cond o None (Some NoTransaction)) stays))
 
@@ -280,7 +280,7 @@ module _ (master : EveryMasterIn) (s : Story) (locks base : ℕ) (at : BeginsAt 
         let abort : d ≡ call.Abort = subst (λ (e : Deed). IsBehind (hindered_in e) x.outcome.session (by_one (Aborted d n at backs) us es).outcome) b.deed t.hindered in
         absurd (cc)
     commits (Refused d why backs) us es was is c t a =
-        absurd (not_refused g (x ∷ []) was is d why backs us es a t few (commit_open d why backs us es is c t))
+        absurd (not_refused g (x ∷ []) was is d why backs us es a t (ap (λ (e : Deed). due_call (hindered_in e) d) b.deed) few (commit_open d why backs us es is c t))
     commits _ us es was is c t a = absurd (cc)
 
   -- the oldest call is a begin

@@ -85,7 +85,7 @@ EveryDurableIsFound s = (m : Master) (input output : List ℕ) (c : Crash) (x : 
 
 -- The disk tells of its areas, and by its master no number is greater than this one, which is below the end of the clock.
 pub record BeginsAt (s : Story) (base : ℕ) : Type 0 where
-  pub tells : TellsAll s
+  pub tells : TellsAll 1 s
   pub m : Master
   pub master : master_on (areas_of s 0) ≡ Some m
   pub greatest : IsGreatest (image_by m (areas_of s)) base

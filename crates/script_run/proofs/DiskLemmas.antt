@@ -27,7 +27,7 @@ use Rattle.core_disk.specs.Shows.{EveryShown}
 use Rattle.core_calls.specs.Crashes.{EveryRunCrash}
 use Rattle.worker_log.specs.Logs.{Log}
 use Rattle.core_calls.specs.Deeds.{commits}
-use Rattle.core_calls.specs.Fronts.{Done, front}
+use Rattle.core_calls.specs.Fronts.{Done, front, outcomes}
 use Rattle.core_calls.specs.Marks.{Ended, Mark, back_in, mark, marks, met_in, onto}
 use Rattle.core_calls.specs.Printed.{printed}
 use Rattle.core_calls.specs.Steps.{is_structure}
@@ -38,12 +38,12 @@ use Rattle.log_calls.specs.Calls.{Anything}
 use Rattle.run_crashes.specs.Laws.{CommitsNone, OfEachFirst}
 use Rattle.run_crashes.specs.Lines.{CallLeaves, NoneStopped, RunLeft, lines_of, notes_of}
 use Rattle.run_crashes.proofs.LineLemmas.{every_crashed_line_for, every_stop_for, wider}
-use Rattle.engine_calls.specs.Clauses.{Between}
+use Rattle.engine_calls.specs.Clauses.{Between, IsNewLine}
 use Rattle.engine_calls.specs.Runs.{LineCrash, LinesOut, Runs}
 use Rattle.engine_calls.proofs.MarkLemmas.{either_false}
 use Rattle.engine_calls.proofs.MomentLemmas.{still}
 use Rattle.engine_calls.proofs.RunLemmas.{every_run_for, line}
-use Rattle.engine_trait.specs.Calls.{Keeps, Stops, Stops as stops}
+use Rattle.engine_trait.specs.Calls.{Keeps, Stops, Stops as stops, call_behind, due_call}
 use Rattle.engine_trait.specs.Limits.{AreLoads, limits}
 use Rattle.engine_trait.specs.Rooms.{IsRoomFor, MakesRoom, makes_room, puts_back}
 use Rattle.script_lang.specs.Reading.{Unread}
@@ -108,7 +108,7 @@ room_ends_none : (e : Event) → makes_room e ≡ true → ends e ≡ false
 room_ends_none (Event.End w commit f) room = absurd (true≢false (sym room))
 room_ends_none _ room = refl
 
-back_ends_none : (e : Event) → puts_back e ≡ true → ends e ≡ false
+back_ends_none : (e : Event) → puts_back 1 e ≡ true → ends e ≡ false
 back_ends_none (Event.End w commit f) back = absurd (true≢false (sym back))
 back_ends_none _ back = refl
 
@@ -117,14 +117,14 @@ loads_end_none [] loads = refl
 loads_end_none (Event.Load p f ∷ es) loads = loads_end_none es loads
 loads_end_none (_ ∷ es) loads = absurd loads
 
-ends_none : (g : Opening) (xs : List Done) (c : Call) (es : List Event) → IsRoomFor g xs c es → any ends es ≡ false
+ends_none : (g : Opening) (xs : List Done) (c : Call) (es : List Event) → IsRoomFor g xs 1 c es → any ends es ≡ false
 ends_none g xs (call.Put key value) es room = each_none makes_room ends room_ends_none es room.0
 ends_none g xs (call.Del key) es room = each_none makes_room ends room_ends_none es room.0
-ends_none g xs call.Abort es backs = each_none puts_back ends back_ends_none es backs
+ends_none g xs call.Abort es backs = each_none (puts_back 1) ends back_ends_none es backs
 ends_none g xs _ es loads = loads_end_none es loads
 
 -- such events commit nothing
-room_commits_none : (g : Opening) (xs : List Done) (c : Call) (es : List Event) → IsRoomFor g xs c es → CommitsNone g xs es
+room_commits_none : (g : Opening) (xs : List Done) (c : Call) (es : List Event) → IsRoomFor g xs 1 c es → CommitsNone g xs es
 room_commits_none g xs c es room w = marks_no_end g (state_after g (front xs)) es w [] (ends_none g xs c es room)
 
 -- the first events of those that each pass a test, of those of which none does, of loads, and of those that make room
@@ -149,15 +149,20 @@ front_makes : (g : Opening) (s : State) (key : ℕ) (first rest : List Event) �
 front_makes g s key [] rest makes = tt
 front_makes g s key (e ∷ first) rest makes = (makes.0, front_makes g (step g s e) key first rest makes.1)
 
-front_for : (g : Opening) (xs : List Done) (c : Call) (first rest : List Event) → IsRoomFor g xs c (first ++ rest) → IsRoomFor g xs c first
+front_for : (g : Opening) (xs : List Done) (c : Call) (first rest : List Event) → IsRoomFor g xs 1 c (first ++ rest) → IsRoomFor g xs 1 c first
 front_for g xs (call.Put key value) first rest room = (front_of_all makes_room first rest room.0, front_makes g (state_after g (front xs)) key first rest room.1)
 front_for g xs (call.Del key) first rest room = (front_of_all makes_room first rest room.0, front_of_none is_structure first rest room.1)
-front_for g xs call.Abort first rest backs = front_of_all puts_back first rest backs
+front_for g xs call.Abort first rest backs = front_of_all (puts_back 1) first rest backs
 front_for g xs _ first rest loads = front_of_loads first rest loads
 
 -- and the first of them are such events too
-stopped_of_each_first : (g : Opening) (xs : List Done) (c : Call) (es : List Event) → IsRoomFor g xs c es → OfEachFirst (StoppedIn g xs c xs) es
-stopped_of_each_first g xs c es room first rest is = (refl, front_for g xs c first rest (subst (IsRoomFor g xs c) (sym is) room))
+stopped_of_each_first : (g : Opening) (xs : List Done) (c : Call) (es : List Event) → IsRoomFor g xs 1 c es → OfEachFirst (StoppedIn g xs c xs) es
+stopped_of_each_first g xs c es room first rest is = (refl, front_for g xs c first rest (subst (IsRoomFor g xs 1 c) (sym is) room))
+
+-- on a new line a call is what its line asks
+line_call : (xs : List Done) (c : Call) → IsNewLine (outcomes xs) → call_behind (outcomes xs) c ≡ c
+line_call [] c line = refl
+line_call (y ∷ earlier) c line = ap (λ (o : Option Call). due_call o c) line.0
 
 -- a run without such a call
 unstopped : (g : Opening) (Such : List Done → List Event → Type 0) (s0 : Crash) (m : Master) (xs : List Done) (from now : Story) → LeavesOnly from now (RunLeft g NoneStopped xs s0 m) → LeavesOnly from now (RunLeft g Such xs s0 m)
@@ -291,15 +296,16 @@ module _ (laws : Laws) (g : Opening) (s0 : Crash) (m : Master) where
     }
 
     -- the disk failed
-    pub stopped : (mid : Story) (c : Call) → Stops g xs c s0 k old mid → CallMissing g xs c s0 m old mid
-    stopped mid c (stops.Nothing es room l) =
+    pub stopped : (mid : Story) (c : Call) → IsNewLine (outcomes xs) → Stops g 1 xs 1 c s0 k old mid → CallMissing g xs c s0 m old mid
+    stopped mid c line (stops.Nothing es behind l) =
+        let room : IsRoomFor g xs 1 c es = subst (λ (d : Call). IsRoomFor g xs 1 d es) (line_call xs c line) behind in
         missing.Nothing ((every_stop_for laws.shown laws.crashes laws.agrees (StoppedIn g xs c) old old mid limits g 1 s0 m k.master xs).nothing es between.told (room_commits_none g xs c es room)
         (stopped_of_each_first g xs c es room) of_run (unstopped g (StoppedIn g xs c) s0 m xs old old rests.any_moment) l)
-    stopped mid c (stops.Part x asks session tells l) =
+    stopped mid c line (stops.Part x asks session tells l) =
         missing.Part x asks session tells ((every_stop_for laws.shown laws.crashes laws.agrees NoneStopped old old mid limits g 1 s0 m k.master xs).part x (between.told, tells) of_run rests.any_moment l)
 
     -- it was answered, and these lines of it were put
-    module _ (x : Done) (log : Log) (mid new : Story) (frame : Framed 2 old mid) (kept : Keeps g xs x s0 k log old mid) (told : List Reply) (notes : OnlyNotes told mid new) (puts : LeavesOnly mid new (PutLeaves told mid)) (few : old.notes + length told < 2 ^ 64) where
+    module _ (x : Done) (session : x.outcome.session ≡ 1) (log : Log) (mid new : Story) (frame : Framed 2 old mid) (kept : Keeps g 1 xs x s0 k log old mid) (told : List Reply) (notes : OnlyNotes told mid new) (puts : LeavesOnly mid new (PutLeaves told mid)) (few : old.notes + length told < 2 ^ 64) where
       crash : (lacks : List Reply) → lacks ++ told ≡ lines_of g xs x → (c : Crash) → PutLeaves told mid c → LineCrash g xs x s0 mid c
       crash lacks all c p =
           let size : length (p.later ++ p.first) ≡ length p.later + length p.first = length-append p.later p.first in
@@ -342,7 +348,7 @@ module _ (laws : Laws) (g : Opening) (s0 : Crash) (m : Master) where
       all_out : told ≡ lines_of g xs x → RunStands g (x ∷ xs) s0 m k old new log
       all_out all = record {
         known = kept.answers.known;
-        log_is = kept.log_is;
+        log_is = ap (λ (w : ℕ). kept.answers.known.log w) (sym session) ∙ kept.log_is;
         master_is = kept.master_is;
         runs = (every_run_for laws.shown laws.crashes laws.agrees laws.keeps laws.prefixes laws.seals NoneStopped old old mid new limits g 1 s0 m k).answered xs x rests kept.answers (out all);
       }
@@ -352,7 +358,7 @@ module _ (laws : Laws) (g : Opening) (s0 : Crash) (m : Master) where
         any_moment = line laws.shown laws.crashes laws.agrees laws.keeps laws.prefixes laws.seals NoneStopped limits g 1 s0 m k old old mid new xs x rests kept.answers (lines lacks all);
         known = kept.answers.known;
         stands = every_same mid new s0 g (front (x ∷ xs)) kept.answers.known kept.answers.stands tells (λ a high. notes.area a);
-        log_is = kept.log_is;
+        log_is = ap (λ (w : ℕ). kept.answers.known.log w) (sym session) ∙ kept.log_is;
         master_is = kept.master_is;
       }
 

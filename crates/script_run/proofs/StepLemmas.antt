@@ -2,6 +2,7 @@
 use Rattle.std.proofs.Common.{◌≡◌, ◌++◌, ◌∷◌, [], ◌≤◌, ◌<◌, ◌+◌, ◌^◌, ℕ, suc, List, Option, Some, None, length, refl, sym, ap, ◌∙◌, subst, arith}
 use Rattle.std.proofs.lemmas.List.{append-nil}
 use Rattle.lean_edge.specs.Outside.{Feed, Held}
+use Rattle.lean_disk.specs.Moments.{CrashIn, LeavesOnly}
 use Rattle.lean_disk.specs.Story.{IsLawful, Story}
 use Rattle.lean_disk.proofs.MomentLemmas.{then}
 use Rattle.map_model.specs.declared.call.Call.{Call}
@@ -13,10 +14,12 @@ use Rattle.map_model.specs.Pairings.{script_of}
 use Rattle.core_state.specs.Openings.{Opening}
 use Rattle.worker_log.specs.Logs.{Log}
 use Rattle.core_calls.specs.Deeds.{in_words}
-use Rattle.core_calls.specs.Fronts.{Done}
+use Rattle.core_calls.specs.Fronts.{Done, outcomes}
 use Rattle.core_calls.specs.Printed.{printed}
 use Rattle.core_calls.specs.Runs.{EachTells}
+use Rattle.log_calls.specs.Calls.{Anything}
 use Rattle.run_crashes.specs.Lines.{lines_of}
+use Rattle.engine_calls.specs.Clauses.{IsNewLine}
 use Rattle.engine_trait.specs.Calls.{Does, Fails, IsWithin}
 use Rattle.engine_trait.specs.Limits.{limits}
 use Rattle.script_lang.specs.Lines.{CallFits}
@@ -94,9 +97,9 @@ module _ (laws : Laws) (g : Opening) (xs : List Done) (log0 : Log) (old : Story)
 
   module _ (call : Call) (fits : CallFits call) (mid : Story) where
     -- the disk failed in the call
-    fault_step : (log1 : Log) → Fails g xs call log0 old mid → (before : ℕ) (start feed : Feed) (seen : List ℕ) (reader : Unread) (held : Held) → before < 2 ^ 40 → Reading start feed reader (seen ++ (ask 1 call ++ 10 ∷ []))
+    fault_step : (log1 : Log) → IsNewLine (outcomes xs) → Fails g 1 xs 1 call log0 old mid → (before : ℕ) (start feed : Feed) (seen : List ℕ) (reader : Unread) (held : Held) → before < 2 ^ 40 → Reading start feed reader (seen ++ (ask 1 call ++ 10 ∷ []))
         → ScriptRuns (Some DiskFault) g xs before start seen log0 log1 reader feed held held old mid
-    fault_step log1 fails before start feed seen reader held few reading = record {
+    fault_step log1 line fails before start feed seen reader held few reading = record {
       newer = [];
       fits = tt;
       few = omega arith;
@@ -120,20 +123,20 @@ module _ (laws : Laws) (g : Opening) (xs : List Done) (log0 : Log) (old : Story)
       };
       disk = λ s0 m k between of_run log_is room.
           let l = fails.leaves s0 k between log_is in
-          (stays_call 0 old mid l.within, stopped laws g s0 m xs k old law between of_run mid call l.stops);
+          (stays_call 0 old mid l.within, stopped laws g s0 m xs k old law between of_run mid call line l.stops);
     }
 
-    pub fault_stepped : (log1 : Log) → Fails g xs call log0 old mid → (before : ℕ) (start feed : Feed) (seen : List ℕ) (reader : Unread) (held : Held) → before < 2 ^ 40 → Reading start feed reader (seen ++ (ask 1 call ++ 10 ∷ []))
+    pub fault_stepped : (log1 : Log) → IsNewLine (outcomes xs) → Fails g 1 xs 1 call log0 old mid → (before : ℕ) (start feed : Feed) (seen : List ℕ) (reader : Unread) (held : Held) → before < 2 ^ 40 → Reading start feed reader (seen ++ (ask 1 call ++ 10 ∷ []))
         → Stepped Stands 1 (Some DiskFault) g xs before start seen log0 log1 reader feed held held old mid
     unfolding fault_step
-    fault_stepped log1 fails before start feed seen reader held few reading = record {
-      run = fault_step log1 fails before start feed seen reader held few reading;
+    fault_stepped log1 line fails before start feed seen reader held few reading = record {
+      run = fault_step log1 line fails before start feed seen reader held few reading;
       in_run = λ never. absurd (never refl);
       count_is = λ none. let e : Some DiskFault ≡ None = none in cc;
     }
 
     -- it was answered
-    module _ (one : g.workers ≡ 1) (a : Answer) (a_fits : AnswerFits a) (log1 log2 : Log) (does : Does g xs call a log0 log1 old mid) (tells : EachTells limits g 1 (does.done ∷ xs))
+    module _ (one : g.workers ≡ 1) (line : IsNewLine (outcomes xs)) (a : Answer) (a_fits : AnswerFits a) (log1 log2 : Log) (does : Does g 1 xs 1 call a log0 log1 old mid) (tells : EachTells limits g 1 (does.done ∷ xs))
         (stop : Option Stop) (h0 h1 : Held) (new : Story) (said : Says a stop h0 h1 mid new) (logged : log2 ≡ log1) where
       abbrev x1 : Answered
       x1 = record { session = 1; call = call; answer = a }
@@ -162,7 +165,7 @@ module _ (laws : Laws) (g : Opening) (xs : List Done) (log0 : Log) (old : Story)
         fits = fits_here;
         few = omega arith;
         log = log1;
-        executes = (log0, refl, does.session, does.tells, does.how);
+        executes = (log0, refl, does.session, does.tells, does.how, line);
         log_is = λ never. logged;
         reads = reads_here before start feed seen reader reading;
         told = said.told;
@@ -181,8 +184,8 @@ module _ (laws : Laws) (g : Opening) (xs : List Done) (log0 : Log) (old : Story)
         };
         disk = λ s0 m k between of_run log_is room.
             let kept = does.keeps s0 k between log_is in (
-              then old mid new (StaysIn2 (length said.told) old) (stays_call (length said.told) old mid kept.within) (stays_put said.told old mid new does.frame room said.any_moment),
-              answered laws g s0 m xs k old law between of_run does.done log1 mid new does.frame kept said.told said.notes said.any_moment room
+              then old mid new (StaysIn2 (length said.told) old) (stays_call (length said.told) old mid (subst (λ (w : ℕ). LeavesOnly old mid (CrashIn old (suc w) Anything)) does.session kept.within)) (stays_put said.told old mid new does.frame room said.any_moment),
+              answered laws g s0 m xs k old law between of_run does.done does.session log1 mid new does.frame kept said.told said.notes said.any_moment room
                   stop (suc (before + 1)) start feed reader (seen ++ asked_text (script_of (in_words does.done.outcome ∷ []))) (reads_here before start feed seen reader reading) said.tail said.of_putting
                   (subst (λ (all : List Reply). PrintsTo stop all said.told said.tail) (lines_here) prints_here),
             );

@@ -19,11 +19,11 @@ use Rattle.run_crashes.specs.Lines.{NoneStopped}
 use Rattle.run_crashes.specs.Lines.{NoneStopped}
 use Rattle.engine_calls.specs.Runs as runs
 use Rattle.worker_log.specs.Logs.{Log}
-use Rattle.core_calls.specs.Fronts.{Done}
+use Rattle.core_calls.specs.Fronts.{Done, outcomes}
 use Rattle.core_calls.specs.Printed.{printed}
 use Rattle.core_calls.specs.Runs.{Tells}
 use Rattle.disk_runs.specs.Stands.{Known}
-use Rattle.engine_calls.specs.Clauses.{Between}
+use Rattle.engine_calls.specs.Clauses.{Between, IsNewLine}
 use Rattle.engine_trait.specs.Calls.{Answers}
 use Rattle.engine_trait.specs.Limits.{limits}
 use Rattle.script_lang.specs.Reading.{Unread, Reading}
@@ -42,7 +42,7 @@ pub executes_then : (g : Opening) (xs ys zs : List Done) (log0 log1 log2 : Log) 
 executes_then g xs ys [] log0 log1 log2 first second = subst (Executes g xs log0 ys) (sym second) first
 executes_then g xs ys (z ∷ zs) log0 log1 log2 first second =
     let behind : zs ++ (ys ++ xs) ≡ (zs ++ ys) ++ xs = sym (append_assoc zs ys xs) in
-    (second.0, executes_then g xs ys zs log0 log1 second.0 first second.1, second.2, subst (λ (us : List Done). Tells limits g 1 us z) behind second.3, subst (λ (us : List Done). Answers g us z second.0 log2) behind second.4)
+    (second.0, executes_then g xs ys zs log0 log1 second.0 first second.1, second.2, subst (λ (us : List Done). Tells limits g 1 us z) behind second.3, subst (λ (us : List Done). Answers g us z second.0 log2) behind second.4, subst (λ (us : List Done). IsNewLine (outcomes us)) behind second.5)
 
 others_then : (first second : List Reply) (s0 s1 s2 : Story) → OthersStand first s0 s1 → OthersStand second s1 s2 → OthersStand (second ++ first) s0 s2
 others_then first second s0 s1 s2 p q = record {

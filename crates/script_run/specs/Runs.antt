@@ -19,7 +19,7 @@ use Rattle.core_calls.specs.Printed.{printed}
 use Rattle.core_calls.specs.Runs as told
 use Rattle.disk_runs.specs.Stands.{Known, Stands}
 use Rattle.run_crashes.specs.Lines.{NoneStopped, RunLeft}
-use Rattle.engine_calls.specs.Clauses.{Between}
+use Rattle.engine_calls.specs.Clauses.{Between, IsNewLine}
 use Rattle.engine_calls.specs.Runs as runs
 use Rattle.engine_trait.specs.Calls.{Answers}
 use Rattle.engine_trait.specs.Limits.{limits}
@@ -39,10 +39,10 @@ abbrev pub calls_of : List Done → List Answered
 calls_of xs = map in_words (outcomes xs)
 
 -- Behind the outcomes xs session 1 was answered call by call, the newest first: each outcome is told by its events, a refusal has its cause
--- and comes where it has, and the log has the records of its events.
+-- and comes where it has, the log has the records of its events, and the call stood on a new line, behind no conflict.
 abbrev pub Executes : Opening → List Done → Log → List Done → Log → Type 0
 Executes g xs log0 [] log = log ≡ log0
-Executes g xs log0 (x ∷ earlier) log = (before : Log) × Executes g xs log0 earlier before × (x.outcome.session ≡ 1) × told.Tells limits g 1 (earlier ++ xs) x × Answers g (earlier ++ xs) x before log
+Executes g xs log0 (x ∷ earlier) log = (before : Log) × Executes g xs log0 earlier before × (x.outcome.session ≡ 1) × told.Tells limits g 1 (earlier ++ xs) x × Answers g (earlier ++ xs) x before log × IsNewLine (outcomes (earlier ++ xs))
 
 -- ## What was read
 
@@ -138,7 +138,7 @@ pub record LinesMissing (g : Opening) (calls : List Done) (s0 : Crash) (m : Mast
 
 -- behind all of these outcomes, the events of this call, which was not answered
 abbrev pub StoppedIn : Opening → List Done → Call → List Done → List Event → Type 0
-StoppedIn g calls c heard es = (heard ≡ calls) × IsRoomFor g heard c es
+StoppedIn g calls c heard es = (heard ≡ calls) × IsRoomFor g heard 1 c es
 
 -- One more was asked and not answered: a crash leaves what the lines say, behind the calls that were answered, or in this one. There it fell behind
 -- some of the loads, locks and changes of the tree by which it made room for its key, or of the changes that it put back, if it is an abort, or behind the

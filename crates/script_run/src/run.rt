@@ -107,10 +107,10 @@ fn call_engine<D: Disk, E: Calls<D>>(engine: &mut E, call: &Call) -> Option<Answ
     requires within { IsWithin call.now }
     requires works { E.works engine.old ≡ true }
     ensures does { IfSome result (λ a. (g : Opening) (xs : List Done) → E.in_run engine.old g xs
-        → (d : Does g xs call.now a (E.log_of engine.old) (E.log_of engine.new) (E.story engine.old) (E.story engine.new)) × E.in_run engine.new g (d.done ∷ xs)) }
+        → (d : Does g 1 xs 1 call.now a (E.log_of engine.old) (E.log_of engine.new) (E.story engine.old) (E.story engine.new)) × E.in_run engine.new g (d.done ∷ xs)) }
     ensures fits { IfSome result AnswerFits }
     ensures works { IfSome result (λ a. E.works engine.new ≡ true) }
-    ensures fails { result ≡ None → (g : Opening) (xs : List Done) → E.in_run engine.old g xs → Fails g xs call.now (E.log_of engine.old) (E.story engine.old) (E.story engine.new) }
+    ensures fails { result ≡ None → (g : Opening) (xs : List Done) → E.in_run engine.old g xs → Fails g 1 xs 1 call.now (E.log_of engine.old) (E.story engine.old) (E.story engine.new) }
 
     ensures cause { HasCause (E.faults engine.old) (E.faults engine.new) (result ≡ None) }
 {

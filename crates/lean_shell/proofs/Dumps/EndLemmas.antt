@@ -50,7 +50,7 @@ pub record HasDone (s0 s : Story) : Type 0 where
   pub keeps : Keeps s0 s
   pub logs : (a : ℕ) → 1 < a → IsUntouched (s0.area a) (s.area a)
   pub others : (a : ℕ) → 2 < a → s.area a ≡ s0.area a
-  pub any : (m : Master) → TellsAll s0 → IsCleanDisk m (areas_of s0) → LeavesOnly s0 s (RecoveryLeaves m s0)
+  pub any : (m : Master) → TellsAll 1 s0 → IsCleanDisk m (areas_of s0) → LeavesOnly s0 s (RecoveryLeaves m s0)
 
 module _ (s0 s new : Story) (law : IsLawful s) (did : HasDone s0 s) (only : OnlyPuts s new) where
   logs_on : (a : ℕ) → 1 < a → IsUntouched (s0.area a) (new.area a)
@@ -67,7 +67,7 @@ module _ (s0 s new : Story) (law : IsLawful s) (did : HasDone s0 s) (only : Only
     later = let a = did.keeps.later in let b = only.later in omega arith;
   }
 
-  moments : TellsAll s0 → (m : Master) → IsCleanDisk m (areas_of s0) → LeavesOnly s0 new (DumpLeaves m s0)
+  moments : TellsAll 1 s0 → (m : Master) → IsCleanDisk m (areas_of s0) → LeavesOnly s0 new (DumpLeaves m s0)
   moments tells m clean = record {
     each = λ t c le left. ⊎_elim (λ was. dump_leaves m s0 c (run.each t c le was)) (λ now. then c now) (only.nothing_else t c left);
     before = λ t c left. ⊎_elim (λ was. ⊎_elim inl (λ has. inr (dump_leaves m s0 c has)) (run.before t c was)) (λ now. inr (then c now)) (only.nothing_else t c left);
@@ -99,9 +99,9 @@ installed_on m r s0 s new e x =
 
 -- what recovery gave
 pub record HasGiven (s0 s : Story) (r : Recovered) : Type 0 where
-  pub answer : TellsAll s0 → (m : Master) × IsOpenable m × IsRecovered m (areas_of s0) r
-  pub opened : TellsAll s0 → (m : Master) → IsCleanDisk m (areas_of s0) → IsOpened m (areas_of s0) r s
-  pub installed : TellsAll s0 → (m : Master) → master_on (areas_of s0 0) ≡ Some m → HasInstalled m r s0 s
+  pub answer : TellsAll 1 s0 → (m : Master) × IsOpenable 1 m × IsRecovered m (areas_of s0) r
+  pub opened : TellsAll 1 s0 → (m : Master) → IsCleanDisk m (areas_of s0) → IsOpened m (areas_of s0) r s
+  pub installed : TellsAll 1 s0 → (m : Master) → master_on (areas_of s0 0) ≡ Some m → HasInstalled m r s0 s
   pub whole : IsWhole r
 
 as_opened : (s0 s new : Story) (r : Recovered) → HasGiven s0 s r → ((a : ℕ) → new.area a ≡ s.area a) → IsAsOpened s0 new

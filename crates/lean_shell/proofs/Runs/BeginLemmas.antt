@@ -70,10 +70,10 @@ module _ (locks : ℕ) (r : Recovered) (s0 sa : Story) (g : Opening) (first : Lo
     }
 
   -- the disk was recovered by the master that counts
-  recovered : TellsAll s0 → (m : Master) → master_on (areas_of s0 0) ≡ Some m → IsRecovered m (areas_of s0) r
+  recovered : TellsAll 1 s0 → (m : Master) → master_on (areas_of s0 0) ≡ Some m → IsRecovered m (areas_of s0) r
   recovered tells m there = let a = x.answer tells in subst (λ (y : Master). IsRecovered y (areas_of s0) r) (some_is a.0 m (sym a.2.sound.master ∙ there)) a.2
 
-  log : TellsAll s0 → (m : Master) → master_on (areas_of s0 0) ≡ Some m → first ≡ first_log m g.base
+  log : TellsAll 1 s0 → (m : Master) → master_on (areas_of s0 0) ≡ Some m → first ≡ first_log m g.base
   log tells m there =
       let is = recovered tells m there in
       let f = x.from tells in

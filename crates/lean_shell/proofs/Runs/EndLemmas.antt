@@ -52,7 +52,7 @@ use Rattle.lean_shell.proofs.Runs.QuietLemmas.{master_leaves, run_leaves}
 -- ## A disk that was not opened, or a first line that was cut off
 
 module _ (locks : ℕ) (notice_law : EveryNotice) (s0 old new : Story) (law : IsLawful old) (keeps : Keeps s0 old)
-    (any : (m : Master) → TellsAll s0 → IsCleanDisk m (areas_of s0) → LeavesOnly s0 old (RecoveryLeaves m s0)) (feed : Feed) (n : Notice) (fits : NoticeFits n) (answer : Put) (held0 held1 : Held)
+    (any : (m : Master) → TellsAll 1 s0 → IsCleanDisk m (areas_of s0) → LeavesOnly s0 old (RecoveryLeaves m s0)) (feed : Feed) (n : Notice) (fits : NoticeFits n) (answer : Put) (held0 held1 : Held)
     (p : IsPut (line_of n) answer held0 held1 old new) where
   abbrev pub line_text : PutText (line_of n) answer held0 held1
   line_text = put_text (line_of n) answer held0 held1 p.puts
@@ -77,18 +77,18 @@ module _ (locks : ℕ) (notice_law : EveryNotice) (s0 old new : Story) (law : Is
   line_masters m all clean young = weaker s0 new (LivesOn locks m s0 feed.left line_text.text) (MasterLeaves locks m s0 feed.left line_text.text) (master_leaves locks m s0 feed.left line_text.text) (line_leaves m all clean young)
 
   -- the line tells of no call
-  pub line_says : EveryTail → TellsAll s0 → Headline s0 new feed.left line_text.text
+  pub line_says : EveryTail → TellsAll 1 s0 → Headline s0 new feed.left line_text.text
   line_says tail_law all = record {
     serial = λ m map won stands. subst (λ (j : Journal). Serial map j) (sym (ap journal (tail_law 1 feed.left line_text.text (subst IsTail (sym line_text.is_prefix) (notice_tail n fits line_text.prefix))))) tt;
     any_moment = λ counts m clean young. weaker s0 new (LivesOn locks m s0 feed.left line_text.text) (RunLeaves m s0 feed.left line_text.text) (run_leaves locks m s0 feed.left line_text.text) (line_leaves m (record { all = all; counts = counts }) clean young);
   }
 
-  pub line_headline : EveryTail → IsTrue held0.tells → TellsAll s0 → Headline s0 new feed.left (added held0 held1)
+  pub line_headline : EveryTail → IsTrue held0.tells → TellsAll 1 s0 → Headline s0 new feed.left (added held0 held1)
   line_headline tail_law sink_tells all =
       subst (Headline s0 new feed.left) (sym (ap (drop (length held0.bytes)) (line_text.holds sink_tells) ∙ drop-append_seam held0.bytes line_text.text)) (line_says tail_law all)
 
 pub refused_ends : (locks : ℕ) → EveryNotice → EveryTail → (status : ℕ) (s0 old new : Story) → IsLawful old → Keeps s0 old → ((a : ℕ) → 2 < a → old.area a ≡ s0.area a)
-    → ((m : Master) → TellsAll s0 → IsCleanDisk m (areas_of s0) → LeavesOnly s0 old (RecoveryLeaves m s0)) → (feed : Feed) (reason : Unrecovered) → status ≡ status_of reason → Shows s0 reason
+    → ((m : Master) → TellsAll 1 s0 → IsCleanDisk m (areas_of s0) → LeavesOnly s0 old (RecoveryLeaves m s0)) → (feed : Feed) (reason : Unrecovered) → status ≡ status_of reason → Shows s0 reason
     → (IsRefusal reason → (a : ℕ) → IsUntouched (s0.area a) (old.area a))
     → (held0 held1 : Held) (sink0 sink1 : ℕ) → Refuses reason held0 held1 sink0 sink1 old new → RunEnds locks status s0 new feed feed held0 held1 sink0 sink1
 refused_ends locks notice_law tail_law status s0 old new law keeps others any feed reason is shown left held0 held1 sink0 sink1 r =
@@ -111,16 +111,16 @@ refused_ends locks notice_law tail_law status s0 old new law keeps others any fe
       masters = λ tells. line_masters locks notice_law s0 old new law keeps any feed (notice_of reason) r.fits r.answer held0 held1 r.line;
     }
 
-pub refused_headline : (locks : ℕ) → EveryNotice → EveryTail → (s0 old new : Story) → IsLawful old → Keeps s0 old → ((m : Master) → TellsAll s0 → IsCleanDisk m (areas_of s0) → LeavesOnly s0 old (RecoveryLeaves m s0))
-    → (feed : Feed) (reason : Unrecovered) (held0 held1 : Held) (sink0 sink1 : ℕ) → Refuses reason held0 held1 sink0 sink1 old new → IsTrue held0.tells → TellsAll s0 → Headline s0 new feed.left (added held0 held1)
+pub refused_headline : (locks : ℕ) → EveryNotice → EveryTail → (s0 old new : Story) → IsLawful old → Keeps s0 old → ((m : Master) → TellsAll 1 s0 → IsCleanDisk m (areas_of s0) → LeavesOnly s0 old (RecoveryLeaves m s0))
+    → (feed : Feed) (reason : Unrecovered) (held0 held1 : Held) (sink0 sink1 : ℕ) → Refuses reason held0 held1 sink0 sink1 old new → IsTrue held0.tells → TellsAll 1 s0 → Headline s0 new feed.left (added held0 held1)
 refused_headline locks notice_law tail_law s0 old new law keeps any feed reason held0 held1 sink0 sink1 r = line_headline locks notice_law s0 old new law keeps any feed (notice_of reason) r.fits r.answer held0 held1 r.line tail_law
 
-module _ (locks : ℕ) (notice_law : EveryNotice) (s0 old new : Story) (law : IsLawful old) (keeps : Keeps s0 old) (any : (m : Master) → TellsAll s0 → IsCleanDisk m (areas_of s0) → LeavesOnly s0 old (RecoveryLeaves m s0))
+module _ (locks : ℕ) (notice_law : EveryNotice) (s0 old new : Story) (law : IsLawful old) (keeps : Keeps s0 old) (any : (m : Master) → TellsAll 1 s0 → IsCleanDisk m (areas_of s0) → LeavesOnly s0 old (RecoveryLeaves m s0))
     (feed : Feed) (n : Counts) (fits : NoticeFits (Notice.Opened n.generation n.winners n.undone)) (held0 held1 : Held) (answer : Put) (p : IsPut (first_line n) answer held0 held1 old new) where
   abbrev opened : Notice
   opened = Notice.Opened n.generation n.winners n.undone
 
-  pub cut_ends : EveryTail → ((a : ℕ) → 2 < a → old.area a ≡ s0.area a) → (g : Opening) → (TellsAll s0 → IsFrom g s0 n) → (sink0 sink1 : ℕ) → Rose sink0 sink1 → RunEnds locks 5 s0 new feed feed held0 held1 sink0 sink1
+  pub cut_ends : EveryTail → ((a : ℕ) → 2 < a → old.area a ≡ s0.area a) → (g : Opening) → (TellsAll 1 s0 → IsFrom g s0 n) → (sink0 sink1 : ℕ) → Rose sink0 sink1 → RunEnds locks 5 s0 new feed feed held0 held1 sink0 sink1
   cut_ends tail_law others g from sink0 sink1 rose =
       let t = line_text locks notice_law s0 old new law keeps any feed opened fits answer held0 held1 p in record {
         put = t.text;
@@ -132,7 +132,7 @@ module _ (locks : ℕ) (notice_law : EveryNotice) (s0 old new : Story) (law : Is
         masters = λ tells. line_masters locks notice_law s0 old new law keeps any feed opened fits answer held0 held1 p;
       }
 
-  pub cut_headline : EveryTail → IsTrue held0.tells → TellsAll s0 → Headline s0 new feed.left (added held0 held1)
+  pub cut_headline : EveryTail → IsTrue held0.tells → TellsAll 1 s0 → Headline s0 new feed.left (added held0 held1)
   cut_headline = line_headline locks notice_law s0 old new law keeps any feed opened fits answer held0 held1 p
 
 -- ## What was read

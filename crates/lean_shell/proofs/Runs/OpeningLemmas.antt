@@ -24,7 +24,7 @@ module _ (locks : ℕ) (s0 sa : Story) (v : View) (log : Log) (generation won lo
   from_counts : engine.IsFrom o.opening s0 generation won lost → IsFrom o.opening s0 counts
   from_counts f = record { m = f.m; openable = f.openable; sound = f.sound; starts = f.starts; map = f.map; generation = f.generation_is; won = f.won_is; lost = f.lost_is }
 
-  pub from : TellsAll s0 → IsFrom o.opening s0 counts
+  pub from : TellsAll 1 s0 → IsFrom o.opening s0 counts
   from tells = from_counts (o.from tells)
 
   begins : (m : Master) → BeginsOn o.opening o.recovered.master log s0 sa m → BeginsBy m o.recovered s0 sa o.opening log
@@ -43,7 +43,7 @@ module _ (locks : ℕ) (s0 sa : Story) (v : View) (log : Log) (generation won lo
     answer = o.is.answer;
     opened = o.is.opened;
     log_is = o.made.is;
-    of_one = record { workers = o.in_run.0; changes = o.in_run.1.opens.changes; joined = o.in_run.1.opens.joined; rows = o.rows; frames = o.frames };
+    of_one = record { workers = o.in_run.0; changes = o.in_run.2.opens.changes; joined = o.in_run.2.opens.joined; rows = o.rows; frames = o.frames };
     from = λ tells. subst (IsFrom o.opening s0) (sym same) (from tells);
     begins = λ tells m clean. begins m (o.clean tells m clean);
   }))

@@ -205,7 +205,7 @@ heard_now g (x ∷ earlier) newer told each e cut = ⊎_elim (λ l. record {
 -- ## A run
 
 module _ (locks : ℕ) (laws : Laws) (s0 sa sb sc s1 : Story) (law_a : IsLawful sa) (law_c : IsLawful sc) (law_1 : IsLawful s1) (g : Opening) (first : Log) (counts : Counts) (o : HasStarted locks s0 sa g first counts) (keeps : Keeps s0 sa)
-    (any : (m : Master) → TellsAll s0 → IsCleanDisk m (areas_of s0) → LeavesOnly s0 sa (RecoveryLeaves m s0))
+    (any : (m : Master) → TellsAll 1 s0 → IsCleanDisk m (areas_of s0) → LeavesOnly s0 sa (RecoveryLeaves m s0))
     (held0 held_b held_c held1 : Held) (opened_fits : NoticeFits (Notice.Opened counts.generation counts.winners counts.undone)) (p : IsPut (first_line counts) PutDone held0 held_b sa sb)
     (feed0 feed1 : Feed) (reader : Unread) (stop : Stop) (log1 : Log) (r : ScriptRuns (Some stop) g [] 0 feed0 [] first log1 reader feed1 held_b held_c sb sc)
     (sink_c sink1 : ℕ) (last : EndsWith stop held_c held1 sink_c sink1 sc s1) where
@@ -278,7 +278,7 @@ module _ (locks : ℕ) (laws : Laws) (s0 sa sb sc s1 : Story) (law_a : IsLawful 
   all_tells : IsTrue feed0.tells → TellsInTurn 1 h.heard out.all input put
   all_tells tells = tells_of tells h.unheard h.heard h.calls_are out.all put h.hears output
 
-  serial : IsTrue feed0.tells → TellsAll s0 → (m : Master) (map : Map) (won : List Name) → DiskStandsFor m (areas_of s0) map won → Serial map (model.journal (transcript 1 input put))
+  serial : IsTrue feed0.tells → TellsAll 1 s0 → (m : Master) (map : Map) (won : List Name) → DiskStandsFor m (areas_of s0) map won → Serial map (model.journal (transcript 1 input put))
   serial tells all m map won stands =
       let f = o.from all in
       let one : f.m ≡ m = same_master f.m m (sym f.sound.master ∙ stands.master) in
@@ -618,7 +618,7 @@ module _ (locks : ℕ) (laws : Laws) (s0 sa sb sc s1 : Story) (law_a : IsLawful 
           (λ (e : (s1.notes ≡ sc.notes + 1) × (stop ≡ stops.WriteFault → ⊥)). left_now locks laws m s0 sa g b.n b.begun r.newer each c0 input put counts.generation counts.winners counts.undone (as_read s1) AllAnswered (was_now (suc (suc (length r.told))) (let n = notes_c in let b = notes_b in let f = e.0 in omega arith) (last_output e.1)) recovered)
           (l.noted (let a = told_few in let b = notes_b in let y = young.notes in let n = notes_c in omega arith) (as_read s1) now)
 
-  pub run_says : IsTrue feed0.tells → TellsAll s0 → Headline s0 s1 input put
+  pub run_says : IsTrue feed0.tells → TellsAll 1 s0 → Headline s0 s1 input put
   run_says tells all = record {
     serial = serial tells all;
     any_moment = λ counts m clean young. weaker s0 s1 (LivesOn locks m s0 input put) (RunLeaves m s0 input put) (run_leaves locks m s0 input put) (leaves tells m (record { all = all; counts = counts }) clean young);
@@ -657,7 +657,7 @@ module _ (locks : ℕ) (laws : Laws) (s0 sa sb sc s1 : Story) (law_a : IsLawful 
     masters = λ tells m all clean young. weaker s0 s1 (LivesOn locks m s0 input put) (MasterLeaves locks m s0 input put) (master_leaves locks m s0 input put) (leaves tells m all clean young);
   }
 
-  pub run_headline : IsTrue feed0.tells → IsTrue held0.tells → TellsAll s0 → Headline s0 s1 input (added held0 held1)
+  pub run_headline : IsTrue feed0.tells → IsTrue held0.tells → TellsAll 1 s0 → Headline s0 s1 input (added held0 held1)
   run_headline tells sink_tells all = subst (Headline s0 s1 input) (sym (ap (drop (length held0.bytes)) (holds sink_tells) ∙ drop-append_seam held0.bytes put)) (run_says tells all)
 
 pub every_run : Laws → (s0 sa sb sc s1 : Story) → EveryRun s0 sa sb sc s1

@@ -35,7 +35,7 @@ pub record IsRun (locks : ℕ) (s0 sa sb sc s1 : Story) (feed0 feed1 : Feed) (he
   pub counts : Counts
   pub starts : HasStarted locks s0 sa g first counts
   pub keeps : Keeps s0 sa
-  pub any : (m : Master) → TellsAll s0 → IsCleanDisk m (areas_of s0) → LeavesOnly s0 sa (RecoveryLeaves m s0)
+  pub any : (m : Master) → TellsAll 1 s0 → IsCleanDisk m (areas_of s0) → LeavesOnly s0 sa (RecoveryLeaves m s0)
   -- the first line
   pub opened_fits : NoticeFits (Notice.Opened counts.generation counts.winners counts.undone)
   pub put : IsPut (first_line counts) put.Done held0 held_b sa sb
@@ -49,7 +49,7 @@ pub record IsRun (locks : ℕ) (s0 sa sb sc s1 : Story) (feed0 feed1 : Feed) (he
 -- what is said of it
 pub record RunSays (locks : ℕ) (s0 sa s1 : Story) (feed0 feed1 : Feed) (held0 held1 : Held) (stop : Stop) (sink_c sink1 : ℕ) : Type 0 where
   pub ends : (status : ℕ) → status ≡ ended stop → (sink0 : ℕ) → HasCause sink0 sink_c (stop ≡ stops.WriteFault) → ((a : ℕ) → 2 < a → sa.area a ≡ s0.area a) → RunEnds locks status s0 s1 feed0 feed1 held0 held1 sink0 sink1
-  pub headline : IsTrue feed0.tells → IsTrue held0.tells → TellsAll s0 → Headline s0 s1 feed0.left (added held0 held1)
+  pub headline : IsTrue feed0.tells → IsTrue held0.tells → TellsAll 1 s0 → Headline s0 s1 feed0.left (added held0 held1)
 
 abbrev pub EveryRun : (s0 sa sb sc s1 : Story) → Type 0
 EveryRun s0 sa sb sc s1 = (locks : ℕ) (feed0 feed1 : Feed) (held0 held_b held_c held1 : Held) (stop : Stop) (sink_c sink1 : ℕ) → IsRun locks s0 sa sb sc s1 feed0 feed1 held0 held_b held_c held1 stop sink_c sink1 → RunSays locks s0 sa s1 feed0 feed1 held0 held1 stop sink_c sink1

@@ -37,9 +37,9 @@ pub record Begins (locks : ℕ) (m : Master) (s0 sa : Story) (g : Opening) (log 
 -- A disk was opened: an engine of one session stands on the start that it gave, with an empty log.
 pub record HasStarted (locks : ℕ) (s0 sa : Story) (g : Opening) (first : Log) (n : Counts) : Type 0 where
   pub of_one : IsOfOne locks g
-  pub from : TellsAll s0 → IsFrom g s0 n
-  pub log : TellsAll s0 → (m : Master) → master_on (areas_of s0 0) ≡ Some m → first ≡ first_log m g.base
-  pub begins : (m : Master) → TellsAll s0 → IsCleanDisk m (areas_of s0) → Begins locks m s0 sa g first
+  pub from : TellsAll 1 s0 → IsFrom g s0 n
+  pub log : TellsAll 1 s0 → (m : Master) → master_on (areas_of s0 0) ≡ Some m → first ≡ first_log m g.base
+  pub begins : (m : Master) → TellsAll 1 s0 → IsCleanDisk m (areas_of s0) → Begins locks m s0 sa g first
 
 -- ## From what recovery says, and what is said of the run that begins there
 
@@ -54,12 +54,12 @@ pub record BeginsBy (m : Master) (r : Recovered) (s0 sa : Story) (g : Opening) (
 
 -- A disk was recovered; an opening of one worker stands on its pages, with the empty log of the new master.
 pub record IsRecoveredTo (locks : ℕ) (r : Recovered) (s0 sa : Story) (g : Opening) (first : Log) : Type 0 where
-  pub answer : TellsAll s0 → (m : Master) × IsOpenable m × IsRecovered m (areas_of s0) r
-  pub opened : TellsAll s0 → (m : Master) → IsCleanDisk m (areas_of s0) → IsOpened m (areas_of s0) r sa
+  pub answer : TellsAll 1 s0 → (m : Master) × IsOpenable 1 m × IsRecovered m (areas_of s0) r
+  pub opened : TellsAll 1 s0 → (m : Master) → IsCleanDisk m (areas_of s0) → IsOpened m (areas_of s0) r sa
   pub log_is : first ≡ record { generation = r.master.generation; log = 1; blocks = r.master.blocks; head = 0; next = 0; payload = []; count = 0; last = r.master.floor; flushed = r.master.floor }
   pub of_one : IsOfOne locks g
-  pub from : TellsAll s0 → IsFrom g s0 (record { generation = r.master.generation; winners = r.winners; undone = r.undone })
-  pub begins : TellsAll s0 → (m : Master) → IsCleanDisk m (areas_of s0) → BeginsBy m r s0 sa g first
+  pub from : TellsAll 1 s0 → IsFrom g s0 (record { generation = r.master.generation; winners = r.winners; undone = r.undone })
+  pub begins : TellsAll 1 s0 → (m : Master) → IsCleanDisk m (areas_of s0) → BeginsBy m r s0 sa g first
 
 abbrev pub EveryBeginning : (s0 sa : Story) → Type 0
 EveryBeginning s0 sa = (locks : ℕ) (r : Recovered) (g : Opening) (first : Log) → IsRecoveredTo locks r s0 sa g first → HasStarted locks s0 sa g first (record { generation = r.master.generation; winners = r.winners; undone = r.undone })

@@ -13,9 +13,9 @@ pub record IsLine (app : App) (line : Line) : Type 0 where
   pub reads : app_of line ≡ app
   pub local : (fields_of line).has_globals ≡ false
 
--- the numbers of pages and of blocks, and one worker
+-- the numbers of workers, of which there is one, of pages and of blocks
 pub record GivesShape (options : List Row) (shape : Shape) : Type 0 where
-  pub workers : Gives options (codes "workers") 1 1 1
+  pub workers : Gives options (codes "workers") 1 1 shape.workers
   pub pages : Gives options (codes "pages") 16 4096 shape.pages
   pub blocks : Gives options (codes "blocks") 64 4096 shape.blocks
 

@@ -36,6 +36,6 @@ pub record UnreadEnds (status : ℕ) (s0 s1 : Story) (held0 held1 : Held) (sink0
   pub status_is : status ≡ 8
   pub format : (shape : Shape) → FormatEnds shape status s0 s1 held0 held1 sink0 sink1 disk0 disk1
   pub run : (locks : ℕ) (feed : Feed) → RunEnds locks status s0 s1 feed feed held0 held1 sink0 sink1
-  pub headline : (feed : Feed) → IsTrue held0.tells → TellsAll s0 → Headline s0 s1 feed.left (added held0 held1)
+  pub headline : (feed : Feed) → IsTrue held0.tells → TellsAll 1 s0 → Headline s0 s1 feed.left (added held0 held1)
   pub dump : DumpEnds status s0 s1 held0 held1 sink0 sink1
   pub none : UsageEnds status s0 s1 held0 held1 sink0 sink1 disk0 disk1

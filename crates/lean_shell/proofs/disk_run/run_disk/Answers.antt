@@ -71,7 +71,7 @@ returns-in_default-put_opened-clause-headline g c tells =
     let o = c.in-Ok-open.ensures.opened in
     let k = c.in-Ok-open.ensures.keeps in
     let sa = g.D.Disk.story n.engine.disk in
-    subst (λ d. IsTrue (g.K.Sink.held c.args.sink.now).tells → TellsAll s0 → Headline s0 (g.D.Disk.story d) (g.S.Source.feed c.args.source.now).left (added (g.K.Sink.held c.args.sink.now) (g.K.Sink.held c.put_opened.new.sink))) (sym c.close.ensures)
+    subst (λ d. IsTrue (g.K.Sink.held c.args.sink.now).tells → TellsAll 1 s0 → Headline s0 (g.D.Disk.story d) (g.S.Source.feed c.args.source.now).left (added (g.K.Sink.held c.args.sink.now) (g.K.Sink.held c.put_opened.new.sink))) (sym c.close.ensures)
     (cut_headline c.args.size.rows c.laws.ensures.notice s0 sa (g.D.Disk.story c.put_opened.new.engine.disk) ((g.met.D.Disk g.world.𝓛 g.world.𝓜 g.world.𝓡 ((λ s x. x), (λ x. x), (λ x. x), (λ x. x))).lawful n.engine.disk) k.keeps k.any_moment (g.S.Source.feed c.args.source.now)
     (counts c.args.size.rows s0 sa n.engine.view n.engine.log n.generation n.winners n.undone o) c.put_opened.ensures.fits (g.K.Sink.held c.args.sink.now) (g.K.Sink.held c.put_opened.new.sink) c.put_opened.result c.put_opened.ensures.put c.laws.ensures.tail)
 
@@ -119,7 +119,7 @@ returns-clause-ends g c =
 pub returns-clause-headline : goal.returns-clause-headline
 returns-clause-headline g c =
     let s0 = g.D.Disk.story c.args.disk in
-    subst (λ d. IsTrue (g.S.Source.feed c.args.source.now).tells → IsTrue (g.K.Sink.held c.args.sink.now).tells → TellsAll s0 → Headline s0 (g.D.Disk.story d) (g.S.Source.feed c.args.source.now).left (added (g.K.Sink.held c.args.sink.now) (g.K.Sink.held c.put_last.new.sink))) (sym c.close-2.ensures)
+    subst (λ d. IsTrue (g.S.Source.feed c.args.source.now).tells → IsTrue (g.K.Sink.held c.args.sink.now).tells → TellsAll 1 s0 → Headline s0 (g.D.Disk.story d) (g.S.Source.feed c.args.source.now).left (added (g.K.Sink.held c.args.sink.now) (g.K.Sink.held c.put_last.new.sink))) (sym c.close-2.ensures)
     (says g c).headline
 
 pub returns-clause-cause_read_fault : goal.returns-clause-cause_read_fault

@@ -1,7 +1,9 @@
 use Rattle.std.proofs.Common.{◌∙◌, refl, sym}
-use Rattle.row_engine.proofs.CommitRefusals.{does_from, holds_missed, longer, missed_from, ready_of, refused_by_latch, refused_by_test, start_mine, fault_told, test_told}
+use Rattle.row_engine.proofs.CommitRefusals.{does_from, holds_missed, longer, missed_from, ready_of, refused_by_latch, refused_by_test, start_among, start_mine, fault_told, test_told}
 use Rattle.row_engine.specs.Calls.{commit_answer}
-use Rattle.row_engine.proofs.BeginLemmas.{holds_as}
+use Rattle.row_engine.proofs.TakeLemmas.{holds_as}
+use Rattle.row_engine.proofs.OtherLemmas.{every_steps}
+use Rattle.row_engine.proofs.OwnSteps.{latch_steps, no_steps}
 use Rattle.row_engine.proofs.commits.commit.Goals as goal
 
 pub returns-in-Some-clause-does : goal.returns-in-Some-clause-does
@@ -15,6 +17,11 @@ latch_rows-requires-clause-mine g c =
     let ready = ready_of c.args.store.now.session (sym c.call_refusal.ensures ∙ c.in_default.is) in
     let h = c.requires.holds ready.works in
     start_mine c.args.store.now.session.frames c.args.store.now.session.held.count c.args.latches.now (g.R.Rows.view c.args.seat.now).held (c.requires.unmarked ready.works) h.idle
+
+pub latch_rows-requires-clause-among : goal.latch_rows-requires-clause-among
+latch_rows-requires-clause-among g c =
+    let x = c.args.store.now.session in
+    start_among x.held.count c.args.latches.now x.held.rows (c.requires.unmarked (ready_of x (sym c.call_refusal.ensures ∙ c.in_default.is)).works)
 
 pub returns-then-not-latch_rows-clause-holds : goal.returns-then-not-latch_rows-clause-holds
 returns-then-not-latch_rows-clause-holds g c works =
@@ -46,10 +53,28 @@ finish-requires-clause-latched g c _ _ =
 pub returns-clause-does : goal.returns-clause-does
 returns-clause-does g c works =
     let l = c.latch_rows.ensures.latching in
-    does_from (commit_answer c.finish.result) c.args.store.now.session.half c.finish.new.store.session.half (g.R.Rows.view c.args.seat.now) (g.R.Rows.view c.latch_rows.new.seat) (g.R.Rows.view c.finish.new.seat) c.args.store.now.log c.finish.new.store.log (g.D.Disk.story c.args.store.now.disk) (g.D.Disk.story c.finish.new.store.disk) l.given l.seen c.finish.ensures.does
+    does_from c.args.store.now.session.own c.args.store.now.session.group (commit_answer c.finish.result) c.args.store.now.session.half c.finish.new.store.session.half (g.R.Rows.view c.args.seat.now) (g.R.Rows.view c.latch_rows.new.seat) (g.R.Rows.view c.finish.new.seat) c.args.store.now.log c.finish.new.store.log (g.D.Disk.story c.args.store.now.disk) (g.D.Disk.story c.finish.new.store.disk) l.given l.seen c.finish.ensures.does
 
 pub returns-in-Some-clause-told : goal.returns-in-Some-clause-told
 returns-in-Some-clause-told g c = test_told c.args.store.now.session c.in-Some.why (sym c.call_refusal.ensures ∙ c.in-Some.is)
 
 pub returns-clause-told : goal.returns-clause-told
 returns-clause-told g c = fault_told c.finish.result c.finish.ensures.only_disk_fault
+
+pub returns-in-Some-clause-steps : goal.returns-in-Some-clause-steps
+returns-in-Some-clause-steps g c works still = no_steps c.args.store.now.session.own (g.R.Rows.view c.args.seat.now) (g.R.Rows.view c.args.seat.now) refl refl
+
+pub returns-then-not-latch_rows-clause-steps : goal.returns-then-not-latch_rows-clause-steps
+returns-then-not-latch_rows-clause-steps g c works still =
+    let l = c.latch_rows.ensures.latching in
+    let v = g.R.Rows.view c.args.seat.now in
+    let w = g.R.Rows.view c.unlatch_rows.new.seat in
+    latch_steps c.args.store.now.session.own _ v w (missed_from _ v (g.R.Rows.view c.latch_rows.new.seat) w l.given l.seen c.unlatch_rows.ensures.missed)
+
+pub returns-clause-steps : goal.returns-clause-steps
+returns-clause-steps g c works still =
+    let own = c.args.store.now.session.own in
+    let l = c.latch_rows.ensures.latching in
+    let v = g.R.Rows.view c.args.seat.now in
+    let u = g.R.Rows.view c.latch_rows.new.seat in
+    every_steps own v u (g.R.Rows.view c.finish.new.seat) (no_steps own v u l.given l.seen) (c.finish.ensures.steps still)

@@ -1,55 +1,217 @@
-use Rattle.std.proofs.Common.{◌≡◌, ◌+◌, ◌∙◌, refl, ap, subst, sym}
+use Rattle.std.proofs.Common.{◌+◌, ◌∙◌, suc, true, false, refl, ap, subst, sym, true≢false}
+use Rattle.std.proofs.lemmas.Bool.{lt-leb}
 use Rattle.map_model.specs.declared.call.Answer.TheVariants as answer
 use Rattle.map_model.specs.declared.call.Call.TheVariants as call
+use Rattle.map_model.specs.declared.call.Refusal.TheVariants as refusal
 use Rattle.row_engine.specs.Calls.{CallDoes}
-use Rattle.worker_log.specs.Logs.{Log}
-use Rattle.row_engine.proofs.BeginLemmas.{holds_as}
-use Rattle.row_engine.proofs.CommitLemmas.{OnDisk, flushed_does, holds_after, may_end_at, may_flush_at, unflushed_does, unstaged_does}
-use Rattle.row_engine.specs.Ends.{ended_session}
+use Rattle.row_engine.specs.Ends.{HasFlushed, MayFlush, waiting_session}
+use Rattle.row_engine.specs.Puts.{KeepsLog}
+use Rattle.row_engine.specs.declared.session.Session.{Session}
+use Rattle.row_engine.proofs.TakeLemmas.{holds_as}
+use Rattle.row_engine.proofs.CommitRefusals.{does_from}
+use Rattle.row_engine.proofs.CommitRuns.{fills, flushed_does, found, holds_flushed, holds_waiting, may_end_at, may_flush_at, unflushed_does, unstaged_does, waiting_does, waiting_is, waits}
+use Rattle.row_engine.proofs.Frames.{frame_of}
+use Rattle.row_engine.proofs.PutLemmas.{same_flushed}
+use Rattle.row_engine.proofs.OtherLemmas.{every_steps}
+use Rattle.row_engine.proofs.OwnSteps.{ended_steps, flushed_steps, no_steps}
 use Rattle.row_engine.proofs.commits.finish.Goals as goal
 
 pub returns-in-Err-clause-does : goal.returns-in-Err-clause-does
 returns-in-Err-clause-does g c =
+    let z0 = g.R.Rows.shape c.args.rows.now in
+    let v0 = g.R.Rows.view c.args.seat.now in
+    let v = g.R.Rows.view c.least_flushed-floor.new.seat in
+    let x = c.args.store.now.session in
+    let log = c.args.store.now.log in
+    let l = c.least_flushed-floor.ensures in
+    let f = found z0 (g.R.Rows.shape c.least_flushed-floor.new.rows) v0 v x log c.args.latches.now c.least_flushed-floor.result c.requires.latched l.fits.1 l.seen l.least in
+    let s = l.seen c.requires.latched.holds.alone in
     let st = g.D.Disk.story c.args.store.now.disk in
     let lawful = ((g.met.D.Disk g.world.𝓛 g.world.𝓜 g.world.𝓡 ((λ s x. x), (λ x. x), (λ x. x), (λ x. x))).lawful c.args.store.now.disk) in
     let new = g.D.Disk.story c.stage_end.new.disk in
-    let new_on : OnDisk c.args.store.now.log st new = record { moments = c.in-Err.ensures.any_moment; told = c.in-Err.ensures.told; within = c.in-Err.ensures.within; frame = c.in-Err.ensures.frame; notes = c.in-Err.ensures.same_notes } in
-    unstaged_does (g.R.Rows.shape c.args.rows.now) (g.R.Rows.view c.args.seat.now) c.args.store.now.session c.args.store.now.log c.args.latches.now c.requires.latched c.requires.is_open c.requires.whole c.flushed-floor.result _ c.flushed-floor.ensures refl c.every_reached.ensures c.every_need.ensures c.every_answer.ensures c.every_entry.ensures c.every_turn.ensures c.every_version.ensures c.every_kept.ensures c.every_prefix.ensures c.every_sealed.ensures st new lawful new_on c.args.store.now.session.half (g.R.Rows.view c.args.seat.now) c.args.store.now.log
+    let e = c.in-Err.ensures in
+    let keeps : KeepsLog x.own log st new = record { on = record { moments = e.any_moment; told = e.told; notes = e.same_notes }; frame = frame_of x.own _ _ e.frame; within = e.within } in
+    does_from x.own x.group (answer.Refused refusal.DiskFault) x.half (x.half) v0 v (v) log (c.stage_end.new.log) st (new) s.given s.seen
+    (unstaged_does (g.R.Rows.shape c.least_flushed-floor.new.rows) v x log c.args.latches.now c.requires.is_open c.least_flushed-floor.result f _ refl c.requires.whole c.every_reached.ensures c.every_need.ensures c.every_answer.ensures c.every_entry.ensures c.every_version.ensures c.every_kept.ensures c.every_prefix.ensures c.every_sealed.ensures st lawful new keeps x.half v c.stage_end.new.log)
 
 pub end_rows-requires-clause-may_end : goal.end_rows-requires-clause-may_end
-end_rows-requires-clause-may_end g c = may_end_at (g.R.Rows.shape c.args.rows.now) (g.R.Rows.view c.args.seat.now) c.args.store.now.session c.args.store.now.log c.args.latches.now c.requires.latched c.requires.is_open c.requires.whole c.flushed-floor.result _ c.flushed-floor.ensures refl
+end_rows-requires-clause-may_end g c =
+    let z0 = g.R.Rows.shape c.args.rows.now in
+    let v0 = g.R.Rows.view c.args.seat.now in
+    let v = g.R.Rows.view c.least_flushed-floor.new.seat in
+    let x = c.args.store.now.session in
+    let log = c.args.store.now.log in
+    let l = c.least_flushed-floor.ensures in
+    let f = found z0 (g.R.Rows.shape c.least_flushed-floor.new.rows) v0 v x log c.args.latches.now c.least_flushed-floor.result c.requires.latched l.fits.1 l.seen l.least in
+    let s = l.seen c.requires.latched.holds.alone in
+    may_end_at (g.R.Rows.shape c.least_flushed-floor.new.rows) v x log c.args.latches.now c.requires.is_open c.least_flushed-floor.result f _ refl true (λ e. absurd (true≢false e))
 
-pub returns-in-Err-flush-clause-does : goal.returns-in-Err-flush-clause-does
-returns-in-Err-flush-clause-does g c =
+pub returns-then-store-clause-holds : goal.returns-then-store-clause-holds
+returns-then-store-clause-holds g c works =
+    let z0 = g.R.Rows.shape c.args.rows.now in
+    let v0 = g.R.Rows.view c.args.seat.now in
+    let v = g.R.Rows.view c.least_flushed-floor.new.seat in
+    let x = c.args.store.now.session in
+    let log = c.args.store.now.log in
+    let l = c.least_flushed-floor.ensures in
+    let f = found z0 (g.R.Rows.shape c.least_flushed-floor.new.rows) v0 v x log c.args.latches.now c.least_flushed-floor.result c.requires.latched l.fits.1 l.seen l.least in
+    let s = l.seen c.requires.latched.holds.alone in
+    let w = g.R.Rows.view c.end_rows.new.seat in
+    let same = waiting_is x c.close_by_commit.new.session (x.clock + 1) c.close_by_commit.ensures in
+    holds_as (g.R.Rows.shape c.least_flushed-floor.new.rows) (g.R.Rows.shape c.end_rows.new.rows) w (waiting_session x (x.clock + 1) (suc x.behind)) _ c.stage_end.new.log c.end_rows.ensures.fits.1 same
+    (holds_waiting (g.R.Rows.shape c.least_flushed-floor.new.rows) v x log c.args.latches.now c.requires.is_open c.least_flushed-floor.result f _ refl true w c.end_rows.ensures.ended c.stage_end.new.log (same_flushed _ log c.stage_end.new.log c.in_default.ensures.after) c.in_default.ensures.last (waits x _ (x.clock + 1) same c.if-store.true))
+
+pub returns-then-store-clause-does : goal.returns-then-store-clause-does
+returns-then-store-clause-does g c =
+    let z0 = g.R.Rows.shape c.args.rows.now in
+    let v0 = g.R.Rows.view c.args.seat.now in
+    let v = g.R.Rows.view c.least_flushed-floor.new.seat in
+    let x = c.args.store.now.session in
+    let log = c.args.store.now.log in
+    let l = c.least_flushed-floor.ensures in
+    let f = found z0 (g.R.Rows.shape c.least_flushed-floor.new.rows) v0 v x log c.args.latches.now c.least_flushed-floor.result c.requires.latched l.fits.1 l.seen l.least in
+    let s = l.seen c.requires.latched.holds.alone in
     let st = g.D.Disk.story c.args.store.now.disk in
     let lawful = ((g.met.D.Disk g.world.𝓛 g.world.𝓜 g.world.𝓡 ((λ s x. x), (λ x. x), (λ x. x), (λ x. x))).lawful c.args.store.now.disk) in
     let mid = g.D.Disk.story c.stage_end.new.disk in
-    let new = g.D.Disk.story c.flush.new.disk in
-    let mid_on : OnDisk c.args.store.now.log st mid = record { moments = c.in_default.ensures.any_moment; told = c.in_default.ensures.told; within = c.in_default.ensures.within; frame = c.in_default.ensures.frame; notes = c.in_default.ensures.same_notes } in
-    let new_on : OnDisk c.stage_end.new.log mid new = record { moments = c.in-Err-flush.ensures.any_moment; told = c.in-Err-flush.ensures.told; within = c.in-Err-flush.ensures.within; frame = c.in-Err-flush.ensures.frame; notes = c.in-Err-flush.ensures.same_notes } in
-    unflushed_does (g.R.Rows.shape c.args.rows.now) (g.R.Rows.view c.args.seat.now) c.args.store.now.session c.args.store.now.log c.args.latches.now c.requires.latched c.requires.is_open c.requires.whole c.flushed-floor.result _ c.flushed-floor.ensures refl (g.R.Rows.view c.end_rows.new.seat) c.end_rows.ensures.ended c.every_reached.ensures c.every_need.ensures c.every_answer.ensures c.every_entry.ensures c.every_turn.ensures c.every_version.ensures c.every_kept.ensures c.every_prefix.ensures c.every_sealed.ensures c.need.result c.need.ensures st mid new lawful c.stage_end.new.log c.in_default.ensures.stands mid_on new_on c.args.store.now.session.half
-    (g.R.Rows.view c.end_rows.new.seat) c.args.store.now.log
+    let e = c.in_default.ensures in
+    let keeps : KeepsLog x.own log st mid = record { on = record { moments = e.any_moment; told = e.told; notes = e.same_notes }; frame = frame_of x.own _ _ e.frame; within = e.within } in
+    let w = g.R.Rows.view c.end_rows.new.seat in
+    let same = waiting_is x c.close_by_commit.new.session (x.clock + 1) c.close_by_commit.ensures in
+    subst (λ k. CallDoes x.own x.group call.Commit (answer.Committed x.txn (x.clock + 1)) x.half k v0 w log c.stage_end.new.log st mid) (sym (ap (λ y. y.half) same))
+    (does_from x.own x.group (answer.Committed x.txn (x.clock + 1)) x.half (false) v0 v (w) log (c.stage_end.new.log) st (mid) s.given s.seen
+    (waiting_does (g.R.Rows.shape c.least_flushed-floor.new.rows) v x log c.args.latches.now c.requires.is_open c.least_flushed-floor.result f _ refl c.requires.whole c.every_reached.ensures c.every_need.ensures c.every_answer.ensures c.every_entry.ensures c.every_version.ensures c.every_kept.ensures c.every_prefix.ensures c.every_sealed.ensures st lawful w c.end_rows.ensures.ended c.need.result c.need.ensures mid c.stage_end.new.log e.stands keeps (lt-leb x.group (suc x.behind) (waits x _ (x.clock + 1) same c.if-store.true)) e.after))
 
-pub store_control-requires-clause-event : goal.store_control-requires-clause-event
-store_control-requires-clause-event g c = may_flush_at (g.R.Rows.shape c.args.rows.now) (g.R.Rows.view c.args.seat.now) c.args.store.now.session c.args.store.now.log c.args.latches.now c.requires.latched c.requires.is_open c.requires.whole c.flushed-floor.result _ c.flushed-floor.ensures refl (g.R.Rows.view c.end_rows.new.seat) c.end_rows.ensures.ended c.every_turn.ensures (g.R.Rows.shape c.end_rows.new.rows) c.end_rows.ensures.fits.1
+pub returns-then-store-clause-session : goal.returns-then-store-clause-session
+returns-then-store-clause-session g c works =
+    let x = c.args.store.now.session in
+    let same = waiting_is x c.close_by_commit.new.session (x.clock + 1) c.close_by_commit.ensures in
+    (ap (λ (k : Session). k.own) same, ap (λ (k : Session). k.workers) same, ap (λ (k : Session). k.group) same)
+
+pub flush_log-requires-clause-may : goal.flush_log-requires-clause-may
+flush_log-requires-clause-may g c _ _ =
+    let z0 = g.R.Rows.shape c.args.rows.now in
+    let v0 = g.R.Rows.view c.args.seat.now in
+    let v = g.R.Rows.view c.least_flushed-floor.new.seat in
+    let x = c.args.store.now.session in
+    let log = c.args.store.now.log in
+    let l = c.least_flushed-floor.ensures in
+    let f = found z0 (g.R.Rows.shape c.least_flushed-floor.new.rows) v0 v x log c.args.latches.now c.least_flushed-floor.result c.requires.latched l.fits.1 l.seen l.least in
+    let s = l.seen c.requires.latched.holds.alone in
+    let w = g.R.Rows.view c.end_rows.new.seat in
+    let same = waiting_is x c.close_by_commit.new.session (x.clock + 1) c.close_by_commit.ensures in
+    subst (λ k. MayFlush k w c.close_by_commit.new.session c.stage_end.new.log) (sym c.end_rows.ensures.fits.1) (subst (λ y. MayFlush (g.R.Rows.shape c.least_flushed-floor.new.rows) w y c.stage_end.new.log) (sym same)
+    (may_flush_at (g.R.Rows.shape c.least_flushed-floor.new.rows) v x log c.args.latches.now c.requires.is_open c.least_flushed-floor.result f _ refl true w c.end_rows.ensures.ended (suc x.behind) c.stage_end.new.log c.in_default.ensures.last))
+
+pub returns-in-Err-flush_log-clause-does : goal.returns-in-Err-flush_log-clause-does
+returns-in-Err-flush_log-clause-does g c =
+    let z0 = g.R.Rows.shape c.args.rows.now in
+    let v0 = g.R.Rows.view c.args.seat.now in
+    let v = g.R.Rows.view c.least_flushed-floor.new.seat in
+    let x = c.args.store.now.session in
+    let log = c.args.store.now.log in
+    let l = c.least_flushed-floor.ensures in
+    let f = found z0 (g.R.Rows.shape c.least_flushed-floor.new.rows) v0 v x log c.args.latches.now c.least_flushed-floor.result c.requires.latched l.fits.1 l.seen l.least in
+    let s = l.seen c.requires.latched.holds.alone in
+    let st = g.D.Disk.story c.args.store.now.disk in
+    let lawful = ((g.met.D.Disk g.world.𝓛 g.world.𝓜 g.world.𝓡 ((λ s x. x), (λ x. x), (λ x. x), (λ x. x))).lawful c.args.store.now.disk) in
+    let mid = g.D.Disk.story c.stage_end.new.disk in
+    let e = c.in_default.ensures in
+    let keeps : KeepsLog x.own log st mid = record { on = record { moments = e.any_moment; told = e.told; notes = e.same_notes }; frame = frame_of x.own _ _ e.frame; within = e.within } in
+    let w = g.R.Rows.view c.end_rows.new.seat in
+    let same = waiting_is x c.close_by_commit.new.session (x.clock + 1) c.close_by_commit.ensures in
+    let new = g.D.Disk.story c.flush_log.new.store.disk in
+    let u = g.R.Rows.view c.flush_log.new.seat in
+    let y = c.flush_log.new.store.session in
+    let is = c.flush_log.new.store.log in
+    let flushing : KeepsLog x.own c.stage_end.new.log mid new = subst (λ k. KeepsLog k c.stage_end.new.log mid new) (ap (λ k. k.own) same) c.in-Err-flush_log.ensures.keeps in
+    subst (λ why. CallDoes x.own x.group call.Commit (answer.Refused why) x.half y.half v0 u log is st new) (sym c.in-Err-flush_log.ensures.only_disk_fault)
+    (does_from x.own x.group (answer.Refused refusal.DiskFault) x.half (y.half) v0 v (u) log (is) st (new) s.given s.seen
+    (unflushed_does (g.R.Rows.shape c.least_flushed-floor.new.rows) v x log c.args.latches.now c.requires.is_open c.least_flushed-floor.result f _ refl c.requires.whole c.every_reached.ensures c.every_need.ensures c.every_answer.ensures c.every_entry.ensures c.every_version.ensures c.every_kept.ensures c.every_prefix.ensures c.every_sealed.ensures st lawful w c.end_rows.ensures.ended c.need.result c.need.ensures mid c.stage_end.new.log e.stands keeps (fills x _ (x.clock + 1) same c.if-store.false) new flushing y.half u is))
 
 pub returns-clause-holds : goal.returns-clause-holds
 returns-clause-holds g c works =
+    let z0 = g.R.Rows.shape c.args.rows.now in
+    let v0 = g.R.Rows.view c.args.seat.now in
+    let v = g.R.Rows.view c.least_flushed-floor.new.seat in
     let x = c.args.store.now.session in
-    let is : c.flush.new.log ≡ _ = c.in_default-flush.ensures.after in
-    holds_as (g.R.Rows.shape c.args.rows.now) (g.R.Rows.shape c.store_control.new.self) (g.R.Rows.view c.store_control.new.seat) (ended_session x _) c.close.new.session c.flush.new.log (c.store_control.ensures.shape ∙ c.end_rows.ensures.fits.1) c.close.ensures
-    (holds_after (g.R.Rows.shape c.args.rows.now) (g.R.Rows.view c.args.seat.now) c.args.store.now.session c.args.store.now.log c.args.latches.now c.requires.latched c.requires.is_open c.requires.whole c.flushed-floor.result _ c.flushed-floor.ensures refl (g.R.Rows.view c.end_rows.new.seat) c.end_rows.ensures.ended c.every_turn.ensures (g.R.Rows.shape c.end_rows.new.rows) c.end_rows.ensures.fits.1 c.store_control.ensures.step.0 (g.R.Rows.view c.store_control.new.seat) c.store_control.ensures.step.1 c.flush.new.log
-    (ap (λ (l : Log). l.flushed) is ∙ c.in_default.ensures.last) (ap (λ (l : Log). l.last) is ∙ c.in_default.ensures.last))
+    let log = c.args.store.now.log in
+    let l = c.least_flushed-floor.ensures in
+    let f = found z0 (g.R.Rows.shape c.least_flushed-floor.new.rows) v0 v x log c.args.latches.now c.least_flushed-floor.result c.requires.latched l.fits.1 l.seen l.least in
+    let s = l.seen c.requires.latched.holds.alone in
+    let w = g.R.Rows.view c.end_rows.new.seat in
+    let same = waiting_is x c.close_by_commit.new.session (x.clock + 1) c.close_by_commit.ensures in
+    let u = g.R.Rows.view c.flush_log.new.seat in
+    let y = c.flush_log.new.store.session in
+    let is = c.flush_log.new.store.log in
+    let mid = g.D.Disk.story c.stage_end.new.disk in
+    let new = g.D.Disk.story c.flush_log.new.store.disk in
+    let d : HasFlushed w u (waiting_session x (x.clock + 1) (suc x.behind)) y c.stage_end.new.log is mid new = subst (λ k. HasFlushed w u k y c.stage_end.new.log is mid new) same c.in_default-flush_log.ensures.flushed in
+    holds_as (g.R.Rows.shape c.least_flushed-floor.new.rows) (g.R.Rows.shape c.flush_log.new.rows) u y y is (c.in_default-flush_log.ensures.fits.1 ∙ c.end_rows.ensures.fits.1) refl
+    (holds_flushed (g.R.Rows.shape c.least_flushed-floor.new.rows) v x log c.args.latches.now c.requires.is_open c.least_flushed-floor.result f _ refl true w c.end_rows.ensures.ended (suc x.behind) u y c.stage_end.new.log is mid new c.in_default.ensures.last d)
+
+pub returns-clause-session : goal.returns-clause-session
+returns-clause-session g c works =
+    let x = c.args.store.now.session in
+    let same = c.close_by_commit.ensures in
+    let last = c.in_default-flush_log.ensures.flushed.session in
+    (ap (λ (k : Session). k.own) last ∙ ap (λ (k : Session). k.own) same, ap (λ (k : Session). k.workers) last ∙ ap (λ (k : Session). k.workers) same, ap (λ (k : Session). k.group) last ∙ ap (λ (k : Session). k.group) same)
 
 pub returns-clause-does : goal.returns-clause-does
 returns-clause-does g c =
+    let z0 = g.R.Rows.shape c.args.rows.now in
+    let v0 = g.R.Rows.view c.args.seat.now in
+    let v = g.R.Rows.view c.least_flushed-floor.new.seat in
+    let x = c.args.store.now.session in
+    let log = c.args.store.now.log in
+    let l = c.least_flushed-floor.ensures in
+    let f = found z0 (g.R.Rows.shape c.least_flushed-floor.new.rows) v0 v x log c.args.latches.now c.least_flushed-floor.result c.requires.latched l.fits.1 l.seen l.least in
+    let s = l.seen c.requires.latched.holds.alone in
     let st = g.D.Disk.story c.args.store.now.disk in
     let lawful = ((g.met.D.Disk g.world.𝓛 g.world.𝓜 g.world.𝓡 ((λ s x. x), (λ x. x), (λ x. x), (λ x. x))).lawful c.args.store.now.disk) in
     let mid = g.D.Disk.story c.stage_end.new.disk in
-    let new = g.D.Disk.story c.flush.new.disk in
-    let mid_on : OnDisk c.args.store.now.log st mid = record { moments = c.in_default.ensures.any_moment; told = c.in_default.ensures.told; within = c.in_default.ensures.within; frame = c.in_default.ensures.frame; notes = c.in_default.ensures.same_notes } in
-    let new_on : OnDisk c.stage_end.new.log mid new = record { moments = c.in_default-flush.ensures.any_moment; told = c.in_default-flush.ensures.told; within = c.in_default-flush.ensures.within; frame = c.in_default-flush.ensures.frame; notes = c.in_default-flush.ensures.same_notes } in
-    subst (λ k. CallDoes call.Commit (answer.Committed c.args.store.now.session.txn (c.args.store.now.session.clock + 1)) c.args.store.now.session.half k (g.R.Rows.view c.args.seat.now) (g.R.Rows.view c.store_control.new.seat) c.args.store.now.log c.flush.new.log st new) (sym (ap (λ y. y.half) c.close.ensures))
-    (flushed_does (g.R.Rows.shape c.args.rows.now) (g.R.Rows.view c.args.seat.now) c.args.store.now.session c.args.store.now.log c.args.latches.now c.requires.latched c.requires.is_open c.requires.whole c.flushed-floor.result _ c.flushed-floor.ensures refl (g.R.Rows.view c.end_rows.new.seat) c.end_rows.ensures.ended c.every_reached.ensures c.every_need.ensures c.every_answer.ensures c.every_entry.ensures c.every_turn.ensures c.every_version.ensures c.every_kept.ensures c.every_prefix.ensures c.every_sealed.ensures c.need.result c.need.ensures st mid new lawful c.stage_end.new.log c.in_default.ensures.stands mid_on new_on
-    (g.R.Rows.shape c.end_rows.new.rows) c.end_rows.ensures.fits.1 c.store_control.ensures.step.0 (g.R.Rows.view c.store_control.new.seat) c.store_control.ensures.step.1 c.flush.new.log c.in_default-flush.ensures.stands c.in_default.ensures.last c.in_default.ensures.after
-    c.in_default-flush.ensures.after)
+    let e = c.in_default.ensures in
+    let keeps : KeepsLog x.own log st mid = record { on = record { moments = e.any_moment; told = e.told; notes = e.same_notes }; frame = frame_of x.own _ _ e.frame; within = e.within } in
+    let w = g.R.Rows.view c.end_rows.new.seat in
+    let same = waiting_is x c.close_by_commit.new.session (x.clock + 1) c.close_by_commit.ensures in
+    let new = g.D.Disk.story c.flush_log.new.store.disk in
+    let u = g.R.Rows.view c.flush_log.new.seat in
+    let y = c.flush_log.new.store.session in
+    let is = c.flush_log.new.store.log in
+    let flushing : KeepsLog x.own c.stage_end.new.log mid new = subst (λ k. KeepsLog k c.stage_end.new.log mid new) (ap (λ k. k.own) same) c.in_default-flush_log.ensures.keeps in
+    let d : HasFlushed w u (waiting_session x (x.clock + 1) (suc x.behind)) y c.stage_end.new.log is mid new = subst (λ k. HasFlushed w u k y c.stage_end.new.log is mid new) same c.in_default-flush_log.ensures.flushed in
+    subst (λ k. CallDoes x.own x.group call.Commit (answer.Committed x.txn (x.clock + 1)) x.half k v0 u log is st new) (sym (ap (λ k. k.half) d.session))
+    (does_from x.own x.group (answer.Committed x.txn (x.clock + 1)) x.half (false) v0 v (u) log (is) st (new) s.given s.seen
+    (flushed_does (g.R.Rows.shape c.least_flushed-floor.new.rows) v x log c.args.latches.now c.requires.is_open c.least_flushed-floor.result f _ refl c.requires.whole c.every_reached.ensures c.every_need.ensures c.every_answer.ensures c.every_entry.ensures c.every_version.ensures c.every_kept.ensures c.every_prefix.ensures c.every_sealed.ensures st lawful w c.end_rows.ensures.ended c.need.result c.need.ensures mid c.stage_end.new.log e.stands keeps (fills x _ (x.clock + 1) same c.if-store.false) new flushing (suc x.behind) u y is d c.in_default.ensures.last e.after))
+
+pub returns-then-store-clause-steps : goal.returns-then-store-clause-steps
+returns-then-store-clause-steps g c works =
+    let v0 = g.R.Rows.view c.args.seat.now in
+    let v = g.R.Rows.view c.least_flushed-floor.new.seat in
+    let w = g.R.Rows.view c.end_rows.new.seat in
+    let own = c.args.store.now.session.own in
+    let s = c.least_flushed-floor.ensures.seen c.requires.latched.holds.alone in
+    every_steps own v0 v w (no_steps own v0 v s.given s.seen) (ended_steps own _ v w true c.least_flushed-floor.result c.end_rows.ensures.ended)
+
+pub returns-clause-steps : goal.returns-clause-steps
+returns-clause-steps g c works =
+    let z0 = g.R.Rows.shape c.args.rows.now in
+    let z = g.R.Rows.shape c.least_flushed-floor.new.rows in
+    let v0 = g.R.Rows.view c.args.seat.now in
+    let v = g.R.Rows.view c.least_flushed-floor.new.seat in
+    let w = g.R.Rows.view c.end_rows.new.seat in
+    let u = g.R.Rows.view c.flush_log.new.seat in
+    let x = c.args.store.now.session in
+    let y = c.flush_log.new.store.session in
+    let log = c.args.store.now.log in
+    let is = c.flush_log.new.store.log in
+    let l = c.least_flushed-floor.ensures in
+    let f = found z0 z v0 v x log c.args.latches.now c.least_flushed-floor.result c.requires.latched l.fits.1 l.seen l.least in
+    let s = l.seen c.requires.latched.holds.alone in
+    let mid = g.D.Disk.story c.stage_end.new.disk in
+    let new = g.D.Disk.story c.flush_log.new.store.disk in
+    let same = waiting_is x c.close_by_commit.new.session (x.clock + 1) c.close_by_commit.ensures in
+    let d : HasFlushed w u (waiting_session x (x.clock + 1) (suc x.behind)) y c.stage_end.new.log is mid new = subst (λ k. HasFlushed w u k y c.stage_end.new.log is mid new) same c.in_default-flush_log.ensures.flushed in
+    let may = may_flush_at z v x log c.args.latches.now c.requires.is_open c.least_flushed-floor.result f _ refl true w c.end_rows.ensures.ended (suc x.behind) c.stage_end.new.log c.in_default.ensures.last in
+    every_steps x.own v0 v u (no_steps x.own v0 v s.given s.seen) (every_steps x.own v w u (ended_steps x.own _ v w true c.least_flushed-floor.result c.end_rows.ensures.ended)
+    (flushed_steps z w u (waiting_session x (x.clock + 1) (suc x.behind)) y c.stage_end.new.log c.stage_end.new.log is mid new may d))

@@ -5,6 +5,6 @@ use Rattle.row_engine.proofs.commits.latch_rows.Given as goal
 abbrev pub invariant-loop-at : goal.invariant-loop-at
 invariant-loop-at g l = record {
   fits : g.R.Rows.fits l.rows l.seat × (g.R.Rows.shape l.rows ≡ g.R.Rows.shape l.fn.rows);
-  latching : Latching l.frames l.held l.latches (g.R.Rows.view l.fn.seat) (g.R.Rows.view l.seat);
-  all : AreMarkedTo l.at l.held.rows l.latches;
+  latching : Latching l.fn.session.frames l.fn.session.held l.latches (g.R.Rows.view l.fn.seat) (g.R.Rows.view l.seat);
+  all : AreMarkedTo l.at l.fn.session.held.rows l.latches;
 }

@@ -1,14 +1,18 @@
-use Rattle.std.proofs.Common.{◌≡◌, ◌^◌, ◌∙◌, ℕ, List, ◌∷◌, Option, ap, refl, sym, subst, arith}
+use Rattle.std.proofs.Common.{◌≡◌, ◌^◌, ◌∙◌, ℕ, ◌∷◌, Option, ap, refl, sym, subst, arith}
 use Rattle.page_model.specs.Tree.{word_or}
 use Rattle.row_engine.specs.Puts.{IsChanged}
-use Rattle.row_engine.specs.declared.undo.Undone.{Undone}
-use Rattle.row_engine.proofs.PutLemmas.{holds_as, holds_changed, holds_still, is_changed, is_spent, may_put, no_room, none_seen, not_cold}
+use Rattle.row_engine.proofs.PutLemmas.{holds_as, holds_changed, holds_still, is_changed, is_spent, may_put, no_room, none_seen, not_cold, not_last}
+use Rattle.row_engine.proofs.StageLemmas.{undo_set}
 use Rattle.row_engine.proofs.StepLemmas.{cause_from, ok_calm}
 use Rattle.row_engine.proofs.puts.put_in_leaf.Goals as goal
 
 pub unreachable-requires-in-Cold : goal.unreachable-requires-in-Cold
 unreachable-requires-in-Cold g c =
     not_cold (g.R.Rows.shape c.args.rows.now) (g.R.Rows.view c.args.seat.now) (g.R.Rows.view c.leaf_put.new.seat) c.args.store.now.session c.args.store.now.log c.args.key c.in-Cold.field-0 c.requires.holds c.in-Cold.ensures.fits.2 c.in-Cold.ensures.put
+
+pub unreachable-requires-in-ClockSpent : goal.unreachable-requires-in-ClockSpent
+unreachable-requires-in-ClockSpent g c =
+    not_last (g.R.Rows.shape c.args.rows.now) (g.R.Rows.view c.args.seat.now) (g.R.Rows.view c.leaf_put.new.seat) c.args.store.now.session c.args.store.now.log c.args.key c.requires.holds c.requires.may.is_open c.in-ClockSpent.ensures.put
 
 pub leaf_put-requires-clause-may : goal.leaf_put-requires-clause-may
 leaf_put-requires-clause-may g c = may_put (g.R.Rows.shape c.args.rows.now) (g.R.Rows.view c.args.seat.now) c.args.store.now.session c.args.store.now.log c.args.key c.args.value c.requires.holds c.requires.may (let low = c.requires.value in omega arith)
@@ -20,7 +24,7 @@ returns-in-Done-clause-tries g c =
     let w = g.R.Rows.view c.leaf_put.new.seat in
     let old = g.D.Disk.story c.args.store.now.disk in
     let new = g.D.Disk.story c.leaf_put.new.draw.disk in
-    subst (λ (b : Option ℕ). IsChanged v w c.args.key c.args.value b c.args.store.now.log c.leaf_put.new.draw.log old new) (sym c.value_of.ensures)
+    subst (λ (b : Option ℕ). IsChanged c.args.store.now.session.own v w c.args.key c.args.value b c.args.store.now.log c.leaf_put.new.draw.log old new) (sym c.value_of.ensures)
     (is_changed z v w c.args.store.now.session c.args.store.now.log c.args.key c.args.value c.in-Done.before c.args.store.now.staged.list c.leaf_put.new.draw.staged.list c.leaf_put.new.draw.session c.leaf_put.new.draw.log
     old new (c.leaf_put.new.draw.disk ≡ c.args.store.now.disk) (g.D.Disk.faults c.args.store.now.disk) (g.D.Disk.faults c.leaf_put.new.draw.disk) c.requires.holds.alone c.in-Done.ensures.put c.in-Done.ensures.drew)
 
@@ -30,8 +34,8 @@ returns-in-Done-clause-holds g c works =
     let v = g.R.Rows.view c.args.seat.now in
     let w = g.R.Rows.view c.leaf_put.new.seat in
     let y = c.leaf_put.new.draw.session in
-    holds_as z (g.R.Rows.shape c.leaf_put.new.rows) w (record y { undo = record { key = c.args.key; word = word_or (2 ^ 63) c.in-Done.before } ∷ y.undo }) (record y { undo = c.push.new.self }) c.leaf_put.new.draw.log c.leaf_put.new.draw.log c.in-Done.ensures.fits.1
-    (ap (λ (us : List Undone). record y { undo = us }) (c.push.ensures ∙ ap (λ (n : ℕ). record { key = c.args.key; word = n } ∷ y.undo) c.word_of.ensures)) refl
+    holds_as z (g.R.Rows.shape c.leaf_put.new.rows) w (record y { undo = record { key = c.args.key; word = word_or (2 ^ 63) c.in-Done.before } ∷ y.undo }) _ c.leaf_put.new.draw.log c.leaf_put.new.draw.log c.in-Done.ensures.fits.1
+    (undo_set y c.push.new.self (record { key = c.args.key; word = word_or (2 ^ 63) c.in-Done.before } ∷ y.undo) _ (c.push.ensures ∙ ap (λ (n : ℕ). record { key = c.args.key; word = n } ∷ y.undo) c.word_of.ensures)) refl
     (holds_changed c.every_room.ensures z v w c.args.store.now.session c.args.store.now.log c.requires.holds c.args.key c.args.value c.requires.may c.in-Done.before c.args.store.now.staged.list c.leaf_put.new.draw.staged.list y c.leaf_put.new.draw.log c.in-Done.ensures.put
     (g.D.Disk.story c.args.store.now.disk) (g.D.Disk.story c.leaf_put.new.draw.disk) (c.leaf_put.new.draw.disk ≡ c.args.store.now.disk) (g.D.Disk.faults c.args.store.now.disk) (g.D.Disk.faults c.leaf_put.new.draw.disk) c.in-Done.ensures.fits.2 c.in-Done.ensures.drew c.in-Done.ensures.last)
 

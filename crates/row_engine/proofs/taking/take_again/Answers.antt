@@ -4,7 +4,7 @@ use Rattle.row_engine.proofs.taking.take_again.Goals as goal
 
 pub lock_again-requires-clause-has : goal.lock_again-requires-clause-has
 lock_again-requires-clause-has g c =
-    already (g.R.Rows.shape c.args.rows.now) (g.R.Rows.view c.args.seat.now) c.args.session.now c.args.log.now c.requires.holds c.args.row c.requires.has
+    already (g.R.Rows.shape c.args.rows.now) (g.R.Rows.view c.args.seat.now) c.args.session.now c.args.log.now c.requires.holds c.requires.only c.args.row c.requires.has
 
 pub returns-in-Ok-clause-holds : goal.returns-in-Ok-clause-holds
 returns-in-Ok-clause-holds g c =
@@ -12,11 +12,11 @@ returns-in-Ok-clause-holds g c =
     let w = g.R.Rows.view c.lock_again.new.seat in
     let x = c.args.session.now in
     holds_as z (g.R.Rows.shape c.lock_again.new.rows) w x x c.args.log.now c.in-Ok.ensures.fits.1 refl
-    (holds_again z (g.R.Rows.view c.args.seat.now) x c.args.log.now c.requires.holds c.args.row c.requires.has w c.requires.open_is c.requires.row c.in-Ok.ensures.ok c.in-Ok.ensures.fits.2)
+    (holds_again z (g.R.Rows.view c.args.seat.now) x c.args.log.now c.requires.holds c.requires.only c.args.row c.requires.has w c.requires.open_is c.requires.row c.in-Ok.ensures.ok c.in-Ok.ensures.fits.2)
 
 pub returns-in-Ok-clause-taken : goal.returns-in-Ok-clause-taken
 returns-in-Ok-clause-taken g c =
-    takes_again (g.R.Rows.shape c.args.rows.now) (g.R.Rows.view c.args.seat.now) c.args.session.now c.args.log.now c.requires.holds c.args.row c.requires.has (g.R.Rows.view c.lock_again.new.seat) c.requires.open_is c.requires.row c.in-Ok.ensures.ok c.in-Ok.ensures.fits.2
+    takes_again (g.R.Rows.shape c.args.rows.now) (g.R.Rows.view c.args.seat.now) c.args.session.now c.args.log.now c.requires.holds c.requires.only c.args.row c.requires.has (g.R.Rows.view c.lock_again.new.seat) c.requires.open_is c.requires.row c.in-Ok.ensures.ok c.in-Ok.ensures.fits.2
 
 pub returns-in-Err-clause-holds : goal.returns-in-Err-clause-holds
 returns-in-Err-clause-holds g c =

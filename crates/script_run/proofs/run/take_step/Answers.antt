@@ -21,7 +21,7 @@ call_engine-requires-clause-within g c κs held = within c.in-Ok.call (c.in-Ok.e
 pub returns-in_default-clause-runs : goal.returns-in_default-clause-runs
 returns-in_default-clause-runs g c o xs start seen run was =
     fault_stepped c.laws.ensures o xs (g.E.Calls.log_of c.args.engine.now) (g.E.Calls.story c.args.engine.now) c.told.ensures.lawful (g.E.Calls.in_run c.call_engine.new.engine o)
-    c.in-Ok.call (c.in-Ok.ensures).fits (g.E.Calls.story c.call_engine.new.engine) (g.E.Calls.log_of c.call_engine.new.engine) (c.call_engine.ensures.fails c.in_default.is o xs run)
+    c.in-Ok.call (c.in-Ok.ensures).fits (g.E.Calls.story c.call_engine.new.engine) (g.E.Calls.log_of c.call_engine.new.engine) (c.told.ensures.told o xs run).1 (c.call_engine.ensures.fails c.in_default.is o xs run)
     (c.args.number - 1) start (g.S.Source.feed c.next_call.new.source) seen c.next_call.new.reader (g.K.Sink.held c.args.sink.now) (omega arith) ((c.in-Ok.ensures).read start seen was)
 
 pub returns-clause-runs : goal.returns-clause-runs
@@ -30,7 +30,7 @@ returns-clause-runs g c o xs start seen run was =
     let does = (c.in-Some.ensures).does o xs run in
     let after = c.put_answer.ensures in
     answer_stepped c.laws.ensures o xs (g.E.Calls.log_of c.args.engine.now) (g.E.Calls.story c.args.engine.now) c.told.ensures.lawful (g.E.Calls.in_run c.put_answer.new.engine o)
-    c.in-Ok.call (c.in-Ok.ensures).fits (g.E.Calls.story c.call_engine.new.engine) (c.told.ensures.alone o xs run)
+    c.in-Ok.call (c.in-Ok.ensures).fits (g.E.Calls.story c.call_engine.new.engine) (c.told.ensures.alone o xs run) (c.told.ensures.told o xs run).1
     c.in-Some.answer (c.in-Some.ensures).fits (g.E.Calls.log_of c.call_engine.new.engine) (g.E.Calls.log_of c.put_answer.new.engine) does.0 (c.told-2.ensures.told o (does.0.done ∷ xs) does.1).0
     c.put_answer.result (g.K.Sink.held c.args.sink.now) (g.K.Sink.held c.put_answer.new.sink) (g.E.Calls.story c.put_answer.new.engine) after.says after.same.0
     (c.args.number - 1) start (g.S.Source.feed c.next_call.new.source) seen c.next_call.new.reader (after.in_run o (does.0.done ∷ xs) does.1) (omega arith) ((c.in-Ok.ensures).read start seen was)
