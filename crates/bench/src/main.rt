@@ -1,11 +1,13 @@
 // How many lines, replies, records, node searches and blocks a second, and how long recovery takes. With no argument a handful of each, and
-// what they add up to; with a number N, N million of each, with times.
+// what they add up to; with a number N, N million of each, with times; with the word `writer`, how long the blocks of the log in the current
+// folder take where each is only sealed, written and synced.
 #![tactic(auto)]
 
 mod history;
 mod recovery;
+mod writer;
 
-ghost use Rattle.std.specs.Prelude.{◌≤◌, ◌<◌, IfOk};
+ghost use Rattle.std.specs.Prelude.{◌≤◌, ◌<◌};
 ghost use Rattle.script_lang.specs.Replies.{AnswerFits};
 
 use btree_node::Node;
@@ -16,6 +18,7 @@ use recovery::recovery;
 use script_lang::{REPLY, read_line, reply_bytes};
 use std::time::Instant;
 use std::{env, io};
+use writer::write_plainly;
 
 const LINES: [&[u8]; 4] = [
     b"1 begin",
@@ -174,14 +177,26 @@ fn recover(rt: &HostRuntime, logs: u32, blocks: u32, timed: bool) -> io::Result<
     Ok(())
 }
 
-fn times(rt: &HostRuntime) -> io::Result<u64>
-    ensures { IfOk result (λ millions. millions ≤ 1000000) }
-{
-    let mut millions = 0u64;
+// What the last word asks for.
+#[derive(Clone, Copy)]
+enum Asked {
+    Handful,
+    Millions(u32),
+    Writer,
+}
+
+fn asked_for(rt: &HostRuntime) -> io::Result<Asked> {
+    let mut asked = Asked::Handful;
     for word in env::args(rt)? {
-        millions = word.as_str().parse::<u64>().unwrap_or(0);
+        asked = match word.as_str() {
+            "writer" => Asked::Writer,
+            word => match word.parse::<u32>() {
+                Ok(millions) => Asked::Millions(millions),
+                Err(_) => Asked::Handful,
+            },
+        };
     }
-    Ok(millions.min(1000000))
+    Ok(asked)
 }
 
 // What is done over and over.
@@ -228,11 +243,9 @@ fn try_all(rt: &HostRuntime) -> io::Result<()> {
     recover(rt, 2, 64, false)
 }
 
-fn time_all(rt: &HostRuntime, millions: u64) -> io::Result<()>
-    requires { millions ≤ 1000000 }
-{
+fn time_all(rt: &HostRuntime, millions: u32) -> io::Result<()> {
     for (name, work, each) in &WORKS {
-        time(rt, name, *work, millions * u64::from(*each))?;
+        time(rt, name, *work, u64::from(millions) * u64::from(*each))?;
     }
     for logs in [1, 1, 4, 16] {
         recover(rt, logs, 4096, true)?;
@@ -240,11 +253,15 @@ fn time_all(rt: &HostRuntime, millions: u64) -> io::Result<()>
     Ok(())
 }
 
+fn time_writer(rt: &HostRuntime) -> io::Result<()> {
+    let written = write_plainly(rt)?;
+    println!(rt; "writer {} blocks, {} us", written.blocks, written.took)
+}
+
 fn main(rt: HostRuntime) -> io::Result<()> {
-    let millions = times(&rt)?;
-    if millions == 0 {
-        try_all(&rt)
-    } else {
-        time_all(&rt, millions)
+    match asked_for(&rt)? {
+        Asked::Handful => try_all(&rt),
+        Asked::Millions(millions) => time_all(&rt, millions),
+        Asked::Writer => time_writer(&rt),
     }
 }

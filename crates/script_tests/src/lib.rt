@@ -16,4 +16,8 @@ mod rows;
 #[cfg(test)]
 mod scripts;
 #[cfg(test)]
+mod sweeps;
+#[cfg(test)]
+mod texts;
+#[cfg(test)]
 mod words;
