@@ -1,8 +1,9 @@
 -- The master of a sync is the next of a run.
-use Rattle.std.proofs.Common.{◌≡◌}
+use Rattle.std.proofs.Common.{◌≡◌, ◌*◌, ◌%◌}
 use Rattle.core_state.specs.Events.{Event}
 use Rattle.disk_image.specs.Laws.{EverySealed}
 use Rattle.disk_slots.specs.declared.master.Master.{Master}
+use Rattle.lean_disk.specs.Moments.{CrashIn, LeavesOnly}
 use Rattle.lean_disk.specs.Story.{Story}
 use Rattle.lean_disk.specs.declared.disk.Did.{Did}
 use Rattle.lean_disk.specs.declared.disk.Did.TheVariants as did
@@ -10,7 +11,16 @@ use Rattle.worker_log.specs.Laws.{EveryKept, EveryPrefix}
 use Rattle.core_disk.specs.Versions.{EveryVersion}
 use Rattle.disk_runs.specs.MasterLaws.{WritesNext, with_sync}
 use Rattle.disk_runs.proofs.NextLemmas.{every_next_master, every_sync}
+use Rattle.lean_disk.proofs.MomentLemmas.{weaker}
+use Rattle.disk_slots.specs.Masters.{master_slot}
+use Rattle.master_store.specs.Masters.{WritesOnce}
+use Rattle.log_calls.specs.Calls.{Anything}
 use Rattle.log_calls.specs.Syncs.{KeepsEither, SyncsOn}
+
+-- what was written is in its area
+pub within : (m : Master) (old new : Story) → LeavesOnly old new (CrashIn old 0 (WritesOnce (1024 * (m.sequence % 2)) (master_slot m) (old.area 0))) → LeavesOnly old new (CrashIn old 0 Anything)
+within m old new = weaker old new (CrashIn old 0 (WritesOnce (1024 * (m.sequence % 2)) (master_slot m) (old.area 0))) (CrashIn old 0 Anything)
+    (λ c is. record { notes = is.notes; writes = is.writes; leaves = is.leaves; here = tt })
 
 module _ (versions : EveryVersion) (keeps : EveryKept) (prefixes : EveryPrefix) (seals : EverySealed) (m : Master) (r : Did) (old new : Story) (writes : WritesNext m r old new) where
   pub syncs : r ≡ did.Done → SyncsOn m old new

@@ -1,11 +1,12 @@
 -- A log of which nothing is left to flush.
-use Rattle.std.proofs.Common.{◌≡◌, ◌≤◌, ◌<◌, ℕ, suc, true, ◌&&◌, leb, ◌==◌, List, [], ◌∷◌, ◌++◌, length, drop, ⊎_elim, refl, sym, ap, ◌∙◌, subst, arith, length-drop}
+use Rattle.std.proofs.Common.{◌≡◌, ◌≤◌, ◌<◌, ◌+◌, ℕ, suc, true, ◌&&◌, leb, ◌==◌, List, [], ◌∷◌, ◌++◌, length, drop, ⊎_elim, refl, sym, ap, ◌∙◌, subst, arith, length-drop}
 use Rattle.std.proofs.lemmas.List.{append-nil, nil_from_length}
 use Rattle.std.proofs.lemmas.Bool.{cases_lt, and_from, eq-eqb, ne_eqb, le-leb, cond-true, cond-false}
 use Rattle.map_model.specs.Lists.{Has, any}
 use Rattle.map_model.proofs.ListLemmas.{has_any, has_left, has_right, upd_same, upd_other}
 use Rattle.image_model.specs.Entries.{is_record}
 use Rattle.lean_disk.specs.Area.{Area}
+use Rattle.lean_disk.specs.Moments.{CrashIn}
 use Rattle.lean_disk.specs.Story.{Crash, IsLawful, Story}
 use Rattle.lean_disk.proofs.MomentLemmas.{started}
 use Rattle.log_record.specs.declared.record.Record.{Record}
@@ -28,12 +29,18 @@ use Rattle.disk_runs.specs.Logs.{Flushes}
 use Rattle.disk_runs.specs.MasterLaws.{IsAllSynced}
 use Rattle.disk_runs.specs.Stands.{Known, LeavesRun, Stands}
 use Rattle.disk_runs.proofs.StandLemmas.{every_rest}
-use Rattle.log_calls.specs.Calls.{FlushesOn, IsLog, KeepsMoments}
+use Rattle.log_calls.specs.Calls.{Anything, FlushesOn, IsLog, KeepsMoments, KeepsNotes, KeepsWithin}
 use Rattle.log_calls.specs.Wholes.{EndsInRecord, IsWhole, flush_of}
 
 -- where no call is made, a crash leaves what it left before
 pub still : EveryKept → EveryPrefix → EverySealed → (w : ℕ) (was : Log) (s : Story) → IsLawful s → KeepsMoments w was s s
 still keeps prefixes seals w was s law s0 g es x it = started s (LeavesRun g es s0 x.master) law (λ c now. every_rest keeps prefixes seals s s0 g es x it.stands c now)
+
+pub still_notes : (w : ℕ) (was : Log) (s : Story) → IsLawful s → KeepsNotes w was s s
+still_notes w was s law s0 g es x it = started s (λ c. c.notes ≡ s.notes) law (λ c now. now.notes)
+
+pub still_within : (w : ℕ) (was : Log) (s : Story) → IsLawful s → KeepsWithin w was s s
+still_within w was s law s0 g es x it = started s (CrashIn s (w + 1) Anything) law (λ c now. record { notes = now.notes; writes = λ b other told. now.writes b told; leaves = λ b other told. now.leaves b told; here = tt })
 
 -- ## Nothing is left
 

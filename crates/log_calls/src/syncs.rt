@@ -6,6 +6,7 @@ ghost use Rattle.lean_disk.specs.Moments.{CrashIn, Framed, LeavesOnly};
 ghost use Rattle.lean_disk.specs.Story.{Tells};
 ghost use Rattle.disk_slots.specs.Masters.{master_slot};
 ghost use Rattle.master_store.specs.Masters.{WritesOnce};
+ghost use Rattle.log_calls.specs.Calls.{Anything};
 ghost use Rattle.log_calls.specs.Syncs.{KeepsEither, SyncsOn};
 
 use disk_slots::Master;
@@ -27,6 +28,7 @@ pub fn sync_master<D: Disk>(disk: &mut D, master: &Master) -> Did
     ensures stands { result ≡ Did.Done → SyncsOn master.now (D.story disk.old) (D.story disk.new) }
     ensures any_moment { KeepsEither master.now (D.story disk.old) (D.story disk.new) }
     ensures frame { Framed 0 (D.story disk.old) (D.story disk.new) }
+    ensures within { LeavesOnly (D.story disk.old) (D.story disk.new) (CrashIn (D.story disk.old) 0 Anything) }
     ensures same_notes { (D.story disk.new).notes ≡ (D.story disk.old).notes }
 
     ensures cause { HasCause (D.faults disk.old) (D.faults disk.new) (result ≡ Did.Failed) }

@@ -1,4 +1,4 @@
-use Rattle.log_calls.proofs.SyncLemmas.{either, syncs}
+use Rattle.log_calls.proofs.SyncLemmas.{either, syncs, within}
 use Rattle.log_calls.proofs.syncs.sync_master.Goals as goal
 
 pub returns-clause-stands : goal.returns-clause-stands
@@ -12,6 +12,11 @@ returns-clause-any_moment g c =
     let is = c.write_on.ensures in
     either c.every_version.ensures c.every_kept.ensures c.every_prefix.ensures c.every_sealed.ensures c.args.master.now c.write_on.result (g.D.Disk.story c.args.disk.now) (g.D.Disk.story c.write_on.new.disk)
     (record { done = is.done; frame = is.frame; any_moment = is.any_moment })
+
+pub returns-clause-within : goal.returns-clause-within
+returns-clause-within g c =
+    let is = c.write_on.ensures in
+    within c.args.master.now (g.D.Disk.story c.args.disk.now) (g.D.Disk.story c.write_on.new.disk) is.any_moment
 
 pub returns-clause-same_notes : goal.returns-clause-same_notes
 returns-clause-same_notes g c = c.write_on.ensures.frame.notes
