@@ -6,3 +6,6 @@ pub mod RipeLemmas
 pub mod TrackLemmas
 pub mod EventLemmas
 pub mod TakeLemmas
+pub mod OutcomeEvents
+pub mod OutcomeLemmas
+pub mod FewerLemmas

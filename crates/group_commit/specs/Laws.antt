@@ -6,13 +6,17 @@ use Rattle.image_model.specs.Entries.{Entry, is_commit}
 use Rattle.core_state.specs.Openings.{Opening}
 use Rattle.core_state.specs.States.{State, start}
 use Rattle.core_state.specs.Events.{Event}
+use Rattle.core_state.specs.Local.{is_sync}
 use Rattle.core_state.specs.Needs.{may}
 use Rattle.core_state.specs.Steps.{state_after}
-use Rattle.core_calls.specs.Refusals.{waiting}
 use Rattle.core_calls.specs.Durables.{is_ripe, due}
+use Rattle.core_calls.specs.Fronts.{Done, front}
+use Rattle.core_calls.specs.Refusals.{Limits, waiting}
+use Rattle.core_calls.specs.Runs.{EachTells}
 use Rattle.group_commit.specs.declared.receipts.Receipt.{Receipt}
 use Rattle.group_commit.specs.declared.queue.End.{End}
 use Rattle.group_commit.specs.declared.receipts.Ripeness.TheVariants.{Durable, Waits}
+use Rattle.group_commit.specs.Outcomes.{IsOfOutcome, ends_by}
 use Rattle.group_commit.specs.Ripeness.{ripeness_of}
 use Rattle.group_commit.specs.Queues.{queue_of, AreNew, pushed, Takes}
 use Rattle.group_commit.specs.Tracks.{AreFlushed, Tells, IsOfEnd, is_ending, Tracks}
@@ -72,3 +76,15 @@ TakeLaws g s told new None = NothingLaws g s told new
 abbrev pub EveryTake : Type 0
 EveryTake = (g : Opening) (es : List Event) (told : List Name) (fs : List ℕ) (old new : List (List End)) (found : Option Receipt) →
     AreFlushed g (state_after g es) fs → Tracks g (state_after g es) told old → Takes fs old found new → TakeLaws g (state_after g es) told new found
+
+-- ## Outcomes
+
+-- Behind an outcome of a run: a commit and an abort are pushed as they happen, with the receipt of which the answer, the session's worker and the state before
+-- it tell; and any other outcome leaves the queues as they are.
+pub record OutcomeLaws (g : Opening) (xs : List Done) (x : Done) (told : List Name) (qs : List (List End)) : Type 0 where
+  pub ends : (commit : Bool) → ends_by x.outcome.deed ≡ Some commit → any is_sync x.events ≡ false → (r : Receipt) → IsOfOutcome g xs x r → Tracks g (state_after g (front (x ∷ xs))) told (pushed r commit qs)
+  pub others : ends_by x.outcome.deed ≡ None → Tracks g (state_after g (front (x ∷ xs))) told qs
+
+abbrev pub EveryOutcome : Type 0
+EveryOutcome = (l : Limits) (g : Opening) (group : ℕ) (xs : List Done) (x : Done) (told : List Name) (qs : List (List End)) → EachTells l g group (x ∷ xs) → Tracks g (state_after g (front xs)) told qs
+    → OutcomeLaws g xs x told qs

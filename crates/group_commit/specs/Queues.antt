@@ -1,5 +1,5 @@
 -- Queues of ends, one for each session, the oldest end first; and what a take finds and leaves.
-use Rattle.std.specs.Prelude.{◌≡◌, ◌<◌, ◌≤◌, ◌-◌, ◌⊎◌, ℕ, Bool, false, ◌&&◌, not, leb, List, [], ◌∷◌, ◌++◌, length, drop, slice_set, slice_index_or, Option, Some, None, if◌then◌else◌}
+use Rattle.std.specs.Prelude.{◌≡◌, ◌<◌, ◌≤◌, ◌-◌, ◌+◌, ◌⊎◌, ℕ, Bool, false, ◌&&◌, not, leb, List, [], ◌∷◌, ◌++◌, length, drop, slice_set, slice_index_or, Option, Some, None, if◌then◌else◌}
 use Rattle.rfa_model.specs.Reaches.{least}
 use Rattle.group_commit.specs.declared.receipts.Receipt.{Receipt}
 use Rattle.group_commit.specs.declared.queue.End.{End}
@@ -34,6 +34,11 @@ ripe_first f all (e ∷ q) = if e.is_commit && is_ripe_at f all e then Some e el
 -- session w's; sessions are 1, 2, ..
 abbrev pub queue_of : List (List End) → ℕ → List End
 queue_of qs w = slice_index_or qs (w - 1) []
+
+-- how many ends there are
+abbrev pub queued : List (List End) → ℕ
+queued [] = 0
+queued (q ∷ qs) = length q + queued qs
 
 -- so many, all empty
 pub record AreNew (workers : ℕ) (qs : List (List End)) : Type 0 where

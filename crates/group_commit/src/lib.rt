@@ -1,7 +1,7 @@
 //! Receipts of commits, when they are ripe, and the ends that are not ripe yet.
 #![tactic(auto)]
 
-ghost use Rattle.group_commit.specs.Laws.{EveryRipe, EveryStart, EveryEnd, EveryOther, EveryTake};
+ghost use Rattle.group_commit.specs.Laws.{EveryRipe, EveryStart, EveryEnd, EveryOther, EveryOutcome, EveryTake};
 
 mod queue;
 mod receipts;
@@ -41,3 +41,10 @@ pub fn every_other()
 pub fn every_take()
     ensures { EveryTake }
 {}
+
+/// Behind each outcome of a run the queues have what the core has, where its end, if it has one, is pushed.
+pub fn every_outcome()
+    ensures { EveryOutcome }
+{
+    core_commit::every_rise();
+}

@@ -1,8 +1,8 @@
 // The ends of all sessions that wait, and the next commit that is durable.
-ghost use Rattle.std.specs.Prelude.{◌≡◌, ◌<◌, ◌≤◌, ◌-◌, ◌+◌, length, drop, IfOk, List};
+ghost use Rattle.std.specs.Prelude.{◌≡◌, ◌<◌, ◌≤◌, ◌-◌, ◌+◌, length, drop, IfOk, IfSome, List};
 ghost use Rattle.rfa_model.specs.Reaches.{least};
 ghost use Rattle.group_commit.specs.Ripeness.{flushed_of};
-ghost use Rattle.group_commit.specs.Queues.{queue_of, AreNew, pushed, receipt_of, sooner, IsSettled, IsSoonest, Takes, next_of, without_first};
+ghost use Rattle.group_commit.specs.Queues.{queue_of, AreNew, pushed, receipt_of, sooner, IsSettled, IsSoonest, Takes, next_of, queued, without_first};
 
 use crate::queue::{End, Queue, ROOM};
 use crate::receipts::{LOGS, Receipt, least_of};
@@ -144,7 +144,8 @@ impl Unripe {
     /// the oldest end alone is looked at, since its ends get ripe in turn.
     pub fn take(&mut self, flushed: &[u64]) -> Option<Receipt>
         requires { length flushed.now ≡ length self.old }
-        ensures { Takes flushed.now self.old result self.new }
+        ensures takes { Takes flushed.now self.old result self.new }
+        ensures fewer { IfSome result (λ r. queued self.new < queued self.old) }
     {
         let all = least_of(flushed);
         self.settle(flushed, all);
