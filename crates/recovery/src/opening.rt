@@ -103,6 +103,7 @@ pub fn recover<D: Disk>(alloc: Global, disk: &mut D, most: u32) -> Result<Recove
         → HasInstalled m r (D.story disk.old) (D.story disk.new)) }
     ensures whole { IfOk result IsWhole }
     ensures few { IfOk result (λ r. length r.master.heads ≤ most) }
+    ensures sequence { IfOk result (λ r. r.master.sequence < 2 ^ 61) }
     ensures logs { (a : ℕ) → 1 < a → IsUntouched ((D.story disk.old).area a) ((D.story disk.new).area a) }
     ensures others { (a : ℕ) → 1 + most < a → (D.story disk.new).area a ≡ (D.story disk.old).area a }
     ensures beyond { IfOk result (λ r. (a : ℕ) → 1 + length r.master.heads < a → (D.story disk.new).area a ≡ (D.story disk.old).area a) }

@@ -1,4 +1,4 @@
-use Rattle.std.proofs.Common.{◌≡◌, ◌^◌, ◌<◌, ◌≤◌, ℕ, length, refl, ap, subst, ◌∙◌, arith}
+use Rattle.std.proofs.Common.{◌≡◌, ◌^◌, ◌<◌, ◌≤◌, ◌+◌, ℕ, suc, length, refl, ap, subst, ◌∙◌, arith}
 use Rattle.std.proofs.lemmas.List.{length-replicate}
 use Rattle.lean_disk.specs.Story.{Tells}
 use Rattle.disk_slots.specs.declared.master.Master.{Master}
@@ -81,6 +81,13 @@ returns-clause-few g c =
     let openable = c.in-Ok.ensures.openable in
     let same : length (c.next_master-master.result).heads ≡ length m.heads = as_many m c.in-Ok.it.base c.next_master-master.result c.next_master-master.ensures.answer in
     let few : length m.heads ≤ c.args.most = openable.few in
+    omega arith
+
+pub returns-clause-sequence : goal.returns-clause-sequence
+returns-clause-sequence g c =
+    let m = c.in-Ok.it.master in
+    let low : m.sequence + 1 < 2 ^ 61 = c.in-Ok.ensures.openable.sequence in
+    let next : (c.next_master-master.result).sequence ≡ suc m.sequence = ap (λ (k : Master). k.sequence) c.next_master-master.ensures.answer in
     omega arith
 
 pub returns-clause-beyond : goal.returns-clause-beyond
