@@ -1,0 +1,322 @@
+-- A commit that is refused, and one whose rows are latched.
+use Rattle.std.proofs.Common.{Result, Ok, IfErr, ◌≡◌, ◌⊎◌, ◌↔◌, inl, inr, ◌≤◌, ◌^◌, ℕ, suc, Bool, true, false, cond, List, [], ◌∷◌, ◌++◌, length, replicate, Some, None, Err, refl, sym, ap, ◌∙◌, subst, arith, append-nil, length-append, true≢false}
+use Rattle.std.proofs.lemmas.List.{length-replicate}
+use Rattle.map_model.specs.declared.call.Answer.{Answer}
+use Rattle.map_model.specs.declared.call.Answer.TheVariants as answer
+use Rattle.map_model.specs.declared.call.Call.TheVariants as call
+use Rattle.map_model.specs.declared.call.Refusal.{Refusal}
+use Rattle.map_model.specs.declared.call.Refusal.TheVariants as refusal
+use Rattle.map_model.specs.Lists.{Has, any}
+use Rattle.core_state.specs.Openings.{Opening}
+use Rattle.core_state.specs.Events as happening
+use Rattle.core_state.specs.States.{State, flushed_by_all}
+use Rattle.core_state.specs.Needs.{holds_row}
+use Rattle.core_state.specs.Steps.{state_after, step}
+use Rattle.core_state.proofs.Runs.{run_more}
+use Rattle.lean_disk.specs.Story.{IsLawful, Story}
+use Rattle.lean_disk.proofs.MomentLemmas.{framed}
+use Rattle.disk_image.specs.Laws.{EverySealed}
+use Rattle.worker_log.specs.Laws.{EveryKept, EveryPrefix}
+use Rattle.worker_log.specs.Logs.{Log}
+use Rattle.core_disk.specs.Versions.{EveryVersion}
+use Rattle.core_calls.specs.Deeds.{marks_by}
+use Rattle.core_calls.specs.Fronts.{Done, front, outcomes}
+use Rattle.core_calls.specs.LogEvents as log_events
+use Rattle.core_calls.specs.LogEvents.{RefusedLogs, is_log}
+use Rattle.core_calls.specs.Marks.{is_half}
+use Rattle.core_calls.specs.Refusals.{IsCause}
+use Rattle.core_calls.specs.Runs.{Tells}
+use Rattle.core_calls.specs.Steps.{MayPutBack, is_step, is_structure}
+use Rattle.engine_calls.specs.Answers.{EveryAnswer}
+use Rattle.engine_calls.specs.Clauses.{EveryComing, IsNewLine}
+use Rattle.engine_calls.specs.Parts.{EveryPart, behind_first}
+use Rattle.engine_calls.specs.Refused.{IsRefusal, TakesRows, refused_by}
+use Rattle.engine_calls.proofs.MarkLemmas.{any_append, keep_none}
+use Rattle.engine_calls.proofs.PartLemmas.{every_part}
+use Rattle.session_trait.specs.Calls.{IsTold, call_behind, is_half_done}
+use Rattle.session_trait.specs.Logs.{Logs}
+use Rattle.session_trait.specs.Limits.{limits}
+use Rattle.session_trait.specs.Refusals.{IsRefusedFor, refusal_in}
+use Rattle.session_trait.specs.Rooms.{MakesItsRoom}
+use Rattle.row_words.specs.declared.event.Event.{Event}
+use Rattle.row_words.specs.declared.event.Event.TheVariants.{Miss}
+use Rattle.row_words.specs.Moments.{events_of}
+use Rattle.row_words.specs.Openings.{opening}
+use Rattle.row_opening.specs.Openings.{EveryNeed, EveryReached}
+use Rattle.rows_trait.specs.declared.view.Hold.{Hold}
+use Rattle.rows_trait.specs.declared.view.View.{View}
+use Rattle.rows_trait.specs.Views.{Shape, state}
+use Rattle.key_locks.specs.Latching.{is_marked}
+use Rattle.session_rows.specs.Calls.{CallDoes, DoesOn, commit_answer}
+use Rattle.btree_smo.specs.Outcomes.{AreMisses}
+use Rattle.session_rows.specs.Ends.{AreAmong, AreMine, Missed}
+use Rattle.session_rows.specs.Holds.{Holds, IsOf}
+use Rattle.session_rows.specs.Inside.{call_test, is_going}
+use Rattle.session_rows.specs.Numbers.{AreNumbered}
+use Rattle.session_rows.specs.Ties.{Ties}
+use Rattle.session_rows.specs.declared.commits.Ended as committed
+use Rattle.session_rows.specs.declared.session.Session.{Session}
+use Rattle.session_rows.proofs.GoingLemmas.{going, not_going, tests_as}
+use Rattle.session_rows.proofs.Behind as behind
+use Rattle.session_rows.proofs.Behind.{rows_on}
+use Rattle.session_rows.proofs.CommitLemmas.{ties_as}
+use Rattle.session_rows.proofs.LatchLemmas.{replicated, seen_state}
+use Rattle.session_rows.proofs.Misses.{misses_core, misses_log, misses_met, misses_quiet, misses_run, misses_steps, misses_structure}
+use Rattle.session_rows.proofs.Moments.{free_same, resident_on}
+
+-- ## Tests
+
+-- it works, and a transaction is open
+pub record IsReady (x : Session) : Type 0 where
+  pub works : x.works ≡ true
+  pub is_open : x.is_open ≡ true
+  pub whole : x.half ≡ false
+
+pub ready_of : (x : Session) → call_test x ≡ None → IsReady x
+ready_of x e = works_case x.works refl e
+  where
+    open_case : x.works ≡ true → (b : Bool) → is_going x ≡ b → cond b None (Some refusal.NoTransaction) ≡ None → IsReady x
+    open_case w true q r = let k = going x q in record { works = w; is_open = k.is_open; whole = k.whole }
+    open_case w false q r = absurd (cc)
+
+    works_case : (b : Bool) → x.works ≡ b → cond b (cond (is_going x) None (Some refusal.NoTransaction)) (Some refusal.Broken) ≡ None → IsReady x
+    works_case true q r = open_case q (is_going x) refl r
+    works_case false q r = absurd (cc)
+
+-- why it is refused
+pub data Tested (x : Session) (why : Refusal) : Type 0 where
+  Fails : x.works ≡ false → why ≡ refusal.Broken → Tested x why
+  Closed : x.works ≡ true → is_going x ≡ false → why ≡ refusal.NoTransaction → Tested x why
+
+pub tested : (x : Session) (why : Refusal) → call_test x ≡ Some why → Tested x why
+tested x why e = works_case x.works refl e
+  where
+    open_case : x.works ≡ true → (b : Bool) → is_going x ≡ b → cond b None (Some refusal.NoTransaction) ≡ Some why → Tested x why
+    open_case w true q r = absurd (cc)
+    open_case w false q r = Closed w q (cc)
+
+    works_case : (b : Bool) → x.works ≡ b → cond b (cond (is_going x) None (Some refusal.NoTransaction)) (Some refusal.Broken) ≡ Some why → Tested x why
+    works_case true q r = open_case q (is_going x) refl r
+    works_case false q r = Fails q (cc)
+
+-- ## Latches
+
+-- where none is marked and none is held
+pub start_mine : (frames count : ℕ) (marks : List Bool) (hs : List Hold) → marks ≡ replicate count false → hs ≡ [] → AreMine frames count marks hs
+start_mine frames count marks hs m e = subst (λ ms. AreMine frames count ms hs) (sym m) (subst (λ ks. AreMine frames count (replicate count false) ks) (sym e) (record {
+  many = length-replicate count false;
+  latched = record { marked = λ j on. absurd (replicated count j on); others = λ j lt off. refl };
+  only = λ row held. absurd (true≢false (sym held));
+}))
+
+pub start_among : (count : ℕ) (marks : List Bool) (rows : List ℕ) → marks ≡ replicate count false → AreAmong marks rows
+start_among count marks rows m i on = absurd (replicated count i (subst (λ ms. is_marked ms i ≡ true) m on))
+
+pub length_events : (es : List Event) → length (events_of es) ≡ length es
+length_events [] = refl
+length_events (e ∷ es) = let q = length_events es in omega arith
+
+pub no_miss : (most : ℕ) (v : View) → v.held ≡ [] → Missed most v v
+no_miss most v e = record { given = refl; misses = []; are_misses = tt; few = omega arith; seen = sym (append-nil v.seen); idle = e }
+
+pub missed_from : (most : ℕ) (u v w : View) → v.given ≡ u.given → v.seen ≡ u.seen → Missed most v w → Missed most u w
+missed_from most u v w given seen m = record { given = m.given ∙ given; misses = m.misses; are_misses = m.are_misses; few = m.few; seen = m.seen ∙ ap (λ ys. ys ++ m.misses) seen; idle = m.idle }
+
+pub longer : (most : ℕ) (v w : View) → Missed most v w → 2 ^ 61 ≤ length v.seen → 2 ^ 61 ≤ length w.seen
+longer most v w m le = let q = ap length m.seen ∙ length-append v.seen m.misses in omega arith
+
+-- behind misses all is as it was
+pub holds_missed : (z y : Shape) (v w : View) (x : Session) (log : Log) → y ≡ z → Missed (length x.held.rows) v w → Holds z v x log → Holds y w x log
+holds_missed z y v w x log same m h = subst (λ k. Holds k w x log) (sym same) (record {
+  alone = h.alone;
+  idle = m.idle;
+  rows = rows_on z v w x.own x.workers x.frames x.held.count m.given h.rows;
+  session = subst (λ k. IsOf x (k.worker x.own)) (sym core_is) h.session;
+  numbers = h.numbers;
+  numbered = subst (λ (k : State). AreNumbered x.workers k) (sym core_is) h.numbered;
+  flushed = ap (λ k. k.flushed x.own) core_is ∙ h.flushed;
+  floor = subst (λ k. x.floor ≤ flushed_by_all (opening k) (state w).core) (sym m.given) (subst (λ (k : State). x.floor ≤ flushed_by_all (opening v.given) k) (sym core_is) h.floor);
+  behind = ap (λ (k : State). log_events.behind k x.own) core_is ∙ h.behind;
+  resident = resident_on z v w m.given (ap (λ k. k.place) core_is) h.resident;
+  held = λ i. subst (λ (k : State). holds_row (k.row i) x.own ≡ true ↔ Has i x.held.rows) (sym core_is) (h.held i);
+  within = h.within;
+  fewer = h.fewer;
+  none = h.none;
+  free = free_same v w x.free m.given (ap (λ k. k.page) core_is) h.free;
+  spare = h.spare;
+})
+  where
+    core_is : (state w).core ≡ (state v).core
+    core_is = ap (λ k. k.core) (seen_state v w m.misses m.given m.seen) ∙ misses_core v.given (state v) m.misses m.are_misses
+
+-- ## In a run
+
+module _ (reached : EveryReached) (needs : EveryNeed) (answers : EveryAnswer) (coming : EveryComing) (versions : EveryVersion) (keeps : EveryKept) (prefixes : EveryPrefix) (seals : EverySealed)
+    (g : Opening) (xs : List Done) (z : Shape) (v : View) (x : Session) (log : Log) (h : Holds z v x log) (t : Ties g x.group xs x.own x.half v) (line : IsNewLine (outcomes xs)) (w : View) (m : Missed (length x.held.rows) v w) where
+  abbrev first : List happening.Event
+  first = t.loads
+
+  abbrev misses : List happening.Event
+  misses = events_of m.misses
+
+  abbrev es : List happening.Event
+  es = first ++ misses
+
+  abbrev s : State
+  s = behind_first g xs first
+
+  parts : (old mid new : Story) → EveryPart old mid new
+  parts = every_part versions keeps prefixes seals
+
+  bh : behind.Behind g xs first v
+  bh = behind.begins g x.group xs x.own v t
+
+  behind_es : behind.Behind g xs es w
+  behind_es = behind.more reached needs g xs first v bh m.misses w m.given m.seen (misses_met g s m.misses m.are_misses)
+
+  of_s : IsOf x (s.worker x.own)
+  of_s = subst (λ k. IsOf x (k.worker x.own)) (behind.core_is reached needs g xs first v bh) h.session
+
+  here : state_after g (front xs ++ first) ≡ s
+  here = behind.front_is g xs first
+
+  state_es : behind_first g xs es ≡ s
+  state_es = run_more g (state_after g (front xs)) first misses ∙ misses_run g s m.misses m.are_misses
+
+  steps : any is_step es ≡ false
+  steps = any_append is_step first misses (behind.loads_steps first t.are_loads) (misses_steps m.misses m.are_misses)
+
+  structure : any is_structure es ≡ false
+  structure = any_append is_structure first misses (behind.loads_structure first t.are_loads) (misses_structure m.misses m.are_misses)
+
+  logs : any is_log es ≡ false
+  logs = any_append is_log first misses (behind.loads_log first t.are_loads) (misses_log m.misses m.are_misses)
+
+  is_refusal : (why : Refusal) → IsCause limits g (front xs ++ es) (behind_first g xs es) (is_half (marks_by x.own (outcomes xs))) x.own call.Commit why → MayPutBack why [] → IsRefusal limits g xs x.own call.Commit why es
+  is_refusal why cause no_backs = record {
+    comes = (coming xs (refused_by x.own call.Commit why es).outcome).new line tt;
+    met = behind_es.met;
+    rows = subst (TakesRows x.own) (sym (keep_none is_step es steps)) tt;
+    structure = λ _. structure;
+    cause = cause;
+    due = subst (λ ys. RefusedLogs limits g xs x.own call.Commit why ys) (sym (keep_none is_log es logs)) tt;
+    no_backs = no_backs;
+  }
+
+  -- the line asks what the call does
+  asks : call_behind (outcomes xs) call.Commit ≡ call.Commit
+  asks = behind.line_call xs call.Commit line
+
+  refused_is : (p q : Refusal) → answer.Refused p ≡ answer.Refused q → p ≡ q
+  refused_is p q r = cc
+
+  refuses : (st : Story) → IsLawful st → (why : Refusal) → IsRefusal limits g xs x.own call.Commit why es → IsRefusedFor g (state_after g (front xs ++ es)) x.own (is_half_done x.own xs) log call.Commit why
+      → ((q : Refusal) → refusal_in g (state_after g (front xs ++ first)) x.own (is_half_done x.own xs) log call.Commit ≡ Some q → (why ≡ q) ⊎ (why ≡ refusal.RowSpent)) → DoesOn g x.group xs x.own call.Commit (answer.Refused why) x.half w log log st st
+  refuses st lawful why is for_it only = record {
+    does = record {
+      done = refused_by x.own call.Commit why es;
+      session = refl;
+      asked_is = refl;
+      answer_is = refl;
+      tells = told;
+      frame = framed (suc x.own) st;
+      how = record {
+        first = first;
+        own = misses;
+        events = refl;
+        loads = t.are_loads;
+        few = few_events;
+        refused = λ q r. subst (λ c. IsRefusedFor g (state_after g (front xs ++ es)) x.own (is_half_done x.own xs) log c q) (sym asks)
+            (subst (λ k. IsRefusedFor g (state_after g (front xs ++ es)) x.own (is_half_done x.own xs) log call.Commit k) (refused_is why q r) for_it);
+        refuses = λ q r. either q (only q ((λ i. refusal_in g (state_after g (front xs ++ first)) x.own (is_half_done x.own xs) log (sym asks i)) ∙ r));
+        log = λ _. misses_logs (state_after g (front xs ++ first)) m.misses m.are_misses;
+        room = subst (λ c. MakesItsRoom g (state_after g (front xs ++ first)) c misses) (sym asks) (misses_structure m.misses m.are_misses);
+      };
+      keeps = λ s0 k bt is_log.
+          behind.keeps_by g x.group xs (refused_by x.own call.Commit why es) s0 k k log st st
+          ((parts st st st limits g x.group xs s0 k first k bt).quiet misses (misses_quiet m.misses m.are_misses) (behind.gone_loads st lawful (parts st st st) g x.group xs x.own v t s0 k bt)) told is_log (λ _ _. refl) refl
+          (behind.nothing_written (suc x.own) st lawful);
+    };
+    ties = behind.ends g x.group xs x.own es w behind_es (refused_by x.own call.Commit why es) refl t.told told (behind.half_own x.own (refused_by x.own call.Commit why es) xs refl ∙ t.half_is);
+  }
+    where
+      misses_logs : (q : State) (ys : List Event) → AreMisses ys → Logs x.own g q (events_of ys) log log
+      misses_logs q [] a = refl
+      misses_logs q (Miss w ∷ ys) a = (log, refl, misses_logs (step g q (happening.Event.Miss w)) ys a)
+      misses_logs q (_ ∷ ys) a = absurd a
+
+      told : Tells limits g x.group xs (refused_by x.own call.Commit why es)
+      told = (answers limits g x.group xs).refused x.own call.Commit why es is
+
+      few_events : length es ≤ 2 ^ 18
+      few_events =
+          let a = t.few in
+          let b = length-append first misses in
+          let c = length_events m.misses in
+          let d = m.few in
+          let k = h.fewer in
+          let n = h.rows.few in
+          omega arith
+
+      either : (q : Refusal) → (why ≡ q) ⊎ (why ≡ refusal.RowSpent) → (answer.Refused why ≡ answer.Refused q) ⊎ (answer.Refused why ≡ answer.Refused refusal.RowSpent)
+      either q (inl e) = inl (ap answer.Refused e)
+      either q (inr e) = inr (ap answer.Refused e)
+
+  -- no transaction goes on
+  pub closed_does : (st : Story) → IsLawful st → is_going x ≡ false → DoesOn g x.group xs x.own call.Commit (answer.Refused refusal.NoTransaction) x.half w log log st st
+  closed_does st lawful closed = refuses st lawful refusal.NoTransaction (is_refusal refusal.NoTransaction (cause (not_going x closed)) refl)
+      (inl (none (state_after g (front xs ++ es)) (behind.front_is g xs es ∙ state_es)))
+      (λ q r. inl (some_is refusal.NoTransaction q (sym (none (state_after g (front xs ++ first)) here) ∙ r)))
+    where
+      cause : (x.half ≡ true) ⊎ (x.is_open ≡ false) → ((behind_first g xs es).worker x.own).is_open ≡ false ⊎ ((is_half (marks_by x.own (outcomes xs)) ≡ true) × (call.Commit ≡ call.Abort → ⊥))
+      cause (inl half) = inr (t.half_is ∙ half, λ e. absurd (cc))
+      cause (inr shut) = inl (ap (λ k. (k.worker x.own).is_open) state_es ∙ (of_s.is_open ∙ shut))
+
+      none : (q : State) → q ≡ s → refusal_in g q x.own (is_half_done x.own xs) log call.Commit ≡ Some refusal.NoTransaction
+      none q e = tests_as q (is_half_done x.own xs) x (ap (λ k. (k.worker x.own).is_open) e ∙ of_s.is_open) t.half_is None ∙ ap (λ b. cond b None (Some refusal.NoTransaction)) closed
+
+      some_is : (p q : Refusal) → Some p ≡ Some q → p ≡ q
+      some_is p q e = cc
+
+  -- a latch has come to its end
+  pub spent_does : (st : Story) → IsLawful st → 2 ^ 61 ≤ length w.seen → DoesOn g x.group xs x.own call.Commit (answer.Refused refusal.RowSpent) x.half w log log st st
+  spent_does st lawful many = refuses st lawful refusal.RowSpent (is_refusal refusal.RowSpent many_es tt) (inr refl) (λ q r. inr refl)
+    where
+      many_es : 2 ^ 61 ≤ length (front xs ++ es)
+      many_es =
+          let a = ap length behind_es.seen in
+          let b = length-append (events_of w.given.before) (events_of w.seen) in
+          let c = length_events w.seen in
+          omega arith
+
+-- ## In every run
+
+module _ (reached : EveryReached) (needs : EveryNeed) (answers : EveryAnswer) (coming : EveryComing) (versions : EveryVersion) (keeps : EveryKept) (prefixes : EveryPrefix) (seals : EverySealed) (z : Shape) (v : View) (x : Session) (log : Log) (h : Holds z v x log) (st : Story) (lawful : IsLawful st) where
+  pub refused_by_test : x.works ≡ true → (why : Refusal) → call_test x ≡ Some why → CallDoes x.own x.group call.Commit (commit_answer (Err why)) x.half x.half v v log log st st
+  refused_by_test works why e = go (tested x why e)
+    where
+      go : Tested x why → CallDoes x.own x.group call.Commit (answer.Refused why) x.half x.half v v log log st st
+      go (Fails broken is) = absurd (true≢false (sym works ∙ broken))
+      go (Closed w closed is) = subst (λ k. CallDoes x.own x.group call.Commit (answer.Refused k) x.half x.half v v log log st st) (sym is)
+          (λ g xs t line. closed_does reached needs answers coming versions keeps prefixes seals g xs z v x log h t line v (no_miss (length x.held.rows) v h.idle) st lawful closed)
+
+  pub refused_by_latch : (w : View) → Missed (length x.held.rows) v w → 2 ^ 61 ≤ length w.seen → CallDoes x.own x.group call.Commit (commit_answer (Err refusal.RowSpent)) x.half x.half v w log log st st
+  refused_by_latch w m many g xs t line = spent_does reached needs answers coming versions keeps prefixes seals g xs z v x log h t line w m st lawful many
+
+-- the answer of one whose rows are latched, from where they were not
+pub does_from : (own group : ℕ) (a : Answer) (before now : Bool) (v w u : View) (was is : Log) (old new : Story) → w.given ≡ v.given → w.seen ≡ v.seen → CallDoes own group call.Commit a before now w u was is old new → CallDoes own group call.Commit a before now v u was is old new
+does_from own group a before now v w u was is old new given seen d g xs t = d g xs (ties_as g group xs own w v (sym given) (sym seen) t)
+
+-- ## What is told
+
+-- of a test that refused it
+pub test_told : (x : Session) (why : Refusal) → call_test x ≡ Some why → IsTold why ⊎ ((why ≡ refusal.Broken) ⊎ (why ≡ refusal.DiskFault))
+test_told x why e = go (tested x why e)
+  where
+    go : Tested x why → IsTold why ⊎ ((why ≡ refusal.Broken) ⊎ (why ≡ refusal.DiskFault))
+    go (Fails broken is) = inr (inl is)
+    go (Closed w closed is) = inl (subst IsTold (sym is) tt)
+
+pub fault_told : (r : Result committed.Ended Refusal) → IfErr r (λ why. why ≡ refusal.DiskFault) → IfErr r (λ why. IsTold why ⊎ ((why ≡ refusal.Broken) ⊎ (why ≡ refusal.DiskFault)))
+fault_told (Ok x) p = tt
+fault_told (Err why) p = inr (inr p)

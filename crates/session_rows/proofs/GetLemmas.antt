@@ -1,0 +1,422 @@
+-- A get.
+use Rattle.std.proofs.Common.{◌≡◌, ◌⊎◌, inl, inr, ◌↔◌, ◌≤◌, ◌<◌, ◌%◌, ◌++◌, ◌&&◌, ◌||◌, ℕ, suc, max, Bool, true, false, cond, ltb, List, [], ◌∷◌, length, Option, Some, None, refl, sym, ap, ◌∙◌, subst, arith, append-nil, true≢false, eq-eqb, lt-ltb}
+use Rattle.std.proofs.lemmas.List.{append_assoc, length-append}
+use Rattle.map_model.specs.declared.call.Answer.TheVariants as answer
+use Rattle.map_model.specs.declared.call.Call.TheVariants as call
+use Rattle.map_model.specs.declared.call.Refusal.{Refusal}
+use Rattle.map_model.specs.declared.call.Refusal.TheVariants as refusal
+use Rattle.map_model.specs.Lists.{Has, any, keep, upd}
+use Rattle.page_model.specs.Nodes.{holds}
+use Rattle.rfa_model.specs.Stamps.{owed}
+use Rattle.core_state.specs.Openings.{Opening}
+use Rattle.core_state.specs.States.{State, flushed_by_all, is_hot}
+use Rattle.core_state.specs.Events as happening
+use Rattle.core_state.specs.Needs.{holds_row, is_value, may, may_hold, value_in}
+use Rattle.core_state.specs.Steps.{at_pages, happens, state_after}
+use Rattle.core_calls.specs.Deeds.{Got, marks_by}
+use Rattle.core_calls.specs.Fronts.{Done, front, outcomes}
+use Rattle.core_calls.specs.LogEvents.{AreSyncs, is_log}
+use Rattle.core_calls.specs.LogEvents.{behind as waits}
+use Rattle.core_calls.specs.Marks.{is_half}
+use Rattle.core_calls.specs.Refusals.{Hinders, IsCause}
+use Rattle.core_calls.specs.Runs.{Tells}
+use Rattle.core_calls.specs.Steps.{MayPutBack, is_structure}
+use Rattle.lean_disk.proofs.MomentLemmas.{framed}
+use Rattle.lean_disk.specs.Story.{IsLawful, Story}
+use Rattle.worker_log.specs.Logs.{Log}
+use Rattle.engine_calls.specs.Answers.{EveryAnswer}
+use Rattle.engine_calls.specs.Clauses.{EveryComing, IsNewLine}
+use Rattle.engine_calls.specs.Parts.{EveryPart, Gone, behind_first}
+use Rattle.engine_calls.specs.Puts.{IsRead, is_alone, read_by, taking}
+use Rattle.row_words.specs.declared.event.Event.{Event}
+use Rattle.row_words.specs.declared.event.Event.TheVariants.{Read}
+use Rattle.row_words.specs.declared.given.Given.{Given}
+use Rattle.row_words.specs.Moments.{Moment}
+use Rattle.row_words.specs.Openings.{opening}
+use Rattle.row_words.specs.Sealed.{stepped}
+use Rattle.rows_trait.specs.declared.view.View.{View}
+use Rattle.rows_trait.specs.Views.{Shape, after_all, state}
+use Rattle.btree_descent.specs.declared.descent.Found.{Found}
+use Rattle.btree_descent.specs.Descents as descents
+use Rattle.btree_descent.specs.Known as pages
+use Rattle.key_locks.specs.declared.mode.Mode.{Mode}
+use Rattle.key_locks.specs.declared.mode.Mode.TheVariants.{Shared}
+use Rattle.row_opening.specs.Openings.{EveryNeed, EveryReached}
+use Rattle.session_trait.specs.Limits.{limits}
+use Rattle.session_trait.specs.Calls.{call_behind, is_half_done}
+use Rattle.session_trait.specs.Refusals.{IsRefusedFor, lock_refusal, refusal_in}
+use Rattle.session_trait.specs.Rooms.{MakesItsRoom}
+use Rattle.session_trait.specs.Calls.{MayCome}
+use Rattle.session_rows.specs.Calls.{CallDoes, DoesOn}
+use Rattle.session_rows.specs.Holds.{Holds, IsOf}
+use Rattle.session_rows.specs.Inside.{call_test, is_going}
+use Rattle.session_rows.specs.Numbers.{AreNumbered}
+use Rattle.session_rows.specs.Others.{Steps}
+use Rattle.session_rows.specs.Staging.{touched_session}
+use Rattle.session_rows.specs.Takes.{NotTaken, Takes}
+use Rattle.session_rows.specs.Ties.{Ties}
+use Rattle.session_rows.specs.declared.session.Session.{Session}
+use Rattle.session_rows.proofs.Behind as behind
+use Rattle.session_rows.proofs.Behind.{rows_on}
+use Rattle.session_rows.proofs.ConflictLemmas.{lock_free, lock_refused}
+use Rattle.session_rows.proofs.GoingLemmas.{goes, going, not_going, tests_as}
+use Rattle.session_rows.proofs.Moments.{free_same, resident_on}
+use Rattle.session_rows.proofs.NumberLemmas.{numbered_read}
+use Rattle.session_rows.proofs.OwnSteps.{is_own, one_step}
+use Rattle.session_rows.proofs.Refusing.{hindered_behind, is_refusal, key_free, key_hindered, refusal_comes, refused_does, spent_behind, spent_end, taken_behind}
+use Rattle.session_rows.proofs.TakeLemmas.{holds_still, numbers_on, ran_seen, row_is, seen_core, seen_state, with_count}
+use Rattle.session_rows.proofs.UndoLemmas.{many_of}
+
+-- ## The tests
+
+some_is : (r q : Refusal) → Some r ≡ Some q → r ≡ q
+some_is r q e = cc
+
+none_is : (r : Refusal) → None ≡ Some r → ⊥
+none_is r e = absurd (cc)
+
+-- no test refuses it
+pub call_open : (x : Session) → call_test x ≡ None → (x.works ≡ true) × (x.is_open ≡ true) × (x.half ≡ false)
+call_open x e = works_case x.works refl e
+  where
+    open_case : x.works ≡ true → (b : Bool) → is_going x ≡ b → cond b None (Some refusal.NoTransaction) ≡ None → (x.works ≡ true) × (x.is_open ≡ true) × (x.half ≡ false)
+    open_case w true q r = let k = going x q in (w, k.is_open, k.whole)
+    open_case w false q r = absurd (none_is _ (sym r))
+
+    works_case : (b : Bool) → x.works ≡ b → cond b (cond (is_going x) None (Some refusal.NoTransaction)) (Some refusal.Broken) ≡ None → (x.works ≡ true) × (x.is_open ≡ true) × (x.half ≡ false)
+    works_case true q r = open_case q (is_going x) refl r
+    works_case false q r = absurd (none_is _ (sym r))
+
+-- where the engine works, what refuses it is that no transaction is open
+pub call_closed : (x : Session) (why : Refusal) → x.works ≡ true → call_test x ≡ Some why → (is_going x ≡ false) × (refusal.NoTransaction ≡ why)
+call_closed x why works e = open_case (is_going x) refl ((λ i. cond (sym works i) (cond (is_going x) None (Some refusal.NoTransaction)) (Some refusal.Broken)) ∙ e)
+  where
+    open_case : (b : Bool) → is_going x ≡ b → cond b None (Some refusal.NoTransaction) ≡ Some why → (is_going x ≡ false) × (refusal.NoTransaction ≡ why)
+    open_case true q r = absurd (none_is why r)
+    open_case false q r = (q, some_is _ why r)
+
+-- ## No page on the way is cold
+
+pub no_cold : (z : Shape) (v w : View) (x : Session) (log : Log) → Holds z v x log → (key page : ℕ) → descents.MetCold z.alone key page v w → w.held ≡ v.held → ⊥
+no_cold z v w x log h key page m held_is = true≢false (sym (ap is_hot (now.resident.hot page m.cold.below)) ∙ m.cold.cold)
+  where
+    now : Holds z w x log
+    now = holds_still z v w x log m.ran.given (ran_seen z.alone v w [] h.alone m.ran ∙ append-nil v.seen) held_is h
+
+-- ## The read
+
+-- it changes entries and its worker alone
+record LeavesPages (m n : State) : Type 0 where
+  page : n.page ≡ m.page
+  place : n.place ≡ m.place
+
+read_pages : (v : Given) (m : Moment) (own p k : ℕ) (a : Option ℕ) → LeavesPages m.core (stepped v m (Read own p k a)).core
+unfolding stepped
+read_pages v m own p k a = go (may (opening v) m.core (happening.Event.Read own p k a))
+  where
+    go : (b : Bool) → LeavesPages m.core (cond b (happens (opening v) m.core (happening.Event.Read own p k a)) m.core)
+    go true = record { page = refl; place = refl }
+    go false = record { page = refl; place = refl }
+
+all_true : (a b c d e f : Bool) → a ≡ true → b ≡ true → c ≡ true → d ≡ true → e ≡ true → f ≡ true → ((a && true) && ((b && (c && (d && e))) && f)) ≡ true
+all_true false b c d e f p q r s t u = p
+all_true true false c d e f p q r s t u = q
+all_true true true false d e f p q r s t u = r
+all_true true true true false e f p q r s t u = s
+all_true true true true true false f p q r s t u = t
+all_true true true true true true f p q r s t u = u
+
+same_value : (a : Option ℕ) → is_value a a ≡ true
+same_value None = refl
+same_value (Some n) = eq-eqb n n refl
+
+module _ (z : Shape) (v w : View) (x : Session) (log : Log) (h : Holds z v x log) (is_open : x.is_open ≡ true) (key : ℕ) (found : Found) (st : descents.Stamped z.alone x.own key found v w) (held_is : w.held ≡ v.held)
+    (mine : holds_row ((state v).core.row ((opening v.given).row_of key)) x.own ≡ true) where
+  abbrev a : descents.Answered z.alone x.own key found.word v w
+  a = st.answered
+
+  abbrev e : Event
+  e = Read x.own a.page key (pages.said found.word)
+
+  abbrev s : State
+  s = (state v).core
+
+  pub read_given : w.given ≡ v.given
+  read_given = a.ran.given
+
+  pub read_seen : w.seen ≡ v.seen ++ e ∷ []
+  read_seen = ran_seen z.alone v w (e ∷ []) h.alone a.ran
+
+  then_is : state w ≡ stepped v.given (state v) e
+  then_is = seen_state v w (e ∷ []) read_given read_seen
+
+  leaves : LeavesPages s (state w).core
+  leaves = subst (λ m. LeavesPages s m.core) (sym then_is) (read_pages v.given (state v) x.own a.page key (pages.said found.word))
+
+  below : a.page < (opening v.given).format.pages
+  below = subst (λ k. a.page < (opening k).format.pages) read_given a.says.below
+
+  hot : is_hot (s.place a.page) ≡ true
+  hot = ap (λ f. is_hot (f a.page)) (sym leaves.place) ∙ a.says.hot
+
+  leaf : holds (s.page a.page).node key ≡ true
+  leaf = ap (λ f. holds (f a.page).node key) (sym leaves.page) ∙ a.says.leaf
+
+  -- the leaf said it before the read
+  pub read_value : pages.said found.word ≡ value_in (opening v.given).format (s.page a.page).node key
+  read_value = a.says.value ∙ (λ i. value_in (opening (read_given i)).format (leaves.page i a.page).node key)
+
+  pub read_met : may (opening v.given) s (happening.Event.Read x.own a.page key (pages.said found.word)) ≡ true
+  read_met = all_true (is_hot (s.place a.page)) (s.worker x.own).is_open (holds_row (s.row ((opening v.given).row_of key)) x.own) (ltb a.page (opening v.given).format.pages) (holds (s.page a.page).node key) (is_value (pages.said found.word) (value_in (opening v.given).format (s.page a.page).node key))
+      hot (h.session.is_open ∙ is_open) mine (lt-ltb a.page (opening v.given).format.pages below) leaf (ap (λ k. is_value (pages.said found.word) k) (sym read_value) ∙ same_value (pages.said found.word))
+
+  -- the read is all that happened
+  pub read_steps : Steps x.own v w
+  read_steps = one_step x.own v w e read_given read_seen (is_own x.own) read_met
+
+  core_is : (state w).core ≡ happens (opening v.given) s (happening.Event.Read x.own a.page key (pages.said found.word))
+  core_is = seen_core v w e read_given read_seen read_met
+
+  -- the leaf's stamp was that before the read
+  before : after_all w.given a.past ≡ state v
+  before = λ i. after_all (read_given i) (past i)
+    where
+      past : a.past ≡ v.seen
+      past = a.onward.whole ∙ (ap (λ ys. v.seen ++ ys) (a.onward.quiet h.alone) ∙ append-nil v.seen)
+
+  number_is : found.number ≡ (s.page a.page).gsn
+  number_is = st.number ∙ ap (λ m. (m.core.page a.page).gsn) before
+
+  log_is : found.log ≡ (s.page a.page).last
+  log_is = st.log ∙ ap (λ m. (m.core.page a.page).last) before
+
+  -- the session that has met it
+  abbrev now : Session
+  now = touched_session x found.number found.log
+
+  now_of : IsOf now (at_pages s x.own (s.worker x.own) (a.page ∷ []))
+  now_of = record {
+    is_open = h.session.is_open;
+    txn = h.session.txn;
+    clock = λ i. max (h.session.clock i) (sym number_is i);
+    floor = h.session.floor;
+    debt = λ i. owed x.own (h.session.floor i) (h.session.debt i) (sym number_is i) (sym log_is i);
+    end = h.session.end;
+    undo = h.session.undo;
+  }
+
+  at_worker : upd s.worker x.own (at_pages s x.own (s.worker x.own) (a.page ∷ [])) x.own ≡ at_pages s x.own (s.worker x.own) (a.page ∷ [])
+  at_worker = ap (λ b. cond b (at_pages s x.own (s.worker x.own) (a.page ∷ [])) (s.worker x.own)) (eq-eqb x.own x.own refl)
+
+  few : length (s.worker x.own).changes ≤ 64
+  few = let q = many_of (s.worker x.own).changes x.undo h.session.undo in let n = h.numbers.few in omega arith
+
+  pub after_read : Holds z w now log
+  after_read = record {
+    alone = h.alone;
+    idle = held_is ∙ h.idle;
+    rows = rows_on z v w x.own x.workers x.frames x.held.count read_given h.rows;
+    session = subst (λ k. IsOf now (k.worker x.own)) (sym core_is) (subst (λ k. IsOf now k) (sym at_worker) now_of);
+    numbers = numbers_on x now log x.held refl (omega arith) h.numbers;
+    numbered = subst (λ k. AreNumbered x.workers k) (sym core_is) (numbered_read (opening v.given) x.workers s x.own a.page key (pages.said found.word) h.rows.low h.rows.high (h.session.is_open ∙ is_open) few h.numbered);
+    flushed = ap (λ k. k.flushed x.own) core_is ∙ h.flushed;
+    floor = subst (λ n. x.floor ≤ n) (λ i. flushed_by_all (opening (sym read_given i)) (sym core_is i)) h.floor;
+    behind = ap (λ k. waits k x.own) core_is ∙ h.behind;
+    resident = resident_on z v w read_given (ap (λ k. k.place) core_is) h.resident;
+    held = λ i. subst (λ k. holds_row (k.row i) x.own ≡ true ↔ Has i x.held.rows) (sym core_is) (h.held i);
+    within = h.within;
+    fewer = h.fewer;
+    none = h.none;
+    free = free_same v w x.free read_given (ap (λ k. k.page) core_is) h.free;
+    spare = h.spare;
+  }
+
+-- the row of the key is the one that was taken
+pub key_mine : (z : Shape) (v w : View) (x y : Session) (log : Log) → Holds z w y log → (key : ℕ) → Takes v w x y (key % x.held.count) Shared → holds_row ((state w).core.row ((opening w.given).row_of key)) y.own ≡ true
+key_mine z v w x y log i key k = ap (λ r. holds_row ((state w).core.row r) y.own) (row_is z w y.own y.workers y.frames y.held.count key i.rows ∙ (ap (λ s. key % s.held.count) k.session ∙ ap (λ n. key % n) (with_count x.held (key % x.held.count))))
+    ∙ (ap (λ s. holds_row ((state w).core.row (key % x.held.count)) s.own) k.session ∙ k.mine)
+
+-- and the session is open still
+pub open_still : (v w : View) (x y : Session) (row : ℕ) → Takes v w x y row Shared → x.is_open ≡ true → y.is_open ≡ true
+open_still v w x y row k is_open = ap (λ s. s.is_open) k.session ∙ is_open
+
+-- ## In a run
+
+pub any_more : (p : happening.Event → Bool) (es fs : List happening.Event) → any p es ≡ false → any p fs ≡ false → any p (es ++ fs) ≡ false
+any_more p [] fs none f = f
+any_more p (x ∷ es) fs none f = go (p x) none (λ q. any_more p es fs q f)
+  where
+    go : (b : Bool) → (b || any p es) ≡ false → (any p es ≡ false → any p (es ++ fs) ≡ false) → (b || any p (es ++ fs)) ≡ false
+    go true q rest = q
+    go false q rest = rest q
+
+keep_none : (p : happening.Event → Bool) (es : List happening.Event) → any p es ≡ false → keep p es ≡ []
+keep_none p [] none = refl
+keep_none p (x ∷ es) none = go (p x) none (keep_none p es)
+  where
+    go : (b : Bool) → (b || any p es) ≡ false → (any p es ≡ false → keep p es ≡ []) → cond b (x ∷ keep p es) (keep p es) ≡ []
+    go true q rest = absurd (true≢false q)
+    go false q rest = rest q
+
+-- no test refuses a get where its row may be had
+none_refuses : (g : Opening) (s : State) (own : ℕ) (half : Bool) (log : Log) (key : ℕ) → (s.worker own).is_open ≡ true → half ≡ false → may_hold (s.row (g.row_of key)) own happening.Mode.Shared ≡ true → refusal_in g s own half log (call.Get key) ≡ None
+none_refuses g s own half log key is_open whole free =
+    (λ i. cond (whole i) (Some refusal.NoTransaction) (cond (is_open i) (lock_refusal g s own key happening.Mode.Shared None) (Some refusal.NoTransaction))) ∙ lock_free g s own key happening.Mode.Shared free None
+
+-- It was answered: the row was taken by w, and the read was seen by u.
+module _ (reached : EveryReached) (needs : EveryNeed) (answers : EveryAnswer) (g : Opening) (xs : List Done) (line : IsNewLine (outcomes xs)) (z : Shape) (v w u : View) (x y : Session) (log : Log) (t : Ties g x.group xs x.own x.half v) (h : Holds z v x log) (i : Holds z w y log) (is_open : x.is_open ≡ true)
+    (whole : x.half ≡ false) (key : ℕ) (found : Found) (k : Takes v w x y (key % x.held.count) Shared) (st : descents.Stamped z.alone y.own key found w u) (held_is : u.held ≡ w.held) (story : Story) (lawful : IsLawful story) (part : EveryPart story story story) where
+  abbrev first : List happening.Event
+  first = t.loads
+
+  abbrev answered : descents.Answered z.alone y.own key found.word w u
+  answered = st.answered
+
+  abbrev taken : List happening.Event
+  taken = taking g x.own key happening.Mode.Shared first []
+
+  abbrev value : Option ℕ
+  value = pages.said found.word
+
+  abbrev read : happening.Event
+  read = happening.Event.Read x.own answered.page key value
+
+  abbrev done : Done
+  done = read_by (Got key value (is_alone g xs taken x.own key)) taken x.own answered.page key value
+
+  b0 : behind.Behind g xs first v
+  b0 = behind.begins g x.group xs x.own v t
+
+  b : behind.Behind g xs taken w
+  b = taken_behind reached needs g xs first z v w x y key Shared b0 h.rows k
+
+  own_is : y.own ≡ x.own
+  own_is = ap (λ q. q.own) k.session
+
+  y_open : y.is_open ≡ true
+  y_open = open_still v w x y (key % x.held.count) k is_open
+
+  mine : holds_row ((state w).core.row ((opening w.given).row_of key)) y.own ≡ true
+  mine = key_mine z v w x y log i key k
+
+  met : may g (behind_first g xs taken) read ≡ true
+  met = behind.may_is reached needs g xs taken w b read
+      ∙ subst (λ o. may (opening w.given) (state w).core (happening.Event.Read o answered.page key value) ≡ true) own_is (read_met z w u y log i y_open key found st held_is mine)
+
+  seen : u.seen ≡ w.seen ++ Read x.own answered.page key value ∷ []
+  seen = subst (λ o. u.seen ≡ w.seen ++ Read o answered.page key value ∷ []) own_is (read_seen z w u y log i y_open key found st held_is mine)
+
+  next : behind.Behind g xs (taken ++ read ∷ []) u
+  next = behind.more reached needs g xs taken w b (Read x.own answered.page key value ∷ []) u (read_given z w u y log i y_open key found st held_is mine) seen (met, tt)
+
+  value_is : value ≡ value_in g.format ((behind_first g xs taken).page answered.page).node key
+  value_is = read_value z w u y log i y_open key found st held_is mine ∙ (λ j. value_in (sym b.opens.format j) ((behind.core_is reached needs g xs taken w b j).page answered.page).node key)
+
+  no_more_logs : keep is_log taken ≡ []
+  no_more_logs = keep_none is_log taken (any_more is_log first (happening.Event.Lock x.own (g.row_of key) happening.Mode.Shared ∷ []) (behind.loads_log first t.are_loads) refl)
+
+  is_read : IsRead g xs happening.Mode.Shared first [] x.own answered.page key value
+  is_read = record {
+    line = line;
+    before_steps = behind.loads_steps first t.are_loads;
+    between_steps = refl;
+    structure = any_more is_structure first (happening.Event.Lock x.own (g.row_of key) happening.Mode.Shared ∷ []) (behind.loads_structure first t.are_loads) refl;
+    syncs = subst (λ es. AreSyncs false es) (sym no_more_logs) tt;
+    met = next.met;
+    value_is = value_is;
+    whole = t.half_is ∙ whole;
+  }
+
+  told : Tells limits g x.group xs done
+  told = (answers limits g x.group xs).get first [] x.own answered.page key value is_read
+
+  -- before it took the row no test refused it
+  none : refusal_in g (state_after g (front xs ++ first)) x.own (is_half_done x.own xs) log (call_behind (outcomes xs) (call.Get key)) ≡ None
+  none = ap (refusal_in g (state_after g (front xs ++ first)) x.own (is_half_done x.own xs) log) (behind.line_call xs (call.Get key) line)
+      ∙ (ap (λ s. refusal_in g s x.own (is_half_done x.own xs) log (call.Get key)) (behind.front_is g xs first ∙ sym (behind.core_is reached needs g xs first v b0))
+      ∙ none_refuses g (state v).core x.own (is_half_done x.own xs) log key (h.session.is_open ∙ is_open) (t.half_is ∙ whole) (key_free reached needs g xs first z v w x y key Shared b0 h.rows k))
+
+  events_are : done.events ≡ first ++ (happening.Event.Lock x.own (g.row_of key) happening.Mode.Shared ∷ read ∷ [])
+  events_are = append_assoc first (happening.Event.Lock x.own (g.row_of key) happening.Mode.Shared ∷ []) (read ∷ [])
+
+  pub got : DoesOn g x.group xs x.own (call.Get key) (answer.Value value) x.half u log log story story
+  got = record {
+    does = record {
+      done = done;
+      session = refl;
+      asked_is = refl;
+      answer_is = refl;
+      tells = told;
+      how = record {
+        first = first;
+        own = happening.Event.Lock x.own (g.row_of key) happening.Mode.Shared ∷ read ∷ [];
+        events = events_are;
+        loads = t.are_loads;
+        few = let i = t.few in let j = length-append first (happening.Event.Lock x.own (g.row_of key) happening.Mode.Shared ∷ read ∷ []) in let c = ap (λ es. length es) events_are in omega arith;
+        refused = λ why q. absurd (cc);
+        refuses = λ why q. absurd (none_is why (sym none ∙ q));
+        log = λ _. (log, refl, (log, refl, refl));
+        room = subst (λ c. MakesItsRoom g (state_after g (front xs ++ first)) c (happening.Event.Lock x.own (g.row_of key) happening.Mode.Shared ∷ read ∷ [])) (sym (behind.line_call xs (call.Get key) line)) refl;
+      };
+      frame = framed (suc x.own) story;
+      keeps = λ s0 m bt is.
+          let gone = (part limits g x.group xs s0 m first m bt).quiet (happening.Event.Lock x.own (g.row_of key) happening.Mode.Shared ∷ read ∷ []) refl (behind.gone_loads story lawful part g x.group xs x.own v t s0 m bt) in
+          behind.keeps_by g x.group xs done s0 m m log story story (subst (λ es. Gone g xs es s0 m story m story) (sym events_are) gone) told is (λ _ _. refl) refl (behind.nothing_written (suc x.own) story lawful);
+    };
+    ties = behind.ends g x.group xs x.own (taken ++ read ∷ []) u next done refl t.told told (behind.half_own x.own done xs refl ∙ t.half_is);
+  }
+
+-- ## Refusals
+
+-- why a row was not taken may come, a conflict where there are several sessions
+pub may_come : (workers : ℕ) (why : Refusal) (v w : View) (own row : ℕ) (mode : Mode) → NotTaken why v w own row mode → (workers ≡ 1 → why ≡ refusal.RowSpent) → MayCome workers why
+may_come workers refusal.RowSpent v w own row mode n only = tt
+may_come workers (refusal.Conflict h) v w own row mode n only = λ one. let e = only one in absurd (cc)
+may_come workers _ v w own row mode n only = absurd n
+
+module _ (reached : EveryReached) (needs : EveryNeed) (answers : EveryAnswer) (coming : EveryComing) (st : Story) (lawful : IsLawful st) (part : EveryPart st st st) (z : Shape) (v : View) (x : Session) (log : Log) (h : Holds z v x log) (key : ℕ) where
+  -- the worker is open as the session is, behind the loads too
+  open_in : (g : Opening) (xs : List Done) (t : Ties g x.group xs x.own x.half v) → ((behind_first g xs t.loads).worker x.own).is_open ≡ x.is_open
+  open_in g xs t = ap (λ s. (s.worker x.own).is_open) (sym (behind.core_is reached needs g xs t.loads v (behind.begins g x.group xs x.own v t))) ∙ h.session.is_open
+
+  -- by one cause, which the tests find then
+  refuse : (g : Opening) (xs : List Done) (t : Ties g x.group xs x.own x.half v) → IsNewLine (outcomes xs) → (why : Refusal) (w : View) → behind.Behind g xs t.loads w
+      → IsCause limits g (front xs ++ t.loads) (behind_first g xs t.loads) (is_half (marks_by x.own (outcomes xs))) x.own (call.Get key) why → MayPutBack why []
+      → IsRefusedFor g (behind_first g xs t.loads) x.own (is_half_done x.own xs) log (call.Get key) why
+      → ((q : Refusal) → refusal_in g (behind_first g xs t.loads) x.own (is_half_done x.own xs) log (call.Get key) ≡ Some q → (why ≡ q) ⊎ (why ≡ refusal.RowSpent))
+      → DoesOn g x.group xs x.own (call.Get key) (answer.Refused why) x.half w log log st st
+  refuse g xs t line why w b cause none is_for refuses =
+      let comes = refusal_comes coming xs x.own (call.Get key) why t.loads line in
+      refused_does answers g x.group xs x.own v t log st lawful part (call.Get key) why comes w b
+      (is_refusal answers g x.group xs x.own v t log st lawful part (call.Get key) why comes cause tt none) (call.Get key) (behind.line_call xs (call.Get key) line) is_for refuses
+
+  pub not_got : (why : Refusal) → x.works ≡ true → call_test x ≡ Some why → CallDoes x.own x.group (call.Get key) (answer.Refused why) x.half x.half v v log log st st
+  not_got why works e = subst (λ q. CallDoes x.own x.group (call.Get key) (answer.Refused q) x.half x.half v v log log st st) (call_closed x why works e).1 closed
+    where
+      closed : CallDoes x.own x.group (call.Get key) (answer.Refused refusal.NoTransaction) x.half x.half v v log log st st
+      closed g xs t line = refuse g xs t line refusal.NoTransaction v (behind.begins g x.group xs x.own v t) (cause (not_going x (call_closed x why works e).0)) refl
+          (inl none) (λ q r. inl (some_is refusal.NoTransaction q (sym none ∙ r)))
+        where
+          none : refusal_in g (behind_first g xs t.loads) x.own (is_half_done x.own xs) log (call.Get key) ≡ Some refusal.NoTransaction
+          none = tests_as (behind_first g xs t.loads) (is_half_done x.own xs) x (open_in g xs t) t.half_is (lock_refusal g (behind_first g xs t.loads) x.own key happening.Mode.Shared None)
+              ∙ ap (λ b. cond b (lock_refusal g (behind_first g xs t.loads) x.own key happening.Mode.Shared None) (Some refusal.NoTransaction)) (call_closed x why works e).0
+
+          cause : (x.half ≡ true) ⊎ (x.is_open ≡ false) → ((behind_first g xs t.loads).worker x.own).is_open ≡ false ⊎ ((is_half_done x.own xs ≡ true) × (call.Get key ≡ call.Abort → ⊥))
+          cause (inl half) = inr (t.half_is ∙ half, λ q. absurd (cc))
+          cause (inr shut) = inl (open_in g xs t ∙ shut)
+
+  -- its row is spent, or another session stands in the way
+  pub not_taken : x.is_open ≡ true → x.half ≡ false → (w : View) (why : Refusal) → NotTaken why v w x.own (key % x.held.count) Shared → CallDoes x.own x.group (call.Get key) (answer.Refused why) x.half x.half v w log log st st
+  not_taken is_open whole w refusal.RowSpent s g xs t line =
+      refuse g xs t line refusal.RowSpent w (spent_behind g xs t.loads v w (behind.begins g x.group xs x.own v t) s) (spent_end g xs t.loads v w (behind.begins g x.group xs x.own v t) s) tt (inr refl) (λ q r. inr refl)
+  not_taken is_open whole w (refusal.Conflict b) s g xs t line =
+      refuse g xs t line (refusal.Conflict b) w (hindered_behind g xs t.loads v w x.own (key % x.held.count) Shared b (behind.begins g x.group xs x.own v t) s) hinders refl (inl now) (λ q r. inl (some_is (refusal.Conflict b) q (sym now ∙ r)))
+    where
+      hinders : Hinders ((behind_first g xs t.loads).row (g.row_of key)) x.own happening.Mode.Shared b
+      hinders = key_hindered reached needs g xs t.loads z v w x key Shared b (behind.begins g x.group xs x.own v t) h.rows s
+
+      now : refusal_in g (behind_first g xs t.loads) x.own (is_half_done x.own xs) log (call.Get key) ≡ Some (refusal.Conflict b)
+      now = tests_as (behind_first g xs t.loads) (is_half_done x.own xs) x (open_in g xs t) t.half_is (lock_refusal g (behind_first g xs t.loads) x.own key happening.Mode.Shared None)
+          ∙ (ap (λ c. cond c (lock_refusal g (behind_first g xs t.loads) x.own key happening.Mode.Shared None) (Some refusal.NoTransaction)) (goes x is_open whole)
+          ∙ lock_refused g (behind_first g xs t.loads) x.own key happening.Mode.Shared b hinders None)
+  not_taken is_open whole w _ s g xs t line = absurd s

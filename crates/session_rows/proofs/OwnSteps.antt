@@ -1,0 +1,133 @@
+-- What the parts of a call say of the events that were seen, as steps of its session.
+use Rattle.std.proofs.Common.{◌≡◌, ◌∙◌, ◌++◌, ◌==◌, ℕ, Bool, true, false, List, [], ◌∷◌, Option, Some, None, Result, Ok, Err, refl, sym, ap, subst, append-nil, eq-eqb, true≢false}
+use Rattle.std.proofs.lemmas.Bool.{and_from}
+use Rattle.map_model.specs.Lists.{all}
+use Rattle.map_model.specs.declared.call.Refusal.{Refusal}
+use Rattle.map_model.specs.declared.call.Refusal.TheVariants as refusal
+use Rattle.core_state.specs.Needs.{may}
+use Rattle.core_state.specs.Steps.{AllMet, step}
+use Rattle.lean_disk.specs.Story.{Story}
+use Rattle.worker_log.specs.Logs.{Log}
+use Rattle.row_words.specs.declared.event.Event.{Event}
+use Rattle.row_words.specs.declared.event.Event.TheVariants as event
+use Rattle.row_words.specs.Moments.{event_of}
+use Rattle.row_words.specs.Openings.{opening}
+use Rattle.rows_trait.specs.declared.view.View.{View}
+use Rattle.rows_trait.specs.Views.{Shape, state}
+use Rattle.key_locks.specs.declared.mode.Mode.{Mode}
+use Rattle.key_locks.specs.Rows.{event_mode}
+use Rattle.btree_descent.specs.declared.descent.TheConstants.{TOMBSTONE}
+use Rattle.btree_smo.specs.Outcomes.{AreMisses}
+use Rattle.session_rows.specs.declared.commits.Ended as committed
+use Rattle.session_rows.specs.declared.session.Session.{Session}
+use Rattle.session_rows.specs.Aborts.{Finishes}
+use Rattle.session_rows.specs.Backs.{IsPutBack, PutsAllBack}
+use Rattle.session_rows.specs.Dels.{Dels}
+use Rattle.session_rows.specs.Ends.{Ended, HasFlushed, MayFlush, Missed, gives}
+use Rattle.session_rows.specs.Others.{Steps, is_of}
+use Rattle.session_rows.specs.Outcomes.{Puts}
+use Rattle.session_rows.specs.Puts.{works_after}
+use Rattle.session_rows.specs.Rooms.{IsGrown, IsGrowth}
+use Rattle.session_rows.specs.Takes.{NotTaken, Takes}
+use Rattle.session_rows.proofs.LatchLemmas.{gives_events}
+use Rattle.session_rows.proofs.Misses.{misses_met}
+use Rattle.session_rows.proofs.OtherLemmas.{every_steps}
+
+-- ## Single events
+
+-- nothing was seen
+pub no_steps : (own : ℕ) (v w : View) → w.given ≡ v.given → w.seen ≡ v.seen → Steps own v w
+no_steps own v w given seen = record { events = []; given = given; seen = seen ∙ sym (append-nil v.seen); are_own = refl; met = tt }
+
+-- one event was
+pub one_step : (own : ℕ) (v w : View) (e : Event) → w.given ≡ v.given → w.seen ≡ v.seen ++ e ∷ [] → is_of own e ≡ true → may (opening v.given) (state v).core (event_of e) ≡ true → Steps own v w
+one_step own v w e given seen is met = record { events = e ∷ []; given = given; seen = seen; are_own = and_from (is_of own e) true is refl; met = (met, tt) }
+
+-- an event of the worker is one of the session
+pub is_own : (own : ℕ) → (own == own) ≡ true
+is_own own = eq-eqb own own refl
+
+misses_own : (own : ℕ) (es : List Event) → AreMisses es → all (is_of own) es ≡ true
+misses_own own [] m = refl
+misses_own own (event.Miss w ∷ es) m = misses_own own es m
+misses_own own (_ ∷ es) m = absurd m
+
+-- misses alone were
+pub missed_steps : (own : ℕ) (v w : View) (es : List Event) → AreMisses es → w.given ≡ v.given → w.seen ≡ v.seen ++ es → Steps own v w
+missed_steps own v w es m given seen = record { events = es; given = given; seen = seen; are_own = misses_own own es m; met = misses_met (opening v.given) (state v).core es m }
+
+pub latch_steps : (own most : ℕ) (v w : View) → Missed most v w → Steps own v w
+latch_steps own most v w m = missed_steps own v w m.misses m.are_misses m.given m.seen
+
+-- ## Rows
+
+pub takes_steps : (v w : View) (x y : Session) (row : ℕ) (mode : Mode) → Takes v w x y row mode → Steps x.own v w
+takes_steps v w x y row mode t = one_step x.own v w (event.Lock x.own row (event_mode mode)) t.given t.seen (is_own x.own) t.met
+
+pub untaken_steps : (v w : View) (own row : ℕ) (mode : Mode) (why : Refusal) → NotTaken why v w own row mode → Steps own v w
+untaken_steps v w own row mode refusal.RowSpent n = no_steps own v w n.given n.seen
+untaken_steps v w own row mode (refusal.Conflict h) n = no_steps own v w n.given n.seen
+untaken_steps v w own row mode _ n = absurd n
+
+-- what came behind the taking of a row, by the session that has it
+pub taken_then : (v u w : View) (x y : Session) (row : ℕ) (mode : Mode) → Takes v u x y row mode → Steps y.own u w → Steps x.own v w
+taken_then v u w x y row mode t s = every_steps x.own v u w (takes_steps v u x y row mode t) (subst (λ n. Steps n u w) (ap (λ (k : Session). k.own) t.session) s)
+
+-- ## Changes
+
+growth_own : (own : ℕ) (e : Event) → IsGrowth own e → is_of own e ≡ true
+growth_own own (event.Split w l r q i) is = eq-eqb w own is
+growth_own own (event.Lift w c) is = eq-eqb w own is
+growth_own own _ is = absurd is
+
+pub grown_steps : (key : ℕ) (u w : View) (x y : Session) (was is : Log) (old new : Story) → IsGrown key u w x y was is old new → Steps x.own u w
+grown_steps key u w x y was is old new c = one_step x.own u w c.event c.given c.seen (growth_own x.own c.event c.growth) c.met
+
+pub back_steps : (v w : View) (x y : Session) (was is : Log) (old new : Story) → IsPutBack v w x y was is old new → Steps x.own v w
+back_steps v w x y was is old new c = one_step x.own v w (event.PutBack x.own c.page) c.given c.seen (is_own x.own) c.met
+
+pub put_steps : (r : Result (Option ℕ) Refusal) (v w : View) (key value : ℕ) (x y : Session) (was is : Log) (old new : Story) → Puts r v w key value x y was is old new → works_after r ≡ true → Steps x.own v w
+put_steps (Ok before) v w key value x y was is old new p works = every_steps x.own v p.view w p.grows.steps (one_step x.own p.view w (event.Change x.own p.page key value) p.given p.seen (is_own x.own) p.met)
+put_steps (Err refusal.TooTall) v w key value x y was is old new p works = p.room.grows.steps
+put_steps (Err refusal.NoPages) v w key value x y was is old new p works = p.room.grows.steps
+put_steps (Err (refusal.LogFull used limit)) v w key value x y was is old new p works = p.room.grows.steps
+put_steps (Err refusal.ClockSpent) v w key value x y was is old new p works = p.room.grows.steps
+put_steps (Err refusal.RowSpent) v w key value x y was is old new p works = every_steps x.own v p.view w p.room.grows.steps (missed_steps x.own p.view w p.spent.misses p.spent.are_misses p.spent.given p.spent.seen)
+put_steps (Err refusal.DiskFault) v w key value x y was is old new p works = absurd (true≢false (sym works))
+put_steps (Err _) v w key value x y was is old new p works = absurd p
+
+pub del_steps : (r : Result (Option ℕ) Refusal) (own : ℕ) (v w : View) (key : ℕ) (was is : Log) (old new : Story) (same same_disk : Type 0) → Dels r own v w key was is old new same same_disk → works_after r ≡ true → Steps own v w
+del_steps (Ok (Some before)) own v w key was is old new same same_disk p works = one_step own v w (event.Change own p.page key TOMBSTONE) p.given p.seen (is_own own) p.met
+del_steps (Ok None) own v w key was is old new same same_disk p works = one_step own v w (event.Read own p.0.page key None) p.0.given p.0.seen (is_own own) p.0.met
+del_steps (Err refusal.RowSpent) own v w key was is old new same same_disk p works = no_steps own v w p.0.given p.0.seen
+del_steps (Err refusal.DiskFault) own v w key was is old new same same_disk p works = absurd (true≢false (sym works))
+del_steps (Err _) own v w key was is old new same same_disk p works = absurd p
+
+-- ## Ends
+
+gives_own : (own : ℕ) (rows : List ℕ) → all (is_of own) (gives own rows) ≡ true
+gives_own own [] = refl
+gives_own own (i ∷ rows) = and_from (own == own) (all (is_of own) (gives own rows)) (is_own own) (gives_own own rows)
+
+pub ended_steps : (own most : ℕ) (v w : View) (commit : Bool) (floor : ℕ) → Ended own most v commit floor w → Steps own v w
+ended_steps own most v w commit floor e = record {
+  events = event.End own commit floor ∷ gives own e.rows;
+  given = e.given;
+  seen = e.seen;
+  are_own = and_from (own == own) (all (is_of own) (gives own e.rows)) (is_own own) (gives_own own e.rows);
+  met = (e.met.0, subst (λ es. AllMet (opening v.given) (step (opening v.given) (state v).core (event_of (event.End own commit floor))) es) (sym (gives_events own e.rows)) e.met.1);
+}
+
+pub flushed_steps : (z : Shape) (v w : View) (x y : Session) (log was is : Log) (old new : Story) → MayFlush z v x log → HasFlushed v w x y was is old new → Steps x.own v w
+flushed_steps z v w x y log was is old new m f = one_step x.own v w (event.Flush x.own x.clock) f.given f.seen (is_own x.own) m.met
+
+pub undone_steps : (r : Result (Unit {0}) Refusal) (v w : View) (x y : Session) (was is : Log) (old new : Story) → PutsAllBack r v w x y was is old new → works_after r ≡ true → Steps x.own v w
+undone_steps (Ok u) v w x y was is old new p works = p.0.undoes.steps
+undone_steps (Err refusal.RowSpent) v w x y was is old new p works = p.0.undoes.steps
+undone_steps (Err refusal.DiskFault) v w x y was is old new p works = absurd (true≢false (sym works))
+undone_steps (Err _) v w x y was is old new p works = absurd p
+
+pub finished_steps : (r : Result committed.Ended Refusal) (v w : View) (x : Session) (was is : Log) (old new : Story) → Finishes r v w x was is old new → works_after r ≡ true → Steps x.own v w
+finished_steps (Ok told) v w x was is old new p works = ended_steps x.own _ v w false p.0.floor p.0.ended
+finished_steps (Err refusal.DiskFault) v w x was is old new p works = absurd (true≢false (sym works))
+finished_steps (Err _) v w x was is old new p works = absurd p

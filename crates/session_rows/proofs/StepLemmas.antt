@@ -1,0 +1,310 @@
+-- One step of a put: a try, and a change of the tree where the leaf has no room.
+use Rattle.std.proofs.Common.{◌≡◌, ◌≤◌, ◌<◌, ◌^◌, ◌%◌, ◌++◌, ℕ, suc, Bool, true, false, cond, leb, List, [], ◌∷◌, length, Option, Some, None, Result, Ok, Err, refl, sym, ap, ◌∙◌, subst, arith, append-nil, true≢false}
+use Rattle.std.proofs.lemmas.Bool.{leb-false, leb-true}
+use Rattle.map_model.specs.declared.call.Refusal.{Refusal}
+use Rattle.map_model.specs.declared.call.Refusal.TheVariants as refusal
+use Rattle.core_state.specs.Needs.{is_held_by, may}
+use Rattle.page_model.specs.Nodes.{holds}
+use Rattle.page_model.specs.Pairs.{find}
+use Rattle.lean_disk.proofs.MomentLemmas.{framed}
+use Rattle.lean_disk.specs.Moments.{Framed}
+use Rattle.engine_calls.specs.Parts.{EveryPart}
+use Rattle.row_opening.specs.Openings.{EveryNeed, EveryReached}
+use Rattle.row_words.specs.Moments.{events_of}
+use Rattle.core_state.specs.States.{State}
+use Rattle.core_state.specs.Steps.{happens}
+use Rattle.disk_image.specs.Records.{entry_of}
+use Rattle.lean_disk.specs.Story.{Story}
+use Rattle.row_words.specs.declared.event.Event.{Event}
+use Rattle.row_words.specs.declared.given.Given.{Given}
+use Rattle.row_words.specs.Moments.{event_of}
+use Rattle.row_words.specs.Openings.{opening}
+use Rattle.rows_trait.specs.Views.{after_all, state}
+use Rattle.rows_trait.specs.declared.view.View.{View}
+use Rattle.worker_log.specs.Logs.{Log, limit, used}
+use Rattle.session_trait.specs.Refusals.{log_refusal, room_refusal}
+use Rattle.session_trait.specs.Rooms.{IsNextRoom}
+use Rattle.session_rows.specs.Calls.{IsSameSession}
+use Rattle.session_rows.specs.Outcomes.{Crowded, HasFailed, HasNoRoom, HasPut, HasRoom, IsCrowded, IsStopped, Puts, Steps, Stopped, Tries}
+use Rattle.lean_disk.specs.Faults.{HasCause}
+use Rattle.session_rows.specs.Puts.{IsChanged, KeepsLog, MayChange, works_after}
+use Rattle.session_rows.specs.Rooms.{Grew, IsGrown, IsNoRoom, IsSpentBehind, IsUnfit}
+use Rattle.session_rows.specs.declared.puts.Stepped.{Stepped}
+use Rattle.session_rows.specs.declared.puts.Stepped.TheVariants as stepped
+use Rattle.session_rows.specs.declared.puts.Tried.{Tried}
+use Rattle.session_rows.specs.declared.puts.Tried.TheVariants as tried
+use Rattle.session_rows.specs.declared.session.Session.{Session}
+use Rattle.session_rows.proofs.GrowRuns.{first_fits, goes_more, goes_none, goes_put, grows_more, grows_none, grows_still, growth, went_failed}
+use Rattle.session_rows.proofs.Frames.{framed_then}
+use Rattle.session_rows.proofs.PutLemmas.{seen_core}
+
+-- ## What a test of the log and the clock says
+
+pub record IsReady (clock : ℕ) (log : Log) : Type 0 where
+  pub small : clock < 2 ^ 62
+  pub room : used log < limit log
+
+pub ready : (clock : ℕ) (log : Log) → log_refusal clock log None ≡ None → IsReady clock log
+ready clock log e = go (leb (limit log) (used log)) (leb (2 ^ 62) clock) refl refl e
+  where
+    go : (a b : Bool) → leb (limit log) (used log) ≡ a → leb (2 ^ 62) clock ≡ b → cond a (Some (refusal.LogFull (used log) (limit log))) (cond b (Some refusal.ClockSpent) None) ≡ None → IsReady clock log
+    go true b p q r = absurd (cc)
+    go false true p q r = absurd (cc)
+    go false false p q r = record { small = leb-false (2 ^ 62) clock q; room = leb-false (limit log) (used log) p }
+
+pub is_ready : (v : View) (x : Session) (log : Log) (key : ℕ) → MayChange v x log key → log_refusal x.clock log None ≡ None
+is_ready v x log key f = go (leb (limit log) (used log)) (leb (2 ^ 62) x.clock) refl refl
+  where
+    go : (a b : Bool) → leb (limit log) (used log) ≡ a → leb (2 ^ 62) x.clock ≡ b → cond a (Some (refusal.LogFull (used log) (limit log))) (cond b (Some refusal.ClockSpent) None) ≡ None
+    go true b p q = let r = f.room in let l = leb-true (limit log) (used log) p in absurd (omega arith)
+    go false true p q = let r = f.small in let l = leb-true (2 ^ 62) x.clock q in absurd (omega arith)
+    go false false p q = refl
+
+-- the answer of a fault
+abbrev pub the_fault : (A : Type 0) → Result A Refusal
+the_fault A = Err refusal.DiskFault
+
+-- whoever is refused by these tests has met no fault
+by_tests : (clock : ℕ) (log : Log) (why : Refusal) → log_refusal clock log None ≡ Some why → (P : Refusal → Type 0) → P (refusal.LogFull (used log) (limit log)) → P refusal.ClockSpent → P why
+by_tests clock log why e P full spent = go (leb (limit log) (used log)) (leb (2 ^ 62) clock) e
+  where
+    some_is : (r q : Refusal) → Some r ≡ Some q → r ≡ q
+    some_is r q p = cc
+
+    go : (a b : Bool) → cond a (Some (refusal.LogFull (used log) (limit log))) (cond b (Some refusal.ClockSpent) None) ≡ Some why → P why
+    go true b p = subst P (some_is (refusal.LogFull (used log) (limit log)) why p) full
+    go false true p = subst P (some_is refusal.ClockSpent why p) spent
+    go false false p = absurd (cc)
+
+pub stopped_works : (A : Type 0) (clock : ℕ) (log : Log) (why : Refusal) → log_refusal clock log None ≡ Some why → works_after {A = A} (Err why) ≡ true
+stopped_works A clock log why e = by_tests clock log why e (λ k. works_after {A = A} (Err k) ≡ true) refl refl
+
+-- a try that was refused is a step that was refused
+pub tried_refused : (why : Refusal) (v w : View) (key value : ℕ) (x y : Session) (was is : Log) (old new : Story) (path : List ℕ) (same broken : Type 0) → Tries (Err why) v w key value x y was is old new path same broken → Steps (Err why) v w key value x y was is old new same
+tried_refused refusal.RowSpent v w key value x y was is old new path same broken t = (record { misses = []; are_misses = tt; few = omega arith; given = t.0.given; seen = t.0.seen ∙ sym (append-nil v.seen); many = t.0.many }, t.1)
+tried_refused refusal.DiskFault v w key value x y was is old new path same broken t = t.0
+tried_refused _ v w key value x y was is old new path same broken t = absurd t
+
+pub not_fault : (A : Type 0) (clock : ℕ) (log : Log) (why : Refusal) → log_refusal clock log None ≡ Some why → (Err why ≡ the_fault A) → ⊥
+not_fault A clock log why e = by_tests clock log why e (λ k. (Err k ≡ the_fault A) → ⊥) (λ p. absurd (cc)) (λ p. absurd (cc))
+
+pub ok_calm : {A : Type 0} (a : A) (why : Refusal) → Ok a ≡ Err why → ⊥
+ok_calm a why e = absurd (cc)
+
+-- a call behind ones without a fault
+pub cause_from : (a b c : ℕ) (P Q : Type 0) → b ≡ a → HasCause b c P → (Q → P) → (P → Q) → HasCause a c Q
+cause_from a b c P Q same h back on = subst (λ n. HasCause n c Q) same (record { later = h.later; cause = λ q. h.cause (back q); calm = λ no. h.calm (λ p. no (on p)) })
+
+-- two calls without a fault are one
+pub calm_then : (a b c : ℕ) (P Q R : Type 0) → HasCause a b P → (P → ⊥) → HasCause b c Q → (Q → ⊥) → (R → ⊥) → HasCause a c R
+calm_then a b c P Q R p no_p q no_q no_r = record { later = let x = p.later in let y = q.later in omega arith; cause = λ r. absurd (no_r r); calm = λ _. q.calm no_q ∙ p.calm no_p }
+
+-- ## From a view at which as much was seen
+
+module _ (v u : View) (given : u.given ≡ v.given) (seen : u.seen ≡ v.seen) where
+  carried : (P : Given → List Event → Type 0) → P u.given u.seen → P v.given v.seen
+  carried P p = subst (λ es. P v.given es) seen (subst (λ k. P k u.seen) given p)
+
+  pub grown_from : (key : ℕ) (w : View) (x y : Session) (was is : Log) (old new : Story) → IsGrown key u w x y was is old new → IsGrown key v w x y was is old new
+  grown_from key w x y was is old new c = record {
+    event = c.event;
+    growth = c.growth;
+    given = c.given ∙ given;
+    seen = c.seen ∙ ap (λ es. es ++ c.event ∷ []) seen;
+    met = carried (λ k es. may (opening k) (after_all k es).core (event_of c.event) ≡ true) c.met;
+    next = carried (λ k es. IsNextRoom (opening k) (after_all k es).core key (event_of c.event)) c.next;
+    fits = carried (λ k es. room_refusal (opening k) (after_all k es).core key ≡ None) c.fits;
+    entry = c.entry;
+    entry_is = carried (λ k es. (happens (opening k) (after_all k es).core (event_of c.event)).entries ≡ entry_of x.own c.entry ∷ (after_all k es).core.entries) c.entry_is;
+    after = c.after;
+    stands = c.stands;
+    keeps = c.keeps;
+    session = c.session;
+    fewer = c.fewer;
+  }
+
+  pub spent_from : (w : View) → IsSpentBehind u w → IsSpentBehind v w
+  spent_from w q = record { misses = q.misses; are_misses = q.are_misses; few = q.few; given = q.given ∙ given; seen = q.seen ∙ ap (λ es. es ++ q.misses) seen; many = q.many }
+
+  -- the leaf is full
+  pub crowded_from : (key leaf : ℕ) (why : Refusal) (w : View) (x : Session) (was : Log) → MayChange v x was key → IsUnfit u key leaf → IsNoRoom u w key why → Crowded key why v w x.clock was
+  crowded_from key leaf why w x was f q r = record {
+    given = r.given ∙ given;
+    seen = r.seen ∙ seen;
+    leaf = leaf;
+    unfit = unfit_at;
+    ready = is_ready v x was key f;
+    cause = subst (λ es. room_refusal (opening w.given) (after_all w.given es).core key ≡ Some why) (sym r.seen) (subst (λ k. room_refusal (opening k) (after_all k u.seen).core key ≡ Some why) (sym r.given) r.cause);
+  }
+    where
+      at : state w ≡ state u
+      at i = after_all (r.given i) (r.seen i)
+
+      unfit_at : IsUnfit w key leaf
+      unfit_at = record {
+        below = subst (λ k. leaf < (opening k).format.pages) (sym r.given) q.below;
+        holds = ap (λ k. holds (k.core.page leaf).node key) at ∙ q.holds;
+        none = ap (λ k. find key (k.core.page leaf).node.pairs) at ∙ q.none;
+        full = ap (λ k. length (k.core.page leaf).node.pairs) at ∙ q.full;
+      }
+
+-- ## Behind a change of the tree
+
+pub may_after : (key : ℕ) (v w : View) (x y : Session) (was is : Log) (old new : Story) → MayChange v x was key → IsGrown key v w x y was is old new → log_refusal y.clock is None ≡ None → MayChange w y is key
+may_after key v w x y was is old new f c e = let r = ready y.clock is e in record {
+  works = ap (λ (s : Session). s.works) c.session ∙ f.works;
+  is_open = ap (λ (s : Session). s.is_open) c.session ∙ f.is_open;
+  whole = ap (λ (s : Session). s.half) c.session ∙ f.whole;
+  few = let a = ap (λ (s : Session). length s.undo) c.session in let b = f.few in omega arith;
+  small = r.small;
+  room = r.room;
+  row = ap (λ (k : State). is_held_by (k.row (key % y.held.count)).holder y.own) (seen_core v w c.event c.given c.seen c.met)
+      ∙ (ap (λ o. is_held_by o.holder y.own) ((growth x.own (opening v.given) (state v).core c.event c.growth).row (key % y.held.count))
+      ∙ (ap (λ (s : Session). is_held_by ((state v).core.row (key % s.held.count)).holder s.own) c.session ∙ f.row));
+  key_low = f.key_low;
+}
+
+-- ## A step
+
+-- a try that found the leaf full
+pub tried_full : (r : Tried) → r ≡ tried.Full → (v w : View) (key value : ℕ) (x y : Session) (was is : Log) (old new : Story) (path : List ℕ) (same broken : Type 0) → Tries (Ok r) v w key value x y was is old new path same broken → HasNoRoom v w x.frames key path × same
+tried_full r e v w key value x y was is old new path same broken t = subst (λ k. Tries (Ok k) v w key value x y was is old new path same broken) e t
+
+-- where the try found no room, by what came of the change of the tree
+pub step_refused : (key value leaf : ℕ) (v u w : View) (x y : Session) (was is : Log) (old new : Story) (same broken : Type 0) → u.given ≡ v.given → u.seen ≡ v.seen → MayChange v x was key → IsUnfit u key leaf
+    → (why : Refusal) → Grew (Err why) key u w x y was is old new same broken → Steps (Err why) v w key value x y was is old new same
+step_refused key value leaf v u w x y was is old new same broken given seen f q refusal.TooTall g = (crowded_from v u given seen key leaf refusal.TooTall w x was f q g.0, g.1)
+step_refused key value leaf v u w x y was is old new same broken given seen f q refusal.NoPages g = (crowded_from v u given seen key leaf refusal.NoPages w x was f q g.0, g.1)
+step_refused key value leaf v u w x y was is old new same broken given seen f q refusal.RowSpent g = (spent_from v u given seen w g.0, g.1)
+step_refused key value leaf v u w x y was is old new same broken given seen f q refusal.DiskFault g = g.0
+step_refused key value leaf v u w x y was is old new same broken given seen f q _ g = absurd g
+
+-- and it is the same session
+pub refused_session : (key : ℕ) (v w : View) (x x0 y : Session) (was is : Log) (old new : Story) (same : Type 0) → (same → y ≡ x0) → (why : Refusal) → Grew (Err why) key v w x y was is old new same (y.works ≡ false) → y.works ≡ true → IsSameSession x0 y
+refused_session key v w x x0 y was is old new same so why g works = go why g
+  where
+    is_so : y ≡ x0 → IsSameSession x0 y
+    is_so e = (ap (λ (k : Session). k.own) e, ap (λ (k : Session). k.workers) e, ap (λ (k : Session). k.group) e)
+
+    go : (why : Refusal) → Grew (Err why) key v w x y was is old new same (y.works ≡ false) → IsSameSession x0 y
+    go refusal.TooTall g = is_so (so g.1)
+    go refusal.NoPages g = is_so (so g.1)
+    go refusal.RowSpent g = is_so (so g.1)
+    go refusal.DiskFault g = absurd (true≢false (sym works ∙ g.1))
+    go _ g = absurd g
+
+-- where the tree was changed, by the tests behind it
+pub step_stopped : (key value : ℕ) (v w : View) (x y : Session) (was is : Log) (old new : Story) (same : Type 0) → IsGrown key v w x y was is old new → (why : Refusal) → log_refusal y.clock is None ≡ Some why → Steps (Err why) v w key value x y was is old new same
+step_stopped key value v w x y was is old new same c why e = go (leb (limit is) (used is)) (leb (2 ^ 62) y.clock) e
+  where
+    some_is : (r q : Refusal) → Some r ≡ Some q → r ≡ q
+    some_is r q p = cc
+
+    go : (a b : Bool) → cond a (Some (refusal.LogFull (used is) (limit is))) (cond b (Some refusal.ClockSpent) None) ≡ Some why → Steps (Err why) v w key value x y was is old new same
+    go true b p = subst (λ k. Steps (Err k) v w key value x y was is old new same) (some_is (refusal.LogFull (used is) (limit is)) why p) (record { grown = c; cause = e ∙ ap Some (sym (some_is (refusal.LogFull (used is) (limit is)) why p)) })
+    go false true p = subst (λ k. Steps (Err k) v w key value x y was is old new same) (some_is refusal.ClockSpent why p) (record { grown = c; cause = e ∙ ap Some (sym (some_is refusal.ClockSpent why p)) })
+    go false false p = absurd (cc)
+
+-- where the try failed
+pub step_failed : (key value : ℕ) (v w : View) (x y : Session) (was is : Log) (old new : Story) (path : List ℕ) (same broken : Type 0) → (why : Refusal) → Tries (Err why) v w key value x y was is old new path same broken → Steps (Err why) v w key value x y was is old new same
+step_failed key value v w x y was is old new path same broken refusal.RowSpent t = (record { misses = []; are_misses = tt; few = omega arith; given = t.0.given; seen = t.0.seen ∙ sym (append-nil v.seen); many = t.0.many }, t.1)
+step_failed key value v w x y was is old new path same broken refusal.DiskFault t = t.0
+step_failed key value v w x y was is old new path same broken _ t = absurd t
+
+-- a step that came out so
+pub stepped_as : (r e : Stepped) → r ≡ e → (v w : View) (key value : ℕ) (x y : Session) (was is : Log) (old new : Story) (same : Type 0) → Steps (Ok r) v w key value x y was is old new same → Steps (Ok e) v w key value x y was is old new same
+stepped_as r e is_so v w key value x y was is old new same t = subst (λ k. Steps (Ok k) v w key value x y was is old new same) is_so t
+
+-- ## All steps
+
+-- the last step of a put with this answer
+abbrev pub step_of : Result (Option ℕ) Refusal → Result Stepped Refusal
+step_of (Ok before) = Ok (stepped.Done before)
+step_of (Err why) = Err why
+
+-- what was so of a store is so of one that is the same
+pub room_same : {A : Type 0} (story : A → Story) (log : A → Log) (session : A → Session) (a d : A) → d ≡ a → (key : ℕ) (v w : View) (x : Session) (was : Log) (old : Story) → HasRoom key v w x (session a) was (log a) old (story a) → HasRoom key v w x (session d) was (log d) old (story d)
+room_same story log session a d e key v w x was old r = subst (λ k. HasRoom key v w x (session k) was (log k) old (story k)) (sym e) r
+
+module _ (reached : EveryReached) (need : EveryNeed) (parts : (old mid new : Story) → EveryPart old mid new) (key value : ℕ) (v : View) (x : Session) (low : 0 < x.own) (high : x.own ≤ (opening v.given).workers) (was : Log) (old : Story) where
+  -- so it begins
+  pub room_none : HasRoom key v v x x was was old old
+  room_none = record { grows = grows_none reached need parts key v v x was refl refl; goes = goes_none reached need parts x.own x.group v was old; frame = framed (suc x.own) old }
+
+  module _ (u : View) (z : Session) (mid : Log) (s : Story) (r : HasRoom key v u x z was mid old s) where
+    -- it is the same session
+    same_own : z.own ≡ x.own
+    same_own = ap (λ (q : Session). q.own) r.grows.session
+
+    -- and goes on
+    pub room_more : (w : View) (y : Session) (is : Log) (new : Story) → IsGrown key u w z y mid is s new → HasRoom key v w x y was is old new
+    room_more w y is new c = record {
+      grows = grows_more reached need parts key v u w x z y was mid is s new low high r.grows c;
+      goes = goes_more reached need parts key v u w x z y was mid is old s new low high r.grows r.goes c;
+      frame = framed_then (suc x.own) old s new r.frame (subst (λ n. Framed (suc n) s new) same_own c.keeps.frame);
+    }
+
+    -- where nothing more was seen
+    pub room_still : (w : View) → w.given ≡ u.given → w.seen ≡ u.seen → HasRoom key v w x z was mid old s
+    room_still w given seen = record { grows = grows_still reached need parts key v u w x z was mid given seen r.grows; goes = r.goes; frame = r.frame }
+
+    room_fits : (w : View) (y : Session) (is : Log) (new : Story) → IsGrown key u w z y mid is s new → room_refusal (opening v.given) (state v).core key ≡ None
+    room_fits w y is new c = first_fits key v u x z was mid r.grows c.fits
+
+    -- it ends with the change
+    room_put : (w : View) (before : Option ℕ) (is : Log) (new : Story) → IsChanged x.own u w key value before mid is s new → HasPut key value before v w x was is old new
+    room_put w before is new c = record {
+      view = u;
+      session = z;
+      log = mid;
+      grows = r.grows;
+      page = c.page;
+      given = c.given;
+      seen = c.seen;
+      met = c.met;
+      told = c.told;
+      entry = c.entry;
+      entry_is = c.entry_is;
+      after = c.after;
+      goes = goes_put reached need parts key value v u w x z was mid is old s new before low high r.grows r.goes c;
+      frame = framed_then (suc x.own) old s new r.frame c.keeps.frame;
+    }
+
+    room_failed : (new : Story) → KeepsLog x.own mid s new → HasFailed key v x was old new
+    room_failed new q = record {
+      view = u;
+      session = z;
+      log = mid;
+      grows = r.grows;
+      frame = framed_then (suc x.own) old s new r.frame q.frame;
+      leaves = λ g xs start b s0 k bt at0. went_failed parts x.own x.group g low (let a = b.opens.workers in omega arith) xs s0 k old bt (start ++ events_of r.grows.events) mid s new (r.goes g xs start b s0 k bt at0) q;
+    }
+
+-- by its answer, where a is the store before the last step and d the one behind it
+module _ (reached : EveryReached) (need : EveryNeed) (parts : (old mid new : Story) → EveryPart old mid new) {A : Type 0} (story : A → Story) (log : A → Log) (session : A → Session) (key value : ℕ) (v u w : View) (x : Session) (low : 0 < x.own) (high : x.own ≤ (opening v.given).workers) (was : Log) (old : Story)
+    (a d : A) (r : HasRoom key v u x (session a) was (log a) old (story a)) where
+  same_room : d ≡ a → w.given ≡ u.given → w.seen ≡ u.seen → HasRoom key v w x (session d) was (log d) old (story d)
+  same_room e given seen = room_same story log session a d e key v w x was old (room_still reached need parts key value v x low high was old u (session a) (log a) (story a) r w given seen)
+
+  crowded : (why : Refusal) → Crowded key why u w (session a).clock (log a) → d ≡ a → IsCrowded key why v w x (session d) was (log d) old (story d)
+  crowded why c e = record { room = same_room e c.given c.seen; leaf = c.leaf; unfit = c.unfit; ready = (λ i. log_refusal (session (e i)).clock (log (e i)) None) ∙ c.ready; cause = c.cause }
+
+  stopped : (why : Refusal) → Stopped key why u w (session a) (session d) (log a) (log d) (story a) (story d) → IsStopped key why v w x (session d) was (log d) old (story d)
+  stopped why c = record {
+    room = room_more reached need parts key value v x low high was old u (session a) (log a) (story a) r w (session d) (log d) (story d) c.grown;
+    some = room_fits reached need parts key value v x low high was old u (session a) (log a) (story a) r w (session d) (log d) (story d) c.grown;
+    cause = c.cause;
+  }
+
+  own_is : (session a).own ≡ x.own
+  own_is = ap (λ (q : Session). q.own) r.grows.session
+
+  pub put_last : (answer : Result (Option ℕ) Refusal) → Steps (step_of answer) u w key value (session a) (session d) (log a) (log d) (story a) (story d) (d ≡ a) → Puts answer v w key value x (session d) was (log d) old (story d)
+  put_last (Ok before) c = room_put reached need parts key value v x low high was old u (session a) (log a) (story a) r w before (log d) (story d) (subst (λ n. IsChanged n u w key value before (log a) (log d) (story a) (story d)) own_is c)
+  put_last (Err refusal.TooTall) c = crowded refusal.TooTall c.0 c.1
+  put_last (Err refusal.NoPages) c = crowded refusal.NoPages c.0 c.1
+  put_last (Err (refusal.LogFull i m)) c = stopped (refusal.LogFull i m) c
+  put_last (Err refusal.ClockSpent) c = stopped refusal.ClockSpent c
+  put_last (Err refusal.RowSpent) c = record { view = u; room = room_same story log session a d c.1 key v u x was old r; spent = c.0 }
+  put_last (Err refusal.DiskFault) c = room_failed reached need parts key value v x low high was old u (session a) (log a) (story a) r (story d) (subst (λ n. KeepsLog n (log a) (story a) (story d)) own_is c)
+  put_last (Err _) c = absurd c

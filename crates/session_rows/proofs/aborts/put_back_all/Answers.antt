@@ -1,0 +1,37 @@
+use Rattle.std.proofs.Common.{◌∙◌, ap, refl}
+use Rattle.engine_calls.proofs.PartLemmas.{every_part}
+use Rattle.session_rows.specs.declared.session.Session.{Session}
+use Rattle.session_rows.proofs.BackSteps.{back_last, undone_next, undone_none, within_workers}
+use Rattle.session_rows.proofs.StepLemmas.{ok_calm}
+use Rattle.session_rows.proofs.aborts.put_back_all.Goals as goal
+
+pub left-init : goal.left-init
+left-init g c = record {
+  fits = (c.requires.fits, refl);
+  holds = c.requires.holds;
+  works = c.requires.works;
+  is_open = c.requires.is_open;
+  undone = undone_none c.every_reached.ensures c.every_need.ensures (every_part c.every_version.ensures c.every_kept.ensures c.every_prefix.ensures c.every_sealed.ensures) (g.R.Rows.view c.args.seat.now) c.args.store.now.session c.requires.holds.rows.low (within_workers (g.R.Rows.shape c.args.rows.now) (g.R.Rows.view c.args.seat.now) c.args.store.now.session c.args.store.now.log c.requires.holds) c.args.store.now.log (g.D.Disk.story c.args.store.now.disk);
+  faults = refl;
+}
+
+pub returns-in-Err-clause-backs : goal.returns-in-Err-clause-backs
+returns-in-Err-clause-backs g c =
+    back_last c.every_reached.ensures c.every_need.ensures (every_part c.every_version.ensures c.every_kept.ensures c.every_prefix.ensures c.every_sealed.ensures)
+    (λ k. g.D.Disk.story k.disk) (λ k. k.log) (λ k. k.session) (g.R.Rows.view c.args.seat.now) (g.R.Rows.view c.left.seat) (g.R.Rows.view c.put_back.new.seat) c.args.store.now.session
+    c.requires.holds.rows.low (within_workers (g.R.Rows.shape c.args.rows.now) (g.R.Rows.view c.args.seat.now) c.args.store.now.session c.args.store.now.log c.requires.holds) c.args.store.now.log (g.D.Disk.story c.args.store.now.disk) c.left.store c.put_back.new.store c.left.invariant.undone c.in-Err.why c.in-Err.ensures.backs
+
+pub left-preserved : goal.left-preserved
+left-preserved g c =
+    let i = c.left.invariant in
+    let e = c.in_default.ensures in
+    record {
+      fits = (e.fits.0, e.fits.1 ∙ i.fits.1);
+      holds = e.holds e.works;
+      works = e.works;
+      is_open = ap (λ (s : Session). s.is_open) e.backs.session ∙ i.is_open;
+      undone = undone_next c.every_reached.ensures c.every_need.ensures (every_part c.every_version.ensures c.every_kept.ensures c.every_prefix.ensures c.every_sealed.ensures) (g.R.Rows.view c.args.seat.now) c.args.store.now.session
+          c.requires.holds.rows.low (within_workers (g.R.Rows.shape c.args.rows.now) (g.R.Rows.view c.args.seat.now) c.args.store.now.session c.args.store.now.log c.requires.holds) c.args.store.now.log (g.D.Disk.story c.args.store.now.disk) (g.R.Rows.view c.left.seat) c.left.store.session c.left.store.log (g.D.Disk.story c.left.store.disk) i.undone
+          (g.R.Rows.view c.put_back.new.seat) c.put_back.new.store.session c.put_back.new.store.log (g.D.Disk.story c.put_back.new.store.disk) e.backs;
+      faults = e.cause_disk_fault.calm (ok_calm _ _) ∙ i.faults;
+    }

@@ -1,0 +1,36 @@
+-- Words of private functions.
+use Rattle.std.specs.Prelude.{◌+◌, ℕ, Bool, true, false, [], length, Option, Some, None, leb, if◌then◌else◌}
+use Rattle.map_model.specs.declared.call.Refusal.{Refusal}
+use Rattle.map_model.specs.declared.call.Refusal.TheVariants.{Broken, InTransaction, NoTransaction, TooLong}
+use Rattle.rfa_model.specs.Stamps.{debt_at_begin}
+use Rattle.worker_log.specs.Logs.{Log}
+use Rattle.session_trait.specs.Refusals.{log_refusal}
+use Rattle.session_rows.specs.declared.session.Session.{Session}
+
+-- ## Tests
+
+-- why a begin is refused
+abbrev pub begin_test : Session → Log → Option Refusal
+begin_test x log = if x.works then (if x.is_open then Some InTransaction else log_refusal x.clock log None) else Some Broken
+
+-- a transaction is open, and its abort is not half done
+abbrev pub is_going : Session → Bool
+is_going x = if x.half then false else x.is_open
+
+-- why a call within a transaction is
+abbrev pub call_test : Session → Option Refusal
+call_test x = if x.works then (if is_going x then None else Some NoTransaction) else Some Broken
+
+-- why an abort is, which may go on
+abbrev pub abort_test : Session → Option Refusal
+abort_test x = if x.works then (if x.is_open then None else Some NoTransaction) else Some Broken
+
+-- and a put, which tests more
+abbrev pub put_test : Session → Log → Option Refusal
+put_test x log = if x.works then (if is_going x then (if leb 64 (length x.undo) then Some TooLong else log_refusal x.clock log None) else Some NoTransaction) else Some Broken
+
+-- ## Sessions
+
+-- a session after a begin that found its log flushed up to this number
+abbrev pub begun_session : Session → ℕ → Session
+begun_session x floor = record x { is_open = true; floor = floor; debt = debt_at_begin x.debt floor; txn = x.txn + 1; undo = []; half = false }

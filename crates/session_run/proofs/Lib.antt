@@ -1,0 +1,11 @@
+pub mod PutLemmas
+pub mod DueLemmas
+pub mod FitLemmas
+pub mod StopLemmas
+pub mod EventLemmas
+pub mod DiskLemmas
+pub mod CallLemmas
+pub mod StepLemmas
+pub mod ThenLemmas
+pub mod TextLemmas
+pub mod FewLemmas

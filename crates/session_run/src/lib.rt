@@ -1,0 +1,12 @@
+//! The lines of a script, executed one by one on an engine, and what is printed of them.
+#![tactic(auto)]
+
+mod laws;
+mod lines;
+mod replies;
+mod run;
+mod stop;
+
+pub use laws::every_script;
+pub use run::run_script;
+pub use stop::Stop;

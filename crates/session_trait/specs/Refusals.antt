@@ -1,0 +1,77 @@
+-- When a call is refused: by the first of its tests that holds.
+use Rattle.std.specs.Prelude.{◌≡◌, ◌⊎◌, ◌==◌, ◌&&◌, ◌^◌, ℕ, Bool, false, not, leb, ltb, min, List, [], ◌∷◌, Option, Some, None, length, if◌then◌else◌}
+use Rattle.map_model.specs.declared.call.Call.{Call}
+use Rattle.map_model.specs.declared.call.Call.TheVariants as call
+use Rattle.map_model.specs.declared.call.Refusal.{Refusal}
+use Rattle.map_model.specs.declared.call.Refusal.TheVariants.{ClockSpent, Conflict, InTransaction, LogFull, NoPages, NoTransaction, RowSpent, TooLong, TooTall}
+use Rattle.page_model.specs.Check.{some_below}
+use Rattle.page_model.specs.Nodes.{holds}
+use Rattle.page_model.specs.Redo.{has_key}
+use Rattle.core_state.specs.Openings.{Opening}
+use Rattle.core_state.specs.States.{State, nodes_of}
+use Rattle.core_state.specs.Events.{Mode}
+use Rattle.core_state.specs.Needs.{may_hold}
+use Rattle.core_state.specs.Steps.{at_row}
+use Rattle.core_calls.specs.Room.{free_list, is_all_full, room_takes}
+use Rattle.worker_log.specs.Logs.{Log, limit, used}
+
+-- the leaf with the key in its fences has no room, and has not the key
+abbrev pub is_full_for : Opening → State → ℕ → Bool
+is_full_for g s k = some_below g.format.pages (λ p. holds (s.page p).node k && ((length (s.page p).node.pairs == g.format.room) && not (has_key k (s.page p).node)))
+
+-- room for the key would take one level more than there can be, or more pages than are free
+abbrev pub room_refusal : Opening → State → ℕ → Option Refusal
+room_refusal g s k = if is_all_full g s k && ((nodes_of s 0).level == g.format.levels) then Some TooTall else (if ltb (length (free_list g s)) (room_takes g s k) then Some NoPages else None)
+
+-- the blocks for changes are used, or the clock has reached its end; else what comes later
+abbrev pub log_refusal : (clock : ℕ) → Log → Option Refusal → Option Refusal
+log_refusal clock log later = if leb (limit log) (used log) then Some (LogFull (used log) (limit log)) else (if leb (2 ^ 62) clock then Some ClockSpent else later)
+
+-- a call of session `own` in a transaction, which is open and not half aborted
+abbrev pub in_transaction : State → (own : ℕ) → (half : Bool) → Option Refusal → Option Refusal
+in_transaction s own half later = if half then Some NoTransaction else (if (s.worker own).is_open then later else Some NoTransaction)
+
+-- the transaction has all its changes
+abbrev pub change_refusal : State → (own : ℕ) → Log → Option Refusal → Option Refusal
+change_refusal s own log later = if leb 64 (length (s.worker own).changes) then Some TooLong else log_refusal (s.worker own).clock log later
+
+-- the lesser of a number and maybe another
+abbrev pub least_with : ℕ → Option ℕ → ℕ
+least_with v None = v
+least_with v (Some u) = min v u
+
+-- the least of the readers but this one
+abbrev pub least_other : (own : ℕ) → List ℕ → Option ℕ
+least_other own [] = None
+least_other own (v ∷ readers) = if v == own then least_other own readers else Some (least_with v (least_other own readers))
+
+-- who stands in the way: the one who holds the row alone, else the least other reader
+abbrev pub blocker_of : Option ℕ → (own : ℕ) → List ℕ → Option ℕ
+blocker_of (Some h) own readers = Some h
+blocker_of None own readers = least_other own readers
+
+abbrev pub conflict_with : Option ℕ → Option Refusal
+conflict_with None = None
+conflict_with (Some h) = Some (Conflict h)
+
+-- another session holds the key's row so that this one may not have it
+abbrev pub lock_refusal : Opening → State → (own key : ℕ) → Mode → Option Refusal → Option Refusal
+lock_refusal g s own key mode later = if may_hold (s.row (g.row_of key)) own mode then later else conflict_with (blocker_of (s.row (g.row_of key)).holder own (s.row (g.row_of key)).readers)
+
+-- what the key's row tells brings the clock to its end
+abbrev pub met_refusal : Opening → State → (own key : ℕ) → Option Refusal → Option Refusal
+met_refusal g s own key later = if leb (2 ^ 62) (at_row own (s.worker own) (s.row (g.row_of key))).clock then Some ClockSpent else later
+
+-- Session `own` asks this at a state of the core, where its log is so. While its abort is half done, nothing else is answered.
+abbrev pub refusal_in : Opening → State → (own : ℕ) → (half : Bool) → Log → Call → Option Refusal
+refusal_in g s own half log call.Begin = if (s.worker own).is_open then Some InTransaction else log_refusal (s.worker own).clock log None
+refusal_in g s own half log (call.Get key) = in_transaction s own half (lock_refusal g s own key Mode.Shared None)
+refusal_in g s own half log (call.Put key value) = in_transaction s own half (change_refusal s own log (lock_refusal g s own key Mode.Alone (met_refusal g s own key (if is_full_for g s key then room_refusal g s key else None))))
+refusal_in g s own half log (call.Del key) = in_transaction s own half (change_refusal s own log (lock_refusal g s own key Mode.Alone (met_refusal g s own key None)))
+refusal_in g s own half log call.Commit = in_transaction s own half None
+refusal_in g s own half log call.Abort = in_transaction s own false None
+refusal_in g s own half log _ = None
+
+-- so it is refused, or a latch that it needs has reached its end
+abbrev pub IsRefusedFor : Opening → State → (own : ℕ) → (half : Bool) → Log → Call → Refusal → Type 0
+IsRefusedFor g s own half log c why = (refusal_in g s own half log c ≡ Some why) ⊎ (why ≡ RowSpent)

@@ -1,0 +1,11 @@
+pub mod LineLemmas
+pub mod ReplyLemmas
+pub mod HeardLemmas
+pub mod TranscriptLemmas
+pub mod AbortLemmas
+pub mod PrefixLemmas
+pub mod AskedLemmas
+pub mod NextLemmas
+pub mod EndLemmas
+pub mod MoreLemmas
+pub mod OrderLemmas

@@ -1,0 +1,4 @@
+-- Read Told, then Transcripts, then Laws.
+pub mod Told
+pub mod Transcripts
+pub mod Laws
