@@ -62,9 +62,10 @@ AreSyncs flushed (Event.Sync n ∷ es) = AreSyncs false es
 AreSyncs false [] = Unit {0}
 AreSyncs flushed _ = ⊥
 
--- A begin that finds an open transaction does nothing; one that is refused otherwise has prepared; another call may have synced.
+-- A begin that finds an open transaction does nothing; one that is refused otherwise has prepared, but where rows are spent: then it may have synced or not, as another call may.
 abbrev pub RefusedLogs : Limits → Opening → List Done → ℕ → Call → Refusal → List Event → Type 0
 RefusedLogs l g earlier w call.Begin refusal.InTransaction es = es ≡ []
+RefusedLogs l g earlier w call.Begin refusal.RowSpent es = AreSyncs false es
 RefusedLogs l g earlier w call.Begin why es = Prepares l g earlier w es
 RefusedLogs l g earlier w c why es = AreSyncs false es
 

@@ -17,7 +17,7 @@ use std::str;
 
 const WORKERS: u32 = 16;
 
-static GOOD: [(&[u8], u32, Call); 16] = [
+static GOOD: [(&[u8], u32, Call); 17] = [
     (b"1 begin", 1, Call::Begin),
     (b"16 begin", 16, Call::Begin),
     (b"2 commit", 2, Call::Commit),
@@ -67,9 +67,10 @@ static GOOD: [(&[u8], u32, Call); 16] = [
             value: 9223372036854775807,
         },
     ),
+    (b"sync", 0, Call::Sync),
 ];
 
-static BAD: [&[u8]; 94] = [
+static BAD: [&[u8]; 105] = [
     b"",
     b" ",
     b"1",
@@ -155,7 +156,18 @@ static BAD: [&[u8]; 94] = [
     b"1 Abort",
     b"1 aborted",
     b"abort",
-    b"sync",
+    b"0 sync",
+    b"1 sync",
+    b"16 sync",
+    b" sync",
+    b"sync ",
+    b"sync 1",
+    b"sync\r",
+    b"syn",
+    b"syncs",
+    b"synced",
+    b"synced 5",
+    b"Sync",
     b"checkpoint",
     b"1 durable 1.1",
     b"1 get 11111111111111111111111111111111111111111111111111111111111111111111111111",
@@ -253,17 +265,19 @@ enum Told {
     WasNone,
     Committed(u64, u64),
     Aborted(u64),
+    Synced(u64),
     InTransaction,
     NoTransaction,
     TooLong,
     LogFull(u32, u32),
     ClockSpent,
     RowSpent,
+    Conflict(u32),
     TooTall,
     NoPages,
 }
 
-static REPLIES: [(u32, Told, &[u8]); 18] = [
+static REPLIES: [(u32, Told, &[u8]); 23] = [
     (1, Told::Begun(1), b"1 begun 1.1\n"),
     (1, Told::Value(7), b"1 value 7\n"),
     (1, Told::NoValue, b"1 none\n"),
@@ -276,12 +290,25 @@ static REPLIES: [(u32, Told, &[u8]); 18] = [
     (3, Told::Was(0), b"3 was 0\n"),
     (1, Told::Committed(1, 2), b"1 committed 1.1 at 2\n"),
     (1, Told::Aborted(2), b"1 aborted 1.2\n"),
+    (0, Told::Synced(0), b"synced 0\n"),
+    (0, Told::Synced(9), b"synced 9\n"),
+    (
+        0,
+        Told::Synced(18446744073709551615),
+        b"synced 18446744073709551615\n",
+    ),
     (1, Told::InTransaction, b"1 in-transaction\n"),
     (2, Told::NoTransaction, b"2 no-transaction\n"),
     (1, Told::TooLong, b"1 too-long\n"),
     (1, Told::LogFull(48, 48), b"1 log-full 48 48\n"),
     (1, Told::ClockSpent, b"1 clock-spent\n"),
     (1, Told::RowSpent, b"1 row-spent\n"),
+    (1, Told::Conflict(2), b"1 conflict 2\n"),
+    (
+        4294967295,
+        Told::Conflict(4294967295),
+        b"4294967295 conflict 4294967295\n",
+    ),
     (1, Told::TooTall, b"1 too-tall\n"),
     (1, Told::NoPages, b"1 no-pages\n"),
     (
@@ -310,6 +337,7 @@ fn answer_of(told: &Told) -> Answer
             at: *at,
         },
         Told::Aborted(number) => Answer::Aborted { number: *number },
+        Told::Synced(at) => Answer::Synced { at: *at },
         Told::InTransaction => Answer::Refused(Refusal::InTransaction),
         Told::NoTransaction => Answer::Refused(Refusal::NoTransaction),
         Told::TooLong => Answer::Refused(Refusal::TooLong),
@@ -319,6 +347,7 @@ fn answer_of(told: &Told) -> Answer
         }),
         Told::ClockSpent => Answer::Refused(Refusal::ClockSpent),
         Told::RowSpent => Answer::Refused(Refusal::RowSpent),
+        Told::Conflict(holder) => Answer::Refused(Refusal::Conflict { holder: *holder }),
         Told::TooTall => Answer::Refused(Refusal::TooTall),
         Told::NoPages => Answer::Refused(Refusal::NoPages),
     }

@@ -2,9 +2,11 @@
 // a number N, N rounds, with times.
 #![tactic(auto)]
 
-ghost use Rattle.std.specs.Prelude.{◌≤◌, ◌<◌, ◌^◌, IfOk};
+ghost use Rattle.std.specs.Prelude.{◌≡◌, ◌≤◌, ◌<◌, ◌^◌, IfOk, IsTrue};
+ghost use Rattle.engine_trait.specs.declared.calls.Next.{Next};
 
 use disk_format::{Formatted, Shape, format};
+use engine_trait::calls::Next;
 use lean_disk::MemDisk;
 use lean_engine::{Engine, Opened, Size, Unopened};
 use std::alloc::Global;
@@ -17,7 +19,11 @@ const SHAPE: Shape = Shape {
     blocks: 4096,
 };
 
-const SIZE: Size = Size { rows: 256 };
+const SIZE: Size = Size {
+    rows: 256,
+    group: 1,
+    sessions: 1,
+};
 
 /// As many keys are put, and as many puts make a transaction.
 const KEYS: u64 = 16000;
@@ -56,13 +62,45 @@ fn opened(alloc: Global) -> io::Result<Engine<MemDisk>> {
     }
 }
 
+// Takes the commits that have become durable, of which there is one at most.
+fn listen(engine: &mut Engine<MemDisk>) {
+    for _ in 0..2 {
+        if engine.sessions() >= 1 && engine.next() != Next::Line && engine.half_done(1).is_ok() {
+            let _ = engine.next_durable();
+        }
+    }
+}
+
+// Whether a line of session 1 may be asked, behind what the line before it has made durable.
+fn is_ready(engine: &mut Engine<MemDisk>) -> bool
+    ensures { IsTrue result → (engine.new.next ≡ Next.Line) × (1 ≤ engine.new.sessions) }
+{
+    listen(engine);
+    engine.next() == Next::Line && engine.sessions() >= 1
+}
+
+fn begin(engine: &mut Engine<MemDisk>) {
+    if is_ready(engine) {
+        let _ = engine.begin(1);
+    }
+}
+
+fn commit(engine: &mut Engine<MemDisk>) {
+    if is_ready(engine) {
+        let _ = engine.commit(1);
+    }
+}
+
 // Puts some of the keys, in order of their turns. How many had no value.
 fn puts(engine: &mut Engine<MemDisk>, first: u64) -> u64
     requires { first < 2 ^ 32 }
 {
     let mut sum = 0u64;
     for turn in first..first + PUTS {
-        if let Ok(None) = engine.put(turn * STRIDE % KEYS, turn) {
+        if !is_ready(engine) {
+            return sum;
+        }
+        if let Ok(None) = engine.put(1, turn * STRIDE % KEYS, turn) {
             sum = sum.wrapping_add(1);
         }
     }
@@ -74,7 +112,10 @@ fn gets(engine: &mut Engine<MemDisk>, times: u64) -> u64 {
     let mut state = 1u64;
     let mut sum = 0u64;
     for _ in 0..times {
-        if let Ok(Some(value)) = engine.get(next(&mut state) % KEYS) {
+        if !is_ready(engine) {
+            return sum;
+        }
+        if let Ok(Some(value)) = engine.get(1, next(&mut state) % KEYS) {
             sum = sum.wrapping_add(value);
         }
     }
@@ -86,11 +127,11 @@ fn fill(rt: &HostRuntime, engine: &mut Engine<MemDisk>) -> io::Result<(u64, u128
     let mut sum = 0u64;
     let mut took = 0u128;
     for transaction in 0..KEYS / PUTS {
-        let _ = engine.begin();
+        begin(engine);
         let start = Instant::now(rt)?;
         sum = sum.wrapping_add(puts(engine, transaction * PUTS));
         took = took.wrapping_add(start.elapsed(rt)?.as_nanos());
-        let _ = engine.commit();
+        commit(engine);
     }
     Ok((sum, took / 1000))
 }
@@ -108,7 +149,7 @@ fn argument(rt: &HostRuntime) -> io::Result<u64>
 
 // Gets in a transaction of their own. What they add up to, and the microseconds.
 fn look(rt: &HostRuntime, engine: &mut Engine<MemDisk>, times: u64) -> io::Result<(u64, u128)> {
-    let _ = engine.begin();
+    begin(engine);
     let start = Instant::now(rt)?;
     let sum = gets(engine, times);
     Ok((sum, start.elapsed(rt)?.as_micros()))
@@ -128,7 +169,7 @@ fn round(rt: &HostRuntime, times: u64) -> io::Result<()> {
 // A handful, with no times.
 fn handful(rt: &HostRuntime) -> io::Result<()> {
     let mut engine = opened(rt.alloc())?;
-    let _ = engine.begin();
+    begin(&mut engine);
     let new = puts(&mut engine, 0);
     let sum = gets(&mut engine, 1000);
     let _disk = engine.close();

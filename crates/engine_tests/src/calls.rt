@@ -1,9 +1,12 @@
 // An engine on a formatted disk in memory. The expected answers were written down by hand.
-ghost use Rattle.engine_trait.specs.Calls.{IsWithin};
+ghost use Rattle.std.specs.Prelude.{◌≡◌, ◌<◌, ◌≤◌, ℕ, true};
+ghost use Rattle.engine_trait.specs.Calls.{IsAsked};
+ghost use Rattle.engine_trait.specs.declared.calls.Next.{Next};
 
 use crate::cases::expect;
 use crate::disks::formatted;
-use engine_trait::calls::{Calls, Unanswered};
+use crate::sessions::take_rest;
+use engine_trait::calls::{Next, Unanswered};
 use lean_disk::MemDisk;
 use lean_engine::{Engine, Opened, Size, Unopened};
 use map_model::{Answer, Call, Refusal};
@@ -228,7 +231,7 @@ static CASES: [Case; 9] = [
 ];
 
 fn call_of(asked: &Asked) -> Call
-    ensures { IsWithin result }
+    ensures { (sessions : ℕ) → 1 ≤ sessions → IsAsked sessions 1 result }
 {
     match asked {
         Asked::Begin => Call::Begin,
@@ -243,17 +246,20 @@ fn call_of(asked: &Asked) -> Call
     }
 }
 
-// Whether a call is answered so.
-fn answers<E: Calls<MemDisk>>(
-    engine: &mut E,
-    asked: &Asked,
-    want: &Result<Answer, Unanswered>,
-) -> bool {
-    engine.call(&call_of(asked)) == *want
+// Whether a call of session 1 is answered so. Behind it the durable lines are taken.
+fn answers(engine: &mut Engine<MemDisk>, asked: &Asked, want: &Result<Answer, Unanswered>) -> bool {
+    if engine.next() != Next::Line || engine.sessions() < 1 {
+        return false;
+    }
+    let answer = engine.answer(1, &call_of(asked));
+    if answer.is_ok() {
+        take_rest(engine);
+    }
+    answer == *want
 }
 
 // Whether the calls of a step are answered as is written.
-fn is_done<E: Calls<MemDisk>>(engine: &mut E, step: &Step) -> bool {
+fn is_done(engine: &mut Engine<MemDisk>, step: &Step) -> bool {
     match step {
         Step::Begun(number) => {
             let want = Ok(Answer::Begun { number: *number });
@@ -292,7 +298,7 @@ fn is_done<E: Calls<MemDisk>>(engine: &mut E, step: &Step) -> bool {
 }
 
 // Whether all steps are done so.
-fn are_done<E: Calls<MemDisk>>(engine: &mut E, steps: &[Step]) -> bool {
+fn are_done(engine: &mut Engine<MemDisk>, steps: &[Step]) -> bool {
     for step in steps {
         if !is_done(engine, step) {
             return false;
@@ -301,13 +307,19 @@ fn are_done<E: Calls<MemDisk>>(engine: &mut E, steps: &[Step]) -> bool {
     true
 }
 
+const SIZE: Size = Size {
+    rows: 64,
+    group: 1,
+    sessions: 1,
+};
+
 // Five calls of the masters, 34 of the pages and two of the log.
 const OPENING: u64 = 41;
 
 fn is_met(alloc: Global, case: &Case) -> Result<bool, AllocError> {
     let mut disk = formatted(alloc, case.clock)?;
     disk.fail_at(2, Vec::from_slice(alloc, case.failing)?);
-    let mut engine = match Engine::open(alloc, disk, Size { rows: 64 }) {
+    let mut engine = match Engine::open(alloc, disk, SIZE) {
         Ok(
             Opened {
                 engine,

@@ -1,16 +1,17 @@
 // An engine's calls by their types, on a disk in memory that `format` made. The expected results were written down by hand.
 use crate::cases::expect;
 use crate::disks::unused;
+use engine_trait::calls::Next;
 use lean_disk::{AreaOf, MemDisk};
 use lean_engine::{
-    Aborted, Began, Broken, Engine, Formatted, Opened, Receipt, Ripeness, Shape, Size, Unopened,
-    format,
+    Aborted, Began, Broken, Engine, Formatted, Opened, Receipt, Ripeness, Shape, Size, Synced,
+    Unopened, format,
 };
-use map_model::Refusal;
+use map_model::{Answer, Refusal};
 use master_store::choose;
 use std::alloc::{AllocError, Global};
 
-// A call, and what it gives.
+// A call of a session, and what it gives.
 enum Step {
     Begin(Result<Began, Refusal>),
     Get(u32, Result<Option<u64>, Refusal>),
@@ -18,6 +19,13 @@ enum Step {
     Del(u32, Result<Option<u64>, Refusal>),
     Commit(Result<Receipt, Refusal>),
     Abort(Result<Aborted, Refusal>),
+    /// The abort of a call that met a conflict.
+    Hindered(u64),
+    Sync(Result<Synced, Refusal>),
+    /// The next commit that has become durable, by session and number.
+    Durable(u32, u64),
+    /// No further one has.
+    NoDurable,
     Ripe(Receipt, Result<Ripeness, Broken>),
     HalfDone(Result<bool, Broken>),
     Tend(Result<(), Broken>),
@@ -25,135 +33,288 @@ enum Step {
 
 struct Case {
     name: &'static str,
-    /// The calls of the log's area that fail. The opening makes the first two.
+    sessions: u32,
+    /// How many commits of a session are flushed at once.
+    group: u32,
+    /// The calls of the first log's area that fail. The opening makes the first two.
     failing: &'static [u64],
-    steps: &'static [Step],
+    /// Each with its session.
+    steps: &'static [(u32, Step)],
 }
 
-const FIRST: Receipt = Receipt {
-    txn: 1,
-    log: 1,
-    gsn: 2,
-    need: 0,
-};
+macro_rules! receipt {
+    ($txn:expr, $log:expr, $gsn:expr, $need:expr) => {
+        Receipt {
+            txn: $txn,
+            log: $log,
+            gsn: $gsn,
+            need: $need,
+        }
+    };
+}
+
+const FIRST: Receipt = receipt!(1, 1, 2, 0);
 
 // Of a commit to come.
-const LATER: Receipt = Receipt {
-    txn: 2,
-    log: 1,
-    gsn: 3,
-    need: 0,
-};
+const LATER: Receipt = receipt!(2, 1, 3, 0);
 
 // Of one that needs more of another log than is flushed.
-const NEEDY: Receipt = Receipt {
-    txn: 1,
-    log: 1,
-    gsn: 2,
-    need: 3,
-};
+const NEEDY: Receipt = receipt!(1, 1, 2, 3);
 
-// Of a commit behind two changes that were put back.
-const THIRD: Receipt = Receipt {
-    txn: 3,
-    log: 1,
-    gsn: 8,
-    need: 0,
-};
-
-static CASES: [Case; 4] = [
+static CASES: [Case; 8] = [
     Case {
         name: "a receipt is ripe at once",
+        sessions: 1,
+        group: 1,
         failing: &[],
         steps: &[
-            Step::Begin(Ok(Began { number: 1 })),
-            Step::Get(5, Ok(None)),
-            Step::Put(5, 7, Ok(None)),
-            Step::Get(5, Ok(Some(7))),
-            Step::HalfDone(Ok(false)),
-            Step::Ripe(FIRST, Ok(Ripeness::Waits { log: 1, flushed: 0 })),
-            Step::Commit(Ok(FIRST)),
-            Step::Ripe(FIRST, Ok(Ripeness::Durable)),
-            Step::Ripe(LATER, Ok(Ripeness::Waits { log: 1, flushed: 2 })),
-            Step::Ripe(NEEDY, Ok(Ripeness::Waits { log: 1, flushed: 2 })),
-            Step::Tend(Ok(())),
-            Step::Begin(Ok(Began { number: 2 })),
-            Step::Get(5, Ok(Some(7))),
-            Step::Commit(Ok(LATER)),
+            (1, Step::Begin(Ok(Began { number: 1 }))),
+            (1, Step::Get(5, Ok(None))),
+            (1, Step::Put(5, 7, Ok(None))),
+            (1, Step::Get(5, Ok(Some(7)))),
+            (1, Step::HalfDone(Ok(false))),
+            (
+                1,
+                Step::Ripe(FIRST, Ok(Ripeness::Waits { log: 1, flushed: 0 })),
+            ),
+            (1, Step::Commit(Ok(FIRST))),
+            (1, Step::Ripe(FIRST, Ok(Ripeness::Durable))),
+            (
+                1,
+                Step::Ripe(LATER, Ok(Ripeness::Waits { log: 1, flushed: 2 })),
+            ),
+            (
+                1,
+                Step::Ripe(NEEDY, Ok(Ripeness::Waits { log: 1, flushed: 2 })),
+            ),
+            (1, Step::Tend(Ok(()))),
+            (1, Step::Durable(1, 1)),
+            (1, Step::NoDurable),
+            (1, Step::Begin(Ok(Began { number: 2 }))),
+            (1, Step::Get(5, Ok(Some(7)))),
+            (1, Step::Commit(Ok(LATER))),
+            (1, Step::Durable(1, 2)),
         ],
     },
     Case {
         name: "an abort puts back what its transaction changed",
+        sessions: 1,
+        group: 1,
         failing: &[],
         steps: &[
-            Step::Begin(Ok(Began { number: 1 })),
-            Step::Put(5, 7, Ok(None)),
-            Step::Commit(Ok(FIRST)),
-            Step::Begin(Ok(Began { number: 2 })),
-            Step::Put(6, 8, Ok(None)),
-            Step::Del(5, Ok(Some(7))),
-            Step::Del(5, Ok(None)),
-            Step::Get(5, Ok(None)),
-            Step::HalfDone(Ok(false)),
-            Step::Abort(Ok(Aborted { number: 2 })),
-            Step::HalfDone(Ok(false)),
-            Step::Begin(Ok(Began { number: 3 })),
-            Step::Get(5, Ok(Some(7))),
-            Step::Get(6, Ok(None)),
-            Step::Commit(Ok(THIRD)),
+            (1, Step::Begin(Ok(Began { number: 1 }))),
+            (1, Step::Put(5, 7, Ok(None))),
+            (1, Step::Commit(Ok(FIRST))),
+            (1, Step::Begin(Ok(Began { number: 2 }))),
+            (1, Step::Put(6, 8, Ok(None))),
+            (1, Step::Del(5, Ok(Some(7)))),
+            (1, Step::Del(5, Ok(None))),
+            (1, Step::Get(5, Ok(None))),
+            (1, Step::HalfDone(Ok(false))),
+            (1, Step::Abort(Ok(Aborted { number: 2 }))),
+            (1, Step::HalfDone(Ok(false))),
+            (1, Step::Begin(Ok(Began { number: 3 }))),
+            (1, Step::Get(5, Ok(Some(7)))),
+            (1, Step::Get(6, Ok(None))),
+            // behind two changes that were put back
+            (1, Step::Commit(Ok(receipt!(3, 1, 8, 0)))),
         ],
     },
     Case {
         name: "calls want a transaction and begin wants none",
+        sessions: 1,
+        group: 1,
         failing: &[],
         steps: &[
-            Step::Get(5, Err(Refusal::NoTransaction)),
-            Step::Put(5, 7, Err(Refusal::NoTransaction)),
-            Step::Del(5, Err(Refusal::NoTransaction)),
-            Step::Commit(Err(Refusal::NoTransaction)),
-            Step::Abort(Err(Refusal::NoTransaction)),
-            Step::Begin(Ok(Began { number: 1 })),
-            Step::Begin(Err(Refusal::InTransaction)),
+            (1, Step::Get(5, Err(Refusal::NoTransaction))),
+            (1, Step::Put(5, 7, Err(Refusal::NoTransaction))),
+            (1, Step::Del(5, Err(Refusal::NoTransaction))),
+            (1, Step::Commit(Err(Refusal::NoTransaction))),
+            (1, Step::Abort(Err(Refusal::NoTransaction))),
+            (1, Step::Begin(Ok(Began { number: 1 }))),
+            (1, Step::Begin(Err(Refusal::InTransaction))),
         ],
     },
     Case {
         name: "behind a fault nothing is answered",
+        sessions: 1,
+        group: 1,
         failing: &[4],
         steps: &[
-            Step::Begin(Ok(Began { number: 1 })),
-            Step::Put(5, 7, Ok(None)),
-            Step::Commit(Err(Refusal::DiskFault)),
-            Step::Begin(Err(Refusal::Broken)),
-            Step::Get(5, Err(Refusal::Broken)),
-            Step::Put(5, 7, Err(Refusal::Broken)),
-            Step::Del(5, Err(Refusal::Broken)),
-            Step::Commit(Err(Refusal::Broken)),
-            Step::Abort(Err(Refusal::Broken)),
-            Step::Ripe(FIRST, Err(Broken)),
-            Step::HalfDone(Err(Broken)),
-            Step::Tend(Err(Broken)),
+            (1, Step::Begin(Ok(Began { number: 1 }))),
+            (1, Step::Put(5, 7, Ok(None))),
+            (1, Step::Commit(Err(Refusal::DiskFault))),
+            (1, Step::Begin(Err(Refusal::Broken))),
+            (1, Step::Get(5, Err(Refusal::Broken))),
+            (1, Step::Put(5, 7, Err(Refusal::Broken))),
+            (1, Step::Del(5, Err(Refusal::Broken))),
+            (1, Step::Commit(Err(Refusal::Broken))),
+            (1, Step::Abort(Err(Refusal::Broken))),
+            (1, Step::Sync(Err(Refusal::Broken))),
+            (1, Step::Ripe(FIRST, Err(Broken))),
+            (1, Step::HalfDone(Err(Broken))),
+            (1, Step::Tend(Err(Broken))),
+        ],
+    },
+    Case {
+        name: "a sync whose flush fails is a disk fault",
+        sessions: 2,
+        group: 4,
+        failing: &[4],
+        steps: &[
+            (1, Step::Begin(Ok(Began { number: 1 }))),
+            (1, Step::Put(5, 7, Ok(None))),
+            (1, Step::Commit(Ok(FIRST))),
+            (1, Step::NoDurable),
+            (1, Step::Sync(Err(Refusal::DiskFault))),
+            (2, Step::Begin(Err(Refusal::Broken))),
+        ],
+    },
+    Case {
+        name: "a reader of what is not flushed owes the other log",
+        sessions: 2,
+        group: 2,
+        failing: &[],
+        steps: &[
+            (1, Step::Begin(Ok(Began { number: 1 }))),
+            (1, Step::Put(5, 7, Ok(None))),
+            (1, Step::Commit(Ok(FIRST))),
+            (1, Step::NoDurable),
+            (2, Step::Begin(Ok(Began { number: 1 }))),
+            (2, Step::Get(5, Ok(Some(7)))),
+            (2, Step::Commit(Ok(receipt!(1, 2, 3, 2)))),
+            (2, Step::Begin(Ok(Began { number: 2 }))),
+            // the second commit of the group is flushed, but what it needs is not
+            (2, Step::Commit(Ok(receipt!(2, 2, 4, 2)))),
+            (
+                2,
+                Step::Ripe(
+                    receipt!(1, 2, 3, 2),
+                    Ok(Ripeness::Waits { log: 1, flushed: 0 }),
+                ),
+            ),
+            (2, Step::NoDurable),
+            (1, Step::Sync(Ok(Synced { at: 4 }))),
+            (1, Step::Durable(1, 1)),
+            (1, Step::Durable(2, 1)),
+            (1, Step::Durable(2, 2)),
+            (1, Step::NoDurable),
+        ],
+    },
+    Case {
+        name: "an abort leaves its debt",
+        sessions: 2,
+        group: 1,
+        failing: &[],
+        steps: &[
+            (1, Step::Begin(Ok(Began { number: 1 }))),
+            (1, Step::Put(5, 7, Ok(None))),
+            (2, Step::Begin(Ok(Began { number: 1 }))),
+            (2, Step::Put(6, 1, Ok(None))),
+            (2, Step::Abort(Ok(Aborted { number: 1 }))),
+            (2, Step::Begin(Ok(Began { number: 2 }))),
+            (2, Step::Put(6, 2, Ok(None))),
+            (2, Step::Commit(Ok(receipt!(2, 2, 6, 1)))),
+            (2, Step::NoDurable),
+            (1, Step::Sync(Ok(Synced { at: 6 }))),
+            (1, Step::Durable(2, 2)),
+            (1, Step::NoDurable),
+            // nothing is new
+            (1, Step::Sync(Ok(Synced { at: 6 }))),
+            (1, Step::Commit(Ok(receipt!(1, 1, 7, 0)))),
+            (1, Step::Durable(1, 1)),
+        ],
+    },
+    Case {
+        name: "who meets a conflict is aborted",
+        sessions: 3,
+        group: 1,
+        failing: &[],
+        steps: &[
+            (1, Step::Begin(Ok(Began { number: 1 }))),
+            (1, Step::Put(5, 7, Ok(None))),
+            (3, Step::Begin(Ok(Began { number: 1 }))),
+            (3, Step::Put(6, 8, Ok(None))),
+            (3, Step::Get(5, Err(Refusal::Conflict { holder: 1 }))),
+            (3, Step::NoDurable),
+            (3, Step::Hindered(1)),
+            (1, Step::Get(6, Ok(None))),
+            (2, Step::Begin(Ok(Began { number: 1 }))),
+            (2, Step::Get(6, Ok(None))),
+            (1, Step::Put(6, 9, Err(Refusal::Conflict { holder: 2 }))),
+            (1, Step::NoDurable),
+            (1, Step::Hindered(1)),
+            (2, Step::Get(5, Ok(None))),
         ],
     },
 ];
 
-// Whether a call gives what is written.
-fn is_done(engine: &mut Engine<MemDisk>, step: &Step) -> bool {
+// Whether a call of a session that there is gives what is written.
+fn is_called(engine: &mut Engine<MemDisk>, session: u32, step: &Step) -> bool {
+    if engine.next() != Next::Line || session < 1 || session > engine.sessions() {
+        return false;
+    }
     match step {
-        Step::Begin(want) => engine.begin() == *want,
-        Step::Get(key, want) => engine.get(u64::from(*key)) == *want,
-        Step::Put(key, value, want) => engine.put(u64::from(*key), u64::from(*value)) == *want,
-        Step::Del(key, want) => engine.del(u64::from(*key)) == *want,
-        Step::Commit(want) => engine.commit() == *want,
-        Step::Abort(want) => engine.abort() == *want,
-        Step::Ripe(receipt, want) => engine.ripe(receipt) == *want,
-        Step::HalfDone(want) => engine.half_done() == *want,
-        Step::Tend(want) => engine.tend() == *want,
+        Step::Begin(want) => engine.begin(session) == *want,
+        Step::Get(key, want) => engine.get(session, u64::from(*key)) == *want,
+        Step::Put(key, value, want) => {
+            engine.put(session, u64::from(*key), u64::from(*value)) == *want
+        }
+        Step::Del(key, want) => engine.del(session, u64::from(*key)) == *want,
+        Step::Commit(want) => engine.commit(session) == *want,
+        Step::Abort(want) => engine.abort(session) == *want,
+        Step::Sync(want) => engine.sync() == *want,
+        _ => false,
     }
 }
 
-fn are_done(engine: &mut Engine<MemDisk>, steps: &[Step]) -> bool {
-    for step in steps {
-        if !is_done(engine, step) {
+// Whether the commit that is durable next is this one.
+fn is_told(engine: &mut Engine<MemDisk>, want: Option<(u32, u64)>) -> bool {
+    if engine.tend().is_err() {
+        return false;
+    }
+    let durable = engine.next_durable();
+    durable.map(|d| (d.session, d.number)) == want
+}
+
+// Whether a step gives what is written.
+fn is_done(engine: &mut Engine<MemDisk>, session: u32, step: &Step) -> bool {
+    match step {
+        Step::Durable(of, number) => is_told(engine, Some((*of, *number))),
+        Step::NoDurable => is_told(engine, None),
+        Step::Hindered(number) => {
+            engine.next() == Next::Abort
+                && engine.answer_abort() == Ok(Answer::Aborted { number: *number })
+        }
+        Step::Ripe(receipt, want) => {
+            receipt.log > 0 && receipt.log <= engine.sessions() && engine.ripe(receipt) == *want
+        }
+        Step::HalfDone(want) => {
+            session > 0 && session <= engine.sessions() && engine.half_done(session) == *want
+        }
+        Step::Tend(want) => engine.tend() == *want,
+        step => {
+            take_rest(engine);
+            is_called(engine, session, step)
+        }
+    }
+}
+
+// Takes the durable lines that no step takes. No case has more.
+pub(crate) fn take_rest(engine: &mut Engine<MemDisk>) {
+    for _ in 0..1000 {
+        if engine.next() == Next::Line
+            || engine.tend().is_err()
+            || engine.next_durable().is_none()
+        {
+            return;
+        }
+    }
+}
+
+fn are_done(engine: &mut Engine<MemDisk>, steps: &[(u32, Step)]) -> bool {
+    for (session, step) in steps {
+        if !is_done(engine, *session, step) {
             return false;
         }
     }
@@ -242,17 +403,22 @@ fn is_as_told(
     is_formatted(alloc, &mut disk, workers, failing, wants)
 }
 
-// A new disk, with no call made yet.
-fn new_disk(alloc: Global) -> Result<MemDisk, AllocError> {
-    let mut disk = MemDisk::new(alloc, 3)?;
-    is_formatted(alloc, &mut disk, 1, &[], &[Formatted::Done])?;
+// A new disk for so many sessions, with no call made yet.
+fn new_disk(alloc: Global, sessions: u32) -> Result<MemDisk, AllocError> {
+    let mut disk = MemDisk::new(alloc, 2 + sessions.min(16))?;
+    is_formatted(alloc, &mut disk, sessions, &[], &[Formatted::Done])?;
     unused(&disk)
 }
 
 fn is_met(alloc: Global, case: &Case) -> Result<bool, AllocError> {
-    let mut disk = new_disk(alloc)?;
+    let mut disk = new_disk(alloc, case.sessions)?;
     disk.fail_at(2, Vec::from_slice(alloc, case.failing)?);
-    let mut engine = match Engine::open(alloc, disk, Size { rows: 64 }) {
+    let size = Size {
+        rows: 64,
+        group: case.group.max(1),
+        sessions: 16,
+    };
+    let mut engine = match Engine::open(alloc, disk, size) {
         Ok(
             Opened {
                 engine,

@@ -1,12 +1,12 @@
--- The limits of an engine of one session, and the loads of its opening.
+-- The limits of an engine, and the loads of its opening.
 use Rattle.std.specs.Prelude.{◌^◌, true, false, List, [], ◌∷◌}
 use Rattle.core_state.specs.Events.{Event}
 use Rattle.core_calls.specs.Refusals.{Limits}
 
--- Clocks end at 2^62. A latch is spent behind 2^61 events at least, more ends may wait than clocks can ever number, and no log is half full. Whether a log
--- is full is no part of a state of the core: `refusal_in` (Refusals) says of the log itself exactly when it is.
+-- Clocks end at 2^62. A latch is spent behind 2^61 events at least, fewer than 256 ends of a session wait where it begins a transaction, and no log is half full.
+-- Whether a log is full is no part of a state of the core: `refusal_in` (Refusals) says of the log itself exactly when it is.
 abbrev pub limits : Limits
-limits = record { is_full = λ es w used limit. true; is_half_full = λ es. false; clock_end = 2 ^ 62; latch_end = 2 ^ 61; waiting = 2 ^ 65; pairs = 64 }
+limits = record { is_full = λ es w used limit. true; is_half_full = λ es. false; clock_end = 2 ^ 62; latch_end = 2 ^ 61; waiting = 256; pairs = 64 }
 
 -- pages are brought into frames
 abbrev pub AreLoads : List Event → Type 0

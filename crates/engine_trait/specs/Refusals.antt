@@ -67,7 +67,7 @@ abbrev pub refusal_in : Opening → State → (own : ℕ) → (half : Bool) → 
 refusal_in g s own half log call.Begin = if (s.worker own).is_open then Some InTransaction else log_refusal (s.worker own).clock log None
 refusal_in g s own half log (call.Get key) = in_transaction s own half (lock_refusal g s own key Mode.Shared None)
 refusal_in g s own half log (call.Put key value) = in_transaction s own half (change_refusal s own log (lock_refusal g s own key Mode.Alone (met_refusal g s own key (if is_full_for g s key then room_refusal g s key else None))))
-refusal_in g s own half log (call.Del key) = in_transaction s own half (change_refusal s own log (lock_refusal g s own key Mode.Alone None))
+refusal_in g s own half log (call.Del key) = in_transaction s own half (change_refusal s own log (lock_refusal g s own key Mode.Alone (met_refusal g s own key None)))
 refusal_in g s own half log call.Commit = in_transaction s own half None
 refusal_in g s own half log call.Abort = in_transaction s own false None
 refusal_in g s own half log _ = None

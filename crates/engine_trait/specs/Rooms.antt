@@ -1,5 +1,5 @@
 -- Room that a put makes for its key before it changes it, and what else a call may have done when its disk fails.
-use Rattle.std.specs.Prelude.{◌≡◌, ◌==◌, ℕ, suc, Bool, true, false, List, [], ◌∷◌}
+use Rattle.std.specs.Prelude.{◌≡◌, ◌==◌, ℕ, suc, Bool, true, false, leb, List, [], ◌∷◌}
 use Rattle.map_model.specs.Lists.{all, any}
 use Rattle.map_model.specs.declared.call.Call.{Call}
 use Rattle.map_model.specs.declared.call.Call.TheVariants as call
@@ -9,6 +9,7 @@ use Rattle.core_state.specs.States.{State, nodes_of}
 use Rattle.core_state.specs.Events.{Event}
 use Rattle.core_state.specs.Steps.{state_after, step}
 use Rattle.core_calls.specs.Fronts.{Done, front}
+use Rattle.core_calls.specs.Refusals.{waiting}
 use Rattle.core_calls.specs.Room.{free_list, full_run, is_all_full}
 use Rattle.core_calls.specs.Steps.{is_structure}
 use Rattle.engine_trait.specs.Limits.{AreLoads}
@@ -16,18 +17,18 @@ use Rattle.engine_trait.specs.Refusals.{is_full_for}
 
 -- ## Which events
 
--- it changes no value and ends nothing: a page is loaded, a row is taken or given up as it stood, the tree gets a page
-abbrev pub makes_room : Event → Bool
-makes_room (Event.Load p f) = true
-makes_room (Event.Lock w i mode) = true
-makes_room (Event.Miss w) = true
-makes_room (Event.Split w l r q i) = true
-makes_room (Event.Lift w c) = true
-makes_room _ = false
+-- it changes no value and ends nothing: a page is loaded, a row is given up as it stood, or session `own` takes a row, or gives the tree a page
+abbrev pub makes_room : (own : ℕ) → Event → Bool
+makes_room own (Event.Load p f) = true
+makes_room own (Event.Lock w i mode) = w == own
+makes_room own (Event.Miss w) = true
+makes_room own (Event.Split w l r q i) = w == own
+makes_room own (Event.Lift w c) = w == own
+makes_room own _ = false
 
 -- each of them
-abbrev pub AreRoom : List Event → Type 0
-AreRoom es = all makes_room es ≡ true
+abbrev pub AreRoom : (own : ℕ) → List Event → Type 0
+AreRoom own es = all (makes_room own) es ≡ true
 
 -- ## In which order
 
@@ -65,9 +66,32 @@ puts_back own _ = false
 abbrev pub AreBacks : (own : ℕ) → List Event → Type 0
 AreBacks own es = all (puts_back own) es ≡ true
 
--- Behind these outcomes: by these events a put made room for its key, a del took its row, an abort put changes back, and any other call loaded pages.
+-- a page is loaded, a log is flushed, or all are synced
+abbrev pub makes_sync : Event → Bool
+makes_sync (Event.Load p f) = true
+makes_sync (Event.Flush w n) = true
+makes_sync (Event.Sync n) = true
+makes_sync _ = false
+
+-- each of them
+abbrev pub AreForSync : List Event → Type 0
+AreForSync es = all makes_sync es ≡ true
+
+-- a sync is asked, or is due before a begin, since too many ends of its session wait
+abbrev pub needs_sync : Opening → List Done → (own : ℕ) → Call → Bool
+needs_sync g xs own call.Begin = leb 256 (waiting g (state_after g (front xs)) own)
+needs_sync g xs own call.Sync = true
+needs_sync g xs own _ = false
+
+-- of a call that needs a sync and of one that needs none
+abbrev pub AreReady : (syncs : Bool) → List Event → Type 0
+AreReady true es = AreForSync es
+AreReady false es = AreLoads es
+
+-- Behind these outcomes, by these events a put made room for its key, a del took its row, an abort put changes back, a sync and a begin flushed logs for a
+-- sync, and any other call loaded pages.
 abbrev pub IsRoomFor : Opening → List Done → (own : ℕ) → Call → List Event → Type 0
-IsRoomFor g xs own (call.Put key value) es = AreRoom es × MakesRoom g (state_after g (front xs)) key es
-IsRoomFor g xs own (call.Del key) es = AreRoom es × (any is_structure es ≡ false)
+IsRoomFor g xs own (call.Put key value) es = AreRoom own es × MakesRoom g (state_after g (front xs)) key es
+IsRoomFor g xs own (call.Del key) es = AreRoom own es × (any is_structure es ≡ false)
 IsRoomFor g xs own call.Abort es = AreBacks own es
-IsRoomFor g xs own _ es = AreLoads es
+IsRoomFor g xs own c es = AreReady (needs_sync g xs own c) es

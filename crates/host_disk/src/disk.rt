@@ -4,7 +4,7 @@ ghost use Rattle.disk_file.specs.Untold.{untold, untold_lawful, untold_whole};
 
 use crate::part::HostPart;
 use disk_file::FileDisk;
-use engine_trait::calls::Unanswered;
+use engine_trait::calls::{Durable, Unanswered};
 use lean_disk::{Did, Disk, Read};
 use lean_engine::{Engine, Hosts};
 use log_record::Record;
@@ -84,7 +84,19 @@ impl<'a> Stages for HostDisk<'a> {
 }
 
 impl<'a> Hosts for HostDisk<'a> {
-    fn answer_on(engine: &mut Engine<HostDisk<'a>>, call: &Call) -> Result<Answer, Unanswered> {
-        engine.answer(call)
+    fn answer_on(
+        engine: &mut Engine<HostDisk<'a>>,
+        session: u32,
+        call: &Call,
+    ) -> Result<Answer, Unanswered> {
+        engine.answer(session, call)
+    }
+
+    fn abort_on(engine: &mut Engine<HostDisk<'a>>) -> Result<Answer, Unanswered> {
+        engine.answer_abort()
+    }
+
+    fn durable_on(engine: &mut Engine<HostDisk<'a>>) -> Option<Durable> {
+        engine.next_durable()
     }
 }

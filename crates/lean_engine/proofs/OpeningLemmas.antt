@@ -1,5 +1,6 @@
 -- Where an engine's run begins.
 use Rattle.std.proofs.Common.{◌≡◌, ⊎_elim, ◌≤◌, ◌<◌, ℕ, zero, suc, cond, length, get_or, Option, Some, None, slice_get, refl, sym, ◌∙◌, ap, ap₂, subst, arith}
+use Rattle.std.proofs.lemmas.List.{length-replicate}
 use Rattle.std.proofs.lemmas.Option.{slice_get_cases}
 use Rattle.page_model.specs.Page.{Page}
 use Rattle.page_model.specs.Nodes.{Format, Node, holds}
@@ -22,7 +23,7 @@ use Rattle.recovery.specs.Starts.{IsStartOf}
 use Rattle.recovery.specs.Telling as telling
 use Rattle.recovery.specs.declared.opening.Recovered.{Recovered}
 use Rattle.open_rows.specs.Opened.{contents_of, page_or}
-use Rattle.run_opening.specs.Starts.{EveryStart, IsStart, empty_log}
+use Rattle.run_opening.specs.Starts.{EveryStart, IsStart}
 use Rattle.lean_engine.specs.Openings.{BeginsOn, HasRecovered, IsFrom, IsMadeBy, IsOn, OpeningLaws}
 
 -- what stands in the leaves depends on these pages alone
@@ -36,11 +37,8 @@ entry_same (suc n) x y k same = go (entry_same n x y k (λ p lt. same p (omega a
 some_one : {x y : Master} → Some x ≡ Some y → x ≡ y
 some_one e = cc
 
-one_log : (m : Master) → IsOpenable 1 m → length m.heads ≡ 1
-one_log m openable = let a = openable.some in let b = openable.few in omega arith
-
-module _ (undone : EveryUndone) (every_own : EveryOwn) (r : Recovered) (g : Opening) (on : IsOn r.pages.items r.master.floor g) where
-  module _ (m : Master) (openable : IsOpenable 1 m) (area : Areas) (is : IsRecovered m area r) where
+module _ (undone : EveryUndone) (every_own : EveryOwn) (r : Recovered) (g : Opening) (on : IsOn r.pages.items r.master.floor (length r.master.heads) g) where
+  module _ (m : Master) (area : Areas) (is : IsRecovered m area r) where
     abbrev i : Image
     i = image_by m area
 
@@ -50,10 +48,14 @@ module _ (undone : EveryUndone) (every_own : EveryOwn) (r : Recovered) (g : Open
         (λ (q : (length r.pages.items ≤ p) × (slice_get r.pages.items p ≡ None)). absurd (let e = is.count in let low = q.0 in omega arith))
         (slice_get_cases r.pages.items p).1
 
+    -- there are as many logs as the disk's master has
+    logs_are : g.workers ≡ length m.heads
+    logs_are = on.workers ∙ (ap (λ (x : Master). length x.heads) is.master ∙ length-replicate (length m.heads) 0)
+
     start_is : IsStartOf m area g
     start_is = record {
       format = on.format ∙ ap format_of is.count;
-      logs = on.workers ∙ sym (one_log m openable);
+      logs = logs_are;
       base = subst (IsGreatest i) (sym on.base_is) is.base;
       pages = λ p lt. let v = at p lt in on.page p ∙ (ap (λ (o : Option Page). contents_of (page_or o)) v.1 ∙ (is.page p v.0 v.1).is);
     }
@@ -72,26 +74,29 @@ module _ (undone : EveryUndone) (every_own : EveryOwn) (r : Recovered) (g : Open
         ∙ ap (λ (f : Format). entry f.pages there k) start_is.format)
         ∙ laws.values k
 
-  module _ (s0 s1 : Story) (has : HasRecovered s0 s1 r) where
-    from : (tells : telling.TellsAll 1 s0) → IsFrom g s0 r.master.generation r.winners r.undone
+  module _ (most : ℕ) (s0 s1 : Story) (has : HasRecovered most s0 s1 r) where
+    from : (tells : telling.TellsAll most s0) → IsFrom most g s0 r.master.generation r.winners r.undone
     from tells =
         let a = has.answer tells in let is : IsRecovered a.0 (areas_of s0) r = a.2 in record {
           m = a.0;
           openable = a.1;
           sound = is.sound;
-          starts = start_is a.0 a.1 (areas_of s0) is;
-          map = map_is a.0 a.1 (areas_of s0) is;
+          starts = start_is a.0 (areas_of s0) is;
+          map = map_is a.0 (areas_of s0) is;
           generation_is = ap (λ (x : Master). x.generation) is.master;
           won_is = is.won;
           lost_is = is.lost;
         }
 
-    module _ (tells : telling.TellsAll 1 s0) (m : Master) (clean : IsCleanDisk m (areas_of s0)) (log : Log) (made : IsMadeBy r.master log) (every_start : EveryStart s0 s1) where
+    module _ (tells : telling.TellsAll most s0) (m : Master) (clean : IsCleanDisk m (areas_of s0)) (log : ℕ → Log) (made : (w : ℕ) → 0 < w → w ≤ g.workers → IsMadeBy r.master w (log w)) (every_start : EveryStart s0 s1) where
       is_one : (has.answer tells).0 ≡ m
       is_one = some_one (sym (has.answer tells).2.sound.master ∙ clean.master)
 
-      given : IsOpenable 1 m × IsRecovered m (areas_of s0) r
-      given = subst (λ (x : Master). IsOpenable 1 x × IsRecovered x (areas_of s0) r) is_one ((has.answer tells).1, (has.answer tells).2)
+      given : IsOpenable most m × IsRecovered m (areas_of s0) r
+      given = subst (λ (x : Master). IsOpenable most x × IsRecovered x (areas_of s0) r) is_one ((has.answer tells).1, (has.answer tells).2)
+
+      many : g.workers ≡ length m.heads
+      many = logs_are m (areas_of s0) given.1
 
       -- so it tells of all behind it too
       told : (a : ℕ) → Tells s0 a → Tells s1 a
@@ -100,9 +105,9 @@ module _ (undone : EveryUndone) (every_own : EveryOwn) (r : Recovered) (g : Open
       first_tells : (a : ℕ) → a ≤ suc g.workers → Tells s0 a
       first_tells zero l = tells.master
       first_tells (suc zero) l = tells.pages
-      first_tells (suc (suc a)) l = tells.logs m clean.master given.0 (suc a) (omega arith) (let e = on.workers in let o = one_log m given.0 in omega arith)
+      first_tells (suc (suc a)) l = tells.logs m clean.master given.0 (suc a) (omega arith) (let o = many in omega arith)
 
-      start : IsStart m r g (λ w. log) s0 s1
+      start : IsStart m r g log s0 s1
       start = record {
         tells = λ a l. told a (first_tells a l);
         clean = clean;
@@ -111,20 +116,21 @@ module _ (undone : EveryUndone) (every_own : EveryOwn) (r : Recovered) (g : Open
         opened = has.opened tells m clean;
         installed = has.installed tells m clean.master;
         untouched = λ w low high. has.logs (suc w) (omega arith);
-        opening = start_is m given.0 (areas_of s0) given.1;
-        made = λ w low high. record { is = made.is ∙ ap (empty_log r.master) (let e = on.workers in omega arith); ranges = made.ranges; starts = made.starts (s1.area (suc w)) };
+        opening = start_is m (areas_of s0) given.1;
+        made = λ w low high. let a = made w low high in record { is = a.is; ranges = a.ranges; starts = a.starts (s1.area (suc w)) };
       }
 
-      pub begins_on : BeginsOn g r.master log s0 s1 m
+      pub begins_on : BeginsOn g (record { log = log; master = r.master }) s0 s1 m
       begins_on = record {
         next = record { base = r.master.floor; greatest = given.1.base; is = given.1.master };
-        start = start_is m given.0 (areas_of s0) given.1;
-        map = map_is m given.0 (areas_of s0) given.1;
-        begins = λ c read. let q = every_start m r g (λ w. log) c read start in record { known = _; master_is = refl; log_is = refl; stands = q.stands };
+        start = start_is m (areas_of s0) given.1;
+        map = map_is m (areas_of s0) given.1;
+        begins = λ c read. let q = every_start m r g log c read start in record { known = _; is = record { log = λ w low high. refl; master = refl }; stands = q.stands };
       }
 
-pub every_opening : (s0 s1 : Story) → EveryUndone → EveryOwn → EveryStart s0 s1 → (r : Recovered) (log : Log) (g : Opening) → HasRecovered s0 s1 r → IsMadeBy r.master log → IsOn r.pages.items r.master.floor g → OpeningLaws g r log s0 s1
-every_opening s0 s1 undone own start r log g has made on = record {
-  from = from undone own r g on s0 s1 has;
-  clean = λ tells m clean. begins_on undone own r g on s0 s1 has tells m clean log made start;
+pub every_opening : (most : ℕ) (s0 s1 : Story) → EveryUndone → EveryOwn → EveryStart s0 s1 → (r : Recovered) (log : ℕ → Log) (g : Opening) → HasRecovered most s0 s1 r → ((w : ℕ) → 0 < w → w ≤ g.workers → IsMadeBy r.master w (log w))
+    → IsOn r.pages.items r.master.floor (length r.master.heads) g → OpeningLaws most g r (record { log = log; master = r.master }) s0 s1
+every_opening most s0 s1 undone own start r log g has made on = record {
+  from = from undone own r g on most s0 s1 has;
+  clean = λ tells m clean. begins_on undone own r g on most s0 s1 has tells m clean log made start;
 }

@@ -1,23 +1,28 @@
 -- What a call says to a caller.
-use Rattle.std.specs.Prelude.{◌≡◌, ◌↔◌, true, false, List, ◌∷◌, Result, Ok, Err}
+use Rattle.std.specs.Prelude.{◌≡◌, ◌↔◌, ℕ, true, false, List, ◌∷◌, Result, Ok, Err, Option, Some}
+use Rattle.map_model.specs.Journals.{Name}
 use Rattle.map_model.specs.declared.call.Answer.{Answer}
 use Rattle.map_model.specs.declared.call.Answer.TheVariants as answer
 use Rattle.map_model.specs.declared.call.Call.{Call}
+use Rattle.map_model.specs.declared.call.Call.TheVariants as call
 use Rattle.map_model.specs.declared.call.Refusal.{Refusal}
 use Rattle.map_model.specs.declared.call.Refusal.TheVariants as refusal
 use Rattle.core_state.specs.Openings.{Opening}
 use Rattle.core_calls.specs.Fronts.{Done}
+use Rattle.core_calls.specs.Steps.{hindered_in}
 use Rattle.lean_disk.specs.Story.{Story}
 use Rattle.engine_trait.specs.Calls.{Does, Fails, HasCome}
+use Rattle.engine_trait.specs.Turns.{behind_answer}
 use Rattle.engine_trait.specs.declared.calls.Unanswered.{Unanswered}
 use Rattle.engine_trait.specs.declared.calls.Unanswered.TheVariants as unanswered
-use Rattle.worker_log.specs.Logs.{Log}
-use Rattle.rows_trait.specs.declared.view.View.{View}
+use Rattle.group_commit.specs.declared.receipts.Receipt.{Receipt}
 use Rattle.row_engine.specs.Calls.{Comes}
-use Rattle.lean_engine.specs.States.{InRun, State}
+use Rattle.lean_engine.specs.States.{InRun, State, memory_in}
 use Rattle.lean_engine.specs.declared.calls.Aborted.{Aborted}
 use Rattle.lean_engine.specs.declared.calls.Began.{Began}
-use Rattle.lean_engine.specs.declared.receipts.Receipt.{Receipt}
+use Rattle.lean_engine.specs.declared.calls.Synced.{Synced}
+
+-- ## Answers
 
 -- the answer, or why there is none
 abbrev pub told : Answer → Result Answer Unanswered
@@ -25,17 +30,37 @@ told (answer.Refused refusal.Broken) = Err unanswered.Broken
 told (answer.Refused refusal.DiskFault) = Err unanswered.DiskFault
 told a = Ok a
 
--- it is one that has come, or says that there is none
-abbrev pub MayBe : Answer → Type 0
-MayBe (answer.Refused refusal.Broken) = Unit {0}
-MayBe (answer.Refused refusal.DiskFault) = Unit {0}
-MayBe a = HasCome a
+-- it is one that has come where there are so many sessions, or says that there is none
+abbrev pub MayBe : (sessions : ℕ) → Answer → Type 0
+MayBe sessions (answer.Refused refusal.Broken) = Unit {0}
+MayBe sessions (answer.Refused refusal.DiskFault) = Unit {0}
+MayBe sessions a = HasCome sessions a
+
+-- an answer to a call of its kind, which is not refused
+abbrev pub IsTo : Call → Answer → Type 0
+IsTo call.Begin (answer.Begun number) = Unit {0}
+IsTo (call.Get key) (answer.Value value) = Unit {0}
+IsTo (call.Put key value) (answer.Was was) = Unit {0}
+IsTo (call.Del key) (answer.Was was) = Unit {0}
+IsTo call.Commit (answer.Committed number at) = Unit {0}
+IsTo call.Abort (answer.Aborted number) = Unit {0}
+IsTo call.Sync (answer.Synced at) = Unit {0}
+IsTo c (answer.Refused why) = Unit {0}
+IsTo c a = ⊥
 
 -- ## Results as answers
 
 abbrev pub began_answer : Result Began Refusal → Answer
 began_answer (Ok began) = answer.Begun began.number
 began_answer (Err why) = answer.Refused why
+
+abbrev pub value_answer : Result (Option ℕ) Refusal → Answer
+value_answer (Ok value) = answer.Value value
+value_answer (Err why) = answer.Refused why
+
+abbrev pub was_answer : Result (Option ℕ) Refusal → Answer
+was_answer (Ok was) = answer.Was was
+was_answer (Err why) = answer.Refused why
 
 abbrev pub receipt_answer : Result Receipt Refusal → Answer
 receipt_answer (Ok receipt) = answer.Committed receipt.txn receipt.gsn
@@ -45,29 +70,56 @@ abbrev pub aborted_answer : Result Aborted Refusal → Answer
 aborted_answer (Ok aborted) = answer.Aborted aborted.number
 aborted_answer (Err why) = answer.Refused why
 
+abbrev pub synced_answer : Result Synced Refusal → Answer
+synced_answer (Ok synced) = answer.Synced synced.at
+synced_answer (Err why) = answer.Refused why
+
 -- ## A call
 
--- It was answered so, and who has seen it stands in the run with one outcome more.
-pub record DoesIn (g : Opening) (xs : List Done) (c : Call) (a : Answer) (w : View) (was is : Log) (old new : Story) : Type 0 where
-  pub does : Does g 1 xs 1 c a was is old new
-  pub in_run : InRun w g (does.done ∷ xs)
+-- It was answered so, and the engine stands in the run with one outcome more.
+pub record DoesIn {D : Type 0} (g : Opening) (xs : List Done) (names : List Name) (own : ℕ) (c : Call) (a : Answer) (was is : State D) (old new : Story) : Type 0 where
+  pub does : Does g was.group xs own c a (memory_in was) (memory_in is) old new
+  pub in_run : InRun is g (does.done ∷ xs) names
 
 -- so in each run, or its disk failed
-abbrev pub DoesInRuns : Call → Answer → (v w : View) → (was is : Log) → (old new : Story) → Type 0
-DoesInRuns c a v w was is old new = (g : Opening) (xs : List Done) → InRun v g xs → Comes a (DoesIn g xs c a w was is old new) (Fails g 1 xs 1 c was old new)
+abbrev pub DoesInRuns : {D : Type 0} → (own : ℕ) → Call → Answer → (was is : State D) → (old new : Story) → Type 0
+DoesInRuns own c a was is old new = (g : Opening) (xs : List Done) (names : List Name) → InRun was g xs names
+    → Comes a (DoesIn g xs names own c a was is old new) (Fails g was.group xs own c (memory_in was) old new)
 
--- One call, which took the engine from one state to another.
-pub record Asked {D : Type 0} (c : Call) (a : Answer) (was is : State D) (old new : Story) : Type 0 where
-  pub does : was.works ≡ true → DoesInRuns c a was.view is.view was.log is.log old new
-  pub may : MayBe a
+-- an abort that is due behind the call of the newest outcome
+abbrev pub AbortsInRuns : {D : Type 0} → Answer → (was is : State D) → (old new : Story) → Type 0
+AbortsInRuns a was is old new = (g : Opening) (y : Done) (earlier : List Done) (names : List Name) → InRun was g (y ∷ earlier) names → (c : Call) → hindered_in y.outcome.deed ≡ Some c
+    → Comes a (DoesIn g (y ∷ earlier) names y.outcome.session c a was is old new) (Fails g was.group (y ∷ earlier) y.outcome.session c (memory_in was) old new)
+
+-- One call, whatever it did, which took the engine from one state to another.
+pub record Went {D : Type 0} (Did : Type 0) (a : Answer) (was is : State D) : Type 0 where
+  pub does : was.works ≡ true → Did
+  pub may : MayBe was.sessions a
   pub works : (is.works ≡ true) ↔ ((was.works ≡ true) × (a ≡ answer.Refused refusal.DiskFault → ⊥))
+  pub next : is.works ≡ true → is.next ≡ behind_answer a
+  pub waits : is.works ≡ false → is.next ≡ was.next
+  pub sessions : is.sessions ≡ was.sessions
+  pub group : is.group ≡ was.group
   pub same : a ≡ answer.Refused refusal.Broken → is ≡ was
   pub broken : (a ≡ answer.Refused refusal.Broken) ↔ (was.works ≡ false)
 
+abbrev pub Asked : {D : Type 0} → (own : ℕ) → Call → Answer → (was is : State D) → (old new : Story) → Type 0
+Asked own c a was is old new = Went (DoesInRuns own c a was is old new) a was is
+
 -- it was answered so, by one outcome more in each run
-abbrev pub Answered : {D : Type 0} → Call → Answer → (was is : State D) → (old new : Story) → Type 0
-Answered c a was is old new = (g : Opening) (xs : List Done) → InRun was.view g xs → (d : Does g 1 xs 1 c a was.log is.log old new) × InRun is.view g (d.done ∷ xs)
+abbrev pub Answered : {D : Type 0} → (own : ℕ) → Call → Answer → (was is : State D) → (old new : Story) → Type 0
+Answered own c a was is old new = (g : Opening) (xs : List Done) (names : List Name) → InRun was g xs names
+    → (d : Does g was.group xs own c a (memory_in was) (memory_in is) old new) × InRun is g (d.done ∷ xs) names
 
 -- its disk failed, in each run
-abbrev pub Failed : {D : Type 0} → Call → (was : State D) → (old new : Story) → Type 0
-Failed c was old new = (g : Opening) (xs : List Done) → InRun was.view g xs → Fails g 1 xs 1 c was.log old new
+abbrev pub Failed : {D : Type 0} → (own : ℕ) → Call → (was : State D) → (old new : Story) → Type 0
+Failed own c was old new = (g : Opening) (xs : List Done) (names : List Name) → InRun was g xs names → Fails g was.group xs own c (memory_in was) old new
+
+-- of an abort that is due
+abbrev pub AbortAnswered : {D : Type 0} → Answer → (was is : State D) → (old new : Story) → Type 0
+AbortAnswered a was is old new = (g : Opening) (y : Done) (earlier : List Done) (names : List Name) → InRun was g (y ∷ earlier) names → (c : Call) → hindered_in y.outcome.deed ≡ Some c
+    → (d : Does g was.group (y ∷ earlier) y.outcome.session c a (memory_in was) (memory_in is) old new) × InRun is g (d.done ∷ y ∷ earlier) names
+
+abbrev pub AbortFailed : {D : Type 0} → (was : State D) → (old new : Story) → Type 0
+AbortFailed was old new = (g : Opening) (y : Done) (earlier : List Done) (names : List Name) → InRun was g (y ∷ earlier) names → (c : Call) → hindered_in y.outcome.deed ≡ Some c
+    → Fails g was.group (y ∷ earlier) y.outcome.session c (memory_in was) old new

@@ -1,6 +1,11 @@
--- Read States, Openings, Calls and Receipts. Inside has the words of private functions.
+-- Read Desks, Machines, States, Openings, Calls, Syncs and Receipts. Came, Reached and Inside have the words of private functions.
+pub mod Desks
+pub mod Machines
 pub mod States
 pub mod Openings
 pub mod Calls
 pub mod Receipts
+pub mod Syncs
+pub mod Came
+pub mod Reached
 pub mod Inside

@@ -1,23 +1,29 @@
--- Receipts of commits, and when a commit is durable.
-use Rattle.std.specs.Prelude.{◌≡◌, ℕ, ◌&&◌, leb, if◌then◌else◌}
+-- Receipts of ends, and when a commit is durable.
+use Rattle.std.specs.Prelude.{◌≡◌, ◌<◌, ◌≤◌, ℕ, List, length}
 use Rattle.rfa_model.specs.Stamps.{need_of}
+use Rattle.core_state.specs.States.{flushed_by_all}
+use Rattle.row_words.specs.Openings.{opening}
 use Rattle.rows_trait.specs.Views.{state}
+use Rattle.rows_trait.specs.declared.view.View.{View}
+use Rattle.group_commit.specs.Ripeness.{flushed_of, ripeness_of}
+use Rattle.group_commit.specs.declared.receipts.Receipt.{Receipt}
+use Rattle.group_commit.specs.declared.receipts.Ripeness.{Ripeness}
 use Rattle.lean_engine.specs.States.{State}
-use Rattle.lean_engine.specs.declared.receipts.Receipt.{Receipt}
-use Rattle.lean_engine.specs.declared.receipts.Ripeness.{Ripeness}
-use Rattle.lean_engine.specs.declared.receipts.Ripeness.TheVariants.{Durable, Waits}
 
--- the number up to which the core has flushed log 1, at the moment that the engine has seen
-abbrev pub flushed_by : {D : Type 0} → State D → ℕ
-flushed_by e = (state e.view).core.flushed 1
+-- the numbers up to which the core has flushed the logs, at the moment that the engine has seen
+pub record AreFlushed {D : Type 0} (e : State D) (fs : List ℕ) : Type 0 where
+  pub logs : length fs ≡ e.sessions
+  pub each : (w : ℕ) → 0 < w → w ≤ e.sessions → flushed_of fs w ≡ (state e.view).core.flushed w
 
--- A commit is durable once its log is flushed up to its number, and every log up to what it needs. There is one log.
-abbrev pub ripeness_of : (flushed : ℕ) → Receipt → Ripeness
-ripeness_of flushed r = if leb r.gsn flushed && leb r.need flushed then Durable else Waits 1 flushed
+-- what becomes of a receipt, by these numbers
+pub record IsRipeness {D : Type 0} (e : State D) (r : Receipt) (found : Ripeness) : Type 0 where
+  pub flushed : List ℕ
+  pub are : AreFlushed e flushed
+  pub found_is : found ≡ ripeness_of flushed r
 
--- The receipt of a commit: it needs what its session owed other logs, of which there are none; and it is durable at once.
-pub record IsReceipt {D : Type 0} (was is : State D) (r : Receipt) : Type 0 where
-  pub log : r.log ≡ 1
-  pub need : r.need ≡ need_of ((state was.view).core.worker 1).debt (flushed_by was)
-  pub none : r.need ≡ 0
-  pub ripe : ripeness_of (flushed_by is) r ≡ Durable
+-- The receipt of an end of session `own`: by what the core's worker has behind it, and what all logs had flushed before the call.
+pub record IsReceipt (own : ℕ) (v w : View) (r : Receipt) : Type 0 where
+  pub log : r.log ≡ own
+  pub txn : r.txn ≡ ((state w).core.worker own).txn
+  pub gsn : r.gsn ≡ ((state w).core.worker own).end
+  pub need : r.need ≡ need_of ((state w).core.worker own).debt (flushed_by_all (opening v.given) (state v).core)

@@ -1,46 +1,98 @@
 -- An engine as its callers see it.
-use Rattle.std.specs.Prelude.{◌≡◌, ℕ, Bool, true, false, List, replicate}
+use Rattle.std.specs.Prelude.{◌≡◌, ◌⊎◌, ◌≤◌, ◌<◌, ℕ, Bool, true, false, List, [], ◌∷◌, length}
+use Rattle.map_model.specs.Journals.{Name}
 use Rattle.core_state.specs.Openings.{Opening}
-use Rattle.core_calls.specs.Fronts.{Done, outcomes}
-use Rattle.engine_calls.specs.Clauses.{IsNewLine}
-use Rattle.engine_trait.specs.Calls.{is_half_done}
+use Rattle.core_state.specs.Steps.{state_after}
+use Rattle.core_calls.specs.Durables.{due}
+use Rattle.core_calls.specs.Fronts.{Done, front}
+use Rattle.core_calls.specs.Refusals.{waiting}
+use Rattle.disk_slots.specs.declared.master.Master.{Master}
+use Rattle.engine_trait.specs.Calls.{Memory}
+use Rattle.engine_trait.specs.Turns.{IsNext}
+use Rattle.engine_trait.specs.declared.calls.Next.{Next}
+use Rattle.engine_trait.specs.declared.calls.Next.TheVariants.{Abort, Durables}
+use Rattle.group_commit.specs.Queues.{queue_of}
+use Rattle.group_commit.specs.Tracks.{Tracks}
+use Rattle.group_commit.specs.declared.queue.End.{End}
 use Rattle.rows_trait.specs.declared.view.View.{View}
 use Rattle.rows_trait.specs.Plain.{sizes}
 use Rattle.rows_trait.specs.Rule.{IsPicture, plan}
-use Rattle.worker_log.specs.Logs.{Log}
-use Rattle.row_engine.specs.Holds.{Holds}
-use Rattle.row_engine.specs.Opened.{plain_shape}
-use Rattle.row_engine.specs.Ties.{Ties}
-use Rattle.row_engine.specs.declared.session.Session.{Session}
+use Rattle.lean_engine.specs.Desks.{desk_of}
+use Rattle.lean_engine.specs.Machines.{AreHalf, IsMachine, Tied, memory_of}
+use Rattle.lean_engine.specs.declared.desk.Desk.{Desk}
 
--- what its seat has seen, its disk and its log, and whether no device has failed
+-- ## What it is
+
+-- What its seat has seen, its disk, the session in the store and those at their desks, with their logs, and the master that counts; whether no device has failed; what may be asked next; how many sessions there are, whose turn
+-- it is, and how many commits of one are flushed at once; and of each session the ends that wait.
 pub record State (D : Type 0) : Type 0 where
   pub view : View
   pub disk : D
-  pub log : Log
+  pub store : Desk
+  pub desks : List Desk
+  pub master : Master
   pub works : Bool
+  pub next : Next
+  pub sessions : ℕ
+  pub turn : ℕ
+  pub group : ℕ
+  pub ends : List (List End)
 
--- an engine that has seen this stands in this run
-abbrev pub InRun : View → Opening → List Done → Type 0
-InRun v g xs = (g.workers ≡ 1) × IsNewLine (outcomes xs) × Ties g 1 xs 1 (is_half_done 1 xs) v
+-- what it has in memory of its disk
+abbrev pub memory_in : {D : Type 0} → State D → Memory
+memory_in e = memory_of e.store e.desks e.master
 
--- it stands in some run, in which an abort is half done, or is not
-pub record HasRun (half : Bool) (v : View) : Type 0 where
+-- ## Its run
+
+-- where no durable line is to be told
+abbrev pub IsSettled : Next → (settled : Type 0) → Type 0
+IsSettled (Durables hindered) settled = Unit {0}
+IsSettled n settled = settled
+
+-- the newest outcome is of this session
+abbrev pub IsOfTurn : (turn : ℕ) → List Done → Type 0
+IsOfTurn turn [] = ⊥
+IsOfTurn turn (y ∷ earlier) = y.outcome.session ≡ turn
+
+-- where an abort is due, this holds
+abbrev pub WhereDue : Next → (holds : Type 0) → Type 0
+WhereDue Abort holds = holds
+WhereDue (Durables true) holds = holds
+WhereDue n holds = Unit {0}
+
+-- It stands in this run, where these commits were told durable: it has seen just the events of the outcomes, but for loads of the opening; they say what may be asked
+-- next, and an abort that is due is that of the session whose turn it is; its logs have their records; and its queues have the ends that wait, and where all durable
+-- lines are told no line is due, and the queues have no other ends.
+pub record InRun {D : Type 0} (e : State D) (g : Opening) (xs : List Done) (names : List Name) : Type 0 where
+  pub workers : g.workers ≡ e.sessions
+  pub next : IsNext e.next xs
+  pub turn : WhereDue e.next (IsOfTurn e.turn xs)
+  pub tied : Tied g e.group xs e.view (memory_in e)
+  pub tracks : Tracks g (state_after g (front xs)) names e.ends
+  pub told : IsSettled e.next (due g (state_after g (front xs)) names ≡ [])
+  pub settled : IsSettled e.next ((w : ℕ) → 0 < w → w ≤ g.workers → length (queue_of e.ends w) ≡ waiting g (state_after g (front xs)) w)
+
+-- ## Its parts
+
+-- few ends wait in a session's queue: a session in a transaction has room for one more, but where the ends are ripe and are still to be told
+abbrev pub HasRoom : Next → (is_open : Bool) → (queued waits : ℕ) → Type 0
+HasRoom (Durables hindered) true queued waits = (queued < 256) ⊎ ((queued ≤ 256) × (waits ≡ 0))
+HasRoom n true queued waits = queued < 256
+HasRoom n false queued waits = queued ≤ 256
+
+-- it stands in some run, in which the aborts are half done that its sessions say
+pub record HasRun {D : Type 0} (e : State D) (store : Desk) (desks : List Desk) : Type 0 where
   pub opening : Opening
   pub done : List Done
-  pub one : opening.workers ≡ 1
-  pub line : IsNewLine (outcomes done)
-  pub ties : Ties opening 1 done 1 half v
+  pub names : List Name
+  pub in_run : InRun e opening done names
+  pub half : AreHalf opening.workers done store desks
+  pub room : (w : ℕ) → 0 < w → w ≤ opening.workers → HasRoom e.next (desk_of store desks w).session.is_open (length (queue_of e.ends w)) (waiting opening (state_after opening (front done)) w)
+  pub is_open : WhereDue e.next (store.session.is_open ≡ true)
 
--- it is the only session, and each of its commits is flushed
-abbrev pub IsOnly : Session → Type 0
-IsOnly x = (x.own ≡ 1) × (x.workers ≡ 1) × (x.group ≡ 1)
-
--- Its parts belong together: the seat to the rows, and while no device has failed, the session and the log to what the seat has seen; no lock row
--- is latched; it stands in a run, in which an abort is half done just where the session says so; and there is one session.
-pub record IsEngine (frames locks workers : ℕ) (words : List ℕ) (v : View) (x : Session) (log : Log) (marks : List Bool) : Type 0 where
-  pub fits : IsPicture (plan (sizes frames locks workers) v.given) words v
-  pub holds : x.works ≡ true → Holds (plain_shape frames locks workers) v x log
-  pub unmarked : x.works ≡ true → marks ≡ replicate x.held.count false
-  pub run : x.works ≡ true → HasRun x.half v
-  pub only : x.works ≡ true → IsOnly x
+-- Its parts belong together, unless a device has failed: then its seat is still the rows'. It stands in a run.
+pub record IsEngine {D : Type 0} (frames locks workers : ℕ) (words : List ℕ) (e : State D) (store : Desk) (desks : List Desk) (marks : List Bool) : Type 0 where
+  pub few : e.sessions ≤ 16
+  pub fits : IsPicture (plan (sizes frames locks workers) e.view.given) words e.view
+  pub machine : e.works ≡ true → IsMachine frames locks workers words e.view store desks marks e.master
+  pub run : e.works ≡ true → HasRun e store desks

@@ -1,87 +1,23 @@
-// What a line of session 1 is answered.
-ghost use Rattle.std.specs.Prelude.{◌≡◌, ◌↔◌, Err, IfOk, IsErr, true, false};
-ghost use Rattle.map_model.specs.declared.call.Answer.TheVariants as answer;
-ghost use Rattle.map_model.specs.declared.call.Refusal.TheVariants as refusal;
+// What a line is answered.
+ghost use Rattle.std.specs.Prelude.{◌≡◌, ◌↔◌, ◌<◌, ◌^◌, Err, IfOk, IfSome, IsErr, List, MatchOption, true, false};
+ghost use Rattle.map_model.specs.Journals.{Name};
+ghost use Rattle.core_state.specs.Openings.{Opening};
+ghost use Rattle.core_calls.specs.Fronts.{Done};
 ghost use Rattle.lean_disk.specs.Faults.{HasCause};
-ghost use Rattle.engine_trait.specs.Calls.{HasCome, IsWithin};
+ghost use Rattle.engine_trait.specs.Calls.{HasCome, IsAsked};
+ghost use Rattle.engine_trait.specs.Turns.{IsTaken, behind_answer, behind_durables, told_with};
+ghost use Rattle.engine_trait.specs.declared.calls.Next.{Next};
 ghost use Rattle.engine_trait.specs.declared.calls.Unanswered.{Unanswered};
-ghost use Rattle.row_engine.specs.Calls.{del_answer, get_answer, put_answer};
-ghost use Rattle.lean_engine.specs.Calls.{Answered, Asked, Failed, aborted_answer, began_answer, receipt_answer, told};
+ghost use Rattle.group_commit.specs.Queues.{queued};
+ghost use Rattle.lean_engine.specs.Calls.{AbortAnswered, AbortFailed, Answered, Failed, told};
+ghost use Rattle.lean_engine.specs.States.{InRun, memory_in};
 
-use crate::calls::{Aborted, Began};
 use crate::engine::Engine;
-use crate::receipts::Receipt;
-use engine_trait::calls::{Calls, Unanswered};
+use engine_trait::calls::{Calls, Durable, Unanswered};
 use lean_disk::MemDisk;
 use lean_edge::{Put, Sink};
 use map_model::{Answer, Call, Refusal};
 use row_engine::Stages;
-
-// ## Results as answers
-
-fn begun(began: Result<Began, Refusal>) -> Answer
-    ensures { result ≡ began_answer began }
-{
-    match began {
-        Ok(Began { number }) => Answer::Begun { number },
-        Err(why) => Answer::Refused(why),
-    }
-}
-
-fn value(found: Result<Option<u64>, Refusal>) -> Answer
-    ensures { result ≡ get_answer found }
-{
-    match found {
-        Ok(value) => Answer::Value(value),
-        Err(why) => Answer::Refused(why),
-    }
-}
-
-fn was(before: Result<Option<u64>, Refusal>) -> Answer
-    ensures { result ≡ put_answer before }
-{
-    match before {
-        Ok(value) => Answer::Was(value),
-        Err(why) => Answer::Refused(why),
-    }
-}
-
-fn removed(before: Result<Option<u64>, Refusal>) -> Answer
-    ensures { result ≡ del_answer before }
-{
-    match before {
-        Ok(value) => Answer::Was(value),
-        Err(why) => Answer::Refused(why),
-    }
-}
-
-fn committed(receipt: Result<Receipt, Refusal>) -> Answer
-    ensures { result ≡ receipt_answer receipt }
-{
-    match receipt {
-        Ok(
-            Receipt {
-                txn,
-                log: _,
-                gsn,
-                need: _,
-            },
-        ) => Answer::Committed {
-            number: txn,
-            at: gsn,
-        },
-        Err(why) => Answer::Refused(why),
-    }
-}
-
-fn aborted(aborted: Result<Aborted, Refusal>) -> Answer
-    ensures { result ≡ aborted_answer aborted }
-{
-    match aborted {
-        Ok(Aborted { number }) => Answer::Aborted { number },
-        Err(why) => Answer::Refused(why),
-    }
-}
 
 // The answer, or why there is none.
 fn told(answer: Answer) -> Result<Answer, Unanswered>
@@ -95,83 +31,144 @@ fn told(answer: Answer) -> Result<Answer, Unanswered>
 }
 
 impl<D: Stages> Engine<D> {
-    // What a line asks, where it is a call that there is.
-    fn ask(&mut self, call: &Call) -> Answer
-        requires within { IsWithin call.now }
-        ensures asked { Asked call.now result self.old self.new (D.story self.old.disk) (D.story self.new.disk) }
-        ensures cause_disk_fault { HasCause (D.faults self.old.disk) (D.faults self.new.disk) (result ≡ answer.Refused refusal.DiskFault) }
-    {
-        match *call {
-            Call::Begin => begun(self.begin()),
-            Call::Get { key } => value(self.get(key)),
-            Call::Put { key, value } => was(self.put(key, value)),
-            Call::Del { key } => removed(self.del(key)),
-            Call::Commit => committed(self.commit()),
-            Call::Abort => aborted(self.abort()),
-            // A line of this session asks no other call.
-            _ => unreachable!(),
-        }
-    }
-
-    /// What a line of session 1 asks.
-    pub fn answer(&mut self, call: &Call) -> Result<Answer, Unanswered>
-        requires within { IsWithin call.now }
-        ensures does { IfOk result (λ a. Answered call.now a self.old self.new (D.story self.old.disk) (D.story self.new.disk)) }
-        ensures come { IfOk result HasCome }
-        ensures fails { result ≡ Err Unanswered.DiskFault → Failed call.now self.old (D.story self.old.disk) (D.story self.new.disk) }
+    /// What a line of a session asks; for a sync the session is 0.
+    pub fn answer(&mut self, session: u32, call: &Call) -> Result<Answer, Unanswered>
+        requires asked { IsAsked self.old.sessions session call.now }
+        requires next { self.old.next ≡ Next.Line }
+        ensures does { IfOk result (λ a. Answered session call.now a self.old self.new (D.story self.old.disk) (D.story self.new.disk)) }
+        ensures come { IfOk result (HasCome self.old.sessions) }
+        ensures next { IfOk result (λ a. self.new.next ≡ behind_answer a) }
+        ensures fails { result ≡ Err Unanswered.DiskFault → Failed session call.now self.old (D.story self.old.disk) (D.story self.new.disk) }
         ensures works { self.new.works ≡ true ↔ (IsErr result → ⊥) }
+        ensures sizes { (self.new.sessions ≡ self.old.sessions) × (self.new.group ≡ self.old.group) }
         ensures same { result ≡ Err Unanswered.Broken → self.new ≡ self.old }
 
         ensures cause_broken { (result ≡ Err Unanswered.Broken) ↔ (self.old.works ≡ false) }
         ensures cause_disk_fault { HasCause (D.faults self.old.disk) (D.faults self.new.disk) (result ≡ Err Unanswered.DiskFault) }
     {
-        let answer = self.ask(call);
+        let answer = self.ask(session, call).answer;
+        told(answer)
+    }
+
+    /// The abort of a call that met a conflict.
+    pub fn answer_abort(&mut self) -> Result<Answer, Unanswered>
+        requires next { self.old.next ≡ Next.Abort }
+        ensures does { IfOk result (λ a. AbortAnswered a self.old self.new (D.story self.old.disk) (D.story self.new.disk)) }
+        ensures come { IfOk result (HasCome 1) }
+        ensures next { IfOk result (λ a. self.new.next ≡ behind_answer a) }
+        ensures fails { result ≡ Err Unanswered.DiskFault → AbortFailed self.old (D.story self.old.disk) (D.story self.new.disk) }
+        ensures works { self.new.works ≡ true ↔ (IsErr result → ⊥) }
+        ensures sizes { (self.new.sessions ≡ self.old.sessions) × (self.new.group ≡ self.old.group) }
+        ensures same { result ≡ Err Unanswered.Broken → self.new ≡ self.old }
+
+        ensures cause_broken { (result ≡ Err Unanswered.Broken) ↔ (self.old.works ≡ false) }
+        ensures cause_disk_fault { HasCause (D.faults self.old.disk) (D.faults self.new.disk) (result ≡ Err Unanswered.DiskFault) }
+    {
+        let answer = self.ask_abort();
         told(answer)
     }
 }
 
-/// A disk on which an engine runs. Each disk writes it as `engine.answer(call)`: the method of an impl may not call what is generic over its
-/// disk.
+/// A disk on which an engine runs. Each disk writes its methods as `engine.answer(session, call)`, `engine.answer_abort()` and `engine.next_durable()`: the
+/// method of an impl may not call what is generic over its disk.
 pub trait Hosts: Stages {
-    /// What a line of session 1 asks.
-    fn answer_on(engine: &mut Engine<Self>, call: &Call) -> Result<Answer, Unanswered>
-        requires within { IsWithin call.now }
-        ensures does { IfOk result (λ a. Answered call.now a engine.old engine.new (Self.story engine.old.disk) (Self.story engine.new.disk)) }
-        ensures come { IfOk result HasCome }
-        ensures fails { result ≡ Err Unanswered.DiskFault → Failed call.now engine.old (Self.story engine.old.disk) (Self.story engine.new.disk) }
+    /// What a line of a session asks; for a sync the session is 0.
+    fn answer_on(engine: &mut Engine<Self>, session: u32, call: &Call) -> Result<Answer, Unanswered>
+        requires asked { IsAsked engine.old.sessions session call.now }
+        requires next { engine.old.next ≡ Next.Line }
+        ensures does { IfOk result (λ a. Answered session call.now a engine.old engine.new (Self.story engine.old.disk) (Self.story engine.new.disk)) }
+        ensures come { IfOk result (HasCome engine.old.sessions) }
+        ensures next { IfOk result (λ a. engine.new.next ≡ behind_answer a) }
+        ensures fails { result ≡ Err Unanswered.DiskFault → Failed session call.now engine.old (Self.story engine.old.disk) (Self.story engine.new.disk) }
         ensures works { engine.new.works ≡ true ↔ (IsErr result → ⊥) }
+        ensures sizes { (engine.new.sessions ≡ engine.old.sessions) × (engine.new.group ≡ engine.old.group) }
         ensures same { result ≡ Err Unanswered.Broken → engine.new ≡ engine.old }
 
         ensures cause_broken { (result ≡ Err Unanswered.Broken) ↔ (engine.old.works ≡ false) }
         ensures cause_disk_fault { HasCause (Self.faults engine.old.disk) (Self.faults engine.new.disk) (result ≡ Err Unanswered.DiskFault) };
+
+    /// The abort of a call that met a conflict.
+    fn abort_on(engine: &mut Engine<Self>) -> Result<Answer, Unanswered>
+        requires next { engine.old.next ≡ Next.Abort }
+        ensures does { IfOk result (λ a. AbortAnswered a engine.old engine.new (Self.story engine.old.disk) (Self.story engine.new.disk)) }
+        ensures come { IfOk result (HasCome 1) }
+        ensures next { IfOk result (λ a. engine.new.next ≡ behind_answer a) }
+        ensures fails { result ≡ Err Unanswered.DiskFault → AbortFailed engine.old (Self.story engine.old.disk) (Self.story engine.new.disk) }
+        ensures works { engine.new.works ≡ true ↔ (IsErr result → ⊥) }
+        ensures sizes { (engine.new.sessions ≡ engine.old.sessions) × (engine.new.group ≡ engine.old.group) }
+        ensures same { result ≡ Err Unanswered.Broken → engine.new ≡ engine.old }
+
+        ensures cause_broken { (result ≡ Err Unanswered.Broken) ↔ (engine.old.works ≡ false) }
+        ensures cause_disk_fault { HasCause (Self.faults engine.old.disk) (Self.faults engine.new.disk) (result ≡ Err Unanswered.DiskFault) };
+
+    /// The commit that has become durable and was not told yet, if there is one.
+    fn durable_on(engine: &mut Engine<Self>) -> Option<Durable>
+        requires works { engine.old.works ≡ true }
+        ensures taken { (g : Opening) (xs : List Done) (names : List Name) → InRun engine.old g xs names → IsTaken g xs names result × InRun engine.new g xs (told_with result names) }
+        ensures next { MatchOption result (engine.new.next ≡ behind_durables engine.old.next) (λ d. engine.new.next ≡ engine.old.next) }
+        ensures session { IfSome result (λ d. d.session < 2 ^ 32) }
+        ensures fewer { IfSome result (λ d. queued engine.new.ends < queued engine.old.ends) }
+        ensures same { (memory_in engine.new ≡ memory_in engine.old) × (engine.new.works ≡ engine.old.works) × (engine.new.disk ≡ engine.old.disk) }
+        ensures sizes { (engine.new.sessions ≡ engine.old.sessions) × (engine.new.group ≡ engine.old.group) };
 }
 
 impl Hosts for MemDisk {
-    fn answer_on(engine: &mut Engine<MemDisk>, call: &Call) -> Result<Answer, Unanswered> {
-        engine.answer(call)
+    fn durable_on(engine: &mut Engine<MemDisk>) -> Option<Durable> {
+        engine.next_durable()
+    }
+
+    fn answer_on(
+        engine: &mut Engine<MemDisk>,
+        session: u32,
+        call: &Call,
+    ) -> Result<Answer, Unanswered> {
+        engine.answer(session, call)
+    }
+
+    fn abort_on(engine: &mut Engine<MemDisk>) -> Result<Answer, Unanswered> {
+        engine.answer_abort()
     }
 }
 
 impl<D: Hosts> Calls<D> for Engine<D> {
-    ghost use Rattle.lean_engine.specs.States.{InRun};
+    ghost use Rattle.group_commit.specs.Queues.{queued};
+    ghost use Rattle.lean_engine.specs.States.{InRun, memory_in};
 
-    ghost in_run = { λ e g xs. InRun e.view g xs };
+    ghost in_run = { λ e g xs names. InRun e g xs names };
 
-    ghost log_of = { λ e. e.log };
+    ghost sessions = { λ e. e.sessions };
+
+    ghost group = { λ e. e.group };
+
+    ghost memory = { λ e. memory_in e };
+
+    ghost waiting = { λ e. queued e.ends };
+
+    ghost next = { λ e. e.next };
 
     ghost works = { λ e. e.works };
 
-    ghost story = { λ e. D.story e.disk };
-
-    ghost faults = { λ e. D.faults e.disk };
+    ghost disk = { λ e. e.disk };
 
     fn told(&self) {}
 
-    fn call(&mut self, call: &Call) -> Result<Answer, Unanswered> {
-        D::answer_on(self, call)
+    fn session_count(&self) -> u32 {
+        self.machine.store.session.workers
+    }
+
+    fn call(&mut self, session: u32, call: &Call) -> Result<Answer, Unanswered> {
+        D::answer_on(self, session, call)
+    }
+
+    fn abort_hindered(&mut self) -> Result<Answer, Unanswered> {
+        D::abort_on(self)
+    }
+
+    fn next_durable(&mut self) -> Option<Durable> {
+        D::durable_on(self)
     }
 
     fn put_line<K: Sink<D>>(&mut self, sink: &mut K, line: &[u8]) -> Put {
-        sink.put(&mut self.store.disk, line)
+        sink.put(&mut self.machine.store.disk, line)
     }
 }

@@ -5,22 +5,23 @@ ghost use Rattle.recovery.specs.Opened.{IsRefusal, IsUntouched};
 ghost use Rattle.recovery.specs.declared.opening.Unrecovered.{Unrecovered};
 ghost use Rattle.lean_engine.specs.Openings.{HasOpened, OpenKeeps, Shows};
 
+use crate::desk::Desk;
+use crate::machine::Machine;
 use crate::opening::{Parts, open_parts};
-use key_locks::latches::Latches;
+use engine_trait::calls::Next;
+use group_commit::Unripe;
 use lean_disk::Disk;
 use recovery::Unrecovered;
 use row_engine::{Staged, Store};
-use rows_trait::plain::PlainRows;
-use rows_trait::trace::Trace;
 use std::alloc::Global;
 use std::marker::{Brand, Model};
 
-/// An engine of one session over the pages of a disk, each in a frame, which it owns.
+/// An engine of several sessions over the pages of a disk, each in a frame, which it owns: what works on rows and disk, the ends that wait, and what may be asked
+/// next.
 pub struct Engine<D> {
-    pub(crate) rows: PlainRows,
-    pub(crate) seat: Trace,
-    pub(crate) store: Store<D>,
-    pub(crate) latches: Latches,
+    pub(crate) machine: Machine<D>,
+    pub(crate) unripe: Unripe,
+    pub(crate) next: Next,
 }
 
 impl<D> Model for Engine<D> {
@@ -28,9 +29,33 @@ impl<D> Model for Engine<D> {
 
     ghost Value = { State D };
 
-    ghost view = { λ e. record { view = e.seat.view; disk = e.store.disk; log = e.store.log; works = e.store.session.works } };
+    ghost view = { λ e. record {
+      view = e.machine.seat.view;
+      disk = e.machine.store.disk;
+      store = record { session = e.machine.store.session; log = e.machine.store.log };
+      desks = e.machine.desks.items;
+      master = e.machine.master;
+      works = e.machine.store.session.works;
+      next = e.next;
+      sessions = e.machine.store.session.workers;
+      turn = e.machine.store.session.own;
+      group = e.machine.store.session.group;
+      ends = e.unripe;
+    } };
 
-    ghost invariant = { λ e. IsEngine e.rows.frames e.rows.locks e.rows.workers e.rows.words.items e.seat.view e.store.session e.store.log e.latches };
+    ghost invariant = { λ e. IsEngine e.machine.rows.frames e.machine.rows.locks e.machine.rows.workers e.machine.rows.words.items (record {
+      view = e.machine.seat.view;
+      disk = e.machine.store.disk;
+      store = record { session = e.machine.store.session; log = e.machine.store.log };
+      desks = e.machine.desks.items;
+      master = e.machine.master;
+      works = e.machine.store.session.works;
+      next = e.next;
+      sessions = e.machine.store.session.workers;
+      turn = e.machine.store.session.own;
+      group = e.machine.store.session.group;
+      ends = e.unripe;
+    }) (record { session = e.machine.store.session; log = e.machine.store.log }) e.machine.desks.items e.machine.latches };
 }
 
 /// An engine, and what its first line tells of the opening.
@@ -47,41 +72,47 @@ pub struct Unopened<D> {
     pub reason: Unrecovered,
 }
 
-/// How large an engine is: how many lock rows there are, which keys share. There are as many frames as pages, and each commit is
-/// flushed.
+/// How large an engine is: how many lock rows there are, which keys share; how many commits of a session are flushed at once; and how many sessions
+/// there may be, one for each log of the disk. There are as many frames as pages.
 #[derive(Clone, Copy, Debug, PartialEq, Eq)]
 pub struct Size {
     pub rows: u32,
+    pub group: u32,
+    pub sessions: u32,
 }
 
 impl<D: Disk> Engine<D> {
     /// Opens a disk.
     pub fn open(alloc: Global, mut disk: D, size: Size) -> Result<Opened<D>, Unopened<D>>
         requires rows { (1 ≤ size.rows) × (size.rows ≤ 65536) }
-        ensures opened { IfOk result (λ o. HasOpened size.rows (D.story disk) (D.story o.engine.disk) o.engine.view o.engine.log o.generation o.winners o.undone) }
-        ensures works { IfOk result (λ o. o.engine.works ≡ true) }
-        ensures keeps { MatchResult result (λ o. OpenKeeps (D.story disk) (D.story o.engine.disk)) (λ u. OpenKeeps (D.story disk) (D.story u.disk)) }
+        requires group { 1 ≤ size.group }
+        requires sessions { size.sessions ≤ 16 }
+        ensures opened { IfOk result (λ o. HasOpened size (D.story disk) (D.story o.engine.disk) o.engine o.generation o.winners o.undone) }
+        ensures keeps { MatchResult result (λ o. OpenKeeps size.sessions (D.story disk) (D.story o.engine.disk)) (λ u. OpenKeeps size.sessions (D.story disk) (D.story u.disk)) }
 
         // A disk that is refused is left as it was.
         ensures left { IfErr result (λ u. IsRefusal u.reason → (a : ℕ) → IsUntouched ((D.story disk).area a) ((D.story u.disk).area a)) }
-        ensures shown { IfErr result (λ u. Shows (D.story disk) u.reason) }
+        ensures shown { IfErr result (λ u. Shows size.sessions (D.story disk) u.reason) }
         ensures cause_disk_fault { IfErr result (λ u. HasCause (D.faults disk) (D.faults u.disk) (u.reason ≡ Unrecovered.DiskFault)) }
         ensures no_fault { IfOk result (λ o. D.faults o.engine.disk ≡ D.faults disk) }
     {
-        let made = match open_parts(alloc, &mut disk, size.rows) {
+        let made = match open_parts(alloc, &mut disk, size) {
             Ok(made) => made,
             Err(reason) => return Err(Unopened { disk, reason }),
         };
         let Parts {
             rows,
             seat,
-            session,
-            log,
+            first,
+            desks,
             latches,
-            generation,
+            master,
+            unripe,
             winners,
             undone,
         } = made;
+        let generation = master.generation;
+        let Desk { session, log } = first;
         let store = Store {
             disk,
             log,
@@ -90,10 +121,16 @@ impl<D: Disk> Engine<D> {
         };
         Ok(Opened {
             engine: Engine {
-                rows,
-                seat,
-                store,
-                latches,
+                machine: Machine {
+                    rows,
+                    seat,
+                    store,
+                    desks,
+                    latches,
+                    master,
+                },
+                unripe,
+                next: Next::Line,
             },
             generation,
             winners,
@@ -106,11 +143,18 @@ impl<D: Disk> Engine<D> {
         ensures { result ≡ self.disk }
     {
         let Engine {
+            machine,
+            unripe: _,
+            next: _,
+        } = self;
+        let Machine {
             rows: _,
             seat: _,
             store,
+            desks: _,
             latches: _,
-        } = self;
+            master: _,
+        } = machine;
         let Store {
             disk,
             log: _,

@@ -1,15 +1,21 @@
-//! An engine of one session over the pages of a disk, each in a frame.
+//! An engine of several sessions over the pages of a disk, each in a frame.
 #![tactic(auto)]
 
 mod answers;
+mod asking;
 mod calls;
+mod desk;
+mod durables;
 mod engine;
+mod machine;
 mod opening;
 mod pages;
-mod receipts;
+mod syncs;
 
 pub use answers::Hosts;
-pub use calls::{Aborted, Began};
+pub use calls::{Aborted, Began, Synced};
+pub use desk::Desk;
 pub use disk_format::{Formatted, Shape, format};
+pub use durables::Broken;
 pub use engine::{Engine, Opened, Size, Unopened};
-pub use receipts::{Broken, Receipt, Ripeness};
+pub use group_commit::{Receipt, Ripeness};

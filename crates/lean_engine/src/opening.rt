@@ -1,19 +1,24 @@
 // What an engine has in memory on a disk that is opened.
-ghost use Rattle.std.specs.Prelude.{◌≡◌, ◌≤◌, ℕ, Err, IfErr, IfOk, true};
+ghost use Rattle.std.specs.Prelude.{◌≡◌, ◌≤◌, ℕ, Err, IfErr, IfOk, []};
 ghost use Rattle.lean_disk.specs.Faults.{HasCause};
+ghost use Rattle.master_store.specs.Masters.{IsOfSlot};
 ghost use Rattle.recovery.specs.Opened.{IsRefusal, IsUntouched};
 ghost use Rattle.recovery.specs.declared.opening.Unrecovered.{Unrecovered};
-ghost use Rattle.lean_engine.specs.Openings.{HasOpened, OpenKeeps, Shows};
+ghost use Rattle.lean_engine.specs.Openings.{AreFurther, HasOpened, IsFurther, IsMadeBy, OpenKeeps, Shows, opened_state};
 ghost use Rattle.lean_engine.specs.States.{IsEngine};
 
+use crate::desk::Desk;
+use crate::engine::Size;
 use crate::pages::are_pages;
+use disk_slots::Master;
+use group_commit::Unripe;
 use key_locks::latches::Latches;
 use lean_disk::Disk;
 use recovery::{Recovered, Unrecovered, recover};
-use row_engine::{Session, open_session};
+use row_engine::{Session, further_session, open_session};
 use rows_trait::plain::PlainRows;
 use rows_trait::trace::Trace;
-use std::alloc::Global;
+use std::alloc::{AllocError, Global};
 use worker_log::WorkerLog;
 
 /// What an engine has beside its disk, and the counts of recovery.
@@ -21,34 +26,88 @@ use worker_log::WorkerLog;
 pub(crate) struct Parts {
     pub rows: PlainRows,
     pub seat: Trace,
-    pub session: Session,
-    pub log: WorkerLog,
+    pub first: Desk,
+    pub desks: Vec<Desk>,
     pub latches: Latches,
-    pub generation: u64,
+    pub master: Master,
+    pub unripe: Unripe,
     pub winners: u64,
     pub undone: u64,
 }
 
-/// Opens a disk, with so many lock rows.
+// The empty log of this number.
+fn new_log(alloc: Global, master: &Master, number: u32) -> Result<WorkerLog, AllocError>
+    requires valid { IsOfSlot master.now }
+    requires number { (1 ≤ number) × (number ≤ 16) }
+    ensures { IfOk result (IsMadeBy master.now number) }
+{
+    WorkerLog::new(
+        alloc,
+        master.generation,
+        number,
+        master.blocks,
+        0,
+        master.floor,
+    )
+}
+
+// The desk of a further session.
+fn further_desk(
+    alloc: Global,
+    master: &Master,
+    first: &Session,
+    number: u32,
+) -> Result<Desk, AllocError>
+    requires valid { IsOfSlot master.now }
+    requires number { (1 ≤ number) × (number ≤ 16) }
+    requires undo { first.now.undo ≡ [] }
+    requires held { first.now.held.rows ≡ [] }
+    ensures { IfOk result (IsFurther master.now first.now number) }
+{
+    Ok(Desk {
+        session: further_session(alloc, number, first)?,
+        log: new_log(alloc, master, number)?,
+    })
+}
+
+// A desk for each further session.
+fn further_desks(alloc: Global, master: &Master, first: &Session) -> Result<Vec<Desk>, AllocError>
+    requires valid { IsOfSlot master.now }
+    requires workers { (1 ≤ first.now.workers) × (first.now.workers ≤ 16) }
+    requires undo { first.now.undo ≡ [] }
+    requires held { first.now.held.rows ≡ [] }
+    ensures { IfOk result (λ desks. AreFurther master.now first.now desks.items) }
+{
+    let mut desks = Vec::with_capacity(alloc, first.workers as usize)?;
+    for number in 2..first.workers + 1 {
+        desks.push_reserved(further_desk(alloc, master, first, number)?);
+    }
+    Ok(desks)
+}
+
+/// Opens a disk, for an engine so large.
 pub(crate) fn open_parts<D: Disk>(
     alloc: Global,
     disk: &mut D,
-    locks: u32,
+    size: Size,
 ) -> Result<Parts, Unrecovered>
-    requires locks { (1 ≤ locks) × (locks ≤ 65536) }
-    ensures opened { IfOk result (λ o. HasOpened locks (D.story disk.old) (D.story disk.new) o.seat.view o.log o.generation o.winners o.undone) }
-    ensures engine { IfOk result (λ o. IsEngine o.rows.frames o.rows.locks o.rows.workers o.rows.words.items o.seat.view o.session o.log o.latches) }
-    ensures works { IfOk result (λ o. o.session.works ≡ true) }
-    ensures keeps { OpenKeeps (D.story disk.old) (D.story disk.new) }
+    requires rows { (1 ≤ size.rows) × (size.rows ≤ 65536) }
+    requires group { 1 ≤ size.group }
+    requires sessions { size.sessions ≤ 16 }
+    ensures opened { IfOk result (λ o. HasOpened size (D.story disk.old) (D.story disk.new) (opened_state o disk.new) o.master.generation o.winners o.undone) }
+    ensures engine { IfOk result (λ o. IsEngine o.rows.frames o.rows.locks o.rows.workers o.rows.words.items (opened_state o disk.new) o.first o.desks.items o.latches) }
+    ensures keeps { OpenKeeps size.sessions (D.story disk.old) (D.story disk.new) }
 
     ensures left { IfErr result (λ why. IsRefusal why → (a : ℕ) → IsUntouched ((D.story disk.old).area a) ((D.story disk.new).area a)) }
-    ensures shown { IfErr result (Shows (D.story disk.old)) }
+    ensures shown { IfErr result (Shows size.sessions (D.story disk.old)) }
     ensures cause_disk_fault { HasCause (D.faults disk.old) (D.faults disk.new) (result ≡ Err Unrecovered.DiskFault) }
 {
     image_model::every_undone();
     recovery::every_own();
     row_engine::every_opened();
-    let recovered = match recover(alloc, disk, 1) {
+    row_engine::every_fellow();
+    group_commit::every_start();
+    let recovered = match recover(alloc, disk, size.sessions) {
         Ok(recovered) => recovered,
         Err(reason) => return Err(reason),
     };
@@ -60,23 +119,37 @@ pub(crate) fn open_parts<D: Disk>(
         undone,
         master,
     } = recovered;
-    let Ok(log) = WorkerLog::new(alloc, master.generation, 1, master.blocks, 0, master.floor) else {
+    let sessions = master.heads.logs();
+    let Ok((rows, seat, session)) = open_session(
+        alloc,
+        pages.as_slice(),
+        size.rows,
+        master.floor,
+        sessions,
+        size.group,
+    ) else {
         return Err(Unrecovered::Memory);
     };
-    let Ok((rows, seat, session)) = open_session(alloc, pages.as_slice(), locks, master.floor)
-    else {
+    let Ok(desks) = further_desks(alloc, &master, &session) else {
         return Err(Unrecovered::Memory);
     };
-    let Ok(latches) = Latches::new(alloc, locks) else {
+    let Ok(log) = new_log(alloc, &master, 1) else {
+        return Err(Unrecovered::Memory);
+    };
+    let Ok(latches) = Latches::new(alloc, size.rows) else {
+        return Err(Unrecovered::Memory);
+    };
+    let Ok(unripe) = Unripe::new(alloc, sessions) else {
         return Err(Unrecovered::Memory);
     };
     Ok(Parts {
         rows,
         seat,
-        session,
-        log,
+        first: Desk { session, log },
+        desks,
         latches,
-        generation: master.generation,
+        master,
+        unripe,
         winners,
         undone,
     })

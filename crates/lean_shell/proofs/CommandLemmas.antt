@@ -57,7 +57,7 @@ one_number name from to x y m n end same is other =
 same_shape : (words : List (List ℕ)) (x y : Shape) → AsksFormat words x → AsksFormat words y → x ≡ y
 same_shape words x y is other =
     let same : is.options ≡ other.options = (one_met words (codes "format") (codes "format") is.options other.options is.names other.names).1 in
-    let workers : x.workers ≡ y.workers = one_number (codes "workers") 1 1 is.options other.options x.workers y.workers (omega arith) same is.workers other.workers in
+    let workers : x.workers ≡ y.workers = one_number (codes "workers") 1 16 is.options other.options x.workers y.workers (omega arith) same is.workers other.workers in
     let pages : x.pages ≡ y.pages = one_number (codes "pages") 16 4096 is.options other.options x.pages y.pages (omega arith) same is.pages other.pages in
     let blocks : x.blocks ≡ y.blocks = one_number (codes "blocks") 64 4096 is.options other.options x.blocks y.blocks (omega arith) same is.blocks other.blocks in
     ap (λ (w : ℕ). record x { workers = w }) workers ∙ (ap (λ (p : ℕ). let s : Shape = record { workers = y.workers; pages = p; blocks = x.blocks } in s) pages ∙ ap (λ (b : ℕ). record y { blocks = b }) blocks)
@@ -66,7 +66,9 @@ same_shape words x y is other =
 same_size : (words : List (List ℕ)) (x y : Size) → AsksRun words x → AsksRun words y → x ≡ y
 same_size words x y is other =
     let same : is.options ≡ other.options = (one_met words (codes "run") (codes "run") is.options other.options is.names other.names).1 in
-    ap (λ (n : ℕ). record x { rows = n }) (one_number (codes "rows") 16 4096 is.options other.options x.rows y.rows (omega arith) same is.rows other.rows)
+    let rows : x.rows ≡ y.rows = one_number (codes "rows") 16 4096 is.options other.options x.rows y.rows (omega arith) same is.given.rows other.given.rows in
+    let group : x.group ≡ y.group = one_number (codes "group") 1 64 is.options other.options x.group y.group (omega arith) same is.given.group other.given.group in
+    ap (λ (n : ℕ). record x { rows = n }) rows ∙ (ap (λ (n : ℕ). let s : Size = record { rows = y.rows; group = n; sessions = x.sessions } in s) group ∙ ap (λ (n : ℕ). record y { sessions = n }) (is.given.sessions ∙ sym other.given.sessions))
 
 -- words that ask for a new disk ask for no run
 pub not_both : (words : List (List ℕ)) (shape : Shape) (size : Size) → AsksFormat words shape → AsksRun words size → ⊥
@@ -107,16 +109,16 @@ of_stop stops.ReadFault n e = (inr (inr (inr (inl e))), λ z. omega (arith, e, z
 of_stop stops.WriteFault n e = (inr (inr (inr (inr (inl e)))), λ z. omega (arith, e, z))
 of_stop stops.DiskFault n e = (inr (inr (inr (inr (inr (inl e))))), λ z. omega (arith, e, z))
 
-of_run_status : (locks n : ℕ) (s0 s1 : Story) (feed0 feed1 : Feed) (put : List ℕ) (sink0 sink1 : ℕ) → HowRun locks n s0 s1 feed0 feed1 put sink0 sink1 → IsStatus n × (n ≡ 2 → ⊥)
-of_run_status locks n s0 s1 feed0 feed1 put sink0 sink1 (inl x) = of_reason x.0.reason n x.0.status_is
-of_run_status locks n s0 s1 feed0 feed1 put sink0 sink1 (inr (inl x)) = of_stop stops.WriteFault n x.status_is
-of_run_status locks n s0 s1 feed0 feed1 put sink0 sink1 (inr (inr x)) = of_stop x.stop n x.status_is
+of_run_status : (size : Size) (n : ℕ) (s0 s1 : Story) (feed0 feed1 : Feed) (put : List ℕ) (sink0 sink1 : ℕ) → HowRun size n s0 s1 feed0 feed1 put sink0 sink1 → IsStatus n × (n ≡ 2 → ⊥)
+of_run_status size n s0 s1 feed0 feed1 put sink0 sink1 (inl x) = of_reason x.0.reason n x.0.status_is
+of_run_status size n s0 s1 feed0 feed1 put sink0 sink1 (inr (inl x)) = of_stop stops.WriteFault n x.status_is
+of_run_status size n s0 s1 feed0 feed1 put sink0 sink1 (inr (inr x)) = of_stop x.stop n x.status_is
 
 of_printed : (n : ℕ) (text put : List ℕ) (sink0 sink1 : ℕ) → PutOrCut n text put sink0 sink1 → IsStatus n × (n ≡ 2 → ⊥) × (n ≡ 4 → ⊥)
 of_printed n text put sink0 sink1 (inl p) = let e = p.0 in (inl e, (λ z. omega (arith, e, z)), λ z. omega (arith, e, z))
 of_printed n text put sink0 sink1 (inr p) = let e = p.0 in (inr (inr (inr (inr (inl e)))), (λ z. omega (arith, e, z)), λ z. omega (arith, e, z))
 
-of_dump_status : (n : ℕ) (s0 s1 : Story) (put : List ℕ) (sink0 sink1 : ℕ) → NotOpened n s0 s1 put sink0 sink1 ⊎ Dumped n s0 s1 put sink0 sink1 → IsStatus n × (n ≡ 2 → ⊥) × (n ≡ 4 → ⊥)
+of_dump_status : (n : ℕ) (s0 s1 : Story) (put : List ℕ) (sink0 sink1 : ℕ) → NotOpened 16 n s0 s1 put sink0 sink1 ⊎ Dumped n s0 s1 put sink0 sink1 → IsStatus n × (n ≡ 2 → ⊥) × (n ≡ 4 → ⊥)
 of_dump_status n s0 s1 put sink0 sink1 (inl x) = let is = of_reason x.reason n x.status_is in (is.0, is.1, not_read x.reason n x.status_is)
 of_dump_status n s0 s1 put sink0 sink1 (inr x) = of_printed n (dump_text x.pairs) put sink0 sink1 x.printed
 
@@ -153,10 +155,10 @@ module _ (words : List (List ℕ)) (status : ℕ) (s0 s1 : Story) (feed0 feed1 :
     none = λ none. absurd (none (Format shape) asks);
   }
 
-  pub of_run : (size : Size) → AsksRun words size → RunEnds size.rows status s0 s1 feed0 feed1 held0 held1 before.sink now.sink
+  pub of_run : (size : Size) → AsksRun words size → RunEnds size status s0 s1 feed0 feed1 held0 held1 before.sink now.sink
       → HasCause before.source now.source (status ≡ 4) → IsBlamed before.sink now.sink (status ≡ 5) → HasCause before.disk now.disk (status ≡ 6) → Ends
   of_run size asks ends read write disk =
-      let is = of_run_status size.rows status s0 s1 feed0 feed1 ends.put before.sink now.sink ends.how in
+      let is = of_run_status size status s0 s1 feed0 feed1 ends.put before.sink now.sink ends.how in
       record {
         known = is.0;
         usage = λ e. absurd (is.1 e);
@@ -164,7 +166,7 @@ module _ (words : List (List ℕ)) (status : ℕ) (s0 s1 : Story) (feed0 feed1 :
         cause_write_fault = write;
         cause_disk_fault = disk;
         format = λ shape also. absurd (not_both words shape size also asks);
-        run = λ other also. subst (λ (x : Size). RunEnds x.rows status s0 s1 feed0 feed1 held0 held1 before.sink now.sink) (same_size words size other asks also) ends;
+        run = λ other also. subst (λ (x : Size). RunEnds x status s0 s1 feed0 feed1 held0 held1 before.sink now.sink) (same_size words size other asks also) ends;
         dump = λ also. absurd (not_run words size also asks);
         none = λ none. absurd (none (Run size) asks);
       }
@@ -210,7 +212,7 @@ module _ (words : List (List ℕ)) (status : ℕ) (s0 s1 : Story) (feed0 feed1 :
         cause_write_fault = record { later = ends.none.printed.cause.later; cause = λ e. absurd (omega (arith, eight, e)) };
         cause_disk_fault = record { later = omega (arith, ends.none.faults); cause = λ e. absurd (omega (arith, eight, e)); calm = λ n. ends.none.faults };
         format = λ shape asks. ends.format shape;
-        run = λ size asks. subst (λ (f : Feed). RunEnds size.rows status s0 s1 feed0 f held0 held1 before.sink now.sink) (sym same) (ends.run size.rows feed0);
+        run = λ size asks. subst (λ (f : Feed). RunEnds size status s0 s1 feed0 f held0 held1 before.sink now.sink) (sym same) (ends.run size feed0);
         dump = λ asks. ends.dump;
         none = λ nothing. ends.none;
       }
@@ -233,8 +235,8 @@ module _ (notice_law : EveryNotice) (tail_law : EveryTail) (s0 s1 : Story) (law 
     format = λ shape. failed shape s0 s0 s1 law (keeps_all s0) (unmoved shape s0 law) (λ a lt. refl) notes held0 held1 sink0 sink1 disk0 disk1
         Memory status eight (λ e. let n : number_of Memory ≡ number_of Usage = ap number_of e in omega (arith, n)) printed (λ e. absurd (let n : number_of Memory ≡ number_of AlreadyFormatted = ap number_of e in omega (arith, n))) (λ e a. refl)
         (record { later = omega (arith, calm); cause = λ e. absurd (let n : number_of Memory ≡ number_of DiskFault = ap number_of e in omega (arith, n)); calm = λ n. calm });
-    run = λ locks feed. refused_ends locks notice_law tail_law status s0 s0 s1 law keeps (λ a lt. refl) (λ m tells clean. not_moved m s0 law) feed why.Memory eight tt (λ refused a. absurd refused) held0 held1 sink0 sink1 r;
-    headline = λ feed. refused_headline 1 notice_law tail_law s0 s0 s1 law keeps (λ m tells clean. not_moved m s0 law) feed why.Memory held0 held1 sink0 sink1 r;
+    run = λ size feed. refused_ends size notice_law tail_law status s0 s0 s1 law keeps (λ a lt. refl) (λ m tells clean. not_moved m s0 law) feed why.Memory eight tt (λ refused a. absurd refused) held0 held1 sink0 sink1 r;
+    headline = λ feed. refused_headline (record { rows = 16; group = 1; sessions = 16 }) notice_law tail_law s0 s0 s1 law keeps (λ m tells clean. not_moved m s0 law) feed why.Memory held0 held1 sink0 sink1 r;
     dump = dumps.refused s0 s0 s1 law (record { keeps = keeps; logs = λ a lt. record { bytes = refl; writes = refl; first = refl }; others = λ a lt. refl; any = λ m tells clean. not_moved m s0 law }) why.Memory tt (λ refused a. absurd refused) held0 held1 sink0 sink1 r.answer status eight r.line r.cause;
     none = record {
       failure = Memory;

@@ -1,7 +1,8 @@
 pub mod LineLemmas
 pub mod NoteLemmas
 pub mod PrintedLemmas
-pub mod AboveLemmas
+pub mod BelowLemmas
+pub mod CountLemmas
 pub mod FoundLemmas
 pub mod LeftLemmas
 pub mod ScriptLemmas
@@ -14,4 +15,5 @@ pub mod MomentLemmas
 pub mod OutputLemmas
 pub mod LastLemmas
 pub mod EndLemmas
+pub mod DiskLemmas
 pub mod RunLemmas

@@ -8,7 +8,7 @@ use Rattle.clap.proofs.OnLiterals.{clap_on_literals}
 use Rattle.disk_format.specs.declared.shape.Shape.{Shape}
 use Rattle.lean_engine.specs.declared.engine.Size.{Size}
 use Rattle.lean_shell.specs.Inside.CommandLines.{AsksAs, AsksBy, GivesShape}
-use Rattle.lean_shell.specs.Words.{Asks, AsksNothing, Gives, GivesRows, IsNumberIn, lean_words}
+use Rattle.lean_shell.specs.Words.{Asks, AsksNothing, Gives, GivesSize, IsNumberIn, lean_words}
 use Rattle.lean_shell.specs.declared.words.Command.{Command}
 use Rattle.lean_shell.specs.declared.words.Command.TheVariants.{Dump, Format, Run}
 
@@ -39,12 +39,12 @@ module _ (words : List (List ℕ)) (met : Option (List ℕ × List Row)) (fits :
     pages = given.pages;
     blocks = given.blocks;
   }
-  asks (Run size) (name, options, there, (named, given)) = record { options = options; names = record { no_fault = fits; are = sym is ∙ (there ∙ ap (λ (n : List ℕ). Some (n, options)) named) }; rows = given }
+  asks (Run size) (name, options, there, (named, given)) = record { options = options; names = record { no_fault = fits; are = sym is ∙ (there ∙ ap (λ (n : List ℕ). Some (n, options)) named) }; given = given }
   asks Dump (name, options, there, named) = record { options = options; names = record { no_fault = fits; are = sym is ∙ (there ∙ ap (λ (n : List ℕ). Some (n, options)) named) } }
 
   asked : (c : Command) → Asks words c → AsksAs met c
   asked (Format shape) a = (codes "format", a.options, is ∙ a.names.are, (refl, record { workers = a.workers; pages = a.pages; blocks = a.blocks }))
-  asked (Run size) a = (codes "run", a.options, is ∙ a.names.are, (refl, a.rows))
+  asked (Run size) a = (codes "run", a.options, is ∙ a.names.are, (refl, a.given))
   asked Dump a = (codes "dump", a.options, is ∙ a.names.are, refl)
 
   pub asks_some : (o : Option Command) → IfSome o (AsksAs met) → IfSome o (Asks words)
@@ -86,7 +86,7 @@ only_format name options is none (Format shape) a = none shape a.1
 only_format name options is none (Run size) a = let e : 6 ≡ 3 = ap length (sym is ∙ a.0) in omega (arith, e)
 only_format name options is none Dump a = let e : 6 ≡ 4 = ap length (sym is ∙ a) in omega (arith, e)
 
-pub only_run : (name : List ℕ) (options : List Row) → name ≡ codes "run" → ((s : Size) → GivesRows options s.rows → ⊥) → (c : Command) → AsksBy name options c → ⊥
+pub only_run : (name : List ℕ) (options : List Row) → name ≡ codes "run" → ((s : Size) → GivesSize options s → ⊥) → (c : Command) → AsksBy name options c → ⊥
 only_run name options is none (Format shape) a = let e : 3 ≡ 6 = ap length (sym is ∙ a.0) in omega (arith, e)
 only_run name options is none (Run size) a = none size a.1
 only_run name options is none Dump a = let e : 3 ≡ 4 = ap length (sym is ∙ a) in omega (arith, e)

@@ -5,14 +5,15 @@ use Rattle.lean_disk.specs.Story.{Crash, Story, Tells, areas_of}
 use Rattle.disk_slots.specs.declared.master.Master.{Master}
 use Rattle.disk_image.specs.Fair.{IsFairCrash}
 use Rattle.disk_image.specs.MasterSlots.{master_on}
-use Rattle.recovery.specs.Crashes.{IsNextOf, ShowsStill}
+use Rattle.recovery.specs.Crashes.{ShowsStill}
 use Rattle.recovery.specs.Telling.{TellsAll}
 use Rattle.transcripts.specs.Transcripts.{IsQuiet, first_lines}
-use Rattle.lean_shell.specs.Starts.{IsLeft, IsRoomOfNext}
+use Rattle.lean_engine.specs.declared.engine.Size.{Size}
+use Rattle.lean_shell.specs.Starts.{IsLeft, IsOfOpening, IsRoomOfNext}
 
--- It tells of the areas that an opening asks for and, with none of them split off, of crashes.
-pub record TellsCrashes (s : Story) : Type 0 where
-  pub all : TellsAll 1 s
+-- It tells of the areas that an opening asks for, with at most so many logs, and, with none of them split off, of crashes.
+pub record TellsCrashes (most : ℕ) (s : Story) : Type 0 where
+  pub all : TellsAll most s
   pub counts : IsTrue s.counts
 
 -- what a read gives now, as if a crash had left it
@@ -27,10 +28,10 @@ pub record IsYoung (m : Master) (s : Story) : Type 0 where
 
 -- Nothing was written yet: so many lines were out, none of which answers a call or tells of a transaction, and a crash leaves what it might have
 -- left at s.
-pub record IsUnwritten (s : Story) (input output : List ℕ) (c : Crash) : Type 0 where
+pub record IsUnwritten (m : Master) (s : Story) (input output : List ℕ) (c : Crash) : Type 0 where
   pub lines : ℕ
   pub notes : c.notes ≡ s.notes + lines
-  pub quiet : IsQuiet 1 input (first_lines lines output)
+  pub quiet : IsQuiet (length m.heads) input (first_lines lines output)
   pub writes : (a : ℕ) → Tells s a → c.writes a ≡ (s.area a).writes
   pub leaves : (a : ℕ) → Tells s a → Leaves (s.area a) (c.image a)
 
@@ -38,16 +39,17 @@ pub record IsUnwritten (s : Story) (input output : List ℕ) (c : Crash) : Type 
 pub record IsNoneTold (m : Master) (s : Story) (input output : List ℕ) (n : Master) (c : Crash) : Type 0 where
   pub lines : ℕ
   pub notes : c.notes ≡ s.notes + lines
-  pub quiet : IsQuiet 1 input (first_lines lines output)
+  pub quiet : IsQuiet (length m.heads) input (first_lines lines output)
   pub shows : ShowsStill m (areas_of s) n c.image
 
--- The master that counts is that of the disk on entry, or the one that its opening writes; and what stands of the run's calls.
-pub record HasMasterOf (locks : ℕ) (m : Master) (s : Story) (input output : List ℕ) (c : Crash) : Type 0 where
+-- The master that counts is that of the disk on entry, or the one that its opening writes, or one that a sync of the run writes; and what stands of the
+-- run's calls.
+pub record HasMasterOf (size : Size) (m : Master) (s : Story) (input output : List ℕ) (c : Crash) : Type 0 where
   pub n : Master
   pub counts : master_on (c.image 0) ≡ Some n
-  pub is : (n ≡ m) ⊎ IsNextOf m (areas_of s) n
-  pub left : IsNoneTold m s input output n c ⊎ IsLeft locks (IsRoomOfNext input) m s input output c
+  pub is : (n ≡ m) ⊎ IsOfOpening m (areas_of s) n
+  pub left : IsNoneTold m s input output n c ⊎ IsLeft size (IsRoomOfNext input) m s input output c
 
 -- so it is in a crash that leaves a fair image, once something is written
-abbrev pub MasterLeaves : (locks : ℕ) (m : Master) (s : Story) (input output : List ℕ) (c : Crash) → Type 0
-MasterLeaves locks m s input output c = IsUnwritten s input output c ⊎ (IsFairCrash (length m.heads) s c → HasMasterOf locks m s input output c)
+abbrev pub MasterLeaves : (size : Size) (m : Master) (s : Story) (input output : List ℕ) (c : Crash) → Type 0
+MasterLeaves size m s input output c = IsUnwritten m s input output c ⊎ (IsFairCrash (length m.heads) s c → HasMasterOf size m s input output c)

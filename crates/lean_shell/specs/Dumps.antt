@@ -1,5 +1,5 @@
 -- How a dump ended: the pairs that it put, and the disk that it leaves.
-use Rattle.std.specs.Prelude.{◌≡◌, ◌⊎◌, ◌++◌, ◌<◌, ℕ, List, [], ◌∷◌, take, IsTrue, Some}
+use Rattle.std.specs.Prelude.{◌≡◌, ◌⊎◌, ◌++◌, ◌<◌, ◌+◌, ℕ, List, [], ◌∷◌, length, take, IsTrue, Some}
 use Rattle.map_model.specs.Maps.{key_end}
 use Rattle.page_model.specs.Pairs.{Pair, Rising}
 use Rattle.image_model.specs.Images.{map_of}
@@ -36,7 +36,7 @@ dump_text pairs = pair_lines pairs ++ line_of Notice.End
 -- These are all pairs of the map for which the disk stands, by the master by which it is opened.
 pub record AreOfDisk (s : Story) (pairs : List Pair) : Type 0 where
   pub m : Master
-  pub openable : IsOpenable 1 m
+  pub openable : IsOpenable 16 m
   pub sound : IsSoundDisk m (areas_of s)
   pub are : ArePairsOf (map_of (image_by m (areas_of s))) pairs
 
@@ -46,12 +46,13 @@ PutOrCut status text put sink0 sink1 = ((status ≡ 0) × (put ≡ text) × (sin
 
 -- ## The disk
 
--- It is as its opening leaves it, which saved pages that have changed and the next master.
+-- It is as its opening leaves it, which saved pages that have changed and the next master, and touched no area behind the logs.
 pub record IsAsOpened (s0 s1 : Story) : Type 0 where
   pub recovered : Recovered
-  pub is : TellsAll 1 s0 → (m : Master) × IsOpenable 1 m × IsRecovered m (areas_of s0) recovered
-  pub installed : TellsAll 1 s0 → (m : Master) → master_on (areas_of s0 0) ≡ Some m → HasInstalled m recovered s0 s1
-  pub opened : TellsAll 1 s0 → (m : Master) → IsCleanDisk m (areas_of s0) → IsOpened m (areas_of s0) recovered s1
+  pub is : TellsAll 16 s0 → (m : Master) × IsOpenable 16 m × IsRecovered m (areas_of s0) recovered
+  pub installed : TellsAll 16 s0 → (m : Master) → master_on (areas_of s0 0) ≡ Some m → HasInstalled m recovered s0 s1
+  pub opened : TellsAll 16 s0 → (m : Master) → IsCleanDisk m (areas_of s0) → IsOpened m (areas_of s0) recovered s1
+  pub beyond : (a : ℕ) → 1 + length recovered.master.heads < a → s1.area a ≡ s0.area a
 
 -- a crash leaves what one in an opening may leave, however many lines were out
 abbrev pub DumpLeaves : Master → Story → Crash → Type 0
@@ -63,7 +64,7 @@ DumpLeaves m s c = RecoveryLeaves m s (record c { notes = s.notes })
 pub record Dumped (status : ℕ) (s0 s1 : Story) (put : List ℕ) (sink0 sink1 : ℕ) : Type 0 where
   pub pairs : List Pair
   pub rising : Rising 0 pairs key_end
-  pub of_disk : TellsAll 1 s0 → AreOfDisk s0 pairs
+  pub of_disk : TellsAll 16 s0 → AreOfDisk s0 pairs
   pub printed : PutOrCut status (dump_text pairs) put sink0 sink1
   pub left : IsAsOpened s0 s1
 
@@ -71,10 +72,10 @@ pub record Dumped (status : ℕ) (s0 s1 : Story) (put : List ℕ) (sink0 sink1 :
 pub record DumpEnds (status : ℕ) (s0 s1 : Story) (held0 held1 : Held) (sink0 sink1 : ℕ) : Type 0 where
   pub put : List ℕ
   pub holds : IsTrue held0.tells → held1.bytes ≡ held0.bytes ++ put
-  pub how : NotOpened status s0 s1 put sink0 sink1 ⊎ Dumped status s0 s1 put sink0 sink1
+  pub how : NotOpened 16 status s0 s1 put sink0 sink1 ⊎ Dumped status s0 s1 put sink0 sink1
   -- nothing is written to a log, no other area is touched, and the disk tells on
   pub logs : (a : ℕ) → 1 < a → IsUntouched (s0.area a) (s1.area a)
-  pub others : (a : ℕ) → 2 < a → s1.area a ≡ s0.area a
+  pub others : (a : ℕ) → 17 < a → s1.area a ≡ s0.area a
   pub tells_on : TellsOn s0 s1
   -- wherever a crash falls, a clean disk stands for the same map
-  pub any_moment : TellsAll 1 s0 → (m : Master) → IsCleanDisk m (areas_of s0) → LeavesOnly s0 s1 (DumpLeaves m s0)
+  pub any_moment : TellsAll 16 s0 → (m : Master) → IsCleanDisk m (areas_of s0) → LeavesOnly s0 s1 (DumpLeaves m s0)

@@ -25,14 +25,14 @@ use Rattle.lean_shell.specs.Crashes.{IsUnwritten, IsYoung}
 
 -- The transaction of this record is in hand: it is found in the image, and its reply, which is not out yet, would answer the script's next line,
 -- a commit. With that reply the lines tell of all.
-pub record IsInHand (input output : List ℕ) (records : List Entry) (all : Journal) : Type 0 where
+pub record IsInHand (workers : ℕ) (input output : List ℕ) (records : List Entry) (all : Journal) : Type 0 where
   pub end : Entry
   pub has : Has end records
   pub commit : is_commit end.kind ≡ true
   pub reply : List ℕ
   pub reply_is : reply ≡ reply_line (Reply.Answered end.log (Committed end.txn end.number))
-  pub next : transcript 1 input (output ++ reply) ≡ transcript 1 input output ++ record { session = end.log; call = Commit; answer = Committed end.txn end.number } ∷ []
-  pub all_is : all ≡ journal (transcript 1 input (output ++ reply))
+  pub next : transcript workers input (output ++ reply) ≡ transcript workers input output ++ record { session = end.log; call = Commit; answer = Committed end.txn end.number } ∷ []
+  pub all_is : all ≡ journal (transcript workers input (output ++ reply))
 
 -- Recovery of what a crash left gives the map after the kept: those up to the master's floor, and the winners.
 pub record Survives (m : Master) (s : Story) (input output : List ℕ) (c : Crash) : Type 0 where
@@ -42,7 +42,7 @@ pub record Survives (m : Master) (s : Story) (input output : List ℕ) (c : Cras
   pub of_run : IsOfRun m n
   -- the committed transactions by then: those of which the lines that were out tell, and the one in hand, if there is one
   pub by_then : Journal
-  pub by_then_is : (by_then ≡ journal (transcript 1 input (first_lines lines output))) ⊎ IsInHand input (first_lines lines output) (found (image_by n c.image)) by_then
+  pub by_then_is : (by_then ≡ journal (transcript (length m.heads) input (first_lines lines output))) ⊎ IsInHand (length m.heads) input (first_lines lines output) (found (image_by n c.image)) by_then
   pub falls : IsFalling by_then
   pub serial : Serial (map_of (image_by m (areas_of s))) by_then
   pub numbers : (r : Entry) → Has r (found (image_by n c.image)) → is_commit r.kind ≡ true → (t : Txn) → Has t by_then → t.session ≡ r.log → t.number ≡ r.txn → t.at ≡ r.number
@@ -57,9 +57,9 @@ pub record Survives (m : Master) (s : Story) (input output : List ℕ) (c : Cras
 
 -- a crash in a run that began at s: nothing was written and answered yet, or a fair image survives
 abbrev pub RunLeaves : (m : Master) (s : Story) (input output : List ℕ) (c : Crash) → Type 0
-RunLeaves m s input output c = IsUnwritten s input output c ⊎ (IsFairCrash (length m.heads) s c → Survives m s input output c)
+RunLeaves m s input output c = IsUnwritten m s input output c ⊎ (IsFairCrash (length m.heads) s c → Survives m s input output c)
 
 -- Of a run on this script, with this output in the end, on a disk that told s0 and tells s1.
 pub record Headline (s0 s1 : Story) (input output : List ℕ) : Type 0 where
-  pub serial : (m : Master) (map : Map) (won : List Name) → DiskStandsFor m (areas_of s0) map won → Serial map (journal (transcript 1 input output))
+  pub serial : (m : Master) (map : Map) (won : List Name) → DiskStandsFor m (areas_of s0) map won → Serial map (journal (transcript (length m.heads) input output))
   pub any_moment : IsTrue s0.counts → (m : Master) → IsCleanDisk m (areas_of s0) → IsYoung m s0 → LeavesOnly s0 s1 (RunLeaves m s0 input output)

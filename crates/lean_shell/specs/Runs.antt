@@ -1,5 +1,5 @@
 -- How a run of a script ended.
-use Rattle.std.specs.Prelude.{◌≡◌, ◌⊎◌, ◌++◌, ◌<◌, ◌^◌, ℕ, suc, List, [], length, take, IsTrue, Some}
+use Rattle.std.specs.Prelude.{◌≡◌, ◌⊎◌, ◌++◌, ◌<◌, ◌≤◌, ◌^◌, ℕ, suc, List, [], length, take, IsTrue, Some}
 use Rattle.image_model.specs.Images.{won_by, lost_by, map_of}
 use Rattle.lean_disk.specs.Faults.{Rose}
 use Rattle.lean_disk.specs.Story.{Story, areas_of}
@@ -8,7 +8,7 @@ use Rattle.script_lang.specs.Notices.{Notice}
 use Rattle.disk_slots.specs.declared.master.Master.{Master}
 use Rattle.disk_image.specs.MasterSlots.{master_on}
 use Rattle.disk_image.specs.Shown.{image_by, IsCleanDisk, IsSoundDisk}
-use Rattle.recovery.specs.Masters.{IsOpenable}
+use Rattle.recovery.specs.Masters.{IsOpenable, next_master}
 use Rattle.recovery.specs.Opened.{IsRefusal, IsUntouched}
 use Rattle.recovery.specs.Telling.{TellsAll}
 use Rattle.recovery.specs.declared.opening.Unrecovered.{Unrecovered}
@@ -16,24 +16,27 @@ use Rattle.recovery.specs.declared.opening.Unrecovered.TheVariants as why
 use Rattle.core_state.specs.Openings.{Opening, first_map}
 use Rattle.core_calls.specs.Deeds.{answered}
 use Rattle.core_calls.specs.Fronts.{Done}
+use Rattle.core_calls.specs.Printed.{printed}
 use Rattle.worker_log.specs.Logs.{Log}
 use Rattle.map_model.specs.Lists.{Has}
 use Rattle.map_model.specs.Outputs.{Reply}
 use Rattle.map_model.specs.declared.call.Answer.TheVariants as answer
 use Rattle.map_model.specs.declared.call.Answered.{Answered}
 use Rattle.map_model.specs.declared.call.Refusal.TheVariants.{RowSpent}
-use Rattle.transcripts.specs.Told.{opened_line, replies, text_of}
-use Rattle.map_model.specs.Pairings.{in_turn}
+use Rattle.map_model.specs.Pairings.{counted, in_turn, script_of}
+use Rattle.transcripts.specs.Told.{opened_line, text_of}
 use Rattle.transcripts.specs.Transcripts.{transcript}
 use Rattle.script_run.specs.Runs.{Executes, IsLastCut, PrintsTo, calls_of}
 use Rattle.script_run.specs.Texts.{LinesRead}
 use Rattle.script_run.specs.declared.stop.Stop.{Stop}
 use Rattle.script_run.specs.declared.stop.Stop.TheVariants as stops
+use Rattle.engine_trait.specs.Calls.{Memory}
 use Rattle.lean_engine.specs.Openings.{Shows}
+use Rattle.lean_engine.specs.declared.engine.Size.{Size}
 use Rattle.lean_shell.specs.Crashes.{IsYoung, TellsCrashes, as_read}
 use Rattle.lean_shell.specs.Headline.{Survives}
 use Rattle.lean_shell.specs.Lines.{line_of, WentOut}
-use Rattle.lean_shell.specs.Starts.{AllAnswered, IsLeft, IsOfOne}
+use Rattle.lean_shell.specs.Starts.{AllAnswered, IsLeft, IsOfSize}
 use Rattle.recovery.specs.Starts.{IsStartOf}
 
 -- ## A disk that was not opened
@@ -50,11 +53,11 @@ status_of (why.Damaged area place) = 7
 status_of why.DiskFault = 6
 status_of why.Memory = 8
 
--- The line of the reason was put, or a prefix of it and the sink failed; and a disk that is refused is left as it was.
-pub record NotOpened (status : ℕ) (s0 s1 : Story) (put : List ℕ) (sink0 sink1 : ℕ) : Type 0 where
+-- Of a disk of at most so many logs: the line of the reason was put, or a prefix of it and the sink failed; and a disk that is refused is left as it was.
+pub record NotOpened (most status : ℕ) (s0 s1 : Story) (put : List ℕ) (sink0 sink1 : ℕ) : Type 0 where
   pub reason : Unrecovered
   pub status_is : status ≡ status_of reason
-  pub shown : Shows s0 reason
+  pub shown : Shows most s0 reason
   pub printed : WentOut (line_of (notice_of reason)) put sink0 sink1
   pub left : IsRefusal reason → (a : ℕ) → IsUntouched (s0.area a) (s1.area a)
 
@@ -69,10 +72,10 @@ pub record Counts : Type 0 where
 abbrev pub first_line : Counts → List ℕ
 first_line n = opened_line n.generation n.winners n.undone
 
--- The opening is the start that the disk on entry gives, with the map for which it stands, and the counts are those of its image.
-pub record IsFrom (g : Opening) (s : Story) (n : Counts) : Type 0 where
+-- The opening is the start that the disk on entry, of at most so many logs, gives, with the map for which it stands, and the counts are those of its image.
+pub record IsFrom (most : ℕ) (g : Opening) (s : Story) (n : Counts) : Type 0 where
   pub m : Master
-  pub openable : IsOpenable 1 m
+  pub openable : IsOpenable most m
   pub sound : IsSoundDisk m (areas_of s)
   pub starts : IsStartOf m (areas_of s) g
   pub map : (k : ℕ) → first_map g k ≡ map_of (image_by m (areas_of s)) k
@@ -80,33 +83,34 @@ pub record IsFrom (g : Opening) (s : Story) (n : Counts) : Type 0 where
   pub won : n.winners ≡ length (won_by (image_by m (areas_of s)))
   pub lost : n.undone ≡ length (lost_by (image_by m (areas_of s)))
 
--- the log of the next generation, which is empty
-abbrev pub first_log : Master → (base : ℕ) → Log
-first_log m base = record { generation = suc m.generation; log = 1; blocks = m.blocks; head = 0; next = 0; payload = []; count = 0; last = base; flushed = base }
+-- log w of the next generation, which is empty
+abbrev pub first_log : Master → (base w : ℕ) → Log
+first_log m base w = record { generation = suc m.generation; log = w; blocks = m.blocks; head = 0; next = 0; payload = []; count = 0; last = base; flushed = base }
 
 -- The sink failed as it was given the first line, and the script was not read.
-pub record CutFirst (status : ℕ) (s0 : Story) (feed0 feed1 : Feed) (put : List ℕ) (sink0 sink1 : ℕ) : Type 0 where
+pub record CutFirst (most status : ℕ) (s0 : Story) (feed0 feed1 : Feed) (put : List ℕ) (sink0 sink1 : ℕ) : Type 0 where
   pub status_is : status ≡ 5
   pub cause : Rose sink0 sink1
   pub counts : Counts
   pub opening : Opening
-  pub from : TellsAll 1 s0 → IsFrom opening s0 counts
+  pub from : TellsAll most s0 → IsFrom most opening s0 counts
   pub prefix : ℕ
   pub printed : put ≡ take prefix (first_line counts)
   pub unread : feed1 ≡ feed0
 
 -- ## What was executed
 
--- An engine of one session with so many lock rows stands on the start that the disk on entry gives, with an empty log, and answers these calls in turn, by the
--- events of a run of the core: each refusal has its cause in the state at its place and in its log.
-pub record Executed (locks : ℕ) (s0 : Story) (counts : Counts) (calls : List Done) : Type 0 where
+-- An engine so large stands on the start that the disk on entry gives, with an empty log for each session and the master that recovery wrote, and answers these
+-- calls in turn, by the events of a run of the core: each refusal has its cause in the state at its place and in its log.
+pub record Executed (size : Size) (s0 : Story) (counts : Counts) (calls : List Done) : Type 0 where
   pub opening : Opening
-  pub of_one : IsOfOne locks opening
-  pub from : TellsAll 1 s0 → IsFrom opening s0 counts
-  pub first : Log
-  pub log : TellsAll 1 s0 → (m : Master) → master_on (areas_of s0 0) ≡ Some m → first ≡ first_log m opening.base
-  pub last : Log
-  pub executes : Executes opening [] first calls last
+  pub of_size : IsOfSize size opening
+  pub from : TellsAll size.sessions s0 → IsFrom size.sessions opening s0 counts
+  pub first : Memory
+  pub log : TellsAll size.sessions s0 → (m : Master) → master_on (areas_of s0 0) ≡ Some m → (w : ℕ) → 0 < w → w ≤ opening.workers → first.log w ≡ first_log m opening.base w
+  pub master : TellsAll size.sessions s0 → (m : Master) → master_on (areas_of s0 0) ≡ Some m → first.master ≡ next_master m opening.base
+  pub last : Memory
+  pub executes : Executes opening size.group [] first calls last
 
 -- ## What was put
 
@@ -131,46 +135,51 @@ WentLast stops.End put before now = (put ≡ []) × (now ≡ before)
 WentLast stops.WriteFault put before now = (put ≡ []) × Rose before now
 WentLast stop put before now = WentOut (last_line stop) put before now
 
--- The first line went out, then the replies to these calls, then the last line or a prefix of it.
-pub record Printed (stop : Stop) (counts : Counts) (calls : List Done) (put : List ℕ) (sink0 sink1 : ℕ) : Type 0 where
+-- The first line went out, then the lines that are due behind these calls, then the last line or a prefix of it.
+pub record Printed (g : Opening) (stop : Stop) (counts : Counts) (calls : List Done) (put : List ℕ) (sink0 sink1 : ℕ) : Type 0 where
   pub told : List Reply
   pub tail : List ℕ
-  pub prints : PrintsTo (Some stop) (replies (calls_of calls)) told tail
-  pub cut : stop ≡ stops.WriteFault → IsLastCut (calls_of calls) told
+  pub prints : PrintsTo (Some stop) (printed g calls) told tail
+  pub cut : stop ≡ stops.WriteFault → IsLastCut g [] calls told
   pub last : List ℕ
   pub last_is : WentLast stop last sink0 sink1
   pub put_is : put ≡ first_line counts ++ (text_of told ++ (tail ++ last))
 
--- What a script and what was put tell of: all calls, but for the last ones where the sink failed.
-pub record AreTold (stop : Stop) (calls : List Done) (input put : List ℕ) : Type 0 where
+-- What a script for so many sessions and what was put tell of: all calls, but for the last ones where the sink failed, and for the answers of an unfinished
+-- group.
+pub record AreTold (sessions : ℕ) (stop : Stop) (calls : List Done) (input put : List ℕ) : Type 0 where
   pub heard : List Answered
   pub unheard : List Answered
   pub calls_are : unheard ++ heard ≡ calls_of calls
   pub all_heard : (stop ≡ stops.WriteFault → ⊥) → unheard ≡ []
-  pub transcript_is : transcript 1 input put ≡ in_turn heard
+  pub transcript_is : transcript sessions input put ≡ counted (in_turn heard)
 
 -- ## All of it
 
 -- The script was executed, line by line, and what came of it was put.
-pub record Ran (locks status : ℕ) (s0 s1 : Story) (feed0 feed1 : Feed) (put : List ℕ) (sink0 sink1 : ℕ) : Type 0 where
+pub record Ran (size : Size) (status : ℕ) (s0 s1 : Story) (feed0 feed1 : Feed) (put : List ℕ) (sink0 sink1 : ℕ) : Type 0 where
   pub stop : Stop
   pub status_is : status ≡ ended stop
   pub counts : Counts
   pub calls : List Done
-  pub few : length calls < 2 ^ 40
-  pub executed : Executed locks s0 counts calls
+  -- the lines, and the calls: to a line that meets a conflict there are two
+  pub few : length (script_of (calls_of calls)) < 2 ^ 40
+  pub calls_few : length calls < 2 ^ 41
+  pub executed : Executed size s0 counts calls
   -- too few for a latch to be spent
   pub none_spent : (x : Done) → Has x calls → answered x.outcome.deed ≡ answer.Refused RowSpent → ⊥
   -- the script begins with the lines that ask them, and why no more were executed
-  pub read : IsTrue feed0.tells → LinesRead stop (calls_of calls) feed0.left
-  pub printed : Printed stop counts calls put sink0 sink1
-  pub told : IsTrue feed0.tells → AreTold stop calls feed0.left put
+  pub read : IsTrue feed0.tells → LinesRead stop executed.opening.workers (calls_of calls) feed0.left
+  pub printed : Printed executed.opening stop counts calls put sink0 sink1
+  pub told : IsTrue feed0.tells → AreTold executed.opening.workers stop calls feed0.left put
+  -- nothing was written behind the logs of its sessions
+  pub beside : (a : ℕ) → suc executed.opening.workers < a → IsUntouched (s0.area a) (s1.area a)
   -- unless the disk failed, it stands as a crash would have left it
-  pub stands : (stop ≡ stops.DiskFault → ⊥) → IsTrue feed0.tells → (m : Master) → TellsCrashes s0 → IsCleanDisk m (areas_of s0) → IsYoung m s0 → Survives m s0 feed0.left put (as_read s1)
-  pub left : (stop ≡ stops.DiskFault → ⊥) → IsTrue feed0.tells → (m : Master) → TellsCrashes s0 → IsCleanDisk m (areas_of s0) → IsYoung m s0 → IsLeft locks AllAnswered m s0 feed0.left put (as_read s1)
+  pub stands : (stop ≡ stops.DiskFault → ⊥) → IsTrue feed0.tells → (m : Master) → TellsCrashes size.sessions s0 → IsCleanDisk m (areas_of s0) → IsYoung m s0 → Survives m s0 feed0.left put (as_read s1)
+  pub left : (stop ≡ stops.DiskFault → ⊥) → IsTrue feed0.tells → (m : Master) → TellsCrashes size.sessions s0 → IsCleanDisk m (areas_of s0) → IsYoung m s0 → IsLeft size AllAnswered m s0 feed0.left put (as_read s1)
 
 -- How a run ended, on a disk that told s0 and tells s1, with a source that told feed0 and tells feed1, and a sink into which these bytes were put; and
 -- how often the sink had failed before and has now. The script of a disk that was not opened was not read.
-abbrev pub HowRun : (locks status : ℕ) (s0 s1 : Story) (feed0 feed1 : Feed) (put : List ℕ) (sink0 sink1 : ℕ) → Type 0
-HowRun locks status s0 s1 feed0 feed1 put sink0 sink1 =
-    (NotOpened status s0 s1 put sink0 sink1 × (feed1 ≡ feed0)) ⊎ (CutFirst status s0 feed0 feed1 put sink0 sink1 ⊎ Ran locks status s0 s1 feed0 feed1 put sink0 sink1)
+abbrev pub HowRun : (size : Size) (status : ℕ) (s0 s1 : Story) (feed0 feed1 : Feed) (put : List ℕ) (sink0 sink1 : ℕ) → Type 0
+HowRun size status s0 s1 feed0 feed1 put sink0 sink1 =
+    (NotOpened size.sessions status s0 s1 put sink0 sink1 × (feed1 ≡ feed0)) ⊎ (CutFirst size.sessions status s0 feed0 feed1 put sink0 sink1 ⊎ Ran size status s0 s1 feed0 feed1 put sink0 sink1)

@@ -1,80 +1,111 @@
 -- What stands of a run's calls on the disk that it leaves.
-use Rattle.std.specs.Prelude.{◌≡◌, ◌++◌, ◌+◌, ◌<◌, ◌%◌, ℕ, List, Option, Some}
+use Rattle.std.specs.Prelude.{◌≡◌, ◌≤◌, ◌++◌, ◌+◌, ◌<◌, ◌%◌, ℕ, List, ◌∷◌, length, Option, Some}
 use Rattle.image_model.specs.Entries.{Entry}
-use Rattle.image_model.specs.Images.{found}
 use Rattle.image_model.specs.Slots.{base_of}
 use Rattle.lean_disk.specs.Story.{Crash, Story, areas_of}
 use Rattle.disk_slots.specs.declared.master.Master.{Master}
 use Rattle.disk_image.specs.MasterSlots.{master_on}
-use Rattle.disk_image.specs.Shown.{image_by, shown_by}
+use Rattle.disk_image.specs.Shown.{Areas, image_by, shown_by}
+use Rattle.disk_runs.specs.Masters.{IsNoEarlier}
 use Rattle.recovery.specs.Crashes.{IsNextOf}
 use Rattle.recovery.specs.Starts.{IsStartOf}
 use Rattle.core_state.specs.Openings.{Opening, start_page}
 use Rattle.core_state.specs.Events.{Event}
+use Rattle.core_state.specs.States.{State}
 use Rattle.core_state.specs.Steps.{state_after}
 use Rattle.core_crash.specs.Crashes.{from_head, log_of}
-use Rattle.core_calls.specs.Deeds.{asked}
-use Rattle.core_calls.specs.Fronts.{Done, front}
+use Rattle.core_calls.specs.Fronts.{Done, front, outcomes}
+use Rattle.core_calls.specs.Printed.{durable_lines, printed}
 use Rattle.core_calls.specs.Runs.{EachTells, Tells}
+use Rattle.core_calls.specs.Steps.{hindered_in}
 use Rattle.run_crashes.specs.Lines.{FellIn, NoneStopped}
+use Rattle.engine_trait.specs.Calls.{call_behind}
 use Rattle.engine_trait.specs.Limits.{limits}
 use Rattle.engine_trait.specs.Rooms.{IsRoomFor}
+use Rattle.lean_engine.specs.declared.engine.Size.{Size}
 use Rattle.map_model.specs.declared.call.Call.{Call}
-use Rattle.map_model.specs.Pairings.{in_turn, script_of}
-use Rattle.script_lang.specs.Lines.{CallFits}
+use Rattle.map_model.specs.Journals.{Name}
+use Rattle.map_model.specs.Outputs.{Reply, names}
+use Rattle.map_model.specs.Pairings.{counted, in_turn, script_of}
+use Rattle.script_lang.specs.Text.{script_lines}
 use Rattle.transcripts.specs.Laws.{ComesNext}
-use Rattle.transcripts.specs.Told.{ask}
-use Rattle.transcripts.specs.Transcripts.{first_lines, transcript}
+use Rattle.transcripts.specs.Told.{ask, asked_lines, EachLineFits, LineFits}
+use Rattle.transcripts.specs.Transcripts.{durables, first_lines, transcript}
 use Rattle.script_run.specs.Runs.{calls_of}
 
--- An opening of an engine of one session with so many lock rows: how many changes a transaction makes, of how many pairs pages are joined, which lock row a key
--- has, and that each page has a frame.
-pub record IsOfOne (locks : ℕ) (g : Opening) : Type 0 where
-  pub workers : g.workers ≡ 1
+-- An opening of an engine so large: at most how many sessions there are, how many changes a transaction makes, of how many pairs pages are joined, which lock row
+-- a key has, and that each page has a frame.
+pub record IsOfSize (size : Size) (g : Opening) : Type 0 where
+  pub few : g.workers ≤ size.sessions
   pub changes : g.changes ≡ 64
   pub joined : g.joined ≡ 45
-  pub rows : (k : ℕ) → g.row_of k ≡ k % locks
+  pub rows : (k : ℕ) → g.row_of k ≡ k % size.rows
   pub frames : g.frames ≡ g.format.pages
 
--- A call of session 1 behind these: its line is the script's next, and it is told by its events.
-pub record IsNextCall (g : Opening) (input : List ℕ) (heard : List Done) (x : Done) : Type 0 where
-  pub session : x.outcome.session ≡ 1
-  pub line : ComesNext (script_of (calls_of heard)) (ask 1 (asked x.outcome.deed)) input
-  pub tells : Tells limits g 1 heard x
+-- The master is the one that an opening of this disk writes, or one that the run writes behind it, by a sync.
+pub record IsOfOpening (m : Master) (area : Areas) (n : Master) : Type 0 where
+  pub first : Master
+  pub next : IsNextOf m area first
+  pub later : IsNoEarlier first n
+
+-- the script begins with the lines that ask these calls, for so many sessions
+pub record HasLinesFor (sessions : ℕ) (input : List ℕ) (calls : List Done) : Type 0 where
+  pub fits : EachLineFits sessions (script_of (calls_of calls))
+  pub others : List (List ℕ)
+  pub lines : script_lines input ≡ asked_lines (script_of (calls_of calls)) ++ others
+
+-- A call behind these: the script begins with their lines and its, which is the last of theirs where it is the abort behind a conflict; and it is told by its events.
+pub record IsNextCall (g : Opening) (group : ℕ) (input : List ℕ) (heard : List Done) (x : Done) : Type 0 where
+  pub lines : HasLinesFor g.workers input (x ∷ heard)
+  pub tells : Tells limits g group heard x
 
 -- every call was answered
 abbrev pub AllAnswered : Opening → List Done → List Event → Type 0
 AllAnswered g = NoneStopped
 
--- Events of a call of session 1 behind these that was not answered: its line is the script's next, and they are what such a call may have done by then. A put
--- made room for its key, a del took its key's row, an abort put changes back, and any other call loaded pages.
-pub record IsRoomOfNext (input : List ℕ) (g : Opening) (heard : List Done) (es : List Event) : Type 0 where
-  pub call : Call
-  pub fits : CallFits call
-  pub line : ComesNext (script_of (calls_of heard)) (ask 1 call) input
-  pub room : IsRoomFor g heard 1 call es
+-- what may be asked behind these: the script's next line; or the abort that is due behind the newest, which met a conflict
+pub data IsAskedNext (sessions : ℕ) (input : List ℕ) (heard : List Done) (session : ℕ) (c : Call) : Type 0 where
+  OfLine : LineFits sessions session c → ComesNext (script_of (calls_of heard)) (ask session c) input → IsAskedNext sessions input heard session c
+  OfAbort : (y : Done) → (earlier : List Done) → heard ≡ y ∷ earlier → y.outcome.session ≡ session → hindered_in y.outcome.deed ≡ Some c → IsAskedNext sessions input heard session c
 
--- By the next master each page's base is the start's, and the records are the oldest of those that a run of the core logs from there: of the calls of
--- which the lines that were out tell, and of the first events of at most one more; or of such events of a call that was not answered.
-pub record IsLeft (locks : ℕ) (Such : Opening → List Done → List Event → Type 0) (m : Master) (s : Story) (input output : List ℕ) (c : Crash) : Type 0 where
+-- Events of a call behind these that was not answered: they are what such a call may have done by then. A put made room for its key, a del took its key's
+-- row, an abort put changes back, a sync flushed logs, and any other call loaded pages.
+pub record IsRoomOfNext (input : List ℕ) (g : Opening) (heard : List Done) (es : List Event) : Type 0 where
+  pub session : ℕ
+  pub call : Call
+  pub asks : IsAskedNext g.workers input heard session call
+  pub room : IsRoomFor g heard session (call_behind (outcomes heard) call) es
+
+-- The records of log w are the oldest of those that a run logs there, from the head on.
+pub record IsOldestOf (s : State) (w : ℕ) (records : List Entry) : Type 0 where
+  pub newer : List Entry
+  pub left : List Entry
+  pub logged : newer ++ left ≡ log_of w s.entries
+  pub are : records ≡ from_head (s.head w) left
+
+-- By a master of the opening each page's base is the start's, and the records of each log are the oldest of those that a run of the core logs there: of the calls
+-- of which the lines that were out tell, and of the first events of at most one more; or of such events of a call that was not answered.
+pub record IsLeft (size : Size) (Such : Opening → List Done → List Event → Type 0) (m : Master) (s : Story) (input output : List ℕ) (c : Crash) : Type 0 where
   pub lines : ℕ
   pub notes : c.notes ≡ s.notes + lines
   pub n : Master
   pub counts : master_on (c.image 0) ≡ Some n
-  pub next : IsNextOf m (areas_of s) n
+  pub of_opening : IsOfOpening m (areas_of s) n
   pub opening : Opening
   pub starts : IsStartOf m (areas_of s) opening
-  pub of_one : IsOfOne locks opening
+  pub of_size : IsOfSize size opening
   pub base : (p : ℕ) → p < n.pages → base_of (shown_by n c.image) p ≡ Some (start_page opening p)
   pub heard : List Done
-  pub each : EachTells limits opening 1 heard
-  pub told : transcript 1 input (first_lines lines output) ≡ in_turn (calls_of heard)
+  pub each : EachTells limits opening size.group heard
+  pub told : transcript (length m.heads) input (first_lines lines output) ≡ counted (in_turn (calls_of heard))
+  -- of the durable lines behind the newest of them some may be missing
+  pub missing : List Name
+  pub out : List Reply
+  pub lines_are : durable_lines missing ++ out ≡ printed opening heard
+  pub reported : durables (first_lines lines output) ≡ names out
   -- the one more, if there is one, and those of its events that happened
   pub next_one : Option Done
-  pub is_next : (x : Done) → next_one ≡ Some x → IsNextCall opening input heard x
+  pub is_next : (x : Done) → next_one ≡ Some x → IsNextCall opening size.group input heard x
   pub behind : List Event
   pub fell : FellIn (Such opening heard) next_one behind
-  pub newer : List Entry
-  pub left : List Entry
-  pub logged : newer ++ left ≡ log_of 1 (state_after opening (front heard ++ behind)).entries
-  pub records : found (image_by n c.image) ≡ from_head ((state_after opening (front heard ++ behind)).head 1) left
+  pub logs : (w : ℕ) → 0 < w → w ≤ length m.heads → IsOldestOf (state_after opening (front heard ++ behind)) w ((image_by n c.image).log w)

@@ -39,7 +39,7 @@ abbrev pub format_words : App
 format_words = with_rule (with_rule (with_rule (new_app (codes "format")) (wanted (codes "workers"))) (wanted (codes "pages"))) (wanted (codes "blocks"))
 
 abbrev pub run_words : App
-run_words = with_rule (new_app (codes "run")) (with_default (codes "rows") (codes "256"))
+run_words = with_rule (with_rule (new_app (codes "run")) (with_default (codes "rows") (codes "256"))) (with_default (codes "group") (codes "1"))
 
 abbrev pub dump_words : App
 dump_words = new_app (codes "dump")
@@ -65,23 +65,25 @@ pub record Gives (options : List Row) (name : List ℕ) (from to n : ℕ) : Type
   pub value : first_of name options ≡ Some text
   pub number : IsNumberIn from to text n
 
--- so does that of lock rows
-abbrev pub GivesRows : List Row → ℕ → Type 0
-GivesRows options = Gives options (codes "rows") 16 4096
+-- so do those of lock rows and of how many commits are flushed at once; there may be sixteen sessions
+pub record GivesSize (options : List Row) (size : Size) : Type 0 where
+  pub rows : Gives options (codes "rows") 16 4096 size.rows
+  pub group : Gives options (codes "group") 1 64 size.group
+  pub sessions : size.sessions ≡ 16
 
--- `format --workers 1 --pages P --blocks N`, in any order
+-- `format --workers W --pages P --blocks N`, in any order
 pub record AsksFormat (words : List (List ℕ)) (shape : Shape) : Type 0 where
   pub options : List Row
   pub names : Names words (codes "format") options
-  pub workers : Gives options (codes "workers") 1 1 shape.workers
+  pub workers : Gives options (codes "workers") 1 16 shape.workers
   pub pages : Gives options (codes "pages") 16 4096 shape.pages
   pub blocks : Gives options (codes "blocks") 64 4096 shape.blocks
 
--- `run`, or `run --rows R`
+-- `run`, or `run --rows R --group C`, in any order, or with one of them
 pub record AsksRun (words : List (List ℕ)) (size : Size) : Type 0 where
   pub options : List Row
   pub names : Names words (codes "run") options
-  pub rows : GivesRows options size.rows
+  pub given : GivesSize options size
 
 -- `dump`
 pub record AsksDump (words : List (List ℕ)) : Type 0 where

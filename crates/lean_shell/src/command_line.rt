@@ -35,7 +35,9 @@ fn format_line<'a>(alloc: Global) -> Result<Line<'a>, AllocError>
 fn run_line<'a>(alloc: Global) -> Result<Line<'a>, AllocError>
     ensures { IfOk result (IsLine run_words) }
 {
-    Line::new(alloc, "run").arg(with_default(alloc, "rows", "256"))
+    Line::new(alloc, "run")
+        .arg(with_default(alloc, "rows", "256"))?
+        .arg(with_default(alloc, "group", "1"))
 }
 
 fn dump_line<'a>(alloc: Global) -> Line<'a>

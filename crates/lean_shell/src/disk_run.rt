@@ -67,7 +67,7 @@ pub(crate) fn unread<K: Sink<D>, D: Disk>(sink: &mut K, disk: D) -> Ended<D>
     refuse(Unrecovered::Memory, sink, disk)
 }
 
-/// Opens the disk, executes a script on it, with so many lock rows, and puts what comes of it, the last line included. The status is 0 where the script
+/// Opens the disk, executes a script on it, by an engine so large, and puts what comes of it, the last line included. The status is 0 where the script
 /// has ended, 3 at a line that is refused, 4 where the source failed, 5 where the sink did, 6 where the disk did, 7 where
 /// the disk has no master or is damaged, 8 where memory was refused.
 pub fn run_disk<S: Source, K: Sink<D>, D: Hosts>(
@@ -78,8 +78,10 @@ pub fn run_disk<S: Source, K: Sink<D>, D: Hosts>(
     size: Size,
 ) -> Ended<D>
     requires rows { (1 ≤ size.rows) × (size.rows ≤ 65536) }
-    ensures headline { IsTrue (S.feed source.old).tells → IsTrue (K.held sink.old).tells → TellsAll 1 (D.story disk) → Headline (D.story disk) (D.story result.disk) (S.feed source.old).left (added (K.held sink.old) (K.held sink.new)) }
-    ensures ends { RunEnds size.rows result.status (D.story disk) (D.story result.disk) (S.feed source.old) (S.feed source.new) (K.held sink.old) (K.held sink.new) (K.faults sink.old) (K.faults sink.new) }
+    requires group { 1 ≤ size.group }
+    requires sessions { size.sessions ≤ 16 }
+    ensures headline { IsTrue (S.feed source.old).tells → IsTrue (K.held sink.old).tells → TellsAll size.sessions (D.story disk) → Headline (D.story disk) (D.story result.disk) (S.feed source.old).left (added (K.held sink.old) (K.held sink.new)) }
+    ensures ends { RunEnds size result.status (D.story disk) (D.story result.disk) (S.feed source.old) (S.feed source.new) (K.held sink.old) (K.held sink.new) (K.faults sink.old) (K.faults sink.new) }
 
     ensures cause_read_fault { HasCause (S.faults source.old) (S.faults source.new) (result.status ≡ 4) }
     // A last line that is cut off leaves the status as it is.
@@ -120,15 +122,14 @@ fn laws()
     ensures { Laws }
 {
     core_commit::every_rise();
-    core_calls::every_alone();
-    core_calls::every_commit();
+    core_calls::every_durable();
+    core_calls::every_printed();
     core_calls::every_told();
     core_calls::every_run_crash();
     core_disk::every_shown();
-    transcripts::every_in_turn();
-    transcripts::every_next_in_turn();
+    script_lang::replies_are_read_back();
+    script_lang::notices_are_no_replies();
     transcripts::every_moment();
-    transcripts::every_heard();
     transcripts::every_end();
     transcripts::every_next();
     transcripts::every_notice();

@@ -6,6 +6,7 @@ ghost use Rattle.lean_shell.specs.Dumps.{DumpEnds};
 use crate::disk_run::status_of;
 use crate::lines::put_reason;
 use crate::pairs::put_map;
+use crate::words::SESSIONS;
 use lean_disk::Disk;
 use lean_edge::{Put, Sink};
 use recovery::recover;
@@ -24,7 +25,7 @@ pub fn dump_disk<K: Sink<D>, D: Disk>(alloc: Global, sink: &mut K, disk: &mut D)
     pair_walk::every_listing();
     image_model::every_undone();
     recovery::every_own();
-    let recovered = match recover(alloc, disk, 1) {
+    let recovered = match recover(alloc, disk, SESSIONS) {
         Ok(recovered) => recovered,
         Err(reason) => {
             put_reason(reason, sink, disk);

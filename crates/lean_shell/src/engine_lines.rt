@@ -2,6 +2,7 @@
 ghost use Rattle.std.specs.Prelude.{◌≡◌, ◌≤◌, ℕ, List};
 ghost use Rattle.core_state.specs.Openings.{Opening};
 ghost use Rattle.core_calls.specs.Fronts.{Done};
+ghost use Rattle.map_model.specs.Journals.{Name};
 ghost use Rattle.lean_disk.specs.Faults.{HasCause};
 ghost use Rattle.script_lang.specs.Notices.{Notice, NoticeFits};
 ghost use Rattle.script_run.specs.declared.stop.Stop.{Stop};
@@ -21,9 +22,10 @@ use script_run::Stop;
 /// Puts one line.
 fn put_line<K: Sink<D>, D: Disk, E: Calls<D>>(line: &[u8], sink: &mut K, engine: &mut E) -> Put
     requires { IsWholeLine line.now }
-    ensures put { IsPut line.now result (K.held sink.old) (K.held sink.new) (E.story engine.old) (E.story engine.new) }
-    ensures same { (E.log_of engine.new ≡ E.log_of engine.old) × (E.works engine.new ≡ E.works engine.old) × (E.faults engine.new ≡ E.faults engine.old) }
-    ensures in_run { (g : Opening) (xs : List Done) → E.in_run engine.old g xs → E.in_run engine.new g xs }
+    ensures put { IsPut line.now result (K.held sink.old) (K.held sink.new) (D.story (E.disk engine.old)) (D.story (E.disk engine.new)) }
+    ensures same { (E.memory engine.new ≡ E.memory engine.old) × (E.works engine.new ≡ E.works engine.old) × (D.faults (E.disk engine.new) ≡ D.faults (E.disk engine.old)) × (E.next engine.new ≡ E.next engine.old) }
+    ensures sizes { (E.sessions engine.new ≡ E.sessions engine.old) × (E.group engine.new ≡ E.group engine.old) }
+    ensures in_run { (g : Opening) (xs : List Done) (names : List Name) → E.in_run engine.old g xs names → E.in_run engine.new g xs names }
 
     ensures cause { HasCause (K.faults sink.old) (K.faults sink.new) (result ≡ Put.Failed) }
 {
@@ -38,10 +40,11 @@ pub(crate) fn put_opened<K: Sink<D>, D: Disk, E: Calls<D>>(
     sink: &mut K,
     engine: &mut E,
 ) -> Put
-    ensures put { IsPut (first_line (record { generation = generation; winners = winners; undone = undone })) result (K.held sink.old) (K.held sink.new) (E.story engine.old) (E.story engine.new) }
+    ensures put { IsPut (first_line (record { generation = generation; winners = winners; undone = undone })) result (K.held sink.old) (K.held sink.new) (D.story (E.disk engine.old)) (D.story (E.disk engine.new)) }
     ensures fits { NoticeFits (Notice.Opened generation winners undone) }
-    ensures same { (E.log_of engine.new ≡ E.log_of engine.old) × (E.works engine.new ≡ E.works engine.old) × (E.faults engine.new ≡ E.faults engine.old) }
-    ensures in_run { (g : Opening) (xs : List Done) → E.in_run engine.old g xs → E.in_run engine.new g xs }
+    ensures same { (E.memory engine.new ≡ E.memory engine.old) × (E.works engine.new ≡ E.works engine.old) × (D.faults (E.disk engine.new) ≡ D.faults (E.disk engine.old)) × (E.next engine.new ≡ E.next engine.old) }
+    ensures sizes { (E.sessions engine.new ≡ E.sessions engine.old) × (E.group engine.new ≡ E.group engine.old) }
+    ensures in_run { (g : Opening) (xs : List Done) (names : List Name) → E.in_run engine.old g xs names → E.in_run engine.new g xs names }
 
     ensures cause { HasCause (K.faults sink.old) (K.faults sink.new) (result ≡ Put.Failed) }
 {
@@ -52,9 +55,10 @@ pub(crate) fn put_opened<K: Sink<D>, D: Disk, E: Calls<D>>(
 }
 
 fn put_refused<K: Sink<D>, D: Disk, E: Calls<D>>(number: u64, sink: &mut K, engine: &mut E) -> Put
-    ensures put { IsPut (line_of (Notice.Refused number)) result (K.held sink.old) (K.held sink.new) (E.story engine.old) (E.story engine.new) }
-    ensures same { (E.log_of engine.new ≡ E.log_of engine.old) × (E.works engine.new ≡ E.works engine.old) × (E.faults engine.new ≡ E.faults engine.old) }
-    ensures in_run { (g : Opening) (xs : List Done) → E.in_run engine.old g xs → E.in_run engine.new g xs }
+    ensures put { IsPut (line_of (Notice.Refused number)) result (K.held sink.old) (K.held sink.new) (D.story (E.disk engine.old)) (D.story (E.disk engine.new)) }
+    ensures same { (E.memory engine.new ≡ E.memory engine.old) × (E.works engine.new ≡ E.works engine.old) × (D.faults (E.disk engine.new) ≡ D.faults (E.disk engine.old)) × (E.next engine.new ≡ E.next engine.old) }
+    ensures sizes { (E.sessions engine.new ≡ E.sessions engine.old) × (E.group engine.new ≡ E.group engine.old) }
+    ensures in_run { (g : Opening) (xs : List Done) (names : List Name) → E.in_run engine.old g xs names → E.in_run engine.new g xs names }
 
     ensures cause { HasCause (K.faults sink.old) (K.faults sink.new) (result ≡ Put.Failed) }
 {
@@ -66,9 +70,10 @@ fn put_refused<K: Sink<D>, D: Disk, E: Calls<D>>(number: u64, sink: &mut K, engi
 
 // Puts the last line of a script that stopped, if it has one.
 pub(crate) fn put_last<K: Sink<D>, D: Disk, E: Calls<D>>(stop: Stop, sink: &mut K, engine: &mut E)
-    ensures put { EndsWith stop (K.held sink.old) (K.held sink.new) (K.faults sink.old) (K.faults sink.new) (E.story engine.old) (E.story engine.new) }
-    ensures same { (E.log_of engine.new ≡ E.log_of engine.old) × (E.works engine.new ≡ E.works engine.old) × (E.faults engine.new ≡ E.faults engine.old) }
-    ensures in_run { (g : Opening) (xs : List Done) → E.in_run engine.old g xs → E.in_run engine.new g xs }
+    ensures put { EndsWith stop (K.held sink.old) (K.held sink.new) (K.faults sink.old) (K.faults sink.new) (D.story (E.disk engine.old)) (D.story (E.disk engine.new)) }
+    ensures same { (E.memory engine.new ≡ E.memory engine.old) × (E.works engine.new ≡ E.works engine.old) × (D.faults (E.disk engine.new) ≡ D.faults (E.disk engine.old)) × (E.next engine.new ≡ E.next engine.old) }
+    ensures sizes { (E.sessions engine.new ≡ E.sessions engine.old) × (E.group engine.new ≡ E.group engine.old) }
+    ensures in_run { (g : Opening) (xs : List Done) (names : List Name) → E.in_run engine.old g xs names → E.in_run engine.new g xs names }
     ensures later { K.faults sink.old ≤ K.faults sink.new }
 {
     fixed_lines();

@@ -85,7 +85,7 @@ fn run_alone<S: Source, K: Sink<D>, D: Hosts>(
 ) -> Ended<D>
     ensures ends { CommandEnds (texts words.now) result.status (D.story disk) (D.story result.disk) (S.feed source.old) (S.feed source.new) (K.held sink.old) (K.held sink.new)
         (record { source = S.faults source.old; sink = K.faults sink.old; disk = D.faults disk }) (record { source = S.faults source.new; sink = K.faults sink.new; disk = D.faults result.disk }) }
-    ensures headline { (size : Size) → Asks (texts words.now) (Run size) → IsTrue (S.feed source.old).tells → IsTrue (K.held sink.old).tells → TellsAll 1 (D.story disk) → Headline (D.story disk) (D.story result.disk) (S.feed source.old).left (added (K.held sink.old) (K.held sink.new)) }
+    ensures headline { (size : Size) → Asks (texts words.now) (Run size) → IsTrue (S.feed source.old).tells → IsTrue (K.held sink.old).tells → TellsAll 16 (D.story disk) → Headline (D.story disk) (D.story result.disk) (S.feed source.old).left (added (K.held sink.old) (K.held sink.new)) }
     ensures source { ((size : Size) → Asks (texts words.now) (Run size) → ⊥) → source.new ≡ source.old }
 {
     match read_words(alloc, words) {
@@ -122,7 +122,7 @@ pub fn run<R: Threads + Wait + Sync, S: Source, K: Sink<D>, D: Hosts, G: Gate + 
     gate: &G,
 ) -> Ended<D>
     // Whatever script runs, and wherever a crash falls.
-    ensures headline { (size : Size) → Asks (texts words.now) (Run size) → IsTrue (S.feed source.old).tells → IsTrue (K.held sink.old).tells → TellsAll 1 (D.story disk) → Headline (D.story disk) (D.story result.disk) (S.feed source.old).left (added (K.held sink.old) (K.held sink.new)) }
+    ensures headline { (size : Size) → Asks (texts words.now) (Run size) → IsTrue (S.feed source.old).tells → IsTrue (K.held sink.old).tells → TellsAll 16 (D.story disk) → Headline (D.story disk) (D.story result.disk) (S.feed source.old).left (added (K.held sink.old) (K.held sink.new)) }
 
     // Which statuses there are, and why.
     ensures known { IsStatus result.status }
@@ -133,7 +133,7 @@ pub fn run<R: Threads + Wait + Sync, S: Source, K: Sink<D>, D: Hosts, G: Gate + 
 
     // What each command does.
     ensures format { (shape : Shape) → Asks (texts words.now) (Format shape) → FormatEnds shape result.status (D.story disk) (D.story result.disk) (K.held sink.old) (K.held sink.new) (K.faults sink.old) (K.faults sink.new) (D.faults disk) (D.faults result.disk) }
-    ensures run { (size : Size) → Asks (texts words.now) (Run size) → RunEnds size.rows result.status (D.story disk) (D.story result.disk) (S.feed source.old) (S.feed source.new) (K.held sink.old) (K.held sink.new) (K.faults sink.old) (K.faults sink.new) }
+    ensures run { (size : Size) → Asks (texts words.now) (Run size) → RunEnds size result.status (D.story disk) (D.story result.disk) (S.feed source.old) (S.feed source.new) (K.held sink.old) (K.held sink.new) (K.faults sink.old) (K.faults sink.new) }
     ensures dump { Asks (texts words.now) Dump → DumpEnds result.status (D.story disk) (D.story result.disk) (K.held sink.old) (K.held sink.new) (K.faults sink.old) (K.faults sink.new) }
     ensures none { AsksNothing (texts words.now) → UsageEnds result.status (D.story disk) (D.story result.disk) (K.held sink.old) (K.held sink.new) (K.faults sink.old) (K.faults sink.new) (D.faults disk) (D.faults result.disk) }
 

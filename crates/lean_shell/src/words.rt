@@ -5,7 +5,7 @@ ghost use Rattle.clap.specs.Words.{found_of, rows_of, subcommand_rows_of};
 ghost use Rattle.disk_format.specs.declared.shape.Shape.{Shape};
 ghost use Rattle.lean_engine.specs.declared.engine.Size.{Size};
 ghost use Rattle.lean_shell.specs.Inside.CommandLines.{AsksAs, AsksBy, GivesShape};
-ghost use Rattle.lean_shell.specs.Words.{Asks, AsksNothing, Gives, GivesRows, IsNumberIn, IsPlain, texts};
+ghost use Rattle.lean_shell.specs.Words.{Asks, AsksNothing, Gives, GivesSize, IsNumberIn, IsPlain, texts};
 ghost use Rattle.lean_shell.specs.declared.words.Command.{Command};
 
 use crate::command_line::lean_line;
@@ -13,6 +13,9 @@ use clap::ArgMatches;
 use clap::error::ErrorKind;
 use lean_engine::{Shape, Size};
 use std::alloc::{AllocError, Global};
+
+/// How many sessions a disk may have, each with a log.
+pub(crate) const SESSIONS: u32 = 16;
 
 /// What the words of a command line ask for.
 #[derive(Clone, Copy, Debug, PartialEq, Eq)]
@@ -73,8 +76,7 @@ fn read_shape(options: &ArgMatches) -> Option<Shape>
     ensures some { IfSome result (GivesShape (rows_of (found_of options.now))) }
     ensures none { IfNone result ((s : Shape) → GivesShape (rows_of (found_of options.now)) s → ⊥) }
 {
-    // One worker, until there are more.
-    let workers = option_in(options, "workers", 1, 1)?;
+    let workers = option_in(options, "workers", 1, SESSIONS)?;
     let pages = option_in(options, "pages", 16, 4096)?;
     let blocks = option_in(options, "blocks", 64, 4096)?;
     Some(Shape {
@@ -85,11 +87,16 @@ fn read_shape(options: &ArgMatches) -> Option<Shape>
 }
 
 fn read_size(options: &ArgMatches) -> Option<Size>
-    ensures some { IfSome result (λ s. GivesRows (rows_of (found_of options.now)) s.rows) }
-    ensures none { IfNone result ((s : Size) → GivesRows (rows_of (found_of options.now)) s.rows → ⊥) }
+    ensures some { IfSome result (GivesSize (rows_of (found_of options.now))) }
+    ensures none { IfNone result ((s : Size) → GivesSize (rows_of (found_of options.now)) s → ⊥) }
 {
     let rows = option_in(options, "rows", 16, 4096)?;
-    Some(Size { rows })
+    let group = option_in(options, "group", 1, 64)?;
+    Some(Size {
+        rows,
+        group,
+        sessions: SESSIONS,
+    })
 }
 
 // What a command and its options ask for.

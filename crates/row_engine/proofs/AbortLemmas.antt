@@ -46,7 +46,9 @@ use Rattle.engine_calls.specs.Halves.{IsHalved, halved_by}
 use Rattle.engine_calls.specs.Parts.{EveryPart, behind_first}
 use Rattle.engine_calls.proofs.MarkLemmas.{any_append, keep_append, keep_none}
 use Rattle.engine_calls.proofs.UnlockLemmas.{if_met, unlocks_quiet}
-use Rattle.engine_trait.specs.Calls.{Fails, Logs, Nothing, call_behind, due_call, is_half_done}
+use Rattle.engine_trait.specs.Calls.{Nothing, call_behind, due_call, is_half_done}
+use Rattle.engine_trait.specs.Logs.{Logs}
+use Rattle.row_engine.specs.Deeds.{Fails}
 use Rattle.engine_trait.specs.Limits.{AreLoads, limits}
 use Rattle.engine_trait.specs.Refusals.{refusal_in}
 use Rattle.engine_trait.specs.Rooms.{AreBacks, IsRoomFor, MakesItsRoom, puts_back}
@@ -67,6 +69,7 @@ use Rattle.row_engine.specs.Holds.{Holds, IsOf}
 use Rattle.row_engine.specs.Puts.{KeepsLog}
 use Rattle.row_engine.specs.Ties.{Asked, Hindered, IsAbortDue, Ties}
 use Rattle.row_engine.specs.declared.session.Session.{Session}
+use Rattle.row_engine.proofs.OnOwn.{logs_own}
 use Rattle.row_engine.proofs.BackRuns.{Backs, backs_of}
 use Rattle.row_engine.proofs.Behind as behind
 use Rattle.row_engine.proofs.CommitRuns.{ending_met, length_unlocks}
@@ -308,7 +311,7 @@ module _ (reached : EveryReached) (needs : EveryNeed) (answers : EveryAnswer) (c
             few = few_events;
             refused = λ why e. inr (sym (refused_is refusal.RowSpent why e));
             refuses = λ why e. inr refl;
-            log = subst (λ k. Logs x.own g k (backs ++ misses) log mid) (sym (behind.front_is g xs first)) (logs_same x.own g (behind_first g xs first) backs misses log mid (misses_are m.misses m.are_misses) q.logs);
+            log = λ _. subst (λ k. Logs x.own g k (backs ++ misses) log mid) (sym (behind.front_is g xs first)) (logs_same x.own g (behind_first g xs first) backs misses log mid (misses_are m.misses m.are_misses) q.logs);
             room = subst (λ d. MakesItsRoom g (state_after g (front xs ++ first)) d (backs ++ misses)) (sym asks) (any_append is_structure backs misses facts.structure (misses_structure m.misses m.are_misses));
           };
           frame = frame;
@@ -427,7 +430,7 @@ module _ (reached : EveryReached) (needs : EveryNeed) (answers : EveryAnswer) (c
           logged : Logs x.own g (state_after g (front xs ++ first)) (backs ++ end_of x.own false floor rows) log is
           logged = logs_join (state_after g (front xs ++ first)) backs (end_of x.own false floor rows) log
               (subst (λ k. Logs x.own g k backs log mid) (sym (behind.front_is g xs first)) q.logs)
-              (subst (λ k. Logs x.own g k (end_of x.own false floor rows) mid is) (sym run_own) (is, record { record_of = r; entry = ap (λ (k : State). k.entries) (if_met (may g here end_event) end_met.0 here (ends here x.own entry_here)) ∙ ap (λ a. a ∷ here.entries) (sym is_abort.entry); after = after }, unlocks_logs (step g here end_event) rows))
+              (subst (λ k. Logs x.own g k (end_of x.own false floor rows) mid is) (sym run_own) (is, logs_own x.own g here end_event mid is (record { record_of = r; entry = ap (λ (k : State). k.entries) (if_met (may g here end_event) end_met.0 here (ends here x.own entry_here)) ∙ ap (λ a. a ∷ here.entries) (sym is_abort.entry); after = after }), unlocks_logs (step g here end_event) rows))
             where
               unlocks_logs : (k : State) (is_held : List ℕ) → Logs x.own g k (unlocks x.own is_held) is is
               unlocks_logs k [] = refl
@@ -470,7 +473,7 @@ module _ (reached : EveryReached) (needs : EveryNeed) (answers : EveryAnswer) (c
                 refused = λ why k. absurd (cc);
                 refuses = λ why k. absurd (not_refused why ((state_after g (front xs ++ first)).worker x.own).is_open (open_there ∙ opened)
                     ((λ i. refusal_in g (state_after g (front xs ++ first)) x.own (is_half_done x.own xs) log (sym asks i)) ∙ k));
-                log = logged;
+                log = λ _. logged;
                 room = subst (λ e. MakesItsRoom g (state_after g (front xs ++ first)) e (backs ++ end_of x.own false floor rows)) (sym asks) (any_append is_structure backs (end_of x.own false floor rows) facts.structure (unlocks_none rows));
               };
               frame = frame_all;

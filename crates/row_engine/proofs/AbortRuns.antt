@@ -30,6 +30,7 @@ use Rattle.row_engine.specs.Holds.{Holds}
 use Rattle.row_engine.specs.Inside.{abort_test}
 use Rattle.row_engine.specs.Puts.{KeepsLog, works_after}
 use Rattle.row_engine.specs.Ties.{Asked, Hindered}
+use Rattle.row_engine.specs.declared.commits.Ended as committed
 use Rattle.row_engine.specs.declared.session.Session.{Session}
 use Rattle.row_engine.proofs.AbortLemmas.{aborted_does, failed_back, halved_does, unended}
 use Rattle.row_engine.proofs.Behind as behind
@@ -116,9 +117,9 @@ module _ (reached : EveryReached) (needs : EveryNeed) (answers : EveryAnswer) (c
         halved_does reached needs answers coming entries parts g xs z v x log h t c due u y mid r.undoes w (length y.held.rows) few (missed_from (length y.held.rows) u u1 w given seen m) many old st lawful r.goes r.frame
 
     -- it came to its end
-    pub finished : x.is_open ≡ true → (u1 w : View) → u1.given ≡ u.given → u1.seen ≡ u.seen → (half : Bool) (is : Log) (new : Story) (a : Result ℕ Refusal) → Finishes a u1 w y mid is st new → (works_after a ≡ true → half ≡ false)
+    pub finished : x.is_open ≡ true → (u1 w : View) → u1.given ≡ u.given → u1.seen ≡ u.seen → (half : Bool) (is : Log) (new : Story) (a : Result committed.Ended Refusal) → Finishes a u1 w y mid is st new → (works_after a ≡ true → half ≡ false)
         → AbortDoes x.own x.group x.is_open (abort_answer a) x.half half v w log is old new
-    finished opened u1 w given seen half is new (Ok number) f whole c g xs t due =
+    finished opened u1 w given seen half is new (Ok told) f whole c g xs t due =
         let d = f.0 in
         let e = subst (λ n. Ended n (length y.held.rows) u false d.floor w) own_is (ended_as y.own (length y.held.rows) false u u1 w d.floor given seen d.ended) in
         let floor_at : d.floor ≡ flushed_by_all (opening u.given) (state u).core = d.floor_is ∙ (λ i. flushed_by_all (opening (given i)) (same_state u u1 given seen i).core) in

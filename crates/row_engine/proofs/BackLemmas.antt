@@ -250,6 +250,7 @@ module _ (rooms : EveryRoom) (z : Shape) (v w : View) (x : Session) (log : Log) 
       closed_txn = λ e. absurd (true≢false (sym is_open ∙ e));
       txn = let k = h.numbers.txn in let q = clock_above in omega arith;
       undo_room = λ _. room.0;
+      flush_room = λ going. absurd (true≢false going);
       few = let k = h.numbers.few in let l = left_is in omega arith;
       behind = h.numbers.behind;
     }

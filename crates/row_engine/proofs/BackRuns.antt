@@ -23,7 +23,7 @@ use Rattle.worker_log.specs.Logs.{Log}
 use Rattle.engine_calls.specs.Aborts.{PutsBack}
 use Rattle.engine_calls.specs.Clauses.{Between}
 use Rattle.engine_calls.specs.Parts.{EveryPart, behind_first}
-use Rattle.engine_trait.specs.Calls.{LogsOne}
+use Rattle.engine_trait.specs.Logs.{LogsOne}
 use Rattle.engine_trait.specs.Limits.{limits}
 use Rattle.engine_trait.specs.Rooms.{puts_back}
 use Rattle.row_words.specs.declared.event.Event.{Event}
@@ -32,11 +32,12 @@ use Rattle.row_words.specs.Moments.{events_of}
 use Rattle.row_words.specs.Openings.{opening}
 use Rattle.row_opening.specs.Openings.{EveryNeed, EveryReached, Opens}
 use Rattle.rows_trait.specs.declared.view.View.{View}
-use Rattle.rows_trait.specs.Views.{state}
+use Rattle.rows_trait.specs.Views.{after_all, state}
 use Rattle.row_engine.specs.declared.session.Session.{Session}
 use Rattle.row_engine.specs.Backs.{IsPutBack, Undoes, Undone, is_back}
 use Rattle.row_engine.specs.Others.{Steps}
 use Rattle.row_engine.specs.Grown.{Behind, Goes, Went}
+use Rattle.row_engine.proofs.OnOwn.{logs_own}
 use Rattle.row_engine.proofs.Behind as behind
 use Rattle.row_engine.proofs.GrowRuns.{all_append, logs_more, went_more}
 use Rattle.row_engine.proofs.Moments.{events_more}
@@ -84,6 +85,20 @@ turned own g s p m = go (s.worker own).changes (and_parts (s.worker own).is_open
     go [] e = absurd (true≢false (sym e))
     go (c ∷ cs) e = record { entry = _; entries = refl; kind = refl; saved = λ q. refl; flushed = λ w. refl; head = λ w. refl; floor = refl }
 
+-- ## What is flushed
+
+-- a change that is put back flushes nothing
+back_flushed : (g : Opening) (s : State) (own p : ℕ) → (happens g s (happening.Event.Put_back own p)).flushed ≡ s.flushed
+back_flushed g s own p = go (s.worker own).changes
+  where
+    go : (cs : List Entry) → (put_back g s own p cs).flushed ≡ s.flushed
+    go [] = refl
+    go (c ∷ cs) = refl
+
+-- nor does what is not seen
+pub same_flushed : (v w : View) → w.given ≡ v.given → w.seen ≡ v.seen → (state w).core.flushed ≡ (state v).core.flushed
+same_flushed v w given seen = λ i. (after_all (given i) (seen i)).core.flushed
+
 -- ## In a run
 
 module _ (reached : EveryReached) (need : EveryNeed) (parts : (old mid new : Story) → EveryPart old mid new) where
@@ -129,7 +144,7 @@ module _ (reached : EveryReached) (need : EveryNeed) (parts : (old mid new : Sto
     f = turned own g at c.page met
 
     logged : LogsOne own g (core.run g from es) e mid is
-    logged = subst (λ (q : State). LogsOne own g q e mid is) (sym run_is) (record { record_of = c.entry; entry = ap (λ (q : State). q.entries) step_is ∙ entries_is; after = c.after })
+    logged = subst (λ (q : State). LogsOne own g q e mid is) (sym run_is) (logs_own own g at e mid is (record { record_of = c.entry; entry = ap (λ (q : State). q.entries) step_is ∙ entries_is; after = c.after }))
 
     head_is : f.entry ≡ entry_of own c.entry
     head_is = first_is f.entry (entry_of own c.entry) at.entries at.entries (sym f.entries ∙ entries_is)
@@ -166,6 +181,7 @@ module _ (reached : EveryReached) (need : EveryNeed) (parts : (old mid new : Sto
     events = [];
     given = given;
     seen = seen ∙ sym (append-nil v.seen);
+    flushed = same_flushed v w given seen;
     steps = no_steps x.own v w given seen;
     session = refl;
     half = refl;
@@ -207,11 +223,15 @@ module _ (reached : EveryReached) (need : EveryNeed) (parts : (old mid new : Sto
     pub steps_more : Steps x.own v w
     steps_more = every_steps x.own v u w d.steps (subst (λ n. Steps n u w) own_is (back_steps u w z y mid is s new c))
 
+    pub flushed_more : (state w).core.flushed ≡ (state v).core.flushed
+    flushed_more = ap (λ (q : State). q.flushed) (seen_core u w (event.PutBack z.own c.page) c.given c.seen c.met) ∙ (back_flushed (opening u.given) (state u).core z.own c.page ∙ d.flushed)
+
     abbrev pub undoes_more : Undoes v w x y was is
     undoes_more = record {
       events = d.events ++ event.PutBack z.own c.page ∷ [];
       given = c.given ∙ d.given;
       seen = c.seen ∙ (ap (λ ys. ys ++ event.PutBack z.own c.page ∷ []) d.seen ∙ append_assoc v.seen d.events (event.PutBack z.own c.page ∷ []));
+      flushed = flushed_more;
       steps = steps_more;
       session = session_is y z x c.session d.session;
       half = ap (λ (q : Session). q.half) c.session ∙ sym (some_events d.events x.half);
@@ -235,6 +255,7 @@ module _ (reached : EveryReached) (need : EveryNeed) (parts : (old mid new : Sto
     events = d.events;
     given = given ∙ d.given;
     seen = seen ∙ d.seen;
+    flushed = same_flushed u w given seen ∙ d.flushed;
     steps = every_steps x.own v u w d.steps (no_steps x.own u w given seen);
     session = d.session;
     half = d.half;

@@ -1,12 +1,11 @@
 -- A begin.
-use Rattle.std.proofs.Common.{◌≡◌, ◌≢◌, ◌⊎◌, inl, inr, ◌↔◌, ◌≤◌, ◌<◌, ◌^◌, ◌+◌, ◌-◌, ℕ, zero, suc, min, Bool, true, false, cond, leb, ltb, List, [], ◌∷◌, ◌++◌, Some, None, Ok, Err, refl, sym, ap, ◌∙◌, subst, arith, append-nil, true≢false, eq-eqb}
-use Rattle.std.proofs.lemmas.Bool.{and_from, cases_lt, le-leb, leb-true, leb-false, lt-ltb}
-use Rattle.std.proofs.lemmas.List.{length-append}
+use Rattle.std.proofs.Common.{◌≡◌, ◌≢◌, ◌⊎◌, inl, inr, ◌↔◌, ◌≤◌, ◌<◌, ◌^◌, ◌+◌, ◌-◌, ℕ, zero, suc, min, Bool, true, false, cond, leb, ltb, List, [], ◌∷◌, ◌++◌, Some, None, refl, sym, ap, ◌∙◌, subst, arith, append-nil, true≢false, eq-eqb}
+use Rattle.std.proofs.lemmas.Bool.{and_from, cases_lt, le-leb, leb-false, lt-ltb}
 use Rattle.map_model.specs.declared.call.Answer.TheVariants as answer
 use Rattle.map_model.specs.declared.call.Call.TheVariants as call
 use Rattle.map_model.specs.declared.call.Refusal.{Refusal}
 use Rattle.map_model.specs.declared.call.Refusal.TheVariants as refusal
-use Rattle.map_model.specs.Lists.{Has, keep, upd}
+use Rattle.map_model.specs.Lists.{Has, upd}
 use Rattle.rfa_model.specs.Reaches.{least}
 use Rattle.rfa_model.specs.Stamps.{debt_at_begin}
 use Rattle.rfa_model.proofs.ReachLemmas.{least_low}
@@ -14,55 +13,35 @@ use Rattle.core_state.specs.Openings.{Opening}
 use Rattle.core_state.specs.States.{State, flushed_by_all}
 use Rattle.core_state.specs.Events as happening
 use Rattle.core_state.specs.Needs.{may, holds_row}
-use Rattle.core_state.specs.Steps.{begun, happens, state_after}
-use Rattle.lean_disk.proofs.MomentLemmas.{framed}
-use Rattle.lean_disk.specs.Story.{IsLawful, Story}
+use Rattle.core_state.specs.Steps.{begun, happens}
 use Rattle.worker_log.specs.Logs.{Log, used, limit}
-use Rattle.core_calls.specs.Deeds.{marks_by}
-use Rattle.core_calls.specs.Fronts.{Done, front, outcomes}
-use Rattle.core_calls.specs.LogEvents.{Prepares, PreparesBy, RefusedLogs, is_log}
 use Rattle.core_calls.specs.LogEvents.{behind as waits}
-use Rattle.core_calls.specs.Marks.{is_half}
-use Rattle.core_calls.specs.Runs.{Tells}
-use Rattle.core_calls.specs.Refusals.{IsCause, waiting}
-use Rattle.core_calls.specs.Steps.{MayPutBack}
-use Rattle.engine_calls.specs.Answers.{EveryAnswer}
-use Rattle.engine_calls.specs.Begins.{IsBegin, begun_by}
-use Rattle.engine_calls.specs.Clauses.{EveryComing, IsNewLine}
-use Rattle.engine_calls.specs.Parts.{EveryPart, behind_first}
-use Rattle.engine_calls.specs.Refused.{IsRefusal, refused_by}
 use Rattle.row_words.specs.declared.event.Event as event
 use Rattle.row_words.specs.declared.event.Event.TheVariants.{Begin}
 use Rattle.row_words.specs.declared.given.Given.{Given}
-use Rattle.row_words.specs.Moments.{Moment, events_of}
+use Rattle.row_words.specs.Moments.{Moment}
 use Rattle.row_words.specs.Openings.{opening}
 use Rattle.row_words.specs.Sealed.{heard, stepped}
 use Rattle.rows_trait.specs.Views.{Shape, after_all, state}
 use Rattle.rows_trait.specs.Turns.{Heard}
 use Rattle.rows_trait.specs.declared.view.View.{View}
 use Rattle.lean_proto.specs.Controls as controls
-use Rattle.row_opening.specs.Openings.{EveryNeed, EveryReached, Opens}
-use Rattle.engine_trait.specs.Calls.{Answers, IsTold, call_behind, is_half_done}
-use Rattle.engine_trait.specs.Limits.{limits}
+use Rattle.engine_trait.specs.Calls.{IsTold}
 use Rattle.engine_trait.specs.Refusals.{log_refusal, refusal_in}
-use Rattle.engine_trait.specs.Rooms.{MakesItsRoom}
-use Rattle.row_engine.specs.Calls.{CallDoes, Comes, DoesOn, begin_answer}
+use Rattle.row_engine.specs.Begins.{Begins}
+use Rattle.row_engine.specs.Calls.{Comes}
 use Rattle.row_engine.specs.Flushed.{Looked, flushed_to}
 use Rattle.row_engine.specs.Holds.{Holds, IsOf}
 use Rattle.row_engine.specs.Inside.{begin_test, begun_session}
 use Rattle.row_engine.specs.Numbers.{AreNumbered}
 use Rattle.row_engine.specs.Others.{Steps}
-use Rattle.row_engine.specs.Ties.{Ties}
 use Rattle.row_engine.specs.declared.session.Session.{Session}
-use Rattle.row_engine.proofs.Behind as behind
 use Rattle.row_engine.proofs.Behind.{rows_on}
 use Rattle.row_engine.proofs.FlushLemmas.{flushed_all, flushed_from, flushed_low}
 use Rattle.row_engine.proofs.Moments.{acts, free_same, goes_seen, goes_state, met_core, resident_on}
-use Rattle.row_engine.proofs.NumberLemmas.{low_small, numbered_begin}
+use Rattle.row_engine.proofs.NumberLemmas.{numbered_begin}
 use Rattle.row_engine.proofs.OwnSteps.{is_own, one_step}
-use Rattle.row_engine.proofs.Refusing.{refusal_comes, refused_does}
 use Rattle.row_engine.proofs.TakeLemmas.{holds_still, still}
-use Rattle.row_engine.proofs.Waiting.{few_wait}
 
 -- ## The moment
 
@@ -179,18 +158,6 @@ comes_told d f _ t x = absurd t
 pub looked_holds : (z : Shape) (v u : View) (x : Session) (log : Log) → Looked v u → Holds z v x log → Holds z u x log
 looked_holds z v u x log l h = holds_still z v u x log l.given l.seen l.held h
 
-pub looked_ties : (g : Opening) (group : ℕ) (xs : List Done) (own : ℕ) (half : Bool) (v u : View) → Looked v u → Ties g group xs own half v → Ties g group xs own half u
-looked_ties g group xs own half v u l t = record {
-  opens = subst (λ k. Opens g k) (sym l.given) t.opens;
-  told = t.told;
-  half_is = t.half_is;
-  loads = t.loads;
-  are_loads = t.are_loads;
-  few = t.few;
-  met = t.met;
-  seen = (λ i. events_of (l.given i).before ++ events_of (l.seen i)) ∙ t.seen;
-}
-
 -- one more flushed word was loaded behind such words
 pub looked_more : (z : Shape) (v u w : View) (c n : ℕ) → z.alone ≡ true → Looked v u → Heard z c 0 (λ _. []) u n w → Looked v w
 looked_more z v u w c n alone l e = record {
@@ -217,11 +184,6 @@ least_more z v u w log n before now alone l e before_is now_is =
 -- the least of the first logs is what it was
 pub looked_least : (v u : View) (n least : ℕ) → Looked v u → least ≡ flushed_to (state v).core n → least ≡ flushed_to (state u).core n
 looked_least v u n least l e = e ∙ ap (λ m. flushed_to m.core n) (sym (still v u l.given l.seen))
-
--- no clock comes near 2^64
-clock_small : (n : ℕ) (s : State) (w : ℕ) → n ≤ 16 → AreNumbered n s → (s.worker w).clock < 2 ^ 64
-clock_small n s w few (inl l) = let a = low_small n s few l in let b = l.up_to.clock w in omega arith
-clock_small n s w few (inr p) = let a = p.small in let b = p.up_to.clock w in omega arith
 
 -- ## The session
 
@@ -316,6 +278,7 @@ module _ (begins : controls.EveryBegin) (z : Shape) (v w : View) (x : Session) (
       closed_txn = λ q. absurd (true≢false q);
       txn = let q = h.numbers.closed_txn closed in omega arith;
       undo_room = λ up. absurd (omega arith);
+      flush_room = λ _ up. absurd (omega arith);
       few = omega arith;
       behind = h.numbers.behind;
     };
@@ -332,164 +295,26 @@ module _ (begins : controls.EveryBegin) (z : Shape) (v w : View) (x : Session) (
     spare = h.spare;
   }
 
--- ## In a run
+-- ## As its caller sees it
 
-by_nothing : (b c : Bool) → b ≡ false → c ≡ false → PreparesBy b c []
-by_nothing false false p q = refl
-by_nothing true c p q = absurd (true≢false p)
-by_nothing false true p q = absurd (true≢false q)
-
-not_leb : (a b : ℕ) → b < a → leb a b ≡ false
-not_leb a b lt = go (leb a b) refl
+-- behind flushed words that were loaded
+pub begins_by : controls.EveryBegin → (z : Shape) (v u w : View) (x y : Session) (log : Log) → Holds z v x log → IsFree x log → Looked v u → (rest last : ℕ) → rest ≡ flushed_to (state v).core (x.workers - 1) → last < 2 ^ 64
+    → Heard z x.workers 0 (λ n. Begin x.own (min rest n) ∷ []) u last w → y ≡ begun_session x (min rest last) → Begins v w x y y.txn
+begins_by begins z v u w x y log h free l rest last rest_is fits e session = record {
+  floor = min rest last;
+  floor_is = f_all begins z u w x log on free.closed free.small free.room rest last rest_at fits e ∙ (λ i. flushed_by_all (opening (l.given i)) (same i).core);
+  given = e.goes.given ∙ l.given;
+  seen = goes_seen z u w (Begin x.own (min rest last) ∷ []) h.alone e.goes ∙ ap (λ ys. ys ++ Begin x.own (min rest last) ∷ []) l.seen;
+  met = (λ i. may (opening (sym l.given i)) (sym same i).core (happening.Event.Begin x.own (min rest last))) ∙ met begins z u w x log on free.closed free.small free.room rest last rest_at fits e;
+  next = let q = h.session.txn in let k = ap (λ k. k.txn) session in omega arith;
+  session = session;
+}
   where
-    go : (c : Bool) → leb a b ≡ c → c ≡ false
-    go true e = let q = leb-true a b e in absurd (omega arith)
-    go false e = refl
+    on : Holds z u x log
+    on = looked_holds z v u x log l h
 
-module _ (reached : EveryReached) (needs : EveryNeed) (answers : EveryAnswer) (g : Opening) (xs : List Done) (line : IsNewLine (outcomes xs)) (z : Shape) (v : View) (x : Session) (log : Log) (h : Holds z v x log) (t : Ties g x.group xs x.own x.half v) where
-  abbrev first : List happening.Event
-  first = t.loads
+    same : state u ≡ state v
+    same = still v u l.given l.seen
 
-  abbrev s : State
-  s = behind_first g xs first
-
-  b : behind.Behind g xs first v
-  b = behind.begins g x.group xs x.own v t
-
-  core_in : (state v).core ≡ s
-  core_in = behind.core_is reached needs g xs first v b
-
-  of_s : IsOf x (s.worker x.own)
-  of_s = subst (λ k. IsOf x (k.worker x.own)) core_in h.session
-
-  -- the line asks for a begin
-  begin_is : call_behind (outcomes xs) call.Begin ≡ call.Begin
-  begin_is = behind.line_call xs call.Begin line
-
-  small : (s.worker x.own).clock < 2 ^ 64
-  small = subst (λ k. (k.worker x.own).clock < 2 ^ 64) core_in (clock_small x.workers (state v).core x.own h.rows.most h.numbered)
-
-  -- nothing is due at the logs
-  prepares : Prepares limits g xs x.own (keep is_log first)
-  prepares = subst (λ es. Prepares limits g xs x.own es) (sym (behind.no_logs first t.are_loads))
-      (by_nothing false (leb limits.waiting (waiting g (state_after g (front xs)) x.own)) refl (not_leb limits.waiting (waiting g (state_after g (front xs)) x.own)
-      (let n = few_wait g (front xs) x.own in let d = small in let q = behind.loads_worker g (state_after g (front xs)) first t.are_loads in
-      let e : (s.worker x.own).clock ≡ ((state_after g (front xs)).worker x.own).clock = ap (λ k. (k x.own).clock) q in omega arith)))
-
-  tests : x.works ≡ true → begin_test x log ≡ refusal_in g (state_after g (front xs ++ first)) x.own (is_half_done x.own xs) log (call_behind (outcomes xs) call.Begin)
-  tests works = test_is g (state_after g (front xs ++ first)) (is_half_done x.own xs) x log works (subst (λ k. IsOf x (k.worker x.own)) (sym (behind.front_is g xs first)) of_s)
-      ∙ ap (refusal_in g (state_after g (front xs ++ first)) x.own (is_half_done x.own xs) log) (sym begin_is)
-
-  -- ## It began
-
-  module _ (w : View) (rest last : ℕ) (rest_is : rest ≡ flushed_to (state v).core (x.workers - 1)) (fits : last < 2 ^ 64) (free : IsFree x log) (begins : controls.EveryBegin) (e : Heard z x.workers 0 (λ n. Begin x.own (min rest n) ∷ []) v last w)
-      (number : ℕ) (number_is : number ≡ x.txn + 1) where
-    abbrev f : ℕ
-    f = min rest last
-
-    begin_met : may g s (happening.Event.Begin x.own f) ≡ true
-    begin_met = behind.may_is reached needs g xs first v b (happening.Event.Begin x.own f) ∙ met begins z v w x log h free.closed free.small free.room rest last rest_is fits e
-
-    next : behind.Behind g xs (first ++ happening.Event.Begin x.own f ∷ []) w
-    next = behind.more reached needs g xs first v b (Begin x.own f ∷ []) w e.goes.given (goes_seen z v w (Begin x.own f ∷ []) h.alone e.goes) (begin_met, tt)
-
-    all_is : f ≡ flushed_by_all g s
-    all_is = f_all begins z v w x log h free.closed free.small free.room rest last rest_is fits e ∙ (λ i. least (core_in i).flushed (sym t.opens.workers i))
-
-    abbrev done : Done
-    done = begun_by first x.own number f
-
-    pub is_begin : IsBegin limits g xs first x.own number f
-    is_begin = record {
-      line = line;
-      steps = behind.loads_steps first t.are_loads;
-      structure = behind.loads_structure first t.are_loads;
-      prepares = prepares;
-      met = next.met;
-      flushed = all_is;
-      next = let q = of_s.txn in omega arith;
-    }
-
-    how : begin_test x log ≡ None → Answers g xs done log log
-    how none = record {
-      first = first;
-      own = happening.Event.Begin x.own f ∷ [];
-      events = refl;
-      loads = t.are_loads;
-      few = let a = t.few in let b = length-append first (happening.Event.Begin x.own f ∷ []) in omega arith;
-      refused = λ why q. absurd (cc);
-      refuses = λ why q. absurd (none_is why (sym none ∙ (tests free.works ∙ q)));
-      log = (log, refl, refl);
-      room = subst (λ c. MakesItsRoom g (state_after g (front xs ++ first)) c (happening.Event.Begin x.own f ∷ [])) (sym begin_is) refl;
-    }
-
-    told : Tells limits g x.group xs done
-    told = (answers limits g x.group xs).begin first x.own number f is_begin
-
-    pub does : (st : Story) → IsLawful st → EveryPart st st st → begin_test x log ≡ None → DoesOn g x.group xs x.own call.Begin (answer.Begun number) false w log log st st
-    does st lawful part none = record {
-      does = record {
-        done = done;
-        session = refl;
-        asked_is = refl;
-        answer_is = refl;
-        tells = told;
-        how = how none;
-        frame = framed (suc x.own) st;
-        keeps = λ s0 k bt is.
-            let gone = (part limits g x.group xs s0 k first k bt).quiet (happening.Event.Begin x.own f ∷ []) refl (behind.gone_loads st lawful part g x.group xs x.own v t s0 k bt) in
-            behind.keeps_by g x.group xs done s0 k k log st st gone told is (λ _ _. refl) refl (behind.nothing_written (suc x.own) st lawful);
-      };
-      ties = behind.ends g x.group xs x.own (first ++ happening.Event.Begin x.own f ∷ []) w next done refl t.told told (behind.half_own x.own done xs refl);
-    }
-
-  -- ## It was refused
-
-  module _ (coming : EveryComing) (works : x.works ≡ true) where
-    refused : (why : Refusal) → IsCause limits g (front xs ++ first) s (is_half (marks_by x.own (outcomes xs))) x.own call.Begin why → RefusedLogs limits g xs x.own call.Begin why (keep is_log first) → MayPutBack why [] → IsRefusal limits g xs x.own call.Begin why first
-    refused why cause due none = record {
-      comes = (coming xs (refused_by x.own call.Begin why first).outcome).new line tt;
-      met = t.met;
-      rows = behind.takes_none x.own first t.are_loads;
-      structure = λ _. behind.loads_structure first t.are_loads;
-      cause = cause;
-      due = due;
-      no_backs = none;
-    }
-
-    is_refused : (why : Refusal) → begin_test x log ≡ Some why → IsRefusal limits g xs x.own call.Begin why first
-    is_refused why e = open_case x.is_open refl (sym same ∙ e)
-      where
-        same : begin_test x log ≡ cond x.is_open (Some refusal.InTransaction) (log_refusal x.clock log None)
-        same = λ i. cond (works i) (cond x.is_open (Some refusal.InTransaction) (log_refusal x.clock log None)) (Some refusal.Broken)
-
-        clock_case : (b : Bool) → leb (2 ^ 62) x.clock ≡ b → cond b (Some refusal.ClockSpent) None ≡ Some why → IsRefusal limits g xs x.own call.Begin why first
-        clock_case true q r = subst (λ k. IsRefusal limits g xs x.own call.Begin k first) (some_is _ why r) (refused refusal.ClockSpent (let d = leb-true (2 ^ 62) x.clock q in let m = of_s.clock in omega arith) prepares refl)
-        clock_case false q r = absurd (none_is why r)
-
-        full_case : (b : Bool) → leb (limit log) (used log) ≡ b → cond b (Some (refusal.LogFull (used log) (limit log))) (cond (leb (2 ^ 62) x.clock) (Some refusal.ClockSpent) None) ≡ Some why → IsRefusal limits g xs x.own call.Begin why first
-        full_case true q r = subst (λ k. IsRefusal limits g xs x.own call.Begin k first) (some_is _ why r) (refused (refusal.LogFull (used log) (limit log)) refl prepares refl)
-        full_case false q r = clock_case (leb (2 ^ 62) x.clock) refl r
-
-        open_case : (b : Bool) → x.is_open ≡ b → cond b (Some refusal.InTransaction) (log_refusal x.clock log None) ≡ Some why → IsRefusal limits g xs x.own call.Begin why first
-        open_case true q r = subst (λ k. IsRefusal limits g xs x.own call.Begin k first) (some_is _ why r) (refused refusal.InTransaction (of_s.is_open ∙ q) (behind.no_logs first t.are_loads) refl)
-        open_case false q r = full_case (leb (limit log) (used log)) refl r
-
-    pub refuses : (st : Story) → IsLawful st → EveryPart st st st → (why : Refusal) → begin_test x log ≡ Some why → DoesOn g x.group xs x.own call.Begin (answer.Refused why) x.half v log log st st
-    refuses st lawful part why e =
-        refused_does answers g x.group xs x.own v t log st lawful part call.Begin why (refusal_comes coming xs x.own call.Begin why first line) v b (is_refused why e) call.Begin begin_is (inl now) (λ q r. inl (some_is why q (sym now ∙ r)))
-      where
-        now : refusal_in g s x.own (is_half_done x.own xs) log call.Begin ≡ Some why
-        now = sym (test_is g s (is_half_done x.own xs) x log works of_s) ∙ e
-
--- ## In every run
-
-module _ (reached : EveryReached) (needs : EveryNeed) (answers : EveryAnswer) (st : Story) (lawful : IsLawful st) (part : EveryPart st st st) (z : Shape) (v : View) (x : Session) (log : Log) (works : x.works ≡ true) (h : Holds z v x log) where
-  -- behind flushed words that were loaded
-  pub began : controls.EveryBegin → (u w : View) (rest last number : ℕ) → Looked v u → rest ≡ flushed_to (state v).core (x.workers - 1) → last < 2 ^ 64 → Heard z x.workers 0 (λ n. Begin x.own (min rest n) ∷ []) u last w → begin_test x log ≡ None → number ≡ x.txn + 1
-      → CallDoes x.own x.group call.Begin (begin_answer (Ok number)) x.half false v w log log st st
-  began begins u w rest last number l rest_is fits e none is g xs t line =
-      does reached needs answers g xs line z u x log (looked_holds z v u x log l h) (looked_ties g x.group xs x.own x.half v u l t) w rest last (looked_least v u (x.workers - 1) rest l rest_is) fits (free_of x log none) begins e number is st lawful part none
-
-  pub not_begun : EveryComing → (why : Refusal) → begin_test x log ≡ Some why → CallDoes x.own x.group call.Begin (begin_answer (Err why)) x.half x.half v v log log st st
-  not_begun coming why e g xs t line = comes_told _ _ why (begin_told x log why works e) (refuses reached needs answers g xs line z v x log h t coming works st lawful part why e)
+    rest_at : rest ≡ flushed_to (state u).core (x.workers - 1)
+    rest_at = looked_least v u (x.workers - 1) rest l rest_is

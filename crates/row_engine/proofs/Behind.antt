@@ -23,7 +23,8 @@ use Rattle.lean_disk.specs.Story.{Crash, IsLawful, Story}
 use Rattle.lean_disk.proofs.MomentLemmas.{started}
 use Rattle.log_calls.specs.Calls.{Anything}
 use Rattle.worker_log.specs.Logs.{Log}
-use Rattle.engine_trait.specs.Calls.{Keeps, call_behind, due_call}
+use Rattle.engine_trait.specs.Calls.{call_behind, due_call}
+use Rattle.row_engine.specs.Deeds.{Keeps}
 use Rattle.engine_calls.specs.Clauses.{Between, IsNewLine}
 use Rattle.engine_calls.specs.Parts.{EveryPart, Gone, behind_first}
 use Rattle.engine_calls.specs.Refused.{TakesRows}

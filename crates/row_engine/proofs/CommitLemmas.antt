@@ -242,7 +242,7 @@ module _ (z : Shape) (b : View) (x : Session) (log : Log) (h : Holds z b x log) 
 
   -- A session whose transaction has ended, where nothing but the flushed number has changed since.
   module _ (u : View) (given : u.given ≡ w.given) (held : u.held ≡ w.held) (page_u : (state u).core.page ≡ (state w).core.page) (place_u : (state u).core.place ≡ (state w).core.place) (row_u : (state u).core.row ≡ (state w).core.row)
-      (worker_u : (state u).core.worker ≡ (state w).core.worker) (is : Log) (flushed_u : (state u).core.flushed x.own ≡ is.flushed) (order : is.flushed ≤ number) (last_is : is.last ≡ number)
+      (worker_u : (state u).core.worker ≡ (state w).core.worker) (master_u : (state u).core.floor ≡ (state w).core.floor) (is : Log) (flushed_u : (state u).core.flushed x.own ≡ is.flushed) (order : is.flushed ≤ number) (last_is : is.last ≡ number)
       (floor_u : x.floor ≤ flushed_by_all (opening u.given) (state u).core) (waiting : ℕ) (behind_u : log_events.behind (state u).core x.own ≡ waiting) (few_behind : waiting < x.group) where
     pub holds_ended : Holds z u (waiting_session x number waiting) is
     holds_ended = record {
@@ -264,12 +264,13 @@ module _ (z : Shape) (b : View) (x : Session) (log : Log) (h : Holds z b x log) 
         end = omega arith;
         room = λ q. absurd (true≢false (sym q));
         undo_room = λ some. absurd (omega arith);
+        flush_room = λ _ some. absurd (omega arith);
         closed_txn = λ _. let q = h.numbers.txn in omega arith;
         txn = let q = h.numbers.txn in omega arith;
         few = omega arith;
         behind = few_behind;
       };
-      numbered = numbered_same x.workers (state w).core (state u).core page_u row_u worker_u numbered_w;
+      numbered = numbered_same x.workers (state w).core (state u).core page_u row_u worker_u master_u numbered_w;
       flushed = flushed_u;
       floor = floor_u;
       behind = behind_u;
@@ -284,7 +285,7 @@ module _ (z : Shape) (b : View) (x : Session) (log : Log) (h : Holds z b x log) 
 
   -- where nothing was flushed
   pub after_end_holds : (is : Log) → is.flushed ≡ log.flushed → is.last ≡ number → cond commit (suc x.behind) x.behind < x.group → Holds z w (waiting_session x number (cond commit (suc x.behind) x.behind)) is
-  after_end_holds is flushed_is last_is few = holds_ended w refl refl refl refl refl refl is
+  after_end_holds is flushed_is last_is few = holds_ended w refl refl refl refl refl refl refl is
       (ap (λ k. k x.own) flushed_w ∙ (h.flushed ∙ sym flushed_is))
       (let a = h.numbers.order in let k = h.numbers.last in omega arith) last_is floor_w (cond commit (suc x.behind) x.behind) behind_w few
 
@@ -321,6 +322,6 @@ module _ (z : Shape) (b : View) (x : Session) (log : Log) (h : Holds z b x log) 
         (floor_flush (opening w.given) (state w).core x.own number x.floor flushed_low floor_w))
 
     pub after_flush_holds : (is : Log) → is.flushed ≡ number → is.last ≡ number → Holds z u (waiting_session x number 0) is
-    after_flush_holds is flushed_is last_is = holds_ended u given held (ap (λ t. t.page) core_u) (ap (λ t. t.place) core_u) (ap (λ t. t.row) core_u) (ap (λ t. t.worker) core_u) is
+    after_flush_holds is flushed_is last_is = holds_ended u given held (ap (λ t. t.page) core_u) (ap (λ t. t.place) core_u) (ap (λ t. t.row) core_u) (ap (λ t. t.worker) core_u) (ap (λ t. t.floor) core_u) is
         (ap (λ t. t.flushed x.own) core_u ∙ (upd_same (state w).core.flushed x.own number x.own refl ∙ sym flushed_is)) (omega arith) last_is floor_u 0
         (ap (λ (t : State). log_events.behind t x.own) core_u ∙ behind_flush (opening w.given) (state w).core x.own number below) (let q = h.numbers.behind in omega arith)

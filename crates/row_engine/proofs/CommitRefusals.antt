@@ -33,7 +33,8 @@ use Rattle.engine_calls.specs.Parts.{EveryPart, behind_first}
 use Rattle.engine_calls.specs.Refused.{IsRefusal, TakesRows, refused_by}
 use Rattle.engine_calls.proofs.MarkLemmas.{any_append, keep_none}
 use Rattle.engine_calls.proofs.PartLemmas.{every_part}
-use Rattle.engine_trait.specs.Calls.{IsTold, Logs, call_behind, is_half_done}
+use Rattle.engine_trait.specs.Calls.{IsTold, call_behind, is_half_done}
+use Rattle.engine_trait.specs.Logs.{Logs}
 use Rattle.engine_trait.specs.Limits.{limits}
 use Rattle.engine_trait.specs.Refusals.{IsRefusedFor, refusal_in}
 use Rattle.engine_trait.specs.Rooms.{MakesItsRoom}
@@ -228,7 +229,7 @@ module _ (reached : EveryReached) (needs : EveryNeed) (answers : EveryAnswer) (c
         refused = λ q r. subst (λ c. IsRefusedFor g (state_after g (front xs ++ es)) x.own (is_half_done x.own xs) log c q) (sym asks)
             (subst (λ k. IsRefusedFor g (state_after g (front xs ++ es)) x.own (is_half_done x.own xs) log call.Commit k) (refused_is why q r) for_it);
         refuses = λ q r. either q (only q ((λ i. refusal_in g (state_after g (front xs ++ first)) x.own (is_half_done x.own xs) log (sym asks i)) ∙ r));
-        log = misses_logs (state_after g (front xs ++ first)) m.misses m.are_misses;
+        log = λ _. misses_logs (state_after g (front xs ++ first)) m.misses m.are_misses;
         room = subst (λ c. MakesItsRoom g (state_after g (front xs ++ first)) c misses) (sym asks) (misses_structure m.misses m.are_misses);
       };
       keeps = λ s0 k bt is_log.

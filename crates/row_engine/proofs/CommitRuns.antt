@@ -43,7 +43,9 @@ use Rattle.engine_calls.specs.Entries.{EveryEntry, commit_record}
 use Rattle.engine_calls.specs.Parts.{EveryPart, Gone, behind_first}
 use Rattle.engine_calls.proofs.PartLemmas.{every_part, on_log, whole}
 use Rattle.engine_calls.proofs.UnlockLemmas.{if_met, no_structure, unlocks_quiet}
-use Rattle.engine_trait.specs.Calls.{Answers, Fails, Keeps, Logs, LogsEntry, Nothing, Part, call_behind, is_half_done}
+use Rattle.engine_trait.specs.Calls.{Answers, Nothing, Part, call_behind, is_half_done}
+use Rattle.engine_trait.specs.Logs.{Logs, LogsEntry}
+use Rattle.row_engine.specs.Deeds.{Fails, Keeps}
 use Rattle.engine_trait.specs.Limits.{limits}
 use Rattle.engine_trait.specs.Refusals.{refusal_in}
 use Rattle.engine_trait.specs.Rooms.{IsRoomFor, MakesItsRoom}
@@ -62,6 +64,7 @@ use Rattle.row_engine.specs.Puts.{KeepsLog}
 use Rattle.row_engine.specs.Ties.{Ties}
 use Rattle.row_engine.specs.declared.session.Session.{Session}
 use Rattle.row_engine.proofs.Behind as behind
+use Rattle.row_engine.proofs.OnOwn.{logs_own, on_own}
 use Rattle.row_engine.proofs.CommitLemmas.{after_end_holds, after_flush_holds, ended_as, floor_is, flush_met, latched_on, may_end, may_flush, same_state, ties_as}
 use Rattle.row_engine.proofs.Frames.{framed_then, within_of, within_then}
 use Rattle.row_engine.proofs.LatchLemmas.{gives_events}
@@ -285,7 +288,7 @@ module _ (reached : EveryReached) (needs : EveryNeed) (answers : EveryAnswer) (e
 
     -- rows that are given back log nothing
     unlocks_logs : (due : Bool) (q : State) (is_held : List ℕ) (mid is : Log) → is ≡ cond due (flushed_log mid) mid → Logs x.own g q (unlocks x.own is_held ++ flush_if due x.own number) mid is
-    unlocks_logs true q [] mid is e = (is, e, refl)
+    unlocks_logs true q [] mid is e = (is, on_own x.own (is ≡ flushed_log mid) (is ≡ mid) e, refl)
     unlocks_logs false q [] mid is e = e
     unlocks_logs due q (i ∷ is_held) mid is e = (mid, refl, unlocks_logs due (step g q (happening.Event.Unlock x.own i)) is_held mid is e)
 
@@ -299,9 +302,9 @@ module _ (reached : EveryReached) (needs : EveryNeed) (answers : EveryAnswer) (e
       refused = λ why q. absurd (cc);
       refuses = λ why q. absurd (not_refused why (is_half_done x.own xs) (((state_after g (front xs ++ first)).worker x.own).is_open) (t.half_is ∙ going) open_there
           ((λ i. refusal_in g (state_after g (front xs ++ first)) x.own (is_half_done x.own xs) log (sym asks i)) ∙ q));
-      log = (
+      log = λ _. (
         mid,
-        subst (λ (q : State). LogsEntry x.own g q end_event log mid) (sym here) (record { record_of = r; entry = ap (λ (q : State). q.entries) (if_met (may g s end_event) end_met.0 s (ends s x.own entry_s)) ∙ ap (λ q. q ∷ s.entries) (sym entry_is); after = after }),
+        logs_own x.own g (state_after g (front xs ++ first)) end_event log mid (subst (λ (q : State). LogsEntry x.own g q end_event log mid) (sym here) (record { record_of = r; entry = ap (λ (q : State). q.entries) (if_met (may g s end_event) end_met.0 s (ends s x.own entry_s)) ∙ ap (λ q. q ∷ s.entries) (sym entry_is); after = after })),
         unlocks_logs due (step g (state_after g (front xs ++ first)) end_event) rows mid is is_behind,
       );
       room = subst (λ c. MakesItsRoom g (state_after g (front xs ++ first)) c (ending x.own floor rows ++ flush_if due x.own number)) (sym asks) (no_structure due x.own number rows);

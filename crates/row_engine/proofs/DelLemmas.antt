@@ -122,6 +122,7 @@ module _ (z : Shape) (v w : View) (x y : Session) (log : Log) (key : ℕ) (h : H
     end = let k = h.numbers.end in let q = clock_from in omega arith;
     room = h.numbers.room;
     undo_room = h.numbers.undo_room;
+    flush_room = h.numbers.flush_room;
     closed_txn = λ e. absurd (true≢false (sym is_open ∙ e));
     txn = let k = h.numbers.txn in let q = clock_from in omega arith;
     few = h.numbers.few;

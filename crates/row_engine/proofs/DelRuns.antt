@@ -1,6 +1,6 @@
 -- A del in a run.
-use Rattle.std.proofs.Common.{◌≡◌, ◌⊎◌, inl, inr, ◌≤◌, ◌<◌, ◌^◌, ◌%◌, ◌++◌, ℕ, suc, Bool, true, false, cond, leb, List, [], ◌∷◌, length, Option, Some, None, Result, Ok, Err, IfErr, IsErrAnd, refl, sym, ap, ◌∙◌, subst, arith}
-use Rattle.std.proofs.lemmas.Bool.{leb-true, lt-leb}
+use Rattle.std.proofs.Common.{◌≡◌, ◌⊎◌, inl, inr, ◌≤◌, ◌<◌, ◌^◌, ◌%◌, ◌&&◌, ◌++◌, ℕ, suc, Bool, true, false, cond, leb, List, [], ◌∷◌, length, Option, Some, None, Result, Ok, Err, IfErr, IsErrAnd, refl, sym, ap, ◌∙◌, subst, arith}
+use Rattle.std.proofs.lemmas.Bool.{le-leb, leb-true, lt-leb}
 use Rattle.std.proofs.lemmas.List.{append_assoc, length-append}
 use Rattle.map_model.specs.declared.call.Answer.{Answer}
 use Rattle.map_model.specs.declared.call.Answer.TheVariants as answer
@@ -9,13 +9,14 @@ use Rattle.map_model.specs.declared.call.Call.TheVariants as call
 use Rattle.map_model.specs.declared.call.Refusal.{Refusal}
 use Rattle.map_model.specs.declared.call.Refusal.TheVariants as refusal
 use Rattle.map_model.specs.Lists.{any, keep}
+use Rattle.map_model.proofs.ListLemmas.{upd_same}
 use Rattle.image_model.specs.Entries.{Entry}
 use Rattle.core_state.specs.Openings.{Opening}
 use Rattle.core_state.specs.Events as happening
 use Rattle.core_state.specs.Needs.{is_held_by, may, may_hold, value_in}
 use Rattle.core_state.specs.States.{State, Worker}
 use Rattle.core_state.specs.Steps as core
-use Rattle.core_state.specs.Steps.{at_pages, happens, state_after}
+use Rattle.core_state.specs.Steps.{at_pages, at_row, happens, state_after}
 use Rattle.core_state.proofs.Runs.{run_more}
 use Rattle.lean_disk.proofs.MomentLemmas.{framed}
 use Rattle.lean_disk.specs.Moments.{Framed}
@@ -45,11 +46,14 @@ use Rattle.rows_trait.specs.declared.view.View.{View}
 use Rattle.btree_descent.specs.declared.descent.TheConstants.{TOMBSTONE}
 use Rattle.btree_descent.specs.Puts.{change_of}
 use Rattle.key_locks.specs.declared.mode.Mode.TheVariants.{Alone}
-use Rattle.engine_trait.specs.Calls.{Fails, IsTold, Logs, LogsEntry, Nothing, call_behind, is_half_done}
+use Rattle.engine_trait.specs.Calls.{IsTold, Nothing, call_behind, is_half_done}
+use Rattle.engine_trait.specs.Logs.{Logs, LogsEntry}
+use Rattle.row_engine.specs.Deeds.{Fails}
 use Rattle.engine_trait.specs.Limits.{limits}
-use Rattle.engine_trait.specs.Refusals.{IsRefusedFor, change_refusal, lock_refusal, log_refusal, refusal_in}
+use Rattle.engine_trait.specs.Refusals.{IsRefusedFor, change_refusal, lock_refusal, log_refusal, met_refusal, refusal_in}
 use Rattle.engine_trait.specs.Rooms.{IsRoomFor, MakesItsRoom}
-use Rattle.row_engine.specs.Calls.{CallDoes, Comes, DoesOn, MayCome, del_answer}
+use Rattle.engine_trait.specs.Calls.{MayCome}
+use Rattle.row_engine.specs.Calls.{CallDoes, Comes, DoesOn, del_answer}
 use Rattle.row_engine.specs.Dels.{Dels, IsAbsent}
 use Rattle.row_engine.specs.Grown.{Behind, Went}
 use Rattle.row_engine.specs.Held.{with_row}
@@ -64,6 +68,7 @@ use Rattle.row_engine.proofs.BeginLemmas.{comes_told}
 use Rattle.row_engine.proofs.ConflictLemmas.{lock_free, lock_refused}
 use Rattle.row_engine.proofs.GetLemmas.{any_more}
 use Rattle.row_engine.proofs.GoingLemmas.{not_going, tests_as}
+use Rattle.row_engine.proofs.OnOwn.{logs_own}
 use Rattle.row_engine.proofs.GrowRuns.{goes_none, goes_put, grows_none, record_in, went_failed, went_quiet}
 use Rattle.row_engine.proofs.PutTests.{free_of, gate, gate_more, gate_none, gate_of, logs_lock, none_is, put_told, room_lock, some_is, steps_lock, test_is}
 use Rattle.row_engine.proofs.Refusing as refusing
@@ -147,8 +152,12 @@ module _ (reached : EveryReached) (need : EveryNeed) (answers : EveryAnswer) (co
   of_1 : IsOf x (s1.worker own)
   of_1 = subst (λ k. IsOf x (k.worker own)) (behind.core_is reached need g xs first v b) h.session
 
+  -- what the row tells
+  abbrev met_1 : Option Refusal
+  met_1 = met_refusal g s1 own key None
+
   abbrev lock_1 : Option Refusal
-  lock_1 = lock_refusal g s1 own key happening.Mode.Alone None
+  lock_1 = lock_refusal g s1 own key happening.Mode.Alone met_1
 
   -- the tests are those of the session, and then that of the lock
   abbrev most : Refusal
@@ -211,7 +220,7 @@ module _ (reached : EveryReached) (need : EveryNeed) (answers : EveryAnswer) (co
     hinders = key_hindered reached need g xs first z v w x key Alone hd b h.rows n
 
     is_for : refusal_in g s1 own half log asks ≡ Some (refusal.Conflict hd)
-    is_for = passed none ∙ lock_refused g s1 own key happening.Mode.Alone hd hinders None
+    is_for = passed none ∙ lock_refused g s1 own key happening.Mode.Alone hd hinders met_1
 
     conflict_does : DoesOn g x.group xs own asks (answer.Refused (refusal.Conflict hd)) x.half w log log st st
     conflict_does = refused_early st lawful (refusal.Conflict hd) w (hindered_behind g xs first v w own row Alone hd b n) hinders refl (inl is_for) (λ q r. inl (some_is (refusal.Conflict hd) q (sym is_for ∙ r)))
@@ -265,8 +274,23 @@ module _ (reached : EveryReached) (need : EveryNeed) (answers : EveryAnswer) (co
     row_free : may_hold (s1.row (g.row_of key)) own happening.Mode.Alone ≡ true
     row_free = subst (λ (k : State). may_hold (k.row (g.row_of key)) own happening.Mode.Alone ≡ true) (behind.core_is reached need g xs first v b) (key_free reached need g xs first z v v1 x x1 key Alone b h.rows tk)
 
-    none_refuses : (why : Refusal) → refusal_in g sf own half log (call_behind (outcomes xs) asks) ≡ Some why → ⊥
-    none_refuses why q = none_is why (sym ((λ i. refusal_in g (behind.front_is g xs first i) own half log (asks_is i)) ∙ (passed none ∙ lock_free g s1 own key happening.Mode.Alone row_free None)) ∙ q)
+    met_lock : may g s1 lock ≡ true
+    met_lock = ap (λ k. k && may_hold (s1.row (g.row_of key)) own happening.Mode.Alone) (of_1.is_open ∙ (free_of x log works none).is_open) ∙ row_free
+
+    taken_is : happens g s1 lock ≡ s2
+    taken_is = (λ i. cond (sym met_lock i) (happens g s1 lock) s1) ∙ sym (run_more g (state_after g (front xs)) first (lock ∷ []))
+
+    -- the clock that the lock brought
+    clock_is : (at_row own (s1.worker own) (s1.row (g.row_of key))).clock ≡ x1.clock
+    clock_is = sym (ap (λ (a : Worker). a.clock) (upd_same s1.worker own (at_row own (s1.worker own) (s1.row (g.row_of key))) own refl))
+        ∙ (ap (λ (k : State). (k.worker own).clock) (taken_is ∙ sym core_is) ∙ subst (λ n. ((state v1).core.worker n).clock ≡ x1.clock) (ap (λ (k : Session). k.own) tk.session) h1.session.clock)
+
+    -- it alone may refuse it
+    tests_1 : refusal_in g sf own half log (call_behind (outcomes xs) asks) ≡ cond (leb (2 ^ 62) x1.clock) (Some refusal.ClockSpent) None
+    tests_1 = (λ i. refusal_in g (behind.front_is g xs first i) own half log (asks_is i)) ∙ (passed none ∙ (lock_free g s1 own key happening.Mode.Alone row_free met_1 ∙ (λ i. cond (leb (2 ^ 62) (clock_is i)) (Some refusal.ClockSpent) None)))
+
+    none_refuses : x1.clock < 2 ^ 62 → (why : Refusal) → refusal_in g sf own half log (call_behind (outcomes xs) asks) ≡ Some why → ⊥
+    none_refuses below why q = none_is why (sym (tests_1 ∙ ap (λ k. cond k (Some refusal.ClockSpent) None) (lt-leb (2 ^ 62) x1.clock below)) ∙ q)
 
     -- what was answered is no refusal
     no_refusal : (value : Option ℕ) (why : Refusal) → answer.Was value ≡ answer.Refused why → ⊥
@@ -277,7 +301,7 @@ module _ (reached : EveryReached) (need : EveryNeed) (answers : EveryAnswer) (co
 
     -- ## The key had no value
 
-    module _ (st : Story) (lawful : IsLawful st) (w : View) (a : IsAbsent own v1 w key) where
+    module _ (below : x1.clock < 2 ^ 62) (st : Story) (lawful : IsLawful st) (w : View) (a : IsAbsent own v1 w key) where
       abbrev read : happening.Event
       read = happening.Event.Read own a.page key None
 
@@ -327,8 +351,8 @@ module _ (reached : EveryReached) (need : EveryNeed) (answers : EveryAnswer) (co
             loads = t.are_loads;
             few = let n = t.few in let m = length-append first (lock ∷ read ∷ []) in let q = ap (λ es. length es) events_are in omega arith;
             refused = λ why q. absurd (no_refusal None why q);
-            refuses = λ why q. absurd (none_refuses why q);
-            log = (log, refl, (log, refl, refl));
+            refuses = λ why q. absurd (none_refuses below why q);
+            log = λ _. (log, refl, (log, refl, refl));
             room = no_room (lock ∷ read ∷ []) refl;
           };
           frame = framed (suc own) st;
@@ -341,7 +365,7 @@ module _ (reached : EveryReached) (need : EveryNeed) (answers : EveryAnswer) (co
 
     -- ## It had one
 
-    module _ (old new : Story) (lawful : IsLawful old) (w : View) (before : ℕ) (is : Log) (c : IsChanged own v1 w key g.format.dead (Some before) log is old new) where
+    module _ (below : x1.clock < 2 ^ 62) (old new : Story) (lawful : IsLawful old) (w : View) (before : ℕ) (is : Log) (c : IsChanged own v1 w key g.format.dead (Some before) log is old new) where
       abbrev page : ℕ
       page = c.page
 
@@ -385,7 +409,7 @@ module _ (reached : EveryReached) (need : EveryNeed) (answers : EveryAnswer) (co
       step_in i = cond (met_in i) (happens g s2 change) s2
 
       logged : Logs own g sf (lock ∷ change ∷ []) log is
-      logged = (log, refl, (is, subst (λ (k : State). LogsEntry own g k change log is) (sym from_is) (record { record_of = c.entry; entry = ap (λ (k : State). k.entries) step_in ∙ ap (λ (e : Entry). e ∷ s2.entries) (sym is_write.entry); after = c.after }), refl))
+      logged = (log, refl, (is, logs_own own g (core.step g sf lock) change log is (subst (λ (k : State). LogsEntry own g k change log is) (sym from_is) (record { record_of = c.entry; entry = ap (λ (k : State). k.entries) step_in ∙ ap (λ (e : Entry). e ∷ s2.entries) (sym is_write.entry); after = c.after })), refl))
 
       -- the opening's workers
       within_1 : own ≤ (opening v1.given).workers
@@ -410,8 +434,8 @@ module _ (reached : EveryReached) (need : EveryNeed) (answers : EveryAnswer) (co
             loads = t.are_loads;
             few = let n = t.few in let m = length-append first (lock ∷ change ∷ []) in let q = ap (λ es. length es) (append_assoc first (lock ∷ []) (change ∷ [])) in omega arith;
             refused = λ why q. absurd (no_refusal (Some before) why q);
-            refuses = λ why q. absurd (none_refuses why q);
-            log = logged;
+            refuses = λ why q. absurd (none_refuses below why q);
+            log = λ _. logged;
             room = no_room (lock ∷ change ∷ []) refl;
           };
           frame = c.keeps.frame;
@@ -422,7 +446,8 @@ module _ (reached : EveryReached) (need : EveryNeed) (answers : EveryAnswer) (co
 
     -- ## It was refused
 
-    module _ (st : Story) (lawful : IsLawful st) (w : View) (b4 : Behind g xs start w) (why : Refusal) (cause : IsCause limits g (front xs ++ start) s2 (is_half (marks_by own (outcomes xs))) own asks why) (backs : MayPutBack why []) (is_for : IsRefusedFor g s2 own half log asks why) where
+    module _ (st : Story) (lawful : IsLawful st) (w : View) (b4 : Behind g xs start w) (why : Refusal) (cause : IsCause limits g (front xs ++ start) s2 (is_half (marks_by own (outcomes xs))) own asks why) (backs : MayPutBack why []) (is_for : IsRefusedFor g s2 own half log asks why)
+        (due : (q : Refusal) → refusal_in g sf own half log (call_behind (outcomes xs) asks) ≡ Some q → (answer.Refused why ≡ answer.Refused q) ⊎ (answer.Refused why ≡ answer.Refused refusal.RowSpent)) where
       abbrev refused : Done
       refused = refused_by own asks why start
 
@@ -459,8 +484,8 @@ module _ (reached : EveryReached) (need : EveryNeed) (answers : EveryAnswer) (co
             few = let n = t.few in let m = length-append first (lock ∷ []) in omega arith;
             refused = λ p q. subst (λ k. IsRefusedFor g (state_after g (front xs ++ start)) own half log (call_behind (outcomes xs) asks) k) (why_is p q)
                 (subst (λ (k : State). IsRefusedFor g k own half log (call_behind (outcomes xs) asks) why) (sym (behind.front_is g xs start)) (subst (λ c. IsRefusedFor g s2 own half log c why) (sym asks_is) is_for));
-            refuses = λ p q. absurd (none_refuses p q);
-            log = (log, refl, refl);
+            refuses = due;
+            log = λ _. (log, refl, refl);
             room = no_room (lock ∷ []) refl;
           };
           frame = framed (suc own) st;
@@ -471,7 +496,7 @@ module _ (reached : EveryReached) (need : EveryNeed) (answers : EveryAnswer) (co
 
     -- the leaf's latch has come to its end
     spent_does : (st : Story) → IsLawful st → (w : View) → IsSpent v1 w → DoesOn g x.group xs own asks (answer.Refused refusal.RowSpent) x.half w log log st st
-    spent_does st lawful w s = refused_does st lawful w (spent_behind g xs start v1 w b1 s) refusal.RowSpent (spent_end g xs start v1 w b1 s) tt (inr refl)
+    spent_does st lawful w s = refused_does st lawful w (spent_behind g xs start v1 w b1 s) refusal.RowSpent (spent_end g xs start v1 w b1 s) tt (inr refl) (λ q r. inr refl)
 
     -- the row has brought the clock to its end
     module _ (st : Story) (lawful : IsLawful st) (why : Refusal) (e : log_refusal x1.clock log None ≡ Some why) where
@@ -483,7 +508,7 @@ module _ (reached : EveryReached) (need : EveryNeed) (answers : EveryAnswer) (co
       of_2 = subst (λ (k : State). IsOf x2 (k.worker own)) core_is (subst (λ (y : Session). IsOf y ((state v1).core.worker y.own)) tk.session h1.session)
 
       abbrev lock_2 : Option Refusal
-      lock_2 = lock_refusal g s2 own key happening.Mode.Alone None
+      lock_2 = lock_refusal g s2 own key happening.Mode.Alone (met_refusal g s2 own key None)
 
       tests_2 : refusal_in g s2 own half log asks ≡ gate_of x2 log lock_2
       tests_2 = tests_as s2 half x2 of_2.is_open t.half_is (change_refusal s2 own log lock_2) ∙ (λ i. gate (is_going x) (leb 64 (many_of (s2.worker own).changes x.undo of_2.undo i)) (leb (limit log) (used log)) (leb (2 ^ 62) (of_2.clock i)) most lock_2)
@@ -504,7 +529,7 @@ module _ (reached : EveryReached) (need : EveryNeed) (answers : EveryAnswer) (co
       stopped_does =
           let q = end_is x1.clock log why free e in
           subst (λ k. refusal_in g s2 own half log asks ≡ Some k → DoesOn g x.group xs own asks (answer.Refused k) x.half v1 log log st st) q.0
-          (λ r. refused_does st lawful v1 b1 refusal.ClockSpent (let m = of_2.clock in let n = q.1 in omega arith) refl (inl r)) stopped_is
+          (λ r. refused_does st lawful v1 b1 refusal.ClockSpent (let m = of_2.clock in let n = q.1 in omega arith) refl (inl r) (λ p e. inl (ap answer.Refused (some_is refusal.ClockSpent p (sym (tests_1 ∙ ap (λ k. cond k (Some refusal.ClockSpent) None) (le-leb (2 ^ 62) x1.clock q.1)) ∙ e))))) stopped_is
 
     -- ## The disk failed
 
@@ -527,18 +552,18 @@ module _ (reached : EveryReached) (need : EveryNeed) (answers : EveryAnswer) (co
     as_is : (a : Answer) (w : View) (is : Log) (old new : Story) → is ≡ log → new ≡ old → DoesOn g x.group xs own asks a x.half w log log old old → DoesOn g x.group xs own asks a x.half w log is old new
     as_is a w is old new p q d = subst (λ (r : Log × Story). DoesOn g x.group xs own asks a x.half w log r.0 old r.1) (λ i. (sym p i, sym q i)) d
 
-    did : (w : View) (is : Log) (old new : Story) (same same_disk : Type 0) → IsLawful old → (same → (is ≡ log) × (new ≡ old)) → (same_disk → new ≡ old) → (now : Bool) (r : Result (Option ℕ) Refusal) → (works_after r ≡ true → now ≡ x.half) → Dels r own v1 w key log is old new same same_disk
+    did : x1.clock < 2 ^ 62 → (w : View) (is : Log) (old new : Story) (same same_disk : Type 0) → IsLawful old → (same → (is ≡ log) × (new ≡ old)) → (same_disk → new ≡ old) → (now : Bool) (r : Result (Option ℕ) Refusal) → (works_after r ≡ true → now ≡ x.half) → Dels r own v1 w key log is old new same same_disk
         → Comes (del_answer r) (DoesOn g x.group xs own asks (del_answer r) now w log is old new) (Fails g x.group xs own asks log old new)
-    did w is old new same same_disk lawful still kept now (Ok (Some before)) half_is d = as_now (answer.Was (Some before)) now w is old new (half_is refl) (deleted_does old new lawful w before is (subst (λ n. IsChanged own v1 w key n (Some before) log is old new) dead_is d))
-    did w is old new same same_disk lawful still kept now (Ok None) half_is d = as_now (answer.Was None) now w is old new (half_is refl) (as_is (answer.Was None) w is old new d.1 (kept d.2) (absent_does old lawful w d.0))
-    did w is old new same same_disk lawful still kept now (Err refusal.RowSpent) half_is d = as_now (answer.Refused refusal.RowSpent) now w is old new (half_is refl) (as_is (answer.Refused refusal.RowSpent) w is old new (still d.1).0 (still d.1).1 (spent_does old lawful w d.0))
-    did w is old new same same_disk lawful still kept now (Err refusal.DiskFault) half_is d = del_fails old new lawful d
-    did w is old new same same_disk lawful still kept now (Err _) half_is d = absurd d
+    did below w is old new same same_disk lawful still kept now (Ok (Some before)) half_is d = as_now (answer.Was (Some before)) now w is old new (half_is refl) (deleted_does below old new lawful w before is (subst (λ n. IsChanged own v1 w key n (Some before) log is old new) dead_is d))
+    did below w is old new same same_disk lawful still kept now (Ok None) half_is d = as_now (answer.Was None) now w is old new (half_is refl) (as_is (answer.Was None) w is old new d.1 (kept d.2) (absent_does below old lawful w d.0))
+    did below w is old new same same_disk lawful still kept now (Err refusal.RowSpent) half_is d = as_now (answer.Refused refusal.RowSpent) now w is old new (half_is refl) (as_is (answer.Refused refusal.RowSpent) w is old new (still d.1).0 (still d.1).1 (spent_does old lawful w d.0))
+    did below w is old new same same_disk lawful still kept now (Err refusal.DiskFault) half_is d = del_fails old new lawful d
+    did below w is old new same same_disk lawful still kept now (Err _) half_is d = absurd d
 
     -- it is the same session
-    pub del_did : (w : View) (is : Log) (old new : Story) (same same_disk : Type 0) → IsLawful old → (same → (is ≡ log) × (new ≡ old)) → (same_disk → new ≡ old) → (now : Bool) (r : Result (Option ℕ) Refusal) → (works_after r ≡ true → now ≡ x.half) → Dels r x1.own v1 w key log is old new same same_disk
+    pub del_did : x1.clock < 2 ^ 62 → (w : View) (is : Log) (old new : Story) (same same_disk : Type 0) → IsLawful old → (same → (is ≡ log) × (new ≡ old)) → (same_disk → new ≡ old) → (now : Bool) (r : Result (Option ℕ) Refusal) → (works_after r ≡ true → now ≡ x.half) → Dels r x1.own v1 w key log is old new same same_disk
         → Comes (del_answer r) (DoesOn g x.group xs own asks (del_answer r) now w log is old new) (Fails g x.group xs own asks log old new)
-    del_did w is old new same same_disk lawful still kept now r half_is d = did w is old new same same_disk lawful still kept now r half_is (subst (λ n. Dels r n v1 w key log is old new same same_disk) (ap (λ (k : Session). k.own) tk.session) d)
+    del_did below w is old new same same_disk lawful still kept now r half_is d = did below w is old new same same_disk lawful still kept now r half_is (subst (λ n. Dels r n v1 w key log is old new same same_disk) (ap (λ (k : Session). k.own) tk.session) d)
 
 -- ## In every run
 

@@ -46,7 +46,8 @@ use Rattle.engine_trait.specs.Limits.{limits}
 use Rattle.engine_trait.specs.Calls.{call_behind, is_half_done}
 use Rattle.engine_trait.specs.Refusals.{IsRefusedFor, lock_refusal, refusal_in}
 use Rattle.engine_trait.specs.Rooms.{MakesItsRoom}
-use Rattle.row_engine.specs.Calls.{CallDoes, DoesOn, MayCome}
+use Rattle.engine_trait.specs.Calls.{MayCome}
+use Rattle.row_engine.specs.Calls.{CallDoes, DoesOn}
 use Rattle.row_engine.specs.Holds.{Holds, IsOf}
 use Rattle.row_engine.specs.Inside.{call_test, is_going}
 use Rattle.row_engine.specs.Numbers.{AreNumbered}
@@ -354,7 +355,7 @@ module _ (reached : EveryReached) (needs : EveryNeed) (answers : EveryAnswer) (g
         few = let i = t.few in let j = length-append first (happening.Event.Lock x.own (g.row_of key) happening.Mode.Shared ∷ read ∷ []) in let c = ap (λ es. length es) events_are in omega arith;
         refused = λ why q. absurd (cc);
         refuses = λ why q. absurd (none_is why (sym none ∙ q));
-        log = (log, refl, (log, refl, refl));
+        log = λ _. (log, refl, (log, refl, refl));
         room = subst (λ c. MakesItsRoom g (state_after g (front xs ++ first)) c (happening.Event.Lock x.own (g.row_of key) happening.Mode.Shared ∷ read ∷ [])) (sym (behind.line_call xs (call.Get key) line)) refl;
       };
       frame = framed (suc x.own) story;

@@ -1,5 +1,6 @@
 -- Room that was made, in a run.
 use Rattle.std.proofs.Common.{◌≡◌, ◌⊎◌, inl, inr, ◌≤◌, ◌<◌, ◌++◌, ◌&&◌, ◌||◌, ℕ, suc, Bool, true, false, cond, List, [], ◌∷◌, Option, None, refl, sym, ap, ◌∙◌, subst, arith, append-nil, true≢false}
+use Rattle.std.proofs.lemmas.Bool.{eq-eqb}
 use Rattle.std.proofs.lemmas.List.{append_assoc, length-append}
 use Rattle.map_model.specs.Lists.{all, any, keep}
 use Rattle.image_model.specs.Entries.{Contents, Entry, Kind, is_record, word_in}
@@ -35,7 +36,7 @@ use Rattle.engine_calls.specs.Clauses.{Between, OnLog}
 use Rattle.engine_calls.specs.Parts.{EveryPart, behind_first}
 use Rattle.engine_calls.proofs.PartLemmas.{whole}
 use Rattle.run_crashes.specs.Lines.{CallLeaves}
-use Rattle.engine_trait.specs.Calls.{Logs, LogsEntry, LogsOne}
+use Rattle.engine_trait.specs.Logs.{Logs, LogsEntry, LogsOne}
 use Rattle.engine_trait.specs.Limits.{AreLoads, limits}
 use Rattle.engine_trait.specs.Refusals.{room_refusal}
 use Rattle.engine_trait.specs.Rooms.{AreRoom, IsNextRoom, MakesRoom, makes_room}
@@ -62,16 +63,16 @@ use Rattle.row_engine.proofs.OwnSteps.{grown_steps, no_steps}
 -- ## Changes of the tree
 
 -- what is so of one
-pub record Aside (e : happening.Event) : Type 0 where
+pub record Aside (own : ℕ) (e : happening.Event) : Type 0 where
   pub step : is_step e ≡ false
   pub log : is_log e ≡ false
-  pub room : makes_room e ≡ true
+  pub room : makes_room own e ≡ true
 
-aside : (e : happening.Event) → is_aside e ≡ true → Aside e
-aside (happening.Event.Split w l r q i) a = record { step = refl; log = refl; room = refl }
-aside (happening.Event.Lift w c) a = record { step = refl; log = refl; room = refl }
-aside (happening.Event.Miss w) a = record { step = refl; log = refl; room = refl }
-aside _ a = absurd (true≢false (sym a))
+aside : (own : ℕ) (e : happening.Event) → is_aside own e ≡ true → Aside own e
+aside own (happening.Event.Split w l r q i) a = record { step = refl; log = refl; room = a }
+aside own (happening.Event.Lift w c) a = record { step = refl; log = refl; room = a }
+aside own (happening.Event.Miss w) a = record { step = refl; log = refl; room = refl }
+aside own _ a = absurd (true≢false (sym a))
 
 both : (a b : Bool) → (a && b) ≡ true → (a ≡ true) × (b ≡ true)
 both true b e = (refl, e)
@@ -82,23 +83,23 @@ each true b p q = q
 each false b p q = absurd (true≢false (sym p))
 
 -- what is so of each is so of all
-pub record Asides (es : List happening.Event) : Type 0 where
+pub record Asides (own : ℕ) (es : List happening.Event) : Type 0 where
   pub steps : any is_step es ≡ false
   pub no_steps : keep is_step es ≡ []
   pub no_logs : keep is_log es ≡ []
-  pub room : AreRoom es
+  pub room : AreRoom own es
 
-pub asides : (es : List happening.Event) → AreAside es → Asides es
-asides [] a = record { steps = refl; no_steps = refl; no_logs = refl; room = refl }
-asides (e ∷ es) a =
-    let p = both (is_aside e) (all is_aside es) a in
-    let one = aside e p.0 in
-    let r = asides es p.1 in
+pub asides : (own : ℕ) (es : List happening.Event) → AreAside own es → Asides own es
+asides own [] a = record { steps = refl; no_steps = refl; no_logs = refl; room = refl }
+asides own (e ∷ es) a =
+    let p = both (is_aside own e) (all (is_aside own) es) a in
+    let one = aside own e p.0 in
+    let r = asides own es p.1 in
     record {
       steps = go_any (is_step e) (any is_step es) one.step r.steps;
       no_steps = go_keep is_step e (keep is_step es) (is_step e) one.step r.no_steps;
       no_logs = go_keep is_log e (keep is_log es) (is_log e) one.log r.no_logs;
-      room = each (makes_room e) (all makes_room es) one.room r.room;
+      room = each (makes_room own e) (all (makes_room own) es) one.room r.room;
     }
   where
     go_any : (c d : Bool) → c ≡ false → d ≡ false → (c || d) ≡ false
@@ -116,7 +117,7 @@ all_append f (e ∷ es) fs p q = let b = both (f e) (all f es) p in each (f e) (
 -- ## One event
 
 -- what a change of the tree leaves as it was
-pub record Growth (g : Opening) (s : State) (e : happening.Event) : Type 0 where
+pub record Growth (own : ℕ) (g : Opening) (s : State) (e : happening.Event) : Type 0 where
   pub entry : Entry
   pub entries : (happens g s e).entries ≡ entry ∷ s.entries
   pub kind : is_record entry.kind ≡ true
@@ -126,18 +127,18 @@ pub record Growth (g : Opening) (s : State) (e : happening.Event) : Type 0 where
   pub floor : (happens g s e).floor ≡ s.floor
   pub row : (i : ℕ) → (happens g s e).row i ≡ s.row i
   pub cut : is_cut e ≡ false
-  pub aside : is_aside e ≡ true
+  pub aside : is_aside own e ≡ true
   pub any_opening : (o : Opening) → happens o s e ≡ happens g s e
 
-pub growth : (own : ℕ) (g : Opening) (s : State) (e : Event) → IsGrowth own e → Growth g s (event_of e)
-growth own g s (event.Split w l r q i) a = record { entry = _; entries = refl; kind = refl; saved = λ p. refl; flushed = λ v. refl; head = λ v. refl; floor = refl; row = λ j. refl; cut = refl; aside = refl; any_opening = λ o. refl }
-growth own g s (event.Lift w c) a = record { entry = _; entries = refl; kind = refl; saved = λ p. refl; flushed = λ v. refl; head = λ v. refl; floor = refl; row = λ j. refl; cut = refl; aside = refl; any_opening = λ o. refl }
+pub growth : (own : ℕ) (g : Opening) (s : State) (e : Event) → IsGrowth own e → Growth own g s (event_of e)
+growth own g s (event.Split w l r q i) a = record { entry = _; entries = refl; kind = refl; saved = λ p. refl; flushed = λ v. refl; head = λ v. refl; floor = refl; row = λ j. refl; cut = refl; aside = eq-eqb w own a; any_opening = λ o. refl }
+growth own g s (event.Lift w c) a = record { entry = _; entries = refl; kind = refl; saved = λ p. refl; flushed = λ v. refl; head = λ v. refl; floor = refl; row = λ j. refl; cut = refl; aside = eq-eqb w own a; any_opening = λ o. refl }
 growth own g s _ a = absurd a
 
 -- the log has its record
 pub growth_logs : (own : ℕ) (g : Opening) (s : State) (e : Event) → IsGrowth own e → (was is : Log) → LogsEntry own g s (event_of e) was is → LogsOne own g s (event_of e) was is
-growth_logs own g s (event.Split w l r q i) a was is x = x
-growth_logs own g s (event.Lift w c) a was is x = x
+growth_logs own g s (event.Split w l r q i) a was is x = record { own = λ _. x; other = λ no. absurd (no a) }
+growth_logs own g s (event.Lift w c) a was is x = record { own = λ _. x; other = λ no. absurd (no a) }
 growth_logs own g s _ a was is x = absurd a
 
 -- ## One more
@@ -257,8 +258,8 @@ module _ (reached : EveryReached) (need : EveryNeed) (parts : (old mid new : Sto
     run_is : core.run g from es ≡ at
     run_is = sym (run_more g (state_after g (front xs)) start es)
 
-    f : Growth g at e
-    f = growth z.own g at c.event c.growth
+    f : Growth own g at e
+    f = growth own g at c.event (subst (λ n. IsGrowth n c.event) own_is c.growth)
 
     met : may g at e ≡ true
     met = behind.may_is reached need g xs (start ++ es) u d.behind e ∙ c.met
@@ -309,7 +310,7 @@ module _ (reached : EveryReached) (need : EveryNeed) (parts : (old mid new : Sto
     pub gained_more : Gained own g xs start key w (es ++ e ∷ []) was is
     gained_more = record {
       behind = behind_w;
-      aside = all_append is_aside es (e ∷ []) d.aside (each (is_aside e) true f.aside refl);
+      aside = all_append (is_aside own) es (e ∷ []) d.aside (each (is_aside own e) true f.aside refl);
       logs = logs_more own g from es e was mid is d.logs logged;
       makes = makes_more g key from es e d.makes made;
     }

@@ -40,7 +40,7 @@ use Rattle.row_engine.proofs.Moments.{resident_on}
 use Rattle.row_engine.proofs.Misses.{misses_core}
 use Rattle.row_engine.proofs.NumberLemmas.{numbered_moves}
 use Rattle.row_engine.proofs.PutLemmas.{floor_same, ran_seen, same_flushed, seen_core}
-use Rattle.row_engine.proofs.UndoLemmas.{many_of, room_to_undo}
+use Rattle.row_engine.proofs.UndoLemmas.{many_of, room_to_flush, room_to_undo}
 
 -- ## Moments of a call, where nobody else steps
 
@@ -218,6 +218,7 @@ module _ (z : Shape) (v w : View) (x : Session) (log : Log) (h : Holds z v x log
       closed_txn = λ q. absurd (true≢false (sym f.is_open ∙ q));
       txn = let b = h.numbers.txn in let k = clock_rises in omega arith;
       undo_room = λ _. room_to_undo st.came.entry log log_now (length x.undo) st.came.short st.came.after f.room h.numbers.few;
+      flush_room = λ _ _. room_to_flush st.came.entry log log_now (length x.undo) st.came.after f.room h.numbers.few;
       few = h.numbers.few;
       behind = h.numbers.behind;
     }

@@ -1,7 +1,7 @@
 pub mod Moments
 pub mod Frames
+pub mod OnOwn
 pub mod Misses
-pub mod Waiting
 pub mod EntryNumbers
 pub mod UndoLemmas
 pub mod GoingLemmas
@@ -18,7 +18,10 @@ pub mod CommitRefusals
 pub mod HeldLemmas
 pub mod LoneLemmas
 pub mod ConflictLemmas
+pub mod SyncLemmas
+pub mod SyncNumbers
 pub mod TakeLemmas
+pub mod ReceiptLemmas
 pub mod Refusing
 pub mod GetLemmas
 pub mod StageLemmas

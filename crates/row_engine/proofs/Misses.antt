@@ -1,5 +1,5 @@
 -- Misses change nothing.
-use Rattle.std.proofs.Common.{◌≡◌, ◌∙◌, Bool, true, false, List, [], ◌∷◌, refl}
+use Rattle.std.proofs.Common.{◌≡◌, ◌∙◌, ℕ, Bool, true, false, List, [], ◌∷◌, refl}
 use Rattle.map_model.specs.Lists.{all, any}
 use Rattle.core_state.specs.Openings.{Opening}
 use Rattle.core_state.specs.Events as happening
@@ -56,10 +56,10 @@ misses_core v k [] m = refl
 misses_core v k (Miss a ∷ es) m = misses_core v (sealed.stepped v k (Miss a)) es m ∙ met_core v k (Miss a) refl
 misses_core v k _ m = absurd m
 
-pub misses_aside : (es : List Event) → AreMisses es → AreAside (events_of es)
-misses_aside [] m = refl
-misses_aside (Miss a ∷ es) m = misses_aside es m
-misses_aside (_ ∷ es) m = absurd m
+pub misses_aside : (own : ℕ) (es : List Event) → AreMisses es → AreAside own (events_of es)
+misses_aside own [] m = refl
+misses_aside own (Miss a ∷ es) m = misses_aside own es m
+misses_aside own (_ ∷ es) m = absurd m
 
 pub misses_are : (es : List Event) → AreMisses es → all is_miss (events_of es) ≡ true
 misses_are [] m = refl

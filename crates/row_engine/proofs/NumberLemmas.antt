@@ -14,13 +14,13 @@ use Rattle.row_engine.specs.Numbers.{AreLow, AreNumbered, AreSpent, AreUpTo, lef
 
 -- ## What is left to a worker
 
-left_low : (a : Worker) → a.clock < 2 ^ 62 → left_to a ≡ 66
+pub left_low : (a : Worker) → a.clock < 2 ^ 62 → left_to a ≡ 66
 left_low a low = cond-true (ltb a.clock (2 ^ 62)) 66 (cond a.is_open (suc (length a.changes)) 0) (lt-ltb a.clock (2 ^ 62) low)
 
-left_high : (a : Worker) → 2 ^ 62 ≤ a.clock → a.is_open ≡ true → left_to a ≡ suc (length a.changes)
+pub left_high : (a : Worker) → 2 ^ 62 ≤ a.clock → a.is_open ≡ true → left_to a ≡ suc (length a.changes)
 left_high a high going = cond-false (ltb a.clock (2 ^ 62)) 66 (cond a.is_open (suc (length a.changes)) 0) (le-ltb a.clock (2 ^ 62) high) ∙ cond-true a.is_open (suc (length a.changes)) 0 going
 
-left_none : (a : Worker) → 2 ^ 62 ≤ a.clock → a.is_open ≡ false → left_to a ≡ 0
+pub left_none : (a : Worker) → 2 ^ 62 ≤ a.clock → a.is_open ≡ false → left_to a ≡ 0
 left_none a high closed = cond-false (ltb a.clock (2 ^ 62)) 66 (cond a.is_open (suc (length a.changes)) 0) (le-ltb a.clock (2 ^ 62) high) ∙ cond-false a.is_open (suc (length a.changes)) 0 closed
 
 less : (x y a b : ℕ) → x ≡ a → y ≡ b → a < b → x < y
@@ -200,12 +200,13 @@ up_same s t top page row worker up = record {
   end = λ w. subst (λ (f : ℕ → Worker). (f w).end ≤ top) (sym worker) (up.end w);
 }
 
--- what is so while the workers are the same
-by_same : (n : ℕ) (s t : State) → t.worker ≡ s.worker → ((top : ℕ) → AreUpTo s top → AreUpTo t top) → AreNumbered n s → AreNumbered n t
-by_same n s t e up (inl l) = inl (record { top = l.top; up_to = up l.top l.up_to; room = subst (λ (f : ℕ → Worker). l.top + left_to_all f n ≤ 2 ^ 62 + 66 * n) (sym e) l.room })
-by_same n s t e up (inr p) = inr (record {
+-- what is so while the workers and the floor are the same
+by_same : (n : ℕ) (s t : State) → t.worker ≡ s.worker → t.floor ≡ s.floor → ((top : ℕ) → AreUpTo s top → AreUpTo t top) → AreNumbered n s → AreNumbered n t
+by_same n s t e floor up (inl l) = inl (record { top = l.top; up_to = up l.top l.up_to; room = subst (λ (f : ℕ → Worker). l.top + left_to_all f n ≤ 2 ^ 62 + 66 * n) (sym e) l.room })
+by_same n s t e floor up (inr p) = inr (record {
   closed = λ w some high. subst (λ (f : ℕ → Worker). (f w).is_open ≡ false) (sym e) (p.closed w some high);
   clock = λ w some high. subst (λ (f : ℕ → Worker). 2 ^ 62 ≤ (f w).clock) (sym e) (p.clock w some high);
+  floor = λ w some high. ap (λ (f : ℕ → Worker). (f w).clock) e ∙ (p.floor w some high ∙ sym floor);
   top = p.top;
   up_to = up p.top p.up_to;
   small = p.small;
@@ -213,11 +214,11 @@ by_same n s t e up (inr p) = inr (record {
 
 -- ## Where no number comes
 
-pub numbered_same : (n : ℕ) (s t : State) → t.page ≡ s.page → t.row ≡ s.row → t.worker ≡ s.worker → AreNumbered n s → AreNumbered n t
-numbered_same n s t page row worker h = by_same n s t worker (λ top up. up_same s t top page row worker up) h
+pub numbered_same : (n : ℕ) (s t : State) → t.page ≡ s.page → t.row ≡ s.row → t.worker ≡ s.worker → t.floor ≡ s.floor → AreNumbered n s → AreNumbered n t
+numbered_same n s t page row worker floor h = by_same n s t worker floor (λ top up. up_same s t top page row worker up) h
 
 pub numbered_flush : (g : Opening) (n : ℕ) (s : State) (w k : ℕ) → AreNumbered n s → AreNumbered n (happens g s (Event.Flush w k))
-numbered_flush g n s w k h = numbered_same n s (happens g s (Event.Flush w k)) refl refl refl h
+numbered_flush g n s w k h = numbered_same n s (happens g s (Event.Flush w k)) refl refl refl refl h
 
 -- as the engine begins
 pub numbered_start : (g : Opening) → g.base < 2 ^ 64 → AreNumbered g.workers (start g)
@@ -228,7 +229,7 @@ numbered_start g small = go (cases_lt g.base (2 ^ 62))
 
     go : (g.base < 2 ^ 62) ⊎ (2 ^ 62 ≤ g.base) → AreNumbered g.workers (start g)
     go (inl low) = inl (by_end g.workers (start g) g.base up low)
-    go (inr far) = inr (record { closed = λ w some high. refl; clock = λ w some high. far; top = g.base; up_to = up; small = small })
+    go (inr far) = inr (record { closed = λ w some high. refl; clock = λ w some high. far; floor = λ w some high. refl; top = g.base; up_to = up; small = small })
 
 pub numbered_begin : (g : Opening) (n : ℕ) (s : State) (w f : ℕ) → (s.worker w).clock < 2 ^ 62 → 0 < w → w ≤ n → AreNumbered n s → AreNumbered n (happens g s (Event.Begin w f))
 numbered_begin g n s w f small some high (inl l) = inl (by_room n s (happens g s (Event.Begin w f)) w (begun (s.worker w) f) l some high refl l.top up
@@ -289,7 +290,7 @@ numbered_read g n s w p k a some high going few h = by_low n s (happens g s (Eve
 
 -- a row that is given back tells of an end so far
 pub numbered_unlock : (g : Opening) (n : ℕ) (s : State) (w i : ℕ) → AreNumbered n s → AreNumbered n (happens g s (Event.Unlock w i))
-numbered_unlock g n s w i h = by_same n s (happens g s (Event.Unlock w i)) refl up h
+numbered_unlock g n s w i h = by_same n s (happens g s (Event.Unlock w i)) refl refl up h
   where
     told : (o : Row) (end top : ℕ) → o.number ≤ top → o.read_end ≤ top → end ≤ top → ((unlocked o w end).number ≤ top) × ((unlocked o w end).read_end ≤ top)
     told o end top number read_end low = both (is_held_by o.holder w) (record { holder = None; readers = others; number = max o.number end; log = w; read_end = o.read_end })

@@ -14,7 +14,7 @@ use Rattle.rows_trait.specs.Views.{Shape, state}
 use Rattle.worker_log.specs.Logs.{Log}
 use Rattle.row_engine.specs.Holds.{AreNumbers, Holds, IsOf}
 use Rattle.row_engine.specs.Numbers.{AreNumbered}
-use Rattle.row_engine.specs.Opened.{EveryOpened, IsOpened}
+use Rattle.row_engine.specs.Opened.{EveryFellow, EveryOpened, IsOpened}
 use Rattle.row_engine.specs.Ties.{Ties}
 use Rattle.row_engine.specs.declared.session.Session.{Session}
 use Rattle.row_engine.proofs.NumberLemmas.{numbered_same, numbered_start}
@@ -48,13 +48,14 @@ module _ (g : Opening) (z : Shape) (v : View) (x : Session) (log : Log) (o : IsO
     closed_txn = λ q. let a = o.session.txn in omega arith;
     txn = let a = o.session.txn in omega arith;
     undo_room = λ some. let a = ap length o.session.undo in absurd (omega arith);
+    flush_room = λ _ some. let a = ap length o.session.undo in absurd (omega arith);
     few = let a = ap length o.session.undo in omega arith;
     behind = let a = o.session.behind in let b = o.session.group in omega arith;
   }
 
   numbered : AreNumbered x.workers (state v).core
   numbered = at (λ s. AreNumbered x.workers s) (subst (λ n. AreNumbered n (record (start g) { place = (state v).core.place })) (o.opens.workers ∙ o.rows.workers)
-      (numbered_same g.workers (start g) (record (start g) { place = (state v).core.place }) refl refl refl (numbered_start g o.small)))
+      (numbered_same g.workers (start g) (record (start g) { place = (state v).core.place }) refl refl refl refl (numbered_start g o.small)))
 
   floor : x.floor ≤ flushed_by_all (opening v.given) (state v).core
   floor = at (λ s. x.floor ≤ flushed_by_all (opening v.given) s)
@@ -82,3 +83,35 @@ module _ (g : Opening) (z : Shape) (v : View) (x : Session) (log : Log) (o : IsO
 
 pub every_opened : EveryOpened
 every_opened g z v x log o = (holding g z v x log o, ties g z v x log o)
+
+pub every_fellow : EveryFellow
+every_fellow g z v x log own few o low high = record {
+  opens = o.opens;
+  loads = o.loads;
+  few = o.few;
+  met = o.met;
+  rest = o.rest;
+  resident = o.resident;
+  seen = o.seen;
+  alone = o.alone;
+  idle = o.idle;
+  rows = record {
+    tree = o.rows.tree;
+    tree_sound = o.rows.tree_sound;
+    locks = record { spans = o.rows.locks.spans; given = o.rows.locks.given; locks = o.rows.locks.locks; few = o.rows.locks.few; works = record { one = low; among = let e = o.rows.workers in omega arith } };
+    locks_sound = o.rows.locks_sound;
+    clocked = o.rows.clocked;
+    workers = o.rows.workers;
+    sized = o.rows.sized;
+    low = low;
+    high = high;
+    most = o.rows.most;
+    few = o.rows.few;
+  };
+  small = o.small;
+  session = record { group = o.session.group; behind = o.session.behind; works = o.session.works; is_open = o.session.is_open; txn = o.session.txn; clock = o.session.clock; floor = o.session.floor; debt = o.session.debt; end = o.session.end; undo = o.session.undo; half = o.session.half; rows = o.session.rows };
+  free = o.free;
+  spare = o.spare;
+  last = o.last;
+  flushed = o.flushed;
+}

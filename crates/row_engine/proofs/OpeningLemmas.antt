@@ -29,9 +29,11 @@ use Rattle.open_rows.specs.Opened.{ArePages, comes, contents_of, frees, given_of
 use Rattle.lean_proto.specs.Paging.{IsResident}
 use Rattle.worker_log.specs.Logs.{Log}
 use Rattle.engine_trait.specs.Limits.{AreLoads}
+use Rattle.row_engine.specs.Held.{Held}
 use Rattle.row_engine.specs.Holds.{AreRows}
 use Rattle.row_engine.specs.Opened.{IsFirst, IsOpened, IsOpenedOn, plain_shape}
 use Rattle.row_engine.specs.declared.session.Session.{Session}
+use Rattle.row_engine.specs.declared.undo.Undone.{Undone}
 use Rattle.row_engine.proofs.EntryNumbers.{entries_clocked}
 use Rattle.row_engine.proofs.Moments.{events_more}
 
@@ -179,11 +181,23 @@ locks_sound every sound g v o = sound v (λ es i. let l = (every g (unbegun v) (
   reader = λ w h. of_worker (opening v) w (l.reader i w h);
 })
 
+-- ## A further session
+
+-- it holds no lock row and no free page, and has all else of the first one
+pub further : (x : Session) (own : ℕ) (few : own ≤ 16) (undo : List Undone) (held : Held) (free : List ℕ) (n : ℕ) → undo ≡ [] → x.undo ≡ [] → held ≡ record { count = n; rows = [] } → n ≡ x.held.count → x.held.rows ≡ [] → free ≡ []
+    → (k : own ≤ 16) × (record x { own = own; undo = undo; held = held; free = free; few = few } ≡ record x { own = own; free = []; few = k })
+further x own few undo held free n u old_u h count rows f =
+    let same : held ≡ x.held = h ∙ (λ i. record { count = count i; rows = sym rows i }) in
+    (few, (λ i. record x { own = own; undo = (u ∙ sym old_u) i; held = same i; free = f i; few = few }))
+
 -- ## On pages
 
-module _ (every : EveryOpened) (need : EveryNeed) (reached : EveryReached) (sound : EverySound) (pages : List Page) (count base : ℕ) (are : ArePages pages base) (few : length pages ≤ 65536) (some_lock : 1 ≤ count) (few_locks : count ≤ 65536) (small : base < 2 ^ 64) where
+module _ (every : EveryOpened) (need : EveryNeed) (reached : EveryReached) (sound : EverySound) (pages : List Page) (count many base : ℕ) (are : ArePages pages base) (few : length pages ≤ 65536) (some_lock : 1 ≤ count) (few_locks : count ≤ 65536) (some_worker : 1 ≤ many) (few_workers : many ≤ 16) (small : base < 2 ^ 64) where
   abbrev v : Given
-  v = given_of (length pages) count 1 base pages
+  v = given_of (length pages) count many base pages
+
+  workers_is : (opening v).workers ≡ many
+  workers_is = let e : suc (many - 1) ≡ many = omega arith in e
 
   module _ (o : opened.IsOpened pages v) where
     abbrev g : Opening
@@ -208,31 +222,31 @@ module _ (every : EveryOpened) (need : EveryNeed) (reached : EveryReached) (soun
     tree_sound es = let at = every g v o.opens es in record {
       tree = at.tree;
       residence = at.places;
-      logs = at.logs (omega arith);
+      logs = at.logs (let e = workers_is in omega arith);
       few = let l = long in omega arith;
       undo = at.undo;
     }
 
-    resident : IsResident (plain_shape (length pages) count 1) (first_plain v)
+    resident : IsResident (plain_shape (length pages) count many) (first_plain v)
     resident = record { room = let a = long in omega arith; hot = λ p lt. o.hot p (let a = long in omega arith) }
 
-    rows : AreRows (plain_shape (length pages) count 1) (first_plain v) 1 1 (length pages) count
+    rows : AreRows (plain_shape (length pages) count many) (first_plain v) 1 many (length pages) count
     rows = record {
       tree = record { some = are.tree.some; shape = refl; given = let a = are.tree.some in omega arith };
       tree_sound = tree_sound;
-      locks = record { spans = record { shape = refl; rows = refl; some = some_lock; small = omega arith }; given = let a = are.tree.some in omega arith; locks = refl; few = omega arith; works = record { one = omega arith; among = omega arith } };
+      locks = record { spans = record { shape = refl; rows = refl; some = some_lock; small = omega arith }; given = let a = are.tree.some in omega arith; locks = refl; few = let e = workers_is in omega arith; works = record { one = omega arith; among = let e = workers_is in omega arith } };
       locks_sound = locks_sound every sound g v o.opens;
       clocked = entries_clocked reached g v o.opens;
-      workers = refl;
+      workers = workers_is;
       sized = refl;
       low = omega arith;
-      high = omega arith;
-      most = omega arith;
+      high = some_worker;
+      most = few_workers;
       few = omega arith;
     }
 
-    module _ (x : Session) (own : x.own ≡ 1) (workers : x.workers ≡ 1) (first : IsFirst base x) (frames : x.frames ≡ length pages) (held : x.held.count ≡ count) (free : x.free ≡ frees_from (nodes_in pages) (length pages) 0) where
-      is : (log : Log) → log.last ≡ base → log.flushed ≡ base → IsOpened g (plain_shape (length pages) count 1) (first_plain v) x log
+    module _ (x : Session) (own : x.own ≡ 1) (workers : x.workers ≡ many) (first : IsFirst base x) (frames : x.frames ≡ length pages) (held : x.held.count ≡ count) (free : x.free ≡ frees_from (nodes_in pages) (length pages) 0) where
+      is : (log : Log) → log.last ≡ base → log.flushed ≡ base → IsOpened g (plain_shape (length pages) count many) (first_plain v) x log
       is log last flushed = record {
         opens = o.opens;
         loads = every_load v.pages;
@@ -243,8 +257,8 @@ module _ (every : EveryOpened) (need : EveryNeed) (reached : EveryReached) (soun
         seen = refl;
         alone = refl;
         idle = refl;
-        rows = subst (λ n. AreRows (plain_shape (length pages) count 1) (first_plain v) x.own x.workers n x.held.count) (sym frames) (subst (λ n. AreRows (plain_shape (length pages) count 1) (first_plain v) x.own x.workers (length pages) n) (sym held)
-            (subst (λ n. AreRows (plain_shape (length pages) count 1) (first_plain v) n x.workers (length pages) count) (sym own) (subst (λ n. AreRows (plain_shape (length pages) count 1) (first_plain v) 1 n (length pages) count) (sym workers) rows)));
+        rows = subst (λ n. AreRows (plain_shape (length pages) count many) (first_plain v) x.own x.workers n x.held.count) (sym frames) (subst (λ n. AreRows (plain_shape (length pages) count many) (first_plain v) x.own x.workers (length pages) n) (sym held)
+            (subst (λ n. AreRows (plain_shape (length pages) count many) (first_plain v) n x.workers (length pages) count) (sym own) (subst (λ n. AreRows (plain_shape (length pages) count many) (first_plain v) 1 n (length pages) count) (sym workers) rows)));
         small = let e = base_is in omega arith;
         session = subst (λ n. IsFirst n x) (sym base_is) first;
         free = free ∙ (frees_same (nodes_in pages) (nodes_of (start g)) (λ p. ap (λ c. c.node) (sym (page_is p))) (length pages) 0 ∙ (λ i. frees_from (nodes_of (start g)) (sym format_is i).pages 0));
@@ -253,10 +267,10 @@ module _ (every : EveryOpened) (need : EveryNeed) (reached : EveryReached) (soun
         flushed = flushed ∙ sym base_is;
       }
 
-      on_pages : IsOpenedOn pages count base (plain_shape (length pages) count 1) (first_plain v) x
+      on_pages : IsOpenedOn pages count base (plain_shape (length pages) count many) (first_plain v) x
       on_pages = record {
         opening = g;
-        workers = o.opens.workers ∙ sym workers;
+        workers = o.opens.workers ∙ (workers_is ∙ sym workers);
         locks = o.opens.locks;
         format = format_is;
         base_is = base_is;
@@ -266,6 +280,6 @@ module _ (every : EveryOpened) (need : EveryNeed) (reached : EveryReached) (soun
         is = is;
       }
 
-      pub is_on : (f l w : ℕ) (u : View) → f ≡ length pages → l ≡ count → w ≡ 1 → u ≡ first_plain v → IsOpenedOn pages count base (plain_shape f l w) u x
+      pub is_on : (f l w : ℕ) (u : View) → f ≡ length pages → l ≡ count → w ≡ many → u ≡ first_plain v → IsOpenedOn pages count base (plain_shape f l w) u x
       is_on f l w u p q r e = subst (λ t. IsOpenedOn pages count base (plain_shape f l w) t x) (sym e) (subst (λ n. IsOpenedOn pages count base (plain_shape n l w) (first_plain v) x) (sym p)
           (subst (λ n. IsOpenedOn pages count base (plain_shape (length pages) n w) (first_plain v) x) (sym q) (subst (λ n. IsOpenedOn pages count base (plain_shape (length pages) count n) (first_plain v) x) (sym r) on_pages)))

@@ -18,6 +18,7 @@ use Rattle.key_locks.specs.declared.mode.Mode.{Mode}
 use Rattle.key_locks.specs.Rows.{event_mode}
 use Rattle.btree_descent.specs.declared.descent.TheConstants.{TOMBSTONE}
 use Rattle.btree_smo.specs.Outcomes.{AreMisses}
+use Rattle.row_engine.specs.declared.commits.Ended as committed
 use Rattle.row_engine.specs.declared.session.Session.{Session}
 use Rattle.row_engine.specs.Aborts.{Finishes}
 use Rattle.row_engine.specs.Backs.{IsPutBack, PutsAllBack}
@@ -126,7 +127,7 @@ undone_steps (Err refusal.RowSpent) v w x y was is old new p works = p.0.undoes.
 undone_steps (Err refusal.DiskFault) v w x y was is old new p works = absurd (true≢false (sym works))
 undone_steps (Err _) v w x y was is old new p works = absurd p
 
-pub finished_steps : (r : Result ℕ Refusal) (v w : View) (x : Session) (was is : Log) (old new : Story) → Finishes r v w x was is old new → works_after r ≡ true → Steps x.own v w
-finished_steps (Ok number) v w x was is old new p works = ended_steps x.own _ v w false p.0.floor p.0.ended
+pub finished_steps : (r : Result committed.Ended Refusal) (v w : View) (x : Session) (was is : Log) (old new : Story) → Finishes r v w x was is old new → works_after r ≡ true → Steps x.own v w
+finished_steps (Ok told) v w x was is old new p works = ended_steps x.own _ v w false p.0.floor p.0.ended
 finished_steps (Err refusal.DiskFault) v w x was is old new p works = absurd (true≢false (sym works))
 finished_steps (Err _) v w x was is old new p works = absurd p

@@ -43,7 +43,7 @@ use Rattle.row_engine.specs.Takes.{IsSpent}
 use Rattle.row_engine.specs.declared.session.Session.{Session}
 use Rattle.row_engine.proofs.NumberLemmas.{low_small, numbered_change, numbered_open}
 use Rattle.row_engine.proofs.TakeLemmas.{row_is}
-use Rattle.row_engine.proofs.UndoLemmas.{many_of, room_to_undo}
+use Rattle.row_engine.proofs.UndoLemmas.{many_of, room_to_flush, room_to_undo}
 use Rattle.row_engine.proofs.Behind.{rows_on}
 use Rattle.row_engine.proofs.Moments.{free_same, met_core, resident_on}
 
@@ -289,6 +289,7 @@ module _ (rooms : EveryRoom) (z : Shape) (v w : View) (x : Session) (log : Log) 
       closed_txn = λ e. absurd (true≢false (sym f.is_open ∙ e));
       txn = let a = h.numbers.txn in let q = clock_rises in omega arith;
       undo_room = λ _. let c = f.few in room_to_undo st.came.entry log log_now (suc (length x.undo)) st.came.short st.came.after f.room (omega arith);
+      flush_room = λ _ _. let c = f.few in room_to_flush st.came.entry log log_now (suc (length x.undo)) st.came.after f.room (omega arith);
       few = let a = f.few in omega arith;
       behind = h.numbers.behind;
     }

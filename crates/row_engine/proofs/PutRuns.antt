@@ -51,7 +51,9 @@ use Rattle.rows_trait.specs.declared.view.View.{View}
 use Rattle.btree_descent.specs.Puts.{change_of}
 use Rattle.key_locks.specs.Rows.{core_mode, event_mode}
 use Rattle.key_locks.specs.declared.mode.Mode.TheVariants.{Alone}
-use Rattle.engine_trait.specs.Calls.{Fails, Logs, LogsEntry, Nothing, call_behind, is_half_done}
+use Rattle.engine_trait.specs.Calls.{Nothing, call_behind, is_half_done}
+use Rattle.engine_trait.specs.Logs.{Logs, LogsEntry}
+use Rattle.row_engine.specs.Deeds.{Fails}
 use Rattle.engine_trait.specs.Limits.{limits}
 use Rattle.engine_trait.specs.Refusals.{IsRefusedFor, change_refusal, is_full_for, lock_refusal, log_refusal, met_refusal, refusal_in, room_refusal}
 use Rattle.engine_trait.specs.Rooms.{AreRoom, IsRoomFor, MakesItsRoom, MakesRoom}
@@ -75,6 +77,7 @@ use Rattle.row_engine.proofs.Formats.{full_as, full_on, refusal_as, refusal_on}
 use Rattle.row_engine.proofs.GrowRuns.{Asides, all_append, asides, logs_more, logs_same, makes_behind, makes_more, makes_same, record_in, went_quiet}
 use Rattle.row_engine.proofs.Misses.{misses_are, misses_aside, misses_met, misses_quiet}
 use Rattle.row_engine.proofs.Moments.{events_more}
+use Rattle.row_engine.proofs.OnOwn.{logs_own}
 use Rattle.row_engine.proofs.PutLemmas.{seen_core}
 use Rattle.row_engine.proofs.PutTests.{IsFree, IsTaken, all_three, behind_still, clock_alone, clock_is_spent, free_of, full_in, gate, gate_more, gate_none, gate_of, length_events, log_none, log_some, logs_lock, many_behind, met_told, none_is, not_full, put_told, room_lock, short_is, some_is, some_true, steps_lock, taken_alone, taken_passes, taken_stays, tall_is, test_is}
 use Rattle.row_engine.proofs.StepLemmas.{ready}
@@ -194,7 +197,7 @@ module _ (reached : EveryReached) (need : EveryNeed) (answers : EveryAnswer) (co
           refused = λ q r. subst (λ k. IsRefusedFor g (state_after g (front xs ++ (first ++ o.events))) x.own half is (call_behind (outcomes xs) asks) k) (why_is why q r)
               (subst (λ k. IsRefusedFor g (state_after g (front xs ++ (first ++ o.events))) x.own half is k why) (sym asks_is) (subst (λ k. IsRefusedFor g k x.own half is asks why) (sym (behind.front_is g xs (first ++ o.events))) caused));
           refuses = λ q r. as_answer q (due q (ap (λ k. refusal_in g sf x.own half log k) (sym asks_is) ∙ r));
-          log = o.logs;
+          log = λ _. o.logs;
           room = subst (λ k. MakesItsRoom g sf k o.events) (sym asks_is) o.makes;
         };
         frame = o.frame;
@@ -338,7 +341,7 @@ module _ (reached : EveryReached) (need : EveryNeed) (answers : EveryAnswer) (co
       pub record Reached (w : View) (is : Log) (old new : Story) : Type 0 where
         pub events : List happening.Event
         pub behind : Behind g xs (start ++ events) w
-        pub aside : AreAside events
+        pub aside : AreAside x.own events
         pub logs : Logs x.own g (behind_first g xs start) events log is
         pub makes : MakesRoom g (behind_first g xs start) key events
         pub few : length events ≤ 2 ^ 16 + 8
@@ -366,7 +369,7 @@ module _ (reached : EveryReached) (need : EveryNeed) (answers : EveryAnswer) (co
           let es = events_of r.grows.events in record {
             events = es ++ events_of q.misses;
             behind = subst (λ ys. Behind g xs ys w) (append_assoc start es (events_of q.misses)) (behind.more reached need g xs (start ++ es) u1 d.behind q.misses w q.given q.seen (misses_met g (behind_first g xs (start ++ es)) q.misses q.are_misses));
-            aside = all_append is_aside es (events_of q.misses) d.aside (misses_aside q.misses q.are_misses);
+            aside = all_append (is_aside x.own) es (events_of q.misses) d.aside (misses_aside x.own q.misses q.are_misses);
             logs = logs_same x.own g (behind_first g xs start) es (events_of q.misses) log is (misses_are q.misses q.are_misses) d.logs;
             makes = makes_same g key (behind_first g xs start) es (events_of q.misses) (misses_are q.misses q.are_misses) d.makes;
             few = let a = r.grows.fewer in let n = length_events r.grows.events in let m = spare1 in let b = length-append es (events_of q.misses) in let c = q.few in let o = length_events q.misses in omega arith;
@@ -379,8 +382,8 @@ module _ (reached : EveryReached) (need : EveryNeed) (answers : EveryAnswer) (co
         own_is : start ++ d.events ≡ first ++ lock ∷ d.events
         own_is = append_assoc first (lock ∷ []) d.events
 
-        ra : Asides d.events
-        ra = asides d.events d.aside
+        ra : Asides x.own d.events
+        ra = asides x.own d.events d.aside
 
         went_start : (s0 : Crash) (k : Known) → Between limits g x.group xs s0 k old → k.log x.own ≡ log → Went x.own g xs s0 k start log old old
         went_start s0 k bt k_is = went_quiet parts x.own x.group g low high xs s0 k old bt first (lock ∷ []) refl log old (went_first old lawful s0 k bt k_is)
@@ -564,8 +567,8 @@ module _ (reached : EveryReached) (need : EveryNeed) (answers : EveryAnswer) (co
           low = low;
           high = high;
           before_steps = behind.loads_steps first t.are_loads;
-          between_steps = (asides es d.aside).steps;
-          syncs = subst (AreSyncs false) (sym (logs_lock x.own first (g.row_of key) es t.are_loads (asides es d.aside).no_logs)) tt;
+          between_steps = (asides x.own es d.aside).steps;
+          syncs = subst (AreSyncs false) (sym (logs_lock x.own first (g.row_of key) es t.are_loads (asides x.own es d.aside).no_logs)) tt;
           met = b3.met;
           was_is = c.told ∙ (λ i. value_in (fmt_u i) ((core_lead i).page page).node key);
           whole = t.half_is ∙ (free_of x log works none).whole;
@@ -629,7 +632,7 @@ module _ (reached : EveryReached) (need : EveryNeed) (answers : EveryAnswer) (co
 
         logged : Logs x.own g sf (lock ∷ (es ++ change ∷ [])) log is
         logged = logs_more x.own g sf (lock ∷ es) change log c.log is own_logs
-            (subst (λ (k : State). LogsEntry x.own g k change c.log is) (sym run_lead) (record { record_of = c.entry; entry = ap (λ (k : State). k.entries) step_in ∙ ap (λ (e : Entry). e ∷ s2.entries) (sym is_write.entry); after = c.after }))
+            (logs_own x.own g (core.run g sf (lock ∷ es)) change c.log is (subst (λ (k : State). LogsEntry x.own g k change c.log is) (sym run_lead) (record { record_of = c.entry; entry = ap (λ (k : State). k.entries) step_in ∙ ap (λ (e : Entry). e ∷ s2.entries) (sym is_write.entry); after = c.after })))
 
         made : MakesRoom g sf key (lock ∷ (es ++ change ∷ []))
         made = makes_more g key sf (lock ∷ es) change (tt, subst (λ k. MakesRoom g k key es) (sym from_is) d.makes) tt
@@ -657,7 +660,7 @@ module _ (reached : EveryReached) (need : EveryNeed) (answers : EveryAnswer) (co
               few = let a = t.few in let b = length-append first (lock ∷ es) in let q = length-append lead (change ∷ []) in let r = c.grows.fewer in let n = length_events c.grows.events in let m = spare1 in omega arith;
               refused = λ why q. absurd (no_refusal why q);
               refuses = λ why q. absurd (none_refuses why (ap (λ k. refusal_in g sf x.own half log k) (sym asks_is) ∙ q));
-              log = logged;
+              log = λ _. logged;
               room = subst (λ k. MakesItsRoom g sf k (lock ∷ (es ++ change ∷ []))) (sym asks_is) made;
             };
             frame = c.frame;
@@ -671,7 +674,7 @@ module _ (reached : EveryReached) (need : EveryNeed) (answers : EveryAnswer) (co
       put_fails old new lawful c =
           let es = events_of c.grows.events in
           let d = c.grows.run g xs start b1 in
-          let are_room : AreRoom (start ++ es) = subst AreRoom (sym (append_assoc first (lock ∷ []) es)) (room_lock x.own first (g.row_of key) es t.are_loads (asides es d.aside).room) in
+          let are_room : AreRoom x.own (start ++ es) = subst (AreRoom x.own) (sym (append_assoc first (lock ∷ []) es)) (room_lock x.own first (g.row_of key) es t.are_loads (asides x.own es d.aside).room) in
           let makes : MakesRoom g (state_after g (front xs)) key (start ++ es) = makes_behind g x.own key (g.row_of key) (state_after g (front xs)) first es t.are_loads d.makes in
           record {
             frame = c.frame;

@@ -1,6 +1,6 @@
 -- What a put is tested for, and what its tests say of a state.
 use Rattle.std.proofs.Common.{◌≡◌, ◌⊎◌, inl, inr, ◌≤◌, ◌<◌, ◌-◌, ◌^◌, ◌%◌, ◌==◌, ◌&&◌, ◌||◌, ◌++◌, ℕ, zero, suc, Bool, true, false, cond, not, leb, ltb, List, [], ◌∷◌, length, Option, Some, None, Result, Ok, Err, IfErr, IsErrAnd, refl, sym, ap, ◌∙◌, subst, arith, true≢false}
-use Rattle.std.proofs.lemmas.Bool.{and_parts, cases_eq, leb-true, leb-false, lt-leb, ltb-true, eq-eqb, eqb-true}
+use Rattle.std.proofs.lemmas.Bool.{and_from, and_parts, cases_eq, leb-true, leb-false, lt-leb, ltb-true, eq-eqb, eqb-true}
 use Rattle.std.proofs.lemmas.List.{length-append}
 use Rattle.map_model.specs.declared.call.Refusal.{Refusal}
 use Rattle.map_model.specs.declared.call.Refusal.TheVariants as refusal
@@ -37,8 +37,8 @@ use Rattle.key_locks.specs.declared.mode.Mode.TheVariants.{Alone}
 use Rattle.engine_trait.specs.Calls.{IsTold}
 use Rattle.engine_trait.specs.Limits.{AreLoads}
 use Rattle.engine_trait.specs.Refusals.{lock_refusal, log_refusal, met_refusal, room_refusal}
-use Rattle.engine_trait.specs.Rooms.{AreRoom}
-use Rattle.row_engine.specs.Calls.{MayCome}
+use Rattle.engine_trait.specs.Rooms.{AreRoom, makes_room}
+use Rattle.engine_trait.specs.Calls.{MayCome}
 use Rattle.row_engine.specs.Inside.{is_going, put_test}
 use Rattle.row_engine.specs.Grown.{AreAside, Behind, is_aside}
 use Rattle.row_engine.specs.Outcomes.{Puts}
@@ -310,8 +310,8 @@ logs_lock own [] i more a none = none
 logs_lock own (happening.Event.Load p f ∷ es) i more a none = logs_lock own es i more a none
 logs_lock own (_ ∷ es) i more a none = absurd a
 
-pub room_lock : (own : ℕ) (es : List happening.Event) (i : ℕ) (more : List happening.Event) → AreLoads es → AreRoom more → AreRoom (es ++ happening.Event.Lock own i happening.Mode.Alone ∷ more)
-room_lock own [] i more a room = room
+pub room_lock : (own : ℕ) (es : List happening.Event) (i : ℕ) (more : List happening.Event) → AreLoads es → AreRoom own more → AreRoom own (es ++ happening.Event.Lock own i happening.Mode.Alone ∷ more)
+room_lock own [] i more a room = and_from (own == own) (all (makes_room own) more) (eq-eqb own own refl) room
 room_lock own (happening.Event.Load p f ∷ es) i more a room = room_lock own es i more a room
 room_lock own (_ ∷ es) i more a room = absurd a
 
@@ -415,10 +415,10 @@ moves_stay s kind w ps made own = record {
       (let q = (touched s w (s.worker w) ps).clock in omega arith) (λ _. omega arith);
 }
 
-aside_stays : (g : Opening) (own : ℕ) (s : State) (e : happening.Event) → is_aside e ≡ true → Stays own s (core.step g s e)
+aside_stays : (g : Opening) (own : ℕ) (s : State) (e : happening.Event) → is_aside own e ≡ true → Stays own s (core.step g s e)
 aside_stays g own s e a = go (may g s e) (by_event e a)
   where
-    by_event : (e : happening.Event) → is_aside e ≡ true → Stays own s (happens g s e)
+    by_event : (e : happening.Event) → is_aside own e ≡ true → Stays own s (happens g s e)
     by_event (happening.Event.Split w l r q i) a = moves_stay s Kind.Split w (l ∷ r ∷ q ∷ []) (split_record (nodes_of s) (gsns_of s) l r q i) own
     by_event (happening.Event.Lift w c) a = moves_stay s Kind.Lift w (0 ∷ c ∷ []) (lift_record (nodes_of s) (gsns_of s) c) own
     by_event (happening.Event.Miss w) a = record { row = refl; clock = omega arith }
@@ -429,12 +429,12 @@ aside_stays g own s e a = go (may g s e) (by_event e a)
     go false t = record { row = refl; clock = omega arith }
 
 -- it is taken still behind changes of the tree
-pub taken_stays : (g : Opening) (own i : ℕ) (s : State) (es : List happening.Event) → AreAside es → IsTaken own i s → IsTaken own i (core.run g s es)
+pub taken_stays : (g : Opening) (own i : ℕ) (s : State) (es : List happening.Event) → AreAside own es → IsTaken own i s → IsTaken own i (core.run g s es)
 taken_stays g own i s [] a t = t
 taken_stays g own i s (e ∷ es) a t = taken_stays g own i (core.step g s e) es parts.1 one
   where
-    parts : (is_aside e ≡ true) × (all is_aside es ≡ true)
-    parts = and_parts (is_aside e) (all is_aside es) a
+    parts : (is_aside own e ≡ true) × (all (is_aside own) es ≡ true)
+    parts = and_parts (is_aside own e) (all (is_aside own) es) a
 
     k : Stays own s (core.step g s e)
     k = aside_stays g own s e parts.0

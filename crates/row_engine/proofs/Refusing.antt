@@ -150,7 +150,7 @@ module _ (answers : EveryAnswer) (g : Opening) (group : ℕ) (xs : List Done) (o
         few = let a = t.few in omega arith;
         refused = λ q e. subst (λ k. IsRefusedFor g k own half log (call_behind (outcomes xs) c) q) (sym at) (subst (λ k. IsRefusedFor g s own half log k q) (sym d_is) (subst (λ k. IsRefusedFor g s own half log d k) (refused_is why q e) is_for));
         refuses = λ q e. either q (refuses q ((λ i. refusal_in g (sym at i) own half log (sym d_is i)) ∙ e));
-        log = refl;
+        log = λ _. refl;
         room = no_room g (state_after g (front xs ++ t.loads)) (call_behind (outcomes xs) c);
       };
       keeps = λ s0 k bt is. behind.keeps_by g group xs (refused_by own c why t.loads) s0 k k log st st (behind.gone_loads st lawful part g group xs own v t s0 k bt) told is (λ _ _. refl) refl (behind.nothing_written (suc own) st lawful);

@@ -79,6 +79,12 @@ by_tests clock log why e P full spent = go (leb (limit log) (used log)) (leb (2 
 pub stopped_works : (A : Type 0) (clock : ℕ) (log : Log) (why : Refusal) → log_refusal clock log None ≡ Some why → works_after {A = A} (Err why) ≡ true
 stopped_works A clock log why e = by_tests clock log why e (λ k. works_after {A = A} (Err k) ≡ true) refl refl
 
+-- a try that was refused is a step that was refused
+pub tried_refused : (why : Refusal) (v w : View) (key value : ℕ) (x y : Session) (was is : Log) (old new : Story) (path : List ℕ) (same broken : Type 0) → Tries (Err why) v w key value x y was is old new path same broken → Steps (Err why) v w key value x y was is old new same
+tried_refused refusal.RowSpent v w key value x y was is old new path same broken t = (record { misses = []; are_misses = tt; few = omega arith; given = t.0.given; seen = t.0.seen ∙ sym (append-nil v.seen); many = t.0.many }, t.1)
+tried_refused refusal.DiskFault v w key value x y was is old new path same broken t = t.0
+tried_refused _ v w key value x y was is old new path same broken t = absurd t
+
 pub not_fault : (A : Type 0) (clock : ℕ) (log : Log) (why : Refusal) → log_refusal clock log None ≡ Some why → (Err why ≡ the_fault A) → ⊥
 not_fault A clock log why e = by_tests clock log why e (λ k. (Err k ≡ the_fault A) → ⊥) (λ p. absurd (cc)) (λ p. absurd (cc))
 

@@ -8,7 +8,7 @@ use Rattle.log_record.specs.declared.record.Record.{Record}
 use Rattle.log_record.specs.Spelling.{Fits, record_text}
 use Rattle.log_record.proofs.SizeLemmas.{size_range, text_size}
 use Rattle.log_block.specs.Block.{records_text}
-use Rattle.worker_log.specs.Calls.{After}
+use Rattle.worker_log.specs.Calls.{After, flushed_log}
 use Rattle.worker_log.specs.Causes.{IsFull}
 use Rattle.worker_log.specs.Logs.{Log, limit, used}
 use Rattle.row_engine.specs.Staging.{IsFullFor}
@@ -104,6 +104,14 @@ room_to_undo r old new many short a free few =
     let f = fills r old new a in
     let b = f.blocks in let w = f.written in let p = f.bytes short in let u = written_used old in
     omega arith
+
+-- also where the log is flushed before
+pub room_to_flush : (r : Record) (old new : Log) (many : ℕ) → After r old new → used old < limit old → many ≤ 64 → HasRoomToUndo (flushed_log new) many
+room_to_flush r old new many a free few = go (new.count == 0)
+  where
+    go : (b : Bool) → (1900 * ((new.next + cond b 0 1) - new.head) + 0) + (64 * many + 2064) ≤ 1900 * new.blocks
+    go true = let f = fills r old new a in let b = f.blocks in let w = f.written in let u = written_used old in omega arith
+    go false = let f = fills r old new a in let b = f.blocks in let w = f.written in let u = written_used old in omega arith
 
 -- and behind a put-back one fewer, and an end
 pub room_behind : (r : Record) (old new : Log) (many : ℕ) → length (records_text (r ∷ [])) ≤ 64 → After r old new → HasRoomToUndo old (suc many) → HasRoomToUndo new many × (used new + 1 ≤ new.blocks)

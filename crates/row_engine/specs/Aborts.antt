@@ -13,6 +13,7 @@ use Rattle.rows_trait.specs.declared.view.View.{View}
 use Rattle.rows_trait.specs.Views.{state}
 use Rattle.worker_log.specs.Calls.{After}
 use Rattle.worker_log.specs.Logs.{Log}
+use Rattle.row_engine.specs.declared.commits.Ended as answers
 use Rattle.row_engine.specs.declared.session.Session.{Session}
 use Rattle.row_engine.specs.Ends.{Ended}
 use Rattle.row_engine.specs.Puts.{KeepsLog}
@@ -31,7 +32,7 @@ pub record HasAborted (v w : View) (x : Session) (was is : Log) (old new : Story
   pub keeps : KeepsLog x.own was old new
 
 -- by answer
-abbrev pub Finishes : Result ℕ Refusal → (v w : View) → (x : Session) → (was is : Log) → (old new : Story) → Type 0
-Finishes (Ok number) v w x was is old new = HasAborted v w x was is old new × (number ≡ x.txn)
+abbrev pub Finishes : Result answers.Ended Refusal → (v w : View) → (x : Session) → (was is : Log) → (old new : Story) → Type 0
+Finishes (Ok told) v w x was is old new = HasAborted v w x was is old new × (told.number ≡ x.txn)
 Finishes (Err refusal.DiskFault) v w x was is old new = KeepsLog x.own was old new
 Finishes (Err why) v w x was is old new = ⊥

@@ -26,7 +26,7 @@ use Rattle.worker_log.specs.Calls.{After}
 use Rattle.worker_log.specs.Logs.{Log}
 use Rattle.engine_calls.specs.Clauses.{Between}
 use Rattle.engine_calls.specs.Parts.{behind_first}
-use Rattle.engine_trait.specs.Calls.{Logs}
+use Rattle.engine_trait.specs.Logs.{Logs}
 use Rattle.engine_trait.specs.Limits.{limits}
 use Rattle.row_engine.specs.declared.session.Session.{Session}
 use Rattle.row_engine.specs.Grown.{Behind, Goes, Went}
@@ -76,6 +76,8 @@ pub record Undoes (v w : View) (x y : Session) (was is : Log) : Type 0 where
   pub events : List Event
   pub given : w.given ≡ v.given
   pub seen : w.seen ≡ v.seen ++ events
+  -- no log was flushed
+  pub flushed : (state w).core.flushed ≡ (state v).core.flushed
   pub steps : Steps x.own v w
   pub session : y ≡ record x { half = y.half; clock = y.clock; debt = y.debt; undo = y.undo }
   pub half : y.half ≡ (if is_empty events then x.half else true)

@@ -11,7 +11,7 @@ use Rattle.lean_disk.specs.Story.{Story}
 use Rattle.worker_log.specs.Logs.{Log}
 use Rattle.rows_trait.specs.declared.view.View.{View}
 use Rattle.engine_calls.specs.Clauses.{IsNewLine}
-use Rattle.engine_trait.specs.Calls.{Does, Fails, IsTold}
+use Rattle.row_engine.specs.Deeds.{Does, Fails}
 use Rattle.row_engine.specs.Ties.{IsAbortDue, Ties}
 use Rattle.row_engine.specs.declared.commits.Ended.{Ended}
 use Rattle.row_engine.specs.declared.session.Session.{Session}
@@ -37,11 +37,6 @@ CallDoes = DoesWhere (λ xs. IsNewLine (outcomes xs))
 -- an abort, whatever its line asked, where a transaction is open or not
 abbrev pub AbortDoes : (own group : ℕ) → (is_open : Bool) → Answer → (before now : Bool) → (v w : View) → (was is : Log) → (old new : Story) → Type 0
 AbortDoes own group is_open a before now v w was is old new = (c : Call) → DoesWhere (λ xs. IsAbortDue xs own is_open c) own group c a before now v w was is old new
-
--- a refusal that may come where there are so many workers: one that a script is told, and a conflict, if there are several
-abbrev pub MayCome : (workers : ℕ) → Refusal → Type 0
-MayCome workers (refusal.Conflict h) = workers ≡ 1 → ⊥
-MayCome workers why = IsTold why
 
 -- it is the same session: by its number, of so many, whose commits are flushed in such groups
 abbrev pub IsSameSession : (x y : Session) → Type 0
@@ -69,6 +64,6 @@ abbrev pub commit_answer : Result Ended Refusal → Answer
 commit_answer (Ok ended) = answer.Committed ended.number ended.at
 commit_answer (Err why) = answer.Refused why
 
-abbrev pub abort_answer : Result ℕ Refusal → Answer
-abort_answer (Ok number) = answer.Aborted number
+abbrev pub abort_answer : Result Ended Refusal → Answer
+abort_answer (Ok ended) = answer.Aborted ended.number
 abort_answer (Err why) = answer.Refused why

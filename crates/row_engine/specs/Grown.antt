@@ -1,5 +1,5 @@
 -- Room that was made for a key, in each run: what the events of it are, and for what the disk stands behind them.
-use Rattle.std.specs.Prelude.{◌≡◌, ◌⊎◌, ◌+◌, ◌++◌, ℕ, suc, Bool, true, false, List, [], length, None}
+use Rattle.std.specs.Prelude.{◌≡◌, ◌⊎◌, ◌+◌, ◌==◌, ◌++◌, ℕ, suc, Bool, true, false, List, [], length, None}
 use Rattle.map_model.specs.Lists.{all}
 use Rattle.core_state.specs.Openings.{Opening}
 use Rattle.core_state.specs.Events as happening
@@ -11,7 +11,7 @@ use Rattle.lean_disk.specs.Story.{Crash, Story}
 use Rattle.log_calls.specs.Calls.{Anything}
 use Rattle.engine_calls.specs.Clauses.{Between}
 use Rattle.engine_calls.specs.Parts.{Gone, behind_first}
-use Rattle.engine_trait.specs.Calls.{Logs}
+use Rattle.engine_trait.specs.Logs.{Logs}
 use Rattle.engine_trait.specs.Limits.{limits}
 use Rattle.engine_trait.specs.Refusals.{room_refusal}
 use Rattle.engine_trait.specs.Rooms.{MakesRoom}
@@ -45,20 +45,20 @@ pub record Went (own : ℕ) (g : Opening) (xs : List Done) (s0 : Crash) (k : Kno
 
 -- ## Room
 
--- it changes the tree, or gives a row up
-abbrev pub is_aside : happening.Event → Bool
-is_aside (happening.Event.Split w l r q i) = true
-is_aside (happening.Event.Lift w c) = true
-is_aside (happening.Event.Miss w) = true
-is_aside _ = false
+-- it changes the tree by session `own`, or gives a row up
+abbrev pub is_aside : (own : ℕ) → happening.Event → Bool
+is_aside own (happening.Event.Split w l r q i) = w == own
+is_aside own (happening.Event.Lift w c) = w == own
+is_aside own (happening.Event.Miss w) = true
+is_aside own _ = false
 
-abbrev pub AreAside : List happening.Event → Type 0
-AreAside es = all is_aside es ≡ true
+abbrev pub AreAside : (own : ℕ) → List happening.Event → Type 0
+AreAside own es = all (is_aside own) es ≡ true
 
 -- the view has seen these changes of the tree more, each the next on the way to room for the key, and the log has their records
 pub record Gained (own : ℕ) (g : Opening) (xs : List Done) (start : List happening.Event) (key : ℕ) (w : View) (events : List happening.Event) (was is : Log) : Type 0 where
   pub behind : Behind g xs (start ++ events) w
-  pub aside : AreAside events
+  pub aside : AreAside own events
   pub logs : Logs own g (behind_first g xs start) events was is
   pub makes : MakesRoom g (behind_first g xs start) key events
 

@@ -12,6 +12,7 @@ use Rattle.btree_descent.specs.Descents as descents
 use Rattle.btree_descent.specs.Known as pages
 use Rattle.key_locks.specs.Rows as locking
 use Rattle.lean_proto.specs.Paging.{IsResident}
+use Rattle.worker_log.specs.Calls.{flushed_log}
 use Rattle.worker_log.specs.Logs.{Log, used}
 use Rattle.row_engine.specs.declared.session.Session.{Session}
 use Rattle.row_engine.specs.Numbers.{AreClocked, AreNumbered}
@@ -37,6 +38,8 @@ pub record AreNumbers (x : Session) (log : Log) : Type 0 where
   pub room : x.is_open ≡ true → used log + 1 ≤ log.blocks
   -- behind all that it puts back
   pub undo_room : 0 < length x.undo → HasRoomToUndo log (length x.undo)
+  -- also where its log is flushed before that, as a sync may do while no abort is half done
+  pub flush_room : x.half ≡ false → 0 < length x.undo → HasRoomToUndo (flushed_log log) (length x.undo)
   -- each transaction but an open one took a number for its end
   pub closed_txn : x.is_open ≡ false → x.txn ≤ x.clock
   pub txn : x.txn ≤ suc x.clock

@@ -6,6 +6,10 @@ pub mod Flushed
 pub mod Holds
 pub mod Others
 pub mod Ties
+pub mod Deeds
+pub mod Receipts
+pub mod Syncs
+pub mod Begins
 pub mod Calls
 pub mod Opened
 pub mod Ends

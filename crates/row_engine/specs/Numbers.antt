@@ -31,10 +31,11 @@ pub record AreLow (n : ℕ) (s : State) : Type 0 where
   pub up_to : AreUpTo s top
   pub room : top + left_to_all s.worker n ≤ 2 ^ 62 + 66 * n
 
--- each clock is at its end, and nothing is open, so no number comes any more
+-- each clock was at its end as the engine began, so nothing is open, and no number has come since, nor does any come: each clock is the master's floor
 pub record AreSpent (n : ℕ) (s : State) : Type 0 where
   pub closed : (w : ℕ) → 0 < w → w ≤ n → (s.worker w).is_open ≡ false
   pub clock : (w : ℕ) → 0 < w → w ≤ n → 2 ^ 62 ≤ (s.worker w).clock
+  pub floor : (w : ℕ) → 0 < w → w ≤ n → (s.worker w).clock ≡ s.floor
   pub top : ℕ
   pub up_to : AreUpTo s top
   pub small : top < 2 ^ 64

@@ -57,6 +57,10 @@ pub record IsOpened (g : Opening) (z : Shape) (v : View) (x : Session) (log : Lo
 abbrev pub EveryOpened : Type 0
 EveryOpened = (g : Opening) (z : Shape) (v : View) (x : Session) (log : Log) → IsOpened g z v x log → Holds z v x log × Ties g x.group [] x.own x.half v
 
+-- So it is for each session of the same rows.
+abbrev pub EveryFellow : Type 0
+EveryFellow = (g : Opening) (z : Shape) (v : View) (x : Session) (log : Log) (own : ℕ) (few : own ≤ 16) → IsOpened g z v x log → 0 < own → own ≤ x.workers → IsOpened g z v (record x { own = own; few = few }) log
+
 -- ## On pages
 
 -- the shape of plain rows

@@ -1,5 +1,5 @@
 // An abort.
-ghost use Rattle.std.specs.Prelude.{◌≡◌, ◌⊎◌, ◌↔◌, Err, IsOk, IfErr, true, false, [], replicate};
+ghost use Rattle.std.specs.Prelude.{◌≡◌, ◌⊎◌, ◌↔◌, Err, IsOk, IfErr, IfOk, true, false, [], replicate};
 ghost use Rattle.engine_trait.specs.Calls.{IsTold};
 ghost use Rattle.lean_disk.specs.Faults.{HasCause};
 ghost use Rattle.map_model.specs.declared.call.Call.{Call};
@@ -10,11 +10,12 @@ ghost use Rattle.row_engine.specs.Calls.{AbortDoes, IsSameSession, abort_answer}
 ghost use Rattle.row_engine.specs.Ends.{Latched};
 ghost use Rattle.row_engine.specs.Holds.{Holds};
 ghost use Rattle.row_engine.specs.Others.{Steps};
+ghost use Rattle.row_engine.specs.Receipts.{IsEnded};
 ghost use Rattle.row_engine.specs.Puts.{works_after};
 
 use crate::backs::put_back;
 use crate::begins::least_flushed;
-use crate::commits::{close, end_rows, latch_rows, need, unlatch_rows};
+use crate::commits::{Ended, close, end_rows, latch_rows, need, unlatch_rows};
 use crate::store::{Stages, Store};
 use key_locks::latches::Latches;
 use log_record::{Body, Record};
@@ -59,7 +60,7 @@ fn finish<R: Rows, D: Stages>(
     seat: &mut R::Seat,
     store: &mut Store<D>,
     latches: &mut Latches,
-) -> Result<u64, Refusal>
+) -> Result<Ended, Refusal>
     requires fits { R.fits rows.old seat.old }
     requires latched { Latched (R.shape rows.old) (R.view seat.old) store.old.session store.old.log latches.old }
     requires is_open { store.old.session.is_open ≡ true }
@@ -70,6 +71,7 @@ fn finish<R: Rows, D: Stages>(
     ensures session { store.new.session.works ≡ true → IsSameSession store.old.session store.new.session }
     ensures unmarked { store.new.session.works ≡ true → latches.new ≡ replicate store.old.session.held.count false }
     ensures finishes { Finishes result (R.view seat.old) (R.view seat.new) store.old.session store.old.log store.new.log (D.story store.old.disk) (D.story store.new.disk) }
+    ensures receipt { IfOk result (IsEnded (R.view seat.old) store.new.session) }
     ensures whole { store.new.session.works ≡ true → store.new.session.half ≡ false }
     ensures works { store.new.session.works ≡ works_after result }
     ensures cause_disk_fault { HasCause (D.faults store.old.disk) (D.faults store.new.disk) (result ≡ Err Refusal.DiskFault) }
@@ -79,12 +81,11 @@ fn finish<R: Rows, D: Stages>(
     let txn = store.session.txn;
     let number = store.session.clock + 1;
     let floor = least_flushed(rows, seat, store.session.workers);
+    let need = need(store.session.debt, floor);
     let entry = Record {
         txn,
         gsn: number,
-        body: Body::Abort {
-            need: need(store.session.debt, floor),
-        },
+        body: Body::Abort { need },
     };
     if let Err(_) = log_calls::stage_end(&mut store.disk, &mut store.log, own, &entry) {
         store.session.works = false;
@@ -92,18 +93,22 @@ fn finish<R: Rows, D: Stages>(
     }
     end_rows(rows, seat, &store.session, latches, false, floor, number);
     close(&mut store.session, number);
-    Ok(txn)
+    Ok(Ended {
+        number: txn,
+        at: number,
+        need,
+    })
 }
 
 /// The session's transaction is aborted: what it changed is put back, the newest change first, its end is staged, and the lock rows that it
-/// holds are given back. Nothing is flushed. The answer is its number. Where a latch has come to its end the abort is refused, and the next
+/// holds are given back. Nothing is flushed. Where a latch has come to its end the abort is refused, and the next
 /// one goes on.
 pub fn abort<R: Rows, D: Stages>(
     rows: &mut R,
     seat: &mut R::Seat,
     store: &mut Store<D>,
     latches: &mut Latches,
-) -> Result<u64, Refusal>
+) -> Result<Ended, Refusal>
     requires fits { R.fits rows.old seat.old }
     requires holds { store.old.session.works ≡ true → Holds (R.shape rows.old) (R.view seat.old) store.old.session store.old.log }
     requires unmarked { store.old.session.works ≡ true → latches.old ≡ replicate store.old.session.held.count false }
@@ -114,6 +119,7 @@ pub fn abort<R: Rows, D: Stages>(
     ensures steps { store.old.session.works ≡ true → store.new.session.works ≡ true → Steps store.old.session.own (R.view seat.old) (R.view seat.new) }
     ensures unmarked { store.new.session.works ≡ true → latches.new ≡ latches.old }
     ensures does { store.old.session.works ≡ true → AbortDoes store.old.session.own store.old.session.group store.old.session.is_open (abort_answer result) store.old.session.half store.new.session.half (R.view seat.old) (R.view seat.new) store.old.log store.new.log (D.story store.old.disk) (D.story store.new.disk) }
+    ensures receipt { IfOk result (IsEnded (R.view seat.old) store.new.session) }
     ensures works { (store.new.session.works ≡ true) ↔ ((store.old.session.works ≡ true) × (result ≡ Err Refusal.DiskFault → ⊥)) }
     ensures told { IfErr result (λ why. IsTold why ⊎ ((why ≡ Refusal.Broken) ⊎ (why ≡ Refusal.DiskFault))) }
     ensures same_broken { result ≡ Err Refusal.Broken → (R.view seat.new ≡ R.view seat.old) × (store.new ≡ store.old) × (latches.new ≡ latches.old) }

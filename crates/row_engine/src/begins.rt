@@ -1,9 +1,12 @@
 // A begin.
-ghost use Rattle.std.specs.Prelude.{◌≡◌, ◌⊎◌, ◌↔◌, ◌≤◌, IsErr, IfErr, Err, true, false, min};
+ghost use Rattle.std.specs.Prelude.{◌≡◌, ◌⊎◌, ◌↔◌, ◌≤◌, IfErr, IfOk, IsErr, IsOk, Err, None, Some, true, false, min};
 ghost use Rattle.engine_trait.specs.Calls.{IsTold};
 ghost use Rattle.map_model.specs.declared.call.Call.{Call};
 ghost use Rattle.map_model.specs.declared.call.Refusal.{Refusal};
-ghost use Rattle.row_engine.specs.Calls.{CallDoes, IsSameSession, begin_answer};
+ghost use Rattle.engine_trait.specs.Refusals.{refusal_in};
+ghost use Rattle.row_engine.specs.Begins.{Begins};
+ghost use Rattle.row_engine.specs.Calls.{IsSameSession};
+ghost use Rattle.row_words.specs.Openings.{opening};
 ghost use Rattle.row_engine.specs.Flushed.{Looked, flushed_to};
 ghost use Rattle.row_engine.specs.Holds.{Holds};
 ghost use Rattle.row_engine.specs.Others.{Steps};
@@ -17,12 +20,12 @@ use rows_trait::rows::Rows;
 
 // The event of a begin by the session, where other logs are flushed up to `least` and the last one up to the number that is loaded.
 #[derive(Drop)]
-struct Begins {
+struct Beginning {
     own: u32,
     least: u64,
 }
 
-impl Names for Begins {
+impl Names for Beginning {
     ghost use Rattle.std.specs.Prelude.{[], ◌∷◌, min};
     ghost use Rattle.row_words.specs.declared.event.Event.TheVariants.{Begin};
 
@@ -66,7 +69,9 @@ pub fn begin<R: Rows, D: Disk>(
     ensures session { store.new.session.works ≡ true → IsSameSession store.old.session store.new.session }
     // Whatever happened is of this session.
     ensures steps { store.old.session.works ≡ true → store.new.session.works ≡ true → Steps store.old.session.own (R.view seat.old) (R.view seat.new) }
-    ensures does { store.old.session.works ≡ true → CallDoes store.old.session.own store.old.session.group Call.Begin (begin_answer result) store.old.session.half store.new.session.half (R.view seat.old) (R.view seat.new) store.old.log store.new.log (D.story store.old.disk) (D.story store.new.disk) }
+    ensures begins { IfOk result (Begins (R.view seat.old) (R.view seat.new) store.old.session store.new.session) }
+    ensures refused { IfErr result (λ why. store.old.session.works ≡ true → refusal_in (opening (R.view seat.old).given) (state (R.view seat.old)).core store.old.session.own store.old.session.half store.old.log Call.Begin ≡ Some why) }
+    ensures free { IsOk result → refusal_in (opening (R.view seat.old).given) (state (R.view seat.old)).core store.old.session.own store.old.session.half store.old.log Call.Begin ≡ None }
     ensures same { IsErr result → (R.view seat.new ≡ R.view seat.old) × (store.new ≡ store.old) }
     ensures come { IfErr result (λ why. IsTold why ⊎ (why ≡ Refusal.Broken)) }
     // It touches no device.
@@ -75,9 +80,6 @@ pub fn begin<R: Rows, D: Disk>(
     ensures cause_broken { (result ≡ Err Refusal.Broken) ↔ (store.old.session.works ≡ false) }
     ensures no_disk_fault { result ≡ Err Refusal.DiskFault → ⊥ }
 {
-    engine_calls::every_answer();
-    engine_calls::every_part(&store.disk, &store.disk, &store.disk);
-    engine_calls::every_coming();
     lean_proto::every_begin();
     row_opening::every_reached();
     row_opening::every_need();
@@ -87,7 +89,7 @@ pub fn begin<R: Rows, D: Disk>(
     let own = store.session.own;
     let workers = store.session.workers;
     let least = least_flushed(rows, seat, workers - 1);
-    let last = rows.load_control(seat, workers, 0, &Begins { own, least });
+    let last = rows.load_control(seat, workers, 0, &Beginning { own, least });
     store.session.begun(lesser(least, last));
     Ok(store.session.txn)
 }

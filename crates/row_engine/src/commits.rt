@@ -1,5 +1,5 @@
 // A commit.
-ghost use Rattle.std.specs.Prelude.{◌≡◌, ◌⊎◌, ◌↔◌, ◌≤◌, ◌<◌, ◌+◌, ◌^◌, ℕ, Err, IsOk, IfErr, OnOk, true, false, length, replicate};
+ghost use Rattle.std.specs.Prelude.{◌≡◌, ◌⊎◌, ◌↔◌, ◌≤◌, ◌<◌, ◌+◌, ◌^◌, ℕ, Err, IsOk, IfErr, IfOk, OnOk, true, false, length, replicate};
 ghost use Rattle.engine_trait.specs.Calls.{IsTold};
 ghost use Rattle.lean_disk.specs.Faults.{HasCause};
 ghost use Rattle.map_model.specs.declared.call.Call.{Call};
@@ -14,6 +14,7 @@ ghost use Rattle.row_engine.specs.Ends.{AreAmong, AreHeld, AreMine, Ended as Has
 ghost use Rattle.row_engine.specs.Puts.{KeepsLog};
 ghost use Rattle.row_engine.specs.Holds.{Holds};
 ghost use Rattle.row_engine.specs.Others.{Steps};
+ghost use Rattle.row_engine.specs.Receipts.{IsEnded};
 
 use crate::begins::least_flushed;
 use crate::held::HeldRows;
@@ -26,11 +27,12 @@ use map_model::Refusal;
 use rows_trait::names::Names;
 use rows_trait::rows::Rows;
 
-/// The number of the transaction, and that of its commit.
+/// The number of the transaction, that of its end, and up to which number all logs are to be flushed for it, 0 where it owes the others nothing.
 #[derive(Clone, Copy, Debug, PartialEq, Eq)]
 pub struct Ended {
     pub number: u64,
     pub at: u64,
+    pub need: u64,
 }
 
 // The event of an end of the session, by a commit or an abort, where all logs are found flushed up to this number.
@@ -50,9 +52,9 @@ impl Names for Ends {
 
 // The event of a flush of the session's log up to this number.
 #[derive(Drop)]
-struct Flushes {
-    own: u32,
-    number: u64,
+pub(crate) struct Flushes {
+    pub own: u32,
+    pub number: u64,
 }
 
 impl Names for Flushes {
@@ -192,7 +194,7 @@ fn close_by_commit(session: &mut Session, number: u64)
 }
 
 // No commit of the session's log waits any more.
-fn settle(session: &mut Session)
+pub(crate) fn settle(session: &mut Session)
     ensures { session.new ≡ record session.old { behind = 0 } }
 {
     session.behind = 0;
@@ -245,6 +247,7 @@ fn finish<R: Rows, D: Disk>(
     ensures steps { store.new.session.works ≡ true → Steps store.old.session.own (R.view seat.old) (R.view seat.new) }
     ensures unmarked { store.new.session.works ≡ true → latches.new ≡ replicate store.old.session.held.count false }
     ensures does { CallDoes store.old.session.own store.old.session.group Call.Commit (commit_answer result) store.old.session.half store.new.session.half (R.view seat.old) (R.view seat.new) store.old.log store.new.log (D.story store.old.disk) (D.story store.new.disk) }
+    ensures receipt { IfOk result (IsEnded (R.view seat.old) store.new.session) }
     ensures works { (store.new.session.works ≡ true) ↔ IsOk result }
 
     ensures only_disk_fault { IfErr result (λ why. why ≡ Refusal.DiskFault) }
@@ -263,12 +266,11 @@ fn finish<R: Rows, D: Disk>(
     let txn = store.session.txn;
     let number = store.session.clock + 1;
     let floor = least_flushed(rows, seat, store.session.workers);
+    let need = need(store.session.debt, floor);
     let entry = Record {
         txn,
         gsn: number,
-        body: Body::Commit {
-            need: need(store.session.debt, floor),
-        },
+        body: Body::Commit { need },
     };
     if let Err(_) = log_calls::stage_end(&mut store.disk, &mut store.log, own, &entry) {
         store.session.works = false;
@@ -279,6 +281,7 @@ fn finish<R: Rows, D: Disk>(
     let ended = Ended {
         number: txn,
         at: number,
+        need,
     };
     if store.session.behind < store.session.group {
         return Ok(ended);
@@ -307,6 +310,7 @@ pub fn commit<R: Rows, D: Disk>(
     ensures steps { store.old.session.works ≡ true → store.new.session.works ≡ true → Steps store.old.session.own (R.view seat.old) (R.view seat.new) }
     ensures unmarked { store.new.session.works ≡ true → latches.new ≡ latches.old }
     ensures does { store.old.session.works ≡ true → CallDoes store.old.session.own store.old.session.group Call.Commit (commit_answer result) store.old.session.half store.new.session.half (R.view seat.old) (R.view seat.new) store.old.log store.new.log (D.story store.old.disk) (D.story store.new.disk) }
+    ensures receipt { IfOk result (IsEnded (R.view seat.old) store.new.session) }
     ensures works { (store.new.session.works ≡ true) ↔ ((store.old.session.works ≡ true) × (result ≡ Err Refusal.DiskFault → ⊥)) }
     ensures told { IfErr result (λ why. IsTold why ⊎ ((why ≡ Refusal.Broken) ⊎ (why ≡ Refusal.DiskFault))) }
     ensures same_broken { result ≡ Err Refusal.Broken → (R.view seat.new ≡ R.view seat.old) × (store.new ≡ store.old) × (latches.new ≡ latches.old) }

@@ -3,7 +3,8 @@ ghost use Rattle.std.specs.Prelude.{◌≡◌, ◌⊎◌, ◌↔◌, ◌<◌, �
 ghost use Rattle.map_model.specs.declared.call.Call.TheVariants as call;
 ghost use Rattle.map_model.specs.declared.call.Refusal.{Refusal};
 ghost use Rattle.btree_descent.specs.Known.{said};
-ghost use Rattle.row_engine.specs.Calls.{CallDoes, IsSameSession, MayCome, get_answer};
+ghost use Rattle.engine_trait.specs.Calls.{MayCome};
+ghost use Rattle.row_engine.specs.Calls.{CallDoes, IsSameSession, get_answer};
 ghost use Rattle.row_engine.specs.Holds.{Holds};
 ghost use Rattle.row_engine.specs.Others.{Steps};
 

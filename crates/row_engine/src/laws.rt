@@ -1,11 +1,17 @@
 // What holds of an engine as it begins, and of its sessions beside each other.
-ghost use Rattle.row_engine.specs.Opened.{EveryOpened};
+ghost use Rattle.row_engine.specs.Opened.{EveryFellow, EveryOpened};
 ghost use Rattle.row_engine.specs.Others.{EveryOther, EverySteps};
+ghost use Rattle.row_engine.specs.Syncs.{EverySynced};
 
 /// On rows that were opened, with a session that has done nothing and a log at the base, an engine is as between two calls, in a run
 /// with no outcome yet.
 pub fn every_opened()
     ensures { EveryOpened }
+{}
+
+/// So for each of the sessions that are opened on the same rows.
+pub fn every_fellow()
+    ensures { EveryFellow }
 {}
 
 /// What a session has in memory lasts while a call of another session of the same rows goes on, but for the free pages, which are those
@@ -17,4 +23,9 @@ pub fn every_other()
 /// The steps of a call and those of a later call of the same session are steps of that session.
 pub fn every_steps()
     ensures { EverySteps }
+{}
+
+/// Behind a sync each session whose log is flushed whole is as between two calls.
+pub fn every_synced()
+    ensures { EverySynced }
 {}

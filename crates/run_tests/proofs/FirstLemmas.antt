@@ -1,7 +1,7 @@
--- Events among which one step is taken: what they tell of session 1, and how it stands behind them.
+-- Events among which one step is taken: what they tell of a session, and how it stands behind them.
 use Rattle.std.proofs.Common.{◌≡◌, ℕ, suc, Bool, true, false, cond, ◌&&◌, List, [], ◌∷◌, ◌++◌, Option, Some, None, refl, sym, ◌∙◌, ap, subst, true≢false}
-use Rattle.std.proofs.lemmas.Bool.{and_parts, or_parts}
-use Rattle.map_model.specs.Lists.{any, keep}
+use Rattle.std.proofs.lemmas.Bool.{and_parts, eq-eqb, or_parts}
+use Rattle.map_model.specs.Lists.{any, keep, upd}
 use Rattle.map_model.specs.Maps.{MapAnswer}
 use Rattle.image_model.specs.Entries.{Entry}
 use Rattle.core_state.specs.Events.{Event}
@@ -9,11 +9,11 @@ use Rattle.core_state.specs.Local.{is_of}
 use Rattle.core_state.specs.Needs.{are_hot, following, holds_answer, is_following, is_leaf_of, may, may_hold, may_put_back, needs}
 use Rattle.core_state.specs.Openings.{Opening}
 use Rattle.core_state.specs.States.{State, Worker}
-use Rattle.core_state.specs.Steps.{AllMet, begun, happens, put_back, run, step}
+use Rattle.core_state.specs.Steps.{AllMet, at_pages, at_row, begun, happens, put_back, run, step}
 use Rattle.core_calls.specs.LogEvents.{is_log}
 use Rattle.core_calls.specs.Marks.{Mark, Began, Ended, mark, marks, onto}
 use Rattle.core_calls.specs.Steps.{Tries, Unlocks, is_step, is_structure}
-use Rattle.engine_trait.specs.Calls.{Logs, LogsOne}
+use Rattle.engine_trait.specs.Logs.{Logs, LogsOne}
 use Rattle.worker_log.specs.Logs.{Log}
 
 abbrev is_sync : Event → Bool
@@ -70,9 +70,13 @@ pub idle_behind : (first own : List Event) → AreIdle (first ++ own) → AreIdl
 idle_behind [] own i = i
 idle_behind (e ∷ first) own i = idle_behind first own i.3
 
+-- what was set of a worker
+set_here : (f : ℕ → Worker) (own : ℕ) (a : Worker) → upd f own a own ≡ a
+set_here f own a = ap (λ (b : Bool). cond b a (f own)) (eq-eqb own own refl)
+
 -- ## Events that are no steps
 
-module _ (g : Opening) where
+module _ (g : Opening) (own : ℕ) where
   same_workers : (s : State) (e : Event) → is_step e ≡ false → is_structure e ≡ false → is_sync e ≡ false → (happens g s e).worker ≡ s.worker
   same_workers s (Event.Begin w f) a b c = absurd (true≢false a)
   same_workers s (Event.Lock w i mode) a b c = absurd (true≢false a)
@@ -124,21 +128,21 @@ module _ (g : Opening) where
   unlock_rest w _ es u = absurd u
 
   abbrev onto_at : State → Event → List Mark → List Mark
-  onto_at s e ms = cond (may g s e) (cond (is_of e 1) (onto (mark g s e) ms) ms) ms
+  onto_at s e ms = cond (may g s e) (cond (is_of e own) (onto (mark g s e) ms) ms) ms
 
   none_onto : (s : State) (e : Event) (ms : List Mark) → mark g s e ≡ None → onto_at s e ms ≡ ms
-  none_onto s e ms none = ap (λ (o : Option Mark). cond (may g s e) (cond (is_of e 1) (onto o ms) ms) ms) none ∙ go (may g s e) (is_of e 1)
+  none_onto s e ms none = ap (λ (o : Option Mark). cond (may g s e) (cond (is_of e own) (onto o ms) ms) ms) none ∙ go (may g s e) (is_of e own)
     where
       go : (a b : Bool) → cond a (cond b ms ms) ms ≡ ms
       go true true = refl
       go true false = refl
       go false b = refl
 
-  unlocks_tell_none : (s : State) (w : ℕ) (es : List Event) (ms : List Mark) → Unlocks w (keep is_step es) → marks g s es 1 ms ≡ ms
+  unlocks_tell_none : (s : State) (w : ℕ) (es : List Event) (ms : List Mark) → Unlocks w (keep is_step es) → marks g s es own ms ≡ ms
   unlocks_tell_none s w [] ms u = refl
   unlocks_tell_none s w (e ∷ es) ms u =
       let here = go (is_step e) refl u in
-      ap (marks g (step g s e) es 1) (none_onto s e ms here.0) ∙ unlocks_tell_none (step g s e) w es ms here.1
+      ap (marks g (step g s e) es own) (none_onto s e ms here.0) ∙ unlocks_tell_none (step g s e) w es ms here.1
     where
       go : (b : Bool) → is_step e ≡ b → Unlocks w (cond b (e ∷ keep is_step es) (keep is_step es)) → (mark g s e ≡ None) × Unlocks w (keep is_step es)
       go true q h = (unlock_mark s w e (keep is_step es) h, unlock_rest w e (keep is_step es) h)
@@ -147,54 +151,54 @@ module _ (g : Opening) where
   -- ## One step among them
 
   -- what it tells, by how the workers stood before it
-  one_mark : (s : State) (es others : List Event) (at : Event) (m : Mark) → AllMet g s es → AreStill es → keep is_step es ≡ at ∷ others → Unlocks 1 others → is_of at 1 ≡ true →
-      ((t : State) → t.worker ≡ s.worker → mark g t at ≡ Some m) → marks g s es 1 [] ≡ m ∷ []
+  one_mark : (s : State) (es others : List Event) (at : Event) (m : Mark) → AllMet g s es → AreStill es → keep is_step es ≡ at ∷ others → Unlocks own others → is_of at own ≡ true →
+      ((t : State) → t.worker ≡ s.worker → mark g t at ≡ Some m) → marks g s es own [] ≡ m ∷ []
   one_mark s [] others at m met still k u of tells = absurd (cc)
   one_mark s (e ∷ es) others at m met still k u of tells =
       go (is_step e) refl (λ rest same. one_mark (step g s e) es others at m met.1 still.2 rest u of (λ t is. tells t (is ∙ same))) k
     where
-      go : (b : Bool) → is_step e ≡ b → (keep is_step es ≡ at ∷ others → (step g s e).worker ≡ s.worker → marks g (step g s e) es 1 [] ≡ m ∷ []) →
-          cond b (e ∷ keep is_step es) (keep is_step es) ≡ at ∷ others → marks g (step g s e) es 1 (onto_at s e []) ≡ m ∷ []
+      go : (b : Bool) → is_step e ≡ b → (keep is_step es ≡ at ∷ others → (step g s e).worker ≡ s.worker → marks g (step g s e) es own [] ≡ m ∷ []) →
+          cond b (e ∷ keep is_step es) (keep is_step es) ≡ at ∷ others → marks g (step g s e) es own (onto_at s e []) ≡ m ∷ []
       go true q ih h =
           let is : e ≡ at = cc in
           let rest : keep is_step es ≡ others = cc in
-          let own : is_of e 1 ≡ true = ap (λ (x : Event). is_of x 1) is ∙ of in
+          let same : is_of e own ≡ true = ap (λ (x : Event). is_of x own) is ∙ of in
           let here : onto_at s e [] ≡ m ∷ [] =
-          ap (λ (b : Bool). cond b (cond (is_of e 1) (onto (mark g s e) []) []) []) met.0
-          ∙ (ap (λ (b : Bool). cond b (onto (mark g s e) []) []) own
+          ap (λ (b : Bool). cond b (cond (is_of e own) (onto (mark g s e) []) []) []) met.0
+          ∙ (ap (λ (b : Bool). cond b (onto (mark g s e) []) []) same
           ∙ ap (λ (o : Option Mark). onto o []) (ap (mark g s) is ∙ tells s refl)) in
-          ap (marks g (step g s e) es 1) here ∙ unlocks_tell_none (step g s e) 1 es (m ∷ []) (subst (Unlocks 1) (sym rest) u)
-      go false q ih h = ap (marks g (step g s e) es 1) (none_onto s e [] (no_mark s e q)) ∙ ih h (same_step s e q still.0 still.1)
+          ap (marks g (step g s e) es own) here ∙ unlocks_tell_none (step g s e) own es (m ∷ []) (subst (Unlocks own) (sym rest) u)
+      go false q ih h = ap (marks g (step g s e) es own) (none_onto s e [] (no_mark s e q)) ∙ ih h (same_step s e q still.0 still.1)
 
   -- where it is a begin, how the session stands then
-  pub begun_at : (s : State) (es : List Event) (f : ℕ) → AllMet g s es → AreStill es → keep is_step es ≡ Event.Begin 1 f ∷ [] → (run g s es).worker 1 ≡ begun (s.worker 1) f
+  pub begun_at : (s : State) (es : List Event) (f : ℕ) → AllMet g s es → AreStill es → keep is_step es ≡ Event.Begin own f ∷ [] → (run g s es).worker own ≡ begun (s.worker own) f
   begun_at s [] f met still k = absurd (cc)
   begun_at s (e ∷ es) f met still k = go (is_step e) refl (begun_at (step g s e) es f met.1 still.2) k
     where
-      go : (b : Bool) → is_step e ≡ b → (keep is_step es ≡ Event.Begin 1 f ∷ [] → (run g (step g s e) es).worker 1 ≡ begun ((step g s e).worker 1) f) →
-          cond b (e ∷ keep is_step es) (keep is_step es) ≡ Event.Begin 1 f ∷ [] → (run g (step g s e) es).worker 1 ≡ begun (s.worker 1) f
+      go : (b : Bool) → is_step e ≡ b → (keep is_step es ≡ Event.Begin own f ∷ [] → (run g (step g s e) es).worker own ≡ begun ((step g s e).worker own) f) →
+          cond b (e ∷ keep is_step es) (keep is_step es) ≡ Event.Begin own f ∷ [] → (run g (step g s e) es).worker own ≡ begun (s.worker own) f
       go true q ih h =
-          let is : e ≡ Event.Begin 1 f = cc in
+          let is : e ≡ Event.Begin own f = cc in
           let rest : keep is_step es ≡ [] = cc in
-          ap (λ (r : ℕ → Worker). r 1) (same_run (step g s e) es still.2 rest)
-          ∙ (ap (λ (b : Bool). (cond b (happens g s e) s).worker 1) met.0
-          ∙ ap (λ (x : Event). (happens g s x).worker 1) is)
-      go false q ih h = ih h ∙ ap (λ (r : ℕ → Worker). begun (r 1) f) (same_step s e q still.0 still.1)
+          ap (λ (r : ℕ → Worker). r own) (same_run (step g s e) es still.2 rest)
+          ∙ (ap (λ (b : Bool). (cond b (happens g s e) s).worker own) met.0
+          ∙ (ap (λ (x : Event). (happens g s x).worker own) is ∙ set_here s.worker own (begun (s.worker own) f)))
+      go false q ih h = ih h ∙ ap (λ (r : ℕ → Worker). begun (r own) f) (same_step s e q still.0 still.1)
 
-  pub begin_tells : (s : State) (es : List Event) (f : ℕ) → AllMet g s es → AreStill es → keep is_step es ≡ Event.Begin 1 f ∷ [] → marks g s es 1 [] ≡ Began (suc (s.worker 1).txn) ∷ []
+  pub begin_tells : (s : State) (es : List Event) (f : ℕ) → AllMet g s es → AreStill es → keep is_step es ≡ Event.Begin own f ∷ [] → marks g s es own [] ≡ Began (suc (s.worker own).txn) ∷ []
   begin_tells s es f met still k =
-      one_mark s es [] (Event.Begin 1 f) (Began (suc (s.worker 1).txn)) met still k tt refl (λ t same. ap (λ (r : ℕ → Worker). Some (Began (suc (r 1).txn))) same)
+      one_mark s es [] (Event.Begin own f) (Began (suc (s.worker own).txn)) met still k tt (eq-eqb own own refl) (λ t same. ap (λ (r : ℕ → Worker). Some (Began (suc (r own).txn))) same)
 
-  pub commit_tells : (s : State) (es others : List Event) (f : ℕ) → AllMet g s es → AreStill es → keep is_step es ≡ Event.End 1 true f ∷ others → Unlocks 1 others →
-      marks g s es 1 [] ≡ Ended true (s.worker 1).txn (suc (s.worker 1).clock) ∷ []
+  pub commit_tells : (s : State) (es others : List Event) (f : ℕ) → AllMet g s es → AreStill es → keep is_step es ≡ Event.End own true f ∷ others → Unlocks own others →
+      marks g s es own [] ≡ Ended true (s.worker own).txn (suc (s.worker own).clock) ∷ []
   commit_tells s es others f met still k u =
-      one_mark s es others (Event.End 1 true f) (Ended true (s.worker 1).txn (suc (s.worker 1).clock)) met still k u refl
-      (λ t same. ap (λ (r : ℕ → Worker). Some (Ended true (r 1).txn (suc (r 1).clock))) same)
+      one_mark s es others (Event.End own true f) (Ended true (s.worker own).txn (suc (s.worker own).clock)) met still k u (eq-eqb own own refl)
+      (λ t same. ap (λ (r : ℕ → Worker). Some (Ended true (r own).txn (suc (r own).clock))) same)
 
   -- ## A call that is refused
 
   -- a step of it needs an open transaction
-  try_is_open : (s : State) (e : Event) (es : List Event) → Tries 1 (e ∷ es) → may g s e ≡ true → (s.worker 1).is_open ≡ true
+  try_is_open : (s : State) (e : Event) (es : List Event) → Tries own (e ∷ es) → may g s e ≡ true → (s.worker own).is_open ≡ true
   try_is_open s (Event.Lock v i mode) es t met =
       subst (λ (w : ℕ). (s.worker w).is_open ≡ true) t.0 (and_parts (s.worker v).is_open (may_hold (s.row i) v mode) (and_parts (are_hot s []) (needs g s (Event.Lock v i mode)) met).1).0
   try_is_open s (Event.Next v p k a) es t met =
@@ -206,61 +210,70 @@ module _ (g : Opening) where
   try_is_open s _ es t met = absurd t
 
   -- so without one it takes none
-  pub tries_none : (s : State) (es : List Event) → AllMet g s es → AreStill es → Tries 1 (keep is_step es) → (s.worker 1).is_open ≡ false → keep is_step es ≡ []
+  pub tries_none : (s : State) (es : List Event) → AllMet g s es → AreStill es → Tries own (keep is_step es) → (s.worker own).is_open ≡ false → keep is_step es ≡ []
   tries_none s [] met still t closed = refl
   tries_none s (e ∷ es) met still t closed =
-      go (is_step e) refl t (λ rest same. tries_none (step g s e) es met.1 still.2 rest (ap (λ (r : ℕ → Worker). (r 1).is_open) same ∙ closed))
+      go (is_step e) refl t (λ rest same. tries_none (step g s e) es met.1 still.2 rest (ap (λ (r : ℕ → Worker). (r own).is_open) same ∙ closed))
     where
-      go : (b : Bool) → is_step e ≡ b → Tries 1 (cond b (e ∷ keep is_step es) (keep is_step es)) → (Tries 1 (keep is_step es) → (step g s e).worker ≡ s.worker → keep is_step es ≡ []) →
+      go : (b : Bool) → is_step e ≡ b → Tries own (cond b (e ∷ keep is_step es) (keep is_step es)) → (Tries own (keep is_step es) → (step g s e).worker ≡ s.worker → keep is_step es ≡ []) →
           cond b (e ∷ keep is_step es) (keep is_step es) ≡ []
       go true q h ih = absurd (true≢false (sym (try_is_open s e (keep is_step es) h met.0) ∙ closed))
       go false q h ih = ih h (same_step s e q still.0 still.1)
 
   -- and with one it leaves it open
-  try_opens : (s : State) (e : Event) (es : List Event) → Tries 1 (e ∷ es) → (s.worker 1).is_open ≡ true → ((happens g s e).worker 1).is_open ≡ true
-  try_opens s (Event.Lock v i mode) es t o = subst (λ (w : ℕ). ((happens g s (Event.Lock w i mode)).worker 1).is_open ≡ true) (sym t.0) o
-  try_opens s (Event.Next v p k a) es t o = subst (λ (w : ℕ). ((happens g s (Event.Next w p k a)).worker 1).is_open ≡ true) (sym t.0) (go a)
+  open_here : (s : State) (a : Worker) → a.is_open ≡ true → (upd s.worker own a own).is_open ≡ true
+  open_here s a o = ap (λ (w : Worker). w.is_open) (set_here s.worker own a) ∙ o
+
+  try_opens : (s : State) (e : Event) (es : List Event) → Tries own (e ∷ es) → (s.worker own).is_open ≡ true → ((happens g s e).worker own).is_open ≡ true
+  try_opens s (Event.Lock v i mode) es t o = subst (λ (w : ℕ). ((happens g s (Event.Lock w i mode)).worker own).is_open ≡ true) (sym t.0) (open_here s (at_row own (s.worker own) (s.row i)) o)
+  try_opens s (Event.Next v p k a) es t o = subst (λ (w : ℕ). ((happens g s (Event.Next w p k a)).worker own).is_open ≡ true) (sym t.0) (go a)
     where
-      go : (b : MapAnswer) → ((happens g s (Event.Next 1 p k b)).worker 1).is_open ≡ true
-      go (MapAnswer.Pair j x) = o
-      go (MapAnswer.Gap h) = o
+      touched : Worker
+      touched = at_pages s own (s.worker own) (p ∷ [])
+
+      go : (b : MapAnswer) → ((happens g s (Event.Next own p k b)).worker own).is_open ≡ true
+      go (MapAnswer.Pair j x) = open_here s touched o
+      go (MapAnswer.Gap h) = open_here s touched o
       go _ = o
-  try_opens s (Event.Put_back v p) es t o = subst (λ (w : ℕ). ((happens g s (Event.Put_back w p)).worker 1).is_open ≡ true) (sym t.0) (go (s.worker 1).changes)
+  try_opens s (Event.Put_back v p) es t o = subst (λ (w : ℕ). ((happens g s (Event.Put_back w p)).worker own).is_open ≡ true) (sym t.0) (go (s.worker own).changes)
     where
-      go : (cs : List Entry) → ((put_back g s 1 p cs).worker 1).is_open ≡ true
+      touched : Worker
+      touched = at_pages s own (s.worker own) (p ∷ [])
+
+      go : (cs : List Entry) → ((put_back g s own p cs).worker own).is_open ≡ true
       go [] = o
-      go (c ∷ cs) = o
+      go (c ∷ cs) = open_here s (record touched { clock = suc touched.clock; changes = cs }) o
   try_opens s _ es t o = absurd t
 
-  try_rest : (e : Event) (es : List Event) → Tries 1 (e ∷ es) → Tries 1 es
+  try_rest : (e : Event) (es : List Event) → Tries own (e ∷ es) → Tries own es
   try_rest (Event.Lock v i mode) es t = t.1
   try_rest (Event.Next v p k a) es t = t.1
   try_rest (Event.Put_back v p) es t = t.1
   try_rest _ es t = absurd t
 
   -- a sync leaves it open too
-  same_opens : (s : State) (e : Event) → is_step e ≡ false → is_structure e ≡ false → ((step g s e).worker 1).is_open ≡ (s.worker 1).is_open
+  same_opens : (s : State) (e : Event) → is_step e ≡ false → is_structure e ≡ false → ((step g s e).worker own).is_open ≡ (s.worker own).is_open
   same_opens s (Event.Sync n) a b = go (may g s (Event.Sync n))
     where
-      go : (m : Bool) → ((cond m (happens g s (Event.Sync n)) s).worker 1).is_open ≡ (s.worker 1).is_open
+      go : (m : Bool) → ((cond m (happens g s (Event.Sync n)) s).worker own).is_open ≡ (s.worker own).is_open
       go true = refl
       go false = refl
-  same_opens s e a b = ap (λ (r : ℕ → Worker). (r 1).is_open) (same_step s e a b refl)
+  same_opens s e a b = ap (λ (r : ℕ → Worker). (r own).is_open) (same_step s e a b refl)
 
-  pub tries_open : (s : State) (es : List Event) → AllMet g s es → any is_structure es ≡ false → Tries 1 (keep is_step es) → (s.worker 1).is_open ≡ true → ((run g s es).worker 1).is_open ≡ true
+  pub tries_open : (s : State) (es : List Event) → AllMet g s es → any is_structure es ≡ false → Tries own (keep is_step es) → (s.worker own).is_open ≡ true → ((run g s es).worker own).is_open ≡ true
   tries_open s [] met calm t o = o
   tries_open s (e ∷ es) met calm t o =
       let parts = or_parts (is_structure e) (any is_structure es) calm in
       let here = go (is_step e) refl parts.0 t in
       tries_open (step g s e) es met.1 parts.1 here.0 here.1
     where
-      go : (b : Bool) → is_step e ≡ b → is_structure e ≡ false → Tries 1 (cond b (e ∷ keep is_step es) (keep is_step es)) → Tries 1 (keep is_step es) × (((step g s e).worker 1).is_open ≡ true)
-      go true q calm h = (try_rest e (keep is_step es) h, ap (λ (m : Bool). ((cond m (happens g s e) s).worker 1).is_open) met.0 ∙ try_opens s e (keep is_step es) h o)
+      go : (b : Bool) → is_step e ≡ b → is_structure e ≡ false → Tries own (cond b (e ∷ keep is_step es) (keep is_step es)) → Tries own (keep is_step es) × (((step g s e).worker own).is_open ≡ true)
+      go true q calm h = (try_rest e (keep is_step es) h, ap (λ (m : Bool). ((cond m (happens g s e) s).worker own).is_open) met.0 ∙ try_opens s e (keep is_step es) h o)
       go false q calm h = (h, same_opens s e q calm ∙ o)
 
   -- ## Events that leave the log as it was
 
-  idle_one : (s : State) (e : Event) (was is : Log) → is_step e ≡ false → is_structure e ≡ false → is_log e ≡ false → LogsOne 1 g s e was is → is ≡ was
+  idle_one : (s : State) (e : Event) (was is : Log) → is_step e ≡ false → is_structure e ≡ false → is_log e ≡ false → LogsOne own g s e was is → is ≡ was
   idle_one s (Event.Change w p k v) was is a b c h = absurd (true≢false a)
   idle_one s (Event.Put_back w p) was is a b c h = absurd (true≢false a)
   idle_one s (Event.End w commit f) was is a b c h = absurd (true≢false a)
@@ -270,8 +283,9 @@ module _ (g : Opening) where
   idle_one s (Event.Drop w d) was is a b c h = absurd (true≢false b)
   idle_one s (Event.Purge w p keys) was is a b c h = absurd (true≢false b)
   idle_one s (Event.Flush w n) was is a b c h = absurd (true≢false c)
+  idle_one s (Event.Sync n) was is a b c h = absurd (true≢false c)
   idle_one s _ was is a b c h = h
 
-  pub idle_log : (s : State) (es : List Event) (was is : Log) → AreIdle es → Logs 1 g s es was is → is ≡ was
+  pub idle_log : (s : State) (es : List Event) (was is : Log) → AreIdle es → Logs own g s es was is → is ≡ was
   idle_log s [] was is i h = h
   idle_log s (e ∷ es) was is i h = idle_log (step g s e) es h.0 is i.3 h.2 ∙ idle_one s e was h.0 i.0 i.1 i.2 h.1

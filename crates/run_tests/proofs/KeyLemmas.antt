@@ -189,9 +189,9 @@ module _ (key : ℕ) where
       go None a is ih h = older (ih h w)
 
   -- so a line of the script asks it
-  pub asks_to_write : (input output : List ℕ) (t : Txn) → Has t (journal (transcript 1 input output)) → Wrote t key → AsksToWrite input key
-  asks_to_write input output t h wrote =
-      let ts : List Answered = transcript 1 input output in
+  pub asks_to_write : (sessions : ℕ) (input output : List ℕ) (t : Txn) → Has t (journal (transcript sessions input output)) → Wrote t key → AsksToWrite sessions input key
+  asks_to_write sessions input output t h wrote =
+      let ts : List Answered = transcript sessions input output in
       let m = map_has txn_of (told (lines_of ts)) t (order_has is_earlier (map txn_of (told (lines_of ts))) t h) in
       let has : Has wrote.step (steps_of m.0.lines) = subst (λ (u : Txn). Has wrote.step u.calls) m.2 wrote.has in
       let s = steps_has m.0.lines wrote.step has wrote.writes in
@@ -199,7 +199,7 @@ module _ (key : ℕ) where
       elim (lines_has [] ts s.0 line) [
         | inl none ↦ absurd none
         | inr told ↦
-            let p : IsPaired (asked 1 (script_lines input)) s.0.said.call = paired_has (asked 1 (script_lines input)) (answers (whole_lines output)) s.0.said told in
-            let a : IsAsked 1 (script_lines input) p.pair.1 = asked_has 1 (script_lines input) p.pair p.has in
+            let p : IsPaired (asked sessions (script_lines input)) s.0.said.call = paired_has (asked sessions (script_lines input)) (answers (whole_lines output)) s.0.said told in
+            let a : IsAsked sessions (script_lines input) p.pair.1 = asked_has sessions (script_lines input) p.pair p.has in
             record { text = a.text; has = a.has; line = a.line; is = a.is; writes = subst (λ (c : Call). Writes c key) (sym (a.call_is ∙ p.call_is)) s.2 }
       ]

@@ -12,31 +12,31 @@ use Rattle.disk_slots.specs.declared.master.Master.{Master}
 use Rattle.disk_image.specs.Fair.{IsFairCrash}
 use Rattle.disk_image.specs.MasterSlots.{master_on}
 use Rattle.disk_image.specs.Shown.{Areas, IsCleanDisk}
-use Rattle.recovery.specs.Crashes.{IsNextOf}
 use Rattle.lean_shell.specs.Crashes.{HasMasterOf, IsUnwritten, IsYoung, MasterLeaves, TellsCrashes}
 use Rattle.lean_shell.specs.Headline.{RunLeaves, Survives}
+use Rattle.lean_shell.specs.Starts.{IsOfOpening}
 use Rattle.run_tests.specs.Laws.{EveryNextRun, IsCutOff, IsOfMap, IsReadyAgain}
 
 -- a disk that begins tells of crashes
-tells_crashes : EveryArea → (d : MemDisk) (areas : ℕ) (bytes : Areas) → Begins areas bytes (disk_story d) → TellsCrashes (disk_story d)
-tells_crashes tells d areas bytes b = record {
+tells_crashes : EveryArea → (most : ℕ) (d : MemDisk) (areas : ℕ) (bytes : Areas) → Begins areas bytes (disk_story d) → TellsCrashes most (disk_story d)
+tells_crashes tells most d areas bytes b = record {
   all = record { master = tells d 0 b.counts; pages = tells d 1 b.counts; logs = λ m master openable w some last. tells d (suc w) b.counts };
   counts = b.counts;
 }
 
--- the next master's numbers are far from their ends too
-young_again : (m n : Master) (area : Areas) (s : Story) → (n ≡ m) ⊎ IsNextOf m area n → m.sequence + 1 < 2 ^ 62 → m.generation + 1 < 2 ^ 62 → s.notes ≡ 0 → IsYoung n s
+-- the numbers of a master of the opening are far from their ends too, if its sequence number is
+young_again : (m n : Master) (area : Areas) (s : Story) → (n ≡ m) ⊎ IsOfOpening m area n → n.sequence < 2 ^ 62 → m.generation + 1 < 2 ^ 62 → s.notes ≡ 0 → IsYoung n s
 young_again m n area s is sequence generation notes = elim is [
-  | inl same ↦ let a : n.sequence ≡ m.sequence = ap (λ (x : Master). x.sequence) same in let b : n.generation ≡ m.generation = ap (λ (x : Master). x.generation) same in
-      record { sequence = omega (arith, a, sequence); generation = omega (arith, b, generation); notes = omega (arith, notes) }
-  | inr next ↦ let a : n.sequence ≡ suc m.sequence = ap (λ (x : Master). x.sequence) next.is in let b : n.generation ≡ suc m.generation = ap (λ (x : Master). x.generation) next.is in
-      record { sequence = omega (arith, a, sequence); generation = omega (arith, b, generation); notes = omega (arith, notes) }
+  | inl same ↦ let b : n.generation ≡ m.generation = ap (λ (x : Master). x.generation) same in
+      record { sequence = sequence; generation = omega (arith, b, generation); notes = omega (arith, notes) }
+  | inr o ↦ let a : o.first.generation ≡ suc m.generation = ap (λ (x : Master). x.generation) o.next.is in let b : n.generation ≡ o.first.generation = o.later.generation in
+      record { sequence = sequence; generation = omega (arith, a, b, generation); notes = omega (arith, notes) }
 ]
 
 -- where nothing was written yet, a crash leaves what stood there
-unwritten_image : EveryArea → (first : MemDisk) (areas : ℕ) (bytes : Areas) (input put : List ℕ) (c : Crash) → Begins areas bytes (disk_story first) → IsUnwritten (disk_story first) input put c →
+unwritten_image : EveryArea → (m : Master) (first : MemDisk) (areas : ℕ) (bytes : Areas) (input put : List ℕ) (c : Crash) → Begins areas bytes (disk_story first) → IsUnwritten m (disk_story first) input put c →
     c.image ≡ areas_of (disk_story first)
-unwritten_image tells first areas bytes input put c begins u =
+unwritten_image tells m first areas bytes input put c begins u =
     fun_ext (λ a. (u.leaves a (tells first a begins.counts)).clean (ap (λ (z : Area). z.unsynced) (begins.area a)))
 
 -- two masters that count are one
@@ -48,35 +48,35 @@ module _ (told : EveryArea) (m : Master) (first last left : MemDisk) (x : IsCutO
   abbrev Ready : Type 0
   Ready = IsReadyAgain m (disk_story first) (disk_story left) x.feed.left x.ends.put
 
-  ready : (n : Master) → (n ≡ m) ⊎ IsNextOf m (areas_of (disk_story first)) n → IsCleanDisk n c.image → IsOfMap m (disk_story first) x.feed.left x.ends.put c.image → Ready
-  ready n is clean map = record {
+  ready : (n : Master) → (n ≡ m) ⊎ IsOfOpening m (areas_of (disk_story first)) n → n.sequence < 2 ^ 62 → IsCleanDisk n c.image → IsOfMap m (disk_story first) x.feed.left x.ends.put c.image → Ready
+  ready n is sequence clean map = record {
     n = n;
     is = is;
-    tells = tells_crashes told left (disk_story last).areas (areas_of (disk_story left)) x.after.begins;
+    tells = λ most. tells_crashes told most left (disk_story last).areas (areas_of (disk_story left)) x.after.begins;
     clean = subst (IsCleanDisk n) image clean;
-    young = young_again m n (areas_of (disk_story first)) (disk_story left) is x.sequence x.generation x.after.begins.notes;
+    young = young_again m n (areas_of (disk_story first)) (disk_story left) is sequence x.generation x.after.begins.notes;
     map = subst (IsOfMap m (disk_story first) x.feed.left x.ends.put) image map;
   }
 
   stands : c.image ≡ areas_of (disk_story first) → Ready
-  stands same = ready m (inl refl) (subst (IsCleanDisk m) (sym same) x.clean) (inl same)
+  stands same = ready m (inl refl) x.sequence (subst (IsCleanDisk m) (sym same) x.clean) (inl same)
 
-  by_map : HasMasterOf x.locks m (disk_story first) x.feed.left x.ends.put c → RunLeaves m (disk_story first) x.feed.left x.ends.put c → Ready
+  by_map : HasMasterOf x.size m (disk_story first) x.feed.left x.ends.put c → RunLeaves m (disk_story first) x.feed.left x.ends.put c → Ready
   by_map h leaves = elim leaves [
-    | inl u ↦ stands (unwritten_image told first x.areas x.bytes x.feed.left x.ends.put c x.begins u)
+    | inl u ↦ stands (unwritten_image told m first x.areas x.bytes x.feed.left x.ends.put c x.begins u)
     | inr survives ↦ let s : Survives m (disk_story first) x.feed.left x.ends.put c = survives fair in
-        ready h.n h.is (subst (λ n. IsCleanDisk n c.image) (one_master h.n s.n (c.image 0) h.counts s.clean.master) s.clean) (inr (c, refl, s))
+        ready h.n h.is (x.sequence_after h.n (subst (λ (area : Areas). master_on (area 0) ≡ Some h.n) image h.counts)) (subst (λ n. IsCleanDisk n c.image) (one_master h.n s.n (c.image 0) h.counts s.clean.master) s.clean) (inr (c, refl, s))
   ]
 
-  pub ready_by : MasterLeaves x.locks m (disk_story first) x.feed.left x.ends.put c → RunLeaves m (disk_story first) x.feed.left x.ends.put c → Ready
+  pub ready_by : MasterLeaves x.size m (disk_story first) x.feed.left x.ends.put c → RunLeaves m (disk_story first) x.feed.left x.ends.put c → Ready
   ready_by masters leaves = elim masters [
-    | inl u ↦ stands (unwritten_image told first x.areas x.bytes x.feed.left x.ends.put c x.begins u)
+    | inl u ↦ stands (unwritten_image told m first x.areas x.bytes x.feed.left x.ends.put c x.begins u)
     | inr h ↦ by_map (h fair) leaves
   ]
 
 pub every_next_run : EveryArea → EveryMoment → EveryNextRun
 every_next_run told every m first last left x =
-    let tells : TellsCrashes (disk_story first) = tells_crashes told first x.areas x.bytes x.begins in
+    let tells : TellsCrashes x.size.sessions (disk_story first) = tells_crashes told x.size.sessions first x.areas x.bytes x.begins in
     let young : IsYoung m (disk_story first) = young_again m m (areas_of (disk_story first)) (disk_story first) (inl refl) x.sequence x.generation x.begins.notes in
     let here : HasCrash (disk_story last) x.moment = every last x.moment (x.ends.tells_on.counts ∙ x.begins.counts) x.by_now in
     let there : (disk_story last).left_at x.moment (record here.crash { image = areas_of (disk_story left) }) = x.after.left here.crash here.there in

@@ -1,78 +1,140 @@
 -- What a crash may find of a call that was not answered, by the lines of the script.
-use Rattle.std.proofs.Common.{◌≡◌, ◌++◌, inl, inr, ◌||◌, ℕ, Bool, true, false, List, [], ◌∷◌, refl, sym, subst, arith, true≢false}
+use Rattle.std.proofs.Common.{◌≡◌, ◌⊎◌, ◌++◌, inl, inr, ◌||◌, ℕ, Bool, true, false, List, [], ◌∷◌, Option, Some, None, refl, sym, ap, subst, true≢false}
+use Rattle.std.proofs.lemmas.Bool.{and_parts}
 use Rattle.map_model.specs.declared.call.Call.{Call}
 use Rattle.map_model.specs.declared.call.Call.TheVariants as call
-use Rattle.map_model.specs.Lists.{Has, any}
+use Rattle.map_model.specs.Lists.{Has, all, any}
 use Rattle.map_model.specs.Pairings.{script_of}
 use Rattle.core_state.specs.Events.{Event}
 use Rattle.core_state.specs.Openings.{Opening}
-use Rattle.core_calls.specs.Fronts.{Done}
-use Rattle.core_calls.specs.Steps.{is_structure}
+use Rattle.core_calls.specs.Fronts.{Done, outcomes}
+use Rattle.core_calls.specs.Steps.{hindered_in, is_structure}
+use Rattle.engine_trait.specs.Calls.{call_behind, due_call}
 use Rattle.engine_trait.specs.Limits.{AreLoads}
-use Rattle.engine_trait.specs.Rooms.{IsRoomFor, makes_room, puts_back}
-use Rattle.script_lang.specs.Lines.{CallFits}
+use Rattle.engine_trait.specs.Rooms.{AreForSync, AreReady, IsRoomFor, makes_room, makes_sync, needs_sync, puts_back}
+use Rattle.engine_trait.specs.Turns.{IsHindered}
 use Rattle.script_run.specs.Runs.{calls_of}
-use Rattle.script_run.proofs.DiskLemmas.{each_none}
 use Rattle.transcripts.specs.Laws.{ComesNext}
-use Rattle.transcripts.specs.Told.{ask, asked_lines}
-use Rattle.lean_shell.specs.Starts.{IsRoomOfNext}
+use Rattle.transcripts.specs.Told.{ask, asked_lines, LineFits}
+use Rattle.lean_shell.specs.Starts.{IsAskedNext}
+use Rattle.lean_shell.specs.Starts.IsAskedNext.{OfAbort, OfLine}
 use Rattle.run_tests.specs.RuledOut.{Asks, EveryStoppedCall, IsAbort, IsDel, IsPut, StoppedLaws, is_back}
 
 has_behind : (xs : List (List ℕ)) (y : List ℕ) (ys : List (List ℕ)) → Has y (xs ++ y ∷ ys)
 has_behind [] y ys = inl refl
 has_behind (x ∷ xs) y ys = inr (has_behind xs y ys)
 
+each_none : (p q : Event → Bool) → ((e : Event) → p e ≡ true → q e ≡ false) → (es : List Event) → all p es ≡ true → any q es ≡ false
+each_none p q so [] h = refl
+each_none p q so (e ∷ es) h =
+    let a = and_parts (p e) (all p es) h in
+    subst (λ (b : Bool). (b || any q es) ≡ false) (sym (so e a.0)) (each_none p q so es a.1)
+
 -- the events of each kind change no tree, or put nothing back
-back_grows_none : (e : Event) → puts_back 1 e ≡ true → is_structure e ≡ false
-back_grows_none (Event.Split w l r q i) back = absurd (true≢false (sym back))
-back_grows_none (Event.Lift w c) back = absurd (true≢false (sym back))
-back_grows_none (Event.Join w l r q) back = absurd (true≢false (sym back))
-back_grows_none (Event.Drop w c) back = absurd (true≢false (sym back))
-back_grows_none (Event.Purge w p keys) back = absurd (true≢false (sym back))
-back_grows_none _ back = refl
+back_grows_none : (own : ℕ) (e : Event) → puts_back own e ≡ true → is_structure e ≡ false
+back_grows_none own (Event.Split w l r q i) back = absurd (true≢false (sym back))
+back_grows_none own (Event.Lift w c) back = absurd (true≢false (sym back))
+back_grows_none own (Event.Join w l r q) back = absurd (true≢false (sym back))
+back_grows_none own (Event.Drop w c) back = absurd (true≢false (sym back))
+back_grows_none own (Event.Purge w p keys) back = absurd (true≢false (sym back))
+back_grows_none own _ back = refl
 
-room_backs_none : (e : Event) → makes_room e ≡ true → is_back e ≡ false
-room_backs_none (Event.Put_back w p) room = absurd (true≢false (sym room))
-room_backs_none _ room = refl
+room_backs_none : (own : ℕ) (e : Event) → makes_room own e ≡ true → is_back e ≡ false
+room_backs_none own (Event.Put_back w p) room = absurd (true≢false (sym room))
+room_backs_none own _ room = refl
 
-loads_none : (q : Event → Bool) → ((p f : ℕ) → q (Event.Load p f) ≡ false) → (es : List Event) → AreLoads es → any q es ≡ false
-loads_none q so [] loads = refl
-loads_none q so (Event.Load p f ∷ es) loads = subst (λ (b : Bool). (b || any q es) ≡ false) (sym (so p f)) (loads_none q so es loads)
-loads_none q so (_ ∷ es) loads = absurd loads
+sync_grows_none : (e : Event) → makes_sync e ≡ true → is_structure e ≡ false
+sync_grows_none (Event.Split w l r q i) sync = absurd (true≢false (sym sync))
+sync_grows_none (Event.Lift w c) sync = absurd (true≢false (sym sync))
+sync_grows_none (Event.Join w l r q) sync = absurd (true≢false (sym sync))
+sync_grows_none (Event.Drop w c) sync = absurd (true≢false (sym sync))
+sync_grows_none (Event.Purge w p keys) sync = absurd (true≢false (sym sync))
+sync_grows_none _ sync = refl
 
-module _ (input : List ℕ) (g : Opening) (heard : List Done) (es : List Event) (c : Call) (fits : CallFits c) (line : ComesNext (script_of (calls_of heard)) (ask 1 c) input) where
-  -- the call's line is one of the script's
-  asks : (Such : Call → Type 0) → Such c → Asks Such input
-  asks Such such = record {
-    text = ask 1 c;
-    has = subst (Has (ask 1 c)) (sym line.begins) (has_behind (asked_lines (script_of (calls_of heard))) (ask 1 c) line.others);
+sync_backs_none : (e : Event) → makes_sync e ≡ true → is_back e ≡ false
+sync_backs_none (Event.Put_back w p) sync = absurd (true≢false (sym sync))
+sync_backs_none _ sync = refl
+
+-- pages that are loaded may be loaded for a sync
+loads_for_sync : (es : List Event) → AreLoads es → AreForSync es
+loads_for_sync [] loads = refl
+loads_for_sync (Event.Load p f ∷ es) loads = loads_for_sync es loads
+loads_for_sync (_ ∷ es) loads = absurd loads
+
+ready_for_sync : (b : Bool) (es : List Event) → AreReady b es → AreForSync es
+ready_for_sync true es ready = ready
+ready_for_sync false es ready = loads_for_sync es ready
+
+-- ## What may be asked next
+
+-- the newest call met a conflict and the abort is due, or what is asked is done
+due_or_own : (heard : List Done) (c : Call) → (IsHindered heard × (call_behind (outcomes heard) c ≡ call.Abort)) ⊎ (call_behind (outcomes heard) c ≡ c)
+due_or_own [] c = inr refl
+due_or_own (y ∷ earlier) c = go (hindered_in y.outcome.deed) refl
+  where
+    go : (o : Option Call) → hindered_in y.outcome.deed ≡ o → (IsHindered (y ∷ earlier) × (call_behind (outcomes (y ∷ earlier)) c ≡ call.Abort)) ⊎ (call_behind (outcomes (y ∷ earlier)) c ≡ c)
+    go None is = inr (ap (λ (o : Option Call). due_call o c) is)
+    go (Some h) is = inl (record { newest = y; earlier = earlier; are = refl; hindered = h; is = is }, ap (λ (o : Option Call). due_call o c) is)
+
+module _ (sessions : ℕ) (input : List ℕ) (g : Opening) (heard : List Done) (session : ℕ) (es : List Event) where
+  -- the script's next line asks it
+  abbrev IsLine : Call → Type 0
+  IsLine c = LineFits sessions session c × ComesNext (script_of (calls_of heard)) (ask session c) input
+
+  -- the abort that is due, or the script's next line
+  turn : (c : Call) → IsAskedNext sessions input heard session c → (IsHindered heard × (call_behind (outcomes heard) c ≡ call.Abort)) ⊎ ((call_behind (outcomes heard) c ≡ c) × IsLine c)
+  turn c (OfAbort y earlier are is hindered) = inl (
+    record { newest = y; earlier = earlier; are = are; hindered = c; is = hindered },
+    subst (λ (xs : List Done). call_behind (outcomes xs) c ≡ call.Abort) (sym are) (ap (λ (o : Option Call). due_call o c) hindered),
+  )
+  turn c (OfLine fits line) = elim (due_or_own heard c) [
+    | inl due ↦ inl due
+    | inr own ↦ inr (own, (fits, line))
+  ]
+
+  asks : (c : Call) → IsLine c → (Such : Call → Type 0) → Such c → Asks sessions Such input
+  asks c line Such such = record {
+    text = ask session c;
+    has = subst (Has (ask session c)) (sym line.1.begins) (has_behind (asked_lines (script_of (calls_of heard))) (ask session c) line.1.others);
+    session = session;
     call = c;
-    spelled = record { spelled = refl; first = omega arith; last = omega arith; call = fits };
+    spelled = record { spelled = refl; session = line.0.session; call = line.0.fits };
     such = such;
   }
 
-structure : (input : List ℕ) (g : Opening) (heard : List Done) (es : List Event) (c : Call) → CallFits c → ComesNext (script_of (calls_of heard)) (ask 1 c) input → IsRoomFor g heard 1 c es → (Asks IsPut input → ⊥) → any is_structure es ≡ false
-structure input g heard es (call.Put key value) fits line room none = absurd (none (asks input g heard es (call.Put key value) fits line IsPut tt))
-structure input g heard es (call.Del key) fits line room none = room.1
-structure input g heard es call.Abort fits line backs none = each_none (puts_back 1) is_structure back_grows_none es backs
-structure input g heard es _ fits line loads none = loads_none is_structure (λ p f. refl) es loads
+  structure : (c : Call) → IsLine c → IsRoomFor g heard session c es → (Asks sessions IsPut input → ⊥) → any is_structure es ≡ false
+  structure (call.Put key value) line room none = absurd (none (asks (call.Put key value) line IsPut tt))
+  structure (call.Del key) line room none = room.1
+  structure call.Abort line backs none = each_none (puts_back session) is_structure (back_grows_none session) es backs
+  structure c line ready none = each_none makes_sync is_structure sync_grows_none es (ready_for_sync (needs_sync g heard session c) es ready)
 
-backs : (input : List ℕ) (g : Opening) (heard : List Done) (es : List Event) (c : Call) → CallFits c → ComesNext (script_of (calls_of heard)) (ask 1 c) input → IsRoomFor g heard 1 c es → (Asks IsAbort input → ⊥) → any is_back es ≡ false
-backs input g heard es (call.Put key value) fits line room none = each_none makes_room is_back room_backs_none es room.0
-backs input g heard es (call.Del key) fits line room none = each_none makes_room is_back room_backs_none es room.0
-backs input g heard es call.Abort fits line room none = absurd (none (asks input g heard es call.Abort fits line IsAbort tt))
-backs input g heard es _ fits line loads none = loads_none is_back (λ p f. refl) es loads
+  backs : (c : Call) → IsLine c → IsRoomFor g heard session c es → (Asks sessions IsAbort input → ⊥) → any is_back es ≡ false
+  backs (call.Put key value) line room none = each_none (makes_room session) is_back (room_backs_none session) es room.0
+  backs (call.Del key) line room none = each_none (makes_room session) is_back (room_backs_none session) es room.0
+  backs call.Abort line room none = absurd (none (asks call.Abort line IsAbort tt))
+  backs c line ready none = each_none makes_sync is_back sync_backs_none es (ready_for_sync (needs_sync g heard session c) es ready)
 
-loads : (input : List ℕ) (g : Opening) (heard : List Done) (es : List Event) (c : Call) → CallFits c → ComesNext (script_of (calls_of heard)) (ask 1 c) input → IsRoomFor g heard 1 c es
-    → (Asks IsPut input → ⊥) → (Asks IsDel input → ⊥) → (Asks IsAbort input → ⊥) → AreLoads es
-loads input g heard es (call.Put key value) fits line room put del abort = absurd (put (asks input g heard es (call.Put key value) fits line IsPut tt))
-loads input g heard es (call.Del key) fits line room put del abort = absurd (del (asks input g heard es (call.Del key) fits line IsDel tt))
-loads input g heard es call.Abort fits line room put del abort = absurd (abort (asks input g heard es call.Abort fits line IsAbort tt))
-loads input g heard es _ fits line room put del abort = room
+  for_sync : (c : Call) → IsLine c → IsRoomFor g heard session c es → (Asks sessions IsPut input → ⊥) → (Asks sessions IsDel input → ⊥) → (Asks sessions IsAbort input → ⊥) → AreForSync es
+  for_sync (call.Put key value) line room put del abort = absurd (put (asks (call.Put key value) line IsPut tt))
+  for_sync (call.Del key) line room put del abort = absurd (del (asks (call.Del key) line IsDel tt))
+  for_sync call.Abort line room put del abort = absurd (abort (asks call.Abort line IsAbort tt))
+  for_sync c line ready put del abort = ready_for_sync (needs_sync g heard session c) es ready
+
+  pub stopped : (c : Call) → IsAskedNext sessions input heard session c → IsRoomFor g heard session (call_behind (outcomes heard) c) es → StoppedLaws sessions input heard es
+  stopped c asked room = elim (turn c asked) [
+    | inl due ↦
+        let back : IsRoomFor g heard session call.Abort es = subst (λ (d : Call). IsRoomFor g heard session d es) due.1 room in record {
+          structure = λ none. each_none (puts_back session) is_structure (back_grows_none session) es back;
+          backs = λ none calm. absurd (calm due.0);
+          for_sync = λ put del abort calm. absurd (calm due.0);
+        }
+    | inr own ↦
+        let there : IsRoomFor g heard session c es = subst (λ (d : Call). IsRoomFor g heard session d es) own.0 room in record {
+          structure = structure c own.1 there;
+          backs = λ none calm. backs c own.1 there none;
+          for_sync = λ put del abort calm. for_sync c own.1 there put del abort;
+        }
+  ]
 
 pub every_stopped_call : EveryStoppedCall
-every_stopped_call input g heard es r = record {
-  structure = structure input g heard es r.call r.fits r.line r.room;
-  backs = backs input g heard es r.call r.fits r.line r.room;
-  loads = loads input g heard es r.call r.fits r.line r.room;
-}
+every_stopped_call input g heard es r = stopped g.workers input g heard r.session es r.call r.asks r.room

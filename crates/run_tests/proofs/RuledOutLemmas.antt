@@ -1,12 +1,12 @@
 -- What the records of a run rule out.
 use Rattle.std.proofs.Common.{◌≡◌, ◌⊎◌, inl, inr, ◌<◌, ◌≤◌, ◌-◌, ◌^◌, ◌++◌, ℕ, suc, Bool, true, false, cond, ◌&&◌, leb, ltb, ◌==◌, List, [], ◌∷◌, Option, Some, None, refl, sym, ◌∙◌, ap, subst, arith}
-use Rattle.std.proofs.lemmas.Bool.{and_parts, or_cases, leb-true, lt-leb, eqb-true}
+use Rattle.std.proofs.lemmas.Bool.{and_parts, eq-eqb, or_cases, leb-true, lt-leb, eqb-true}
 use Rattle.std.proofs.lemmas.List.{length-append}
 use Rattle.std.specs.Prelude.{length}
 use Rattle.map_model.specs.declared.call.Call.{Call}
 use Rattle.map_model.specs.declared.call.Call.TheVariants as call
 use Rattle.map_model.specs.declared.call.Refusal.{Refusal}
-use Rattle.map_model.specs.declared.call.Refusal.TheVariants.{ClockSpent, InTransaction, LogFull, NoTransaction}
+use Rattle.map_model.specs.declared.call.Refusal.TheVariants.{ClockSpent, InTransaction, LogFull, NoTransaction, RowSpent}
 use Rattle.map_model.specs.Lists.{Has, any, keep}
 use Rattle.map_model.specs.Maps.{Map, MapCall, write_of, writes_key}
 use Rattle.map_model.specs.Histories.{Step, first_of, last_write, write_or}
@@ -33,15 +33,16 @@ use Rattle.core_calls.specs.LogEvents.{RefusedLogs, behind, is_log}
 use Rattle.core_calls.specs.Marks.{Mark, Began, Ended, is_half}
 use Rattle.core_calls.specs.Runs.{IsRefused, Tells}
 use Rattle.core_calls.specs.Steps.{IsBehind, hindered_in, is_change_call, is_structure}
-use Rattle.engine_trait.specs.Calls.{Answers, call_behind, due_call, is_half_done}
+use Rattle.engine_trait.specs.Calls.{Answers, Memory, call_behind, due_call, is_half_done}
 use Rattle.engine_trait.specs.Limits.{limits}
 use Rattle.engine_trait.specs.Refusals.{in_transaction, log_refusal, refusal_in}
 use Rattle.worker_log.specs.Logs.{Log}
 use Rattle.transcripts.specs.Transcripts.{first_lines}
 use Rattle.script_run.specs.Runs.{Executes}
+use Rattle.lean_engine.specs.declared.engine.Size.{Size}
 use Rattle.lean_shell.specs.Headline.{Survives}
 use Rattle.lean_shell.specs.Runs.{Counts, Executed, IsFrom, first_log}
-use Rattle.run_tests.specs.RuledOut.{BeginsAt, EveryDurableIsFound, EveryFirstBegin, EveryFirstCommit, EveryKeyStands, EveryOtherKeyStands, HasItsCommit, NoneWrites}
+use Rattle.run_tests.specs.RuledOut.{BeginsAt, EveryDurableIsFound, EveryFirstBegin, EveryFirstCommit, EveryKeyStands, EveryOtherKeyStands, HasItsCommit, IsOneOf, NoneWrites}
 use Rattle.run_tests.proofs.FirstLemmas.{AreIdle, AreStill, begin_tells, begun_at, commit_tells, idle, idle_behind, idle_log, same_run, still, still_flush, tries_none, tries_open}
 use Rattle.run_tests.proofs.KeyLemmas.{asks_to_write}
 
@@ -105,8 +106,8 @@ every_key_stands s m input output c x k none = sym (x.stands.stands.map k) ∙ s
 
 pub every_other_key_stands : (s : Story) → EveryOtherKeyStands s
 every_other_key_stands s m input output c x key none = every_key_stands s m input output c x key (inl (elim x.by_then_is [
-  | inl told ↦ λ t h w. none (asks_to_write key input (first_lines x.lines output) t (subst (λ (j : Journal). Has t j) told h) w)
-  | inr hand ↦ λ t h w. none (asks_to_write key input (first_lines x.lines output ++ hand.reply) t (subst (λ (j : Journal). Has t j) hand.all_is h) w)
+  | inl told ↦ λ t h w. none (asks_to_write key (length m.heads) input (first_lines x.lines output) t (subst (λ (j : Journal). Has t j) told h) w)
+  | inr hand ↦ λ t h w. none (asks_to_write key (length m.heads) input (first_lines x.lines output ++ hand.reply) t (subst (λ (j : Journal). Has t j) hand.all_is h) w)
 ]))
 
 pub every_durable_is_found : (s : Story) → EveryDurableIsFound s
@@ -148,36 +149,44 @@ some_blocks every bytes m h = elim (newer_one (master_in 0 (piece 1024 0 bytes))
 
 -- ## The first calls
 
-oldest : (g : Opening) (log0 : Log) (later xs : List Done) (log : Log) → Executes g [] log0 (later ++ xs) log → (before : Log) × Executes g [] log0 xs before
-oldest g log0 [] xs log h = (log, h)
-oldest g log0 (z ∷ later) xs log h = oldest g log0 later xs h.0 h.1
+oldest : (g : Opening) (group : ℕ) (m0 : Memory) (later xs : List Done) (m : Memory) → Executes g group [] m0 (later ++ xs) m → (before : Memory) × Executes g group [] m0 xs before
+oldest g group m0 [] xs m h = (m, h)
+oldest g group m0 (z ∷ later) xs m h = oldest g group m0 later xs h.0 h.1
 
--- an outcome of session 1
-abbrev by_one : Deed → List Unsaid → List Event → Done
-by_one d us es = record { outcome = record { session = 1; deed = d; unsaid = us }; events = es }
+-- an outcome of session `own`
+abbrev by : (own : ℕ) → Deed → List Unsaid → List Event → Done
+by own d us es = record { outcome = record { session = own; deed = d; unsaid = us }; events = es }
 
-is_by_one : (x : Done) → x.outcome.session ≡ 1 → x ≡ by_one x.outcome.deed x.outcome.unsaid x.events
-is_by_one x e = ap (λ (w : ℕ). record { outcome = record { session = w; deed = x.outcome.deed; unsaid = x.outcome.unsaid }; events = x.events }) e
+is_by : (own : ℕ) (x : Done) → x.outcome.session ≡ own → x ≡ by own x.outcome.deed x.outcome.unsaid x.events
+is_by own x e = ap (λ (w : ℕ). by w x.outcome.deed x.outcome.unsaid x.events) e
 
--- Where the tests refuse nothing behind its events, and it asks what its line does, no refusal is answered: no latch is spent yet.
-not_refused : (g : Opening) (xs : List Done) (was is : Log) (c : Call) (why : Refusal) (backs : List Step) (us : List Unsaid) (es : List Event) → let x : Done = by_one (Refused c why backs) us es in
-    Answers g xs x was is → Tells limits g 1 xs x → call_behind (outcomes xs) c ≡ c → length (front xs) ≤ 2 ^ 18 → refusal_in g (state_after g (front xs ++ es)) 1 (is_half_done 1 xs) is c ≡ None → ⊥
-not_refused g xs was is c why backs us es a t own few none = elim (a.refused why refl) [
-  | inl there ↦ let clash : None ≡ Some why = sym none ∙ (ap (refusal_in g (state_after g (front xs ++ es)) 1 (is_half_done 1 xs) is) (sym own) ∙ there) in absurd (cc)
-  | inr spent ↦
-      let r = subst (λ (w : Refusal). IsRefused limits g xs (by_one (Refused c why backs) us es) (Refused c w backs)) spent t.refused in
-      let e : length es ≡ length (r.0 ++ r.1) = ap (λ (l : List Event). length l) r.2 in
-      let f = length-append r.0 r.1 in
-      let h = length-append (front xs) r.0 in
-      let l = a.few in
-      let late = r.3 in
-      absurd (omega (arith, e, f, h, l, few, late))
+own_marks : (own : ℕ) (ms : List Mark) → cond (own == own) ms [] ≡ ms
+own_marks own ms = ap (λ (b : Bool). cond b ms []) (eq-eqb own own refl)
+
+-- no latch is spent by so few events
+not_spent : (g : Opening) (own : ℕ) (xs : List Done) (c : Call) (why : Refusal) (backs : List Step) (us : List Unsaid) (es : List Event) → length es ≤ 2 ^ 18 → length (front xs) ≤ 2 ^ 18 →
+    IsRefused limits g xs (by own (Refused c why backs) us es) (Refused c why backs) → why ≡ RowSpent → ⊥
+not_spent g own xs c why backs us es few before refused spent =
+    let r = subst (λ (w : Refusal). IsRefused limits g xs (by own (Refused c why backs) us es) (Refused c w backs)) spent refused in
+    let e : length es ≡ length (r.0 ++ r.1) = ap (λ (l : List Event). length l) r.2 in
+    let f = length-append r.0 r.1 in
+    let h = length-append (front xs) r.0 in
+    let late = r.3 in
+    absurd (omega (arith, e, f, h, few, before, late))
+
+-- Where the tests refuse nothing behind its events, and it asks what its line does, no refusal is answered.
+not_refused : (g : Opening) (group own : ℕ) (xs : List Done) (was is : Log) (c : Call) (why : Refusal) (backs : List Step) (us : List Unsaid) (es : List Event) → let x : Done = by own (Refused c why backs) us es in
+    Answers g xs x was is → Tells limits g group xs x → call_behind (outcomes xs) c ≡ c → length (front xs) ≤ 2 ^ 18 → refusal_in g (state_after g (front xs ++ es)) own (is_half_done own xs) is c ≡ None → ⊥
+not_refused g group own xs was is c why backs us es a t asks few none = elim (a.refused why refl) [
+  | inl there ↦ let clash : None ≡ Some why = sym none ∙ (ap (refusal_in g (state_after g (front xs ++ es)) own (is_half_done own xs) is) (sym asks) ∙ there) in absurd (cc)
+  | inr spent ↦ not_spent g own xs c why backs us es a.few few t.refused spent
 ]
 
--- a first begin that is refused has prepared nothing, since no end waits
-begin_logs : (g : Opening) (why : Refusal) (es : List Event) → RefusedLogs limits g [] 1 call.Begin why es → es ≡ []
-begin_logs g InTransaction es h = h
-begin_logs g _ es h = h
+-- a first begin that is refused has prepared nothing, since no end waits and no latch is spent
+begin_logs : (g : Opening) (own : ℕ) (why : Refusal) (es : List Event) → (why ≡ RowSpent → ⊥) → RefusedLogs limits g [] own call.Begin why es → es ≡ []
+begin_logs g own InTransaction es live h = h
+begin_logs g own RowSpent es live h = absurd (live refl)
+begin_logs g own _ es live h = h
 
 -- the deed of which a mark tells
 abbrev as_begun : List Mark → Deed
@@ -188,25 +197,25 @@ abbrev as_committed : List Mark → Deed
 as_committed (Ended commit n at ∷ ms) = Committed n at
 as_committed _ = Committed 0 0
 
--- The first call began the first transaction: how the session stands then.
-record HasBegun (g : Opening) (d : Deed) (es : List Event) : Type 0 where
+-- The first call began the session's first transaction: how it stands then.
+record HasBegun (g : Opening) (own : ℕ) (d : Deed) (es : List Event) : Type 0 where
   deed : d ≡ Begun 1
   floor : ℕ
-  session : (state_after g es).worker 1 ≡ begun ((start g).worker 1) floor
+  session : (state_after g es).worker own ≡ begun ((start g).worker own) floor
 
 -- behind a begin no abort is half done
-half_of_begun : (x : Done) → x.outcome.deed ≡ Begun 1 → is_half_done 1 (x ∷ []) ≡ false
-half_of_begun x e = at (x.outcome.session == 1)
+half_of_begun : (own : ℕ) (x : Done) → x.outcome.deed ≡ Begun 1 → is_half_done own (x ∷ []) ≡ false
+half_of_begun own x e = at (x.outcome.session == own)
   where
     at : (b : Bool) → is_half (cond b (marks_for x.outcome ++ []) []) ≡ false
     at true = ap (λ (d : Deed). is_half ((marks_of d ++ reads_of x.outcome.unsaid) ++ [])) e
     at false = refl
 
-module _ (master : EveryMasterIn) (s : Story) (locks base : ℕ) (at : BeginsAt s base) (counts : Counts) (calls : List Done) (y : Executed locks s counts calls) where
+module _ (master : EveryMasterIn) (s : Story) (size : Size) (base : ℕ) (at : BeginsAt size.sessions s base) (counts : Counts) (calls : List Done) (y : Executed size s counts calls) where
   abbrev g : Opening
   g = y.opening
 
-  abbrev from : IsFrom g s counts
+  abbrev from : IsFrom size.sessions g s counts
   from = y.from at.tells
 
   same_master : from.m ≡ at.m
@@ -221,85 +230,94 @@ module _ (master : EveryMasterIn) (s : Story) (locks base : ℕ) (at : BeginsAt 
       let b : base ≤ g.base = same_greatest (image_by at.m (areas_of s)) base g.base at.greatest greatest in
       omega (arith, a, b)
 
-  open_log : log_refusal g.base y.first None ≡ None
-  open_log =
-      let log_is : y.first ≡ first_log at.m g.base = y.log at.tells at.m at.master in
-      let many : 64 ≤ at.m.blocks = some_blocks master (areas_of s 0) at.m at.master in
-      let low : g.base < 2 ^ 62 = subst (λ (n : ℕ). n < 2 ^ 62) (sym base_is) at.below in
-      let room : leb (at.m.blocks - 16) 0 ≡ false = lt-leb (at.m.blocks - 16) 0 (omega (arith, many)) in
-      let clock : leb (2 ^ 62) g.base ≡ false = lt-leb (2 ^ 62) g.base low in
-      ap (λ l. log_refusal g.base l None) log_is
-      ∙ (ap (λ (b : Bool). cond b (Some (LogFull 0 (at.m.blocks - 16))) (cond (leb (2 ^ 62) g.base) (Some ClockSpent) None)) room
-      ∙ ap (λ (b : Bool). cond b (Some ClockSpent) None) clock)
+  module _ (own : ℕ) (one : IsOneOf (length at.m.heads) own) where
+    log_is : y.first.log own ≡ first_log at.m g.base own
+    log_is = y.log at.tells at.m at.master own one.0 (subst (λ (n : ℕ). own ≤ n) (sym (from.starts.logs ∙ ap (λ (m : Master). length m.heads) same_master)) one.1)
 
-  -- where the session and the log stand as at the start
-  begin_open : (es : List Event) (log : Log) → (state_after g es).worker ≡ (start g).worker → log ≡ y.first → refusal_in g (state_after g es) 1 false log call.Begin ≡ None
-  begin_open es log same is =
-      ap (λ (r : ℕ → Worker). cond (r 1).is_open (Some InTransaction) (log_refusal (r 1).clock log None)) same ∙ (ap (λ (l : Log). log_refusal g.base l None) is ∙ open_log)
+    open_log : log_refusal g.base (y.first.log own) None ≡ None
+    open_log =
+        let many : 64 ≤ at.m.blocks = some_blocks master (areas_of s 0) at.m at.master in
+        let low : g.base < 2 ^ 62 = subst (λ (n : ℕ). n < 2 ^ 62) (sym base_is) at.below in
+        let room : leb (at.m.blocks - 16) 0 ≡ false = lt-leb (at.m.blocks - 16) 0 (omega (arith, many)) in
+        let clock : leb (2 ^ 62) g.base ≡ false = lt-leb (2 ^ 62) g.base low in
+        ap (λ l. log_refusal g.base l None) log_is
+        ∙ (ap (λ (b : Bool). cond b (Some (LogFull 0 (at.m.blocks - 16))) (cond (leb (2 ^ 62) g.base) (Some ClockSpent) None)) room
+        ∙ ap (λ (b : Bool). cond b (Some ClockSpent) None) clock)
 
-  -- as they do behind a begin that is refused
-  begin_refused : (d : Call) (why : Refusal) (backs : List Step) (us : List Unsaid) (es : List Event) (before after : Log) → d ≡ call.Begin → Tells limits g 1 [] (by_one (Refused d why backs) us es) → Answers g [] (by_one (Refused d why backs) us es) before after →
-      before ≡ y.first → refusal_in g (state_after g es) 1 false after d ≡ None
-  begin_refused d why backs us es before after c t a log =
-      let calm = t.structure (ap is_change_call c) in
-      let none = begin_logs g why (keep is_log es) (subst (λ (e : Call). RefusedLogs limits g [] 1 e why (keep is_log es)) c t.logs) in
-      let quiet = still es calm none in
-      let steps = tries_none g (start g) es t.met quiet t.steps.2 refl in
-      let own = idle_behind a.first a.own (subst AreIdle a.events (idle es calm none steps)) in
-      ap (refusal_in g (state_after g es) 1 false after) c
-      ∙ begin_open es after (same_run g (start g) es quiet steps) (idle_log g (state_after g (front [] ++ a.first)) a.own before after own a.log ∙ log)
+    -- where the session and its log stand as at the start
+    begin_open : (es : List Event) (log : Log) → (state_after g es).worker ≡ (start g).worker → log ≡ y.first.log own → refusal_in g (state_after g es) own false log call.Begin ≡ None
+    begin_open es log same is =
+        ap (λ (r : ℕ → Worker). cond (r own).is_open (Some InTransaction) (log_refusal (r own).clock log None)) same ∙ (ap (λ (l : Log). log_refusal g.base l None) is ∙ open_log)
 
-  begins : (d : Deed) (us : List Unsaid) (es : List Event) (before after : Log) → asked d ≡ call.Begin → Tells limits g 1 [] (by_one d us es) → Answers g [] (by_one d us es) before after → before ≡ y.first → HasBegun g d es
-  begins (Begun n) us es before after c t a log =
-      let calm = still es (t.structure refl) t.logs.3 in
-      let tells = begin_tells g (start g) es t.steps.1 t.met calm t.steps.2 in
-      record { deed = ap as_begun (sym (t.told 1) ∙ tells); floor = t.steps.1; session = begun_at g (start g) es t.steps.1 t.met calm t.steps.2 }
-  begins (Aborted d n at backs) us es before after c t a log = let abort : d ≡ call.Abort = t.hindered in absurd (cc)
-  begins (Refused d why backs) us es before after c t a log =
-      absurd (not_refused g [] before after d why backs us es a t refl (omega arith) (begin_refused d why backs us es before after c t a log))
-  begins _ us es before after c t a log = absurd (cc)
-
-  module _ (x : Done) (few : length x.events ≤ 2 ^ 18) (b : HasBegun g x.outcome.deed x.events) where
-    -- behind a commit that is refused the transaction is open as before
-    commit_open : (d : Call) (why : Refusal) (backs : List Step) (us : List Unsaid) (es : List Event) (log : Log) → d ≡ call.Commit → Tells limits g 1 (x ∷ []) (by_one (Refused d why backs) us es) → refusal_in g (state_after g (x.events ++ es)) 1 (is_half_done 1 (x ∷ [])) log d ≡ None
-    commit_open d why backs us es log c t =
+    -- as they do behind a begin that is refused
+    begin_refused : (d : Call) (why : Refusal) (backs : List Step) (us : List Unsaid) (es : List Event) (before after : Log) → d ≡ call.Begin → Tells limits g size.group [] (by own (Refused d why backs) us es) → Answers g [] (by own (Refused d why backs) us es) before after →
+        before ≡ y.first.log own → refusal_in g (state_after g es) own false after d ≡ None
+    begin_refused d why backs us es before after c t a log =
         let calm = t.structure (ap is_change_call c) in
-        let stays = tries_open g (state_after g x.events) es t.met calm t.steps.2 (ap (λ (w : Worker). w.is_open) b.session) in
-        ap (refusal_in g (state_after g (x.events ++ es)) 1 (is_half_done 1 (x ∷ [])) log) c
-        ∙ (ap (λ (half : Bool). in_transaction (state_after g (x.events ++ es)) 1 half None) (half_of_begun x b.deed)
-        ∙ (ap (λ (z : State). cond (z.worker 1).is_open None (Some NoTransaction)) (run_more g (start g) x.events es)
-        ∙ ap (λ (o : Bool). cond o None (Some NoTransaction)) stays))
+        let none = begin_logs g own why (keep is_log es) (not_spent g own [] d why backs us es a.few (omega arith) t.refused) (subst (λ (e : Call). RefusedLogs limits g [] own e why (keep is_log es)) c t.logs) in
+        let quiet = still es calm none in
+        let steps = tries_none g own (start g) es t.met quiet t.steps.2 refl in
+        let idle_own = idle_behind a.first a.own (subst AreIdle a.events (idle es calm none steps)) in
+        ap (refusal_in g (state_after g es) own false after) c
+        ∙ begin_open es after (same_run g own (start g) es quiet steps) (idle_log g own (state_after g (front [] ++ a.first)) a.own before after idle_own (a.log one.0) ∙ log)
 
-    commits : (d : Deed) (us : List Unsaid) (es : List Event) (was is : Log) → asked d ≡ call.Commit → Tells limits g 1 (x ∷ []) (by_one d us es) → Answers g (x ∷ []) (by_one d us es) was is → d ≡ Committed 1 (suc base)
-    commits (Committed n at) us es was is c t a =
-        let due : Bool = leb 1 (behind (run g (state_after g x.events) t.logs.before) 1) in
-        let calm = subst AreStill (sym t.logs.is) (still_flush t.logs.before due 1 at (subst (λ (l : List Event). any is_structure l ≡ false) t.logs.is (t.structure refl)) t.logs.else_none) in
-        let tells = commit_tells g (state_after g x.events) es t.steps.2 t.steps.1 t.met calm t.steps.3 t.steps.4 in
-        ap as_committed (sym (t.told 1) ∙ tells) ∙ (ap (λ (w : Worker). Committed w.txn (suc w.clock)) b.session ∙ ap (λ (n : ℕ). Committed 1 (suc n)) base_is)
-    commits (Aborted d n at backs) us es was is c t a =
-        let abort : d ≡ call.Abort = subst (λ (e : Deed). IsBehind (hindered_in e) x.outcome.session (by_one (Aborted d n at backs) us es).outcome) b.deed t.hindered in
-        absurd (cc)
-    commits (Refused d why backs) us es was is c t a =
-        absurd (not_refused g (x ∷ []) was is d why backs us es a t (ap (λ (e : Deed). due_call (hindered_in e) d) b.deed) few (commit_open d why backs us es is c t))
-    commits _ us es was is c t a = absurd (cc)
+    begins : (d : Deed) (us : List Unsaid) (es : List Event) (before after : Log) → asked d ≡ call.Begin → Tells limits g size.group [] (by own d us es) → Answers g [] (by own d us es) before after → before ≡ y.first.log own →
+        HasBegun g own d es
+    begins (Begun n) us es before after c t a log =
+        let calm = still es (t.structure refl) t.logs.3 in
+        let tells = begin_tells g own (start g) es t.steps.1 t.met calm t.steps.2 in
+        let said = t.told own ∙ own_marks own (marks_for (by own (Begun n) us es).outcome) in
+        record { deed = ap as_begun (sym said ∙ tells); floor = t.steps.1; session = begun_at g own (start g) es t.steps.1 t.met calm t.steps.2 }
+    begins (Aborted d n at backs) us es before after c t a log = let abort : d ≡ call.Abort = t.hindered in absurd (cc)
+    begins (Refused d why backs) us es before after c t a log =
+        absurd (not_refused g size.group own [] before after d why backs us es a t refl (omega arith) (begin_refused d why backs us es before after c t a log))
+    begins _ us es before after c t a log = absurd (cc)
+
+    module _ (x : Done) (few : length x.events ≤ 2 ^ 18) (b : HasBegun g own x.outcome.deed x.events) where
+      -- behind a commit that is refused the transaction is open as before
+      commit_open : (d : Call) (why : Refusal) (backs : List Step) (us : List Unsaid) (es : List Event) (log : Log) → d ≡ call.Commit → Tells limits g size.group (x ∷ []) (by own (Refused d why backs) us es) →
+          refusal_in g (state_after g (x.events ++ es)) own (is_half_done own (x ∷ [])) log d ≡ None
+      commit_open d why backs us es log c t =
+          let calm = t.structure (ap is_change_call c) in
+          let stays = tries_open g own (state_after g x.events) es t.met calm t.steps.2 (ap (λ (w : Worker). w.is_open) b.session) in
+          ap (refusal_in g (state_after g (x.events ++ es)) own (is_half_done own (x ∷ [])) log) c
+          ∙ (ap (λ (half : Bool). in_transaction (state_after g (x.events ++ es)) own half None) (half_of_begun own x b.deed)
+          ∙ (ap (λ (z : State). cond (z.worker own).is_open None (Some NoTransaction)) (run_more g (start g) x.events es)
+          ∙ ap (λ (o : Bool). cond o None (Some NoTransaction)) stays))
+
+      commits : (d : Deed) (us : List Unsaid) (es : List Event) (was is : Log) → asked d ≡ call.Commit → Tells limits g size.group (x ∷ []) (by own d us es) → Answers g (x ∷ []) (by own d us es) was is → d ≡ Committed 1 (suc base)
+      commits (Committed n at) us es was is c t a =
+          let due : Bool = leb size.group (behind (run g (state_after g x.events) t.logs.before) own) in
+          let calm = subst AreStill (sym t.logs.is) (still_flush t.logs.before due own at (subst (λ (l : List Event). any is_structure l ≡ false) t.logs.is (t.structure refl)) t.logs.else_none) in
+          let tells = commit_tells g own (state_after g x.events) es t.steps.2 t.steps.1 t.met calm t.steps.3 t.steps.4 in
+          let said = t.told own ∙ own_marks own (marks_for (by own (Committed n at) us es).outcome) in
+          ap as_committed (sym said ∙ tells) ∙ (ap (λ (w : Worker). Committed w.txn (suc w.clock)) b.session ∙ ap (λ (n : ℕ). Committed 1 (suc n)) base_is)
+      commits (Aborted d n at backs) us es was is c t a =
+          let abort : d ≡ call.Abort = subst (λ (e : Deed). IsBehind (hindered_in e) x.outcome.session (by own (Aborted d n at backs) us es).outcome) b.deed t.hindered in
+          absurd (cc)
+      commits (Refused d why backs) us es was is c t a =
+          absurd (not_refused g size.group own (x ∷ []) was is d why backs us es a t (ap (λ (e : Deed). due_call (hindered_in e) d) b.deed) few (commit_open d why backs us es is c t))
+      commits _ us es was is c t a = absurd (cc)
 
   -- the oldest call is a begin
-  begins_first : (x : Done) (log : Log) → asked x.outcome.deed ≡ call.Begin → Executes g [] y.first (x ∷ []) log → HasBegun g x.outcome.deed x.events
-  begins_first x log asks h =
-      let is = is_by_one x h.2 in
-      begins x.outcome.deed x.outcome.unsaid x.events h.0 log asks (subst (Tells limits g 1 []) is h.3) (subst (λ (z : Done). Answers g [] z h.0 log) is h.4) h.1
+  begins_first : (x : Done) (m : Memory) → IsOneOf (length at.m.heads) x.outcome.session → asked x.outcome.deed ≡ call.Begin → Executes g size.group [] y.first (x ∷ []) m → HasBegun g x.outcome.session x.outcome.deed x.events
+  begins_first x m one asks h =
+      begins x.outcome.session one x.outcome.deed x.outcome.unsaid x.events (h.0.log x.outcome.session) (m.log x.outcome.session) asks h.2.tells h.2.how (ap (λ (k : Memory). k.log x.outcome.session) h.1)
 
 pub every_first_begin : EveryMasterIn → (s : Story) → EveryFirstBegin s
-every_first_begin master s locks base counts later x at y begin =
-    let h = oldest y.opening y.first later (x ∷ []) y.last y.executes in
-    ap answered (begins_first master s locks base at counts (later ++ x ∷ []) y x h.0 begin h.1).deed
+every_first_begin master s size base counts later x at y one begin =
+    let h = oldest y.opening size.group y.first later (x ∷ []) y.last y.executes in
+    ap answered (begins_first master s size base at counts (later ++ x ∷ []) y x h.0 one begin h.1).deed
 
 pub every_first_commit : EveryMasterIn → (s : Story) → EveryFirstCommit s
-every_first_commit master s locks base counts later z x at y begin commit =
-    let h = oldest y.opening y.first later (z ∷ x ∷ []) y.last y.executes in
+every_first_commit master s size base counts later z x at y one same begin commit =
+    let h = oldest y.opening size.group y.first later (z ∷ x ∷ []) y.last y.executes in
     let first = h.1.1 in
     let calls : List Done = later ++ z ∷ x ∷ [] in
-    let is = is_by_one z h.1.2 in
-    let began = begins_first master s locks base at counts calls y x h.1.0 begin first in
-    ap answered (commits master s locks base at counts calls y x first.4.few began z.outcome.deed z.outcome.unsaid z.events h.1.0 h.0 commit
-    (subst (Tells limits y.opening 1 (x ∷ [])) is h.1.3) (subst (λ (d : Done). Answers y.opening (x ∷ []) d h.1.0 h.0) is h.1.4))
+    let own : ℕ = x.outcome.session in
+    let is = is_by own z same in
+    let was : Log = h.1.0.log z.outcome.session in
+    let now : Log = h.0.log z.outcome.session in
+    let began = begins_first master s size base at counts calls y x h.1.0 one begin first in
+    ap answered (commits master s size base at counts calls y own one x first.2.how.few began z.outcome.deed z.outcome.unsaid z.events was now commit
+    (subst (Tells limits y.opening size.group (x ∷ [])) is h.1.2.tells) (subst (λ (d : Done). Answers y.opening (x ∷ []) d was now) is h.1.2.how))

@@ -1,5 +1,5 @@
 -- What the next run may rest on, where a crash cut off a run on a disk in memory.
-use Rattle.std.specs.Prelude.{◌≡◌, ◌⊎◌, ◌≤◌, ◌<◌, ◌+◌, ◌^◌, ℕ, List, length, IsTrue}
+use Rattle.std.specs.Prelude.{◌≡◌, ◌⊎◌, ◌≤◌, ◌<◌, ◌+◌, ◌^◌, ℕ, List, length, IsTrue, Some}
 use Rattle.lean_disk.specs.MemDisk.{disk_story}
 use Rattle.lean_disk.specs.Story.{Crash, Story, areas_of}
 use Rattle.lean_disk.specs.Told.{Begins, BeginsAfter}
@@ -7,11 +7,13 @@ use Rattle.lean_disk.specs.declared.mem_disk.MemDisk.{MemDisk}
 use Rattle.lean_edge.specs.Outside.{Feed, Held}
 use Rattle.disk_slots.specs.declared.master.Master.{Master}
 use Rattle.disk_image.specs.Fair.{IsFairCrash}
+use Rattle.disk_image.specs.MasterSlots.{master_on}
 use Rattle.disk_image.specs.Shown.{Areas, IsCleanDisk}
-use Rattle.recovery.specs.Crashes.{IsNextOf}
+use Rattle.lean_engine.specs.declared.engine.Size.{Size}
 use Rattle.lean_shell.specs.Crashes.{IsYoung, TellsCrashes}
 use Rattle.lean_shell.specs.Ends.{RunEnds}
 use Rattle.lean_shell.specs.Headline.{Headline, Survives}
+use Rattle.lean_shell.specs.Starts.{IsOfOpening}
 
 -- A run on a clean disk on which no call was made yet, and the disk that a crash at some moment of it left, an image that is fair.
 pub record IsCutOff (m : Master) (first last left : MemDisk) : Type 0 where
@@ -19,10 +21,10 @@ pub record IsCutOff (m : Master) (first last left : MemDisk) : Type 0 where
   pub bytes : Areas
   pub begins : Begins areas bytes (disk_story first)
   pub clean : IsCleanDisk m (areas_of (disk_story first))
-  pub sequence : m.sequence + 1 < 2 ^ 62
+  pub sequence : m.sequence < 2 ^ 62
   pub generation : m.generation + 1 < 2 ^ 62
   -- the run
-  pub locks : ℕ
+  pub size : Size
   pub status : ℕ
   pub feed : Feed
   pub feed_after : Feed
@@ -30,24 +32,26 @@ pub record IsCutOff (m : Master) (first last left : MemDisk) : Type 0 where
   pub held_after : Held
   pub sink : ℕ
   pub sink_after : ℕ
-  pub ends : RunEnds locks status (disk_story first) (disk_story last) feed feed_after held held_after sink sink_after
+  pub ends : RunEnds size status (disk_story first) (disk_story last) feed feed_after held held_after sink sink_after
   pub script : IsTrue feed.tells
   pub headline : Headline (disk_story first) (disk_story last) feed.left ends.put
   -- the crash
   pub moment : ℕ
   pub by_now : moment ≤ (disk_story last).moment
   pub after : BeginsAfter moment (disk_story last) (disk_story left)
+  -- each sync of the run wrote a master, with the next sequence number
+  pub sequence_after : (n : Master) → master_on (areas_of (disk_story left) 0) ≡ Some n → n.sequence < 2 ^ 62
   pub fair : (c : Crash) → (disk_story last).left_at moment c → c.image ≡ areas_of (disk_story left) → IsFairCrash (length m.heads) (disk_story first) c
 
 -- The disk stands for what it stood for, or for what the headline says of a crash.
 abbrev pub IsOfMap : (m : Master) (first : Story) (input output : List ℕ) (area : Areas) → Type 0
 IsOfMap m first input output area = (area ≡ areas_of first) ⊎ ((c : Crash) × (c.image ≡ area) × Survives m first input output c)
 
--- What a run asks of its disk holds, by the same master or the one that the run before wrote.
+-- What a run of any size asks of its disk holds, by the same master or one that the run before wrote.
 pub record IsReadyAgain (m : Master) (first left : Story) (input output : List ℕ) : Type 0 where
   pub n : Master
-  pub is : (n ≡ m) ⊎ IsNextOf m (areas_of first) n
-  pub tells : TellsCrashes left
+  pub is : (n ≡ m) ⊎ IsOfOpening m (areas_of first) n
+  pub tells : (most : ℕ) → TellsCrashes most left
   pub clean : IsCleanDisk n (areas_of left)
   pub young : IsYoung n left
   pub map : IsOfMap m first input output (areas_of left)

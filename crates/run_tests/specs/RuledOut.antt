@@ -18,13 +18,15 @@ use Rattle.disk_image.specs.MasterSlots.{master_on}
 use Rattle.disk_image.specs.Shown.{Areas, image_by}
 use Rattle.core_state.specs.Openings.{Opening}
 use Rattle.core_state.specs.Events.{Event}
-use Rattle.engine_trait.specs.Limits.{AreLoads}
+use Rattle.engine_trait.specs.Rooms.{AreForSync}
+use Rattle.engine_trait.specs.Turns.{IsHindered}
 use Rattle.recovery.specs.Opened.{IsGreatest}
 use Rattle.recovery.specs.Telling.{TellsAll}
 use Rattle.script_lang.specs.Lines.{Spells, line_of}
 use Rattle.script_lang.specs.Text.{script_lines}
 use Rattle.script_lang.specs.declared.line.Line.{Line}
 use Rattle.transcripts.specs.Transcripts.{durables, first_lines}
+use Rattle.lean_engine.specs.declared.engine.Size.{Size}
 use Rattle.lean_shell.specs.Headline.{Survives}
 use Rattle.lean_shell.specs.Runs.{Counts, Executed}
 use Rattle.lean_shell.specs.Starts.{IsRoomOfNext}
@@ -46,17 +48,17 @@ Writes (call.Put k value) key = k ≡ key
 Writes (call.Del k) key = k ≡ key
 Writes _ key = ⊥
 
--- a line of the script asks for it
-pub record AsksToWrite (input : List ℕ) (key : ℕ) : Type 0 where
+-- a line of the script asks for it, of one of so many sessions
+pub record AsksToWrite (sessions : ℕ) (input : List ℕ) (key : ℕ) : Type 0 where
   pub text : List ℕ
   pub has : Has text (script_lines input)
   pub line : Line
-  pub is : line_of 1 text ≡ Some line
+  pub is : line_of sessions text ≡ Some line
   pub writes : Writes line.call key
 
 -- A key that no line of the script asks to write has the value that it had on entry, wherever the crash falls.
 abbrev pub EveryOtherKeyStands : Story → Type 0
-EveryOtherKeyStands s = (m : Master) (input output : List ℕ) (c : Crash) (x : Survives m s input output c) (key : ℕ) → (AsksToWrite input key → ⊥) →
+EveryOtherKeyStands s = (m : Master) (input output : List ℕ) (c : Crash) (x : Survives m s input output c) (key : ℕ) → (AsksToWrite (length m.heads) input key → ⊥) →
     map_of (image_by x.n c.image) key ≡ map_of (image_by m (areas_of s)) key
 
 -- among these records is the transaction's commit, with its number
@@ -83,32 +85,38 @@ EveryDurableIsFound s = (m : Master) (input output : List ℕ) (c : Crash) (x : 
 
 -- ## The first calls
 
--- The disk tells of its areas, and by its master no number is greater than this one, which is below the end of the clock.
-pub record BeginsAt (s : Story) (base : ℕ) : Type 0 where
-  pub tells : TellsAll 1 s
+-- one of so many sessions
+abbrev pub IsOneOf : (sessions session : ℕ) → Type 0
+IsOneOf sessions session = (0 < session) × (session ≤ sessions)
+
+-- The disk tells of its areas, with at most so many logs, and by its master no number is greater than this one, which is below the end of the clock.
+pub record BeginsAt (most : ℕ) (s : Story) (base : ℕ) : Type 0 where
+  pub tells : TellsAll most s
   pub m : Master
   pub master : master_on (areas_of s 0) ≡ Some m
   pub greatest : IsGreatest (image_by m (areas_of s)) base
   pub below : base < 2 ^ 62
 
--- A begin that comes first is answered by number 1: it is not refused, whatever comes later.
+-- A begin of a session of the disk that comes first is answered by number 1: it is not refused, whatever comes later.
 abbrev pub EveryFirstBegin : Story → Type 0
-EveryFirstBegin s = (locks base : ℕ) (counts : Counts) (later : List Done) (begin : Done) → BeginsAt s base → Executed locks s counts (later ++ begin ∷ []) → asked begin.outcome.deed ≡ call.Begin →
-    answered begin.outcome.deed ≡ answer.Begun 1
+EveryFirstBegin s = (size : Size) (base : ℕ) (counts : Counts) (later : List Done) (begin : Done) (x : BeginsAt size.sessions s base) → Executed size s counts (later ++ begin ∷ []) →
+    IsOneOf (length x.m.heads) begin.outcome.session → asked begin.outcome.deed ≡ call.Begin → answered begin.outcome.deed ≡ answer.Begun 1
 
--- A commit behind it has the number behind the greatest.
+-- A commit of it behind that has the number behind the greatest.
 abbrev pub EveryFirstCommit : Story → Type 0
-EveryFirstCommit s = (locks base : ℕ) (counts : Counts) (later : List Done) (commit begin : Done) → BeginsAt s base → Executed locks s counts (later ++ commit ∷ begin ∷ []) →
-    asked begin.outcome.deed ≡ call.Begin → asked commit.outcome.deed ≡ call.Commit → answered commit.outcome.deed ≡ answer.Committed 1 (suc base)
+EveryFirstCommit s = (size : Size) (base : ℕ) (counts : Counts) (later : List Done) (commit begin : Done) (x : BeginsAt size.sessions s base) → Executed size s counts (later ++ commit ∷ begin ∷ []) →
+    IsOneOf (length x.m.heads) begin.outcome.session → commit.outcome.session ≡ begin.outcome.session → asked begin.outcome.deed ≡ call.Begin → asked commit.outcome.deed ≡ call.Commit →
+    answered commit.outcome.deed ≡ answer.Committed 1 (suc base)
 
 -- ## Calls that were not answered
 
--- a line of the script is such a call
-pub record Asks (Such : Call → Type 0) (input : List ℕ) : Type 0 where
+-- a line of the script is such a call, of one of so many sessions
+pub record Asks (sessions : ℕ) (Such : Call → Type 0) (input : List ℕ) : Type 0 where
   pub text : List ℕ
   pub has : Has text (script_lines input)
+  pub session : ℕ
   pub call : Call
-  pub spelled : Spells 1 text (record { session = 1; call = call })
+  pub spelled : Spells sessions text (record { session = session; call = call })
   pub such : Such call
 
 abbrev pub IsPut : Call → Type 0
@@ -128,15 +136,15 @@ abbrev pub is_back : Event → Bool
 is_back (Event.Put_back w p) = true
 is_back _ = false
 
--- Where no line is a put, it leaves no change of the tree; where none is an abort, nothing that is put back; and where none is a put, a del or an abort, it
--- loaded pages.
-pub record StoppedLaws (input : List ℕ) (es : List Event) : Type 0 where
-  pub structure : (Asks IsPut input → ⊥) → any is_structure es ≡ false
-  pub backs : (Asks IsAbort input → ⊥) → any is_back es ≡ false
-  pub loads : (Asks IsPut input → ⊥) → (Asks IsDel input → ⊥) → (Asks IsAbort input → ⊥) → AreLoads es
+-- Where no line is a put, it leaves no change of the tree; where none is an abort and the newest call met no conflict, nothing that is put back; and where
+-- none is a put, a del or an abort and it met none, it loaded pages and flushed logs.
+pub record StoppedLaws (sessions : ℕ) (input : List ℕ) (heard : List Done) (es : List Event) : Type 0 where
+  pub structure : (Asks sessions IsPut input → ⊥) → any is_structure es ≡ false
+  pub backs : (Asks sessions IsAbort input → ⊥) → (IsHindered heard → ⊥) → any is_back es ≡ false
+  pub for_sync : (Asks sessions IsPut input → ⊥) → (Asks sessions IsDel input → ⊥) → (Asks sessions IsAbort input → ⊥) → (IsHindered heard → ⊥) → AreForSync es
 
 abbrev pub EveryStoppedCall : Type 0
-EveryStoppedCall = (input : List ℕ) (g : Opening) (heard : List Done) (es : List Event) → IsRoomOfNext input g heard es → StoppedLaws input es
+EveryStoppedCall = (input : List ℕ) (g : Opening) (heard : List Done) (es : List Event) → IsRoomOfNext input g heard es → StoppedLaws g.workers input heard es
 
 -- ## What a disk holds
 

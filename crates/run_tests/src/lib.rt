@@ -71,6 +71,8 @@ mod runs;
 #[cfg(test)]
 mod scripts;
 #[cfg(test)]
+mod sessions;
+#[cfg(test)]
 mod sweeps;
 #[cfg(test)]
 mod trees;

@@ -25,6 +25,18 @@ pub(crate) static FORMAT: [&str; 8] = [
     "64",
 ];
 
+/// The same for two sessions.
+pub(crate) static FORMAT_TWO: [&str; 8] = [
+    "lean",
+    "format",
+    "--workers",
+    "2",
+    "--pages",
+    "16",
+    "--blocks",
+    "64",
+];
+
 /// What refused memory is called.
 pub(crate) const MEMORY: &str = "memory";
 
@@ -118,13 +130,13 @@ pub(crate) fn failing<R: Abort>(
     disk
 }
 
-/// The disk that a format makes.
+/// The disk that a format makes, for up to four sessions.
 pub(crate) fn formatted<R: Threads + Wait + Sync + Abort>(
     rt: &R,
     alloc: Global,
     command: &[&str],
 ) -> MemDisk {
-    let disk = MemDisk::new(alloc, 3).expect(rt, MEMORY);
+    let disk = MemDisk::new(alloc, 6).expect(rt, MEMORY);
     at_rest(rt, &run_command(rt, alloc, command, "", disk).disk)
 }
 

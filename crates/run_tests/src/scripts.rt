@@ -441,3 +441,104 @@ pub(crate) static SPLITS: Script = Script {
         faults!("SPLITS, log", 2, 9, 11, [8, 9, 1, 8, 8, 2]),
     ],
 };
+
+/// Two sessions, whose commits are flushed in groups of two, and a sync. The opening makes 43 calls: a sync and a read more than on a disk of one
+/// log. Both commits wait for the sync, which writes and syncs each log and then a master. The first one is kept from the sync of the first
+/// log on, the second one from that of its own.
+pub(crate) static SYNC: Script = Script {
+    command: &["lean", "run", "--group", "2"],
+    text: "1 begin\n1 put 5 7\n1 commit\n2 begin\n2 put 6 8\n2 commit\nsync\n",
+    lines: "open 1 winners 0 undone 0\n1 begun 1.1\n1 was none\n1 committed 1.1 at 2\n2 begun 2.1\n2 was none\n2 committed 2.1 at 3\nsynced 3\n1 durable 1.1\n2 durable 2.1\n",
+    next: GETS,
+    finds: &[
+        find!(
+            "open 1 winners 0 undone 0\n1 begun 1.1\n1 none\n1 none\n",
+            0,
+            0,
+            1
+        ),
+        find!(
+            "open 2 winners 0 undone 0\n1 begun 1.1\n1 none\n1 none\n",
+            0,
+            0,
+            9
+        ),
+        find!(
+            "open 2 winners 1 undone 0\n1 begun 1.1\n1 value 7\n1 none\n",
+            1,
+            7,
+            10
+        ),
+        find!(
+            "open 2 winners 2 undone 0\n1 begun 1.1\n1 value 7\n1 value 8\n",
+            2,
+            7,
+            MANY
+        ),
+    ],
+    sweeps: &[
+        sweep!("SYNC, no bytes", NoBytes, 1, [43, 9, 2, 6]),
+        sweep!("SYNC, all bytes", AllBytes, 1, [42, 9, 2, 7]),
+        sweep!("SYNC, halves", FirstHalf, 1, [43, 9, 2, 6]),
+        sweep!("SYNC, zeros", Zeros, 1, [43, 9, 2, 6]),
+    ],
+    failures: &[
+        faults!("SYNC, masters", 0, 7, 7, [18, 2, 0, 8]),
+        faults!("SYNC, pages", 1, 34, 0, [136, 0, 0, 0]),
+        faults!("SYNC, the first log", 2, 4, 7, [8, 6, 2, 0]),
+        faults!("SYNC, the second log", 3, 4, 7, [8, 0, 6, 2]),
+    ],
+};
+
+/// Its dumps.
+pub(crate) static SYNC_MAPS: [&str; 3] = ["end\n", "pair 5 7\nend\n", "pair 5 7\npair 6 8\nend\n"];
+
+/// A session meets a conflict and is aborted, and its next transaction commits behind a change of the other log, so it is durable with the
+/// commit there. Where the second log has it and the first one nothing, it is undone, and so is the aborted one, whose end needs that change too.
+pub(crate) static CONFLICT: Script = Script {
+    command: &["lean", "run"],
+    text: "1 begin\n1 put 5 7\n2 begin\n2 put 6 1\n2 get 5\n2 begin\n2 put 6 8\n2 commit\n1 commit\n",
+    lines: "open 1 winners 0 undone 0\n1 begun 1.1\n1 was none\n2 begun 2.1\n2 was none\n2 conflict 1\n2 aborted 2.1\n2 begun 2.2\n2 was none\n2 committed 2.2 at 6\n1 committed 1.1 at 2\n1 durable 1.1\n2 durable 2.2\n",
+    next: GETS,
+    finds: &[
+        find!(
+            "open 1 winners 0 undone 0\n1 begun 1.1\n1 none\n1 none\n",
+            0,
+            0,
+            1
+        ),
+        find!(
+            "open 2 winners 0 undone 0\n1 begun 1.1\n1 none\n1 none\n",
+            0,
+            0,
+            12
+        ),
+        find!(
+            "open 2 winners 0 undone 2\n1 begun 1.1\n1 none\n1 none\n",
+            0,
+            9,
+            12
+        ),
+        find!(
+            "open 2 winners 2 undone 0\n1 begun 1.1\n1 value 7\n1 value 8\n",
+            1,
+            10,
+            MANY
+        ),
+    ],
+    sweeps: &[
+        sweep!("CONFLICT, no bytes", NoBytes, 1, [43, 11, 3, 4]),
+        sweep!("CONFLICT, all bytes", AllBytes, 1, [42, 11, 3, 5]),
+        sweep!("CONFLICT, halves", FirstHalf, 1, [43, 11, 3, 4]),
+        sweep!("CONFLICT, zeros", Zeros, 1, [43, 11, 3, 4]),
+    ],
+    failures: &[
+        faults!("CONFLICT, masters", 0, 5, 0, [18, 2, 0, 0]),
+        faults!("CONFLICT, pages", 1, 34, 0, [136, 0, 0, 0]),
+        faults!("CONFLICT, the first log", 2, 4, 10, [8, 0, 6, 2]),
+        faults!("CONFLICT, the second log", 3, 4, 9, [8, 6, 2, 0]),
+    ],
+};
+
+/// Its dumps.
+pub(crate) static CONFLICT_MAPS: [&str; 2] = ["end\n", "pair 5 7\npair 6 8\nend\n"];

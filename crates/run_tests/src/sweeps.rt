@@ -1,12 +1,13 @@
 // Runs that are crashed at each moment, and runs of which each call of the disk fails: what is found then.
 use crate::cases::expect;
 use crate::runs::{
-    FORMAT, MEMORY, Outcome, at_rest, copies_of, count_lines, count_up_to, crashed, dumped,
-    failing, formatted, run_command, run_into, run_script,
+    FORMAT, FORMAT_TWO, MEMORY, Outcome, at_rest, copies_of, count_lines, count_up_to, crashed,
+    dumped, failing, formatted, run_command, run_into, run_script,
 };
 use crate::scripts::{
-    ABORT, ABORT_MAPS, Crashes, DUMP, Failures, Find, LONG_ABORT, LONG_ABORT_MAPS, OPENING, PUT,
-    PUT_MAPS, SIX, SIX_MAPS, SPLITS, Script, Sweep, TWO_MAPS, TWO_TEXT,
+    ABORT, ABORT_MAPS, CONFLICT, CONFLICT_MAPS, Crashes, DUMP, Failures, Find, LONG_ABORT,
+    LONG_ABORT_MAPS, OPENING, PUT, PUT_MAPS, SIX, SIX_MAPS, SPLITS, SYNC, SYNC_MAPS, Script, Sweep,
+    TWO_MAPS, TWO_TEXT,
 };
 use crate::trees::{grown, maps_of_splits};
 use lean_disk::{Choice, MemDisk};
@@ -253,6 +254,15 @@ fn what_dels_and_aborts_told_is_kept(rt: HostRuntime) {
     go(&rt, rt.alloc(), &ABORT, &new, &maps);
     let maps = copies_of(&rt, rt.alloc(), &LONG_ABORT_MAPS);
     go(&rt, rt.alloc(), &LONG_ABORT, &new, &maps);
+}
+
+#[test]
+fn what_two_sessions_told_is_kept(rt: HostRuntime) {
+    let new = formatted(&rt, rt.alloc(), &FORMAT_TWO);
+    let maps = copies_of(&rt, rt.alloc(), &SYNC_MAPS);
+    go(&rt, rt.alloc(), &SYNC, &new, &maps);
+    let maps = copies_of(&rt, rt.alloc(), &CONFLICT_MAPS);
+    go(&rt, rt.alloc(), &CONFLICT, &new, &maps);
 }
 
 #[test]

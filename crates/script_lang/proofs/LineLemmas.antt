@@ -7,10 +7,10 @@ use Rattle.std.proofs.lemmas.Fmt.{length-decimal-le}
 use Rattle.std.specs.Str.{bytes_eq}
 use Rattle.std.specs.Fmt.{decimal}
 use Rattle.script_lang.specs.Words.{first_word, after_word, number_of, ranged, word, rest, ends, with_one, with_two}
-use Rattle.script_lang.specs.Lines.{call_text, line_text, CallFits, Spells, key_of, put_of, lone_verb_of, verb_of, line_with, line_of}
+use Rattle.script_lang.specs.Lines.{call_text, text_by, IsSessionOf, CallFits, Spells, key_of, put_of, lone_verb_of, verb_of, line_with, sync_line, line_of}
 use Rattle.script_lang.specs.declared.line.Line.{Line}
 use Rattle.map_model.specs.declared.call.Call.{Call}
-use Rattle.map_model.specs.declared.call.Call.TheVariants.{Begin, Get, Put, Del, Commit, Abort}
+use Rattle.map_model.specs.declared.call.Call.TheVariants.{Begin, Get, Put, Del, Commit, Abort, Sync}
 use Rattle.script_lang.proofs.NumberLemmas.{word_number, word_last, after_last, word_before, after_before, Joins, joins, guard, number_is, number_spelled, ranged_is, in_range}
 
 -- what is spelled is read
@@ -20,13 +20,37 @@ key_read k h =
     let w = word_number k small in
     rw (word_last (decimal k) w, after_last (decimal k) w, number_is k small, ranged_is 0 (2 ^ 64 - 1) k (omega arith) h) refl
 
-pub call_read : (call : Call) → CallFits call → verb_of (Some (call_text call)) ≡ Some call
-call_read Begin h = refl
-call_read Commit h = refl
-call_read Abort h = refl
-call_read (Get k) h = ap (option_map Get) (key_read k h)
-call_read (Del k) h = ap (option_map Del) (key_read k h)
-call_read (Put k v) h =
+-- a session asks this call: it is no sync
+abbrev pub HasSession : Call → Type 0
+HasSession Sync = ⊥
+HasSession _ = Unit {0}
+
+pub record IsAsked (workers session : ℕ) (call : Call) : Type 0 where
+  pub session_asks : HasSession call
+  pub first : 1 ≤ session
+  pub last : session ≤ workers
+
+pub of_session : (workers s : ℕ) (call : Call) → IsSessionOf workers s call → ((s ≡ 0) × (call ≡ Sync)) ⊎ IsAsked workers s call
+of_session workers s Sync is = inl (is, refl)
+of_session workers s _ is = inr (record { session_asks = tt; first = is.0; last = is.1 })
+
+session_of : (workers s : ℕ) (call : Call) → HasSession call → 1 ≤ s → s ≤ workers → IsSessionOf workers s call
+session_of workers s Sync has first last = absurd has
+session_of workers s _ has first last = (first, last)
+
+-- its number stands before it
+pub with_session : (s : ℕ) (call : Call) → HasSession call → text_by s call ≡ decimal s ++ 32 ∷ call_text call
+with_session s Sync has = absurd has
+with_session s _ has = refl
+
+call_read : (call : Call) → CallFits call → HasSession call → verb_of (Some (call_text call)) ≡ Some call
+call_read Begin h has = refl
+call_read Commit h has = refl
+call_read Abort h has = refl
+call_read Sync h has = absurd has
+call_read (Get k) h has = ap (option_map Get) (key_read k h)
+call_read (Del k) h has = ap (option_map Del) (key_read k h)
+call_read (Put k v) h has =
     let key : k < 2 ^ 64 - 1 = h.0 in
     let value : v < 2 ^ 63 = h.1 in
     let small : k < 2 ^ 64 = omega arith in
@@ -43,12 +67,13 @@ call_read (Put k v) h =
       number_is v fits,
       ranged_is 0 (2 ^ 63) v (omega arith) value,
     ) refl
-call_read _ h = absurd h
+call_read _ h has = absurd h
 
 call_short : (call : Call) → CallFits call → length (call_text call) ≤ 50
 call_short Begin h = omega arith
 call_short Commit h = omega arith
 call_short Abort h = omega arith
+call_short Sync h = omega arith
 call_short (Get k) h = let key : k < 2 ^ 64 - 1 = h in let l = length-decimal-le 20 k (omega arith) (omega arith) (omega arith) in omega arith
 call_short (Del k) h = let key : k < 2 ^ 64 - 1 = h in let l = length-decimal-le 20 k (omega arith) (omega arith) (omega arith) in omega arith
 call_short (Put k v) h =
@@ -59,24 +84,6 @@ call_short (Put k v) h =
     let e = length-append (decimal k) (32 ∷ decimal v) in omega arith
 call_short _ h = absurd h
 
-pub line_read : (workers : ℕ) (bytes : List ℕ) (line : Line) → workers < 2 ^ 32 → Spells workers bytes line → line_of workers bytes ≡ Some line
-line_read workers bytes line many is =
-    let s : ℕ = line.session in
-    let call : Call = line.call in
-    let first : 1 ≤ s = is.first in
-    let last : s ≤ workers = is.last in
-    let small : s < 2 ^ 64 = omega arith in
-    let w = word_number s small in
-    let text : List ℕ = call_text call in
-    let l = length-decimal-le 20 s (omega arith) (omega arith) small in
-    let m = call_short call is.call in
-    let e = length-append (decimal s) (32 ∷ text) in
-    let short : length (line_text line) ≤ 80 = omega arith in
-    let no : nat_lt 80 (length (line_text line)) ≡ false = grind (arith, nat_tests) in
-    let P : List ℕ → Type 0 = λ bytes. line_of workers bytes ≡ Some line in
-    subst P (sym is.spelled) (rw (no, word_before (decimal s) text w, after_before (decimal s) text w, number_is s small, ranged_is 1 (workers + 1) s first (omega arith), call_read call is.call) refl)
-
--- what is read was spelled
 split : {A : Type 0} (b : Bool) (x y : Option A) (a : A) → cond b x y ≡ Some a → ((b ≡ true) × (x ≡ Some a)) ⊎ (y ≡ Some a)
 split true x y a e = inl (refl, e)
 split false x y a e = inr e
@@ -87,6 +94,46 @@ same xs ys e = (bytes_eq-Decides xs ys).0 e
 pub differ : (xs ys : List ℕ) → bytes_eq xs ys ≡ false → xs ≡ ys → ⊥
 differ xs ys unlike e = true≢false (sym ((bytes_eq-Decides xs ys).1 e) ∙ unlike)
 
+-- what begins with a number is no sync
+pub no_sync : (bytes : List ℕ) (n : ℕ) → number_of (first_word bytes) ≡ Some n → bytes_eq bytes (codes "sync") ≡ false
+no_sync bytes n e = at (bytes_eq bytes (codes "sync")) refl
+  where
+    at : (b : Bool) → bytes_eq bytes (codes "sync") ≡ b → bytes_eq bytes (codes "sync") ≡ false
+    at false is = is
+    at true is = absurd (let no : None ≡ Some n = ap (λ (ws : List ℕ). number_of (first_word ws)) (sym (same bytes (codes "sync") is)) ∙ e in cc)
+
+abbrev line_by : ℕ → Call → Line
+line_by s call = record { session = s; call = call }
+
+sync_read : (workers : ℕ) (bytes : List ℕ) (s : ℕ) (call : Call) → s ≡ 0 → call ≡ Sync → bytes ≡ text_by s call → line_of workers bytes ≡ Some (line_by s call)
+sync_read workers bytes s call none is spelled =
+    let read : line_of workers bytes ≡ Some sync_line = ap (line_of workers) (spelled ∙ ap (text_by s) is) in
+    read ∙ ap (λ (s : ℕ). Some (line_by s Sync)) (sym none) ∙ ap (λ (call : Call). Some (line_by s call)) (sym is)
+
+asked_read : (workers : ℕ) (bytes : List ℕ) (s : ℕ) (call : Call) → workers < 2 ^ 32 → IsAsked workers s call → CallFits call → bytes ≡ text_by s call → line_of workers bytes ≡ Some (line_by s call)
+asked_read workers bytes s call many is fits spelled =
+    let first : 1 ≤ s = is.first in
+    let last : s ≤ workers = is.last in
+    let small : s < 2 ^ 64 = omega arith in
+    let w = word_number s small in
+    let text : List ℕ = call_text call in
+    let l = length-decimal-le 20 s (omega arith) (omega arith) small in
+    let m = call_short call fits in
+    let e = length-append (decimal s) (32 ∷ text) in
+    let short : length (decimal s ++ 32 ∷ text) ≤ 80 = omega arith in
+    let no : nat_lt 80 (length (decimal s ++ 32 ∷ text)) ≡ false = grind (arith, nat_tests) in
+    let number : number_of (first_word (decimal s ++ 32 ∷ text)) ≡ Some s = rw (word_before (decimal s) text w) (number_is s small) in
+    let unlike : bytes_eq (decimal s ++ 32 ∷ text) (codes "sync") ≡ false = no_sync (decimal s ++ 32 ∷ text) s number in
+    let P : List ℕ → Type 0 = λ bytes. line_of workers bytes ≡ Some (line_by s call) in
+    subst P (sym (spelled ∙ with_session s call is.session_asks))
+    (rw (no, unlike, number, after_before (decimal s) text w, ranged_is 1 (workers + 1) s first (omega arith), call_read call fits is.session_asks) refl)
+
+pub line_read : (workers : ℕ) (bytes : List ℕ) (line : Line) → workers < 2 ^ 32 → Spells workers bytes line → line_of workers bytes ≡ Some line
+line_read workers bytes line many is =
+    ⊎_elim (λ h. sync_read workers bytes line.session line.call h.0 h.1 is.spelled) (λ a. asked_read workers bytes line.session line.call many a is.call is.spelled)
+    (of_session workers line.session line.call is.session)
+
+-- what is read was spelled
 ends_is : {A : Type 0} (x y : A) (left : Option (List ℕ)) → ends x left ≡ Some y → (x ≡ y) × (left ≡ None)
 ends_is x y None e = let s : x ≡ y = cc in (s, refl)
 ends_is x y (Some more) e = cc
@@ -102,6 +149,7 @@ then_word bytes word more is some = subst (λ (r : Option (List ℕ)). Joins byt
 pub record Says (words : Option (List ℕ)) (call : Call) : Type 0 where
   pub spelled : words ≡ Some (call_text call)
   pub fits : CallFits call
+  pub session : HasSession call
 
 pub record OneIs {A : Type 0} (f : ℕ → A) (n : Option ℕ) (left : Option (List ℕ)) (a : A) : Type 0 where
   pub number : ℕ
@@ -123,12 +171,12 @@ two_are f None n left a e = cc
 two_are f (Some m) n left a e = record { first = m; is = refl; second = one_is (f m) n left a e }
 
 -- a verb alone
-lone_says : (c : Call) (verb ws : List ℕ) (call : Call) → call_text c ≡ verb → CallFits c → bytes_eq (first_word ws) verb ≡ true → ends c (after_word ws) ≡ Some call → Says (Some ws) call × (ws ≡ verb)
-lone_says c verb ws call text fits is e =
+lone_says : (c : Call) (verb ws : List ℕ) (call : Call) → call_text c ≡ verb → CallFits c → HasSession c → bytes_eq (first_word ws) verb ≡ true → ends c (after_word ws) ≡ Some call → Says (Some ws) call × (ws ≡ verb)
+lone_says c verb ws call text fits has is e =
     let h = ends_is c call (after_word ws) e in
     let words : ws ≡ verb = last_word ws verb (same (first_word ws) verb is) h.1 in
     let P : Call → Type 0 = λ call. Says (Some ws) call in
-    (subst P h.0 (record { spelled = ap (λ (w : List ℕ). Some w) (words ∙ sym text); fits = fits }), words)
+    (subst P h.0 (record { spelled = ap (λ (w : List ℕ). Some w) (words ∙ sym text); fits = fits; session = has }), words)
 
 -- a key that is the last word
 pub record KeyIs (words : List ℕ) (key : ℕ) : Type 0 where
@@ -144,10 +192,10 @@ key_is more key e =
     subst P o.made (record { spelled = last_word more (decimal o.number) n.0 o.last; fits = r.under })
 
 -- a verb and a key
-key_says : (c : ℕ → Call) (verb ws : List ℕ) (call : Call) (more : Option (List ℕ)) → ((k : ℕ) → call_text (c k) ≡ verb ++ 32 ∷ decimal k) → ((k : ℕ) → k < 2 ^ 64 - 1 → CallFits (c k))
+key_says : (c : ℕ → Call) (verb ws : List ℕ) (call : Call) (more : Option (List ℕ)) → ((k : ℕ) → call_text (c k) ≡ verb ++ 32 ∷ decimal k) → ((k : ℕ) → k < 2 ^ 64 - 1 → CallFits (c k)) → ((k : ℕ) → HasSession (c k))
     → after_word ws ≡ more → bytes_eq (first_word ws) verb ≡ true → option_map c (key_of more) ≡ Some call → Says (Some ws) call
-key_says c verb ws call None text fits after is e = cc
-key_says c verb ws call (Some more) text fits after is e = at (key_of (Some more)) refl e
+key_says c verb ws call None text fits has after is e = cc
+key_says c verb ws call (Some more) text fits has after is e = at (key_of (Some more)) refl e
   where
     at : (key : Option ℕ) → key_of (Some more) ≡ key → option_map c key ≡ Some call → Says (Some ws) call
     at None read e = cc
@@ -156,7 +204,7 @@ key_says c verb ws call (Some more) text fits after is e = at (key_of (Some more
         let made : c k ≡ call = cc in
         let words : ws ≡ verb ++ 32 ∷ more = then_word ws verb more (same (first_word ws) verb is) after in
         let P : Call → Type 0 = λ call. Says (Some ws) call in
-        subst P made (record { spelled = ap (λ (w : List ℕ). Some w) (words ∙ ap (λ (w : List ℕ). verb ++ 32 ∷ w) h.spelled ∙ sym (text k)); fits = fits k h.fits })
+        subst P made (record { spelled = ap (λ (w : List ℕ). Some w) (words ∙ ap (λ (w : List ℕ). verb ++ 32 ∷ w) h.spelled ∙ sym (text k)); fits = fits k h.fits; session = has k })
 
 -- the second number of a put
 value_says : (k : ℕ) (more : List ℕ) (left : Option (List ℕ)) (call : Call) → after_word more ≡ left → first_word more ≡ decimal k
@@ -180,7 +228,7 @@ put_says ws call (Some more) after is e =
     let s = value_says k more (after_word more) call refl n.0 t.second in
     let text : ws ≡ codes "put" ++ 32 ∷ more = then_word ws (codes "put") more (same (first_word ws) (codes "put") is) after in
     let P : Call → Type 0 = λ call. Says (Some ws) call in
-    subst P s.3 (record { spelled = ap (λ (w : List ℕ). Some w) (text ∙ ap (λ (w : List ℕ). codes "put" ++ 32 ∷ w) s.1); fits = (r.under, s.2) })
+    subst P s.3 (record { spelled = ap (λ (w : List ℕ). Some w) (text ∙ ap (λ (w : List ℕ). codes "put" ++ 32 ∷ w) s.1); fits = (r.under, s.2); session = tt })
 
 abbrev abort_tail : List ℕ → Option Call
 abort_tail ws = cond (bytes_eq (first_word ws) (codes "abort")) (ends Abort (after_word ws)) None
@@ -195,10 +243,10 @@ pub record LoneSays (ws : List ℕ) (call : Call) : Type 0 where
 
 lone_verb_says : (ws : List ℕ) (call : Call) → lone_verb_of (Some ws) ≡ Some call → LoneSays ws call
 lone_verb_says ws call e =
-    ⊎_elim (λ h. let s = lone_says Begin (codes "begin") ws call refl tt h.0 h.1 in record { says = s.0; one = inl s.1 })
-    (λ e. ⊎_elim (λ h. let s = lone_says Commit (codes "commit") ws call refl tt h.0 h.1 in record { says = s.0; one = inr (inl s.1) })
+    ⊎_elim (λ h. let s = lone_says Begin (codes "begin") ws call refl tt tt h.0 h.1 in record { says = s.0; one = inl s.1 })
+    (λ e. ⊎_elim (λ h. let s = lone_says Commit (codes "commit") ws call refl tt tt h.0 h.1 in record { says = s.0; one = inr (inl s.1) })
     (λ e. let h = guard (bytes_eq (first_word ws) (codes "abort")) (ends Abort (after_word ws)) call e in
-    let s = lone_says Abort (codes "abort") ws call refl tt h.0 h.1 in record { says = s.0; one = inr (inr s.1) })
+    let s = lone_says Abort (codes "abort") ws call refl tt tt h.0 h.1 in record { says = s.0; one = inr (inr s.1) })
     (split (bytes_eq (first_word ws) (codes "commit")) (ends Commit (after_word ws)) (abort_tail ws) call e))
     (split (bytes_eq (first_word ws) (codes "begin")) (ends Begin (after_word ws)) (commit_tail ws) call e)
 
@@ -211,9 +259,9 @@ put_tail ws = cond (bytes_eq (first_word ws) (codes "put")) (put_of (after_word 
 pub verb_says : (words : Option (List ℕ)) (call : Call) → verb_of words ≡ Some call → Says words call
 verb_says None call e = cc
 verb_says (Some ws) call e =
-    ⊎_elim (λ h. key_says Get (codes "get") ws call (after_word ws) (λ k. refl) (λ k small. small) refl h.0 h.1)
+    ⊎_elim (λ h. key_says Get (codes "get") ws call (after_word ws) (λ k. refl) (λ k small. small) (λ k. tt) refl h.0 h.1)
     (λ e. ⊎_elim (λ h. put_says ws call (after_word ws) refl h.0 h.1)
-    (λ e. ⊎_elim (λ h. key_says Del (codes "del") ws call (after_word ws) (λ k. refl) (λ k small. small) refl h.0 h.1)
+    (λ e. ⊎_elim (λ h. key_says Del (codes "del") ws call (after_word ws) (λ k. refl) (λ k small. small) (λ k. tt) refl h.0 h.1)
     (λ e. (lone_verb_says ws call e).says)
     (split (bytes_eq (first_word ws) (codes "del")) (option_map Del (key_of (after_word ws))) (lone_verb_of (Some ws)) call e))
     (split (bytes_eq (first_word ws) (codes "put")) (put_of (after_word ws)) (del_tail ws) call e))
@@ -234,20 +282,29 @@ unless : (b : Bool) (r : Option Line) (line : Line) → cond b None r ≡ Some l
 unless true r line e = cc
 unless false r line e = e
 
-pub line_says : (workers : ℕ) (bytes : List ℕ) (line : Line) → line_of workers bytes ≡ Some line → Spells workers bytes line
-line_says workers bytes line e =
-    let w = with_is (ranged 1 (workers + 1) (number_of (first_word bytes))) (verb_of (after_word bytes)) line
-    (unless (nat_lt 80 (length bytes)) (line_with (ranged 1 (workers + 1) (number_of (first_word bytes))) (verb_of (after_word bytes))) line e) in
+sync_says : (workers : ℕ) (bytes : List ℕ) (line : Line) → bytes ≡ codes "sync" → Some sync_line ≡ Some line → Spells workers bytes line
+sync_says workers bytes line is e =
+    let made : sync_line ≡ line = cc in
+    subst (Spells workers bytes) made (record { spelled = is; session = refl; call = tt })
+
+asked_says : (workers : ℕ) (bytes : List ℕ) (line : Line) → line_with (ranged 1 (workers + 1) (number_of (first_word bytes))) (verb_of (after_word bytes)) ≡ Some line → Spells workers bytes line
+asked_says workers bytes line e =
+    let w = with_is (ranged 1 (workers + 1) (number_of (first_word bytes))) (verb_of (after_word bytes)) line e in
     let r = in_range 1 (workers + 1) line.session (number_of (first_word bytes)) w.session in
     let n = number_spelled (first_word bytes) line.session r.read in
     let v = verb_says (after_word bytes) line.call w.call in
     let high : line.session < workers + 1 = r.under in
     record {
-      spelled = then_word bytes (decimal line.session) (call_text line.call) n.0 v.spelled;
-      first = r.above;
-      last = omega arith;
+      spelled = then_word bytes (decimal line.session) (call_text line.call) n.0 v.spelled ∙ sym (with_session line.session line.call v.session);
+      session = session_of workers line.session line.call v.session r.above (omega arith);
       call = v.fits;
     }
+
+pub line_says : (workers : ℕ) (bytes : List ℕ) (line : Line) → line_of workers bytes ≡ Some line → Spells workers bytes line
+line_says workers bytes line e =
+    let words : Option Line = line_with (ranged 1 (workers + 1) (number_of (first_word bytes))) (verb_of (after_word bytes)) in
+    ⊎_elim (λ h. sync_says workers bytes line (same bytes (codes "sync") h.0) h.1) (λ h. asked_says workers bytes line h)
+    (split (bytes_eq bytes (codes "sync")) (Some sync_line) words line (unless (nat_lt 80 (length bytes)) (cond (bytes_eq bytes (codes "sync")) (Some sync_line) words) line e))
 
 -- what is no verb alone is read as none
 pub no_lone_verb : (ws : List ℕ) → (ws ≡ codes "begin" → ⊥) → (ws ≡ codes "commit" → ⊥) → (ws ≡ codes "abort" → ⊥) → lone_verb_of (Some ws) ≡ None

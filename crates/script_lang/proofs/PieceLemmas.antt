@@ -1,5 +1,5 @@
 -- The pieces of a line, as they are written one after another.
-use Rattle.std.proofs.Common.{◌≡◌, ◌+◌, ◌++◌, ◌∷◌, [], ℕ, List, length, take, drop, refl, sym, ap, subst, ◌∙◌, arith}
+use Rattle.std.proofs.Common.{◌≡◌, ◌+◌, ◌<◌, ◌++◌, ◌∷◌, [], ℕ, List, length, take, drop, set, refl, sym, ap, subst, ◌∙◌, arith}
 use Rattle.std.proofs.lemmas.List.{take_at, take-append-drop, length-append}
 use Rattle.std.proofs.lemmas.Slice.{drop-append-drop}
 use mathlib.Core.List.{append_assoc}
@@ -12,6 +12,11 @@ holds_none first = record { count = refl; bytes = refl }
 
 pub holds_same : (text other first now : List ℕ) (end : ℕ) → text ≡ other → Holds text first now end → Holds other first now end
 holds_same text other first now end same is = let P : List ℕ → Type 0 = λ t. Holds t first now end in subst P same is
+
+-- one byte that was written first
+pub holds_one : (text : List ℕ) (b : ℕ) (first : List ℕ) → text ≡ b ∷ [] → 0 < length first → Holds text first (set first 0 b) 1
+holds_one text b [] is some = absurd (omega (arith, some))
+holds_one text b (x ∷ xs) is some = holds_same (b ∷ []) text (x ∷ xs) (b ∷ xs) 1 (sym is) (record { count = refl; bytes = refl })
 
 -- two pieces behind a prefix are one
 pub holds_joined : (prefix a b first now : List ℕ) (end : ℕ) → Holds ((prefix ++ a) ++ b) first now end → Holds (prefix ++ (a ++ b)) first now end

@@ -1,5 +1,5 @@
 -- What is written as a reply is read back.
-use Rattle.std.proofs.Common.{◌≡◌, ◌++◌, ◌∷◌, [], ℕ, List, Some, None, codes, ◌∙◌, refl, subst, ◌^◌, ◌<◌, true, length, take, drop, arith, rules}
+use Rattle.std.proofs.Common.{◌≡◌, ◌++◌, ◌∷◌, [], ℕ, List, Some, None, codes, ◌∙◌, refl, sym, ap, subst, ◌^◌, ◌<◌, true, length, take, drop, arith, rules}
 use Rattle.std.proofs.lemmas.List.{take_at, drop_at}
 use mathlib.Core.List.{append_assoc}
 use Rattle.std.proofs.lemmas.Slice.Eq.{bytes_eq-Decides}
@@ -12,8 +12,8 @@ use Rattle.script_lang.specs.Replies.{reply_text, reply_of, answer_text, said_of
 use Rattle.script_lang.specs.Text.{IsLine}
 use Rattle.map_model.specs.Outputs.Reply.{Answered, Durable}
 use Rattle.map_model.specs.declared.call.Answer.{Answer}
-use Rattle.map_model.specs.declared.call.Answer.TheVariants.{Begun, Value, Was, Committed, Aborted, Refused}
-use Rattle.map_model.specs.declared.call.Refusal.TheVariants.{InTransaction, NoTransaction, TooLong, LogFull, ClockSpent, RowSpent, TooTall, NoPages}
+use Rattle.map_model.specs.declared.call.Answer.TheVariants.{Begun, Value, Was, Committed, Aborted, Synced, Refused}
+use Rattle.map_model.specs.declared.call.Refusal.TheVariants.{InTransaction, NoTransaction, TooLong, LogFull, ClockSpent, RowSpent, Conflict, TooTall, NoPages}
 use Rattle.script_lang.proofs.NumberLemmas.{Digits, digits, word_number, word_name, word_last, after_last, word_before, after_before, number_is}
 
 prefix_is : (prefix ds : List ℕ) → after_prefix prefix (prefix ++ ds) ≡ number_of ds
@@ -29,7 +29,12 @@ name_is s n small =
     let P : List ℕ → Type 0 = λ t. numbered s t ≡ Some n in
     subst P e (prefix_is (decimal s ++ 46 ∷ []) (decimal n) ∙ number_is n small)
 
-said_back : (s : ℕ) (a : Answer) → s < 2 ^ 64 → AnswerFits a → said_of s (Some (answer_text s a)) ≡ Some (Answered s a)
+-- an answer to a session is read behind it
+abbrev IsSaid : ℕ → Answer → Type 0
+IsSaid s (Synced g) = Unit {0}
+IsSaid s a = said_of s (Some (answer_text s a)) ≡ Some (Answered s a)
+
+said_back : (s : ℕ) (a : Answer) → s < 2 ^ 64 → AnswerFits a → IsSaid s a
 said_back s (Begun n) small h = let d = word_name s n small h in rw (word_last (name s n) d, after_last (name s n) d, name_is s n h) refl
 said_back s (Value (Some n)) small h = let d = word_number n h in rw (word_last (decimal n) d, number_is n h, after_last (decimal n) d) refl
 said_back s (Value None) small h = refl
@@ -41,6 +46,7 @@ said_back s (Committed n g) small h =
     let more = codes "at " ++ decimal g in
     rw (word_before (name s n) more d, after_before (name s n) more d, name_is s n h.0, word_last (decimal g) e, number_is g h.1, after_last (decimal g) e) refl
 said_back s (Aborted n) small h = let d = word_name s n small h in rw (word_last (name s n) d, after_last (name s n) d, name_is s n h) refl
+said_back s (Synced g) small h = tt
 said_back s (Refused InTransaction) small h = refl
 said_back s (Refused NoTransaction) small h = refl
 said_back s (Refused TooLong) small h = refl
@@ -52,22 +58,32 @@ said_back s (Refused (LogFull u l)) small h =
     rw (word_before (decimal u) (decimal l) d, after_before (decimal u) (decimal l) d, number_is u used, word_last (decimal l) e, number_is l limit, after_last (decimal l) e) refl
 said_back s (Refused ClockSpent) small h = refl
 said_back s (Refused RowSpent) small h = refl
+said_back s (Refused (Conflict n)) small h =
+    let fits : n < 2 ^ 64 = omega arith in
+    let d = word_number n fits in rw (word_last (decimal n) d, number_is n fits, after_last (decimal n) d) refl
 said_back s (Refused TooTall) small h = refl
 said_back s (Refused NoPages) small h = refl
 said_back s (Refused _) small h = absurd h
 said_back s _ small h = absurd h
 
-pub read_back : (r : Reply) → Fits r → reply_of (reply_text r) ≡ Some r
-read_back (Answered s a) h =
-    let small : s < 2 ^ 64 = let k : s < 2 ^ 32 = h.0 in omega arith in
+named_back : (s : ℕ) (a : Answer) → s < 2 ^ 32 → (s < 2 ^ 64 → said_of s (Some (answer_text s a)) ≡ Some (Answered s a)) → reply_of (decimal s ++ 32 ∷ answer_text s a) ≡ Some (Answered s a)
+named_back s a fits said =
+    let small : s < 2 ^ 64 = omega arith in
     let w = word_number s small in
-    rw (word_before (decimal s) (answer_text s a) w, after_before (decimal s) (answer_text s a) w, number_is s small) (said_back s a small h.1)
+    rw (word_before (decimal s) (answer_text s a) w, number_is s small, after_before (decimal s) (answer_text s a) w) (said small)
+
+synced_back : (g : ℕ) → g < 2 ^ 64 → reply_of (codes "synced " ++ decimal g) ≡ Some (Answered 0 (Synced g))
+synced_back g fits = let d = word_number g fits in rw (word_last (decimal g) d, number_is g fits, after_last (decimal g) d) refl
+
+pub read_back : (r : Reply) → Fits r → reply_of (reply_text r) ≡ Some r
+read_back (Answered s (Synced g)) h = synced_back g h.1 ∙ ap (λ (s : ℕ). Some (Answered s (Synced g))) (sym h.0)
+read_back (Answered s a) h = named_back s a h.0 (λ small. said_back s a small h.1)
 read_back (Durable s n) h =
     let small : s < 2 ^ 64 = let k : s < 2 ^ 32 = h.0 in omega arith in
     let w = word_number s small in
     let d = word_name s n small h.1 in
     let more = codes "durable " ++ name s n in
-    rw (word_before (decimal s) more w, after_before (decimal s) more w, number_is s small, word_last (name s n) d, after_last (name s n) d, name_is s n h.1) refl
+    rw (word_before (decimal s) more w, number_is s small, after_before (decimal s) more w, word_last (name s n) d, after_last (name s n) d, name_is s n h.1) refl
 
 line_digits : (ds more : List ℕ) → Digits ds → IsLine more → IsLine (ds ++ more)
 line_digits [] more h is = is
@@ -102,6 +118,7 @@ answer_line s (Committed n g) small h =
     let t = line_append (name s n) (codes " at " ++ decimal g) (line_name s n small h.0) at_line in
     search (rules, t)
 answer_line s (Aborted n) small h = let t = line_name s n small h in search (rules, t)
+answer_line s (Synced n) small h = let t = line_number n h in search (rules, t)
 answer_line s (Refused InTransaction) small h = search rules
 answer_line s (Refused NoTransaction) small h = search rules
 answer_line s (Refused TooLong) small h = search rules
@@ -112,16 +129,21 @@ answer_line s (Refused (LogFull u l)) small h =
     search (rules, t)
 answer_line s (Refused ClockSpent) small h = search rules
 answer_line s (Refused RowSpent) small h = search rules
+answer_line s (Refused (Conflict n)) small h = let fits : n < 2 ^ 64 = omega arith in let t = line_number n fits in search (rules, t)
 answer_line s (Refused TooTall) small h = search rules
 answer_line s (Refused NoPages) small h = search rules
 answer_line s (Refused _) small h = absurd h
 answer_line s _ small h = absurd h
 
-pub one_line : (r : Reply) → Fits r → IsLine (reply_text r)
-one_line (Answered s a) h =
-    let small : s < 2 ^ 64 = let k : s < 2 ^ 32 = h.0 in omega arith in
-    let t = answer_line s a small h.1 in
+named_line : (s : ℕ) (a : Answer) → s < 2 ^ 32 → AnswerFits a → IsLine (decimal s ++ 32 ∷ answer_text s a)
+named_line s a h fits =
+    let small : s < 2 ^ 64 = omega arith in
+    let t = answer_line s a small fits in
     line_with_number s (32 ∷ answer_text s a) small ((λ e. omega arith), t)
+
+pub one_line : (r : Reply) → Fits r → IsLine (reply_text r)
+one_line (Answered s (Synced g)) h = answer_line 0 (Synced g) (omega arith) h.1
+one_line (Answered s a) h = named_line s a h.0 h.1
 one_line (Durable s n) h =
     let small : s < 2 ^ 64 = let k : s < 2 ^ 32 = h.0 in omega arith in
     let t = line_name s n small h.1 in

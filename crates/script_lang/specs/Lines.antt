@@ -5,7 +5,7 @@ use Rattle.std.specs.Fmt.{decimal}
 use Rattle.script_lang.specs.Words.{word, rest, number_of, ranged, ends, with_one, with_two}
 use Rattle.script_lang.specs.declared.line.Line.{Line}
 use Rattle.map_model.specs.declared.call.Call.{Call}
-use Rattle.map_model.specs.declared.call.Call.TheVariants.{Begin, Get, Put, Del, Commit, Abort}
+use Rattle.map_model.specs.declared.call.Call.TheVariants.{Begin, Get, Put, Del, Commit, Abort, Sync}
 
 -- what is asked, as it is spelled; a call with no line yet has no text
 abbrev pub call_text : Call → List ℕ
@@ -15,11 +15,21 @@ call_text (Put key value) = codes "put " ++ (decimal key ++ 32 ∷ decimal value
 call_text (Del key) = codes "del " ++ decimal key
 call_text Commit = codes "commit"
 call_text Abort = codes "abort"
+call_text Sync = codes "sync"
 call_text _ = []
 
--- a line, as it is spelled
+-- a line, as it is spelled: no session stands before a sync
+abbrev pub text_by : ℕ → Call → List ℕ
+text_by session Sync = call_text Sync
+text_by session call = decimal session ++ 32 ∷ call_text call
+
 abbrev pub line_text : Line → List ℕ
-line_text line = decimal line.session ++ 32 ∷ call_text line.call
+line_text line = text_by line.session line.call
+
+-- a sync is of session 0, any other call of a worker's session
+abbrev pub IsSessionOf : ℕ → ℕ → Call → Type 0
+IsSessionOf workers session Sync = session ≡ 0
+IsSessionOf workers session call = (1 ≤ session) × (session ≤ workers)
 
 -- the call has a line by now, keys are below 2 ^ 64 - 1, values below 2 ^ 63
 abbrev pub CallFits : Call → Type 0
@@ -29,13 +39,13 @@ CallFits (Put key value) = (key < 2 ^ 64 - 1) × (value < 2 ^ 63)
 CallFits (Del key) = key < 2 ^ 64 - 1
 CallFits Commit = Unit {0}
 CallFits Abort = Unit {0}
+CallFits Sync = Unit {0}
 CallFits _ = ⊥
 
 -- the bytes spell this line of a script for so many workers
 pub record Spells (workers : ℕ) (bytes : List ℕ) (line : Line) : Type 0 where
   pub spelled : bytes ≡ line_text line
-  pub first : 1 ≤ line.session
-  pub last : line.session ≤ workers
+  pub session : IsSessionOf workers line.session line.call
   pub call : CallFits line.call
 
 -- The same, read from the bytes: what the words after the verb ask, those after the session, and the line.
@@ -64,7 +74,11 @@ line_with (Some session) (Some call) = Some (record { session = session; call = 
 line_with (Some session) None = None
 line_with None call = None
 
+abbrev pub sync_line : Line
+sync_line = record { session = 0; call = Sync }
+
 abbrev pub line_of : ℕ → List ℕ → Option Line
 line_of workers bytes =
     if nat_lt 80 (length bytes) then None
+    else if bytes_eq bytes (codes "sync") then Some sync_line
     else line_with (ranged 1 (workers + 1) (number_of (word (Some bytes)))) (verb_of (rest (Some bytes)))

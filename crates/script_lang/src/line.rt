@@ -1,14 +1,15 @@
-// Lines of a script: a session, a verb, its numbers, with one space between two words.
-ghost use Rattle.std.specs.Prelude.{◌≡◌, ◌≤◌, ◌<◌, ◌+◌, ◌-◌, ◌*◌, ◌^◌, ◌++◌, ℕ, List, Option, Some, None, Ok, IfOk, IfErr, IfSome, IfNone, MatchOption, length, if◌then◌else◌};
+// Lines of a script: a session, a verb, its numbers, with one space between two words; or a sync, which no session asks.
+ghost use Rattle.std.specs.Prelude.{◌≡◌, ◌≤◌, ◌<◌, ◌+◌, ◌-◌, ◌*◌, ◌^◌, ◌++◌, ℕ, List, Option, Some, None, Ok, IfOk, IfErr, IfSome, IfNone, MatchOption, length, codes, if◌then◌else◌};
+ghost use Rattle.std.specs.Str.{bytes_eq};
 ghost use Rattle.script_lang.specs.Words.{first_word, after_word, digits_on, goes_on, number_of, ranged};
-ghost use Rattle.script_lang.specs.Lines.{verb_of, lone_verb_of, key_of, put_of, line_of, Spells};
+ghost use Rattle.script_lang.specs.Lines.{verb_of, lone_verb_of, key_of, put_of, line_of, sync_line, Spells};
 
 use map_model::Call;
 
 /// The most bytes of a line, its newline not counted.
 pub const LINE: usize = 80;
 
-/// What a line says: what its session asks. Sessions are counted from 1.
+/// What a line says: what its session asks. Sessions are counted from 1, and 0 stands for none.
 #[derive(Clone, Copy, Debug, PartialEq, Eq)]
 pub struct Line {
     pub session: u32,
@@ -42,13 +43,30 @@ fn parse_line(workers: u32, bytes: &[u8]) -> Option<Line>
     if bytes.len() > LINE {
         return None;
     }
-    let (session, left) = session_number(bytes)?;
+    let Some((session, left)) = session_number(bytes) else {
+        return if is_sync(bytes) {
+            Some(Line {
+                session: 0,
+                call: Call::Sync,
+            })
+        } else {
+            None
+        };
+    };
     let session = in_range(session, 1, workers as u64 + 1)?;
     let call = read_call(left?)?;
     Some(Line {
         session: session as u32,
         call,
     })
+}
+
+// The line that begins with no number.
+#[inline(never)]
+fn is_sync(bytes: &[u8]) -> bool
+    ensures { result ≡ bytes_eq bytes.now (codes "sync") }
+{
+    bytes == b"sync".as_slice()
 }
 
 fn read_call(words: &[u8]) -> Option<Call>

@@ -50,6 +50,20 @@ pub fn put_number(into: &mut [u8], at: usize, number: u64) -> usize
     end
 }
 
+/// Puts the session first in the buffer. Most sessions have one digit.
+#[inline(always)]
+pub fn put_session(into: &mut [u8], session: u32) -> usize
+    requires room { 20 ≤ length into.old }
+    ensures end { result ≤ 20 }
+    ensures written { Holds (decimal session) into.old into.new result }
+{
+    if session < 10 {
+        into[0] = b'0' + session as u8;
+        return 1;
+    }
+    put_number(into, 0, session as u64)
+}
+
 /// Puts a text, and a number behind it.
 #[inline(always)]
 pub fn put_with_number(into: &mut [u8], at: usize, text: &[u8], number: u64) -> usize

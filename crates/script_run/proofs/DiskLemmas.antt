@@ -1,250 +1,160 @@
 -- What the disk stands for, and what a crash at any moment leaves.
-use Rattle.std.proofs.Common.{◌≡◌, ◌++◌, ◌∷◌, [], ◌≤◌, ◌<◌, ◌+◌, ◌^◌, ℕ, Bool, true, false, cond, ◌||◌, List, Option, Some, None, IsTrue, length, refl, sym, ap, ◌∙◌, subst, arith, true≢false}
-use Rattle.std.proofs.lemmas.Bool.{and_parts, and_from}
+use Rattle.std.proofs.Common.{◌≡◌, inl, inr, ◌++◌, ◌∷◌, [], ◌≤◌, ◌<◌, ◌+◌, ◌^◌, ℕ, Bool, true, List, Option, Some, None, IsTrue, length, refl, sym, ap, ◌∙◌, subst, arith, true≢false}
 use Rattle.std.proofs.lemmas.List.{length-append}
 use mathlib.Core.List.{append_assoc}
-use Rattle.lean_edge.specs.Outside.{Feed}
 use Rattle.lean_disk.specs.Area.{Area, Leaves}
-use Rattle.lean_disk.specs.Moments.{CrashIn, Framed, LeavesOnly}
+use Rattle.lean_disk.specs.Moments.{LeavesOnly}
 use Rattle.lean_disk.specs.Story.{Crash, IsLawful, Story}
 use Rattle.lean_disk.proofs.MomentLemmas.{started, then, weaker}
-use Rattle.map_model.specs.declared.call.Call.{Call}
-use Rattle.map_model.specs.declared.call.Call.TheVariants as call
-use Rattle.map_model.specs.Lists.{all, any}
-use Rattle.map_model.specs.Maps.{MapAnswer}
 use Rattle.map_model.specs.Outputs.{Reply}
-use Rattle.image_model.specs.Entries.{Entry}
 use Rattle.core_state.specs.Events.{Event}
 use Rattle.core_state.specs.Openings.{Opening}
-use Rattle.core_state.specs.States.{State}
-use Rattle.core_state.specs.Local.{is_of}
-use Rattle.core_state.specs.Needs.{may}
-use Rattle.core_state.specs.Steps.{state_after, step}
 use Rattle.disk_slots.specs.declared.master.Master.{Master}
 use Rattle.disk_image.specs.Laws.{EveryAgreement}
 use Rattle.disk_image.specs.Masters.{IsOfRun}
 use Rattle.core_disk.specs.Shows.{EveryShown}
 use Rattle.core_calls.specs.Crashes.{EveryRunCrash}
-use Rattle.worker_log.specs.Logs.{Log}
-use Rattle.core_calls.specs.Deeds.{commits}
 use Rattle.core_calls.specs.Fronts.{Done, front, outcomes}
-use Rattle.core_calls.specs.Marks.{Ended, Mark, back_in, mark, marks, met_in, onto}
 use Rattle.core_calls.specs.Printed.{printed}
-use Rattle.core_calls.specs.Steps.{is_structure}
 use Rattle.disk_runs.specs.Fair.{TellsAll}
+use Rattle.disk_runs.specs.Masters.{IsNoEarlier}
 use Rattle.disk_runs.specs.Stands.{Known}
+use Rattle.disk_runs.proofs.LineLemmas.{every_master_line}
 use Rattle.disk_runs.proofs.StandLemmas.{every_same}
-use Rattle.log_calls.specs.Calls.{Anything}
-use Rattle.run_crashes.specs.Laws.{CommitsNone, OfEachFirst}
 use Rattle.run_crashes.specs.Lines.{CallLeaves, NoneStopped, RunLeft, lines_of, notes_of}
 use Rattle.run_crashes.proofs.LineLemmas.{every_crashed_line_for, every_stop_for, wider}
-use Rattle.engine_calls.specs.Clauses.{Between, IsNewLine}
+use Rattle.engine_calls.specs.Clauses.{Between}
 use Rattle.engine_calls.specs.Runs.{LineCrash, LinesOut, Runs}
-use Rattle.engine_calls.proofs.MarkLemmas.{either_false}
 use Rattle.engine_calls.proofs.MomentLemmas.{still}
 use Rattle.engine_calls.proofs.RunLemmas.{every_run_for, line}
-use Rattle.engine_trait.specs.Calls.{Keeps, Stops, Stops as stops, call_behind, due_call}
-use Rattle.engine_trait.specs.Limits.{AreLoads, limits}
-use Rattle.engine_trait.specs.Rooms.{IsRoomFor, MakesRoom, makes_room, puts_back}
-use Rattle.script_lang.specs.Reading.{Unread}
-use Rattle.script_run.specs.Runs.{CallMissing, DiskTo, LinesMissing, OthersStand, PrintsTo, ReadsTo, RunStands, StaysIn2, StoppedIn, CallMissing as missing}
+use Rattle.engine_trait.specs.Areas.{Around, Beside, IsAside}
+use Rattle.engine_trait.specs.Calls.{IsOf, Keeps, Memory, Stops, Stops as stops, call_behind}
+use Rattle.engine_trait.specs.Limits.{limits}
+use Rattle.script_run.specs.Runs.{CallMissing, DiskTo, Hand, LinesMissing, OthersStand, PrintsTo, RunStands, StaysAside, StoppedIn, CallMissing as missing}
 use Rattle.script_run.specs.Inside.{IsOfPutting, IsOfReading, Laws, OnlyNotes, PutLeaves}
 use Rattle.script_run.specs.declared.stop.Stop.{Stop}
 use Rattle.script_run.specs.declared.stop.Stop.TheVariants.{End, Refused, ReadFault, WriteFault, DiskFault}
 use Rattle.script_run.proofs.DueLemmas.{printed_more}
-use Rattle.script_run.proofs.ReadLemmas.{FirstOf, first_of, reads_same}
+use Rattle.script_run.proofs.EventLemmas.{room_commits_none, stopped_of_each_first}
+use Rattle.script_run.proofs.StopLemmas.{FirstOf, first_of}
 
--- ## Events of a call that was not answered
-
-neither : (p q : Bool) → (p || q) ≡ false → (p ≡ false) × (q ≡ false)
-neither true q none = absurd (true≢false none)
-neither false q none = (refl, none)
-
--- a transaction ends by it
-abbrev ends : Event → Bool
-ends (Event.End w commit f) = true
-ends _ = false
-
--- by another event no commit is told
-abbrev IsNoCommit : Option Mark → Type 0
-IsNoCommit (Some (Ended commit number at)) = ⊥
-IsNoCommit _ = Unit {0}
-
-no_end : (g : Opening) (s : State) (e : Event) → ends e ≡ false → IsNoCommit (mark g s e)
-no_end g s (Event.Next w p k a) q = met a
-  where
-    met : (a : MapAnswer) → IsNoCommit (met_in g s w p a)
-    met (MapAnswer.Pair j v) = tt
-    met _ = tt
-no_end g s (Event.Put_back w p) q = back (s.worker w).changes
-  where
-    back : (changes : List Entry) → IsNoCommit (back_in g s p changes)
-    back [] = tt
-    back (c ∷ earlier) = tt
-no_end g s (Event.End w commit f) q = absurd (true≢false q)
-no_end g s _ q = tt
-
-marks_no_end : (g : Opening) (s : State) (es : List Event) (w : ℕ) (ms : List Mark) → any ends es ≡ false → commits (marks g s es w ms) ≡ commits ms
-marks_no_end g s [] w ms q = refl
-marks_no_end g s (e ∷ es) w ms q =
-    let parts = neither (ends e) (any ends es) q in
-    marks_no_end g (step g s e) es w (cond (may g s e) (cond (is_of e w) (onto (mark g s e) ms) ms) ms) parts.1 ∙ one (may g s e) (is_of e w) (mark g s e) (no_end g s e parts.0)
-  where
-    one : (b c : Bool) (o : Option Mark) → IsNoCommit o → commits (cond b (cond c (onto o ms) ms) ms) ≡ commits ms
-    one false c o none = refl
-    one true false o none = refl
-    one true true None none = refl
-    one true true (Some (Ended commit number at)) none = absurd none
-    one true true (Some _) none = refl
-
--- events that each pass a test
-pub each_none : (p q : Event → Bool) → ((e : Event) → p e ≡ true → q e ≡ false) → (es : List Event) → all p es ≡ true → any q es ≡ false
-each_none p q so [] each = refl
-each_none p q so (e ∷ es) each =
-    let parts = and_parts (p e) (all p es) each in
-    either_false (q e) (any q es) (so e parts.0) (each_none p q so es parts.1)
-
-room_ends_none : (e : Event) → makes_room e ≡ true → ends e ≡ false
-room_ends_none (Event.End w commit f) room = absurd (true≢false (sym room))
-room_ends_none _ room = refl
-
-back_ends_none : (e : Event) → puts_back 1 e ≡ true → ends e ≡ false
-back_ends_none (Event.End w commit f) back = absurd (true≢false (sym back))
-back_ends_none _ back = refl
-
-loads_end_none : (es : List Event) → AreLoads es → any ends es ≡ false
-loads_end_none [] loads = refl
-loads_end_none (Event.Load p f ∷ es) loads = loads_end_none es loads
-loads_end_none (_ ∷ es) loads = absurd loads
-
-ends_none : (g : Opening) (xs : List Done) (c : Call) (es : List Event) → IsRoomFor g xs 1 c es → any ends es ≡ false
-ends_none g xs (call.Put key value) es room = each_none makes_room ends room_ends_none es room.0
-ends_none g xs (call.Del key) es room = each_none makes_room ends room_ends_none es room.0
-ends_none g xs call.Abort es backs = each_none (puts_back 1) ends back_ends_none es backs
-ends_none g xs _ es loads = loads_end_none es loads
-
--- such events commit nothing
-room_commits_none : (g : Opening) (xs : List Done) (c : Call) (es : List Event) → IsRoomFor g xs 1 c es → CommitsNone g xs es
-room_commits_none g xs c es room w = marks_no_end g (state_after g (front xs)) es w [] (ends_none g xs c es room)
-
--- the first events of those that each pass a test, of those of which none does, of loads, and of those that make room
-front_of_all : (p : Event → Bool) (first rest : List Event) → all p (first ++ rest) ≡ true → all p first ≡ true
-front_of_all p [] rest each = refl
-front_of_all p (e ∷ first) rest each =
-    let parts = and_parts (p e) (all p (first ++ rest)) each in
-    and_from (p e) (all p first) parts.0 (front_of_all p first rest parts.1)
-
-front_of_none : (q : Event → Bool) (first rest : List Event) → any q (first ++ rest) ≡ false → any q first ≡ false
-front_of_none q [] rest none = refl
-front_of_none q (e ∷ first) rest none =
-    let parts = neither (q e) (any q (first ++ rest)) none in
-    either_false (q e) (any q first) parts.0 (front_of_none q first rest parts.1)
-
-front_of_loads : (first rest : List Event) → AreLoads (first ++ rest) → AreLoads first
-front_of_loads [] rest loads = tt
-front_of_loads (Event.Load p f ∷ first) rest loads = front_of_loads first rest loads
-front_of_loads (_ ∷ first) rest loads = absurd loads
-
-front_makes : (g : Opening) (s : State) (key : ℕ) (first rest : List Event) → MakesRoom g s key (first ++ rest) → MakesRoom g s key first
-front_makes g s key [] rest makes = tt
-front_makes g s key (e ∷ first) rest makes = (makes.0, front_makes g (step g s e) key first rest makes.1)
-
-front_for : (g : Opening) (xs : List Done) (c : Call) (first rest : List Event) → IsRoomFor g xs 1 c (first ++ rest) → IsRoomFor g xs 1 c first
-front_for g xs (call.Put key value) first rest room = (front_of_all makes_room first rest room.0, front_makes g (state_after g (front xs)) key first rest room.1)
-front_for g xs (call.Del key) first rest room = (front_of_all makes_room first rest room.0, front_of_none is_structure first rest room.1)
-front_for g xs call.Abort first rest backs = front_of_all (puts_back 1) first rest backs
-front_for g xs _ first rest loads = front_of_loads first rest loads
-
--- and the first of them are such events too
-stopped_of_each_first : (g : Opening) (xs : List Done) (c : Call) (es : List Event) → IsRoomFor g xs 1 c es → OfEachFirst (StoppedIn g xs c xs) es
-stopped_of_each_first g xs c es room first rest is = (refl, front_for g xs c first rest (subst (IsRoomFor g xs 1 c) (sym is) room))
-
--- on a new line a call is what its line asks
-line_call : (xs : List Done) (c : Call) → IsNewLine (outcomes xs) → call_behind (outcomes xs) c ≡ c
-line_call [] c line = refl
-line_call (y ∷ earlier) c line = ap (λ (o : Option Call). due_call o c) line.0
-
--- a run without such a call
+-- a run without a call that was not answered
 unstopped : (g : Opening) (Such : List Done → List Event → Type 0) (s0 : Crash) (m : Master) (xs : List Done) (from now : Story) → LeavesOnly from now (RunLeft g NoneStopped xs s0 m) → LeavesOnly from now (RunLeft g Such xs s0 m)
 unstopped g Such s0 m xs from now run = weaker from now (RunLeft g NoneStopped xs s0 m) (RunLeft g Such xs s0 m) (wider g NoneStopped Such (λ heard es none. absurd none) s0 m xs) run
 
+no_earlier : (n m k : Master) → IsNoEarlier n m → IsNoEarlier m k → IsNoEarlier n k
+no_earlier n m k p q = let laws = every_master_line n m k in laws.further p q
+
 -- ## Other areas
 
-pub stays_none : (count : ℕ) (s : Story) → IsLawful s → LeavesOnly s s (StaysIn2 count s)
-stays_none count s law = started s (StaysIn2 count s) law
-    (λ c now. record {
-      notes = let n : c.notes ≡ s.notes = now.notes in omega arith;
-      writes = λ a other. now.writes a;
-      leaves = λ a other. now.leaves a;
-    })
+-- an area in which nothing is done even by a sync
+aside : (logs : ℕ) (syncs : Bool) (a : ℕ) → IsAside logs true a → IsAside logs syncs a
+aside logs syncs a (inl pages) = inl pages
+aside logs syncs a (inr (inl behind)) = inr (inl behind)
+aside logs syncs a (inr (inr masters)) = absurd (true≢false masters.1)
 
-pub stays_call : (count : ℕ) (old new : Story) → LeavesOnly old new (CrashIn old 2 Anything) → LeavesOnly old new (StaysIn2 count old)
-stays_call count old new run = weaker old new (CrashIn old 2 Anything) (StaysIn2 count old) (λ c h. record { notes = let n : c.notes ≡ old.notes = h.notes in omega arith; writes = h.writes; leaves = h.leaves }) run
+module _ (logs : ℕ) where
+  pub stays_none : (count : ℕ) (s : Story) → IsLawful s → LeavesOnly s s (StaysAside logs count s)
+  stays_none count s law = started s (StaysAside logs count s) law
+      (λ c now. record {
+        notes = let n : c.notes ≡ s.notes = now.notes in omega arith;
+        writes = λ a other. now.writes a;
+        leaves = λ a other. now.leaves a;
+      })
 
-pub stays_more : (count more : ℕ) (s old new : Story) → count ≤ more → LeavesOnly old new (StaysIn2 count s) → LeavesOnly old new (StaysIn2 more s)
-stays_more count more s old new le run = weaker old new (StaysIn2 count s) (StaysIn2 more s) (λ c h. record { notes = let n : c.notes ≤ s.notes + count = h.notes in omega arith; writes = h.writes; leaves = h.leaves }) run
+  pub stays_call : (count : ℕ) (syncs : Bool) (old new : Story) → LeavesOnly old new (Beside logs syncs old) → LeavesOnly old new (StaysAside logs count old)
+  stays_call count syncs old new run = weaker old new (Beside logs syncs old) (StaysAside logs count old)
+      (λ c h. record { notes = let n : c.notes ≡ old.notes = h.notes in omega arith; writes = λ a other. h.writes a (aside logs syncs a other); leaves = λ a other. h.leaves a (aside logs syncs a other) }) run
 
--- while lines are put, behind a call
-pub stays_put : (told : List Reply) (old mid new : Story) → Framed 2 old mid → old.notes + length told < 2 ^ 64 → LeavesOnly mid new (PutLeaves told mid) → LeavesOnly mid new (StaysIn2 (length told) old)
-stays_put told old mid new frame room run = weaker mid new (PutLeaves told mid) (StaysIn2 (length told) old)
-    (λ c p. record {
-      notes =
-          let size : length (p.later ++ p.first) ≡ length p.later + length p.first = length-append p.later p.first in
-          let whole : length (p.later ++ p.first) ≡ length told = ap length p.split in
-          let same : mid.notes ≡ old.notes = frame.notes in
-          let now : c.notes ≡ mid.notes + length p.first = p.notes (omega arith) in
-          omega (arith, size, whole, same, now);
-      writes = λ b other tell. p.writes b (frame.tells b ∙ tell) ∙ ap (λ (u : Area). u.writes) (frame.elsewhere b other);
-      leaves = λ b other tell. subst (λ (u : Area). Leaves u (c.image b)) (frame.elsewhere b other) (p.leaves b (frame.tells b ∙ tell));
-    }) run
+  pub stays_more : (count more : ℕ) (s old new : Story) → count ≤ more → LeavesOnly old new (StaysAside logs count s) → LeavesOnly old new (StaysAside logs more s)
+  stays_more count more s old new le run = weaker old new (StaysAside logs count s) (StaysAside logs more s) (λ c h. record { notes = let n : c.notes ≤ s.notes + count = h.notes in omega arith; writes = h.writes; leaves = h.leaves }) run
 
--- behind a run
-pub stays_behind : (first : List Reply) (count : ℕ) (old mid new : Story) → OthersStand first old mid → IsTrue old.counts → old.notes + length first < 2 ^ 64 → LeavesOnly mid new (StaysIn2 count mid) → LeavesOnly mid new (StaysIn2 (count + length first) old)
-stays_behind first count old mid new others counts room run = weaker mid new (StaysIn2 count mid) (StaysIn2 (count + length first) old)
-    (λ c p. record {
-      notes =
-          let was : mid.notes ≡ old.notes + length first = others.notes counts room in
-          let now : c.notes ≤ mid.notes + count = p.notes in
-          omega (arith, was, now);
-      writes = λ b other tell. p.writes b other (others.tells b ∙ tell) ∙ ap (λ (u : Area). u.writes) (others.area b other);
-      leaves = λ b other tell. subst (λ (u : Area). Leaves u (c.image b)) (others.area b other) (p.leaves b other (others.tells b ∙ tell));
-    }) run
+  -- while lines are put, behind a call
+  pub stays_put : (told : List Reply) (syncs : Bool) (old mid new : Story) → Around logs syncs old mid → IsTrue old.counts → old.notes + length told < 2 ^ 64 → LeavesOnly mid new (PutLeaves told mid) → LeavesOnly mid new (StaysAside logs (length told) old)
+  stays_put told syncs old mid new frame counts room run = weaker mid new (PutLeaves told mid) (StaysAside logs (length told) old)
+      (λ c p. record {
+        notes =
+            let size : length (p.later ++ p.first) ≡ length p.later + length p.first = length-append p.later p.first in
+            let whole : length (p.later ++ p.first) ≡ length told = ap length p.split in
+            let same : mid.notes ≡ old.notes = frame.notes in
+            let now : c.notes ≡ mid.notes + length p.first = p.notes (frame.counts ∙ counts) (omega arith) in
+            omega (arith, size, whole, same, now);
+        writes = λ b other tell. p.writes b (frame.tells b ∙ tell) ∙ ap (λ (u : Area). u.writes) (frame.aside b (aside logs syncs b other));
+        leaves = λ b other tell. subst (λ (u : Area). Leaves u (c.image b)) (frame.aside b (aside logs syncs b other)) (p.leaves b (frame.tells b ∙ tell));
+      }) run
 
--- ## What was read
+  -- behind a run
+  pub stays_behind : (first : List Reply) (count : ℕ) (old mid new : Story) → OthersStand logs first old mid → IsTrue old.counts → old.notes + length first < 2 ^ 64 → LeavesOnly mid new (StaysAside logs count mid) → LeavesOnly mid new (StaysAside logs (count + length first) old)
+  stays_behind first count old mid new others counts room run = weaker mid new (StaysAside logs count mid) (StaysAside logs (count + length first) old)
+      (λ c p. record {
+        notes =
+            let was : mid.notes ≡ old.notes + length first = others.notes counts room in
+            let now : c.notes ≤ mid.notes + count = p.notes in
+            omega (arith, was, now);
+        writes = λ b other tell. p.writes b other (others.tells b ∙ tell) ∙ ap (λ (u : Area). u.writes) (others.area b other);
+        leaves = λ b other tell. subst (λ (u : Area). Leaves u (c.image b)) (others.area b other) (p.leaves b other (others.tells b ∙ tell));
+      }) run
+
+  pub others_same : (s : Story) → OthersStand logs [] s s
+  others_same s = record { later = omega arith; counts = refl; tells = λ a. refl; areas = refl; area = λ a other. refl; notes = λ counts fits. omega arith }
+
+  -- a call, and then its lines
+  pub others_call : (told : List Reply) (syncs : Bool) (old mid new : Story) → Around logs syncs old mid → OnlyNotes told mid new → OthersStand logs told old new
+  others_call told syncs old mid new frame notes = record {
+    later = let p : old.moment ≤ mid.moment = frame.later in let q : mid.moment ≤ new.moment = notes.later in omega arith;
+    counts = notes.counts ∙ frame.counts;
+    tells = λ b. notes.tells b ∙ frame.tells b;
+    areas = notes.areas ∙ frame.areas;
+    area = λ b other. notes.area b ∙ frame.aside b (aside logs syncs b other);
+    notes = λ counts room. let n : mid.notes ≡ old.notes = frame.notes in let m : new.notes ≡ mid.notes + length told = notes.notes (frame.counts ∙ counts) (omega arith) in omega arith;
+  }
+
+  pub others_fault : (syncs : Bool) (old new : Story) → Around logs syncs old new → OthersStand logs [] old new
+  others_fault syncs old new frame = record {
+    later = frame.later;
+    counts = frame.counts;
+    tells = frame.tells;
+    areas = frame.areas;
+    area = λ b other. frame.aside b (aside logs syncs b other);
+    notes = λ counts room. let n : new.notes ≡ old.notes = frame.notes in omega arith;
+  }
+
+  pub others_then : (first second : List Reply) (s0 s1 s2 : Story) → OthersStand logs first s0 s1 → OthersStand logs second s1 s2 → OthersStand logs (second ++ first) s0 s2
+  others_then first second s0 s1 s2 p q = record {
+    later = let l : s0.moment ≤ s1.moment = p.later in let k : s1.moment ≤ s2.moment = q.later in omega arith;
+    counts = q.counts ∙ p.counts;
+    tells = λ a. q.tells a ∙ p.tells a;
+    areas = q.areas ∙ p.areas;
+    area = λ a other. q.area a other ∙ p.area a other;
+    notes = λ counts fits.
+        let size : length (second ++ first) ≡ length second + length first = length-append second first in
+        let one : s1.notes ≡ s0.notes + length first = p.notes counts (omega arith) in
+        let two : s2.notes ≡ s1.notes + length second = q.notes (p.counts ∙ counts) (omega arith) in omega arith;
+  }
+
+-- ## Where it goes on
 
 -- no fault of the sink and none of the disk
 abbrev pub IsCalm : Option Stop → Type 0
 IsCalm None = Unit {0}
 IsCalm (Some stop) = IsOfReading stop
 
-pub calm : (stop : Option Stop) (number : ℕ) (start feed : Feed) (reader : Unread) (seen : List ℕ) (reads : ReadsTo stop number start feed reader seen) (g : Opening) (calls : List Done) (s0 : Crash) (m : Master) (k : Known) (from now : Story) (log : Log)
-    → IsCalm stop → RunStands g calls s0 m k from now log → DiskTo stop number start feed reader seen reads g calls s0 m k from now log
-calm None number start feed reader seen reads g calls s0 m k from now log of stands = stands
-calm (Some End) number start feed reader seen reads g calls s0 m k from now log of stands = stands
-calm (Some (Refused line)) number start feed reader seen reads g calls s0 m k from now log of stands = stands
-calm (Some ReadFault) number start feed reader seen reads g calls s0 m k from now log of stands = stands
-calm (Some WriteFault) number start feed reader seen reads g calls s0 m k from now log of stands = absurd of
-calm (Some DiskFault) number start feed reader seen reads g calls s0 m k from now log of stands = absurd of
-
--- the same, at an equal number and behind equal bytes
-pub disk_same : (stop : Option Stop) (p n : ℕ) (start feed : Feed) (reader : Unread) (seen other : List ℕ) (number : p ≡ n) (bytes : seen ≡ other) (reads : ReadsTo stop p start feed reader seen)
-    (g : Opening) (calls : List Done) (s0 : Crash) (m : Master) (k : Known) (from now : Story) (log : Log)
-    → DiskTo stop p start feed reader seen reads g calls s0 m k from now log → DiskTo stop n start feed reader other (reads_same stop p n start feed reader seen other number bytes reads) g calls s0 m k from now log
-unfolding reads_same
-disk_same None p n start feed reader seen other number bytes reads g calls s0 m k from now log d = d
-disk_same (Some End) p n start feed reader seen other number bytes reads g calls s0 m k from now log d = d
-disk_same (Some (Refused line)) p n start feed reader seen other number bytes reads g calls s0 m k from now log d = d
-disk_same (Some ReadFault) p n start feed reader seen other number bytes reads g calls s0 m k from now log d = d
-disk_same (Some WriteFault) p n start feed reader seen other number bytes reads g calls s0 m k from now log d = d
-disk_same (Some DiskFault) p n start feed reader seen other number bytes reads g calls s0 m k from now log d = d
+pub calm : (stop : Option Stop) (hand : Hand) (g : Opening) (group : ℕ) (calls : List Done) (s0 : Crash) (m : Master) (k : Known) (from now : Story) (memory : Memory)
+    → IsCalm stop → RunStands g group calls s0 m k from now memory → DiskTo stop hand g group calls s0 m k from now memory
+calm None hand g group calls s0 m k from now memory of stands = stands
+calm (Some End) hand g group calls s0 m k from now memory of stands = stands
+calm (Some (Refused line)) hand g group calls s0 m k from now memory of stands = stands
+calm (Some ReadFault) hand g group calls s0 m k from now memory of stands = stands
+calm (Some WriteFault) hand g group calls s0 m k from now memory of stands = absurd of
+calm (Some DiskFault) hand g group calls s0 m k from now memory of stands = absurd of
 
 -- ## One run behind another
 
-module _ (shown : EveryShown) (crashes : EveryRunCrash) (agrees : EveryAgreement) (g : Opening) (s0 : Crash) (m : Master) where
+module _ (shown : EveryShown) (crashes : EveryRunCrash) (agrees : EveryAgreement) (g : Opening) (group : ℕ) (s0 : Crash) (m : Master) where
   -- more calls
   left_more : (newer ys : List Done) (c : Crash) → RunLeft g NoneStopped ys s0 m c → RunLeft g NoneStopped (newer ++ ys) s0 m c
   left_more [] ys c l = l
-  left_more (x ∷ newer) ys c l = (every_crashed_line_for shown crashes agrees NoneStopped limits g 1 s0 m m (newer ++ ys) c).more x (left_more newer ys c l)
+  left_more (x ∷ newer) ys c l = (every_crashed_line_for shown crashes agrees NoneStopped limits g group s0 m m (newer ++ ys) c).more x (left_more newer ys c l)
 
   module _ (ys : List Done) (from old new : Story) (first : LeavesOnly from old (RunLeft g NoneStopped ys s0 m)) where
     first_later : (newer : List Done) → LeavesOnly from old (RunLeft g NoneStopped (newer ++ ys) s0 m)
@@ -253,66 +163,76 @@ module _ (shown : EveryShown) (crashes : EveryRunCrash) (agrees : EveryAgreement
     moments : (newer : List Done) → LeavesOnly old new (RunLeft g NoneStopped (newer ++ ys) s0 m) → LeavesOnly from new (RunLeft g NoneStopped (newer ++ ys) s0 m)
     moments newer second = then from old new (RunLeft g NoneStopped (newer ++ ys) s0 m) (first_later newer) second
 
-    module _ (newer : List Done) (k known : Known) (same : known.master ≡ k.master) (log : Log) where
-      runs_later : RunStands g (newer ++ ys) s0 m known old new log → RunStands g (newer ++ ys) s0 m k from new log
+    module _ (newer : List Done) (k known : Known) (behind : IsNoEarlier k.master known.master) (memory : Memory) where
+      runs_later : RunStands g group (newer ++ ys) s0 m known old new memory → RunStands g group (newer ++ ys) s0 m k from new memory
       runs_later d = record {
         known = d.known;
-        log_is = d.log_is;
-        master_is = d.master_is ∙ same;
+        memory_is = d.memory_is;
+        no_earlier = no_earlier k.master known.master d.known.master behind d.no_earlier;
         runs = record { between = d.runs.between; of_run = d.runs.of_run; any_moment = moments newer d.runs.any_moment };
       }
 
-      missing_later : LinesMissing g (newer ++ ys) s0 m known old new log → LinesMissing g (newer ++ ys) s0 m k from new log
-      missing_later d = record { any_moment = moments newer d.any_moment; known = d.known; stands = d.stands; log_is = d.log_is; master_is = d.master_is ∙ same }
+      missing_later : LinesMissing g (newer ++ ys) s0 m known old new memory → LinesMissing g (newer ++ ys) s0 m k from new memory
+      missing_later d = record {
+        any_moment = moments newer d.any_moment;
+        known = d.known;
+        stands = d.stands;
+        memory_is = d.memory_is;
+        no_earlier = no_earlier k.master known.master d.known.master behind d.no_earlier;
+      }
 
-      call_later : (c : Call) → CallMissing g (newer ++ ys) c s0 m old new → CallMissing g (newer ++ ys) c s0 m from new
-      call_later c (missing.Nothing l) =
-          let Left : Crash → Type 0 = RunLeft g (StoppedIn g (newer ++ ys) c) (newer ++ ys) s0 m in
-          missing.Nothing (then from old new Left (unstopped g (StoppedIn g (newer ++ ys) c) s0 m (newer ++ ys) from old (first_later newer)) l)
-      call_later c (missing.Part x asks session tells l) = missing.Part x asks session tells (moments (x ∷ newer) l)
+      call_later : (hand : Hand) → CallMissing g group (newer ++ ys) hand s0 m old new → CallMissing g group (newer ++ ys) hand s0 m from new
+      call_later hand (missing.Nothing l) =
+          let Left : Crash → Type 0 = RunLeft g (StoppedIn g (newer ++ ys) hand) (newer ++ ys) s0 m in
+          missing.Nothing (then from old new Left (unstopped g (StoppedIn g (newer ++ ys) hand) s0 m (newer ++ ys) from old (first_later newer)) l)
+      call_later hand (missing.Part x asks session tells l) = missing.Part x asks session tells (moments (x ∷ newer) l)
 
       -- A run that began at another story goes on so.
-      pub disk_later : (stop : Option Stop) (number : ℕ) (start feed : Feed) (reader : Unread) (seen : List ℕ) (reads : ReadsTo stop number start feed reader seen)
-          → DiskTo stop number start feed reader seen reads g (newer ++ ys) s0 m known old new log → DiskTo stop number start feed reader seen reads g (newer ++ ys) s0 m k from new log
-      disk_later None number start feed reader seen reads d = runs_later d
-      disk_later (Some End) number start feed reader seen reads d = runs_later d
-      disk_later (Some (Refused line)) number start feed reader seen reads d = runs_later d
-      disk_later (Some ReadFault) number start feed reader seen reads d = runs_later d
-      disk_later (Some WriteFault) number start feed reader seen reads d = missing_later d
-      disk_later (Some DiskFault) number start feed reader seen reads d = call_later reads.0 d
+      pub disk_later : (stop : Option Stop) (hand : Hand) → DiskTo stop hand g group (newer ++ ys) s0 m known old new memory → DiskTo stop hand g group (newer ++ ys) s0 m k from new memory
+      disk_later None hand d = runs_later d
+      disk_later (Some End) hand d = runs_later d
+      disk_later (Some (Refused line)) hand d = runs_later d
+      disk_later (Some ReadFault) hand d = runs_later d
+      disk_later (Some WriteFault) hand d = missing_later d
+      disk_later (Some DiskFault) hand d = call_later hand d
 
 -- ## One call
 
-module _ (laws : Laws) (g : Opening) (s0 : Crash) (m : Master) where
-  module _ (xs : List Done) (k : Known) (old : Story) (law : IsLawful old) (between : Between limits g 1 xs s0 k old) (of_run : IsOfRun m k.master) where
+module _ (laws : Laws) (g : Opening) (group : ℕ) (s0 : Crash) (m : Master) where
+  module _ (xs : List Done) (k : Known) (old : Story) (law : IsLawful old) (between : Between limits g group xs s0 k old) (of_run : IsOfRun m k.master) where
     -- nothing happened yet
-    pub rests : Runs limits g 1 NoneStopped xs s0 m k old old
+    rests : Runs limits g group NoneStopped xs s0 m k old old
     rests = record {
       between = between;
       of_run = of_run;
       any_moment = weaker old old (CallLeaves g xs [] s0 k.master) (RunLeft g NoneStopped xs s0 m)
-          (λ c. (every_crashed_line_for laws.shown laws.crashes laws.agrees NoneStopped limits g 1 s0 m k.master xs c).behind between.told of_run)
+          (λ c. (every_crashed_line_for laws.shown laws.crashes laws.agrees NoneStopped limits g group s0 m k.master xs c).behind between.told of_run)
           (still laws.keeps laws.prefixes laws.seals g xs [] s0 k old law between.stands between.notes);
     }
 
+    pub none_stands : (memory : Memory) → IsOf g memory k → RunStands g group xs s0 m k old old memory
+    none_stands memory is = record { known = k; memory_is = is; no_earlier = (every_master_line k.master k.master k.master).same; runs = rests }
+
     -- the disk failed
-    pub stopped : (mid : Story) (c : Call) → IsNewLine (outcomes xs) → Stops g 1 xs 1 c s0 k old mid → CallMissing g xs c s0 m old mid
-    stopped mid c line (stops.Nothing es behind l) =
-        let room : IsRoomFor g xs 1 c es = subst (λ (d : Call). IsRoomFor g xs 1 d es) (line_call xs c line) behind in
-        missing.Nothing ((every_stop_for laws.shown laws.crashes laws.agrees (StoppedIn g xs c) old old mid limits g 1 s0 m k.master xs).nothing es between.told (room_commits_none g xs c es room)
-        (stopped_of_each_first g xs c es room) of_run (unstopped g (StoppedIn g xs c) s0 m xs old old rests.any_moment) l)
-    stopped mid c line (stops.Part x asks session tells l) =
-        missing.Part x asks session tells ((every_stop_for laws.shown laws.crashes laws.agrees NoneStopped old old mid limits g 1 s0 m k.master xs).part x (between.told, tells) of_run rests.any_moment l)
+    pub stopped : (mid : Story) (hand : Hand) → Stops g group xs hand.session hand.call s0 k old mid → CallMissing g group xs hand s0 m old mid
+    stopped mid hand (stops.Nothing es room l) =
+        missing.Nothing ((every_stop_for laws.shown laws.crashes laws.agrees (StoppedIn g xs hand) old old mid limits g group s0 m k.master xs).nothing es between.told (room_commits_none g xs hand.session (call_behind (outcomes xs) hand.call) es room)
+        (stopped_of_each_first g xs hand es room) of_run (unstopped g (StoppedIn g xs hand) s0 m xs old old rests.any_moment) l)
+    stopped mid hand (stops.Part x asks session tells l) =
+        missing.Part x asks session tells ((every_stop_for laws.shown laws.crashes laws.agrees NoneStopped old old mid limits g group s0 m k.master xs).part x (between.told, tells) of_run rests.any_moment l)
 
     -- it was answered, and these lines of it were put
-    module _ (x : Done) (session : x.outcome.session ≡ 1) (log : Log) (mid new : Story) (frame : Framed 2 old mid) (kept : Keeps g 1 xs x s0 k log old mid) (told : List Reply) (notes : OnlyNotes told mid new) (puts : LeavesOnly mid new (PutLeaves told mid)) (few : old.notes + length told < 2 ^ 64) where
+    module _ (x : Done) (syncs : Bool) (memory : Memory) (mid new : Story) (frame : Around g.workers syncs old mid) (kept : Keeps g group xs x s0 k memory old mid) (told : List Reply) (notes : OnlyNotes told mid new) (puts : LeavesOnly mid new (PutLeaves told mid)) (few : old.notes + length told < 2 ^ 64) where
+      count : IsTrue mid.counts
+      count = frame.counts ∙ between.counts
+
       crash : (lacks : List Reply) → lacks ++ told ≡ lines_of g xs x → (c : Crash) → PutLeaves told mid c → LineCrash g xs x s0 mid c
       crash lacks all c p =
           let size : length (p.later ++ p.first) ≡ length p.later + length p.first = length-append p.later p.first in
           let whole : length (p.later ++ p.first) ≡ length told = ap length p.split in
           let was : old.notes ≡ notes_of g xs s0 = between.notes in
           let same : mid.notes ≡ old.notes = frame.notes in
-          let now : c.notes ≡ mid.notes + length p.first = p.notes (omega arith) in
+          let now : c.notes ≡ mid.notes + length p.first = p.notes count (omega arith) in
           record {
             later = lacks ++ p.later;
             first = p.first;
@@ -332,7 +252,6 @@ module _ (laws : Laws) (g : Opening) (s0 : Crash) (m : Master) where
       out all =
           let was : old.notes ≡ notes_of g xs s0 = between.notes in
           let same : mid.notes ≡ old.notes = frame.notes in
-          let count : IsTrue mid.counts = frame.counts ∙ between.counts in
           let now : new.notes ≡ mid.notes + length told = notes.notes count (omega arith) in
           let size : length (lines_of g xs x ++ printed g xs) ≡ length (lines_of g xs x) + length (printed g xs) = length-append (lines_of g xs x) (printed g xs) in
           let more : length (printed g (x ∷ xs)) ≡ length (lines_of g xs x ++ printed g xs) = ap length (printed_more g xs x) in
@@ -345,28 +264,26 @@ module _ (laws : Laws) (g : Opening) (s0 : Crash) (m : Master) where
             notes = omega (arith, was, same, now, size, more, each);
           }
 
-      all_out : told ≡ lines_of g xs x → RunStands g (x ∷ xs) s0 m k old new log
+      all_out : told ≡ lines_of g xs x → RunStands g group (x ∷ xs) s0 m k old new memory
       all_out all = record {
         known = kept.answers.known;
-        log_is = ap (λ (w : ℕ). kept.answers.known.log w) (sym session) ∙ kept.log_is;
-        master_is = kept.master_is;
-        runs = (every_run_for laws.shown laws.crashes laws.agrees laws.keeps laws.prefixes laws.seals NoneStopped old old mid new limits g 1 s0 m k).answered xs x rests kept.answers (out all);
+        memory_is = kept.memory;
+        no_earlier = kept.answers.no_earlier;
+        runs = (every_run_for laws.shown laws.crashes laws.agrees laws.keeps laws.prefixes laws.seals NoneStopped old old mid new limits g group s0 m k).answered xs x rests kept.answers (out all);
       }
 
-      some_out : (lacks : List Reply) → lacks ++ told ≡ lines_of g xs x → LinesMissing g (x ∷ xs) s0 m k old new log
+      some_out : (lacks : List Reply) → lacks ++ told ≡ lines_of g xs x → LinesMissing g (x ∷ xs) s0 m k old new memory
       some_out lacks all = record {
-        any_moment = line laws.shown laws.crashes laws.agrees laws.keeps laws.prefixes laws.seals NoneStopped limits g 1 s0 m k old old mid new xs x rests kept.answers (lines lacks all);
+        any_moment = line laws.shown laws.crashes laws.agrees laws.keeps laws.prefixes laws.seals NoneStopped limits g group s0 m k old old mid new xs x rests kept.answers (lines lacks all);
         known = kept.answers.known;
         stands = every_same mid new s0 g (front (x ∷ xs)) kept.answers.known kept.answers.stands tells (λ a high. notes.area a);
-        log_is = ap (λ (w : ℕ). kept.answers.known.log w) (sym session) ∙ kept.log_is;
-        master_is = kept.master_is;
+        memory_is = kept.memory;
+        no_earlier = kept.answers.no_earlier;
       }
 
-      pub answered : (stop : Option Stop) (number : ℕ) (start feed : Feed) (reader : Unread) (seen : List ℕ) (reads : ReadsTo stop number start feed reader seen) (tail : List ℕ)
-          → IsOfPutting stop → PrintsTo stop (lines_of g xs x) told tail → DiskTo stop number start feed reader seen reads g (x ∷ xs) s0 m k old new log
-      answered None number start feed reader seen reads tail of prints = all_out prints.told_is
-      answered (Some stop) number start feed reader seen reads tail of prints =
+      pub answered : (stop : Option Stop) (hand : Hand) (tail : List ℕ) → IsOfPutting stop → PrintsTo stop (lines_of g xs x) told tail → DiskTo stop hand g group (x ∷ xs) s0 m k old new memory
+      answered None hand tail of prints = all_out prints.told_is
+      answered (Some stop) hand tail of prints =
           let f : FirstOf (lines_of g xs x) told = first_of (Some stop) (lines_of g xs x) told tail prints in
-          let P : Stop → Type 0 = λ s. (reads : ReadsTo (Some s) number start feed reader seen) → DiskTo (Some s) number start feed reader seen reads g (x ∷ xs) s0 m k old new log in
-          let at : P WriteFault = λ reads. some_out f.later f.is in
-          let all : P stop = subst P (sym of) at in all reads
+          let P : Stop → Type 0 = λ s. DiskTo (Some s) hand g group (x ∷ xs) s0 m k old new memory in
+          let at : P WriteFault = some_out f.later f.is in subst P (sym of) at

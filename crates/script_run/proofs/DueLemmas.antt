@@ -1,40 +1,92 @@
--- The lines of an outcome are the replies to its call.
-use Rattle.std.proofs.Common.{◌≡◌, ◌++◌, ◌∷◌, [], ℕ, List, refl, sym, ap, ◌∙◌}
+-- The durable lines that are due, and the lines of an outcome.
+use Rattle.std.proofs.Common.{◌≡◌, ◌++◌, ◌∷◌, [], ℕ, List, Option, Some, refl, sym, ap, ◌∙◌, subst}
+use Rattle.std.proofs.lemmas.List.{append-nil}
 use mathlib.Core.List.{append_assoc}
+use Rattle.lean_edge.specs.Outside.{Held, Puts}
+use Rattle.lean_edge.specs.declared.sink.Put.TheVariants.{Done, Failed}
+use Rattle.lean_disk.specs.Calls.{Noted}
+use Rattle.lean_disk.specs.Story.{IsLawful, Story}
+use Rattle.map_model.specs.declared.call.Answer.{Answer}
+use Rattle.map_model.specs.Journals.{Name}
 use Rattle.map_model.specs.Outputs.{Reply}
+use Rattle.core_state.specs.Events.{Event}
 use Rattle.core_state.specs.Openings.{Opening}
 use Rattle.core_state.specs.Steps.{state_after}
-use Rattle.core_calls.specs.Alone.{EveryAlone, names_by}
-use Rattle.core_calls.specs.Deeds.{Deed, Begun, Got, Changed, Deleted, Absent, Met, Paused, Over, Committed, Aborted, Refused, Synced, Checkpointed, answered, in_words}
+use Rattle.core_calls.specs.Deeds.{answered}
 use Rattle.core_calls.specs.Durables.{due, durables, moments}
-use Rattle.core_calls.specs.Fronts.{Done, front}
+use Rattle.core_calls.specs.Fronts.{front}
+use Rattle.core_calls.specs.Fronts as fronts
 use Rattle.core_calls.specs.Printed.{durable_lines, printed}
-use Rattle.core_calls.specs.Runs.{EachTells}
+use Rattle.core_calls.proofs.CommitLemmas.{up_to_moments}
 use Rattle.run_crashes.specs.Lines.{lines_of}
-use Rattle.engine_trait.specs.Limits.{limits}
-use Rattle.transcripts.specs.Told.{durable_of, replies}
+use Rattle.script_lang.specs.Replies.{Fits, reply_line}
+use Rattle.script_run.specs.Inside.{HasTold, Says, Taking}
+use Rattle.script_run.specs.declared.stop.Stop.{Stop}
+use Rattle.script_run.specs.declared.stop.Stop.TheVariants.{WriteFault}
+use Rattle.script_run.proofs.PutLemmas.{says_none, says_more, says_failed, says_then}
 
--- the durable line of a commit
-durable_is : (session : ℕ) (d : Deed) → durable_lines (names_by session d) ≡ durable_of session (answered d)
-durable_is session (Committed number at) = refl
-durable_is session (Begun n) = refl
-durable_is session (Got k a alone) = refl
-durable_is session (Changed k v a) = refl
-durable_is session (Deleted k a) = refl
-durable_is session (Absent k) = refl
-durable_is session (Met from to k v alone) = refl
-durable_is session (Paused from to k) = refl
-durable_is session (Over from to) = refl
-durable_is session (Aborted c n at backs) = refl
-durable_is session (Refused c r backs) = refl
-durable_is session (Synced at) = refl
-durable_is session (Checkpointed at) = refl
-
-pub lines_are : EveryAlone → (g : Opening) (xs : List Done) (x : Done) → g.workers ≡ 1 → EachTells limits g 1 (x ∷ xs) → replies (in_words x.outcome ∷ []) ≡ lines_of g xs x
-lines_are alone g xs x one tells =
-    ap (λ (rs : List Reply). rs ++ Reply.Answered x.outcome.session (answered x.outcome.deed) ∷ [])
-    (sym (ap durable_lines (alone limits g x xs one tells) ∙ durable_is x.outcome.session x.outcome.deed))
-
--- and what is printed has them more
-pub printed_more : (g : Opening) (xs : List Done) (x : Done) → printed g (x ∷ xs) ≡ lines_of g xs x ++ printed g xs
+-- what is printed has the lines of an outcome more
+pub printed_more : (g : Opening) (xs : List fronts.Done) (x : fronts.Done) → printed g (x ∷ xs) ≡ lines_of g xs x ++ printed g xs
 printed_more g xs x = sym (append_assoc (durable_lines (due g (state_after g (front (x ∷ xs))) (durables g (moments xs)))) (Reply.Answered x.outcome.session (answered x.outcome.deed) ∷ []) (printed g xs))
+
+-- and what was told durable has those that are due more
+pub durables_more : (g : Opening) (xs : List fronts.Done) (x : fronts.Done) → due g (state_after g (front (x ∷ xs))) (durables g (moments xs)) ++ durables g (moments xs) ≡ durables g (moments (x ∷ xs))
+durables_more g xs x = ap (λ (es : List Event). due g (state_after g es) (durables g (moments xs)) ++ durables g (moments xs)) (sym (up_to_moments (x ∷ xs)))
+
+lines_append : (ns ms : List Name) → durable_lines (ns ++ ms) ≡ durable_lines ns ++ durable_lines ms
+lines_append [] ms = refl
+lines_append (n ∷ ns) ms = ap (λ (rs : List Reply). Reply.Durable n.session n.number ∷ rs) (lines_append ns ms)
+
+-- ## One durable line after another
+
+module _ (dues : List Name → List Name) (names : List Name) where
+  pub none_taken : (Stands : List Name → Type 0) (h : Held) (s : Story) → IsLawful s → Stands names → Taking dues Stands names h h s s
+  none_taken Stands h s law stands = record { taken = []; is = sym (append-nil (dues names)); says = says_none h s law; stands = stands }
+
+  module _ (First Stands : List Name → Type 0) (h0 h1 h2 : Held) (s0 s1 s2 : Story) (t : Taking dues First names h0 h1 s0 s1) where
+    module _ (n : Name) (first : dues (t.taken ++ names) ≡ dues (n ∷ (t.taken ++ names)) ++ n ∷ []) (fits : Fits (Reply.Durable n.session n.number)) where
+      abbrev line : Reply
+      line = Reply.Durable n.session n.number
+
+      is_more : dues names ≡ dues ((n ∷ t.taken) ++ names) ++ (n ∷ t.taken)
+      is_more = t.is ∙ (ap (λ (ns : List Name). ns ++ t.taken) first ∙ append_assoc (dues (n ∷ (t.taken ++ names))) (n ∷ []) t.taken)
+
+      -- one more was
+      pub one_taken : (s3 : Story) → s3 ≡ s1 → Puts (reply_line line) Done h1 h2 → Noted s3 s2 → Stands (n ∷ (t.taken ++ names)) → Taking dues Stands names h0 h2 s0 s2
+      one_taken s3 same p noted stands = record {
+        taken = n ∷ t.taken;
+        is = is_more;
+        says = says_more (durable_lines t.taken) line h0 h1 h2 s0 s1 s2 t.says fits p (subst (λ (s : Story). Noted s s2) same noted);
+        stands = stands;
+      }
+
+      -- its line failed
+      pub one_failed : s2 ≡ s1 → Puts (reply_line line) Failed h1 h2 → Stands (n ∷ (t.taken ++ names)) → Says (durable_lines (dues names)) (Some WriteFault) h0 h2 s0 s2 × HasTold (Some WriteFault) Stands (dues names ++ names)
+      one_failed same p stands =
+          let rest : List Name = dues ((n ∷ t.taken) ++ names) in
+          let all : durable_lines rest ++ line ∷ durable_lines t.taken ≡ durable_lines (dues names) = sym (ap durable_lines is_more ∙ lines_append rest (n ∷ t.taken)) in
+          (subst (λ (rs : List Reply). Says rs (Some WriteFault) h0 h2 s0 s2) all (says_failed (durable_lines t.taken) line h0 h1 h2 s0 s1 s2 t.says fits (durable_lines rest) p same), (n ∷ (t.taken ++ names), stands))
+
+-- ## The lines of an outcome
+
+module _ (g : Opening) (xs : List fronts.Done) (x : fronts.Done) (session : ℕ) (a : Answer) (s : x.outcome.session ≡ session) (is : answered x.outcome.deed ≡ a) (fits : Fits (Reply.Answered session a))
+    (Stands : List Name → Type 0) (h0 h1 : Held) (s0 s1 : Story) (law : IsLawful s0) where
+  abbrev dues : List Name
+  dues = due g (state_after g (front (x ∷ xs))) (durables g (moments xs))
+
+  abbrev reply : Reply
+  reply = Reply.Answered session a
+
+  lines_are : durable_lines dues ++ reply ∷ [] ≡ lines_of g xs x
+  lines_are = sym (ap (λ (w : ℕ). durable_lines dues ++ Reply.Answered w (answered x.outcome.deed) ∷ []) s ∙ ap (λ (b : Answer). durable_lines dues ++ Reply.Answered session b ∷ []) is)
+
+  pub answer_failed : Puts (reply_line reply) Failed h0 h1 → s1 ≡ s0 → Stands (durables g (moments xs)) → Says (lines_of g xs x) (Some WriteFault) h0 h1 s0 s1 × HasTold (Some WriteFault) Stands (durables g (moments (x ∷ xs)))
+  answer_failed p same stands =
+      (subst (λ (rs : List Reply). Says rs (Some WriteFault) h0 h1 s0 s1) lines_are (says_failed [] reply h0 h0 h1 s0 s0 s1 (says_none h0 s0 law) fits (durable_lines dues) p same), (durables g (moments xs), stands))
+
+  pub answer_put : (stop : Option Stop) (h2 : Held) (s2 : Story) → Puts (reply_line reply) Done h0 h1 → Noted s0 s1 → Says (durable_lines dues) stop h1 h2 s1 s2 → HasTold stop Stands (dues ++ durables g (moments xs))
+      → Says (lines_of g xs x) stop h0 h2 s0 s2 × HasTold stop Stands (durables g (moments (x ∷ xs)))
+  answer_put stop h2 s2 p noted more told = (
+    subst (λ (rs : List Reply). Says rs stop h0 h2 s0 s2) lines_are (says_then (reply ∷ []) (durable_lines dues) stop h0 h1 h2 s0 s1 s2 (says_more [] reply h0 h0 h1 s0 s0 s1 (says_none h0 s0 law) fits p noted) more),
+    subst (HasTold stop Stands) (durables_more g xs x) told,
+  )

@@ -1,8 +1,11 @@
-pub mod ListLemmas
 pub mod PutLemmas
-pub mod ReadLemmas
 pub mod DueLemmas
+pub mod FitLemmas
+pub mod StopLemmas
+pub mod EventLemmas
 pub mod DiskLemmas
+pub mod CallLemmas
 pub mod StepLemmas
 pub mod ThenLemmas
 pub mod TextLemmas
+pub mod FewLemmas

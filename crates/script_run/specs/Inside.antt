@@ -1,24 +1,31 @@
 -- What private functions say: what a line asks, and what was put of a call.
-use Rattle.std.specs.Prelude.{◌≡◌, ◌⊎◌, ◌<◌, ◌≤◌, ◌+◌, ◌^◌, ◌++◌, ℕ, List, [], ◌∷◌, length, Option, Some, None, Result, Ok, Err, IsTrue}
-use Rattle.map_model.specs.declared.call.Call.{Call}
-use Rattle.map_model.specs.declared.call.Answer.{Answer}
+use Rattle.std.specs.Prelude.{◌≡◌, ◌⊎◌, ◌<◌, ◌≤◌, ◌+◌, ◌^◌, ◌++◌, ℕ, true, false, List, [], ◌∷◌, length, Option, Some, None, Result, Ok, Err, IsTrue}
+use Rattle.map_model.specs.Journals.{Name}
 use Rattle.map_model.specs.Outputs.{Reply}
+use Rattle.map_model.specs.Pairings.{is_last, is_open_line, script_of}
 use Rattle.core_state.specs.Openings.{Opening}
 use Rattle.lean_edge.specs.Outside.{Feed, Held}
 use Rattle.lean_disk.specs.Area.{Leaves}
 use Rattle.lean_disk.specs.Moments.{LeavesOnly}
 use Rattle.lean_disk.specs.Story.{Crash, Story, Tells}
+use Rattle.disk_slots.specs.declared.master.Master.{Master}
 use Rattle.disk_image.specs.Laws.{EveryAgreement, EverySealed}
+use Rattle.disk_image.specs.Masters.{IsOfRun}
 use Rattle.worker_log.specs.Laws.{EveryKept, EveryPrefix}
-use Rattle.worker_log.specs.Logs.{Log}
-use Rattle.core_calls.specs.Alone.{EveryAlone}
 use Rattle.core_calls.specs.Crashes.{EveryRunCrash}
+use Rattle.core_calls.specs.Deeds.{answered}
+use Rattle.core_calls.specs.Durables.{durables, moments}
 use Rattle.core_calls.specs.Fronts.{Done}
+use Rattle.core_calls.specs.Printed.{durable_lines, printed}
 use Rattle.core_disk.specs.Shows.{EveryShown}
-use Rattle.script_lang.specs.Lines.{CallFits}
+use Rattle.disk_runs.specs.Stands.{Known}
+use Rattle.engine_calls.specs.Clauses.{Between}
+use Rattle.engine_trait.specs.Calls.{IsOf, Memory}
+use Rattle.engine_trait.specs.Limits.{limits}
 use Rattle.script_lang.specs.Reading.{Unread, Reading}
-use Rattle.transcripts.specs.Told.{ask, durable_of}
-use Rattle.script_run.specs.Runs.{IsOutside, ReadsTo, PrintsTo, Holds, ScriptRuns, calls_of}
+use Rattle.script_lang.specs.declared.line.Line.{Line}
+use Rattle.transcripts.specs.Told.{ask, EachReplyFits, LineFits}
+use Rattle.script_run.specs.Runs.{DiskTo, EngineStands, Executes, Hand, Holds, IsLastCut, IsOutside, OthersStand, PrintsTo, ReadsTo, ScriptRuns, StaysAside, calls_of}
 use Rattle.script_run.specs.declared.stop.Stop.{Stop}
 use Rattle.script_run.specs.declared.stop.Stop.TheVariants.{End, Refused, ReadFault, WriteFault, DiskFault}
 
@@ -26,22 +33,23 @@ use Rattle.script_run.specs.declared.stop.Stop.TheVariants.{End, Refused, ReadFa
 pub record Laws : Type 0 where
   pub shown : EveryShown
   pub crashes : EveryRunCrash
-  pub alone : EveryAlone
   pub agrees : EveryAgreement
   pub keeps : EveryKept
   pub prefixes : EveryPrefix
   pub seals : EverySealed
 
+-- ## What a line asks
+
 -- the line of this number asks the call
-pub record IsAsk (bytes : List ℕ) (number : ℕ) (call : Call) : Type 0 where
-  pub spelled : bytes ≡ ask 1 call
-  pub fits : CallFits call
+pub record IsAsk (sessions : ℕ) (bytes : List ℕ) (number : ℕ) (line : Line) : Type 0 where
+  pub spelled : bytes ≡ ask line.session line.call
+  pub fits : LineFits sessions line.session line.call
   pub few : number < 2 ^ 40
 
 -- it asks none
-pub record IsNoAsk (bytes : List ℕ) (number : ℕ) (stop : Stop) : Type 0 where
+pub record IsNoAsk (sessions : ℕ) (bytes : List ℕ) (number : ℕ) (stop : Stop) : Type 0 where
   pub stop_is : stop ≡ Refused number
-  pub cause : IsOutside bytes ⊎ (number ≡ 2 ^ 40)
+  pub cause : IsOutside sessions bytes ⊎ (number ≡ 2 ^ 40)
 
 -- a reader stops for this
 abbrev pub IsOfReading : Stop → Type 0
@@ -51,14 +59,25 @@ IsOfReading ReadFault = Unit {0}
 IsOfReading WriteFault = ⊥
 IsOfReading DiskFault = ⊥
 
--- what the next line asks was handed out, or why it asks nothing
-abbrev pub AskIs : Result Call Stop → ℕ → Feed → Feed → Unread → List ℕ → Type 0
-AskIs (Ok call) number start now reader seen = Reading start now reader (seen ++ (ask 1 call ++ 10 ∷ []))
-AskIs (Err stop) number start now reader seen = ReadsTo (Some stop) number start now reader seen
+-- a call stops for this
+abbrev pub IsOfRunning : Stop → Type 0
+IsOfRunning End = ⊥
+IsOfRunning (Refused line) = ⊥
+IsOfRunning ReadFault = ⊥
+IsOfRunning WriteFault = Unit {0}
+IsOfRunning DiskFault = Unit {0}
 
--- the replies to a call with this answer
-abbrev pub replies_to : Answer → List Reply
-replies_to a = durable_of 1 a ++ Reply.Answered 1 a ∷ []
+-- and may go on
+abbrev pub MayRun : Option Stop → Type 0
+MayRun None = Unit {0}
+MayRun (Some stop) = IsOfRunning stop
+
+-- what the next line asks was handed out, or why it asks nothing
+abbrev pub AskIs : (sessions : ℕ) → Result Line Stop → ℕ → Feed → Feed → Unread → List ℕ → Type 0
+AskIs sessions (Ok line) number start now reader seen = Reading start now reader (seen ++ (ask line.session line.call ++ 10 ∷ []))
+AskIs sessions (Err stop) number start now reader seen = (newer : List Done) → (hand : Hand) → ReadsTo (Some stop) sessions newer hand number start now reader seen
+
+-- ## What was put
 
 -- lines were put: a note more for each, and nothing else
 pub record OnlyNotes (told : List Reply) (old new : Story) : Type 0 where
@@ -74,7 +93,7 @@ pub record PutLeaves (told : List Reply) (old : Story) (c : Crash) : Type 0 wher
   pub first : List Reply
   pub later : List Reply
   pub split : later ++ first ≡ told
-  pub notes : old.notes + length first < 2 ^ 64 → c.notes ≡ old.notes + length first
+  pub notes : IsTrue old.counts → old.notes + length first < 2 ^ 64 → c.notes ≡ old.notes + length first
   pub writes : (a : ℕ) → Tells old a → c.writes a ≡ (old.area a).writes
   pub leaves : (a : ℕ) → Tells old a → Leaves (old.area a) (c.image a)
 
@@ -83,18 +102,71 @@ abbrev pub IsOfPutting : Option Stop → Type 0
 IsOfPutting None = Unit {0}
 IsOfPutting (Some stop) = stop ≡ WriteFault
 
--- The replies to a call were put, or some of them.
-pub record Says (a : Answer) (stop : Option Stop) (held0 held1 : Held) (old new : Story) : Type 0 where
+-- These replies were put, or some of them.
+pub record Says (all : List Reply) (stop : Option Stop) (held0 held1 : Held) (old new : Story) : Type 0 where
   pub of_putting : IsOfPutting stop
   pub told : List Reply
   pub tail : List ℕ
-  pub prints : PrintsTo stop (replies_to a) told tail
+  pub fit : EachReplyFits told
+  pub prints : PrintsTo stop all told tail
   pub holds : Holds told tail held0 held1
   pub notes : OnlyNotes told old new
   pub any_moment : LeavesOnly old new (PutLeaves told old)
 
--- A run of lines, which are so many where it goes on. Unless the disk failed, the engine stands for it.
-pub record Stepped (Stands : List Done → Type 0) (count : ℕ) (stop : Option Stop) (g : Opening) (xs : List Done) (before : ℕ) (start : Feed) (seen : List ℕ) (log0 log1 : Log) (reader : Unread) (feed : Feed) (held0 held1 : Held) (old new : Story) : Type 0 where
-  pub run : ScriptRuns stop g xs before start seen log0 log1 reader feed held0 held1 old new
-  pub in_run : (stop ≡ Some DiskFault → ⊥) → Stands (run.newer ++ xs)
-  pub count_is : stop ≡ None → length (calls_of run.newer) ≡ count
+-- the engine has told these durable, or some of them
+abbrev pub HasTold : Option Stop → (List Name → Type 0) → List Name → Type 0
+HasTold None Stands names = Stands names
+HasTold (Some stop) Stands names = (some : List Name) × Stands some
+
+-- Of the durable lines that are due, some were put so far.
+pub record Taking (due : List Name → List Name) (Stands : List Name → Type 0) (names : List Name) (held0 held1 : Held) (old new : Story) : Type 0 where
+  pub taken : List Name
+  pub is : due names ≡ due (taken ++ names) ++ taken
+  pub says : Says (durable_lines taken) None held0 held1 old new
+  pub stands : Stands (taken ++ names)
+
+-- ## Calls behind others
+
+-- What was done for these outcomes, as ScriptRuns says it, but for what was read.
+pub record CallsRun (newer : List Done) (stop : Option Stop) (hand : Hand) (group : ℕ) (g : Opening) (xs : List Done) (m0 m1 : Memory) (held0 held1 : Held) (old new : Story) : Type 0 where
+  pub memory : Memory
+  pub executes : Executes g group xs m0 newer memory
+  pub memory_is : (stop ≡ Some DiskFault → ⊥) → m1 ≡ memory
+  pub replies : List Reply
+  pub lines : printed g (newer ++ xs) ≡ replies ++ printed g xs
+  pub told : List Reply
+  pub tail : List ℕ
+  pub reply_fits : EachReplyFits told
+  pub prints : PrintsTo stop replies told tail
+  pub cut : stop ≡ Some WriteFault → IsLastCut g xs newer told
+  pub holds : Holds told tail held0 held1
+  pub others : OthersStand g.workers told old new
+  pub disk : (s0 : Crash) (m : Master) (k : Known) → Between limits g group xs s0 k old → IsOfRun m k.master → IsOf g m0 k → old.notes + length told < 2 ^ 64
+      → LeavesOnly old new (StaysAside g.workers (length told) old) × DiskTo stop hand g group (newer ++ xs) s0 m k old new memory
+
+-- how the engine stands, where it goes on or stops
+abbrev pub EngineGoes : Option Stop → (List Name → Type 0) → Opening → List Done → Type 0
+EngineGoes None Stands g calls = Stands (durables g (moments calls))
+EngineGoes (Some stop) Stands g calls = EngineStands stop Stands g calls
+
+-- none, or one that is the last answer to its line
+abbrev pub IsLastOne : List Done → Type 0
+IsLastOne [] = Unit {0}
+IsLastOne (x ∷ []) = is_last (answered x.outcome.deed) ≡ true
+IsLastOne (x ∷ y ∷ earlier) = ⊥
+
+-- The abort that was due was answered, or the disk failed.
+pub record AbortRuns (Stands : List Done → List Name → Type 0) (stop : Option Stop) (hand : Hand) (group : ℕ) (g : Opening) (xs : List Done) (m0 m1 : Memory) (held0 held1 : Held) (old new : Story) : Type 0 where
+  pub newer : List Done
+  pub last : IsLastOne newer
+  pub some : (stop ≡ Some DiskFault → ⊥) → newer ≡ [] → ⊥
+  pub none : stop ≡ Some DiskFault → newer ≡ []
+  pub calls : CallsRun newer stop hand group g xs m0 m1 held0 held1 old new
+  pub stands : EngineGoes stop (Stands (newer ++ xs)) g (newer ++ xs)
+
+-- A run of lines, which are so many where it goes on.
+pub record Stepped (Stands : List Done → List Name → Type 0) (count : ℕ) (stop : Option Stop) (sessions group : ℕ) (g : Opening) (xs : List Done) (before : ℕ) (start : Feed) (seen : List ℕ) (m0 m1 : Memory) (reader : Unread) (feed : Feed) (held0 held1 : Held) (old new : Story) : Type 0 where
+  pub run : ScriptRuns stop sessions group g xs before start seen m0 m1 reader feed held0 held1 old new
+  pub stands : EngineGoes stop (Stands (run.newer ++ xs)) g (run.newer ++ xs)
+  pub count_is : stop ≡ None → length (script_of (calls_of run.newer)) ≡ count
+  pub closed : stop ≡ None → is_open_line (calls_of run.newer) ≡ false

@@ -1,86 +1,127 @@
 // What is printed of a call.
-ghost use Rattle.std.specs.Prelude.{◌≡◌, ◌<◌, ◌^◌, ℕ, List, Some};
+ghost use Rattle.std.specs.Prelude.{◌≡◌, ◌<◌, ◌^◌, ◌∷◌, ◌++◌, List, None, Some, true};
 ghost use Rattle.core_state.specs.Openings.{Opening};
-ghost use Rattle.core_calls.specs.Fronts.{Done};
+ghost use Rattle.core_state.specs.Steps.{state_after};
+ghost use Rattle.core_calls.specs.Deeds.{answered};
+ghost use Rattle.core_calls.specs.Durables.{due, durables, moments};
+ghost use Rattle.core_calls.specs.Fronts.{Done, front};
+ghost use Rattle.core_calls.specs.Printed.{durable_lines};
 ghost use Rattle.lean_disk.specs.Calls.{Noted};
 ghost use Rattle.lean_disk.specs.Faults.{HasCause};
-ghost use Rattle.lean_disk.specs.Story.{IsLawful};
 ghost use Rattle.lean_edge.specs.Outside.{Puts};
+ghost use Rattle.run_crashes.specs.Lines.{lines_of};
 ghost use Rattle.engine_trait.specs.Calls.{HasCome};
+ghost use Rattle.engine_trait.specs.Turns.{behind_durables};
+ghost use Rattle.map_model.specs.Journals.{Name};
 ghost use Rattle.map_model.specs.Outputs.{Reply};
-ghost use Rattle.script_lang.specs.Replies.{AnswerFits, reply_line};
-ghost use Rattle.script_run.specs.Inside.{Says};
+ghost use Rattle.script_lang.specs.Replies.{AnswerFits, Fits, reply_line};
+ghost use Rattle.script_run.specs.Inside.{HasTold, IsOfPutting, Says};
 
 use crate::stop::Stop;
-use engine_trait::calls::Calls;
+use engine_trait::calls::{Calls, Durable};
 use lean_disk::Disk;
 use lean_edge::{Put, Sink};
 use map_model::{Answer, Refusal};
 use script_lang::{REPLY, durable_bytes, replies_are_read_back, reply_bytes};
 
-/// Puts an answer, and after a commit that it is durable.
+/// Puts an answer, and behind it that commits are durable, as long as the engine tells of one. An answer is why the script stops there.
 pub(crate) fn put_answer<K: Sink<D>, D: Disk, E: Calls<D>>(
     engine: &mut E,
     sink: &mut K,
+    session: u32,
     answer: &Answer,
 ) -> Option<Stop>
     requires fits { AnswerFits answer.now }
-    requires lawful { IsLawful (E.story engine.old) }
-    ensures says { Says answer.now result (K.held sink.old) (K.held sink.new) (E.story engine.old) (E.story engine.new) }
-    ensures same { (E.log_of engine.new ≡ E.log_of engine.old) × (E.works engine.new ≡ E.works engine.old) × (E.faults engine.new ≡ E.faults engine.old) }
-    ensures in_run { (g : Opening) (xs : List Done) → E.in_run engine.old g xs → E.in_run engine.new g xs }
+    requires works { E.works engine.old ≡ true }
+    ensures says { (g : Opening) (xs : List Done) (x : Done) → E.in_run engine.old g (x ∷ xs) (durables g (moments xs)) → x.outcome.session ≡ session → answered x.outcome.deed ≡ answer.now → Fits (Reply.Answered session answer.now)
+        → Says (lines_of g xs x) result (K.held sink.old) (K.held sink.new) (D.story (E.disk engine.old)) (D.story (E.disk engine.new)) × HasTold result (E.in_run engine.new g (x ∷ xs)) (durables g (moments (x ∷ xs))) }
+    ensures stops { IsOfPutting result }
+    ensures next { result ≡ None → E.next engine.new ≡ behind_durables (E.next engine.old) }
+    ensures same { (E.memory engine.new ≡ E.memory engine.old) × (E.works engine.new ≡ E.works engine.old) × (D.faults (E.disk engine.new) ≡ D.faults (E.disk engine.old)) }
+    ensures sizes { (E.sessions engine.new ≡ E.sessions engine.old) × (E.group engine.new ≡ E.group engine.old) }
 
     ensures cause_write_fault { HasCause (K.faults sink.old) (K.faults sink.new) (result ≡ Some Stop.WriteFault) }
 {
-    let Put::Done = put_reply(engine, sink, answer) else {
+    engine.told();
+    let Put::Done = put_reply(engine, sink, session, answer) else {
         return Some(Stop::WriteFault);
     };
-    let Answer::Committed { number, .. } = *answer else {
-        return None;
-    };
-    match put_durable(engine, sink, number) {
-        Put::Done => None,
-        Put::Failed => Some(Stop::WriteFault),
+    put_durables(engine, sink)
+}
+
+// Puts a line for each commit that has become durable.
+fn put_durables<K: Sink<D>, D: Disk, E: Calls<D>>(engine: &mut E, sink: &mut K) -> Option<Stop>
+    requires works { E.works engine.old ≡ true }
+    ensures says { (g : Opening) (xs : List Done) (names : List Name) → E.in_run engine.old g xs names
+        → Says (durable_lines (due g (state_after g (front xs)) names)) result (K.held sink.old) (K.held sink.new) (D.story (E.disk engine.old)) (D.story (E.disk engine.new))
+        × HasTold result (E.in_run engine.new g xs) (due g (state_after g (front xs)) names ++ names) }
+    ensures stops { IsOfPutting result }
+    ensures next { result ≡ None → E.next engine.new ≡ behind_durables (E.next engine.old) }
+    ensures same { (E.memory engine.new ≡ E.memory engine.old) × (E.works engine.new ≡ E.works engine.old) × (D.faults (E.disk engine.new) ≡ D.faults (E.disk engine.old)) }
+    ensures sizes { (E.sessions engine.new ≡ E.sessions engine.old) × (E.group engine.new ≡ E.group engine.old) }
+
+    ensures cause_write_fault { HasCause (K.faults sink.old) (K.faults sink.new) (result ≡ Some Stop.WriteFault) }
+{
+    engine.told();
+    'lines: loop {
+        let Some(durable) = engine.next_durable() else {
+            return None;
+        };
+        let Put::Done = put_durable(engine, sink, &durable) else {
+            return Some(Stop::WriteFault);
+        };
     }
 }
 
 // Puts the line of an answer.
-fn put_reply<K: Sink<D>, D: Disk, E: Calls<D>>(engine: &mut E, sink: &mut K, answer: &Answer) -> Put
+fn put_reply<K: Sink<D>, D: Disk, E: Calls<D>>(
+    engine: &mut E,
+    sink: &mut K,
+    session: u32,
+    answer: &Answer,
+) -> Put
     requires { AnswerFits answer.now }
-    ensures put { Puts (reply_line (Reply.Answered 1 answer.now)) result (K.held sink.old) (K.held sink.new) }
-    ensures noted { result ≡ Put.Done → Noted (E.story engine.old) (E.story engine.new) }
+    ensures put { Puts (reply_line (Reply.Answered session answer.now)) result (K.held sink.old) (K.held sink.new) }
+    ensures noted { result ≡ Put.Done → Noted (D.story (E.disk engine.old)) (D.story (E.disk engine.new)) }
     ensures not_noted { result ≡ Put.Failed → engine.new ≡ engine.old }
-    ensures same { (E.log_of engine.new ≡ E.log_of engine.old) × (E.works engine.new ≡ E.works engine.old) × (E.faults engine.new ≡ E.faults engine.old) }
-    ensures in_run { (g : Opening) (xs : List Done) → E.in_run engine.old g xs → E.in_run engine.new g xs }
+    ensures same { (E.memory engine.new ≡ E.memory engine.old) × (E.works engine.new ≡ E.works engine.old) × (D.faults (E.disk engine.new) ≡ D.faults (E.disk engine.old)) × (E.next engine.new ≡ E.next engine.old) }
+    ensures sizes { (E.sessions engine.new ≡ E.sessions engine.old) × (E.group engine.new ≡ E.group engine.old) }
+    ensures in_run { (g : Opening) (xs : List Done) (names : List Name) → E.in_run engine.old g xs names → E.in_run engine.new g xs names }
 
     ensures cause { HasCause (K.faults sink.old) (K.faults sink.new) (result ≡ Put.Failed) }
 {
     // Each reply is one line.
     replies_are_read_back();
     let mut line = [0; REPLY];
-    let end = reply_bytes(1, answer, &mut line);
+    let end = reply_bytes(session, answer, &mut line);
     engine.put_line(sink, &line[..end])
 }
 
 // Puts the line that a transaction is durable.
-fn put_durable<K: Sink<D>, D: Disk, E: Calls<D>>(engine: &mut E, sink: &mut K, number: u64) -> Put
-    ensures put { Puts (reply_line (Reply.Durable 1 number)) result (K.held sink.old) (K.held sink.new) }
-    ensures noted { result ≡ Put.Done → Noted (E.story engine.old) (E.story engine.new) }
+fn put_durable<K: Sink<D>, D: Disk, E: Calls<D>>(
+    engine: &mut E,
+    sink: &mut K,
+    durable: &Durable,
+) -> Put
+    ensures put { Puts (reply_line (Reply.Durable durable.now.session durable.now.number)) result (K.held sink.old) (K.held sink.new) }
+    ensures noted { result ≡ Put.Done → Noted (D.story (E.disk engine.old)) (D.story (E.disk engine.new)) }
     ensures not_noted { result ≡ Put.Failed → engine.new ≡ engine.old }
-    ensures same { (E.log_of engine.new ≡ E.log_of engine.old) × (E.works engine.new ≡ E.works engine.old) × (E.faults engine.new ≡ E.faults engine.old) }
-    ensures in_run { (g : Opening) (xs : List Done) → E.in_run engine.old g xs → E.in_run engine.new g xs }
+    ensures same { (E.memory engine.new ≡ E.memory engine.old) × (E.works engine.new ≡ E.works engine.old) × (D.faults (E.disk engine.new) ≡ D.faults (E.disk engine.old)) × (E.next engine.new ≡ E.next engine.old) }
+    ensures sizes { (E.sessions engine.new ≡ E.sessions engine.old) × (E.group engine.new ≡ E.group engine.old) × (E.waiting engine.new ≡ E.waiting engine.old) }
+    ensures in_run { (g : Opening) (xs : List Done) (names : List Name) → E.in_run engine.old g xs names → E.in_run engine.new g xs names }
+    ensures fits { Fits (Reply.Durable durable.now.session durable.now.number) }
 
     ensures cause { HasCause (K.faults sink.old) (K.faults sink.new) (result ≡ Put.Failed) }
 {
     replies_are_read_back();
     let mut line = [0; REPLY];
-    let end = durable_bytes(1, number, &mut line);
+    let end = durable_bytes(durable.session, durable.number, &mut line);
     engine.put_line(sink, &line[..end])
 }
 
 /// An answer that has come has a line, since its numbers fit their types.
 pub(crate) fn has_line(answer: &Answer)
-    requires { HasCome answer.now }
+    requires { HasCome 2 answer.now }
     ensures { AnswerFits answer.now }
 {
     match *answer {
@@ -89,7 +130,9 @@ pub(crate) fn has_line(answer: &Answer)
         Answer::Was(Some(value)) => fit(value, 0),
         Answer::Committed { number, at } => fit(number, at),
         Answer::Aborted { number } => fit(number, 0),
+        Answer::Synced { at } => fit(at, 0),
         Answer::Refused(Refusal::LogFull { used, limit }) => blocks_fit(used, limit),
+        Answer::Refused(Refusal::Conflict { holder }) => blocks_fit(holder, 0),
         _ => (),
     }
 }

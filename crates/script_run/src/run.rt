@@ -1,14 +1,21 @@
 // Line by line: read, asked, printed.
-ghost use Rattle.std.specs.Prelude.{◌≡◌, ◌≤◌, ◌+◌, ◌^◌, ◌++◌, ◌∷◌, ◌<◌, ◌-◌, ℕ, true, List, Some, None, IfSome, MatchOption};
+ghost use Rattle.std.specs.Prelude.{◌≡◌, ◌≤◌, ◌+◌, ◌^◌, ◌++◌, ◌∷◌, ◌<◌, ◌-◌, ℕ, true, false, List, Some, None, IfSome};
 ghost use Rattle.core_state.specs.Openings.{Opening};
+ghost use Rattle.core_calls.specs.Durables.{durables, moments};
 ghost use Rattle.core_calls.specs.Fronts.{Done};
+ghost use Rattle.core_calls.specs.Steps.{hindered_in};
 ghost use Rattle.lean_disk.specs.Faults.{HasCause};
 ghost use Rattle.lean_edge.specs.Outside.{Feed};
-ghost use Rattle.engine_trait.specs.Calls.{Does, Fails, IsWithin};
+ghost use Rattle.engine_trait.specs.Calls.{Does, Fails, IsAsked};
+ghost use Rattle.engine_trait.specs.Turns.{behind_answer, is_conflict_in};
+ghost use Rattle.engine_trait.specs.declared.calls.Next.{Next};
+ghost use Rattle.map_model.specs.Journals.{Name};
+ghost use Rattle.map_model.specs.Pairings.{is_last};
+ghost use Rattle.map_model.specs.declared.call.Call.{Call as Asked};
 ghost use Rattle.script_lang.specs.Reading.{Reading};
 ghost use Rattle.script_lang.specs.Replies.{AnswerFits};
-ghost use Rattle.script_run.specs.Runs.{ScriptRuns};
-ghost use Rattle.script_run.specs.Inside.{Laws, Stepped};
+ghost use Rattle.script_run.specs.Runs.{EngineStands, ScriptRuns};
+ghost use Rattle.script_run.specs.Inside.{AbortRuns, Laws, MayRun, Stepped};
 
 use crate::lines::{LINES, next_call};
 use crate::replies::{has_line, put_answer};
@@ -16,10 +23,10 @@ use crate::stop::Stop;
 use engine_trait::calls::{Calls, Unanswered};
 use lean_disk::Disk;
 use lean_edge::{Sink, Source};
-use map_model::{Answer, Call};
+use map_model::{Answer, Call, Refusal};
 use script_lang::LineReader;
 
-/// Executes the lines of a script on an engine that works, and puts what each is answered. Lines are counted from 1.
+/// Executes the lines of a script on an engine that works, of which the next line may be asked, and puts what each is answered. Lines are counted from 1.
 pub fn run_script<S: Source, K: Sink<D>, D: Disk, E: Calls<D>>(
     engine: &mut E,
     reader: &mut LineReader,
@@ -27,14 +34,17 @@ pub fn run_script<S: Source, K: Sink<D>, D: Disk, E: Calls<D>>(
     sink: &mut K,
 ) -> Stop
     requires works { E.works engine.old ≡ true }
-    ensures runs { (g : Opening) (xs : List Done) (start : Feed) (seen : List ℕ) → E.in_run engine.old g xs → Reading start (S.feed source.old) reader.old seen
-        → (r : ScriptRuns (Some result) g xs 0 start seen (E.log_of engine.old) (E.log_of engine.new) reader.new (S.feed source.new) (K.held sink.old) (K.held sink.new) (E.story engine.old) (E.story engine.new))
-        × ((result ≡ Stop.DiskFault → ⊥) → E.in_run engine.new g (r.newer ++ xs)) }
+    requires next { E.next engine.old ≡ Next.Line }
+    ensures runs { (g : Opening) (xs : List Done) (start : Feed) (seen : List ℕ) → E.in_run engine.old g xs (durables g (moments xs)) → Reading start (S.feed source.old) reader.old seen
+        → (r : ScriptRuns (Some result) (E.sessions engine.old) (E.group engine.old) g xs 0 start seen (E.memory engine.old) (E.memory engine.new) reader.new (S.feed source.new) (K.held sink.old) (K.held sink.new) (D.story (E.disk engine.old)) (D.story (E.disk engine.new)))
+        × EngineStands result (E.in_run engine.new g (r.newer ++ xs)) g (r.newer ++ xs) }
     ensures works { (result ≡ Stop.DiskFault → ⊥) → E.works engine.new ≡ true }
+    ensures next { (result ≡ Stop.WriteFault → ⊥) → (result ≡ Stop.DiskFault → ⊥) → E.next engine.new ≡ Next.Line }
+    ensures sizes { (E.sessions engine.new ≡ E.sessions engine.old) × (E.group engine.new ≡ E.group engine.old) }
 
     ensures cause_read_fault { HasCause (S.faults source.old) (S.faults source.new) (result ≡ Stop.ReadFault) }
     ensures cause_write_fault { HasCause (K.faults sink.old) (K.faults sink.new) (result ≡ Stop.WriteFault) }
-    ensures cause_disk_fault { HasCause (E.faults engine.old) (E.faults engine.new) (result ≡ Stop.DiskFault) }
+    ensures cause_disk_fault { HasCause (D.faults (E.disk engine.old)) (D.faults (E.disk engine.new)) (result ≡ Stop.DiskFault) }
 {
     // What a crash leaves before the first line.
     laws();
@@ -55,13 +65,16 @@ fn last_step<S: Source, K: Sink<D>, D: Disk, E: Calls<D>>(
     sink: &mut K,
 ) -> Stop
     requires works { E.works engine.old ≡ true }
-    ensures runs { (g : Opening) (xs : List Done) (start : Feed) (seen : List ℕ) → E.in_run engine.old g xs → Reading start (S.feed source.old) reader.old seen
-        → Stepped (E.in_run engine.new g) 1 (Some result) g xs (2 ^ 40 - 1) start seen (E.log_of engine.old) (E.log_of engine.new) reader.new (S.feed source.new) (K.held sink.old) (K.held sink.new) (E.story engine.old) (E.story engine.new) }
+    requires next { E.next engine.old ≡ Next.Line }
+    ensures runs { (g : Opening) (xs : List Done) (start : Feed) (seen : List ℕ) → E.in_run engine.old g xs (durables g (moments xs)) → Reading start (S.feed source.old) reader.old seen
+        → Stepped (E.in_run engine.new g) 1 (Some result) (E.sessions engine.old) (E.group engine.old) g xs (2 ^ 40 - 1) start seen (E.memory engine.old) (E.memory engine.new) reader.new (S.feed source.new) (K.held sink.old) (K.held sink.new) (D.story (E.disk engine.old)) (D.story (E.disk engine.new)) }
     ensures works { (result ≡ Stop.DiskFault → ⊥) → E.works engine.new ≡ true }
+    ensures next { (result ≡ Stop.WriteFault → ⊥) → (result ≡ Stop.DiskFault → ⊥) → E.next engine.new ≡ Next.Line }
+    ensures sizes { (E.sessions engine.new ≡ E.sessions engine.old) × (E.group engine.new ≡ E.group engine.old) }
 
     ensures cause_read_fault { HasCause (S.faults source.old) (S.faults source.new) (result ≡ Stop.ReadFault) }
     ensures cause_write_fault { HasCause (K.faults sink.old) (K.faults sink.new) (result ≡ Stop.WriteFault) }
-    ensures cause_disk_fault { HasCause (E.faults engine.old) (E.faults engine.new) (result ≡ Stop.DiskFault) }
+    ensures cause_disk_fault { HasCause (D.faults (E.disk engine.old)) (D.faults (E.disk engine.new)) (result ≡ Stop.DiskFault) }
 {
     match take_step(engine, reader, source, sink, LINES) {
         Some(stop) => stop,
@@ -79,42 +92,117 @@ fn take_step<S: Source, K: Sink<D>, D: Disk, E: Calls<D>>(
 ) -> Option<Stop>
     requires number { (1 ≤ number) × (number ≤ 2 ^ 40) }
     requires works { E.works engine.old ≡ true }
-    ensures runs { (g : Opening) (xs : List Done) (start : Feed) (seen : List ℕ) → E.in_run engine.old g xs → Reading start (S.feed source.old) reader.old seen
-        → Stepped (E.in_run engine.new g) 1 result g xs (number - 1) start seen (E.log_of engine.old) (E.log_of engine.new) reader.new (S.feed source.new) (K.held sink.old) (K.held sink.new) (E.story engine.old) (E.story engine.new) }
+    requires next { E.next engine.old ≡ Next.Line }
+    ensures runs { (g : Opening) (xs : List Done) (start : Feed) (seen : List ℕ) → E.in_run engine.old g xs (durables g (moments xs)) → Reading start (S.feed source.old) reader.old seen
+        → Stepped (E.in_run engine.new g) 1 result (E.sessions engine.old) (E.group engine.old) g xs (number - 1) start seen (E.memory engine.old) (E.memory engine.new) reader.new (S.feed source.new) (K.held sink.old) (K.held sink.new) (D.story (E.disk engine.old)) (D.story (E.disk engine.new)) }
     ensures few { result ≡ None → number < 2 ^ 40 }
     ensures works { (result ≡ Some Stop.DiskFault → ⊥) → E.works engine.new ≡ true }
+    ensures next { (result ≡ Some Stop.WriteFault → ⊥) → (result ≡ Some Stop.DiskFault → ⊥) → E.next engine.new ≡ Next.Line }
+    ensures sizes { (E.sessions engine.new ≡ E.sessions engine.old) × (E.group engine.new ≡ E.group engine.old) }
 
     ensures cause_read_fault { HasCause (S.faults source.old) (S.faults source.new) (result ≡ Some Stop.ReadFault) }
     ensures cause_write_fault { HasCause (K.faults sink.old) (K.faults sink.new) (result ≡ Some Stop.WriteFault) }
-    ensures cause_disk_fault { HasCause (E.faults engine.old) (E.faults engine.new) (result ≡ Some Stop.DiskFault) }
+    ensures cause_disk_fault { HasCause (D.faults (E.disk engine.old)) (D.faults (E.disk engine.new)) (result ≡ Some Stop.DiskFault) }
 {
     // What a crash between two calls leaves.
     laws();
     engine.told();
-    let call = match next_call(reader, source, number) {
-        Ok(call) => call,
+    let line = match next_call(reader, source, engine.session_count(), number) {
+        Ok(line) => line,
         Err(stop) => return Some(stop),
     };
-    let Some(answer) = call_engine(engine, &call) else {
+    let Some(answer) = call_engine(engine, line.session, &line.call) else {
         return Some(Stop::DiskFault);
     };
     engine.told();
-    put_answer(engine, sink, &answer)
+    if let Some(stop) = put_answer(engine, sink, line.session, &answer) {
+        return Some(stop);
+    }
+    if !met_conflict(&answer) {
+        return None;
+    }
+    abort_hindered(engine, sink, line.session)
+}
+
+// Whether it is that a row is held by another session.
+fn met_conflict(answer: &Answer) -> bool
+    ensures { result ≡ is_conflict_in answer.now }
+{
+    match *answer {
+        Answer::Refused(Refusal::Conflict { .. }) => true,
+        _ => false,
+    }
+}
+
+// The transaction whose call met a conflict is aborted, and what that is answered is put.
+fn abort_hindered<K: Sink<D>, D: Disk, E: Calls<D>>(
+    engine: &mut E,
+    sink: &mut K,
+    session: u32,
+) -> Option<Stop>
+    requires works { E.works engine.old ≡ true }
+    requires next { E.next engine.old ≡ Next.Abort }
+    ensures runs { (g : Opening) (y : Done) (earlier : List Done) (c : Asked) → E.in_run engine.old g (y ∷ earlier) (durables g (moments (y ∷ earlier))) → hindered_in y.outcome.deed ≡ Some c → y.outcome.session ≡ session
+        → AbortRuns (E.in_run engine.new g) result (record { session = session; call = c }) (E.group engine.old) g (y ∷ earlier) (E.memory engine.old) (E.memory engine.new) (K.held sink.old) (K.held sink.new) (D.story (E.disk engine.old)) (D.story (E.disk engine.new)) }
+    ensures stops { MayRun result }
+    ensures works { (result ≡ Some Stop.DiskFault → ⊥) → E.works engine.new ≡ true }
+    ensures next { result ≡ None → E.next engine.new ≡ Next.Line }
+    ensures sizes { (E.sessions engine.new ≡ E.sessions engine.old) × (E.group engine.new ≡ E.group engine.old) }
+
+    ensures cause_write_fault { HasCause (K.faults sink.old) (K.faults sink.new) (result ≡ Some Stop.WriteFault) }
+    ensures cause_disk_fault { HasCause (D.faults (E.disk engine.old)) (D.faults (E.disk engine.new)) (result ≡ Some Stop.DiskFault) }
+{
+    laws();
+    engine.told();
+    let Some(answer) = abort_engine(engine) else {
+        return Some(Stop::DiskFault);
+    };
+    engine.told();
+    put_answer(engine, sink, session, &answer)
 }
 
 // Calls an engine that works. No answer means that its disk failed.
-fn call_engine<D: Disk, E: Calls<D>>(engine: &mut E, call: &Call) -> Option<Answer>
-    requires within { IsWithin call.now }
+fn call_engine<D: Disk, E: Calls<D>>(engine: &mut E, session: u32, call: &Call) -> Option<Answer>
+    requires asked { IsAsked (E.sessions engine.old) session call.now }
     requires works { E.works engine.old ≡ true }
-    ensures does { IfSome result (λ a. (g : Opening) (xs : List Done) → E.in_run engine.old g xs
-        → (d : Does g 1 xs 1 call.now a (E.log_of engine.old) (E.log_of engine.new) (E.story engine.old) (E.story engine.new)) × E.in_run engine.new g (d.done ∷ xs)) }
+    requires next { E.next engine.old ≡ Next.Line }
+    ensures does { IfSome result (λ a. (g : Opening) (xs : List Done) (names : List Name) → E.in_run engine.old g xs names
+        → (d : Does g (E.group engine.old) xs session call.now a (E.memory engine.old) (E.memory engine.new) (D.story (E.disk engine.old)) (D.story (E.disk engine.new))) × E.in_run engine.new g (d.done ∷ xs) names) }
     ensures fits { IfSome result AnswerFits }
     ensures works { IfSome result (λ a. E.works engine.new ≡ true) }
-    ensures fails { result ≡ None → (g : Opening) (xs : List Done) → E.in_run engine.old g xs → Fails g 1 xs 1 call.now (E.log_of engine.old) (E.story engine.old) (E.story engine.new) }
+    ensures next { IfSome result (λ a. E.next engine.new ≡ behind_answer a) }
+    ensures sizes { (E.sessions engine.new ≡ E.sessions engine.old) × (E.group engine.new ≡ E.group engine.old) }
+    ensures fails { result ≡ None → (g : Opening) (xs : List Done) (names : List Name) → E.in_run engine.old g xs names → Fails g (E.group engine.old) xs session call.now (E.memory engine.old) (D.story (E.disk engine.old)) (D.story (E.disk engine.new)) }
 
-    ensures cause { HasCause (E.faults engine.old) (E.faults engine.new) (result ≡ None) }
+    ensures cause { HasCause (D.faults (E.disk engine.old)) (D.faults (E.disk engine.new)) (result ≡ None) }
 {
-    match engine.call(call) {
+    match engine.call(session, call) {
+        Ok(answer) => {
+            has_line(&answer);
+            Some(answer)
+        }
+        Err(Unanswered::DiskFault) => None,
+        Err(Unanswered::Broken) => unreachable!(),
+    }
+}
+
+// And asks it for the abort that is due.
+fn abort_engine<D: Disk, E: Calls<D>>(engine: &mut E) -> Option<Answer>
+    requires works { E.works engine.old ≡ true }
+    requires next { E.next engine.old ≡ Next.Abort }
+    ensures does { IfSome result (λ a. (g : Opening) (y : Done) (earlier : List Done) (names : List Name) → E.in_run engine.old g (y ∷ earlier) names → (c : Asked) → hindered_in y.outcome.deed ≡ Some c
+        → (d : Does g (E.group engine.old) (y ∷ earlier) y.outcome.session c a (E.memory engine.old) (E.memory engine.new) (D.story (E.disk engine.old)) (D.story (E.disk engine.new))) × E.in_run engine.new g (d.done ∷ y ∷ earlier) names) }
+    ensures fits { IfSome result AnswerFits }
+    ensures last { IfSome result (λ a. is_last a ≡ true) }
+    ensures works { IfSome result (λ a. E.works engine.new ≡ true) }
+    ensures next { IfSome result (λ a. E.next engine.new ≡ Next.Durables false) }
+    ensures sizes { (E.sessions engine.new ≡ E.sessions engine.old) × (E.group engine.new ≡ E.group engine.old) }
+    ensures fails { result ≡ None → (g : Opening) (y : Done) (earlier : List Done) (names : List Name) → E.in_run engine.old g (y ∷ earlier) names → (c : Asked) → hindered_in y.outcome.deed ≡ Some c
+        → Fails g (E.group engine.old) (y ∷ earlier) y.outcome.session c (E.memory engine.old) (D.story (E.disk engine.old)) (D.story (E.disk engine.new)) }
+
+    ensures cause { HasCause (D.faults (E.disk engine.old)) (D.faults (E.disk engine.new)) (result ≡ None) }
+{
+    match engine.abort_hindered() {
         Ok(answer) => {
             has_line(&answer);
             Some(answer)
@@ -130,7 +218,6 @@ fn laws()
 {
     core_disk::every_shown();
     core_calls::every_run_crash();
-    core_calls::every_alone();
     disk_image::every_agreement();
     worker_log::every_kept();
     worker_log::every_prefix();

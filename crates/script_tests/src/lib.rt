@@ -16,6 +16,8 @@ mod rows;
 #[cfg(test)]
 mod scripts;
 #[cfg(test)]
+mod sessions;
+#[cfg(test)]
 mod sweeps;
 #[cfg(test)]
 mod texts;

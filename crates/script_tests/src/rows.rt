@@ -9,15 +9,15 @@ use std::sync::Wait;
 use std::thread::Threads;
 
 // A command and its script; its status, and what is printed.
-struct Run {
-    command: Command,
-    script: Lines,
-    status: u8,
-    printed: Lines,
+pub(crate) struct Run {
+    pub command: Command,
+    pub script: Lines,
+    pub status: u8,
+    pub printed: Lines,
 }
 
 // Bytes of an area at a place, and so many zeros behind them.
-struct Bytes {
+pub(crate) struct Bytes {
     area: u32,
     at: usize,
     bytes: &'static [u8],
@@ -25,17 +25,17 @@ struct Bytes {
 }
 
 // How many bytes of an area a disk holds, and some of them.
-struct Leaves {
+pub(crate) struct Leaves {
     lens: &'static [(u32, usize)],
     bytes: &'static [Bytes],
 }
 
 // Runs on an empty disk, one after another, and what the disk holds then, if it is looked at. Behind each run a page may be left out.
-struct Case {
-    name: &'static str,
-    left_out: Option<u32>,
-    runs: &'static [Run],
-    leaves: Option<Leaves>,
+pub(crate) struct Case {
+    pub name: &'static str,
+    pub left_out: Option<u32>,
+    pub runs: &'static [Run],
+    pub leaves: Option<Leaves>,
 }
 
 const FORMATTED: Run = Run {
@@ -425,6 +425,7 @@ static CASES: [Case; 19] = [
         leaves: None,
     },
 ];
+
 // Whether the bytes stand at their place, and the zeros behind them.
 fn holds(disk: &MemDisk, part: &Bytes) -> bool {
     let Some(rest) = disk.bytes(part.area).get(part.at..) else {
@@ -467,12 +468,12 @@ fn leave_out(disk: &mut MemDisk, page: Option<u32>) {
 }
 
 // Whether each run ends and prints as is written, and the disk is so then.
-fn is_met<R: Threads + Wait + Sync>(
+pub(crate) fn is_met<R: Threads + Wait + Sync>(
     rt: &R,
     alloc: Global,
     case: &Case,
 ) -> Result<bool, AllocError> {
-    let mut disk = MemDisk::new(alloc, 3)?;
+    let mut disk = MemDisk::new(alloc, 18)?;
     for run in case.runs {
         let done = run_text(
             rt,

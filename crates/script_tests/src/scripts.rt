@@ -76,6 +76,12 @@ fn sink_of(alloc: Global, case: &Case) -> Result<MemSink, AllocError> {
     Ok(sink)
 }
 
+const SIZE: Size = Size {
+    rows: 64,
+    group: 1,
+    sessions: 16,
+};
+
 // How a script ends on the engine of a formatted disk; none where that is not opened.
 fn stop_on(
     alloc: Global,
@@ -84,7 +90,7 @@ fn stop_on(
     source: &mut MemSource,
     sink: &mut MemSink,
 ) -> Option<Stop> {
-    let mut engine = match Engine::open(alloc, disk, Size { rows: 64 }) {
+    let mut engine = match Engine::open(alloc, disk, SIZE) {
         Ok(
             Opened {
                 engine,

@@ -7,7 +7,7 @@ use std::alloc::{AllocError, Global};
 use std::sync::Wait;
 use std::thread::Threads;
 
-// Text so many times, for each number from the first to the last: `#` stands for it, `@` for its double.
+// Text so many times, for each number from the first to the last: `#` stands for it, `@` for its double, `+` for the next one.
 pub(crate) struct Text(pub &'static str, pub u32, pub u32);
 
 // A text as it stands, or texts.
@@ -16,11 +16,15 @@ pub(crate) enum Lines {
     Many(&'static [Text]),
 }
 
-// On so many pages, for a format.
+// A format on so many pages, or for so many sessions; a run, or one that flushes two or 64 commits at once; a dump.
 pub(crate) enum Command {
     Format16,
     Format64,
+    FormatTwo,
+    FormatSixteen,
     Run,
+    RunTwo,
+    RunMany,
     Dump,
 }
 
@@ -34,13 +38,14 @@ fn put_number(all: &mut Vec<u8>, number: u32) -> Result<(), AllocError> {
     all.extend_from_slice(digits.format(number).as_bytes())
 }
 
-// Adds the text, with a number and its double in their places.
+// Adds the text, with a number, its double and the next one in their places.
 fn put_text(all: &mut Vec<u8>, text: &str, number: u32) -> Result<(), AllocError> {
     for letter in text.as_bytes() {
         match *letter {
             b';' => all.push(b'\n')?,
             b'#' => put_number(all, number)?,
             b'@' => put_number(all, number.saturating_mul(2))?,
+            b'+' => put_number(all, number.saturating_add(1))?,
             letter => all.push(letter)?,
         }
     }
@@ -69,7 +74,11 @@ pub(crate) fn words_of(command: &Command) -> &'static str {
     match command {
         Command::Format16 => FORMAT,
         Command::Format64 => "lean format --workers 1 --pages 64 --blocks 64",
+        Command::FormatTwo => "lean format --workers 2 --pages 16 --blocks 64",
+        Command::FormatSixteen => "lean format --workers 16 --pages 16 --blocks 64",
         Command::Run => RUN,
+        Command::RunTwo => "lean run --group 2",
+        Command::RunMany => "lean run --group 64",
         Command::Dump => "lean dump",
     }
 }

@@ -16,7 +16,7 @@ const OPENED: &[u8] = b"open 1 winners 0 undone 0\n";
 
 const ENDED: &[u8] = b"end\n";
 
-static LINES: [Line; 126] = [
+static LINES: [Line; 191] = [
     // No command.
     Line("", 2, NONE),
     Line("lean", 2, NONE),
@@ -90,12 +90,64 @@ static LINES: [Line; 126] = [
     Line("lean run --rows 1_6", 2, NONE),
     Line("lean run --rows ١٦", 2, NONE),
     Line("lean run --rows x", 2, NONE),
+    // How many commits of a session are flushed at once.
+    Line("lean run --group 1", 0, OPENED),
+    Line("lean run --group 2", 0, OPENED),
+    Line("lean run --group 63", 0, OPENED),
+    Line("lean run --group 64", 0, OPENED),
+    Line("lean run --group=1", 0, OPENED),
+    Line("lean run --group=64", 0, OPENED),
+    Line("lean run --group 64 --", 0, OPENED),
+    Line("lean run --rows 16 --group 64", 0, OPENED),
+    Line("lean run --group 64 --rows 16", 0, OPENED),
+    Line("lean run --rows=4096 --group=1", 0, OPENED),
+    Line("lean run --group 1 --rows=16", 0, OPENED),
+    Line("lean run --group 0", 2, NONE),
+    Line("lean run --group=0", 2, NONE),
+    Line("lean run --group 65", 2, NONE),
+    Line("lean run --group=65", 2, NONE),
+    Line("lean run --group 4294967297", 2, NONE),
+    Line("lean run --group 18446744073709551617", 2, NONE),
+    Line("lean run --group", 2, NONE),
+    Line("lean run --group ", 2, NONE),
+    Line("lean run --group=", 2, NONE),
+    Line("lean run --group= 1", 2, NONE),
+    Line("lean run --group =1", 2, NONE),
+    Line("lean run --group==1", 2, NONE),
+    Line("lean run --group -- 1", 2, NONE),
+    Line("lean run --group 1 1", 2, NONE),
+    Line("lean run --group 1 --group 1", 2, NONE),
+    Line("lean run --group 1 --group=2", 2, NONE),
+    Line("lean run --group=1 --group=1", 2, NONE),
+    Line("lean run --group 1 --rows 16 --group 1", 2, NONE),
+    Line("lean run --rows 16 --group 1 --rows 16", 2, NONE),
+    Line("lean run --group +1", 2, NONE),
+    Line("lean run --group -1", 2, NONE),
+    Line("lean run --group=-1", 2, NONE),
+    Line("lean run --group 01", 2, NONE),
+    Line("lean run --group 1.0", 2, NONE),
+    Line("lean run --group 0x1", 2, NONE),
+    Line("lean run --group ١", 2, NONE),
+    Line("lean run --group x", 2, NONE),
+    Line("lean run --group --rows 16", 2, NONE),
+    Line("lean run --rows 15 --group 1", 2, NONE),
+    Line("lean run --rows 16 --group 65", 2, NONE),
+    Line("lean run --group --help", 2, NONE),
+    Line("lean run --group 1 --help", 2, NONE),
+    Line("lean run --groups 1", 2, NONE),
+    Line("lean run --Group 1", 2, NONE),
+    Line("lean run -group 1", 2, NONE),
+    Line("lean run -g 1", 2, NONE),
+    Line("lean --group 1 run", 2, NONE),
+    Line("lean run -- --group", 2, NONE),
     Line("lean run --row 16", 2, NONE),
     Line("lean run --Rows 16", 2, NONE),
     Line("lean run -rows 16", 2, NONE),
     Line("lean run -r 16", 2, NONE),
     Line("lean --rows 16 run", 2, NONE),
     Line("lean run --frames 32", 2, NONE),
+    Line("lean run --workers 1", 2, NONE),
+    Line("lean run --sessions 16", 2, NONE),
     Line("lean run 1", 2, NONE),
     Line("lean run ", 2, NONE),
     Line("lean run -", 2, NONE),
@@ -110,6 +162,7 @@ static LINES: [Line; 126] = [
     Line("lean dump ", 2, NONE),
     Line("lean dump dump", 2, NONE),
     Line("lean dump --rows 16", 2, NONE),
+    Line("lean dump --group 1", 2, NONE),
     // A format: its options in any order, apart or with `=`.
     Line(
         "lean format --workers 1 --pages 16 --blocks 64",
@@ -156,12 +209,43 @@ static LINES: [Line; 126] = [
         0,
         b"formatted 1 4096 4096\n",
     ),
+    Line(
+        "lean format --workers 2 --pages 16 --blocks 64",
+        0,
+        b"formatted 2 16 64\n",
+    ),
+    Line(
+        "lean format --pages 16 --workers=15 --blocks 64",
+        0,
+        b"formatted 15 16 64\n",
+    ),
+    Line(
+        "lean format --workers 16 --pages 16 --blocks 64",
+        0,
+        b"formatted 16 16 64\n",
+    ),
+    Line(
+        "lean format --blocks=64 --pages=16 --workers=16",
+        0,
+        b"formatted 16 16 64\n",
+    ),
     Line("lean format", 2, NONE),
     Line("lean format --pages 64 --blocks 64", 2, NONE),
     Line("lean format --workers 1 --blocks 64", 2, NONE),
     Line("lean format --workers 1 --pages 64", 2, NONE),
     Line("lean format --workers 0 --pages 64 --blocks 64", 2, NONE),
-    Line("lean format --workers 2 --pages 64 --blocks 64", 2, NONE),
+    Line("lean format --workers=0 --pages 64 --blocks 64", 2, NONE),
+    Line("lean format --workers 17 --pages 64 --blocks 64", 2, NONE),
+    Line("lean format --workers=17 --pages 64 --blocks 64", 2, NONE),
+    Line("lean format --workers +1 --pages 64 --blocks 64", 2, NONE),
+    Line("lean format --workers -1 --pages 64 --blocks 64", 2, NONE),
+    Line("lean format --workers 016 --pages 64 --blocks 64", 2, NONE),
+    Line(
+        "lean format --workers 4294967297 --pages 64 --blocks 64",
+        2,
+        NONE,
+    ),
+    Line("lean format --workers= --pages 64 --blocks 64", 2, NONE),
     Line("lean format --workers 01 --pages 64 --blocks 64", 2, NONE),
     Line("lean format --workers --pages 64 --blocks 64", 2, NONE),
     Line("lean format --workers 1 --pages 15 --blocks 64", 2, NONE),
@@ -187,6 +271,11 @@ static LINES: [Line; 126] = [
         NONE,
     ),
     Line(
+        "lean format --workers=1 --pages 64 --workers=16 --blocks 64",
+        2,
+        NONE,
+    ),
+    Line(
         "lean format --workers 1 --pages 64 --pages 64 --blocks 64",
         2,
         NONE,
@@ -203,6 +292,11 @@ static LINES: [Line; 126] = [
         NONE,
     ),
     Line(
+        "lean format --workers 1 --pages 64 --blocks 64 --group 1",
+        2,
+        NONE,
+    ),
+    Line(
         "lean format --workers 1 --pages 64 --blocks 64 --frames 32",
         2,
         NONE,
@@ -213,7 +307,7 @@ static LINES: [Line; 126] = [
 // A new disk for a format, and this one for all else.
 fn disk_for(alloc: Global, text: &str, whole: &MemDisk) -> Result<MemDisk, AllocError> {
     if text.starts_with("lean format") {
-        MemDisk::new(alloc, 3)
+        MemDisk::new(alloc, 18)
     } else {
         whole.crash(whole.moment(), Choice::AllBytes)
     }

@@ -38,6 +38,7 @@ call_line : (c : Call) → CallFits c → IsLine (call_text c)
 call_line call.Begin fits = search rules
 call_line call.Commit fits = search rules
 call_line call.Abort fits = search rules
+call_line call.Sync fits = search rules
 call_line (call.Get key) fits = let fits_64 : key < 2 ^ 64 = omega arith in let number = line_number key fits_64 in search (rules, number)
 call_line (call.Del key) fits = let fits_64 : key < 2 ^ 64 = omega arith in let number = line_number key fits_64 in search (rules, number)
 call_line (call.Put key value) fits =
@@ -49,12 +50,18 @@ call_line (call.Put key value) fits =
     search (rules, first)
 call_line _ fits = absurd fits
 
-pub ask_line : (workers session : ℕ) (c : Call) → workers < 2 ^ 32 → LineFits workers session c → IsLine (ask session c)
-ask_line workers session c many fits =
-    let last : session ≤ workers = fits.last in
-    let rest = call_line c fits.fits in
+asked_line : (s : ℕ) (c : Call) → s < 2 ^ 32 → CallFits c → IsLine (decimal s ++ 32 ∷ call_text c)
+asked_line s c small fits =
+    let rest = call_line c fits in
     let spaced : IsLine (32 ∷ call_text c) = search (rules, rest) in
-    line_with_number session (32 ∷ call_text c) (omega arith) spaced
+    line_with_number s (32 ∷ call_text c) (omega arith) spaced
+
+pub ask_line : (workers session : ℕ) (c : Call) → workers < 2 ^ 32 → LineFits workers session c → IsLine (ask session c)
+ask_line workers s call.Sync many fits = search rules
+ask_line workers s c many fits = asked_line s c (within fits.session) fits.fits
+  where
+    within : (1 ≤ s) × (s ≤ workers) → s < 2 ^ 32
+    within is = let last : s ≤ workers = is.1 in omega arith
 
 -- the lines of a script that begins with what asks calls
 pub asked_begins : (workers : ℕ) (xs : List (ℕ × Call)) (more : List ℕ) → workers < 2 ^ 32 → EachLineFits workers xs → script_lines (asked_text xs ++ more) ≡ asked_lines xs ++ script_lines more

@@ -8,3 +8,4 @@ pub mod AskedLemmas
 pub mod NextLemmas
 pub mod EndLemmas
 pub mod MoreLemmas
+pub mod OrderLemmas

@@ -3,14 +3,15 @@ use Rattle.std.proofs.Common.{◌≡◌, ◌++◌, ◌∷◌, [], ◌==◌, ℕ,
 use Rattle.std.proofs.lemmas.Bool.{cond-true, cond-false, eqb-false}
 use Rattle.map_model.specs.declared.call.Answer.{Answer}
 use Rattle.script_lang.specs.Notices.{Notice, notice_text, NoticeFits}
-use Rattle.map_model.specs.Outputs.{Reply}
+use Rattle.map_model.specs.Outputs.{Reply, answers_told}
+use Rattle.map_model.specs.declared.call.Answered.{Answered}
 use Rattle.script_lang.specs.Replies.{reply_line, reply_of, reply_text, Fits}
 use Rattle.script_lang.specs.Text.{lines_on, no_line, script_lines, whole_lines, IsLine}
-use Rattle.map_model.specs.Pairings.{paired, answers_in, in_turn, script_of}
+use Rattle.map_model.specs.Pairings.{counted, paired, answers_in, EachIsAnswered, in_turn, script_of}
 use Rattle.map_model.proofs.PairLemmas.{every_pair}
 use mathlib.Core.List.{append_assoc}
-use Rattle.transcripts.specs.Told.{ask, asked_lines}
-use Rattle.transcripts.specs.Transcripts.{answers, asked, first_lines}
+use Rattle.transcripts.specs.Told.{ask, asked_lines, IsOutput}
+use Rattle.transcripts.specs.Transcripts.{answers, asked, first_lines, transcript}
 use Rattle.transcripts.specs.Laws.{EveryNextInTurn, EveryNextReply, EveryTail}
 use Rattle.transcripts.proofs.LineLemmas.{each_append, EachIsLine, lines_back, lines_text_append}
 use Rattle.transcripts.proofs.ReplyLemmas.{answers_append, answers_one, answers_output, tail_is_quiet}
@@ -46,8 +47,10 @@ module _ (back : (reply : Reply) → Fits reply → (reply_of (reply_text reply)
   pub every_tail : EveryTail
   every_tail workers input tail is = ap (paired (asked workers (script_lines input))) (tail_is_quiet back quiet tail is).answers_none
 
-  pub every_next_reply : EveryNextReply
-  every_next_reply workers g w u x xs told input output count each_answered fits are is =
+  -- where the answers to the earlier lines are among the replies
+  pub next_told : (workers g w u : ℕ) (x : Answered) (xs : List Answered) (told : List Reply) (input output : List ℕ) (count : ℕ) → EachIsAnswered (asked workers (script_lines input)) (in_turn (x ∷ xs)) → Fits (Reply.Answered x.session x.answer)
+      → answers_told told ≡ answers_in (in_turn xs) → IsOutput g w u told (first_lines count output) → transcript workers input (first_lines count output ++ reply_line (Reply.Answered x.session x.answer)) ≡ counted (in_turn (x ∷ xs))
+  next_told workers g w u x xs told input output count each_answered fits are is =
       let ls : List (List ℕ) = take count (whole_lines output) in
       let r : Reply = Reply.Answered x.session x.answer in
       let each : EachIsLine (take count (whole_lines output)) = each_take count (whole_lines output) (each_whole [] output tt) in
@@ -55,13 +58,16 @@ module _ (back : (reply : Reply) → Fits reply → (reply_of (reply_text reply)
       ap whole_lines (sym (lines_text_append (take count (whole_lines output)) (reply_text r ∷ [])))
       ∙ lines_back (take count (whole_lines output) ++ reply_text r ∷ []) (each_append (take count (whole_lines output)) (reply_text r ∷ []) each ((back r fits).1, tt)) in
       let were : answers (take count (whole_lines output)) ≡ answers_in (in_turn xs) =
-      ap answers (sym (lines_back (take count (whole_lines output)) each)) ∙ answers_output back quiet g w u told (first_lines count output) is ∙ are.answers in
+      ap answers (sym (lines_back (take count (whole_lines output)) each)) ∙ answers_output back quiet g w u told (first_lines count output) is ∙ are in
       let said : answers (whole_lines (first_lines count output ++ reply_line r)) ≡ answers_in (in_turn (x ∷ xs)) =
       ap answers whole ∙ answers_append (take count (whole_lines output)) (reply_text r ∷ [])
       ∙ ap (λ (more : List (ℕ × Answer)). answers (take count (whole_lines output)) ++ more) (answers_one back quiet r fits)
       ∙ ap (λ (before : List (ℕ × Answer)). before ++ (x.session, x.answer) ∷ []) were
       ∙ sym (heard.answers_append (in_turn xs) (x ∷ [])) in
       ap (paired (asked workers (script_lines input))) said ∙ every_pair (asked workers (script_lines input)) (in_turn (x ∷ xs)) each_answered
+
+  pub every_next_reply : EveryNextReply
+  every_next_reply workers g w u x xs told input output count each_answered fits are is = next_told workers g w u x xs told input output count each_answered fits are.answers is
 
   pub every_next_in_turn : EveryNextInTurn
   every_next_in_turn workers g w u x xs told others input output count many fit begins heard_so is =

@@ -200,7 +200,7 @@ keep_append p (x ∷ xs) ys = go (keep_append p xs ys) (p x)
     go ih true = ap (λ (l : List Answered). x ∷ l) ih
     go ih false = ih
 
-first_in_order : (lines : List (ℕ × Call)) (later first xs : List Answered) → later ++ first ≡ xs → EachIsAnswered lines (in_turn xs) → EachIsAnswered lines (in_turn first)
+pub first_in_order : (lines : List (ℕ × Call)) (later first xs : List Answered) → later ++ first ≡ xs → EachIsAnswered lines (in_turn xs) → EachIsAnswered lines (in_turn first)
 first_in_order lines later first xs e a w =
     first_answer (calls_of w lines) (keep (is_of w) (in_turn first)) (keep (is_of w) (in_turn later))
     (subst (AreAnswered (calls_of w lines)) (ap (λ (ys : List Answered). keep (is_of w) (in_turn ys)) (sym e) ∙ (ap (keep (is_of w)) (turn_append later first) ∙ keep_append (is_of w) (in_turn first) (in_turn later))) (a w))

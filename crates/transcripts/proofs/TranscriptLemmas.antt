@@ -4,24 +4,20 @@ use Rattle.std.proofs.lemmas.Bool.{and_from, cond-true, cond-false, eq-eqb, or_l
 use Rattle.std.proofs.lemmas.List.{append-nil}
 use mathlib.Core.List.{append_assoc}
 use Rattle.map_model.specs.declared.call.Call.{Call}
-use Rattle.map_model.specs.declared.call.Answer.{Answer}
-use Rattle.map_model.specs.declared.call.Answer.TheVariants as answer
 use Rattle.map_model.specs.declared.call.Answered.{Answered}
-use Rattle.map_model.specs.declared.call.Refusal.{Refusal}
-use Rattle.map_model.specs.declared.call.Refusal.TheVariants as refusal
 use Rattle.map_model.specs.Lists.{Has}
-use Rattle.map_model.specs.Outputs.{Reply, names}
+use Rattle.map_model.specs.Outputs.{Reply, answers_told, names}
 use Rattle.map_model.specs.Transcripts as model
-use Rattle.map_model.specs.Pairings.{is_last, is_last_refusal, ends_for, counted, paired, answers_in, EachIsAnswered, in_turn, is_open_line, script_of, EachGoesOn}
+use Rattle.map_model.specs.Pairings.{is_last, ends_for, counted, paired, answers_in, EachIsAnswered, in_turn, is_open_line, script_of, EachGoesOn}
 use Rattle.map_model.proofs.PairLemmas.{every_pair, every_script}
 use Rattle.map_model.proofs.CountLemmas.{every_count}
 use Rattle.script_lang.specs.declared.line.Line.{Line}
 use Rattle.script_lang.specs.Notices.{Notice, notice_text, NoticeFits}
-use Rattle.script_lang.specs.Replies.{reply_of, reply_text, Fits, AnswerFits, RefusalFits}
-use Rattle.script_lang.specs.Text.{script_lines, whole_lines, IsLine}
+use Rattle.script_lang.specs.Replies.{reply_of, reply_text, Fits}
+use Rattle.script_lang.specs.Text.{script_lines, IsLine}
 use Rattle.script_lang.proofs.LineLemmas.{line_read}
 use Rattle.transcripts.specs.Told.{ask, asked_lines, AreAnswers, EachLineFits, EachFits, Heard, IsOutput}
-use Rattle.transcripts.specs.Transcripts.{asked, asked_onto, answers, transcript, durables}
+use Rattle.transcripts.specs.Transcripts.{asked, asked_onto, transcript, durables}
 use Rattle.transcripts.specs.Laws.{EveryAsked, TellsOf, TellsInTurn}
 use Rattle.transcripts.proofs.HeardLemmas.{durable_committed, heard_answers, names_are}
 use Rattle.transcripts.proofs.ReplyLemmas.{answers_output, durables_output}
@@ -33,7 +29,7 @@ pub every_asked : EveryAsked
 every_asked workers [] others many fit = refl
 every_asked workers (x ∷ xs) others many fit =
     let line : Line = record { session = x.0; call = x.1 } in
-    ap (λ (o : Option Line). asked_onto o (asked workers (asked_lines xs ++ others))) (line_read workers (ask x.0 x.1) line many (record { spelled = refl; first = fit.0.first; last = fit.0.last; call = fit.0.fits }))
+    ap (λ (o : Option Line). asked_onto o (asked workers (asked_lines xs ++ others))) (line_read workers (ask x.0 x.1) line many (record { spelled = refl; session = fit.0.session; call = fit.0.fits }))
     ∙ ap (λ (l : List (ℕ × Call)). x ∷ l) (every_asked workers xs others many fit.1)
 
 line_append : (workers : ℕ) (xs ys : List (ℕ × Call)) → EachLineFits workers xs → EachLineFits workers ys → EachLineFits workers (xs ++ ys)
@@ -55,18 +51,9 @@ abbrev EachIsLast : List Answered → Type 0
 EachIsLast [] = Unit {0}
 EachIsLast (x ∷ xs) = EachIsLast xs × (is_last x.answer ≡ true)
 
-refusal_last : (r : Refusal) → RefusalFits r → is_last_refusal r ≡ true
-refusal_last (refusal.Conflict h) fits = absurd fits
-refusal_last _ fits = refl
-
-answer_last : (a : Answer) → AnswerFits a → is_last a ≡ true
-answer_last (answer.Pair k v) fits = absurd fits
-answer_last (answer.Refused r) fits = refusal_last r fits
-answer_last _ fits = refl
-
 fits_last : (workers : ℕ) (xs : List Answered) → EachFits workers xs → EachIsLast xs
 fits_last workers [] fit = tt
-fits_last workers (x ∷ earlier) fit = (fits_last workers earlier fit.0, answer_last x.answer fit.2.1)
+fits_last workers (x ∷ earlier) fit = (fits_last workers earlier fit.0, fit.3)
 
 last_push : (xs : List Answered) (x : Answered) → EachIsLast xs → is_last x.answer ≡ true → EachIsLast (xs ++ x ∷ [])
 last_push [] x l e = (tt, e)
@@ -112,12 +99,20 @@ fits_closed workers xs fit = closed xs (fits_last workers xs fit)
 -- ## What is told
 
 module _ (back : (reply : Reply) → Fits reply → (reply_of (reply_text reply) ≡ Some reply) × IsLine (reply_text reply)) (quiet : (line : Notice) → NoticeFits line → (reply_of (notice_text line) ≡ None) × IsLine (notice_text line)) where
+  -- where the answers to these lines are among the replies
+  pub calls_told : (workers g w u : ℕ) (xs : List Answered) (told : List Reply) (input output : List ℕ) → EachIsAnswered (asked workers (script_lines input)) (in_turn xs) → answers_told told ≡ answers_in (in_turn xs) → IsOutput g w u told output →
+      transcript workers input output ≡ counted (in_turn xs)
+  calls_told workers g w u xs told input output each are is =
+      ap (paired (asked workers (script_lines input))) (answers_output back quiet g w u told output is ∙ are) ∙ every_pair (asked workers (script_lines input)) (in_turn xs) each
+
+  pub names_told : (g w u : ℕ) (told : List Reply) (output : List ℕ) → IsOutput g w u told output → durables output ≡ names told
+  names_told g w u told output is = durables_output back quiet g w u told output is
+
   pub tells_of : (workers g w u : ℕ) (xs : List Answered) (told : List Reply) (input output : List ℕ) → EachIsAnswered (asked workers (script_lines input)) (in_turn xs) → AreAnswers xs told → IsOutput g w u told output →
       TellsOf workers xs told input output
   tells_of workers g w u xs told input output each are is =
-      let said : answers (whole_lines output) ≡ answers_in (in_turn xs) = answers_output back quiet g w u told output is ∙ are.answers in
-      let turn : transcript workers input output ≡ counted (in_turn xs) = ap (paired (asked workers (script_lines input))) said ∙ every_pair (asked workers (script_lines input)) (in_turn xs) each in
-      let durable : durables output ≡ names told = durables_output back quiet g w u told output is in
+      let turn : transcript workers input output ≡ counted (in_turn xs) = calls_told workers g w u xs told input output each are.answers is in
+      let durable : durables output ≡ names told = names_told g w u told output is in
       record {
         transcript_is = turn;
         journal_is = ap model.journal turn ∙ every_count (in_turn xs);

@@ -1,13 +1,13 @@
 -- What calls ask and print, as lines and as text. Lists of calls and of replies have the newest first, lists of lines the oldest.
-use Rattle.std.specs.Prelude.{◌≡◌, ◌≤◌, ◌++◌, ℕ, List, [], ◌∷◌}
+use Rattle.std.specs.Prelude.{◌≡◌, ◌++◌, ℕ, true, List, [], ◌∷◌}
 use Rattle.map_model.specs.declared.call.Call.{Call}
 use Rattle.map_model.specs.declared.call.Answer.{Answer}
 use Rattle.map_model.specs.declared.call.Answer.TheVariants as answer
 use Rattle.map_model.specs.declared.call.Answered.{Answered}
 use Rattle.map_model.specs.Journals.{Name}
 use Rattle.map_model.specs.Outputs.{Reply, answers_told, AreBehind}
-use Rattle.map_model.specs.Pairings.{answers_in, in_turn}
-use Rattle.script_lang.specs.Lines.{line_text, CallFits}
+use Rattle.map_model.specs.Pairings.{answers_in, in_turn, is_last}
+use Rattle.script_lang.specs.Lines.{line_text, CallFits, IsSessionOf}
 use Rattle.script_lang.specs.Notices.{Notice, notice_text, NoticeFits}
 use Rattle.script_lang.specs.Notices.Notice.{Opened}
 use Rattle.script_lang.specs.Replies.{reply_text, reply_line, Fits}
@@ -29,9 +29,8 @@ asked_text [] = []
 asked_text (x ∷ xs) = ask x.0 x.1 ++ 10 ∷ asked_text xs
 
 -- the call is in the grammar of a script for so many workers
-pub record LineFits (workers session : ℕ) (call : Call) : Type 0 where
-  pub first : 1 ≤ session
-  pub last : session ≤ workers
+pub record LineFits (workers number : ℕ) (call : Call) : Type 0 where
+  pub session : IsSessionOf workers number call
   pub fits : CallFits call
 
 abbrev pub EachLineFits : ℕ → List (ℕ × Call) → Type 0
@@ -87,10 +86,10 @@ pub data Heard (xs : List Answered) (told : List Reply) : Type 0 where
 
 -- ## What a run prints
 
--- the calls are in a script's grammar, and their answers in that of its replies
+-- The calls are in a script's grammar, and their answers in that of its replies. Each has one answer: none is a conflict.
 abbrev pub EachFits : ℕ → List Answered → Type 0
 EachFits workers [] = Unit {0}
-EachFits workers (x ∷ earlier) = EachFits workers earlier × LineFits workers x.session x.call × Fits (Reply.Answered x.session x.answer)
+EachFits workers (x ∷ earlier) = EachFits workers earlier × LineFits workers x.session x.call × Fits (Reply.Answered x.session x.answer) × (is_last x.answer ≡ true)
 
 abbrev pub EachReplyFits : List Reply → Type 0
 EachReplyFits [] = Unit {0}

@@ -135,6 +135,7 @@ impl WorkerLog {
     pub fn last(&self) -> u64
         ensures answer { result ≡ self.now.last }
         ensures ranges { IsInRange self.now }
+        ensures order { self.now.head ≤ self.now.next }
     {
         self.last
     }

@@ -1,5 +1,5 @@
 -- How a dump ends, from what recovery did and what was put.
-use Rattle.std.proofs.Common.{◌≡◌, inl, inr, ⊎_elim, ◌<◌, ℕ, List, length, Some, Result, Err, refl, sym, ◌∙◌, ap, subst, arith}
+use Rattle.std.proofs.Common.{◌≡◌, inl, inr, ⊎_elim, ◌<◌, ◌+◌, ℕ, List, length, Some, Result, Err, refl, sym, ◌∙◌, ap, subst, arith}
 use Rattle.page_model.specs.Tree.{value}
 use Rattle.image_model.specs.Laws.{EveryUndone}
 use Rattle.lean_disk.specs.Area.{Area}
@@ -49,14 +49,14 @@ dump_leaves m s c is = subst (λ (n : ℕ). RecoveryLeaves m s (record c { notes
 pub record HasDone (s0 s : Story) : Type 0 where
   pub keeps : Keeps s0 s
   pub logs : (a : ℕ) → 1 < a → IsUntouched (s0.area a) (s.area a)
-  pub others : (a : ℕ) → 2 < a → s.area a ≡ s0.area a
-  pub any : (m : Master) → TellsAll 1 s0 → IsCleanDisk m (areas_of s0) → LeavesOnly s0 s (RecoveryLeaves m s0)
+  pub others : (a : ℕ) → 17 < a → s.area a ≡ s0.area a
+  pub any : (m : Master) → TellsAll 16 s0 → IsCleanDisk m (areas_of s0) → LeavesOnly s0 s (RecoveryLeaves m s0)
 
 module _ (s0 s new : Story) (law : IsLawful s) (did : HasDone s0 s) (only : OnlyPuts s new) where
   logs_on : (a : ℕ) → 1 < a → IsUntouched (s0.area a) (new.area a)
   logs_on a lt = subst (λ (x : Area). IsUntouched (s0.area a) x) (sym (only.area a)) (did.logs a lt)
 
-  others_on : (a : ℕ) → 2 < a → new.area a ≡ s0.area a
+  others_on : (a : ℕ) → 17 < a → new.area a ≡ s0.area a
   others_on a lt = only.area a ∙ did.others a lt
 
   tells_on : TellsOn s0 new
@@ -67,7 +67,7 @@ module _ (s0 s new : Story) (law : IsLawful s) (did : HasDone s0 s) (only : Only
     later = let a = did.keeps.later in let b = only.later in omega arith;
   }
 
-  moments : TellsAll 1 s0 → (m : Master) → IsCleanDisk m (areas_of s0) → LeavesOnly s0 new (DumpLeaves m s0)
+  moments : TellsAll 16 s0 → (m : Master) → IsCleanDisk m (areas_of s0) → LeavesOnly s0 new (DumpLeaves m s0)
   moments tells m clean = record {
     each = λ t c le left. ⊎_elim (λ was. dump_leaves m s0 c (run.each t c le was)) (λ now. then c now) (only.nothing_else t c left);
     before = λ t c left. ⊎_elim (λ was. ⊎_elim inl (λ has. inr (dump_leaves m s0 c has)) (run.before t c was)) (λ now. inr (then c now)) (only.nothing_else t c left);
@@ -99,10 +99,11 @@ installed_on m r s0 s new e x =
 
 -- what recovery gave
 pub record HasGiven (s0 s : Story) (r : Recovered) : Type 0 where
-  pub answer : TellsAll 1 s0 → (m : Master) × IsOpenable 1 m × IsRecovered m (areas_of s0) r
-  pub opened : TellsAll 1 s0 → (m : Master) → IsCleanDisk m (areas_of s0) → IsOpened m (areas_of s0) r s
-  pub installed : TellsAll 1 s0 → (m : Master) → master_on (areas_of s0 0) ≡ Some m → HasInstalled m r s0 s
+  pub answer : TellsAll 16 s0 → (m : Master) × IsOpenable 16 m × IsRecovered m (areas_of s0) r
+  pub opened : TellsAll 16 s0 → (m : Master) → IsCleanDisk m (areas_of s0) → IsOpened m (areas_of s0) r s
+  pub installed : TellsAll 16 s0 → (m : Master) → master_on (areas_of s0 0) ≡ Some m → HasInstalled m r s0 s
   pub whole : IsWhole r
+  pub beyond : (a : ℕ) → 1 + length r.master.heads < a → s.area a ≡ s0.area a
 
 as_opened : (s0 s new : Story) (r : Recovered) → HasGiven s0 s r → ((a : ℕ) → new.area a ≡ s.area a) → IsAsOpened s0 new
 as_opened s0 s new r given e = record {
@@ -110,6 +111,7 @@ as_opened s0 s new r given e = record {
   is = given.answer;
   installed = λ tells m is. installed_on m r s0 s new e (given.installed tells m is);
   opened = λ tells m clean. opened_on m (areas_of s0) r s new e (given.opened tells m clean);
+  beyond = λ a lt. e a ∙ given.beyond a lt;
 }
 
 put_or_cut : (status : ℕ) (text : List ℕ) (answer : Put) (held0 held1 : Held) (sink0 sink1 : ℕ) → status ≡ finished answer → (t : PutText text answer held0 held1) → HasCause sink0 sink1 (answer ≡ Failed) → PutOrCut status text t.text sink0 sink1
@@ -138,7 +140,7 @@ dumped undone every_own listing s0 s new law did r given held0 held1 sink0 sink1
 
 -- ## A disk that was not opened
 
-pub refused : (s0 s new : Story) → IsLawful s → HasDone s0 s → (reason : Unrecovered) → Shows s0 reason → (IsRefusal reason → (a : ℕ) → IsUntouched (s0.area a) (s.area a))
+pub refused : (s0 s new : Story) → IsLawful s → HasDone s0 s → (reason : Unrecovered) → Shows 16 s0 reason → (IsRefusal reason → (a : ℕ) → IsUntouched (s0.area a) (s.area a))
     → (held0 held1 : Held) (sink0 sink1 : ℕ) (answer : Put) (status : ℕ) → status ≡ status_of reason
     → IsPut (line_of (notice_of reason)) answer held0 held1 s new → HasCause sink0 sink1 (answer ≡ Failed) → DumpEnds status s0 new held0 held1 sink0 sink1
 refused s0 s new law did reason shown left held0 held1 sink0 sink1 answer status is p cause =

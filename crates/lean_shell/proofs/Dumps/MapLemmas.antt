@@ -56,7 +56,7 @@ module _ (undone : EveryUndone) (every_own : EveryOwn) (m : Master) (area : Area
       let all = listing.whole (format_of (length r.pages.items)) (nodes_of r.pages.items) ps refl (whole_tree r whole) lists in
       record { rising = all.rising; all = λ k. all.all k ∙ map_is k }
 
-pub of_disk : EveryUndone → EveryOwn → ListingLaws → (s : Story) (r : Recovered) → IsWhole r → (q : (m : Master) × IsOpenable 1 m × IsRecovered m (areas_of s) r)
+pub of_disk : EveryUndone → EveryOwn → ListingLaws → (s : Story) (r : Recovered) → IsWhole r → (q : (m : Master) × IsOpenable 16 m × IsRecovered m (areas_of s) r)
     → (ps : List Pair) → Lists (value (format_of (length r.pages.items)) (nodes_of r.pages.items)) 0 key_end ps → AreOfDisk s ps
 of_disk undone every_own listing s r whole q ps lists = let is : IsRecovered q.0 (areas_of s) r = q.2 in record {
   m = q.0;

@@ -1,8 +1,8 @@
 -- What a crash leaves in a run of outcomes, from what recovery gives of it.
-use Rattle.std.proofs.Common.{◌≡◌, ◌⊎◌, inl, inr, ⊎_elim, ◌<◌, ◌≤◌, ◌+◌, ◌^◌, ◌++◌, ◌==◌, ◌&&◌, ℕ, suc, leb, true, List, [], ◌∷◌, length, map, Option, Some, refl, sym, ◌∙◌, ap, ap₂, subst, arith, codes}
+use Rattle.std.proofs.Common.{◌≡◌, ◌⊎◌, inl, inr, ⊎_elim, ◌<◌, ◌≤◌, ◌+◌, ◌^◌, ◌++◌, ◌==◌, ◌&&◌, ℕ, suc, leb, false, true, List, [], ◌∷◌, length, map, Option, Some, refl, sym, ◌∙◌, ap, ap₂, subst, arith, codes}
 use mathlib.Core.Path.{fun_ext}
-use Rattle.std.proofs.lemmas.List.{append-nil}
 use Rattle.std.proofs.lemmas.Bool.{and_parts, eqb-true, leb-true, or_cases}
+use Rattle.map_model.proofs.CountLemmas.{every_count}
 use Rattle.map_model.proofs.ListLemmas.{any_has, has_order}
 use Rattle.map_model.specs.declared.call.Answered.{Answered}
 use Rattle.map_model.specs.declared.call.Answer.{Answer}
@@ -11,50 +11,59 @@ use Rattle.map_model.specs.declared.call.Call.TheVariants as call
 use Rattle.map_model.specs.Journals.{Serial, Txn, after, is_earlier, journal_of}
 use Rattle.map_model.specs.Lists.{Has, any}
 use Rattle.map_model.specs.Maps.{Map}
-use Rattle.map_model.specs.Outputs.{Reply}
-use Rattle.map_model.specs.Pairings.{in_turn, script_of}
+use Rattle.map_model.specs.Outputs.{Reply, answers_told, names}
+use Rattle.map_model.specs.Pairings.{EachGoesOn, EachIsAnswered, answers_in, counted, in_turn, is_open_line}
 use Rattle.map_model.specs.Transcripts as model
 use Rattle.map_model.specs.Transcripts.{Line, Told, journal, lines_in, lines_of, told_onto, txn_of}
 use Rattle.image_model.specs.Ends.{reach, wins}
 use Rattle.image_model.specs.Entries.{Contents, Entry, is_commit}
 use Rattle.image_model.specs.Fair.{IsFair}
-use Rattle.image_model.specs.Images.{Image, found, gathered, map_of, won_by}
+use Rattle.image_model.specs.Images.{Image, found, map_of, won_by}
 use Rattle.image_model.specs.Slots.{base_of}
+use Rattle.lean_disk.specs.Area.{Leaves}
 use Rattle.lean_disk.specs.Story.{Crash, Story, areas_of}
 use Rattle.disk_slots.specs.declared.master.Master.{Master}
 use Rattle.disk_slots.specs.Slots as slots
 use Rattle.log_block.specs.Block as blocks
 use Rattle.disk_image.specs.Fair.{IsFairCrash}
+use Rattle.disk_image.specs.Masters.{IsOfRun}
 use Rattle.disk_image.specs.MasterSlots.{master_on}
-use Rattle.disk_image.specs.Runs.{entries_in}
-use Rattle.disk_image.specs.Shown.{Areas, DiskStandsFor, image_by, logged_in, run_of, shown_by}
-use Rattle.recovery.specs.Crashes.{IsNextOf}
+use Rattle.disk_image.specs.Shown.{Areas, DiskStandsFor, image_by, run_of, shown_by}
 use Rattle.core_state.specs.Events.{Event}
 use Rattle.core_state.specs.Openings.{Opening, first_map, start_page}
 use Rattle.core_calls.specs.Crashes.{HasOneInHand}
 use Rattle.core_calls.specs.Deeds.{Committed, Deed, Outcome, answered, asked, in_words}
 use Rattle.core_calls.specs.Deeds as deeds
-use Rattle.core_calls.specs.Durables.{CommitLaws}
 use Rattle.core_calls.specs.Fronts.{Done, front, outcomes}
 use Rattle.core_calls.specs.Runs.{EachTells}
+use Rattle.core_crash.proofs.Images.{gathered_has}
 use Rattle.core_disk.specs.Held.{HoldsLog}
 use Rattle.core_state.specs.Steps.{state_after}
 use Rattle.disk_runs.specs.Fair.{EveryFair, IsAsRead, IsFairFrom}
-use Rattle.run_crashes.specs.Lines.{Recovers, RunLeft, next_of, outcome_of}
+use Rattle.disk_runs.specs.Masters.{IsNoEarlier}
+use Rattle.run_crashes.specs.Lines.{FellIn, Between, InCall, Stopped, Recovers, RunLeft, next_of, outcome_of}
+use Rattle.engine_trait.specs.Calls.{Memory}
 use Rattle.engine_trait.specs.Limits.{limits}
+use Rattle.lean_engine.specs.declared.engine.Size.{Size}
 use Rattle.script_lang.specs.Replies.{reply_line}
-use Rattle.transcripts.specs.Laws.{TellsInTurn}
-use Rattle.transcripts.specs.Told.{ask, asked_lines, Heard}
-use Rattle.transcripts.specs.Transcripts.{first_lines, transcript}
+use Rattle.script_lang.specs.Text.{script_lines}
+use Rattle.transcripts.specs.Told.{IsOutput}
+use Rattle.transcripts.specs.Transcripts.{asked as asked_by, durables, first_lines, transcript}
 use Rattle.transcripts.proofs.AbortLemmas.{lines_more}
+use Rattle.transcripts.proofs.MoreLemmas.{next_told}
+use Rattle.transcripts.proofs.OrderLemmas.{all_count}
+use Rattle.transcripts.proofs.TranscriptLemmas.{calls_told, names_told}
 use Rattle.lean_shell.specs.Headline.{IsInHand, Survives}
+use Rattle.lean_shell.specs.Inside.Begins.{Begins}
 use Rattle.lean_shell.specs.Inside.Laws.{Laws}
-use Rattle.lean_shell.specs.Inside.Lefts.{AsksNext, EveryLeft, IsBegun, Lives, WasOut}
-use Rattle.script_run.specs.Runs.{calls_of}
-use Rattle.lean_shell.specs.Starts.{IsLeft, IsRoomOfNext}
-use Rattle.lean_shell.proofs.Runs.AboveLemmas.{above}
+use Rattle.lean_shell.specs.Inside.Lefts.{IsSameBut, Lives}
+use Rattle.lean_shell.specs.Starts.{HasLinesFor, IsLeft, IsOfSize, IsRoomOfNext}
+use Rattle.lean_shell.proofs.Runs.BelowLemmas.{commit_above}
+use Rattle.lean_shell.proofs.Runs.CountLemmas.{commit_closed}
 use Rattle.lean_shell.proofs.Runs.FoundLemmas.{IsBounded, bounded}
-use Rattle.lean_shell.proofs.Runs.PrintedLemmas.{HasOutcome, heard_lines, next_is, next_tells, replies_are, tells_first, with_outcome}
+use Rattle.lean_shell.proofs.Runs.PrintedLemmas.{HasOutcome, IsNext, answers_heard, goes_on, next_behind, next_is, tells_first, with_outcome}
+use Rattle.lean_shell.proofs.Runs.ScriptLemmas.{answered_by, answered_first, first_lines_for}
+use Rattle.script_run.specs.Runs.{calls_of}
 
 -- ## The transaction in hand
 
@@ -80,13 +89,32 @@ some_is x y e = cc
 
 -- ## A crash
 
-module _ (locks : ℕ) (laws : Laws) (m : Master) (s0 sa : Story) (g : Opening) (n1 : Master) (b : IsBegun locks m s0 sa g n1) (xs : List Done) (each : EachTells limits g 1 xs) (c0 : Crash) (input put : List ℕ) (generation winners undone : ℕ)
-    (d : Crash) (Such : Opening → List Done → List Event → Type 0) (o : WasOut (Such g) g xs c0 m s0 sa input put generation winners undone d) where
-  abbrev c : Crash
-  c = o.crash
+-- a fair image has a master that is of a run of this one
+abbrev pub CountsFrom : Opening → Crash → Master → Crash → Type 0
+CountsFrom g s0 n1 c = IsFairFrom g.workers s0 c → (n : Master) × IsOfRun n1 n × (master_on (c.image 0) ≡ Some n)
 
-  abbrev q : RunLeft g (Such g) xs c0 m o.crash
+-- A crash of a run of these outcomes, with another count of notes: as so many lines of an output were out, which have the lines that were out in the run.
+pub record WasOut (Such Then : List Done → List Event → Type 0) (g : Opening) (xs : List Done) (c0 : Crash) (m n1 : Master) (s0 sa : Story) (input put : List ℕ) (generation winners undone : ℕ) (d : Crash) : Type 0 where
+  pub crash : Crash
+  pub left : RunLeft g Such xs c0 m crash
+  -- where a call was not answered all others were heard, and what it did is such
+  pub so : (es : List Event) → Such left.heard es → Then left.heard es
+  pub alone : (es : List Event) → Such left.heard es → left.unheard ≡ []
+  pub counts : CountsFrom g c0 n1 crash
+  pub pages : Leaves (sa.area 1) (crash.image 1)
+  pub same : IsSameBut crash d
+  pub lines : ℕ
+  pub notes : d.notes ≡ s0.notes + lines
+  pub output : IsOutput generation winners undone left.out (first_lines lines put)
+  pub script : HasLinesFor g.workers input xs
+
+module _ (size : Size) (laws : Laws) (m : Master) (s0 sa : Story) (g : Opening) (first : Memory) (few : size.sessions ≤ 16) (of_size : IsOfSize size g) (b : Begins m s0 sa g first) (xs : List Done) (each : EachTells limits g size.group xs) (c0 : Crash)
+    (input put : List ℕ) (generation winners undone : ℕ) (d : Crash) (Such : List Done → List Event → Type 0) (Then : Opening → List Done → List Event → Type 0) (o : WasOut Such (Then g) g xs c0 m first.master s0 sa input put generation winners undone d) where
+  abbrev q : RunLeft g Such xs c0 m o.crash
   q = o.left
+
+  abbrev n1 : Master
+  n1 = first.master
 
   abbrev said : List Answered
   said = calls_of o.left.heard
@@ -94,78 +122,123 @@ module _ (locks : ℕ) (laws : Laws) (m : Master) (s0 sa : Story) (g : Opening) 
   abbrev out : List ℕ
   out = first_lines o.lines put
 
-  each_heard : EachTells limits g 1 o.left.heard
-  each_heard = tells_first g o.left.unheard o.left.heard (subst (EachTells limits g 1) (sym o.left.calls) each)
+  abbrev W : ℕ
+  W = length m.heads
 
-  hears : Heard said o.left.out
-  hears = heard_lines said o.left.missing o.left.out (o.left.lines ∙ replies_are laws.alone g b.of_one.workers o.left.heard each_heard)
+  workers_are : g.workers ≡ length m.heads
+  workers_are = b.starts.logs
 
-  t : TellsInTurn 1 said o.left.out input out
-  t = laws.in_turn 1 generation winners undone said o.left.out o.script.others input out (omega arith) o.fits o.script.lines hears o.output
+  many : length m.heads < 2 ^ 32
+  many = let e = workers_are in let f = of_size.few in omega (arith, e, f, few)
 
-  zero_is : o.crash.image 0 ≡ (sa.area 0).bytes
-  zero_is = (o.areas 0 (omega arith)).clean (b.settled 0 (omega arith)).clean
+  script : HasLinesFor (length m.heads) input xs
+  script = subst (λ (n : ℕ). HasLinesFor n input xs) workers_are o.script
+
+  each_heard : EachTells limits g size.group o.left.heard
+  each_heard = tells_first g size.group o.left.unheard o.left.heard (subst (EachTells limits g size.group) (sym o.left.calls) each)
+
+  all_in_order : EachIsAnswered (asked_by (length m.heads) (script_lines input)) (in_turn (calls_of xs))
+  all_in_order = answered_by (length m.heads) input g size.group xs many each script
+
+  answers_are : answers_told o.left.out ≡ answers_in (in_turn said)
+  answers_are = answers_heard laws.printed g o.left.heard o.left.missing o.left.out o.left.lines
+
+  told_is : transcript (length m.heads) input out ≡ counted (in_turn said)
+  told_is = calls_told laws.back laws.quiet (length m.heads) generation winners undone said o.left.out input out (answered_first (asked_by (length m.heads) (script_lines input)) o.left.unheard o.left.heard xs o.left.calls all_in_order) answers_are o.output
+
+  journal_is : journal (transcript (length m.heads) input out) ≡ journal (in_turn said)
+  journal_is = ap journal told_is ∙ every_count (in_turn said)
+
+  durables_are : durables out ≡ names o.left.out
+  durables_are = names_told laws.back laws.quiet generation winners undone o.left.out out o.output
 
   one_is : o.crash.image 1 ≡ (sa.area 1).bytes
-  one_is = (o.areas 1 (omega arith)).clean (b.settled 1 (omega arith)).clean
+  one_is = o.pages.clean b.settled.clean
 
   -- a fair image is one from the beginning of the run on
-  fair_from : EveryFair s0 → IsAsRead s0 c0 → IsFairCrash (length m.heads) s0 d → IsFairFrom g.workers c0 o.crash
+  pub fair_from : EveryFair s0 → IsAsRead s0 c0 → IsFairCrash (length m.heads) s0 d → IsFairFrom g.workers c0 o.crash
   fair_from fair_law read fair =
       let f : IsFairFrom (length m.heads) c0 d = (fair_law (length m.heads) c0 d read).0 fair in
       record {
         masters = λ since e. subst (IsFair 1024 (slots.IsSealed (codes "LEANMAST")) (c0.image 0) since) (o.same.image 0) (f.masters since (o.same.writes 0 ∙ e));
         pages = λ since e. subst (IsFair 1024 (slots.IsSealed (codes "LEANPAGE")) (c0.image 1) since) (o.same.image 1) (f.pages since (o.same.writes 1 ∙ e));
-        log = λ w low high since e. subst (IsFair 2048 blocks.IsSealed (c0.image (suc w)) since) (o.same.image (suc w)) (f.log w low (let l = b.starts.logs in omega arith) since (o.same.writes (suc w) ∙ e));
+        log = λ w low high since e. subst (IsFair 2048 blocks.IsSealed (c0.image (suc w)) since) (o.same.image (suc w)) (f.log w low (let l = workers_are in omega arith) since (o.same.writes (suc w) ∙ e));
       }
 
-  module _ (r : Recovers g (Such g) o.left.heard (next_of o.left.unheard) o.left.out m o.crash.image) where
-    -- the master that counts is that of the opening
-    n_is : r.n ≡ n1
-    n_is = some_is r.n n1 (sym r.holds.master ∙ (ap master_on zero_is ∙ b.master))
+  module _ (r : Recovers g Such o.left.heard (next_of o.left.unheard) o.left.out m o.crash.image) (at_first : (n : Master) × IsOfRun first.master n × (master_on (o.crash.image 0) ≡ Some n)) where
+    -- the master that counts is that of the opening, or a later one
+    of_first : IsOfRun first.master r.n
+    of_first = subst (IsOfRun first.master) (some_is at_first.0 r.n (sym at_first.2 ∙ r.holds.master)) at_first.1
 
-    one_log : length r.n.heads ≡ 1
-    one_log = r.holds.is.logs ∙ b.of_one.workers
+    next_generation : first.master.generation ≡ suc m.generation
+    next_generation = ap (λ (x : Master). x.generation) b.next.is
+
+    generation_is : r.n.generation ≡ first.master.generation
+    generation_is = let e = next_generation in
+        ⊎_elim (λ p. p) (λ p. ⊎_elim (λ s. absurd (omega (arith, p, s, e))) (λ s. s ∙ sym e) r.of_run.generation) of_first.generation
+
+    later : IsNoEarlier first.master r.n
+    later = record { sequence = of_first.sequence; generation = generation_is; pages = of_first.pages; blocks = of_first.blocks; logs = of_first.logs }
 
     abbrev image : Image
     image = image_by r.n o.crash.image
 
-    abbrev logged : List Entry
-    logged = entries_in (logged_in r.n 1 (o.crash.image 2))
+    -- what is read from a log is within its bounds
+    record IsRead (e : Entry) : Type 0 where
+      log : ℕ
+      low : 0 < log
+      high : log ≤ g.workers
+      bounds : IsBounded log e
 
-    found_is : found image ≡ logged
-    found_is = ap (gathered image.log) one_log ∙ append-nil logged
-
-    h : HoldsLog g (state_after g (front o.left.heard ++ r.behind)) r.n 1 (o.crash.image 2)
-    h = r.holds.logs 1 (omega arith) (let w = b.of_one.workers in omega arith)
-
-    bounds : (e : Entry) → Has e (found image) → IsBounded 1 e
-    bounds e i = bounded laws.blocks r.n.generation 1 r.n.blocks (run_of r.n 1 (o.crash.image 2)) h.holds.readable e (subst (λ (l : List Entry). Has e l) found_is i)
+    read : (e : Entry) → Has e (found image) → IsRead e
+    read e i =
+        let w = gathered_has image.log image.logs e i in
+        let high : w.0 ≤ g.workers = let a = r.holds.is.logs in let c = w.1.1 in omega arith in
+        let h : HoldsLog g (state_after g (front o.left.heard ++ r.behind)) r.n w.0 (o.crash.image (suc w.0)) = r.holds.logs w.0 w.1.0 high in
+        record { log = w.0; low = w.1.0; high = high; bounds = bounded laws.blocks r.n.generation w.0 r.n.blocks (run_of r.n w.0 (o.crash.image (suc w.0))) h.holds.readable e w.2 }
 
     module _ (k : HasOneInHand image (outcomes o.left.heard) (outcome_of (next_of o.left.unheard)) r.by_then) where
-      abbrev y : Outcome
-      y = k.outcome
-
       nx : HasOutcome (next_of o.left.unheard) k.outcome
       nx = with_outcome (next_of o.left.unheard) k.outcome k.is_next
 
-      asks : AsksNext k.outcome o.script.others
-      asks = subst (λ (z : Outcome). AsksNext z o.script.others) nx.outcome (o.script.asks nx.done nx.is)
+      abbrev comes : IsNext o.left.unheard nx.done
+      comes = next_is o.left.unheard nx.done nx.is
 
-      law : CommitLaws g 1 nx.done.outcome.session k.number k.at nx.done o.left.heard
-      law = laws.commits limits g 1 k.number k.at nx.done o.left.heard (next_tells g o.left.unheard o.left.heard xs nx.done o.left.calls each (next_is o.left.unheard nx.done nx.is))
-          (ap (λ (z : Outcome). z.deed) nx.outcome ∙ k.commit)
+      behind_heard : comes.0 ++ (nx.done ∷ o.left.heard) ≡ xs
+      behind_heard = next_behind o.left.unheard o.left.heard xs nx.done o.left.calls comes
 
-      floor_is : image.floor ≡ g.base
-      floor_is = ap (λ (x : Master). x.floor) n_is ∙ b.floor
+      each_next : EachTells limits g size.group (nx.done ∷ o.left.heard)
+      each_next = tells_first g size.group comes.0 (nx.done ∷ o.left.heard) (subst (EachTells limits g size.group) (sym behind_heard) each)
+
+      deed_is : nx.done.outcome.deed ≡ Committed k.number k.at
+      deed_is = ap (λ (z : Outcome). z.deed) nx.outcome ∙ k.commit
+
+      -- the crash fell among its events
+      before_all : (at : List Event → Type 0) → ((after : List Event) → r.behind ++ after ≡ nx.done.events → at r.behind) → at r.behind
+      before_all at so = go r.fell
+        where
+          empty : (es : List Event) → es ≡ [] → es ++ nx.done.events ≡ nx.done.events
+          empty es e = ap (λ (l : List Event). l ++ nx.done.events) e
+
+          none : o.left.unheard ≡ [] → at r.behind
+          none e = absurd (no_next nx.done (sym (ap next_of e) ∙ nx.is))
+            where
+              no_next : (x : Done) → ◌≡◌ {A = Option Done} Rattle.std.proofs.Common.None (Some x) → ⊥
+              no_next x p = cc
+
+          go : FellIn (Such o.left.heard) (next_of o.left.unheard) r.behind → at r.behind
+          go (Between e) = so nx.done.events (empty r.behind e)
+          go (InCall y e after is) = so after (is ∙ ap (λ (z : Done). z.events) (some_is y nx.done (sym e ∙ nx.is)))
+          go (Stopped such) = none (o.alone r.behind such)
 
       -- its number is above the floor
       not_cut : leb k.more.at image.floor ≡ true → ⊥
-      not_cut e =
-          let low = leb-true k.more.at image.floor e in
-          let high = above laws.rises g (front (nx.done ∷ o.left.heard)) law.entry law.has law.commit in
-          let at = law.at_is in let more = k.at_is in let floor = floor_is in
-          omega arith
+      not_cut e = before_all (λ es. ⊥) (λ after is.
+          let low : k.more.at ≤ r.n.floor = leb-true k.more.at image.floor e in
+          let high = commit_above laws.rises g size.group o.left.heard nx.done k.number k.at each_next.1 deed_is r.behind after is in
+          let more = k.at_is in
+          let floor = r.holds.is.floor in
+          omega (arith, low, high, more, floor))
 
       -- so its record was found
       abbrev is_its : Entry → Rattle.std.proofs.Common.Bool
@@ -204,45 +277,55 @@ module _ (locks : ℕ) (laws : Laws) (m : Master) (s0 sa : Story) (g : Opening) 
       a = answer.Committed end_of.end.txn end_of.end.number
 
       abbrev x : Answered
-      x = record { session = 1; call = call.Commit; answer = answer.Committed end_of.end.txn end_of.end.number }
-
-      log_is : end_of.end.log ≡ 1
-      log_is = end_of.log ∙ asks.session
+      x = record { session = end_of.end.log; call = call.Commit; answer = answer.Committed end_of.end.txn end_of.end.number }
 
       words_are : in_words k.outcome ≡ x
       words_are =
-          ap₂ (λ (w : ℕ) (e : Deed). record { session = w; call = asked e; answer = answered e }) asks.session k.commit
-          ∙ ap₂ (λ (i j : ℕ). record { session = 1; call = call.Commit; answer = answer.Committed i j }) (sym end_of.txn) at_is
+          ap₂ (λ (w : ℕ) (e : Deed). record { session = w; call = asked e; answer = answered e }) (sym end_of.log) k.commit
+          ∙ ap₂ (λ (i j : ℕ). record { session = end_of.end.log; call = call.Commit; answer = answer.Committed i j }) (sym end_of.txn) at_is
 
-      begins_next : Rattle.script_lang.specs.Text.script_lines input ≡ asked_lines (script_of said) ++ ask 1 call.Commit ∷ asks.more
-      begins_next =
-          o.script.lines
-          ∙ ap (λ (ls : List (List ℕ)). asked_lines (script_of said) ++ ls) (asks.is ∙ ap (λ (e : Deed). ask 1 (asked e) ∷ asks.more) k.commit)
+      next_words : in_words nx.done.outcome ≡ x
+      next_words = ap in_words nx.outcome ∙ words_are
 
-      more_is : transcript 1 input (out ++ reply_line (Reply.Answered 1 a)) ≡ in_turn said ++ x ∷ []
-      more_is = let z = bounds end_of.end end_of.has in
-          laws.next_in_turn 1 generation winners undone x said o.left.out asks.more input put o.lines (omega arith)
-          (o.fits, record { first = omega arith; last = omega arith; fits = tt }, (omega arith, (z.txn, z.number))) begins_next hears o.output
+      in_order : EachIsAnswered (asked_by (length m.heads) (script_lines input)) (in_turn (x ∷ said))
+      in_order = subst (λ (y : Answered). EachIsAnswered (asked_by (length m.heads) (script_lines input)) (in_turn (y ∷ said))) next_words
+          (answered_first (asked_by (length m.heads) (script_lines input)) comes.0 (nx.done ∷ o.left.heard) xs behind_heard all_in_order)
 
-      in_hand : IsInHand input out (found image) r.by_then
+      goes : EachGoesOn (x ∷ said)
+      goes = subst (λ (y : Answered). EachGoesOn (y ∷ said)) next_words (goes_on g size.group (nx.done ∷ o.left.heard) each_next)
+
+      -- the line before is done with
+      closed : is_open_line said ≡ false
+      closed = commit_closed g size.group (length m.heads) nx.done o.left.heard k.number k.at each_next (first_lines_for (length m.heads) input o.left.unheard o.left.heard xs o.left.calls script).fits deed_is
+
+      all_count_now : counted (in_turn said) ≡ in_turn said
+      all_count_now = all_count said goes.0 closed
+
+      more_is : transcript (length m.heads) input (out ++ reply_line (Reply.Answered end_of.end.log a)) ≡ in_turn said ++ x ∷ []
+      more_is =
+          let z = read end_of.end end_of.has in
+          let p = z.high in
+          let w = z.bounds.log_is in
+          let f = of_size.few in
+          next_told laws.back laws.quiet (length m.heads) generation winners undone x said o.left.out input put o.lines in_order (omega (arith, p, w, f, few), (z.bounds.txn, z.bounds.number)) answers_are o.output
+          ∙ all_count (x ∷ said) goes refl
+
+      in_hand : IsInHand (length m.heads) input out (found image) r.by_then
       in_hand = record {
         end = end_of.end;
         has = end_of.has;
         commit = end_of.commit;
         reply = reply_line (Reply.Answered end_of.end.log a);
         reply_is = refl;
-        next = subst (λ (w : ℕ). transcript 1 input (out ++ reply_line (Reply.Answered w a)) ≡ transcript 1 input out ++ record { session = w; call = call.Commit; answer = a } ∷ []) (sym log_is)
-            (more_is ∙ ap (λ (ts : List Answered). ts ++ x ∷ []) (sym t.transcript_is));
-        all_is =
-            k.all ∙ (ap (λ (z : Answered). journal (in_turn said ++ z ∷ [])) words_are
-            ∙ ap journal (sym more_is ∙ ap (λ (w : ℕ). transcript 1 input (out ++ reply_line (Reply.Answered w a))) (sym log_is)));
+        next = more_is ∙ ap (λ (ts : List Answered). ts ++ x ∷ []) (sym (told_is ∙ all_count_now));
+        all_is = k.all ∙ (ap (λ (z : Answered). journal (in_turn said ++ z ∷ [])) words_are ∙ ap journal (sym more_is));
       }
 
     maps : first_map g ≡ map_of (image_by m (areas_of s0))
     maps = fun_ext b.map
 
-    by_then_is : (r.by_then ≡ journal (transcript 1 input out)) ⊎ IsInHand input out (found image) r.by_then
-    by_then_is = ⊎_elim (λ e. inl (e ∙ sym t.journal_is)) (λ k. inr (in_hand k)) r.by_then_is
+    by_then_is : (r.by_then ≡ journal (transcript (length m.heads) input out)) ⊎ IsInHand (length m.heads) input out (found image) r.by_then
+    by_then_is = ⊎_elim (λ e. inl (e ∙ sym journal_is)) (λ k. inr (in_hand k)) r.by_then_is
 
     -- with the bytes of the crash
     abbrev with_bytes : Areas → Crash
@@ -262,70 +345,69 @@ module _ (locks : ℕ) (laws : Laws) (m : Master) (s0 sa : Story) (g : Opening) 
       kept_ones = r.kept_ones;
       kept_is = r.kept_is;
       closed = r.closed;
-      reported = λ name i. r.reported name (subst (Has name) t.durables_are i);
+      reported = λ name i. r.reported name (subst (Has name) durables_are i);
       clean = r.clean;
       stands = subst (λ (mp : Map). DiskStandsFor r.n o.crash.image (after mp r.kept_ones) (won_by (image_by r.n o.crash.image))) maps r.stands;
     }
 
-    abbrev base_in : (p : ℕ) → List ℕ → Option Contents
-    base_in p bytes = base_of (shown_by n1 (λ (a : ℕ). bytes)) p
+    -- a page's base shows by generation, number of pages and bytes
+    abbrev base_at : (generation pages p : ℕ) → List ℕ → Option Contents
+    base_at generation pages p bytes = base_of (shown_by (record first.master { generation = generation; pages = pages }) (λ (a : ℕ). bytes)) p
 
-    next : IsNextOf m (areas_of s0) r.n
-    next = subst (IsNextOf m (areas_of s0)) (sym n_is) b.next
+    base_is : (p : ℕ) → p < r.n.pages → base_of (shown_by r.n o.crash.image) p ≡ Some (start_page g p)
+    base_is p low =
+        ap (λ (n : ℕ). base_at n r.n.pages p (o.crash.image 1)) generation_is
+        ∙ (ap (λ (n : ℕ). base_at first.master.generation n p (o.crash.image 1)) of_first.pages
+        ∙ (ap (base_at first.master.generation first.master.pages p) one_is ∙ b.base p (let e = of_first.pages in omega arith)))
 
-    left : IsLeft locks Such m s0 input put (with_bytes o.crash.image)
+    fell_then : FellIn (Such o.left.heard) (next_of o.left.unheard) r.behind → FellIn (Then g o.left.heard) (next_of o.left.unheard) r.behind
+    fell_then (Between e) = Between e
+    fell_then (InCall y e after is) = InCall y e after is
+    fell_then (Stopped such) = Stopped (o.so r.behind such)
+
+    left : IsLeft size Then m s0 input put (with_bytes o.crash.image)
     left = record {
       lines = o.lines;
       notes = o.notes;
       n = r.n;
       counts = r.holds.master;
-      next = next;
+      of_opening = record { first = first.master; next = b.next; later = later };
       opening = g;
       starts = b.starts;
-      of_one = b.of_one;
-      base = subst (λ (n : Master). (p : ℕ) → p < n.pages → base_of (shown_by n o.crash.image) p ≡ Some (start_page g p)) (sym n_is) (λ p lt. ap (base_in p) one_is ∙ b.base p lt);
+      of_size = of_size;
+      base = base_is;
       heard = o.left.heard;
       each = each_heard;
-      told = t.transcript_is;
+      told = told_is;
+      missing = o.left.missing;
+      out = o.left.out;
+      lines_are = o.left.lines;
+      reported = durables_are;
       next_one = next_of o.left.unheard;
-      is_next = λ x e. let a = o.script.asks x e in record {
-        session = a.session;
-        line = record { others = a.more; begins = o.script.lines ∙ ap (λ (ls : List (List ℕ)). asked_lines (script_of said) ++ ls) a.is };
-        tells = (next_tells g o.left.unheard o.left.heard xs x o.left.calls each (next_is o.left.unheard x e)).1;
+      is_next = λ x e. let n = next_is o.left.unheard x e in let behind = next_behind o.left.unheard o.left.heard xs x o.left.calls n in record {
+        lines = first_lines_for g.workers input n.0 (x ∷ o.left.heard) xs behind o.script;
+        tells = (tells_first g size.group n.0 (x ∷ o.left.heard) (subst (EachTells limits g size.group) (sym behind) each)).1;
       };
       behind = r.behind;
-      fell = r.fell;
-      newer = h.holds.prefix.0;
-      left = h.left;
-      logged = h.holds.prefix.1;
-      records = found_is ∙ h.holds.entries;
+      fell = fell_then r.fell;
+      logs = λ w low high. let h = r.holds.logs w low (let e = workers_are in omega arith) in record { newer = h.holds.prefix.0; left = h.left; logged = h.holds.prefix.1; are = h.holds.entries };
     }
 
-    left_there : IsLeft locks Such m s0 input put d
-    left_there = subst (λ (i : Areas). IsLeft locks Such m s0 input put (with_bytes i)) (sym (fun_ext o.same.image)) left
+    pub left_there : IsLeft size Then m s0 input put d
+    left_there = subst (λ (i : Areas). IsLeft size Then m s0 input put (with_bytes i)) (sym (fun_ext o.same.image)) left
 
-    survives_there : Survives m s0 input put d
+    pub survives_there : Survives m s0 input put d
     survives_there = subst (λ (i : Areas). Survives m s0 input put (with_bytes i)) (sym (fun_ext o.same.image)) survives
 
-  -- from what recovery gives
-  pub survives_now : Recovers g (Such g) o.left.heard (next_of o.left.unheard) o.left.out m o.crash.image → Survives m s0 input put d
-  survives_now r = survives_there r
-
-  pub left_now : Recovers g (Such g) o.left.heard (next_of o.left.unheard) o.left.out m o.crash.image → IsLeft locks Such m s0 input put d
-  left_now r = left_there r
-
--- where a put may have been stopped
-module _ (locks : ℕ) (laws : Laws) (m : Master) (s0 sa : Story) (g : Opening) (n1 : Master) (b : IsBegun locks m s0 sa g n1) (xs : List Done) (each : EachTells limits g 1 xs) (c0 : Crash) (input put : List ℕ) (generation winners undone : ℕ)
-    (d : Crash) (o : WasOut (IsRoomOfNext input g) g xs c0 m s0 sa input put generation winners undone d) where
-  module _ (r : Recovers g (IsRoomOfNext input g) o.left.heard (next_of o.left.unheard) o.left.out m o.crash.image) where
-    lives : Lives locks m s0 input put d
-    lives =
-        let l = left_now locks laws m s0 sa g n1 b xs each c0 input put generation winners undone d (IsRoomOfNext input) o r in
-        record { survives = survives_now locks laws m s0 sa g n1 b xs each c0 input put generation winners undone d (IsRoomOfNext input) o r; master = record { n = l.n; counts = l.counts; is = inr l.next; left = inr l } }
-
-  pub lives_as : EveryFair s0 → IsAsRead s0 c0 → IsFairCrash (length m.heads) s0 d → Lives locks m s0 input put d
-  lives_as fair_law read fair = lives (o.left.recovers (fair_from locks laws m s0 sa g n1 b xs each c0 input put generation winners undone d (IsRoomOfNext input) o fair_law read fair))
-
-pub every_left : Laws → (s0 sa : Story) → EveryFair s0 → EveryLeft s0 sa
-every_left laws s0 sa fair_law locks m n g xs c0 b each read input put generation winners undone d o fair =
-    lives_as locks laws m s0 sa g n b xs each c0 input put generation winners undone d o fair_law read fair
+-- where a call may have been stopped
+module _ (size : Size) (laws : Laws) (m : Master) (s0 sa : Story) (g : Opening) (first : Memory) (few : size.sessions ≤ 16) (of_size : IsOfSize size g) (b : Begins m s0 sa g first) (xs : List Done) (each : EachTells limits g size.group xs) (c0 : Crash)
+    (input put : List ℕ) (generation winners undone : ℕ) (d : Crash) (Such : List Done → List Event → Type 0) (o : WasOut Such (IsRoomOfNext input g) g xs c0 m first.master s0 sa input put generation winners undone d) where
+  pub lives_as : EveryFair s0 → IsAsRead s0 c0 → IsFairCrash (length m.heads) s0 d → Lives size m s0 input put d
+  lives_as fair_law read fair =
+      let f = fair_from size laws m s0 sa g first few of_size b xs each c0 input put generation winners undone d Such (IsRoomOfNext input) o fair_law read fair in
+      let r = o.left.recovers f in
+      let l = left_there size laws m s0 sa g first few of_size b xs each c0 input put generation winners undone d Such (IsRoomOfNext input) o r (o.counts f) in
+      record {
+        survives = survives_there size laws m s0 sa g first few of_size b xs each c0 input put generation winners undone d Such (IsRoomOfNext input) o r (o.counts f);
+        master = record { n = l.n; counts = l.counts; is = inr l.of_opening; left = inr l };
+      }

@@ -1,49 +1,91 @@
 -- Where a run begins, from what the engine says of the opening.
-use Rattle.std.proofs.Common.{◌≡◌, ℕ, refl, sym, subst}
-use Rattle.lean_disk.specs.Story.{Story}
+use Rattle.std.proofs.Common.{◌≡◌, ◌<◌, ◌≤◌, ℕ, Some, refl, sym, ◌∙◌, ap, subst, arith}
+use Rattle.image_model.specs.Entries.{Contents}
+use Rattle.image_model.specs.Slots.{base_of}
+use Rattle.lean_disk.specs.Story.{Story, areas_of}
 use Rattle.disk_slots.specs.declared.master.Master.{Master}
+use Rattle.disk_image.specs.MasterSlots.{master_on}
+use Rattle.disk_image.specs.Shown.{image_by, shown_by, IsCleanDisk}
+use Rattle.recovery.specs.Masters.{next_master}
+use Rattle.recovery.specs.Opened.{IsGreatest, IsOpened, IsRecovered}
 use Rattle.recovery.specs.Telling.{TellsAll}
-use Rattle.rows_trait.specs.declared.view.View.{View}
-use Rattle.worker_log.specs.Logs.{Log}
-use Rattle.lean_engine.specs.Openings.{Begins, BeginsOn, HasOpened}
+use Rattle.core_state.specs.Openings.{start_page}
+use Rattle.run_opening.specs.Starts.{empty_log}
 use Rattle.lean_engine.specs.Openings as engine
-use Rattle.lean_shell.specs.Inside.Begins.{BeginsBy, HasStarted, began}
-use Rattle.lean_shell.specs.Runs.{Counts, IsFrom}
-use Rattle.lean_shell.proofs.Runs.BeginLemmas.{every_beginning}
+use Rattle.lean_engine.specs.Openings.{BeginsOn, HasOpened}
+use Rattle.lean_engine.specs.States.{State, memory_in}
+use Rattle.lean_engine.specs.declared.engine.Size.{Size}
+use Rattle.lean_shell.specs.Inside.Begins.{Begins, HasStarted, began}
+use Rattle.lean_shell.specs.Runs.{Counts, IsFrom, first_log}
+use Rattle.lean_shell.specs.Starts.{IsOfSize}
+use Rattle.lean_shell.proofs.Runs.BeginLemmas.{next_of_run, one_greatest, some_is}
 
-module _ (locks : ℕ) (s0 sa : Story) (v : View) (log : Log) (generation won lost : ℕ) (o : HasOpened locks s0 sa v log generation won lost) where
+module _ {D : Type 0} (size : Size) (s0 sa : Story) (e : State D) (generation won lost : ℕ) (o : HasOpened size s0 sa e generation won lost) where
   abbrev pub counts : Counts
   counts = record { generation = generation; winners = won; undone = lost }
 
-  abbrev given : Counts
-  given = record { generation = o.recovered.master.generation; winners = o.recovered.winners; undone = o.recovered.undone }
+  from_engine : engine.IsFrom size.sessions o.opening s0 generation won lost → IsFrom size.sessions o.opening s0 counts
+  from_engine f = record { m = f.m; openable = f.openable; sound = f.sound; starts = f.starts; map = f.map; generation = f.generation_is; won = f.won_is; lost = f.lost_is }
 
-  same : given ≡ counts
-  same = λ i. record { generation = sym o.generation_is i; winners = sym o.won_is i; undone = sym o.lost_is i }
+  pub from : TellsAll size.sessions s0 → IsFrom size.sessions o.opening s0 counts
+  from tells = from_engine (o.from tells)
 
-  from_counts : engine.IsFrom o.opening s0 generation won lost → IsFrom o.opening s0 counts
-  from_counts f = record { m = f.m; openable = f.openable; sound = f.sound; starts = f.starts; map = f.map; generation = f.generation_is; won = f.won_is; lost = f.lost_is }
+  -- the sessions are those of the logs
+  few : o.opening.workers ≤ size.sessions
+  few = let a = o.in_run.workers in let b = o.sessions in let c = o.is.few in omega arith
 
-  pub from : TellsAll 1 s0 → IsFrom o.opening s0 counts
-  from tells = from_counts (o.from tells)
+  -- the disk was recovered by the master that counts
+  recovered : TellsAll size.sessions s0 → (m : Master) → master_on (areas_of s0 0) ≡ Some m → IsRecovered m (areas_of s0) o.recovered
+  recovered tells m there = let a = o.is.answer tells in subst (λ (y : Master). IsRecovered y (areas_of s0) o.recovered) (some_is a.0 m (sym a.2.sound.master ∙ there)) a.2
 
-  begins : (m : Master) → BeginsOn o.opening o.recovered.master log s0 sa m → BeginsBy m o.recovered s0 sa o.opening log
-  begins m b =
-      let at : Begins o.opening o.recovered.master log (began s0) sa = b.begins (began s0) (record { image = λ a. refl; writes = λ a. refl }) in record {
-        starts = b.start;
-        map = b.map;
-        known = at.known;
-        master_is = at.master_is;
-        log_is = at.log_is;
-        stands = at.stands;
-      }
+  -- whose greatest number the opening has
+  floor_is : TellsAll size.sessions s0 → (m : Master) → master_on (areas_of s0 0) ≡ Some m → o.recovered.master.floor ≡ o.opening.base
+  floor_is tells m there =
+      let f = o.from tells in
+      let one : f.m ≡ m = some_is f.m m (sym f.sound.master ∙ there) in
+      one_greatest (image_by m (areas_of s0)) o.recovered.master.floor o.opening.base (recovered tells m there).base (subst (λ (y : Master). IsGreatest (image_by y (areas_of s0)) o.opening.base) one f.starts.base)
 
-  pub started : HasStarted locks s0 sa o.opening log counts
-  started = subst (HasStarted locks s0 sa o.opening log) same (every_beginning s0 sa locks o.recovered o.opening log (record {
-    answer = o.is.answer;
-    opened = o.is.opened;
-    log_is = o.made.is;
-    of_one = record { workers = o.in_run.0; changes = o.in_run.2.opens.changes; joined = o.in_run.2.opens.joined; rows = o.rows; frames = o.frames };
-    from = λ tells. subst (IsFrom o.opening s0) (sym same) (from tells);
-    begins = λ tells m clean. begins m (o.clean tells m clean);
-  }))
+  master_is : TellsAll size.sessions s0 → (m : Master) → master_on (areas_of s0 0) ≡ Some m → o.recovered.master ≡ next_master m o.opening.base
+  master_is tells m there = (recovered tells m there).master ∙ ap (next_master m) (floor_is tells m there)
+
+  log_is : TellsAll size.sessions s0 → (m : Master) → master_on (areas_of s0 0) ≡ Some m → (w : ℕ) → 0 < w → w ≤ o.opening.workers → (memory_in e).log w ≡ first_log m o.opening.base w
+  log_is tells m there w low high =
+      (o.made w low (let a = o.in_run.workers in omega arith)).is ∙ ap (λ (n : Master). empty_log n w) (master_is tells m there)
+
+  begins : (m : Master) → TellsAll size.sessions s0 → IsCleanDisk m (areas_of s0) → Begins m s0 sa o.opening (memory_in e)
+  begins m tells clean = record {
+    next = b.next;
+    of_run = next_of_run m (memory_in e).master b.next.base b.next.is;
+    base = λ p low. subst (λ (n : Master). p < n.pages → base_of (shown_by n (areas_of sa)) p ≡ Some (start_page o.opening p)) (sym o.master) (page p) low;
+    settled = i.settled 1 (omega arith);
+    starts = b.start;
+    map = b.map;
+    known = (b.begins (began s0) (record { image = λ a. refl; writes = λ a. refl })).known;
+    memory_is = (b.begins (began s0) (record { image = λ a. refl; writes = λ a. refl })).is;
+    stands = (b.begins (began s0) (record { image = λ a. refl; writes = λ a. refl })).stands;
+  }
+    where
+      b : BeginsOn o.opening (memory_in e) s0 sa m
+      b = o.clean tells m clean
+
+      i : IsOpened m (areas_of s0) o.recovered sa
+      i = o.is.opened tells m clean
+
+      page : (p : ℕ) → p < o.recovered.master.pages → base_of (shown_by o.recovered.master (areas_of sa)) p ≡ Some (start_page o.opening p)
+      page p low =
+          let pages = ap (λ (y : Master). y.pages) (recovered tells m clean.master).master in
+          let own : p < m.pages = omega arith in
+          i.base p own ∙ ap (λ (v : Contents). Some v) (sym (b.start.pages p own))
+
+  of_size : IsOfSize size o.opening
+  of_size = let t = o.in_run.tied.ties 1 in record { few = few; changes = t.opens.changes; joined = t.opens.joined; rows = o.rows; frames = o.frames }
+
+  pub started : HasStarted size s0 sa o.opening (memory_in e) counts
+  started = record {
+    of_size = of_size;
+    from = from;
+    log = log_is;
+    master = λ tells m there. o.master ∙ master_is tells m there;
+    untouched = o.is.logs;
+    begins = begins;
+  }

@@ -1,73 +1,106 @@
--- What a run prints where each commit is durable at once: the replies to its calls.
-use Rattle.std.proofs.Common.{◌≡◌, ◌++◌, ℕ, List, [], ◌∷◌, Option, Some, None, refl, sym, ◌∙◌, ap, ap₂, subst}
+-- What a run prints: the answers to its calls, and the lines that come with them.
+use Rattle.std.proofs.Common.{◌≡◌, ◌⊎◌, inl, inr, ⊎_elim, ◌<◌, ◌≤◌, ◌++◌, ℕ, List, [], ◌∷◌, length, Option, Some, None, refl, sym, ◌∙◌, ap, arith}
+use Rattle.std.proofs.lemmas.List.{append-nil, length-append}
 use mathlib.Core.List.{append_assoc}
 use Rattle.map_model.specs.declared.call.Answer.{Answer}
-use Rattle.map_model.specs.declared.call.Answer.TheVariants as answer
 use Rattle.map_model.specs.declared.call.Answered.{Answered}
-use Rattle.map_model.specs.declared.call.Call.{Call}
 use Rattle.map_model.specs.Journals.{Name}
-use Rattle.map_model.specs.Outputs.{Reply}
+use Rattle.map_model.specs.Outputs.{Reply, answers_told}
+use Rattle.map_model.specs.Pairings.{EachGoesOn, answers_in, in_turn}
 use Rattle.core_state.specs.Openings.{Opening}
-use Rattle.core_calls.specs.Alone.{EveryAlone, names_by}
-use Rattle.core_calls.specs.Deeds.{Deed, Committed, Outcome, answered}
-use Rattle.core_calls.specs.Fronts.{Done}
-use Rattle.core_calls.specs.Printed.{durable_lines, printed}
+use Rattle.core_state.specs.Steps.{state_after}
+use Rattle.core_calls.specs.Deeds.{Outcome, answered, in_words}
+use Rattle.core_calls.specs.Durables.{due, durables, moments}
+use Rattle.core_calls.specs.Fronts.{Done, front}
+use Rattle.core_calls.specs.Printed.{EveryPrinted, durable_lines, printed}
 use Rattle.core_calls.specs.Runs.{EachTells}
-use Rattle.run_crashes.specs.Lines.{next_of, outcome_of}
 use Rattle.engine_trait.specs.Limits.{limits}
-use Rattle.transcripts.specs.Told.{durable_of, replies, Heard}
-use Rattle.transcripts.specs.Told.Heard.{Whole, Lacking}
+use Rattle.run_crashes.specs.Lines.{next_of, outcome_of}
 use Rattle.script_run.specs.Runs.{calls_of}
 
 -- ## The lines of a run
 
-durable_is : (w : ℕ) (d : Deed) → durable_lines (names_by w d) ≡ durable_of w (answered d)
-durable_is w (Committed n at) = refl
-durable_is w _ = refl
-
-pub replies_are : EveryAlone → (g : Opening) → g.workers ≡ 1 → (xs : List Done) → EachTells limits g 1 xs → printed g xs ≡ replies (calls_of xs)
-replies_are alone g one [] t = refl
-replies_are alone g one (x ∷ xs) t =
-    ap₂ (λ (ns : List Name) (rs : List Reply). durable_lines ns ++ Reply.Answered x.outcome.session (answered x.outcome.deed) ∷ rs) (alone limits g x xs one t) (replies_are alone g one xs t.0)
-    ∙ ap (λ (ds : List Reply). ds ++ Reply.Answered x.outcome.session (answered x.outcome.deed) ∷ replies (calls_of xs)) (durable_is x.outcome.session x.outcome.deed)
-
--- ## What was heard
-
-tail_is : (r s : Reply) (rs ss : List Reply) → r ∷ rs ≡ s ∷ ss → rs ≡ ss
-tail_is r s rs ss e = cc
-
-some_none : (r : Reply) (rs : List Reply) → r ∷ rs ≡ [] → ⊥
-some_none r rs e = cc
+tail_of : {A : Type 0} (x y : A) (xs ys : List A) → x ∷ xs ≡ y ∷ ys → xs ≡ ys
+tail_of x y xs ys e = cc
 
 not_answer : (w n v : ℕ) (a : Answer) (rs ss : List Reply) → Reply.Durable w n ∷ rs ≡ Reply.Answered v a ∷ ss → ⊥
 not_answer w n v a rs ss e = cc
 
--- where some durable lines of the last call may be missing
-pub heard_lines : (xs : List Answered) (missing : List Name) (out : List Reply) → durable_lines missing ++ out ≡ replies xs → Heard xs out
-heard_lines xs [] out e = Whole e
-heard_lines [] (n ∷ ns) out e = absurd (some_none (Reply.Durable n.session n.number) (durable_lines ns ++ out) e)
-heard_lines (x ∷ earlier) (n ∷ ns) out e = go x.session x.call x.answer e
-  where
-    last : (s : ℕ) (call : Call) (m at : ℕ) (more : List Name) → durable_lines more ++ out ≡ Reply.Answered s (answer.Committed m at) ∷ replies earlier → Heard (record { session = s; call = call; answer = answer.Committed m at } ∷ earlier) out
-    last s call m at [] e = Lacking (record { session = s; call = call; number = m; at = at; earlier = earlier; last = refl; told_is = e })
-    last s call m at (k ∷ ks) e = absurd (not_answer k.session k.number s (answer.Committed m at) (durable_lines ks ++ out) (replies earlier) e)
+-- durable lines answer nothing
+no_answers : (names : List Name) (out : List Reply) → answers_told (durable_lines names ++ out) ≡ answers_told out
+no_answers [] out = refl
+no_answers (n ∷ ns) out = append-nil (answers_told (durable_lines ns ++ out)) ∙ no_answers ns out
 
-    go : (s : ℕ) (call : Call) (a : Answer) → Reply.Durable n.session n.number ∷ (durable_lines ns ++ out) ≡ durable_of s a ++ Reply.Answered s a ∷ replies earlier → Heard (record { session = s; call = call; answer = a } ∷ earlier) out
-    go s call (answer.Committed m at) e = last s call m at ns (tail_is (Reply.Durable n.session n.number) (Reply.Durable s m) (durable_lines ns ++ out) (Reply.Answered s (answer.Committed m at) ∷ replies earlier) e)
-    go s call a e = absurd (none a e)
-      where
-        none : (a : Answer) → Reply.Durable n.session n.number ∷ (durable_lines ns ++ out) ≡ Reply.Answered s a ∷ replies earlier → ⊥
-        none a e = not_answer n.session n.number s a (durable_lines ns ++ out) (replies earlier) e
+-- the answers among the lines of outcomes, of which some durable ones may be missing
+pub answers_heard : EveryPrinted → (g : Opening) (heard : List Done) (missing : List Name) (out : List Reply) → durable_lines missing ++ out ≡ printed g heard → answers_told out ≡ answers_in (in_turn (calls_of heard))
+answers_heard law g heard missing out e = sym (no_answers missing out) ∙ (ap answers_told e ∙ (law g heard).answers)
+
+-- the lines of the first of the outcomes come first
+pub record FirstPrinted (g : Opening) (later first : List Done) : Type 0 where
+  pub more : List Reply
+  pub is : more ++ printed g first ≡ printed g (later ++ first)
+
+pub first_printed : (g : Opening) (later first : List Done) → FirstPrinted g later first
+first_printed g [] first = record { more = []; is = refl }
+first_printed g (x ∷ later) first =
+    let f = first_printed g later first in
+    let lines : List Reply = durable_lines (due g (state_after g (front (x ∷ later ++ first))) (durables g (moments (later ++ first)))) ++ Reply.Answered x.outcome.session (answered x.outcome.deed) ∷ [] in
+    record {
+      more = lines ++ f.more;
+      is = append_assoc lines f.more (printed g first)
+          ∙ (ap (λ (rs : List Reply). lines ++ rs) f.is
+          ∙ append_assoc (durable_lines (due g (state_after g (front (x ∷ later ++ first))) (durables g (moments (later ++ first))))) (Reply.Answered x.outcome.session (answered x.outcome.deed) ∷ []) (printed g (later ++ first)));
+    }
+
+-- of two that are the oldest of a list, the shorter is the oldest of the other
+pub first_of : (a out b told all : List Reply) → a ++ out ≡ all → b ++ told ≡ all → length out ≤ length told → (later : List Reply) × (later ++ out ≡ told)
+first_of a out [] told all e f few = (a, e ∙ sym f)
+first_of [] out (r ∷ b) told all e f few =
+    absurd (let p = ap (λ (l : List Reply). length l) (e ∙ sym f) in let q = length-append b told in omega arith)
+first_of (s ∷ a) out (r ∷ b) told all e f few = first_of a out b told (b ++ told) (tail_of s r (a ++ out) (b ++ told) (e ∙ sym f)) refl few
+
+pub prefix_few : (later first all : List Reply) → later ++ first ≡ all → length first ≤ length all
+prefix_few later first all e = let a = length-append later first in let b = ap (λ (rs : List Reply). length rs) e in omega arith
+
+pub same_prefix : (later first all : List Reply) → later ++ first ≡ all → length first ≡ length all → first ≡ all
+same_prefix [] first all e same = e
+same_prefix (r ∷ later) first all e same =
+    absurd (let a = length-append later first in let b = ap (λ (rs : List Reply). length rs) e in omega arith)
+
+-- with an answer go the replies before it
+pub answered_out : (missing due : List Name) (w : ℕ) (a : Answer) (older out : List Reply) → durable_lines missing ++ out ≡ durable_lines due ++ Reply.Answered w a ∷ older → length older < length out
+answered_out [] due w a older out e =
+    let p = ap (λ (l : List Reply). length l) e in let q = length-append (durable_lines due) (Reply.Answered w a ∷ older) in omega arith
+answered_out (n ∷ ns) [] w a older out e = absurd (not_answer n.session n.number w a (durable_lines ns ++ out) older e)
+answered_out (n ∷ ns) (d ∷ ds) w a older out e =
+    answered_out ns ds w a older out (tail_of (Reply.Durable n.session n.number) (Reply.Durable d.session d.number) (durable_lines ns ++ out) (durable_lines ds ++ Reply.Answered w a ∷ older) e)
+
+-- what lacks some of the last lines lacks durable lines alone, or the answer too
+pub record Lacks (told older all : List Reply) : Type 0 where
+  pub missing : List Name
+  pub is : durable_lines missing ++ told ≡ all
+
+pub lacks : (due : List Name) (w : ℕ) (a : Answer) (older newer told : List Reply) → newer ++ told ≡ durable_lines due ++ Reply.Answered w a ∷ older → Lacks told older (durable_lines due ++ Reply.Answered w a ∷ older) ⊎ ((n : List Reply) × (n ++ told ≡ older))
+lacks due w a older [] told e = inl (record { missing = []; is = e })
+lacks [] w a older (r ∷ newer) told e = inr (newer, tail_of r (Reply.Answered w a) (newer ++ told) older e)
+lacks (d ∷ ds) w a older (r ∷ newer) told e =
+    ⊎_elim (λ l. inl (record { missing = d ∷ l.missing; is = ap (λ (rs : List Reply). Reply.Durable d.session d.number ∷ rs) l.is })) inr
+    (lacks ds w a older newer told (tail_of r (Reply.Durable d.session d.number) (newer ++ told) (durable_lines ds ++ Reply.Answered w a ∷ older) e))
 
 -- ## The first outcomes, and the next one
 
 pub calls_append : (later first : List Done) → calls_of (later ++ first) ≡ calls_of later ++ calls_of first
 calls_append [] first = refl
-calls_append (x ∷ later) first = ap (λ (xs : List Answered). record { session = x.outcome.session; call = Rattle.core_calls.specs.Deeds.asked x.outcome.deed; answer = answered x.outcome.deed } ∷ xs) (calls_append later first)
+calls_append (x ∷ later) first = ap (λ (xs : List Answered). in_words x.outcome ∷ xs) (calls_append later first)
 
-pub tells_first : (g : Opening) (later first : List Done) → EachTells limits g 1 (later ++ first) → EachTells limits g 1 first
-tells_first g [] first t = t
-tells_first g (x ∷ later) first t = tells_first g later first t.0
+-- a further answer to a line is to its call
+pub goes_on : (g : Opening) (group : ℕ) (xs : List Done) → EachTells limits g group xs → EachGoesOn (calls_of xs)
+goes_on g group [] t = tt
+goes_on g group (x ∷ xs) t = (goes_on g group xs t.0, t.1.goes_on)
+
+pub tells_first : (g : Opening) (group : ℕ) (later first : List Done) → EachTells limits g group (later ++ first) → EachTells limits g group first
+tells_first g group [] first t = t
+tells_first g group (x ∷ later) first t = tells_first g group later first t.0
 
 -- the oldest of these is the next
 abbrev pub IsNext : List Done → Done → Type 0
@@ -84,6 +117,10 @@ next_is (y ∷ []) x e = ([], ap (λ (z : Done). z ∷ []) (one y x e))
     one a b e = cc
 next_is (y ∷ z ∷ earlier) x e = let n = next_is (z ∷ earlier) x e in (y ∷ n.0, ap (λ (xs : List Done). y ∷ xs) n.1)
 
+-- it comes behind those that were heard
+pub next_behind : (unheard heard xs : List Done) (x : Done) → unheard ++ heard ≡ xs → (n : IsNext unheard x) → n.0 ++ (x ∷ heard) ≡ xs
+next_behind unheard heard xs x e n = sym (append_assoc n.0 (x ∷ []) heard) ∙ (ap (λ (ys : List Done). ys ++ heard) (sym n.1) ∙ e)
+
 -- which has this outcome
 pub record HasOutcome (next : Option Done) (y : Outcome) : Type 0 where
   pub done : Done
@@ -99,9 +136,3 @@ with_outcome (Some x) y e = record { done = x; is = refl; outcome = one x.outcom
   where
     one : (a b : Outcome) → Some a ≡ Some b → a ≡ b
     one a b e = cc
-
--- it is told behind those that were heard
-pub next_tells : (g : Opening) (unheard heard xs : List Done) (x : Done) → unheard ++ heard ≡ xs → EachTells limits g 1 xs → IsNext unheard x → EachTells limits g 1 (x ∷ heard)
-next_tells g unheard heard xs x e each n =
-    tells_first g n.0 (x ∷ heard)
-    (subst (EachTells limits g 1) (sym e ∙ (ap (λ (ys : List Done). ys ++ heard) n.1 ∙ append_assoc n.0 (x ∷ []) heard)) each)

@@ -13,25 +13,27 @@ use Rattle.disk_image.specs.Fair.{IsFairCrash}
 use Rattle.disk_image.specs.Masters.{IsOfRun}
 use Rattle.disk_image.specs.MasterSlots.{master_on}
 use Rattle.disk_image.specs.Shown.{Areas, DiskStandsFor, IsCleanDisk, image_by}
-use Rattle.recovery.specs.Crashes.{IsNextOf, Lasts, RecoveryLeaves, ShowsStill, StandsStill}
+use Rattle.recovery.specs.Crashes.{Lasts, RecoveryLeaves, ShowsStill, StandsStill}
 use Rattle.recovery.specs.Masters.{IsSameOrNext}
 use Rattle.transcripts.specs.Transcripts.{first_lines, transcript, IsQuiet}
 use Rattle.lean_shell.specs.Crashes.{IsUnwritten, MasterLeaves}
 use Rattle.lean_shell.specs.Headline.{RunLeaves}
+use Rattle.lean_shell.specs.Starts.{IsOfOpening}
+use Rattle.lean_engine.specs.declared.engine.Size.{Size}
 use Rattle.lean_shell.specs.Inside.Lefts.{IsSameBut, Lives, LivesOn}
 
-pub run_leaves : (locks : ℕ) (m : Master) (s : Story) (input put : List ℕ) (c : Crash) → LivesOn locks m s input put c → RunLeaves m s input put c
-run_leaves locks m s input put c (inl u) = inl u
-run_leaves locks m s input put c (inr l) = inr (λ fair. (l fair).survives)
+pub run_leaves : (size : Size) (m : Master) (s : Story) (input put : List ℕ) (c : Crash) → LivesOn size m s input put c → RunLeaves m s input put c
+run_leaves size m s input put c (inl u) = inl u
+run_leaves size m s input put c (inr l) = inr (λ fair. (l fair).survives)
 
-pub master_leaves : (locks : ℕ) (m : Master) (s : Story) (input put : List ℕ) (c : Crash) → LivesOn locks m s input put c → MasterLeaves locks m s input put c
-master_leaves locks m s input put c (inl u) = inl u
-master_leaves locks m s input put c (inr l) = inr (λ fair. (l fair).master)
+pub master_leaves : (size : Size) (m : Master) (s : Story) (input put : List ℕ) (c : Crash) → LivesOn size m s input put c → MasterLeaves size m s input put c
+master_leaves size m s input put c (inl u) = inl u
+master_leaves size m s input put c (inr l) = inr (λ fair. (l fair).master)
 
--- what the disk shows is by the same master or the next one
-made_of : (m n : Master) (area image : Areas) → ShowsStill m area n image → (n ≡ m) ⊎ IsNextOf m area n
+-- what the disk shows is by the same master or the one of the opening
+made_of : (m n : Master) (area image : Areas) → ShowsStill m area n image → (n ≡ m) ⊎ IsOfOpening m area n
 made_of m n area image (inl same) = inl same.0
-made_of m n area image (inr next) = inr next.is
+made_of m n area image (inr next) = inr (record { first = n; next = next.is; later = record { sequence = omega arith; generation = refl; pages = refl; blocks = refl; logs = refl } })
 
 -- the next master is of the run that began with the other
 of_run : (m n : Master) → IsSameOrNext m n → IsOfRun m n
@@ -40,8 +42,8 @@ of_run m n same = ⊎_elim
     (λ (e : (n.sequence ≡ suc m.sequence) × (n.generation ≡ suc m.generation)). record { pages = same.pages; blocks = same.blocks; logs = same.logs; generation = inr e.1; sequence = let q : n.sequence ≡ suc m.sequence = e.0 in omega arith })
     same.numbers
 
-module _ (locks : ℕ) (m : Master) (s : Story) (clean : IsCleanDisk m (areas_of s)) (input put : List ℕ) (lines : ℕ) (quiet : IsQuiet 1 input (first_lines lines put)) where
-  unwritten : (c d : Crash) → IsSameBut c d → d.notes ≡ s.notes + lines → AsAt s c → IsUnwritten s input put d
+module _ (size : Size) (m : Master) (s : Story) (clean : IsCleanDisk m (areas_of s)) (input put : List ℕ) (lines : ℕ) (quiet : IsQuiet (length m.heads) input (first_lines lines put)) where
+  unwritten : (c d : Crash) → IsSameBut c d → d.notes ≡ s.notes + lines → AsAt s c → IsUnwritten m s input put d
   unwritten c d same notes at = record {
     lines = lines;
     notes = notes;
@@ -50,14 +52,14 @@ module _ (locks : ℕ) (m : Master) (s : Story) (clean : IsCleanDisk m (areas_of
     leaves = λ a told. subst (Leaves (s.area a)) (sym (same.image a)) (at.leaves a told);
   }
 
-  lasts : (c d : Crash) → IsSameBut c d → d.notes ≡ s.notes + lines → Lasts m s c → IsFairCrash (length m.heads) s d → Lives locks m s input put d
+  lasts : (c d : Crash) → IsSameBut c d → d.notes ≡ s.notes + lines → Lasts m s c → IsFairCrash (length m.heads) s d → Lives size m s input put d
   lasts c d same notes l fair =
       let masters = fair.masters l.masters (same.writes 0 ∙ l.masters_are) in
       let pages = fair.pages l.pages (same.writes 1 ∙ l.pages_are) in
       let still : StandsStill m (areas_of s) c.image = l.stands (subst (λ (b : List ℕ). IsFair 1024 (Rattle.disk_slots.specs.Slots.IsSealed (codes "LEANMAST")) (s.area 0).bytes l.masters b) (same.image 0) masters)
       (subst (λ (b : List ℕ). IsFair 1024 (Rattle.disk_slots.specs.Slots.IsSealed (codes "LEANPAGE")) (s.area 1).bytes l.pages b) (same.image 1) pages) in
       let images : d.image ≡ c.image = fun_ext same.image in
-      let none : model.journal (transcript 1 input (first_lines lines put)) ≡ [] = ap model.journal quiet.transcript_is in
+      let none : model.journal (transcript (length m.heads) input (first_lines lines put)) ≡ [] = ap model.journal quiet.transcript_is in
       record {
         master = record { n = still.next; counts = subst (λ (i : Areas). master_on (i 0) ≡ Some still.next) (sym images) still.clean.master; is = made_of m still.next (areas_of s) c.image still.shows; left = inl (record { lines = lines; notes = notes; quiet = quiet; shows = subst (λ (i : Areas). ShowsStill m (areas_of s) still.next i) (sym images) still.shows }) };
         survives = record {
@@ -84,6 +86,6 @@ module _ (locks : ℕ) (m : Master) (s : Story) (clean : IsCleanDisk m (areas_of
         };
       }
 
-  pub quiet_leaves : (c d : Crash) → IsSameBut c d → d.notes ≡ s.notes + lines → RecoveryLeaves m s c → LivesOn locks m s input put d
+  pub quiet_leaves : (c d : Crash) → IsSameBut c d → d.notes ≡ s.notes + lines → RecoveryLeaves m s c → LivesOn size m s input put d
   quiet_leaves c d same notes (inl at) = inl (unwritten c d same notes at)
   quiet_leaves c d same notes (inr l) = inr (lasts c d same notes l)

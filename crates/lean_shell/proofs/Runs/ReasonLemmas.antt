@@ -11,9 +11,9 @@ use Rattle.lean_engine.specs.Openings.{Shows}
 
 -- the disk shows the reason
 pub shows : (s : Story) (result : Result Recovered Unrecovered) (reason : Unrecovered) → result ≡ Err reason
-    → (result ≡ Err why.NotFormatted → TellsAll 1 s → HasOpenable 1 (areas_of s) → ⊥)
-    → ((area place : ℕ) → result ≡ Err (why.Damaged area place) → TellsAll 1 s → IsDamaged (areas_of s) area place)
-    → Shows s reason
+    → (result ≡ Err why.NotFormatted → TellsAll 16 s → HasOpenable 16 (areas_of s) → ⊥)
+    → ((area place : ℕ) → result ≡ Err (why.Damaged area place) → TellsAll 16 s → IsDamaged (areas_of s) area place)
+    → Shows 16 s reason
 shows s result why.NotFormatted is none damaged = none is
 shows s result (why.Damaged area place) is none damaged = damaged area place is
 shows s result why.DiskFault is none damaged = tt

@@ -4,7 +4,7 @@ use Rattle.clap.specs.Words.{App, Row, app_of}
 use Rattle.clap.specs.declared.builder.Command.TheViews.{out-Command as fields_of}
 use Rattle.clap.specs.declared.builder.Command.{Command as Line}
 use Rattle.disk_format.specs.declared.shape.Shape.{Shape}
-use Rattle.lean_shell.specs.Words.{Gives, GivesRows}
+use Rattle.lean_shell.specs.Words.{Gives, GivesSize}
 use Rattle.lean_shell.specs.declared.words.Command.{Command}
 use Rattle.lean_shell.specs.declared.words.Command.TheVariants.{Dump, Format, Run}
 
@@ -13,16 +13,16 @@ pub record IsLine (app : App) (line : Line) : Type 0 where
   pub reads : app_of line ≡ app
   pub local : (fields_of line).has_globals ≡ false
 
--- the numbers of workers, of which there is one, of pages and of blocks
+-- the numbers of workers, of pages and of blocks
 pub record GivesShape (options : List Row) (shape : Shape) : Type 0 where
-  pub workers : Gives options (codes "workers") 1 1 shape.workers
+  pub workers : Gives options (codes "workers") 1 16 shape.workers
   pub pages : Gives options (codes "pages") 16 4096 shape.pages
   pub blocks : Gives options (codes "blocks") 64 4096 shape.blocks
 
 -- a command's name and its options ask for this
 abbrev pub AsksBy : (name : List ℕ) (options : List Row) → Command → Type 0
 AsksBy name options (Format shape) = (name ≡ codes "format") × GivesShape options shape
-AsksBy name options (Run size) = (name ≡ codes "run") × GivesRows options size.rows
+AsksBy name options (Run size) = (name ≡ codes "run") × GivesSize options size
 AsksBy name options Dump = name ≡ codes "dump"
 
 -- so do the matches, if they are of a command

@@ -27,7 +27,7 @@ pub record CommandEnds (words : List (List ℕ)) (status : ℕ) (s0 s1 : Story) 
   pub cause_write_fault : IsBlamed before.sink now.sink (status ≡ 5)
   pub cause_disk_fault : HasCause before.disk now.disk (status ≡ 6)
   pub format : (shape : Shape) → Asks words (Format shape) → FormatEnds shape status s0 s1 held0 held1 before.sink now.sink before.disk now.disk
-  pub run : (size : Size) → Asks words (Run size) → RunEnds size.rows status s0 s1 feed0 feed1 held0 held1 before.sink now.sink
+  pub run : (size : Size) → Asks words (Run size) → RunEnds size status s0 s1 feed0 feed1 held0 held1 before.sink now.sink
   pub dump : Asks words Dump → DumpEnds status s0 s1 held0 held1 before.sink now.sink
   pub none : AsksNothing words → UsageEnds status s0 s1 held0 held1 before.sink now.sink before.disk now.disk
 
@@ -35,7 +35,7 @@ pub record CommandEnds (words : List (List ℕ)) (status : ℕ) (s0 s1 : Story) 
 pub record UnreadEnds (status : ℕ) (s0 s1 : Story) (held0 held1 : Held) (sink0 sink1 disk0 disk1 : ℕ) : Type 0 where
   pub status_is : status ≡ 8
   pub format : (shape : Shape) → FormatEnds shape status s0 s1 held0 held1 sink0 sink1 disk0 disk1
-  pub run : (locks : ℕ) (feed : Feed) → RunEnds locks status s0 s1 feed feed held0 held1 sink0 sink1
-  pub headline : (feed : Feed) → IsTrue held0.tells → TellsAll 1 s0 → Headline s0 s1 feed.left (added held0 held1)
+  pub run : (size : Size) (feed : Feed) → RunEnds size status s0 s1 feed feed held0 held1 sink0 sink1
+  pub headline : (feed : Feed) → IsTrue held0.tells → TellsAll 16 s0 → Headline s0 s1 feed.left (added held0 held1)
   pub dump : DumpEnds status s0 s1 held0 held1 sink0 sink1
   pub none : UsageEnds status s0 s1 held0 held1 sink0 sink1 disk0 disk1

@@ -1,27 +1,32 @@
 -- Words of private functions: the laws of other crates that a run stands on.
 use Rattle.core_commit.specs.Rises.{EveryRise}
-use Rattle.core_calls.specs.Alone.{EveryAlone}
 use Rattle.core_calls.specs.Crashes.{EveryRunCrash}
-use Rattle.core_calls.specs.Durables.{EveryCommit}
+use Rattle.core_calls.specs.Durables.{EveryDurable}
+use Rattle.core_calls.specs.Printed.{EveryPrinted}
 use Rattle.core_calls.specs.Told.{EveryTold}
 use Rattle.core_disk.specs.Shows.{EveryShown}
 use Rattle.disk_image.specs.Laws.{EveryAgreement, EveryBlockIn, EverySealed}
 use Rattle.script_run.specs.Texts.{EveryScript}
-use Rattle.transcripts.specs.Laws.{EveryEnd, EveryHeard, EveryInTurn, EveryMoment, EveryNext, EveryNextInTurn, EveryNotice, EveryTail}
+use Rattle.std.specs.Prelude.{◌≡◌, Some, None}
+use Rattle.map_model.specs.Outputs.{Reply}
+use Rattle.script_lang.specs.Notices.{Notice, NoticeFits, notice_text}
+use Rattle.script_lang.specs.Replies.{Fits, reply_of, reply_text}
+use Rattle.script_lang.specs.Text.{IsLine}
+use Rattle.transcripts.specs.Laws.{EveryEnd, EveryMoment, EveryNext, EveryNotice, EveryTail}
 use Rattle.worker_log.specs.Laws.{EveryKept, EveryPrefix}
 
--- what holds of calls and their crashes, of transcripts, of images that agree, and of logs
+-- what holds of calls and their crashes, of replies and transcripts, of images that agree, and of logs
 pub record Laws : Type 0 where
   pub rises : EveryRise
-  pub alone : EveryAlone
-  pub commits : EveryCommit
+  pub durable : EveryDurable
+  pub printed : EveryPrinted
   pub told : EveryTold
   pub crashes : EveryRunCrash
   pub shown : EveryShown
-  pub in_turn : EveryInTurn
-  pub next_in_turn : EveryNextInTurn
+  -- replies are read back, and notices are no replies
+  pub back : (reply : Reply) → Fits reply → (reply_of (reply_text reply) ≡ Some reply) × IsLine (reply_text reply)
+  pub quiet : (line : Notice) → NoticeFits line → (reply_of (notice_text line) ≡ None) × IsLine (notice_text line)
   pub moment : EveryMoment
-  pub heard : EveryHeard
   pub end : EveryEnd
   pub next : EveryNext
   pub notice : EveryNotice

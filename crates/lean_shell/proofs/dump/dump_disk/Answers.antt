@@ -39,7 +39,7 @@ returns-in-Done-clause-ends g c =
     let law = ((g.met.D.Disk g.world.𝓛 g.world.𝓜 g.world.𝓡 ((λ s x. x), (λ x. x), (λ x. x), (λ x. x))).lawful c.recover.new.disk) in
     dumped c.every_undone.ensures c.every_own.ensures c.every_listing.ensures (story c.args.disk.now) (story c.recover.new.disk) (story c.put_map.new.disk) law
     (record { keeps = e.keeps; logs = e.logs; others = e.others; any = e.any_moment }) c.in-Ok.recovered
-    (record { answer = k.answer; opened = k.opened; installed = k.installed; whole = k.whole })
+    (record { answer = k.answer; opened = k.opened; installed = k.installed; whole = k.whole; beyond = k.beyond })
     (held c.args.sink.now) (held c.put_map.new.sink) (faults c.args.sink.now) (faults c.put_map.new.sink) c.put_map.result 0 (sym (ap finished c.in-Done.is))
     (subst (λ (ps : List Page). PutsMap (value (format_of (length ps)) (nodes_of ps)) c.put_map.result (held c.args.sink.now) (held c.put_map.new.sink) (faults c.args.sink.now) (faults c.put_map.new.sink) (story c.recover.new.disk) (story c.put_map.new.disk))
     c.deref.ensures.value c.put_map.ensures.put)
@@ -54,7 +54,7 @@ returns-clause-ends g c =
     let law = ((g.met.D.Disk g.world.𝓛 g.world.𝓜 g.world.𝓡 ((λ s x. x), (λ x. x), (λ x. x), (λ x. x))).lawful c.recover.new.disk) in
     dumped c.every_undone.ensures c.every_own.ensures c.every_listing.ensures (story c.args.disk.now) (story c.recover.new.disk) (story c.put_map.new.disk) law
     (record { keeps = e.keeps; logs = e.logs; others = e.others; any = e.any_moment }) c.in-Ok.recovered
-    (record { answer = k.answer; opened = k.opened; installed = k.installed; whole = k.whole })
+    (record { answer = k.answer; opened = k.opened; installed = k.installed; whole = k.whole; beyond = k.beyond })
     (held c.args.sink.now) (held c.put_map.new.sink) (faults c.args.sink.now) (faults c.put_map.new.sink) c.put_map.result 5 (sym (ap finished c.in-Failed.is))
     (subst (λ (ps : List Page). PutsMap (value (format_of (length ps)) (nodes_of ps)) c.put_map.result (held c.args.sink.now) (held c.put_map.new.sink) (faults c.args.sink.now) (faults c.put_map.new.sink) (story c.recover.new.disk) (story c.put_map.new.disk))
     c.deref.ensures.value c.put_map.ensures.put)

@@ -6,7 +6,7 @@ use Rattle.lean_shell.proofs.engine_lines.put_refused.Goals as goal
 
 pub returns-clause-put : goal.returns-clause-put
 returns-clause-put g c =
-    subst (λ (line : List ℕ). IsPut line c.put_line.result (g.K.Sink.held c.args.sink.now) (g.K.Sink.held c.put_line.new.sink) (g.E.Calls.story c.args.engine.now) (g.E.Calls.story c.put_line.new.engine))
+    subst (λ (line : List ℕ). IsPut line c.put_line.result (g.K.Sink.held c.args.sink.now) (g.K.Sink.held c.put_line.new.sink) (g.D.Disk.story (g.E.Calls.disk c.args.engine.now)) (g.D.Disk.story (g.E.Calls.disk c.put_line.new.engine)))
     (held_text (line_of (Notice.Refused c.args.number)) c.refused_bytes-end.ensures) c.put_line.ensures.put
 
 pub put_line-requires-after_bounds : goal.put_line-requires-after_bounds

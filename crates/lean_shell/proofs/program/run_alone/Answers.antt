@@ -1,7 +1,8 @@
-use Rattle.std.proofs.Common.{inl, refl}
+use Rattle.std.proofs.Common.{ℕ, inl, refl, subst, sym}
+use Rattle.recovery.specs.Telling.{TellsAll}
 use Rattle.lean_shell.specs.declared.failure.Failure.TheVariants.{Usage}
 use Rattle.lean_shell.proofs.CommandLemmas.{not_both, not_run, of_dump, of_format, of_none, of_run, of_unread, tells_on, usage_moments}
-use Rattle.lean_shell.specs.Words.{texts}
+use Rattle.lean_shell.specs.Words.{AsksRun, texts}
 use Rattle.lean_shell.specs.declared.words.Command.TheVariants.{Dump, Format, Run}
 use Rattle.lean_shell.proofs.WordLemmas.{read_none, read_some}
 use Rattle.lean_shell.proofs.program.run_alone.Goals as goal
@@ -43,7 +44,10 @@ pub returns-in-Ok-Some-Format-clause-headline : goal.returns-in-Ok-Some-Format-c
 returns-in-Ok-Some-Format-clause-headline g c = λ size also. absurd (not_both (texts c.args.words.now) c.in-Ok-Some-Format.shape size (read_some (texts c.args.words.now) c.in-Ok-Some-Format.field-0 c.in-Ok-Some-Format.field-0-0 (Format c.in-Ok-Some-Format.shape) c.in-Ok-Some-Format.field-0-is c.in-Ok-Some-Format.field-0-0-is c.in-Ok-Some-Format.ensures.some) also)
 
 pub returns-in-Ok-Some-Run-clause-headline : goal.returns-in-Ok-Some-Run-clause-headline
-returns-in-Ok-Some-Run-clause-headline g c = λ size also. c.run_disk.ensures.headline
+returns-in-Ok-Some-Run-clause-headline g c = λ size also feed_tells held_tells tells.
+    let words = texts c.args.words.now in
+    let asks : AsksRun words c.in-Ok-Some-Run.size = read_some words c.in-Ok-Some-Run.field-0 c.in-Ok-Some-Run.field-0-0 (Run c.in-Ok-Some-Run.size) c.in-Ok-Some-Run.field-0-is c.in-Ok-Some-Run.field-0-0-is c.in-Ok-Some-Run.ensures.some in
+    c.run_disk.ensures.headline feed_tells held_tells (subst (λ (n : ℕ). TellsAll n (g.D.Disk.story c.args.disk)) (sym asks.given.sessions) tells)
 
 pub returns-in-Ok-Some-Dump-clause-headline : goal.returns-in-Ok-Some-Dump-clause-headline
 returns-in-Ok-Some-Dump-clause-headline g c = λ size also. absurd (not_run (texts c.args.words.now) size (read_some (texts c.args.words.now) c.in-Ok-Some-Dump.field-0 c.in-Ok-Some-Dump.field-0-0 Dump c.in-Ok-Some-Dump.field-0-is c.in-Ok-Some-Dump.field-0-0-is c.in-Ok-Some-Dump.ensures.some) also)

@@ -7,6 +7,8 @@ use Rattle.row_engine.proofs.CommitRefusals.{holds_missed, longer, missed_from, 
 use Rattle.row_engine.specs.Others.{Steps}
 use Rattle.row_engine.proofs.OtherLemmas.{every_steps}
 use Rattle.row_engine.proofs.OwnSteps.{finished_steps, latch_steps, no_steps, undone_steps}
+use Rattle.row_engine.proofs.BackRuns.{same_flushed}
+use Rattle.row_engine.proofs.ReceiptLemmas.{receipt_from}
 use Rattle.row_engine.proofs.aborts.abort.Goals as goal
 
 pub returns-in-Some-clause-does : goal.returns-in-Some-clause-does
@@ -126,3 +128,11 @@ returns-clause-steps g c works still =
     every_steps own (g.R.Rows.view c.args.seat.now) u w undoes.steps (every_steps own u u1 w (no_steps own u u1 l.given l.seen)
     (subst (λ n. Steps n u1 w) (ap (λ (k : Session). k.own) undoes.session)
     (finished_steps c.finish.result u1 w y c.put_back_all.new.store.log c.finish.new.store.log (g.D.Disk.story c.put_back_all.new.store.disk) (g.D.Disk.story c.finish.new.store.disk) c.finish.ensures.finishes (sym c.finish.ensures.works ∙ still))))
+
+pub returns-clause-receipt : goal.returns-clause-receipt
+returns-clause-receipt g c =
+    let l = c.latch_rows.ensures.latching in
+    let undoes = c.in_default-put_back_all.ensures.backs.0.undoes in
+    let u = g.R.Rows.view c.put_back_all.new.seat in
+    let u1 = g.R.Rows.view c.latch_rows.new.seat in
+    receipt_from (g.R.Rows.view c.args.seat.now) u1 c.finish.new.store.session c.finish.result (l.given ∙ undoes.given) (same_flushed u u1 l.given l.seen ∙ undoes.flushed) c.finish.ensures.receipt

@@ -8,6 +8,7 @@ use Rattle.row_engine.proofs.CommitLemmas.{ended_as}
 use Rattle.row_engine.proofs.CommitRuns.{found, holds_waiting, may_end_at}
 use Rattle.row_engine.proofs.Frames.{frame_of}
 use Rattle.row_engine.proofs.PutLemmas.{same_flushed}
+use Rattle.row_engine.proofs.ReceiptLemmas.{receipt}
 use Rattle.row_engine.proofs.aborts.finish.Goals as goal
 
 pub returns-in-Err-clause-finishes : goal.returns-in-Err-clause-finishes
@@ -54,7 +55,7 @@ returns-clause-finishes g c =
     let e = c.in_default.ensures in
     let floor = c.least_flushed-floor.result in
     let s = l.seen c.requires.latched.holds.alone in
-    let same = record_is x (x.clock + 1) c.need.result floor refl c.need.ensures in (
+    let same = record_is x (x.clock + 1) c.need-need.result floor refl c.need-need.ensures in (
       record {
         floor = floor;
         floor_is = floor_found z0 v0 x log c.args.latches.now c.requires.latched c.requires.is_open floor (l.least c.requires.latched.holds.alone);
@@ -71,3 +72,11 @@ returns-clause-whole g c works = ap (λ y. y.half) c.close.ensures
 
 pub returns-clause-session : goal.returns-clause-session
 returns-clause-session g c works = let same = c.close.ensures in (ap (λ y. y.own) same, ap (λ y. y.workers) same, ap (λ y. y.group) same)
+
+pub returns-clause-receipt : goal.returns-clause-receipt
+returns-clause-receipt g c =
+    let x = c.args.store.now.session in
+    let l = c.least_flushed-floor.ensures in
+    let same = c.close.ensures in
+    receipt (g.R.Rows.shape c.args.rows.now) (g.R.Rows.view c.args.seat.now) x c.close.new.session c.args.store.now.log c.args.latches.now c.requires.latched c.requires.is_open c.least_flushed-floor.result c.need-need.result (l.least c.requires.latched.holds.alone) c.need-need.ensures
+    (ap (λ y. y.txn) same) (ap (λ y. y.end) same) (ap (λ y. y.debt) same)

@@ -4,6 +4,8 @@ use Rattle.row_engine.specs.Calls.{commit_answer}
 use Rattle.row_engine.proofs.TakeLemmas.{holds_as}
 use Rattle.row_engine.proofs.OtherLemmas.{every_steps}
 use Rattle.row_engine.proofs.OwnSteps.{latch_steps, no_steps}
+use Rattle.row_engine.proofs.BackRuns.{same_flushed}
+use Rattle.row_engine.proofs.ReceiptLemmas.{receipt_from}
 use Rattle.row_engine.proofs.commits.commit.Goals as goal
 
 pub returns-in-Some-clause-does : goal.returns-in-Some-clause-does
@@ -78,3 +80,10 @@ returns-clause-steps g c works still =
     let v = g.R.Rows.view c.args.seat.now in
     let u = g.R.Rows.view c.latch_rows.new.seat in
     every_steps own v u (g.R.Rows.view c.finish.new.seat) (no_steps own v u l.given l.seen) (c.finish.ensures.steps still)
+
+pub returns-clause-receipt : goal.returns-clause-receipt
+returns-clause-receipt g c =
+    let l = c.latch_rows.ensures.latching in
+    let v = g.R.Rows.view c.args.seat.now in
+    let u = g.R.Rows.view c.latch_rows.new.seat in
+    receipt_from v u c.finish.new.store.session c.finish.result l.given (same_flushed v u l.given l.seen) c.finish.ensures.receipt

@@ -14,6 +14,7 @@ use Rattle.row_engine.proofs.Frames.{frame_of}
 use Rattle.row_engine.proofs.PutLemmas.{same_flushed}
 use Rattle.row_engine.proofs.OtherLemmas.{every_steps}
 use Rattle.row_engine.proofs.OwnSteps.{ended_steps, flushed_steps, no_steps}
+use Rattle.row_engine.proofs.ReceiptLemmas.{receipt}
 use Rattle.row_engine.proofs.commits.finish.Goals as goal
 
 pub returns-in-Err-clause-does : goal.returns-in-Err-clause-does
@@ -80,7 +81,7 @@ returns-then-store-clause-does g c =
     let same = waiting_is x c.close_by_commit.new.session (x.clock + 1) c.close_by_commit.ensures in
     subst (λ k. CallDoes x.own x.group call.Commit (answer.Committed x.txn (x.clock + 1)) x.half k v0 w log c.stage_end.new.log st mid) (sym (ap (λ y. y.half) same))
     (does_from x.own x.group (answer.Committed x.txn (x.clock + 1)) x.half (false) v0 v (w) log (c.stage_end.new.log) st (mid) s.given s.seen
-    (waiting_does (g.R.Rows.shape c.least_flushed-floor.new.rows) v x log c.args.latches.now c.requires.is_open c.least_flushed-floor.result f _ refl c.requires.whole c.every_reached.ensures c.every_need.ensures c.every_answer.ensures c.every_entry.ensures c.every_version.ensures c.every_kept.ensures c.every_prefix.ensures c.every_sealed.ensures st lawful w c.end_rows.ensures.ended c.need.result c.need.ensures mid c.stage_end.new.log e.stands keeps (lt-leb x.group (suc x.behind) (waits x _ (x.clock + 1) same c.if-store.true)) e.after))
+    (waiting_does (g.R.Rows.shape c.least_flushed-floor.new.rows) v x log c.args.latches.now c.requires.is_open c.least_flushed-floor.result f _ refl c.requires.whole c.every_reached.ensures c.every_need.ensures c.every_answer.ensures c.every_entry.ensures c.every_version.ensures c.every_kept.ensures c.every_prefix.ensures c.every_sealed.ensures st lawful w c.end_rows.ensures.ended c.need-need.result c.need-need.ensures mid c.stage_end.new.log e.stands keeps (lt-leb x.group (suc x.behind) (waits x _ (x.clock + 1) same c.if-store.true)) e.after))
 
 pub returns-then-store-clause-session : goal.returns-then-store-clause-session
 returns-then-store-clause-session g c works =
@@ -127,7 +128,7 @@ returns-in-Err-flush_log-clause-does g c =
     let flushing : KeepsLog x.own c.stage_end.new.log mid new = subst (λ k. KeepsLog k c.stage_end.new.log mid new) (ap (λ k. k.own) same) c.in-Err-flush_log.ensures.keeps in
     subst (λ why. CallDoes x.own x.group call.Commit (answer.Refused why) x.half y.half v0 u log is st new) (sym c.in-Err-flush_log.ensures.only_disk_fault)
     (does_from x.own x.group (answer.Refused refusal.DiskFault) x.half (y.half) v0 v (u) log (is) st (new) s.given s.seen
-    (unflushed_does (g.R.Rows.shape c.least_flushed-floor.new.rows) v x log c.args.latches.now c.requires.is_open c.least_flushed-floor.result f _ refl c.requires.whole c.every_reached.ensures c.every_need.ensures c.every_answer.ensures c.every_entry.ensures c.every_version.ensures c.every_kept.ensures c.every_prefix.ensures c.every_sealed.ensures st lawful w c.end_rows.ensures.ended c.need.result c.need.ensures mid c.stage_end.new.log e.stands keeps (fills x _ (x.clock + 1) same c.if-store.false) new flushing y.half u is))
+    (unflushed_does (g.R.Rows.shape c.least_flushed-floor.new.rows) v x log c.args.latches.now c.requires.is_open c.least_flushed-floor.result f _ refl c.requires.whole c.every_reached.ensures c.every_need.ensures c.every_answer.ensures c.every_entry.ensures c.every_version.ensures c.every_kept.ensures c.every_prefix.ensures c.every_sealed.ensures st lawful w c.end_rows.ensures.ended c.need-need.result c.need-need.ensures mid c.stage_end.new.log e.stands keeps (fills x _ (x.clock + 1) same c.if-store.false) new flushing y.half u is))
 
 pub returns-clause-holds : goal.returns-clause-holds
 returns-clause-holds g c works =
@@ -182,7 +183,7 @@ returns-clause-does g c =
     let d : HasFlushed w u (waiting_session x (x.clock + 1) (suc x.behind)) y c.stage_end.new.log is mid new = subst (λ k. HasFlushed w u k y c.stage_end.new.log is mid new) same c.in_default-flush_log.ensures.flushed in
     subst (λ k. CallDoes x.own x.group call.Commit (answer.Committed x.txn (x.clock + 1)) x.half k v0 u log is st new) (sym (ap (λ k. k.half) d.session))
     (does_from x.own x.group (answer.Committed x.txn (x.clock + 1)) x.half (false) v0 v (u) log (is) st (new) s.given s.seen
-    (flushed_does (g.R.Rows.shape c.least_flushed-floor.new.rows) v x log c.args.latches.now c.requires.is_open c.least_flushed-floor.result f _ refl c.requires.whole c.every_reached.ensures c.every_need.ensures c.every_answer.ensures c.every_entry.ensures c.every_version.ensures c.every_kept.ensures c.every_prefix.ensures c.every_sealed.ensures st lawful w c.end_rows.ensures.ended c.need.result c.need.ensures mid c.stage_end.new.log e.stands keeps (fills x _ (x.clock + 1) same c.if-store.false) new flushing (suc x.behind) u y is d c.in_default.ensures.last e.after))
+    (flushed_does (g.R.Rows.shape c.least_flushed-floor.new.rows) v x log c.args.latches.now c.requires.is_open c.least_flushed-floor.result f _ refl c.requires.whole c.every_reached.ensures c.every_need.ensures c.every_answer.ensures c.every_entry.ensures c.every_version.ensures c.every_kept.ensures c.every_prefix.ensures c.every_sealed.ensures st lawful w c.end_rows.ensures.ended c.need-need.result c.need-need.ensures mid c.stage_end.new.log e.stands keeps (fills x _ (x.clock + 1) same c.if-store.false) new flushing (suc x.behind) u y is d c.in_default.ensures.last e.after))
 
 pub returns-then-store-clause-steps : goal.returns-then-store-clause-steps
 returns-then-store-clause-steps g c works =
@@ -215,3 +216,22 @@ returns-clause-steps g c works =
     let may = may_flush_at z v x log c.args.latches.now c.requires.is_open c.least_flushed-floor.result f _ refl true w c.end_rows.ensures.ended (suc x.behind) c.stage_end.new.log c.in_default.ensures.last in
     every_steps x.own v0 v u (no_steps x.own v0 v s.given s.seen) (every_steps x.own v w u (ended_steps x.own _ v w true c.least_flushed-floor.result c.end_rows.ensures.ended)
     (flushed_steps z w u (waiting_session x (x.clock + 1) (suc x.behind)) y c.stage_end.new.log c.stage_end.new.log is mid new may d))
+
+pub returns-then-store-clause-receipt : goal.returns-then-store-clause-receipt
+returns-then-store-clause-receipt g c =
+    let x = c.args.store.now.session in
+    let y = c.close_by_commit.new.session in
+    let l = c.least_flushed-floor.ensures in
+    let same = c.close_by_commit.ensures in
+    receipt (g.R.Rows.shape c.args.rows.now) (g.R.Rows.view c.args.seat.now) x y c.args.store.now.log c.args.latches.now c.requires.latched c.requires.is_open c.least_flushed-floor.result c.need-need.result (l.least c.requires.latched.holds.alone) c.need-need.ensures
+    (ap (λ (k : Session). k.txn) same) (ap (λ (k : Session). k.end) same) (ap (λ (k : Session). k.debt) same)
+
+pub returns-clause-receipt : goal.returns-clause-receipt
+returns-clause-receipt g c =
+    let x = c.args.store.now.session in
+    let y = c.flush_log.new.store.session in
+    let l = c.least_flushed-floor.ensures in
+    let same = c.close_by_commit.ensures in
+    let last = c.in_default-flush_log.ensures.flushed.session in
+    receipt (g.R.Rows.shape c.args.rows.now) (g.R.Rows.view c.args.seat.now) x y c.args.store.now.log c.args.latches.now c.requires.latched c.requires.is_open c.least_flushed-floor.result c.need-need.result (l.least c.requires.latched.holds.alone) c.need-need.ensures
+    (ap (λ (k : Session). k.txn) last ∙ ap (λ (k : Session). k.txn) same) (ap (λ (k : Session). k.end) last ∙ ap (λ (k : Session). k.end) same) (ap (λ (k : Session). k.debt) last ∙ ap (λ (k : Session). k.debt) same)

@@ -1,12 +1,13 @@
 use Rattle.map_model.specs.declared.call.Call.TheVariants as call
 use Rattle.row_engine.specs.Calls.{CallDoes, del_answer}
-use Rattle.std.proofs.Common.{Err, suc, ap, inl, refl, sym, ◌∙◌, subst}
+use Rattle.std.proofs.Common.{ℕ, Option, Err, suc, ap, inl, refl, sym, ◌∙◌, subst}
 use Rattle.lean_disk.specs.Moments.{Framed}
 use Rattle.key_locks.specs.declared.mode.Mode.TheVariants.{Alone}
 use Rattle.engine_calls.proofs.PartLemmas.{every_part}
 use Rattle.row_engine.proofs.DelLemmas.{same_by_row, same_then}
 use Rattle.row_engine.proofs.DelRuns.{del_did, del_framed, del_never_early, dels_told, not_deleted, row_refused, row_stopped, stopped_late}
-use Rattle.row_engine.proofs.PutTests.{may_taken, met_comes, none_is, not_taken_comes, put_comes, some_is}
+use Rattle.row_engine.proofs.PutTests.{may_taken, met_comes, none_is, not_taken_comes, put_comes, some_is, works_of}
+use Rattle.row_engine.proofs.StepLemmas.{ready, stopped_works}
 use Rattle.row_engine.proofs.OwnSteps.{no_steps, del_steps, taken_then, takes_steps, untaken_steps}
 use Rattle.row_engine.proofs.dels.del.Goals as goal
 
@@ -47,7 +48,7 @@ returns-clause-does g c works gg xs t line =
     gg xs (g.R.Rows.shape c.args.rows.now) (g.R.Rows.view c.args.seat.now) c.args.store.now.session c.args.store.now.log (c.requires.holds works) t line works c.args.key
     (sym c.put_refusal.ensures ∙ c.in_default.is)
     (g.R.Rows.shape c.take_row.new.rows) (g.R.Rows.view c.take_row.new.seat) c.take_row.new.session c.take_row.ensures.holds c.in_default-take_row.ensures.taken
-    (g.R.Rows.view c.del_held.new.seat) c.del_held.new.store.log (g.D.Disk.story c.args.store.now.disk) (g.D.Disk.story c.del_held.new.store.disk) _ _ lawful
+    (ready c.take_row.new.session.clock c.args.store.now.log (sym c.block_refusal.ensures ∙ c.in_default-block_refusal.is)).small (g.R.Rows.view c.del_held.new.seat) c.del_held.new.store.log (g.D.Disk.story c.args.store.now.disk) (g.D.Disk.story c.del_held.new.store.disk) _ _ lawful
     (λ e. (ap (λ k. k.log) e, ap (λ k. g.D.Disk.story k.disk) e)) (λ e. ap (λ k. g.D.Disk.story k) e)
     c.del_held.new.store.session.half c.del_held.result (λ e. c.del_held.ensures.half (c.del_held.ensures.works ∙ e) ∙ ap (λ k. k.half) c.in_default-take_row.ensures.taken.session) c.del_held.ensures.dels
 
@@ -98,6 +99,11 @@ returns-clause-session g c works =
 pub returns-in-Some-block_refusal-clause-same : goal.returns-in-Some-block_refusal-clause-same
 returns-in-Some-block_refusal-clause-same g c early =
     absurd (stopped_late c.take_row.new.session.clock c.args.store.now.log c.in-Some-block_refusal.why (sym c.block_refusal.ensures ∙ c.in-Some-block_refusal.is) early)
+
+pub returns-in-Some-block_refusal-clause-works : goal.returns-in-Some-block_refusal-clause-works
+returns-in-Some-block_refusal-clause-works g c =
+    (ap (λ k. k.works) c.in_default-take_row.ensures.taken.session ∙ works_of c.args.store.now.session c.args.store.now.log (sym c.put_refusal.ensures ∙ c.in_default.is))
+    ∙ sym (stopped_works (Option ℕ) c.take_row.new.session.clock c.args.store.now.log c.in-Some-block_refusal.why (sym c.block_refusal.ensures ∙ c.in-Some-block_refusal.is))
 
 pub returns-in-Some-clause-steps : goal.returns-in-Some-clause-steps
 returns-in-Some-clause-steps g c works still = no_steps c.args.store.now.session.own (g.R.Rows.view c.args.seat.now) (g.R.Rows.view c.args.seat.now) refl refl

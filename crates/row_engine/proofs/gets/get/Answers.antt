@@ -6,7 +6,8 @@ use Rattle.map_model.specs.declared.call.Refusal.TheVariants as refusal
 use Rattle.btree_descent.specs.Descents.{Stamped}
 use Rattle.btree_descent.specs.Known.{said}
 use Rattle.key_locks.specs.declared.mode.Mode.TheVariants.{Shared}
-use Rattle.row_engine.specs.Calls.{CallDoes, MayCome, get_answer}
+use Rattle.engine_trait.specs.Calls.{MayCome}
+use Rattle.row_engine.specs.Calls.{CallDoes, get_answer}
 use Rattle.row_engine.specs.Takes.{NotTaken}
 use Rattle.row_engine.proofs.GetLemmas.{after_read, call_open, got, key_mine, may_come, no_cold, not_got, not_taken, open_still, read_steps}
 use Rattle.row_engine.proofs.OwnSteps.{no_steps, taken_then, untaken_steps}

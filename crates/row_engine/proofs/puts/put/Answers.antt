@@ -1,11 +1,12 @@
 use Rattle.key_locks.specs.declared.mode.Mode.TheVariants.{Alone}
 use Rattle.map_model.specs.declared.call.Call.TheVariants as call
 use Rattle.row_engine.specs.Calls.{CallDoes, put_answer}
-use Rattle.std.proofs.Common.{Err, suc, ap, inl, refl, sym, ◌∙◌, subst}
+use Rattle.std.proofs.Common.{ℕ, Option, Err, suc, ap, inl, refl, sym, ◌∙◌, subst}
 use Rattle.engine_calls.proofs.PartLemmas.{every_part}
 use Rattle.lean_disk.specs.Moments.{Framed}
 use Rattle.row_engine.proofs.PutRuns.{met_put, not_put, not_taken, tried_put}
-use Rattle.row_engine.proofs.PutTests.{may_taken, met_comes, met_late, never_early, none_is, not_taken_comes, put_comes, put_framed, puts_told, some_is}
+use Rattle.row_engine.proofs.PutTests.{may_taken, met_comes, met_late, never_early, none_is, not_taken_comes, put_comes, put_framed, puts_told, some_is, works_of}
+use Rattle.row_engine.proofs.StepLemmas.{stopped_works}
 use Rattle.row_engine.proofs.OwnSteps.{no_steps, put_steps, taken_then, takes_steps, untaken_steps}
 use Rattle.row_engine.proofs.puts.put.Goals as goal
 
@@ -69,6 +70,11 @@ returns-in-Some-clause-told g c = put_comes c.args.store.now.session.workers c.a
 pub returns-in-Err-clause-told : goal.returns-in-Err-clause-told
 returns-in-Err-clause-told g c =
     not_taken_comes c.args.store.now.session.workers (g.R.Rows.view c.args.seat.now) (g.R.Rows.view c.take_row.new.seat) c.args.store.now.session.own _ _ c.in-Err.why c.in-Err.ensures.not_taken.0 c.in-Err.ensures.only
+
+pub returns-in-Some-block_refusal-clause-works : goal.returns-in-Some-block_refusal-clause-works
+returns-in-Some-block_refusal-clause-works g c =
+    (ap (λ k. k.works) c.in_default-take_row.ensures.taken.session ∙ works_of c.args.store.now.session c.args.store.now.log (sym c.put_refusal.ensures ∙ c.in_default.is))
+    ∙ sym (stopped_works (Option ℕ) c.take_row.new.session.clock c.args.store.now.log c.in-Some-block_refusal.why (sym c.block_refusal.ensures ∙ c.in-Some-block_refusal.is))
 
 pub returns-in-Some-block_refusal-clause-told : goal.returns-in-Some-block_refusal-clause-told
 returns-in-Some-block_refusal-clause-told g c = inl (met_comes c.args.store.now.session.workers c.take_row.new.session.clock c.args.store.now.log c.in-Some-block_refusal.why (sym c.block_refusal.ensures ∙ c.in-Some-block_refusal.is))

@@ -1,8 +1,13 @@
 use Rattle.std.proofs.Common.{◌≡◌, ◌∙◌, false, Err, sym, ap, subst}
 use Rattle.row_engine.specs.declared.puts.Stepped.{Stepped}
 use Rattle.row_engine.specs.Rooms.{Grew, IsGrown}
-use Rattle.row_engine.proofs.StepLemmas.{calm_then, grown_from, may_after, not_fault, ok_calm, refused_session, step_refused, step_stopped, stopped_works, tried_full}
+use Rattle.row_engine.proofs.StepLemmas.{calm_then, grown_from, may_after, not_fault, ok_calm, refused_session, step_refused, step_stopped, stopped_works, tried_full, tried_refused}
 use Rattle.row_engine.proofs.puts.put_step.Goals as goal
+
+pub returns-in-Err-clause-steps : goal.returns-in-Err-clause-steps
+returns-in-Err-clause-steps g c =
+    tried_refused c.in-Err.why (g.R.Rows.view c.args.seat.now) (g.R.Rows.view c.put_in_leaf.new.seat) c.args.key c.args.value c.args.store.now.session c.put_in_leaf.new.store.session c.args.store.now.log c.put_in_leaf.new.store.log
+    (g.D.Disk.story c.args.store.now.disk) (g.D.Disk.story c.put_in_leaf.new.store.disk) c.put_in_leaf.new.path (c.put_in_leaf.new.store ≡ c.args.store.now) (c.put_in_leaf.new.store.session.works ≡ false) c.in-Err.ensures.tries
 
 pub returns-in-Err-make_room-clause-steps : goal.returns-in-Err-make_room-clause-steps
 returns-in-Err-make_room-clause-steps g c =

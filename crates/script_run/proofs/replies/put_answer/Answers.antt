@@ -1,35 +1,21 @@
-use Rattle.std.proofs.Common.{ap}
-use Rattle.script_run.proofs.PutLemmas.{failed_first, said_one, failed_second, said_two, not_durable}
+use Rattle.std.proofs.Common.{◌∷◌, ap}
+use Rattle.core_calls.specs.Durables.{durables, moments}
+use Rattle.script_run.proofs.DueLemmas.{answer_failed, answer_put}
 use Rattle.script_run.proofs.replies.put_answer.Goals as goal
 
 pub returns-in_default-clause-says : goal.returns-in_default-clause-says
-returns-in_default-clause-says g c =
+returns-in_default-clause-says g c o xs x run session answers fits =
+    let E = g.E.Calls in
     let held = g.K.Sink.held in
-    let story = g.E.Calls.story in
-    let law = c.requires.lawful in
-    failed_first c.args.answer.now (held c.args.sink.now) (held c.put_reply.new.sink) (held c.put_reply.new.sink) (story c.args.engine.now) (story c.put_reply.new.engine) (story c.put_reply.new.engine) law
-    (c.in_default.ensures).put (ap story (c.put_reply.ensures.not_noted c.in_default.is))
+    let D = g.D.Disk in
+    answer_failed o xs x c.args.session c.args.answer.now session answers fits (E.in_run c.put_reply.new.engine o (x ∷ xs)) (held c.args.sink.now) (held c.put_reply.new.sink) (D.story (E.disk c.args.engine.now)) (D.story (E.disk c.put_reply.new.engine))
+    c.told.ensures.lawful (c.in_default.ensures).put (ap (λ e. D.story (E.disk e)) (c.put_reply.ensures.not_noted c.in_default.is)) (c.put_reply.ensures.in_run o (x ∷ xs) (durables o (moments xs)) run)
 
-pub returns-in_default-answer-clause-says : goal.returns-in_default-answer-clause-says
-returns-in_default-answer-clause-says g c =
+pub returns-clause-says : goal.returns-clause-says
+returns-clause-says g c o xs x run session answers fits =
+    let E = g.E.Calls in
     let held = g.K.Sink.held in
-    let story = g.E.Calls.story in
-    let law = c.requires.lawful in
-    said_one c.args.answer.now (held c.args.sink.now) (held c.put_reply.new.sink) (held c.put_reply.new.sink) (story c.args.engine.now) (story c.put_reply.new.engine) (story c.put_reply.new.engine) law
-    (not_durable c.args.answer.now (c.in_default-answer).not-Committed) (c.in-Done.ensures).put (c.put_reply.ensures.noted c.in-Done.is)
-
-pub returns-in-Failed-clause-says : goal.returns-in-Failed-clause-says
-returns-in-Failed-clause-says g c =
-    let held = g.K.Sink.held in
-    let story = g.E.Calls.story in
-    let law = c.requires.lawful in
-    failed_second c.args.answer.now (held c.args.sink.now) (held c.put_reply.new.sink) (held c.put_durable.new.sink) (story c.args.engine.now) (story c.put_reply.new.engine) (story c.put_durable.new.engine) law
-    c.in-Committed.number c.in-Committed.at c.in-Committed.is (c.in-Done.ensures).put (c.put_reply.ensures.noted c.in-Done.is) (c.in-Failed.ensures).put (ap story (c.put_durable.ensures.not_noted c.in-Failed.is))
-
-pub returns-in-Done-put_durable-clause-says : goal.returns-in-Done-put_durable-clause-says
-returns-in-Done-put_durable-clause-says g c =
-    let held = g.K.Sink.held in
-    let story = g.E.Calls.story in
-    let law = c.requires.lawful in
-    said_two c.args.answer.now (held c.args.sink.now) (held c.put_reply.new.sink) (held c.put_durable.new.sink) (story c.args.engine.now) (story c.put_reply.new.engine) (story c.put_durable.new.engine) law
-    c.in-Committed.number c.in-Committed.at c.in-Committed.is (c.in-Done.ensures).put (c.put_reply.ensures.noted c.in-Done.is) (c.in-Done-put_durable.ensures).put (c.put_durable.ensures.noted (c.in-Done-put_durable).is)
+    let D = g.D.Disk in
+    let more = c.put_durables.ensures.says o (x ∷ xs) (durables o (moments xs)) (c.put_reply.ensures.in_run o (x ∷ xs) (durables o (moments xs)) run) in
+    answer_put o xs x c.args.session c.args.answer.now session answers fits (E.in_run c.put_durables.new.engine o (x ∷ xs)) (held c.args.sink.now) (held c.put_reply.new.sink) (D.story (E.disk c.args.engine.now)) (D.story (E.disk c.put_reply.new.engine))
+    c.told.ensures.lawful c.put_durables.result (held c.put_durables.new.sink) (D.story (E.disk c.put_durables.new.engine)) (c.in-Done.ensures).put (c.put_reply.ensures.noted c.in-Done.is) more.0 more.1

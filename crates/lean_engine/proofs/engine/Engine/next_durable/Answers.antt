@@ -1,0 +1,44 @@
+use Rattle.std.proofs.Common.{◌≤◌, length, take, Some, None, refl, sym, ap, ◌∙◌, subst, arith}
+use Rattle.lean_engine.specs.States.{InRun, State}
+use Rattle.lean_engine.proofs.DurableLemmas.{engine_none, engine_some, seated_in, tells_none, tells_some}
+use Rattle.lean_engine.proofs.engine.Engine.next_durable.Goals as goal
+
+pub flushed_numbers-numbers-requires-clause-seated : goal.flushed_numbers-numbers-requires-clause-seated
+flushed_numbers-numbers-requires-clause-seated g c =
+    let m = c.self.inside.machine in
+    seated_in m.seat.view m.store.disk (record { session = m.store.session; log = m.store.log }) m.desks.items m.master c.self.inside.next c.self.inside.unripe m.rows.frames m.rows.locks m.rows.workers m.rows.words.items m.latches
+    (ap (λ s. s.works) c.self.view_is ∙ c.requires.works) c.self.invariant
+
+pub invariant_of-self : goal.invariant_of-self
+invariant_of-self g c =
+    let m = c.self.inside.machine in
+    let numbers = c.flushed_numbers-numbers.result in
+    let long : m.store.session.workers ≤ length numbers = (let few = c.self.invariant.few in omega arith) in
+    engine_some m.seat.view m.store.disk (record { session = m.store.session; log = m.store.log }) m.desks.items m.master c.self.inside.next c.self.inside.unripe m.rows.frames m.rows.locks m.rows.workers m.rows.words.items m.latches
+    (ap (λ s. s.works) c.self.view_is ∙ c.requires.works) c.self.invariant c.every_take.ensures c.self.inside.next c.take.new.self numbers (take m.store.session.workers numbers) (Some c.in-Some.receipt) refl long c.flushed_numbers-numbers.ensures c.in-Some.ensures.takes c.in-Some.receipt refl refl
+
+pub returns-in-Some-clause-taken : goal.returns-in-Some-clause-taken
+returns-in-Some-clause-taken g c o xs names run =
+    let m = c.self.inside.machine in
+    let numbers = c.flushed_numbers-numbers.result in
+    let long : m.store.session.workers ≤ length numbers = (let few = c.self.invariant.few in omega arith) in
+    tells_some m.seat.view m.store.disk (record { session = m.store.session; log = m.store.log }) m.desks.items m.master c.self.inside.next c.self.inside.unripe m.rows.frames m.rows.locks m.rows.workers m.rows.words.items m.latches
+    (ap (λ s. s.works) c.self.view_is ∙ c.requires.works) c.self.invariant c.every_take.ensures c.self.inside.next c.take.new.self numbers (take m.store.session.workers numbers) (Some c.in-Some.receipt) refl long c.flushed_numbers-numbers.ensures c.in-Some.ensures.takes c.in-Some.receipt refl refl
+    o xs names (subst (λ (s : State g.row.D.Denot). InRun s o xs names) (sym c.self.view_is) run)
+
+pub invariant_of-self-in-None : goal.invariant_of-self-in-None
+invariant_of-self-in-None g c =
+    let m = c.self.inside.machine in
+    let numbers = c.flushed_numbers-numbers.result in
+    let long : m.store.session.workers ≤ length numbers = (let few = c.self.invariant.few in omega arith) in
+    engine_none m.seat.view m.store.disk (record { session = m.store.session; log = m.store.log }) m.desks.items m.master c.self.inside.next c.self.inside.unripe m.rows.frames m.rows.locks m.rows.workers m.rows.words.items m.latches
+    (ap (λ s. s.works) c.self.view_is ∙ c.requires.works) c.self.invariant c.every_take.ensures c.behind-self-inside.result c.take.new.self numbers (take m.store.session.workers numbers) None refl long c.flushed_numbers-numbers.ensures c.in-None.ensures.takes refl c.behind-self-inside.ensures
+
+pub returns-in-None-clause-taken : goal.returns-in-None-clause-taken
+returns-in-None-clause-taken g c o xs names run =
+    let m = c.self.inside.machine in
+    let numbers = c.flushed_numbers-numbers.result in
+    let long : m.store.session.workers ≤ length numbers = (let few = c.self.invariant.few in omega arith) in
+    tells_none m.seat.view m.store.disk (record { session = m.store.session; log = m.store.log }) m.desks.items m.master c.self.inside.next c.self.inside.unripe m.rows.frames m.rows.locks m.rows.workers m.rows.words.items m.latches
+    (ap (λ s. s.works) c.self.view_is ∙ c.requires.works) c.self.invariant c.every_take.ensures c.behind-self-inside.result c.take.new.self numbers (take m.store.session.workers numbers) None refl long c.flushed_numbers-numbers.ensures c.in-None.ensures.takes refl c.behind-self-inside.ensures
+    o xs names (subst (λ (s : State g.row.D.Denot). InRun s o xs names) (sym c.self.view_is) run)

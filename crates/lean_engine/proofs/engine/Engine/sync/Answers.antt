@@ -1,0 +1,9 @@
+use Rattle.std.proofs.Common.{subst}
+use Rattle.map_model.specs.declared.call.Answer.{Answer}
+use Rattle.map_model.specs.declared.call.Call.TheVariants as calls
+use Rattle.lean_engine.specs.Calls.{Asked}
+use Rattle.lean_engine.proofs.engine.Engine.sync.Goals as goal
+
+pub returns-in-Synced-clause-asked : goal.returns-in-Synced-clause-asked
+returns-in-Synced-clause-asked g c =
+    subst (λ (a : Answer). Asked 0 calls.Sync a c.args.self.now c.ask.new.self (g.D.Disk.story c.args.self.now.disk) (g.D.Disk.story c.ask.new.self.disk)) c.in-Synced.is c.ask.ensures.asked

@@ -1,0 +1,122 @@
+-- The parts of an engine that work on rows and disk: its rows and their seat, the session in the store and those at their desks, and the master that counts.
+use Rattle.std.specs.Prelude.{◌≡◌, ◌≤◌, ◌<◌, ◌+◌, ◌^◌, ℕ, suc, Bool, true, false, List, ◌∷◌, length, replicate, leb, Some, ◌*◌, min}
+use Rattle.image_model.specs.Entries.{Entry, is_record}
+use Rattle.map_model.specs.Lists.{Has, any}
+use Rattle.map_model.specs.declared.call.Answer.{Answer}
+use Rattle.map_model.specs.declared.call.Answer.TheVariants as answer
+use Rattle.map_model.specs.declared.call.Call.{Call}
+use Rattle.core_state.specs.Openings.{Opening}
+use Rattle.core_state.specs.States as core
+use Rattle.core_state.specs.Local.{is_sync}
+use Rattle.core_state.specs.Steps.{state_after}
+use Rattle.core_calls.specs.Fronts.{Done, front, outcomes}
+use Rattle.core_calls.specs.Refusals.{waiting}
+use Rattle.core_calls.specs.Steps.{hindered_in}
+use Rattle.disk_slots.specs.declared.master.Master.{Master}
+use Rattle.engine_calls.specs.Clauses.{IsNewLine}
+use Rattle.engine_trait.specs.Calls.{Does, Fails, Memory, is_half_done}
+use Rattle.lean_disk.specs.Story.{Story}
+use Rattle.log_calls.specs.Wholes.{EndsInRecord}
+use Rattle.rows_trait.specs.declared.view.View.{View}
+use Rattle.rows_trait.specs.Plain.{sizes}
+use Rattle.rows_trait.specs.Rule.{IsPicture, plan}
+use Rattle.rows_trait.specs.Views.{Shape, state}
+use Rattle.worker_log.specs.Logs.{Log}
+use Rattle.row_engine.specs.Calls.{Comes}
+use Rattle.row_engine.specs.Holds.{Holds}
+use Rattle.row_engine.specs.Opened.{plain_shape}
+use Rattle.row_engine.specs.Ties.{Ties}
+use Rattle.row_engine.specs.declared.session.Session.{Session}
+use Rattle.lean_engine.specs.Desks.{desk_of, log_of}
+use Rattle.lean_engine.specs.declared.desk.Desk.{Desk}
+
+-- ## What holds between two calls
+
+-- A session at its desk, beside the one whose turn it is: it is as between two calls, with the free pages that that one knows.
+pub record IsDesk (z : Shape) (v : View) (turn : Session) (session : ℕ) (desk : Desk) : Type 0 where
+  pub own : desk.session.own ≡ session
+  pub workers : desk.session.workers ≡ turn.workers
+  pub group : desk.session.group ≡ turn.group
+  pub frames : desk.session.frames ≡ turn.frames
+  pub count : desk.session.held.count ≡ turn.held.count
+  pub works : desk.session.works ≡ true
+  pub holds : Holds z v (record desk.session { free = turn.free }) desk.log
+
+-- there is a desk for each session
+pub record AreDesks (z : Shape) (v : View) (store : Desk) (desks : List Desk) : Type 0 where
+  pub count : suc (length desks) ≡ store.session.workers
+  pub each : (w : ℕ) → 0 < w → w ≤ store.session.workers → IsDesk z v store.session w (desk_of store desks w)
+
+-- the master that counts has a head for each log, and further sequence numbers for all syncs that may come
+pub record HasNumbers (master : Master) (logs : ℕ) : Type 0 where
+  pub sequence : master.sequence < 2 ^ 61 + min master.floor (2 ^ 62 + 66 * 16)
+  pub heads : length master.heads ≡ logs
+
+-- The parts belong together; no lock row is latched.
+pub record IsMachine (frames locks workers : ℕ) (words : List ℕ) (v : View) (store : Desk) (others : List Desk) (marks : List Bool) (master : Master) : Type 0 where
+  pub fits : IsPicture (plan (sizes frames locks workers) v.given) words v
+  pub desks : AreDesks (plain_shape frames locks workers) v store others
+  pub unmarked : marks ≡ replicate store.session.held.count false
+  pub numbers : HasNumbers master store.session.workers
+  pub floor : master.floor ≡ (state v).core.floor
+
+-- what they have in memory of the disk
+abbrev pub memory_of : (store : Desk) → (desks : List Desk) → Master → Memory
+memory_of store desks master = record { log = log_of store desks; master = master }
+
+-- ## In a run
+
+-- Each record of log w is numbered up to its last number, which is that of a record where it is not flushed; and it is flushed as far as the core says.
+pub record IsLogged (s : core.State) (w : ℕ) (log : Log) : Type 0 where
+  pub last : (r : Entry) → Has r s.entries → is_record r.kind ≡ true → r.log ≡ w → r.number ≤ log.last
+  pub ends : EndsInRecord s w log
+  pub flushed : s.flushed w ≡ log.flushed
+
+-- so each log of so many
+abbrev pub AreLogged : core.State → (log : ℕ → Log) → (logs : ℕ) → Type 0
+AreLogged s log logs = (w : ℕ) → 0 < w → w ≤ logs → IsLogged s w (log w)
+
+-- The view has seen just the events of these outcomes, and maybe loads of the opening; the logs have their records.
+pub record Tied (g : Opening) (group : ℕ) (xs : List Done) (v : View) (memory : Memory) : Type 0 where
+  pub ties : (w : ℕ) → Ties g group xs w (is_half_done w xs) v
+  pub logged : (w : ℕ) → 0 < w → w ≤ g.workers → IsLogged (state_after g (front xs)) w (memory.log w)
+
+-- the sessions say which aborts are half done
+abbrev pub AreHalf : (sessions : ℕ) → List Done → (store : Desk) → (desks : List Desk) → Type 0
+AreHalf sessions xs store desks = (w : ℕ) → 0 < w → w ≤ sessions → is_half_done w xs ≡ (desk_of store desks w).session.half
+
+-- ## A call
+
+-- it ends a transaction
+abbrev pub ends_in : Answer → Bool
+ends_in (answer.Committed number at) = true
+ends_in (answer.Aborted number) = true
+ends_in _ = false
+
+-- It was answered so, by one outcome more, to which the view is tied. No sync stands among the events of an end.
+pub record DoesTied (g : Opening) (group : ℕ) (xs : List Done) (own : ℕ) (c : Call) (a : Answer) (w : View) (was is : Memory) (store : Desk) (desks : List Desk) (old new : Story) : Type 0 where
+  pub does : Does g group xs own c a was is old new
+  pub tied : Tied g group (does.done ∷ xs) w is
+  pub half : AreHalf g.workers (does.done ∷ xs) store desks
+  pub unsynced : ends_in a ≡ true → any is_sync does.done.events ≡ false
+
+-- In each run of so many sessions in which it may come, the call did so, or its disk failed.
+abbrev pub DoesWhere : (May : Opening → List Done → Type 0) → (sessions group own : ℕ) → Call → Answer → (v w : View) → (was is : Memory) → (store0 : Desk) → (desks0 : List Desk) → (store1 : Desk) → (desks1 : List Desk) → (old new : Story) → Type 0
+DoesWhere May sessions group own c a v w was is store0 desks0 store1 desks1 old new = (g : Opening) (xs : List Done) → g.workers ≡ sessions → Tied g group xs v was → AreHalf sessions xs store0 desks0 → May g xs
+    → Comes a (DoesTied g group xs own c a w was is store1 desks1 old new) (Fails g group xs own c was old new)
+
+-- on a new line
+abbrev pub OnLine : Opening → List Done → Type 0
+OnLine g xs = IsNewLine (outcomes xs)
+
+-- a begin on a new line, where so many ends of the session wait that a sync is due, or not
+abbrev pub OnBegin : (own : ℕ) → (is_long : Bool) → Opening → List Done → Type 0
+OnBegin own is_long g xs = IsNewLine (outcomes xs) × (leb 256 (waiting g (state_after g (front xs)) own) ≡ is_long)
+
+-- the abort of the call of the newest outcome, which met a conflict in the session's open transaction
+pub record IsDue (own : ℕ) (c : Call) (g : Opening) (xs : List Done) : Type 0 where
+  pub newest : Done
+  pub earlier : List Done
+  pub are : xs ≡ newest ∷ earlier
+  pub hindered : hindered_in newest.outcome.deed ≡ Some c
+  pub session : newest.outcome.session ≡ own

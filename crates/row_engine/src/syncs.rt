@@ -1,0 +1,91 @@
+// What a sync does to a session: its log is flushed whole, and then its clock is raised.
+ghost use Rattle.std.specs.Prelude.{◌≡◌, ◌↔◌, ◌<◌, IsErr, IsOk, OnOk, false, length, true};
+ghost use Rattle.core_state.specs.Events as happening;
+ghost use Rattle.core_state.specs.Needs.{may};
+ghost use Rattle.lean_disk.specs.Faults.{HasCause};
+ghost use Rattle.log_calls.specs.Wholes.{EndsInRecord};
+ghost use Rattle.row_words.specs.Openings.{opening};
+ghost use Rattle.rows_trait.specs.Views.{state};
+ghost use Rattle.row_engine.specs.Holds.{Holds};
+ghost use Rattle.row_engine.specs.Puts.{KeepsLog};
+ghost use Rattle.row_engine.specs.Syncs.{FlushesOwn, HasNoneBehind, HasSynced, synced_session};
+
+use crate::commits::{Flushes, settle};
+use crate::session::Session;
+use crate::store::Store;
+use lean_disk::Disk;
+use log_calls::flush_whole;
+use rows_trait::names::Names;
+use rows_trait::rows::Rows;
+use worker_log::DiskFault;
+
+// The event of a sync up to this number.
+#[derive(Drop)]
+struct Syncs {
+    number: u64,
+}
+
+impl Names for Syncs {
+    ghost use Rattle.std.specs.Prelude.{[], ◌∷◌};
+    ghost use Rattle.row_words.specs.declared.event.Event.TheVariants.{Sync};
+
+    ghost names = { λ s _. Sync s.number ∷ [] };
+}
+
+/// Flushes all that the session's log has, if something of it is not flushed yet. The last of it is a record then. While an abort is half done each
+/// flush takes a block that it may still need, so then there is none.
+pub fn flush_own<R: Rows, D: Disk>(
+    rows: &mut R,
+    seat: &mut R::Seat,
+    store: &mut Store<D>,
+) -> Result<(), DiskFault>
+    requires fits { R.fits rows.old seat.old }
+    requires holds { Holds (R.shape rows.old) (R.view seat.old) store.old.session store.old.log }
+    requires works { store.old.session.works ≡ true }
+    requires ends { EndsInRecord (state (R.view seat.old)).core store.old.session.own store.old.log }
+    requires last { HasNoneBehind (state (R.view seat.old)).core store.old.session.own store.old.log }
+    requires whole { 0 < length store.old.session.undo → store.old.session.half ≡ false }
+    ensures fits { R.fits rows.new seat.new × (R.shape rows.new ≡ R.shape rows.old) }
+    ensures holds { OnOk result (Holds (R.shape rows.new) (R.view seat.new) store.new.session store.new.log) }
+    ensures flushes { OnOk result (FlushesOwn (R.view seat.old) (R.view seat.new) store.old.session store.new.session store.old.log store.new.log (D.story store.old.disk) (D.story store.new.disk)) }
+    ensures keeps { KeepsLog store.old.session.own store.old.log (D.story store.old.disk) (D.story store.new.disk) }
+    ensures works { (store.new.session.works ≡ true) ↔ IsOk result }
+
+    ensures cause_disk_fault { HasCause (D.faults store.old.disk) (D.faults store.new.disk) (IsErr result) }
+{
+    lean_proto::every_turn();
+    let own = store.session.own;
+    let number = store.log.last();
+    let flushed = store.log.flushed();
+    if let Err(fault) = flush_whole(&mut store.disk, &mut store.log, own) {
+        store.session.works = false;
+        return Err(fault);
+    }
+    if number == flushed {
+        return Ok(());
+    }
+    rows.store_control(seat, own, 0, number, &Flushes { own, number });
+    settle(&mut store.session);
+    Ok(())
+}
+
+/// All logs are synced up to this number: it is stored as what each has flushed.
+pub fn store_synced<R: Rows>(rows: &mut R, seat: &mut R::Seat, number: u64)
+    requires fits { R.fits rows.old seat.old }
+    requires alone { (R.shape rows.old).alone ≡ true }
+    requires met { may (opening (R.view seat.old).given) (state (R.view seat.old)).core (happening.Event.Sync number) ≡ true }
+    ensures fits { R.fits rows.new seat.new × (R.shape rows.new ≡ R.shape rows.old) }
+    ensures synced { HasSynced (R.view seat.old) (R.view seat.new) number }
+{
+    rows.store_flushed(seat, number, &Syncs { number });
+}
+
+impl Session {
+    /// All logs were synced up to this number.
+    pub fn synced(&mut self, number: u64)
+        ensures { self.new ≡ synced_session self.old number }
+    {
+        self.clock = number;
+        self.behind = 0;
+    }
+}

@@ -1,0 +1,162 @@
+-- Calls one after another: none is asked, one fails, one is answered and its lines are put, and more follow.
+use Rattle.std.proofs.Common.{◌≡◌, ◌++◌, ◌∷◌, [], ◌<◌, ◌+◌, ◌^◌, ℕ, List, Option, Some, None, length, refl, sym, ap, ◌∙◌, subst, arith}
+use Rattle.std.proofs.lemmas.List.{append-nil, length-append}
+use mathlib.Core.List.{append_assoc}
+use Rattle.lean_edge.specs.Outside.{Held}
+use Rattle.lean_disk.specs.Moments.{LeavesOnly}
+use Rattle.lean_disk.specs.Story.{Crash, IsLawful, Story}
+use Rattle.lean_disk.proofs.MomentLemmas.{then}
+use Rattle.map_model.specs.declared.call.Call.{Call}
+use Rattle.map_model.specs.declared.call.Answer.{Answer}
+use Rattle.map_model.specs.Lists.{any}
+use Rattle.map_model.specs.Outputs.{Reply}
+use Rattle.core_state.specs.Local.{is_sync}
+use Rattle.core_state.specs.Openings.{Opening}
+use Rattle.disk_slots.specs.declared.master.Master.{Master}
+use Rattle.disk_image.specs.Masters.{IsOfRun}
+use Rattle.core_calls.specs.Fronts.{Done}
+use Rattle.core_calls.specs.Printed.{printed}
+use Rattle.disk_runs.specs.Stands.{Known}
+use Rattle.run_crashes.specs.Lines.{lines_of}
+use Rattle.engine_calls.specs.Clauses.{Between}
+use Rattle.engine_trait.specs.Calls.{Does, Fails, Happens, IsOf, Memory}
+use Rattle.engine_trait.specs.Limits.{limits}
+use Rattle.engine_trait.specs.Rooms.{needs_sync}
+use Rattle.script_run.specs.Runs.{DiskTo, Executes, Hand, Holds, IsLastCut, PrintsTo, RunStands, StaysAside}
+use Rattle.script_run.specs.Inside.{CallsRun, Laws, Says}
+use Rattle.script_run.specs.declared.stop.Stop.{Stop}
+use Rattle.script_run.specs.declared.stop.Stop.TheVariants.{WriteFault, DiskFault}
+use Rattle.script_run.proofs.DueLemmas.{printed_more}
+use Rattle.script_run.proofs.DiskLemmas.{IsCalm, answered, calm, disk_later, none_stands, others_call, others_fault, others_same, others_then, stays_behind, stays_call, stays_more, stays_none, stays_put, stopped}
+use Rattle.script_run.proofs.PutLemmas.{fits_then, holds_none, holds_then, prints_more}
+
+module _ (laws : Laws) (group : ℕ) (g : Opening) (xs : List Done) (m0 : Memory) (old : Story) (law : IsLawful old) where
+  -- no call is asked: the sink, the disk and the engine stand
+  pub no_call : (stop : Option Stop) (hand : Hand) (held : Held) → IsCalm stop → PrintsTo stop [] [] [] → (stop ≡ Some WriteFault → ⊥) → CallsRun [] stop hand group g xs m0 m0 held held old old
+  no_call stop hand held of prints no_sink = record {
+    memory = m0;
+    executes = refl;
+    memory_is = λ never. refl;
+    replies = [];
+    lines = refl;
+    told = [];
+    tail = [];
+    reply_fits = tt;
+    prints = prints;
+    cut = λ e. absurd (no_sink e);
+    holds = holds_none held;
+    others = others_same g.workers old;
+    disk = λ s0 m k between of_run memory_is room. (
+      stays_none g.workers 0 old law,
+      calm stop hand g group xs s0 m k old old m0 of (none_stands laws g group s0 m xs k old law between of_run m0 memory_is),
+    );
+  }
+
+  -- the disk failed
+  pub fault_call : (hand : Hand) (m1 : Memory) (mid : Story) (held : Held) → Fails g group xs hand.session hand.call m0 old mid → CallsRun [] (Some DiskFault) hand group g xs m0 m1 held held old mid
+  fault_call hand m1 mid held fails = record {
+    memory = m0;
+    executes = refl;
+    memory_is = λ never. absurd (never refl);
+    replies = [];
+    lines = refl;
+    told = [];
+    tail = [];
+    reply_fits = tt;
+    prints = record { told_is = refl; none = refl };
+    cut = λ e. let clash : Some DiskFault ≡ Some WriteFault = e in cc;
+    holds = holds_none held;
+    others = others_fault g.workers (needs_sync g xs hand.session hand.call) old mid fails.frame;
+    disk = λ s0 m k between of_run memory_is room.
+        let l = fails.leaves s0 k between memory_is in
+        (stays_call g.workers 0 (needs_sync g xs hand.session hand.call) old mid l.within, stopped laws g group s0 m xs k old law between of_run mid hand l.stops);
+  }
+
+  -- it was answered, and its lines were put
+  pub answer_call : (own : ℕ) (call : Call) (a : Answer) (m1 m2 : Memory) (mid new : Story) (does : Does g group xs own call a m0 m1 old mid) (stop : Option Stop) (hand : Hand) (h0 h1 : Held) → Says (lines_of g xs does.done) stop h0 h1 mid new → m2 ≡ m1
+      → CallsRun (does.done ∷ []) stop hand group g xs m0 m2 h0 h1 old new
+  answer_call own call a m1 m2 mid new does stop hand h0 h1 said same =
+      let syncs = any is_sync does.done.events in
+      record {
+        memory = m1;
+        executes = (m0, refl, does.happens);
+        memory_is = λ never. same;
+        replies = lines_of g xs does.done;
+        lines = printed_more g xs does.done;
+        told = said.told;
+        tail = said.tail;
+        reply_fits = said.fit;
+        prints = said.prints;
+        cut = λ e. record { last = does.done; earlier = []; calls_are = refl; firsts = []; lines = refl; said = said.told; told_are = sym (append-nil said.told) };
+        holds = said.holds;
+        others = others_call g.workers said.told syncs old mid new does.frame said.notes;
+        disk = λ s0 m k between of_run memory_is room.
+            let kept = does.keeps s0 k between memory_is in (
+              then old mid new (StaysAside g.workers (length said.told) old) (stays_call g.workers (length said.told) syncs old mid kept.within)
+                  (stays_put g.workers said.told syncs old mid new does.frame between.counts room said.any_moment),
+              answered laws g group s0 m xs k old law between of_run does.done syncs m1 mid new does.frame kept said.told said.notes said.any_moment room stop hand said.tail said.of_putting said.prints,
+            );
+      }
+
+-- ## One behind another
+
+executes_then : (g : Opening) (group : ℕ) (xs ys zs : List Done) (m0 m1 m2 : Memory) → Executes g group xs m0 ys m1 → Executes g group (ys ++ xs) m1 zs m2 → Executes g group xs m0 (zs ++ ys) m2
+executes_then g group xs ys [] m0 m1 m2 first second = subst (Executes g group xs m0 ys) (sym second) first
+executes_then g group xs ys (z ∷ zs) m0 m1 m2 first second =
+    (second.0, executes_then g group xs ys zs m0 m1 second.0 first second.1, subst (λ (us : List Done). Happens g group us z second.0 m2) (sym (append_assoc zs ys xs)) second.2)
+
+goes : None ≡ Some DiskFault → ⊥
+goes e = cc
+
+module _ (laws : Laws) (group : ℕ) (g : Opening) (xs : List Done) (m0 m1 m2 : Memory) (h0 h1 h2 : Held) (s0 s1 s2 : Story) (ys zs : List Done) (stop : Option Stop) (first_hand hand : Hand)
+    (a : CallsRun ys None first_hand group g xs m0 m1 h0 h1 s0 s1) (b : CallsRun zs stop hand group g (ys ++ xs) m1 m2 h1 h2 s1 s2) where
+  behind : zs ++ (ys ++ xs) ≡ (zs ++ ys) ++ xs
+  behind = sym (append_assoc zs ys xs)
+
+  lines_then : (news : List Done) (more : List Reply) → printed g (news ++ (ys ++ xs)) ≡ more ++ printed g (ys ++ xs) → printed g ((news ++ ys) ++ xs) ≡ (more ++ a.replies) ++ printed g xs
+  lines_then news more is = ap (printed g) (append_assoc news ys xs) ∙ (is ∙ (ap (λ (rs : List Reply). more ++ rs) a.lines ∙ sym (append_assoc more a.replies (printed g xs))))
+
+  cut_then : stop ≡ Some WriteFault → IsLastCut g xs (zs ++ ys) (b.told ++ a.told)
+  cut_then failed =
+      let c : IsLastCut g (ys ++ xs) zs b.told = b.cut failed in
+      record {
+        last = c.last;
+        earlier = c.earlier ++ ys;
+        calls_are = ap (λ (us : List Done). us ++ ys) c.calls_are;
+        firsts = c.firsts ++ a.replies;
+        lines = lines_then c.earlier c.firsts c.lines;
+        said = c.said;
+        told_are = ap (λ (rs : List Reply). rs ++ a.told) c.told_are ∙ (append_assoc c.said c.firsts a.told ∙ ap (λ (rs : List Reply). c.said ++ (c.firsts ++ rs)) a.prints.told_is);
+      }
+
+  disk_then : (z0 : Crash) (m : Master) (k : Known) → Between limits g group xs z0 k s0 → IsOfRun m k.master → IsOf g m0 k → s0.notes + length (b.told ++ a.told) < 2 ^ 64
+      → LeavesOnly s0 s2 (StaysAside g.workers (length (b.told ++ a.told)) s0) × DiskTo stop hand g group ((zs ++ ys) ++ xs) z0 m k s0 s2 b.memory
+  disk_then z0 m k between of_run memory_is room =
+      let lines : length (b.told ++ a.told) ≡ length b.told + length a.told = length-append b.told a.told in
+      let first = a.disk z0 m k between of_run memory_is (omega arith) in
+      let stands : RunStands g group (ys ++ xs) z0 m k s0 s1 a.memory = first.1 in
+      let one : s1.notes ≡ s0.notes + length a.told = a.others.notes between.counts (omega arith) in
+      let second = b.disk z0 m stands.known stands.runs.between stands.runs.of_run (subst (λ (r : Memory). IsOf g r stands.known) (sym (a.memory_is goes)) stands.memory_is) (omega arith) in
+      let later = disk_later laws.shown laws.crashes laws.agrees g group z0 m (ys ++ xs) s0 s1 s2 stands.runs.any_moment zs k stands.known stands.no_earlier b.memory stop hand second.1 in (
+        then s0 s1 s2 (StaysAside g.workers (length (b.told ++ a.told)) s0)
+            (stays_more g.workers (length a.told) (length (b.told ++ a.told)) s0 s0 s1 (omega (arith, lines)) first.0)
+            (stays_more g.workers (length b.told + length a.told) (length (b.told ++ a.told)) s0 s1 s2 (omega (arith, lines)) (stays_behind g.workers a.told (length b.told) s0 s1 s2 a.others between.counts (omega (arith, lines, room)) second.0)),
+        subst (λ (calls : List Done). DiskTo stop hand g group calls z0 m k s0 s2 b.memory) behind later,
+      )
+
+  pub calls_then : CallsRun (zs ++ ys) stop hand group g xs m0 m2 h0 h2 s0 s2
+  calls_then = record {
+    memory = b.memory;
+    executes = executes_then g group xs ys zs m0 m1 b.memory (subst (Executes g group xs m0 ys) (sym (a.memory_is goes)) a.executes) b.executes;
+    memory_is = b.memory_is;
+    replies = b.replies ++ a.replies;
+    lines = lines_then zs b.replies b.lines;
+    told = b.told ++ a.told;
+    tail = b.tail;
+    reply_fits = fits_then b.told a.told a.reply_fits b.reply_fits;
+    prints = subst (λ (rs : List Reply). PrintsTo stop (b.replies ++ rs) (b.told ++ a.told) b.tail) a.prints.told_is (prints_more stop b.replies b.told a.told b.tail b.prints);
+    cut = cut_then;
+    holds = holds_then a.told b.told b.tail h0 h1 h2 (subst (λ (t : List ℕ). Holds a.told t h0 h1) a.prints.none a.holds) b.holds;
+    others = others_then g.workers a.told b.told s0 s1 s2 a.others b.others;
+    disk = disk_then;
+  }

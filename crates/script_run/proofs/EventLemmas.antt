@@ -1,0 +1,140 @@
+-- Events of a call that was not answered: they end nothing, and the first of them are such events too.
+use Rattle.std.proofs.Common.{◌≡◌, ◌++◌, ◌∷◌, [], ℕ, Bool, true, false, cond, ◌||◌, List, Option, Some, None, refl, sym, ◌∙◌, subst, true≢false}
+use Rattle.std.proofs.lemmas.Bool.{and_parts, and_from}
+use Rattle.map_model.specs.declared.call.Call.{Call}
+use Rattle.map_model.specs.declared.call.Call.TheVariants as call
+use Rattle.map_model.specs.Lists.{all, any}
+use Rattle.map_model.specs.Maps.{MapAnswer}
+use Rattle.image_model.specs.Entries.{Entry}
+use Rattle.core_state.specs.Events.{Event}
+use Rattle.core_state.specs.Openings.{Opening}
+use Rattle.core_state.specs.States.{State}
+use Rattle.core_state.specs.Local.{is_of}
+use Rattle.core_state.specs.Needs.{may}
+use Rattle.core_state.specs.Steps.{state_after, step}
+use Rattle.core_calls.specs.Deeds.{commits}
+use Rattle.core_calls.specs.Fronts.{Done, front, outcomes}
+use Rattle.core_calls.specs.Marks.{Ended, Mark, back_in, mark, marks, met_in, onto}
+use Rattle.core_calls.specs.Steps.{is_structure}
+use Rattle.run_crashes.specs.Laws.{CommitsNone, OfEachFirst}
+use Rattle.engine_calls.proofs.MarkLemmas.{either_false}
+use Rattle.engine_trait.specs.Calls.{call_behind}
+use Rattle.engine_trait.specs.Limits.{AreLoads}
+use Rattle.engine_trait.specs.Rooms.{AreReady, IsRoomFor, MakesRoom, makes_room, makes_sync, needs_sync, puts_back}
+use Rattle.script_run.specs.Runs.{Hand, StoppedIn}
+
+neither : (p q : Bool) → (p || q) ≡ false → (p ≡ false) × (q ≡ false)
+neither true q none = absurd (true≢false none)
+neither false q none = (refl, none)
+
+-- a transaction ends by it
+abbrev ends : Event → Bool
+ends (Event.End w commit f) = true
+ends _ = false
+
+-- by another event no commit is told
+abbrev IsNoCommit : Option Mark → Type 0
+IsNoCommit (Some (Ended commit number at)) = ⊥
+IsNoCommit _ = Unit {0}
+
+no_end : (g : Opening) (s : State) (e : Event) → ends e ≡ false → IsNoCommit (mark g s e)
+no_end g s (Event.Next w p k a) q = met a
+  where
+    met : (a : MapAnswer) → IsNoCommit (met_in g s w p a)
+    met (MapAnswer.Pair j v) = tt
+    met _ = tt
+no_end g s (Event.Put_back w p) q = back (s.worker w).changes
+  where
+    back : (changes : List Entry) → IsNoCommit (back_in g s p changes)
+    back [] = tt
+    back (c ∷ earlier) = tt
+no_end g s (Event.End w commit f) q = absurd (true≢false q)
+no_end g s _ q = tt
+
+marks_no_end : (g : Opening) (s : State) (es : List Event) (w : ℕ) (ms : List Mark) → any ends es ≡ false → commits (marks g s es w ms) ≡ commits ms
+marks_no_end g s [] w ms q = refl
+marks_no_end g s (e ∷ es) w ms q =
+    let parts = neither (ends e) (any ends es) q in
+    marks_no_end g (step g s e) es w (cond (may g s e) (cond (is_of e w) (onto (mark g s e) ms) ms) ms) parts.1 ∙ one (may g s e) (is_of e w) (mark g s e) (no_end g s e parts.0)
+  where
+    one : (b c : Bool) (o : Option Mark) → IsNoCommit o → commits (cond b (cond c (onto o ms) ms) ms) ≡ commits ms
+    one false c o none = refl
+    one true false o none = refl
+    one true true None none = refl
+    one true true (Some (Ended commit number at)) none = absurd none
+    one true true (Some _) none = refl
+
+-- events that each pass a test
+pub each_none : (p q : Event → Bool) → ((e : Event) → p e ≡ true → q e ≡ false) → (es : List Event) → all p es ≡ true → any q es ≡ false
+each_none p q so [] each = refl
+each_none p q so (e ∷ es) each =
+    let parts = and_parts (p e) (all p es) each in
+    either_false (q e) (any q es) (so e parts.0) (each_none p q so es parts.1)
+
+room_ends_none : (own : ℕ) (e : Event) → makes_room own e ≡ true → ends e ≡ false
+room_ends_none own (Event.End w commit f) room = absurd (true≢false (sym room))
+room_ends_none own _ room = refl
+
+back_ends_none : (own : ℕ) (e : Event) → puts_back own e ≡ true → ends e ≡ false
+back_ends_none own (Event.End w commit f) back = absurd (true≢false (sym back))
+back_ends_none own _ back = refl
+
+sync_ends_none : (e : Event) → makes_sync e ≡ true → ends e ≡ false
+sync_ends_none (Event.End w commit f) sync = absurd (true≢false (sym sync))
+sync_ends_none _ sync = refl
+
+loads_end_none : (es : List Event) → AreLoads es → any ends es ≡ false
+loads_end_none [] loads = refl
+loads_end_none (Event.Load p f ∷ es) loads = loads_end_none es loads
+loads_end_none (_ ∷ es) loads = absurd loads
+
+ready_end_none : (syncs : Bool) (es : List Event) → AreReady syncs es → any ends es ≡ false
+ready_end_none true es ready = each_none makes_sync ends sync_ends_none es ready
+ready_end_none false es ready = loads_end_none es ready
+
+ends_none : (g : Opening) (xs : List Done) (own : ℕ) (c : Call) (es : List Event) → IsRoomFor g xs own c es → any ends es ≡ false
+ends_none g xs own (call.Put key value) es room = each_none (makes_room own) ends (room_ends_none own) es room.0
+ends_none g xs own (call.Del key) es room = each_none (makes_room own) ends (room_ends_none own) es room.0
+ends_none g xs own call.Abort es backs = each_none (puts_back own) ends (back_ends_none own) es backs
+ends_none g xs own c es ready = ready_end_none (needs_sync g xs own c) es ready
+
+-- such events commit nothing
+pub room_commits_none : (g : Opening) (xs : List Done) (own : ℕ) (c : Call) (es : List Event) → IsRoomFor g xs own c es → CommitsNone g xs es
+room_commits_none g xs own c es room w = marks_no_end g (state_after g (front xs)) es w [] (ends_none g xs own c es room)
+
+-- the first events of those that each pass a test, of those of which none does, of loads, and of those that make room
+front_of_all : (p : Event → Bool) (first rest : List Event) → all p (first ++ rest) ≡ true → all p first ≡ true
+front_of_all p [] rest each = refl
+front_of_all p (e ∷ first) rest each =
+    let parts = and_parts (p e) (all p (first ++ rest)) each in
+    and_from (p e) (all p first) parts.0 (front_of_all p first rest parts.1)
+
+front_of_none : (q : Event → Bool) (first rest : List Event) → any q (first ++ rest) ≡ false → any q first ≡ false
+front_of_none q [] rest none = refl
+front_of_none q (e ∷ first) rest none =
+    let parts = neither (q e) (any q (first ++ rest)) none in
+    either_false (q e) (any q first) parts.0 (front_of_none q first rest parts.1)
+
+front_of_loads : (first rest : List Event) → AreLoads (first ++ rest) → AreLoads first
+front_of_loads [] rest loads = tt
+front_of_loads (Event.Load p f ∷ first) rest loads = front_of_loads first rest loads
+front_of_loads (_ ∷ first) rest loads = absurd loads
+
+front_makes : (g : Opening) (s : State) (key : ℕ) (first rest : List Event) → MakesRoom g s key (first ++ rest) → MakesRoom g s key first
+front_makes g s key [] rest makes = tt
+front_makes g s key (e ∷ first) rest makes = (makes.0, front_makes g (step g s e) key first rest makes.1)
+
+front_ready : (syncs : Bool) (first rest : List Event) → AreReady syncs (first ++ rest) → AreReady syncs first
+front_ready true first rest ready = front_of_all makes_sync first rest ready
+front_ready false first rest ready = front_of_loads first rest ready
+
+front_for : (g : Opening) (xs : List Done) (own : ℕ) (c : Call) (first rest : List Event) → IsRoomFor g xs own c (first ++ rest) → IsRoomFor g xs own c first
+front_for g xs own (call.Put key value) first rest room = (front_of_all (makes_room own) first rest room.0, front_makes g (state_after g (front xs)) key first rest room.1)
+front_for g xs own (call.Del key) first rest room = (front_of_all (makes_room own) first rest room.0, front_of_none is_structure first rest room.1)
+front_for g xs own call.Abort first rest backs = front_of_all (puts_back own) first rest backs
+front_for g xs own c first rest ready = front_ready (needs_sync g xs own c) first rest ready
+
+-- and the first of them are such events too
+pub stopped_of_each_first : (g : Opening) (xs : List Done) (hand : Hand) (es : List Event) → IsRoomFor g xs hand.session (call_behind (outcomes xs) hand.call) es → OfEachFirst (StoppedIn g xs hand xs) es
+stopped_of_each_first g xs hand es room first rest is =
+    (refl, front_for g xs hand.session (call_behind (outcomes xs) hand.call) first rest (subst (IsRoomFor g xs hand.session (call_behind (outcomes xs) hand.call)) (sym is) room))

@@ -1,8 +1,0 @@
--- Read Limits, Refusals, Rooms, Logs, Areas, Calls and Turns in this order.
-pub mod Limits
-pub mod Refusals
-pub mod Rooms
-pub mod Logs
-pub mod Areas
-pub mod Calls
-pub mod Turns
