@@ -1,4 +1,5 @@
 pub mod QueueLemmas
+pub mod EmptyLemmas
 pub mod ListLemmas
 pub mod DueLemmas
 pub mod SoonLemmas

@@ -19,6 +19,11 @@ abbrev pub begins_done : (f all : ℕ) → List End → Bool
 begins_done f all [] = false
 begins_done f all (e ∷ q) = is_done f all e
 
+-- the oldest end is ripe
+abbrev pub begins_ripe : (f all : ℕ) → List End → Bool
+begins_ripe f all [] = false
+begins_ripe f all (e ∷ q) = is_ripe_at f all e
+
 -- without ripe aborts, up to the first end that is none
 abbrev pub settled : (f all : ℕ) → List End → List End
 settled f all [] = []

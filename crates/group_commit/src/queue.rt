@@ -1,6 +1,6 @@
 // The ends of one session that wait, the oldest first.
 ghost use Rattle.std.specs.Prelude.{◌≡◌, ◌<◌, ◌≤◌, [], ◌∷◌, ◌++◌, length, drop, slice_get, IfOk};
-ghost use Rattle.group_commit.specs.Queues.{is_ripe_at, begins_done, ripe_first, settled};
+ghost use Rattle.group_commit.specs.Queues.{is_ripe_at, begins_done, begins_ripe, ripe_first, settled};
 
 use circular_buffer::HeapCircularBuffer;
 use std::alloc::{AllocError, Global};
@@ -99,6 +99,16 @@ impl Queue {
     {
         while self.begins_done(flushed, all) {
             self.drop_first();
+        }
+    }
+
+    /// Whether the oldest end is ripe.
+    pub fn begins_ripe(&self, flushed: u64, all: u64) -> bool
+        ensures { result ≡ begins_ripe flushed all self.now }
+    {
+        match self.first() {
+            Some(end) => is_ripe_at(flushed, all, &end),
+            None => false,
         }
     }
 

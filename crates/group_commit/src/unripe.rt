@@ -1,8 +1,8 @@
 // The ends of all sessions that wait, and the next commit that is durable.
-ghost use Rattle.std.specs.Prelude.{◌≡◌, ◌<◌, ◌≤◌, ◌-◌, ◌+◌, length, drop, IfOk, IfSome, List};
+ghost use Rattle.std.specs.Prelude.{◌≡◌, ◌↔◌, ◌<◌, ◌≤◌, ◌-◌, ◌+◌, ℕ, length, drop, IfOk, IfSome, List, None, false, true};
 ghost use Rattle.rfa_model.specs.Reaches.{least};
 ghost use Rattle.group_commit.specs.Ripeness.{flushed_of};
-ghost use Rattle.group_commit.specs.Queues.{queue_of, AreNew, pushed, receipt_of, sooner, IsSettled, IsSoonest, Takes, next_of, queued, without_first};
+ghost use Rattle.group_commit.specs.Queues.{queue_of, AreNew, begins_ripe, pushed, receipt_of, sooner, IsSettled, IsSoonest, Takes, next_of, queued, without_first};
 
 use crate::queue::{End, Queue, ROOM};
 use crate::receipts::{LOGS, Receipt, least_of};
@@ -93,6 +93,32 @@ impl Unripe {
         self.queues[w as usize - 1].len()
     }
 
+    /// Whether no end waits. Then no take finds one.
+    pub fn is_empty(&self) -> bool
+        ensures empty { (result ≡ true) ↔ (queued self.now ≡ 0) }
+        ensures none { result ≡ true → (flushed : List ℕ) → Takes flushed self.now None self.now }
+    {
+        for queue in &self.queues {
+            if queue.len() > 0 {
+                return false;
+            }
+        }
+        true
+    }
+
+    // Whether no session's oldest end is ripe.
+    fn is_calm(&self, flushed: &[u64], all: u64) -> bool
+        requires { length flushed.now ≡ length self.now }
+        ensures { result ≡ true → (w : ℕ) → 0 < w → w ≤ length self.now → begins_ripe (flushed_of flushed.now w) all (queue_of self.now w) ≡ false }
+    {
+        for i in 0..flushed.len() {
+            if self.queues[i].begins_ripe(flushed[i], all) {
+                return false;
+            }
+        }
+        true
+    }
+
     // Ripe aborts go from the head of each queue.
     fn settle(&mut self, flushed: &[u64], all: u64)
         requires { length flushed.now ≡ length self.old }
@@ -148,6 +174,9 @@ impl Unripe {
         ensures fewer { IfSome result (λ r. queued self.new < queued self.old) }
     {
         let all = least_of(flushed);
+        if self.is_calm(flushed, all) {
+            return None;
+        }
         self.settle(flushed, all);
         let found = self.soonest(flushed, all);
         if let Some(receipt) = found {

@@ -1,5 +1,5 @@
 -- What an engine tells as durable, by its parts.
-use Rattle.std.proofs.Common.{◌≡◌, inl, inr, ◌↔◌, ◌≤◌, ◌<◌, ℕ, Bool, true, false, List, length, take, Option, Some, None, Result, Ok, IsErr, refl, sym, ap, ◌∙◌, subst, true≢false}
+use Rattle.std.proofs.Common.{◌≡◌, inl, inr, ◌↔◌, ◌≤◌, ◌<◌, ◌+◌, ◌-◌, ℕ, zero, suc, Bool, true, false, List, [], ◌∷◌, length, slice_index, take, Option, Some, None, Result, Ok, IsErr, refl, sym, ap, ◌∙◌, subst, arith, true≢false}
 use Rattle.std.proofs.lemmas.Bool.{cases_Bool}
 use Rattle.map_model.specs.Journals.{Name}
 use Rattle.core_state.specs.Openings.{Opening}
@@ -14,6 +14,7 @@ use Rattle.group_commit.specs.declared.queue.End.{End}
 use Rattle.group_commit.specs.declared.receipts.Receipt.{Receipt}
 use Rattle.rows_trait.specs.declared.view.View.{View}
 use Rattle.rows_trait.specs.Views.{state}
+use Rattle.worker_log.specs.Logs.{Log}
 use Rattle.row_engine.specs.Opened.{plain_shape}
 use Rattle.lean_engine.specs.Desks.{AreSeated, desk_of, log_of}
 use Rattle.lean_engine.specs.Inside.{AreNumbers, durable_of}
@@ -29,6 +30,33 @@ use Rattle.std.proofs.lemmas.List.{length-take-le}
 -- no device has failed, where that is the answer
 pub works_of : {T E : Type 0} (r : Result T E) (x : T) (works : Bool) → r ≡ Ok x → IsErr r ↔ (works ≡ false) → works ≡ true
 works_of r x works e h = elim (cases_Bool works) [ inl t ↦ t | inr f ↦ absurd (true≢false (sym (subst (λ q. IsErr q) e (h.1 f)))) ]
+
+-- ## The numbers of logs
+
+abbrev pub numbers_from : (log : ℕ → Log) (first n : ℕ) → List ℕ
+numbers_from log first zero = []
+numbers_from log first (suc n) = (log (suc first)).flushed ∷ numbers_from log (suc first) n
+
+count_from : (log : ℕ → Log) (first n : ℕ) → length (numbers_from log first n) ≡ n
+count_from log first zero = refl
+count_from log first (suc n) = ap suc (count_from log (suc first) n)
+
+number_at : (log : ℕ → Log) (first n i : ℕ) → i < n → slice_index (numbers_from log first n) i ≡ (log (suc (first + i))).flushed
+number_at log first zero i lt = absurd (omega arith)
+number_at log first (suc n) zero lt = let e : first ≡ first + 0 = omega arith in ap (λ k. (log (suc k)).flushed) e
+number_at log first (suc n) (suc i) lt = number_at log (suc first) n i (omega arith) ∙ (let e : suc first + i ≡ first + suc i = omega arith in ap (λ k. (log (suc k)).flushed) e)
+
+-- as many as there are sessions
+abbrev pub numbers_of : (log : ℕ → Log) (n : ℕ) → List ℕ
+numbers_of log n = numbers_from log 0 n
+
+pub are_all : (log : ℕ → Log) (n : ℕ) → n ≤ length (numbers_of log n)
+are_all log n = let a = count_from log 0 n in omega arith
+
+pub are_numbers : (log : ℕ → Log) (n : ℕ) → AreNumbers n log (numbers_of log n)
+are_numbers log n w low high = number_at log 0 n (w - 1) (omega arith) ∙ (let e : suc (0 + (w - 1)) ≡ w = omega arith in ap (λ k. (log k).flushed) e)
+
+-- ## By parts
 
 module _ {D : Type 0} (v : View) (disk : D) (store : Desk) (desks : List Desk) (master : Master) (next : Next) (ends : List (List End)) (f l k : ℕ) (words : List ℕ) (marks : List Bool) (works : store.session.works ≡ true)
     (e : IsEngine f l k words (state_of v disk store desks master next ends) store desks marks) where

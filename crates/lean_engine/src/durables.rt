@@ -123,6 +123,11 @@ impl<D: Disk> Engine<D> {
         ensures sizes { (self.new.sessions ≡ self.old.sessions) × (self.new.group ≡ self.old.group) }
     {
         group_commit::every_take();
+        // So it is behind most lines.
+        if self.unripe.is_empty() {
+            self.next = behind(self.next);
+            return None;
+        }
         let numbers = self.machine.flushed_numbers();
         match self
             .unripe

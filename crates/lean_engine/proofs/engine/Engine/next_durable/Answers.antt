@@ -1,6 +1,8 @@
-use Rattle.std.proofs.Common.{◌≤◌, length, take, Some, None, refl, sym, ap, ◌∙◌, subst, arith}
+use Rattle.std.proofs.Common.{◌≤◌, ℕ, length, take, Some, None, refl, sym, ap, ◌∙◌, subst, arith}
+use Rattle.worker_log.specs.Logs.{Log}
+use Rattle.lean_engine.specs.Desks.{log_of}
 use Rattle.lean_engine.specs.States.{InRun, State}
-use Rattle.lean_engine.proofs.DurableLemmas.{engine_none, engine_some, seated_in, tells_none, tells_some}
+use Rattle.lean_engine.proofs.DurableLemmas.{are_all, are_numbers, engine_none, engine_some, numbers_of, seated_in, tells_none, tells_some}
 use Rattle.lean_engine.proofs.engine.Engine.next_durable.Goals as goal
 
 pub flushed_numbers-numbers-requires-clause-seated : goal.flushed_numbers-numbers-requires-clause-seated
@@ -9,8 +11,8 @@ flushed_numbers-numbers-requires-clause-seated g c =
     seated_in m.seat.view m.store.disk (record { session = m.store.session; log = m.store.log }) m.desks.items m.master c.self.inside.next c.self.inside.unripe m.rows.frames m.rows.locks m.rows.workers m.rows.words.items m.latches
     (ap (λ s. s.works) c.self.view_is ∙ c.requires.works) c.self.invariant
 
-pub invariant_of-self : goal.invariant_of-self
-invariant_of-self g c =
+pub invariant_of-self-in-Some : goal.invariant_of-self-in-Some
+invariant_of-self-in-Some g c =
     let m = c.self.inside.machine in
     let numbers = c.flushed_numbers-numbers.result in
     let long : m.store.session.workers ≤ length numbers = (let few = c.self.invariant.few in omega arith) in
@@ -32,7 +34,7 @@ invariant_of-self-in-None g c =
     let numbers = c.flushed_numbers-numbers.result in
     let long : m.store.session.workers ≤ length numbers = (let few = c.self.invariant.few in omega arith) in
     engine_none m.seat.view m.store.disk (record { session = m.store.session; log = m.store.log }) m.desks.items m.master c.self.inside.next c.self.inside.unripe m.rows.frames m.rows.locks m.rows.workers m.rows.words.items m.latches
-    (ap (λ s. s.works) c.self.view_is ∙ c.requires.works) c.self.invariant c.every_take.ensures c.behind-self-inside.result c.take.new.self numbers (take m.store.session.workers numbers) None refl long c.flushed_numbers-numbers.ensures c.in-None.ensures.takes refl c.behind-self-inside.ensures
+    (ap (λ s. s.works) c.self.view_is ∙ c.requires.works) c.self.invariant c.every_take.ensures c.behind-self-inside-in-None.result c.take.new.self numbers (take m.store.session.workers numbers) None refl long c.flushed_numbers-numbers.ensures c.in-None.ensures.takes refl c.behind-self-inside-in-None.ensures
 
 pub returns-in-None-clause-taken : goal.returns-in-None-clause-taken
 returns-in-None-clause-taken g c o xs names run =
@@ -40,5 +42,24 @@ returns-in-None-clause-taken g c o xs names run =
     let numbers = c.flushed_numbers-numbers.result in
     let long : m.store.session.workers ≤ length numbers = (let few = c.self.invariant.few in omega arith) in
     tells_none m.seat.view m.store.disk (record { session = m.store.session; log = m.store.log }) m.desks.items m.master c.self.inside.next c.self.inside.unripe m.rows.frames m.rows.locks m.rows.workers m.rows.words.items m.latches
-    (ap (λ s. s.works) c.self.view_is ∙ c.requires.works) c.self.invariant c.every_take.ensures c.behind-self-inside.result c.take.new.self numbers (take m.store.session.workers numbers) None refl long c.flushed_numbers-numbers.ensures c.in-None.ensures.takes refl c.behind-self-inside.ensures
+    (ap (λ s. s.works) c.self.view_is ∙ c.requires.works) c.self.invariant c.every_take.ensures c.behind-self-inside-in-None.result c.take.new.self numbers (take m.store.session.workers numbers) None refl long c.flushed_numbers-numbers.ensures c.in-None.ensures.takes refl c.behind-self-inside-in-None.ensures
+    o xs names (subst (λ (s : State g.row.D.Denot). InRun s o xs names) (sym c.self.view_is) run)
+
+pub invariant_of-self : goal.invariant_of-self
+invariant_of-self g c =
+    let m = c.self.inside.machine in
+    let log : ℕ → Log = log_of (record { session = m.store.session; log = m.store.log }) m.desks.items in
+    let numbers = numbers_of log m.store.session.workers in
+    engine_none m.seat.view m.store.disk (record { session = m.store.session; log = m.store.log }) m.desks.items m.master c.self.inside.next c.self.inside.unripe m.rows.frames m.rows.locks m.rows.workers m.rows.words.items m.latches
+    (ap (λ s. s.works) c.self.view_is ∙ c.requires.works) c.self.invariant c.every_take.ensures c.behind-self-inside.result c.self.inside.unripe numbers (take m.store.session.workers numbers) None refl (are_all log m.store.session.workers) (are_numbers log m.store.session.workers)
+    (c.is_empty.ensures.none c.if-is_empty.true (take m.store.session.workers numbers)) refl c.behind-self-inside.ensures
+
+pub returns-then-is_empty-clause-taken : goal.returns-then-is_empty-clause-taken
+returns-then-is_empty-clause-taken g c o xs names run =
+    let m = c.self.inside.machine in
+    let log : ℕ → Log = log_of (record { session = m.store.session; log = m.store.log }) m.desks.items in
+    let numbers = numbers_of log m.store.session.workers in
+    tells_none m.seat.view m.store.disk (record { session = m.store.session; log = m.store.log }) m.desks.items m.master c.self.inside.next c.self.inside.unripe m.rows.frames m.rows.locks m.rows.workers m.rows.words.items m.latches
+    (ap (λ s. s.works) c.self.view_is ∙ c.requires.works) c.self.invariant c.every_take.ensures c.behind-self-inside.result c.self.inside.unripe numbers (take m.store.session.workers numbers) None refl (are_all log m.store.session.workers) (are_numbers log m.store.session.workers)
+    (c.is_empty.ensures.none c.if-is_empty.true (take m.store.session.workers numbers)) refl c.behind-self-inside.ensures
     o xs names (subst (λ (s : State g.row.D.Denot). InRun s o xs names) (sym c.self.view_is) run)
