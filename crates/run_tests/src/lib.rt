@@ -67,6 +67,10 @@ mod random;
 #[cfg(test)]
 mod rows;
 #[cfg(test)]
+mod ruled;
+#[cfg(test)]
+mod rules;
+#[cfg(test)]
 mod runs;
 #[cfg(test)]
 mod scripts;

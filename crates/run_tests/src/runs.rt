@@ -37,6 +37,21 @@ pub(crate) static FORMAT_TWO: [&str; 8] = [
     "64",
 ];
 
+/// And for four.
+pub(crate) static FORMAT_FOUR: [&str; 8] = [
+    "lean",
+    "format",
+    "--workers",
+    "4",
+    "--pages",
+    "16",
+    "--blocks",
+    "64",
+];
+
+// The areas of a disk of sixteen sessions.
+const AREAS: u32 = 18;
+
 /// What refused memory is called.
 pub(crate) const MEMORY: &str = "memory";
 
@@ -112,6 +127,32 @@ pub(crate) fn crashed<R: Abort>(rt: &R, disk: &MemDisk, moment: u64, choice: Cho
     disk.crash(moment, choice).expect(rt, MEMORY)
 }
 
+/// The disk that a crash leaves by two choices: an area's is the other one where its bit is set.
+pub(crate) fn crashed_apart<R: Abort>(
+    rt: &R,
+    alloc: Global,
+    disk: &MemDisk,
+    moment: u64,
+    one: Choice,
+    other: Choice,
+    mask: u32,
+) -> MemDisk {
+    let first = crashed(rt, disk, moment, one);
+    let second = crashed(rt, disk, moment, other);
+    let mut areas = Vec::new(alloc);
+    for area in 0..AREAS {
+        let left = if mask >> area & 1 == 1 {
+            &second
+        } else {
+            &first
+        };
+        let bytes = left.bytes(area).to_vec(alloc).expect(rt, MEMORY);
+        areas.push(bytes).expect(rt, MEMORY);
+    }
+    assert!(rt; areas.len() > 0);
+    MemDisk::from_areas(alloc, areas).expect(rt, MEMORY)
+}
+
 /// What is on a disk, on which no call was made yet.
 pub(crate) fn at_rest<R: Abort>(rt: &R, disk: &MemDisk) -> MemDisk {
     crashed(rt, disk, disk.moment(), Choice::AllBytes)
@@ -130,13 +171,13 @@ pub(crate) fn failing<R: Abort>(
     disk
 }
 
-/// The disk that a format makes, for up to four sessions.
+/// The disk that a format makes, for any number of sessions.
 pub(crate) fn formatted<R: Threads + Wait + Sync + Abort>(
     rt: &R,
     alloc: Global,
     command: &[&str],
 ) -> MemDisk {
-    let disk = MemDisk::new(alloc, 6).expect(rt, MEMORY);
+    let disk = MemDisk::new(alloc, AREAS).expect(rt, MEMORY);
     at_rest(rt, &run_command(rt, alloc, command, "", disk).disk)
 }
 

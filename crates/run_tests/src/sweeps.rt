@@ -1,13 +1,13 @@
 // Runs that are crashed at each moment, and runs of which each call of the disk fails: what is found then.
 use crate::cases::expect;
 use crate::runs::{
-    FORMAT, FORMAT_TWO, MEMORY, Outcome, at_rest, copies_of, count_lines, count_up_to, crashed,
-    dumped, failing, formatted, run_command, run_into, run_script,
+    FORMAT, FORMAT_FOUR, FORMAT_TWO, MEMORY, Outcome, at_rest, copies_of, count_lines, count_up_to,
+    crashed, crashed_apart, dumped, failing, formatted, run_command, run_into, run_script,
 };
 use crate::scripts::{
-    ABORT, ABORT_MAPS, CONFLICT, CONFLICT_MAPS, Crashes, DUMP, Failures, Find, LONG_ABORT,
-    LONG_ABORT_MAPS, OPENING, PUT, PUT_MAPS, SIX, SIX_MAPS, SPLITS, SYNC, SYNC_MAPS, Script, Sweep,
-    TWO_MAPS, TWO_TEXT,
+    ABORT, ABORT_MAPS, Apart, CONFLICT, CONFLICT_MAPS, Crashes, DUMP, FOUR, FOUR_MAPS,
+    FOUR_OPENED_MAPS, FOUR_OPENING, Failures, Find, LONG_ABORT, LONG_ABORT_MAPS, OPENING, PUT,
+    PUT_MAPS, SIX, SIX_MAPS, SPLITS, SYNC, SYNC_MAPS, Script, Sweep, TWO_MAPS, TWO_TEXT,
 };
 use crate::trees::{grown, maps_of_splits};
 use lean_disk::{Choice, MemDisk};
@@ -153,6 +153,51 @@ fn sweep<R: Threads + Wait + Sync + Abort>(
     expect(rt, name, tally.as_slice() == sweep.found);
 }
 
+// In how many ways so many areas are left.
+fn ways_of(areas: &[u32]) -> u32 {
+    let mut ways = 1u32;
+    for _ in areas {
+        ways = ways.saturating_mul(2);
+    }
+    ways
+}
+
+// One of these ways: the areas that are left by the other choice, each a bit.
+fn mask_of(areas: &[u32], way: u32) -> u32 {
+    let mut mask = 0;
+    let mut rest = way;
+    for area in areas {
+        if rest % 2 == 1 && *area < 32 {
+            mask |= 1u32 << *area;
+        }
+        rest /= 2;
+    }
+    mask
+}
+
+// Crashes a whole run at each moment, in all ways.
+fn sweep_apart<R: Threads + Wait + Sync + Abort>(
+    rt: &R,
+    alloc: Global,
+    scene: &Scene<'_>,
+    apart: &Apart,
+) {
+    let name = apart.name;
+    let disk = at_rest(rt, scene.disk);
+    let run = run_command(rt, alloc, scene.script.command, scene.script.text, disk);
+    expect(rt, name, is_whole(scene.script, &run));
+    let mut tally = vec![in alloc; 0u64; scene.script.finds.len()].expect(rt, MEMORY);
+    let lines = count_lines(scene.script.lines);
+    for moment in 0..=run.disk.moment() {
+        for way in 0..ways_of(apart.areas) {
+            let mask = mask_of(apart.areas, way);
+            let left = crashed_apart(rt, alloc, &run.disk, moment, apart.one, apart.other, mask);
+            count_found(rt, alloc, scene, name, left, lines, moment, &mut tally);
+        }
+    }
+    expect(rt, name, tally.as_slice() == apart.found);
+}
+
 // Has each call of an area fail, and crashes the run then.
 fn fail_each<R: Threads + Wait + Sync + Abort>(
     rt: &R,
@@ -172,6 +217,14 @@ fn fail_each<R: Threads + Wait + Sync + Abort>(
             Crashes::AtEnd => {
                 for choice in CHOICES {
                     let left = crashed(rt, &run.disk, end, choice);
+                    count_found(rt, alloc, scene, name, left, lines, end, &mut tally);
+                }
+            }
+            Crashes::Apart(areas) => {
+                for way in 0..ways_of(areas) {
+                    let mask = mask_of(areas, way);
+                    let (one, other) = (Choice::NoBytes, Choice::AllBytes);
+                    let left = crashed_apart(rt, alloc, &run.disk, end, one, other, mask);
                     count_found(rt, alloc, scene, name, left, lines, end, &mut tally);
                 }
             }
@@ -211,6 +264,9 @@ fn go<R: Threads + Wait + Sync + Abort>(
     };
     for row in script.sweeps {
         sweep(rt, alloc, &scene, row);
+    }
+    for row in script.aparts {
+        sweep_apart(rt, alloc, &scene, row);
     }
     for row in script.failures {
         fail_each(rt, alloc, &scene, row);
@@ -263,6 +319,24 @@ fn what_two_sessions_told_is_kept(rt: HostRuntime) {
     go(&rt, rt.alloc(), &SYNC, &new, &maps);
     let maps = copies_of(&rt, rt.alloc(), &CONFLICT_MAPS);
     go(&rt, rt.alloc(), &CONFLICT, &new, &maps);
+}
+
+#[test]
+fn what_four_sessions_told_is_kept(rt: HostRuntime) {
+    let new = formatted(&rt, rt.alloc(), &FORMAT_FOUR);
+    let maps = copies_of(&rt, rt.alloc(), &FOUR_MAPS);
+    go(&rt, rt.alloc(), &FOUR, &new, &maps);
+}
+
+// Behind the third log's flush, with the tails of the second log and the fourth.
+#[test]
+fn an_opening_of_four_sessions_that_stops_changes_no_map(rt: HostRuntime) {
+    let alloc = rt.alloc();
+    let new = formatted(&rt, alloc, &FORMAT_FOUR);
+    let run = run_command(&rt, alloc, FOUR.command, FOUR.text, new);
+    let disk = crashed(&rt, &run.disk, 154, Choice::AllBytes);
+    let maps = copies_of(&rt, alloc, &FOUR_OPENED_MAPS);
+    go(&rt, alloc, &FOUR_OPENING, &disk, &maps);
 }
 
 #[test]

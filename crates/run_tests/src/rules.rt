@@ -1,0 +1,962 @@
+// The rules of the numbers that a script's output tells, of what is durable, and of what a crash leaves, as a plain program beside the
+// engine: it was written from the rules in words. All keys are in one leaf, the first page, and no call needs room.
+use crate::runs::MEMORY;
+use lean_disk::Choice;
+use map_model::{Answer, Answered, Call, Refusal};
+use std::alloc::{AllocError, Global};
+use std::collections::BTreeMap;
+use std::process::Abort;
+
+// The moment of what was not done yet.
+const NEVER: u64 = u64::MAX;
+
+// The moment at which an opening is done; calls and lines are counted from there. Its master was written one moment before.
+pub(crate) const OPENED: u64 = 1000;
+
+// What a block has room for, and what a change or a put-back takes of it, and an end.
+const ROOM: u64 = 2000;
+
+const CHANGE: u64 = 53;
+
+const END: u64 = 25;
+
+// A number and the log that has its record. Log 0 is none.
+#[derive(Clone, Copy)]
+struct Stamp {
+    number: u64,
+    log: u32,
+}
+
+const NONE: Stamp = Stamp { number: 0, log: 0 };
+
+// A lock row: its last end of one that held it alone, and the greatest end of one that read it.
+#[derive(Clone, Copy)]
+struct Row {
+    stamp: Stamp,
+    read: u64,
+}
+
+const FREE: Row = Row {
+    stamp: NONE,
+    read: 0,
+};
+
+// A row that a session holds until its transaction ends, alone or beside others that read it.
+#[derive(Clone, Copy)]
+struct Held {
+    session: u32,
+    row: u64,
+    is_alone: bool,
+}
+
+// A change of an open transaction: its key, and the value before.
+#[derive(Clone, Copy)]
+struct Change {
+    session: u32,
+    key: u64,
+    was: Option<u64>,
+}
+
+// A session and its log: its last record's number, up to where it is flushed, the block in hand with its room, and the commits since its last flush.
+#[derive(Clone, Copy)]
+struct Session {
+    is_open: bool,
+    begun: u64,
+    clock: u64,
+    floor: u64,
+    debt: u64,
+    last: u64,
+    flushed: u64,
+    commits: u64,
+    block: Option<usize>,
+    room: u64,
+}
+
+// A record, of a transaction of a session, in one of its blocks.
+#[derive(Clone, Copy)]
+struct Record {
+    session: u32,
+    begun: u64,
+    number: u64,
+    block: usize,
+    kind: Kind,
+}
+
+#[derive(Clone, Copy)]
+enum Kind {
+    Change { key: u64, value: Option<u64> },
+    PutBack,
+    Commit { need: u64 },
+    Abort { need: u64 },
+}
+
+// A block of a session's log, or a master, and when it was written and synced.
+#[derive(Clone, Copy)]
+struct Block {
+    session: u32,
+    written: u64,
+    synced: u64,
+}
+
+#[derive(Clone, Copy)]
+struct Master {
+    floor: u64,
+    written: u64,
+    synced: u64,
+}
+
+// A commit, and when it was told durable.
+#[derive(Clone, Copy)]
+struct Commit {
+    session: u32,
+    begun: u64,
+    at: u64,
+    need: u64,
+    told: u64,
+}
+
+/// A crash at a moment. What is not synced of an area is left by one choice, and by the other where the area's bit is set.
+#[derive(Clone, Copy)]
+pub(crate) struct Crash {
+    pub moment: u64,
+    pub one: Choice,
+    pub other: Choice,
+    pub mask: u32,
+}
+
+/// What stands on a disk, as the next opening tells it.
+#[derive(Drop)]
+pub(crate) struct Left {
+    pub generation: u64,
+    pub winners: u64,
+    pub undone: u64,
+    /// How many blocks of all logs count.
+    pub blocks: u64,
+    /// The greatest number.
+    pub base: u64,
+    pub map: BTreeMap<u64, u64>,
+}
+
+/// A script, and what the rules say of it.
+#[derive(Drop)]
+pub(crate) struct Rules {
+    alloc: Global,
+    rows: Vec<Row>,
+    group: u64,
+    count: u32,
+    sessions: Vec<Session>,
+    leaf: Stamp,
+    held: Vec<Held>,
+    changes: Vec<Change>,
+    records: Vec<Record>,
+    blocks: Vec<Block>,
+    masters: Vec<Master>,
+    commits: Vec<Commit>,
+    map: BTreeMap<u64, u64>,
+    generation: u64,
+    /// How many calls of the disk were made by now, and lines put.
+    pub moment: u64,
+    pub text: String,
+    pub printed: String,
+    pub transcript: Vec<Answered>,
+}
+
+fn put(map: &mut BTreeMap<u64, u64>, key: u64, value: Option<u64>) -> Result<(), AllocError> {
+    match value {
+        Some(value) => map.insert(key, value)?,
+        None => map.remove(&key),
+    };
+    Ok(())
+}
+
+fn set<R: Abort>(rt: &R, map: &mut BTreeMap<u64, u64>, key: u64, value: Option<u64>) {
+    put(map, key, value).expect(rt, MEMORY);
+}
+
+fn copy_of<R: Abort>(rt: &R, alloc: Global, map: &BTreeMap<u64, u64>) -> BTreeMap<u64, u64> {
+    let mut copy = BTreeMap::new(alloc);
+    for (key, value) in map {
+        set(rt, &mut copy, *key, Some(*value));
+    }
+    copy
+}
+
+/// What a dump prints of a map.
+pub(crate) fn pairs_of<R: Abort>(rt: &R, alloc: Global, map: &BTreeMap<u64, u64>) -> String {
+    let mut lines = String::new(alloc);
+    for (key, value) in map {
+        let line = format!(in alloc; "pair {key} {value}\n").expect(rt, MEMORY);
+        lines.push_str(&line).expect(rt, MEMORY);
+    }
+    lines.push_str("end\n").expect(rt, MEMORY);
+    lines
+}
+
+impl Left {
+    /// A new disk.
+    pub(crate) fn new(alloc: Global) -> Left {
+        Left {
+            generation: 0,
+            winners: 0,
+            undone: 0,
+            blocks: 0,
+            base: 0,
+            map: BTreeMap::new(alloc),
+        }
+    }
+
+    pub(crate) fn copied<R: Abort>(&self, rt: &R, alloc: Global) -> Left {
+        Left {
+            generation: self.generation,
+            winners: self.winners,
+            undone: self.undone,
+            blocks: self.blocks,
+            base: self.base,
+            map: copy_of(rt, alloc, &self.map),
+        }
+    }
+
+    /// The first line of the next run.
+    pub(crate) fn first_line<R: Abort>(&self, rt: &R, alloc: Global) -> String {
+        let generation = self.generation.saturating_add(1);
+        let winners = self.winners;
+        let undone = self.undone;
+        format!(in alloc; "open {generation} winners {winners} undone {undone}\n").expect(
+            rt, MEMORY,
+        )
+    }
+}
+
+impl Rules {
+    /// An opening: all numbers begin at the base.
+    pub(crate) fn open<R: Abort>(
+        rt: &R,
+        alloc: Global,
+        left: &Left,
+        count: u32,
+        rows: usize,
+        group: u64,
+    ) -> Rules {
+        let base = left.base;
+        let session = Session {
+            is_open: false,
+            begun: 0,
+            clock: base,
+            floor: base,
+            debt: 0,
+            last: base,
+            flushed: base,
+            commits: 0,
+            block: None,
+            room: 0,
+        };
+        let mut rules = Rules {
+            alloc,
+            rows: vec![in alloc; FREE; rows].expect(rt, MEMORY),
+            group,
+            count,
+            sessions: vec![in alloc; session; count as usize].expect(rt, MEMORY),
+            leaf: NONE,
+            held: Vec::new(alloc),
+            changes: Vec::new(alloc),
+            records: Vec::new(alloc),
+            blocks: Vec::new(alloc),
+            masters: Vec::new(alloc),
+            commits: Vec::new(alloc),
+            map: copy_of(rt, alloc, &left.map),
+            generation: left.generation.saturating_add(1),
+            moment: OPENED,
+            text: String::new(alloc),
+            printed: left.first_line(rt, alloc),
+            transcript: Vec::new(alloc),
+        };
+        rules.tick();
+        let first = Master {
+            floor: base,
+            written: OPENED - 1,
+            synced: OPENED,
+        };
+        rules.masters.push(first).expect(rt, MEMORY);
+        rules
+    }
+
+    // One call of the disk, or one line that goes out.
+    fn tick(&mut self) -> u64 {
+        self.moment = self.moment.saturating_add(1);
+        self.moment
+    }
+
+    fn session(&self, session: u32) -> Option<&Session> {
+        self.sessions.get(session.saturating_sub(1) as usize)
+    }
+
+    fn session_mut(&mut self, session: u32) -> Option<&mut Session> {
+        self.sessions.get_mut(session.saturating_sub(1) as usize)
+    }
+
+    pub(crate) fn is_open(&self, session: u32) -> bool {
+        match self.session(session) {
+            Some(found) => found.is_open,
+            None => false,
+        }
+    }
+
+    fn begun(&self, session: u32) -> u64 {
+        match self.session(session) {
+            Some(found) => found.begun,
+            None => 0,
+        }
+    }
+
+    // Up to where every log is flushed.
+    fn least_flushed(&self) -> u64 {
+        let mut least = NEVER;
+        for one in &self.sessions {
+            least = least.min(one.flushed);
+        }
+        least
+    }
+
+    // A stamp that is met raises the clock, and the debt where it is of another log and above the floor.
+    fn touch(&mut self, session: u32, stamp: Stamp) {
+        if let Some(me) = self.session_mut(session) {
+            me.clock = me.clock.max(stamp.number);
+            if stamp.number > me.floor && stamp.log != session && stamp.log != 0 {
+                me.debt = me.debt.max(stamp.number);
+            }
+        }
+    }
+
+    fn row_of(&self, key: u64) -> u64 {
+        let rows = self.rows.len() as u64;
+        if rows == 0 {
+            return 0;
+        }
+        key % rows
+    }
+
+    // The session that stands in the way: who holds the row alone, else the least that reads it.
+    fn holder(&self, session: u32, row: u64, is_alone: bool) -> Option<u32> {
+        let mut least = None;
+        for held in &self.held {
+            if held.row == row && held.session != session && (is_alone || held.is_alone) {
+                least = match least {
+                    Some(other) if other < held.session => Some(other),
+                    _ => Some(held.session),
+                };
+            }
+        }
+        least
+    }
+
+    // The session takes a row, and meets its stamp and its readers' end.
+    fn lock<R: Abort>(&mut self, rt: &R, session: u32, row: u64, is_alone: bool) {
+        let found = self.rows.get(row as usize).copied().unwrap_or(FREE);
+        self.touch(session, found.stamp);
+        if let Some(me) = self.session_mut(session) {
+            me.clock = me.clock.max(found.read);
+        }
+        let held = Held {
+            session,
+            row,
+            is_alone,
+        };
+        self.held.push(held).expect(rt, MEMORY);
+    }
+
+    // Its rows are given back at the number of its end.
+    fn unlock<R: Abort>(&mut self, rt: &R, session: u32, number: u64) {
+        let mut others = Vec::new(self.alloc);
+        for held in &self.held {
+            if held.session != session {
+                others.push(*held).expect(rt, MEMORY);
+            } else if let Some(row) = self.rows.get_mut(held.row as usize) {
+                if held.is_alone {
+                    let log = session;
+                    row.stamp = Stamp { number, log };
+                } else {
+                    row.read = row.read.max(number);
+                }
+            }
+        }
+        self.held = others;
+    }
+
+    // Writes the block in hand.
+    fn write_block(&mut self, session: u32) {
+        let moment = self.tick();
+        if let Some(me) = self.session_mut(session) {
+            let block = me.block.take();
+            if let Some(place) = block {
+                if let Some(found) = self.blocks.get_mut(place) {
+                    found.written = moment;
+                }
+            }
+        }
+    }
+
+    // The block that takes a record of this size: one that is full is written.
+    fn block_for<R: Abort>(&mut self, rt: &R, session: u32, size: u64) -> usize {
+        let Some(me) = self.session(session).copied() else {
+            return 0;
+        };
+        match me.block {
+            Some(place) if size <= me.room => place,
+            found => {
+                if found.is_some() {
+                    self.write_block(session);
+                }
+                let place = self.blocks.len();
+                let block = Block {
+                    session,
+                    written: NEVER,
+                    synced: NEVER,
+                };
+                self.blocks.push(block).expect(rt, MEMORY);
+                if let Some(me) = self.session_mut(session) {
+                    me.block = Some(place);
+                    me.room = ROOM;
+                }
+                place
+            }
+        }
+    }
+
+    // A record takes the next number.
+    fn stage<R: Abort>(&mut self, rt: &R, session: u32, size: u64, kind: Kind) -> u64 {
+        let block = self.block_for(rt, session, size);
+        let begun = self.begun(session);
+        let mut number = 0;
+        if let Some(me) = self.session_mut(session) {
+            number = me.clock.saturating_add(1);
+            me.clock = number;
+            me.last = number;
+            me.room = me.room.saturating_sub(size);
+        }
+        let record = Record {
+            session,
+            begun,
+            number,
+            block,
+            kind,
+        };
+        self.records.push(record).expect(rt, MEMORY);
+        number
+    }
+
+    // One that changes the leaf meets its stamp first, and becomes it.
+    fn stage_change<R: Abort>(&mut self, rt: &R, session: u32, kind: Kind) {
+        self.touch(session, self.leaf);
+        let number = self.stage(rt, session, CHANGE, kind);
+        let log = session;
+        self.leaf = Stamp { number, log };
+    }
+
+    // Writes the block in hand, and syncs the log.
+    fn flush(&mut self, session: u32) {
+        if let Some(
+            Session {
+                block: Some(_),
+                last,
+                ..
+            },
+        ) = self.session(session).copied()
+        {
+            self.write_block(session);
+            let moment = self.tick();
+            for block in &mut self.blocks {
+                if block.session == session && block.synced == NEVER {
+                    block.synced = moment;
+                }
+            }
+            if let Some(me) = self.session_mut(session) {
+                me.flushed = last;
+                me.commits = 0;
+            }
+        }
+    }
+
+    // A line of the output.
+    fn say<R: Abort>(&mut self, rt: &R, line: Result<String, AllocError>) {
+        let line = line.expect(rt, MEMORY);
+        self.printed.push_str(&line).expect(rt, MEMORY);
+        self.printed.push_str("\n").expect(rt, MEMORY);
+        self.tick();
+    }
+
+    fn tell<R: Abort>(&mut self, rt: &R, session: u32, call: Call, answer: Answer) {
+        let line = Answered {
+            session,
+            call,
+            answer,
+        };
+        self.transcript.push(line).expect(rt, MEMORY);
+    }
+
+    fn refuse<R: Abort>(&mut self, rt: &R, session: u32, call: Call, why: Refusal, words: &str) {
+        self.say(rt, format!(in self.alloc; "{session} {words}"));
+        self.tell(rt, session, call, Answer::Refused(why));
+    }
+
+    // A begin clears a debt that is flushed everywhere.
+    fn begin<R: Abort>(&mut self, rt: &R, session: u32) {
+        if self.is_open(session) {
+            self.refuse(
+                rt,
+                session,
+                Call::Begin,
+                Refusal::InTransaction,
+                "in-transaction",
+            );
+            return;
+        }
+        let flushed = self.least_flushed();
+        if let Some(me) = self.session_mut(session) {
+            me.is_open = true;
+            me.begun = me.begun.saturating_add(1);
+            me.floor = flushed;
+            if me.debt <= flushed {
+                me.debt = 0;
+            }
+        }
+        let number = self.begun(session);
+        self.say(
+            rt,
+            format!(in self.alloc; "{session} begun {session}.{number}"),
+        );
+        self.tell(rt, session, Call::Begin, Answer::Begun { number });
+    }
+
+    // Whether the lock is refused. Then the transaction is aborted.
+    fn is_refused<R: Abort>(
+        &mut self,
+        rt: &R,
+        session: u32,
+        call: Call,
+        key: u64,
+        is_alone: bool,
+    ) -> bool {
+        let row = self.row_of(key);
+        match self.holder(session, row, is_alone) {
+            Some(holder) => {
+                self.say(rt, format!(in self.alloc; "{session} conflict {holder}"));
+                self.tell(
+                    rt,
+                    session,
+                    call,
+                    Answer::Refused(Refusal::Conflict { holder }),
+                );
+                self.abort(rt, session, call);
+                true
+            }
+            None => {
+                self.lock(rt, session, row, is_alone);
+                false
+            }
+        }
+    }
+
+    fn get<R: Abort>(&mut self, rt: &R, session: u32, call: Call, key: u64) {
+        if self.is_refused(rt, session, call, key, false) {
+            return;
+        }
+        self.touch(session, self.leaf);
+        let found = self.map.get(&key).copied();
+        match found {
+            Some(value) => self.say(rt, format!(in self.alloc; "{session} value {value}")),
+            None => self.say(rt, format!(in self.alloc; "{session} none")),
+        }
+        self.tell(rt, session, call, Answer::Value(found));
+    }
+
+    // A del of an absent key reads the leaf, and makes no record.
+    fn write<R: Abort>(&mut self, rt: &R, session: u32, call: Call, key: u64, value: Option<u64>) {
+        if self.is_refused(rt, session, call, key, true) {
+            return;
+        }
+        let was = self.map.get(&key).copied();
+        if was.is_some() || value.is_some() {
+            let change = Change { session, key, was };
+            self.changes.push(change).expect(rt, MEMORY);
+            set(rt, &mut self.map, key, value);
+            self.stage_change(rt, session, Kind::Change { key, value });
+        } else {
+            self.touch(session, self.leaf);
+        }
+        match was {
+            Some(was) => self.say(rt, format!(in self.alloc; "{session} was {was}")),
+            None => self.say(rt, format!(in self.alloc; "{session} was none")),
+        }
+        self.tell(rt, session, call, Answer::Was(was));
+    }
+
+    // The changes of a session are put back, the newest first, or forgotten.
+    fn end_changes<R: Abort>(&mut self, rt: &R, session: u32, is_undone: bool) {
+        let mut others = Vec::new(self.alloc);
+        for _ in 0..self.changes.len() {
+            if let Some(change) = self.changes.pop() {
+                if change.session != session {
+                    others.push(change).expect(rt, MEMORY);
+                } else if is_undone {
+                    set(rt, &mut self.map, change.key, change.was);
+                    self.stage_change(rt, session, Kind::PutBack);
+                }
+            }
+        }
+        for _ in 0..others.len() {
+            if let Some(change) = others.pop() {
+                self.changes.push(change).expect(rt, MEMORY);
+            }
+        }
+    }
+
+    // What its end needs of other logs: its debt, where that is not flushed everywhere.
+    fn need(&self, session: u32) -> u64 {
+        match self.session(session) {
+            Some(me) if me.debt > self.least_flushed() => me.debt,
+            _ => 0,
+        }
+    }
+
+    // Its end gives the rows back, before anything is flushed. The answer is its number.
+    fn end<R: Abort>(&mut self, rt: &R, session: u32, kind: Kind) -> u64 {
+        let number = self.stage(rt, session, END, kind);
+        self.unlock(rt, session, number);
+        if let Some(me) = self.session_mut(session) {
+            me.is_open = false;
+        }
+        number
+    }
+
+    fn commit<R: Abort>(&mut self, rt: &R, session: u32) {
+        self.end_changes(rt, session, false);
+        let need = self.need(session);
+        let at = self.end(rt, session, Kind::Commit { need });
+        let number = self.begun(session);
+        let commit = Commit {
+            session,
+            begun: number,
+            at,
+            need,
+            told: NEVER,
+        };
+        self.commits.push(commit).expect(rt, MEMORY);
+        let mut is_due = false;
+        if let Some(me) = self.session_mut(session) {
+            me.commits = me.commits.saturating_add(1);
+            is_due = me.commits >= self.group;
+        }
+        if is_due {
+            self.flush(session);
+        }
+        self.say(
+            rt,
+            format!(in self.alloc; "{session} committed {session}.{number} at {at}"),
+        );
+        self.tell(rt, session, Call::Commit, Answer::Committed { number, at });
+    }
+
+    fn abort<R: Abort>(&mut self, rt: &R, session: u32, call: Call) {
+        self.end_changes(rt, session, true);
+        let need = self.need(session);
+        self.end(rt, session, Kind::Abort { need });
+        let number = self.begun(session);
+        self.say(
+            rt,
+            format!(in self.alloc; "{session} aborted {session}.{number}"),
+        );
+        self.tell(rt, session, call, Answer::Aborted { number });
+    }
+
+    // Whether a commit's log has it, and every log what it needs.
+    fn is_ripe(&self, commit: Commit) -> bool {
+        match self.session(commit.session) {
+            Some(me) => me.flushed >= commit.at && self.least_flushed() >= commit.need,
+            None => false,
+        }
+    }
+
+    // The first commit that is ripe and was not told, by its number and then its session.
+    fn next_ripe(&self) -> Option<usize> {
+        let mut first: Option<(usize, Commit)> = None;
+        for place in 0..self.commits.len() {
+            let commit = self.commits[place];
+            if commit.told == NEVER && self.is_ripe(commit) {
+                first = match first {
+                    Some((at, other)) if is_before(other, commit) => Some((at, other)),
+                    _ => Some((place, commit)),
+                };
+            }
+        }
+        match first {
+            Some((place, _)) => Some(place),
+            None => None,
+        }
+    }
+
+    fn tell_durable<R: Abort>(&mut self, rt: &R) {
+        for _ in 0..self.commits.len() {
+            let Some(place) = self.next_ripe() else {
+                return;
+            };
+            if let Some(Commit { session, begun, .. }) = self.commits.get(place).copied() {
+                self.say(
+                    rt,
+                    format!(in self.alloc; "{session} durable {session}.{begun}"),
+                );
+            }
+            if let Some(commit) = self.commits.get_mut(place) {
+                commit.told = self.moment;
+            }
+        }
+    }
+
+    /// Adds a line to the script.
+    pub(crate) fn add<R: Abort>(&mut self, rt: &R, session: u32, call: Call) {
+        let alloc = self.alloc;
+        let text = match call {
+            Call::Get { key } => format!(in alloc; "{session} get {key}\n"),
+            Call::Put { key, value } => format!(in alloc; "{session} put {key} {value}\n"),
+            Call::Del { key } => format!(in alloc; "{session} del {key}\n"),
+            Call::Commit => format!(in alloc; "{session} commit\n"),
+            Call::Abort => format!(in alloc; "{session} abort\n"),
+            _ => format!(in alloc; "{session} begin\n"),
+        }
+        .expect(rt, MEMORY);
+        self.text.push_str(&text).expect(rt, MEMORY);
+        self.answer(rt, session, call);
+        self.tell_durable(rt);
+    }
+
+    fn answer<R: Abort>(&mut self, rt: &R, session: u32, call: Call) {
+        if let Call::Begin = call {
+            self.begin(rt, session);
+        } else if !self.is_open(session) {
+            self.refuse(rt, session, call, Refusal::NoTransaction, "no-transaction");
+        } else {
+            match call {
+                Call::Get { key } => self.get(rt, session, call, key),
+                Call::Put { key, value } => self.write(rt, session, call, key, Some(value)),
+                Call::Del { key } => self.write(rt, session, call, key, None),
+                Call::Commit => self.commit(rt, session),
+                _ => self.abort(rt, session, call),
+            }
+        }
+    }
+
+    // The floor of the newest master.
+    fn floor(&self) -> u64 {
+        match self.masters.last() {
+            Some(master) => master.floor,
+            None => 0,
+        }
+    }
+
+    /// Adds a sync: each log is flushed, and then a master is written with the greatest clock as its floor, unless it has that one.
+    pub(crate) fn add_sync<R: Abort>(&mut self, rt: &R) {
+        self.text.push_str("sync\n").expect(rt, MEMORY);
+        let mut at = 0;
+        for session in 1..=self.count {
+            self.flush(session);
+        }
+        for one in &self.sessions {
+            at = at.max(one.clock);
+        }
+        if self.floor() != at {
+            let written = self.tick();
+            let synced = self.tick();
+            let floor = at;
+            let master = Master {
+                floor,
+                written,
+                synced,
+            };
+            self.masters.push(master).expect(rt, MEMORY);
+        }
+        for one in &mut self.sessions {
+            one.clock = at;
+            one.last = at;
+            one.flushed = at;
+            one.commits = 0;
+        }
+        self.say(rt, format!(in self.alloc; "synced {at}"));
+        self.tell(rt, 0, Call::Sync, Answer::Synced { at });
+        self.tell_durable(rt);
+    }
+}
+
+// By commit number, and then by session.
+fn is_before(one: Commit, other: Commit) -> bool {
+    one.at < other.at || one.at == other.at && one.session < other.session
+}
+
+impl Crash {
+    // Whether it leaves what was written to an area and synced at these moments.
+    fn keeps(&self, area: u32, written: u64, synced: u64) -> bool {
+        let bit = if area < 32 { self.mask >> area & 1 } else { 0 };
+        let choice = if bit == 1 { self.other } else { self.one };
+        synced <= self.moment || written <= self.moment && matches!(choice, Choice::AllBytes)
+    }
+}
+
+// What a crash leaves: the greatest floor of a master, and up to where each log has all its records.
+#[derive(Clone, Copy)]
+struct Found {
+    crash: Crash,
+    floor: u64,
+    reach: u64,
+}
+
+impl Rules {
+    fn is_found(&self, crash: &Crash, record: &Record) -> bool {
+        match self.blocks.get(record.block) {
+            Some(block) => crash.keeps(
+                record.session.saturating_add(1),
+                block.written,
+                block.synced,
+            ),
+            None => false,
+        }
+    }
+
+    // The greatest number of a log that is found, or of all logs.
+    fn greatest(&self, crash: &Crash, log: Option<u32>) -> u64 {
+        let mut greatest = 0;
+        for record in &self.records {
+            let is_one = match log {
+                Some(log) => record.session == log,
+                None => true,
+            };
+            if is_one && self.is_found(crash, record) {
+                greatest = record.number.max(greatest);
+            }
+        }
+        greatest
+    }
+
+    // None, if the master of the opening does not count.
+    fn found(&self, crash: &Crash) -> Option<Found> {
+        let mut floor = None;
+        for master in &self.masters {
+            if crash.keeps(0, master.written, master.synced) {
+                floor = Some(master.floor);
+            }
+        }
+        let floor = floor?;
+        let mut reach = NEVER;
+        for session in 1..=self.count {
+            let greatest = self.greatest(crash, Some(session));
+            reach = reach.min(greatest.max(floor));
+        }
+        let crash = *crash;
+        Some(Found {
+            crash,
+            floor,
+            reach,
+        })
+    }
+
+    // The end of a transaction, where it is found with what it needs.
+    fn end_of(&self, found: &Found, session: u32, begun: u64) -> Option<Kind> {
+        for record in &self.records {
+            if record.session == session && record.begun == begun {
+                let is_ended = match record.kind {
+                    Kind::Commit { need } | Kind::Abort { need } => need <= found.reach,
+                    _ => false,
+                };
+                if is_ended && self.is_found(&found.crash, record) {
+                    return Some(record.kind);
+                }
+            }
+        }
+        None
+    }
+
+    fn is_winner(&self, found: &Found, session: u32, begun: u64) -> bool {
+        matches!(
+            self.end_of(found, session, begun),
+            Some(Kind::Commit { .. })
+        )
+    }
+
+    // How many transactions with records that are found have no end.
+    fn undone(&self, found: &Found) -> u64 {
+        let mut undone = 0u64;
+        for session in 1..=self.count {
+            let mut last = 0;
+            for record in &self.records {
+                let is_new = record.session == session && record.begun != last;
+                if is_new && self.is_found(&found.crash, record) {
+                    last = record.begun;
+                    if self.end_of(found, session, last).is_none() {
+                        undone = undone.saturating_add(1);
+                    }
+                }
+            }
+        }
+        undone
+    }
+
+    // The first commit behind another, by number and session.
+    fn next_commit(&self, behind: Option<Commit>) -> Option<Commit> {
+        let mut first = None;
+        for commit in &self.commits {
+            let is_behind = match behind {
+                Some(before) => is_before(before, *commit),
+                None => true,
+            };
+            if is_behind {
+                first = match first {
+                    Some(other) if is_before(other, *commit) => Some(other),
+                    _ => Some(*commit),
+                };
+            }
+        }
+        first
+    }
+
+    // Runs the changes of a transaction on a map.
+    fn redo<R: Abort>(&self, rt: &R, map: &mut BTreeMap<u64, u64>, commit: Commit) {
+        for record in &self.records {
+            if let Kind::Change { key, value } = record.kind {
+                if record.session == commit.session && record.begun == commit.begun {
+                    set(rt, map, key, value);
+                }
+            }
+        }
+    }
+
+    /// What a crash leaves of a disk that was left so before the opening. None, if something that was told durable is not there.
+    pub(crate) fn left<R: Abort>(&self, rt: &R, before: &Left, crash: &Crash) -> Option<Left> {
+        let Some(found) = self.found(crash) else {
+            return Some(before.copied(rt, self.alloc));
+        };
+        let mut map = copy_of(rt, self.alloc, &before.map);
+        let mut winners = 0u64;
+        let mut last = None;
+        for _ in 0..self.commits.len() {
+            let commit = self.next_commit(last)?;
+            if self.is_winner(&found, commit.session, commit.begun) {
+                winners = winners.saturating_add(1);
+                self.redo(rt, &mut map, commit);
+            } else if commit.told <= crash.moment {
+                return None;
+            }
+            last = Some(commit);
+        }
+        let mut blocks = 0u64;
+        for block in &self.blocks {
+            if crash.keeps(block.session.saturating_add(1), block.written, block.synced) {
+                blocks = blocks.saturating_add(1);
+            }
+        }
+        Some(Left {
+            generation: self.generation,
+            winners,
+            undone: self.undone(&found),
+            blocks,
+            base: self.greatest(crash, None).max(found.floor),
+            map,
+        })
+    }
+}
