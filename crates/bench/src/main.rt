@@ -1,6 +1,6 @@
 // How many lines, replies, records, node searches and blocks a second, and how long recovery takes. With no argument a handful of each, and
-// what they add up to; with a number N, N million of each, with times; with the word `writer`, how long the blocks of the log in the current
-// folder take where each is only sealed, written and synced.
+// what they add up to; with a number N, N million of each, with times; with the word `writer` and a number C, 1 where it is left out, how long the
+// blocks of the logs in the current folder take where each is only sealed and written, and a log synced behind each C of its commits.
 #![tactic(auto)]
 
 mod history;
@@ -182,18 +182,17 @@ fn recover(rt: &HostRuntime, logs: u32, blocks: u32, timed: bool) -> io::Result<
 enum Asked {
     Handful,
     Millions(u32),
-    Writer,
+    Writer(u32),
 }
 
 fn asked_for(rt: &HostRuntime) -> io::Result<Asked> {
     let mut asked = Asked::Handful;
     for word in env::args(rt)? {
-        asked = match word.as_str() {
-            "writer" => Asked::Writer,
-            word => match word.parse::<u32>() {
-                Ok(millions) => Asked::Millions(millions),
-                Err(_) => Asked::Handful,
-            },
+        asked = match (asked, word.as_str(), word.parse::<u32>()) {
+            (_, "writer", _) => Asked::Writer(1),
+            (Asked::Writer(_), _, Ok(group)) => Asked::Writer(group),
+            (_, _, Ok(millions)) => Asked::Millions(millions),
+            _ => Asked::Handful,
         };
     }
     Ok(asked)
@@ -253,15 +252,18 @@ fn time_all(rt: &HostRuntime, millions: u32) -> io::Result<()> {
     Ok(())
 }
 
-fn time_writer(rt: &HostRuntime) -> io::Result<()> {
-    let written = write_plainly(rt)?;
-    println!(rt; "writer {} blocks, {} us", written.blocks, written.took)
+fn time_writer(rt: &HostRuntime, group: u32) -> io::Result<()> {
+    let written = write_plainly(rt, group)?;
+    eprintln!(rt;
+        "writer {} lines, {} blocks, {} syncs, {} us",
+        written.lines, written.blocks, written.syncs, written.took
+    )
 }
 
 fn main(rt: HostRuntime) -> io::Result<()> {
     match asked_for(&rt)? {
         Asked::Handful => try_all(&rt),
         Asked::Millions(millions) => time_all(&rt, millions),
-        Asked::Writer => time_writer(&rt),
+        Asked::Writer(group) => time_writer(&rt, group),
     }
 }

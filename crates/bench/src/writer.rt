@@ -1,38 +1,99 @@
-// A plain writer of the blocks of a log: each is sealed, written and synced, and nothing else is done.
+// A plain writer of the blocks of logs: each is sealed and written, and its log is synced where so many commits came since it was last. Before
+// that each line of a script on standard input is read and put out again. Nothing else is done.
 
 use disk_file::FileDisk;
 use lean_disk::{Did, Disk, Read};
-use log_block::{BLOCK, block_bytes};
+use lean_edge::StdSource;
+use log_block::{BLOCK, block_bytes, open_block};
+use log_record::{Body, Record, read_record};
+use script_lang::{LineReader, NextLine, read_line};
 use std::alloc::Global;
 use std::io;
+use std::io::Write;
 use std::time::Instant;
 
-// The log of session 1, and a file beside it for what is written.
-const LOG: u32 = 2;
+// How many logs a disk may have, and how many blocks a log.
+const LOGS: u32 = 16;
 
-const COPY: u32 = 3;
+const BLOCKS: u64 = 4096;
+
+// The area of log 1, and that of what is written of it.
+const FIRST: u32 = 2;
+
+const COPY: u32 = 18;
 
 // What was written, and the microseconds that it took.
 #[derive(Clone, Copy)]
 pub(crate) struct Written {
+    pub lines: u32,
     pub blocks: u32,
+    pub syncs: u32,
     pub took: u128,
 }
 
-// The blocks of the log in the current folder, up to the first that begins with no generation.
-fn blocks_of<D: Disk>(disk: &mut D, alloc: Global) -> io::Result<Vec<[u8; BLOCK]>> {
-    let mut blocks = Vec::new(alloc);
-    for at in 0..4096u64 {
-        let mut block = [0u8; BLOCK];
-        let Read::Got(count) = disk.read(LOG, at * BLOCK as u64, &mut block) else {
+// A block of a log, the first being log 0, and how many commits it has.
+#[derive(Clone, Copy)]
+struct Piece {
+    log: u32,
+    number: u64,
+    block: [u8; BLOCK],
+    commits: u32,
+}
+
+// How many of the records that stand there are commits.
+fn commits_in(payload: &[u8]) -> u32 {
+    let mut entry = Record {
+        txn: 0,
+        gsn: 0,
+        body: Body::Commit { need: 0 },
+    };
+    let mut left = payload;
+    let mut commits = 0u32;
+    for _ in 0..payload.len() {
+        let Some(size) = read_record(left, &mut entry) else {
             break;
         };
-        if count < BLOCK || block[0] == 0 {
-            break;
+        if let Body::Commit { .. } = entry.body {
+            commits = commits.wrapping_add(1);
         }
-        blocks.push(block)?;
+        let Some(rest) = left.get(size..) else {
+            break;
+        };
+        left = rest;
     }
-    Ok(blocks)
+    commits
+}
+
+// The block of this number of a log, as the first run on a disk wrote it.
+fn piece_of<D: Disk>(disk: &mut D, log: u32, number: u64) -> Option<Piece> {
+    let mut block = [0u8; BLOCK];
+    let place = number.wrapping_mul(BLOCK as u64);
+    let Read::Got(_) = disk.read(FIRST.wrapping_add(log), place, &mut block) else {
+        return None;
+    };
+    let Ok((_, payload)) = open_block(1, log.wrapping_add(1), number, &block) else {
+        return None;
+    };
+    let commits = commits_in(payload);
+    Some(Piece {
+        log,
+        number,
+        block,
+        commits,
+    })
+}
+
+// The blocks of the logs in the current folder: the first of each log, the second of each, and so on.
+fn pieces_of<D: Disk>(disk: &mut D, alloc: Global) -> io::Result<Vec<Piece>> {
+    let mut pieces = Vec::new(alloc);
+    for number in 0..BLOCKS {
+        for log in 0..LOGS {
+            if let Some(piece) = piece_of(disk, log, number) {
+                pieces.push(piece)?;
+            }
+        }
+    }
+    Ok(pieces)
 }
 
 // Where a block's records stand in it.
@@ -40,32 +101,66 @@ const HEADER: usize = 32;
 
 const SEAL: usize = 16;
 
-// Seals a block, writes it to its place and syncs it.
-fn put<D: Disk>(disk: &mut D, number: u32, block: &[u8; BLOCK]) -> Did {
+// Seals a block and writes it to its place.
+fn put<D: Disk>(disk: &mut D, piece: &Piece) -> Did {
     let mut sealed = [0u8; BLOCK];
-    let number = u64::from(number);
-    block_bytes(1, 2, number, 1, &block[HEADER..BLOCK - SEAL], &mut sealed);
-    match disk.write(COPY, number * BLOCK as u64, &sealed) {
-        Did::Done => disk.sync(COPY),
-        Did::Failed => Did::Failed,
-    }
+    let payload = &piece.block[HEADER..BLOCK - SEAL];
+    block_bytes(1, piece.log, piece.number, 1, payload, &mut sealed);
+    let place = piece.number.wrapping_mul(BLOCK as u64);
+    disk.write(COPY.wrapping_add(piece.log), place, &sealed)
 }
 
-// Writes the blocks of the log in the current folder once more, one by one.
-pub(crate) fn write_plainly(rt: &HostRuntime) -> io::Result<Written> {
+// Writes the blocks, and syncs a log behind so many of its commits. None where the disk failed.
+fn put_all<D: Disk>(disk: &mut D, pieces: &[Piece], group: u32) -> Option<(u32, u32)> {
+    let mut waiting = [0u32; LOGS as usize];
+    let (mut blocks, mut syncs) = (0u32, 0u32);
+    for piece in pieces {
+        let Did::Done = put(disk, piece) else {
+            return None;
+        };
+        blocks = blocks.wrapping_add(1);
+        let commits = waiting.get_mut(piece.log as usize)?;
+        *commits = commits.wrapping_add(piece.commits);
+        if group <= *commits {
+            *commits = 0;
+            let Did::Done = disk.sync(COPY.wrapping_add(piece.log)) else {
+                return None;
+            };
+            syncs = syncs.wrapping_add(1);
+        }
+    }
+    Some((blocks, syncs))
+}
+
+// Reads the lines of a script, and puts the bytes of each out by a call of its own.
+fn put_lines(rt: &HostRuntime, reader: &mut LineReader) -> io::Result<u32> {
+    let mut source = StdSource::new(rt.stdin());
+    let mut out = rt.stdout();
+    for lines in 0..u32::MAX {
+        let NextLine::Got = reader.next_line(&mut source) else {
+            return Ok(lines);
+        };
+        let Ok(_) = read_line(LOGS, reader.line()) else {
+            return Ok(lines);
+        };
+        out.write_all(reader.line())?;
+    }
+    Ok(u32::MAX)
+}
+
+// Puts the lines of a script out, and writes the blocks of the logs in the current folder once more, one by one.
+pub(crate) fn write_plainly(rt: &HostRuntime, group: u32) -> io::Result<Written> {
     let alloc = rt.alloc();
     let mut disk = FileDisk::new(rt, alloc);
-    let blocks = blocks_of(&mut disk, alloc)?;
+    let pieces = pieces_of(&mut disk, alloc)?;
+    let mut reader = LineReader::new(alloc)?;
     let start = Instant::now(rt)?;
-    let mut written = 0u32;
-    for block in blocks.iter() {
-        let Did::Done = put(&mut disk, written, block) else {
-            break;
-        };
-        written = written.wrapping_add(1);
-    }
+    let lines = put_lines(rt, &mut reader)?;
+    let (blocks, syncs) = put_all(&mut disk, &pieces, group).unwrap_or((0, 0));
     Ok(Written {
-        blocks: written,
+        lines,
+        blocks,
+        syncs,
         took: start.elapsed(rt)?.as_micros(),
     })
 }
