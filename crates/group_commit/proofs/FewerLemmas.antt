@@ -1,7 +1,6 @@
 -- What is taken leaves fewer ends.
-use Rattle.std.proofs.Common.{◌≡◌, ◌<◌, ◌≤◌, ◌-◌, ℕ, zero, suc, Bool, true, false, cond, List, [], ◌∷◌, length, get_or, drop, set, Option, Some, None, ap, subst, arith}
+use Rattle.std.proofs.Common.{◌≡◌, ◌<◌, ◌≤◌, ◌-◌, ℕ, zero, suc, Bool, true, false, cond, List, [], ◌∷◌, length, get_or, drop, set, Some, ap, subst, arith}
 use Rattle.std.proofs.lemmas.List.{length-drop}
-use Rattle.rfa_model.specs.Reaches.{least}
 use Rattle.group_commit.specs.declared.queue.End.{End}
 use Rattle.group_commit.specs.declared.receipts.Receipt.{Receipt}
 use Rattle.group_commit.specs.Queues.{IsSettled, is_done, next_of, queue_of, queued, receipt_if, ripe_first, settled, without_first}

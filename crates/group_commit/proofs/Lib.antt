@@ -1,5 +1,5 @@
 pub mod QueueLemmas
-pub mod EmptyLemmas
+pub mod CalmLemmas
 pub mod ListLemmas
 pub mod DueLemmas
 pub mod SoonLemmas

@@ -1,5 +1,5 @@
 // The ends of all sessions that wait, and the next commit that is durable.
-ghost use Rattle.std.specs.Prelude.{◌≡◌, ◌↔◌, ◌<◌, ◌≤◌, ◌-◌, ◌+◌, ℕ, length, drop, IfOk, IfSome, List, None, false, true};
+ghost use Rattle.std.specs.Prelude.{◌≡◌, ◌<◌, ◌≤◌, ◌-◌, ◌+◌, ℕ, length, drop, IfOk, IfSome, List, None, false, true};
 ghost use Rattle.rfa_model.specs.Reaches.{least};
 ghost use Rattle.group_commit.specs.Ripeness.{flushed_of};
 ghost use Rattle.group_commit.specs.Queues.{queue_of, AreNew, begins_ripe, pushed, receipt_of, sooner, IsSettled, IsSoonest, Takes, next_of, queued, without_first};
@@ -93,19 +93,6 @@ impl Unripe {
         self.queues[w as usize - 1].len()
     }
 
-    /// Whether no end waits. Then no take finds one.
-    pub fn is_empty(&self) -> bool
-        ensures empty { (result ≡ true) ↔ (queued self.now ≡ 0) }
-        ensures none { result ≡ true → (flushed : List ℕ) → Takes flushed self.now None self.now }
-    {
-        for queue in &self.queues {
-            if queue.len() > 0 {
-                return false;
-            }
-        }
-        true
-    }
-
     // Whether no session's oldest end is ripe.
     fn is_calm(&self, flushed: &[u64], all: u64) -> bool
         requires { length flushed.now ≡ length self.now }
@@ -172,6 +159,8 @@ impl Unripe {
         requires { length flushed.now ≡ length self.old }
         ensures takes { Takes flushed.now self.old result self.new }
         ensures fewer { IfSome result (λ r. queued self.new < queued self.old) }
+        // Where it found none, it finds none again.
+        ensures again { result ≡ None → Takes flushed.now self.new None self.new }
     {
         let all = least_of(flushed);
         if self.is_calm(flushed, all) {

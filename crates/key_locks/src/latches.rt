@@ -92,7 +92,12 @@ impl Latches {
         requires { 0 < length self.now }
         ensures { (result ≡ key % length self.now) × (result < length self.now) }
     {
-        (key % self.marks.len() as u64) as usize
+        let rows = self.marks.len() as u64;
+        // A lock row's own number is its place.
+        if key < rows {
+            return key as usize;
+        }
+        (key % rows) as usize
     }
 
     /// Latches the lock row of a key as it stands. Where the row is marked that is Ok at once.

@@ -141,12 +141,59 @@ fn take<R: Rows>(
     }
 }
 
-/// Takes the lock of a key for `worker`, in an open transaction, over rows with `frames` frame rows and `locks` lock rows: keys
-/// that are alike modulo `locks` have one lock row. Nobody waits. A sole reader may become the holder, and a holder who asks for
-/// a shared lock keeps it alone.
+// How many lock rows the program has.
+const USUAL: u32 = 256;
+
+/// The lock row of a key, of so many. Where they are as many as usual nothing is divided.
+#[inline(always)]
+pub fn row_of(key: u64, locks: u32) -> u32
+    requires { 0 < locks }
+    ensures { result ≡ key % locks }
+{
+    if locks == USUAL {
+        return (key % u64::from(USUAL)) as u32;
+    }
+    (key % u64::from(locks)) as u32
+}
+
+/// Takes the lock of lock row `row` for `worker`, in an open transaction, over rows with `frames` frame rows and `locks` lock rows
+/// behind them. Nobody waits. A sole reader may become the holder, and a holder who asks for a shared lock keeps it alone.
 ///
 /// Ok appends the lock, and says what the row told at that moment. Conflict and RowSpent append nothing, Moved and Latched a miss:
 /// try again. Where nobody else steps these two never come, unless the seat holds the row itself.
+pub fn lock_row<R: Rows>(
+    rows: &mut R,
+    seat: &mut R::Seat,
+    worker: u32,
+    frames: u32,
+    locks: u32,
+    row: u32,
+    mode: Mode,
+) -> Result<Stamp, Refusal>
+    requires fits { R.fits rows.old seat.old }
+    requires sized { Sized (R.shape rows.old) (R.view seat.old) worker frames locks }
+    requires actor { may (R.shape rows.old).alone (R.view seat.old) worker ≡ true }
+    requires row { row < locks }
+    requires sound { IsSound (R.view seat.old).given }
+    requires open_is { ((state (R.view seat.old)).core.worker worker).is_open ≡ true }
+    ensures fits { R.fits rows.new seat.new × (R.shape rows.new ≡ R.shape rows.old) × ((R.view seat.new).held ≡ (R.view seat.old).held) }
+    ensures ok { IfOk result (λ s. HasLock (R.shape rows.old).alone worker row mode (R.view seat.old) s (R.view seat.new)) }
+    ensures err { IfErr result (λ r. Refuses (R.shape rows.old).alone worker (frames + row) row mode (R.view seat.old) r (R.view seat.new)) }
+    ensures quiet { IfErr result (λ r. (R.shape rows.old).alone ≡ true → holds (R.view seat.old).held (frames + row) ≡ false → IsUnmet r) }
+{
+    let glimpse = match Glimpse::start(rows, seat, frames + row, &Misses { worker }) {
+        Ok(glimpse) => glimpse,
+        Err(latched) => return Err(Refusal::Latched(latched)),
+    };
+    let locks = Locks { worker, row, mode };
+    let words = look(rows, seat, &glimpse);
+    match words.blocker(worker, mode) {
+        None => take(rows, seat, &glimpse, &locks, &words),
+        Some(other) => Err(refuse(rows, seat, &glimpse, &locks, &words, other)),
+    }
+}
+
+/// Takes the lock of a key, as `lock_row` does: keys that are alike modulo `locks` have one lock row.
 pub fn lock<R: Rows>(
     rows: &mut R,
     seat: &mut R::Seat,
@@ -166,17 +213,7 @@ pub fn lock<R: Rows>(
     ensures err { IfErr result (λ r. Refuses (R.shape rows.old).alone worker (frames + key % locks) (key % locks) mode (R.view seat.old) r (R.view seat.new)) }
     ensures quiet { IfErr result (λ r. (R.shape rows.old).alone ≡ true → holds (R.view seat.old).held (frames + key % locks) ≡ false → IsUnmet r) }
 {
-    let row = (key % locks as u64) as u32;
-    let glimpse = match Glimpse::start(rows, seat, frames + row, &Misses { worker }) {
-        Ok(glimpse) => glimpse,
-        Err(latched) => return Err(Refusal::Latched(latched)),
-    };
-    let locks = Locks { worker, row, mode };
-    let words = look(rows, seat, &glimpse);
-    match words.blocker(worker, mode) {
-        None => take(rows, seat, &glimpse, &locks, &words),
-        Some(other) => Err(refuse(rows, seat, &glimpse, &locks, &words, other)),
-    }
+    lock_row(rows, seat, worker, frames, locks, row_of(key, locks), mode)
 }
 
 /// Takes a lock again that `worker` has in this mode, in an open transaction, over rows on which nobody else steps: lock row `row`

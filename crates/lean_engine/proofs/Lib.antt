@@ -43,4 +43,5 @@ pub mod CallLemmas
 pub mod TakeLemmas
 pub mod DurableLemmas
 pub mod NotedLemmas
+pub mod QuietLemmas
 pub mod ResultLemmas

@@ -1,4 +1,4 @@
--- Read Desks, Machines, States, Openings, Calls, Syncs and Receipts. Came, Reached and Inside have the words of private functions.
+-- Read Desks, Machines, States, Openings, Calls, Syncs and Receipts. Came, Reached, Inside and Quiet have the words of private functions.
 pub mod Desks
 pub mod Machines
 pub mod States
@@ -9,3 +9,4 @@ pub mod Syncs
 pub mod Came
 pub mod Reached
 pub mod Inside
+pub mod Quiet

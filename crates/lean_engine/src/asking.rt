@@ -1,5 +1,5 @@
 // What a session asks of an engine, whatever it is.
-ghost use Rattle.std.specs.Prelude.{◌≡◌, ◌<◌, ◌≤◌, ◌↔◌, IfSome, leb, length, true};
+ghost use Rattle.std.specs.Prelude.{◌≡◌, ◌<◌, ◌≤◌, ◌↔◌, ◌&&◌, IfSome, leb, length, true};
 ghost use Rattle.map_model.specs.declared.call.Answer.TheVariants as answer;
 ghost use Rattle.map_model.specs.declared.call.Call.TheVariants as calls;
 ghost use Rattle.map_model.specs.declared.call.Refusal.TheVariants as refusal;
@@ -16,6 +16,7 @@ ghost use Rattle.lean_engine.specs.Calls.{AbortsInRuns, Asked, IsTo, MayBe, Went
 ghost use Rattle.lean_engine.specs.Desks.{log_of};
 ghost use Rattle.lean_engine.specs.Inside.{IsEndOf, OnAsked, next_behind, put_ends};
 ghost use Rattle.lean_engine.specs.Machines.{AreLogged, DoesWhere, IsMachine, memory_of};
+ghost use Rattle.lean_engine.specs.Quiet.{AreAsFlushed, is_still};
 ghost use Rattle.lean_engine.specs.Syncs.{HasOpening};
 
 use crate::engine::Engine;
@@ -81,6 +82,17 @@ fn next_behind(works: bool, next: Next, answer: &Answer) -> Next
     }
 }
 
+// Whether none of the ends that wait is ripe behind this call too.
+fn stays_quiet(quiet: bool, call: &Call, is_long: bool) -> bool
+    ensures { result ≡ (quiet && is_still call.now is_long) }
+{
+    match call {
+        Call::Begin => quiet && !is_long,
+        Call::Get { .. } | Call::Put { .. } | Call::Del { .. } => quiet,
+        _ => false,
+    }
+}
+
 impl<D: Stages> Machine<D> {
     // What a session asks, or for 0 nobody does.
     fn ask(&mut self, session: u32, call: &Call, is_long: bool) -> Told
@@ -94,6 +106,7 @@ impl<D: Stages> Machine<D> {
         ensures turn { self.new.store.session.works ≡ true → is_conflict_in result.answer ≡ true → self.new.store.session.own ≡ session }
         ensures session { (self.new.store.session.workers ≡ self.old.store.session.workers) × (self.new.store.session.group ≡ self.old.store.session.group) }
         ensures does { DoesWhere (OnAsked session call.now is_long) self.old.store.session.workers self.old.store.session.group session call.now result.answer self.old.seat.view self.new.seat.view (memory_of (record { session = self.old.store.session; log = self.old.store.log }) self.old.desks.items self.old.master) (memory_of (record { session = self.new.store.session; log = self.new.store.log }) self.new.desks.items self.new.master) (record { session = self.old.store.session; log = self.old.store.log }) self.old.desks.items (record { session = self.new.store.session; log = self.new.store.log }) self.new.desks.items (D.story self.old.store.disk) (D.story self.new.store.disk) }
+        ensures flushed { is_still call.now is_long ≡ true → self.new.store.session.works ≡ true → AreAsFlushed self.old.store.session.workers (log_of (record { session = self.old.store.session; log = self.old.store.log }) self.old.desks.items) (log_of (record { session = self.new.store.session; log = self.new.store.log }) self.new.desks.items) }
         ensures to { IsTo call.now result.answer }
         ensures may { MayBe self.old.store.session.workers result.answer }
         ensures ends { IsEndOf session self.old.seat.view self.new.seat.view result.answer result.receipt }
@@ -142,6 +155,7 @@ impl<D: Stages> Engine<D> {
         let is_long = is_long(&self.unripe, session, call);
         let told = self.machine.ask(session, call, is_long);
         put_end(&mut self.unripe, told);
+        self.quiet = stays_quiet(self.quiet, call, is_long);
         self.next = next_behind(self.machine.store.session.works, self.next, &told.answer);
         told
     }
@@ -161,6 +175,7 @@ impl<D: Stages> Engine<D> {
         group_commit::every_outcome();
         let told = self.machine.abort();
         put_end(&mut self.unripe, told);
+        self.quiet = false;
         self.next = next_behind(self.machine.store.session.works, self.next, &told.answer);
         told.answer
     }

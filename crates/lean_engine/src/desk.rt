@@ -49,16 +49,15 @@ fn from_first<D>(store: &mut Store<D>, desks: &mut Vec<Desk>, session: u32)
     change_places(store, &mut desks[place]);
 }
 
-/// The turn goes to this session. Session 1 stands at the desk of whoever has it.
-pub(crate) fn turn_to<D>(store: &mut Store<D>, desks: &mut Vec<Desk>, session: u32)
+// The turn goes to another session.
+#[inline(never)]
+fn take_turn<D>(store: &mut Store<D>, desks: &mut Vec<Desk>, session: u32)
     requires session { (0 < session) × (session ≤ store.old.session.workers) }
     requires seated { AreSeated (record { session = store.old.session; log = store.old.log }) desks.old.items }
+    requires other { store.old.session.own ≡ session → ⊥ }
     ensures turned { Turned session (record { session = store.old.session; log = store.old.log }) (record { session = store.new.session; log = store.new.log }) desks.old.items desks.new.items }
     ensures disk { store.new.disk ≡ store.old.disk }
 {
-    if store.session.own == session {
-        return;
-    }
     if store.session.own == 1 {
         from_first(store, desks, session);
         return;
@@ -68,4 +67,17 @@ pub(crate) fn turn_to<D>(store: &mut Store<D>, desks: &mut Vec<Desk>, session: u
         return;
     }
     from_first(store, desks, session);
+}
+
+/// The turn goes to this session. Session 1 stands at the desk of whoever has it.
+#[inline(always)]
+pub(crate) fn turn_to<D>(store: &mut Store<D>, desks: &mut Vec<Desk>, session: u32)
+    requires session { (0 < session) × (session ≤ store.old.session.workers) }
+    requires seated { AreSeated (record { session = store.old.session; log = store.old.log }) desks.old.items }
+    ensures turned { Turned session (record { session = store.old.session; log = store.old.log }) (record { session = store.new.session; log = store.new.log }) desks.old.items desks.new.items }
+    ensures disk { store.new.disk ≡ store.old.disk }
+{
+    if store.session.own != session {
+        take_turn(store, desks, session);
+    }
 }

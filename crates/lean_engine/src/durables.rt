@@ -124,7 +124,7 @@ impl<D: Disk> Engine<D> {
     {
         group_commit::every_take();
         // So it is behind most lines.
-        if self.unripe.is_empty() {
+        if self.quiet {
             self.next = behind(self.next);
             return None;
         }
@@ -138,6 +138,7 @@ impl<D: Disk> Engine<D> {
                 number: receipt.txn,
             }),
             None => {
+                self.quiet = true;
                 self.next = behind(self.next);
                 None
             }

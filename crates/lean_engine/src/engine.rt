@@ -17,14 +17,17 @@ use std::alloc::Global;
 use std::marker::{Brand, Model};
 
 /// An engine of several sessions over the pages of a disk, each in a frame, which it owns: what works on rows and disk, the ends that wait, and what may be asked
-/// next.
+/// next; and whether none of these ends is known to be ripe, so that no durable line is looked for.
 pub struct Engine<D> {
     pub(crate) machine: Machine<D>,
     pub(crate) unripe: Unripe,
     pub(crate) next: Next,
+    pub(crate) quiet: bool,
 }
 
 impl<D> Model for Engine<D> {
+    ghost use Rattle.lean_engine.specs.Desks.{log_of};
+    ghost use Rattle.lean_engine.specs.Quiet.{IsQuiet};
     ghost use Rattle.lean_engine.specs.States.{IsEngine, State};
 
     ghost Value = { State D };
@@ -55,7 +58,8 @@ impl<D> Model for Engine<D> {
       turn = e.machine.store.session.own;
       group = e.machine.store.session.group;
       ends = e.unripe;
-    }) (record { session = e.machine.store.session; log = e.machine.store.log }) e.machine.desks.items e.machine.latches };
+    }) (record { session = e.machine.store.session; log = e.machine.store.log }) e.machine.desks.items e.machine.latches
+        × IsQuiet e.quiet e.machine.store.session.works e.machine.store.session.workers (log_of (record { session = e.machine.store.session; log = e.machine.store.log }) e.machine.desks.items) e.unripe };
 }
 
 /// An engine, and what its first line tells of the opening.
@@ -131,6 +135,7 @@ impl<D: Disk> Engine<D> {
                 },
                 unripe,
                 next: Next::Line,
+                quiet: false,
             },
             generation,
             winners,
@@ -146,6 +151,7 @@ impl<D: Disk> Engine<D> {
             machine,
             unripe: _,
             next: _,
+            quiet: _,
         } = self;
         let Machine {
             rows: _,

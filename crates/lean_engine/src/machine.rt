@@ -1,5 +1,5 @@
 // What works on rows and disk: the calls of the session whose turn it is.
-ghost use Rattle.std.specs.Prelude.{◌≡◌, ◌↔◌, ◌≤◌, ◌<◌, None, true, false, replicate};
+ghost use Rattle.std.specs.Prelude.{◌≡◌, ◌↔◌, ◌≤◌, ◌<◌, Bool, None, true, false, replicate};
 ghost use Rattle.map_model.specs.declared.call.Answer.TheVariants as answer;
 ghost use Rattle.map_model.specs.declared.call.Refusal.TheVariants as refusal;
 ghost use Rattle.map_model.specs.declared.call.Call.{Call};
@@ -12,10 +12,11 @@ ghost use Rattle.row_engine.specs.Calls.{AbortDoes, CallDoes, abort_answer, comm
 ghost use Rattle.row_engine.specs.Holds.{Holds};
 ghost use Rattle.row_engine.specs.Opened.{plain_shape};
 ghost use Rattle.lean_engine.specs.Calls.{IsTo, MayBe};
-ghost use Rattle.lean_engine.specs.Desks.{Turned};
+ghost use Rattle.lean_engine.specs.Desks.{Turned, log_of};
 ghost use Rattle.lean_engine.specs.Came.{Came, receipt_in};
 ghost use Rattle.lean_engine.specs.Inside.{IsEndOf, IsRowCall};
 ghost use Rattle.lean_engine.specs.Machines.{DoesWhere, IsDue, IsMachine, OnLine, memory_of};
+ghost use Rattle.lean_engine.specs.Quiet.{AreAsFlushed, is_still};
 
 use crate::desk::{Desk, turn_to};
 use disk_slots::Master;
@@ -137,6 +138,7 @@ pub(crate) fn keep_sizes(session: &mut Session, workers: u32, group: u32)
 
 impl<D: Stages> Machine<D> {
     /// The turn goes to this session.
+    #[inline(always)]
     pub(crate) fn turn_to(&mut self, session: u32)
         requires session { (0 < session) × (session ≤ self.old.store.session.workers) }
         requires machine { IsMachine self.old.rows.frames self.old.rows.locks self.old.rows.workers self.old.rows.words.items self.old.seat.view (record { session = self.old.store.session; log = self.old.store.log }) self.old.desks.items self.old.latches self.old.master }
@@ -159,6 +161,7 @@ impl<D: Stages> Machine<D> {
         ensures fits { IsPicture (plan (sizes self.new.rows.frames self.new.rows.locks self.new.rows.workers) self.new.seat.view.given) self.new.rows.words.items self.new.seat.view }
         ensures shape { plain_shape self.new.rows.frames self.new.rows.locks self.new.rows.workers ≡ plain_shape self.old.rows.frames self.old.rows.locks self.old.rows.workers }
         ensures same { (self.new.desks ≡ self.old.desks) × (self.new.master ≡ self.old.master) }
+        ensures flushed { self.new.store.session.works ≡ true → self.new.store.log.flushed ≡ self.old.store.log.flushed }
         ensures came { Came (CallDoes self.old.store.session.own self.old.store.session.group (call.Get key) result.answer self.old.store.session.half self.new.store.session.half self.old.seat.view self.new.seat.view self.old.store.log self.new.store.log (D.story self.old.store.disk) (D.story self.new.store.disk)) self.old.store.session.workers (call.Get key) result.answer result.receipt (plain_shape self.new.rows.frames self.new.rows.locks self.new.rows.workers) self.old.seat.view self.new.seat.view (record { session = self.old.store.session; log = self.old.store.log }) (record { session = self.new.store.session; log = self.new.store.log }) self.old.latches self.new.latches (D.faults self.old.store.disk) (D.faults self.new.store.disk) }
     {
         value_told(row_engine::get(&mut self.rows, &mut self.seat, &mut self.store, key))
@@ -176,6 +179,7 @@ impl<D: Stages> Machine<D> {
         ensures fits { IsPicture (plan (sizes self.new.rows.frames self.new.rows.locks self.new.rows.workers) self.new.seat.view.given) self.new.rows.words.items self.new.seat.view }
         ensures shape { plain_shape self.new.rows.frames self.new.rows.locks self.new.rows.workers ≡ plain_shape self.old.rows.frames self.old.rows.locks self.old.rows.workers }
         ensures same { (self.new.desks ≡ self.old.desks) × (self.new.master ≡ self.old.master) }
+        ensures flushed { self.new.store.session.works ≡ true → self.new.store.log.flushed ≡ self.old.store.log.flushed }
         ensures came { Came (CallDoes self.old.store.session.own self.old.store.session.group (call.Put key value) result.answer self.old.store.session.half self.new.store.session.half self.old.seat.view self.new.seat.view self.old.store.log self.new.store.log (D.story self.old.store.disk) (D.story self.new.store.disk)) self.old.store.session.workers (call.Put key value) result.answer result.receipt (plain_shape self.new.rows.frames self.new.rows.locks self.new.rows.workers) self.old.seat.view self.new.seat.view (record { session = self.old.store.session; log = self.old.store.log }) (record { session = self.new.store.session; log = self.new.store.log }) self.old.latches self.new.latches (D.faults self.old.store.disk) (D.faults self.new.store.disk) }
     {
         put_told(row_engine::put(&mut self.rows, &mut self.seat, &mut self.store, key, value))
@@ -192,6 +196,7 @@ impl<D: Stages> Machine<D> {
         ensures fits { IsPicture (plan (sizes self.new.rows.frames self.new.rows.locks self.new.rows.workers) self.new.seat.view.given) self.new.rows.words.items self.new.seat.view }
         ensures shape { plain_shape self.new.rows.frames self.new.rows.locks self.new.rows.workers ≡ plain_shape self.old.rows.frames self.old.rows.locks self.old.rows.workers }
         ensures same { (self.new.desks ≡ self.old.desks) × (self.new.master ≡ self.old.master) }
+        ensures flushed { self.new.store.session.works ≡ true → self.new.store.log.flushed ≡ self.old.store.log.flushed }
         ensures came { Came (CallDoes self.old.store.session.own self.old.store.session.group (call.Del key) result.answer self.old.store.session.half self.new.store.session.half self.old.seat.view self.new.seat.view self.old.store.log self.new.store.log (D.story self.old.store.disk) (D.story self.new.store.disk)) self.old.store.session.workers (call.Del key) result.answer result.receipt (plain_shape self.new.rows.frames self.new.rows.locks self.new.rows.workers) self.old.seat.view self.new.seat.view (record { session = self.old.store.session; log = self.old.store.log }) (record { session = self.new.store.session; log = self.new.store.log }) self.old.latches self.new.latches (D.faults self.old.store.disk) (D.faults self.new.store.disk) }
     {
         del_told(row_engine::del(&mut self.rows, &mut self.seat, &mut self.store, key))
@@ -255,6 +260,7 @@ impl<D: Stages> Machine<D> {
         ensures fits { IsPicture (plan (sizes self.new.rows.frames self.new.rows.locks self.new.rows.workers) self.new.seat.view.given) self.new.rows.words.items self.new.seat.view }
         ensures shape { plain_shape self.new.rows.frames self.new.rows.locks self.new.rows.workers ≡ plain_shape self.old.rows.frames self.old.rows.locks self.old.rows.workers }
         ensures same { (self.new.desks ≡ self.old.desks) × (self.new.master ≡ self.old.master) }
+        ensures flushed { (is_long : Bool) → is_still call.now is_long ≡ true → self.new.store.session.works ≡ true → self.new.store.log.flushed ≡ self.old.store.log.flushed }
         ensures came { Came (CallDoes self.old.store.session.own self.old.store.session.group call.now result.answer self.old.store.session.half self.new.store.session.half self.old.seat.view self.new.seat.view self.old.store.log self.new.store.log (D.story self.old.store.disk) (D.story self.new.store.disk)) self.old.store.session.workers call.now result.answer result.receipt (plain_shape self.new.rows.frames self.new.rows.locks self.new.rows.workers) self.old.seat.view self.new.seat.view (record { session = self.old.store.session; log = self.old.store.log }) (record { session = self.new.store.session; log = self.new.store.log }) self.old.latches self.new.latches (D.faults self.old.store.disk) (D.faults self.new.store.disk) }
     {
         match *call {
@@ -274,6 +280,7 @@ impl<D: Stages> Machine<D> {
         ensures machine { self.new.store.session.works ≡ true → IsMachine self.new.rows.frames self.new.rows.locks self.new.rows.workers self.new.rows.words.items self.new.seat.view (record { session = self.new.store.session; log = self.new.store.log }) self.new.desks.items self.new.latches self.new.master }
         ensures session { (self.new.store.session.works ≡ true → self.new.store.session.own ≡ self.old.store.session.own) × (self.new.store.session.workers ≡ self.old.store.session.workers) × (self.new.store.session.group ≡ self.old.store.session.group) }
         ensures does { DoesWhere OnLine self.old.store.session.workers self.old.store.session.group self.old.store.session.own call.now result.answer self.old.seat.view self.new.seat.view (memory_of (record { session = self.old.store.session; log = self.old.store.log }) self.old.desks.items self.old.master) (memory_of (record { session = self.new.store.session; log = self.new.store.log }) self.new.desks.items self.new.master) (record { session = self.old.store.session; log = self.old.store.log }) self.old.desks.items (record { session = self.new.store.session; log = self.new.store.log }) self.new.desks.items (D.story self.old.store.disk) (D.story self.new.store.disk) }
+        ensures flushed { (is_long : Bool) → is_still call.now is_long ≡ true → self.new.store.session.works ≡ true → AreAsFlushed self.old.store.session.workers (log_of (record { session = self.old.store.session; log = self.old.store.log }) self.old.desks.items) (log_of (record { session = self.new.store.session; log = self.new.store.log }) self.new.desks.items) }
         ensures to { IsTo call.now result.answer }
         ensures may { MayBe self.old.store.session.workers result.answer }
         ensures ends { IsEndOf self.old.store.session.own self.old.seat.view self.new.seat.view result.answer result.receipt }

@@ -10,6 +10,7 @@ ghost use Rattle.lean_engine.specs.Calls.{IsTo, MayBe};
 ghost use Rattle.lean_engine.specs.Inside.{sync_answer};
 ghost use Rattle.lean_engine.specs.Desks.{desk_of, log_of};
 ghost use Rattle.lean_engine.specs.Machines.{AreLogged, DoesWhere, IsMachine, OnBegin, OnLine, memory_of};
+ghost use Rattle.lean_engine.specs.Quiet.{AreAsFlushed};
 ghost use Rattle.lean_engine.specs.Syncs.{AllFlushed, AreRaised, AreRaisedTo, AreStill, AreSynced, AreWhole, FlushFails, Flushed, FlushedOne, HasOpening, IsWriting, IsWritten, SyncFails, SyncMade, greatest, has_half, is_half_desk, next_with};
 ghost use Rattle.map_model.specs.Lists.{any};
 ghost use Rattle.engine_trait.specs.Turns.{is_conflict_in};
@@ -303,6 +304,7 @@ impl<D: Stages> Machine<D> {
         ensures machine { self.new.store.session.works ≡ true → IsMachine self.new.rows.frames self.new.rows.locks self.new.rows.workers self.new.rows.words.items self.new.seat.view (record { session = self.new.store.session; log = self.new.store.log }) self.new.desks.items self.new.latches self.new.master }
         ensures session { (self.new.store.session.works ≡ true → self.new.store.session.own ≡ self.old.store.session.own) × (self.new.store.session.workers ≡ self.old.store.session.workers) × (self.new.store.session.group ≡ self.old.store.session.group) }
         ensures does { DoesWhere (OnBegin self.old.store.session.own is_long) self.old.store.session.workers self.old.store.session.group self.old.store.session.own call.Begin result self.old.seat.view self.new.seat.view (memory_of (record { session = self.old.store.session; log = self.old.store.log }) self.old.desks.items self.old.master) (memory_of (record { session = self.new.store.session; log = self.new.store.log }) self.new.desks.items self.new.master) (record { session = self.old.store.session; log = self.old.store.log }) self.old.desks.items (record { session = self.new.store.session; log = self.new.store.log }) self.new.desks.items (D.story self.old.store.disk) (D.story self.new.store.disk) }
+        ensures flushed { self.new.store.session.works ≡ true → AreAsFlushed self.old.store.session.workers (log_of (record { session = self.old.store.session; log = self.old.store.log }) self.old.desks.items) (log_of (record { session = self.new.store.session; log = self.new.store.log }) self.new.desks.items) }
         ensures to { IsTo call.Begin result }
         ensures may { MayBe 1 result }
         ensures works { (self.new.store.session.works ≡ true) ↔ (result ≡ answer.Refused refusal.DiskFault → ⊥) }
@@ -370,6 +372,7 @@ impl<D: Stages> Machine<D> {
         ensures machine { self.new.store.session.works ≡ true → IsMachine self.new.rows.frames self.new.rows.locks self.new.rows.workers self.new.rows.words.items self.new.seat.view (record { session = self.new.store.session; log = self.new.store.log }) self.new.desks.items self.new.latches self.new.master }
         ensures session { (self.new.store.session.works ≡ true → self.new.store.session.own ≡ self.old.store.session.own) × (self.new.store.session.workers ≡ self.old.store.session.workers) × (self.new.store.session.group ≡ self.old.store.session.group) }
         ensures does { DoesWhere (OnBegin self.old.store.session.own is_long) self.old.store.session.workers self.old.store.session.group self.old.store.session.own call.Begin result self.old.seat.view self.new.seat.view (memory_of (record { session = self.old.store.session; log = self.old.store.log }) self.old.desks.items self.old.master) (memory_of (record { session = self.new.store.session; log = self.new.store.log }) self.new.desks.items self.new.master) (record { session = self.old.store.session; log = self.old.store.log }) self.old.desks.items (record { session = self.new.store.session; log = self.new.store.log }) self.new.desks.items (D.story self.old.store.disk) (D.story self.new.store.disk) }
+        ensures flushed { is_long ≡ false → self.new.store.session.works ≡ true → AreAsFlushed self.old.store.session.workers (log_of (record { session = self.old.store.session; log = self.old.store.log }) self.old.desks.items) (log_of (record { session = self.new.store.session; log = self.new.store.log }) self.new.desks.items) }
         ensures to { IsTo call.Begin result }
         ensures may { MayBe 1 result }
         ensures works { (self.new.store.session.works ≡ true) ↔ (result ≡ answer.Refused refusal.DiskFault → ⊥) }

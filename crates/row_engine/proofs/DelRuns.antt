@@ -1,5 +1,5 @@
 -- A del in a run.
-use Rattle.std.proofs.Common.{◌≡◌, ◌⊎◌, inl, inr, ◌≤◌, ◌<◌, ◌^◌, ◌%◌, ◌&&◌, ◌++◌, ℕ, suc, Bool, true, false, cond, leb, List, [], ◌∷◌, length, Option, Some, None, Result, Ok, Err, IfErr, IsErrAnd, refl, sym, ap, ◌∙◌, subst, arith}
+use Rattle.std.proofs.Common.{◌≡◌, ◌⊎◌, inl, inr, ◌≤◌, ◌<◌, ◌^◌, ◌%◌, ◌&&◌, ◌++◌, ℕ, suc, Bool, true, false, cond, leb, List, [], ◌∷◌, length, Option, Some, None, Result, Ok, Err, IfErr, IsErrAnd, refl, sym, ap, ◌∙◌, subst, arith, true≢false}
 use Rattle.std.proofs.lemmas.Bool.{le-leb, leb-true, lt-leb}
 use Rattle.std.proofs.lemmas.List.{append_assoc, length-append}
 use Rattle.map_model.specs.declared.call.Answer.{Answer}
@@ -73,6 +73,7 @@ use Rattle.row_engine.proofs.GrowRuns.{goes_none, goes_put, grows_none, record_i
 use Rattle.row_engine.proofs.PutTests.{free_of, gate, gate_more, gate_none, gate_of, logs_lock, none_is, put_told, room_lock, some_is, steps_lock, test_is}
 use Rattle.row_engine.proofs.Refusing as refusing
 use Rattle.row_engine.proofs.Refusing.{hindered_behind, key_free, key_hindered, refusal_comes, spent_behind, spent_end, taken_behind}
+use Rattle.row_engine.proofs.StageLemmas.{staged_flushed}
 use Rattle.row_engine.proofs.TakeLemmas.{row_is}
 use Rattle.row_engine.proofs.UndoLemmas.{many_of}
 
@@ -100,6 +101,14 @@ del_framed (Ok None) own v w key was is old new same same_disk f k d = subst (λ
 del_framed (Err refusal.RowSpent) own v w key was is old new same same_disk f k d = subst (λ s. Framed (suc own) old s) (sym (f d.1)) (framed (suc own) old)
 del_framed (Err refusal.DiskFault) own v w key was is old new same same_disk f k d = d.frame
 del_framed (Err _) own v w key was is old new same same_disk f k d = absurd d
+
+-- nothing was flushed
+pub dels_flushed : (r : Result (Option ℕ) Refusal) (own : ℕ) (v w : View) (key : ℕ) (was is : Log) (old new : Story) (same same_disk : Type 0) → (same → is ≡ was) → Dels r own v w key was is old new same same_disk → works_after r ≡ true → is.flushed ≡ was.flushed
+dels_flushed (Ok (Some before)) own v w key was is old new same same_disk f d works = staged_flushed d.entry was is d.after
+dels_flushed (Ok None) own v w key was is old new same same_disk f d works = ap (λ (l : Log). l.flushed) d.1
+dels_flushed (Err refusal.RowSpent) own v w key was is old new same same_disk f d works = ap (λ (l : Log). l.flushed) (f d.1)
+dels_flushed (Err refusal.DiskFault) own v w key was is old new same same_disk f d works = absurd (true≢false (sym works))
+dels_flushed (Err _) own v w key was is old new same same_disk f d works = absurd d
 
 -- ## The row brought the clock to its end
 

@@ -59,6 +59,7 @@ use Rattle.row_engine.proofs.Frames.{framed_then, within_of, within_then}
 use Rattle.row_engine.proofs.Moments.{events_more}
 use Rattle.row_engine.proofs.OtherLemmas.{every_steps}
 use Rattle.row_engine.proofs.OwnSteps.{grown_steps, no_steps}
+use Rattle.row_engine.proofs.StageLemmas.{staged_flushed}
 
 -- ## Changes of the tree
 
@@ -328,6 +329,7 @@ module _ (reached : EveryReached) (need : EveryNeed) (parts : (old mid new : Sto
     steps = no_steps x.own v w given seen;
     session = refl;
     fewer = omega arith;
+    flushed = refl;
     fits = inl refl;
     run = λ g xs start b. record {
       behind = subst (λ es. Behind g xs es w) (sym (append-nil start)) (record { opens = subst (λ q. Opens g q) (sym given) b.opens; met = b.met; seen = (λ i. events_of (given i).before ++ events_of (seen i)) ∙ b.seen });
@@ -349,6 +351,7 @@ module _ (reached : EveryReached) (need : EveryNeed) (parts : (old mid new : Sto
     steps = every_steps x.own v u w d.steps (subst (λ n. Steps n u w) (ap (λ (q : Session). q.own) d.session) (grown_steps key u w z y mid is s new c));
     session = c.session ∙ ap (λ (q : Session). record q { clock = y.clock; debt = y.debt; free = y.free }) d.session;
     fewer = let a = d.fewer in let b = c.fewer in let l = length-append d.events (c.event ∷ []) in omega arith;
+    flushed = staged_flushed c.entry mid is c.after ∙ d.flushed;
     fits = inr (first_fits key v u x z was mid d c.fits);
     run = λ g xs start b. subst (λ es. Gained x.own g xs start key w es was is) (sym (events_more d.events (c.event ∷ [])))
         (gained_more x.own g low (let a = b.opens.workers in omega arith) xs start key u w (events_of d.events) z y was mid is s new (d.run g xs start b) c (ap (λ (q : Session). q.own) d.session));
@@ -422,6 +425,7 @@ module _ (reached : EveryReached) (need : EveryNeed) (parts : (old mid new : Sto
     steps = every_steps x.own v u w d.steps (no_steps x.own u w given seen);
     session = d.session;
     fewer = d.fewer;
+    flushed = d.flushed;
     fits = d.fits;
     run = λ g xs start b. let q = d.run g xs start b in record {
       behind = record { opens = subst (λ r. Opens g r) (sym given) q.behind.opens; met = q.behind.met; seen = (λ i. events_of (given i).before ++ events_of (seen i)) ∙ q.behind.seen };

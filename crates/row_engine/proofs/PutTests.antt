@@ -42,12 +42,13 @@ use Rattle.engine_trait.specs.Calls.{MayCome}
 use Rattle.row_engine.specs.Inside.{is_going, put_test}
 use Rattle.row_engine.specs.Grown.{AreAside, Behind, is_aside}
 use Rattle.row_engine.specs.Outcomes.{Puts}
-use Rattle.row_engine.specs.Puts.{IsEarly, MayChange}
+use Rattle.row_engine.specs.Puts.{IsEarly, MayChange, works_after}
 use Rattle.row_engine.specs.Takes.{NotTaken, Takes}
 use Rattle.row_engine.specs.declared.session.Session.{Session}
 use Rattle.row_engine.proofs.ConflictLemmas.{lock_free}
 use Rattle.row_engine.proofs.GoingLemmas.{going}
 use Rattle.row_engine.proofs.GrowthLemmas.{touched}
+use Rattle.row_engine.proofs.StageLemmas.{staged_flushed}
 use Rattle.row_engine.proofs.StepLemmas.{ready}
 use Rattle.row_engine.proofs.TakeLemmas.{with_count}
 
@@ -223,6 +224,17 @@ put_framed (Err refusal.ClockSpent) v w key value x y was is old new p = p.room.
 put_framed (Err refusal.RowSpent) v w key value x y was is old new p = p.room.frame
 put_framed (Err refusal.DiskFault) v w key value x y was is old new p = p.frame
 put_framed (Err _) v w key value x y was is old new p = absurd p
+
+-- nothing was flushed
+pub puts_flushed : (r : Result (Option ℕ) Refusal) (v w : View) (key value : ℕ) (x y : Session) (was is : Log) (old new : Story) → Puts r v w key value x y was is old new → works_after r ≡ true → is.flushed ≡ was.flushed
+puts_flushed (Ok before) v w key value x y was is old new p works = staged_flushed p.entry p.log is p.after ∙ p.grows.flushed
+puts_flushed (Err refusal.TooTall) v w key value x y was is old new p works = p.room.grows.flushed
+puts_flushed (Err refusal.NoPages) v w key value x y was is old new p works = p.room.grows.flushed
+puts_flushed (Err (refusal.LogFull i m)) v w key value x y was is old new p works = p.room.grows.flushed
+puts_flushed (Err refusal.ClockSpent) v w key value x y was is old new p works = p.room.grows.flushed
+puts_flushed (Err refusal.RowSpent) v w key value x y was is old new p works = p.room.grows.flushed
+puts_flushed (Err refusal.DiskFault) v w key value x y was is old new p works = absurd (true≢false (sym works))
+puts_flushed (Err _) v w key value x y was is old new p works = absurd p
 
 -- ## The leaf of a key
 

@@ -1,8 +1,11 @@
 -- What staging is to a session whose clock alone has changed before it.
-use Rattle.std.proofs.Common.{◌≡◌, ◌≤◌, ℕ, Bool, true, false, List, Result, refl, sym, ◌∙◌, subst}
+use Rattle.std.proofs.Common.{◌≡◌, inl, inr, ◌≤◌, ◌+◌, ℕ, Bool, true, false, List, [], ◌∷◌, length, Result, refl, sym, ap, ◌∙◌, subst, arith}
+use Rattle.std.proofs.lemmas.Bool.{cases_lt}
 use Rattle.draw_trait.specs.declared.draw.Unstaged.{Unstaged}
 use Rattle.lean_disk.specs.Story.{Story}
 use Rattle.log_record.specs.declared.record.Record.{Record}
+use Rattle.log_block.specs.Block.{records_text}
+use Rattle.worker_log.specs.Calls.{After, HasRoom}
 use Rattle.worker_log.specs.Causes.{IsFull}
 use Rattle.worker_log.specs.Logs.{Log, used}
 use Rattle.row_engine.specs.Staging.{IsButClock, IsFullFor, Staging, touched_session}
@@ -18,6 +21,13 @@ full_as false log back full = full
 -- a session that met a stamp
 pub but_clock : (x y : Session) (number log : ℕ) → y ≡ touched_session x number log → IsButClock x y
 but_clock x y number log e = e ∙ (λ i. record x { clock = (sym e i).clock; debt = (sym e i).debt })
+
+-- a record flushes nothing
+pub staged_flushed : (r : Record) (was is : Log) → After r was is → is.flushed ≡ was.flushed
+staged_flushed r was is a = elim (cases_lt 2000 (length was.payload + length (records_text (r ∷ [])))) [
+  | inl over ↦ ap (λ (l : Log). l.flushed) (a.full (λ (fits : HasRoom was r). absurd (omega arith)))
+  | inr fits ↦ ap (λ (l : Log). l.flushed) (a.room fits)
+]
 
 -- what came of a record is told of the session as it was
 pub stages_from : (r : Result (Unit {0}) Unstaged) (x y z : Session) (before now : List Record) (was is : Log) (old new : Story) (S : Type 0) (f0 f1 : ℕ) → IsButClock x y → Staging r y z before now was is old new S f0 f1 → Staging r x z before now was is old new S f0 f1

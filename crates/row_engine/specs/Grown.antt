@@ -70,6 +70,7 @@ pub record Grows (key : ℕ) (v w : View) (x y : Session) (was is : Log) : Type 
   pub steps : Steps x.own v w
   pub session : y ≡ record x { clock = y.clock; debt = y.debt; free = y.free }
   pub fewer : length events + length y.free ≡ length x.free
+  pub flushed : is.flushed ≡ was.flushed
   -- where there were any, there was a way to room at first
   pub fits : (events ≡ []) ⊎ (room_refusal (opening v.given) (state v).core key ≡ None)
   pub run : (g : Opening) (xs : List Done) (start : List happening.Event) → Behind g xs start v → Gained x.own g xs start key w (events_of events) was is

@@ -199,6 +199,8 @@ pub fn put<R: Rows, D: Stages>(
     ensures works { store.new.session.works ≡ works_after result }
     // Which refusals a script is told.
     ensures told { IfErr result (λ why. MayCome store.old.session.workers why ⊎ ((why ≡ Refusal.Broken) ⊎ (why ≡ Refusal.DiskFault))) }
+    // No log is flushed.
+    ensures flushed { store.new.session.works ≡ true → store.new.log.flushed ≡ store.old.log.flushed }
     // It stays within the area of its log.
     ensures frame { Framed (suc store.old.session.own) (D.story store.old.disk) (D.story store.new.disk) }
     ensures same { IsErrAnd result IsEarly → (R.view seat.new ≡ R.view seat.old) × (store.new ≡ store.old) }

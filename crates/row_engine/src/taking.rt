@@ -7,36 +7,37 @@ ghost use Rattle.row_engine.specs.Holds.{Holds};
 ghost use Rattle.row_engine.specs.Takes.{IsSpent, NotTaken, Takes};
 
 use crate::session::Session;
-use key_locks::locking::{Refusal as Unlocked, RowSpent, lock, lock_again};
+use key_locks::locking::{Refusal as Unlocked, RowSpent, lock_again, lock_row, row_of};
 use key_locks::mode::Mode;
 use map_model::Refusal;
 use rows_trait::rows::Rows;
 use worker_log::WorkerLog;
 
-// Takes the lock row of a key, whether the session has it already or not, and meets what the row tells.
+// Takes a lock row, whether the session has it already or not, and meets what the row tells.
 fn take_first<R: Rows>(
     rows: &mut R,
     seat: &mut R::Seat,
     session: &mut Session,
     log: &WorkerLog,
-    key: u64,
+    row: u32,
     mode: Mode,
 ) -> Result<(), Refusal>
     requires fits { R.fits rows.old seat.old }
     requires holds { Holds (R.shape rows.old) (R.view seat.old) session.old log.now }
     requires open_is { session.old.is_open ≡ true }
+    requires row { row < session.old.held.count }
     ensures fits { R.fits rows.new seat.new × (R.shape rows.new ≡ R.shape rows.old) }
     ensures holds { Holds (R.shape rows.new) (R.view seat.new) session.new log.now }
-    ensures taken { OnOk result (Takes (R.view seat.old) (R.view seat.new) session.old session.new (key % session.old.held.count) mode) }
-    ensures not_taken { IfErr result (λ why. NotTaken why (R.view seat.old) (R.view seat.new) session.old.own (key % session.old.held.count) mode × (session.new ≡ session.old)) }
+    ensures taken { OnOk result (Takes (R.view seat.old) (R.view seat.new) session.old session.new row mode) }
+    ensures not_taken { IfErr result (λ why. NotTaken why (R.view seat.old) (R.view seat.new) session.old.own row mode × (session.new ≡ session.old)) }
 {
     rows_trait::every_low();
     let count = session.held.count();
-    match lock(rows, seat, session.own, session.frames, count, key, mode) {
+    match lock_row(rows, seat, session.own, session.frames, count, row, mode) {
         Ok(stamp) => {
             session.touch(stamp.number, stamp.log);
             session.raise(stamp.readers);
-            session.held.take((key % count as u64) as u32);
+            session.held.take(row);
             session.held.few();
             Ok(())
         }
@@ -90,21 +91,6 @@ fn take_again<R: Rows>(
     }
 }
 
-// How many lock rows the program has.
-const USUAL: u32 = 256;
-
-// The lock row of a key. Where the count is the usual one nothing is divided.
-#[inline(always)]
-fn row_of(key: u64, count: u32) -> u32
-    requires { 0 < count }
-    ensures { result ≡ key % count }
-{
-    if count == USUAL {
-        return (key % u64::from(USUAL)) as u32;
-    }
-    (key % u64::from(count)) as u32
-}
-
 /// Takes the lock row of a key for the session, which meets what the row tells: its last end, and those of its readers. It is refused where
 /// another session stands in the way, or the row is spent.
 #[inline(always)]
@@ -131,6 +117,6 @@ pub(crate) fn take_row<R: Rows>(
         Mode::Shared if session.workers == 1 && session.held.has(row) => {
             take_again(rows, seat, session, log, row)
         }
-        _ => take_first(rows, seat, session, log, key, mode),
+        _ => take_first(rows, seat, session, log, row, mode),
     }
 }

@@ -5,7 +5,7 @@ use Rattle.lean_disk.specs.Moments.{Framed}
 use Rattle.key_locks.specs.declared.mode.Mode.TheVariants.{Alone}
 use Rattle.engine_calls.proofs.PartLemmas.{every_part}
 use Rattle.row_engine.proofs.DelLemmas.{same_by_row, same_then}
-use Rattle.row_engine.proofs.DelRuns.{del_did, del_framed, del_never_early, dels_told, not_deleted, row_refused, row_stopped, stopped_late}
+use Rattle.row_engine.proofs.DelRuns.{del_did, del_framed, del_never_early, dels_flushed, dels_told, not_deleted, row_refused, row_stopped, stopped_late}
 use Rattle.row_engine.proofs.PutTests.{may_taken, met_comes, none_is, not_taken_comes, put_comes, some_is, works_of}
 use Rattle.row_engine.proofs.StepLemmas.{ready, stopped_works}
 use Rattle.row_engine.proofs.OwnSteps.{no_steps, del_steps, taken_then, takes_steps, untaken_steps}
@@ -120,3 +120,8 @@ returns-clause-steps g c works still =
     taken_then (g.R.Rows.view c.args.seat.now) w (g.R.Rows.view c.del_held.new.seat) c.args.store.now.session c.take_row.new.session _ Alone c.in_default-take_row.ensures.taken
     (del_steps c.del_held.result c.take_row.new.session.own w (g.R.Rows.view c.del_held.new.seat) c.args.key c.args.store.now.log c.del_held.new.store.log
     (g.D.Disk.story c.args.store.now.disk) (g.D.Disk.story c.del_held.new.store.disk) _ _ c.del_held.ensures.dels (sym c.del_held.ensures.works ∙ still))
+
+pub returns-clause-flushed : goal.returns-clause-flushed
+returns-clause-flushed g c works =
+    dels_flushed c.del_held.result c.take_row.new.session.own (g.R.Rows.view c.take_row.new.seat) (g.R.Rows.view c.del_held.new.seat) c.args.key c.args.store.now.log c.del_held.new.store.log
+    (g.D.Disk.story c.args.store.now.disk) (g.D.Disk.story c.del_held.new.store.disk) _ _ (λ e. ap (λ k. k.log) e) c.del_held.ensures.dels (sym c.del_held.ensures.works ∙ works)

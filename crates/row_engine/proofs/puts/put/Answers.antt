@@ -5,7 +5,7 @@ use Rattle.std.proofs.Common.{ℕ, Option, Err, suc, ap, inl, refl, sym, ◌∙�
 use Rattle.engine_calls.proofs.PartLemmas.{every_part}
 use Rattle.lean_disk.specs.Moments.{Framed}
 use Rattle.row_engine.proofs.PutRuns.{met_put, not_put, not_taken, tried_put}
-use Rattle.row_engine.proofs.PutTests.{may_taken, met_comes, met_late, never_early, none_is, not_taken_comes, put_comes, put_framed, puts_told, some_is, works_of}
+use Rattle.row_engine.proofs.PutTests.{may_taken, met_comes, met_late, never_early, none_is, not_taken_comes, put_comes, put_framed, puts_flushed, puts_told, some_is, works_of}
 use Rattle.row_engine.proofs.StepLemmas.{stopped_works}
 use Rattle.row_engine.proofs.OwnSteps.{no_steps, put_steps, taken_then, takes_steps, untaken_steps}
 use Rattle.row_engine.proofs.puts.put.Goals as goal
@@ -123,3 +123,8 @@ returns-clause-steps g c works still =
     taken_then (g.R.Rows.view c.args.seat.now) w (g.R.Rows.view c.put_held.new.seat) c.args.store.now.session c.take_row.new.session _ Alone c.in_default-take_row.ensures.taken
     (put_steps c.put_held.result w (g.R.Rows.view c.put_held.new.seat) c.args.key c.args.value c.take_row.new.session c.put_held.new.store.session c.args.store.now.log c.put_held.new.store.log
     (g.D.Disk.story c.args.store.now.disk) (g.D.Disk.story c.put_held.new.store.disk) c.put_held.ensures.puts (sym c.put_held.ensures.works ∙ still))
+
+pub returns-clause-flushed : goal.returns-clause-flushed
+returns-clause-flushed g c works =
+    puts_flushed c.put_held.result (g.R.Rows.view c.take_row.new.seat) (g.R.Rows.view c.put_held.new.seat) c.args.key c.args.value c.take_row.new.session c.put_held.new.store.session c.args.store.now.log c.put_held.new.store.log
+    (g.D.Disk.story c.args.store.now.disk) (g.D.Disk.story c.put_held.new.store.disk) c.put_held.ensures.puts (sym c.put_held.ensures.works ∙ works)

@@ -1,4 +1,4 @@
-use Rattle.std.proofs.Common.{◌≡◌, ◌<◌, ◌≤◌, ◌-◌, ℕ, false}
+use Rattle.std.proofs.Common.{◌≡◌, ◌<◌, ◌≤◌, ℕ, false}
 use Rattle.group_commit.specs.Queues.{begins_ripe, queue_of}
 use Rattle.group_commit.specs.Ripeness.{flushed_of}
 use Rattle.group_commit.proofs.unripe.Unripe.is_calm.Given as goal

@@ -7,12 +7,14 @@ use Rattle.lean_disk.specs.Story.{Story}
 use Rattle.row_engine.specs.Calls.{begin_answer}
 use Rattle.row_engine.specs.Opened.{plain_shape}
 use Rattle.row_words.specs.Openings.{opening}
+use Rattle.worker_log.specs.Logs.{Log}
 use Rattle.rows_trait.specs.Views.{state}
 use Rattle.lean_engine.specs.Machines.{DoesWhere, OnBegin, memory_of}
 use Rattle.lean_engine.specs.declared.desk.Desk.{Desk}
 use Rattle.lean_engine.proofs.BeginAll.{told_of, with_works}
 use Rattle.lean_engine.proofs.BeginSteps.{without_sync}
 use Rattle.lean_engine.proofs.MachineLemmas.{machine_behind}
+use Rattle.lean_engine.proofs.QuietLemmas.{as_flushed}
 use Rattle.lean_engine.proofs.SeatLemmas.{holds_of}
 use Rattle.lean_engine.proofs.machine.Machine.begin_now.Goals as goal
 
@@ -47,3 +49,11 @@ returns-clause-does g c =
     c.args.is_long c.requires.due n.seat.view y c.begin.result e.begins e.free
     (with_works c.begin.result (λ why. refusal_in (opening s.seat.view.given) (state s.seat.view).core s.store.session.own s.store.session.half s.store.log call.Begin ≡ Some why) (s.store.session.works ≡ true) c.requires.works e.refused)
     (λ i. let q = e.same i in (q.0, ap (λ k. record { session = k.session; log = k.log }) q.1)) told e.same_disk.1))
+
+pub returns-clause-flushed : goal.returns-clause-flushed
+returns-clause-flushed g c works =
+    let e = c.begin.ensures in
+    let s = c.args.self.now in
+    let n = c.begin.new in
+    as_flushed (plain_shape s.rows.frames s.rows.locks s.rows.workers) s.seat.view (record { session = s.store.session; log = s.store.log }) (record { session = n.store.session; log = n.store.log }) s.desks.items c.requires.machine.desks
+    (e.session works).0 (ap (λ (l : Log). l.flushed) e.same_disk.1)

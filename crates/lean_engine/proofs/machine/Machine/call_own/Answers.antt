@@ -1,10 +1,11 @@
-use Rattle.std.proofs.Common.{◌≡◌, ℕ, refl, sym, subst}
+use Rattle.std.proofs.Common.{◌≡◌, ◌∙◌, ℕ, ap, refl, sym, subst, true≢false}
 use Rattle.map_model.specs.declared.call.Call.{Call}
 use Rattle.map_model.specs.declared.call.Call.TheVariants as call
 use Rattle.row_engine.specs.Calls.{CallDoes}
 use Rattle.row_engine.specs.Opened.{plain_shape}
 use Rattle.lean_engine.specs.Came.{Came}
 use Rattle.lean_engine.specs.Inside.{IsRowCall}
+use Rattle.lean_engine.specs.Quiet.{is_still}
 use Rattle.lean_engine.proofs.machine.Machine.call_own.Goals as goal
 
 -- a call of the rows that is no other one is a commit
@@ -23,3 +24,7 @@ returns-in_default-clause-came g c =
     s.store.session.workers q c.commit.result.answer c.commit.result.receipt (plain_shape n.rows.frames n.rows.locks n.rows.workers) s.seat.view n.seat.view (record { session = s.store.session; log = s.store.log }) (record { session = n.store.session; log = n.store.log }) s.latches n.latches
     (g.D.Disk.faults s.store.disk) (g.D.Disk.faults n.store.disk))
     (sym (commit_is c.args.call.now c.requires.call c.in_default.not-Get c.in_default.not-Put c.in_default.not-Del)) c.commit.ensures.came
+
+pub returns-in_default-clause-flushed : goal.returns-in_default-clause-flushed
+returns-in_default-clause-flushed g c is_long still works =
+    absurd (true≢false (sym still ∙ ap (λ (q : Call). is_still q is_long) (commit_is c.args.call.now c.requires.call c.in_default.not-Get c.in_default.not-Put c.in_default.not-Del)))
