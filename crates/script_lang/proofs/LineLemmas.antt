@@ -1,5 +1,5 @@
 -- A line that is spelled is read, and a line that is read was spelled so.
-use Rattle.std.proofs.Common.{◌≡◌, ◌⊎◌, inl, inr, ⊎_elim, ◌++◌, ◌∷◌, ℕ, List, Option, Some, None, codes, ◌∙◌, sym, refl, ap, subst, ◌+◌, ◌-◌, ◌^◌, ◌<◌, ◌≤◌, Bool, true, false, true≢false, cond, nat_lt, length, option_map, arith}
+use Rattle.std.proofs.Common.{◌≡◌, ◌⊎◌, inl, inr, ⊎_elim, ◌++◌, ◌∷◌, ℕ, List, Option, Some, None, codes, ◌∙◌, sym, refl, ap, subst, ◌+◌, ◌-◌, ◌^◌, ◌<◌, ◌≤◌, Bool, true, false, cond, nat_lt, length, option_map, arith}
 use Rattle.std.proofs.lemmas.List.{length-append}
 use Rattle.std.proofs.lemmas.Bool.Decides.{nat_tests}
 use Rattle.std.proofs.lemmas.Slice.Eq.{bytes_eq-Decides}
@@ -90,9 +90,6 @@ split false x y a e = inr e
 
 same : (xs ys : List ℕ) → bytes_eq xs ys ≡ true → xs ≡ ys
 same xs ys e = (bytes_eq-Decides xs ys).0 e
-
-pub differ : (xs ys : List ℕ) → bytes_eq xs ys ≡ false → xs ≡ ys → ⊥
-differ xs ys unlike e = true≢false (sym ((bytes_eq-Decides xs ys).1 e) ∙ unlike)
 
 -- what begins with a number is no sync
 pub no_sync : (bytes : List ℕ) (n : ℕ) → number_of (first_word bytes) ≡ Some n → bytes_eq bytes (codes "sync") ≡ false

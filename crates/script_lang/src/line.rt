@@ -76,34 +76,44 @@ fn read_call(words: &[u8]) -> Option<Call>
         return None;
     }
     let (verb, numbers) = words.split_at(4);
-    if verb == b"get ".as_slice() {
+    if is_verb(verb, b"get ") {
         let key = read_key(numbers)?;
         return Some(Call::Get { key });
     }
-    if verb == b"put ".as_slice() {
+    if is_verb(verb, b"put ") {
         return read_put(numbers);
     }
-    if verb == b"del ".as_slice() {
+    if is_verb(verb, b"del ") {
         let key = read_key(numbers)?;
         return Some(Call::Del { key });
     }
     read_lone_verb(words)
 }
 
+// Whether four bytes are a verb and its space. They are compared one by one: an equality of slices is a call, and a long one for so few.
+#[inline(always)]
+fn is_verb(bytes: &[u8], verb: &[u8; 4]) -> bool
+    requires { length bytes.now ≡ 4 }
+    ensures { result ≡ bytes_eq bytes.now verb.now }
+{
+    for i in 0..4 {
+        if bytes[i] != verb[i] {
+            return false;
+        }
+    }
+    true
+}
+
 // A verb that no number stands behind.
 fn read_lone_verb(words: &[u8]) -> Option<Call>
     ensures { result ≡ lone_verb_of (Some words.now) }
 {
-    if words == b"begin".as_slice() {
-        return Some(Call::Begin);
+    match words {
+        b"begin" => Some(Call::Begin),
+        b"commit" => Some(Call::Commit),
+        b"abort" => Some(Call::Abort),
+        _ => None,
     }
-    if words == b"commit".as_slice() {
-        return Some(Call::Commit);
-    }
-    if words == b"abort".as_slice() {
-        return Some(Call::Abort);
-    }
-    None
 }
 
 // A key, and nothing behind it.
