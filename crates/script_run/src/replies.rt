@@ -28,6 +28,7 @@ use script_lang::{REPLY, durable_bytes, replies_are_read_back, reply_bytes};
 pub(crate) fn put_answer<K: Sink<D>, D: Disk, E: Calls<D>>(
     engine: &mut E,
     sink: &mut K,
+    buffer: &mut [u8; REPLY],
     session: u32,
     answer: &Answer,
 ) -> Option<Stop>
@@ -43,14 +44,18 @@ pub(crate) fn put_answer<K: Sink<D>, D: Disk, E: Calls<D>>(
     ensures cause_write_fault { HasCause (K.faults sink.old) (K.faults sink.new) (result ≡ Some Stop.WriteFault) }
 {
     engine.told();
-    let Put::Done = put_reply(engine, sink, session, answer) else {
+    let Put::Done = put_reply(engine, sink, buffer, session, answer) else {
         return Some(Stop::WriteFault);
     };
-    put_durables(engine, sink)
+    put_durables(engine, sink, buffer)
 }
 
 // Puts a line for each commit that has become durable.
-fn put_durables<K: Sink<D>, D: Disk, E: Calls<D>>(engine: &mut E, sink: &mut K) -> Option<Stop>
+fn put_durables<K: Sink<D>, D: Disk, E: Calls<D>>(
+    engine: &mut E,
+    sink: &mut K,
+    buffer: &mut [u8; REPLY],
+) -> Option<Stop>
     requires works { E.works engine.old ≡ true }
     ensures says { (g : Opening) (xs : List Done) (names : List Name) → E.in_run engine.old g xs names
         → Says (durable_lines (due g (state_after g (front xs)) names)) result (K.held sink.old) (K.held sink.new) (D.story (E.disk engine.old)) (D.story (E.disk engine.new))
@@ -67,7 +72,7 @@ fn put_durables<K: Sink<D>, D: Disk, E: Calls<D>>(engine: &mut E, sink: &mut K) 
         let Some(durable) = engine.next_durable() else {
             return None;
         };
-        let Put::Done = put_durable(engine, sink, &durable) else {
+        let Put::Done = put_durable(engine, sink, buffer, &durable) else {
             return Some(Stop::WriteFault);
         };
     }
@@ -77,6 +82,7 @@ fn put_durables<K: Sink<D>, D: Disk, E: Calls<D>>(engine: &mut E, sink: &mut K) 
 fn put_reply<K: Sink<D>, D: Disk, E: Calls<D>>(
     engine: &mut E,
     sink: &mut K,
+    buffer: &mut [u8; REPLY],
     session: u32,
     answer: &Answer,
 ) -> Put
@@ -92,15 +98,15 @@ fn put_reply<K: Sink<D>, D: Disk, E: Calls<D>>(
 {
     // Each reply is one line.
     replies_are_read_back();
-    let mut line = [0; REPLY];
-    let end = reply_bytes(session, answer, &mut line);
-    engine.put_line(sink, &line[..end])
+    let end = reply_bytes(session, answer, buffer);
+    engine.put_line(sink, &buffer[..end])
 }
 
 // Puts the line that a transaction is durable.
 fn put_durable<K: Sink<D>, D: Disk, E: Calls<D>>(
     engine: &mut E,
     sink: &mut K,
+    buffer: &mut [u8; REPLY],
     durable: &Durable,
 ) -> Put
     ensures put { Puts (reply_line (Reply.Durable durable.now.session durable.now.number)) result (K.held sink.old) (K.held sink.new) }
@@ -114,9 +120,8 @@ fn put_durable<K: Sink<D>, D: Disk, E: Calls<D>>(
     ensures cause { HasCause (K.faults sink.old) (K.faults sink.new) (result ≡ Put.Failed) }
 {
     replies_are_read_back();
-    let mut line = [0; REPLY];
-    let end = durable_bytes(durable.session, durable.number, &mut line);
-    engine.put_line(sink, &line[..end])
+    let end = durable_bytes(durable.session, durable.number, buffer);
+    engine.put_line(sink, &buffer[..end])
 }
 
 /// An answer that has come has a line, since its numbers fit their types.

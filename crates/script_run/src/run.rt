@@ -24,7 +24,7 @@ use engine_trait::calls::{Calls, Unanswered};
 use lean_disk::Disk;
 use lean_edge::{Sink, Source};
 use map_model::{Answer, Call, Refusal};
-use script_lang::LineReader;
+use script_lang::{LineReader, REPLY};
 
 /// Executes the lines of a script on an engine that works, of which the next line may be asked, and puts what each is answered. Lines are counted from 1.
 pub fn run_script<S: Source, K: Sink<D>, D: Disk, E: Calls<D>>(
@@ -49,12 +49,14 @@ pub fn run_script<S: Source, K: Sink<D>, D: Disk, E: Calls<D>>(
     // What a crash leaves before the first line.
     laws();
     engine.told();
+    // Zeroed once, and not for each reply.
+    let mut buffer = [0; REPLY];
     for number in 1..LINES {
-        if let Some(stop) = take_step(engine, reader, source, sink, number) {
+        if let Some(stop) = take_step(engine, reader, source, sink, &mut buffer, number) {
             return stop;
         }
     }
-    last_step(engine, reader, source, sink)
+    last_step(engine, reader, source, sink, &mut buffer)
 }
 
 // The line after the last that may be executed.
@@ -63,6 +65,7 @@ fn last_step<S: Source, K: Sink<D>, D: Disk, E: Calls<D>>(
     reader: &mut LineReader,
     source: &mut S,
     sink: &mut K,
+    buffer: &mut [u8; REPLY],
 ) -> Stop
     requires works { E.works engine.old ≡ true }
     requires next { E.next engine.old ≡ Next.Line }
@@ -76,7 +79,7 @@ fn last_step<S: Source, K: Sink<D>, D: Disk, E: Calls<D>>(
     ensures cause_write_fault { HasCause (K.faults sink.old) (K.faults sink.new) (result ≡ Stop.WriteFault) }
     ensures cause_disk_fault { HasCause (D.faults (E.disk engine.old)) (D.faults (E.disk engine.new)) (result ≡ Stop.DiskFault) }
 {
-    match take_step(engine, reader, source, sink, LINES) {
+    match take_step(engine, reader, source, sink, buffer, LINES) {
         Some(stop) => stop,
         None => Stop::Refused { line: LINES },
     }
@@ -88,6 +91,7 @@ fn take_step<S: Source, K: Sink<D>, D: Disk, E: Calls<D>>(
     reader: &mut LineReader,
     source: &mut S,
     sink: &mut K,
+    buffer: &mut [u8; REPLY],
     number: u64,
 ) -> Option<Stop>
     requires number { (1 ≤ number) × (number ≤ 2 ^ 40) }
@@ -115,13 +119,13 @@ fn take_step<S: Source, K: Sink<D>, D: Disk, E: Calls<D>>(
         return Some(Stop::DiskFault);
     };
     engine.told();
-    if let Some(stop) = put_answer(engine, sink, line.session, &answer) {
+    if let Some(stop) = put_answer(engine, sink, buffer, line.session, &answer) {
         return Some(stop);
     }
     if !met_conflict(&answer) {
         return None;
     }
-    abort_hindered(engine, sink, line.session)
+    abort_hindered(engine, sink, buffer, line.session)
 }
 
 // Whether it is that a row is held by another session.
@@ -138,6 +142,7 @@ fn met_conflict(answer: &Answer) -> bool
 fn abort_hindered<K: Sink<D>, D: Disk, E: Calls<D>>(
     engine: &mut E,
     sink: &mut K,
+    buffer: &mut [u8; REPLY],
     session: u32,
 ) -> Option<Stop>
     requires works { E.works engine.old ≡ true }
@@ -158,7 +163,7 @@ fn abort_hindered<K: Sink<D>, D: Disk, E: Calls<D>>(
         return Some(Stop::DiskFault);
     };
     engine.told();
-    put_answer(engine, sink, session, &answer)
+    put_answer(engine, sink, buffer, session, &answer)
 }
 
 // Calls an engine that works. No answer means that its disk failed.
