@@ -63,9 +63,15 @@ mod cases;
 #[cfg(test)]
 mod dumps;
 #[cfg(test)]
+mod fours;
+#[cfg(test)]
 mod random;
 #[cfg(test)]
 mod rows;
+#[cfg(test)]
+mod rule_crashes;
+#[cfg(test)]
+mod rule_files;
 #[cfg(test)]
 mod ruled;
 #[cfg(test)]

@@ -1,7 +1,9 @@
 // Random scripts of one to sixteen sessions, each line of whose output is as the rules say. Each run is crashed at random moments, of each area by
 // a choice of its own, and what is left is what the rules say too.
 use crate::cases::expect;
-use crate::rules::{Crash, Left, OPENED, Rules, pairs_of};
+use crate::rule_crashes::Crash;
+use crate::rule_files::{Left, pairs_of};
+use crate::rules::{OPENED, Rules};
 use crate::runs::{MEMORY, RUN, at_rest, crashed_apart, dumped, formatted, run_command};
 use lean_disk::{Choice, MemDisk};
 use map_model::{Call, Replay};

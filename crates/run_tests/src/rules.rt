@@ -1,14 +1,13 @@
-// The rules of the numbers that a script's output tells, of what is durable, and of what a crash leaves, as a plain program beside the
-// engine: it was written from the rules in words. All keys are in one leaf, the first page, and no call needs room.
+// The rules of the numbers that a script's output tells, and of what is durable, as a plain program beside the engine: it was written
+// from the rules in words. All keys are in one leaf, the first page, and no call needs room.
+use crate::rule_files::{
+    Block, Commit, Kind, Left, Master, NEVER, Record, copy_of, is_before, set,
+};
 use crate::runs::MEMORY;
-use lean_disk::Choice;
 use map_model::{Answer, Answered, Call, Refusal};
 use std::alloc::{AllocError, Global};
 use std::collections::BTreeMap;
 use std::process::Abort;
-
-// The moment of what was not done yet.
-const NEVER: u64 = u64::MAX;
 
 // The moment at which an opening is done; calls and lines are counted from there. Its master was written one moment before.
 pub(crate) const OPENED: u64 = 1000;
@@ -72,88 +71,23 @@ struct Session {
     room: u64,
 }
 
-// A record, of a transaction of a session, in one of its blocks.
-#[derive(Clone, Copy)]
-struct Record {
-    session: u32,
-    begun: u64,
-    number: u64,
-    block: usize,
-    kind: Kind,
-}
-
-#[derive(Clone, Copy)]
-enum Kind {
-    Change { key: u64, value: Option<u64> },
-    PutBack,
-    Commit { need: u64 },
-    Abort { need: u64 },
-}
-
-// A block of a session's log, or a master, and when it was written and synced.
-#[derive(Clone, Copy)]
-struct Block {
-    session: u32,
-    written: u64,
-    synced: u64,
-}
-
-#[derive(Clone, Copy)]
-struct Master {
-    floor: u64,
-    written: u64,
-    synced: u64,
-}
-
-// A commit, and when it was told durable.
-#[derive(Clone, Copy)]
-struct Commit {
-    session: u32,
-    begun: u64,
-    at: u64,
-    need: u64,
-    told: u64,
-}
-
-/// A crash at a moment. What is not synced of an area is left by one choice, and by the other where the area's bit is set.
-#[derive(Clone, Copy)]
-pub(crate) struct Crash {
-    pub moment: u64,
-    pub one: Choice,
-    pub other: Choice,
-    pub mask: u32,
-}
-
-/// What stands on a disk, as the next opening tells it.
-#[derive(Drop)]
-pub(crate) struct Left {
-    pub generation: u64,
-    pub winners: u64,
-    pub undone: u64,
-    /// How many blocks of all logs count.
-    pub blocks: u64,
-    /// The greatest number.
-    pub base: u64,
-    pub map: BTreeMap<u64, u64>,
-}
-
 /// A script, and what the rules say of it.
 #[derive(Drop)]
 pub(crate) struct Rules {
-    alloc: Global,
+    pub alloc: Global,
     rows: Vec<Row>,
     group: u64,
-    count: u32,
+    pub count: u32,
     sessions: Vec<Session>,
     leaf: Stamp,
     held: Vec<Held>,
     changes: Vec<Change>,
-    records: Vec<Record>,
-    blocks: Vec<Block>,
-    masters: Vec<Master>,
-    commits: Vec<Commit>,
+    pub records: Vec<Record>,
+    pub blocks: Vec<Block>,
+    pub masters: Vec<Master>,
+    pub commits: Vec<Commit>,
     map: BTreeMap<u64, u64>,
-    generation: u64,
+    pub generation: u64,
     /// How many calls of the disk were made by now, and lines put.
     pub moment: u64,
     pub text: String,
@@ -161,84 +95,10 @@ pub(crate) struct Rules {
     pub transcript: Vec<Answered>,
 }
 
-fn put(map: &mut BTreeMap<u64, u64>, key: u64, value: Option<u64>) -> Result<(), AllocError> {
-    match value {
-        Some(value) => map.insert(key, value)?,
-        None => map.remove(&key),
-    };
-    Ok(())
-}
-
-fn set<R: Abort>(rt: &R, map: &mut BTreeMap<u64, u64>, key: u64, value: Option<u64>) {
-    put(map, key, value).expect(rt, MEMORY);
-}
-
-fn copy_of<R: Abort>(rt: &R, alloc: Global, map: &BTreeMap<u64, u64>) -> BTreeMap<u64, u64> {
-    let mut copy = BTreeMap::new(alloc);
-    for (key, value) in map {
-        set(rt, &mut copy, *key, Some(*value));
-    }
-    copy
-}
-
-/// What a dump prints of a map.
-pub(crate) fn pairs_of<R: Abort>(rt: &R, alloc: Global, map: &BTreeMap<u64, u64>) -> String {
-    let mut lines = String::new(alloc);
-    for (key, value) in map {
-        let line = format!(in alloc; "pair {key} {value}\n").expect(rt, MEMORY);
-        lines.push_str(&line).expect(rt, MEMORY);
-    }
-    lines.push_str("end\n").expect(rt, MEMORY);
-    lines
-}
-
-impl Left {
-    /// A new disk.
-    pub(crate) fn new(alloc: Global) -> Left {
-        Left {
-            generation: 0,
-            winners: 0,
-            undone: 0,
-            blocks: 0,
-            base: 0,
-            map: BTreeMap::new(alloc),
-        }
-    }
-
-    pub(crate) fn copied<R: Abort>(&self, rt: &R, alloc: Global) -> Left {
-        Left {
-            generation: self.generation,
-            winners: self.winners,
-            undone: self.undone,
-            blocks: self.blocks,
-            base: self.base,
-            map: copy_of(rt, alloc, &self.map),
-        }
-    }
-
-    /// The first line of the next run.
-    pub(crate) fn first_line<R: Abort>(&self, rt: &R, alloc: Global) -> String {
-        let generation = self.generation.saturating_add(1);
-        let winners = self.winners;
-        let undone = self.undone;
-        format!(in alloc; "open {generation} winners {winners} undone {undone}\n").expect(
-            rt, MEMORY,
-        )
-    }
-}
-
-impl Rules {
-    /// An opening: all numbers begin at the base.
-    pub(crate) fn open<R: Abort>(
-        rt: &R,
-        alloc: Global,
-        left: &Left,
-        count: u32,
-        rows: usize,
-        group: u64,
-    ) -> Rules {
-        let base = left.base;
-        let session = Session {
+impl Session {
+    // As it stands behind an opening: all numbers begin at the base.
+    fn new(base: u64) -> Session {
+        Session {
             is_open: false,
             begun: 0,
             clock: base,
@@ -249,7 +109,21 @@ impl Rules {
             commits: 0,
             block: None,
             room: 0,
-        };
+        }
+    }
+}
+
+impl Rules {
+    /// An opening, which writes a master.
+    pub(crate) fn open<R: Abort>(
+        rt: &R,
+        alloc: Global,
+        left: &Left,
+        count: u32,
+        rows: usize,
+        group: u64,
+    ) -> Rules {
+        let session = Session::new(left.base);
         let mut rules = Rules {
             alloc,
             rows: vec![in alloc; FREE; rows].expect(rt, MEMORY),
@@ -272,7 +146,7 @@ impl Rules {
         };
         rules.tick();
         let first = Master {
-            floor: base,
+            floor: left.base,
             written: OPENED - 1,
             synced: OPENED,
         };
@@ -782,181 +656,5 @@ impl Rules {
         self.say(rt, format!(in self.alloc; "synced {at}"));
         self.tell(rt, 0, Call::Sync, Answer::Synced { at });
         self.tell_durable(rt);
-    }
-}
-
-// By commit number, and then by session.
-fn is_before(one: Commit, other: Commit) -> bool {
-    one.at < other.at || one.at == other.at && one.session < other.session
-}
-
-impl Crash {
-    // Whether it leaves what was written to an area and synced at these moments.
-    fn keeps(&self, area: u32, written: u64, synced: u64) -> bool {
-        let bit = if area < 32 { self.mask >> area & 1 } else { 0 };
-        let choice = if bit == 1 { self.other } else { self.one };
-        synced <= self.moment || written <= self.moment && matches!(choice, Choice::AllBytes)
-    }
-}
-
-// What a crash leaves: the greatest floor of a master, and up to where each log has all its records.
-#[derive(Clone, Copy)]
-struct Found {
-    crash: Crash,
-    floor: u64,
-    reach: u64,
-}
-
-impl Rules {
-    fn is_found(&self, crash: &Crash, record: &Record) -> bool {
-        match self.blocks.get(record.block) {
-            Some(block) => crash.keeps(
-                record.session.saturating_add(1),
-                block.written,
-                block.synced,
-            ),
-            None => false,
-        }
-    }
-
-    // The greatest number of a log that is found, or of all logs.
-    fn greatest(&self, crash: &Crash, log: Option<u32>) -> u64 {
-        let mut greatest = 0;
-        for record in &self.records {
-            let is_one = match log {
-                Some(log) => record.session == log,
-                None => true,
-            };
-            if is_one && self.is_found(crash, record) {
-                greatest = record.number.max(greatest);
-            }
-        }
-        greatest
-    }
-
-    // None, if the master of the opening does not count.
-    fn found(&self, crash: &Crash) -> Option<Found> {
-        let mut floor = None;
-        for master in &self.masters {
-            if crash.keeps(0, master.written, master.synced) {
-                floor = Some(master.floor);
-            }
-        }
-        let floor = floor?;
-        let mut reach = NEVER;
-        for session in 1..=self.count {
-            let greatest = self.greatest(crash, Some(session));
-            reach = reach.min(greatest.max(floor));
-        }
-        let crash = *crash;
-        Some(Found {
-            crash,
-            floor,
-            reach,
-        })
-    }
-
-    // The end of a transaction, where it is found with what it needs.
-    fn end_of(&self, found: &Found, session: u32, begun: u64) -> Option<Kind> {
-        for record in &self.records {
-            if record.session == session && record.begun == begun {
-                let is_ended = match record.kind {
-                    Kind::Commit { need } | Kind::Abort { need } => need <= found.reach,
-                    _ => false,
-                };
-                if is_ended && self.is_found(&found.crash, record) {
-                    return Some(record.kind);
-                }
-            }
-        }
-        None
-    }
-
-    fn is_winner(&self, found: &Found, session: u32, begun: u64) -> bool {
-        matches!(
-            self.end_of(found, session, begun),
-            Some(Kind::Commit { .. })
-        )
-    }
-
-    // How many transactions with records that are found have no end.
-    fn undone(&self, found: &Found) -> u64 {
-        let mut undone = 0u64;
-        for session in 1..=self.count {
-            let mut last = 0;
-            for record in &self.records {
-                let is_new = record.session == session && record.begun != last;
-                if is_new && self.is_found(&found.crash, record) {
-                    last = record.begun;
-                    if self.end_of(found, session, last).is_none() {
-                        undone = undone.saturating_add(1);
-                    }
-                }
-            }
-        }
-        undone
-    }
-
-    // The first commit behind another, by number and session.
-    fn next_commit(&self, behind: Option<Commit>) -> Option<Commit> {
-        let mut first = None;
-        for commit in &self.commits {
-            let is_behind = match behind {
-                Some(before) => is_before(before, *commit),
-                None => true,
-            };
-            if is_behind {
-                first = match first {
-                    Some(other) if is_before(other, *commit) => Some(other),
-                    _ => Some(*commit),
-                };
-            }
-        }
-        first
-    }
-
-    // Runs the changes of a transaction on a map.
-    fn redo<R: Abort>(&self, rt: &R, map: &mut BTreeMap<u64, u64>, commit: Commit) {
-        for record in &self.records {
-            if let Kind::Change { key, value } = record.kind {
-                if record.session == commit.session && record.begun == commit.begun {
-                    set(rt, map, key, value);
-                }
-            }
-        }
-    }
-
-    /// What a crash leaves of a disk that was left so before the opening. None, if something that was told durable is not there.
-    pub(crate) fn left<R: Abort>(&self, rt: &R, before: &Left, crash: &Crash) -> Option<Left> {
-        let Some(found) = self.found(crash) else {
-            return Some(before.copied(rt, self.alloc));
-        };
-        let mut map = copy_of(rt, self.alloc, &before.map);
-        let mut winners = 0u64;
-        let mut last = None;
-        for _ in 0..self.commits.len() {
-            let commit = self.next_commit(last)?;
-            if self.is_winner(&found, commit.session, commit.begun) {
-                winners = winners.saturating_add(1);
-                self.redo(rt, &mut map, commit);
-            } else if commit.told <= crash.moment {
-                return None;
-            }
-            last = Some(commit);
-        }
-        let mut blocks = 0u64;
-        for block in &self.blocks {
-            if crash.keeps(block.session.saturating_add(1), block.written, block.synced) {
-                blocks = blocks.saturating_add(1);
-            }
-        }
-        Some(Left {
-            generation: self.generation,
-            winners,
-            undone: self.undone(&found),
-            blocks,
-            base: self.greatest(crash, None).max(found.floor),
-            map,
-        })
     }
 }

@@ -1,13 +1,14 @@
 // Runs that are crashed at each moment, and runs of which each call of the disk fails: what is found then.
 use crate::cases::expect;
+use crate::fours::{FOUR, FOUR_MAPS, FOUR_OPENED_MAPS, FOUR_OPENING};
 use crate::runs::{
     FORMAT, FORMAT_FOUR, FORMAT_TWO, MEMORY, Outcome, at_rest, copies_of, count_lines, count_up_to,
     crashed, crashed_apart, dumped, failing, formatted, run_command, run_into, run_script,
 };
 use crate::scripts::{
-    ABORT, ABORT_MAPS, Apart, CONFLICT, CONFLICT_MAPS, Crashes, DUMP, FOUR, FOUR_MAPS,
-    FOUR_OPENED_MAPS, FOUR_OPENING, Failures, Find, LONG_ABORT, LONG_ABORT_MAPS, OPENING, PUT,
-    PUT_MAPS, SIX, SIX_MAPS, SPLITS, SYNC, SYNC_MAPS, Script, Sweep, TWO_MAPS, TWO_TEXT,
+    ABORT, ABORT_MAPS, Apart, CONFLICT, CONFLICT_MAPS, Crashes, DUMP, Failures, Find, LONG_ABORT,
+    LONG_ABORT_MAPS, OPENING, PUT, PUT_MAPS, SIX, SIX_MAPS, SPLITS, SYNC, SYNC_MAPS, Script, Sweep,
+    TWO_MAPS, TWO_TEXT,
 };
 use crate::trees::{grown, maps_of_splits};
 use lean_disk::{Choice, MemDisk};
