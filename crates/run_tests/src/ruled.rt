@@ -69,11 +69,11 @@ fn any_call(random: &mut Pcg32, is_open: bool) -> Call {
     let place = any_below(random, KEYS.len() as u64);
     let key = KEYS.get(place as usize).copied().unwrap_or(0);
     let value = any_below(random, 1000);
-    let pick = random.next_word() % 32;
-    if !is_open && pick < 31 {
+    // Mostly a session that has no transaction begins one.
+    if !is_open && random.next_word() % 16 != 0 {
         return Call::Begin;
     }
-    match pick {
+    match random.next_word() % 32 {
         0..=6 => Call::Get { key },
         7..=17 => Call::Put { key, value },
         18..=20 => Call::Del { key },
