@@ -153,6 +153,15 @@ pub fn row_of(key: u64, locks: u32) -> u32
     if locks == USUAL {
         return (key % u64::from(USUAL)) as u32;
     }
+    unusual_row_of(key, locks)
+}
+
+// A call, since the compiler makes two remainders that agree one, and that one divides.
+#[inline(never)]
+fn unusual_row_of(key: u64, locks: u32) -> u32
+    requires { 0 < locks }
+    ensures { result ≡ key % locks }
+{
     (key % u64::from(locks)) as u32
 }
 

@@ -111,6 +111,38 @@ impl<D: Disk> Engine<D> {
         ))
     }
 
+    // The commit that has become durable, as a take finds it.
+    #[inline(never)]
+    fn take_durable(&mut self) -> Option<Durable>
+        requires works { self.old.works ≡ true }
+        ensures taken { (g : Opening) (xs : List Done) (names : List Name) → InRun self.old g xs names → IsTaken g xs names result × InRun self.new g xs (told_with result names) }
+        ensures next { MatchOption result (self.new.next ≡ behind_durables self.old.next) (λ d. self.new.next ≡ self.old.next) }
+        ensures session { IfSome result (λ d. (0 < d.session) × (d.session ≤ self.old.sessions)) }
+        ensures fewer { IfSome result (λ d. queued self.new.ends < queued self.old.ends) }
+        ensures same { (self.new.disk ≡ self.old.disk) × (memory_in self.new ≡ memory_in self.old) × (self.new.works ≡ self.old.works) }
+        ensures sizes { (self.new.sessions ≡ self.old.sessions) × (self.new.group ≡ self.old.group) }
+    {
+        group_commit::every_take();
+        let numbers = self.machine.flushed_numbers();
+        match self
+            .unripe
+            .take(&numbers[..self.machine.store.session.workers as usize])
+        {
+            Some(receipt) => {
+                self.quiet = false;
+                Some(Durable {
+                    session: receipt.log,
+                    number: receipt.txn,
+                })
+            }
+            None => {
+                self.quiet = true;
+                self.next = behind(self.next);
+                None
+            }
+        }
+    }
+
     /// The commit that has become durable and was not told yet, if there is one: the first in order of commit numbers, ties by session.
     pub fn next_durable(&mut self) -> Option<Durable>
         requires works { self.old.works ≡ true }
@@ -122,27 +154,13 @@ impl<D: Disk> Engine<D> {
         ensures same { (self.new.disk ≡ self.old.disk) × (memory_in self.new ≡ memory_in self.old) × (self.new.works ≡ self.old.works) }
         ensures sizes { (self.new.sessions ≡ self.old.sessions) × (self.new.group ≡ self.old.group) }
     {
-        group_commit::every_take();
+        if !self.quiet {
+            return self.take_durable();
+        }
         // So it is behind most lines.
-        if self.quiet {
-            self.next = behind(self.next);
-            return None;
-        }
-        let numbers = self.machine.flushed_numbers();
-        match self
-            .unripe
-            .take(&numbers[..self.machine.store.session.workers as usize])
-        {
-            Some(receipt) => Some(Durable {
-                session: receipt.log,
-                number: receipt.txn,
-            }),
-            None => {
-                self.quiet = true;
-                self.next = behind(self.next);
-                None
-            }
-        }
+        group_commit::every_take();
+        self.next = behind(self.next);
+        None
     }
 
     /// Whether an abort of a session is half done, so that only an abort may come next: it put a change of the session's transaction back, which has not

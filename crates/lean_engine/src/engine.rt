@@ -17,7 +17,7 @@ use std::alloc::Global;
 use std::marker::{Brand, Model};
 
 /// An engine of several sessions over the pages of a disk, each in a frame, which it owns: what works on rows and disk, the ends that wait, and what may be asked
-/// next; and whether none of these ends is known to be ripe, so that no durable line is looked for.
+/// next; and whether it is known that none of these ends is ripe, so that no durable line is looked for.
 pub struct Engine<D> {
     pub(crate) machine: Machine<D>,
     pub(crate) unripe: Unripe,
