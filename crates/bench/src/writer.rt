@@ -1,11 +1,12 @@
 // A plain writer of the blocks of logs: each is sealed and written, and its log is synced where so many commits came since it was last. Before
-// that each line of a script on standard input is read and put out again. Nothing else is done.
+// that each line of a script on standard input is read and put out again, and a commit twice. Nothing else is done.
 
 use disk_file::FileDisk;
 use lean_disk::{Did, Disk, Read};
 use lean_edge::StdSource;
 use log_block::{BLOCK, block_bytes, open_block};
 use log_record::{Body, Record, read_record};
+use map_model::Call;
 use script_lang::{LineReader, NextLine, read_line};
 use std::alloc::Global;
 use std::io;
@@ -132,7 +133,8 @@ fn put_all<D: Disk>(disk: &mut D, pieces: &[Piece], group: u32) -> Option<(u32, 
     Some((blocks, syncs))
 }
 
-// Reads the lines of a script, and puts the bytes of each out by a call of its own.
+// Reads the lines of a script, and puts out as many lines as a run does where all commit, each by a call of its own: one for each line, and one more for
+// a commit, which gets durable.
 fn put_lines(rt: &HostRuntime, reader: &mut LineReader) -> io::Result<u32> {
     let mut source = StdSource::new(rt.stdin());
     let mut out = rt.stdout();
@@ -140,10 +142,13 @@ fn put_lines(rt: &HostRuntime, reader: &mut LineReader) -> io::Result<u32> {
         let NextLine::Got = reader.next_line(&mut source) else {
             return Ok(lines);
         };
-        let Ok(_) = read_line(LOGS, reader.line()) else {
+        let Ok(line) = read_line(LOGS, reader.line()) else {
             return Ok(lines);
         };
         out.write_all(reader.line())?;
+        if let Call::Commit = line.call {
+            out.write_all(reader.line())?;
+        }
     }
     Ok(u32::MAX)
 }
