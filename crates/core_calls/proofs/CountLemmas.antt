@@ -16,7 +16,7 @@ use Rattle.core_commit.proofs.Runs.{Good, good_event, good_start}
 use Rattle.core_commit.proofs.Says.{said_live, said_dead}
 use Rattle.core_calls.specs.Marks.{Mark, Began, Called, Back, Ended, mark, onto, marks}
 use Rattle.core_calls.specs.Deeds.{marks_by}
-use Rattle.core_calls.specs.Counts.{begun_in, IsAbove, Undo, undo_onto, without_first, undo_in, value_call, PutsBack, AreOrdered, EveryOrdered}
+use Rattle.core_calls.specs.Counts.{begun_in, IsAbove, Undo, undo_onto, without_first, undo_in, value_call, UndoesNewest, AreOrdered, EveryOrdered}
 use Rattle.core_calls.proofs.EntryLemmas.{entry_mark, listed, IsUndoing, Adds, None_new, One_new, Begin_new, adds}
 
 abbrev pub undo_of : Format → Entry → Undo
@@ -78,7 +78,7 @@ module _ (f : Format) (s t : State) (w : ℕ) (r : Entry) (ms : List Mark) (was 
         go : (cs : List Entry) → (s.worker w).changes ≡ cs → IsUndoing Kind.Put_back r cs → Counted f t w (Back (write_call f r.key r.after) (MapAnswer.Was (said f r.before)) ∷ ms)
         go [] q v = absurd v
         go (x ∷ cs) q v = record {
-          ordered = (c.ordered, subst (PutsBack (write_call f r.key r.after)) (sym (c.undo was ∙ ap (map (undo_of f)) q)) (write_is f r.key r.after ∙ ap₂ (λ (k b : ℕ). value_call k (said f b)) v.0 v.1));
+          ordered = (c.ordered, subst (UndoesNewest (write_call f r.key r.after)) (sym (c.undo was ∙ ap (map (undo_of f)) q)) (write_is f r.key r.after ∙ ap₂ (λ (k b : ℕ). value_call k (said f b)) v.0 v.1));
           begun = txn_s ∙ c.begun;
           above = λ n z. c.above n (let q = stays in omega arith);
           undo = λ o. ap without_first (c.undo was ∙ ap (map (undo_of f)) q) ∙ ap (map (undo_of f)) (sym (l ∙ ap (listed Kind.Put_back r) q));

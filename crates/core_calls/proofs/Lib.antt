@@ -17,6 +17,11 @@ pub mod NumberLemmas
 pub mod CrashLemmas
 pub mod LineLemmas
 pub mod HinderLemmas
+pub mod WhereLemmas
+pub mod StepControls
+pub mod PressLemmas
+pub mod PressByHand
+pub mod WarmLemmas
 pub mod RoomLemmas
 pub mod RoomByHand
 pub mod OrderLemmas

@@ -1,13 +1,21 @@
 -- Wrong outcomes, each refused.
 use Rattle.std.specs.Prelude.{◌≡◌, ◌≤◌, ℕ, suc, Bool, true, false, List, [], ◌∷◌, Option, Some}
 use Rattle.map_model.specs.declared.call.Call.{Call}
+use Rattle.map_model.specs.declared.call.Call.TheVariants as call
+use Rattle.map_model.specs.declared.call.Refusal.{Refusal}
+use Rattle.map_model.specs.declared.call.Refusal.TheVariants as refusal
+use Rattle.map_model.specs.Histories.{Step}
 use Rattle.map_model.specs.Lists.{Has}
 use Rattle.image_model.specs.Entries.{Entry, is_commit}
 use Rattle.image_model.specs.Ends.{name_of}
 use Rattle.core_state.specs.Openings.{Opening, first_map}
-use Rattle.core_state.specs.Events.{Event}
+use Rattle.core_state.specs.Events.{Event, Mode}
 use Rattle.core_state.specs.Steps.{state_after}
-use Rattle.core_calls.specs.Deeds.{Deed, Begun, Got, Changed, Committed, Aborted, Outcome, Answers}
+use Rattle.core_calls.specs.Deeds.{Deed, Begun, Got, Changed, Committed, Aborted, Refused, Outcome, Answers}
+use Rattle.core_calls.specs.Refusals.{Limits}
+use Rattle.core_calls.specs.Fronts.{Done, outcomes}
+use Rattle.core_calls.specs.Steps.{Goes, call_behind, is_change}
+use Rattle.core_calls.specs.LogEvents.{LogsGo}
 use Rattle.core_calls.specs.Durables.{is_ripe, up_to, durables}
 
 -- an outcome with no read before it that nobody was told
@@ -34,3 +42,30 @@ pub record Controls (g : Opening) : Type 0 where
 -- of no opening
 abbrev pub EveryControl : Type 0
 EveryControl = (g : Opening) → Controls g
+
+-- ## The events of a call
+
+-- none of these are the events of a call of session w, behind outcomes of which none is a conflict that waits for its abort
+pub record StepControls (l : Limits) (g : Opening) (group : ℕ) (w : ℕ) (earlier : List Done) : Type 0 where
+  -- a get of a row that the session has, and does not take again
+  pub untaken_get : (p k : ℕ) (a : Option ℕ) (alone : Bool) → Goes l g w (outcomes earlier) [] (Got k a alone) (Event.Read w p k a ∷ []) → ⊥
+  -- a get that takes its row alone
+  pub alone_get : (p k : ℕ) (a : Option ℕ) (alone : Bool) → Goes l g w (outcomes earlier) [] (Got k a alone) (Event.Lock w (g.row_of k) Mode.Alone ∷ Event.Read w p k a ∷ []) → ⊥
+  -- a put that finds no page, and has taken another row than its key's
+  pub other_row : (k v i : ℕ) (mode : Mode) (backs : List Step) → Goes l g w (outcomes earlier) [] (Refused (call.Put k v) refusal.NoPages backs) (Event.Lock w i mode ∷ []) → (i ≡ g.row_of k → ⊥) → ⊥
+  -- one that has taken none
+  pub no_row : (k v : ℕ) (backs : List Step) → Goes l g w (outcomes earlier) [] (Refused (call.Put k v) refusal.NoPages backs) [] → ⊥
+  -- a begin that is refused, or a get in no transaction, that has done anything
+  pub busy_begin : (why : Refusal) (e : Event) (es : List Event) (backs : List Step) → Goes l g w (outcomes earlier) [] (Refused call.Begin why backs) (e ∷ es) → ⊥
+  pub busy_get : (k : ℕ) (e : Event) (es : List Event) (backs : List Step) → Goes l g w (outcomes earlier) [] (Refused (call.Get k) refusal.NoTransaction backs) (e ∷ es) → ⊥
+  -- a get at a spent latch that has put a change back
+  pub get_back : (k p : ℕ) (es : List Event) (backs : List Step) → Goes l g w (outcomes earlier) [] (Refused (call.Get k) refusal.RowSpent backs) (Event.Put_back w p ∷ es) → ⊥
+  -- a get in no transaction that has synced, and a commit that is refused and has
+  pub idle_sync : (k n : ℕ) (es : List Event) (backs : List Step) → LogsGo l g group earlier w (Refused (call.Get k) refusal.NoTransaction backs) (Event.Sync n ∷ es) → ⊥
+  pub late_sync : (why : Refusal) (n : ℕ) (es : List Event) (backs : List Step) → LogsGo l g group earlier w (Refused call.Commit why backs) (Event.Sync n ∷ es) → ⊥
+  -- a put in no transaction that has changed the tree
+  pub idle_room : (k v : ℕ) (backs : List Step) → is_change (Refused (call.Put k v) refusal.NoTransaction backs) ≡ true → ⊥
+
+-- on a new line
+abbrev pub EveryStepControl : Type 0
+EveryStepControl = (l : Limits) (g : Opening) (group : ℕ) (w : ℕ) (earlier : List Done) → ((c : Call) → call_behind (outcomes earlier) c ≡ c) → StepControls l g group w earlier

@@ -48,9 +48,9 @@ value_call k (Some v) = MapCall.Put k v
 value_call k None = MapCall.Del k
 
 -- c puts back the newest change
-abbrev pub PutsBack : MapCall → List Undo → Type 0
-PutsBack c [] = ⊥
-PutsBack c (u ∷ us) = c ≡ value_call u.key u.value
+abbrev pub UndoesNewest : MapCall → List Undo → Type 0
+UndoesNewest c [] = ⊥
+UndoesNewest c (u ∷ us) = c ≡ value_call u.key u.value
 
 -- Begins are counted from 1, an end has the number of the last begin, the numbers of ends rise; each put-back puts back the newest change
 -- that is left, and an abort comes when none is left.
@@ -58,7 +58,7 @@ abbrev pub AreOrdered : List Mark → Type 0
 AreOrdered [] = Unit {0}
 AreOrdered (Began n ∷ earlier) = AreOrdered earlier × (n ≡ suc (begun_in earlier))
 AreOrdered (Called c a alone ∷ earlier) = AreOrdered earlier
-AreOrdered (Back c a ∷ earlier) = AreOrdered earlier × PutsBack c (undo_in earlier)
+AreOrdered (Back c a ∷ earlier) = AreOrdered earlier × UndoesNewest c (undo_in earlier)
 AreOrdered (Ended commit n at ∷ earlier) = AreOrdered earlier × (n ≡ begun_in earlier) × IsAbove at earlier × (commit ≡ false → undo_in earlier ≡ [])
 
 -- so are those of each session's outcomes

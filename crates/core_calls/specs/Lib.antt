@@ -7,6 +7,8 @@ pub mod Refusals
 pub mod Fronts
 pub mod Steps
 pub mod LogEvents
+pub mod Presses
+pub mod Warms
 pub mod Runs
 pub mod Durables
 pub mod Alone

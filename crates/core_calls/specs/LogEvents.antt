@@ -1,18 +1,20 @@
 -- Where flushes, syncs and cuts stand.
-use Rattle.std.specs.Prelude.{◌≡◌, ℕ, Bool, true, false, ◌&&◌, ◌==◌, ltb, leb, List, [], ◌∷◌, ◌++◌, length, if◌then◌else◌}
+use Rattle.std.specs.Prelude.{◌≡◌, ◌⊎◌, ◌<◌, ℕ, Bool, true, false, ◌&&◌, ◌==◌, ltb, leb, List, [], ◌∷◌, ◌++◌, length, if◌then◌else◌}
 use Rattle.map_model.specs.declared.call.Call.{Call}
 use Rattle.map_model.specs.declared.call.Call.TheVariants as call
 use Rattle.map_model.specs.declared.call.Refusal.{Refusal}
 use Rattle.map_model.specs.declared.call.Refusal.TheVariants as refusal
 use Rattle.map_model.specs.Lists.{any, keep}
 use Rattle.image_model.specs.Entries.{is_commit}
+use Rattle.page_model.specs.Nodes.{covers}
 use Rattle.core_state.specs.Openings.{Opening}
-use Rattle.core_state.specs.States.{State}
+use Rattle.core_state.specs.States.{State, flushed_by_all, in_frame, is_cold}
 use Rattle.core_state.specs.Events.{Event}
-use Rattle.core_state.specs.Steps.{run, state_after}
-use Rattle.core_calls.specs.Deeds.{Deed, Begun, Committed, Refused, Synced, Checkpointed}
+use Rattle.core_state.specs.Steps.{run, state_after, step}
+use Rattle.core_calls.specs.Deeds.{Deed, Begun, Committed, Aborted, Refused, Synced, Checkpointed, asked}
 use Rattle.core_calls.specs.Refusals.{Limits, waiting}
-use Rattle.core_calls.specs.Fronts.{Done, front}
+use Rattle.core_calls.specs.Fronts.{Done, front, outcomes}
+use Rattle.core_calls.specs.Steps.{call_behind}
 
 -- the commits of a log that are not flushed
 abbrev pub behind : State → ℕ → ℕ
@@ -55,25 +57,94 @@ PreparesBy false false es = es ≡ []
 abbrev pub Prepares : Limits → Opening → List Done → ℕ → List Event → Type 0
 Prepares l g earlier w es = PreparesBy (l.is_half_full (front earlier)) (leb l.waiting (waiting g (state_after g (front earlier)) w)) es
 
--- whole syncs alone
+-- ## A page that finds no frame
+
+-- the frame has a page of the key's way, or one above the number up to which all logs are flushed
+pub record IsTaken (g : Opening) (s : State) (key frame : ℕ) : Type 0 where
+  pub page : ℕ
+  pub here : in_frame (s.place page) frame ≡ true
+  pub stays : (covers (s.page page).node key ≡ true) ⊎ (flushed_by_all g s < (s.page page).gsn)
+
+-- a page of the key's way, or a free one, stands in no frame, and none can be given to it
+pub record IsTight (g : Opening) (s : State) (key : ℕ) : Type 0 where
+  pub page : ℕ
+  pub below : page < g.format.pages
+  pub needed : (covers (s.page page).node key ≡ true) ⊎ ((s.page page).node.live ≡ false)
+  pub cold : is_cold (s.place page) ≡ true
+  pub taken : (frame : ℕ) → frame < g.frames → IsTaken g s key frame
+
+-- so it is for some key
+abbrev pub IsTightSomewhere : Opening → State → Type 0
+IsTightSomewhere g s = (key : ℕ) × IsTight g s key
+
+-- so it is for a key to which the call comes: a scan and an abort come to several
+abbrev pub IsPressed : Opening → Call → State → Type 0
+IsPressed g (call.Get k) s = IsTight g s k
+IsPressed g (call.Put k v) s = IsTight g s k
+IsPressed g (call.Del k) s = IsTight g s k
+IsPressed g (call.Scan from to) s = IsTightSomewhere g s
+IsPressed g call.Abort s = IsTightSomewhere g s
+IsPressed g c s = ⊥
+
+-- Whole syncs alone, flushes and then the sync, with nothing between them; each begins at a state of which P is so.
+abbrev pub SyncsWhere : (P : State → Type 0) → Opening → State → (flushed : Bool) → List Event → Type 0
+SyncsWhere P g s false [] = Unit {0}
+SyncsWhere P g s true [] = ⊥
+SyncsWhere P g s flushed (Event.Cut x heads ∷ es) = ⊥
+SyncsWhere P g s false (Event.Flush w n ∷ es) = P s × SyncsWhere P g (step g s (Event.Flush w n)) true es
+SyncsWhere P g s true (Event.Flush w n ∷ es) = SyncsWhere P g (step g s (Event.Flush w n)) true es
+SyncsWhere P g s false (Event.Sync n ∷ es) = P s × SyncsWhere P g (step g s (Event.Sync n)) false es
+SyncsWhere P g s true (Event.Sync n ∷ es) = SyncsWhere P g (step g s (Event.Sync n)) false es
+SyncsWhere P g s false (e ∷ es) = SyncsWhere P g (step g s e) false es
+SyncsWhere P g s true (e ∷ es) = ⊥
+
+-- whole syncs alone, wherever they begin
 abbrev pub AreSyncs : (flushed : Bool) → List Event → Type 0
 AreSyncs flushed (Event.Flush w n ∷ es) = AreSyncs true es
 AreSyncs flushed (Event.Sync n ∷ es) = AreSyncs false es
 AreSyncs false [] = Unit {0}
 AreSyncs flushed _ = ⊥
 
--- A begin that finds an open transaction does nothing; one that is refused otherwise has prepared, but where rows are spent: then it may have synced or not, as another call may.
-abbrev pub RefusedLogs : Limits → Opening → List Done → ℕ → Call → Refusal → List Event → Type 0
-RefusedLogs l g earlier w call.Begin refusal.InTransaction es = es ≡ []
-RefusedLogs l g earlier w call.Begin refusal.RowSpent es = AreSyncs false es
-RefusedLogs l g earlier w call.Begin why es = Prepares l g earlier w es
-RefusedLogs l g earlier w c why es = AreSyncs false es
+-- How these are put together, and what is so of lists of events in which they stand.
+pub record WhereLaws (P Q : State → Type 0) (g : Opening) (s : State) (es : List Event) : Type 0 where
+  -- at the logs there is nothing else
+  pub alone : (b : Bool) → SyncsWhere P g s b es → AreSyncs b (keep is_log es)
+  -- events that do nothing to logs have none
+  pub none : any is_log es ≡ false → SyncsWhere P g s false es
+  -- where P never is so, there are none
+  pub nowhere : ((t : State) → P t → ⊥) → SyncsWhere P g s false es → any is_log es ≡ false
+  -- further events, and a lesser thing to say
+  pub more : (fs : List Event) → SyncsWhere P g s false es → SyncsWhere P g (run g s es) false fs → SyncsWhere P g s false (es ++ fs)
+  -- a sync that is made at once, as before a begin
+  pub due : (n : ℕ) → IsSync n es → P s → SyncsWhere P g s false es
+  pub weaker : (b : Bool) → ((t : State) → P t → Q t) → SyncsWhere P g s b es → SyncsWhere Q g s b es
 
--- What is done to the logs. Where it is not said a sync may stand, for a page that is needed and finds no frame.
+-- A law of all tests is of a greater type; so it is said for what presses two calls.
+abbrev pub EveryWhere : Type 0
+EveryWhere = (c d : Call) (g : Opening) (s : State) (es : List Event) → WhereLaws (IsPressed g c) (IsPressed g d) g s es
+
+-- So it is for a call that is refused, where it has come to pages: a get, a put and a del behind their row, a scan as far as a row that it may not have.
+abbrev pub IsPressedYet : Opening → Call → Refusal → State → Type 0
+IsPressedYet g c refusal.TooTall s = IsPressed g c s
+IsPressedYet g c refusal.NoPages s = IsPressed g c s
+IsPressedYet g c refusal.ClockSpent s = IsPressed g c s
+IsPressedYet g c refusal.RowSpent s = IsPressed g c s
+IsPressedYet g (call.Scan from to) (refusal.Conflict h) s = IsTightSomewhere g s
+IsPressedYet g c why s = ⊥
+
+-- A begin that finds an open transaction, or a spent latch, does nothing; one that is refused otherwise has prepared. Another call made syncs for pages that it needed.
+abbrev pub RefusedLogs : Limits → Opening → List Done → ℕ → Call → Refusal → List Event → Type 0
+RefusedLogs l g earlier w call.Begin refusal.InTransaction es = keep is_log es ≡ []
+RefusedLogs l g earlier w call.Begin refusal.RowSpent es = keep is_log es ≡ []
+RefusedLogs l g earlier w call.Begin why es = Prepares l g earlier w (keep is_log es)
+RefusedLogs l g earlier w c why es = SyncsWhere (IsPressedYet g (call_behind (outcomes earlier) c) why) g (state_after g (front earlier)) false es
+
+-- What is done to the logs. Where it is not said a sync stands exactly where a page that is needed finds no frame.
 abbrev pub LogsGo : Limits → Opening → ℕ → List Done → ℕ → Deed → List Event → Type 0
 LogsGo l g group earlier w (Begun n) es = (before : List Event) × (f : ℕ) × (es ≡ before ++ Event.Begin w f ∷ []) × Prepares l g earlier w (keep is_log es)
 LogsGo l g group earlier w (Committed n at) es = Flushes g group (state_after g (front earlier)) w at es
+LogsGo l g group earlier w (Aborted c n at backs) es = SyncsWhere (IsPressed g call.Abort) g (state_after g (front earlier)) false es
+LogsGo l g group earlier w (Refused c why backs) es = RefusedLogs l g earlier w c why es
 LogsGo l g group earlier w (Synced at) es = (before : List Event) × (es ≡ before ++ Event.Sync at ∷ []) × IsSync at (keep is_log es)
 LogsGo l g group earlier w (Checkpointed at) es = (before : List Event) × (heads : ℕ → ℕ) × (es ≡ before ++ Event.Cut at heads ∷ []) × IsSyncAndCut at (keep is_log es)
-LogsGo l g group earlier w (Refused c why backs) es = RefusedLogs l g earlier w c why (keep is_log es)
-LogsGo l g group earlier w _ es = AreSyncs false (keep is_log es)
+LogsGo l g group earlier w d es = SyncsWhere (IsPressed g (asked d)) g (state_after g (front earlier)) false es

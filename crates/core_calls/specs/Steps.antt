@@ -1,5 +1,5 @@
 -- Which steps of its session stand for a deed.
-use Rattle.std.specs.Prelude.{◌≡◌, ◌⊎◌, ◌<◌, ◌≤◌, ℕ, suc, Bool, true, false, List, [], ◌∷◌, Option, Some, None, if◌then◌else◌}
+use Rattle.std.specs.Prelude.{◌≡◌, ◌⊎◌, ◌<◌, ◌≤◌, ℕ, suc, Bool, true, false, ◌&&◌, List, [], ◌∷◌, Option, Some, None, if◌then◌else◌}
 use Rattle.map_model.specs.declared.call.Call.{Call}
 use Rattle.map_model.specs.declared.call.Call.TheVariants as call
 use Rattle.map_model.specs.declared.call.Refusal.{Refusal}
@@ -77,54 +77,84 @@ abbrev pub AreAbove : ℕ → List Unsaid → Type 0
 AreAbove to [] = Unit {0}
 AreAbove to (u ∷ us) = (to < u.key) × AreAbove to us
 
--- what a refused call may have done: rows taken, gaps passed, changes put back
-abbrev pub Tries : ℕ → List Event → Type 0
-Tries w [] = Unit {0}
-Tries w (Event.Lock v i mode ∷ es) = (v ≡ w) × Tries w es
-Tries w (Event.Next v p k a ∷ es) = (v ≡ w) × Tries w es
-Tries w (Event.Put_back v p ∷ es) = (v ≡ w) × Tries w es
-Tries w _ = ⊥
-
--- the row is taken, if it is not held so already
-abbrev pub Takes : ℕ → ℕ → Mode → List Event → List Event → Type 0
-Takes w i mode es all = (all ≡ Event.Lock w i mode ∷ es) ⊎ (all ≡ es)
-
--- an abort alone puts changes back before it is refused
-abbrev pub MayPutBack : Refusal → List Step → Type 0
-MayPutBack refusal.RowSpent backs = Unit {0}
-MayPutBack why backs = backs ≡ []
-
--- The steps of session w that stand for a deed. A scan prints the pairs from a key to another, so many at most; a pair behind them is not told.
-abbrev pub Goes : Limits → Opening → ℕ → List Outcome → List Unsaid → Deed → List Event → Type 0
-Goes l g w earlier us (Begun n) es = (us ≡ []) × (f : ℕ) × (es ≡ Event.Begin w f ∷ [])
-Goes l g w earlier us (Got k a alone) es = (us ≡ []) × (p : ℕ) × Takes w (g.row_of k) Mode.Shared (Event.Read w p k a ∷ []) es
-Goes l g w earlier us (Changed k v a) es = (us ≡ []) × (p : ℕ) × Takes w (g.row_of k) Mode.Alone (Event.Change w p k v ∷ []) es
-Goes l g w earlier us (Deleted k a) es = (us ≡ []) × (p : ℕ) × Takes w (g.row_of k) Mode.Alone (Event.Change w p k g.format.dead ∷ []) es
-Goes l g w earlier us (Absent k) es = (us ≡ []) × (p : ℕ) × Takes w (g.row_of k) Mode.Alone (Event.Read w p k None ∷ []) es
-Goes l g w earlier us (Met from to k v alone) es = (us ≡ []) × (k ≤ to) × (met_last earlier < l.pairs) × Walks w (scan_from earlier from) es (λ at. at ≡ suc k)
-Goes l g w earlier us (Paused from to k) es = (us ≡ []) × (es ≡ []) × (met_last earlier ≡ l.pairs) × (k ≡ scan_from earlier from) × (k ≤ to)
-Goes l g w earlier us (Over from to) es = AreAbove to us × (met_last earlier ≡ l.pairs → to < scan_from earlier from) × Walks w (scan_from earlier from) es (λ at. to < at)
-Goes l g w earlier us (Committed n at) es = (us ≡ []) × (f : ℕ) × (others : List Event) × (es ≡ Event.End w true f ∷ others) × Unlocks w others
-Goes l g w earlier us (Aborted c n at backs) es = (us ≡ []) × Undoes w es
-Goes l g w earlier us (Refused c why backs) es = (us ≡ []) × MayPutBack why backs × Tries w es
-Goes l g w earlier us (Synced at) es = (us ≡ []) × (es ≡ [])
-Goes l g w earlier us (Checkpointed at) es = (us ≡ []) × (es ≡ [])
+-- ## What is asked behind a conflict
 
 -- a conflict
 abbrev pub is_conflict : Refusal → Bool
 is_conflict (refusal.Conflict h) = true
 is_conflict _ = false
 
+-- the call that met a conflict, if it did
+abbrev pub hindered_in : Deed → Option Call
+hindered_in (Refused c why backs) = if is_conflict why then Some c else None
+hindered_in _ = None
+
+-- behind a conflict, whatever its line asked, the abort of its transaction
+abbrev pub due_call : Option Call → Call → Call
+due_call None c = c
+due_call (Some hindered) c = call.Abort
+
+-- what a call asks, behind these outcomes
+abbrev pub call_behind : List Outcome → Call → Call
+call_behind [] c = c
+call_behind (y ∷ earlier) c = due_call (hindered_in y.deed) c
+
+-- ## What a refused call has done
+
+-- A call of a key: that there is no room is found behind its row; that a clock or a latch is spent, before it or behind it; any other refusal comes before it.
+abbrev pub TakesRow : Refusal → (w row : ℕ) → Mode → List Event → Type 0
+TakesRow refusal.TooTall w i mode es = es ≡ Event.Lock w i mode ∷ []
+TakesRow refusal.NoPages w i mode es = es ≡ Event.Lock w i mode ∷ []
+TakesRow refusal.ClockSpent w i mode es = (es ≡ []) ⊎ (es ≡ Event.Lock w i mode ∷ [])
+TakesRow refusal.RowSpent w i mode es = (es ≡ []) ⊎ (es ≡ Event.Lock w i mode ∷ [])
+TakesRow why w i mode es = es ≡ []
+
+-- session w puts changes back, and does nothing else
+abbrev pub PutsBack : ℕ → List Event → Type 0
+PutsBack w [] = Unit {0}
+PutsBack w (Event.Put_back v p ∷ es) = (v ≡ w) × PutsBack w es
+PutsBack w _ = ⊥
+
+-- A get, a put and a del may have taken their key's row. A scan has walked as far as a row that it may not have, or a latch that is spent; an abort that ended at one has put changes back. Where
+-- nothing else is said, nothing was done.
+abbrev pub Tries : Opening → ℕ → List Outcome → Call → Refusal → List Event → Type 0
+Tries g w earlier (call.Get k) why es = TakesRow why w (g.row_of k) Mode.Shared es
+Tries g w earlier (call.Put k v) why es = TakesRow why w (g.row_of k) Mode.Alone es
+Tries g w earlier (call.Del k) why es = TakesRow why w (g.row_of k) Mode.Alone es
+Tries g w earlier (call.Scan from to) (refusal.Conflict h) es = Walks w (scan_from earlier from) es (λ at. Unit {0})
+Tries g w earlier (call.Scan from to) refusal.RowSpent es = Walks w (scan_from earlier from) es (λ at. Unit {0})
+Tries g w earlier call.Abort refusal.RowSpent es = PutsBack w es
+Tries g w earlier c why es = es ≡ []
+
+-- an abort alone, which ended at a spent latch, has put changes back
+abbrev pub MayPutBack : Call → Refusal → List Step → Type 0
+MayPutBack call.Abort refusal.RowSpent backs = Unit {0}
+MayPutBack c why backs = backs ≡ []
+
+-- ## The steps of a deed
+
+-- The steps of session w that stand for a deed. A get, a put and a del take their key's row each time, whether the session has it already or not. A scan prints the pairs
+-- from a key to another, so many at most; a pair behind them is not told.
+abbrev pub Goes : Limits → Opening → ℕ → List Outcome → List Unsaid → Deed → List Event → Type 0
+Goes l g w earlier us (Begun n) es = (us ≡ []) × (f : ℕ) × (es ≡ Event.Begin w f ∷ [])
+Goes l g w earlier us (Got k a alone) es = (us ≡ []) × (p : ℕ) × (es ≡ Event.Lock w (g.row_of k) Mode.Shared ∷ Event.Read w p k a ∷ [])
+Goes l g w earlier us (Changed k v a) es = (us ≡ []) × (p : ℕ) × (es ≡ Event.Lock w (g.row_of k) Mode.Alone ∷ Event.Change w p k v ∷ [])
+Goes l g w earlier us (Deleted k a) es = (us ≡ []) × (p : ℕ) × (es ≡ Event.Lock w (g.row_of k) Mode.Alone ∷ Event.Change w p k g.format.dead ∷ [])
+Goes l g w earlier us (Absent k) es = (us ≡ []) × (p : ℕ) × (es ≡ Event.Lock w (g.row_of k) Mode.Alone ∷ Event.Read w p k None ∷ [])
+Goes l g w earlier us (Met from to k v alone) es = (us ≡ []) × (k ≤ to) × (met_last earlier < l.pairs) × Walks w (scan_from earlier from) es (λ at. at ≡ suc k)
+Goes l g w earlier us (Paused from to k) es = (us ≡ []) × (es ≡ []) × (met_last earlier ≡ l.pairs) × (k ≡ scan_from earlier from) × (k ≤ to)
+Goes l g w earlier us (Over from to) es = AreAbove to us × (met_last earlier ≡ l.pairs → to < scan_from earlier from) × Walks w (scan_from earlier from) es (λ at. to < at)
+Goes l g w earlier us (Committed n at) es = (us ≡ []) × (f : ℕ) × (others : List Event) × (es ≡ Event.End w true f ∷ others) × Unlocks w others
+Goes l g w earlier us (Aborted c n at backs) es = (us ≡ []) × Undoes w es
+Goes l g w earlier us (Refused c why backs) es = (us ≡ []) × MayPutBack (call_behind earlier c) why backs × Tries g w earlier (call_behind earlier c) why es
+Goes l g w earlier us (Synced at) es = (us ≡ []) × (es ≡ [])
+Goes l g w earlier us (Checkpointed at) es = (us ≡ []) × (es ≡ [])
+
 -- the call's transaction is aborted, or its abort is refused
 abbrev pub IsAbortOf : Call → Deed → Type 0
 IsAbortOf c (Aborted d n at backs) = d ≡ c
 IsAbortOf c (Refused d why backs) = (d ≡ c) × (why ≡ refusal.RowSpent)
 IsAbortOf c _ = ⊥
-
--- the call that met a conflict, if it did
-abbrev pub hindered_in : Deed → Option Call
-hindered_in (Refused c why backs) = if is_conflict why then Some c else None
-hindered_in _ = None
 
 -- if a transaction is aborted, an abort was asked
 abbrev pub IsAnAbort : Deed → Type 0
@@ -147,9 +177,17 @@ is_change_call (call.Put k v) = true
 is_change_call (call.Del k) = true
 is_change_call _ = false
 
--- room is made for it, or it tidies the tree; so may one that is refused
+-- it comes behind the row of the call's key
+abbrev pub is_behind_row : Refusal → Bool
+is_behind_row refusal.TooTall = true
+is_behind_row refusal.NoPages = true
+is_behind_row refusal.ClockSpent = true
+is_behind_row refusal.RowSpent = true
+is_behind_row _ = false
+
+-- room is made for it, or it tidies the tree; so may one that is refused behind its row
 abbrev pub is_change : Deed → Bool
 is_change (Changed k v a) = true
 is_change (Deleted k a) = true
-is_change (Refused c why backs) = is_change_call c
+is_change (Refused c why backs) = is_change_call c && is_behind_row why
 is_change _ = false

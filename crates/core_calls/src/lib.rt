@@ -6,14 +6,17 @@ ghost use Rattle.core_calls.specs.Alone.{EveryAlone};
 ghost use Rattle.core_calls.specs.Crashes.{EveryRunCrash};
 ghost use Rattle.core_calls.specs.Durables.{EveryCommit, EveryDue, EveryDurable, EverySynced};
 ghost use Rattle.core_calls.specs.Counts.{EveryOrdered};
-ghost use Rattle.core_calls.specs.Controls.{EveryControl};
+ghost use Rattle.core_calls.specs.Controls.{EveryControl, EveryStepControl};
 ghost use Rattle.core_calls.specs.Lines.{EveryRoundScript, EveryScript};
+ghost use Rattle.core_calls.specs.LogEvents.{EveryWhere};
+ghost use Rattle.core_calls.specs.Presses.{EveryPress, WorkedPress};
 ghost use Rattle.core_calls.specs.Printed.{EveryPrinted};
 ghost use Rattle.core_calls.specs.Refusals.{EveryHinder};
 ghost use Rattle.core_calls.specs.Rounds.{EveryFinish, EveryRound, EveryRoundSynced};
 ghost use Rattle.core_calls.specs.Room.{EveryRoom};
 ghost use Rattle.core_calls.specs.Rows.{Rows, WorkedRoom};
 ghost use Rattle.core_calls.specs.Told.{EveryTold};
+ghost use Rattle.core_calls.specs.Warms.{EveryWarm};
 
 /// The journal that the outcomes of lines tell is the core's: it is serial, and what an image keeps of it is closed and
 /// holds each ripe one.
@@ -79,6 +82,12 @@ pub fn every_control()
     every_ordered();
 }
 
+/// Wrong events of a call are refused: a row that is not taken, is taken alone, or is another's; a sync, a put-back or room that
+/// nothing asked for; and whatever a call did that was refused before it was begun.
+pub fn every_step_control()
+    ensures { EveryStepControl }
+{}
+
 /// Wherever a crash falls in a run on one thread, the transactions that were told by then, with at most one in hand, are
 /// serial, and recovery gives the map after a closed set of them that holds each that was reported durable.
 pub fn every_run_crash()
@@ -133,6 +142,33 @@ pub fn every_room()
 /// A full leaf by hand: how many pages room takes before the lift, before the split and behind it, and when there is none.
 pub fn worked_room()
     ensures { WorkedRoom }
+{}
+
+/// Syncs that stand where a page that is needed finds no frame: how lists of events with them are put together.
+pub fn every_where()
+    ensures { EveryWhere }
+{}
+
+/// A sync for a page is due exactly where no frame can be given to it: with one that could be, it is not; without, no move of
+/// pages brings the page into a frame.
+pub fn every_press()
+    ensures { EveryPress }
+{
+    core_paging::every_residence();
+    core_paging::every_saved();
+}
+
+/// A put by hand that finds no frame: where the sync stands, where it may not, and that nothing helps without it.
+pub fn worked_press()
+    ensures { WorkedPress }
+{
+    every_press();
+}
+
+/// Each page of a key's way at which a descent stops is below the one before; so one that is begun again ends within as many
+/// faults as the tree has levels.
+pub fn every_warm()
+    ensures { EveryWarm }
 {}
 
 /// Durable lines stand in the order of commit numbers, ties by session.

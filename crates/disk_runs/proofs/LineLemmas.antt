@@ -1,45 +1,85 @@
 -- The masters of one run, and fairness since a story.
-use Rattle.std.proofs.Common.{◌≡◌, inl, inr, ⊎_elim, ◌++◌, ℕ, suc, List, codes, refl, sym, ap, ◌∙◌, subst, arith}
+use Rattle.std.proofs.Common.{◌≡◌, ◌≤◌, inl, inr, ⊎_elim, ◌+◌, ◌++◌, ℕ, suc, Bool, true, false, cond, List, [], ◌∷◌, length, codes, refl, sym, ap, ◌∙◌, subst, arith}
+use Rattle.map_model.specs.Lists.{keep}
 use Rattle.image_model.specs.Fair.{IsFair}
+use Rattle.core_state.specs.Events.{Event}
 use Rattle.lean_disk.specs.Area.{Write}
 use Rattle.lean_disk.specs.Story.{Crash, Story}
 use Rattle.disk_slots.specs.declared.master.Master.{Master}
 use Rattle.disk_slots.specs.Slots.{IsSealed}
 use Rattle.log_block.specs.Block as blocks
 use Rattle.disk_image.specs.Fair.{IsFairCrash}
-use Rattle.disk_image.specs.Masters.{IsOfRun}
 use Rattle.disk_runs.specs.Fair.{EveryFair, IsAsRead, IsFairFrom}
-use Rattle.disk_runs.specs.Masters.{EveryMasterLine, IsNextOf, IsNoEarlier}
+use Rattle.disk_runs.specs.Masters.{EveryMasterCount, EveryMasterLine, IsNextOf, IsNoEarlier, IsOfRunBy, is_master, masters}
 
-pub same : (n : Master) → IsNoEarlier n n
-same n = record { sequence = omega arith; generation = refl; pages = refl; blocks = refl; logs = refl }
+-- ## Masters by events
 
-pub next : (n m : Master) → IsNextOf n m → IsNoEarlier n m
-next n m x = record { sequence = let q = x.sequence in omega arith; generation = x.generation; pages = x.pages; blocks = x.blocks; logs = x.logs }
+-- those of two parts of a run
+pub masters_more : (xs ys : List Event) → masters (xs ++ ys) ≡ masters xs + masters ys
+masters_more [] ys = omega arith
+masters_more (e ∷ xs) ys = go (masters_more xs ys) (is_master e)
+  where
+    go : masters (xs ++ ys) ≡ masters xs + masters ys → (b : Bool) → length (cond b (e ∷ keep is_master (xs ++ ys)) (keep is_master (xs ++ ys))) ≡ length (cond b (e ∷ keep is_master xs) (keep is_master xs)) + masters ys
+    go ih true = omega (arith, ih)
+    go ih false = ih
 
-pub further : (n m k : Master) → IsNoEarlier n m → IsNoEarlier m k → IsNoEarlier n k
-further n m k x y = record {
+masters_few : (es : List Event) → masters es ≤ length es
+masters_few [] = omega arith
+masters_few (e ∷ es) = go (masters_few es) (is_master e)
+  where
+    go : masters es ≤ length es → (b : Bool) → length (cond b (e ∷ keep is_master es) (keep is_master es)) ≤ length (e ∷ es)
+    go ih true = omega (arith, ih)
+    go ih false = omega (arith, ih)
+
+pub every_master_count : EveryMasterCount
+every_master_count xs ys = record { more = masters_more xs ys; few = masters_few xs }
+
+masters_one : (e : Event) → is_master e ≡ true → masters (e ∷ []) ≡ 1
+masters_one e is = ap (λ (b : Bool). length (cond b (e ∷ []) [])) is
+
+pub same : (es : List Event) (n : Master) → IsNoEarlier es n n
+same es n = record { sequence = omega arith; most = omega arith; generation = refl; pages = refl; blocks = refl; logs = refl }
+
+pub next : (e : Event) (n m : Master) → is_master e ≡ true → IsNextOf n m → IsNoEarlier (e ∷ []) n m
+next e n m is x = record {
+  sequence = let q = x.sequence in omega arith;
+  most = let q = x.sequence in let one = masters_one e is in omega arith;
+  generation = x.generation;
+  pages = x.pages;
+  blocks = x.blocks;
+  logs = x.logs;
+}
+
+pub further : (xs ys : List Event) (n m k : Master) → IsNoEarlier xs n m → IsNoEarlier ys m k → IsNoEarlier (xs ++ ys) n k
+further xs ys n m k x y = record {
   sequence = let a = x.sequence in let b = y.sequence in omega arith;
+  most = let a = x.most in let b = y.most in let all = masters_more xs ys in omega arith;
   generation = y.generation ∙ x.generation;
   pages = y.pages ∙ x.pages;
   blocks = y.blocks ∙ x.blocks;
   logs = y.logs ∙ x.logs;
 }
 
-pub of_run : (n m : Master) → IsNoEarlier n m → IsOfRun n m
-of_run n m x = record { pages = x.pages; blocks = x.blocks; logs = x.logs; generation = inl x.generation; sequence = x.sequence }
+pub of_run : (es : List Event) (n m : Master) → IsNoEarlier es n m → IsOfRunBy es n m
+of_run es n m x = record {
+  of_run = record { pages = x.pages; blocks = x.blocks; logs = x.logs; generation = inl x.generation; sequence = x.sequence };
+  most = let a = x.most in let q = x.generation in omega arith;
+}
 
-pub opened : (n m k : Master) → IsOfRun n m → IsNoEarlier m k → IsOfRun n k
-opened n m k x y = record {
-  pages = y.pages ∙ x.pages;
-  blocks = y.blocks ∙ x.blocks;
-  logs = y.logs ∙ x.logs;
-  generation = ⊎_elim (λ q. inl (y.generation ∙ q)) (λ q. inr (y.generation ∙ q)) x.generation;
-  sequence = let a = x.sequence in let b = y.sequence in omega arith;
+pub opened : (xs ys : List Event) (n m k : Master) → IsOfRunBy xs n m → IsNoEarlier ys m k → IsOfRunBy (xs ++ ys) n k
+opened xs ys n m k x y = record {
+  of_run = record {
+    pages = y.pages ∙ x.of_run.pages;
+    blocks = y.blocks ∙ x.of_run.blocks;
+    logs = y.logs ∙ x.of_run.logs;
+    generation = ⊎_elim (λ q. inl (y.generation ∙ q)) (λ q. inr (y.generation ∙ q)) x.of_run.generation;
+    sequence = let a = x.of_run.sequence in let b = y.sequence in omega arith;
+  };
+  most = let a = x.most in let b = y.most in let q = y.generation in let all = masters_more xs ys in omega arith;
 }
 
 pub every_master_line : EveryMasterLine
-every_master_line n m k = record { same = same n; next = next n m; further = further n m k; of_run = of_run n m; opened = opened n m k }
+every_master_line n m k = record { same = λ es. same es n; next = λ e. next e n m; further = λ xs ys. further xs ys n m k; of_run = λ es. of_run es n m; opened = λ xs ys. opened xs ys n m k }
 
 -- ## Fairness
 

@@ -20,14 +20,14 @@ use Rattle.disk_runs.proofs.LineLemmas.{further, next, same}
 
 -- before the first event
 pub none_yet : (g : Opening) (es more : List Event) (n : Master) (area : Areas) → HoldsRun g es n area → HoldsSome g es more n area
-none_yet g es more n area h = record { first = []; rest = more; is = refl; master = n; no_earlier = same n; holds = subst (λ (k : List Event). HoldsRun g k n area) (sym (append-nil es)) h }
+none_yet g es more n area h = record { first = []; rest = more; is = refl; master = n; no_earlier = same [] n; holds = subst (λ (k : List Event). HoldsRun g k n area) (sym (append-nil es)) h }
 
 pub some_laws : (g : Opening) (es : List Event) (s0 : Crash) (n : Master) (c : Crash) → SomeLaws g es s0 n c
 some_laws g es s0 n c = record {
   run = λ more l fair. none_yet g es more n c.image (l fair);
-  master = λ e m more q l fair. ⊎_elim
+  master = λ e m more is q l fair. ⊎_elim
       (λ (h : HoldsRun g es n c.image). none_yet g es (e ∷ more) n c.image h)
-      (λ (h : HoldsRun g (then es e) m c.image). record { first = e ∷ []; rest = more; is = refl; master = m; no_earlier = next n m q; holds = h })
+      (λ (h : HoldsRun g (then es e) m c.image). record { first = e ∷ []; rest = more; is = refl; master = m; no_earlier = next e n m is q; holds = h })
       (l fair);
   longer = λ xs ys l fair. let h = l fair in record {
     first = h.first;
@@ -42,7 +42,7 @@ some_laws g es s0 n c = record {
     rest = h.rest;
     is = append_assoc xs h.first h.rest ∙ ap (λ (k : List Event). xs ++ k) h.is;
     master = h.master;
-    no_earlier = further n m h.master q h.no_earlier;
+    no_earlier = further xs h.first n m h.master q h.no_earlier;
     holds = subst (λ (k : List Event). HoldsRun g k h.master c.image) (append_assoc es xs h.first) h.holds;
   };
 }
@@ -60,7 +60,7 @@ both old new P Q p q = record {
 pub every_moment : (from old new : Story) → EveryMoment from old new
 every_moment from old new s0 g es n = record {
   call = λ more run. weaker old new (LeavesRun g es s0 n) (LeavesSome g es more s0 n) (λ c. (some_laws g es s0 n c).run more) run;
-  master = λ e m more q run. weaker old new (LeavesEither g es e s0 n m) (LeavesSome g es (e ∷ more) s0 n) (λ c. (some_laws g es s0 n c).master e m more q) run;
+  master = λ e m more is q run. weaker old new (LeavesEither g es e s0 n m) (LeavesSome g es (e ∷ more) s0 n) (λ c. (some_laws g es s0 n c).master e m more is q) run;
   more = λ early later m q a b. moments.then from old new (LeavesSome g es (early ++ later) s0 n)
       (weaker from old (LeavesSome g es early s0 n) (LeavesSome g es (early ++ later) s0 n) (λ c. (some_laws g es s0 n c).longer early later) a)
       (weaker old new (LeavesSome g (es ++ early) later s0 m) (LeavesSome g es (early ++ later) s0 n) (λ c. (some_laws g es s0 n c).later early later m q) b);

@@ -1,11 +1,14 @@
 -- The master of a run: what stands in its two slots, and what a crash may leave there.
-use Rattle.std.specs.Prelude.{◌≡◌, ◌<◌, ◌≤◌, ◌+◌, ◌-◌, ◌*◌, ◌%◌, ℕ, List, ◌++◌, length, Some}
-use Rattle.map_model.specs.Lists.{Has}
+use Rattle.std.specs.Prelude.{◌≡◌, ◌<◌, ◌≤◌, ◌+◌, ◌-◌, ◌*◌, ◌%◌, ◌||◌, ℕ, Bool, true, List, [], ◌∷◌, ◌++◌, length, Some}
+use Rattle.map_model.specs.Lists.{Has, keep}
+use Rattle.core_state.specs.Events.{Event}
+use Rattle.core_state.specs.Local.{is_sync}
 use Rattle.image_model.specs.Fair.{piece}
 use Rattle.lean_disk.specs.Area.{Area, Write}
 use Rattle.disk_slots.specs.declared.master.Master.{Master}
 use Rattle.disk_image.specs.MasterSlots.{master_in}
 use Rattle.disk_image.specs.Masters.{IsOfRun}
+use Rattle.core_disk.specs.Versions.{is_cut}
 use Rattle.disk_runs.specs.Fair.{IsSlotWrite}
 
 -- the slot of a master
@@ -33,22 +36,48 @@ pub record IsNextOf (n m : Master) : Type 0 where
   pub blocks : m.blocks ≡ n.blocks
   pub logs : length m.heads ≡ length n.heads
 
--- m is n, or a later master of the run in which n counted
-pub record IsNoEarlier (n m : Master) : Type 0 where
+-- ## By events
+
+-- a sync or a cut, by which the next master may be written
+abbrev pub is_master : Event → Bool
+is_master e = is_sync e || is_cut e
+
+-- how many of these events are such
+abbrev pub masters : List Event → ℕ
+masters es = length (keep is_master es)
+
+-- Behind these events of a run in which n counted, m counts: it is n, or a later one, and each sync and each cut wrote one master at most.
+pub record IsNoEarlier (es : List Event) (n m : Master) : Type 0 where
   pub sequence : n.sequence ≤ m.sequence
+  pub most : m.sequence ≤ n.sequence + masters es
   pub generation : m.generation ≡ n.generation
   pub pages : m.pages ≡ n.pages
   pub blocks : m.blocks ≡ n.blocks
   pub logs : length m.heads ≡ length n.heads
 
+-- Behind these events n counts in a run that began with m, or on a disk whose master was m, and then the opening wrote one master more, of the next
+-- generation.
+pub record IsOfRunBy (es : List Event) (m n : Master) : Type 0 where
+  pub of_run : IsOfRun m n
+  pub most : n.sequence + m.generation ≤ m.sequence + (n.generation + masters es)
+
 -- So it is one after another; and a run that began with a master of an older one, by which it was opened, is of that one.
 pub record LineLaws (n m k : Master) : Type 0 where
-  pub same : IsNoEarlier n n
-  pub next : IsNextOf n m → IsNoEarlier n m
-  pub further : IsNoEarlier n m → IsNoEarlier m k → IsNoEarlier n k
-  pub of_run : IsNoEarlier n m → IsOfRun n m
-  pub opened : IsOfRun n m → IsNoEarlier m k → IsOfRun n k
+  pub same : (es : List Event) → IsNoEarlier es n n
+  pub next : (e : Event) → is_master e ≡ true → IsNextOf n m → IsNoEarlier (e ∷ []) n m
+  pub further : (xs ys : List Event) → IsNoEarlier xs n m → IsNoEarlier ys m k → IsNoEarlier (xs ++ ys) n k
+  pub of_run : (es : List Event) → IsNoEarlier es n m → IsOfRunBy es n m
+  pub opened : (xs ys : List Event) → IsOfRunBy xs n m → IsNoEarlier ys m k → IsOfRunBy (xs ++ ys) n k
 
 -- of any three masters
 abbrev pub EveryMasterLine : Type 0
 EveryMasterLine = (n m k : Master) → LineLaws n m k
+
+-- The masters of two parts of a run are those of both, and no run has more than events.
+pub record CountLaws (xs ys : List Event) : Type 0 where
+  pub more : masters (xs ++ ys) ≡ masters xs + masters ys
+  pub few : masters xs ≤ length xs
+
+-- of any events
+abbrev pub EveryMasterCount : Type 0
+EveryMasterCount = (xs ys : List Event) → CountLaws xs ys

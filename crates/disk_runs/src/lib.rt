@@ -8,7 +8,7 @@ ghost use Rattle.disk_runs.specs.Fair.{EveryFair};
 ghost use Rattle.disk_runs.specs.Laws.{EveryFlush, EveryLogCall, EveryRead, EveryRest, EverySame, EveryStage, EveryStill};
 ghost use Rattle.disk_runs.specs.PageLaws.{EveryFetch, EverySave, EverySettled};
 ghost use Rattle.disk_runs.specs.MasterLaws.{EveryCut, EveryMaster, EveryMasterWrite, EveryNextMaster, EverySync};
-ghost use Rattle.disk_runs.specs.Masters.{EveryMasterLine};
+ghost use Rattle.disk_runs.specs.Masters.{EveryMasterCount, EveryMasterLine};
 ghost use Rattle.disk_runs.specs.Moments.{EveryAmong, EveryLasting, EveryMoment, EverySurvival};
 ghost use Rattle.disk_runs.specs.Openings.{EveryOpened};
 ghost use Rattle.disk_runs.specs.Quiet.{EveryQuiet};
@@ -122,6 +122,11 @@ pub fn every_next_master<D: Disk>(old: &D, new: &D)
 /// The masters of a run, one after another.
 pub fn every_master_line()
     ensures { EveryMasterLine }
+{}
+
+/// How many are written by the events of a run, and of its parts.
+pub fn every_master_count()
+    ensures { EveryMasterCount }
 {}
 
 /// What stands by the master of a sync.

@@ -65,7 +65,7 @@ fn opened(alloc: Global) -> io::Result<Engine<MemDisk>> {
 // Takes the commits that have become durable, of which there is one at most.
 fn listen(engine: &mut Engine<MemDisk>) {
     for _ in 0..2 {
-        if engine.sessions() >= 1 && engine.next() != Next::Line && engine.half_done(1).is_ok() {
+        if engine.sessions() >= 1 && engine.expects() != Next::Line && engine.half_done(1).is_ok() {
             let _ = engine.next_durable();
         }
     }
@@ -76,7 +76,7 @@ fn is_ready(engine: &mut Engine<MemDisk>) -> bool
     ensures { IsTrue result → (engine.new.next ≡ Next.Line) × (1 ≤ engine.new.sessions) }
 {
     listen(engine);
-    engine.next() == Next::Line && engine.sessions() >= 1
+    engine.expects() == Next::Line && engine.sessions() >= 1
 }
 
 fn begin(engine: &mut Engine<MemDisk>) {

@@ -18,7 +18,8 @@ use Rattle.disk_image.specs.Records.{entry_of}
 use Rattle.core_disk.specs.Versions.{EveryVersion}
 use Rattle.core_calls.specs.Deeds.{commits, put_backs}
 use Rattle.core_calls.specs.Fronts.{AreFresh, Done, IsFresh, front}
-use Rattle.core_calls.specs.LogEvents.{AreSyncs, is_log}
+use Rattle.core_calls.specs.LogEvents.{IsTightSomewhere}
+use Rattle.core_calls.proofs.WhereLemmas.{syncs_more, syncs_none}
 use Rattle.core_calls.specs.Marks.{Ended, Mark, back_in, mark, marks, onto}
 use Rattle.core_calls.specs.Refusals.{Limits}
 use Rattle.core_calls.specs.Runs.{Tells}
@@ -147,9 +148,6 @@ module _ (l : Limits) (g : Opening) (group : ℕ) (xs : List Done) (c : Call) (f
   steps_are : keep is_step done.events ≡ keep is_step first ++ end_event ∷ unlocks w rows
   steps_are = keep_append is_step first (end_event ∷ unlocks w rows) ∙ ap (λ (es : List Event). keep is_step first ++ end_event ∷ es) (unlocks_steps w rows)
 
-  logs_are : keep is_log done.events ≡ keep is_log first
-  logs_are = keep_append is_log first (end_event ∷ unlocks w rows) ∙ (ap (λ (es : List Event). keep is_log first ++ es) (unlocks_logs w rows) ∙ append-nil (keep is_log first))
-
   last_state : state_after g (front xs ++ done.events) ≡ behind_first g xs done.events
   last_state = run_more g (start g) (front xs) done.events
 
@@ -163,7 +161,7 @@ module _ (l : Limits) (g : Opening) (group : ℕ) (xs : List Done) (c : Call) (f
     hindered = i.comes.hindered;
     goes_on = i.comes.goes_on;
     structure = λ e. any_append is_structure first (end_event ∷ unlocks w rows) i.structure (unlocks_structure w rows);
-    logs = subst (AreSyncs false) (sym logs_are) i.syncs;
+    logs = syncs_more (IsTightSomewhere g) g first (end_event ∷ unlocks w rows) s0_state false i.syncs (syncs_none (IsTightSomewhere g) g (end_event ∷ unlocks w rows) s (unlocks_logs w rows));
     refused = tt;
     released = λ e j. ap (λ (t : State). holds_row (t.row j) w) last_state ∙ i.released j;
   }

@@ -1,6 +1,5 @@
 -- A get, and a del of an absent key.
-use Rattle.std.proofs.Common.{◌≡◌, ℕ, Bool, true, false, cond, ◌==◌, List, [], ◌∷◌, ◌++◌, Option, None, refl, sym, ap, ◌∙◌, subst, inl, true≢false}
-use Rattle.std.proofs.lemmas.List.{append-nil}
+use Rattle.std.proofs.Common.{◌≡◌, ℕ, Bool, true, false, cond, ◌==◌, List, [], ◌∷◌, ◌++◌, Option, None, refl, sym, ap, ◌∙◌, true≢false}
 use Rattle.map_model.specs.Lists.{any, keep}
 use Rattle.map_model.specs.Maps.{MapCall, MapAnswer}
 use Rattle.core_state.specs.Openings.{Opening}
@@ -13,7 +12,8 @@ use Rattle.lean_disk.specs.Story.{Story}
 use Rattle.core_disk.specs.Versions.{EveryVersion}
 use Rattle.core_calls.specs.Deeds.{Absent, Got}
 use Rattle.core_calls.specs.Fronts.{AreFresh, Done, front, outcomes}
-use Rattle.core_calls.specs.LogEvents.{AreSyncs, is_log}
+use Rattle.core_calls.specs.LogEvents.{IsTight}
+use Rattle.core_calls.proofs.WhereLemmas.{syncs_more}
 use Rattle.core_calls.specs.Marks.{Called, marks}
 use Rattle.core_calls.specs.Refusals.{Limits}
 use Rattle.core_calls.specs.Runs.{Tells}
@@ -21,16 +21,8 @@ use Rattle.core_calls.specs.Steps.{is_step, is_structure}
 use Rattle.engine_calls.specs.Parts.{behind_first}
 use Rattle.engine_calls.specs.Puts.{EveryGet, IsRead, is_alone, read_by, taking}
 use Rattle.engine_calls.proofs.ComingLemmas.{follows, goes_on}
-use Rattle.engine_calls.proofs.MarkLemmas.{any_append, first_none, first_steps, fresh_append, keep_append, marks_last}
+use Rattle.engine_calls.proofs.MarkLemmas.{any_append, first_none, first_steps, fresh_append, marks_last}
 use Rattle.engine_calls.proofs.PartLemmas.{quiet}
-
--- at the logs, an event that is none of theirs changes nothing
-pub syncs_more : (es : List Event) (e : Event) → is_log e ≡ false → AreSyncs false (keep is_log es) → AreSyncs false (keep is_log (es ++ e ∷ []))
-syncs_more es e q a = subst (AreSyncs false) (sym (keep_append is_log es (e ∷ []) ∙ (ap (λ (z : List Event). keep is_log es ++ z) (go (is_log e) q) ∙ append-nil (keep is_log es)))) a
-  where
-    go : (b : Bool) → b ≡ false → cond b (e ∷ []) [] ≡ []
-    go true q = absurd (true≢false q)
-    go false q = refl
 
 module _ (l : Limits) (g : Opening) (group : ℕ) (xs : List Done) (mode : Mode) (before between : List Event) (w page key : ℕ) (value : Option ℕ) (i : IsRead g xs mode before between w page key value) where
   abbrev first : List Event
@@ -75,11 +67,11 @@ get_tells l g group xs before between w page key value i =
       fresh = fresh l g group xs Mode.Shared before between w page key value i;
       told = told l g group xs Mode.Shared before between w page key value i (is_alone g xs first w key) refl;
       in_turn = i.whole;
-      steps = (refl, page, inl (steps l g group xs Mode.Shared before between w page key value i));
+      steps = (refl, page, steps l g group xs Mode.Shared before between w page key value i);
       hindered = follows (outcomes xs) done.outcome i.line tt;
       goes_on = goes_on (outcomes xs) done.outcome i.line;
       structure = λ e. structure l g group xs Mode.Shared before between w page key value i;
-      logs = syncs_more first (Event.Read w page key value) refl i.syncs;
+      logs = syncs_more (λ s. IsTight g s key) g first (Event.Read w page key value ∷ []) (state_after g (front xs)) false i.syncs tt;
       refused = tt;
       released = λ e. absurd (true≢false (sym e));
     }
@@ -95,11 +87,11 @@ absent_tells l g group xs before between w page key i alone =
       fresh = fresh l g group xs Mode.Alone before between w page key None i;
       told = told l g group xs Mode.Alone before between w page key None i true alone;
       in_turn = i.whole;
-      steps = (refl, page, inl (steps l g group xs Mode.Alone before between w page key None i));
+      steps = (refl, page, steps l g group xs Mode.Alone before between w page key None i);
       hindered = follows (outcomes xs) done.outcome i.line tt;
       goes_on = goes_on (outcomes xs) done.outcome i.line;
       structure = λ e. structure l g group xs Mode.Alone before between w page key None i;
-      logs = syncs_more first (Event.Read w page key None) refl i.syncs;
+      logs = syncs_more (λ s. IsTight g s key) g first (Event.Read w page key None ∷ []) (state_after g (front xs)) false i.syncs tt;
       refused = tt;
       released = λ e. absurd (true≢false (sym e));
     }

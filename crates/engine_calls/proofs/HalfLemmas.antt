@@ -1,27 +1,23 @@
 -- An abort that is refused.
-use Rattle.std.proofs.Common.{◌≡◌, ℕ, Bool, true, false, cond, ◌==◌, List, [], ◌∷◌, ◌++◌, refl, sym, ap, ◌∙◌, subst, true≢false}
+use Rattle.std.proofs.Common.{◌≡◌, ℕ, Bool, true, false, cond, ◌==◌, List, [], ◌++◌, refl, sym, ap, ◌∙◌, subst, true≢false}
 use Rattle.std.proofs.lemmas.List.{append-nil}
 use Rattle.map_model.specs.declared.call.Call.{Call}
+use Rattle.map_model.specs.declared.call.Call.TheVariants as call
+use Rattle.map_model.specs.declared.call.Refusal.TheVariants.{RowSpent}
 use Rattle.map_model.specs.Lists.{keep}
 use Rattle.core_state.specs.Openings.{Opening}
 use Rattle.core_state.specs.Events.{Event}
 use Rattle.core_state.specs.Steps.{state_after}
 use Rattle.lean_disk.specs.Story.{Story}
 use Rattle.core_calls.specs.Deeds.{put_backs}
-use Rattle.core_calls.specs.Fronts.{AreFresh, Done, front}
+use Rattle.core_calls.specs.Fronts.{AreFresh, Done, front, outcomes}
 use Rattle.core_calls.specs.Marks.{Mark, marks}
 use Rattle.core_calls.specs.Refusals.{Limits}
 use Rattle.core_calls.specs.Runs.{Tells}
-use Rattle.core_calls.specs.Steps.{Tries, is_step}
-use Rattle.engine_calls.specs.Aborts.{PutsBack, backs_by}
+use Rattle.core_calls.specs.Steps.{MayPutBack, Tries, is_step}
+use Rattle.engine_calls.specs.Aborts.{backs_by}
 use Rattle.engine_calls.specs.Halves.{EveryHalved, IsHalved, halved_by}
 use Rattle.engine_calls.proofs.AbortLemmas.{fresh_back, marks_backs, no_one}
-
--- what is put back is one of what a refused call may do
-backs_try : (w : ℕ) (es : List Event) → PutsBack w es → Tries w es
-backs_try w [] t = tt
-backs_try w (Event.Put_back v p ∷ es) t = (t.0, backs_try w es t.1)
-backs_try w (_ ∷ es) t = absurd t
 
 -- nothing is told behind it
 and_none : (c : Bool) (backs : List Mark) → cond c backs [] ≡ cond c (backs ++ []) []
@@ -36,7 +32,7 @@ tells l g group xs w c es i =
       fresh = subst (AreFresh g s) (append-nil es) (fresh_back g s w es [] i.backs tt);
       told = λ v. ap (marks g s es v) (no_one (w == v)) ∙ (marks_backs g s w es i.backs i.met v [] ∙ and_none (w == v) (put_backs (backs_by g s es [])));
       in_turn = tt;
-      steps = (refl, tt, backs_try w (keep is_step es) i.backs);
+      steps = (refl, may_put_back i.asks, tries i.asks);
       hindered = i.comes.hindered;
       goes_on = i.comes.goes_on;
       structure = λ e. i.structure;
@@ -44,6 +40,13 @@ tells l g group xs w c es i =
       refused = (es, [], sym (append-nil es), i.cause);
       released = λ e. absurd (true≢false (sym e));
     }
+  where
+    -- the abort
+    may_put_back : {d : Call} → d ≡ call.Abort → MayPutBack d RowSpent (backs_by g (state_after g (front xs)) es [])
+    may_put_back e = subst (λ d. MayPutBack d RowSpent (backs_by g (state_after g (front xs)) es [])) (sym e) tt
+
+    tries : {d : Call} → d ≡ call.Abort → Tries g w (outcomes xs) d RowSpent (keep is_step es)
+    tries e = subst (λ d. Tries g w (outcomes xs) d RowSpent (keep is_step es)) (sym e) i.backs
 
 pub every_halved : (old new : Story) → EveryHalved old new
 every_halved old new l g group xs s0 k a w c es b x i =

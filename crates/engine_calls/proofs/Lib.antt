@@ -1,6 +1,7 @@
 pub mod ComingLemmas
 pub mod MomentLemmas
 pub mod PartLemmas
+pub mod MoveLemmas
 pub mod MarkLemmas
 pub mod BeginLemmas
 pub mod UnlockLemmas

@@ -11,7 +11,7 @@ use Rattle.core_state.specs.Steps.{AllMet, run, step}
 use Rattle.core_calls.specs.Deeds.{commits}
 use Rattle.core_calls.specs.Fronts.{AreFresh, IsFresh}
 use Rattle.core_calls.specs.Marks.{Mark, mark, marks, met_in, onto}
-use Rattle.core_calls.specs.Steps.{Tries, is_step}
+use Rattle.core_calls.specs.Steps.{is_step}
 use Rattle.core_calls.proofs.RunLemmas.{marks_run}
 use Rattle.engine_calls.specs.Refused.{TakesRows}
 
@@ -149,11 +149,6 @@ taken_none w (e ∷ es) t = go (is_step e) refl (taken_none w es) t
     go : (b : Bool) → is_step e ≡ b → (TakesRows w (keep is_step es) → any has_mark es ≡ false) → TakesRows w (cond b (e ∷ keep is_step es) (keep is_step es)) → (has_mark e || any has_mark es) ≡ false
     go true q h t = let x = lock_first w e (keep is_step es) t in either_false (has_mark e) (any has_mark es) x.0 (h x.1)
     go false q h t = either_false (has_mark e) (any has_mark es) (no_step e q) (h t)
-
-pub tries : (w : ℕ) (es : List Event) → TakesRows w es → Tries w es
-tries w [] t = tt
-tries w (Event.Lock v i mode ∷ es) t = (t.0, tries w es t.1)
-tries w (_ ∷ es) t = absurd t
 
 -- ## One row that is taken
 

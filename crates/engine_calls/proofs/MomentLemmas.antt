@@ -24,7 +24,7 @@ pub among : (g : Opening) (xs : List Done) (first rest more : List Event) (s0 : 
     → LeavesOnly old new (LeavesRun g (front xs ++ first) s0 n) → LeavesOnly old new (λ c. c.notes ≡ notes) → LeavesOnly old new (CallLeaves g xs more s0 n)
 among g xs first rest more s0 n old new notes is counted runs told =
     weaker old new (λ c. LeavesRun g (front xs ++ first) s0 n c × (c.notes ≡ notes)) (CallLeaves g xs more s0 n)
-    (λ c h. record { notes = h.1 ∙ counted; some = λ fair. record { first = first; rest = rest; is = is; master = n; no_earlier = same n; holds = h.0 fair } })
+    (λ c h. record { notes = h.1 ∙ counted; some = λ fair. record { first = first; rest = rest; is = is; master = n; no_earlier = same first n; holds = h.0 fair } })
     (both old new (LeavesRun g (front xs ++ first) s0 n) (λ c. c.notes ≡ notes) runs told)
 
 -- a call that touches no device

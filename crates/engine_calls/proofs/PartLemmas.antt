@@ -60,9 +60,9 @@ module _ (l : Limits) (g : Opening) (group : ℕ) (xs : List Done) (s0 : Crash) 
   pub whole : (more : List Event) → Gone g xs es s0 k old a mid → Passes g xs es more s0 a mid new → LeavesOnly old new (CallLeaves g xs (es ++ more) s0 k.master)
   whole more x p = moments.then old mid new (CallLeaves g xs (es ++ more) s0 k.master) (early more x) (late more x p)
 
-  pub pass : (more : List Event) (c : Known) → Gone g xs es s0 k old a mid → Passes g xs es more s0 a mid new → IsNoEarlier a.master c.master → Stands g (front xs ++ (es ++ more)) s0 c new → new.notes ≡ mid.notes
+  pub pass : (more : List Event) (c : Known) → Gone g xs es s0 k old a mid → Passes g xs es more s0 a mid new → IsNoEarlier more a.master c.master → Stands g (front xs ++ (es ++ more)) s0 c new → new.notes ≡ mid.notes
       → Gone g xs (es ++ more) s0 k old c new
-  pass more c x p line st notes = record { no_earlier = further k.master a.master c.master x.no_earlier line; stands = st; notes = notes ∙ x.notes; any_moment = whole more x p }
+  pass more c x p line st notes = record { no_earlier = further es more k.master a.master c.master x.no_earlier line; stands = st; notes = notes ∙ x.notes; any_moment = whole more x p }
 
   -- a call on a log, at all moments of which its events have not happened yet
   pub on_log : (more : List Event) (w : ℕ) → 0 < w → w ≤ g.workers → Gone g xs es s0 k old a mid → OnLog w (a.log w) mid new → Passes g xs es more s0 a mid new
@@ -76,7 +76,7 @@ module _ (l : Limits) (g : Opening) (group : ℕ) (xs : List Done) (s0 : Crash) 
 
   pub none : EveryKept → EveryPrefix → EverySealed → IsLawful old → Gone g xs [] s0 k old k old
   none keeps prefixes seals law = record {
-    no_earlier = same k.master;
+    no_earlier = same [] k.master;
     stands = subst (λ (z : List Event). Stands g z s0 k old) (sym (append-nil (front xs))) b.stands;
     notes = refl;
     any_moment = still keeps prefixes seals g xs [] s0 k old law b.stands b.notes;
@@ -84,7 +84,7 @@ module _ (l : Limits) (g : Opening) (group : ℕ) (xs : List Done) (s0 : Crash) 
 
   pub quiet : EveryVersion → (more : List Event) → all is_quiet more ≡ true → Gone g xs es s0 k old a mid → Gone g xs (es ++ more) s0 k old a mid
   quiet versions more q x = record {
-    no_earlier = x.no_earlier;
+    no_earlier = further es more k.master a.master a.master x.no_earlier (same more a.master);
     stands = subst (λ (z : List Event). Stands g z s0 a mid) (append_assoc (front xs) es more) (quiet_all versions g (front xs ++ es) more s0 a mid q x.stands);
     notes = x.notes;
     any_moment = early more x;
@@ -98,11 +98,11 @@ module _ (l : Limits) (g : Opening) (group : ℕ) (xs : List Done) (s0 : Crash) 
   stage e w r log x c =
       let q = c.stages s0 g (front xs ++ es) a e (record { stands = x.stands; low = c.low; high = c.high; is = refl }) c.event
       (subst (λ (z : List Event). Records w (entry_of w r) (state_after g (front xs ++ es)) (state_after g z)) (sym (one e)) c.records) in
-      (q.0, pass (e ∷ []) (with_log a w log q.0) x (on_log (e ∷ []) w c.low c.high x c.on) (same a.master) (subst (λ (z : List Event). Stands g z s0 (with_log a w log q.0) new) (one e) q.1) c.on.notes)
+      (q.0, pass (e ∷ []) (with_log a w log q.0) x (on_log (e ∷ []) w c.low c.high x c.on) (same (e ∷ []) a.master) (subst (λ (z : List Event). Stands g z s0 (with_log a w log q.0) new) (one e) q.1) c.on.notes)
 
   pub flush : (e : Event) (w n : ℕ) (log : Log) → Gone g xs es s0 k old a mid → Settles g xs es e a w n log mid new → Gone g xs (es ++ e ∷ []) s0 k old (with_log a w log (flushed (a.account w))) new
   flush e w n log x c =
-      pass (e ∷ []) (with_log a w log (flushed (a.account w))) x (on_log (e ∷ []) w c.low c.high x c.on) (same a.master)
+      pass (e ∷ []) (with_log a w log (flushed (a.account w))) x (on_log (e ∷ []) w c.low c.high x c.on) (same (e ∷ []) a.master)
       (subst (λ (z : List Event). Stands g z s0 (with_log a w log (flushed (a.account w))) new) (one e)
       (c.call s0 g (front xs ++ es) a e n (record { stands = x.stands; low = c.low; high = c.high; is = refl }) c.event
       (subst (λ (z : List Event). Flushes w n (state_after g (front xs ++ es)) (state_after g z)) (sym (one e)) c.flushes) c.within)) c.on.notes
@@ -118,7 +118,7 @@ module _ (l : Limits) (g : Opening) (group : ℕ) (xs : List Done) (s0 : Crash) 
     answers = λ x is gone tells. record {
       answer = tells;
       known = a;
-      no_earlier = gone.no_earlier;
+      no_earlier = subst (λ (z : List Event). IsNoEarlier z k.master a.master) is gone.no_earlier;
       stands = subst (λ (z : List Event). Stands g (front xs ++ z) s0 a mid) is gone.stands;
       notes = gone.notes;
       any_moment = subst (λ (z : List Event). LeavesOnly old mid (CallLeaves g xs z s0 k.master)) is gone.any_moment;

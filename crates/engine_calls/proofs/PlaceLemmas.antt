@@ -23,7 +23,7 @@ rested keeps prefixes seals g es s0 k s works logs law st = record {
   any_moment = started s (PlaceLeaves g es [] s0 k s) law
       (λ c now. record { notes = now.notes; some = λ fair. none_yet g es [] k.master c.image (every_rest keeps prefixes seals s s0 g es k st.stands c now fair) });
   notes = refl;
-  after = λ w. record { known = k; no_earlier = same k.master; at = subst (λ (z : List Event). StandsAt g z s0 k logs s) (sym (append-nil es)) st };
+  after = λ w. record { known = k; no_earlier = same [] k.master; at = subst (λ (z : List Event). StandsAt g z s0 k logs s) (sym (append-nil es)) st };
 }
 
 module _ (g : Opening) (es xs ys : List Event) (s0 : Crash) (k : Known) where
@@ -43,7 +43,7 @@ module _ (g : Opening) (es xs ys : List Event) (s0 : Crash) (k : Known) where
         notes = second.notes ∙ first.notes;
         after = λ w. let end = second.after w in record {
           known = end.known;
-          no_earlier = further k.master reached.known.master end.known.master reached.no_earlier end.no_earlier;
+          no_earlier = further xs ys k.master reached.known.master end.known.master reached.no_earlier end.no_earlier;
           at = subst (λ (z : List Event). StandsAt g z s0 end.known logs new) (append_assoc es xs ys) end.at;
         };
       }

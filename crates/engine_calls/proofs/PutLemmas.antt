@@ -1,5 +1,5 @@
 -- A put, and a del of a key that is there.
-use Rattle.std.proofs.Common.{◌≡◌, ℕ, Bool, true, false, cond, ◌==◌, ltb, List, [], ◌∷◌, ◌++◌, Option, Some, refl, sym, ap, ◌∙◌, subst, inl, arith, true≢false}
+use Rattle.std.proofs.Common.{◌≡◌, ℕ, Bool, true, false, cond, ◌==◌, ltb, List, [], ◌∷◌, ◌++◌, Option, Some, refl, sym, ap, ◌∙◌, subst, arith, true≢false}
 use Rattle.std.proofs.lemmas.Bool.{lt-ltb, le-ltb}
 use Rattle.map_model.specs.Lists.{keep}
 use Rattle.map_model.specs.Maps.{MapCall, MapAnswer}
@@ -28,7 +28,8 @@ use Rattle.engine_calls.specs.Parts.{Gone, behind_first}
 use Rattle.engine_calls.specs.Clauses.{Nothing}
 use Rattle.engine_calls.specs.Puts.{EveryPut, IsWrite, WriteLaws, changed_by, taking}
 use Rattle.engine_calls.proofs.ComingLemmas.{follows, goes_on}
-use Rattle.engine_calls.proofs.GetLemmas.{syncs_more}
+use Rattle.core_calls.specs.LogEvents.{IsTight}
+use Rattle.core_calls.proofs.WhereLemmas.{syncs_more}
 use Rattle.engine_calls.proofs.MarkLemmas.{commits_none, first_none, first_steps, fresh_append, marks_last}
 use Rattle.engine_calls.proofs.PartLemmas.{on_log, stage, whole}
 use Rattle.engine_calls.proofs.UnlockLemmas.{if_met}
@@ -109,11 +110,11 @@ put_tells l g group xs before between w page key value was r i q =
       fresh = fresh l g group xs before between w page key value was r i;
       told = told l g group xs before between w page key value was r i (MapCall.Put key value) q;
       in_turn = i.whole;
-      steps = (refl, page, inl (steps l g group xs before between w page key value was r i));
+      steps = (refl, page, steps l g group xs before between w page key value was r i);
       hindered = follows (outcomes xs) done.outcome i.line tt;
       goes_on = goes_on (outcomes xs) done.outcome i.line;
       structure = λ e. absurd (true≢false e);
-      logs = syncs_more first (Event.Change w page key value) refl i.syncs;
+      logs = syncs_more (λ s. IsTight g s key) g first (Event.Change w page key value ∷ []) (state_after g (front xs)) false i.syncs tt;
       refused = tt;
       released = λ e. absurd (true≢false (sym e));
     }
@@ -129,11 +130,11 @@ del_tells l g group xs before between w page key was r i q =
       fresh = fresh l g group xs before between w page key g.format.dead (Some was) r i;
       told = told l g group xs before between w page key g.format.dead (Some was) r i (MapCall.Del key) q;
       in_turn = i.whole;
-      steps = (refl, page, inl (steps l g group xs before between w page key g.format.dead (Some was) r i));
+      steps = (refl, page, steps l g group xs before between w page key g.format.dead (Some was) r i);
       hindered = follows (outcomes xs) done.outcome i.line tt;
       goes_on = goes_on (outcomes xs) done.outcome i.line;
       structure = λ e. absurd (true≢false e);
-      logs = syncs_more first (Event.Change w page key g.format.dead) refl i.syncs;
+      logs = syncs_more (λ s. IsTight g s key) g first (Event.Change w page key g.format.dead ∷ []) (state_after g (front xs)) false i.syncs tt;
       refused = tt;
       released = λ e. absurd (true≢false (sym e));
     }

@@ -84,6 +84,7 @@ soon = record limits { latch_end = 0 }
 halved_shown : IsHalved soon opening earlier 1 call.Abort backs
 halved_shown = record {
   comes = record { hindered = follows (outcomes earlier) (halved opening).outcome (refl, refl) tt; goes_on = goes_on (outcomes earlier) (halved opening).outcome (refl, refl) };
+  asks = refl;
   met = (refl, tt);
   backs = (refl, tt);
   structure = refl;

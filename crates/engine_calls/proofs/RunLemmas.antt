@@ -54,7 +54,7 @@ module _ (shown : EveryShown) (crashes : EveryRunCrash) (agrees : EveryAgreement
   -- so a run goes on by the call and its lines
   pub line : (out : Story) (xs : List Done) (x : Done) → Runs l g group Such xs s0 m k from old → (a : CallAnswers l g group xs x s0 k old new)
       → LeavesOnly new out (LineCrash g xs x s0 new) → LeavesOnly from out (RunLeft g Such (x ∷ xs) s0 m)
-  line out xs x r a p = every_line_for shown crashes agrees Such from old new out l g group s0 m k.master a.known.master xs x (r.between.told, a.answer) r.of_run (opened m k.master a.known.master r.of_run a.no_earlier)
+  line out xs x r a p = every_line_for shown crashes agrees Such from old new out l g group s0 m k.master a.known.master xs x (r.between.told, a.answer) r.of_run (opened (front xs) x.events m k.master a.known.master r.of_run a.no_earlier)
       r.any_moment a.any_moment (puts out xs x r a p)
 
   -- a call that committed nothing, with such events, and the first part of one that would be answered so
@@ -91,7 +91,7 @@ every_run_for shown crashes agrees keeps prefixes seals Such from old new out l 
       counts = lines.counts;
       notes = lines.notes;
     };
-    of_run = opened m k.master a.known.master r.of_run a.no_earlier;
+    of_run = opened (front xs) x.events m k.master a.known.master r.of_run a.no_earlier;
     any_moment = line shown crashes agrees keeps prefixes seals Such l g group s0 m k from old new out xs x r a lines.any_moment;
   };
   unheard = λ xs x r a p. record {

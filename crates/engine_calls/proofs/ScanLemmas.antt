@@ -16,7 +16,8 @@ use Rattle.core_calls.specs.Steps.{is_step, is_structure}
 use Rattle.engine_calls.specs.Parts.{behind_first}
 use Rattle.engine_calls.specs.Puts.{is_alone}
 use Rattle.engine_calls.specs.Scans.{EveryScan, IsPair, IsScan, PassesGaps, pair_behind}
-use Rattle.engine_calls.proofs.GetLemmas.{syncs_more}
+use Rattle.core_calls.specs.LogEvents.{IsTightSomewhere}
+use Rattle.core_calls.proofs.WhereLemmas.{syncs_more}
 use Rattle.engine_calls.proofs.MarkLemmas.{any_append, either_false, fresh_append, fresh_none, has_mark, marks_last, marks_none, no_step}
 use Rattle.engine_calls.proofs.PartLemmas.{quiet}
 
@@ -76,7 +77,7 @@ every_scan versions old new l g group xs s0 k a first w from to b = record {
           hindered = i.comes.hindered;
           goes_on = i.comes.goes_on;
           structure = λ e. any_append is_structure first (Event.Next w page at (MapAnswer.Pair key v) ∷ []) i.structure refl;
-          logs = syncs_more first (Event.Next w page at (MapAnswer.Pair key v)) refl i.syncs;
+          logs = syncs_more (IsTightSomewhere g) g first (Event.Next w page at (MapAnswer.Pair key v) ∷ []) (state_after g (front xs)) false i.syncs tt;
           refused = tt;
           released = λ e. absurd (true≢false (sym e));
         };
@@ -138,7 +139,7 @@ every_scan versions old new l g group xs s0 k a first w from to b = record {
           hindered = i.comes.hindered;
           goes_on = i.comes.goes_on;
           structure = λ e. any_append is_structure first (Event.Next w page at (MapAnswer.Pair key v) ∷ []) i.structure refl;
-          logs = syncs_more first (Event.Next w page at (MapAnswer.Pair key v)) refl i.syncs;
+          logs = syncs_more (IsTightSomewhere g) g first (Event.Next w page at (MapAnswer.Pair key v) ∷ []) (state_after g (front xs)) false i.syncs tt;
           refused = tt;
           released = λ e. absurd (true≢false (sym e));
         };

@@ -58,7 +58,7 @@ pub unlocks_quiet : (w : ℕ) (rows : List ℕ) → all is_quiet (unlocks w rows
 unlocks_quiet w [] = refl
 unlocks_quiet w (i ∷ rows) = unlocks_quiet w rows
 
-pub unlocks_logs : (w : ℕ) (rows : List ℕ) → keep is_log (unlocks w rows) ≡ []
+pub unlocks_logs : (w : ℕ) (rows : List ℕ) → any is_log (unlocks w rows) ≡ false
 unlocks_logs w [] = refl
 unlocks_logs w (i ∷ rows) = unlocks_logs w rows
 

@@ -16,21 +16,16 @@ use Rattle.disk_image.specs.Records.{entry_of}
 use Rattle.worker_log.specs.Logs.{Log}
 use Rattle.core_calls.specs.Deeds.{Aborted}
 use Rattle.core_calls.specs.Fronts.{Done, front}
-use Rattle.core_calls.specs.LogEvents.{AreSyncs, is_log}
+use Rattle.core_calls.specs.LogEvents.{IsTightSomewhere, SyncsWhere}
 use Rattle.core_calls.specs.Marks.{was_in}
 use Rattle.core_calls.specs.Refusals.{Limits}
+pub use Rattle.core_calls.specs.Steps.{PutsBack}
 use Rattle.core_calls.specs.Steps.{is_step, is_structure}
 use Rattle.disk_runs.specs.Stands.{Known}
 use Rattle.log_calls.specs.Calls.{StagesOn}
 use Rattle.engine_calls.specs.Clauses.{Between, CallAnswers, CallStops, MayCome, OnLog}
 use Rattle.engine_calls.specs.Commits.{unlocks}
 use Rattle.engine_calls.specs.Parts.{Gone, behind_first}
-
--- session w puts changes back, and does nothing else
-abbrev pub PutsBack : ℕ → List Event → Type 0
-PutsBack w [] = Unit {0}
-PutsBack w (Event.Put_back v p ∷ es) = (v ≡ w) × PutsBack w es
-PutsBack w _ = ⊥
 
 -- the newest of these changes, as it is put back in page p
 abbrev pub newest_back : Opening → State → (w p : ℕ) → List Entry → List Step → List Step
@@ -54,14 +49,14 @@ aborted_by g xs c first w number at f rows = record {
 }
 
 -- What the body shows: it may come next; its one step before the end is to put changes back, the tree stays as it is, and at the logs there are
--- whole syncs alone; the need of each event is met, so no change is left; r is its end's record, and the rows are those that it holds.
+-- whole syncs alone, each where a page that is needed finds no frame; the need of each event is met, so no change is left; r is its end's record, and the rows are those that it holds.
 pub record IsAbort (g : Opening) (xs : List Done) (c : Call) (first : List Event) (w number at f : ℕ) (rows : List ℕ) (r : Record) : Type 0 where
   pub comes : MayCome xs (aborted_by g xs c first w number at f rows).outcome
   pub low : 0 < w
   pub high : w ≤ g.workers
   pub backs : PutsBack w (keep is_step first)
   pub structure : any is_structure first ≡ false
-  pub syncs : AreSyncs false (keep is_log first)
+  pub syncs : SyncsWhere (IsTightSomewhere g) g (state_after g (front xs)) false first
   pub met : AllMet g (state_after g (front xs)) (aborted_by g xs c first w number at f rows).events
   pub flushed : f ≡ flushed_by_all g (behind_first g xs first)
   pub number_is : number ≡ ((behind_first g xs first).worker w).txn

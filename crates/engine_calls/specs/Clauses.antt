@@ -58,7 +58,7 @@ EveryComing = (xs : List Done) (x : Outcome) → ComingLaws xs x
 pub record CallAnswers (l : Limits) (g : Opening) (group : ℕ) (xs : List Done) (x : Done) (s0 : Crash) (k : Known) (old new : Story) : Type 0 where
   pub answer : Tells l g group xs x
   pub known : Known
-  pub no_earlier : IsNoEarlier k.master known.master
+  pub no_earlier : IsNoEarlier x.events k.master known.master
   pub stands : Stands g (front (x ∷ xs)) s0 known new
   pub notes : new.notes ≡ old.notes
   pub any_moment : LeavesOnly old new (CallLeaves g xs x.events s0 k.master)

@@ -1,6 +1,7 @@
 -- Read Clauses, then Begins, Puts, Commits, Aborts, Scans, Syncs, Refused and Halves; Answers for the answers alone, Parts for a call in parts, Runs for a whole run, Entries for the records, Places for sessions, Rows by hand.
 pub mod Clauses
 pub mod Parts
+pub mod Moves
 pub mod Begins
 pub mod Puts
 pub mod Commits

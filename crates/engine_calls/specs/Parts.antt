@@ -37,7 +37,7 @@ behind_first g xs es = run g (state_after g (front xs)) es
 
 -- From old the call went on to now by these events, its first ones, and the disk stands for them, of which a is known; no line is out.
 pub record Gone (g : Opening) (xs : List Done) (es : List Event) (s0 : Crash) (k : Known) (old : Story) (a : Known) (now : Story) : Type 0 where
-  pub no_earlier : IsNoEarlier k.master a.master
+  pub no_earlier : IsNoEarlier es k.master a.master
   pub stands : Stands g (front xs ++ es) s0 a now
   pub notes : now.notes ≡ old.notes
   pub any_moment : LeavesOnly old now (CallLeaves g xs es s0 k.master)
@@ -78,7 +78,7 @@ pub record PartLaws (l : Limits) (g : Opening) (group : ℕ) (xs : List Done) (s
   pub stage : (e : Event) (w : ℕ) (r : Record) (log : Log) → Gone g xs es s0 k old a mid → Enters g xs es e a w r log mid new → (y : Account) × Gone g xs (es ++ e ∷ []) s0 k old (with_log a w log y) new
   pub flush : (e : Event) (w n : ℕ) (log : Log) → Gone g xs es s0 k old a mid → Settles g xs es e a w n log mid new → Gone g xs (es ++ e ∷ []) s0 k old (with_log a w log (flushed (a.account w))) new
   -- whatever else is done
-  pub pass : (more : List Event) (b : Known) → Gone g xs es s0 k old a mid → Passes g xs es more s0 a mid new → IsNoEarlier a.master b.master → Stands g (front xs ++ (es ++ more)) s0 b new → new.notes ≡ mid.notes
+  pub pass : (more : List Event) (b : Known) → Gone g xs es s0 k old a mid → Passes g xs es more s0 a mid new → IsNoEarlier more a.master b.master → Stands g (front xs ++ (es ++ more)) s0 b new → new.notes ≡ mid.notes
       → Gone g xs (es ++ more) s0 k old b new
   -- a call on a log that failed passes no event
   pub failed : (w : ℕ) → 0 < w → w ≤ g.workers → Gone g xs es s0 k old a mid → OnLog w (a.log w) mid new → Passes g xs es [] s0 a mid new

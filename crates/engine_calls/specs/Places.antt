@@ -19,17 +19,17 @@ pub record StandsAt (g : Opening) (es : List Event) (s0 : Crash) (k : Known) (lo
   pub stands : Stands g es s0 k s
   pub logs_are : (w : ℕ) → 0 < w → w ≤ g.workers → k.log w ≡ logs w
 
--- it does so by a master no earlier than that of k
-pub record StandsOn (g : Opening) (es : List Event) (s0 : Crash) (k : Known) (logs : ℕ → Log) (s : Story) : Type 0 where
+-- behind more events it does so by the master of k, or by one that was written by these
+pub record StandsOn (g : Opening) (es more : List Event) (s0 : Crash) (k : Known) (logs : ℕ → Log) (s : Story) : Type 0 where
   pub known : Known
-  pub no_earlier : IsNoEarlier k.master known.master
-  pub at : StandsAt g es s0 known logs s
+  pub no_earlier : IsNoEarlier more k.master known.master
+  pub at : StandsAt g (es ++ more) s0 known logs s
 
 -- Calls that went on by these events, to a place with these logs. Where that works, the disk stands for them.
 pub record Went (g : Opening) (es more : List Event) (s0 : Crash) (k : Known) (works : Bool) (logs : ℕ → Log) (old new : Story) : Type 0 where
   pub any_moment : LeavesOnly old new (PlaceLeaves g es more s0 k old)
   pub notes : new.notes ≡ old.notes
-  pub after : works ≡ true → StandsOn g (es ++ more) s0 k logs new
+  pub after : works ≡ true → StandsOn g es more s0 k logs new
 
 -- How such calls are put together, between three places.
 pub record PlaceLaws (g : Opening) (es : List Event) (s0 : Crash) (k : Known) (old mid new : Story) : Type 0 where

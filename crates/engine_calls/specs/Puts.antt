@@ -1,7 +1,7 @@
 -- A get, a put and a del. Before its own step a call may bring pages into frames, and miss; a change may make room in the tree.
 use Rattle.std.specs.Prelude.{◌≡◌, ◌≤◌, ◌<◌, ℕ, Bool, true, false, List, [], ◌∷◌, ◌++◌, Option, None, Some}
 use Rattle.image_model.specs.Entries.{Kind}
-use Rattle.map_model.specs.Lists.{any, keep}
+use Rattle.map_model.specs.Lists.{any}
 use Rattle.core_state.specs.Openings.{Opening}
 use Rattle.core_state.specs.Events.{Event, Mode}
 use Rattle.core_state.specs.Needs.{is_held_by, value_in}
@@ -12,7 +12,7 @@ use Rattle.disk_image.specs.Records.{entry_of}
 use Rattle.worker_log.specs.Logs.{Log}
 use Rattle.core_calls.specs.Deeds.{Absent, Changed, Deed, Deleted, Got, marks_by}
 use Rattle.core_calls.specs.Fronts.{Done, front, outcomes}
-use Rattle.core_calls.specs.LogEvents.{AreSyncs, is_log}
+use Rattle.core_calls.specs.LogEvents.{IsTight, SyncsWhere}
 use Rattle.core_calls.specs.Marks.{is_half}
 use Rattle.core_calls.specs.Refusals.{Limits}
 use Rattle.core_calls.specs.Steps.{is_step, is_structure}
@@ -35,14 +35,14 @@ IsWhole xs w = is_half (marks_by w (outcomes xs)) ≡ false
 abbrev pub read_by : Deed → List Event → (w page key : ℕ) → Option ℕ → Done
 read_by d first w page key value = record { outcome = record { session = w; deed = d; unsaid = [] }; events = first ++ Event.Read w page key value ∷ [] }
 
--- What the body shows: it is asked on a new line; to take the key's row is its one step, the tree stays as it is, and at the logs there are whole syncs alone, for pages that
--- found no frame; the need of each event is met, the leaf says this of the key, and no abort is half done.
+-- What the body shows: it is asked on a new line; to take the key's row is its one step, the tree stays as it is, and at the logs there are whole syncs alone, each where a page of the key's way
+-- finds no frame; the need of each event is met, the leaf says this of the key, and no abort is half done.
 pub record IsRead (g : Opening) (xs : List Done) (mode : Mode) (before between : List Event) (w page key : ℕ) (value : Option ℕ) : Type 0 where
   pub line : IsNewLine (outcomes xs)
   pub before_steps : any is_step before ≡ false
   pub between_steps : any is_step between ≡ false
   pub structure : any is_structure (taking g w key mode before between) ≡ false
-  pub syncs : AreSyncs false (keep is_log (taking g w key mode before between))
+  pub syncs : SyncsWhere (λ s. IsTight g s key) g (state_after g (front xs)) false (taking g w key mode before between)
   pub met : AllMet g (state_after g (front xs)) (taking g w key mode before between ++ Event.Read w page key value ∷ [])
   pub value_is : value ≡ value_in g.format ((behind_first g xs (taking g w key mode before between)).page page).node key
   pub whole : IsWhole xs w
@@ -70,7 +70,7 @@ EveryGet old new = (l : Limits) (g : Opening) (group : ℕ) (xs : List Done) (s0
 abbrev pub changed_by : Deed → List Event → (w page key word : ℕ) → Done
 changed_by d first w page key word = record { outcome = record { session = w; deed = d; unsaid = [] }; events = first ++ Event.Change w page key word ∷ [] }
 
--- What the body shows: it is asked on a new line; to take the key's row is its one step, beside which it may make room, and at the logs there are whole syncs alone; the need
+-- What the body shows: it is asked on a new line; to take the key's row is its one step, beside which it may make room, and at the logs there are whole syncs alone, so placed too; the need
 -- of each event is met, the leaf had this value, r is the change's record, and no abort is half done.
 pub record IsWrite (g : Opening) (xs : List Done) (before between : List Event) (w page key word : ℕ) (was : Option ℕ) (r : Record) : Type 0 where
   pub line : IsNewLine (outcomes xs)
@@ -78,7 +78,7 @@ pub record IsWrite (g : Opening) (xs : List Done) (before between : List Event) 
   pub high : w ≤ g.workers
   pub before_steps : any is_step before ≡ false
   pub between_steps : any is_step between ≡ false
-  pub syncs : AreSyncs false (keep is_log (taking g w key Mode.Alone before between))
+  pub syncs : SyncsWhere (λ s. IsTight g s key) g (state_after g (front xs)) false (taking g w key Mode.Alone before between)
   pub met : AllMet g (state_after g (front xs)) (taking g w key Mode.Alone before between ++ Event.Change w page key word ∷ [])
   pub was_is : was ≡ value_in g.format ((behind_first g xs (taking g w key Mode.Alone before between)).page page).node key
   pub whole : IsWhole xs w

@@ -8,7 +8,7 @@ use Rattle.log_record.specs.declared.record.Record.{Record}
 use Rattle.core_calls.specs.Deeds.{Changed}
 use Rattle.core_calls.specs.Fronts.{Done}
 use Rattle.core_calls.specs.Refusals.{Limits}
-use Rattle.engine_calls.specs.Aborts.{IsAbort, aborted_by}
+use Rattle.engine_calls.specs.Aborts.{IsAbort}
 use Rattle.engine_calls.specs.Begins.{IsBegin, begun_by}
 use Rattle.engine_calls.specs.Commits.{IsCommit, committed_by}
 use Rattle.engine_calls.specs.Halves.{IsHalved, halved_by}

@@ -7,12 +7,12 @@ use Rattle.lean_disk.specs.Area.{Leaves}
 use Rattle.lean_disk.specs.Moments.{LeavesOnly}
 use Rattle.lean_disk.specs.Story.{Crash, IsLawful, Story, Tells}
 use Rattle.disk_slots.specs.declared.master.Master.{Master}
-use Rattle.disk_image.specs.Masters.{IsOfRun}
-use Rattle.core_calls.specs.Fronts.{Done}
+use Rattle.core_calls.specs.Fronts.{Done, front}
 use Rattle.core_calls.specs.Refusals.{Limits}
 use Rattle.core_calls.specs.Runs as runs
 use Rattle.core_calls.specs.Runs.{EachTells}
 use Rattle.disk_runs.specs.Fair.{TellsAll}
+use Rattle.disk_runs.specs.Masters.{IsOfRunBy}
 use Rattle.disk_runs.specs.Stands.{Known, Stands}
 use Rattle.run_crashes.specs.Laws.{CommitsNone, OfEachFirst, Passing}
 use Rattle.run_crashes.specs.Lines.{CallLeaves, RunLeft, lines_of, notes_of}
@@ -43,7 +43,7 @@ pub record LinesOut (g : Opening) (xs : List Done) (x : Done) (s0 : Crash) (new 
 -- what the lines that were out by then say, behind events of these calls, or such events of one that was not answered.
 pub record Runs (l : Limits) (g : Opening) (group : ℕ) (Such : List Done → List Event → Type 0) (xs : List Done) (s0 : Crash) (m : Master) (k : Known) (from now : Story) : Type 0 where
   pub between : Between l g group xs s0 k now
-  pub of_run : IsOfRun m k.master
+  pub of_run : IsOfRunBy (front xs) m k.master
   pub any_moment : LeavesOnly from now (RunLeft g Such xs s0 m)
 
 -- what is left of it where a call was not answered: these calls tell of all that was committed
@@ -54,7 +54,7 @@ pub record LeftOf (l : Limits) (g : Opening) (group : ℕ) (Such : List Done →
 
 -- How it begins, and goes on by one call.
 pub record RunLaws (l : Limits) (g : Opening) (group : ℕ) (Such : List Done → List Event → Type 0) (s0 : Crash) (m : Master) (k : Known) (from old new out : Story) : Type 0 where
-  pub begins : IsLawful from → IsTrue from.counts → Stands g [] s0 k from → IsOfRun m k.master → from.notes ≡ notes_of g [] s0 → Runs l g group Such [] s0 m k from from
+  pub begins : IsLawful from → IsTrue from.counts → Stands g [] s0 k from → IsOfRunBy [] m k.master → from.notes ≡ notes_of g [] s0 → Runs l g group Such [] s0 m k from from
   pub answered : (xs : List Done) (x : Done) → Runs l g group Such xs s0 m k from old → (a : CallAnswers l g group xs x s0 k old new) → LinesOut g xs x s0 new out → Runs l g group Such (x ∷ xs) s0 m a.known from out
   -- some of its lines are out when the device fails
   pub unheard : (xs : List Done) (x : Done) → Runs l g group Such xs s0 m k from old → CallAnswers l g group xs x s0 k old new → LeavesOnly new out (LineCrash g xs x s0 new) → LeftOf l g group Such s0 m from out

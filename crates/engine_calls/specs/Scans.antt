@@ -9,7 +9,7 @@ use Rattle.core_state.specs.Steps.{AllMet, state_after}
 use Rattle.lean_disk.specs.Story.{Crash, Story}
 use Rattle.core_calls.specs.Deeds.{Deed, Met, Over, Paused, Unsaid}
 use Rattle.core_calls.specs.Fronts.{Done, front, outcomes}
-use Rattle.core_calls.specs.LogEvents.{AreSyncs, is_log}
+use Rattle.core_calls.specs.LogEvents.{IsTightSomewhere, SyncsWhere}
 use Rattle.core_calls.specs.Refusals.{Limits}
 use Rattle.core_calls.specs.Steps.{Walks, is_step, is_structure, met_last, scan_from}
 use Rattle.disk_runs.specs.Stands.{Known}
@@ -33,13 +33,13 @@ abbrev pub pair_behind : List Event → (w page at k v : ℕ) → List Event
 pair_behind first w page at k v = first ++ Event.Next w page at (MapAnswer.Pair k v) ∷ []
 
 -- What the body shows of the events of each: the outcome may come next; the need of each event is met; before the pair, if one is met, rows are taken
--- and gaps passed, the tree stays as it is, and at the logs there are whole syncs alone.
+-- and gaps passed, the tree stays as it is, and at the logs there are whole syncs alone, each where a page that is needed finds no frame.
 pub record IsScan (g : Opening) (xs : List Done) (x : Done) (first : List Event) : Type 0 where
   pub comes : MayCome xs x.outcome
   pub met : AllMet g (state_after g (front xs)) x.events
   pub gaps : PassesGaps (keep is_step first)
   pub structure : any is_structure first ≡ false
-  pub syncs : AreSyncs false (keep is_log first)
+  pub syncs : SyncsWhere (IsTightSomewhere g) g (state_after g (front xs)) false first
 
 -- the leaf has the pair there
 abbrev pub IsPair : Opening → List Done → List Event → (page k v : ℕ) → Type 0

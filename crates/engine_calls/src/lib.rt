@@ -10,6 +10,7 @@ ghost use Rattle.engine_calls.specs.Begins.{EveryBegin};
 ghost use Rattle.engine_calls.specs.Clauses.{EveryComing};
 ghost use Rattle.engine_calls.specs.Commits.{EveryCommit};
 ghost use Rattle.engine_calls.specs.Entries.{EveryEntry};
+ghost use Rattle.engine_calls.specs.Moves.{EveryMove};
 ghost use Rattle.engine_calls.specs.Parts.{EveryPart};
 ghost use Rattle.engine_calls.specs.Halves.{EveryHalved};
 ghost use Rattle.engine_calls.specs.Places.{EveryPlace};
@@ -25,6 +26,17 @@ use lean_disk::Disk;
 /// A call in parts: how it begins, goes on, ends and stops.
 pub fn every_part<D: Disk>(old: &D, mid: &D, new: &D)
     ensures { EveryPart (D.story old.now) (D.story mid.now) (D.story new.now) }
+{
+    core_disk::every_version();
+    worker_log::every_kept();
+    worker_log::every_prefix();
+    disk_image::every_sealed();
+}
+
+/// Parts of a call that go on from where the disk stands: a page that is saved, a sync of the pages, a log that is flushed, a
+/// sync of all, and these put together.
+pub fn every_move<D: Disk>(old: &D, mid: &D, new: &D)
+    ensures { EveryMove (D.story old.now) (D.story mid.now) (D.story new.now) }
 {
     core_disk::every_version();
     worker_log::every_kept();

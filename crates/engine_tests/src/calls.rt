@@ -248,7 +248,7 @@ fn call_of(asked: &Asked) -> Call
 
 // Whether a call of session 1 is answered so. Behind it the durable lines are taken.
 fn answers(engine: &mut Engine<MemDisk>, asked: &Asked, want: &Result<Answer, Unanswered>) -> bool {
-    if engine.next() != Next::Line || engine.sessions() < 1 {
+    if engine.expects() != Next::Line || engine.sessions() < 1 {
         return false;
     }
     let answer = engine.answer(1, &call_of(asked));

@@ -251,7 +251,7 @@ static CASES: [Case; 8] = [
 
 // Whether a call of a session that there is gives what is written.
 fn is_called(engine: &mut Engine<MemDisk>, session: u32, step: &Step) -> bool {
-    if engine.next() != Next::Line || session < 1 || session > engine.sessions() {
+    if engine.expects() != Next::Line || session < 1 || session > engine.sessions() {
         return false;
     }
     match step {
@@ -283,7 +283,7 @@ fn is_done(engine: &mut Engine<MemDisk>, session: u32, step: &Step) -> bool {
         Step::Durable(of, number) => is_told(engine, Some((*of, *number))),
         Step::NoDurable => is_told(engine, None),
         Step::Hindered(number) => {
-            engine.next() == Next::Abort
+            engine.expects() == Next::Abort
                 && engine.answer_abort() == Ok(Answer::Aborted { number: *number })
         }
         Step::Ripe(receipt, want) => {
@@ -303,7 +303,7 @@ fn is_done(engine: &mut Engine<MemDisk>, session: u32, step: &Step) -> bool {
 // Takes the durable lines that no step takes. No case has more.
 pub(crate) fn take_rest(engine: &mut Engine<MemDisk>) {
     for _ in 0..1000 {
-        if engine.next() == Next::Line
+        if engine.expects() == Next::Line
             || engine.tend().is_err()
             || engine.next_durable().is_none()
         {

@@ -1,5 +1,5 @@
 -- What a call of an engine did: its answer, by which events, what its logs are then, for what its disk stands, and what a crash at any moment of it leaves.
-use Rattle.std.specs.Prelude.{◌≡◌, ◌⊎◌, ◌≤◌, ◌<◌, ◌^◌, ◌++◌, ◌∷◌, ℕ, Bool, false, List, [], Option, None, Some, length}
+use Rattle.std.specs.Prelude.{◌≡◌, ◌⊎◌, ◌≤◌, ◌<◌, ◌^◌, ◌++◌, ℕ, Bool, false, List, Some, length}
 use Rattle.map_model.specs.Lists.{any}
 use Rattle.map_model.specs.declared.call.Answer.{Answer}
 use Rattle.map_model.specs.declared.call.Answer.TheVariants as answer
@@ -15,12 +15,14 @@ use Rattle.core_state.specs.Steps.{state_after}
 use Rattle.lean_disk.specs.Moments.{LeavesOnly}
 use Rattle.lean_disk.specs.Story.{Crash, Story}
 use Rattle.worker_log.specs.Logs.{Log}
-use Rattle.core_calls.specs.Deeds.{Outcome, answered, asked, marks_by}
+use Rattle.core_calls.specs.Deeds.{answered, asked, marks_by}
 use Rattle.core_calls.specs.Fronts.{Done, front, outcomes}
 use Rattle.core_calls.specs.Marks.{is_half}
 use Rattle.core_calls.specs.Runs.{Tells}
-use Rattle.core_calls.specs.Steps.{hindered_in}
+use Rattle.core_calls.specs.Steps.{is_structure}
+pub use Rattle.core_calls.specs.Steps.{call_behind, due_call}
 use Rattle.disk_slots.specs.declared.master.Master.{Master}
+use Rattle.disk_runs.specs.Masters.{IsNoEarlier}
 use Rattle.disk_runs.specs.Stands.{Known}
 use Rattle.run_crashes.specs.Lines.{CallLeaves}
 use Rattle.engine_calls.specs.Clauses.{Between, CallAnswers}
@@ -36,17 +38,9 @@ use Rattle.engine_trait.specs.Rooms.{IsRoomFor, MakesItsRoom, needs_sync}
 abbrev pub is_half_done : (own : ℕ) → List Done → Bool
 is_half_done own xs = is_half (marks_by own (outcomes xs))
 
--- what a call asks of the engine: behind a conflict, whatever its line asked, the abort of its transaction
-abbrev pub due_call : Option Call → Call → Call
-due_call None c = c
-due_call (Some hindered) c = call.Abort
-
-abbrev pub call_behind : List Outcome → Call → Call
-call_behind [] c = c
-call_behind (y ∷ earlier) c = due_call (hindered_in y.deed) c
-
--- Behind loads of the opening come its own events. In the state behind all of them and with the log as it is then, a refusal has its cause; it comes where
--- the state before them has one. The session's log has the records of its events. A put makes room for its key, and no call else changes the tree.
+-- Behind loads of the opening come its own events. In the state behind all of them, with the log as it was before the call, a refusal has its cause; it comes
+-- where the state before them has one, and then the tree is as it was. The session's log has the records of its events. A put makes room for its key, and no
+-- call else changes the tree.
 pub record Answers (g : Opening) (xs : List Done) (x : Done) (was is : Log) : Type 0 where
   pub first : List Event
   pub own : List Event
@@ -55,12 +49,13 @@ pub record Answers (g : Opening) (xs : List Done) (x : Done) (was is : Log) : Ty
   -- they are few, so in a run of fewer than 2^40 calls no latch is ever spent
   pub few : length x.events ≤ 2 ^ 18
   pub refused : (why : Refusal) → answered x.outcome.deed ≡ answer.Refused why
-      → IsRefusedFor g (state_after g (front xs ++ x.events)) x.outcome.session (is_half_done x.outcome.session xs) is (call_behind (outcomes xs) (asked x.outcome.deed)) why
+      → IsRefusedFor g (state_after g (front xs ++ x.events)) x.outcome.session (is_half_done x.outcome.session xs) was (call_behind (outcomes xs) (asked x.outcome.deed)) why
   pub refuses : (why : Refusal) → refusal_in g (state_after g (front xs ++ first)) x.outcome.session (is_half_done x.outcome.session xs) was (call_behind (outcomes xs) (asked x.outcome.deed)) ≡ Some why
       → (answered x.outcome.deed ≡ answer.Refused why) ⊎ (answered x.outcome.deed ≡ answer.Refused refusal.RowSpent)
+  pub still : (why : Refusal) → refusal_in g (state_after g (front xs ++ first)) x.outcome.session (is_half_done x.outcome.session xs) was (call_behind (outcomes xs) (asked x.outcome.deed)) ≡ Some why → any is_structure own ≡ false
   -- a sync is of no session
   pub log : 0 < x.outcome.session → Logs x.outcome.session g (state_after g (front xs ++ first)) own was is
-  pub room : MakesItsRoom g (state_after g (front xs ++ first)) (call_behind (outcomes xs) (asked x.outcome.deed)) own
+  pub room : MakesItsRoom x.outcome.session g (state_after g (front xs ++ first)) (call_behind (outcomes xs) (asked x.outcome.deed)) own
 
 -- ## The disk
 
@@ -84,7 +79,7 @@ pub record Keeps (g : Opening) (group : ℕ) (xs : List Done) (x : Done) (s0 : C
 -- one after the first events of a call that would be answered so.
 pub data Stops (g : Opening) (group : ℕ) (xs : List Done) (own : ℕ) (c : Call) (s0 : Crash) (k : Known) (old new : Story) : Type 0 where
   Nothing : (es : List Event) → IsRoomFor g xs own (call_behind (outcomes xs) c) es → LeavesOnly old new (CallLeaves g xs es s0 k.master) → Stops g group xs own c s0 k old new
-  Part : (x : Done) → asked x.outcome.deed ≡ c → x.outcome.session ≡ own → Tells limits g group xs x → LeavesOnly old new (CallLeaves g xs x.events s0 k.master) → Stops g group xs own c s0 k old new
+  Part : (x : Done) → asked x.outcome.deed ≡ c → x.outcome.session ≡ own → Tells limits g group xs x → length x.events ≤ 2 ^ 18 → LeavesOnly old new (CallLeaves g xs x.events s0 k.master) → Stops g group xs own c s0 k old new
 
 -- and the areas in which it does nothing are as they were
 pub record Leaves (g : Opening) (group : ℕ) (xs : List Done) (own : ℕ) (c : Call) (s0 : Crash) (k : Known) (old new : Story) : Type 0 where
@@ -98,8 +93,9 @@ pub record Happens (g : Opening) (group : ℕ) (xs : List Done) (x : Done) (was 
   pub tells : Tells limits g group xs x
   pub how : Answers g xs x (was.log x.outcome.session) (is.log x.outcome.session)
   pub others : (w : ℕ) → 0 < w → w ≤ g.workers → (w ≡ x.outcome.session → ⊥) → Logs w g (state_after g (front xs ++ how.first)) how.own (was.log w) (is.log w)
-  -- a sync alone writes the next master
+  -- a sync alone writes the next master, each sync one at most
   pub master : any is_sync x.events ≡ false → is.master ≡ was.master
+  pub no_earlier : IsNoEarlier x.events was.master is.master
 
 -- Session `own` asked it, or for 0 nobody did, and was answered so: by one outcome more.
 pub record Does (g : Opening) (group : ℕ) (xs : List Done) (own : ℕ) (c : Call) (a : Answer) (was is : Memory) (old new : Story) : Type 0 where

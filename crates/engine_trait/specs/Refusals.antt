@@ -5,6 +5,7 @@ use Rattle.map_model.specs.declared.call.Call.TheVariants as call
 use Rattle.map_model.specs.declared.call.Refusal.{Refusal}
 use Rattle.map_model.specs.declared.call.Refusal.TheVariants.{ClockSpent, Conflict, InTransaction, LogFull, NoPages, NoTransaction, RowSpent, TooLong, TooTall}
 use Rattle.page_model.specs.Check.{some_below}
+use Rattle.page_model.specs.Limits.{transaction_changes}
 use Rattle.page_model.specs.Nodes.{holds}
 use Rattle.page_model.specs.Redo.{has_key}
 use Rattle.core_state.specs.Openings.{Opening}
@@ -23,9 +24,13 @@ is_full_for g s k = some_below g.format.pages (λ p. holds (s.page p).node k && 
 abbrev pub room_refusal : Opening → State → ℕ → Option Refusal
 room_refusal g s k = if is_all_full g s k && ((nodes_of s 0).level == g.format.levels) then Some TooTall else (if ltb (length (free_list g s)) (room_takes g s k) then Some NoPages else None)
 
--- the blocks for changes are used, or the clock has reached its end; else what comes later
+-- the clock has reached its end; else what comes later
+abbrev pub clock_refusal : (clock : ℕ) → Option Refusal → Option Refusal
+clock_refusal clock later = if leb (2 ^ 62) clock then Some ClockSpent else later
+
+-- the blocks for changes are used, or the clock has reached its end
 abbrev pub log_refusal : (clock : ℕ) → Log → Option Refusal → Option Refusal
-log_refusal clock log later = if leb (limit log) (used log) then Some (LogFull (used log) (limit log)) else (if leb (2 ^ 62) clock then Some ClockSpent else later)
+log_refusal clock log later = if leb (limit log) (used log) then Some (LogFull (used log) (limit log)) else clock_refusal clock later
 
 -- a call of session `own` in a transaction, which is open and not half aborted
 abbrev pub in_transaction : State → (own : ℕ) → (half : Bool) → Option Refusal → Option Refusal
@@ -33,7 +38,7 @@ in_transaction s own half later = if half then Some NoTransaction else (if (s.wo
 
 -- the transaction has all its changes
 abbrev pub change_refusal : State → (own : ℕ) → Log → Option Refusal → Option Refusal
-change_refusal s own log later = if leb 64 (length (s.worker own).changes) then Some TooLong else log_refusal (s.worker own).clock log later
+change_refusal s own log later = if leb transaction_changes (length (s.worker own).changes) then Some TooLong else log_refusal (s.worker own).clock log later
 
 -- the lesser of a number and maybe another
 abbrev pub least_with : ℕ → Option ℕ → ℕ
@@ -60,9 +65,10 @@ lock_refusal g s own key mode later = if may_hold (s.row (g.row_of key)) own mod
 
 -- what the key's row tells brings the clock to its end
 abbrev pub met_refusal : Opening → State → (own key : ℕ) → Option Refusal → Option Refusal
-met_refusal g s own key later = if leb (2 ^ 62) (at_row own (s.worker own) (s.row (g.row_of key))).clock then Some ClockSpent else later
+met_refusal g s own key later = clock_refusal (at_row own (s.worker own) (s.row (g.row_of key))).clock later
 
--- Session `own` asks this at a state of the core, where its log is so. While its abort is half done, nothing else is answered.
+-- Session `own` asks this at a state of the core, where its log is so. While its abort is half done, nothing else is answered. The log is tested before a row is
+-- taken, and no more behind that: a put goes on with the blocks that are kept back.
 abbrev pub refusal_in : Opening → State → (own : ℕ) → (half : Bool) → Log → Call → Option Refusal
 refusal_in g s own half log call.Begin = if (s.worker own).is_open then Some InTransaction else log_refusal (s.worker own).clock log None
 refusal_in g s own half log (call.Get key) = in_transaction s own half (lock_refusal g s own key Mode.Shared None)

@@ -10,8 +10,8 @@ worker_of c is_open = record { clock = c.clock; floor = c.floor; debt = c.debt; 
 
 -- It starts as the model's does, and goes as it does over touches, begins and ends.
 pub record ClockLaws (c : Clock) : Type 0 where
-  pub started : (g : Start) → worker_of (new_clock c.log g.base) false ≡ (start g).worker c.log
-  pub touched_is : (number log : ℕ) (is_open : Bool) → worker_of (after_touch c number log) is_open ≡ touched c.log (worker_of c is_open) number log
+  pub started : (g : Start) (own : ℕ) → worker_of (new_clock g.base) false ≡ (start g).worker own
+  pub touched_is : (own number log : ℕ) (is_open : Bool) → worker_of (after_touch own c number log) is_open ≡ touched own (worker_of c is_open) number log
   pub begun_is : (f : ℕ) → worker_of (after_begin c f) true ≡ begun (worker_of c false) f
   pub ended_is : worker_of (after_next c) false ≡ ended (worker_of c true)
 

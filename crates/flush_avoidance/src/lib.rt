@@ -6,11 +6,10 @@ ghost use Rattle.rfa_model.specs.Stamps.{is_remote, owed, debt_at_begin, need_of
 ghost use Rattle.flush_avoidance.specs.Clocks.{new_clock, after_touch, after_raise, after_begin, after_next};
 ghost use Rattle.flush_avoidance.specs.Laws.{EveryClock};
 
-/// A worker's clock. `log` is its own log, `clock` the greatest number that it has drawn or met, `floor` up to where it found all
-/// logs flushed at its last begin, and `debt` the greatest number of another log that it touched and that may not be flushed yet.
+/// A worker's clock: `clock` is the greatest number that it has drawn or met, `floor` up to where it found all logs flushed at its last
+/// begin, and `debt` the greatest number of another log that it touched and that may not be flushed yet.
 #[derive(Clone, Copy, PartialEq, Eq)]
 pub struct Clock {
-    pub log: u32,
     pub clock: u64,
     pub floor: u64,
     pub debt: u64,
@@ -24,23 +23,22 @@ fn is_remote(own: u32, floor: u64, number: u64, log: u32) -> bool
 }
 
 impl Clock {
-    /// The clock of the worker of this log, where all numbers start at the base.
-    pub fn new(log: u32, base: u64) -> Clock
-        ensures { result ≡ new_clock log base }
+    /// A clock, where all numbers start at the base.
+    pub fn new(base: u64) -> Clock
+        ensures { result ≡ new_clock base }
     {
         Clock {
-            log,
             clock: base,
             floor: base,
             debt: 0,
         }
     }
 
-    /// A stamp is met: of a page, or of the last exclusive end of a lock row.
-    pub fn touch(&mut self, number: u64, log: u32)
-        ensures { self.new ≡ after_touch self.old number log }
+    /// A stamp is met by the worker of log `own`: of a page, or of the last exclusive end of a lock row.
+    pub fn touch(&mut self, own: u32, number: u64, log: u32)
+        ensures { self.new ≡ after_touch own self.old number log }
     {
-        if is_remote(self.log, self.floor, number, log) {
+        if is_remote(own, self.floor, number, log) {
             self.debt = self.debt.max(number);
         }
         self.raise(number);
@@ -142,10 +140,10 @@ mod tests {
 
     #[test]
     fn debts_follow_touches_and_begins(rt: HostRuntime) {
-        let mut clock = Clock::new(2, 0);
+        let mut clock = Clock::new(0);
         for (step, number, debt, need) in &STEPS {
             match step {
-                Step::Touch(number, log) => clock.touch(*number, *log),
+                Step::Touch(number, log) => clock.touch(2, *number, *log),
                 Step::Raise(number) => clock.raise(*number),
                 Step::Begin(flushed) => clock.begin(*flushed),
                 Step::Next => {

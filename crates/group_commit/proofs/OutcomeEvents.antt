@@ -1,6 +1,10 @@
 -- The events of an outcome: where its transaction ends, and what the events before and behind that end leave.
-use Rattle.std.proofs.Common.{◌≡◌, ℕ, Bool, true, false, cond, ◌||◌, List, [], ◌∷◌, ◌++◌, refl, sym, ap, ◌∙◌, true≢false}
+use Rattle.std.proofs.Common.{◌≡◌, ◌⊎◌, ℕ, Bool, true, false, cond, ◌||◌, List, [], ◌∷◌, ◌++◌, refl, sym, ap, ◌∙◌, inl, inr, true≢false}
 use Rattle.std.proofs.lemmas.Bool.{or_parts, or_right}
+use Rattle.map_model.specs.declared.call.Call.{Call}
+use Rattle.map_model.specs.declared.call.Call.TheVariants as call
+use Rattle.map_model.specs.declared.call.Refusal.{Refusal}
+use Rattle.map_model.specs.declared.call.Refusal.TheVariants as refusal
 use Rattle.map_model.specs.Lists.{keep, any}
 use Rattle.map_model.specs.Maps.{MapAnswer}
 use Rattle.image_model.specs.Entries.{Entry}
@@ -10,8 +14,9 @@ use Rattle.core_state.specs.Events.{Event, Mode}
 use Rattle.core_state.specs.Local.{is_sync}
 use Rattle.core_state.specs.Needs.{may}
 use Rattle.core_state.specs.Steps.{follows, put_back, happens, step, run}
+use Rattle.core_calls.specs.Deeds.{Outcome}
 use Rattle.core_calls.specs.Fronts.{AreFresh}
-use Rattle.core_calls.specs.Steps.{is_step, is_structure, Unlocks, Undoes, Walks, Tries}
+use Rattle.core_calls.specs.Steps.{is_step, is_structure, PutsBack, TakesRow, Tries, Undoes, Unlocks, Walks}
 use Rattle.core_calls.specs.LogEvents.{is_log, AreSyncs}
 use Rattle.group_commit.specs.Tracks.{is_ending}
 
@@ -35,19 +40,37 @@ unlocks_no_end w [] u = refl
 unlocks_no_end w (Event.Unlock v i ∷ es) u = unlocks_no_end w es u.1
 unlocks_no_end w (e ∷ es) u = absurd u
 
-pub tries_no_end : (w : ℕ) (es : List Event) → Tries w es → any is_ending es ≡ false
-tries_no_end w [] u = refl
-tries_no_end w (Event.Lock v i mode ∷ es) u = tries_no_end w es u.1
-tries_no_end w (Event.Next v p k a ∷ es) u = tries_no_end w es u.1
-tries_no_end w (Event.Put_back v p ∷ es) u = tries_no_end w es u.1
-tries_no_end w (e ∷ es) u = absurd u
-
 pub walks_no_end : (w at : ℕ) (es : List Event) (P : ℕ → Type 0) → Walks w at es P → any is_ending es ≡ false
 walks_no_end w at [] P u = refl
 walks_no_end w at (Event.Lock v i Mode.Shared ∷ es) P u = walks_no_end w at es P u.1
 walks_no_end w at (Event.Next v p k (MapAnswer.Pair j x) ∷ es) P u = walks_no_end w _ es P u.2
 walks_no_end w at (Event.Next v p k (MapAnswer.Gap h) ∷ es) P u = walks_no_end w _ es P u.2
 walks_no_end w at (e ∷ es) P u = absurd u
+
+taken_or_not : (w i : ℕ) (mode : Mode) (es : List Event) → (es ≡ []) ⊎ (es ≡ Event.Lock w i mode ∷ []) → any is_ending es ≡ false
+taken_or_not w i mode es (inl q) = ap (any is_ending) q
+taken_or_not w i mode es (inr q) = ap (any is_ending) q
+
+row_no_end : (why : Refusal) (w i : ℕ) (mode : Mode) (es : List Event) → TakesRow why w i mode es → any is_ending es ≡ false
+row_no_end refusal.TooTall w i mode es u = ap (any is_ending) u
+row_no_end refusal.NoPages w i mode es u = ap (any is_ending) u
+row_no_end refusal.ClockSpent w i mode es u = taken_or_not w i mode es u
+row_no_end refusal.RowSpent w i mode es u = taken_or_not w i mode es u
+row_no_end why w i mode es u = ap (any is_ending) u
+
+backs_no_end : (w : ℕ) (es : List Event) → PutsBack w es → any is_ending es ≡ false
+backs_no_end w [] u = refl
+backs_no_end w (Event.Put_back v p ∷ es) u = backs_no_end w es u.1
+backs_no_end w (e ∷ es) u = absurd u
+
+pub tries_no_end : (g : Opening) (w : ℕ) (earlier : List Outcome) (c : Call) (why : Refusal) (es : List Event) → Tries g w earlier c why es → any is_ending es ≡ false
+tries_no_end g w earlier (call.Get k) why es u = row_no_end why w (g.row_of k) Mode.Shared es u
+tries_no_end g w earlier (call.Put k v) why es u = row_no_end why w (g.row_of k) Mode.Alone es u
+tries_no_end g w earlier (call.Del k) why es u = row_no_end why w (g.row_of k) Mode.Alone es u
+tries_no_end g w earlier (call.Scan from to) (refusal.Conflict h) es u = walks_no_end w _ es _ u
+tries_no_end g w earlier (call.Scan from to) refusal.RowSpent es u = walks_no_end w _ es _ u
+tries_no_end g w earlier call.Abort refusal.RowSpent es u = backs_no_end w es u
+tries_no_end g w earlier c why es u = ap (any is_ending) u
 
 -- ## The end
 

@@ -1,5 +1,5 @@
 -- Behind an outcome of a run the queues have what the core has.
-use Rattle.std.proofs.Common.{◌≡◌, ℕ, suc, Bool, true, false, cond, ◌||◌, leb, List, [], ◌∷◌, ◌++◌, Some, None, refl, sym, ap, ap₂, ◌∙◌, subst, inl, inr}
+use Rattle.std.proofs.Common.{◌≡◌, ℕ, suc, Bool, true, false, cond, leb, List, [], ◌∷◌, ◌++◌, Some, None, refl, sym, ap, ap₂, ◌∙◌, subst}
 use Rattle.std.proofs.lemmas.Bool.{cond-true}
 use Rattle.std.proofs.lemmas.List.{append_assoc}
 use Rattle.map_model.specs.Lists.{keep, any}
@@ -9,7 +9,7 @@ use Rattle.rfa_model.specs.Reaches.{least}
 use Rattle.rfa_model.specs.Stamps.{need_of}
 use Rattle.core_state.specs.Openings.{Opening}
 use Rattle.core_state.specs.States.{Worker, State, start, flushed_by_all}
-use Rattle.core_state.specs.Events.{Event, Mode}
+use Rattle.core_state.specs.Events.{Event}
 use Rattle.core_state.specs.Local.{is_sync}
 use Rattle.core_state.specs.Needs.{may}
 use Rattle.core_state.specs.Steps.{finished, happens, run, AllMet, state_after}
@@ -18,8 +18,9 @@ use Rattle.core_commit.specs.Rises.{EveryRise}
 use Rattle.core_calls.specs.Deeds.{Deed, Begun, Got, Changed, Deleted, Absent, Met, Paused, Over, Committed, Aborted, Refused, Synced, Checkpointed, Unsaid, Outcome}
 use Rattle.core_calls.specs.Refusals.{Limits}
 use Rattle.core_calls.specs.Fronts.{Done, front, outcomes, AreFresh}
-use Rattle.core_calls.specs.Steps.{is_step, is_structure, Takes, Goes, is_change}
-use Rattle.core_calls.specs.LogEvents.{behind, is_log, Flushes, LogsGo}
+use Rattle.core_calls.specs.Steps.{is_step, is_structure, Goes, call_behind, is_change}
+use Rattle.core_calls.specs.LogEvents.{behind, is_log, Flushes, IsTightSomewhere, LogsGo}
+use Rattle.core_calls.proofs.WhereLemmas.{syncs_alone}
 use Rattle.core_calls.specs.Runs.{Tells}
 use Rattle.group_commit.specs.declared.receipts.Receipt.{Receipt}
 use Rattle.group_commit.specs.declared.queue.End.{End}
@@ -32,24 +33,19 @@ use Rattle.group_commit.proofs.TrackLemmas.{every_end, every_other}
 
 -- ## Deeds
 
--- with or without its lock
-taken : (w i : ℕ) (mode : Mode) (e : Event) (all : List Event) → is_ending e ≡ false → Takes w i mode (e ∷ []) all → any is_ending all ≡ false
-taken w i mode e all n (inl q) = ap (any is_ending) q ∙ ap (λ (b : Bool). b || false) n
-taken w i mode e all n (inr q) = ap (any is_ending) q ∙ ap (λ (b : Bool). b || false) n
-
 -- a deed that is no end has none among its steps
 deed_no_end : (l : Limits) (g : Opening) (w : ℕ) (earlier : List Outcome) (us : List Unsaid) (d : Deed) (es : List Event) → ends_by d ≡ None → Goes l g w earlier us d es → any is_ending es ≡ false
 deed_no_end l g w earlier us (Begun n) es q h = ap (any is_ending) h.2
-deed_no_end l g w earlier us (Got k a alone) es q h = taken w (g.row_of k) Mode.Shared (Event.Read w h.1 k a) es refl h.2
-deed_no_end l g w earlier us (Changed k v a) es q h = taken w (g.row_of k) Mode.Alone (Event.Change w h.1 k v) es refl h.2
-deed_no_end l g w earlier us (Deleted k a) es q h = taken w (g.row_of k) Mode.Alone (Event.Change w h.1 k g.format.dead) es refl h.2
-deed_no_end l g w earlier us (Absent k) es q h = taken w (g.row_of k) Mode.Alone (Event.Read w h.1 k None) es refl h.2
+deed_no_end l g w earlier us (Got k a alone) es q h = ap (any is_ending) h.2
+deed_no_end l g w earlier us (Changed k v a) es q h = ap (any is_ending) h.2
+deed_no_end l g w earlier us (Deleted k a) es q h = ap (any is_ending) h.2
+deed_no_end l g w earlier us (Absent k) es q h = ap (any is_ending) h.2
 deed_no_end l g w earlier us (Met from to k v alone) es q h = walks_no_end w _ es _ h.3
 deed_no_end l g w earlier us (Paused from to k) es q h = ap (any is_ending) h.1
 deed_no_end l g w earlier us (Over from to) es q h = walks_no_end w _ es _ h.2
 deed_no_end l g w earlier us (Committed n at) es q h = absurd (cc)
 deed_no_end l g w earlier us (Aborted c n at backs) es q h = absurd (cc)
-deed_no_end l g w earlier us (Refused c why backs) es q h = tries_no_end w es h.2
+deed_no_end l g w earlier us (Refused c why backs) es q h = tries_no_end g w earlier (call_behind earlier c) why es h.2
 deed_no_end l g w earlier us (Synced at) es q h = ap (any is_ending) h.1
 deed_no_end l g w earlier us (Checkpointed at) es q h = ap (any is_ending) h.1
 
@@ -149,7 +145,7 @@ module _ (rises : EveryRise) (l : Limits) (g : Opening) (group : ℕ) (xs : List
       ends_in : Ends w true (keep is_step x.events)
       ends_in = subst (λ (es : List Event). Ends w true es) (sym goes.3) (refl, refl, goes.4)
   ends (Committed n at) q false p k = absurd (cc)
-  ends (Aborted c n at backs) q false p k = aborted w x.events (end_in w false x.events (undoes_ends w (keep is_step x.events) goes.1)) (no_log x.events logs k) (t.structure (ap is_change q))
+  ends (Aborted c n at backs) q false p k = aborted w x.events (end_in w false x.events (undoes_ends w (keep is_step x.events) goes.1)) (no_log x.events (syncs_alone (IsTightSomewhere g) g x.events (state_after g (front xs)) false logs) k) (t.structure (ap is_change q))
     where
       goes : Goes l g w (outcomes xs) x.outcome.unsaid (Aborted c n at backs) (keep is_step x.events)
       goes = subst (λ (y : Deed). Goes l g w (outcomes xs) x.outcome.unsaid y (keep is_step x.events)) q t.steps

@@ -4,14 +4,12 @@ ghost use Rattle.disk_file.specs.Untold.{untold, untold_lawful, untold_whole};
 
 use crate::part::HostPart;
 use disk_file::FileDisk;
-use engine_trait::calls::{Durable, Unanswered};
 use lean_disk::{Did, Disk, Read};
-use lean_engine::{Engine, Hosts};
+use lean_engine::{Durable, Engine, Hosts, Stages, Unanswered, stage_end};
 use log_record::Record;
 use map_model::{Answer, Call};
-use row_engine::Stages;
 use std::alloc::Global;
-use worker_log::{DiskFault, Staging, WorkerLog};
+use worker_log::{DiskFault, WorkerLog};
 
 /// A `FileDisk` of the system that runs the program.
 #[derive(Drop)]
@@ -69,17 +67,8 @@ impl<'a> Disk for HostDisk<'a> {
 }
 
 impl<'a> Stages for HostDisk<'a> {
-    fn stage_on(&mut self, log: &mut WorkerLog, own: u32, entry: &Record) -> Result<(), Staging> {
-        log_calls::stage(self, log, own, entry)
-    }
-
-    fn stage_back_on(
-        &mut self,
-        log: &mut WorkerLog,
-        own: u32,
-        entry: &Record,
-    ) -> Result<(), DiskFault> {
-        log_calls::stage_end(self, log, own, entry)
+    fn stage_on(&mut self, log: &mut WorkerLog, own: u32, entry: &Record) -> Result<(), DiskFault> {
+        stage_end(self, log, own, entry)
     }
 }
 

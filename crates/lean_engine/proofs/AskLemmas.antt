@@ -37,7 +37,7 @@ use Rattle.group_commit.proofs.ListLemmas.{queue_set_other, queue_set_same}
 use Rattle.row_engine.specs.Opened.{plain_shape}
 use Rattle.lean_engine.specs.Calls.{MayBe}
 use Rattle.lean_engine.specs.Desks.{desk_of}
-use Rattle.lean_engine.specs.Inside.{IsEndOf, is_commit_in, put_ends}
+use Rattle.lean_engine.specs.Inside.Asks.{IsEndOf, is_commit_in, put_ends}
 use Rattle.lean_engine.specs.Machines.{DoesTied, IsMachine, Tied, ends_in}
 use Rattle.lean_engine.specs.Receipts.{IsReceipt}
 use Rattle.lean_engine.specs.States.{HasRoom, HasRun, InRun, IsOfTurn, IsSettled, State, WhereDue, memory_in}
@@ -51,17 +51,17 @@ use Rattle.lean_engine.proofs.SeenLemmas.{Loaded, all_seen, loaded, seen}
 -- ## Sessions that are open
 
 -- where the desk of each session is so, as the core has it
-pub open_is : EveryReached → (frames locks workers : ℕ) (words : List ℕ) (v : View) (store : Desk) (desks : List Desk) (marks : List Bool) (master : Master) → IsMachine frames locks workers words v store desks marks master
-    → (g : Opening) (group : ℕ) (xs : List Done) (m : Memory) → Tied g group xs v m → (w : ℕ) → 0 < w → w ≤ store.session.workers
-    → (desk_of store desks w).session.is_open ≡ ((state_after g (front xs)).worker w).is_open
-open_is reached frames locks workers words v store desks marks master is g group xs m t w low high =
+pub open_is : EveryReached → (frames locks workers : ℕ) (words : List ℕ) (v : View) (work : Desk) (desks : List Desk) (marks : List Bool) (master : Master) → IsMachine frames locks workers words v work desks marks master
+    → (g : Opening) (group : ℕ) (xs : List Done) (m : Memory) → Tied g group xs v m → (w : ℕ) → 0 < w → w ≤ work.session.workers
+    → (desk_of work desks w).session.is_open ≡ ((state_after g (front xs)).worker w).is_open
+open_is reached frames locks workers words v work desks marks master is g group xs m t w low high =
     let d = is.desks.each w low high in
     sym d.holds.session.is_open
     ∙ (ap (λ (k : ℕ). ((state v).core.worker k).is_open) d.own
     ∙ ap (λ (f : ℕ → core.Worker). (f w).is_open) (seen reached g group xs w (is_half_done w xs) v (t.ties w)).worker)
 
-pub store_is : (store : Desk) (desks : List Desk) → desk_of store desks store.session.own ≡ store
-store_is store desks = cond-true (eqb store.session.own store.session.own) store _ (eq-eqb store.session.own store.session.own refl)
+pub store_is : (work : Desk) (desks : List Desk) → desk_of work desks work.session.own ≡ work
+store_is work desks = cond-true (eqb work.session.own work.session.own) work _ (eq-eqb work.session.own work.session.own refl)
 
 -- ## Room
 
@@ -116,10 +116,10 @@ came (Some r) = Receipt_is r refl
 
 -- ## An outcome more
 
-module _ {D : Type 0} (reached : EveryReached) (outcome : EveryOutcome) (was is : State D) (own : ℕ) (c : Call) (a : Answer) (receipt : Option Receipt) (store : Desk) (desks : List Desk) (old new : Story)
+module _ {D : Type 0} (reached : EveryReached) (outcome : EveryOutcome) (was is : State D) (own : ℕ) (c : Call) (a : Answer) (receipt : Option Receipt) (work : Desk) (desks : List Desk) (old new : Story)
     (sessions : is.sessions ≡ was.sessions) (group : is.group ≡ was.group) (may : MayBe was.sessions a) (ends : IsEndOf own was.view is.view a receipt)
     (ends_are : is.ends ≡ put_ends receipt a was.ends) (next : is.next ≡ behind_answer a) (turn : is_conflict_in a ≡ true → is.turn ≡ own) where
-  module _ (g : Opening) (xs : List Done) (names : List Name) (run : InRun was g xs names) (d : DoesTied g was.group xs own c a is.view (memory_in was) (memory_in is) store desks old new) where
+  module _ (g : Opening) (xs : List Done) (names : List Name) (run : InRun was g xs names) (d : DoesTied g was.group xs own c a is.view (memory_in was) (memory_in is) work desks old new) where
     abbrev x : Done
     x = d.does.done
 
@@ -171,9 +171,9 @@ module _ {D : Type 0} (reached : EveryReached) (outcome : EveryOutcome) (was is 
   -- ## In the run in which it stands
 
   module _ (frames locks workers frames_new locks_new workers_new : ℕ) (words words_new : List ℕ) (first : Desk) (others : List Desk) (marks marks_new : List Bool) (master master_new : Master)
-      (machine : IsMachine frames locks workers words was.view first others marks master) (machine_new : IsMachine frames_new locks_new workers_new words_new is.view store desks marks_new master_new)
-      (many : first.session.workers ≡ was.sessions) (many_new : store.session.workers ≡ was.sessions) (turned : is_conflict_in a ≡ true → store.session.own ≡ own)
-      (stood : HasRun was first others) (d : DoesTied stood.opening was.group stood.done own c a is.view (memory_in was) (memory_in is) store desks old new)
+      (machine : IsMachine frames locks workers words was.view first others marks master) (machine_new : IsMachine frames_new locks_new workers_new words_new is.view work desks marks_new master_new)
+      (many : first.session.workers ≡ was.sessions) (many_new : work.session.workers ≡ was.sessions) (turned : is_conflict_in a ≡ true → work.session.own ≡ own)
+      (stood : HasRun was first others) (d : DoesTied stood.opening was.group stood.done own c a is.view (memory_in was) (memory_in is) work desks old new)
       (some : ends_in a ≡ true → 0 < own)
       (room : (w : ℕ) → 0 < w → w ≤ stood.opening.workers → Room (desk_of first others w).session.is_open (length (queue_of was.ends w)))
       (settled : (n : ℕ) → a ≡ answer.Begun n → length (queue_of was.ends own) ≡ waiting stood.opening (state_after stood.opening (front stood.done)) own) where
@@ -195,8 +195,8 @@ module _ {D : Type 0} (reached : EveryReached) (outcome : EveryOutcome) (was is 
     was_open : (w : ℕ) → 0 < w → w ≤ g.workers → (desk_of first others w).session.is_open ≡ (s.worker w).is_open
     was_open w low high = open_is reached frames locks workers words was.view first others marks master machine g was.group stood.done (memory_in was) stood.in_run.tied w low (subst (λ (n : ℕ). w ≤ n) (sym many) (ws w high))
 
-    is_open : (w : ℕ) → 0 < w → w ≤ g.workers → (desk_of store desks w).session.is_open ≡ (t.worker w).is_open
-    is_open w low high = open_is reached frames_new locks_new workers_new words_new is.view store desks marks_new master_new machine_new g was.group (y ∷ stood.done) (memory_in is) d.tied w low (subst (λ (n : ℕ). w ≤ n) (sym many_new) (ws w high))
+    is_open : (w : ℕ) → 0 < w → w ≤ g.workers → (desk_of work desks w).session.is_open ≡ (t.worker w).is_open
+    is_open w low high = open_is reached frames_new locks_new workers_new words_new is.view work desks marks_new master_new machine_new g was.group (y ∷ stood.done) (memory_in is) d.tied w low (subst (λ (n : ℕ). w ≤ n) (sym many_new) (ws w high))
 
     of_own : (r : Receipt) → receipt ≡ Some r → r.log ≡ own
     of_own r e = (ends.ended r e).log
@@ -230,12 +230,12 @@ module _ {D : Type 0} (reached : EveryReached) (outcome : EveryOutcome) (was is 
       | inr e ↦ ap length (unended_queue e w)
     ]
 
-    other_room : (w : ℕ) → 0 < w → w ≤ g.workers → (w ≡ own → ⊥) → HasRoom (Durables (is_conflict_in a)) (desk_of store desks w).session.is_open (length (queue_of (put_ends receipt a was.ends) w)) (waiting g t w)
+    other_room : (w : ℕ) → 0 < w → w ≤ g.workers → (w ≡ own → ⊥) → HasRoom (Durables (is_conflict_in a)) (desk_of work desks w).session.is_open (length (queue_of (put_ends receipt a was.ends) w)) (waiting g t w)
     other_room w low high n =
         let r = room w low high in
         let q = other_length w low n in
         let o = is_open w low high ∙ (open_other limits g was.group stood.done y told_of.1 w (λ e. n (e ∙ d.does.session)) ∙ sym (was_open w low high)) in
-        durables_room (is_conflict_in a) (desk_of store desks w).session.is_open (length (queue_of (put_ends receipt a was.ends) w)) (waiting g t w) (let m = r.most in omega arith)
+        durables_room (is_conflict_in a) (desk_of work desks w).session.is_open (length (queue_of (put_ends receipt a was.ends) w)) (waiting g t w) (let m = r.most in omega arith)
         (λ e. inl (let m = r.more (sym o ∙ e) in omega arith))
 
     ended_queue : ends_in a ≡ true → 0 < own → own ≤ g.workers → length (queue_of (put_ends receipt a was.ends) own) ≡ suc (length (queue_of was.ends own))
@@ -245,22 +245,22 @@ module _ {D : Type 0} (reached : EveryReached) (outcome : EveryOutcome) (was is 
         go (Nothing q) = absurd (true≢false (sym e ∙ ends.none q))
         go (Receipt_is r q) = longer_queue receipt a was.ends own r q (of_own r q) low (subst (λ (n : ℕ). own ≤ n) (sym queues) high)
 
-    own_open : 0 < own → own ≤ g.workers → (desk_of store desks own).session.is_open ≡ open_after y.outcome.deed (desk_of first others own).session.is_open
+    own_open : 0 < own → own ≤ g.workers → (desk_of work desks own).session.is_open ≡ open_after y.outcome.deed (desk_of first others own).session.is_open
     own_open low high = is_open own low high ∙ (open_own limits g was.group stood.done y told_of.1 own (sym d.does.session) ∙ sym (ap (open_after y.outcome.deed) (was_open own low high)))
 
     -- the desk of the session that asked
-    own_room : 0 < own → own ≤ g.workers → HasRoom (Durables (is_conflict_in a)) (desk_of store desks own).session.is_open (length (queue_of (put_ends receipt a was.ends) own)) (waiting g t own)
+    own_room : 0 < own → own ≤ g.workers → HasRoom (Durables (is_conflict_in a)) (desk_of work desks own).session.is_open (length (queue_of (put_ends receipt a was.ends) own)) (waiting g t own)
     own_room low high = go (sort y.outcome.deed)
       where
         r : Room (desk_of first others own).session.is_open (length (queue_of was.ends own))
         r = room own low high
 
-        go : Sort y.outcome.deed → HasRoom (Durables (is_conflict_in a)) (desk_of store desks own).session.is_open (length (queue_of (put_ends receipt a was.ends) own)) (waiting g t own)
+        go : Sort y.outcome.deed → HasRoom (Durables (is_conflict_in a)) (desk_of work desks own).session.is_open (length (queue_of (put_ends receipt a was.ends) own)) (waiting g t own)
         go (Begins n e) =
             let begun = sym d.does.answer_is ∙ ap answered e in
             let q = ap length (unended_queue (ap ends_in begun) own) in
             let m = r.most in
-            durables_room (is_conflict_in a) (desk_of store desks own).session.is_open (length (queue_of (put_ends receipt a was.ends) own)) (waiting g t own) (omega arith)
+            durables_room (is_conflict_in a) (desk_of work desks own).session.is_open (length (queue_of (put_ends receipt a was.ends) own)) (waiting g t own) (omega arith)
             (λ o. elim (cases_Bool (leb 256 (waiting g s own))) [
               | inl l ↦ inr ((omega arith), none_wait_behind g was.group stood.done y n told_of.1 e (subst (λ (k : ℕ). leb 256 (waiting g s k) ≡ true) (sym d.does.session) l) own)
               | inr l ↦ inl (let f = leb-false 256 (waiting g s own) l in let z = settled n begun in omega arith)
@@ -269,38 +269,38 @@ module _ {D : Type 0} (reached : EveryReached) (outcome : EveryOutcome) (was is 
             let k = subst (λ (p : Answer). ends_in p ≡ true) d.does.answer_is e in
             let q = ended_queue k low high in
             let m = r.more (was_open own low high ∙ open_before k) in
-            durables_room (is_conflict_in a) (desk_of store desks own).session.is_open (length (queue_of (put_ends receipt a was.ends) own)) (waiting g t own) (omega arith)
+            durables_room (is_conflict_in a) (desk_of work desks own).session.is_open (length (queue_of (put_ends receipt a was.ends) own)) (waiting g t own) (omega arith)
             (λ o. absurd (true≢false (sym o ∙ (own_open low high ∙ b (desk_of first others own).session.is_open))))
         go (Neither e b) =
             let q = ap length (unended_queue (subst (λ (p : Answer). ends_in p ≡ false) d.does.answer_is e) own) in
             let m = r.most in
-            durables_room (is_conflict_in a) (desk_of store desks own).session.is_open (length (queue_of (put_ends receipt a was.ends) own)) (waiting g t own) (omega arith)
+            durables_room (is_conflict_in a) (desk_of work desks own).session.is_open (length (queue_of (put_ends receipt a was.ends) own)) (waiting g t own) (omega arith)
             (λ o. inl (let f = r.more (sym (own_open low high ∙ b (desk_of first others own).session.is_open) ∙ o) in omega arith))
 
-    each_room : (w : ℕ) → 0 < w → w ≤ g.workers → HasRoom (Durables (is_conflict_in a)) (desk_of store desks w).session.is_open (length (queue_of (put_ends receipt a was.ends) w)) (waiting g t w)
+    each_room : (w : ℕ) → 0 < w → w ≤ g.workers → HasRoom (Durables (is_conflict_in a)) (desk_of work desks w).session.is_open (length (queue_of (put_ends receipt a was.ends) w)) (waiting g t w)
     each_room w low high = elim (cases_eq w own) [
-      | inl e ↦ subst (λ (k : ℕ). HasRoom (Durables (is_conflict_in a)) (desk_of store desks k).session.is_open (length (queue_of (put_ends receipt a was.ends) k)) (waiting g t k)) (sym e) (own_room (omega arith) (omega arith))
+      | inl e ↦ subst (λ (k : ℕ). HasRoom (Durables (is_conflict_in a)) (desk_of work desks k).session.is_open (length (queue_of (put_ends receipt a was.ends) k)) (waiting g t k)) (sym e) (own_room (omega arith) (omega arith))
       | inr n ↦ other_room w low high n
     ]
 
-    pub has_run : HasRun is store desks
+    pub has_run : HasRun is work desks
     has_run = record {
       opening = g;
       done = y ∷ stood.done;
       names = stood.names;
       in_run = in_run_behind g stood.done stood.names stood.in_run d;
-      half = d.half;
-      room = λ w low high. subst (λ (n : Next). HasRoom n (desk_of store desks w).session.is_open (length (queue_of is.ends w)) (waiting g t w)) (sym next)
-          (subst (λ (qs : List (List End)). HasRoom (Durables (is_conflict_in a)) (desk_of store desks w).session.is_open (length (queue_of qs w)) (waiting g t w)) (sym ends_are) (each_room w low high));
-      is_open = subst (λ (n : Next). WhereDue n (store.session.is_open ≡ true)) (sym next) (due_behind a (store.session.is_open ≡ true) open_due);
+      is_half_aborted = d.is_half_aborted;
+      room = λ w low high. subst (λ (n : Next). HasRoom n (desk_of work desks w).session.is_open (length (queue_of is.ends w)) (waiting g t w)) (sym next)
+          (subst (λ (qs : List (List End)). HasRoom (Durables (is_conflict_in a)) (desk_of work desks w).session.is_open (length (queue_of qs w)) (waiting g t w)) (sym ends_are) (each_room w low high));
+      is_open = subst (λ (n : Next). WhereDue n (work.session.is_open ≡ true)) (sym next) (due_behind a (work.session.is_open ≡ true) open_due);
     }
       where
-        open_due : is_conflict_in a ≡ true → store.session.is_open ≡ true
+        open_due : is_conflict_in a ≡ true → work.session.is_open ≡ true
         open_due e =
-            let low = turn_low (plain_shape frames_new locks_new workers_new) is.view store desks machine_new.desks in
-            let high = turn_high (plain_shape frames_new locks_new workers_new) is.view store desks machine_new.desks in
+            let low = turn_low (plain_shape frames_new locks_new workers_new) is.view work desks machine_new.desks in
+            let high = turn_high (plain_shape frames_new locks_new workers_new) is.view work desks machine_new.desks in
             let w = stood.in_run.workers in let m = many_new in
-            ap (λ (b : Desk). b.session.is_open) (sym (store_is store desks))
-            ∙ (is_open store.session.own low (omega arith)
+            ap (λ (b : Desk). b.session.is_open) (sym (store_is work desks))
+            ∙ (is_open work.session.own low (omega arith)
             ∙ (ap (λ (k : ℕ). (t.worker k).is_open) (turned e ∙ sym d.does.session)
             ∙ hindered_open g stood.done y ((memory_in was).log y.outcome.session) ((memory_in is).log y.outcome.session) d.does.happens.how (subst (λ (b : Answer). is_conflict_in b ≡ true) (sym d.does.answer_is) e)))

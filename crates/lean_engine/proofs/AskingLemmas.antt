@@ -26,8 +26,8 @@ use Rattle.group_commit.specs.declared.receipts.Receipt.{Receipt}
 use Rattle.rows_trait.specs.declared.view.View.{View}
 use Rattle.lean_engine.specs.Calls.{AbortsInRuns, DoesIn, IsTo, MayBe}
 use Rattle.lean_engine.specs.Desks.{desk_of}
-use Rattle.lean_engine.specs.Inside.{IsEndOf, OnAsked, next_behind, put_ends}
-use Rattle.lean_engine.specs.Machines.{AreHalf, DoesTied, DoesWhere, IsDue, IsMachine, ends_in}
+use Rattle.lean_engine.specs.Inside.Asks.{IsEndOf, OnAsked, next_behind, put_ends}
+use Rattle.lean_engine.specs.Machines.{AreHalf, DoesTied, DoesByParts, IsDue, IsMachine, ends_in}
 use Rattle.lean_engine.specs.States.{HasRoom, HasRun, InRun, IsOfTurn, IsSettled, State, WhereDue, memory_in}
 use Rattle.lean_engine.specs.declared.desk.Desk.{Desk}
 use Rattle.lean_engine.proofs.AskLemmas.{Room, has_run, in_run_behind, room_abort, room_line}
@@ -64,37 +64,37 @@ begun_by c a n t e = go c (subst (IsTo c) e t)
 
 -- ## A call
 
-module _ {D : Type 0} (reached : EveryReached) (outcome : EveryOutcome) (was is : State D) (own : ℕ) (c : Call) (a : Answer) (receipt : Option Receipt) (first : Desk) (others : List Desk) (store : Desk) (desks : List Desk) (old new : Story)
+module _ {D : Type 0} (reached : EveryReached) (outcome : EveryOutcome) (was is : State D) (own : ℕ) (c : Call) (a : Answer) (receipt : Option Receipt) (first : Desk) (others : List Desk) (work : Desk) (desks : List Desk) (old new : Story)
     (sessions : is.sessions ≡ was.sessions) (group : is.group ≡ was.group) (may : MayBe was.sessions a) (ends : IsEndOf own was.view is.view a receipt)
     (ends_are : is.ends ≡ put_ends receipt a was.ends) (works : (is.works ≡ true) ↔ (a ≡ fault → ⊥)) (next : is.next ≡ next_behind is.works was.next a) (turn : is.works ≡ true → is_conflict_in a ≡ true → is.turn ≡ own)
-    (stood : HasRun was first others) (May : Opening → List Done → Type 0) (does : DoesWhere May was.sessions was.group own c a was.view is.view (memory_in was) (memory_in is) first others store desks old new) where
+    (stood : HasRun was first others) (May : Opening → List Done → Type 0) (does : DoesByParts May was.sessions was.group own c a was.view is.view (memory_in was) (memory_in is) first others work desks old new) where
   next_of : (a ≡ fault → ⊥) → is.next ≡ behind_answer a
   next_of n = next ∙ ap (λ (b : Bool). next_behind b was.next a) (works.1 n)
 
-  half : (g : Opening) (xs : List Done) (names : List Name) → InRun was g xs names → AreHalf was.sessions xs first others
-  half g xs names run w low high = same_half g stood.opening was.group was.group xs stood.done (memory_in was) (memory_in was) was.view run.tied stood.in_run.tied w
-      ∙ stood.half w low (subst (λ (n : ℕ). w ≤ n) (sym stood.in_run.workers) high)
+  is_half_aborted : (g : Opening) (xs : List Done) (names : List Name) → InRun was g xs names → AreHalf was.sessions xs first others
+  is_half_aborted g xs names run w low high = same_half g stood.opening was.group was.group xs stood.done (memory_in was) (memory_in was) was.view run.tied stood.in_run.tied w
+      ∙ stood.is_half_aborted w low (subst (λ (n : ℕ). w ≤ n) (sym stood.in_run.workers) high)
 
   abbrev Did : Opening → List Done → Type 0
-  Did g xs = DoesTied g was.group xs own c a is.view (memory_in was) (memory_in is) store desks old new
+  Did g xs = DoesTied g was.group xs own c a is.view (memory_in was) (memory_in is) work desks old new
 
   pub in_runs : (g : Opening) (xs : List Done) (names : List Name) → InRun was g xs names → May g xs → Comes a (DoesIn g xs names own c a was is old new) (Fails g was.group xs own c (memory_in was) old new)
   in_runs g xs names run m = comes_if a (Did g xs) (DoesIn g xs names own c a was is old new) (Fails g was.group xs own c (memory_in was) old new)
-      (λ n d. record { does = d.does; in_run = in_run_behind reached outcome was is own c a receipt store desks old new sessions group may ends ends_are (next_of n) (turn (works.1 n)) g xs names run d })
-      (does g xs run.workers run.tied (half g xs names run) m)
+      (λ n d. record { does = d.does; in_run = in_run_behind reached outcome was is own c a receipt work desks old new sessions group may ends ends_are (next_of n) (turn (works.1 n)) g xs names run d })
+      (does g xs run.workers run.tied (is_half_aborted g xs names run) m)
 
   module _ (frames locks workers frames_new locks_new workers_new : ℕ) (words words_new : List ℕ) (marks marks_new : List Bool) (master master_new : Master)
-      (machine : IsMachine frames locks workers words was.view first others marks master) (machine_new : is.works ≡ true → IsMachine frames_new locks_new workers_new words_new is.view store desks marks_new master_new)
-      (many : first.session.workers ≡ was.sessions) (many_new : store.session.workers ≡ was.sessions) (turned : is.works ≡ true → is_conflict_in a ≡ true → store.session.own ≡ own)
+      (machine : IsMachine frames locks workers words was.view first others marks master) (machine_new : is.works ≡ true → IsMachine frames_new locks_new workers_new words_new is.view work desks marks_new master_new)
+      (many : first.session.workers ≡ was.sessions) (many_new : work.session.workers ≡ was.sessions) (turned : is.works ≡ true → is_conflict_in a ≡ true → work.session.own ≡ own)
       (some : ends_in a ≡ true → 0 < own)
       (room : (w : ℕ) → 0 < w → w ≤ stood.opening.workers → Room (desk_of first others w).session.is_open (length (queue_of was.ends w)))
       (settled : (n : ℕ) → a ≡ answer.Begun n → length (queue_of was.ends own) ≡ waiting stood.opening (state_after stood.opening (front stood.done)) own)
       (here : May stood.opening stood.done) where
-    pub run_behind : is.works ≡ true → HasRun is store desks
-    run_behind w = has_run reached outcome was is own c a receipt store desks old new sessions group may ends ends_are (next_of (works.0 w)) (turn w)
+    pub run_behind : is.works ≡ true → HasRun is work desks
+    run_behind w = has_run reached outcome was is own c a receipt work desks old new sessions group may ends ends_are (next_of (works.0 w)) (turn w)
         frames locks workers frames_new locks_new workers_new words words_new first others marks marks_new master master_new machine (machine_new w) many many_new (turned w)
         stood (did a (Did stood.opening stood.done) (Fails stood.opening was.group stood.done own c (memory_in was) old new) (works.0 w)
-        (does stood.opening stood.done stood.in_run.workers stood.in_run.tied (half stood.opening stood.done stood.names stood.in_run) here))
+        (does stood.opening stood.done stood.in_run.workers stood.in_run.tied (is_half_aborted stood.opening stood.done stood.names stood.in_run) here))
         some room settled
 
 -- ## On a line

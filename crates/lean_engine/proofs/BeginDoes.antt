@@ -16,7 +16,9 @@ use Rattle.core_calls.specs.Refusals.{waiting}
 use Rattle.core_calls.specs.Steps.{is_step, is_structure}
 use Rattle.lean_disk.specs.Moments.{LeavesOnly}
 use Rattle.lean_disk.specs.Story.{Crash, Story}
+use Rattle.disk_runs.specs.Masters.{IsNoEarlier}
 use Rattle.disk_runs.specs.Stands.{Known}
+use Rattle.disk_runs.proofs.LineLemmas.{further, same}
 use Rattle.engine_calls.specs.Answers.{EveryAnswer}
 use Rattle.engine_calls.specs.Begins.{IsBegin, begun_by}
 use Rattle.engine_calls.specs.Clauses.{Between, IsNewLine}
@@ -28,7 +30,7 @@ use Rattle.engine_trait.specs.Limits.{AreLoads, limits}
 use Rattle.engine_trait.specs.Logs.{Logs}
 use Rattle.engine_trait.specs.Refusals.{refusal_in}
 use Rattle.engine_trait.specs.Rooms.{MakesItsRoom}
-use Rattle.lean_engine.specs.Syncs.{Stood}
+use Rattle.lean_engine.specs.Inside.Syncs.{Stood}
 use Rattle.lean_engine.proofs.SyncDoes.{flushes_none, line_call, made_logs, made_none, made_few, none_is}
 
 pub never_begun : (n : ℕ) (why : Refusal) → answer.Begun n ≡ answer.Refused why → ⊥
@@ -75,20 +77,21 @@ module _ (g : Opening) (group : ℕ) (xs : List Done) (line : IsNewLine (outcome
         few = let a = made_few g group xs line first flushes n loads few are short in let b = length-append before (Event.Begin w f ∷ []) in omega arith;
         refused = λ why q. absurd (never_begun number why q);
         refuses = λ why q. absurd (none_is why (sym free ∙ subst (λ c. refusal_in g (state_after g (front xs ++ first)) w (is_half_done w xs) (was.log w) c ≡ Some why) (line_call xs call.Begin line) q));
+        still = λ why q. absurd (none_is why (sym free ∙ subst (λ c. refusal_in g (state_after g (front xs ++ first)) w (is_half_done w xs) (was.log w) c ≡ Some why) (line_call xs call.Begin line) q));
         log = λ some. logs w some high;
-        room = subst (λ c. MakesItsRoom g (state_after g (front xs ++ first)) c ((flushes ++ Event.Sync n ∷ []) ++ Event.Begin w f ∷ [])) (sym (line_call xs call.Begin line))
+        room = subst (λ c. MakesItsRoom w g (state_after g (front xs ++ first)) c ((flushes ++ Event.Sync n ∷ []) ++ Event.Begin w f ∷ [])) (sym (line_call xs call.Begin line))
             (any_append is_structure (flushes ++ Event.Sync n ∷ []) (Event.Begin w f ∷ []) (any_append is_structure flushes (Event.Sync n ∷ []) (flushes_none is_structure (λ _ _. refl) flushes are) refl) refl);
       }
 
       -- the begin itself touches no device
-      pub begin_does : (answers : EveryAnswer) (old new : Story) → EveryPart old new new → Around g.workers true old new → ((s0 : Crash) (k : Known) → Between limits g group xs s0 k old → IsOf g was k → Stood g xs before s0 k is.log is.master g.workers old new)
+      pub begin_does : (answers : EveryAnswer) (old new : Story) → EveryPart old new new → IsNoEarlier before was.master is.master → Around g.workers true old new → ((s0 : Crash) (k : Known) → Between limits g group xs s0 k old → IsOf g was k → Stood g xs before s0 k is.log is.master g.workers old new)
           → Does g group xs w call.Begin (answer.Begun number) was is old new
-      begin_does answers old new part around stood = record {
+      begin_does answers old new part earlier around stood = record {
         done = done;
         session = refl;
         asked_is = refl;
         answer_is = refl;
-        happens = record { tells = (answers limits g group xs).begin before w number f is_begin; how = begin_how; others = λ a some most _. logs a some most; master = λ e. absurd (true≢false (sym (any_within (first ++ flushes) (Event.Begin w f ∷ []) n) ∙ e)) };
+        happens = record { tells = (answers limits g group xs).begin before w number f is_begin; how = begin_how; others = λ a some most _. logs a some most; master = λ e. absurd (true≢false (sym (any_within (first ++ flushes) (Event.Begin w f ∷ []) n) ∙ e)); no_earlier = further before (Event.Begin w f ∷ []) was.master is.master is.master earlier (same (Event.Begin w f ∷ []) is.master) };
         frame = subst (λ b. Around g.workers b old new) (sym (any_within (first ++ flushes) (Event.Begin w f ∷ []) n)) around;
         keeps = λ s0 k b of_k.
             let at = stood s0 k b of_k in

@@ -18,10 +18,11 @@ use Rattle.core_calls.specs.LogEvents.{Prepares, RefusedLogs, is_log}
 use Rattle.core_calls.specs.Marks.{is_half}
 use Rattle.core_calls.specs.Refusals.{IsCause}
 use Rattle.core_calls.specs.Runs.{EachTells, Tells}
-use Rattle.core_calls.specs.Steps.{MayPutBack, is_step, is_structure}
+use Rattle.core_calls.specs.Steps.{Tries, is_step, is_structure}
 use Rattle.lean_disk.specs.Moments.{LeavesOnly}
 use Rattle.lean_disk.specs.Story.{Story}
 use Rattle.rfa_model.specs.Reaches.{least}
+use Rattle.disk_runs.proofs.LineLemmas as lines
 use Rattle.engine_calls.specs.Begins.{IsBegin, begun_by}
 use Rattle.engine_calls.specs.Clauses.{IsNewLine}
 use Rattle.engine_calls.specs.Parts.{EveryPart, behind_first}
@@ -45,7 +46,7 @@ use Rattle.row_engine.specs.Grown.{Behind}
 use Rattle.row_engine.specs.declared.session.Session.{Session}
 use Rattle.lean_engine.specs.Desks.{desk_of}
 use Rattle.lean_engine.specs.Machines.{AreHalf, DoesTied, Tied}
-use Rattle.lean_engine.specs.Reached.{Reached}
+use Rattle.lean_engine.specs.Inside.Reached.{Reached}
 use Rattle.lean_engine.specs.declared.desk.Desk.{Desk}
 use Rattle.lean_engine.proofs.LoggedRuns.{logged_all}
 use Rattle.lean_engine.proofs.SyncDoes.{line_call, none_is}
@@ -125,12 +126,13 @@ module _ (reached : EveryReached) (needs : EveryNeed) (g : Opening) (group : ℕ
         few = let a = r.few in let b = r.short in let c = length-append r.events tail in let d = length-append r.first r.more in let e = ap (λ (es : List happening.Event). length es) r.are in omega arith;
         refused = λ why q. absurd (begun_refused number why q);
         refuses = λ why q. absurd (free why (subst (λ c. refusal_in g at_first own (is_half_done own xs) (was.log own) c ≡ Some why) begin_is q));
+        still = λ why q. any_append is_structure r.more tail r.own_structure refl;
         log = λ _. logs own low high;
-        room = subst (λ c. MakesItsRoom g at_first c (r.more ++ tail)) (sym begin_is) (any_append is_structure r.more tail r.own_structure refl);
+        room = subst (λ c. MakesItsRoom own g at_first c (r.more ++ tail)) (sym begin_is) (any_append is_structure r.more tail r.own_structure refl);
       }
 
       happens : Happens g group xs begun was is
-      happens = record { tells = tells; how = how; others = λ a some most _. logs a some most; master = λ e. r.master (sym r.syncs_is ∙ (sym (any_begin r.events own f) ∙ e)) }
+      happens = record { tells = tells; how = how; others = λ a some most _. logs a some most; master = λ e. r.master (sym r.syncs_is ∙ (sym (any_begin r.events own f) ∙ e)); no_earlier = lines.further r.events tail was.master is.master is.master r.no_earlier (lines.same tail is.master) }
 
       syncs_now : any is_sync begun.events ≡ syncs
       syncs_now = any_begin r.events own f ∙ r.syncs_is
@@ -157,9 +159,9 @@ module _ (reached : EveryReached) (needs : EveryNeed) (g : Opening) (group : ℕ
       half_begun = ap is_half (cond-true (own == own) (marks_for begun.outcome ++ marks_by own (outcomes xs)) (marks_by own (outcomes xs)) (eq-eqb own own refl))
 
       pub began : (v : View) → Tied g group xs v was → (store0 : Desk) (desks0 : List Desk) (store1 : Desk) (desks1 : List Desk) → AreHalf g.workers xs store0 desks0
-          → ((a : ℕ) → 0 < a → a ≤ g.workers → (a ≡ own → ⊥) → (desk_of store1 desks1 a).session.half ≡ (desk_of store0 desks0 a).session.half) → (desk_of store1 desks1 own).session.half ≡ false
+          → ((a : ℕ) → 0 < a → a ≤ g.workers → (a ≡ own → ⊥) → (desk_of store1 desks1 a).session.is_half_aborted ≡ (desk_of store0 desks0 a).session.is_half_aborted) → (desk_of store1 desks1 own).session.is_half_aborted ≡ false
           → DoesTied g group xs own call.Begin (answer.Begun number) w was is store1 desks1 old now
-      began v tied store0 desks0 store1 desks1 half same none = record {
+      began v tied store0 desks0 store1 desks1 is_half_aborted same none = record {
         does = does;
         tied = record {
           ties = λ a. record {
@@ -174,33 +176,33 @@ module _ (reached : EveryReached) (needs : EveryNeed) (g : Opening) (group : ℕ
           };
           logged = logged_all g group xs begun was is each happens tied.logged;
         };
-        half = λ a some most. at a some most (cases_eq a own);
+        is_half_aborted = λ a some most. at a some most (cases_eq a own);
         unsynced = λ e. absurd (true≢false (sym e));
       }
         where
-          at : (a : ℕ) → 0 < a → a ≤ g.workers → (a ≡ own) ⊎ (a ≡ own → ⊥) → is_half_done a (begun ∷ xs) ≡ (desk_of store1 desks1 a).session.half
-          at a some most (inl e) = ap (λ n. is_half_done n (begun ∷ xs)) e ∙ (half_begun ∙ (sym none ∙ ap (λ n. (desk_of store1 desks1 n).session.half) (sym e)))
-          at a some most (inr n) = half_other a begun xs n ∙ (half a some most ∙ sym (same a some most n))
+          at : (a : ℕ) → 0 < a → a ≤ g.workers → (a ≡ own) ⊎ (a ≡ own → ⊥) → is_half_done a (begun ∷ xs) ≡ (desk_of store1 desks1 a).session.is_half_aborted
+          at a some most (inl e) = ap (λ n. is_half_done n (begun ∷ xs)) e ∙ (half_begun ∙ (sym none ∙ ap (λ n. (desk_of store1 desks1 n).session.is_half_aborted) (sym e)))
+          at a some most (inr n) = half_other a begun xs n ∙ (is_half_aborted a some most ∙ sym (same a some most n))
 
   -- ## It was refused
 
   abbrev refuses_at : List happening.Event → Log → Refusal → Type 0
   refuses_at es log why = refusal_in g (state_after g (front xs ++ es)) own (is_half_done own xs) log call.Begin ≡ Some why
 
-  module _ (low : 0 < own) (high : own ≤ g.workers) (why : Refusal) (test : refuses_at r.events (is.log own) why) (stays : (q : Refusal) → refuses_at r.first (was.log own) q → refuses_at r.events (is.log own) q)
+  module _ (low : 0 < own) (high : own ≤ g.workers) (why : Refusal) (test : refuses_at r.events (is.log own) why) (test_was : refuses_at r.events (was.log own) why) (stays : (q : Refusal) → refuses_at r.first (was.log own) q → refuses_at r.events (is.log own) q)
       (closed : (s.worker own).is_open ≡ false → Prepares limits g xs own (keep is_log r.events)) (still_open : (s.worker own).is_open ≡ true → keep is_log r.events ≡ []) where
     abbrev turned : Done
     turned = refused_by own call.Begin why r.events
 
-    by_cause : (q : Refusal) → q ≡ why → IsCause limits g (front xs ++ r.events) s (is_half (marks_by own (outcomes xs))) own call.Begin q → RefusedLogs limits g xs own call.Begin q (keep is_log r.events) → MayPutBack q [] → IsRefusal limits g xs own call.Begin why r.events
-    by_cause q e cause due none = subst (λ p. IsRefusal limits g xs own call.Begin p r.events) e (record {
+    by_cause : (q : Refusal) → q ≡ why → IsCause limits g (front xs ++ r.events) s (is_half (marks_by own (outcomes xs))) own call.Begin q → RefusedLogs limits g xs own call.Begin q r.events → IsRefusal limits g xs own call.Begin why r.events
+    by_cause q e cause due = subst (λ p. IsRefusal limits g xs own call.Begin p r.events) e (record {
       comes = (every_coming xs (refused_by own call.Begin q r.events).outcome).new line tt;
       met = r.behind.met;
       rows = subst (TakesRows own) (sym (keep_none is_step r.events r.steps)) tt;
+      tries = subst (λ c. Tries g own (outcomes xs) c q (keep is_step r.events)) (sym begin_is) (keep_none is_step r.events r.steps);
       structure = λ _. r.structure;
       cause = cause;
       due = due;
-      no_backs = none;
     })
 
     is_refused : IsRefusal limits g xs own call.Begin why r.events
@@ -213,15 +215,15 @@ module _ (reached : EveryReached) (needs : EveryNeed) (g : Opening) (group : ℕ
         clock = (s.worker own).clock
 
         clock_case : (s.worker own).is_open ≡ false → (b : Bool) → leb (2 ^ 62) clock ≡ b → cond b (Some refusal.ClockSpent) None ≡ Some why → IsRefusal limits g xs own call.Begin why r.events
-        clock_case shut true q t = by_cause refusal.ClockSpent (some_is _ why t) (leb-true (2 ^ 62) clock q) (closed shut) refl
+        clock_case shut true q t = by_cause refusal.ClockSpent (some_is _ why t) (leb-true (2 ^ 62) clock q) (closed shut)
         clock_case shut false q t = absurd (none_is why t)
 
         full_case : (s.worker own).is_open ≡ false → (b : Bool) → cond b (Some (refusal.LogFull (used log) (limit log))) (cond (leb (2 ^ 62) clock) (Some refusal.ClockSpent) None) ≡ Some why → IsRefusal limits g xs own call.Begin why r.events
-        full_case shut true t = by_cause (refusal.LogFull (used log) (limit log)) (some_is _ why t) refl (closed shut) refl
+        full_case shut true t = by_cause (refusal.LogFull (used log) (limit log)) (some_is _ why t) refl (closed shut)
         full_case shut false t = clock_case shut (leb (2 ^ 62) clock) refl t
 
         open_case : (b : Bool) → (s.worker own).is_open ≡ b → cond b (Some refusal.InTransaction) (log_refusal clock log None) ≡ Some why → IsRefusal limits g xs own call.Begin why r.events
-        open_case true q t = by_cause refusal.InTransaction (some_is _ why t) q (still_open q) refl
+        open_case true q t = by_cause refusal.InTransaction (some_is _ why t) q (still_open q)
         open_case false q t = full_case q (leb (limit log) (used log)) t
 
     tells_no : Tells limits g group xs turned
@@ -234,14 +236,15 @@ module _ (reached : EveryReached) (needs : EveryNeed) (g : Opening) (group : ℕ
       events = r.are;
       loads = r.loads;
       few = let a = r.few in let b = r.short in let d = length-append r.first r.more in let e = ap (λ (es : List happening.Event). length es) r.are in omega arith;
-      refused = λ q e. inl (subst (λ c. refusal_in g (state_after g (front xs ++ r.events)) own (is_half_done own xs) (is.log own) c ≡ Some q) (sym begin_is) (test ∙ ap Some (refused_is why q e)));
+      refused = λ q e. inl (subst (λ c. refusal_in g (state_after g (front xs ++ r.events)) own (is_half_done own xs) (was.log own) c ≡ Some q) (sym begin_is) (test_was ∙ ap Some (refused_is why q e)));
       refuses = λ q e. inl (ap answer.Refused (some_is why q (sym test ∙ stays q (subst (λ c. refusal_in g at_first own (is_half_done own xs) (was.log own) c ≡ Some q) begin_is e))));
+      still = λ _ _. r.own_structure;
       log = λ _. r.logs own low high;
-      room = subst (λ c. MakesItsRoom g at_first c r.more) (sym begin_is) r.own_structure;
+      room = subst (λ c. MakesItsRoom own g at_first c r.more) (sym begin_is) r.own_structure;
     }
 
     happens_no : Happens g group xs turned was is
-    happens_no = record { tells = tells_no; how = how_no; others = λ a some most _. r.logs a some most; master = λ e. r.master (sym r.syncs_is ∙ e) }
+    happens_no = record { tells = tells_no; how = how_no; others = λ a some most _. r.logs a some most; master = λ e. r.master (sym r.syncs_is ∙ e); no_earlier = r.no_earlier }
 
     abbrev does_no : Does g group xs own call.Begin (answer.Refused why) was is old now
     does_no = record {
@@ -264,9 +267,9 @@ module _ (reached : EveryReached) (needs : EveryNeed) (g : Opening) (group : ℕ
     half_no = ap is_half (cond-true (own == own) (marks_for turned.outcome ++ marks_by own (outcomes xs)) (marks_by own (outcomes xs)) (eq-eqb own own refl))
 
     pub not_begun : (v : View) → Tied g group xs v was → (store0 : Desk) (desks0 : List Desk) (store1 : Desk) (desks1 : List Desk) → AreHalf g.workers xs store0 desks0
-        → ((a : ℕ) → 0 < a → a ≤ g.workers → (desk_of store1 desks1 a).session.half ≡ (desk_of store0 desks0 a).session.half)
+        → ((a : ℕ) → 0 < a → a ≤ g.workers → (desk_of store1 desks1 a).session.is_half_aborted ≡ (desk_of store0 desks0 a).session.is_half_aborted)
         → DoesTied g group xs own call.Begin (answer.Refused why) u was is store1 desks1 old now
-    not_begun v tied store0 desks0 store1 desks1 half same = record {
+    not_begun v tied store0 desks0 store1 desks1 is_half_aborted same = record {
       does = does_no;
       tied = record {
         ties = λ a. record {
@@ -281,7 +284,7 @@ module _ (reached : EveryReached) (needs : EveryNeed) (g : Opening) (group : ℕ
         };
         logged = logged_all g group xs turned was is each happens_no tied.logged;
       };
-      half = λ a some most. at a some most (cases_eq a own) ∙ (half a some most ∙ sym (same a some most));
+      is_half_aborted = λ a some most. at a some most (cases_eq a own) ∙ (is_half_aborted a some most ∙ sym (same a some most));
       unsynced = λ e. absurd (true≢false (sym e));
     }
       where

@@ -14,10 +14,11 @@ use Rattle.core_state.specs.Steps.{state_after}
 use Rattle.core_calls.specs.Fronts.{Done, front, outcomes}
 use Rattle.core_calls.specs.LogEvents.{Prepares, PreparesBy, RefusedLogs, is_log}
 use Rattle.core_calls.specs.Refusals.{waiting}
-use Rattle.core_calls.specs.Steps.{is_step, is_structure}
+use Rattle.core_calls.specs.Steps.{Tries, is_step, is_structure}
 use Rattle.lean_disk.specs.Story.{IsLawful, Story}
 use Rattle.lean_disk.proofs.MomentLemmas.{started}
 use Rattle.disk_slots.specs.declared.master.Master.{Master}
+use Rattle.disk_runs.proofs.LineLemmas as lines
 use Rattle.engine_calls.specs.Clauses.{IsNewLine}
 use Rattle.engine_calls.specs.Parts.{EveryPart}
 use Rattle.engine_calls.proofs.MarkLemmas.{keep_none}
@@ -35,14 +36,15 @@ use Rattle.row_engine.specs.Calls.{Comes, begin_answer}
 use Rattle.row_engine.specs.Ties.{Ties}
 use Rattle.row_engine.specs.declared.session.Session.{Session}
 use Rattle.lean_engine.specs.Desks.{desk_of, log_of}
-use Rattle.lean_engine.specs.Machines.{AreDesks, AreHalf, DoesTied, DoesWhere, OnBegin, Tied, memory_of}
-use Rattle.lean_engine.specs.Reached.{Reached}
-use Rattle.lean_engine.specs.Syncs.{has_half}
+use Rattle.lean_engine.specs.Machines.{AreDesks, AreHalf, DoesTied, DoesByParts, OnBegin, Tied, memory_of}
+use Rattle.lean_engine.specs.Inside.Reached.{Reached}
+use Rattle.lean_engine.specs.Inside.Syncs.{has_half}
 use Rattle.lean_engine.specs.declared.desk.Desk.{Desk}
 use Rattle.lean_engine.proofs.BeginRuns.{began, not_begun}
 use Rattle.lean_engine.proofs.DeskLemmas.{desk_own, desk_same, place_low}
 use Rattle.lean_engine.proofs.HalfLates.{half_late, some_half}
 use Rattle.lean_engine.proofs.SeatLemmas.{holds_of, turn_high, turn_low}
+use Rattle.core_calls.proofs.WhereLemmas.{refused_kept}
 use Rattle.lean_engine.proofs.SpentRuns.{spent}
 use Rattle.lean_engine.proofs.SyncDoes.{loads_none, none_is}
 use Rattle.lean_engine.proofs.SyncRuns.{around_none}
@@ -122,6 +124,7 @@ module _ (reached : EveryReached) (needs : EveryNeed) (st : Story) (law : IsLawf
       logs = λ a some most. logs_still y same log a some (most_of a most);
       around = around_none g.workers false st;
       master = λ _. refl;
+      no_earlier = lines.same t.loads master;
       goes = λ s0 k between of_k. record {
         known = k;
         gone = (part limits g x.session.group xs s0 k [] k between).quiet t.loads (loads_quiet t.loads t.are_loads) ((part limits g x.session.group xs s0 k [] k between).none law);
@@ -140,7 +143,7 @@ module _ (reached : EveryReached) (needs : EveryNeed) (st : Story) (law : IsLawf
     prepares : leb 256 (waiting g (state_after g (front xs)) own) ≡ false → Prepares limits g xs own (keep is_log t.loads)
     prepares few = subst (λ es. Prepares limits g xs own es) (sym no_logs) (by_nothing (leb 256 (waiting g (state_after g (front xs)) own)) few)
 
-    test_is : refusal_in g (state_after g (front xs ++ t.loads)) own (is_half_done own xs) (was.log own) call.Begin ≡ refusal_in (opening v.given) (state v).core own x.session.half x.log call.Begin
+    test_is : refusal_in g (state_after g (front xs ++ t.loads)) own (is_half_done own xs) (was.log own) call.Begin ≡ refusal_in (opening v.given) (state v).core own x.session.is_half_aborted x.log call.Begin
     test_is i = refusal_in g (state_is i) own (is_half_done own xs) (log_own i) call.Begin
 
   -- no sync is due, or the session is in a transaction
@@ -152,34 +155,34 @@ module _ (reached : EveryReached) (needs : EveryNeed) (st : Story) (law : IsLawf
         go false e = e
         go true e = absurd (true≢false (sym (due e) ∙ (sym (holds_of z v x desks are).session.is_open ∙ shut)))
 
-    pub without_sync : (w : View) (y : Desk) (r : Result ℕ Refusal) → IfOk r (Begins v w x.session y.session) → (IsOk r → refusal_in (opening v.given) (state v).core own x.session.half x.log call.Begin ≡ None)
-        → IfErr r (λ why. refusal_in (opening v.given) (state v).core own x.session.half x.log call.Begin ≡ Some why) → (IsErr r → (w ≡ v) × (y ≡ x)) → IfErr r IsTold → y.log ≡ x.log
-        → DoesWhere (OnBegin own is_long) x.session.workers x.session.group own call.Begin (begin_answer r) v w was (memory_of y desks master) x desks y desks st st
-    without_sync w y (Ok number) b free turned same is_told log g xs many tied half came =
+    pub without_sync : (w : View) (y : Desk) (r : Result ℕ Refusal) → IfOk r (Begins v w x.session y.session) → (IsOk r → refusal_in (opening v.given) (state v).core own x.session.is_half_aborted x.log call.Begin ≡ None)
+        → IfErr r (λ why. refusal_in (opening v.given) (state v).core own x.session.is_half_aborted x.log call.Begin ≡ Some why) → (IsErr r → (w ≡ v) × (y ≡ x)) → IfErr r IsTold → y.log ≡ x.log
+        → DoesByParts (OnBegin own is_long) x.session.workers x.session.group own call.Begin (begin_answer r) v w was (memory_of y desks master) x desks y desks st st
+    without_sync w y (Ok number) b free turned same is_told log g xs many tied is_half_aborted came =
         began reached needs g x.session.group xs came.0 (t g xs many tied).told own false v was (memory_of y desks master) st st (here g xs many tied y own_same log) part w x.session y.session number refl b
         (prepares g xs many tied (came.1 ∙ few_closed shut)) low (subst (λ n. own ≤ n) (sym many) high)
         (λ why q. none_is why (sym (free refl) ∙ (sym (test_is g xs many tied) ∙ q)))
-        v tied x desks y desks (subst (λ n. AreHalf n xs x desks) (sym many) half)
-        (λ a some most other. ap (λ (d : Desk). d.session.half) (still y own_same a some (most_of g xs many tied a most) other))
-        (ap (λ (d : Desk). d.session.half) (desk_own y desks own (sym own_same)) ∙ ap (λ (k : Session). k.half) b.session)
+        v tied x desks y desks (subst (λ n. AreHalf n xs x desks) (sym many) is_half_aborted)
+        (λ a some most other. ap (λ (d : Desk). d.session.is_half_aborted) (still y own_same a some (most_of g xs many tied a most) other))
+        (ap (λ (d : Desk). d.session.is_half_aborted) (desk_own y desks own (sym own_same)) ∙ ap (λ (k : Session). k.is_half_aborted) b.session)
       where
         own_same : y.session.own ≡ own
         own_same = ap (λ (k : Session). k.own) b.session
 
         shut : ((state v).core.worker own).is_open ≡ false
         shut = closed_free ((state v).core.worker own).is_open (log_refusal ((state v).core.worker own).clock x.log None) (free refl)
-    without_sync w y (Err why) b free turned same is_told log g xs many tied half came =
+    without_sync w y (Err why) b free turned same is_told log g xs many tied is_half_aborted came =
         comes_told _ _ why is_told (subst (λ (k : View). DoesTied g x.session.group xs own call.Begin (answer.Refused why) k was (memory_of y desks master) y desks st st) (sym (same refl).0)
         (subst (λ (d : Desk). DoesTied g x.session.group xs own call.Begin (answer.Refused why) v was (memory_of d desks master) d desks st st) (sym (same refl).1)
         (not_begun reached needs g x.session.group xs came.0 (t g xs many tied).told own false v was was st st (here g xs many tied x refl refl) part low (subst (λ n. own ≤ n) (sym many) high) why
-        (test_is g xs many tied ∙ turned) (λ q e. e) (λ shut. prepares g xs many tied (came.1 ∙ few_closed (sym (ap (λ (s : State). (s.worker own).is_open) (sym (front_is g xs (t g xs many tied).loads) ∙ state_is g xs many tied)) ∙ shut))) (λ _. no_logs g xs many tied)
-        v tied x desks x desks (subst (λ n. AreHalf n xs x desks) (sym many) half) (λ a some most. refl))))
+        (test_is g xs many tied ∙ turned) (test_is g xs many tied ∙ turned) (λ q e. e) (λ shut. prepares g xs many tied (came.1 ∙ few_closed (sym (ap (λ (s : State). (s.worker own).is_open) (sym (front_is g xs (t g xs many tied).loads) ∙ state_is g xs many tied)) ∙ shut))) (λ _. no_logs g xs many tied)
+        v tied x desks x desks (subst (λ n. AreHalf n xs x desks) (sym many) is_half_aborted) (λ a some most. refl))))
 
   -- an abort is half done: the call is refused, and nothing is done
-  pub spent_where : has_half x desks ≡ true → (May : Opening → List Done → Type 0) → ((g : Opening) (xs : List Done) → May g xs → IsNewLine (outcomes xs)) → (asker : ℕ) (c : Call) → asker ≤ x.session.workers → ((g : Opening) (xs : List Done) → RefusedLogs limits g xs asker c refusal.RowSpent [])
-      → ((g : Opening) (s : State) → MakesItsRoom g s c []) → DoesWhere May x.session.workers x.session.group asker c (answer.Refused refusal.RowSpent) v v was was x desks x desks st st
-  spent_where some May line asker c most due room g xs many tied half came =
+  pub spent_where : has_half x desks ≡ true → (May : Opening → List Done → Type 0) → ((g : Opening) (xs : List Done) → May g xs → IsNewLine (outcomes xs)) → (asker : ℕ) (c : Call) → asker ≤ x.session.workers → ((g : Opening) (xs : List Done) → RefusedLogs limits g xs asker c refusal.RowSpent []) → ((g : Opening) (xs : List Done) → Tries g asker (outcomes xs) c refusal.RowSpent [])
+      → ((g : Opening) (s : State) → MakesItsRoom asker g s c []) → DoesByParts May x.session.workers x.session.group asker c (answer.Refused refusal.RowSpent) v v was was x desks x desks st st
+  spent_where some May line asker c most due tries room g xs many tied is_half_aborted came =
       let w = some_half z v x desks are some in
       spent g x.session.group xs (line g xs came) (t g xs many tied).told asker (subst (λ n. asker ≤ n) (sym many) most) c v was was st st (here g xs many tied x refl refl)
-      (half_late g x.session.group xs (t g xs many tied).told w.0 (half w.0 w.1 w.2 ∙ w.3)) (subst (λ ys. RefusedLogs limits g xs asker c refusal.RowSpent ys) (sym (no_logs g xs many tied)) (due g xs))
-      (room g (state_after g (front xs ++ (t g xs many tied).loads))) v tied x desks (subst (λ n. AreHalf n xs x desks) (sym many) half)
+      (half_late g x.session.group xs (t g xs many tied).told w.0 (is_half_aborted w.0 w.1 w.2 ∙ w.3)) (tries g xs) (refused_kept limits g xs asker c refusal.RowSpent (t g xs many tied).loads (due g xs) (no_logs g xs many tied))
+      (room g (state_after g (front xs ++ (t g xs many tied).loads))) v tied x desks (subst (λ n. AreHalf n xs x desks) (sym many) is_half_aborted)

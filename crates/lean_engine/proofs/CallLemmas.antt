@@ -12,8 +12,8 @@ use Rattle.engine_trait.specs.Turns.{behind_answer}
 use Rattle.engine_trait.specs.declared.calls.Unanswered.{Unanswered}
 use Rattle.engine_trait.specs.declared.calls.Unanswered.TheVariants as unanswered
 use Rattle.row_engine.specs.Calls.{Comes}
-use Rattle.lean_engine.specs.Calls.{AbortAnswered, AbortFailed, AbortsInRuns, Answered, DoesIn, DoesInRuns, Failed, MayBe, Went, told}
-use Rattle.lean_engine.specs.Inside.{next_behind}
+use Rattle.lean_engine.specs.Calls.{AbortAnswered, AbortFailed, AbortsInRuns, Answered, Asked, AskedAbort, DoesIn, DoesInRuns, Failed, HinderedDoes, LineDoes, MayBe, Went, told}
+use Rattle.lean_engine.specs.Inside.Asks.{next_behind}
 use Rattle.lean_engine.specs.States.{State, memory_in}
 use Rattle.lean_engine.proofs.TurnLemmas.{comes_as}
 
@@ -70,7 +70,7 @@ is_broken a e = go (kind a)
     go (Fault q) = absurd (other_reason (sym e ∙ ap told q))
     go (Came t) = absurd (no_both unanswered.Broken a (sym e ∙ t.is))
 
-pub cause_told : (a : Answer) (before now : ℕ) → HasCause before now (a ≡ fault) → HasCause before now (told a ≡ Err unanswered.DiskFault)
+cause_told : (a : Answer) (before now : ℕ) → HasCause before now (a ≡ fault) → HasCause before now (told a ≡ Err unanswered.DiskFault)
 cause_told a before now h = record { later = h.later; cause = λ e. h.cause (is_fault a e); calm = λ n. h.calm (λ q. n (ap told q)) }
 
 fault_or : (a : Answer) → (a ≡ fault) ⊎ (a ≡ fault → ⊥)
@@ -136,10 +136,10 @@ module _ {D : Type 0} (Did : Type 0) (a : Answer) (was is : State D) (w : Went D
       go (Fault e) = subst (λ (x : Answer). IfOk (told x) P) (sym e) tt
       go (Came t) = subst (λ (r : Result Answer Unanswered). IfOk r P) (sym t.is) (h (not_broken a t.is) (not_fault a t.is) t)
 
-  pub come : (sessions : ℕ) → MayBe sessions a → IfOk (told a) (HasCome sessions)
+  come : (sessions : ℕ) → MayBe sessions a → IfOk (told a) (HasCome sessions)
   come sessions may = told_as (HasCome sessions) (λ n m t. t.may sessions may)
 
-  pub works : is.works ≡ true ↔ (IsErr (told a) → ⊥)
+  works : is.works ≡ true ↔ (IsErr (told a) → ⊥)
   works = (there, back)
     where
       there : is.works ≡ true → IsErr (told a) → ⊥
@@ -158,13 +158,13 @@ module _ {D : Type 0} (Did : Type 0) (a : Answer) (was is : State D) (w : Went D
           go (Fault q) = absurd (ok (subst (λ x. IsErr (told x)) (sym q) refl))
           go (Came t) = w.works.1 (worked (not_broken a t.is), not_fault a t.is)
 
-  pub next : IfOk (told a) (λ b. is.next ≡ behind_answer b)
+  next : IfOk (told a) (λ b. is.next ≡ behind_answer b)
   next = told_as (λ b. is.next ≡ behind_answer b) (λ n m t. w.next (w.works.1 (worked n, m)))
 
-  pub same : told a ≡ Err unanswered.Broken → is ≡ was
+  same : told a ≡ Err unanswered.Broken → is ≡ was
   same e = w.same (is_broken a e)
 
-  pub broken : (told a ≡ Err unanswered.Broken) ↔ (was.works ≡ false)
+  broken : (told a ≡ Err unanswered.Broken) ↔ (was.works ≡ false)
   broken = ((λ e. w.broken.0 (is_broken a e)), (λ f. ap told (w.broken.1 f)))
 
   failed_works : told a ≡ Err unanswered.DiskFault → was.works ≡ true
@@ -172,22 +172,54 @@ module _ {D : Type 0} (Did : Type 0) (a : Answer) (was is : State D) (w : Went D
 
 -- ## Of a line
 
-module _ {D : Type 0} (own : ℕ) (c : Call) (a : Answer) (was is : State D) (old new : Story) (w : Went (DoesInRuns own c a was is old new) a was is) where
-  pub does : IfOk (told a) (λ b. Answered own c b was is old new)
-  does = told_as (DoesInRuns own c a was is old new) a was is w (λ b. Answered own c b was is old new)
-      (λ n m t g xs names run. let d = did a (DoesIn g xs names own c a was is old new) (Fails g was.group xs own c (memory_in was) old new) m (w.does (worked (DoesInRuns own c a was is old new) a was is w n) g xs names run) in (d.does, d.in_run))
+module _ {D : Type 0} (story : D → Story) (faults : D → ℕ) (own : ℕ) (c : Call) (a : Answer) (was is : State D) (w : Asked story own c a was is) where
+  abbrev Did : Type 0
+  Did = DoesInRuns own c a was is (story was.disk) (story is.disk)
 
-  pub fails : told a ≡ Err unanswered.DiskFault → Failed own c was old new
-  fails e g xs names run = subst (λ (x : Answer). Comes x (DoesIn g xs names own c a was is old new) (Fails g was.group xs own c (memory_in was) old new)) (is_fault a e)
-      (w.does (failed_works (DoesInRuns own c a was is old new) a was is w e) g xs names run)
+  does : IfOk (told a) (Answered story own c was is)
+  does = told_as Did a was is w (Answered story own c was is)
+      (λ n m t g xs names run. let d = did a (DoesIn g xs names own c a was is (story was.disk) (story is.disk)) (Fails g was.group xs own c (memory_in was) (story was.disk) (story is.disk)) m (w.does (worked Did a was is w n) g xs names run) in (d.does, d.in_run))
+
+  fails : told a ≡ Err unanswered.DiskFault → Failed story own c was is
+  fails e g xs names run = subst (λ (x : Answer). Comes x (DoesIn g xs names own c a was is (story was.disk) (story is.disk)) (Fails g was.group xs own c (memory_in was) (story was.disk) (story is.disk))) (is_fault a e)
+      (w.does (failed_works Did a was is w e) g xs names run)
+
+  pub line_does : HasCause (faults was.disk) (faults is.disk) (a ≡ fault) → LineDoes story faults own c (told a) was is
+  line_does cause = record {
+    does = does;
+    come = come Did a was is w was.sessions w.may;
+    next = next Did a was is w;
+    fails = fails;
+    works = works Did a was is w;
+    sizes = (w.sessions, w.group);
+    same = same Did a was is w;
+    cause_broken = broken Did a was is w;
+    cause_disk_fault = cause_told a (faults was.disk) (faults is.disk) cause;
+  }
 
 -- ## Of an abort that is due
 
-module _ {D : Type 0} (a : Answer) (was is : State D) (old new : Story) (w : Went (AbortsInRuns a was is old new) a was is) where
-  pub abort_does : IfOk (told a) (λ b. AbortAnswered b was is old new)
-  abort_does = told_as (AbortsInRuns a was is old new) a was is w (λ b. AbortAnswered b was is old new)
-      (λ n m t g y earlier names run c h. let d = did a (DoesIn g (y ∷ earlier) names y.outcome.session c a was is old new) (Fails g was.group (y ∷ earlier) y.outcome.session c (memory_in was) old new) m (w.does (worked (AbortsInRuns a was is old new) a was is w n) g y earlier names run c h) in (d.does, d.in_run))
+module _ {D : Type 0} (story : D → Story) (faults : D → ℕ) (a : Answer) (was is : State D) (w : AskedAbort story a was is) where
+  abbrev Aborts : Type 0
+  Aborts = AbortsInRuns a was is (story was.disk) (story is.disk)
 
-  pub abort_fails : told a ≡ Err unanswered.DiskFault → AbortFailed was old new
-  abort_fails e g y earlier names run c h = subst (λ (x : Answer). Comes x (DoesIn g (y ∷ earlier) names y.outcome.session c a was is old new) (Fails g was.group (y ∷ earlier) y.outcome.session c (memory_in was) old new)) (is_fault a e)
-      (w.does (failed_works (AbortsInRuns a was is old new) a was is w e) g y earlier names run c h)
+  abort_does : IfOk (told a) (AbortAnswered story was is)
+  abort_does = told_as Aborts a was is w (AbortAnswered story was is)
+      (λ n m t g y earlier names run c h. let d = did a (DoesIn g (y ∷ earlier) names y.outcome.session c a was is (story was.disk) (story is.disk)) (Fails g was.group (y ∷ earlier) y.outcome.session c (memory_in was) (story was.disk) (story is.disk)) m (w.does (worked Aborts a was is w n) g y earlier names run c h) in (d.does, d.in_run))
+
+  abort_fails : told a ≡ Err unanswered.DiskFault → AbortFailed story was is
+  abort_fails e g y earlier names run c h = subst (λ (x : Answer). Comes x (DoesIn g (y ∷ earlier) names y.outcome.session c a was is (story was.disk) (story is.disk)) (Fails g was.group (y ∷ earlier) y.outcome.session c (memory_in was) (story was.disk) (story is.disk))) (is_fault a e)
+      (w.does (failed_works Aborts a was is w e) g y earlier names run c h)
+
+  pub hindered_does : MayBe 1 a → HasCause (faults was.disk) (faults is.disk) (a ≡ fault) → HinderedDoes story faults (told a) was is
+  hindered_does may cause = record {
+    does = abort_does;
+    come = come Aborts a was is w 1 may;
+    next = next Aborts a was is w;
+    fails = abort_fails;
+    works = works Aborts a was is w;
+    sizes = (w.sessions, w.group);
+    same = same Aborts a was is w;
+    cause_broken = broken Aborts a was is w;
+    cause_disk_fault = cause_told a (faults was.disk) (faults is.disk) cause;
+  }

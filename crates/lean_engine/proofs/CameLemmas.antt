@@ -10,22 +10,25 @@ use Rattle.core_state.specs.States.{flushed_by_all}
 use Rattle.engine_trait.specs.Calls.{IsTold, MayCome}
 use Rattle.group_commit.specs.declared.receipts.Receipt.{Receipt}
 use Rattle.lean_disk.specs.Faults.{HasCause}
+use Rattle.lean_disk.specs.Story.{Story}
 use Rattle.row_words.specs.Openings.{opening}
 use Rattle.rows_trait.specs.Views.{Shape, state}
 use Rattle.rows_trait.specs.declared.view.View.{View}
-use Rattle.row_engine.specs.Calls.{IsSameSession, abort_answer, commit_answer, del_answer, get_answer, put_answer}
+use Rattle.row_engine.specs.Calls.{CallDoes, IsSameSession, abort_answer, commit_answer, del_answer, get_answer, put_answer}
 use Rattle.row_engine.specs.Holds.{Holds}
 use Rattle.row_engine.specs.Others.{Steps}
 use Rattle.row_engine.specs.Puts.{works_after}
 use Rattle.row_engine.specs.Receipts.{IsEnded}
 use Rattle.row_engine.specs.declared.commits.Ended.{Ended}
 use Rattle.lean_engine.specs.Calls.{IsTo, MayBe}
-use Rattle.lean_engine.specs.Came.{Came, receipt_in}
-use Rattle.lean_engine.specs.Inside.{IsEndOf}
+use Rattle.lean_engine.specs.Inside.Came.{Came, receipt_in}
+use Rattle.lean_engine.specs.Inside.Asks.{IsEndOf}
+use Rattle.lean_engine.specs.Inside.Parts.{CallCame, IsBetween, Works, here, shape}
 use Rattle.lean_engine.specs.Machines.{ends_in}
 use Rattle.lean_engine.specs.Receipts.{IsReceipt}
 use Rattle.lean_engine.specs.declared.desk.Desk.{Desk}
-use Rattle.lean_engine.specs.declared.machine.Told.{Told}
+use Rattle.lean_engine.specs.declared.machine.Machine.{Machine}
+use Rattle.lean_engine.specs.declared.machine.Response.{Response}
 
 -- ## Refusals
 
@@ -137,7 +140,7 @@ aborts sessions = record { refused = λ q. refl; to = to; come = λ x. tt; apart
 
 -- ## Ends
 
-ends_none : (own : ℕ) (v w : View) (a : Answer) → ends_in a ≡ false → IsEndOf own v w a None
+pub ends_none : (own : ℕ) (v w : View) (a : Answer) → ends_in a ≡ false → IsEndOf own v w a None
 ends_none own v w a e = record {
   ended = λ r q. absurd (cc);
   none = λ _. e;
@@ -185,19 +188,19 @@ module _ (z : Shape) (v w : View) (x y : Desk) where
       commit = λ number at p. let n = commit number at p in (r, refl, n.0, n.1);
     }
 
-  pub commit_ends : (r : Result Ended Refusal) → (y.session.works ≡ true) ↔ (r ≡ Err refusal.DiskFault → ⊥) → (y.session.works ≡ true → Holds z w y.session y.log) → (y.session.works ≡ true → IsSameSession x.session y.session) → IfOk r (IsEnded v y.session) → IsEndOf x.session.own v w (commit_answer r) (receipt_in x.session.own r)
+  pub commit_ends : (r : Result Ended Refusal) → (y.session.works ≡ true) ↔ (r ≡ Err refusal.DiskFault → ⊥) → (y.session.works ≡ true → Holds z w y.session y.log) → IsSameSession x.session y.session → IfOk r (IsEnded v y.session) → IsEndOf x.session.own v w (commit_answer r) (receipt_in x.session.own r)
   commit_ends (Err why) works holds same is = ends_none x.session.own v w (answer.Refused why) refl
-  commit_ends (Ok e) works holds same is = let n = works.1 (λ q. absurd (cc)) in end_of e (holds n) (same n) is (answer.Committed e.number e.at) refl (λ number at q. (cc, cc))
+  commit_ends (Ok e) works holds same is = let n = works.1 (λ q. absurd (cc)) in end_of e (holds n) same is (answer.Committed e.number e.at) refl (λ number at q. (cc, cc))
 
-  pub abort_ends : (r : Result Ended Refusal) → (y.session.works ≡ true) ↔ (r ≡ Err refusal.DiskFault → ⊥) → (y.session.works ≡ true → Holds z w y.session y.log) → (y.session.works ≡ true → IsSameSession x.session y.session) → IfOk r (IsEnded v y.session) → IsEndOf x.session.own v w (abort_answer r) (receipt_in x.session.own r)
+  pub abort_ends : (r : Result Ended Refusal) → (y.session.works ≡ true) ↔ (r ≡ Err refusal.DiskFault → ⊥) → (y.session.works ≡ true → Holds z w y.session y.log) → IsSameSession x.session y.session → IfOk r (IsEnded v y.session) → IsEndOf x.session.own v w (abort_answer r) (receipt_in x.session.own r)
   abort_ends (Err why) works holds same is = ends_none x.session.own v w (answer.Refused why) refl
-  abort_ends (Ok e) works holds same is = let n = works.1 (λ q. absurd (cc)) in end_of e (holds n) (same n) is (answer.Aborted e.number) refl (λ number at q. absurd (cc))
+  abort_ends (Ok e) works holds same is = let n = works.1 (λ q. absurd (cc)) in end_of e (holds n) same is (answer.Aborted e.number) refl (λ number at q. absurd (cc))
 
 -- ## A call
 
--- as it was told
-pub told_as : (P : Answer → Option Receipt → Type 0) (t : Told) (a : Answer) (r : Option Receipt) → t ≡ record { answer = a; receipt = r } → P a r → P t.answer t.receipt
-told_as P t a r e p = subst (λ (u : Told). P u.answer u.receipt) (sym e) p
+-- of the call that it is, and with the response that it had
+pub told_as : (P : Call → Response → Type 0) (c d : Call) (r t : Response) → c ≡ d → r ≡ t → P d t → P c r
+told_as P c d r t e f p = subst (λ (q : Call). P q r) (sym e) (subst (P d) (sym f) p)
 
 module _ {T : Type 0} (sessions : ℕ) (c : Call) (f : Result T Refusal → Answer) (k : IsAnswer sessions c f) (Did : Type 0) (receipt : Option Receipt) (z : Shape) (v w : View) (x y : Desk) (marks marks' : List Bool) (before now : ℕ) where
   back : (r : Result T Refusal) (q : Refusal) → f r ≡ answer.Refused q → r ≡ Err q
@@ -208,7 +211,7 @@ module _ {T : Type 0} (sessions : ℕ) (c : Call) (f : Result T Refusal → Answ
   may_come (Ok t) h = k.come t
   may_come (Err why) h = subst (MayBe sessions) (sym (k.refused why)) (may_be sessions why h)
 
-  pub came : (r : Result T Refusal) → Did → (y.session.works ≡ true → Holds z w y.session y.log) → (y.session.works ≡ true → IsSameSession x.session y.session) → (y.session.works ≡ true → Steps x.session.own v w) → (y.session.works ≡ true → marks' ≡ marks)
+  pub came : (r : Result T Refusal) → Did → (y.session.works ≡ true → Holds z w y.session y.log) → IsSameSession x.session y.session → (y.session.works ≡ true → Steps x.session.own v w) → (y.session.works ≡ true → marks' ≡ marks)
       → MayTell sessions r → IsEndOf x.session.own v w (f r) receipt → (y.session.works ≡ true) ↔ (r ≡ Err refusal.DiskFault → ⊥) → (r ≡ Err refusal.Broken → ⊥) → HasCause before now (r ≡ Err refusal.DiskFault)
       → Came Did sessions c (f r) receipt z v w x y marks marks' before now
   came r did holds session steps unmarked told ends works alive cause = record {
@@ -224,3 +227,14 @@ module _ {T : Type 0} (sessions : ℕ) (c : Call) (f : Result T Refusal → Answ
     not_broken = λ q. alive (back r refusal.Broken q);
     cause = record { later = cause.later; cause = λ q. cause.cause (back r refusal.DiskFault q); calm = λ n. cause.calm (λ q. n (ap f q ∙ k.refused refusal.DiskFault)) };
   }
+
+-- ## Of a machine
+
+module _ {D T : Type 0} (story : D → Story) (faults : D → ℕ) (m n : Machine D) (c : Call) (f : Result T Refusal → Answer) (k : IsAnswer m.work.session.workers c f) (receipt : Option Receipt) (r : Result T Refusal) where
+  pub call_came : CallDoes m.work.session.own m.work.session.group c (f r) m.work.session.is_half_aborted n.work.session.is_half_aborted m.seat.view n.seat.view m.work.log n.work.log (story m.work.disk) (story n.work.disk)
+      → (Works n → IsBetween n) → IsSameSession m.work.session n.work.session → (Works n → Steps m.work.session.own m.seat.view n.seat.view) → (Works n → n.latches ≡ m.latches)
+      → MayTell m.work.session.workers r → IsEndOf m.work.session.own m.seat.view n.seat.view (f r) receipt → Works n ↔ (r ≡ Err refusal.DiskFault → ⊥) → (r ≡ Err refusal.Broken → ⊥) → HasCause (faults m.work.disk) (faults n.work.disk) (r ≡ Err refusal.DiskFault)
+      → CallCame story faults c (record { answer = f r; receipt = receipt }) m n
+  call_came did holds session steps unmarked told ends works alive cause =
+      came m.work.session.workers c f k (CallDoes m.work.session.own m.work.session.group c (f r) m.work.session.is_half_aborted n.work.session.is_half_aborted m.seat.view n.seat.view m.work.log n.work.log (story m.work.disk) (story n.work.disk))
+      receipt (shape n) m.seat.view n.seat.view (here m) (here n) m.latches n.latches (faults m.work.disk) (faults n.work.disk) r did holds session steps unmarked told ends works alive cause

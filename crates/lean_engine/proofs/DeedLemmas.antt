@@ -21,7 +21,7 @@ use Rattle.engine_trait.specs.Turns.{IsNext, behind_answer, is_conflict_in}
 use Rattle.engine_trait.specs.declared.calls.Next.TheVariants.{Durables}
 use Rattle.group_commit.specs.Outcomes.{ends_by}
 use Rattle.lean_engine.specs.Calls.{MayBe}
-use Rattle.lean_engine.specs.Inside.{is_commit_in}
+use Rattle.lean_engine.specs.Inside.Asks.{is_commit_in}
 use Rattle.lean_engine.specs.Machines.{ends_in}
 use Rattle.lean_engine.specs.States.{WhereDue}
 use Rattle.lean_engine.proofs.OpenMarks.{open_after}
@@ -89,7 +89,7 @@ sort d = Neither refl (λ b. refl)
 
 -- ## Where a transaction is open
 
-not_open : (s : State) (own : ℕ) (half : Bool) (later : Option Refusal) (h : ℕ) → in_transaction s own half later ≡ Some (refusal.Conflict h) → (s.worker own).is_open ≡ true
+not_open : (s : State) (own : ℕ) (is_half_aborted : Bool) (later : Option Refusal) (h : ℕ) → in_transaction s own is_half_aborted later ≡ Some (refusal.Conflict h) → (s.worker own).is_open ≡ true
 not_open s own true later h e = absurd (cc)
 not_open s own false later h e = go (s.worker own).is_open e
   where
@@ -107,17 +107,17 @@ no_begin s own log h e = go (s.worker own).is_open (leb (limit log) (used log)) 
     go false false false q = absurd (cc)
 
 -- only a call in an open transaction meets a conflict
-pub conflict_open : (g : Opening) (s : State) (own : ℕ) (half : Bool) (log : Log) (c : Call) (h : ℕ) → refusal_in g s own half log c ≡ Some (refusal.Conflict h) → (s.worker own).is_open ≡ true
-conflict_open g s own half log call.Begin h e = no_begin s own log h e
-conflict_open g s own half log (call.Get k) h e = not_open s own half _ h e
-conflict_open g s own half log (call.Put k v) h e = not_open s own half _ h e
-conflict_open g s own half log (call.Del k) h e = not_open s own half _ h e
-conflict_open g s own half log call.Commit h e = not_open s own half _ h e
-conflict_open g s own half log call.Abort h e = not_open s own false _ h e
-conflict_open g s own half log c h e = absurd (cc)
+pub conflict_open : (g : Opening) (s : State) (own : ℕ) (is_half_aborted : Bool) (log : Log) (c : Call) (h : ℕ) → refusal_in g s own is_half_aborted log c ≡ Some (refusal.Conflict h) → (s.worker own).is_open ≡ true
+conflict_open g s own is_half_aborted log call.Begin h e = no_begin s own log h e
+conflict_open g s own is_half_aborted log (call.Get k) h e = not_open s own is_half_aborted _ h e
+conflict_open g s own is_half_aborted log (call.Put k v) h e = not_open s own is_half_aborted _ h e
+conflict_open g s own is_half_aborted log (call.Del k) h e = not_open s own is_half_aborted _ h e
+conflict_open g s own is_half_aborted log call.Commit h e = not_open s own is_half_aborted _ h e
+conflict_open g s own is_half_aborted log call.Abort h e = not_open s own false _ h e
+conflict_open g s own is_half_aborted log c h e = absurd (cc)
 
 -- a commit and an abort are refused where none is open
-shut : (s : State) (own : ℕ) (half : Bool) → (s.worker own).is_open ≡ false → in_transaction s own half None ≡ Some refusal.NoTransaction
+shut : (s : State) (own : ℕ) (is_half_aborted : Bool) → (s.worker own).is_open ≡ false → in_transaction s own is_half_aborted None ≡ Some refusal.NoTransaction
 shut s own true closed = refl
 shut s own false closed = ap (λ (b : Bool). cond b None (Some refusal.NoTransaction)) closed
 
@@ -151,9 +151,9 @@ ending_of ys x (Refused c why backs) e f k = absurd (true≢false (sym k))
 ending_of ys x (Synced at) e f k = absurd (true≢false (sym k))
 ending_of ys x (Checkpointed at) e f k = absurd (true≢false (sym k))
 
-refused_shut : (g : Opening) (s : State) (own : ℕ) (half : Bool) (log : Log) (c : Call) → IsEnding c → (s.worker own).is_open ≡ false → refusal_in g s own half log c ≡ Some refusal.NoTransaction
-refused_shut g s own half log c (Commits e) closed = ap (refusal_in g s own half log) e ∙ shut s own half closed
-refused_shut g s own half log c (Aborts e) closed = ap (refusal_in g s own half log) e ∙ shut s own false closed
+refused_shut : (g : Opening) (s : State) (own : ℕ) (is_half_aborted : Bool) (log : Log) (c : Call) → IsEnding c → (s.worker own).is_open ≡ false → refusal_in g s own is_half_aborted log c ≡ Some refusal.NoTransaction
+refused_shut g s own is_half_aborted log c (Commits e) closed = ap (refusal_in g s own is_half_aborted log) e ∙ shut s own is_half_aborted closed
+refused_shut g s own is_half_aborted log c (Aborts e) closed = ap (refusal_in g s own is_half_aborted log) e ∙ shut s own false closed
 
 -- so what ended was open
 pub end_open : (g : Opening) (xs : List Done) (x : Done) (was is : Log) (h : Answers g xs x was is) → FollowsConflict (outcomes xs) x.outcome → ends_in (answered x.outcome.deed) ≡ true → ((state_after g (front xs ++ h.first)).worker x.outcome.session).is_open ≡ true
@@ -173,7 +173,7 @@ conflict_is a e = absurd (true≢false (sym e))
 
 pub hindered_open : (g : Opening) (xs : List Done) (x : Done) (was is : Log) → Answers g xs x was is → is_conflict_in (answered x.outcome.deed) ≡ true → ((state_after g (front (x ∷ xs))).worker x.outcome.session).is_open ≡ true
 hindered_open g xs x was is h e = let c = conflict_is (answered x.outcome.deed) e in elim (h.refused (refusal.Conflict c.0) c.1) [
-  | inl q ↦ conflict_open g (state_after g (front (x ∷ xs))) x.outcome.session (is_half_done x.outcome.session xs) is (call_behind (outcomes xs) (asked x.outcome.deed)) c.0 q
+  | inl q ↦ conflict_open g (state_after g (front (x ∷ xs))) x.outcome.session (is_half_done x.outcome.session xs) was (call_behind (outcomes xs) (asked x.outcome.deed)) c.0 q
   | inr q ↦ absurd (no_latch c.0 q)
 ]
   where

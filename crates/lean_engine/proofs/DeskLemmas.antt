@@ -16,11 +16,11 @@ place_apart turn w n = ap (λ (k : ℕ). k - 2) (cond-false (w == 1) turn w (ne_
 pub place_first : (turn w : ℕ) → w ≡ 1 → place_of turn w ≡ turn - 2
 place_first turn w e = ap (λ (k : ℕ). k - 2) (cond-true (w == 1) turn w (eq-eqb w 1 e))
 
-pub desk_own : (store : Desk) (desks : List Desk) (w : ℕ) → w ≡ store.session.own → desk_of store desks w ≡ store
-desk_own store desks w e = cond-true (w == store.session.own) store (get_or desks (place_of store.session.own w) store) (eq-eqb w store.session.own e)
+pub desk_own : (work : Desk) (desks : List Desk) (w : ℕ) → w ≡ work.session.own → desk_of work desks w ≡ work
+desk_own work desks w e = cond-true (w == work.session.own) work (get_or desks (place_of work.session.own w) work) (eq-eqb w work.session.own e)
 
-pub desk_apart : (store : Desk) (desks : List Desk) (w : ℕ) → (w ≡ store.session.own → ⊥) → desk_of store desks w ≡ get_or desks (place_of store.session.own w) store
-desk_apart store desks w n = cond-false (w == store.session.own) store (get_or desks (place_of store.session.own w) store) (ne_eqb w store.session.own n)
+pub desk_apart : (work : Desk) (desks : List Desk) (w : ℕ) → (w ≡ work.session.own → ⊥) → desk_of work desks w ≡ get_or desks (place_of work.session.own w) work
+desk_apart work desks w n = cond-false (w == work.session.own) work (get_or desks (place_of work.session.own w) work) (ne_eqb w work.session.own n)
 
 two_at_least : (w : ℕ) → 0 < w → (w ≡ 1 → ⊥) → 2 ≤ w
 two_at_least zero low n = absurd (omega arith)
@@ -41,9 +41,9 @@ get_any (x ∷ xs) zero a b l = refl
 get_any (x ∷ xs) (suc i) a b l = get_any xs i a b (omega arith)
 
 -- while the session in the store is the same, the other desks are
-pub desk_same : (store store' : Desk) (desks : List Desk) (w : ℕ) → store'.session.own ≡ store.session.own → (w ≡ store.session.own → ⊥) → place_of store.session.own w < length desks → desk_of store' desks w ≡ desk_of store desks w
-desk_same store store' desks w e n l = desk_apart store' desks w (λ q. n (q ∙ e))
-    ∙ (ap (λ (k : ℕ). get_or desks (place_of k w) store') e ∙ (get_any desks (place_of store.session.own w) store' store l ∙ sym (desk_apart store desks w n)))
+pub desk_same : (work store' : Desk) (desks : List Desk) (w : ℕ) → store'.session.own ≡ work.session.own → (w ≡ work.session.own → ⊥) → place_of work.session.own w < length desks → desk_of store' desks w ≡ desk_of work desks w
+desk_same work store' desks w e n l = desk_apart store' desks w (λ q. n (q ∙ e))
+    ∙ (ap (λ (k : ℕ). get_or desks (place_of k w) store') e ∙ (get_any desks (place_of work.session.own w) store' work l ∙ sym (desk_apart work desks w n)))
 
 -- ## Two sessions change places
 

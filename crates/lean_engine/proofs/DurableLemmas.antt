@@ -17,7 +17,7 @@ use Rattle.rows_trait.specs.Views.{state}
 use Rattle.worker_log.specs.Logs.{Log}
 use Rattle.row_engine.specs.Opened.{plain_shape}
 use Rattle.lean_engine.specs.Desks.{AreSeated, desk_of, log_of}
-use Rattle.lean_engine.specs.Inside.{AreNumbers, durable_of}
+use Rattle.lean_engine.specs.Inside.Asks.{AreNumbers, durable_of}
 use Rattle.lean_engine.specs.Receipts.{AreFlushed}
 use Rattle.lean_engine.specs.States.{InRun, IsEngine, State, memory_in}
 use Rattle.lean_engine.specs.declared.desk.Desk.{Desk}
@@ -58,32 +58,32 @@ are_numbers log n w low high = number_at log 0 n (w - 1) (omega arith) ∙ (let 
 
 -- ## By parts
 
-module _ {D : Type 0} (v : View) (disk : D) (store : Desk) (desks : List Desk) (master : Master) (next : Next) (ends : List (List End)) (f l k : ℕ) (words : List ℕ) (marks : List Bool) (works : store.session.works ≡ true)
-    (e : IsEngine f l k words (state_of v disk store desks master next ends) store desks marks) where
+module _ {D : Type 0} (v : View) (disk : D) (work : Desk) (desks : List Desk) (master : Master) (next : Next) (ends : List (List End)) (f l k : ℕ) (words : List ℕ) (marks : List Bool) (works : work.session.works ≡ true)
+    (e : IsEngine f l k words (state_of v disk work desks master next ends) work desks marks) where
   abbrev was : State D
-  was = state_of v disk store desks master next ends
+  was = state_of v disk work desks master next ends
 
-  pub seated_in : AreSeated store desks
-  seated_in = seated_of (plain_shape f l k) v store desks (e.machine works).desks
+  pub seated_in : AreSeated work desks
+  seated_in = seated_of (plain_shape f l k) v work desks (e.machine works).desks
 
   -- each session says whether its abort is half done
-  pub half_in : (w : ℕ) → 0 < w → w ≤ store.session.workers → (g : Opening) (xs : List Done) (names : List Name) → InRun was g xs names → (desk_of store desks w).session.half ≡ is_half_done w xs
+  pub half_in : (w : ℕ) → 0 < w → w ≤ work.session.workers → (g : Opening) (xs : List Done) (names : List Name) → InRun was g xs names → (desk_of work desks w).session.is_half_aborted ≡ is_half_done w xs
   half_in w low high g xs names run = let s = e.run works in
-      sym (same_half g s.opening store.session.group store.session.group xs s.done (memory_in was) (memory_in was) v run.tied s.in_run.tied w
-      ∙ s.half w low (subst (λ (n : ℕ). w ≤ n) (sym s.in_run.workers) high))
+      sym (same_half g s.opening work.session.group work.session.group xs s.done (memory_in was) (memory_in was) v run.tied s.in_run.tied w
+      ∙ s.is_half_aborted w low (subst (λ (n : ℕ). w ≤ n) (sym s.in_run.workers) high))
 
   -- and its log how far it is flushed
-  pub flushed_in : (numbers : List ℕ) → store.session.workers ≤ length numbers → AreNumbers store.session.workers (log_of store desks) numbers → AreFlushed was (take store.session.workers numbers)
+  pub flushed_in : (numbers : List ℕ) → work.session.workers ≤ length numbers → AreNumbers work.session.workers (log_of work desks) numbers → AreFlushed was (take work.session.workers numbers)
   flushed_in numbers long are = record {
-    logs = length-take-le store.session.workers numbers long;
+    logs = length-take-le work.session.workers numbers long;
     each = λ w low high. let d = (e.machine works).desks.each w low high in
-        flushed_take store.session.workers w numbers low high ∙ (are w low high ∙ sym (ap (λ (n : ℕ). (state v).core.flushed n) (sym d.own) ∙ d.holds.flushed));
+        flushed_take work.session.workers w numbers low high ∙ (are w low high ∙ sym (ap (λ (n : ℕ). (state v).core.flushed n) (sym d.own) ∙ d.holds.flushed));
   }
 
-  module _ (law : EveryTake) (next_new : Next) (ends_new : List (List End)) (numbers fs : List ℕ) (found : Option Receipt) (fs_are : fs ≡ take store.session.workers numbers) (long : store.session.workers ≤ length numbers)
-      (are : AreNumbers store.session.workers (log_of store desks) numbers) (takes : Takes fs ends found ends_new) where
+  module _ (law : EveryTake) (next_new : Next) (ends_new : List (List End)) (numbers fs : List ℕ) (found : Option Receipt) (fs_are : fs ≡ take work.session.workers numbers) (long : work.session.workers ≤ length numbers)
+      (are : AreNumbers work.session.workers (log_of work desks) numbers) (takes : Takes fs ends found ends_new) where
     abbrev is : State D
-    is = state_of v disk store desks master next_new ends_new
+    is = state_of v disk work desks master next_new ends_new
 
     abbrev Tells : Type 0
     Tells = (g : Opening) (xs : List Done) (names : List Name) → InRun was g xs names → IsTaken g xs names (durable_of found) × InRun is g xs (told_with (durable_of found) names)
@@ -94,8 +94,8 @@ module _ {D : Type 0} (v : View) (disk : D) (store : Desk) (desks : List Desk) (
     pub tells_none : found ≡ None → next_new ≡ behind_durables next → Tells
     tells_none q n g xs names run = in_run_none law was is fs numbers found fs_are long are refl refl refl refl refl takes g xs names run q n
 
-    pub engine_some : (r : Receipt) → found ≡ Some r → next_new ≡ next → IsEngine f l k words is store desks marks
-    engine_some r q n = record { few = e.few; fits = e.fits; machine = e.machine; run = λ w. has_run_some law was is fs numbers found fs_are long are refl refl refl refl refl takes store desks (e.run w) r q n }
+    pub engine_some : (r : Receipt) → found ≡ Some r → next_new ≡ next → IsEngine f l k words is work desks marks
+    engine_some r q n = record { few = e.few; fits = e.fits; machine = e.machine; run = λ w. has_run_some law was is fs numbers found fs_are long are refl refl refl refl refl takes work desks (e.run w) r q n }
 
-    pub engine_none : found ≡ None → next_new ≡ behind_durables next → IsEngine f l k words is store desks marks
-    engine_none q n = record { few = e.few; fits = e.fits; machine = e.machine; run = λ w. has_run_none law was is fs numbers found fs_are long are refl refl refl refl refl takes store desks (e.run w) q n }
+    pub engine_none : found ≡ None → next_new ≡ behind_durables next → IsEngine f l k words is work desks marks
+    engine_none q n = record { few = e.few; fits = e.fits; machine = e.machine; run = λ w. has_run_none law was is fs numbers found fs_are long are refl refl refl refl refl takes work desks (e.run w) q n }

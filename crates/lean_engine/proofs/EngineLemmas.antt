@@ -63,7 +63,7 @@ module _ (law : EveryOpened) (fellow : EveryFellow) (tracks : EveryStart) (r : R
     logs = log_of first desks
 
     abbrev state_of : {D : Type 0} → D → State D
-    state_of disk = record { view = v; disk = disk; store = first; desks = desks; master = r.master; works = x.works; next = Line; sessions = x.workers; turn = x.own; group = x.group; ends = ends }
+    state_of disk = record { view = v; disk = disk; work = first; desks = desks; master = r.master; works = x.works; next = Line; sessions = x.workers; turn = x.own; group = x.group; ends = ends }
 
     is : (k : Log) (w : ℕ) → IsMadeBy r.master w k → IsOpened g z v x k
     is k w it = on.is k (last_of r.master w k it) (flushed_of r.master w k it)
@@ -100,8 +100,8 @@ module _ (law : EveryOpened) (fellow : EveryFellow) (tracks : EveryStart) (r : R
     closed_each : (w : ℕ) → 0 < w → w ≤ x.workers → (desk_of first desks w).session.is_open ≡ false
     closed_each = each (λ w d. d.session.is_open ≡ false) start_is.session.is_open (λ w d it low high. ap (λ (s : Session). s.is_open) it.session_is ∙ start_is.session.is_open)
 
-    whole_each : (w : ℕ) → 0 < w → w ≤ x.workers → (desk_of first desks w).session.half ≡ false
-    whole_each = each (λ w d. d.session.half ≡ false) start_is.session.half (λ w d it low high. ap (λ (s : Session). s.half) it.session_is ∙ start_is.session.half)
+    whole_each : (w : ℕ) → 0 < w → w ≤ x.workers → (desk_of first desks w).session.is_half_aborted ≡ false
+    whole_each = each (λ w d. d.session.is_half_aborted ≡ false) start_is.session.is_half_aborted (λ w d it low high. ap (λ (s : Session). s.is_half_aborted) it.session_is ∙ start_is.session.is_half_aborted)
 
     is_machine : (f l w : ℕ) (words : List ℕ) (marks : List Bool) → z ≡ plain_shape f l w → IsPicture (plan (sizes f l w) v.given) words v → marks ≡ replicate size.rows false → r.master.sequence < 2 ^ 61 → IsMachine f l w words v first desks marks r.master
     is_machine f l w words marks same fits free low = record {
@@ -142,7 +142,7 @@ module _ (law : EveryOpened) (fellow : EveryFellow) (tracks : EveryStart) (r : R
       done = [];
       names = [];
       in_run = in_run disk;
-      half = λ w low high. let o = on.workers in sym (whole_each w low (omega arith));
+      is_half_aborted = λ w low high. let o = on.workers in sym (whole_each w low (omega arith));
       room = λ w low high. let o = on.workers in room_closed (desk_of first desks w).session.is_open (queue_of ends w) (waiting g (start g) w) (closed_each w low (omega arith)) (new.empty w);
       is_open = tt;
     }

@@ -16,7 +16,7 @@ use Rattle.row_engine.specs.Syncs.{FlushesOwn, flushed_of, flushes_of}
 use Rattle.row_engine.specs.declared.session.Session.{Session}
 use Rattle.lean_engine.specs.Desks.{Turned, desk_of, log_of}
 use Rattle.lean_engine.specs.Machines.{AreDesks}
-use Rattle.lean_engine.specs.Syncs.{AreStill, FlushedOne}
+use Rattle.lean_engine.specs.Inside.Syncs.{AreStill, FlushedOne}
 use Rattle.lean_engine.specs.declared.desk.Desk.{Desk}
 use Rattle.lean_engine.proofs.DeskLemmas.{desk_own, desk_same, place_low}
 use Rattle.lean_engine.proofs.SeatLemmas.{desks_turned, turn_high, turn_low}
@@ -28,15 +28,15 @@ on_ok (Err e) p q w f = tt
 
 -- ## Sessions that change little
 
-behind_same : (x y : Session) → y ≡ x → y ≡ record x { behind = y.behind }
-behind_same x y q = q ∙ (λ i. record x { behind = sym (ap (λ (s : Session). s.behind) q) i })
+behind_same : (x y : Session) → y ≡ x → y ≡ record x { unflushed = y.unflushed }
+behind_same x y q = q ∙ (λ i. record x { unflushed = sym (ap (λ (s : Session). s.unflushed) q) i })
 
-still_by : (o x y : Session) → x ≡ record o { free = x.free } → y ≡ record x { behind = y.behind } → y ≡ record o { free = y.free; behind = y.behind }
-still_by o x y p q = q ∙ (ap (λ (s : Session). record s { behind = y.behind }) p ∙ (λ i. record o { free = sym (ap (λ (s : Session). s.free) q) i; behind = y.behind }))
+still_by : (o x y : Session) → x ≡ record o { free = x.free } → y ≡ record x { unflushed = y.unflushed } → y ≡ record o { free = y.free; unflushed = y.unflushed }
+still_by o x y p q = q ∙ (ap (λ (s : Session). record s { unflushed = y.unflushed }) p ∙ (λ i. record o { free = sym (ap (λ (s : Session). s.free) q) i; unflushed = y.unflushed }))
 
 -- one change behind another
-pub still_more : (o x y : Session) → x ≡ record o { free = x.free; behind = x.behind } → y ≡ record x { free = y.free; behind = y.behind } → y ≡ record o { free = y.free; behind = y.behind }
-still_more o x y p q = q ∙ ap (λ (s : Session). record s { free = y.free; behind = y.behind }) p
+pub still_more : (o x y : Session) → x ≡ record o { free = x.free; unflushed = x.unflushed } → y ≡ record x { free = y.free; unflushed = y.unflushed } → y ≡ record o { free = y.free; unflushed = y.unflushed }
+still_more o x y p q = q ∙ ap (λ (s : Session). record s { free = y.free; unflushed = y.unflushed }) p
 
 module _ (z : Shape) (v w : View) (session : ℕ) (old_desk x y : Desk) (desks_old desks : List Desk) (are : AreDesks z v old_desk desks_old) (some : 0 < session) (most : session ≤ old_desk.session.workers) (t : Turned session old_desk x desks_old desks) where
   -- its log is that in the store
@@ -51,8 +51,8 @@ module _ (z : Shape) (v w : View) (session : ℕ) (old_desk x y : Desk) (desks_o
   from_turn P h = subst (λ l. P session l) (sym log_is) (subst (λ o. P o x.log) t.own h)
 
   -- whether its abort is half done
-  pub half_is : (b : Bool) → (desk_of old_desk desks_old session).session.half ≡ b → x.session.half ≡ b
-  half_is b h = ap (λ (d : Desk). d.session.half) (sym (desk_own x desks session (sym t.own))) ∙ (ap (λ (s : Session). s.half) (t.session_of session some most) ∙ h)
+  pub half_is : (b : Bool) → (desk_of old_desk desks_old session).session.is_half_aborted ≡ b → x.session.is_half_aborted ≡ b
+  half_is b h = ap (λ (d : Desk). d.session.is_half_aborted) (sym (desk_own x desks session (sym t.own))) ∙ (ap (λ (s : Session). s.is_half_aborted) (t.session_of session some most) ∙ h)
 
   pub turned : AreDesks z v x desks
   turned = desks_turned z v session old_desk x desks_old desks are some most t
@@ -91,9 +91,9 @@ module _ (z : Shape) (v w : View) (session : ℕ) (old_desk x y : Desk) (desks_o
     pub still_same : AreStill old_desk.session.workers old_desk desks_old y desks
     still_same u low high = still_by (desk_of old_desk desks_old u).session (desk_of x desks u).session (desk_of y desks u).session (t.session_of u low high) (at (cases_eq u session))
       where
-        at : (u ≡ session) ⊎ (u ≡ session → ⊥) → (desk_of y desks u).session ≡ record (desk_of x desks u).session { behind = (desk_of y desks u).session.behind }
+        at : (u ≡ session) ⊎ (u ≡ session → ⊥) → (desk_of y desks u).session ≡ record (desk_of x desks u).session { unflushed = (desk_of y desks u).session.unflushed }
         at (inl e) = at_store (desk_of x desks u) (desk_of y desks u) (desk_own x desks u (e ∙ sym t.own)) (desk_own y desks u (e ∙ sym (same.0 ∙ t.own)))
           where
-            at_store : (a b : Desk) → a ≡ x → b ≡ y → b.session ≡ record a.session { behind = b.session.behind }
-            at_store a b p q = ap (λ (d : Desk). d.session) q ∙ (f.session ∙ (λ i. record (sym p i).session { behind = (sym q i).session.behind }))
+            at_store : (a b : Desk) → a ≡ x → b ≡ y → b.session ≡ record a.session { unflushed = b.session.unflushed }
+            at_store a b p q = ap (λ (d : Desk). d.session) q ∙ (f.session ∙ (λ i. record (sym p i).session { unflushed = (sym q i).session.unflushed }))
         at (inr n) = behind_same (desk_of x desks u).session (desk_of y desks u).session (ap (λ (d : Desk). d.session) (other_desk u low high n))

@@ -1,8 +1,9 @@
 -- An abort is half done only late, in a run so long that a latch is spent; and whether one is half done, by the desks.
-use Rattle.std.proofs.Common.{◌≡◌, ◌≤◌, ◌<◌, ◌+◌, ◌^◌, ◌⊎◌, inl, inr, ◌++◌, ◌||◌, ◌==◌, ℕ, zero, suc, Bool, true, false, List, [], ◌∷◌, length, get_or, refl, sym, ap, ◌∙◌, arith, true≢false}
+use Rattle.std.proofs.Common.{◌≡◌, ◌≤◌, ◌<◌, ◌+◌, ◌^◌, ◌⊎◌, inl, inr, ◌++◌, ◌||◌, ◌==◌, ℕ, zero, suc, Bool, true, false, List, [], ◌∷◌, length, get_or, refl, sym, ap, ◌∙◌, subst, arith, true≢false}
 use Rattle.std.proofs.lemmas.Bool.{cases_eq, cond-false, cond-true}
 use Rattle.std.proofs.lemmas.List.{length-append}
 use Rattle.map_model.specs.declared.call.Call.{Call}
+use Rattle.map_model.specs.declared.call.Call.TheVariants as call
 use Rattle.map_model.specs.declared.call.Refusal.{Refusal}
 use Rattle.map_model.specs.declared.call.Refusal.TheVariants as refusal
 use Rattle.map_model.specs.Lists.{any, keep}
@@ -12,7 +13,7 @@ use Rattle.core_calls.specs.Deeds.{Deed, Begun, Got, Changed, Deleted, Absent, M
 use Rattle.core_calls.specs.Fronts.{Done, front, outcomes}
 use Rattle.core_calls.specs.Marks.{Mark, is_half}
 use Rattle.core_calls.specs.Runs.{EachTells, IsRefused, Tells}
-use Rattle.core_calls.specs.Steps.{Goes, MayPutBack, is_step}
+use Rattle.core_calls.specs.Steps.{Goes, MayPutBack, call_behind, is_step}
 use Rattle.map_model.specs.Histories.{Step}
 use Rattle.engine_trait.specs.Calls.{is_half_done}
 use Rattle.engine_trait.specs.Limits.{limits}
@@ -20,7 +21,7 @@ use Rattle.rows_trait.specs.declared.view.View.{View}
 use Rattle.rows_trait.specs.Views.{Shape}
 use Rattle.lean_engine.specs.Desks.{desk_of, place_of}
 use Rattle.lean_engine.specs.Machines.{AreDesks}
-use Rattle.lean_engine.specs.Syncs.{AreWhole, has_half, is_half_desk}
+use Rattle.lean_engine.specs.Inside.Syncs.{AreWhole, has_half, is_half_desk}
 use Rattle.lean_engine.specs.declared.desk.Desk.{Desk}
 use Rattle.lean_engine.proofs.DeskLemmas.{desk_apart, desk_own, place_low}
 use Rattle.lean_engine.proofs.SeatLemmas.{turn_high, turn_low}
@@ -33,15 +34,22 @@ reads_half : (us : List Unsaid) (ms : List Mark) → is_half (reads_of us ++ ms)
 reads_half [] ms = refl
 reads_half (u ∷ us) ms = reads_half us ms
 
--- a refusal that put changes back comes late
-is_late : (g : Opening) (xs : List Done) (x : Done) (c : Call) (why : Refusal) (b : Step) (backs : List Step) → MayPutBack why (b ∷ backs) → IsRefused limits g xs x (Refused c why (b ∷ backs)) → 2 ^ 61 ≤ length (front xs) + length x.events
-is_late g xs x c refusal.RowSpent b backs m r =
+-- a refusal that put changes back found a latch that was spent
+spent_back : (q : Call) (why : Refusal) (b : Step) (backs : List Step) → MayPutBack q why (b ∷ backs) → why ≡ refusal.RowSpent
+spent_back call.Abort refusal.RowSpent b backs m = refl
+spent_back q why b backs m = absurd (cc)
+
+-- so it comes late
+spent_late : (g : Opening) (xs : List Done) (x : Done) (c : Call) (b : Step) (backs : List Step) → IsRefused limits g xs x (Refused c refusal.RowSpent (b ∷ backs)) → 2 ^ 61 ≤ length (front xs) + length x.events
+spent_late g xs x c b backs r =
     let own = ap (λ (es : List Event). length es) r.2 in
     let split = length-append r.0 r.1 in
     let all = length-append (front xs) r.0 in
     let late = r.3 in
     omega (arith, own, split, all, late)
-is_late g xs x c _ b backs m r = absurd (cc)
+
+is_late : (g : Opening) (xs : List Done) (x : Done) (c q : Call) (why : Refusal) (b : Step) (backs : List Step) → MayPutBack q why (b ∷ backs) → IsRefused limits g xs x (Refused c why (b ∷ backs)) → 2 ^ 61 ≤ length (front xs) + length x.events
+is_late g xs x c q why b backs m r = spent_late g xs x c b backs (subst (λ (p : Refusal). IsRefused limits g xs x (Refused c p (b ∷ backs))) (spent_back q why b backs m) r)
 
 longer : (n m more : ℕ) → n ≤ m → n ≤ m + more
 longer n m more h = omega arith
@@ -52,7 +60,7 @@ deed_late : (g : Opening) (xs : List Done) (x : Done) (d : Deed) (us : List Unsa
 deed_late g xs x (Begun n) us ms es go r ih h = absurd (true≢false (sym h))
 deed_late g xs x (Committed n at) us ms es go r ih h = absurd (true≢false (sym h))
 deed_late g xs x (Aborted c n at backs) us ms es go r ih h = absurd (true≢false (sym h))
-deed_late g xs x (Refused c why (b ∷ backs)) us ms es go r ih h = is_late g xs x c why b backs go.1 r
+deed_late g xs x (Refused c why (b ∷ backs)) us ms es go r ih h = is_late g xs x c (call_behind (outcomes xs) c) why b backs go.1 r
 deed_late g xs x (Refused c why []) us ms es go r ih h = longer (2 ^ 61) (length (front xs)) (length x.events) (ih (sym (reads_half us ms) ∙ h))
 deed_late g xs x (Got k a alone) us ms es go r ih h = longer (2 ^ 61) (length (front xs)) (length x.events) (ih (sym (reads_half us ms) ∙ h))
 deed_late g xs x (Changed k v a) us ms es go r ih h = longer (2 ^ 61) (length (front xs)) (length x.events) (ih (sym (reads_half us ms) ∙ h))
@@ -84,53 +92,53 @@ half_late g group (x ∷ xs) t w h = let a = length-append (front xs) x.events i
 record Found (desks : List Desk) : Type 0 where
   pub at : ℕ
   pub within : at < length desks
-  pub is : (x : Desk) → (get_or desks at x).session.half ≡ true
+  pub is : (x : Desk) → (get_or desks at x).session.is_half_aborted ≡ true
 
 found : (desks : List Desk) → any is_half_desk desks ≡ true → Found desks
 found [] h = absurd (true≢false (sym h))
-found (d ∷ ds) h = go (found ds) d.session.half refl h
+found (d ∷ ds) h = go (found ds) d.session.is_half_aborted refl h
   where
-    go : (any is_half_desk ds ≡ true → Found ds) → (b : Bool) → d.session.half ≡ b → (b || any is_half_desk ds) ≡ true → Found (d ∷ ds)
+    go : (any is_half_desk ds ≡ true → Found ds) → (b : Bool) → d.session.is_half_aborted ≡ b → (b || any is_half_desk ds) ≡ true → Found (d ∷ ds)
     go ih true q k = record { at = 0; within = omega arith; is = λ x. q }
     go ih false q k = let f = ih k in record { at = suc f.at; within = let a = f.within in omega arith; is = λ x. f.is x }
 
 -- none passes
-unfound : (desks : List Desk) → any is_half_desk desks ≡ false → (i : ℕ) (x : Desk) → i < length desks → (get_or desks i x).session.half ≡ false
+unfound : (desks : List Desk) → any is_half_desk desks ≡ false → (i : ℕ) (x : Desk) → i < length desks → (get_or desks i x).session.is_half_aborted ≡ false
 unfound [] h i x lt = absurd (omega arith)
-unfound (d ∷ ds) h zero x lt = go d.session.half h
+unfound (d ∷ ds) h zero x lt = go d.session.is_half_aborted h
   where
     go : (b : Bool) → (b || any is_half_desk ds) ≡ false → b ≡ false
     go true k = absurd (true≢false k)
     go false k = refl
-unfound (d ∷ ds) h (suc i) x lt = unfound ds (go d.session.half h) i x (omega arith)
+unfound (d ∷ ds) h (suc i) x lt = unfound ds (go d.session.is_half_aborted h) i x (omega arith)
   where
     go : (b : Bool) → (b || any is_half_desk ds) ≡ false → any is_half_desk ds ≡ false
     go true k = absurd (true≢false k)
     go false k = k
 
-module _ (z : Shape) (v : View) (store : Desk) (desks : List Desk) (are : AreDesks z v store desks) where
-  place : (w : ℕ) → 0 < w → w ≤ store.session.workers → (w ≡ store.session.own → ⊥) → place_of store.session.own w < length desks
-  place w low high other = place_low store.session.own w store.session.workers desks are.count (turn_low z v store desks are) (turn_high z v store desks are) low high other
+module _ (z : Shape) (v : View) (work : Desk) (desks : List Desk) (are : AreDesks z v work desks) where
+  place : (w : ℕ) → 0 < w → w ≤ work.session.workers → (w ≡ work.session.own → ⊥) → place_of work.session.own w < length desks
+  place w low high other = place_low work.session.own w work.session.workers desks are.count (turn_low z v work desks are) (turn_high z v work desks are) low high other
 
   -- no abort is half done
-  pub whole : has_half store desks ≡ false → AreWhole store.session.workers store desks
-  whole h w low high = at (cases_eq w store.session.own) store.session.half refl h
+  pub whole : has_half work desks ≡ false → AreWhole work.session.workers work desks
+  whole h w low high = at (cases_eq w work.session.own) work.session.is_half_aborted refl h
     where
-      at : (w ≡ store.session.own) ⊎ (w ≡ store.session.own → ⊥) → (b : Bool) → store.session.half ≡ b → (b || any is_half_desk desks) ≡ false → (desk_of store desks w).session.half ≡ false
+      at : (w ≡ work.session.own) ⊎ (w ≡ work.session.own → ⊥) → (b : Bool) → work.session.is_half_aborted ≡ b → (b || any is_half_desk desks) ≡ false → (desk_of work desks w).session.is_half_aborted ≡ false
       at (inl e) true q k = absurd (true≢false k)
-      at (inl e) false q k = ap (λ (d : Desk). d.session.half) (desk_own store desks w e) ∙ q
+      at (inl e) false q k = ap (λ (d : Desk). d.session.is_half_aborted) (desk_own work desks w e) ∙ q
       at (inr n) true q k = absurd (true≢false k)
-      at (inr n) false q k = ap (λ (d : Desk). d.session.half) (desk_apart store desks w n) ∙ unfound desks k (place_of store.session.own w) store (place w low high n)
+      at (inr n) false q k = ap (λ (d : Desk). d.session.is_half_aborted) (desk_apart work desks w n) ∙ unfound desks k (place_of work.session.own w) work (place w low high n)
 
   -- one is
-  pub some_half : has_half store desks ≡ true → (w : ℕ) × (0 < w) × (w ≤ store.session.workers) × ((desk_of store desks w).session.half ≡ true)
-  some_half h = go store.session.half refl h
+  pub some_half : has_half work desks ≡ true → (w : ℕ) × (0 < w) × (w ≤ work.session.workers) × ((desk_of work desks w).session.is_half_aborted ≡ true)
+  some_half h = go work.session.is_half_aborted refl h
     where
-      go : (b : Bool) → store.session.half ≡ b → (b || any is_half_desk desks) ≡ true → (w : ℕ) × (0 < w) × (w ≤ store.session.workers) × ((desk_of store desks w).session.half ≡ true)
-      go true q k = (store.session.own, turn_low z v store desks are, turn_high z v store desks are, ap (λ (d : Desk). d.session.half) (desk_own store desks store.session.own refl) ∙ q)
-      go false q k = let f = found desks k in let s = seats store.session.own f.at in
-          (s.0, s.1.low, high f.at f.within s.1.high, ap (λ (d : Desk). d.session.half) (desk_apart store desks s.0 s.1.other) ∙ (ap (λ (i : ℕ). (get_or desks i store).session.half) s.1.place ∙ f.is store))
+      go : (b : Bool) → work.session.is_half_aborted ≡ b → (b || any is_half_desk desks) ≡ true → (w : ℕ) × (0 < w) × (w ≤ work.session.workers) × ((desk_of work desks w).session.is_half_aborted ≡ true)
+      go true q k = (work.session.own, turn_low z v work desks are, turn_high z v work desks are, ap (λ (d : Desk). d.session.is_half_aborted) (desk_own work desks work.session.own refl) ∙ q)
+      go false q k = let f = found desks k in let s = seats work.session.own f.at in
+          (s.0, s.1.low, high f.at f.within s.1.high, ap (λ (d : Desk). d.session.is_half_aborted) (desk_apart work desks s.0 s.1.other) ∙ (ap (λ (i : ℕ). (get_or desks i work).session.is_half_aborted) s.1.place ∙ f.is work))
         where
-          high : {w : ℕ} (i : ℕ) → i < length desks → (w ≡ suc (suc i)) ⊎ (w ≡ 1) → w ≤ store.session.workers
+          high : {w : ℕ} (i : ℕ) → i < length desks → (w ≡ suc (suc i)) ⊎ (w ≡ 1) → w ≤ work.session.workers
           high i lt (inl e) = let b = are.count in omega arith
-          high i lt (inr e) = let a = turn_low z v store desks are in let b = turn_high z v store desks are in omega arith
+          high i lt (inr e) = let a = turn_low z v work desks are in let b = turn_high z v work desks are in omega arith

@@ -18,18 +18,18 @@ use Rattle.core_calls.proofs.RunLemmas.{marks_more}
 
 -- behind an event, if it was so or not before
 abbrev pub half_behind : ℕ → Event → Bool → Bool
-half_behind w (Event.Begin v f) half = cond (v == w) false half
-half_behind w (Event.End v commit f) half = cond (v == w) false half
-half_behind w (Event.Put_back v p) half = cond (v == w) true half
-half_behind w _ half = half
+half_behind w (Event.Begin v f) is_half_aborted = cond (v == w) false is_half_aborted
+half_behind w (Event.End v commit f) is_half_aborted = cond (v == w) false is_half_aborted
+half_behind w (Event.Put_back v p) is_half_aborted = cond (v == w) true is_half_aborted
+half_behind w _ is_half_aborted = is_half_aborted
 
 abbrev pub halves : ℕ → List Event → Bool → Bool
-halves w [] half = half
-halves w (e ∷ es) half = halves w es (half_behind w e half)
+halves w [] is_half_aborted = is_half_aborted
+halves w (e ∷ es) is_half_aborted = halves w es (half_behind w e is_half_aborted)
 
-pub halves_more : (w : ℕ) (es more : List Event) (half : Bool) → halves w (es ++ more) half ≡ halves w more (halves w es half)
-halves_more w [] more half = refl
-halves_more w (e ∷ es) more half = halves_more w es more (half_behind w e half)
+pub halves_more : (w : ℕ) (es more : List Event) (is_half_aborted : Bool) → halves w (es ++ more) is_half_aborted ≡ halves w more (halves w es is_half_aborted)
+halves_more w [] more is_half_aborted = refl
+halves_more w (e ∷ es) more is_half_aborted = halves_more w es more (half_behind w e is_half_aborted)
 
 -- ## One event
 
@@ -39,9 +39,9 @@ called true ms m q = q
 called false ms m q = refl
 
 -- a begin, an end or a put-back
-said : (b half : Bool) (ms : List Mark) (m : Mark) → is_half (m ∷ ms) ≡ half → is_half (cond b (m ∷ ms) ms) ≡ cond b half (is_half ms)
-said true half ms m q = q
-said false half ms m q = refl
+said : (b is_half_aborted : Bool) (ms : List Mark) (m : Mark) → is_half (m ∷ ms) ≡ is_half_aborted → is_half (cond b (m ∷ ms) ms) ≡ cond b is_half_aborted (is_half ms)
+said true is_half_aborted ms m q = q
+said false is_half_aborted ms m q = refl
 
 silent : (b : Bool) (ms : List Mark) → is_half (cond b ms ms) ≡ is_half ms
 silent true ms = refl

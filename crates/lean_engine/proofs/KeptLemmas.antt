@@ -1,70 +1,86 @@
--- An engine behind a call of the session in the store, which is one of as many as before whatever became of it.
-use Rattle.std.proofs.Common.{◌≡◌, ◌≤◌, ◌<◌, ℕ, Bool, true, List, Option, sym, ap, ◌∙◌, subst}
-use Rattle.map_model.specs.declared.call.Answer.{Answer}
+-- A machine behind a call of the session in the store.
+use Rattle.std.proofs.Common.{◌≡◌, ◌≤◌, ◌<◌, ℕ, true, List, Global, Vec, ap, sym, subst}
+use Rattle.core_calls.specs.Fronts.{Done}
+use Rattle.core_state.specs.Openings.{Opening}
+use Rattle.disk_slots.specs.declared.master.Master.{Master}
+use Rattle.lean_disk.specs.Story.{Story}
 use Rattle.map_model.specs.declared.call.Answer.TheVariants as answer
 use Rattle.map_model.specs.declared.call.Call.{Call}
 use Rattle.map_model.specs.declared.call.Refusal.TheVariants as refusal
-use Rattle.core_state.specs.Openings.{Opening}
-use Rattle.core_calls.specs.Fronts.{Done}
-use Rattle.disk_slots.specs.declared.master.Master.{Master}
-use Rattle.group_commit.specs.declared.receipts.Receipt.{Receipt}
-use Rattle.lean_disk.specs.Story.{Story}
-use Rattle.rows_trait.specs.Plain.{sizes}
-use Rattle.rows_trait.specs.Rule.{IsPicture, plan}
-use Rattle.rows_trait.specs.declared.view.View.{View}
-use Rattle.worker_log.specs.Logs.{Log}
 use Rattle.row_engine.specs.Calls.{AbortDoes, CallDoes}
-use Rattle.row_engine.specs.Opened.{plain_shape}
 use Rattle.row_engine.specs.Others.{EveryOther, Steps}
-use Rattle.row_engine.specs.declared.session.Session.{Session}
-use Rattle.lean_engine.specs.Came.{Came}
-use Rattle.lean_engine.specs.Machines.{DoesWhere, IsDue, IsMachine, OnLine, memory_of}
+use Rattle.lean_engine.specs.Desks.{log_of}
+use Rattle.lean_engine.specs.Inside.Came.{Came}
+use Rattle.lean_engine.specs.Inside.Parts.{AbortCame, CallCame, IsBeside, IsSound, MachineDoes, MachineWent, SeatFits, Works, here, logs, memory, shape}
+use Rattle.lean_engine.specs.Inside.Quiet.{AreAsFlushed}
+use Rattle.lean_engine.specs.Machines.{DoesByParts, IsDue, IsMachine, OnLine, memory_of}
 use Rattle.lean_engine.specs.declared.desk.Desk.{Desk}
+use Rattle.lean_engine.specs.declared.machine.Machine.{Machine}
+use Rattle.lean_engine.specs.declared.machine.Response.{Response}
 use Rattle.lean_engine.proofs.MachineLemmas.{machine_behind}
+use Rattle.lean_engine.proofs.QuietLemmas.{as_flushed}
 use Rattle.lean_engine.proofs.SeatLemmas.{turn_high, turn_low}
 use Rattle.lean_engine.proofs.TiedLemmas.{abort_where, call_where, due_where}
 
--- a session with as many sessions and as large groups as it has
-same_sizes : (s : Session) (workers group : ℕ) → s.workers ≡ workers → s.group ≡ group → record s { workers = workers; group = group } ≡ s
-same_sizes s workers group e f i = record s { workers = sym e i; group = sym f i }
+module _ (law : EveryOther) {D : Type 0} (story : D → Story) (faults : D → ℕ) (m n : Machine D) (was : IsSound m) (shape_is : shape n ≡ shape m) (fits : SeatFits n) (beside : IsBeside m n) where
+  items : n.desks.items ≡ m.desks.items
+  items = ap (λ (d : Vec Desk Global). d.items) beside.0
 
-module _ (law : EveryOther) (f l m f' l' m' : ℕ) (words words' : List ℕ) (v w : View) (x : Desk) (s y : Session) (log : Log) (desks desks' : List Desk) (marks marks' : List Bool) (master master' : Master)
-    (was : IsMachine f l m words v x desks marks master) (shape : plain_shape f' l' m' ≡ plain_shape f l m) (fits : IsPicture (plan (sizes f' l' m') w.given) words' w)
-    (keep : y ≡ record s { workers = x.session.workers; group = x.session.group }) (at_desks : desks' ≡ desks) (at_master : master' ≡ master)
-    (Did : Type 0) (many : ℕ) (c : Call) (a : Answer) (receipt : Option Receipt) (before now : ℕ) (came : Came Did many c a receipt (plain_shape f' l' m') v w x (record { session = s; log = log }) marks marks' before now) where
-  abbrev sized : Session
-  sized = record s { workers = x.session.workers; group = x.session.group }
+  -- its desks and its master by their former names
+  by_former : (P : List Desk → Master → Type 0) → P m.desks.items m.master → P n.desks.items n.master
+  by_former P p = subst (λ (k : Master). P n.desks.items k) (sym beside.1) (subst (λ (ds : List Desk). P ds m.master) (sym items) p)
 
-  -- so it is as it is kept
-  as_kept : (P : Session → List Desk → Master → Type 0) → P sized desks master → P y desks' master'
-  as_kept P p = subst (λ (n : Master). P y desks' n) (sym at_master) (subst (λ (ds : List Desk). P y ds master) (sym at_desks) (subst (λ (k : Session). P k desks master) (sym keep) p))
+  low : 0 < m.work.session.own
+  low = turn_low (shape m) m.seat.view (here m) m.desks.items was.desks
 
-  pub machine_kept : y.works ≡ true → IsMachine f' l' m' words' w (record { session = y; log = log }) desks' marks' master'
-  machine_kept on =
-      let works : s.works ≡ true = sym (ap (λ (k : Session). k.works) keep) ∙ on in
-      let same = came.session works in
-      as_kept (λ (k : Session) (ds : List Desk) (n : Master). IsMachine f' l' m' words' w (record { session = k; log = log }) ds marks' n)
-      (subst (λ (k : Session). IsMachine f' l' m' words' w (record { session = k; log = log }) desks marks' master) (sym (same_sizes s x.session.workers x.session.group same.1 same.2))
-      (machine_behind law f l m f' l' m' words words' v w x (record { session = s; log = log }) desks marks marks' master was shape fits works same (came.steps works) (came.holds works) (came.unmarked works)))
+  high : m.work.session.own ≤ m.work.session.workers
+  high = turn_high (shape m) m.seat.view (here m) m.desks.items was.desks
 
-  low : 0 < x.session.own
-  low = turn_low (plain_shape f l m) v x desks was.desks
+  pub flushed_kept : n.work.session.own ≡ m.work.session.own → n.work.log.flushed ≡ m.work.log.flushed → AreAsFlushed m.work.session.workers (logs m) (logs n)
+  flushed_kept own flushed = by_former (λ ds k. AreAsFlushed m.work.session.workers (logs m) (log_of (here n) ds)) (as_flushed (shape m) m.seat.view (here m) (here n) m.desks.items was.desks own flushed)
 
-  high : x.session.own ≤ x.session.workers
-  high = turn_high (plain_shape f l m) v x desks was.desks
+  module _ (Did : Type 0) (many : ℕ) (c : Call) (r : Response) (came : Came Did many c r.answer r.receipt (shape n) m.seat.view n.seat.view (here m) (here n) m.latches n.latches (faults m.work.disk) (faults n.work.disk)) where
+    sound : Works n → IsSound n
+    sound works = by_former (λ ds k. IsMachine n.rows.frames n.rows.locks n.rows.workers n.rows.words.items n.seat.view (here n) ds n.latches k)
+        (machine_behind law m.rows.frames m.rows.locks m.rows.workers n.rows.frames n.rows.locks n.rows.workers m.rows.words.items n.rows.words.items m.seat.view n.seat.view (here m) (here n) m.desks.items m.latches n.latches m.master was shape_is fits works came.session (came.steps works) (came.holds works) (came.unmarked works))
 
-  calm : (a ≡ answer.Refused refusal.DiskFault → ⊥) → (s.own ≡ x.session.own) × Steps x.session.own v w
-  calm n = let works = came.works.1 n in ((came.session works).0, came.steps works)
+    pub calm : (r.answer ≡ answer.Refused refusal.DiskFault → ⊥) → (n.work.session.own ≡ m.work.session.own) × Steps m.work.session.own m.seat.view n.seat.view
+    calm e = (came.session.0, came.steps (came.works.1 e))
 
-  module _ (old new : Story) where
-    abbrev Was : (May : Opening → List Done → Type 0) → Call → Session → List Desk → Master → Type 0
-    Was May d k ds n = DoesWhere May x.session.workers x.session.group x.session.own d a v w (memory_of x desks master) (memory_of (record { session = k; log = log }) ds n) x desks (record { session = k; log = log }) ds old new
+    -- what it did, where its desks and its master go by their former names
+    abbrev Does : (May : Opening → List Done → Type 0) → Call → List Desk → Master → Type 0
+    Does May d ds k = DoesByParts May m.work.session.workers m.work.session.group m.work.session.own d r.answer m.seat.view n.seat.view (memory m) (memory_of (here n) ds k) (here m) m.desks.items (here n) ds (story m.work.disk) (story n.work.disk)
 
-    pub call_kept : CallDoes x.session.own x.session.group c a x.session.half s.half v w x.log log old new → Was OnLine c y desks' master'
-    call_kept does = as_kept (Was OnLine c) (call_where v w x (record { session = sized; log = log }) desks master old new low high was.desks.count c a calm does)
+    went_by : (May : Opening → List Done → Type 0) → Does May c m.desks.items m.master → MachineWent story faults May many m.work.session.own c r m n
+    went_by May does = record {
+      does = by_former (Does May c) does;
+      to = came.to;
+      may = came.may;
+      ends = came.ends;
+      fits = fits;
+      machine = sound;
+      session = (came.session.1, came.session.2);
+      works = came.works;
+      not_broken = came.not_broken;
+      cause_disk_fault = came.cause;
+    }
 
-    pub abort_kept : AbortDoes x.session.own x.session.group x.session.is_open a x.session.half s.half v w x.log log old new → Was OnLine Call.Abort y desks' master'
-    abort_kept does = as_kept (Was OnLine Call.Abort) (abort_where v w x (record { session = sized; log = log }) desks master old new low high was.desks.count a calm does)
+  module _ (c : Call) (r : Response) (came : CallCame story faults c r m n) where
+    abbrev Called : Type 0
+    Called = CallDoes m.work.session.own m.work.session.group c r.answer m.work.session.is_half_aborted n.work.session.is_half_aborted m.seat.view n.seat.view m.work.log n.work.log (story m.work.disk) (story n.work.disk)
 
-    pub due_kept : AbortDoes x.session.own x.session.group x.session.is_open a x.session.half s.half v w x.log log old new → x.session.is_open ≡ true → (d : Call) → Was (IsDue x.session.own d) d y desks' master'
-    due_kept does is_open d = as_kept (Was (IsDue x.session.own d) d) (due_where v w x (record { session = sized; log = log }) desks master old new low high was.desks.count a calm does is_open d)
+    pub call_went : MachineWent story faults OnLine m.work.session.workers m.work.session.own c r m n
+    call_went = went_by Called m.work.session.workers c r came OnLine
+        (call_where m.seat.view n.seat.view (here m) (here n) m.desks.items m.master (story m.work.disk) (story n.work.disk) low high was.desks.count c r.answer (calm Called m.work.session.workers c r came) came.does)
+
+  module _ (r : Response) (came : AbortCame story faults r m n) where
+    abbrev Aborted : Type 0
+    Aborted = AbortDoes m.work.session.own m.work.session.group m.work.session.is_open r.answer m.work.session.is_half_aborted n.work.session.is_half_aborted m.seat.view n.seat.view m.work.log n.work.log (story m.work.disk) (story n.work.disk)
+
+    pub abort_went : MachineWent story faults OnLine 1 m.work.session.own Call.Abort r m n
+    abort_went = went_by Aborted 1 Call.Abort r came OnLine
+        (abort_where m.seat.view n.seat.view (here m) (here n) m.desks.items m.master (story m.work.disk) (story n.work.disk) low high was.desks.count r.answer (calm Aborted 1 Call.Abort r came) came.does)
+
+    pub due_went : m.work.session.is_open ≡ true → (d : Call) → MachineDoes story (IsDue m.work.session.own d) m.work.session.own d r.answer m n
+    due_went is_open d = by_former (Does Aborted 1 Call.Abort r came (IsDue m.work.session.own d) d)
+        (due_where m.seat.view n.seat.view (here m) (here n) m.desks.items m.master (story m.work.disk) (story n.work.disk) low high was.desks.count r.answer (calm Aborted 1 Call.Abort r came) came.does is_open d)

@@ -35,6 +35,7 @@ pub mod OpenMarks
 pub mod SeenLemmas
 pub mod BeginLemmas
 pub mod TurnLemmas
+pub mod WentLemmas
 pub mod DeedLemmas
 pub mod AskLemmas
 pub mod AskingLemmas

@@ -20,7 +20,9 @@ use Rattle.core_calls.specs.Deeds.{Deed, Begun, Committed, Refused, Synced, Chec
 use Rattle.core_calls.specs.Marks.{Mark, marks}
 use Rattle.core_calls.specs.Refusals.{Limits, waiting}
 use Rattle.core_calls.specs.Fronts.{Done, front, outcomes}
-use Rattle.core_calls.specs.LogEvents.{behind, is_log, AreFlushes, AreSyncs, Flushes, IsSync, IsSyncAndCut, LogsGo, Prepares, PreparesBy, RefusedLogs}
+use Rattle.core_calls.specs.LogEvents.{behind, is_log, AreFlushes, AreSyncs, Flushes, IsPressedYet, IsSync, IsSyncAndCut, LogsGo, Prepares, PreparesBy, RefusedLogs}
+use Rattle.core_calls.specs.Steps.{call_behind}
+use Rattle.core_calls.proofs.WhereLemmas.{syncs_alone}
 use Rattle.core_calls.specs.Runs.{EachTells}
 use Rattle.core_calls.proofs.CommitLemmas.{ended_last, rests}
 use Rattle.core_calls.proofs.RunLemmas.{marks_all}
@@ -130,11 +132,11 @@ prepared_settles l g earlier w es p = go (l.is_half_full (front earlier)) (leb l
     go false true q = sync_settles q.0 es q.1
     go false false q = subst (Settles false) (sym q) refl
 
-refused_settles : (l : Limits) (g : Opening) (earlier : List Done) (w : ℕ) (c : Call) (why : Refusal) (es : List Event) → RefusedLogs l g earlier w c why es → Settles false es
+refused_settles : (l : Limits) (g : Opening) (earlier : List Done) (w : ℕ) (c : Call) (why : Refusal) (es : List Event) → RefusedLogs l g earlier w c why es → Settles false (keep is_log es)
 refused_settles l g earlier w call.Begin refusal.InTransaction es a = subst (Settles false) (sym a) refl
-refused_settles l g earlier w call.Begin refusal.RowSpent es a = syncs_settle false es a
-refused_settles l g earlier w call.Begin why es a = prepared_settles l g earlier w es a
-refused_settles l g earlier w c why es a = syncs_settle false es a
+refused_settles l g earlier w call.Begin refusal.RowSpent es a = subst (Settles false) (sym a) refl
+refused_settles l g earlier w call.Begin why es a = prepared_settles l g earlier w (keep is_log es) a
+refused_settles l g earlier w c why es a = syncs_settle false (keep is_log es) (syncs_alone (IsPressedYet g (call_behind (outcomes earlier) c) why) g es (state_after g (front earlier)) false a)
 
 none_kept : (p : Event → Bool) (es : List Event) → any p es ≡ false → keep p es ≡ []
 none_kept p [] h = refl
@@ -238,8 +240,8 @@ module _ (l : Limits) (g : Opening) (group : ℕ) (xs : List Done) (x : Done) (t
       go (Committed n at) d a = committed n at d a
       go (Synced at) d a = settled (sync_settles at (keep is_log x.events) a.2)
       go (Checkpointed at) d a = settled (cut_settles at (keep is_log x.events) a.3)
-      go (Refused c why backs) d a = settled (refused_settles l g xs x.outcome.session c why (keep is_log x.events) a)
-      go _ d a = settled (syncs_settle false (keep is_log x.events) a)
+      go (Refused c why backs) d a = settled (refused_settles l g xs x.outcome.session c why x.events a)
+      go _ d a = settled (syncs_settle false (keep is_log x.events) (syncs_alone _ g x.events (state_after g (front xs)) false a))
 
   -- what the core knows of a log it knows behind each outcome
   logged : Logs w g (state_after g (front xs)) x.events was is → IsLogged (state_after g (front xs)) w was → IsLogged (state_after g (front (x ∷ xs))) w is

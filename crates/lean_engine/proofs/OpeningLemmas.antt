@@ -22,7 +22,7 @@ use Rattle.recovery.specs.Own.{EveryOwn}
 use Rattle.recovery.specs.Starts.{IsStartOf}
 use Rattle.recovery.specs.Telling as telling
 use Rattle.recovery.specs.declared.opening.Recovered.{Recovered}
-use Rattle.open_rows.specs.Opened.{contents_of, page_or}
+use Rattle.row_opening.specs.Opened.{contents_of, page_or}
 use Rattle.run_opening.specs.Starts.{EveryStart, IsStart}
 use Rattle.lean_engine.specs.Openings.{BeginsOn, HasRecovered, IsFrom, IsMadeBy, IsOn, OpeningLaws}
 

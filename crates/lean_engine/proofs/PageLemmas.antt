@@ -8,8 +8,7 @@ use Rattle.disk_image.specs.Formats.{format_of}
 use Rattle.node_tree.specs.Nodes.{node_or, nodes_of}
 use Rattle.recovery.specs.Opened.{IsWhole}
 use Rattle.recovery.specs.declared.opening.Recovered.{Recovered}
-use Rattle.open_rows.specs.Opened.{ArePages, page_at, page_or}
-use Rattle.lean_engine.specs.Inside.{HaveByte}
+use Rattle.row_opening.specs.Opened.{ArePages, page_at, page_or}
 
 -- each page is there
 at : (pages : List Page) (p : ℕ) → p < length pages → (v : Page) × (slice_get pages p ≡ Some v)
@@ -24,10 +23,10 @@ node_same : (o : Option Page) → node_or o ≡ (page_or o).node
 node_same None = refl
 node_same (Some v) = refl
 
-pub are_pages : (r : Recovered) → IsWhole r → HaveByte r.pages.items (length r.pages.items) → ArePages r.pages.items r.master.floor
-are_pages r whole bytes = record {
+pub are_pages : (r : Recovered) → IsWhole r → ArePages r.pages.items r.master.floor
+are_pages r whole = record {
   tree = subst (λ (x : ℕ → Node). IsTree (format_of (length r.pages.items)) x) (λ i p. node_same (slice_get r.pages.items p) i) (subst (λ (n : ℕ). IsTree (format_of n) (nodes_of r.pages.items)) (sym whole.count) whole.tree);
   numbers = λ p lt. let v = at r.pages.items p lt in ap (λ (x : Page). x.number) (page_is r.pages.items p v.0 v.1) ∙ whole.own p v.0 v.1;
   low = λ p lt. let v = at r.pages.items p lt in let e = ap (λ (x : Page). x.gsn) (page_is r.pages.items p v.0 v.1) in let l = whole.numbers p v.0 v.1 in omega arith;
-  logs = bytes;
+  logs = λ p lt. let v = at r.pages.items p lt in let e = ap (λ (x : Page). x.last_log) (page_is r.pages.items p v.0 v.1) in let l = whole.logs p v.0 v.1 in omega arith;
 }

@@ -15,9 +15,9 @@ use Rattle.rows_trait.specs.declared.view.View.{View}
 use Rattle.worker_log.specs.Logs.{Log}
 use Rattle.lean_engine.specs.Calls.{IsTo}
 use Rattle.lean_engine.specs.Desks.{Turned, log_of}
-use Rattle.lean_engine.specs.Inside.{AreNumbers, IsEndOf, put_ends}
+use Rattle.lean_engine.specs.Inside.Asks.{AreNumbers, IsEndOf, put_ends}
 use Rattle.lean_engine.specs.Machines.{AreDesks, ends_in}
-use Rattle.lean_engine.specs.Quiet.{AreAsFlushed, IsQuiet, is_still}
+use Rattle.lean_engine.specs.Inside.Quiet.{AreAsFlushed, IsQuiet, is_still}
 use Rattle.lean_engine.specs.declared.desk.Desk.{Desk}
 use Rattle.lean_engine.proofs.DeskLemmas.{desk_own, desk_same, place_low}
 use Rattle.lean_engine.proofs.DurableLemmas.{are_all, are_numbers, numbers_of}

@@ -6,7 +6,7 @@ use Rattle.map_model.specs.declared.call.Answer.TheVariants as answer
 use Rattle.map_model.specs.declared.call.Refusal.TheVariants as refusal
 use Rattle.group_commit.specs.declared.receipts.Receipt.{Receipt}
 use Rattle.rows_trait.specs.declared.view.View.{View}
-use Rattle.lean_engine.specs.Inside.{IsEndOf}
+use Rattle.lean_engine.specs.Inside.Asks.{IsEndOf}
 
 some_is : (p q : Receipt) → Some p ≡ Some q → p ≡ q
 some_is p q e = cc

@@ -20,42 +20,42 @@ get_none [] i a l = refl
 get_none (x ∷ xs) zero a l = absurd (omega arith)
 get_none (x ∷ xs) (suc i) a l = get_none xs i a (omega arith)
 
-module _ (z : Shape) (v : View) (store : Desk) (desks : List Desk) (are : AreDesks z v store desks) where
-  one : 1 ≤ store.session.workers
+module _ (z : Shape) (v : View) (work : Desk) (desks : List Desk) (are : AreDesks z v work desks) where
+  one : 1 ≤ work.session.workers
   one = let c = are.count in omega arith
 
-  own_at : (w : ℕ) → 0 < w → w ≤ store.session.workers → (w ≡ store.session.own → ⊥) → (get_or desks (place_of store.session.own w) store).session.own ≡ w
-  own_at w low high n = ap (λ (d : Desk). d.session.own) (sym (desk_apart store desks w n)) ∙ (are.each w low high).own
+  own_at : (w : ℕ) → 0 < w → w ≤ work.session.workers → (w ≡ work.session.own → ⊥) → (get_or desks (place_of work.session.own w) work).session.own ≡ w
+  own_at w low high n = ap (λ (d : Desk). d.session.own) (sym (desk_apart work desks w n)) ∙ (are.each w low high).own
 
-  pub turn_high : store.session.own ≤ store.session.workers
-  turn_high = elim (cases_lt store.session.workers store.session.own) [
+  pub turn_high : work.session.own ≤ work.session.workers
+  turn_high = elim (cases_lt work.session.workers work.session.own) [
     | inr l ↦ l
     | inl l ↦ absurd (
         let c = are.count in let k = one in
-        let r : store.session.own ≡ 1 = ap (λ (d : Desk). d.session.own) (sym (get_none desks (store.session.own - 2) store (omega arith))) ∙ (ap (λ (k : ℕ). (get_or desks k store).session.own) (sym (place_first store.session.own 1 refl)) ∙ own_at 1 (omega arith) k (λ e. absurd (omega arith))) in
+        let r : work.session.own ≡ 1 = ap (λ (d : Desk). d.session.own) (sym (get_none desks (work.session.own - 2) work (omega arith))) ∙ (ap (λ (k : ℕ). (get_or desks k work).session.own) (sym (place_first work.session.own 1 refl)) ∙ own_at 1 (omega arith) k (λ e. absurd (omega arith))) in
         omega arith)
   ]
 
-  pub turn_low : 0 < store.session.own
-  turn_low = elim (cases_lt 0 store.session.own) [
+  pub turn_low : 0 < work.session.own
+  turn_low = elim (cases_lt 0 work.session.own) [
     | inl l ↦ l
-    | inr l ↦ elim (cases_lt 1 store.session.workers) [
+    | inr l ↦ elim (cases_lt 1 work.session.workers) [
       | inl many ↦ absurd (
-          let a : (get_or desks 0 store).session.own ≡ 1 = ap (λ (k : ℕ). (get_or desks k store).session.own) (sym (place_first store.session.own 1 refl ∙ nothing l)) ∙ own_at 1 (omega arith) one (λ e. absurd (omega arith)) in
-          let b : (get_or desks 0 store).session.own ≡ 2 = ap (λ (k : ℕ). (get_or desks k store).session.own) (sym (place_apart store.session.own 2 (λ e. absurd (omega arith)))) ∙ own_at 2 (omega arith) many (λ e. absurd (omega arith)) in
+          let a : (get_or desks 0 work).session.own ≡ 1 = ap (λ (k : ℕ). (get_or desks k work).session.own) (sym (place_first work.session.own 1 refl ∙ nothing l)) ∙ own_at 1 (omega arith) one (λ e. absurd (omega arith)) in
+          let b : (get_or desks 0 work).session.own ≡ 2 = ap (λ (k : ℕ). (get_or desks k work).session.own) (sym (place_apart work.session.own 2 (λ e. absurd (omega arith)))) ∙ own_at 2 (omega arith) many (λ e. absurd (omega arith)) in
           omega arith)
       | inr few ↦ absurd (
           let c = are.count in
-          let r : store.session.own ≡ 1 = ap (λ (d : Desk). d.session.own) (sym (get_none desks (place_of store.session.own 1) store (omega arith))) ∙ own_at 1 (omega arith) one (λ e. absurd (omega arith)) in
+          let r : work.session.own ≡ 1 = ap (λ (d : Desk). d.session.own) (sym (get_none desks (place_of work.session.own 1) work (omega arith))) ∙ own_at 1 (omega arith) one (λ e. absurd (omega arith)) in
           omega arith)
     ]
   ]
     where
-      nothing : store.session.own ≤ 0 → store.session.own - 2 ≡ 0
+      nothing : work.session.own ≤ 0 → work.session.own - 2 ≡ 0
       nothing l = omega arith
 
   -- each has a desk
-  pub seated_of : AreSeated store desks
+  pub seated_of : AreSeated work desks
   seated_of = record {
     count = are.count;
     low = turn_low;
@@ -65,10 +65,10 @@ module _ (z : Shape) (v : View) (store : Desk) (desks : List Desk) (are : AreDes
   }
 
   -- the one in the store is as between two calls
-  pub turn_is : IsDesk z v store.session store.session.own store
-  turn_is = subst (λ (d : Desk). IsDesk z v store.session store.session.own d) (desk_own store desks store.session.own refl) (are.each store.session.own turn_low turn_high)
+  pub turn_is : IsDesk z v work.session work.session.own work
+  turn_is = subst (λ (d : Desk). IsDesk z v work.session work.session.own d) (desk_own work desks work.session.own refl) (are.each work.session.own turn_low turn_high)
 
-  pub holds_of : Holds z v store.session store.log
+  pub holds_of : Holds z v work.session work.log
   holds_of = turn_is.holds
 
 -- ## The turn goes

@@ -45,16 +45,16 @@ loaded g s [] a = record { worker = refl; flushed = refl; entries = refl }
 loaded g s (Event.Load p f ∷ es) a = after s (step g s (Event.Load p f)) (run g (step g s (Event.Load p f)) es) (load g s p f) (loaded g (step g s (Event.Load p f)) es a)
 loaded g s (_ ∷ es) a = absurd a
 
-loads_leave : (w : ℕ) (es : List Event) → AreLoads es → (half : Bool) → halves w es half ≡ half
-loads_leave w [] a half = refl
-loads_leave w (Event.Load p f ∷ es) a half = loads_leave w es a half
-loads_leave w (_ ∷ es) a half = absurd a
+loads_leave : (w : ℕ) (es : List Event) → AreLoads es → (is_half_aborted : Bool) → halves w es is_half_aborted ≡ is_half_aborted
+loads_leave w [] a is_half_aborted = refl
+loads_leave w (Event.Load p f ∷ es) a is_half_aborted = loads_leave w es a is_half_aborted
+loads_leave w (_ ∷ es) a is_half_aborted = absurd a
 
 -- ## Half done
 
 -- by what was seen
-seen_half : (g : Opening) (group : ℕ) (xs : List Done) (w : ℕ) (half : Bool) (v : View) → Ties g group xs w half v → is_half_done w xs ≡ halves w (events_of v.given.before ++ events_of v.seen) false
-seen_half g group xs w half v t = half_told limits g group xs t.told w
+seen_half : (g : Opening) (group : ℕ) (xs : List Done) (w : ℕ) (is_half_aborted : Bool) (v : View) → Ties g group xs w is_half_aborted v → is_half_done w xs ≡ halves w (events_of v.given.before ++ events_of v.seen) false
+seen_half g group xs w is_half_aborted v t = half_told limits g group xs t.told w
     ∙ sym (ap (λ (es : List Event). halves w es false) t.seen ∙ (halves_more w (front xs) t.loads false ∙ loads_leave w t.loads t.are_loads (halves w (front xs) false)))
 
 -- so it is the same in each run
@@ -63,7 +63,7 @@ same_half g h group many xs ys m n v t u w = seen_half g group xs w (is_half_don
 
 -- ## The state
 
-module _ (reached : EveryReached) (g : Opening) (group : ℕ) (xs : List Done) (own : ℕ) (half : Bool) (v : View) (t : Ties g group xs own half v) where
+module _ (reached : EveryReached) (g : Opening) (group : ℕ) (xs : List Done) (own : ℕ) (is_half_aborted : Bool) (v : View) (t : Ties g group xs own is_half_aborted v) where
   core_is : (state v).core ≡ run g (state_after g (front xs)) t.loads
   core_is = reached g v.given t.opens v.seen ∙ (ap (state_after g) t.seen ∙ run_more g (start g) (front xs) t.loads)
 

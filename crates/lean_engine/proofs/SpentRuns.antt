@@ -11,10 +11,10 @@ use Rattle.core_state.specs.Events as happening
 use Rattle.core_state.specs.Steps.{state_after}
 use Rattle.core_calls.specs.Deeds.{marks_by}
 use Rattle.core_calls.specs.Fronts.{Done, front, outcomes}
-use Rattle.core_calls.specs.LogEvents.{RefusedLogs, is_log}
+use Rattle.core_calls.specs.LogEvents.{RefusedLogs}
 use Rattle.core_calls.specs.Marks.{Mark, is_half}
 use Rattle.core_calls.specs.Runs.{EachTells, Tells}
-use Rattle.core_calls.specs.Steps.{is_step}
+use Rattle.core_calls.specs.Steps.{Tries, is_step}
 use Rattle.lean_disk.specs.Moments.{LeavesOnly}
 use Rattle.lean_disk.specs.Story.{Story}
 use Rattle.engine_calls.specs.Clauses.{IsNewLine}
@@ -28,7 +28,7 @@ use Rattle.engine_trait.specs.Limits.{limits}
 use Rattle.engine_trait.specs.Rooms.{MakesItsRoom}
 use Rattle.rows_trait.specs.declared.view.View.{View}
 use Rattle.lean_engine.specs.Machines.{AreHalf, DoesTied, Tied}
-use Rattle.lean_engine.specs.Reached.{Reached}
+use Rattle.lean_engine.specs.Inside.Reached.{Reached}
 use Rattle.lean_engine.specs.declared.desk.Desk.{Desk}
 use Rattle.lean_engine.proofs.LoggedRuns.{logged_all}
 use Rattle.lean_engine.proofs.SyncDoes.{line_call}
@@ -42,7 +42,7 @@ no_marks true ms = refl
 no_marks false ms = refl
 
 module _ (g : Opening) (group : ℕ) (xs : List Done) (line : IsNewLine (outcomes xs)) (each : EachTells limits g group xs) (own : ℕ) (high : own ≤ g.workers) (c : Call) (u : View) (was is : Memory) (old now : Story)
-    (r : Reached g group xs false u was is old now) (late : 2 ^ 61 ≤ length (front xs)) (due : RefusedLogs limits g xs own c refusal.RowSpent (keep is_log r.events)) (room : MakesItsRoom g (state_after g (front xs ++ r.first)) c r.more) where
+    (r : Reached g group xs false u was is old now) (late : 2 ^ 61 ≤ length (front xs)) (tries : Tries g own (outcomes xs) c refusal.RowSpent []) (due : RefusedLogs limits g xs own c refusal.RowSpent r.events) (room : MakesItsRoom own g (state_after g (front xs ++ r.first)) c r.more) where
   abbrev turned : Done
   turned = refused_by own c refusal.RowSpent r.events
 
@@ -51,10 +51,10 @@ module _ (g : Opening) (group : ℕ) (xs : List Done) (line : IsNewLine (outcome
     comes = (every_coming xs turned.outcome).new line tt;
     met = r.behind.met;
     rows = subst (TakesRows own) (sym (keep_none is_step r.events r.steps)) tt;
+    tries = subst (λ (d : Call). Tries g own (outcomes xs) d refusal.RowSpent (keep is_step r.events)) (sym (line_call xs c line)) (subst (Tries g own (outcomes xs) c refusal.RowSpent) (sym (keep_none is_step r.events r.steps)) tries);
     structure = λ _. r.structure;
     cause = let a = length-append (front xs) r.events in omega arith;
     due = due;
-    no_backs = tt;
   }
 
   tells : Tells limits g group xs turned
@@ -69,12 +69,13 @@ module _ (g : Opening) (group : ℕ) (xs : List Done) (line : IsNewLine (outcome
     few = let a = r.few in let b = r.short in let d = length-append r.first r.more in let e = ap (λ (es : List happening.Event). length es) r.are in omega arith;
     refused = λ q e. inr (refused_is refusal.RowSpent q e);
     refuses = λ q e. inr refl;
+    still = λ _ _. r.own_structure;
     log = λ some. r.logs own some high;
-    room = subst (λ (d : Call). MakesItsRoom g (state_after g (front xs ++ r.first)) d r.more) (sym (line_call xs c line)) room;
+    room = subst (λ (d : Call). MakesItsRoom own g (state_after g (front xs ++ r.first)) d r.more) (sym (line_call xs c line)) room;
   }
 
   happens : Happens g group xs turned was is
-  happens = record { tells = tells; how = how; others = λ a some most _. r.logs a some most; master = λ e. r.master refl }
+  happens = record { tells = tells; how = how; others = λ a some most _. r.logs a some most; master = λ e. r.master refl; no_earlier = r.no_earlier }
 
   abbrev does : Does g group xs own c (answer.Refused refusal.RowSpent) was is old now
   does = record {
@@ -93,8 +94,8 @@ module _ (g : Opening) (group : ℕ) (xs : List Done) (line : IsNewLine (outcome
         };
   }
 
-  pub spent : (v : View) → Tied g group xs v was → (store : Desk) (desks : List Desk) → AreHalf g.workers xs store desks → DoesTied g group xs own c (answer.Refused refusal.RowSpent) u was is store desks old now
-  spent v tied store desks half = record {
+  pub spent : (v : View) → Tied g group xs v was → (work : Desk) (desks : List Desk) → AreHalf g.workers xs work desks → DoesTied g group xs own c (answer.Refused refusal.RowSpent) u was is work desks old now
+  spent v tied work desks is_half_aborted = record {
     does = does;
     tied = record {
       ties = λ a. record {
@@ -109,6 +110,6 @@ module _ (g : Opening) (group : ℕ) (xs : List Done) (line : IsNewLine (outcome
       };
       logged = logged_all g group xs turned was is each happens tied.logged;
     };
-    half = λ a some most. no_marks (own == a) (marks_by a (outcomes xs)) ∙ half a some most;
+    is_half_aborted = λ a some most. no_marks (own == a) (marks_by a (outcomes xs)) ∙ is_half_aborted a some most;
     unsynced = λ e. absurd (true≢false (sym e));
   }

@@ -35,9 +35,9 @@ use Rattle.row_engine.specs.Calls.{begin_answer}
 use Rattle.row_engine.specs.Syncs.{flushed_of}
 use Rattle.row_engine.specs.declared.session.Session.{Session}
 use Rattle.lean_engine.specs.Desks.{Turned, desk_of, log_of}
-use Rattle.lean_engine.specs.Machines.{AreDesks, AreHalf, DoesTied, DoesWhere, OnBegin, Tied, memory_of}
-use Rattle.lean_engine.specs.Reached.{Reached}
-use Rattle.lean_engine.specs.Syncs.{AreSynced, SyncMade}
+use Rattle.lean_engine.specs.Machines.{AreDesks, AreHalf, DoesTied, DoesByParts, OnBegin, Tied, memory_of}
+use Rattle.lean_engine.specs.Inside.Reached.{Reached}
+use Rattle.lean_engine.specs.Inside.Syncs.{AreSynced, SyncMade}
 use Rattle.lean_engine.specs.declared.desk.Desk.{Desk}
 use Rattle.lean_engine.proofs.BeginDoes.{prepares}
 use Rattle.lean_engine.proofs.BeginRuns.{began, not_begun}
@@ -70,6 +70,10 @@ limit_of log = go (log.last == log.flushed)
     go : (b : Bool) → limit (cond b log (flushed_log log)) ≡ limit log
     go true = refl
     go false = refl
+
+-- what refuses a begin, by how many blocks its log uses
+abbrev begin_by : State → (own used limit : ℕ) → Option Refusal
+begin_by s own u l = cond (s.worker own).is_open (Some refusal.InTransaction) (cond (leb l u) (Some (refusal.LogFull u l)) (cond (leb (2 ^ 62) (s.worker own).clock) (Some refusal.ClockSpent) None))
 
 -- what refuses a begin before a sync refuses it behind it
 stays_so : (u l c d : ℕ) → c ≤ d → (q : Refusal) → cond (leb l u) (Some (refusal.LogFull u l)) (cond (leb (2 ^ 62) c) (Some refusal.ClockSpent) None) ≡ Some q
@@ -130,23 +134,23 @@ module _ (versions : EveryVersion) (kept : EveryKept) (prefixes : EveryPrefix) (
   desks_are = desks_turned z1 u own mid t desks_mid desks_t are_mid low (on_mid own high) turned
 
   -- what is left of a session behind both
-  session_t : (a : ℕ) → 0 < a → a ≤ many → (desk_of t desks_t a).session ≡ record (desk_of x desks a).session { clock = n; behind = 0; free = (desk_of t desks_t a).session.free }
+  session_t : (a : ℕ) → 0 < a → a ≤ many → (desk_of t desks_t a).session ≡ record (desk_of x desks a).session { clock = record (desk_of x desks a).session.clock { clock = n }; unflushed = 0; free = (desk_of t desks_t a).session.free }
   session_t a some most = turned.session_of a some (on_mid a most) ∙ ap (λ (s : Session). record s { free = (desk_of t desks_t a).session.free }) (sessions a some most).1
 
   t_is : desk_of t desks_t own ≡ t
   t_is = desk_own t desks_t own (sym turned.own)
 
-  session_is : t.session ≡ record x.session { clock = n; behind = 0; free = t.session.free }
+  session_is : t.session ≡ record x.session { clock = record x.session.clock { clock = n }; unflushed = 0; free = t.session.free }
   session_is = at (desk_of t desks_t own) (desk_of x desks own) t_is (desk_own x desks own refl) (session_t own low high)
     where
-      at : (a b : Desk) → a ≡ t → b ≡ x → a.session ≡ record b.session { clock = n; behind = 0; free = a.session.free } → t.session ≡ record x.session { clock = n; behind = 0; free = t.session.free }
-      at a b p q h = ap (λ (d : Desk). d.session) (sym p) ∙ (h ∙ (λ i. record (q i).session { clock = n; behind = 0; free = (p i).session.free }))
+      at : (a b : Desk) → a ≡ t → b ≡ x → a.session ≡ record b.session { clock = record b.session.clock { clock = n }; unflushed = 0; free = a.session.free } → t.session ≡ record x.session { clock = record x.session.clock { clock = n }; unflushed = 0; free = t.session.free }
+      at a b p q h = ap (λ (d : Desk). d.session) (sym p) ∙ (h ∙ (λ i. record (q i).session { clock = record (q i).session.clock { clock = n }; unflushed = 0; free = (p i).session.free }))
 
   shut_t : t.session.is_open ≡ false
   shut_t = ap (λ (s : Session). s.is_open) session_is ∙ shut
 
-  clock_t : t.session.clock ≡ n
-  clock_t = ap (λ (s : Session). s.clock) session_is
+  clock_t : t.session.clock.clock ≡ n
+  clock_t = ap (λ (s : Session). s.clock.clock) session_is
 
   -- with what was made of the logs
   module _ (y : Desk) (y_own : y.session.own ≡ own) (y_log : y.log ≡ t.log) where
@@ -194,7 +198,7 @@ module _ (versions : EveryVersion) (kept : EveryKept) (prefixes : EveryPrefix) (
 
     -- ## In a run
 
-    module _ (g : Opening) (xs : List Done) (many_is : g.workers ≡ many) (tied : Tied g x.session.group xs v was) (half : AreHalf many xs x desks) (line : IsNewLine (outcomes xs)) (long : leb 256 (waiting g (state_after g (front xs)) own) ≡ true) where
+    module _ (g : Opening) (xs : List Done) (many_is : g.workers ≡ many) (tied : Tied g x.session.group xs v was) (is_half_aborted : AreHalf many xs x desks) (line : IsNewLine (outcomes xs)) (long : leb 256 (waiting g (state_after g (front xs)) own) ≡ true) where
       abbrev r : Reached g x.session.group xs true u was is old new
       r = came versions kept prefixes seals reached needs story laws many sixteen v was start g x.session.group xs many_is tied line n u is end made_y
 
@@ -208,7 +212,7 @@ module _ (versions : EveryVersion) (kept : EveryKept) (prefixes : EveryPrefix) (
       open_was : ((state_after g (front xs ++ r.first)).worker own).is_open ≡ false
       open_was = ap (λ (s : State). (s.worker own).is_open) (sym at_start) ∙ ((holds_of z v x desks are).session.is_open ∙ shut)
 
-      clock_was : ((state_after g (front xs ++ r.first)).worker own).clock ≡ x.session.clock
+      clock_was : ((state_after g (front xs ++ r.first)).worker own).clock ≡ x.session.clock.clock
       clock_was = ap (λ (s : State). (s.worker own).clock) (sym at_start) ∙ (holds_of z v x desks are).session.clock
 
       open_is : ((state_after g (front xs ++ r.events)).worker own).is_open ≡ false
@@ -218,8 +222,8 @@ module _ (versions : EveryVersion) (kept : EveryKept) (prefixes : EveryPrefix) (
       clock_is = ap (λ (s : State). (s.worker own).clock) (sym at_view) ∙ (ap (λ k. ((state u).core.worker k).clock) (sym turned.own) ∙ ((holds_of z1 u t desks_t desks_are).session.clock ∙ clock_t))
 
       -- the clock has risen
-      reaches : x.session.clock ≤ n
-      reaches = let a = (sessions own low high).0 in let b = ap (λ (d : Desk). d.session.clock) (desk_own x desks own refl) in omega arith
+      reaches : x.session.clock.clock ≤ n
+      reaches = let a = (sessions own low high).0 in let b = ap (λ (d : Desk). d.session.clock.clock) (desk_own x desks own refl) in omega arith
 
       abbrev refuses_first : Refusal → Type 0
       refuses_first q = refusal_in g (state_after g (front xs ++ r.first)) own (is_half_done own xs) (was.log own) call.Begin ≡ Some q
@@ -231,8 +235,12 @@ module _ (versions : EveryVersion) (kept : EveryKept) (prefixes : EveryPrefix) (
       stays q h = stays_closed ((state_after g (front xs ++ r.first)).worker own).clock ((state_after g (front xs ++ r.events)).worker own).clock (was.log own) (is.log own) ((state_after g (front xs ++ r.first)).worker own).is_open ((state_after g (front xs ++ r.events)).worker own).is_open
           open_was open_is used_same limit_same (let a = clock_was in let b = clock_is in let c = reaches in omega arith) q h
 
-      test_is : refusal_in g (state_after g (front xs ++ r.events)) own (is_half_done own xs) (is.log own) call.Begin ≡ refusal_in (opening u.given) (state u).core t.session.own t.session.half t.log call.Begin
+      test_is : refusal_in g (state_after g (front xs ++ r.events)) own (is_half_done own xs) (is.log own) call.Begin ≡ refusal_in (opening u.given) (state u).core t.session.own t.session.is_half_aborted t.log call.Begin
       test_is i = refusal_in g (sym at_view i) (sym turned.own i) (is_half_done own xs) (own_log i) call.Begin
+
+      -- the log was as full before
+      log_kept : refusal_in g (state_after g (front xs ++ r.events)) own (is_half_done own xs) (was.log own) call.Begin ≡ refusal_in g (state_after g (front xs ++ r.events)) own (is_half_done own xs) (is.log own) call.Begin
+      log_kept = let f : ℕ → ℕ → Option Refusal = λ u l. begin_by (state_after g (front xs ++ r.events)) own u l in ap (λ u. f u (limit (was.log own))) (sym used_same) ∙ ap (λ l. f (used (is.log own)) l) (sym limit_same)
 
       prepared : Prepares limits g xs own (keep is_log r.events)
       prepared = prepares g x.session.group xs line r.first (events_of made.flushed.events) n r.loads r.few made.flushed.flushes (let a = made.flushed.few in let b = sixteen in omega arith) own 0 0 long
@@ -241,38 +249,38 @@ module _ (versions : EveryVersion) (kept : EveryKept) (prefixes : EveryPrefix) (
       most = subst (λ k. own ≤ k) (sym many_is) high
 
       halves : AreHalf g.workers xs x desks
-      halves = subst (λ k. AreHalf k xs x desks) (sym many_is) half
+      halves = subst (λ k. AreHalf k xs x desks) (sym many_is) is_half_aborted
 
       in_many : (a : ℕ) → a ≤ g.workers → a ≤ many
       in_many a h = subst (λ k. a ≤ k) many_is h
 
       -- it began
-      began_synced : (w : View) (number : ℕ) → Begins u w t.session y.session number → refusal_in (opening u.given) (state u).core t.session.own t.session.half t.log call.Begin ≡ None → DoesTied g x.session.group xs own call.Begin (answer.Begun number) w was is y desks_t old new
+      began_synced : (w : View) (number : ℕ) → Begins u w t.session y.session number → refusal_in (opening u.given) (state u).core t.session.own t.session.is_half_aborted t.log call.Begin ≡ None → DoesTied g x.session.group xs own call.Begin (answer.Begun number) w was is y desks_t old new
       began_synced w number b free =
           began reached needs g x.session.group xs line (tied.ties 0).told own true u was is old new r (every_part versions kept prefixes seals old new new) w t.session y.session number turned.own b prepared low most
           (λ why q. none_is why (sym free ∙ (sym test_is ∙ stays why q)))
-          v tied x desks y desks_t halves (λ a some h other. ap (λ (d : Desk). d.session.half) (still a some (in_many a h) other) ∙ ap (λ (s : Session). s.half) (session_t a some (in_many a h)))
-          (ap (λ (d : Desk). d.session.half) y_is ∙ ap (λ (s : Session). s.half) b.session)
+          v tied x desks y desks_t halves (λ a some h other. ap (λ (d : Desk). d.session.is_half_aborted) (still a some (in_many a h) other) ∙ ap (λ (s : Session). s.is_half_aborted) (session_t a some (in_many a h)))
+          (ap (λ (d : Desk). d.session.is_half_aborted) y_is ∙ ap (λ (s : Session). s.is_half_aborted) b.session)
 
       -- it was refused
-      refused_synced : (why : Refusal) → y.session ≡ t.session → refusal_in (opening u.given) (state u).core t.session.own t.session.half t.log call.Begin ≡ Some why → DoesTied g x.session.group xs own call.Begin (answer.Refused why) u was is y desks_t old new
+      refused_synced : (why : Refusal) → y.session ≡ t.session → refusal_in (opening u.given) (state u).core t.session.own t.session.is_half_aborted t.log call.Begin ≡ Some why → DoesTied g x.session.group xs own call.Begin (answer.Refused why) u was is y desks_t old new
       refused_synced why same turned_down =
-          not_begun reached needs g x.session.group xs line (tied.ties 0).told own true u was is old new r (every_part versions kept prefixes seals old new new) low most why (test_is ∙ turned_down) stays (λ _. prepared)
+          not_begun reached needs g x.session.group xs line (tied.ties 0).told own true u was is old new r (every_part versions kept prefixes seals old new new) low most why (test_is ∙ turned_down) (log_kept ∙ (test_is ∙ turned_down)) stays (λ _. prepared)
           (λ h. absurd (true≢false (sym h ∙ (ap (λ (s : State). (s.worker own).is_open) (sym (front_is g xs r.events)) ∙ open_is))))
           v tied x desks y desks_t halves (λ a some h. half_at a some (in_many a h) (cases_eq a own))
         where
-          half_at : (a : ℕ) → 0 < a → a ≤ many → (a ≡ own) ⊎ (a ≡ own → ⊥) → (desk_of y desks_t a).session.half ≡ (desk_of x desks a).session.half
-          half_at a some h (inl e) = ap (λ (d : Desk). d.session.half) (desk_own y desks_t a (e ∙ sym y_own)) ∙ (ap (λ (s : Session). s.half) same
-              ∙ (ap (λ (d : Desk). d.session.half) (sym (desk_own t desks_t a (e ∙ sym turned.own))) ∙ ap (λ (s : Session). s.half) (session_t a some h)))
-          half_at a some h (inr other) = ap (λ (d : Desk). d.session.half) (still a some h other) ∙ ap (λ (s : Session). s.half) (session_t a some h)
+          half_at : (a : ℕ) → 0 < a → a ≤ many → (a ≡ own) ⊎ (a ≡ own → ⊥) → (desk_of y desks_t a).session.is_half_aborted ≡ (desk_of x desks a).session.is_half_aborted
+          half_at a some h (inl e) = ap (λ (d : Desk). d.session.is_half_aborted) (desk_own y desks_t a (e ∙ sym y_own)) ∙ (ap (λ (s : Session). s.is_half_aborted) same
+              ∙ (ap (λ (d : Desk). d.session.is_half_aborted) (sym (desk_own t desks_t a (e ∙ sym turned.own))) ∙ ap (λ (s : Session). s.is_half_aborted) (session_t a some h)))
+          half_at a some h (inr other) = ap (λ (d : Desk). d.session.is_half_aborted) (still a some h other) ∙ ap (λ (s : Session). s.is_half_aborted) (session_t a some h)
 
   -- ## In each run
 
-  pub with_sync : (is_long : Bool) → is_long ≡ true → (w : View) (y : Desk) (r : Result ℕ Refusal) → IfOk r (Begins u w t.session y.session) → (IsOk r → refusal_in (opening u.given) (state u).core t.session.own t.session.half t.log call.Begin ≡ None)
-      → IfErr r (λ why. refusal_in (opening u.given) (state u).core t.session.own t.session.half t.log call.Begin ≡ Some why) → (IsErr r → (w ≡ u) × (y ≡ t)) → IfErr r IsTold → y.log ≡ t.log
-      → DoesWhere (OnBegin own is_long) many x.session.group own call.Begin (begin_answer r) v w was (memory_of y desks_t next) x desks y desks_t old new
-  with_sync is_long long w y (Ok number) b free turned_down same is_told log g xs many_is tied half came =
-      began_synced y (ap (λ (s : Session). s.own) b.session ∙ turned.own) log g xs many_is tied half came.0 (came.1 ∙ long) w number b (free refl)
-  with_sync is_long long w y (Err why) b free turned_down same is_told log g xs many_is tied half came =
+  pub with_sync : (is_long : Bool) → is_long ≡ true → (w : View) (y : Desk) (r : Result ℕ Refusal) → IfOk r (Begins u w t.session y.session) → (IsOk r → refusal_in (opening u.given) (state u).core t.session.own t.session.is_half_aborted t.log call.Begin ≡ None)
+      → IfErr r (λ why. refusal_in (opening u.given) (state u).core t.session.own t.session.is_half_aborted t.log call.Begin ≡ Some why) → (IsErr r → (w ≡ u) × (y ≡ t)) → IfErr r IsTold → y.log ≡ t.log
+      → DoesByParts (OnBegin own is_long) many x.session.group own call.Begin (begin_answer r) v w was (memory_of y desks_t next) x desks y desks_t old new
+  with_sync is_long long w y (Ok number) b free turned_down same is_told log g xs many_is tied is_half_aborted came =
+      began_synced y (ap (λ (s : Session). s.own) b.session ∙ turned.own) log g xs many_is tied is_half_aborted came.0 (came.1 ∙ long) w number b (free refl)
+  with_sync is_long long w y (Err why) b free turned_down same is_told log g xs many_is tied is_half_aborted came =
       comes_told _ _ why is_told (subst (λ (k : View). DoesTied g x.session.group xs own call.Begin (answer.Refused why) k was (memory_of y desks_t next) y desks_t old new) (sym (same refl).0)
-      (refused_synced y (ap (λ (d : Desk). d.session.own) (same refl).1 ∙ turned.own) log g xs many_is tied half came.0 (came.1 ∙ long) why (ap (λ (d : Desk). d.session) (same refl).1) turned_down))
+      (refused_synced y (ap (λ (d : Desk). d.session.own) (same refl).1 ∙ turned.own) log g xs many_is tied is_half_aborted came.0 (came.1 ∙ long) why (ap (λ (d : Desk). d.session) (same refl).1) turned_down))

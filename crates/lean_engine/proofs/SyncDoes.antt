@@ -17,6 +17,7 @@ use Rattle.core_calls.specs.Runs.{Tells}
 use Rattle.core_calls.specs.Steps.{is_step, is_structure}
 use Rattle.core_calls.specs.Marks.{Mark}
 use Rattle.lean_disk.specs.Story.{Crash, Story}
+use Rattle.disk_runs.specs.Masters.{IsNoEarlier}
 use Rattle.disk_runs.specs.Stands.{Known}
 use Rattle.engine_calls.specs.Clauses.{Between, IsNewLine}
 use Rattle.engine_calls.specs.Syncs.{EverySync, IsKeeping, kept_by}
@@ -29,7 +30,7 @@ use Rattle.engine_trait.specs.Limits.{AreLoads, limits}
 use Rattle.engine_trait.specs.Logs.{Logs}
 use Rattle.engine_trait.specs.Refusals.{refusal_in}
 use Rattle.engine_trait.specs.Rooms.{MakesItsRoom, makes_sync}
-use Rattle.lean_engine.specs.Syncs.{Stood}
+use Rattle.lean_engine.specs.Inside.Syncs.{Stood}
 
 -- ## Events
 
@@ -155,19 +156,20 @@ module _ (g : Opening) (group : ℕ) (xs : List Done) (line : IsNewLine (outcome
         few = let a = made_few in omega arith;
         refused = λ why q. absurd (never_refused n why q);
         refuses = λ why q. absurd (none_is why (subst (λ c. refusal_in g (state_after g (front xs ++ first)) 0 (is_half_done 0 xs) (was.log 0) c ≡ Some why) (line_call xs call.Sync line) q));
+        still = λ _ _. any_append is_structure flushes (Event.Sync n ∷ []) (flushes_none is_structure (λ _ _. refl) flushes are) refl;
         log = λ q. absurd (omega arith);
-        room = subst (λ c. MakesItsRoom g (state_after g (front xs ++ first)) c (flushes ++ Event.Sync n ∷ [])) (sym (line_call xs call.Sync line))
+        room = subst (λ c. MakesItsRoom 0 g (state_after g (front xs ++ first)) c (flushes ++ Event.Sync n ∷ [])) (sym (line_call xs call.Sync line))
             (any_append is_structure flushes (Event.Sync n ∷ []) (flushes_none is_structure (λ _ _. refl) flushes are) refl);
       }
 
-      abbrev pub does : (old new : Story) → EverySync old new → Around g.workers true old new → ((w : ℕ) → 0 < w → w ≤ g.workers → Logs w g (state_after g (front xs ++ first)) (flushes ++ Event.Sync n ∷ []) (was.log w) (is.log w))
+      abbrev pub does : (old new : Story) → EverySync old new → IsNoEarlier made was.master is.master → Around g.workers true old new → ((w : ℕ) → 0 < w → w ≤ g.workers → Logs w g (state_after g (front xs ++ first)) (flushes ++ Event.Sync n ∷ []) (was.log w) (is.log w))
           → ((s0 : Crash) (k : Known) → Between limits g group xs s0 k old → IsOf g was k → Stood g xs made s0 k is.log is.master g.workers old new) → Does g group xs 0 call.Sync (answer.Synced n) was is old new
-      does old new law around logs stood = record {
+      does old new law earlier around logs stood = record {
         done = done;
         session = refl;
         asked_is = refl;
         answer_is = refl;
-        happens = record { tells = tells; how = how; others = λ w some high _. logs w some high; master = λ e. absurd (true≢false (sym (any_last (first ++ flushes) n) ∙ e)) };
+        happens = record { tells = tells; how = how; others = λ w some high _. logs w some high; master = λ e. absurd (true≢false (sym (any_last (first ++ flushes) n) ∙ e)); no_earlier = earlier };
         frame = subst (λ b. Around g.workers b old new) (sym (any_last (first ++ flushes) n)) around;
         keeps = λ s0 k b of_k.
             let at = stood s0 k b of_k in

@@ -13,6 +13,7 @@ use Rattle.core_calls.specs.Fronts.{Done, front, outcomes}
 use Rattle.core_calls.specs.Steps.{is_step, is_structure}
 use Rattle.core_disk.specs.Versions.{EveryVersion}
 use Rattle.disk_image.specs.Laws.{EverySealed}
+use Rattle.disk_runs.specs.Masters.{IsNoEarlier}
 use Rattle.disk_runs.specs.Stands.{Known}
 use Rattle.disk_runs.proofs.StandLemmas.{every_rest}
 use Rattle.disk_slots.specs.declared.master.Master.{Master}
@@ -32,12 +33,12 @@ use Rattle.worker_log.specs.Laws.{EveryKept, EveryPrefix}
 use Rattle.worker_log.specs.Logs.{Log}
 use Rattle.row_engine.specs.Ties.{Ties}
 use Rattle.row_engine.specs.declared.session.Session.{Session}
-use Rattle.lean_engine.specs.Machines.{AreHalf, DoesTied, DoesWhere, OnBegin, OnLine, Tied, memory_of}
-use Rattle.lean_engine.specs.Reached.{Reached}
-use Rattle.lean_engine.specs.Syncs.{AreSynced, Stood, SyncFails, SyncMade}
+use Rattle.lean_engine.specs.Machines.{AreHalf, DoesTied, DoesByParts, OnBegin, OnLine, Tied, memory_of}
+use Rattle.lean_engine.specs.Inside.Reached.{Reached}
+use Rattle.lean_engine.specs.Inside.Syncs.{AreSynced, Stood, SyncFails, SyncMade}
 use Rattle.lean_engine.specs.declared.desk.Desk.{Desk}
 use Rattle.lean_engine.proofs.SyncDoes.{any_last, flushes_none, made_none}
-use Rattle.lean_engine.proofs.SyncRuns.{around_more, master_aside}
+use Rattle.lean_engine.proofs.SyncRuns.{around_more, master_aside, written_by}
 use Rattle.lean_engine.proofs.SyncTies as ties
 use Rattle.lean_engine.proofs.SyncViews.{logs_join}
 
@@ -71,7 +72,7 @@ module _ (versions : EveryVersion) (kept : EveryKept) (prefixes : EveryPrefix) (
     -- ## A device failed
 
     pub fails : (own : ℕ) (c : Call) → ties.IsDue g xs own c → (end : D) → SyncFails story many v was.log was.master start end → Fails g group xs own c was old (story end)
-    fails own c due end (SyncFails.AtFlush f) = ties.flush_fails g group xs many many_is v was tied old (story end) f own c due law (parts old old old)
+    fails own c due end (SyncFails.AtFlush f) = ties.flush_fails g group xs many many_is v was tied old (story end) f sixteen own c due law (parts old old old)
     fails own c due end (SyncFails.AtMaster n u logs between f ready writes) =
         ties.master_fails reached needs g group xs many many_is v u was tied line logs old (story between) f sixteen u n ready.met ready.within ready.low own c due (story end) law (parts old old old) (parts old (story between) (story end)) ready.small writes
 
@@ -108,6 +109,9 @@ module _ (versions : EveryVersion) (kept : EveryKept) (prefixes : EveryPrefix) (
             is.log new m.raised law (parts old old old) (parts old middle new) m.ready.small wr.1 wr.0 s0 k between of_k))
       ]
 
+      pub written : IsNoEarlier made was.master is.master
+      written = written_by story n was.master is.master m.between end (t.loads ++ flushes) m.written
+
       pub around : Around g.workers true old new
       around = elim (cases_eq n was.master.floor) [
         | inl e ↦ subst (λ (d : D). Around g.workers true old (story d)) (sym (m.written.still e).0) here
@@ -119,9 +123,9 @@ module _ (versions : EveryVersion) (kept : EveryKept) (prefixes : EveryPrefix) (
 
       -- it was asked
       pub synced : (store0 : Desk) (desks0 : List Desk) (store1 : Desk) (desks1 : List Desk) → AreHalf many xs store0 desks0 → AreSynced many store0 desks0 store1 desks1 n → DoesTied g group xs 0 call.Sync (answer.Synced n) w was is store1 desks1 old new
-      synced store0 desks0 store1 desks1 half sessions =
+      synced store0 desks0 store1 desks1 is_half_aborted sessions =
           ties.synced reached needs g group xs many many_is v m.view was tied line m.logs old middle m.flushed sixteen w n m.ready.met m.ready.within m.ready.low
-          m.synced is m.raised new (every_sync old new) around store0 desks0 store1 desks1 half (λ a some high. ap (λ (s : Session). s.half) (sessions a some high).1) stood
+          m.synced is m.raised new (every_sync old new) written around store0 desks0 store1 desks1 is_half_aborted (λ a some high. ap (λ (s : Session). s.is_half_aborted) (sessions a some high).1) stood
 
       -- or a begin is to follow
       abbrev pub came : Reached g group xs true w was is old new
@@ -142,6 +146,7 @@ module _ (versions : EveryVersion) (kept : EveryKept) (prefixes : EveryPrefix) (
             logs_join a g (state_after g (front xs ++ t.loads)) flushes (happening.Event.Sync n ∷ []) (was.log a) (m.logs a) (is.log a) (m.flushed.logs a some h g (state_after g (front xs ++ t.loads))) (is.log a, m.raised a some h, refl);
         around = around;
         master = λ e. absurd (true≢false e);
+        no_earlier = written;
         goes = λ s0 k between of_k.
             let at = stood s0 k between of_k in
             record { known = at.known; gone = at.gone; is_of = record { log = at.log_is; master = at.master_is }; within = at.within };
@@ -152,22 +157,22 @@ module _ (versions : EveryVersion) (kept : EveryKept) (prefixes : EveryPrefix) (
 
 -- ## A sync that was asked
 
-module _ (versions : EveryVersion) (kept : EveryKept) (prefixes : EveryPrefix) (seals : EverySealed) (reached : EveryReached) (needs : EveryNeed) {D : Type 0} (story : D → Story) (laws : (d : D) → IsLawful (story d)) (many group : ℕ) (sixteen : many ≤ 16) (v : View) (store : Desk) (desks : List Desk) (master : Master) (start : D) where
+module _ (versions : EveryVersion) (kept : EveryKept) (prefixes : EveryPrefix) (seals : EverySealed) (reached : EveryReached) (needs : EveryNeed) {D : Type 0} (story : D → Story) (laws : (d : D) → IsLawful (story d)) (many group : ℕ) (sixteen : many ≤ 16) (v : View) (work : Desk) (desks : List Desk) (master : Master) (start : D) where
   abbrev was : Memory
-  was = memory_of store desks master
+  was = memory_of work desks master
 
-  pub sync_does : (n : ℕ) (w : View) (store1 : Desk) (desks1 : List Desk) (next : Master) (end : D) → SyncMade story many n v w was.log (memory_of store1 desks1 next).log master next start end → AreSynced many store desks store1 desks1 n
-      → DoesWhere OnLine many group 0 call.Sync (answer.Synced n) v w was (memory_of store1 desks1 next) store desks store1 desks1 (story start) (story end)
-  sync_does n w store1 desks1 next end m sessions g xs many_is tied half line =
-      synced versions kept prefixes seals reached needs story laws many sixteen v was start g group xs many_is tied line n w (memory_of store1 desks1 next) end m store desks store1 desks1 half sessions
+  pub sync_does : (n : ℕ) (w : View) (store1 : Desk) (desks1 : List Desk) (next : Master) (end : D) → SyncMade story many n v w was.log (memory_of store1 desks1 next).log master next start end → AreSynced many work desks store1 desks1 n
+      → DoesByParts OnLine many group 0 call.Sync (answer.Synced n) v w was (memory_of store1 desks1 next) work desks store1 desks1 (story start) (story end)
+  sync_does n w store1 desks1 next end m sessions g xs many_is tied is_half_aborted line =
+      synced versions kept prefixes seals reached needs story laws many sixteen v was start g group xs many_is tied line n w (memory_of store1 desks1 next) end m work desks store1 desks1 is_half_aborted sessions
 
   -- or a device failed
-  pub sync_fails : (w : View) (store1 : Desk) (desks1 : List Desk) (is : Memory) (end : D) → SyncFails story many v was.log master start end → DoesWhere OnLine many group 0 call.Sync (answer.Refused refusal.DiskFault) v w was is store desks store1 desks1 (story start) (story end)
-  sync_fails w store1 desks1 is end f g xs many_is tied half line =
+  pub sync_fails : (w : View) (store1 : Desk) (desks1 : List Desk) (is : Memory) (end : D) → SyncFails story many v was.log master start end → DoesByParts OnLine many group 0 call.Sync (answer.Refused refusal.DiskFault) v w was is work desks store1 desks1 (story start) (story end)
+  sync_fails w store1 desks1 is end f g xs many_is tied is_half_aborted line =
       fails versions kept prefixes seals reached needs story laws many sixteen v was start g group xs many_is tied line 0 call.Sync (ties.asked g xs line) end f
 
   -- before a begin
   pub begin_fails : (own : ℕ) (is_long : Bool) → is_long ≡ true → (w : View) (store1 : Desk) (desks1 : List Desk) (is : Memory) (end : D) → SyncFails story many v was.log master start end
-      → DoesWhere (OnBegin own is_long) many group own call.Begin (answer.Refused refusal.DiskFault) v w was is store desks store1 desks1 (story start) (story end)
-  begin_fails own is_long long w store1 desks1 is end f g xs many_is tied half came =
+      → DoesByParts (OnBegin own is_long) many group own call.Begin (answer.Refused refusal.DiskFault) v w was is work desks store1 desks1 (story start) (story end)
+  begin_fails own is_long long w store1 desks1 is end f g xs many_is tied is_half_aborted came =
       fails versions kept prefixes seals reached needs story laws many sixteen v was start g group xs many_is tied came.0 own call.Begin (ties.begins g xs own came.0 (came.1 ∙ long)) end f

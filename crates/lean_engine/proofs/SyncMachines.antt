@@ -22,7 +22,7 @@ use Rattle.row_engine.specs.Opened.{plain_shape}
 use Rattle.row_engine.specs.Syncs.{EverySynced, HasSynced}
 use Rattle.lean_engine.specs.Desks.{desk_of, log_of, place_of}
 use Rattle.lean_engine.specs.Machines.{AreDesks, AreLogged, HasNumbers, IsDesk, IsMachine}
-use Rattle.lean_engine.specs.Syncs.{AreRaised, Flushed, next_with, raised_desk}
+use Rattle.lean_engine.specs.Inside.Syncs.{AreRaised, Flushed, next_with, raised_desk}
 use Rattle.lean_engine.specs.declared.desk.Desk.{Desk}
 use Rattle.lean_engine.proofs.DeskLemmas.{desk_apart, desk_own, place_low}
 use Rattle.lean_engine.proofs.FloorLemmas.{seen_more}
@@ -30,14 +30,14 @@ use Rattle.lean_engine.proofs.SeatLemmas.{turn_high, turn_low}
 
 -- ## Desks
 
-module _ (z : Shape) (v : View) (store : Desk) (desks news : List Desk) (n : ℕ) (are : AreDesks z v store desks) (r : AreRaised desks news n) where
+module _ (z : Shape) (v : View) (work : Desk) (desks news : List Desk) (n : ℕ) (are : AreDesks z v work desks) (r : AreRaised desks news n) where
   -- whose desk it is
-  pub desk_raised : (w : ℕ) → 0 < w → w ≤ store.session.workers → desk_of (raised_desk store n) news w ≡ raised_desk (desk_of store desks w) n
-  desk_raised w low high = elim (cases_eq w store.session.own) [
-    | inl e ↦ desk_own (raised_desk store n) news w e ∙ ap (λ (d : Desk). raised_desk d n) (sym (desk_own store desks w e))
-    | inr other ↦ desk_apart (raised_desk store n) news w other
-        ∙ (r.each (place_of store.session.own w) (raised_desk store n) (place_low store.session.own w store.session.workers desks are.count (turn_low z v store desks are) (turn_high z v store desks are) low high other)
-        ∙ ap (λ (d : Desk). raised_desk d n) (same w low high other ∙ sym (desk_apart store desks w other)))
+  pub desk_raised : (w : ℕ) → 0 < w → w ≤ work.session.workers → desk_of (raised_desk work n) news w ≡ raised_desk (desk_of work desks w) n
+  desk_raised w low high = elim (cases_eq w work.session.own) [
+    | inl e ↦ desk_own (raised_desk work n) news w e ∙ ap (λ (d : Desk). raised_desk d n) (sym (desk_own work desks w e))
+    | inr other ↦ desk_apart (raised_desk work n) news w other
+        ∙ (r.each (place_of work.session.own w) (raised_desk work n) (place_low work.session.own w work.session.workers desks are.count (turn_low z v work desks are) (turn_high z v work desks are) low high other)
+        ∙ ap (λ (d : Desk). raised_desk d n) (same w low high other ∙ sym (desk_apart work desks w other)))
   ]
     where
       get_same : (xs : List Desk) (i : ℕ) (a b : Desk) → i < length xs → get_or xs i a ≡ get_or xs i b
@@ -45,21 +45,21 @@ module _ (z : Shape) (v : View) (store : Desk) (desks news : List Desk) (n : ℕ
       get_same (x ∷ xs) zero a b lt = refl
       get_same (x ∷ xs) (suc i) a b lt = get_same xs i a b (omega arith)
 
-      same : (w : ℕ) → 0 < w → w ≤ store.session.workers → (w ≡ store.session.own → ⊥) → get_or desks (place_of store.session.own w) (raised_desk store n) ≡ get_or desks (place_of store.session.own w) store
-      same w low high other = get_same desks (place_of store.session.own w) (raised_desk store n) store (place_low store.session.own w store.session.workers desks are.count (turn_low z v store desks are) (turn_high z v store desks are) low high other)
+      same : (w : ℕ) → 0 < w → w ≤ work.session.workers → (w ≡ work.session.own → ⊥) → get_or desks (place_of work.session.own w) (raised_desk work n) ≡ get_or desks (place_of work.session.own w) work
+      same w low high other = get_same desks (place_of work.session.own w) (raised_desk work n) work (place_low work.session.own w work.session.workers desks are.count (turn_low z v work desks are) (turn_high z v work desks are) low high other)
 
-  module _ (law : EverySynced) (w : View) (flushed : (u : ℕ) → 0 < u → u ≤ store.session.workers → (log_of store desks u).flushed ≡ (log_of store desks u).last) (sync : HasSynced v w n) where
-    pub desks_synced : AreDesks z w (raised_desk store n) news
+  module _ (law : EverySynced) (w : View) (flushed : (u : ℕ) → 0 < u → u ≤ work.session.workers → (log_of work desks u).flushed ≡ (log_of work desks u).last) (sync : HasSynced v w n) where
+    pub desks_synced : AreDesks z w (raised_desk work n) news
     desks_synced = record {
       count = ap suc r.count ∙ are.count;
-      each = λ u low high. subst (λ (d : Desk). IsDesk z w (raised_desk store n).session u d) (sym (desk_raised u low high)) (let m = are.each u low high in record {
+      each = λ u low high. subst (λ (d : Desk). IsDesk z w (raised_desk work n).session u d) (sym (desk_raised u low high)) (let m = are.each u low high in record {
         own = m.own;
         workers = m.workers;
         group = m.group;
         frames = m.frames;
         count = m.count;
         works = m.works;
-        holds = law z v w (record (desk_of store desks u).session { free = store.session.free }) (desk_of store desks u).log n m.holds (flushed u low high) sync;
+        holds = law z v w (record (desk_of work desks u).session { free = work.session.free }) (desk_of work desks u).log n m.holds (flushed u low high) sync;
       });
     }
 
@@ -74,12 +74,12 @@ synced_floor v w n s = ap (λ (m : Moment). m.core.floor) (seen_more v w (told.S
 
 -- ## The parts
 
-pub machine_synced : EverySynced → (f l m f' l' m' : ℕ) (words words' : List ℕ) (v w : View) (store : Desk) (desks news : List Desk) (marks : List Bool) (master next : Master) (n : ℕ) → IsMachine f l m words v store desks marks master → plain_shape f' l' m' ≡ plain_shape f l m
-    → IsPicture (plan (sizes f' l' m') w.given) words' w → AreRaised desks news n → ((u : ℕ) → 0 < u → u ≤ store.session.workers → (log_of store desks u).flushed ≡ (log_of store desks u).last) → HasSynced v w n → next.floor ≡ n → HasNumbers next store.session.workers
-    → IsMachine f' l' m' words' w (raised_desk store n) news marks next
-machine_synced law f l m f' l' m' words words' v w store desks news marks master next n was shape fits r flushed sync floor numbers = record {
+pub machine_synced : EverySynced → (f l m f' l' m' : ℕ) (words words' : List ℕ) (v w : View) (work : Desk) (desks news : List Desk) (marks : List Bool) (master next : Master) (n : ℕ) → IsMachine f l m words v work desks marks master → plain_shape f' l' m' ≡ plain_shape f l m
+    → IsPicture (plan (sizes f' l' m') w.given) words' w → AreRaised desks news n → ((u : ℕ) → 0 < u → u ≤ work.session.workers → (log_of work desks u).flushed ≡ (log_of work desks u).last) → HasSynced v w n → next.floor ≡ n → HasNumbers next work.session.workers
+    → IsMachine f' l' m' words' w (raised_desk work n) news marks next
+machine_synced law f l m f' l' m' words words' v w work desks news marks master next n was shape fits r flushed sync floor numbers = record {
   fits = fits;
-  desks = subst (λ (z : Shape). AreDesks z w (raised_desk store n) news) (sym shape) (desks_synced (plain_shape f l m) v store desks news n was.desks r law w flushed sync);
+  desks = subst (λ (z : Shape). AreDesks z w (raised_desk work n) news) (sym shape) (desks_synced (plain_shape f l m) v work desks news n was.desks r law w flushed sync);
   unmarked = was.unmarked;
   numbers = record { sequence = numbers.sequence; heads = numbers.heads };
   floor = floor ∙ sym (synced_floor v w n sync);

@@ -20,7 +20,7 @@ use Rattle.rows_trait.specs.Views.{Shape, state}
 use Rattle.row_engine.specs.Numbers.{AreNumbered}
 use Rattle.lean_engine.specs.Desks.{desk_of, log_of, place_of}
 use Rattle.lean_engine.specs.Machines.{AreDesks, AreLogged}
-use Rattle.lean_engine.specs.Syncs.{HasOpening, greatest}
+use Rattle.lean_engine.specs.Inside.Syncs.{HasOpening, greatest}
 use Rattle.lean_engine.specs.declared.desk.Desk.{Desk}
 use Rattle.lean_engine.proofs.DeskLemmas.{desk_apart, desk_own, place_apart, place_low}
 use Rattle.lean_engine.proofs.SeatLemmas.{turn_high, turn_low}
@@ -29,25 +29,25 @@ use Rattle.lean_engine.proofs.SeatLemmas.{turn_high, turn_low}
 
 pub greatest_first : (n : ℕ) (ds : List Desk) → n ≤ greatest n ds
 greatest_first n [] = omega arith
-greatest_first n (d ∷ ds) = let a = greatest_first (max n d.session.clock) ds in omega arith
+greatest_first n (d ∷ ds) = let a = greatest_first (max n d.session.clock.clock) ds in omega arith
 
-greatest_each : (n : ℕ) (ds : List Desk) (i : ℕ) (x : Desk) → i < length ds → (get_or ds i x).session.clock ≤ greatest n ds
+greatest_each : (n : ℕ) (ds : List Desk) (i : ℕ) (x : Desk) → i < length ds → (get_or ds i x).session.clock.clock ≤ greatest n ds
 greatest_each n [] i x lt = absurd (omega arith)
-greatest_each n (d ∷ ds) zero x lt = let a = greatest_first (max n d.session.clock) ds in omega arith
-greatest_each n (d ∷ ds) (suc i) x lt = greatest_each (max n d.session.clock) ds i x (omega arith)
+greatest_each n (d ∷ ds) zero x lt = let a = greatest_first (max n d.session.clock.clock) ds in omega arith
+greatest_each n (d ∷ ds) (suc i) x lt = greatest_each (max n d.session.clock.clock) ds i x (omega arith)
 
 -- it is one of them
 record IsOne (n : ℕ) (ds : List Desk) (found : ℕ) : Type 0 where
   pub at : ℕ
   pub within : at < length ds
-  pub is : (x : Desk) → (get_or ds at x).session.clock ≡ found
+  pub is : (x : Desk) → (get_or ds at x).session.clock.clock ≡ found
 
 greatest_is : (n : ℕ) (ds : List Desk) → (greatest n ds ≡ n) ⊎ IsOne n ds (greatest n ds)
 greatest_is n [] = inl refl
-greatest_is n (d ∷ ds) = go (greatest_is (max n d.session.clock) ds)
+greatest_is n (d ∷ ds) = go (greatest_is (max n d.session.clock.clock) ds)
   where
-    go : (greatest (max n d.session.clock) ds ≡ max n d.session.clock) ⊎ IsOne (max n d.session.clock) ds (greatest (max n d.session.clock) ds) → (greatest n (d ∷ ds) ≡ n) ⊎ IsOne n (d ∷ ds) (greatest n (d ∷ ds))
-    go (inl e) = elim (cases_lt n d.session.clock) [
+    go : (greatest (max n d.session.clock.clock) ds ≡ max n d.session.clock.clock) ⊎ IsOne (max n d.session.clock.clock) ds (greatest (max n d.session.clock.clock) ds) → (greatest n (d ∷ ds) ≡ n) ⊎ IsOne n (d ∷ ds) (greatest n (d ∷ ds))
+    go (inl e) = elim (cases_lt n d.session.clock.clock) [
       | inl lt ↦ inr (record { at = 0; within = omega arith; is = λ x. omega arith })
       | inr le ↦ inl (omega arith)
     ]
@@ -75,39 +75,39 @@ seats own i = elim (cases_eq (suc (suc i)) own) [
   | inr n ↦ (suc (suc i), record { low = omega arith; other = λ q. absurd (n q); place = place_apart own (suc (suc i)) (λ q. absurd (omega arith)) ∙ omega arith; high = inl refl })
 ]
 
-module _ (z : Shape) (v : View) (store : Desk) (desks : List Desk) (are : AreDesks z v store desks) where
+module _ (z : Shape) (v : View) (work : Desk) (desks : List Desk) (are : AreDesks z v work desks) where
   abbrev many : ℕ
-  many = store.session.workers
+  many = work.session.workers
 
   abbrev number : ℕ
-  number = greatest store.session.clock desks
+  number = greatest work.session.clock.clock desks
 
   one_some : 0 < many
-  one_some = let a = turn_low z v store desks are in let b = turn_high z v store desks are in omega arith
+  one_some = let a = turn_low z v work desks are in let b = turn_high z v work desks are in omega arith
 
-  pub desk_low : (w : ℕ) → 0 < w → w ≤ many → (desk_of store desks w).session.clock ≤ number
-  desk_low w low high = elim (cases_eq w store.session.own) [
-    | inl e ↦ (let a = ap (λ (d : Desk). d.session.clock) (desk_own store desks w e) in let b = greatest_first store.session.clock desks in omega arith)
+  pub desk_low : (w : ℕ) → 0 < w → w ≤ many → (desk_of work desks w).session.clock.clock ≤ number
+  desk_low w low high = elim (cases_eq w work.session.own) [
+    | inl e ↦ (let a = ap (λ (d : Desk). d.session.clock.clock) (desk_own work desks w e) in let b = greatest_first work.session.clock.clock desks in omega arith)
     | inr n ↦ (
-        let a = ap (λ (d : Desk). d.session.clock) (desk_apart store desks w n) in
-        let b = greatest_each store.session.clock desks (place_of store.session.own w) store (place_low store.session.own w many desks are.count (turn_low z v store desks are) (turn_high z v store desks are) low high n) in
+        let a = ap (λ (d : Desk). d.session.clock.clock) (desk_apart work desks w n) in
+        let b = greatest_each work.session.clock.clock desks (place_of work.session.own w) work (place_low work.session.own w many desks are.count (turn_low z v work desks are) (turn_high z v work desks are) low high n) in
         omega arith)
   ]
 
   -- somebody's clock is the number
-  pub who : (w : ℕ) × (0 < w) × (w ≤ many) × ((desk_of store desks w).session.clock ≡ number)
-  who = go (greatest_is store.session.clock desks)
+  pub who : (w : ℕ) × (0 < w) × (w ≤ many) × ((desk_of work desks w).session.clock.clock ≡ number)
+  who = go (greatest_is work.session.clock.clock desks)
     where
-      go : (number ≡ store.session.clock) ⊎ IsOne store.session.clock desks number → (w : ℕ) × (0 < w) × (w ≤ many) × ((desk_of store desks w).session.clock ≡ number)
-      go (inl e) = (store.session.own, turn_low z v store desks are, turn_high z v store desks are, ap (λ (d : Desk). d.session.clock) (desk_own store desks store.session.own refl) ∙ sym e)
-      go (inr o) = let s = seats store.session.own o.at in
-          (s.0, s.1.low, high s.1.high, ap (λ (d : Desk). d.session.clock) (desk_apart store desks s.0 s.1.other) ∙ (ap (λ (i : ℕ). (get_or desks i store).session.clock) s.1.place ∙ o.is store))
+      go : (number ≡ work.session.clock.clock) ⊎ IsOne work.session.clock.clock desks number → (w : ℕ) × (0 < w) × (w ≤ many) × ((desk_of work desks w).session.clock.clock ≡ number)
+      go (inl e) = (work.session.own, turn_low z v work desks are, turn_high z v work desks are, ap (λ (d : Desk). d.session.clock.clock) (desk_own work desks work.session.own refl) ∙ sym e)
+      go (inr o) = let s = seats work.session.own o.at in
+          (s.0, s.1.low, high s.1.high, ap (λ (d : Desk). d.session.clock.clock) (desk_apart work desks s.0 s.1.other) ∙ (ap (λ (i : ℕ). (get_or desks i work).session.clock.clock) s.1.place ∙ o.is work))
         where
           high : {w : ℕ} → (w ≡ suc (suc o.at)) ⊎ (w ≡ 1) → w ≤ many
           high (inl e) = let a = o.within in let b = are.count in omega arith
           high (inr e) = let a = one_some in omega arith
 
-  clock_at : (w : ℕ) → 0 < w → w ≤ many → ((state v).core.worker w).clock ≡ (desk_of store desks w).session.clock
+  clock_at : (w : ℕ) → 0 < w → w ≤ many → ((state v).core.worker w).clock ≡ (desk_of work desks w).session.clock.clock
   clock_at w low high = let d = are.each w low high in ap (λ (u : ℕ). ((state v).core.worker u).clock) (sym d.own) ∙ d.holds.session.clock
 
   workers_are : (opening v.given).workers ≡ many
@@ -119,7 +119,7 @@ module _ (z : Shape) (v : View) (store : Desk) (desks : List Desk) (are : AreDes
 
   -- ## No record is above
 
-  module _ (reached : EveryReached) (o : HasOpening v.given) (logged : AreLogged (state v).core (log_of store desks) many) (flushed : (w : ℕ) → 0 < w → w ≤ many → (log_of store desks w).flushed ≡ (log_of store desks w).last) where
+  module _ (reached : EveryReached) (o : HasOpening v.given) (logged : AreLogged (state v).core (log_of work desks) many) (flushed : (w : ℕ) → 0 < w → w ≤ many → (log_of work desks w).flushed ≡ (log_of work desks w).last) where
     pub good : Good o.opening (state v).core
     good = subst (Good o.opening) (sym (reached o.opening v.given o.opens v.seen)) (good_run o.opening (events_of v.given.before ++ events_of v.seen) (start o.opening) (good_start o.opening))
 
@@ -158,13 +158,13 @@ module _ (z : Shape) (v : View) (store : Desk) (desks : List Desk) (are : AreDes
   pub low_or_floor : (number ≤ 2 ^ 62 + 66 * 16) ⊎ (number ≡ (state v).core.floor)
   low_or_floor = go (are.each 1 (omega arith) one_some).holds.numbered
     where
-      w : (w : ℕ) × (0 < w) × (w ≤ many) × ((desk_of store desks w).session.clock ≡ number)
+      w : (w : ℕ) × (0 < w) × (w ≤ many) × ((desk_of work desks w).session.clock.clock ≡ number)
       w = who
 
-      count : (desk_of store desks 1).session.workers ≡ many
+      count : (desk_of work desks 1).session.workers ≡ many
       count = (are.each 1 (omega arith) one_some).workers
 
-      go : AreNumbered (desk_of store desks 1).session.workers (state v).core → (number ≤ 2 ^ 62 + 66 * 16) ⊎ (number ≡ (state v).core.floor)
+      go : AreNumbered (desk_of work desks 1).session.workers (state v).core → (number ≤ 2 ^ 62 + 66 * 16) ⊎ (number ≡ (state v).core.floor)
       go (inl l) = inl (
           let a = l.room in let b = l.up_to.clock w.0 in let c = clock_at w.0 w.1 w.2 in let d = w.3 in let e = (are.each 1 (omega arith) one_some).holds.rows.most in omega arith)
       go (inr s) = inr (let a = s.floor w.0 w.1 (let q = count in let k = w.2 in omega arith) in let c = clock_at w.0 w.1 w.2 in let d = w.3 in omega arith)
@@ -173,14 +173,14 @@ module _ (z : Shape) (v : View) (store : Desk) (desks : List Desk) (are : AreDes
   pub number_small : number < 2 ^ 64
   number_small = go (are.each 1 (omega arith) one_some).holds.numbered
     where
-      w : (w : ℕ) × (0 < w) × (w ≤ many) × ((desk_of store desks w).session.clock ≡ number)
+      w : (w : ℕ) × (0 < w) × (w ≤ many) × ((desk_of work desks w).session.clock.clock ≡ number)
       w = who
 
-      go : AreNumbered (desk_of store desks 1).session.workers (state v).core → number < 2 ^ 64
+      go : AreNumbered (desk_of work desks 1).session.workers (state v).core → number < 2 ^ 64
       go (inl l) =
           let a = l.room in let b = l.up_to.clock w.0 in let c = clock_at w.0 w.1 w.2 in let d = w.3 in let e = (are.each 1 (omega arith) one_some).holds.rows.most in omega arith
       go (inr s) = let a = s.small in let b = s.up_to.clock w.0 in let c = clock_at w.0 w.1 w.2 in let d = w.3 in omega arith
 
   -- no log goes above it
-  pub within : (w : ℕ) → 0 < w → w ≤ many → (log_of store desks w).last ≤ number
+  pub within : (w : ℕ) → 0 < w → w ≤ many → (log_of work desks w).last ≤ number
   within w low high = let a = (are.each w low high).holds.numbers.last in let b = desk_low w low high in omega arith

@@ -40,7 +40,7 @@ use Rattle.run_crashes.specs.Lines.{CallLeaves}
 use Rattle.engine_trait.specs.Areas.{Around, Beside, IsAside}
 use Rattle.engine_trait.specs.Limits.{limits}
 use Rattle.disk_runs.specs.MasterLaws.{IsAllSynced}
-use Rattle.lean_engine.specs.Syncs.{Stood, next_with}
+use Rattle.lean_engine.specs.Inside.Syncs.{IsWritten, Stood, next_with}
 
 -- ## Areas
 
@@ -102,6 +102,15 @@ next_valid n k j is small low = record {
 next_is : (n : Master) (k : ℕ) → IsNextOf n (next_with n k)
 next_is n k = record { sequence = refl; generation = refl; pages = refl; blocks = refl; logs = refl }
 
+-- what a sync writes is no earlier
+pub written_by : {D : Type 0} (story : D → Story) (n : ℕ) (master next : Master) (old new : D) (es : List Event) → IsWritten story n master next old new → IsNoEarlier (es ++ Event.Sync n ∷ []) master next
+written_by story n master next old new es w = go (cases_eq n master.floor)
+  where
+    go : (n ≡ master.floor) ⊎ (n ≡ master.floor → ⊥) → IsNoEarlier (es ++ Event.Sync n ∷ []) master next
+    go (inl e) = subst (IsNoEarlier (es ++ Event.Sync n ∷ []) master) (sym (w.still e).1) (same (es ++ Event.Sync n ∷ []) master)
+    go (inr other) = subst (IsNoEarlier (es ++ Event.Sync n ∷ []) master) (sym (w.wrote other).2)
+        (lines.further es (Event.Sync n ∷ []) master master (next_with master n) (same es master) (lines.next (Event.Sync n) master (next_with master n) refl (next_is master n)))
+
 -- ## A call of the disk more
 
 -- what its any moment is, as a part of the call
@@ -109,13 +118,13 @@ passes : (g : Opening) (xs : List Done) (es more : List Event) (s0 : Crash) (a :
     → Passes g xs es more s0 a mid new
 passes g xs es more s0 a mid new told some = record { told = told; any_moment = some }
 
-no_earlier : (n m : Master) → m ≡ n → IsNoEarlier n m
-no_earlier n m e = subst (IsNoEarlier n) (sym e) (same n)
+no_earlier : (es : List Event) (n m : Master) → m ≡ n → IsNoEarlier es n m
+no_earlier es n m e = subst (IsNoEarlier es n) (sym e) (same es n)
 
 module _ (g : Opening) (group : ℕ) (xs : List Done) (s0 : Crash) (k : Known) (es : List Event) (old mid new : Story) (part : EveryPart old mid new) (b : Between limits g group xs s0 k old)
     (logs : ℕ → Log) (master : Master) (done : ℕ) (at : Stood g xs es s0 k logs master done old mid) (around : Around g.workers true old mid) where
   -- behind more events, of which the disk is told by one call in this area
-  stood_more : (area : ℕ) (more : List Event) (x : Known) (logs_new : ℕ → Log) (next : Master) (count : ℕ) → ((a : ℕ) → IsAside g.workers true a → a ≡ area → ⊥) → IsNoEarlier at.known.master x.master → Stands g (front xs ++ (es ++ more)) s0 x new → new.notes ≡ mid.notes
+  stood_more : (area : ℕ) (more : List Event) (x : Known) (logs_new : ℕ → Log) (next : Master) (count : ℕ) → ((a : ℕ) → IsAside g.workers true a → a ≡ area → ⊥) → IsNoEarlier more at.known.master x.master → Stands g (front xs ++ (es ++ more)) s0 x new → new.notes ≡ mid.notes
       → LeavesOnly mid new (CrashIn mid area Anything) → LeavesOnly mid new (LeavesSome g (front xs ++ es) more s0 at.known.master)
       → ((w : ℕ) → 0 < w → w ≤ g.workers → x.log w ≡ logs_new w) → ((w : ℕ) → 0 < w → w ≤ count → IsAllSynced (x.account w)) → x.master ≡ next → Stood g xs (es ++ more) s0 k logs_new next count old new
   stood_more area more x logs_new next count apart earlier stands notes crash some log_is synced master_is = record {
@@ -132,7 +141,7 @@ module _ (g : Opening) (group : ℕ) (xs : List Done) (s0 : Crash) (k : Known) (
   pub stood_flush : (own : ℕ) (was is : Log) (logs_new : ℕ → Log) → own ≡ suc done → own ≤ g.workers → logs own ≡ was → EndsInRecord (state_after g (front xs ++ es)) own was → OnLog own was mid new → KeepsWithin own was mid new → FlushesWhole own was is mid new
       → logs_new own ≡ is → ((w : ℕ) → 0 < w → w ≤ g.workers → (w ≡ own → ⊥) → logs_new w ≡ logs w) → Stood g xs (es ++ flush_of own was) s0 k logs_new master own old new
   stood_flush own was is logs_new next most was_is ends on within whole is_is others =
-      stood_more (own + 1) (flush_of own was) f.known logs_new master own (λ a i e. log_aside g.workers own a (omega arith) most i (omega arith)) (no_earlier at.known.master f.known.master f.master)
+      stood_more (own + 1) (flush_of own was) f.known logs_new master own (λ a i e. log_aside g.workers own a (omega arith) most i (omega arith)) (no_earlier (flush_of own was) at.known.master f.known.master f.master)
       (subst (λ ys. Stands g ys s0 f.known new) (append_assoc (front xs) es (flush_of own was)) f.stands) on.notes (within s0 g (front xs ++ es) at.known log)
       ((every_moment old mid new s0 g (front xs ++ es) at.known.master).call (flush_of own was) (on.moments s0 g (front xs ++ es) at.known log))
       (λ w some high. log_at w some high (cases_eq w own)) (λ w some high. synced_at w some high (cases_eq w own)) (f.master ∙ at.master_is)
@@ -189,9 +198,9 @@ module _ (g : Opening) (group : ℕ) (xs : List Done) (s0 : Crash) (k : Known) (
     pub stood_master : (logs_new : ℕ → Log) → SyncsOn (next_with master n) mid new → KeepsEither (next_with master n) mid new → new.notes ≡ mid.notes → LeavesOnly mid new (CrashIn mid 0 Anything) → ((w : ℕ) → 0 < w → w ≤ g.workers → logs_new w ≡ raised (logs w) n)
         → Stood g xs (es ++ Event.Sync n ∷ []) s0 k logs_new (next_with master n) done old new
     stood_master logs_new syncs either notes crash are =
-        stood_more 0 (Event.Sync n ∷ []) x logs_new (next_with master n) done (λ a i e. master_aside g.workers a i e) (lines.next at.known.master (next_with at.known.master n) (next_is at.known.master n))
+        stood_more 0 (Event.Sync n ∷ []) x logs_new (next_with master n) done (λ a i e. master_aside g.workers a i e) (lines.next (Event.Sync n) at.known.master (next_with at.known.master n) refl (next_is at.known.master n))
         (subst (λ ys. Stands g ys s0 x new) (append_assoc (front xs) es (Event.Sync n ∷ [])) (subst (λ (m : Master). SyncsOn m mid new) (sym next_same) syncs s0 g (front xs ++ es) at.known n at.gone.stands sync_of)) notes crash
-        ((every_moment old mid new s0 g (front xs ++ es) at.known.master).master (Event.Sync n) (next_with at.known.master n) [] (next_is at.known.master n) (subst (λ (m : Master). KeepsEither m mid new) (sym next_same) either s0 g (front xs ++ es) at.known n at.gone.stands sync_of))
+        ((every_moment old mid new s0 g (front xs ++ es) at.known.master).master (Event.Sync n) (next_with at.known.master n) [] refl (next_is at.known.master n) (subst (λ (m : Master). KeepsEither m mid new) (sym next_same) either s0 g (front xs ++ es) at.known n at.gone.stands sync_of))
         (logs_raised logs_new are) at.synced next_same
       where
         x : Known
@@ -202,7 +211,7 @@ module _ (g : Opening) (group : ℕ) (xs : List Done) (s0 : Crash) (k : Known) (
     master_failed either crash = (
       whole limits g group xs s0 k old mid new es at.known b (Event.Sync n ∷ []) at.gone (record {
         told = weaker mid new (CrashIn mid 0 Anything) (λ c. c.notes ≡ mid.notes) (λ c is. is.notes) crash;
-        any_moment = (every_moment old mid new s0 g (front xs ++ es) at.known.master).master (Event.Sync n) (next_with at.known.master n) [] (next_is at.known.master n)
+        any_moment = (every_moment old mid new s0 g (front xs ++ es) at.known.master).master (Event.Sync n) (next_with at.known.master n) [] refl (next_is at.known.master n)
             (subst (λ (m : Master). KeepsEither m mid new) (sym next_same) either s0 g (front xs ++ es) at.known n at.gone.stands sync_of);
       }),
       moments.then old mid new (Beside g.workers true old) at.within (beside_in g.workers 0 old mid new around (λ a i e. master_aside g.workers a i e) crash),
@@ -225,7 +234,7 @@ module _ (versions : EveryVersion) (g : Opening) (group : ℕ) (xs : List Done) 
   -- the disk stands by it behind the sync too
   pub stood_still : (logs_new : ℕ → Log) → master.floor ≡ n → ((w : ℕ) → 0 < w → w ≤ g.workers → logs_new w ≡ raised (logs w) n) → Stood g xs (es ++ Event.Sync n ∷ []) s0 k logs_new master done old mid
   stood_still logs_new floor are =
-      stood_more g group xs s0 k es old mid mid part b logs master done at around 0 (Event.Sync n ∷ []) x logs_new master done (λ a i e. master_aside g.workers a i e) (same at.known.master)
+      stood_more g group xs s0 k es old mid mid part b logs master done at around 0 (Event.Sync n ∷ []) x logs_new master done (λ a i e. master_aside g.workers a i e) (same (Event.Sync n ∷ []) at.known.master)
       (subst (λ ys. Stands g ys s0 x mid) (append_assoc (front xs) es (Event.Sync n ∷ [])) stands) refl
       (started mid (CrashIn mid 0 Anything) law (λ c now. record { notes = now.notes; writes = λ a ne told. now.writes a told; leaves = λ a ne told. now.leaves a told; here = tt }))
       ((every_moment old mid mid s0 g (front xs ++ es) at.known.master).call (Event.Sync n ∷ []) (started mid (LeavesRun g (front xs ++ es) s0 at.known.master) law (λ c now. rest s0 g (front xs ++ es) at.known at.gone.stands c now)))

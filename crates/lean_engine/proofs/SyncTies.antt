@@ -1,6 +1,7 @@
 -- A sync in the run that an engine is in: by the flushes that its rows have seen, and the master that was written or not.
-use Rattle.std.proofs.Common.{◌≡◌, ◌≤◌, ◌<◌, ◌+◌, ◌^◌, ◌++◌, ◌==◌, ℕ, leb, Bool, true, false, List, [], ◌∷◌, refl, sym, ap, ◌∙◌, subst, arith, append-nil, true≢false}
+use Rattle.std.proofs.Common.{◌≡◌, ◌≤◌, ◌<◌, ◌+◌, ◌^◌, ◌++◌, ◌==◌, ℕ, leb, Bool, true, false, List, [], ◌∷◌, length, refl, sym, ap, ◌∙◌, subst, arith, append-nil, true≢false}
 use Rattle.std.proofs.lemmas.Bool.{eqb-true}
+use Rattle.std.proofs.lemmas.List.{length-append}
 use Rattle.map_model.specs.declared.call.Answer.TheVariants as answer
 use Rattle.map_model.specs.declared.call.Call.{Call}
 use Rattle.map_model.specs.declared.call.Call.TheVariants as call
@@ -17,6 +18,7 @@ use Rattle.lean_disk.proofs.MomentLemmas.{started}
 use Rattle.core_disk.specs.Versions.{EveryVersion}
 use Rattle.disk_runs.specs.Laws.{EveryRest}
 use Rattle.disk_runs.specs.MasterLaws.{raised}
+use Rattle.disk_runs.specs.Masters.{IsNoEarlier}
 use Rattle.disk_runs.specs.Quiet.{is_quiet}
 use Rattle.disk_runs.specs.Stands.{Known}
 use Rattle.log_calls.specs.Syncs.{SyncsOn}
@@ -40,7 +42,7 @@ use Rattle.row_engine.specs.Syncs.{HasSynced}
 use Rattle.row_engine.specs.Ties.{Ties}
 use Rattle.lean_engine.specs.Desks.{desk_of}
 use Rattle.lean_engine.specs.Machines.{AreHalf, DoesTied, Tied}
-use Rattle.lean_engine.specs.Syncs.{FlushFails, Flushed, IsWriting, Stood, next_with}
+use Rattle.lean_engine.specs.Inside.Syncs.{FlushFails, Flushed, IsWriting, Stood, next_with}
 use Rattle.lean_engine.specs.declared.desk.Desk.{Desk}
 use Rattle.lean_engine.proofs.LoggedRuns.{logged_all}
 use Rattle.lean_engine.proofs.SyncDoes.{does, flushes_ready, line_call, loads_ready, ready_join}
@@ -64,17 +66,17 @@ half_other w x xs some e = go (x.outcome.session == w) refl
 
 pub record IsDue (g : Opening) (xs : List Done) (own : ℕ) (c : Call) : Type 0 where
   pub needs : needs_sync g xs own c ≡ true
-  pub room : (es : List happening.Event) → all makes_sync es ≡ true → IsRoomFor g xs own (call_behind (outcomes xs) c) es
+  pub room : (es : List happening.Event) → all makes_sync es ≡ true → length es ≤ 2 ^ 18 → IsRoomFor g xs own (call_behind (outcomes xs) c) es
 
 -- it is asked
 pub asked : (g : Opening) (xs : List Done) → IsNewLine (outcomes xs) → IsDue g xs 0 call.Sync
-asked g xs line = record { needs = refl; room = λ es r. subst (λ c. IsRoomFor g xs 0 c es) (sym (line_call xs call.Sync line)) r }
+asked g xs line = record { needs = refl; room = λ es r few. subst (λ c. IsRoomFor g xs 0 c es) (sym (line_call xs call.Sync line)) (r, few) }
 
 -- or comes before a begin
 pub begins : (g : Opening) (xs : List Done) (own : ℕ) → IsNewLine (outcomes xs) → leb 256 (waiting g (state_after g (front xs)) own) ≡ true → IsDue g xs own call.Begin
 begins g xs own line long = record {
   needs = long;
-  room = λ es r. subst (λ c. IsRoomFor g xs own c es) (sym (line_call xs call.Begin line)) (subst (λ b. AreReady b es) (sym long) r);
+  room = λ es r few. subst (λ c. IsRoomFor g xs own c es) (sym (line_call xs call.Begin line)) (subst (λ b. AreReady b es) (sym long) r, few);
 }
 
 module _ (reached : EveryReached) (needs : EveryNeed) (g : Opening) (group : ℕ) (xs : List Done) (many : ℕ) (many_is : g.workers ≡ many) (v u : View) (was : Memory) (tied : Tied g group xs v was) (line : IsNewLine (outcomes xs))
@@ -123,14 +125,14 @@ module _ (reached : EveryReached) (needs : EveryNeed) (g : Opening) (group : ℕ
 
     -- ## It was made
 
-    module _ (sync : HasSynced u w n) (is : Memory) (are : (a : ℕ) → 0 < a → a ≤ many → is.log a ≡ raised (mid a) n) (new : Story) (law : EverySync old new) (around : Around g.workers true old new) (store0 : Desk) (desks0 : List Desk) (store1 : Desk) (desks1 : List Desk)
-        (half : AreHalf many xs store0 desks0) (same : (a : ℕ) → 0 < a → a ≤ many → (desk_of store1 desks1 a).session.half ≡ (desk_of store0 desks0 a).session.half)
+    module _ (sync : HasSynced u w n) (is : Memory) (are : (a : ℕ) → 0 < a → a ≤ many → is.log a ≡ raised (mid a) n) (new : Story) (law : EverySync old new) (earlier : IsNoEarlier ((first ++ flushes) ++ happening.Event.Sync n ∷ []) was.master is.master) (around : Around g.workers true old new) (store0 : Desk) (desks0 : List Desk) (store1 : Desk) (desks1 : List Desk)
+        (is_half_aborted : AreHalf many xs store0 desks0) (same : (a : ℕ) → 0 < a → a ≤ many → (desk_of store1 desks1 a).session.is_half_aborted ≡ (desk_of store0 desks0 a).session.is_half_aborted)
         (stood : (s0 : Crash) (k : Known) → Between limits g group xs s0 k old → IsOf g was k → Stood g xs ((first ++ flushes) ++ happening.Event.Sync n ∷ []) s0 k is.log is.master many old new) where
       b_new : Behind g xs ((first ++ flushes) ++ happening.Event.Sync n ∷ []) w
       b_new = b_synced sync
 
       abbrev did : Does g group xs 0 call.Sync (answer.Synced n) was is old new
-      did = does g group xs line first flushes n t.are_loads t.few f.flushes (let a = f.few in let c = sixteen in omega arith) b_new.met was is old new law around
+      did = does g group xs line first flushes n t.are_loads t.few f.flushes (let a = f.few in let c = sixteen in omega arith) b_new.met was is old new law earlier around
           (λ a some high. let h = subst (λ k. a ≤ k) many_is high in logs_join a g (state_after g (front xs ++ first)) flushes (happening.Event.Sync n ∷ []) (was.log a) (mid a) (is.log a) (f.logs a some h g (state_after g (front xs ++ first))) (is.log a, are a some h, refl))
           (λ s0 k between of_k. subst (λ c. Stood g xs ((first ++ flushes) ++ happening.Event.Sync n ∷ []) s0 k is.log is.master c old new) (sym many_is) (stood s0 k between of_k))
 
@@ -150,7 +152,7 @@ module _ (reached : EveryReached) (needs : EveryNeed) (g : Opening) (group : ℕ
           };
           logged = logged_all g group xs did.done was is t.told did.happens tied.logged;
         };
-        half = λ a some high. let h = subst (λ k. a ≤ k) many_is high in half_other a did.done xs some did.session ∙ (half a some h ∙ sym (same a some h));
+        is_half_aborted = λ a some high. let h = subst (λ k. a ≤ k) many_is high in half_other a did.done xs some did.session ∙ (is_half_aborted a some h ∙ sym (same a some h));
         unsynced = λ e. absurd (true≢false (sym e));
       }
 
@@ -163,7 +165,8 @@ module _ (reached : EveryReached) (needs : EveryNeed) (g : Opening) (group : ℕ
           let r = master_failed g group xs s0 k (first ++ flushes) old now new goes between mid was.master many (at_flushed law part s0 k between of_k) around_now n (sym many_is) met within_run small low writes.either writes.within in
           record {
             stops = Nothing ((first ++ flushes) ++ happening.Event.Sync n ∷ []) (due.room ((first ++ flushes) ++ happening.Event.Sync n ∷ [])
-                (ready_join (first ++ flushes) (happening.Event.Sync n ∷ []) (ready_join first flushes (loads_ready first t.are_loads) (flushes_ready flushes f.flushes)) refl)) r.0;
+                (ready_join (first ++ flushes) (happening.Event.Sync n ∷ []) (ready_join first flushes (loads_ready first t.are_loads) (flushes_ready flushes f.flushes)) refl)
+                (let a = t.few in let b = f.few in let c = length-append first flushes in let d = length-append (first ++ flushes) (happening.Event.Sync n ∷ []) in let e = sixteen in omega arith)) r.0;
             within = subst (λ b. LeavesOnly old new (Beside g.workers b old)) (sym due.needs) r.1;
           };
     }
@@ -186,7 +189,7 @@ module _ (reached : EveryReached) (needs : EveryNeed) (g : Opening) (group : ℕ
 
 -- ## A device failed at a flush
 
-module _ (g : Opening) (group : ℕ) (xs : List Done) (many : ℕ) (many_is : g.workers ≡ many) (v : View) (was : Memory) (tied : Tied g group xs v was) (old new : Story) (f : FlushFails many v was.log old new) where
+module _ (g : Opening) (group : ℕ) (xs : List Done) (many : ℕ) (many_is : g.workers ≡ many) (v : View) (was : Memory) (tied : Tied g group xs v was) (old new : Story) (f : FlushFails many v was.log old new) (sixteen : many ≤ 16) where
   abbrev ties : Ties g group xs 0 (is_half_done 0 xs) v
   ties = tied.ties 0
 
@@ -203,7 +206,8 @@ module _ (g : Opening) (group : ℕ) (xs : List Done) (many : ℕ) (many_is : g.
           within = started old (Beside g.workers true old) law (λ c at. record { notes = at.notes; writes = λ a i tells. at.writes a tells; leaves = λ a i tells. at.leaves a tells });
         }) in
         record {
-          stops = Nothing (ties.loads ++ f.events) (due.room (ties.loads ++ f.events) (ready_join ties.loads f.events (loads_ready ties.loads ties.are_loads) (flushes_ready f.events f.flushes))) r.0;
+          stops = Nothing (ties.loads ++ f.events) (due.room (ties.loads ++ f.events) (ready_join ties.loads f.events (loads_ready ties.loads ties.are_loads) (flushes_ready f.events f.flushes))
+              (let a = ties.few in let b = f.few in let c = length-append ties.loads f.events in let e = sixteen in omega arith)) r.0;
           within = subst (λ b. LeavesOnly old new (Beside g.workers b old)) (sym due.needs) r.1;
         };
   }

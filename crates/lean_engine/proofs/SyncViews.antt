@@ -37,7 +37,7 @@ use Rattle.worker_log.specs.Logs.{Log}
 use Rattle.row_engine.specs.Grown.{Behind}
 use Rattle.row_engine.specs.Puts.{KeepsLog}
 use Rattle.row_engine.specs.Syncs.{HasNoneBehind, flushed_of, flushes_of}
-use Rattle.lean_engine.specs.Syncs.{FlushFails, Flushed, FlushedOne, Stood}
+use Rattle.lean_engine.specs.Inside.Syncs.{FlushFails, Flushed, FlushedOne, Stood}
 use Rattle.lean_engine.proofs.FloorLemmas.{seen_more}
 use Rattle.lean_engine.proofs.SyncRuns.{around_more, around_none, log_aside, stood_failed, stood_flush}
 
@@ -206,6 +206,7 @@ module _ (reached : EveryReached) (needs : EveryNeed) (count own many : ℕ) (v 
   flush_fails = record {
     events = events;
     flushes = f.flushes;
+    few = let a = f.few in let h = most in let q = next in omega arith;
     around = around_new;
     leaves = λ g group xs first many_is b s0 k between m at.
         stood_failed g group xs s0 k (first ++ events) old now new part between mid m count (f.stands g group xs first many_is b s0 k between m at) (around_on g many_is) own (mid own) (omega arith) (let e = many_is in let h = most in omega arith) refl keeps.on keeps.within;

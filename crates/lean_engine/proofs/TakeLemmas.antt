@@ -22,7 +22,7 @@ use Rattle.group_commit.specs.declared.receipts.Receipt.{Receipt}
 use Rattle.group_commit.proofs.ListLemmas.{queue_set_other, queue_set_same}
 use Rattle.rows_trait.specs.declared.view.View.{View}
 use Rattle.lean_engine.specs.Desks.{desk_of}
-use Rattle.lean_engine.specs.Inside.{AreNumbers, durable_of}
+use Rattle.lean_engine.specs.Inside.Asks.{AreNumbers, durable_of}
 use Rattle.lean_engine.specs.Machines.{Tied}
 use Rattle.lean_engine.specs.States.{HasRoom, HasRun, InRun, IsOfTurn, IsSettled, State, WhereDue, memory_in}
 use Rattle.lean_engine.specs.declared.desk.Desk.{Desk}
@@ -175,34 +175,34 @@ module _ {D : Type 0} (law : EveryTake) (was is : State D) (fs : List ℕ) (numb
 
   -- ## The run in which it stands
 
-  module _ (store : Desk) (desks : List Desk) (stood : HasRun was store desks) where
+  module _ (work : Desk) (desks : List Desk) (stood : HasRun was work desks) where
     queues : length was.ends ≡ stood.opening.workers
     queues = stood.in_run.tracks.sessions
 
     less : (w : ℕ) → 0 < w → w ≤ stood.opening.workers → length (queue_of is.ends w) ≤ length (queue_of was.ends w)
     less w low high = taken_less fs was.ends is.ends found takes w low (subst (λ (n : ℕ). w ≤ n) (sym queues) high)
 
-    pub has_run_some : (r : Receipt) → found ≡ Some r → is.next ≡ was.next → HasRun is store desks
+    pub has_run_some : (r : Receipt) → found ≡ Some r → is.next ≡ was.next → HasRun is work desks
     has_run_some r e next = record {
       opening = stood.opening;
       done = stood.done;
       names = told_with (durable_of found) stood.names;
       in_run = (in_run_some stood.opening stood.done stood.names stood.in_run r e next).1;
-      half = stood.half;
-      room = λ w low high. subst (λ (n : Next). HasRoom n (desk_of store desks w).session.is_open (length (queue_of is.ends w)) (waiting stood.opening (state_after stood.opening (front stood.done)) w)) (sym next)
-          (room_less was.next (desk_of store desks w).session.is_open (length (queue_of is.ends w)) (length (queue_of was.ends w)) (waiting stood.opening (state_after stood.opening (front stood.done)) w) (less w low high) (stood.room w low high));
-      is_open = subst (λ (n : Next). WhereDue n (store.session.is_open ≡ true)) (sym next) stood.is_open;
+      is_half_aborted = stood.is_half_aborted;
+      room = λ w low high. subst (λ (n : Next). HasRoom n (desk_of work desks w).session.is_open (length (queue_of is.ends w)) (waiting stood.opening (state_after stood.opening (front stood.done)) w)) (sym next)
+          (room_less was.next (desk_of work desks w).session.is_open (length (queue_of is.ends w)) (length (queue_of was.ends w)) (waiting stood.opening (state_after stood.opening (front stood.done)) w) (less w low high) (stood.room w low high));
+      is_open = subst (λ (n : Next). WhereDue n (work.session.is_open ≡ true)) (sym next) stood.is_open;
     }
 
-    pub has_run_none : found ≡ None → is.next ≡ behind_durables was.next → HasRun is store desks
+    pub has_run_none : found ≡ None → is.next ≡ behind_durables was.next → HasRun is work desks
     has_run_none e next = record {
       opening = stood.opening;
       done = stood.done;
       names = told_with (durable_of found) stood.names;
       in_run = (in_run_none stood.opening stood.done stood.names stood.in_run e next).1;
-      half = stood.half;
-      room = λ w low high. subst (λ (n : Next). HasRoom n (desk_of store desks w).session.is_open (length (queue_of is.ends w)) (waiting stood.opening (state_after stood.opening (front stood.done)) w)) (sym next)
-          (room_behind was.next (desk_of store desks w).session.is_open (length (queue_of is.ends w)) (length (queue_of was.ends w)) (waiting stood.opening (state_after stood.opening (front stood.done)) w) (less w low high)
+      is_half_aborted = stood.is_half_aborted;
+      room = λ w low high. subst (λ (n : Next). HasRoom n (desk_of work desks w).session.is_open (length (queue_of is.ends w)) (waiting stood.opening (state_after stood.opening (front stood.done)) w)) (sym next)
+          (room_behind was.next (desk_of work desks w).session.is_open (length (queue_of is.ends w)) (length (queue_of was.ends w)) (waiting stood.opening (state_after stood.opening (front stood.done)) w) (less w low high)
           ((none stood.opening stood.done stood.names stood.in_run e).waiting_is w low high) (stood.room w low high));
-      is_open = subst (λ (n : Next). WhereDue n (store.session.is_open ≡ true)) (sym next) (behind_due was.next (store.session.is_open ≡ true) stood.is_open);
+      is_open = subst (λ (n : Next). WhereDue n (work.session.is_open ≡ true)) (sym next) (behind_due was.next (work.session.is_open ≡ true) stood.is_open);
     }

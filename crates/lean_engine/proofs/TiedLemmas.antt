@@ -15,6 +15,7 @@ use Rattle.core_calls.specs.Deeds.{asked, marks_by, marks_for}
 use Rattle.core_calls.specs.Fronts.{Done, front, outcomes}
 use Rattle.core_calls.specs.Marks.{is_half}
 use Rattle.disk_runs.specs.Stands.{Known}
+use Rattle.disk_runs.proofs.LineLemmas as lines
 use Rattle.disk_slots.specs.declared.master.Master.{Master}
 use Rattle.engine_calls.specs.Clauses.{Between, IsNewLine}
 use Rattle.engine_trait.specs.Calls as every
@@ -34,7 +35,7 @@ use Rattle.row_engine.specs.Deeds as alone_did
 use Rattle.row_engine.specs.Others.{Steps}
 use Rattle.row_engine.specs.Ties.{IsAbortDue as abort_due, Ties}
 use Rattle.lean_engine.specs.Desks.{desk_of}
-use Rattle.lean_engine.specs.Machines.{AreHalf, DoesTied, DoesWhere, IsDue, OnLine, Tied, memory_of}
+use Rattle.lean_engine.specs.Machines.{AreHalf, DoesTied, DoesByParts, IsDue, OnLine, Tied, memory_of}
 use Rattle.lean_engine.specs.declared.desk.Desk.{Desk}
 use Rattle.lean_engine.proofs.AreaLemmas.{around, leaves_beside}
 use Rattle.lean_engine.proofs.DeskLemmas.{desk_own, desk_same, place_low}
@@ -57,8 +58,8 @@ pub half_other : (w : ℕ) (x : Done) (xs : List Done) → (w ≡ x.outcome.sess
 half_other w x xs n = ap is_half (cond-false (x.outcome.session == w) (marks_for x.outcome ++ marks_by w (outcomes xs)) (marks_by w (outcomes xs)) (ne_eqb x.outcome.session w (λ q. n (sym q))))
 
 -- the view is tied for each session
-ties_for : (g : Opening) (group : ℕ) (xs : List Done) (own w : ℕ) (half : Bool) (v : View) → Ties g group xs own half v → Ties g group xs w (is_half_done w xs) v
-ties_for g group xs own w half v t = record { opens = t.opens; told = t.told; half_is = refl; loads = t.loads; are_loads = t.are_loads; few = t.few; met = t.met; seen = t.seen }
+ties_for : (g : Opening) (group : ℕ) (xs : List Done) (own w : ℕ) (is_half_aborted : Bool) (v : View) → Ties g group xs own is_half_aborted v → Ties g group xs w (is_half_done w xs) v
+ties_for g group xs own w is_half_aborted v t = record { opens = t.opens; told = t.told; half_is = refl; loads = t.loads; are_loads = t.are_loads; few = t.few; met = t.met; seen = t.seen }
 
 -- the same log by another name
 abbrev how_as : (g : Opening) (xs : List Done) (x : Done) (was is was' is' : Log) → was' ≡ was → is' ≡ is → Answers g xs x was is → Answers g xs x was' is'
@@ -68,8 +69,9 @@ how_as g xs x was is was' is' e f h = record {
   events = h.events;
   loads = h.loads;
   few = h.few;
-  refused = λ why q. subst (λ (l : Log). IsRefusedFor g (state_after g (front xs ++ x.events)) x.outcome.session (is_half_done x.outcome.session xs) l (call_behind (outcomes xs) (asked x.outcome.deed)) why) (sym f) (h.refused why q);
+  refused = λ why q. subst (λ (l : Log). IsRefusedFor g (state_after g (front xs ++ x.events)) x.outcome.session (is_half_done x.outcome.session xs) l (call_behind (outcomes xs) (asked x.outcome.deed)) why) (sym e) (h.refused why q);
   refuses = λ why q. h.refuses why (ap (λ (l : Log). refusal_in g (state_after g (front xs ++ h.first)) x.outcome.session (is_half_done x.outcome.session xs) l (call_behind (outcomes xs) (asked x.outcome.deed))) (sym e) ∙ q);
+  still = λ why q. h.still why (ap (λ (l : Log). refusal_in g (state_after g (front xs ++ h.first)) x.outcome.session (is_half_done x.outcome.session xs) l (call_behind (outcomes xs) (asked x.outcome.deed))) (sym e) ∙ q);
   log = λ low. subst (λ (l : Log). Logs x.outcome.session g (state_after g (front xs ++ h.first)) h.own l is') (sym e) (subst (λ (l : Log). Logs x.outcome.session g (state_after g (front xs ++ h.first)) h.own was l) (sym f) (h.log low));
   room = h.room;
 }
@@ -144,7 +146,7 @@ module _ (v w : View) (x y : Desk) (desks : List Desk) (master : Master) (old ne
           known r n some most (inr other) = r.others n (λ q. other (q ∙ did.does.session)) ∙ (is_of.log n some most ∙ sym (log_still n some most other))
 
       abbrev happens : Happens g group xs done was is
-      happens = record { tells = did.does.tells; how = how; others = others; master = λ _. refl }
+      happens = record { tells = did.does.tells; how = how; others = others; master = λ _. refl; no_earlier = lines.same done.events was.master }
 
       abbrev does_all : every.Does g group xs own c a was is old new
       does_all = record {
@@ -157,42 +159,42 @@ module _ (v w : View) (x y : Desk) (desks : List Desk) (master : Master) (old ne
         keeps = keeps;
       }
 
-      half_all : AreHalf g.workers xs x desks → now ≡ y.session.half → AreHalf g.workers (done ∷ xs) y desks
-      half_all half half_is n some most = go (cases_eq n own)
+      half_all : AreHalf g.workers xs x desks → now ≡ y.session.is_half_aborted → AreHalf g.workers (done ∷ xs) y desks
+      half_all is_half_aborted half_is n some most = go (cases_eq n own)
         where
-          go : (n ≡ own) ⊎ (n ≡ own → ⊥) → is_half_done n (done ∷ xs) ≡ (desk_of y desks n).session.half
-          go (inl e) = ap (λ (k : ℕ). is_half_done k (done ∷ xs)) e ∙ (did.ties.half_is ∙ (half_is ∙ ap (λ (d : Desk). d.session.half) (sym (desk_own y desks n (e ∙ sym same)))))
+          go : (n ≡ own) ⊎ (n ≡ own → ⊥) → is_half_done n (done ∷ xs) ≡ (desk_of y desks n).session.is_half_aborted
+          go (inl e) = ap (λ (k : ℕ). is_half_done k (done ∷ xs)) e ∙ (did.ties.half_is ∙ (half_is ∙ ap (λ (d : Desk). d.session.is_half_aborted) (sym (desk_own y desks n (e ∙ sym same)))))
           go (inr other) = half_other n done xs (λ q. other (q ∙ did.does.session))
-              ∙ (half n some most ∙ ap (λ (d : Desk). d.session.half) (sym (desk_still same n some (subst (λ (k : ℕ). n ≤ k) many most) other)))
+              ∙ (is_half_aborted n some most ∙ ap (λ (d : Desk). d.session.is_half_aborted) (sym (desk_still same n some (subst (λ (k : ℕ). n ≤ k) many most) other)))
 
-      does_tied : Tied g group xs v was → AreHalf g.workers xs x desks → now ≡ y.session.half → DoesTied g group xs own c a w was is y desks old new
-      does_tied tied half half_is = record {
+      does_tied : Tied g group xs v was → AreHalf g.workers xs x desks → now ≡ y.session.is_half_aborted → DoesTied g group xs own c a w was is y desks old new
+      does_tied tied is_half_aborted half_is = record {
         does = does_all;
         tied = record { ties = λ n. ties_for g group (done ∷ xs) own n now w did.ties; logged = logged_all g group xs done was is ties.told happens tied.logged };
-        half = half_all half half_is;
+        is_half_aborted = half_all is_half_aborted half_is;
         unsynced = λ _. own_unsynced own done.events all_own;
       }
 
   -- in the runs of all
   does_where : (c : Call) (a : Answer) (May : Opening → List Done → Type 0) (may : List Done → Type 0) → ((g : Opening) (xs : List Done) → May g xs → may xs) → ((a ≡ fault → ⊥) → (y.session.own ≡ own) × Steps own v w)
-      → alone.DoesWhere may own x.session.group c a x.session.half y.session.half v w x.log y.log old new → DoesWhere May x.session.workers x.session.group own c a v w was is x desks y desks old new
-  does_where c a May may comes calm does g xs many tied half came =
-      let ties : Ties g x.session.group xs own x.session.half v = subst (λ (b : Bool). Ties g x.session.group xs own b v) (half own low high ∙ ap (λ (d : Desk). d.session.half) (desk_own x desks own refl)) (tied.ties own) in
-      let all : AreHalf g.workers xs x desks = subst (λ (n : ℕ). AreHalf n xs x desks) (sym many) half in
-      comes_to a (DoesOn g x.session.group xs own c a y.session.half w x.log y.log old new) (alone_did.Fails g x.session.group xs own c x.log old new) (DoesTied g x.session.group xs own c a w was is y desks old new) (every.Fails g x.session.group xs own c was old new)
-      (λ n did. does_tied g x.session.group xs c many a x.session.half y.session.half (calm n).0 (calm n).1 ties did tied all refl)
+      → alone.DoesWhere may own x.session.group c a x.session.is_half_aborted y.session.is_half_aborted v w x.log y.log old new → DoesByParts May x.session.workers x.session.group own c a v w was is x desks y desks old new
+  does_where c a May may comes calm does g xs many tied is_half_aborted came =
+      let ties : Ties g x.session.group xs own x.session.is_half_aborted v = subst (λ (b : Bool). Ties g x.session.group xs own b v) (is_half_aborted own low high ∙ ap (λ (d : Desk). d.session.is_half_aborted) (desk_own x desks own refl)) (tied.ties own) in
+      let all : AreHalf g.workers xs x desks = subst (λ (n : ℕ). AreHalf n xs x desks) (sym many) is_half_aborted in
+      comes_to a (DoesOn g x.session.group xs own c a y.session.is_half_aborted w x.log y.log old new) (alone_did.Fails g x.session.group xs own c x.log old new) (DoesTied g x.session.group xs own c a w was is y desks old new) (every.Fails g x.session.group xs own c was old new)
+      (λ n did. does_tied g x.session.group xs c many a x.session.is_half_aborted y.session.is_half_aborted (calm n).0 (calm n).1 ties did tied all refl)
       (fails_all g x.session.group xs c many)
       (does g xs ties (comes g xs came))
 
   -- a call on a new line
-  pub call_where : (c : Call) (a : Answer) → ((a ≡ fault → ⊥) → (y.session.own ≡ own) × Steps own v w) → CallDoes own x.session.group c a x.session.half y.session.half v w x.log y.log old new → DoesWhere OnLine x.session.workers x.session.group own c a v w was is x desks y desks old new
+  pub call_where : (c : Call) (a : Answer) → ((a ≡ fault → ⊥) → (y.session.own ≡ own) × Steps own v w) → CallDoes own x.session.group c a x.session.is_half_aborted y.session.is_half_aborted v w x.log y.log old new → DoesByParts OnLine x.session.workers x.session.group own c a v w was is x desks y desks old new
   call_where c a calm does = does_where c a OnLine (λ xs. IsNewLine (outcomes xs)) (λ g xs m. m) calm does
 
   -- an abort that a line asks
-  pub abort_where : (a : Answer) → ((a ≡ fault → ⊥) → (y.session.own ≡ own) × Steps own v w) → AbortDoes own x.session.group x.session.is_open a x.session.half y.session.half v w x.log y.log old new → DoesWhere OnLine x.session.workers x.session.group own call.Abort a v w was is x desks y desks old new
+  pub abort_where : (a : Answer) → ((a ≡ fault → ⊥) → (y.session.own ≡ own) × Steps own v w) → AbortDoes own x.session.group x.session.is_open a x.session.is_half_aborted y.session.is_half_aborted v w x.log y.log old new → DoesByParts OnLine x.session.workers x.session.group own call.Abort a v w was is x desks y desks old new
   abort_where a calm does = does_where call.Abort a OnLine (λ xs. abort_due xs own x.session.is_open call.Abort) (λ g xs m. abort_due.Asked m refl) calm (does call.Abort)
 
   -- one that is due
-  pub due_where : (a : Answer) → ((a ≡ fault → ⊥) → (y.session.own ≡ own) × Steps own v w) → AbortDoes own x.session.group x.session.is_open a x.session.half y.session.half v w x.log y.log old new → x.session.is_open ≡ true → (c : Call)
-      → DoesWhere (IsDue own c) x.session.workers x.session.group own c a v w was is x desks y desks old new
+  pub due_where : (a : Answer) → ((a ≡ fault → ⊥) → (y.session.own ≡ own) × Steps own v w) → AbortDoes own x.session.group x.session.is_open a x.session.is_half_aborted y.session.is_half_aborted v w x.log y.log old new → x.session.is_open ≡ true → (c : Call)
+      → DoesByParts (IsDue own c) x.session.workers x.session.group own c a v w was is x desks y desks old new
   due_where a calm does is_open c = does_where c a (IsDue own c) (λ xs. abort_due xs own x.session.is_open c) (λ g xs m. abort_due.Hindered is_open m.newest m.earlier m.are m.hindered m.session) calm (does c)

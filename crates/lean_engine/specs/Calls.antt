@@ -1,5 +1,5 @@
 -- What a call says to a caller.
-use Rattle.std.specs.Prelude.{◌≡◌, ◌↔◌, ℕ, true, false, List, ◌∷◌, Result, Ok, Err, Option, Some}
+use Rattle.std.specs.Prelude.{◌≡◌, ◌↔◌, ◌<◌, ◌≤◌, ℕ, true, false, List, ◌∷◌, Result, Ok, Err, IfOk, IsErr, MatchOption, Option, Some, IfSome}
 use Rattle.map_model.specs.Journals.{Name}
 use Rattle.map_model.specs.declared.call.Answer.{Answer}
 use Rattle.map_model.specs.declared.call.Answer.TheVariants as answer
@@ -10,11 +10,14 @@ use Rattle.map_model.specs.declared.call.Refusal.TheVariants as refusal
 use Rattle.core_state.specs.Openings.{Opening}
 use Rattle.core_calls.specs.Fronts.{Done}
 use Rattle.core_calls.specs.Steps.{hindered_in}
+use Rattle.lean_disk.specs.Faults.{HasCause}
 use Rattle.lean_disk.specs.Story.{Story}
 use Rattle.engine_trait.specs.Calls.{Does, Fails, HasCome}
-use Rattle.engine_trait.specs.Turns.{behind_answer}
+use Rattle.engine_trait.specs.Turns.{IsTaken, behind_answer, behind_durables, told_with}
+use Rattle.engine_trait.specs.declared.calls.Durable.{Durable}
 use Rattle.engine_trait.specs.declared.calls.Unanswered.{Unanswered}
 use Rattle.engine_trait.specs.declared.calls.Unanswered.TheVariants as unanswered
+use Rattle.group_commit.specs.Queues.{queued}
 use Rattle.group_commit.specs.declared.receipts.Receipt.{Receipt}
 use Rattle.row_engine.specs.Calls.{Comes}
 use Rattle.lean_engine.specs.States.{InRun, State, memory_in}
@@ -103,23 +106,60 @@ pub record Went {D : Type 0} (Did : Type 0) (a : Answer) (was is : State D) : Ty
   pub same : a ≡ answer.Refused refusal.Broken → is ≡ was
   pub broken : (a ≡ answer.Refused refusal.Broken) ↔ (was.works ≡ false)
 
-abbrev pub Asked : {D : Type 0} → (own : ℕ) → Call → Answer → (was is : State D) → (old new : Story) → Type 0
-Asked own c a was is old new = Went (DoesInRuns own c a was is old new) a was is
+-- session `own` asked it
+abbrev pub Asked : {D : Type 0} → (story : D → Story) → (own : ℕ) → Call → Answer → (was is : State D) → Type 0
+Asked story own c a was is = Went (DoesInRuns own c a was is (story was.disk) (story is.disk)) a was is
+
+-- an abort was due
+abbrev pub AskedAbort : {D : Type 0} → (story : D → Story) → Answer → (was is : State D) → Type 0
+AskedAbort story a was is = Went (AbortsInRuns a was is (story was.disk) (story is.disk)) a was is
 
 -- it was answered so, by one outcome more in each run
-abbrev pub Answered : {D : Type 0} → (own : ℕ) → Call → Answer → (was is : State D) → (old new : Story) → Type 0
-Answered own c a was is old new = (g : Opening) (xs : List Done) (names : List Name) → InRun was g xs names
-    → (d : Does g was.group xs own c a (memory_in was) (memory_in is) old new) × InRun is g (d.done ∷ xs) names
+abbrev pub Answered : {D : Type 0} → (story : D → Story) → (own : ℕ) → Call → (was is : State D) → Answer → Type 0
+Answered story own c was is a = (g : Opening) (xs : List Done) (names : List Name) → InRun was g xs names
+    → (d : Does g was.group xs own c a (memory_in was) (memory_in is) (story was.disk) (story is.disk)) × InRun is g (d.done ∷ xs) names
 
 -- its disk failed, in each run
-abbrev pub Failed : {D : Type 0} → (own : ℕ) → Call → (was : State D) → (old new : Story) → Type 0
-Failed own c was old new = (g : Opening) (xs : List Done) (names : List Name) → InRun was g xs names → Fails g was.group xs own c (memory_in was) old new
+abbrev pub Failed : {D : Type 0} → (story : D → Story) → (own : ℕ) → Call → (was is : State D) → Type 0
+Failed story own c was is = (g : Opening) (xs : List Done) (names : List Name) → InRun was g xs names → Fails g was.group xs own c (memory_in was) (story was.disk) (story is.disk)
 
 -- of an abort that is due
-abbrev pub AbortAnswered : {D : Type 0} → Answer → (was is : State D) → (old new : Story) → Type 0
-AbortAnswered a was is old new = (g : Opening) (y : Done) (earlier : List Done) (names : List Name) → InRun was g (y ∷ earlier) names → (c : Call) → hindered_in y.outcome.deed ≡ Some c
-    → (d : Does g was.group (y ∷ earlier) y.outcome.session c a (memory_in was) (memory_in is) old new) × InRun is g (d.done ∷ y ∷ earlier) names
+abbrev pub AbortAnswered : {D : Type 0} → (story : D → Story) → (was is : State D) → Answer → Type 0
+AbortAnswered story was is a = (g : Opening) (y : Done) (earlier : List Done) (names : List Name) → InRun was g (y ∷ earlier) names → (c : Call) → hindered_in y.outcome.deed ≡ Some c
+    → (d : Does g was.group (y ∷ earlier) y.outcome.session c a (memory_in was) (memory_in is) (story was.disk) (story is.disk)) × InRun is g (d.done ∷ y ∷ earlier) names
 
-abbrev pub AbortFailed : {D : Type 0} → (was : State D) → (old new : Story) → Type 0
-AbortFailed was old new = (g : Opening) (y : Done) (earlier : List Done) (names : List Name) → InRun was g (y ∷ earlier) names → (c : Call) → hindered_in y.outcome.deed ≡ Some c
-    → Fails g was.group (y ∷ earlier) y.outcome.session c (memory_in was) old new
+abbrev pub AbortFailed : {D : Type 0} → (story : D → Story) → (was is : State D) → Type 0
+AbortFailed story was is = (g : Opening) (y : Done) (earlier : List Done) (names : List Name) → InRun was g (y ∷ earlier) names → (c : Call) → hindered_in y.outcome.deed ≡ Some c
+    → Fails g was.group (y ∷ earlier) y.outcome.session c (memory_in was) (story was.disk) (story is.disk)
+
+-- ## What is answered
+
+-- The engine answers, where so many sessions ask, and then this was done; or its disk failed in it; or a device had failed before, and nothing was.
+pub record EngineDoes {D : Type 0} (faults : D → ℕ) (many : ℕ) (Did : Answer → Type 0) (Stopped : Type 0) (result : Result Answer Unanswered) (was is : State D) : Type 0 where
+  pub does : IfOk result Did
+  pub come : IfOk result (HasCome many)
+  pub next : IfOk result (λ a. is.next ≡ behind_answer a)
+  pub fails : result ≡ Err unanswered.DiskFault → Stopped
+  pub works : is.works ≡ true ↔ (IsErr result → ⊥)
+  pub sizes : (is.sessions ≡ was.sessions) × (is.group ≡ was.group)
+  pub same : result ≡ Err unanswered.Broken → is ≡ was
+  pub cause_broken : (result ≡ Err unanswered.Broken) ↔ (was.works ≡ false)
+  pub cause_disk_fault : HasCause (faults was.disk) (faults is.disk) (result ≡ Err unanswered.DiskFault)
+
+-- to what a line of session `own` asks
+abbrev pub LineDoes : {D : Type 0} → (story : D → Story) → (faults : D → ℕ) → (own : ℕ) → Call → Result Answer Unanswered → (was is : State D) → Type 0
+LineDoes story faults own c result was is = EngineDoes faults was.sessions (Answered story own c was is) (Failed story own c was is) result was is
+
+-- to the abort of a call that met a conflict
+abbrev pub HinderedDoes : {D : Type 0} → (story : D → Story) → (faults : D → ℕ) → Result Answer Unanswered → (was is : State D) → Type 0
+HinderedDoes story faults result was is = EngineDoes faults 1 (AbortAnswered story was is) (AbortFailed story was is) result was is
+
+-- The durable line that is due first was taken, or none is due; then nothing else has changed but what may be asked next.
+pub record DurableDoes {D : Type 0} (result : Option Durable) (was is : State D) : Type 0 where
+  pub taken : (g : Opening) (xs : List Done) (names : List Name) → InRun was g xs names → IsTaken g xs names result × InRun is g xs (told_with result names)
+  pub next : MatchOption result (is.next ≡ behind_durables was.next) (λ d. is.next ≡ was.next)
+  pub session : IfSome result (λ d. (0 < d.session) × (d.session ≤ was.sessions))
+  -- so the lines of one call come to an end
+  pub fewer : IfSome result (λ d. queued is.ends < queued was.ends)
+  pub same : (memory_in is ≡ memory_in was) × (is.works ≡ was.works) × (is.disk ≡ was.disk)
+  pub sizes : (is.sessions ≡ was.sessions) × (is.group ≡ was.group)

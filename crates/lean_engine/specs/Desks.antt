@@ -8,20 +8,20 @@ abbrev pub place_of : (turn session : ℕ) → ℕ
 place_of turn session = (if session == 1 then turn else session) - 2
 
 -- the desk of a session
-abbrev pub desk_of : (store : Desk) → (desks : List Desk) → (session : ℕ) → Desk
-desk_of store desks session = if session == store.session.own then store else get_or desks (place_of store.session.own session) store
+abbrev pub desk_of : (work : Desk) → (desks : List Desk) → (session : ℕ) → Desk
+desk_of work desks session = if session == work.session.own then work else get_or desks (place_of work.session.own session) work
 
 -- the log of each
-abbrev pub log_of : (store : Desk) → (desks : List Desk) → (session : ℕ) → Log
-log_of store desks session = (desk_of store desks session).log
+abbrev pub log_of : (work : Desk) → (desks : List Desk) → (session : ℕ) → Log
+log_of work desks session = (desk_of work desks session).log
 
 -- there is a desk for each session, which has its number, of so many
-pub record AreSeated (store : Desk) (desks : List Desk) : Type 0 where
-  pub count : suc (length desks) ≡ store.session.workers
-  pub low : 0 < store.session.own
-  pub high : store.session.own ≤ store.session.workers
-  pub own : (w : ℕ) → 0 < w → w ≤ store.session.workers → (desk_of store desks w).session.own ≡ w
-  pub workers : (w : ℕ) → 0 < w → w ≤ store.session.workers → (desk_of store desks w).session.workers ≡ store.session.workers
+pub record AreSeated (work : Desk) (desks : List Desk) : Type 0 where
+  pub count : suc (length desks) ≡ work.session.workers
+  pub low : 0 < work.session.own
+  pub high : work.session.own ≤ work.session.workers
+  pub own : (w : ℕ) → 0 < w → w ≤ work.session.workers → (desk_of work desks w).session.own ≡ w
+  pub workers : (w : ℕ) → 0 < w → w ≤ work.session.workers → (desk_of work desks w).session.workers ≡ work.session.workers
 
 -- The session has the turn, with the free pages. All sessions are as they were, but for what they know of free pages, and so are their logs.
 pub record Turned (session : ℕ) (old new : Desk) (desks_old desks_new : List Desk) : Type 0 where

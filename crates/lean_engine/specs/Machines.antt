@@ -1,5 +1,6 @@
 -- The parts of an engine that work on rows and disk: its rows and their seat, the session in the store and those at their desks, and the master that counts.
 use Rattle.std.specs.Prelude.{◌≡◌, ◌≤◌, ◌<◌, ◌+◌, ◌^◌, ℕ, suc, Bool, true, false, List, ◌∷◌, length, replicate, leb, Some, ◌*◌, min}
+use Rattle.page_model.specs.Limits.{waiting_ends}
 use Rattle.image_model.specs.Entries.{Entry, is_record}
 use Rattle.map_model.specs.Lists.{Has, any}
 use Rattle.map_model.specs.declared.call.Answer.{Answer}
@@ -43,9 +44,9 @@ pub record IsDesk (z : Shape) (v : View) (turn : Session) (session : ℕ) (desk 
   pub holds : Holds z v (record desk.session { free = turn.free }) desk.log
 
 -- there is a desk for each session
-pub record AreDesks (z : Shape) (v : View) (store : Desk) (desks : List Desk) : Type 0 where
-  pub count : suc (length desks) ≡ store.session.workers
-  pub each : (w : ℕ) → 0 < w → w ≤ store.session.workers → IsDesk z v store.session w (desk_of store desks w)
+pub record AreDesks (z : Shape) (v : View) (work : Desk) (desks : List Desk) : Type 0 where
+  pub count : suc (length desks) ≡ work.session.workers
+  pub each : (w : ℕ) → 0 < w → w ≤ work.session.workers → IsDesk z v work.session w (desk_of work desks w)
 
 -- the master that counts has a head for each log, and further sequence numbers for all syncs that may come
 pub record HasNumbers (master : Master) (logs : ℕ) : Type 0 where
@@ -53,16 +54,16 @@ pub record HasNumbers (master : Master) (logs : ℕ) : Type 0 where
   pub heads : length master.heads ≡ logs
 
 -- The parts belong together; no lock row is latched.
-pub record IsMachine (frames locks workers : ℕ) (words : List ℕ) (v : View) (store : Desk) (others : List Desk) (marks : List Bool) (master : Master) : Type 0 where
+pub record IsMachine (frames locks workers : ℕ) (words : List ℕ) (v : View) (work : Desk) (others : List Desk) (marks : List Bool) (master : Master) : Type 0 where
   pub fits : IsPicture (plan (sizes frames locks workers) v.given) words v
-  pub desks : AreDesks (plain_shape frames locks workers) v store others
-  pub unmarked : marks ≡ replicate store.session.held.count false
-  pub numbers : HasNumbers master store.session.workers
+  pub desks : AreDesks (plain_shape frames locks workers) v work others
+  pub unmarked : marks ≡ replicate work.session.held.count false
+  pub numbers : HasNumbers master work.session.workers
   pub floor : master.floor ≡ (state v).core.floor
 
 -- what they have in memory of the disk
-abbrev pub memory_of : (store : Desk) → (desks : List Desk) → Master → Memory
-memory_of store desks master = record { log = log_of store desks; master = master }
+abbrev pub memory_of : (work : Desk) → (desks : List Desk) → Master → Memory
+memory_of work desks master = record { log = log_of work desks; master = master }
 
 -- ## In a run
 
@@ -82,8 +83,8 @@ pub record Tied (g : Opening) (group : ℕ) (xs : List Done) (v : View) (memory 
   pub logged : (w : ℕ) → 0 < w → w ≤ g.workers → IsLogged (state_after g (front xs)) w (memory.log w)
 
 -- the sessions say which aborts are half done
-abbrev pub AreHalf : (sessions : ℕ) → List Done → (store : Desk) → (desks : List Desk) → Type 0
-AreHalf sessions xs store desks = (w : ℕ) → 0 < w → w ≤ sessions → is_half_done w xs ≡ (desk_of store desks w).session.half
+abbrev pub AreHalf : (sessions : ℕ) → List Done → (work : Desk) → (desks : List Desk) → Type 0
+AreHalf sessions xs work desks = (w : ℕ) → 0 < w → w ≤ sessions → is_half_done w xs ≡ (desk_of work desks w).session.is_half_aborted
 
 -- ## A call
 
@@ -94,15 +95,15 @@ ends_in (answer.Aborted number) = true
 ends_in _ = false
 
 -- It was answered so, by one outcome more, to which the view is tied. No sync stands among the events of an end.
-pub record DoesTied (g : Opening) (group : ℕ) (xs : List Done) (own : ℕ) (c : Call) (a : Answer) (w : View) (was is : Memory) (store : Desk) (desks : List Desk) (old new : Story) : Type 0 where
+pub record DoesTied (g : Opening) (group : ℕ) (xs : List Done) (own : ℕ) (c : Call) (a : Answer) (w : View) (was is : Memory) (work : Desk) (desks : List Desk) (old new : Story) : Type 0 where
   pub does : Does g group xs own c a was is old new
   pub tied : Tied g group (does.done ∷ xs) w is
-  pub half : AreHalf g.workers (does.done ∷ xs) store desks
+  pub is_half_aborted : AreHalf g.workers (does.done ∷ xs) work desks
   pub unsynced : ends_in a ≡ true → any is_sync does.done.events ≡ false
 
 -- In each run of so many sessions in which it may come, the call did so, or its disk failed.
-abbrev pub DoesWhere : (May : Opening → List Done → Type 0) → (sessions group own : ℕ) → Call → Answer → (v w : View) → (was is : Memory) → (store0 : Desk) → (desks0 : List Desk) → (store1 : Desk) → (desks1 : List Desk) → (old new : Story) → Type 0
-DoesWhere May sessions group own c a v w was is store0 desks0 store1 desks1 old new = (g : Opening) (xs : List Done) → g.workers ≡ sessions → Tied g group xs v was → AreHalf sessions xs store0 desks0 → May g xs
+abbrev pub DoesByParts : (May : Opening → List Done → Type 0) → (sessions group own : ℕ) → Call → Answer → (v w : View) → (was is : Memory) → (store0 : Desk) → (desks0 : List Desk) → (store1 : Desk) → (desks1 : List Desk) → (old new : Story) → Type 0
+DoesByParts May sessions group own c a v w was is store0 desks0 store1 desks1 old new = (g : Opening) (xs : List Done) → g.workers ≡ sessions → Tied g group xs v was → AreHalf sessions xs store0 desks0 → May g xs
     → Comes a (DoesTied g group xs own c a w was is store1 desks1 old new) (Fails g group xs own c was old new)
 
 -- on a new line
@@ -111,7 +112,7 @@ OnLine g xs = IsNewLine (outcomes xs)
 
 -- a begin on a new line, where so many ends of the session wait that a sync is due, or not
 abbrev pub OnBegin : (own : ℕ) → (is_long : Bool) → Opening → List Done → Type 0
-OnBegin own is_long g xs = IsNewLine (outcomes xs) × (leb 256 (waiting g (state_after g (front xs)) own) ≡ is_long)
+OnBegin own is_long g xs = IsNewLine (outcomes xs) × (leb waiting_ends (waiting g (state_after g (front xs)) own) ≡ is_long)
 
 -- the abort of the call of the newest outcome, which met a conflict in the session's open transaction
 pub record IsDue (own : ℕ) (c : Call) (g : Opening) (xs : List Done) : Type 0 where

@@ -1,5 +1,6 @@
 -- What the opening of a disk gives to an engine's run.
 use Rattle.std.specs.Prelude.{◌≡◌, ◌≤◌, ◌<◌, ◌%◌, ◌+◌, ℕ, suc, true, List, [], length, slice_get, Some}
+use Rattle.page_model.specs.Limits.{most_sessions}
 use Rattle.page_model.specs.Page.{Page}
 use Rattle.image_model.specs.Images.{lost_by, map_of, won_by}
 use Rattle.core_state.specs.Openings.{Opening, first_map, start_page}
@@ -32,7 +33,7 @@ use Rattle.lean_engine.specs.declared.opening.Parts.{Parts}
 use Rattle.disk_runs.specs.Fair.{IsAsRead}
 use Rattle.disk_runs.specs.Stands.{Known, Stands}
 use Rattle.run_opening.specs.Starts.{empty_log}
-use Rattle.open_rows.specs.Opened.{contents_of, page_at}
+use Rattle.row_opening.specs.Opened.{contents_of, page_at}
 
 -- ## What is done
 
@@ -94,7 +95,7 @@ pub record OpeningLaws (most : ℕ) (g : Opening) (r : Recovered) (memory : Memo
 
 -- A desk for each session but the first: it is as that one, with the empty log of its number.
 pub record IsFurther (master : Master) (first : Session) (session : ℕ) (desk : Desk) : Type 0 where
-  pub few : session ≤ 16
+  pub few : session ≤ most_sessions
   pub session_is : desk.session ≡ record first { own = session; free = []; few = few }
   pub made : IsMadeBy master session desk.log
 
@@ -107,7 +108,7 @@ abbrev pub opened_state : {D : Type 0} → Parts → D → State D
 opened_state parts disk = record {
   view = parts.seat.view;
   disk = disk;
-  store = parts.first;
+  work = parts.first;
   desks = parts.desks.items;
   master = parts.master;
   works = parts.first.session.works;

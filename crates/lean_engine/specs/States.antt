@@ -1,5 +1,6 @@
 -- An engine as its callers see it.
 use Rattle.std.specs.Prelude.{◌≡◌, ◌⊎◌, ◌≤◌, ◌<◌, ℕ, Bool, true, false, List, [], ◌∷◌, length}
+use Rattle.page_model.specs.Limits.{most_sessions, waiting_ends}
 use Rattle.map_model.specs.Journals.{Name}
 use Rattle.core_state.specs.Openings.{Opening}
 use Rattle.core_state.specs.Steps.{state_after}
@@ -28,7 +29,7 @@ use Rattle.lean_engine.specs.declared.desk.Desk.{Desk}
 pub record State (D : Type 0) : Type 0 where
   pub view : View
   pub disk : D
-  pub store : Desk
+  pub work : Desk
   pub desks : List Desk
   pub master : Master
   pub works : Bool
@@ -40,7 +41,7 @@ pub record State (D : Type 0) : Type 0 where
 
 -- what it has in memory of its disk
 abbrev pub memory_in : {D : Type 0} → State D → Memory
-memory_in e = memory_of e.store e.desks e.master
+memory_in e = memory_of e.work e.desks e.master
 
 -- ## Its run
 
@@ -76,23 +77,23 @@ pub record InRun {D : Type 0} (e : State D) (g : Opening) (xs : List Done) (name
 
 -- few ends wait in a session's queue: a session in a transaction has room for one more, but where the ends are ripe and are still to be told
 abbrev pub HasRoom : Next → (is_open : Bool) → (queued waits : ℕ) → Type 0
-HasRoom (Durables hindered) true queued waits = (queued < 256) ⊎ ((queued ≤ 256) × (waits ≡ 0))
-HasRoom n true queued waits = queued < 256
-HasRoom n false queued waits = queued ≤ 256
+HasRoom (Durables hindered) true queued waits = (queued < waiting_ends) ⊎ ((queued ≤ waiting_ends) × (waits ≡ 0))
+HasRoom n true queued waits = queued < waiting_ends
+HasRoom n false queued waits = queued ≤ waiting_ends
 
 -- it stands in some run, in which the aborts are half done that its sessions say
-pub record HasRun {D : Type 0} (e : State D) (store : Desk) (desks : List Desk) : Type 0 where
+pub record HasRun {D : Type 0} (e : State D) (work : Desk) (desks : List Desk) : Type 0 where
   pub opening : Opening
   pub done : List Done
   pub names : List Name
   pub in_run : InRun e opening done names
-  pub half : AreHalf opening.workers done store desks
-  pub room : (w : ℕ) → 0 < w → w ≤ opening.workers → HasRoom e.next (desk_of store desks w).session.is_open (length (queue_of e.ends w)) (waiting opening (state_after opening (front done)) w)
-  pub is_open : WhereDue e.next (store.session.is_open ≡ true)
+  pub is_half_aborted : AreHalf opening.workers done work desks
+  pub room : (w : ℕ) → 0 < w → w ≤ opening.workers → HasRoom e.next (desk_of work desks w).session.is_open (length (queue_of e.ends w)) (waiting opening (state_after opening (front done)) w)
+  pub is_open : WhereDue e.next (work.session.is_open ≡ true)
 
 -- Its parts belong together, unless a device has failed: then its seat is still the rows'. It stands in a run.
-pub record IsEngine {D : Type 0} (frames locks workers : ℕ) (words : List ℕ) (e : State D) (store : Desk) (desks : List Desk) (marks : List Bool) : Type 0 where
-  pub few : e.sessions ≤ 16
+pub record IsEngine {D : Type 0} (frames locks workers : ℕ) (words : List ℕ) (e : State D) (work : Desk) (desks : List Desk) (marks : List Bool) : Type 0 where
+  pub few : e.sessions ≤ most_sessions
   pub fits : IsPicture (plan (sizes frames locks workers) e.view.given) words e.view
-  pub machine : e.works ≡ true → IsMachine frames locks workers words e.view store desks marks e.master
-  pub run : e.works ≡ true → HasRun e store desks
+  pub machine : e.works ≡ true → IsMachine frames locks workers words e.view work desks marks e.master
+  pub run : e.works ≡ true → HasRun e work desks

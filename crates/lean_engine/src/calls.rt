@@ -1,5 +1,5 @@
 // The calls of sessions, by their types.
-ghost use Rattle.std.specs.Prelude.{◌≡◌, ◌↔◌, ◌<◌, ◌≤◌, Err, IfOk, false};
+ghost use Rattle.std.specs.Prelude.{◌≡◌, ◌↔◌, ◌<◌, Err, IfOk, false};
 ghost use Rattle.map_model.specs.declared.call.Call.TheVariants as calls;
 ghost use Rattle.map_model.specs.declared.call.Refusal.{Refusal};
 ghost use Rattle.lean_disk.specs.Faults.{HasCause};
@@ -32,11 +32,11 @@ pub struct Synced {
 }
 
 impl<D: Stages> Engine<D> {
-    /// A session's transaction begins. Where 256 of its ends wait, a sync is made first.
+    /// A session's transaction begins. Where `WAITING_ENDS` of its ends wait, a sync is made first.
     pub fn begin(&mut self, session: u32) -> Result<Began, Refusal>
         requires asked { IsAsked self.old.sessions session (calls.Begin) }
         requires next { self.old.next ≡ Next.Line }
-        ensures asked { Asked session (calls.Begin) (began_answer result) self.old self.new (D.story self.old.disk) (D.story self.new.disk) }
+        ensures asked { Asked D.story session (calls.Begin) (began_answer result) self.old self.new }
 
         ensures cause_broken { (result ≡ Err Refusal.Broken) ↔ (self.old.works ≡ false) }
         ensures cause_disk_fault { HasCause (D.faults self.old.disk) (D.faults self.new.disk) (result ≡ Err Refusal.DiskFault) }
@@ -52,7 +52,7 @@ impl<D: Stages> Engine<D> {
     pub fn get(&mut self, session: u32, key: u64) -> Result<Option<u64>, Refusal>
         requires asked { IsAsked self.old.sessions session (calls.Get key) }
         requires next { self.old.next ≡ Next.Line }
-        ensures asked { Asked session (calls.Get key) (value_answer result) self.old self.new (D.story self.old.disk) (D.story self.new.disk) }
+        ensures asked { Asked D.story session (calls.Get key) (value_answer result) self.old self.new }
 
         ensures cause_broken { (result ≡ Err Refusal.Broken) ↔ (self.old.works ≡ false) }
         ensures cause_disk_fault { HasCause (D.faults self.old.disk) (D.faults self.new.disk) (result ≡ Err Refusal.DiskFault) }
@@ -68,7 +68,7 @@ impl<D: Stages> Engine<D> {
     pub fn put(&mut self, session: u32, key: u64, value: u64) -> Result<Option<u64>, Refusal>
         requires asked { IsAsked self.old.sessions session (calls.Put key value) }
         requires next { self.old.next ≡ Next.Line }
-        ensures asked { Asked session (calls.Put key value) (was_answer result) self.old self.new (D.story self.old.disk) (D.story self.new.disk) }
+        ensures asked { Asked D.story session (calls.Put key value) (was_answer result) self.old self.new }
 
         ensures cause_broken { (result ≡ Err Refusal.Broken) ↔ (self.old.works ≡ false) }
         ensures cause_disk_fault { HasCause (D.faults self.old.disk) (D.faults self.new.disk) (result ≡ Err Refusal.DiskFault) }
@@ -84,7 +84,7 @@ impl<D: Stages> Engine<D> {
     pub fn del(&mut self, session: u32, key: u64) -> Result<Option<u64>, Refusal>
         requires asked { IsAsked self.old.sessions session (calls.Del key) }
         requires next { self.old.next ≡ Next.Line }
-        ensures asked { Asked session (calls.Del key) (was_answer result) self.old self.new (D.story self.old.disk) (D.story self.new.disk) }
+        ensures asked { Asked D.story session (calls.Del key) (was_answer result) self.old self.new }
 
         ensures cause_broken { (result ≡ Err Refusal.Broken) ↔ (self.old.works ≡ false) }
         ensures cause_disk_fault { HasCause (D.faults self.old.disk) (D.faults self.new.disk) (result ≡ Err Refusal.DiskFault) }
@@ -100,14 +100,14 @@ impl<D: Stages> Engine<D> {
     pub fn commit(&mut self, session: u32) -> Result<Receipt, Refusal>
         requires asked { IsAsked self.old.sessions session (calls.Commit) }
         requires next { self.old.next ≡ Next.Line }
-        ensures asked { Asked session (calls.Commit) (receipt_answer result) self.old self.new (D.story self.old.disk) (D.story self.new.disk) }
+        ensures asked { Asked D.story session (calls.Commit) (receipt_answer result) self.old self.new }
         ensures receipt { IfOk result (IsReceipt session self.old.view self.new.view) }
 
         ensures cause_broken { (result ≡ Err Refusal.Broken) ↔ (self.old.works ≡ false) }
         ensures cause_disk_fault { HasCause (D.faults self.old.disk) (D.faults self.new.disk) (result ≡ Err Refusal.DiskFault) }
     {
-        let told = self.ask(session, &Call::Commit);
-        match (told.answer, told.receipt) {
+        let response = self.ask(session, &Call::Commit);
+        match (response.answer, response.receipt) {
             (Answer::Committed { .. }, Some(receipt)) => Ok(receipt),
             (Answer::Refused(why), _) => Err(why),
             _ => unreachable!(),
@@ -118,7 +118,7 @@ impl<D: Stages> Engine<D> {
     pub fn abort(&mut self, session: u32) -> Result<Aborted, Refusal>
         requires asked { IsAsked self.old.sessions session (calls.Abort) }
         requires next { self.old.next ≡ Next.Line }
-        ensures asked { Asked session (calls.Abort) (aborted_answer result) self.old self.new (D.story self.old.disk) (D.story self.new.disk) }
+        ensures asked { Asked D.story session (calls.Abort) (aborted_answer result) self.old self.new }
 
         ensures cause_broken { (result ≡ Err Refusal.Broken) ↔ (self.old.works ≡ false) }
         ensures cause_disk_fault { HasCause (D.faults self.old.disk) (D.faults self.new.disk) (result ≡ Err Refusal.DiskFault) }
@@ -133,7 +133,7 @@ impl<D: Stages> Engine<D> {
     /// Flushes every log, and raises every clock, and what is flushed of every log, to the greatest clock.
     pub fn sync(&mut self) -> Result<Synced, Refusal>
         requires next { self.old.next ≡ Next.Line }
-        ensures asked { Asked 0 calls.Sync (synced_answer result) self.old self.new (D.story self.old.disk) (D.story self.new.disk) }
+        ensures asked { Asked D.story 0 calls.Sync (synced_answer result) self.old self.new }
 
         ensures cause_broken { (result ≡ Err Refusal.Broken) ↔ (self.old.works ≡ false) }
         ensures cause_disk_fault { HasCause (D.faults self.old.disk) (D.faults self.new.disk) (result ≡ Err Refusal.DiskFault) }

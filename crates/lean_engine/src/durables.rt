@@ -1,15 +1,17 @@
 // Which commits are durable, and what is done between calls.
-ghost use Rattle.std.specs.Prelude.{◌≡◌, ◌↔◌, ◌≤◌, ◌<◌, IsErr, IfOk, IfSome, MatchOption, List, true, false};
+ghost use Rattle.std.specs.Prelude.{◌≡◌, ◌↔◌, ◌≤◌, ◌<◌, IsErr, IfOk, List, true, false};
 ghost use Rattle.map_model.specs.Journals.{Name};
+ghost use Rattle.page_model.specs.Limits.{most_sessions};
 ghost use Rattle.core_state.specs.Openings.{Opening};
 ghost use Rattle.core_calls.specs.Fronts.{Done};
 ghost use Rattle.engine_trait.specs.Calls.{is_half_done};
-ghost use Rattle.engine_trait.specs.Turns.{IsTaken, behind_durables, told_with};
-ghost use Rattle.group_commit.specs.Queues.{queued};
-ghost use Rattle.lean_engine.specs.Desks.{AreSeated, desk_of, log_of, place_of};
-ghost use Rattle.lean_engine.specs.Inside.{AreNumbers};
+ghost use Rattle.engine_trait.specs.Turns.{behind_durables};
+ghost use Rattle.lean_engine.specs.Calls.{DurableDoes};
+ghost use Rattle.lean_engine.specs.Desks.{desk_of, place_of};
+ghost use Rattle.lean_engine.specs.Inside.Asks.{AreNumbers};
+ghost use Rattle.lean_engine.specs.Inside.Parts.{IsSeated, here, logs};
 ghost use Rattle.lean_engine.specs.Receipts.{IsRipeness};
-ghost use Rattle.lean_engine.specs.States.{InRun, memory_in};
+ghost use Rattle.lean_engine.specs.States.{InRun};
 
 use crate::engine::Engine;
 use crate::machine::Machine;
@@ -46,25 +48,25 @@ fn place_of(turn: u32, session: u32) -> usize
 impl<D> Machine<D> {
     // The number up to which the log of a session is flushed.
     fn flushed_of(&self, session: u32) -> u64
-        requires session { (0 < session) × (session ≤ self.now.store.session.workers) }
-        requires seated { AreSeated (record { session = self.now.store.session; log = self.now.store.log }) self.now.desks.items }
-        ensures { result ≡ (log_of (record { session = self.now.store.session; log = self.now.store.log }) self.now.desks.items session).flushed }
+        requires session { (0 < session) × (session ≤ self.now.work.session.workers) }
+        requires seated { IsSeated self.now }
+        ensures { result ≡ (logs self.now session).flushed }
     {
-        let turn = self.store.session.own;
+        let turn = self.work.session.own;
         if session == turn {
-            return self.store.log.flushed();
+            return self.work.log.flushed();
         }
         self.desks[place_of(turn, session)].log.flushed()
     }
 
     // The number up to which each log is flushed.
     fn flushed_numbers(&self) -> [u64; LOGS]
-        requires seated { AreSeated (record { session = self.now.store.session; log = self.now.store.log }) self.now.desks.items }
-        requires few { self.now.store.session.workers ≤ 16 }
-        ensures { AreNumbers self.now.store.session.workers (log_of (record { session = self.now.store.session; log = self.now.store.log }) self.now.desks.items) result }
+        requires seated { IsSeated self.now }
+        requires few { self.now.work.session.workers ≤ most_sessions }
+        ensures { AreNumbers self.now.work.session.workers (logs self.now) result }
     {
         let mut numbers = [0; LOGS];
-        for session in 1..self.store.session.workers + 1 {
+        for session in 1..self.work.session.workers + 1 {
             numbers[session as usize - 1] = self.flushed_of(session);
         }
         numbers
@@ -72,15 +74,15 @@ impl<D> Machine<D> {
 
     // Whether an abort of a session is half done.
     fn is_half(&self, session: u32) -> bool
-        requires session { (0 < session) × (session ≤ self.now.store.session.workers) }
-        requires seated { AreSeated (record { session = self.now.store.session; log = self.now.store.log }) self.now.desks.items }
-        ensures { result ≡ (desk_of (record { session = self.now.store.session; log = self.now.store.log }) self.now.desks.items session).session.half }
+        requires session { (0 < session) × (session ≤ self.now.work.session.workers) }
+        requires seated { IsSeated self.now }
+        ensures { result ≡ (desk_of (here self.now) self.now.desks.items session).session.is_half_aborted }
     {
-        let turn = self.store.session.own;
+        let turn = self.work.session.own;
         if session == turn {
-            return self.store.session.half;
+            return self.work.session.is_half_aborted;
         }
-        self.desks[place_of(turn, session)].session.half
+        self.desks[place_of(turn, session)].session.is_half_aborted
     }
 }
 
@@ -89,7 +91,7 @@ impl<D: Disk> Engine<D> {
     pub(crate) fn is_working(&self) -> Result<(), Broken>
         ensures cause { IsErr result ↔ (self.now.works ≡ false) }
     {
-        if self.machine.store.session.works {
+        if self.machine.work.session.works {
             Ok(())
         } else {
             Err(Broken)
@@ -106,7 +108,7 @@ impl<D: Disk> Engine<D> {
         self.is_working()?;
         let numbers = self.machine.flushed_numbers();
         Ok(ripe(
-            &numbers[..self.machine.store.session.workers as usize],
+            &numbers[..self.machine.work.session.workers as usize],
             receipt,
         ))
     }
@@ -115,18 +117,13 @@ impl<D: Disk> Engine<D> {
     #[inline(never)]
     fn take_durable(&mut self) -> Option<Durable>
         requires works { self.old.works ≡ true }
-        ensures taken { (g : Opening) (xs : List Done) (names : List Name) → InRun self.old g xs names → IsTaken g xs names result × InRun self.new g xs (told_with result names) }
-        ensures next { MatchOption result (self.new.next ≡ behind_durables self.old.next) (λ d. self.new.next ≡ self.old.next) }
-        ensures session { IfSome result (λ d. (0 < d.session) × (d.session ≤ self.old.sessions)) }
-        ensures fewer { IfSome result (λ d. queued self.new.ends < queued self.old.ends) }
-        ensures same { (self.new.disk ≡ self.old.disk) × (memory_in self.new ≡ memory_in self.old) × (self.new.works ≡ self.old.works) }
-        ensures sizes { (self.new.sessions ≡ self.old.sessions) × (self.new.group ≡ self.old.group) }
+        ensures { DurableDoes result self.old self.new }
     {
         group_commit::every_take();
         let numbers = self.machine.flushed_numbers();
         match self
             .unripe
-            .take(&numbers[..self.machine.store.session.workers as usize])
+            .take(&numbers[..self.machine.work.session.workers as usize])
         {
             Some(receipt) => {
                 self.quiet = false;
@@ -146,13 +143,7 @@ impl<D: Disk> Engine<D> {
     /// The commit that has become durable and was not told yet, if there is one: the first in order of commit numbers, ties by session.
     pub fn next_durable(&mut self) -> Option<Durable>
         requires works { self.old.works ≡ true }
-        ensures taken { (g : Opening) (xs : List Done) (names : List Name) → InRun self.old g xs names → IsTaken g xs names result × InRun self.new g xs (told_with result names) }
-        ensures next { MatchOption result (self.new.next ≡ behind_durables self.old.next) (λ d. self.new.next ≡ self.old.next) }
-        ensures session { IfSome result (λ d. (0 < d.session) × (d.session ≤ self.old.sessions)) }
-        // So the lines of one call come to an end.
-        ensures fewer { IfSome result (λ d. queued self.new.ends < queued self.old.ends) }
-        ensures same { (self.new.disk ≡ self.old.disk) × (memory_in self.new ≡ memory_in self.old) × (self.new.works ≡ self.old.works) }
-        ensures sizes { (self.new.sessions ≡ self.old.sessions) × (self.new.group ≡ self.old.group) }
+        ensures { DurableDoes result self.old self.new }
     {
         if !self.quiet {
             return self.take_durable();
@@ -167,7 +158,7 @@ impl<D: Disk> Engine<D> {
     /// ended since.
     pub fn half_done(&self, session: u32) -> Result<bool, Broken>
         requires session { (0 < session) × (session ≤ self.now.sessions) }
-        ensures half { IfOk result (λ half. (g : Opening) (xs : List Done) (names : List Name) → InRun self.now g xs names → half ≡ is_half_done session xs) }
+        ensures is_half_aborted { IfOk result (λ is_half_aborted. (g : Opening) (xs : List Done) (names : List Name) → InRun self.now g xs names → is_half_aborted ≡ is_half_done session xs) }
 
         ensures cause { IsErr result ↔ (self.now.works ≡ false) }
     {
@@ -176,7 +167,7 @@ impl<D: Disk> Engine<D> {
     }
 
     /// What may be asked next.
-    pub fn next(&self) -> Next
+    pub fn expects(&self) -> Next
         ensures { result ≡ self.now.next }
     {
         self.next
@@ -186,7 +177,7 @@ impl<D: Disk> Engine<D> {
     pub fn sessions(&self) -> u32
         ensures { result ≡ self.now.sessions }
     {
-        self.machine.store.session.workers
+        self.machine.work.session.workers
     }
 
     /// The step of a checkpoint, where one is due. This engine makes no checkpoints yet, so none ever is, and nothing is done.

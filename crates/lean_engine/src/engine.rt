@@ -1,5 +1,6 @@
 // The engine.
-ghost use Rattle.std.specs.Prelude.{◌≡◌, ◌≤◌, ℕ, IfErr, IfOk, MatchResult, true};
+ghost use Rattle.std.specs.Prelude.{◌≡◌, ◌≤◌, ℕ, IfErr, IfOk, MatchResult};
+ghost use Rattle.page_model.specs.Limits.{most_sessions};
 ghost use Rattle.lean_disk.specs.Faults.{HasCause};
 ghost use Rattle.recovery.specs.Opened.{IsRefusal, IsUntouched};
 ghost use Rattle.recovery.specs.declared.opening.Unrecovered.{Unrecovered};
@@ -12,7 +13,7 @@ use engine_trait::calls::Next;
 use group_commit::Unripe;
 use lean_disk::Disk;
 use recovery::Unrecovered;
-use row_engine::{Staged, Store};
+use row_engine::{Staged, Work};
 use std::alloc::Global;
 use std::marker::{Brand, Model};
 
@@ -26,40 +27,15 @@ pub struct Engine<D> {
 }
 
 impl<D> Model for Engine<D> {
-    ghost use Rattle.lean_engine.specs.Desks.{log_of};
-    ghost use Rattle.lean_engine.specs.Quiet.{IsQuiet};
-    ghost use Rattle.lean_engine.specs.States.{IsEngine, State};
+    ghost use Rattle.lean_engine.specs.Inside.Parts.{IsEngineBy, logs, state_by};
+    ghost use Rattle.lean_engine.specs.Inside.Quiet.{IsQuiet};
+    ghost use Rattle.lean_engine.specs.States.{State};
 
     ghost Value = { State D };
 
-    ghost view = { λ e. record {
-      view = e.machine.seat.view;
-      disk = e.machine.store.disk;
-      store = record { session = e.machine.store.session; log = e.machine.store.log };
-      desks = e.machine.desks.items;
-      master = e.machine.master;
-      works = e.machine.store.session.works;
-      next = e.next;
-      sessions = e.machine.store.session.workers;
-      turn = e.machine.store.session.own;
-      group = e.machine.store.session.group;
-      ends = e.unripe;
-    } };
+    ghost view = { λ e. state_by e.machine e.next e.unripe };
 
-    ghost invariant = { λ e. IsEngine e.machine.rows.frames e.machine.rows.locks e.machine.rows.workers e.machine.rows.words.items (record {
-      view = e.machine.seat.view;
-      disk = e.machine.store.disk;
-      store = record { session = e.machine.store.session; log = e.machine.store.log };
-      desks = e.machine.desks.items;
-      master = e.machine.master;
-      works = e.machine.store.session.works;
-      next = e.next;
-      sessions = e.machine.store.session.workers;
-      turn = e.machine.store.session.own;
-      group = e.machine.store.session.group;
-      ends = e.unripe;
-    }) (record { session = e.machine.store.session; log = e.machine.store.log }) e.machine.desks.items e.machine.latches
-        × IsQuiet e.quiet e.machine.store.session.works e.machine.store.session.workers (log_of (record { session = e.machine.store.session; log = e.machine.store.log }) e.machine.desks.items) e.unripe };
+    ghost invariant = { λ e. IsEngineBy e.machine e.next e.unripe × IsQuiet e.quiet e.machine.work.session.works e.machine.work.session.workers (logs e.machine) e.unripe };
 }
 
 /// An engine, and what its first line tells of the opening.
@@ -90,7 +66,7 @@ impl<D: Disk> Engine<D> {
     pub fn open(alloc: Global, mut disk: D, size: Size) -> Result<Opened<D>, Unopened<D>>
         requires rows { (1 ≤ size.rows) × (size.rows ≤ 65536) }
         requires group { 1 ≤ size.group }
-        requires sessions { size.sessions ≤ 16 }
+        requires sessions { size.sessions ≤ most_sessions }
         ensures opened { IfOk result (λ o. HasOpened size (D.story disk) (D.story o.engine.disk) o.engine o.generation o.winners o.undone) }
         ensures keeps { MatchResult result (λ o. OpenKeeps size.sessions (D.story disk) (D.story o.engine.disk)) (λ u. OpenKeeps size.sessions (D.story disk) (D.story u.disk)) }
 
@@ -117,7 +93,7 @@ impl<D: Disk> Engine<D> {
         } = made;
         let generation = master.generation;
         let Desk { session, log } = first;
-        let store = Store {
+        let work = Work {
             disk,
             log,
             session,
@@ -128,7 +104,7 @@ impl<D: Disk> Engine<D> {
                 machine: Machine {
                     rows,
                     seat,
-                    store,
+                    work,
                     desks,
                     latches,
                     master,
@@ -156,17 +132,17 @@ impl<D: Disk> Engine<D> {
         let Machine {
             rows: _,
             seat: _,
-            store,
+            work,
             desks: _,
             latches: _,
             master: _,
         } = machine;
-        let Store {
+        let Work {
             disk,
             log: _,
             session: _,
             staged: _,
-        } = store;
+        } = work;
         disk
     }
 }

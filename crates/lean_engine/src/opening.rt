@@ -1,11 +1,12 @@
 // What an engine has in memory on a disk that is opened.
 ghost use Rattle.std.specs.Prelude.{◌≡◌, ◌≤◌, ℕ, Err, IfErr, IfOk, []};
+ghost use Rattle.page_model.specs.Limits.{most_sessions};
 ghost use Rattle.lean_disk.specs.Faults.{HasCause};
 ghost use Rattle.master_store.specs.Masters.{IsOfSlot};
 ghost use Rattle.recovery.specs.Opened.{IsRefusal, IsUntouched};
 ghost use Rattle.recovery.specs.declared.opening.Unrecovered.{Unrecovered};
 ghost use Rattle.lean_engine.specs.Openings.{AreFurther, HasOpened, IsFurther, IsMadeBy, OpenKeeps, Shows, opened_state};
-ghost use Rattle.lean_engine.specs.States.{IsEngine};
+ghost use Rattle.lean_engine.specs.Inside.Parts.{AreEngine};
 
 use crate::desk::Desk;
 use crate::engine::Size;
@@ -38,7 +39,7 @@ pub(crate) struct Parts {
 // The empty log of this number.
 fn new_log(alloc: Global, master: &Master, number: u32) -> Result<WorkerLog, AllocError>
     requires valid { IsOfSlot master.now }
-    requires number { (1 ≤ number) × (number ≤ 16) }
+    requires number { (1 ≤ number) × (number ≤ most_sessions) }
     ensures { IfOk result (IsMadeBy master.now number) }
 {
     WorkerLog::new(
@@ -59,7 +60,7 @@ fn further_desk(
     number: u32,
 ) -> Result<Desk, AllocError>
     requires valid { IsOfSlot master.now }
-    requires number { (1 ≤ number) × (number ≤ 16) }
+    requires number { (1 ≤ number) × (number ≤ most_sessions) }
     requires undo { first.now.undo ≡ [] }
     requires held { first.now.held.rows ≡ [] }
     ensures { IfOk result (IsFurther master.now first.now number) }
@@ -73,7 +74,7 @@ fn further_desk(
 // A desk for each further session.
 fn further_desks(alloc: Global, master: &Master, first: &Session) -> Result<Vec<Desk>, AllocError>
     requires valid { IsOfSlot master.now }
-    requires workers { (1 ≤ first.now.workers) × (first.now.workers ≤ 16) }
+    requires workers { (1 ≤ first.now.workers) × (first.now.workers ≤ most_sessions) }
     requires undo { first.now.undo ≡ [] }
     requires held { first.now.held.rows ≡ [] }
     ensures { IfOk result (λ desks. AreFurther master.now first.now desks.items) }
@@ -93,9 +94,9 @@ pub(crate) fn open_parts<D: Disk>(
 ) -> Result<Parts, Unrecovered>
     requires rows { (1 ≤ size.rows) × (size.rows ≤ 65536) }
     requires group { 1 ≤ size.group }
-    requires sessions { size.sessions ≤ 16 }
+    requires sessions { size.sessions ≤ most_sessions }
     ensures opened { IfOk result (λ o. HasOpened size (D.story disk.old) (D.story disk.new) (opened_state o disk.new) o.master.generation o.winners o.undone) }
-    ensures engine { IfOk result (λ o. IsEngine o.rows.frames o.rows.locks o.rows.workers o.rows.words.items (opened_state o disk.new) o.first o.desks.items o.latches) }
+    ensures engine { IfOk result (λ o. AreEngine o disk.new) }
     ensures keeps { OpenKeeps size.sessions (D.story disk.old) (D.story disk.new) }
 
     ensures left { IfErr result (λ why. IsRefusal why → (a : ℕ) → IsUntouched ((D.story disk.old).area a) ((D.story disk.new).area a)) }

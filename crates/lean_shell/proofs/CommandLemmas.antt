@@ -14,6 +14,7 @@ use Rattle.script_run.specs.declared.stop.Stop.TheVariants as stops
 use Rattle.lean_shell.specs.Dumps.{DumpEnds, Dumped, PutOrCut, dump_text}
 use Rattle.lean_shell.specs.Ends.{RunEnds}
 use Rattle.lean_shell.specs.Runs.{HowRun, NotOpened, ended, status_of}
+use Rattle.lean_shell.specs.Runs.HowRun.{OfCut, OfReason, OfScript}
 use Rattle.lean_shell.specs.declared.failure.Failure.TheVariants.{Usage, DiskFault, Memory, AlreadyFormatted}
 use Rattle.lean_shell.specs.Endings.{FormatEnds, IsFormatStatus, IsStatus, Stays, UsageEnds, WentOut, last_line, number_of}
 use Rattle.lean_disk.specs.Told.{TellsOn, OnlyNotes}
@@ -110,9 +111,9 @@ of_stop stops.WriteFault n e = (inr (inr (inr (inr (inl e)))), λ z. omega (arit
 of_stop stops.DiskFault n e = (inr (inr (inr (inr (inr (inl e))))), λ z. omega (arith, e, z))
 
 of_run_status : (size : Size) (n : ℕ) (s0 s1 : Story) (feed0 feed1 : Feed) (put : List ℕ) (sink0 sink1 : ℕ) → HowRun size n s0 s1 feed0 feed1 put sink0 sink1 → IsStatus n × (n ≡ 2 → ⊥)
-of_run_status size n s0 s1 feed0 feed1 put sink0 sink1 (inl x) = of_reason x.0.reason n x.0.status_is
-of_run_status size n s0 s1 feed0 feed1 put sink0 sink1 (inr (inl x)) = of_stop stops.WriteFault n x.status_is
-of_run_status size n s0 s1 feed0 feed1 put sink0 sink1 (inr (inr x)) = of_stop x.stop n x.status_is
+of_run_status size n s0 s1 feed0 feed1 put sink0 sink1 (OfReason x unread) = of_reason x.reason n x.status_is
+of_run_status size n s0 s1 feed0 feed1 put sink0 sink1 (OfCut x) = of_stop stops.WriteFault n x.status_is
+of_run_status size n s0 s1 feed0 feed1 put sink0 sink1 (OfScript x) = of_stop x.stop n x.status_is
 
 of_printed : (n : ℕ) (text put : List ℕ) (sink0 sink1 : ℕ) → PutOrCut n text put sink0 sink1 → IsStatus n × (n ≡ 2 → ⊥) × (n ≡ 4 → ⊥)
 of_printed n text put sink0 sink1 (inl p) = let e = p.0 in (inl e, (λ z. omega (arith, e, z)), λ z. omega (arith, e, z))
@@ -120,7 +121,7 @@ of_printed n text put sink0 sink1 (inr p) = let e = p.0 in (inr (inr (inr (inr (
 
 of_dump_status : (n : ℕ) (s0 s1 : Story) (put : List ℕ) (sink0 sink1 : ℕ) → NotOpened 16 n s0 s1 put sink0 sink1 ⊎ Dumped n s0 s1 put sink0 sink1 → IsStatus n × (n ≡ 2 → ⊥) × (n ≡ 4 → ⊥)
 of_dump_status n s0 s1 put sink0 sink1 (inl x) = let is = of_reason x.reason n x.status_is in (is.0, is.1, not_read x.reason n x.status_is)
-of_dump_status n s0 s1 put sink0 sink1 (inr x) = of_printed n (dump_text x.pairs) put sink0 sink1 x.printed
+of_dump_status n s0 s1 put sink0 sink1 (inr x) = of_printed n (dump_text x.counts x.pairs) put sink0 sink1 x.printed
 
 -- ## Words that ask for nothing
 

@@ -4,10 +4,12 @@ pub mod PrintedLemmas
 pub mod BelowLemmas
 pub mod CountLemmas
 pub mod FoundLemmas
+pub mod BeginLemmas
+pub mod ClockLemmas
+pub mod NearLemmas
 pub mod LeftLemmas
 pub mod ScriptLemmas
 pub mod SpentLemmas
-pub mod BeginLemmas
 pub mod QuietLemmas
 pub mod OpeningLemmas
 pub mod ReasonLemmas
@@ -16,4 +18,5 @@ pub mod OutputLemmas
 pub mod LastLemmas
 pub mod EndLemmas
 pub mod DiskLemmas
+pub mod ClosedLemmas
 pub mod RunLemmas

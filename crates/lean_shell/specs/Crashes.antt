@@ -1,14 +1,18 @@
 -- Crashes in a run: what a disk tells of them, and what they leave before the disk is opened.
-use Rattle.std.specs.Prelude.{◌≡◌, ◌⊎◌, ◌<◌, ◌+◌, ◌^◌, ℕ, List, length, IsTrue, Some}
+use Rattle.std.specs.Prelude.{◌≡◌, ◌⊎◌, ◌<◌, ◌+◌, ◌^◌, ℕ, List, length, IsTrue, Option, Some}
 use Rattle.lean_disk.specs.Area.{Leaves}
 use Rattle.lean_disk.specs.Story.{Crash, Story, Tells, areas_of}
 use Rattle.disk_slots.specs.declared.master.Master.{Master}
 use Rattle.disk_image.specs.Fair.{IsFairCrash}
 use Rattle.disk_image.specs.MasterSlots.{master_on}
+use Rattle.disk_image.specs.Shown.{Areas, image_by}
+use Rattle.recovery.specs.Opened.{IsGreatest}
 use Rattle.recovery.specs.Crashes.{ShowsStill}
 use Rattle.recovery.specs.Telling.{TellsAll}
 use Rattle.transcripts.specs.Transcripts.{IsQuiet, first_lines}
 use Rattle.lean_engine.specs.declared.engine.Size.{Size}
+use Rattle.core_calls.specs.Fronts.{Done}
+use Rattle.core_state.specs.Openings.{Opening}
 use Rattle.lean_shell.specs.Starts.{IsLeft, IsOfOpening, IsRoomOfNext}
 
 -- It tells of the areas that an opening asks for, with at most so many logs, and, with none of them split off, of crashes.
@@ -43,13 +47,20 @@ pub record IsNoneTold (m : Master) (s : Story) (input output : List ℕ) (n : Ma
   pub shows : ShowsStill m (areas_of s) n c.image
 
 -- The master that counts is that of the disk on entry, or the one that its opening writes, or one that a sync of the run writes; and what stands of the
--- run's calls.
-pub record HasMasterOf (size : Size) (m : Master) (s : Story) (input output : List ℕ) (c : Crash) : Type 0 where
+-- run's calls, which are these.
+pub record HasMasterOf (size : Size) (AreIts : Opening → List Done → Option Done → Type 0) (m : Master) (s : Story) (input output : List ℕ) (c : Crash) : Type 0 where
   pub n : Master
   pub counts : master_on (c.image 0) ≡ Some n
   pub is : (n ≡ m) ⊎ IsOfOpening m (areas_of s) n
-  pub left : IsNoneTold m s input output n c ⊎ IsLeft size (IsRoomOfNext input) m s input output c
+  pub left : IsNoneTold m s input output n c ⊎ IsLeft size (IsRoomOfNext input) AreIts m s input output c
 
 -- so it is in a crash that leaves a fair image, once something is written
-abbrev pub MasterLeaves : (size : Size) (m : Master) (s : Story) (input output : List ℕ) (c : Crash) → Type 0
-MasterLeaves size m s input output c = IsUnwritten m s input output c ⊎ (IsFairCrash (length m.heads) s c → HasMasterOf size m s input output c)
+abbrev pub MasterLeaves : (size : Size) (AreIts : Opening → List Done → Option Done → Type 0) (m : Master) (s : Story) (input output : List ℕ) (c : Crash) → Type 0
+MasterLeaves size AreIts m s input output c = IsUnwritten m s input output c ⊎ (IsFairCrash (length m.heads) s c → HasMasterOf size AreIts m s input output c)
+
+-- ## Numbers
+
+-- By the master n, no number in these bytes is above those on entry by 2^60: neither its sequence number, nor the greatest of its floor, the records and the pages.
+pub record IsNear (m : Master) (s : Story) (n : Master) (image : Areas) : Type 0 where
+  pub sequence : n.sequence < m.sequence + 2 ^ 60
+  pub greatest : (low high : ℕ) → IsGreatest (image_by m (areas_of s)) low → IsGreatest (image_by n image) high → high < low + 2 ^ 60

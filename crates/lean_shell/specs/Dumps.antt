@@ -1,8 +1,8 @@
--- How a dump ended: the pairs that it put, and the disk that it leaves.
-use Rattle.std.specs.Prelude.{◌≡◌, ◌⊎◌, ◌++◌, ◌<◌, ◌+◌, ℕ, List, [], ◌∷◌, length, take, IsTrue, Some}
+-- How a dump ended: the line of the opening and the pairs that it put, and the disk that it leaves.
+use Rattle.std.specs.Prelude.{◌≡◌, ◌⊎◌, ◌++◌, ◌<◌, ◌+◌, ℕ, suc, List, [], ◌∷◌, length, take, IsTrue, Some}
 use Rattle.map_model.specs.Maps.{key_end}
 use Rattle.page_model.specs.Pairs.{Pair, Rising}
-use Rattle.image_model.specs.Images.{map_of}
+use Rattle.image_model.specs.Images.{won_by, lost_by, map_of}
 use Rattle.pair_walk.specs.Listings.{ArePairsOf}
 use Rattle.lean_disk.specs.Faults.{Rose}
 use Rattle.lean_disk.specs.Moments.{LeavesOnly}
@@ -20,7 +20,7 @@ use Rattle.recovery.specs.Opened.{IsOpened, IsRecovered, IsUntouched}
 use Rattle.recovery.specs.Telling.{TellsAll}
 use Rattle.recovery.specs.declared.opening.Recovered.{Recovered}
 use Rattle.lean_shell.specs.Lines.{line_of}
-use Rattle.lean_shell.specs.Runs.{NotOpened}
+use Rattle.lean_shell.specs.Runs.{Counts, NotOpened, first_line}
 
 -- ## What is put
 
@@ -30,14 +30,22 @@ pair_lines [] = []
 pair_lines (x ∷ xs) = line_of (Notice.Pair x.key x.word) ++ pair_lines xs
 
 -- and `end` behind them
-abbrev pub dump_text : List Pair → List ℕ
-dump_text pairs = pair_lines pairs ++ line_of Notice.End
+abbrev pub map_text : List Pair → List ℕ
+map_text pairs = pair_lines pairs ++ line_of Notice.End
 
--- These are all pairs of the map for which the disk stands, by the master by which it is opened.
-pub record AreOfDisk (s : Story) (pairs : List Pair) : Type 0 where
+-- and before them the line that a run begins with
+abbrev pub dump_text : Counts → List Pair → List ℕ
+dump_text counts pairs = first_line counts ++ map_text pairs
+
+-- By the master by which the disk is opened: the counts are the next generation and those of the disk's image, and these are all pairs of the map for which it
+-- stands.
+pub record AreOfDisk (s : Story) (counts : Counts) (pairs : List Pair) : Type 0 where
   pub m : Master
   pub openable : IsOpenable 16 m
   pub sound : IsSoundDisk m (areas_of s)
+  pub generation : counts.generation ≡ suc m.generation
+  pub won : counts.winners ≡ length (won_by (image_by m (areas_of s)))
+  pub lost : counts.undone ≡ length (lost_by (image_by m (areas_of s)))
   pub are : ArePairsOf (map_of (image_by m (areas_of s))) pairs
 
 -- the whole text was put, and the status is 0; or a prefix of it, since the sink failed, and the status is 5
@@ -60,12 +68,14 @@ DumpLeaves m s c = RecoveryLeaves m s (record c { notes = s.notes })
 
 -- ## All of it
 
--- Pairs were put, with keys that rise strictly, and `end`; where the disk told of all, they are those of the map for which it stood on entry.
+-- A generation and counts were put, then pairs with keys that rise strictly, and `end`; where the disk told of all, the generation and counts are those of its
+-- opening, and the pairs are those of the map for which it stood on entry.
 pub record Dumped (status : ℕ) (s0 s1 : Story) (put : List ℕ) (sink0 sink1 : ℕ) : Type 0 where
+  pub counts : Counts
   pub pairs : List Pair
   pub rising : Rising 0 pairs key_end
-  pub of_disk : TellsAll 16 s0 → AreOfDisk s0 pairs
-  pub printed : PutOrCut status (dump_text pairs) put sink0 sink1
+  pub of_disk : TellsAll 16 s0 → AreOfDisk s0 counts pairs
+  pub printed : PutOrCut status (dump_text counts pairs) put sink0 sink1
   pub left : IsAsOpened s0 s1
 
 -- How a dump ended, on a disk that told s0 and tells s1, with a sink that held held0 and holds held1; and how often the sink had failed before and has now.

@@ -10,7 +10,7 @@ use Rattle.recovery.specs.Telling.{TellsAll}
 use Rattle.lean_engine.specs.declared.engine.Size.{Size}
 use Rattle.lean_shell.specs.Crashes.{IsYoung, MasterLeaves, TellsCrashes}
 use Rattle.lean_shell.specs.Headline.{Headline}
-use Rattle.lean_shell.specs.Runs.{HowRun}
+use Rattle.lean_shell.specs.Runs.{AreOf, HowRun}
 
 -- A run of an engine so large put these bytes into the sink.
 pub record RunEnds (size : Size) (status : ℕ) (s0 s1 : Story) (feed0 feed1 : Feed) (held0 held1 : Held) (sink0 sink1 : ℕ) : Type 0 where
@@ -22,5 +22,5 @@ pub record RunEnds (size : Size) (status : ℕ) (s0 s1 : Story) (feed0 feed1 : F
   pub tells_on : TellsOn s0 s1
   -- the headline holds of what was put, also where the sink does not tell what it holds
   pub headline : IsTrue feed0.tells → TellsAll size.sessions s0 → Headline s0 s1 feed0.left put
-  -- at every moment the master is that of the entry, or one of the opening; and what stands of the run's calls
-  pub masters : IsTrue feed0.tells → (m : Master) → TellsCrashes size.sessions s0 → IsCleanDisk m (areas_of s0) → IsYoung m s0 → LeavesOnly s0 s1 (MasterLeaves size m s0 feed0.left put)
+  -- at every moment the master is that of the entry, or one of the opening; and what stands of the run's own calls
+  pub masters : IsTrue feed0.tells → (m : Master) → TellsCrashes size.sessions s0 → IsCleanDisk m (areas_of s0) → IsYoung m s0 → LeavesOnly s0 s1 (MasterLeaves size (AreOf how) m s0 feed0.left put)

@@ -1,14 +1,17 @@
 -- The headline: whatever script runs, the point replies of committed transactions are those of one ordered map on which they ran singly in order of
 -- commit numbers; and wherever a crash falls, in a device call too, recovery gives that map after a set of them, applied in that order, that holds every
 -- one reported durable and each whose write a member read or overwrote.
-use Rattle.std.specs.Prelude.{◌≡◌, ◌⊎◌, ◌++◌, ◌+◌, ℕ, true, List, [], ◌∷◌, length, IsTrue}
+use Rattle.std.specs.Prelude.{◌≡◌, ◌⊎◌, ◌++◌, ◌+◌, ℕ, true, List, ◌∷◌, length, IsTrue}
+use Rattle.map_model.specs.declared.call.Call.{Call}
 use Rattle.map_model.specs.declared.call.Call.TheVariants.{Commit}
 use Rattle.map_model.specs.declared.call.Answer.TheVariants.{Committed}
+use Rattle.map_model.specs.declared.call.Answered.{Answered}
 use Rattle.map_model.specs.Lists.{Has}
 use Rattle.map_model.specs.Laws.{IsFalling}
 use Rattle.map_model.specs.Maps.{Map}
 use Rattle.map_model.specs.Journals.{Journal, Name, Txn, Serial, IsClosed, after}
 use Rattle.map_model.specs.Outputs.{Reply}
+use Rattle.map_model.specs.Pairings.{in_turn, script_of}
 use Rattle.map_model.specs.Transcripts.{journal}
 use Rattle.image_model.specs.Ends.{kept}
 use Rattle.image_model.specs.Entries.{Entry, is_commit}
@@ -20,18 +23,24 @@ use Rattle.disk_image.specs.Fair.{IsFairCrash}
 use Rattle.disk_image.specs.Masters.{IsOfRun}
 use Rattle.disk_image.specs.Shown.{image_by, DiskStandsFor, IsCleanDisk}
 use Rattle.script_lang.specs.Replies.{reply_line}
-use Rattle.transcripts.specs.Transcripts.{transcript, durables, first_lines}
-use Rattle.lean_shell.specs.Crashes.{IsUnwritten, IsYoung}
+use Rattle.script_lang.specs.Text.{script_lines}
+use Rattle.transcripts.specs.Transcripts.{asked, transcript, durables, first_lines}
+use Rattle.lean_shell.specs.Crashes.{IsNear, IsUnwritten, IsYoung}
 
--- The transaction of this record is in hand: it is found in the image, and its reply, which is not out yet, would answer the script's next line,
--- a commit. With that reply the lines tell of all.
+-- The transaction of this record is in hand: it is found in the image, and behind the lines of the calls that were told the script's next line is its
+-- commit, whose reply is not out yet. With that reply the lines tell of all.
 pub record IsInHand (workers : ℕ) (input output : List ℕ) (records : List Entry) (all : Journal) : Type 0 where
   pub end : Entry
   pub has : Has end records
   pub commit : is_commit end.kind ≡ true
+  -- the calls that were told, the newest first; the script's first lines ask them, and the next one the commit
+  pub calls : List Answered
+  pub told : transcript workers input output ≡ in_turn calls
+  pub others : List (ℕ × Call)
+  pub comes : asked workers (script_lines input) ≡ script_of calls ++ (end.log, Commit) ∷ others
   pub reply : List ℕ
   pub reply_is : reply ≡ reply_line (Reply.Answered end.log (Committed end.txn end.number))
-  pub next : transcript workers input (output ++ reply) ≡ transcript workers input output ++ record { session = end.log; call = Commit; answer = Committed end.txn end.number } ∷ []
+  pub next : transcript workers input (output ++ reply) ≡ in_turn (record { session = end.log; call = Commit; answer = Committed end.txn end.number } ∷ calls)
   pub all_is : all ≡ journal (transcript workers input (output ++ reply))
 
 -- Recovery of what a crash left gives the map after the kept: those up to the master's floor, and the winners.
@@ -51,6 +60,8 @@ pub record Survives (m : Master) (s : Story) (input output : List ℕ) (c : Cras
   pub kept_is : kept_ones ≡ kept (length n.heads) n.floor (found (image_by n c.image)) by_then
   pub closed : IsClosed by_then kept_ones
   pub reported : (name : Name) → Has name (durables (first_lines lines output)) → (t : Txn) × Has t kept_ones × (t.session ≡ name.session) × (t.number ≡ name.number)
+  -- the next run can open the disk, and begin
+  pub near : IsNear m s n c.image
   -- the image is clean, and stands for the map after them, by its own winners
   pub clean : IsCleanDisk n c.image
   pub stands : DiskStandsFor n c.image (after (map_of (image_by m (areas_of s))) kept_ones) (won_by (image_by n c.image))

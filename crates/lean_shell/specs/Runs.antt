@@ -1,5 +1,5 @@
 -- How a run of a script ended.
-use Rattle.std.specs.Prelude.{◌≡◌, ◌⊎◌, ◌++◌, ◌<◌, ◌≤◌, ◌^◌, ℕ, suc, List, [], length, take, IsTrue, Some}
+use Rattle.std.specs.Prelude.{◌≡◌, ◌++◌, ◌+◌, ◌<◌, ◌≤◌, ◌^◌, ℕ, suc, false, List, [], ◌∷◌, length, take, IsTrue, Option, None, Some}
 use Rattle.image_model.specs.Images.{won_by, lost_by, map_of}
 use Rattle.lean_disk.specs.Faults.{Rose}
 use Rattle.lean_disk.specs.Story.{Story, areas_of}
@@ -7,23 +7,33 @@ use Rattle.lean_edge.specs.Outside.{Feed}
 use Rattle.script_lang.specs.Notices.{Notice}
 use Rattle.disk_slots.specs.declared.master.Master.{Master}
 use Rattle.disk_image.specs.MasterSlots.{master_on}
-use Rattle.disk_image.specs.Shown.{image_by, IsCleanDisk, IsSoundDisk}
+use Rattle.disk_image.specs.Runs.{Block, block_at}
+use Rattle.disk_image.specs.Shown.{Areas, image_by, IsCleanDisk, IsSoundDisk}
+use Rattle.disk_runs.specs.Logs.{IsLogOf}
+use Rattle.log_block.specs.Block.{records_text}
+use Rattle.log_record.specs.declared.record.Record.{Record}
 use Rattle.recovery.specs.Masters.{IsOpenable, next_master}
 use Rattle.recovery.specs.Opened.{IsRefusal, IsUntouched}
 use Rattle.recovery.specs.Telling.{TellsAll}
 use Rattle.recovery.specs.declared.opening.Unrecovered.{Unrecovered}
 use Rattle.recovery.specs.declared.opening.Unrecovered.TheVariants as why
+use Rattle.core_crash.specs.Crashes.{from_head, log_of}
 use Rattle.core_state.specs.Openings.{Opening, first_map}
+use Rattle.core_state.specs.States.{State}
+use Rattle.core_state.specs.Steps.{state_after}
 use Rattle.core_calls.specs.Deeds.{answered}
-use Rattle.core_calls.specs.Fronts.{Done}
+use Rattle.core_calls.specs.Fronts.{Done, front}
 use Rattle.core_calls.specs.Printed.{printed}
+use Rattle.run_crashes.specs.Lines.{next_of}
+use Rattle.worker_log.specs.Accounts.{joined, spelled_from}
+use Rattle.worker_log.specs.Laws.{entries_onto}
 use Rattle.worker_log.specs.Logs.{Log}
 use Rattle.map_model.specs.Lists.{Has}
 use Rattle.map_model.specs.Outputs.{Reply}
 use Rattle.map_model.specs.declared.call.Answer.TheVariants as answer
 use Rattle.map_model.specs.declared.call.Answered.{Answered}
 use Rattle.map_model.specs.declared.call.Refusal.TheVariants.{RowSpent}
-use Rattle.map_model.specs.Pairings.{counted, in_turn, script_of}
+use Rattle.map_model.specs.Pairings.{counted, in_turn, is_open_line, script_of}
 use Rattle.transcripts.specs.Told.{opened_line, text_of}
 use Rattle.transcripts.specs.Transcripts.{transcript}
 use Rattle.script_run.specs.Runs.{Executes, IsLastCut, PrintsTo, calls_of}
@@ -154,7 +164,47 @@ pub record AreTold (sessions : ℕ) (stop : Stop) (calls : List Done) (input put
   pub all_heard : (stop ≡ stops.WriteFault → ⊥) → unheard ≡ []
   pub transcript_is : transcript sessions input put ≡ counted (in_turn heard)
 
+-- ## What is left
+
+-- Of the calls of a run these were heard: its first calls, and the next one is the one behind them; or all, and the next one was asked behind them and not
+-- answered, since the disk failed.
+pub data AreFirst (stop : Stop) (calls heard : List Done) (next_one : Option Done) : Type 0 where
+  Among : (unheard : List Done) → unheard ++ heard ≡ calls → next_one ≡ next_of unheard → AreFirst stop calls heard next_one
+  Behind : stop ≡ stops.DiskFault → heard ≡ calls → AreFirst stop calls heard next_one
+
+-- all were heard; or, where the sink failed, all but the newest
+pub data AreAll (stop : Stop) (calls heard : List Done) (next_one : Option Done) : Type 0 where
+  All : heard ≡ calls → next_one ≡ None → AreAll stop calls heard next_one
+  ButNewest : stop ≡ stops.WriteFault → (newest : Done) → calls ≡ newest ∷ heard → next_one ≡ Some newest → AreAll stop calls heard next_one
+
+-- so it is of the run from this opening on
+abbrev pub AreFirstOf : (g : Opening) (stop : Stop) (calls : List Done) (opening : Opening) (heard : List Done) (next_one : Option Done) → Type 0
+AreFirstOf g stop calls opening heard next_one = (opening ≡ g) × AreFirst stop calls heard next_one
+
+abbrev pub AreAllOf : (g : Opening) (stop : Stop) (calls : List Done) (opening : Opening) (heard : List Done) (next_one : Option Done) → Type 0
+AreAllOf g stop calls opening heard next_one = (opening ≡ g) × AreAll stop calls heard next_one
+
+-- Log w of an engine, which has the records of this state, and what these bytes have of it: all its blocks but the one in hand.
+pub record HasBlocks (s : State) (n : Master) (w : ℕ) (log : Log) (bytes : List ℕ) : Type 0 where
+  pub is : IsLogOf n w log
+  -- the records of each block from the head on, and of the one in hand
+  pub written : List (List Record)
+  pub in_hand : List Record
+  pub count : log.next ≡ log.head + length written
+  pub lie : (block : Block) → Has block (spelled_from log.generation log.log log.head written) → block_at log.blocks block.number bytes ≡ block.bytes
+  pub payload : (log.payload ≡ records_text in_hand) × (log.count ≡ length in_hand)
+  pub records : entries_onto w [] (joined written ++ in_hand) ≡ from_head (s.head w) (log_of w s.entries)
+
+-- The disk has what an engine has in memory of it behind these calls: the master that counts, and the blocks of each log.
+pub record IsOnDisk (g : Opening) (calls : List Done) (memory : Memory) (area : Areas) : Type 0 where
+  pub master : master_on (area 0) ≡ Some memory.master
+  pub logs : (w : ℕ) → 0 < w → w ≤ g.workers → HasBlocks (state_after g (front calls)) memory.master w (memory.log w) (area (suc w))
+
 -- ## All of it
+
+-- No answer stands of which a further one is due, unless the sink failed or the disk.
+abbrev pub IsClosed : Stop → List Done → Type 0
+IsClosed stop calls = (stop ≡ stops.WriteFault → ⊥) → (stop ≡ stops.DiskFault → ⊥) → is_open_line (calls_of calls) ≡ false
 
 -- The script was executed, line by line, and what came of it was put.
 pub record Ran (size : Size) (status : ℕ) (s0 s1 : Story) (feed0 feed1 : Feed) (put : List ℕ) (sink0 sink1 : ℕ) : Type 0 where
@@ -168,6 +218,8 @@ pub record Ran (size : Size) (status : ℕ) (s0 s1 : Story) (feed0 feed1 : Feed)
   pub executed : Executed size s0 counts calls
   -- too few for a latch to be spent
   pub none_spent : (x : Done) → Has x calls → answered x.outcome.deed ≡ answer.Refused RowSpent → ⊥
+  -- behind a conflict the abort was executed, unless the sink or the disk failed there
+  pub closed : IsClosed stop calls
   -- the script begins with the lines that ask them, and why no more were executed
   pub read : IsTrue feed0.tells → LinesRead stop executed.opening.workers (calls_of calls) feed0.left
   pub printed : Printed executed.opening stop counts calls put sink0 sink1
@@ -176,10 +228,18 @@ pub record Ran (size : Size) (status : ℕ) (s0 s1 : Story) (feed0 feed1 : Feed)
   pub beside : (a : ℕ) → suc executed.opening.workers < a → IsUntouched (s0.area a) (s1.area a)
   -- unless the disk failed, it stands as a crash would have left it
   pub stands : (stop ≡ stops.DiskFault → ⊥) → IsTrue feed0.tells → (m : Master) → TellsCrashes size.sessions s0 → IsCleanDisk m (areas_of s0) → IsYoung m s0 → Survives m s0 feed0.left put (as_read s1)
-  pub left : (stop ≡ stops.DiskFault → ⊥) → IsTrue feed0.tells → (m : Master) → TellsCrashes size.sessions s0 → IsCleanDisk m (areas_of s0) → IsYoung m s0 → IsLeft size AllAnswered m s0 feed0.left put (as_read s1)
+  pub left : (stop ≡ stops.DiskFault → ⊥) → IsTrue feed0.tells → (m : Master) → TellsCrashes size.sessions s0 → IsCleanDisk m (areas_of s0) → IsYoung m s0 → IsLeft size AllAnswered (AreAllOf executed.opening stop calls) m s0 feed0.left put (as_read s1)
+  pub disk : (stop ≡ stops.DiskFault → ⊥) → IsTrue feed0.tells → (m : Master) → TellsCrashes size.sessions s0 → IsCleanDisk m (areas_of s0) → IsYoung m s0 → IsOnDisk executed.opening calls executed.last (areas_of s1)
 
 -- How a run ended, on a disk that told s0 and tells s1, with a source that told feed0 and tells feed1, and a sink into which these bytes were put; and
 -- how often the sink had failed before and has now. The script of a disk that was not opened was not read.
-abbrev pub HowRun : (size : Size) (status : ℕ) (s0 s1 : Story) (feed0 feed1 : Feed) (put : List ℕ) (sink0 sink1 : ℕ) → Type 0
-HowRun size status s0 s1 feed0 feed1 put sink0 sink1 =
-    (NotOpened size.sessions status s0 s1 put sink0 sink1 × (feed1 ≡ feed0)) ⊎ (CutFirst size.sessions status s0 feed0 feed1 put sink0 sink1 ⊎ Ran size status s0 s1 feed0 feed1 put sink0 sink1)
+pub data HowRun (size : Size) (status : ℕ) (s0 s1 : Story) (feed0 feed1 : Feed) (put : List ℕ) (sink0 sink1 : ℕ) : Type 0 where
+  OfReason : NotOpened size.sessions status s0 s1 put sink0 sink1 → feed1 ≡ feed0 → HowRun size status s0 s1 feed0 feed1 put sink0 sink1
+  OfCut : CutFirst size.sessions status s0 feed0 feed1 put sink0 sink1 → HowRun size status s0 s1 feed0 feed1 put sink0 sink1
+  OfScript : Ran size status s0 s1 feed0 feed1 put sink0 sink1 → HowRun size status s0 s1 feed0 feed1 put sink0 sink1
+
+-- These calls that were heard, and the next one, are of the run that ended so; where no script was executed there are none.
+abbrev pub AreOf : {size : Size} {status : ℕ} {s0 s1 : Story} {feed0 feed1 : Feed} {put : List ℕ} {sink0 sink1 : ℕ} → HowRun size status s0 s1 feed0 feed1 put sink0 sink1 → Opening → List Done → Option Done → Type 0
+AreOf (OfReason reason unread) = λ opening heard next_one. ⊥
+AreOf (OfCut cut) = λ opening heard next_one. ⊥
+AreOf (OfScript ran) = AreFirstOf ran.executed.opening ran.stop ran.calls

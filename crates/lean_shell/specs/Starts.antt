@@ -25,6 +25,7 @@ use Rattle.engine_trait.specs.Rooms.{IsRoomFor}
 use Rattle.lean_engine.specs.declared.engine.Size.{Size}
 use Rattle.map_model.specs.declared.call.Call.{Call}
 use Rattle.map_model.specs.Journals.{Name}
+use Rattle.map_model.specs.Lists.{Has}
 use Rattle.map_model.specs.Outputs.{Reply, names}
 use Rattle.map_model.specs.Pairings.{counted, in_turn, script_of}
 use Rattle.script_lang.specs.Text.{script_lines}
@@ -42,11 +43,12 @@ pub record IsOfSize (size : Size) (g : Opening) : Type 0 where
   pub rows : (k : ℕ) → g.row_of k ≡ k % size.rows
   pub frames : g.frames ≡ g.format.pages
 
--- The master is the one that an opening of this disk writes, or one that the run writes behind it, by a sync.
+-- The master is the one that an opening of this disk writes, or one that the run writes behind it, by a sync among these events.
 pub record IsOfOpening (m : Master) (area : Areas) (n : Master) : Type 0 where
   pub first : Master
   pub next : IsNextOf m area first
-  pub later : IsNoEarlier first n
+  pub events : List Event
+  pub later : IsNoEarlier events first n
 
 -- the script begins with the lines that ask these calls, for so many sessions
 pub record HasLinesFor (sessions : ℕ) (input : List ℕ) (calls : List Done) : Type 0 where
@@ -76,16 +78,18 @@ pub record IsRoomOfNext (input : List ℕ) (g : Opening) (heard : List Done) (es
   pub asks : IsAskedNext g.workers input heard session call
   pub room : IsRoomFor g heard session (call_behind (outcomes heard) call) es
 
--- The records of log w are the oldest of those that a run logs there, from the head on.
+-- The records of log w are the oldest of those that a run logs there, from the head on, with each that is flushed.
 pub record IsOldestOf (s : State) (w : ℕ) (records : List Entry) : Type 0 where
   pub newer : List Entry
   pub left : List Entry
   pub logged : newer ++ left ≡ log_of w s.entries
+  pub flushed : (r : Entry) → Has r (log_of w s.entries) → r.number ≤ s.flushed w → Has r left
   pub are : records ≡ from_head (s.head w) left
 
 -- By a master of the opening each page's base is the start's, and the records of each log are the oldest of those that a run of the core logs there: of the calls
--- of which the lines that were out tell, and of the first events of at most one more; or of such events of a call that was not answered.
-pub record IsLeft (size : Size) (Such : Opening → List Done → List Event → Type 0) (m : Master) (s : Story) (input output : List ℕ) (c : Crash) : Type 0 where
+-- of which the lines that were out tell, and of the first events of at most one more; or of such events of a call that was not answered. Those are
+-- calls of this run.
+pub record IsLeft (size : Size) (Such : Opening → List Done → List Event → Type 0) (AreIts : Opening → List Done → Option Done → Type 0) (m : Master) (s : Story) (input output : List ℕ) (c : Crash) : Type 0 where
   pub lines : ℕ
   pub notes : c.notes ≡ s.notes + lines
   pub n : Master
@@ -106,6 +110,10 @@ pub record IsLeft (size : Size) (Such : Opening → List Done → List Event →
   -- the one more, if there is one, and those of its events that happened
   pub next_one : Option Done
   pub is_next : (x : Done) → next_one ≡ Some x → IsNextCall opening size.group input heard x
+  pub its : AreIts opening heard next_one
   pub behind : List Event
   pub fell : FellIn (Such opening heard) next_one behind
+  -- so its sequence number is above that of the opening by no more than the syncs and cuts among these, and it has the floor of the core then
+  pub written : of_opening.events ≡ front heard ++ behind
+  pub floor : n.floor ≡ (state_after opening (front heard ++ behind)).floor
   pub logs : (w : ℕ) → 0 < w → w ≤ length m.heads → IsOldestOf (state_after opening (front heard ++ behind)) w ((image_by n c.image).log w)

@@ -1,19 +1,37 @@
 // The dump of a disk's map.
-ghost use Rattle.std.specs.Prelude.{◌≡◌};
+ghost use Rattle.std.specs.Prelude.{◌≡◌, length};
+ghost use Rattle.page_model.specs.Tree.{value};
 ghost use Rattle.lean_disk.specs.Faults.{HasCause, IsBlamed};
+ghost use Rattle.disk_image.specs.Formats.{format_of};
+ghost use Rattle.node_tree.specs.Nodes.{nodes_of};
+ghost use Rattle.recovery.specs.Opened.{IsWhole};
 ghost use Rattle.lean_shell.specs.Dumps.{DumpEnds};
+ghost use Rattle.lean_shell.specs.Inside.Puts.{PutsDump, counts_of};
 
 use crate::disk_run::status_of;
-use crate::lines::put_reason;
+use crate::lines::{put_opened, put_reason};
 use crate::pairs::put_map;
-use crate::words::SESSIONS;
 use lean_disk::Disk;
 use lean_edge::{Put, Sink};
-use recovery::recover;
+use page_model::limits::SESSIONS;
+use recovery::{Recovered, recover};
 use std::alloc::Global;
 
-/// Opens the disk and puts each pair of its map, in the order of the keys, and `end`. The status is 0 where all went out, 5
-/// where the sink failed, 6 where the disk did, 7 where the disk has no master or is damaged, 8 where memory was refused.
+// Puts the line of the opening, each pair of the map that recovery gave, and `end`.
+fn put_recovered<K: Sink<D>, D: Disk>(it: &Recovered, sink: &mut K, disk: &mut D) -> Put
+    requires { IsWhole it.now }
+    ensures put { PutsDump (counts_of it.now) (value (format_of (length it.now.pages.items)) (nodes_of it.now.pages.items)) result (K.held sink.old) (K.held sink.new) (K.faults sink.old) (K.faults sink.new) (D.story disk.old) (D.story disk.new) }
+    ensures faults { D.faults disk.new ≡ D.faults disk.old }
+{
+    pair_walk::every_listing();
+    let Put::Done = put_opened(it.master.generation, it.winners, it.undone, sink, disk) else {
+        return Put::Failed;
+    };
+    put_map(&it.pages, sink, disk)
+}
+
+/// Opens the disk and puts the line of the opening, each pair of its map, in the order of the keys, and `end`. The status is 0 where all went
+/// out, 5 where the sink failed, 6 where the disk did, 7 where the disk has no master or is damaged, 8 where memory was refused.
 pub fn dump_disk<K: Sink<D>, D: Disk>(alloc: Global, sink: &mut K, disk: &mut D) -> u8
     ensures ends { DumpEnds result (D.story disk.old) (D.story disk.new) (K.held sink.old) (K.held sink.new) (K.faults sink.old) (K.faults sink.new) }
 
@@ -32,7 +50,7 @@ pub fn dump_disk<K: Sink<D>, D: Disk>(alloc: Global, sink: &mut K, disk: &mut D)
             return status_of(reason);
         }
     };
-    match put_map(&recovered.pages, sink, disk) {
+    match put_recovered(&recovered, sink, disk) {
         Put::Done => 0,
         Put::Failed => 5,
     }

@@ -5,14 +5,14 @@ ghost use Rattle.script_lang.specs.Notices.{Notice, NoticeFits};
 ghost use Rattle.recovery.specs.declared.opening.Unrecovered.{Unrecovered};
 ghost use Rattle.lean_edge.specs.Outside.{IsWholeLine};
 ghost use Rattle.lean_shell.specs.Lines.{IsPut, line_of};
-ghost use Rattle.lean_shell.specs.Runs.{notice_of};
+ghost use Rattle.lean_shell.specs.Runs.{first_line, notice_of};
 
 use lean_disk::Disk;
 use lean_edge::{Put, Sink};
 use recovery::Unrecovered;
 use script_lang::{
     DISK_FAULT, END, NO_MEMORY, NOT_FORMATTED, REPLY, damaged_bytes, fixed_lines,
-    notices_are_no_replies, pair_bytes,
+    notices_are_no_replies, opened_bytes, pair_bytes,
 };
 
 /// Puts one line.
@@ -58,6 +58,25 @@ pub(crate) fn put_reason<K: Sink<D>, D: Disk>(
         Unrecovered::DiskFault => put_line(DISK_FAULT, sink, disk),
         Unrecovered::Memory => put_line(NO_MEMORY, sink, disk),
     }
+}
+
+/// Puts the first line: the new generation, and how many transactions were found committed and how many were undone.
+pub(crate) fn put_opened<K: Sink<D>, D: Disk>(
+    generation: u64,
+    winners: u64,
+    undone: u64,
+    sink: &mut K,
+    disk: &mut D,
+) -> Put
+    ensures put { IsPut (first_line (record { generation = generation; winners = winners; undone = undone })) result (K.held sink.old) (K.held sink.new) (D.story disk.old) (D.story disk.new) }
+    ensures faults { D.faults disk.new ≡ D.faults disk.old }
+
+    ensures cause { HasCause (K.faults sink.old) (K.faults sink.new) (result ≡ Put.Failed) }
+{
+    notices_are_no_replies();
+    let mut line = [0; REPLY];
+    let end = opened_bytes(generation, winners, undone, &mut line);
+    put_line(&line[..end], sink, disk)
 }
 
 /// Puts the line of a key and its value.

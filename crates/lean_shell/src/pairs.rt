@@ -14,10 +14,8 @@ use crate::lines::{put_end, put_pair};
 use btree_node::Node;
 use lean_disk::Disk;
 use lean_edge::{Put, Sink};
+use page_model::limits::TOMBSTONE;
 use pair_walk::{every_listing, leaf_from};
-
-// The word of a tombstone. Values are below it.
-const TOMBSTONE: u64 = 1 << 63;
 
 // Puts the pair at a place of a leaf, if its word is a value.
 fn put_live<K: Sink<D>, D: Disk>(leaf: &Node, at: usize, sink: &mut K, disk: &mut D) -> Put

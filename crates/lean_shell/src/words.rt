@@ -12,10 +12,8 @@ use crate::command_line::lean_line;
 use clap::ArgMatches;
 use clap::error::ErrorKind;
 use lean_engine::{Shape, Size};
+use page_model::limits::SESSIONS;
 use std::alloc::{AllocError, Global};
-
-/// How many sessions a disk may have, each with a log.
-pub(crate) const SESSIONS: u32 = 16;
 
 /// What the words of a command line ask for.
 #[derive(Clone, Copy, Debug, PartialEq, Eq)]

@@ -28,12 +28,12 @@ use Rattle.mem_journal.proofs.WorkerLemmas.{each_set, upd_apart, still, record_m
 
 -- its worker is another, and no record is lost
 workers_set : (g : Opening) (s t : State) (v : View) (w : ℕ) (a : Worker) (b : own.Worker) → Pictures g s v → w < length v.workers → t.worker ≡ upd s.worker w a → t.flushed ≡ s.flushed → ((i n : ℕ) → HasRecord s.entries i n → HasRecord t.entries i n) →
-    IsLike w a b → b.flushed ≡ (worker_at v w).flushed → (b.flushed < b.end → HasRecord t.entries w b.end) → (i : ℕ) → i < length (set v.workers w b) → IsWorker t i (get_or (set v.workers w b) i no_worker)
+    IsLike a b → b.flushed ≡ (worker_at v w).flushed → (b.flushed < b.end → HasRecord t.entries w b.end) → (i : ℕ) → i < length (set v.workers w b) → IsWorker t i (get_or (set v.workers w b) i no_worker)
 workers_set g s t v w a b p l e f more like fl ended =
     each_set (λ i x. IsWorker s i x) (λ i x. IsWorker t i x) v.workers no_worker w b l
     (λ i n x y. still s t i x (ap (λ (h : ℕ → Worker). h i) e ∙ upd_apart s.worker w i a n) (ap (λ (h : ℕ → ℕ). h i) f) (more i) y) p.worker
     (record {
-      like = subst (λ (c : Worker). IsLike w c b) (sym (ap (λ (h : ℕ → Worker). h w) e ∙ upd_here s.worker w a)) like;
+      like = subst (λ (c : Worker). IsLike c b) (sym (ap (λ (h : ℕ → Worker). h w) e ∙ upd_here s.worker w a)) like;
       flushed = ap (λ (h : ℕ → ℕ). h w) f ∙ ((p.worker w l).flushed ∙ sym fl);
       ended = ended;
     })
@@ -43,7 +43,7 @@ others_still g s t v w a j p l e n = ap (λ (c : Worker). c.clock) (ap (λ (h : 
 
 -- nothing but the worker and entries that are no commits
 stepped : (g : Opening) (s t : State) (v : View) (w : ℕ) (a : Worker) (b : own.Worker) → Pictures g s v → w < length v.workers → t.worker ≡ upd s.worker w a → t.flushed ≡ s.flushed → ((i n : ℕ) → HasRecord s.entries i n → HasRecord t.entries i n) →
-    IsLike w a b → b.flushed ≡ (worker_at v w).flushed → b.end ≡ (worker_at v w).end → t.page ≡ s.page → t.place ≡ s.place → t.row ≡ s.row → committed t.entries ≡ committed s.entries → ((i : ℕ) → count_of t.entries i ≡ count_of s.entries i) → Pictures g t (with_worker v w b)
+    IsLike a b → b.flushed ≡ (worker_at v w).flushed → b.end ≡ (worker_at v w).end → t.page ≡ s.page → t.place ≡ s.place → t.row ≡ s.row → committed t.entries ≡ committed s.entries → ((i : ℕ) → count_of t.entries i ≡ count_of s.entries i) → Pictures g t (with_worker v w b)
 stepped g s t v w a b p l e f more like fl en page place row journal counts = record {
   workers = length-set v.workers w b ∙ p.workers;
   few = subst (λ (n : ℕ). n ≤ 17) (sym (length-set v.workers w b)) p.few;
@@ -67,28 +67,28 @@ stepped g s t v w a b p l e f more like fl en page place row journal counts = re
 }
 
 -- the leaf's stamp was met
-met : (w : ℕ) (s : State) (v : View) (g : Opening) (a : Worker) (b : own.Worker) → Pictures g s v → IsLike w a b → IsLike w (touch w a (s.page 0).gsn (s.page 0).last) (record b { clock = clocks.after_touch b.clock v.number v.log })
+met : (w : ℕ) (s : State) (v : View) (g : Opening) (a : Worker) (b : own.Worker) → Pictures g s v → IsLike a b → IsLike (touch w a (s.page 0).gsn (s.page 0).last) (record b { clock = clocks.after_touch w b.clock v.number v.log })
 met w s v g a b p x =
-    subst (λ (n : ℕ). IsLike w (touch w a n (s.page 0).last) (record b { clock = clocks.after_touch b.clock v.number v.log })) (sym p.number)
-    (subst (λ (n : ℕ). IsLike w (touch w a v.number n) (record b { clock = clocks.after_touch b.clock v.number v.log })) (sym p.log) (like_touch w a b v.number v.log x))
+    subst (λ (n : ℕ). IsLike (touch w a n (s.page 0).last) (record b { clock = clocks.after_touch w b.clock v.number v.log })) (sym p.number)
+    (subst (λ (n : ℕ). IsLike (touch w a v.number n) (record b { clock = clocks.after_touch w b.clock v.number v.log })) (sym p.log) (like_touch w a b v.number v.log x))
 
 -- ## Events
 
 pub begins : (g : Opening) (s : State) (v : View) (w f : ℕ) → Pictures g s v → w < length v.workers → Pictures g (happens g s (Event.Begin w f)) (after_begin v w f)
 begins g s v w f p l =
     stepped g s (happens g s (Event.Begin w f)) v w (begun (s.worker w) f) (record (worker_at v w) { clock = clocks.after_begin (worker_at v w).clock f; txn = suc (worker_at v w).txn }) p l
-    refl refl (λ i n h. h) (like_begun w f (s.worker w) (worker_at v w) (p.worker w l).like) refl refl refl refl refl refl (λ i. refl)
+    refl refl (λ i n h. h) (like_begun f (s.worker w) (worker_at v w) (p.worker w l).like) refl refl refl refl refl refl (λ i. refl)
 
 pub looks : (g : Opening) (s : State) (v : View) (w k : ℕ) (answer : Option ℕ) → Pictures g s v → w < length v.workers → Pictures g (happens g s (Event.Read w 0 k answer)) (after_read v w)
 looks g s v w k answer p l =
     let r = read_entry w (at_pages s w (s.worker w) (0 ∷ [])) k (Rattle.image_model.specs.Entries.word_in g.format (s.page 0).node k) (is_held_by (s.row (g.row_of k)).holder w) in
-    stepped g s (happens g s (Event.Read w 0 k answer)) v w (touch w (s.worker w) (s.page 0).gsn (s.page 0).last) (record (worker_at v w) { clock = clocks.after_touch (worker_at v w).clock v.number v.log }) p l
+    stepped g s (happens g s (Event.Read w 0 k answer)) v w (touch w (s.worker w) (s.page 0).gsn (s.page 0).last) (record (worker_at v w) { clock = clocks.after_touch w (worker_at v w).clock v.number v.log }) p l
     refl refl (λ i n h. record_more r s.entries i n h) (met w s v g (s.worker w) (worker_at v w) p (p.worker w l).like) refl refl refl refl refl refl (λ i. refl)
 
 pub locks : (g : Opening) (s : State) (v : View) (w i : ℕ) (mode : modes.Mode) → Pictures g s v → w < length v.workers → w < 17 → i < length v.rows → Pictures g (happens g s (Event.Lock w i (mode_of mode))) (after_lock v w i mode)
 locks g s v w i mode p l few n =
     let r = row_at v i in
-    let b : own.Worker = record (worker_at v w) { clock = clocks.after_raise (clocks.after_touch (worker_at v w).clock r.number r.log) r.read_end } in
+    let b : own.Worker = record (worker_at v w) { clock = clocks.after_raise (clocks.after_touch w (worker_at v w).clock r.number r.log) r.read_end } in
     let t = happens g s (Event.Lock w i (mode_of mode)) in
     record {
       workers = length-set v.workers w b ∙ p.workers;
@@ -163,7 +163,7 @@ ends g s v w commit f p l in_log =
       log = p.log;
       hot = p.hot;
       row = p.row;
-      worker = workers_set g s t v w (finished (s.worker w) (suc (s.worker w).clock)) b p l refl refl (λ j m h. record_more r s.entries j m h) (like_end w (s.worker w) (worker_at v w) x) refl
+      worker = workers_set g s t v w (finished (s.worker w) (suc (s.worker w).clock)) b p l refl refl (λ j m h. record_more r s.entries j m h) (like_end (s.worker w) (worker_at v w) x) refl
           (λ n. end_stands w f commit (s.worker w) (worker_at v w) s.entries x);
       other = λ j m. others_still g s t v w (finished (s.worker w) (suc (s.worker w).clock)) j p l refl (subst (λ (k : ℕ). k ≤ j) (length-set v.workers w b) m);
       records = logs_set r s.entries v.logs w (record { number = suc (worker_at v w).clock.clock; what = Ended commit }) in_log (is_end commit) refl p.records;
@@ -197,7 +197,7 @@ flushes g s v w p l =
       row = p.row;
       worker = each_set (λ i y. IsWorker s i y) (λ i y. IsWorker t i y) v.workers no_worker w b l
           (λ i ne y h. record { like = h.like; flushed = upd_apart s.flushed w i (s.worker w).end ne ∙ h.flushed; ended = h.ended }) p.worker
-          (record { like = record { log = x.like.log; clock = x.like.clock; floor = x.like.floor; debt = x.like.debt; txn = x.like.txn; end = x.like.end }; flushed = upd_here s.flushed w (s.worker w).end ∙ x.like.end; ended = λ n. absurd (omega arith) });
+          (record { like = record { clock = x.like.clock; floor = x.like.floor; debt = x.like.debt; txn = x.like.txn; end = x.like.end }; flushed = upd_here s.flushed w (s.worker w).end ∙ x.like.end; ended = λ n. absurd (omega arith) });
       other = λ j m. p.other j (subst (λ (k : ℕ). k ≤ j) (length-set v.workers w b) m);
       records = p.records;
       journal = p.journal;
@@ -209,7 +209,7 @@ wrote : (g : Opening) (s t : State) (v : View) (w k x : ℕ) (r : Entry) (change
     t.page 0 ≡ record { gsn = suc (touch w (s.worker w) (s.page 0).gsn (s.page 0).last).clock; last = w; node = record (s.page 0).node { pairs = put k x (s.page 0).node.pairs } } → t.place ≡ s.place → t.row ≡ s.row → Pictures g t (after_write v w k x)
 wrote g s t v w k x r changes p l in_log worker fl entries other_kind kind of_log page place row =
     let a = touch w (s.worker w) (s.page 0).gsn (s.page 0).last in
-    let c : own.Worker = record (worker_at v w) { clock = clocks.after_touch (worker_at v w).clock v.number v.log } in
+    let c : own.Worker = record (worker_at v w) { clock = clocks.after_touch w (worker_at v w).clock v.number v.log } in
     let b : own.Worker = record (worker_at v w) { clock = clocks.after_next c.clock } in
     let like = met w s v g (s.worker w) (worker_at v w) p (p.worker w l).like in
     let more : (i n : ℕ) → HasRecord s.entries i n → HasRecord t.entries i n = λ i n h. subst (λ (es : List Entry). HasRecord es i n) (sym entries) (record_more r s.entries i n h) in
@@ -229,7 +229,7 @@ wrote g s t v w k x r changes p l in_log worker fl entries other_kind kind of_lo
       log = ap (λ (h : Contents). h.last) page;
       hot = ap (λ h. is_hot (h 0)) place ∙ p.hot;
       row = λ i n. subst (λ h. IsRow (h i) (row_at v i)) (sym row) (p.row i n);
-      worker = workers_set g s t v w (record a { clock = suc a.clock; changes = changes }) b p l worker fl more (like_next w a c changes like) refl (λ n. more w b.end ((p.worker w l).ended n));
+      worker = workers_set g s t v w (record a { clock = suc a.clock; changes = changes }) b p l worker fl more (like_next a c changes like) refl (λ n. more w b.end ((p.worker w l).ended n));
       other = λ j m. others_still g s t v w (record a { clock = suc a.clock; changes = changes }) j p l worker (subst (λ (k : ℕ). k ≤ j) (length-set v.workers w b) m);
       records = λ i m. logs_set r s.entries v.logs w (record { number = b.clock.clock; what = Wrote k (find k v.pairs) x }) in_log kind of_log p.records i m ∙ sym (ap (λ (es : List Entry). count_of es i) entries);
       journal = p.journal ∙ sym (ap committed entries ∙ cond-false (is_commit r.kind) _ (committed s.entries) other_kind);

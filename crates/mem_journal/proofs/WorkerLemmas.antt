@@ -28,7 +28,7 @@ upd_apart f j i a n = cond-false (i == j) a (f i) (ne_eqb i j n)
 
 -- a worker that did not step, where no record was lost
 pub still : (s t : State) (i : ℕ) (b : own.Worker) → t.worker i ≡ s.worker i → t.flushed i ≡ s.flushed i → ((n : ℕ) → HasRecord s.entries i n → HasRecord t.entries i n) → IsWorker s i b → IsWorker t i b
-still s t i b e f more x = record { like = subst (λ (a : Worker). IsLike i a b) (sym e) x.like; flushed = f ∙ x.flushed; ended = λ l. more b.end (x.ended l) }
+still s t i b e f more x = record { like = subst (λ (a : Worker). IsLike a b) (sym e) x.like; flushed = f ∙ x.flushed; ended = λ l. more b.end (x.ended l) }
 
 pub record_more : (r : Entry) (es : List Entry) (w n : ℕ) → HasRecord es w n → HasRecord (r ∷ es) w n
 record_more r es w n h = go (is_record r.kind && ((r.log == w) && (r.number == n)))
@@ -39,40 +39,39 @@ record_more r es w n h = go (is_record r.kind && ((r.log == w) && (r.number == n
 
 -- ## Clocks
 
-owed_same : (w v f e d c n l : ℕ) → v ≡ w → f ≡ e → d ≡ c → owed w f d n l ≡ owed v e c n l
-owed_same w v f e d c n l p q r = ap (λ (z : ℕ). owed w z d n l) q ∙ (ap (λ (z : ℕ). owed w e z n l) r ∙ ap (λ (z : ℕ). owed z e c n l) (sym p))
+owed_same : (w f e d c n l : ℕ) → f ≡ e → d ≡ c → owed w f d n l ≡ owed w e c n l
+owed_same w f e d c n l q r = ap (λ (z : ℕ). owed w z d n l) q ∙ ap (λ (z : ℕ). owed w e z n l) r
 
-pub like_touch : (w : ℕ) (a : Worker) (b : own.Worker) (n l : ℕ) → IsLike w a b → IsLike w (touch w a n l) (record b { clock = clocks.after_touch b.clock n l })
+pub like_touch : (w : ℕ) (a : Worker) (b : own.Worker) (n l : ℕ) → IsLike a b → IsLike (touch w a n l) (record b { clock = clocks.after_touch w b.clock n l })
 like_touch w a b n l x = record {
-  log = x.log;
   clock = ap (λ (z : ℕ). max z n) x.clock;
   floor = x.floor;
-  debt = owed_same w b.clock.log a.floor b.clock.floor a.debt b.clock.debt n l x.log x.floor x.debt;
+  debt = owed_same w a.floor b.clock.floor a.debt b.clock.debt n l x.floor x.debt;
   txn = x.txn;
   end = x.end;
 }
 
-pub like_row : (w : ℕ) (a : Worker) (b : own.Worker) (o : Row) (r : rows.Row) → IsRow o r → IsLike w a b → IsLike w (at_row w a o) (record b { clock = clocks.after_raise (clocks.after_touch b.clock r.number r.log) r.read_end })
+pub like_row : (w : ℕ) (a : Worker) (b : own.Worker) (o : Row) (r : rows.Row) → IsRow o r → IsLike a b → IsLike (at_row w a o) (record b { clock = clocks.after_raise (clocks.after_touch w b.clock r.number r.log) r.read_end })
 like_row w a b o r y x =
-    let c : own.Worker = record b { clock = clocks.after_raise (clocks.after_touch b.clock r.number r.log) r.read_end } in
+    let c : own.Worker = record b { clock = clocks.after_raise (clocks.after_touch w b.clock r.number r.log) r.read_end } in
     let met : ℕ → ℕ → ℕ → Worker = λ n l e. let t = touch w a n l in record t { clock = max t.clock e } in
     let h = like_touch w a b r.number r.log x in
-    let now : IsLike w (met r.number r.log r.read_end) c = record { log = h.log; clock = ap (λ (z : ℕ). max z r.read_end) h.clock; floor = h.floor; debt = h.debt; txn = h.txn; end = h.end } in
-    subst (λ (z : ℕ). IsLike w (met z o.log o.read_end) c) (sym y.number)
-    (subst (λ (z : ℕ). IsLike w (met r.number z o.read_end) c) (sym y.log) (subst (λ (z : ℕ). IsLike w (met r.number r.log z) c) (sym y.read_end) now))
+    let now : IsLike (met r.number r.log r.read_end) c = record { clock = ap (λ (z : ℕ). max z r.read_end) h.clock; floor = h.floor; debt = h.debt; txn = h.txn; end = h.end } in
+    subst (λ (z : ℕ). IsLike (met z o.log o.read_end) c) (sym y.number)
+    (subst (λ (z : ℕ). IsLike (met r.number z o.read_end) c) (sym y.log) (subst (λ (z : ℕ). IsLike (met r.number r.log z) c) (sym y.read_end) now))
 
-pub like_begun : (w f : ℕ) (a : Worker) (b : own.Worker) → IsLike w a b → IsLike w (begun a f) (record b { clock = clocks.after_begin b.clock f; txn = suc b.txn })
-like_begun w f a b x = record { log = x.log; clock = x.clock; floor = refl; debt = ap (λ (d : ℕ). debt_at_begin d f) x.debt; txn = ap suc x.txn; end = x.end }
+pub like_begun : (f : ℕ) (a : Worker) (b : own.Worker) → IsLike a b → IsLike (begun a f) (record b { clock = clocks.after_begin b.clock f; txn = suc b.txn })
+like_begun f a b x = record { clock = x.clock; floor = refl; debt = ap (λ (d : ℕ). debt_at_begin d f) x.debt; txn = ap suc x.txn; end = x.end }
 
-pub like_next : (w : ℕ) (a : Worker) (b : own.Worker) (changes : List Entry) → IsLike w a b → IsLike w (record a { clock = suc a.clock; changes = changes }) (record b { clock = clocks.after_next b.clock })
-like_next w a b changes x = record { log = x.log; clock = ap suc x.clock; floor = x.floor; debt = x.debt; txn = x.txn; end = x.end }
+pub like_next : (a : Worker) (b : own.Worker) (changes : List Entry) → IsLike a b → IsLike (record a { clock = suc a.clock; changes = changes }) (record b { clock = clocks.after_next b.clock })
+like_next a b changes x = record { clock = ap suc x.clock; floor = x.floor; debt = x.debt; txn = x.txn; end = x.end }
 
-pub like_end : (w : ℕ) (a : Worker) (b : own.Worker) → IsLike w a b → IsLike w (finished a (suc a.clock)) (record b { clock = clocks.after_next b.clock; end = suc b.clock.clock })
-like_end w a b x = record { log = x.log; clock = ap suc x.clock; floor = x.floor; debt = x.debt; txn = x.txn; end = ap suc x.clock }
+pub like_end : (a : Worker) (b : own.Worker) → IsLike a b → IsLike (finished a (suc a.clock)) (record b { clock = clocks.after_next b.clock; end = suc b.clock.clock })
+like_end a b x = record { clock = ap suc x.clock; floor = x.floor; debt = x.debt; txn = x.txn; end = ap suc x.clock }
 
 -- ## Ends
 
-pub end_stands : (w f : ℕ) (commit : Bool) (a : Worker) (b : own.Worker) (es : List Entry) → IsLike w a b → HasRecord (end_entry (cond commit Kind.Commit Kind.Abort) w a f ∷ es) w (suc b.clock.clock)
+pub end_stands : (w f : ℕ) (commit : Bool) (a : Worker) (b : own.Worker) (es : List Entry) → IsLike a b → HasRecord (end_entry (cond commit Kind.Commit Kind.Abort) w a f ∷ es) w (suc b.clock.clock)
 end_stands w f commit a b es x = go commit
   where
     same : ((w == w) && (suc a.clock == suc b.clock.clock)) ≡ true
@@ -83,7 +82,7 @@ end_stands w f commit a b es x = go commit
     go false = ap (λ (p : Bool). p || any (λ r. is_record r.kind && ((r.log == w) && (r.number == suc b.clock.clock))) es) same
 
 -- a commit comes into the journal, and nothing else does
-pub ends_in : (w f : ℕ) (commit : Bool) (a : Worker) (b : own.Worker) (es : List Entry) (journal : List Receipt) → IsLike w a b → journal ≡ committed es →
+pub ends_in : (w f : ℕ) (commit : Bool) (a : Worker) (b : own.Worker) (es : List Entry) (journal : List Receipt) → IsLike a b → journal ≡ committed es →
     cond commit (journal ++ record { txn = b.txn; log = w; gsn = suc b.clock.clock; need = need_of b.clock.debt f } ∷ []) journal ≡ committed (end_entry (cond commit Kind.Commit Kind.Abort) w a f ∷ es)
 ends_in w f true a b es journal x e = ap₂ (λ (xs : List Receipt) (y : Receipt). xs ++ y ∷ []) e says
   where

@@ -65,15 +65,15 @@ after_begin v w f = let b = worker_at v w in with_worker v w (record b { clock =
 -- w takes the row
 abbrev pub after_lock : View → (w i : ℕ) → Mode → View
 after_lock v w i mode = let b = worker_at v w in let r = row_at v i in
-    record (with_worker v w (record b { clock = clocks.after_raise (clocks.after_touch b.clock r.number r.log) r.read_end })) { rows = slice_set v.rows i (row_locked r w mode) }
+    record (with_worker v w (record b { clock = clocks.after_raise (clocks.after_touch w b.clock r.number r.log) r.read_end })) { rows = slice_set v.rows i (row_locked r w mode) }
 
 -- w looks at the leaf
 abbrev pub after_read : View → (w : ℕ) → View
-after_read v w = let b = worker_at v w in with_worker v w (record b { clock = clocks.after_touch b.clock v.number v.log })
+after_read v w = let b = worker_at v w in with_worker v w (record b { clock = clocks.after_touch w b.clock v.number v.log })
 
 -- and writes there, which its log says
 abbrev pub after_write : View → (w k x : ℕ) → View
-after_write v w k x = let b = worker_at v w in let c = clocks.after_next (clocks.after_touch b.clock v.number v.log) in
+after_write v w k x = let b = worker_at v w in let c = clocks.after_next (clocks.after_touch w b.clock v.number v.log) in
     record (with_worker v w (record b { clock = c })) { logs = with_record v.logs w (record { number = c.clock; what = Wrote k (find k v.pairs) x }); pairs = put k x v.pairs; number = c.clock; log = w }
 
 -- what the end of w's transaction says

@@ -8,19 +8,18 @@ use Rattle.mem_journal.specs.declared.worker.Worker.{Worker}
 
 -- no worker
 abbrev pub no_worker : Worker
-no_worker = record { clock = record { log = 0; clock = 0; floor = 0; debt = 0 }; txn = 0; end = 0; flushed = 0 }
+no_worker = record { clock = record { clock = 0; floor = 0; debt = 0 }; txn = 0; end = 0; flushed = 0 }
 
--- the worker of this log, at the start
-abbrev pub new_worker : (log base : ℕ) → Worker
-new_worker log base = record { clock = record { log = log; clock = base; floor = base; debt = 0 }; txn = 0; end = base; flushed = base }
+-- a worker at the start
+abbrev pub new_worker : (base : ℕ) → Worker
+new_worker base = record { clock = record { clock = base; floor = base; debt = 0 }; txn = 0; end = base; flushed = base }
 
 -- log w has a record of this number
 abbrev pub HasRecord : List Entry → (w n : ℕ) → Type 0
 HasRecord entries w n = any (λ r. is_record r.kind && ((r.log == w) && (r.number == n))) entries ≡ true
 
--- it is the core's worker w, but for what its transaction is
-pub record IsLike (w : ℕ) (a : core.Worker) (b : Worker) : Type 0 where
-  pub log : b.clock.log ≡ w
+-- it is the core's worker, but for what its transaction is
+pub record IsLike (a : core.Worker) (b : Worker) : Type 0 where
   pub clock : a.clock ≡ b.clock.clock
   pub floor : a.floor ≡ b.clock.floor
   pub debt : a.debt ≡ b.clock.debt
@@ -29,7 +28,7 @@ pub record IsLike (w : ℕ) (a : core.Worker) (b : Worker) : Type 0 where
 
 -- and knows how far its log is flushed; its last end stands in its log, where it is not flushed
 pub record IsWorker (s : core.State) (w : ℕ) (b : Worker) : Type 0 where
-  pub like : IsLike w (s.worker w) b
+  pub like : IsLike (s.worker w) b
   pub flushed : s.flushed w ≡ b.flushed
   pub ended : b.flushed < b.end → HasRecord s.entries w b.end
 

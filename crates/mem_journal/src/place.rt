@@ -87,15 +87,12 @@ impl MemJournal {
         ensures rows { IfOk result (λ p. length p.rows.items ≡ rows) }
         ensures stands { IfOk result (λ p. (g : Opening) → IsEmpty g sessions base keys places → Pictures g (start g) (view_of p)) }
     {
-        let mut workers = Vec::new(alloc);
-        for log in 0..sessions + 1 {
-            workers.push(Worker {
-                clock: Clock::new(log, base),
-                txn: 0,
-                end: base,
-                flushed: base,
-            })?;
-        }
+        let worker = Worker {
+            clock: Clock::new(base),
+            txn: 0,
+            end: base,
+            flushed: base,
+        };
         Ok(MemJournal {
             alloc,
             entries: Vec::new(alloc),
@@ -104,7 +101,7 @@ impl MemJournal {
             keys,
             places,
             rows: vec![in alloc; NO_ROW; rows as usize]?,
-            workers,
+            workers: vec![in alloc; worker; sessions as usize + 1]?,
             logs: log::empty_logs(alloc, sessions + 1, room)?,
             base,
             journal: Vec::new(alloc),
@@ -194,7 +191,7 @@ impl MemJournal {
         let was = self.rows[row as usize];
         self.rows[row as usize] = was.locked(w, mode);
         let mut worker = self.workers[w as usize];
-        worker.clock.touch(was.number, was.log);
+        worker.clock.touch(w, was.number, was.log);
         worker.clock.raise(was.read_end);
         self.workers[w as usize] = worker;
     }
@@ -205,7 +202,7 @@ impl MemJournal {
         ensures { view_of self.new ≡ after_read (view_of self.old) w }
     {
         let mut worker = self.workers[w as usize];
-        worker.clock.touch(self.number, self.log);
+        worker.clock.touch(w, self.number, self.log);
         self.workers[w as usize] = worker;
     }
 
@@ -220,7 +217,7 @@ impl MemJournal {
     {
         let entries = entries::put(self.alloc, &self.entries, key, word)?;
         let mut worker = self.workers[w as usize];
-        worker.clock.touch(self.number, self.log);
+        worker.clock.touch(w, self.number, self.log);
         let number = worker.clock.next();
         let what = What::Wrote {
             key,

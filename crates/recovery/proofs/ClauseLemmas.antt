@@ -115,6 +115,7 @@ module _ {most : ℕ} (it : Prepared) (readied : IsReadied it) (openable : IsOpe
     tree = subst (λ (k : Master). IsTree (format_of k.pages) (nodes_of r.pages.items)) (sym master)
         (subst (λ xs. IsTree (format_of it.master.pages) (nodes_of xs.items)) (sym pages) readied.tree);
     numbers = λ p v e. subst (λ (k : Master). v.gsn ≤ k.floor) (sym master) (readied.numbers p v (ap (λ xs. slice_get xs.items p) (sym pages) ∙ e));
+    logs = λ p v e. readied.logs p v (ap (λ xs. slice_get xs.items p) (sym pages) ∙ e);
     master = subst IsOfSlot (sym master) (slot_of (next_master it.master it.base), next_master_valid);
   }
     where

@@ -54,6 +54,8 @@ pub record IsWhole (r : Recovered) : Type 0 where
   pub tree : IsTree (format_of r.master.pages) (nodes_of r.pages.items)
   -- no page has a number above the floor
   pub numbers : (p : ℕ) (v : Page) → slice_get r.pages.items p ≡ Some v → v.gsn ≤ r.master.floor
+  -- and the log of each page's last record fits a byte
+  pub logs : (p : ℕ) (v : Page) → slice_get r.pages.items p ≡ Some v → v.last_log < 256
   pub master : (slot : ℕ) × IsMaster slot r.master
 
 -- a crash leaves nothing else of the area

@@ -63,7 +63,7 @@ staged_second es e r g s0 n first was is old new stages no_cut records run =
 -- A call before which these events of the row have happened.
 some_of : (es rest : List Event) (g : Opening) (s0 : Crash) (n : Master) (old new : Story) → es ++ rest ≡ events → LeavesOnly old new (LeavesRun g es s0 n) → LeavesOnly old new (LeavesSome g [] events s0 n)
 some_of es rest g s0 n old new is run = moments.weaker old new (LeavesRun g es s0 n) (LeavesSome g [] events s0 n)
-    (λ c l fair. record { first = es; rest = rest; is = is; master = n; no_earlier = same n; holds = l fair }) run
+    (λ c l fair. record { first = es; rest = rest; is = is; master = n; no_earlier = same es n; holds = l fair }) run
 
 -- the moments of a call on log 1, whatever has happened
 pub moments_here : (es : List Event) (was second : Log) (old new : Story) → KeepsMoments 1 was old new → (g : Opening) (s0 : Crash) (n : Master) → Runs es g s0 n was second old → LeavesOnly old new (LeavesRun g es s0 n)

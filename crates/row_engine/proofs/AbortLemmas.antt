@@ -21,7 +21,8 @@ use Rattle.core_state.specs.Steps.{AllMet, end_entry, ends, run, state_after, st
 use Rattle.core_state.proofs.Runs.{met_more, run_more}
 use Rattle.core_calls.specs.Deeds.{Deed, Outcome, Refused, marks_by, put_backs}
 use Rattle.core_calls.specs.Fronts.{Done, front, outcomes}
-use Rattle.core_calls.specs.LogEvents.{AreSyncs, RefusedLogs, is_log}
+use Rattle.core_calls.specs.LogEvents.{IsTightSomewhere, RefusedLogs, is_log}
+use Rattle.core_calls.proofs.WhereLemmas.{refused_kept, syncs_kept}
 use Rattle.core_calls.specs.Marks.{Mark, is_half}
 use Rattle.core_calls.specs.Refusals.{IsHindered}
 use Rattle.core_calls.specs.Runs.{EachTells, IsRefused, Tells}
@@ -60,10 +61,10 @@ use Rattle.row_opening.specs.Openings.{EveryNeed, EveryReached}
 use Rattle.rows_trait.specs.declared.view.View.{View}
 use Rattle.rows_trait.specs.Views.{Shape, state}
 use Rattle.btree_smo.specs.Outcomes.{AreMisses}
-use Rattle.row_engine.specs.Aborts.{abort_of}
-use Rattle.row_engine.specs.Backs.{HasFailedBack, Undoes, Undone, is_back}
+use Rattle.row_engine.specs.Inside.Aborts.{abort_of}
+use Rattle.row_engine.specs.Inside.Backs.{HasFailedBack, Undoes, Undone, is_back}
 use Rattle.row_engine.specs.Calls.{DoesOn}
-use Rattle.row_engine.specs.Ends.{Ended, Missed, end_of, gives}
+use Rattle.row_engine.specs.Inside.Ends.{Ended, Missed, end_of, gives}
 use Rattle.row_engine.specs.Grown.{Behind, Goes, Went}
 use Rattle.row_engine.specs.Holds.{Holds, IsOf}
 use Rattle.row_engine.specs.Puts.{KeepsLog}
@@ -159,7 +160,7 @@ none_due g xs own _ other = tt
 -- ## In a run
 
 module _ (reached : EveryReached) (needs : EveryNeed) (answers : EveryAnswer) (coming : EveryComing) (entries : EveryEntry) (parts : (old mid new : Story) → EveryPart old mid new)
-    (g : Opening) (xs : List Done) (z : Shape) (v : View) (x : Session) (log : Log) (h : Holds z v x log) (t : Ties g x.group xs x.own x.half v) (c : Call) (due : IsAbortDue xs x.own x.is_open c) where
+    (g : Opening) (xs : List Done) (z : Shape) (v : View) (x : Session) (log : Log) (h : Holds z v x log) (t : Ties g x.group xs x.own x.is_half_aborted v) (c : Call) (due : IsAbortDue xs x.own x.is_open c) where
   abbrev first : List happening.Event
   first = t.loads
 
@@ -209,6 +210,9 @@ module _ (reached : EveryReached) (needs : EveryNeed) (answers : EveryAnswer) (c
     few_backs : length backs ≤ length x.undo
     few_backs = let a = d.fewer in let n = length_events d.events in omega arith
 
+    few_first : length fs ≤ 2 ^ 18
+    few_first = let a = t.few in let e = length-append first backs in let l = few_backs in let i = h.numbers.few in omega arith
+
     allowed : AreBacks x.own fs
     allowed = all_append (puts_back x.own) first backs (of_loads first t.are_loads) facts.allowed
       where
@@ -257,11 +261,12 @@ module _ (reached : EveryReached) (needs : EveryNeed) (answers : EveryAnswer) (c
       is_halved : IsHalved limits g xs x.own c es
       is_halved = record {
         comes = abort_comes coming xs x.own x.is_open c due half_done.outcome refl (λ e. tt) (refl, refl);
+        asks = asks;
         met = behind_es.met;
         backs = subst (PutsBack x.own) (sym (keep_append is_step fs misses ∙ (ap (λ ys. keep is_step fs ++ ys) (keep_none is_step misses (misses_steps m.misses m.are_misses)) ∙ (append-nil (keep is_step fs) ∙ steps_are)))) facts.steps;
         structure = any_append is_structure fs misses structure (misses_structure m.misses m.are_misses);
         cause = many_es;
-        due = subst (λ ys. RefusedLogs limits g xs x.own c refusal.RowSpent ys) (sym (keep_append is_log fs misses ∙ (ap (λ ys. keep is_log fs ++ ys) (keep_none is_log misses (misses_log m.misses m.are_misses)) ∙ (append-nil (keep is_log fs) ∙ logs_are)))) (none_due g xs x.own c (not_begin g x.group xs x.own x.is_open c due t.told));
+        due = refused_kept limits g xs x.own c refusal.RowSpent es (none_due g xs x.own c (not_begin g x.group xs x.own x.is_open c due t.told)) (keep_append is_log fs misses ∙ (ap (λ ys. keep is_log fs ++ ys) (keep_none is_log misses (misses_log m.misses m.are_misses)) ∙ (append-nil (keep is_log fs) ∙ logs_are)));
       }
         where
           many_es : 2 ^ 61 ≤ length (front xs ++ es)
@@ -274,9 +279,9 @@ module _ (reached : EveryReached) (needs : EveryNeed) (answers : EveryAnswer) (c
       half_told : Tells limits g x.group xs half_done
       half_told = (answers limits g x.group xs).halved x.own c es is_halved
 
-      half_is : is_half_done x.own (half_done ∷ xs) ≡ y.half
+      half_is : is_half_done x.own (half_done ∷ xs) ≡ y.is_half_aborted
       half_is = behind.half_own x.own half_done xs refl ∙ half_with (backs_by g begun es []) (marks_by x.own (outcomes xs))
-          ∙ ((λ i. cond (told_none m.misses m.are_misses behind_es.met i) (t.half_is i) true) ∙ sym d.half)
+          ∙ ((λ i. cond (told_none m.misses m.are_misses behind_es.met i) (t.half_is i) true) ∙ sym d.is_half_aborted)
 
       events_are : es ≡ first ++ (backs ++ misses)
       events_are = append_assoc first backs misses
@@ -295,7 +300,7 @@ module _ (reached : EveryReached) (needs : EveryNeed) (answers : EveryAnswer) (c
       went_es : (s0 : Crash) (k : Known) → Between limits g x.group xs s0 k st → k.log x.own ≡ log → Went x.own g xs s0 k es mid st new
       went_es s0 k bt is = went_quiet parts x.own x.group g h.rows.low high xs s0 k st bt fs misses (misses_quiet m.misses m.are_misses) mid new (goes g xs first b s0 k bt (went_first st lawful s0 k bt is))
 
-      pub halved_does : DoesOn g x.group xs x.own c (answer.Refused refusal.RowSpent) y.half w log mid st new
+      pub halved_does : DoesOn g x.group xs x.own c (answer.Refused refusal.RowSpent) y.is_half_aborted w log mid st new
       halved_does = record {
         does = record {
           done = half_done;
@@ -312,7 +317,8 @@ module _ (reached : EveryReached) (needs : EveryNeed) (answers : EveryAnswer) (c
             refused = λ why e. inr (sym (refused_is refusal.RowSpent why e));
             refuses = λ why e. inr refl;
             log = λ _. subst (λ k. Logs x.own g k (backs ++ misses) log mid) (sym (behind.front_is g xs first)) (logs_same x.own g (behind_first g xs first) backs misses log mid (misses_are m.misses m.are_misses) q.logs);
-            room = subst (λ d. MakesItsRoom g (state_after g (front xs ++ first)) d (backs ++ misses)) (sym asks) (any_append is_structure backs misses facts.structure (misses_structure m.misses m.are_misses));
+            still = λ _ _. any_append is_structure backs misses facts.structure (misses_structure m.misses m.are_misses);
+            room = subst (λ d. MakesItsRoom x.own g (state_after g (front xs ++ first)) d (backs ++ misses)) (sym asks) (any_append is_structure backs misses facts.structure (misses_structure m.misses m.are_misses));
           };
           frame = frame;
           keeps = λ s0 k bt is. let a = went_es s0 k bt is in behind.keeps_by g x.group xs half_done s0 k a.known mid st new a.gone half_told a.log_is a.others a.master_is a.within;
@@ -333,7 +339,7 @@ module _ (reached : EveryReached) (needs : EveryNeed) (answers : EveryAnswer) (c
       pub unended : (new : Story) → KeepsLog x.own mid old new → Fails g x.group xs x.own c log st new
       unended new o = record {
         frame = framed_then (suc x.own) st old new frame o.frame;
-        leaves = λ s0 k bt is. let a = went_failed parts x.own x.group g h.rows.low high xs s0 k st bt fs mid old new (went_here s0 k bt is) o in record { stops = Nothing fs (subst (λ e. IsRoomFor g xs x.own e fs) (sym asks) allowed) a.0; within = a.1 };
+        leaves = λ s0 k bt is. let a = went_failed parts x.own x.group g h.rows.low high xs s0 k st bt fs mid old new (went_here s0 k bt is) o in record { stops = Nothing fs (subst (λ e. IsRoomFor g xs x.own e fs) (sym asks) (allowed, few_first)) a.0; within = a.1 };
       }
 
       module _ (floor : ℕ) (floor_at : floor ≡ flushed_by_all (opening u.given) (state u).core) (w : View) (e : Ended x.own (length y.held.rows) u false floor w) where
@@ -349,7 +355,7 @@ module _ (reached : EveryReached) (needs : EveryNeed) (answers : EveryAnswer) (c
         r_is : r ≡ abort_record (here.worker x.own) floor
         r_is = λ i. record { txn = sym of_here.txn i; gsn = gsn i; body = body.Abort (need_of (sym of_here.debt i) floor) }
           where
-            gsn : suc y.clock ≡ suc (here.worker x.own).clock
+            gsn : suc y.clock.clock ≡ suc (here.worker x.own).clock
             gsn = ap suc (sym of_here.clock)
 
         all_is : floor ≡ flushed_by_all g here
@@ -362,7 +368,7 @@ module _ (reached : EveryReached) (needs : EveryNeed) (answers : EveryAnswer) (c
         lead = fs ++ end_of x.own false floor rows
 
         abbrev done : Done
-        done = aborted_by g xs c fs x.own y.txn (suc y.clock) floor rows
+        done = aborted_by g xs c fs x.own y.txn (suc y.clock.clock) floor rows
 
         end_met : AllMet g here (end_of x.own false floor rows)
         end_met = ending_met needs g u q.behind.opens here core_here x.own false floor rows e.met
@@ -377,14 +383,14 @@ module _ (reached : EveryReached) (needs : EveryNeed) (answers : EveryAnswer) (c
         core_lead : (state w).core ≡ behind_first g xs lead
         core_lead = behind.core_is reached needs g xs lead w behind_lead
 
-        is_abort : IsAbort g xs c fs x.own y.txn (suc y.clock) floor rows r
+        is_abort : IsAbort g xs c fs x.own y.txn (suc y.clock.clock) floor rows r
         is_abort = record {
           comes = abort_comes coming xs x.own x.is_open c due done.outcome refl (λ e. e) refl;
           low = h.rows.low;
           high = high;
           backs = subst (PutsBack x.own) (sym steps_are) facts.steps;
           structure = structure;
-          syncs = subst (AreSyncs false) (sym logs_are) tt;
+          syncs = syncs_kept (IsTightSomewhere g) g fs (state_after g (front xs)) logs_are;
           met = behind_lead.met;
           flushed = all_is;
           number_is = sym of_here.txn;
@@ -394,7 +400,7 @@ module _ (reached : EveryReached) (needs : EveryNeed) (answers : EveryAnswer) (c
         }
 
         told : Tells limits g x.group xs done
-        told = (answers limits g x.group xs).abort c fs x.own y.txn (suc y.clock) floor rows r is_abort
+        told = (answers limits g x.group xs).abort c fs x.own y.txn (suc y.clock.clock) floor rows r is_abort
 
         abbrev entry_here : Entry
         entry_here = end_entry Kind.Abort x.own (here.worker x.own) floor
@@ -474,7 +480,8 @@ module _ (reached : EveryReached) (needs : EveryNeed) (answers : EveryAnswer) (c
                 refuses = λ why k. absurd (not_refused why ((state_after g (front xs ++ first)).worker x.own).is_open (open_there ∙ opened)
                     ((λ i. refusal_in g (state_after g (front xs ++ first)) x.own (is_half_done x.own xs) log (sym asks i)) ∙ k));
                 log = λ _. logged;
-                room = subst (λ e. MakesItsRoom g (state_after g (front xs ++ first)) e (backs ++ end_of x.own false floor rows)) (sym asks) (any_append is_structure backs (end_of x.own false floor rows) facts.structure (unlocks_none rows));
+                still = λ _ _. any_append is_structure backs (end_of x.own false floor rows) facts.structure (unlocks_none rows);
+                room = subst (λ e. MakesItsRoom x.own g (state_after g (front xs ++ first)) e (backs ++ end_of x.own false floor rows)) (sym asks) (any_append is_structure backs (end_of x.own false floor rows) facts.structure (unlocks_none rows));
               };
               frame = frame_all;
               keeps = λ s0 k bt k_is. let a = went_lead s0 k bt k_is in behind.keeps_by g x.group xs done s0 k a.known is st new a.gone told a.log_is a.others a.master_is a.within;
@@ -495,5 +502,5 @@ module _ (reached : EveryReached) (needs : EveryNeed) (answers : EveryAnswer) (c
   pub failed_back : (old new : Story) → IsLawful old → HasFailedBack v x log old new → Fails g x.group xs x.own c log old new
   failed_back old new lawful f = record {
     frame = f.frame;
-    leaves = λ s0 k bt is. let l = f.leaves g xs first b s0 k bt (went_first old lawful s0 k bt is) in record { stops = Nothing (fs f.view f.session f.log f.undoes) (subst (λ e. IsRoomFor g xs x.own e (fs f.view f.session f.log f.undoes)) (sym asks) (allowed f.view f.session f.log f.undoes)) l.0; within = l.1 };
+    leaves = λ s0 k bt is. let l = f.leaves g xs first b s0 k bt (went_first old lawful s0 k bt is) in record { stops = Nothing (fs f.view f.session f.log f.undoes) (subst (λ e. IsRoomFor g xs x.own e (fs f.view f.session f.log f.undoes)) (sym asks) (allowed f.view f.session f.log f.undoes, few_first f.view f.session f.log f.undoes)) l.0; within = l.1 };
   }

@@ -30,10 +30,11 @@ use Rattle.rows_trait.specs.declared.view.View.{View}
 use Rattle.lean_proto.specs.declared.change.Write.TheVariants as write
 use Rattle.lean_proto.specs.Writes.{IsNewest}
 use Rattle.btree_descent.specs.Puts.{DrawsFor, MayPutBack, Written, back_of}
-use Rattle.row_engine.specs.Backs.{IsPutBack}
+use Rattle.flush_avoidance.specs.Clocks.{risen}
+use Rattle.row_engine.specs.Inside.Backs.{IsPutBack}
 use Rattle.row_engine.specs.Holds.{AreNumbers, Holds, IsOf}
 use Rattle.row_engine.specs.Numbers.{AreLow, AreNumbered}
-use Rattle.row_engine.specs.Staging.{Staging, session_clock}
+use Rattle.row_engine.specs.Staging.{Staging}
 use Rattle.row_engine.specs.Undo.{HasRoomToUndo, newest_of, undo_of, without_newest}
 use Rattle.row_engine.specs.declared.session.Session.{Session}
 use Rattle.row_engine.specs.declared.undo.Undone.{Undone}
@@ -72,14 +73,14 @@ newest_in u us (c ∷ cs) e n =
 -- ## The session
 
 -- an abort is under way
-half_set : (x : Session) (half : Bool) (f : x.own ≤ 16) → record x { half = half; few = f } ≡ record x { half = half }
-half_set x half f i = record x { half = half; few = le_prop f x.few i }
+half_set : (x : Session) (is_half_aborted : Bool) (f : x.own ≤ 16) → record x { is_half_aborted = is_half_aborted; few = f } ≡ record x { is_half_aborted = is_half_aborted }
+half_set x is_half_aborted f i = record x { is_half_aborted = is_half_aborted; few = le_prop f x.few i }
 
 -- or it is not any more, and all is as it was
-pub half_back : (x y : Session) (f : x.own ≤ 16) (k : y.own ≤ 16) → y ≡ record x { half = true; few = f } → record y { half = x.half; few = k } ≡ x
+pub half_back : (x y : Session) (f : x.own ≤ 16) (k : y.own ≤ 16) → y ≡ record x { is_half_aborted = true; few = f } → record y { is_half_aborted = x.is_half_aborted; few = k } ≡ x
 half_back x y f k e =
-    (λ i. record y { half = x.half; few = le_prop k y.few i })
-    ∙ ((λ i. record (e i) { half = x.half })
+    (λ i. record y { is_half_aborted = x.is_half_aborted; few = le_prop k y.few i })
+    ∙ ((λ i. record (e i) { is_half_aborted = x.is_half_aborted })
     ∙ (λ i. record x { few = le_prop f x.few i }))
 
 -- ## What a put-back needs
@@ -88,7 +89,7 @@ half_back x y f k e =
 pub low_of : (z : Shape) (v : View) (x : Session) (log : Log) → Holds z v x log → x.is_open ≡ true → AreLow x.workers (state v).core
 low_of z v x log h is_open = numbered_open x.workers (state v).core x.own h.rows.most h.rows.low h.rows.high (h.session.is_open ∙ is_open) h.numbered
 
-pub clock_low : (z : Shape) (v : View) (x : Session) (log : Log) → Holds z v x log → x.is_open ≡ true → x.clock < 2 ^ 63
+pub clock_low : (z : Shape) (v : View) (x : Session) (log : Log) → Holds z v x log → x.is_open ≡ true → x.clock.clock < 2 ^ 63
 clock_low z v x log h is_open =
     let l = low_of z v x log h is_open in
     let top = low_small x.workers (state v).core h.rows.most l in
@@ -97,7 +98,7 @@ clock_low z v x log h is_open =
     omega arith
 
 -- so one more may be drawn
-pub draws_back : (z : Shape) (v : View) (x : Session) (log : Log) → Holds z v x log → x.is_open ≡ true → DrawsFor v x.own x.own x.txn (session_clock x) log.last
+pub draws_back : (z : Shape) (v : View) (x : Session) (log : Log) → Holds z v x log → x.is_open ≡ true → DrawsFor v x.own x.own x.txn x.clock log.last
 draws_back z v x log h is_open = record {
   log = refl;
   txn = sym h.session.txn;
@@ -146,7 +147,7 @@ written_live r p n is true = ap (λ kind. (applied_as kind r p n.node).live) is 
     put_live false = refl
 
 module _ (rooms : EveryRoom) (z : Shape) (v w : View) (x : Session) (log : Log) (h : Holds z v x log) (u : Undone) (is_open : x.is_open ≡ true) (newest : newest_of x.undo ≡ Some u) (before : Option ℕ) (few : x.own ≤ 16) (rs now : List Record) (y : Session) (log_now : Log)
-    (d : Written write.PutBack z.alone x.own u.key u.word before v rs w (session_clock y) now) where
+    (d : Written write.PutBack z.alone x.own u.key u.word before v rs w y.clock now) where
   abbrev s : State
   s = (state v).core
 
@@ -191,14 +192,14 @@ module _ (rooms : EveryRoom) (z : Shape) (v w : View) (x : Session) (log : Log) 
   worker_is : behind.worker x.own ≡ restored
   worker_is = upd_same s.worker x.own restored x.own refl
 
-  clock_is : y.clock ≡ suc a.clock
+  clock_is : y.clock.clock ≡ suc a.clock
   clock_is = ap (λ c. c.clock) d.clock ∙ (ap (λ k. (k.worker x.own).clock) core_is ∙ ap (λ (k : Worker). k.clock) worker_is)
 
-  debt_is : y.debt ≡ a.debt
+  debt_is : y.clock.debt ≡ a.debt
   debt_is = ap (λ c. c.debt) d.clock ∙ (ap (λ k. (k.worker x.own).debt) core_is ∙ ap (λ (k : Worker). k.debt) worker_is)
 
   -- the clock has risen
-  clock_above : suc x.clock ≤ y.clock
+  clock_above : suc x.clock.clock ≤ y.clock.clock
   clock_above = let q = h.session.clock in let c = clock_is in omega arith
 
   -- its record
@@ -208,12 +209,12 @@ module _ (rooms : EveryRoom) (z : Shape) (v w : View) (x : Session) (log : Log) 
   staged_is : now ≡ entry ∷ rs
   staged_is = d.staged ∙ (λ i. back_of (opening (d.ran.given i)) (after_all (d.ran.given i) (past_is i)).core x.own page (sym b.key i) (sym b.before i) ∷ rs)
 
-  module _ (old new : Story) (S : Type 0) (f0 f1 : ℕ) (held : w.held ≡ []) (staging : Staging (Ok tt) (record x { half = true; few = few }) y rs now log log_now old new S f0 f1) (last : log_now.last ≡ y.clock) where
-    st : Staging (Ok tt) (record x { half = true }) y rs now log log_now old new S f0 f1
+  module _ (old new : Story) (S : Type 0) (f0 f1 : ℕ) (held : w.held ≡ []) (staging : Staging (Ok tt) (record x { is_half_aborted = true; few = few }) y rs now log log_now old new S f0 f1) (last : log_now.last ≡ y.clock.clock) where
+    st : Staging (Ok tt) (record x { is_half_aborted = true }) y rs now log log_now old new S f0 f1
     st = subst (λ (k : Session). Staging (Ok tt) k y rs now log log_now old new S f0 f1) (half_set x true few) staging
 
     abbrev next : Session
-    next = record x { half = true; clock = y.clock; debt = y.debt; undo = without_newest x.undo }
+    next = record x { is_half_aborted = true; clock = risen x.clock y.clock; undo = without_newest x.undo }
 
     entry_told : st.came.entry ≡ entry
     entry_told = let q : st.came.entry ∷ rs ≡ entry ∷ rs = sym st.came.told ∙ staged_is in cc
@@ -276,7 +277,7 @@ module _ (rooms : EveryRoom) (z : Shape) (v w : View) (x : Session) (log : Log) 
       numbers = numbers_on;
       numbered = numbered_on;
       flushed = ap (λ k. k.flushed x.own) core_is ∙ (h.flushed ∙ sym flushed_is);
-      floor = subst (λ n. x.floor ≤ n) (λ i. flushed_by_all (opening (sym d.ran.given i)) (sym core_is i)) h.floor;
+      floor = subst (λ n. x.clock.floor ≤ n) (λ i. flushed_by_all (opening (sym d.ran.given i)) (sym core_is i)) h.floor;
       behind = ap (λ k. commits.behind k x.own) core_is ∙ h.behind;
       resident = resident_on z v w d.ran.given (ap (λ k. k.place) core_is) h.resident;
       held = λ i. subst (λ k. holds_row (k.row i) x.own ≡ true ↔ Has i x.held.rows) (sym core_is) (h.held i);
@@ -304,7 +305,7 @@ module _ (rooms : EveryRoom) (z : Shape) (v w : View) (x : Session) (log : Log) 
       entry_is = ap (λ (k : State). k.entries) happens_is ∙ ap (λ (q : Record). entry_of x.own q ∷ s.entries) (sym entry_told);
       after = st.came.after;
       stands = st.came.stands;
-      keeps = record { on = st.on; frame = st.frame; within = st.within };
+      keeps = st.came.keeps;
       session = session_is;
       fewer = ap (λ (k : Session). suc (length k.undo)) session_is ∙ left_is;
     }

@@ -33,8 +33,9 @@ use Rattle.row_words.specs.Openings.{opening}
 use Rattle.row_opening.specs.Openings.{EveryNeed, EveryReached, Opens}
 use Rattle.rows_trait.specs.declared.view.View.{View}
 use Rattle.rows_trait.specs.Views.{after_all, state}
+use Rattle.flush_avoidance.specs.Clocks.{risen}
 use Rattle.row_engine.specs.declared.session.Session.{Session}
-use Rattle.row_engine.specs.Backs.{IsPutBack, Undoes, Undone, is_back}
+use Rattle.row_engine.specs.Inside.Backs.{IsPutBack, Undoes, Undone, is_back}
 use Rattle.row_engine.specs.Others.{Steps}
 use Rattle.row_engine.specs.Grown.{Behind, Goes, Went}
 use Rattle.row_engine.proofs.OnOwn.{logs_own}
@@ -184,7 +185,7 @@ module _ (reached : EveryReached) (need : EveryNeed) (parts : (old mid new : Sto
     flushed = same_flushed v w given seen;
     steps = no_steps x.own v w given seen;
     session = refl;
-    half = refl;
+    is_half_aborted = refl;
     fewer = omega arith;
     run = λ g xs start b. record {
       behind = subst (λ es. Behind g xs es w) (sym (append-nil start)) (record { opens = subst (λ q. Opens g q) (sym given) b.opens; met = b.met; seen = (λ i. events_of (given i).before ++ events_of (seen i)) ∙ b.seen });
@@ -234,7 +235,7 @@ module _ (reached : EveryReached) (need : EveryNeed) (parts : (old mid new : Sto
       flushed = flushed_more;
       steps = steps_more;
       session = session_is y z x c.session d.session;
-      half = ap (λ (q : Session). q.half) c.session ∙ sym (some_events d.events x.half);
+      is_half_aborted = ap (λ (q : Session). q.is_half_aborted) c.session ∙ sym (some_events d.events x.is_half_aborted);
       fewer = let a = d.fewer in let b = c.fewer in let l = length-append d.events (event.PutBack z.own c.page ∷ []) in omega arith;
       run = run_more_on;
     }
@@ -243,8 +244,8 @@ module _ (reached : EveryReached) (need : EveryNeed) (parts : (old mid new : Sto
         some_events [] h = refl
         some_events (e ∷ es) h = refl
 
-        session_is : (y z x : Session) → y ≡ record z { half = true; clock = y.clock; debt = y.debt; undo = Rattle.row_engine.specs.Undo.without_newest z.undo } → z ≡ record x { half = z.half; clock = z.clock; debt = z.debt; undo = z.undo } → y ≡ record x { half = y.half; clock = y.clock; debt = y.debt; undo = y.undo }
-        session_is y z x p q = (λ i. record (p i) { half = y.half; clock = y.clock; debt = y.debt; undo = y.undo }) ∙ (λ i. record (q i) { half = y.half; clock = y.clock; debt = y.debt; undo = y.undo })
+        session_is : (y z x : Session) → y ≡ record z { is_half_aborted = true; clock = risen z.clock y.clock; undo = Rattle.row_engine.specs.Undo.without_newest z.undo } → z ≡ record x { is_half_aborted = z.is_half_aborted; clock = risen x.clock z.clock; undo = z.undo } → y ≡ record x { is_half_aborted = y.is_half_aborted; clock = risen x.clock y.clock; undo = y.undo }
+        session_is y z x p q = (λ i. record (p i) { is_half_aborted = y.is_half_aborted; clock = risen (p i).clock y.clock; undo = y.undo }) ∙ (λ i. record (q i) { is_half_aborted = y.is_half_aborted; clock = risen (q i).clock y.clock; undo = y.undo })
 
     pub goes_back : (old : Story) → Goes x.own x.group d.events v was mid old s → Goes x.own x.group (d.events ++ event.PutBack z.own c.page ∷ []) v was is old new
     goes_back old go g xs start b s0 k bt at0 = went_more_on g xs start b x.group s0 k old bt (go g xs start b s0 k bt at0)
@@ -258,7 +259,7 @@ module _ (reached : EveryReached) (need : EveryNeed) (parts : (old mid new : Sto
     flushed = same_flushed u w given seen ∙ d.flushed;
     steps = every_steps x.own v u w d.steps (no_steps x.own u w given seen);
     session = d.session;
-    half = d.half;
+    is_half_aborted = d.is_half_aborted;
     fewer = d.fewer;
     run = λ g xs start b. let q = d.run g xs start b in record {
       behind = record { opens = subst (λ r. Opens g r) (sym given) q.behind.opens; met = q.behind.met; seen = (λ i. events_of (given i).before ++ events_of (seen i)) ∙ q.behind.seen };

@@ -11,7 +11,7 @@ use Rattle.row_words.specs.Moments.{events_of}
 use Rattle.row_words.specs.Openings.{opening}
 use Rattle.rows_trait.specs.Views.{Shape}
 use Rattle.rows_trait.specs.declared.view.View.{View}
-use Rattle.row_engine.specs.Backs.{HasFailedBack, HasUndone, IsPutBack, PutsAllBack, StepsBack}
+use Rattle.row_engine.specs.Inside.Backs.{HasFailedBack, HasUndone, IsPutBack, PutsAllBack, StepsBack}
 use Rattle.row_engine.specs.Holds.{Holds}
 use Rattle.row_engine.specs.Puts.{KeepsLog}
 use Rattle.row_engine.specs.declared.session.Session.{Session}

@@ -80,7 +80,7 @@ block n m u = omega arith
 pub record IsFree (x : Session) (log : Log) : Type 0 where
   pub works : x.works ≡ true
   pub closed : x.is_open ≡ false
-  pub small : x.clock < 2 ^ 62
+  pub small : x.clock.clock < 2 ^ 62
   pub room : used log < limit log
 
 -- neither its log nor its clock refuses a call
@@ -98,18 +98,18 @@ free_log clock log e = full_case (leb (limit log) (used log)) refl e
 pub free_of : (x : Session) (log : Log) → begin_test x log ≡ None → IsFree x log
 free_of x log e = works_case x.works refl e
   where
-    open_case : x.works ≡ true → (b : Bool) → x.is_open ≡ b → cond b (Some refusal.InTransaction) (log_refusal x.clock log None) ≡ None → IsFree x log
+    open_case : x.works ≡ true → (b : Bool) → x.is_open ≡ b → cond b (Some refusal.InTransaction) (log_refusal x.clock.clock log None) ≡ None → IsFree x log
     open_case w true q r = absurd (none_is _ (sym r))
-    open_case w false q r = let f = free_log x.clock log r in record { works = w; closed = q; small = f.0; room = f.1 }
+    open_case w false q r = let f = free_log x.clock.clock log r in record { works = w; closed = q; small = f.0; room = f.1 }
 
-    works_case : (b : Bool) → x.works ≡ b → cond b (cond x.is_open (Some refusal.InTransaction) (log_refusal x.clock log None)) (Some refusal.Broken) ≡ None → IsFree x log
+    works_case : (b : Bool) → x.works ≡ b → cond b (cond x.is_open (Some refusal.InTransaction) (log_refusal x.clock.clock log None)) (Some refusal.Broken) ≡ None → IsFree x log
     works_case true q r = open_case q x.is_open refl r
     works_case false q r = absurd (none_is _ (sym r))
 
 -- where the engine works the tests are those of the worker
-pub test_is : (g : Opening) (s : State) (half : Bool) (x : Session) (log : Log) → x.works ≡ true → IsOf x (s.worker x.own) → begin_test x log ≡ refusal_in g s x.own half log call.Begin
-test_is g s half x log works of_s =
-    (λ i. cond (works i) (cond x.is_open (Some refusal.InTransaction) (log_refusal x.clock log None)) (Some refusal.Broken))
+pub test_is : (g : Opening) (s : State) (is_half_aborted : Bool) (x : Session) (log : Log) → x.works ≡ true → IsOf x (s.worker x.own) → begin_test x log ≡ refusal_in g s x.own is_half_aborted log call.Begin
+test_is g s is_half_aborted x log works of_s =
+    (λ i. cond (works i) (cond x.is_open (Some refusal.InTransaction) (log_refusal x.clock.clock log None)) (Some refusal.Broken))
     ∙ (λ i. cond (sym of_s.is_open i) (Some refusal.InTransaction) (log_refusal (sym of_s.clock i) log None))
 
 -- a log and a clock refuse by what a script is told
@@ -126,11 +126,11 @@ log_told clock log why e = full_case (leb (limit log) (used log)) e
 
 -- so does a begin, where the engine works
 begin_told : (x : Session) (log : Log) (why : Refusal) → x.works ≡ true → begin_test x log ≡ Some why → IsTold why
-begin_told x log why works e = open_case x.is_open ((λ i. cond (sym works i) (cond x.is_open (Some refusal.InTransaction) (log_refusal x.clock log None)) (Some refusal.Broken)) ∙ e)
+begin_told x log why works e = open_case x.is_open ((λ i. cond (sym works i) (cond x.is_open (Some refusal.InTransaction) (log_refusal x.clock.clock log None)) (Some refusal.Broken)) ∙ e)
   where
-    open_case : (b : Bool) → cond b (Some refusal.InTransaction) (log_refusal x.clock log None) ≡ Some why → IsTold why
+    open_case : (b : Bool) → cond b (Some refusal.InTransaction) (log_refusal x.clock.clock log None) ≡ Some why → IsTold why
     open_case true r = subst IsTold (some_is _ why r) tt
-    open_case false r = log_told x.clock log why r
+    open_case false r = log_told x.clock.clock log why r
 
 -- or there is no engine to ask
 pub begin_comes : (x : Session) (log : Log) (why : Refusal) → begin_test x log ≡ Some why → IsTold why ⊎ (why ≡ refusal.Broken)
@@ -138,7 +138,7 @@ begin_comes x log why e = go x.works refl
   where
     go : (b : Bool) → x.works ≡ b → IsTold why ⊎ (why ≡ refusal.Broken)
     go true w = inl (begin_told x log why w e)
-    go false w = inr (sym (some_is _ why ((λ i. cond (sym w i) (cond x.is_open (Some refusal.InTransaction) (log_refusal x.clock log None)) (Some refusal.Broken)) ∙ e)))
+    go false w = inr (sym (some_is _ why ((λ i. cond (sym w i) (cond x.is_open (Some refusal.InTransaction) (log_refusal x.clock.clock log None)) (Some refusal.Broken)) ∙ e)))
 
 -- where a script is told of it, no disk failed
 pub comes_told : (d f : Type 0) (why : Refusal) → IsTold why → d → Comes (answer.Refused why) d f
@@ -187,7 +187,7 @@ looked_least v u n least l e = e ∙ ap (λ m. flushed_to m.core n) (sym (still 
 
 -- ## The session
 
-module _ (begins : controls.EveryBegin) (z : Shape) (v w : View) (x : Session) (log : Log) (h : Holds z v x log) (closed : x.is_open ≡ false) (small : x.clock < 2 ^ 62) (free : used log < limit log)
+module _ (begins : controls.EveryBegin) (z : Shape) (v w : View) (x : Session) (log : Log) (h : Holds z v x log) (closed : x.is_open ≡ false) (small : x.clock.clock < 2 ^ 62) (free : used log < limit log)
     (rest last : ℕ) (rest_is : rest ≡ flushed_to (state v).core (x.workers - 1)) (fits : last < 2 ^ 64) (e : Heard z x.workers 0 (λ n. Begin x.own (min rest n) ∷ []) v last w) where
   abbrev all_flushed : ℕ
   all_flushed = min rest last
@@ -216,13 +216,13 @@ module _ (begins : controls.EveryBegin) (z : Shape) (v w : View) (x : Session) (
       low = let a = least_low core_before.flushed (opening v.given).workers x.workers some (let q = h.rows.workers in omega arith) in let b = last_is in let c = fits in omega arith
 
   -- the floor is below each of them
-  floor_low : (u : ℕ) → 0 < u → u ≤ x.workers → x.floor ≤ core_before.flushed u
+  floor_low : (u : ℕ) → 0 < u → u ≤ x.workers → x.clock.floor ≤ core_before.flushed u
   floor_low u up high = let a = h.floor in let b = least_low core_before.flushed (opening v.given).workers u up (let q = h.rows.workers in omega arith) in omega arith
 
-  floor_rest : x.floor ≤ rest
-  floor_rest = let a = flushed_from core_before (x.workers - 1) x.floor floor_small (λ u up high. floor_low u up (omega arith)) in let b = rest_is in omega arith
+  floor_rest : x.clock.floor ≤ rest
+  floor_rest = let a = flushed_from core_before (x.workers - 1) x.clock.floor floor_small (λ u up high. floor_low u up (omega arith)) in let b = rest_is in omega arith
     where
-      floor_small : x.floor < 2 ^ 64
+      floor_small : x.clock.floor < 2 ^ 64
       floor_small = let a = floor_low x.own h.rows.low h.rows.high in let b = h.flushed in let c = h.numbers.order in let d = h.numbers.last in let k = small in omega arith
 
   known : controls.IsBegin z v x.own x.workers (λ n. min rest n)

@@ -92,7 +92,7 @@ loads_worker g s _ a = absurd a
 -- ## Within a call
 
 -- where it begins
-pub begins : (g : Opening) (group : ℕ) (xs : List Done) (own : ℕ) {half : Bool} (v : View) → (t : Ties g group xs own half v) → Behind g xs t.loads v
+pub begins : (g : Opening) (group : ℕ) (xs : List Done) (own : ℕ) {is_half_aborted : Bool} (v : View) → (t : Ties g group xs own is_half_aborted v) → Behind g xs t.loads v
 begins g group xs own v t = record { opens = t.opens; met = t.met; seen = t.seen }
 
 module _ (reached : EveryReached) (needs : EveryNeed) (g : Opening) (xs : List Done) (first : List happening.Event) (v : View) (b : Behind g xs first v) where
@@ -120,7 +120,7 @@ module _ (reached : EveryReached) (needs : EveryNeed) (g : Opening) (xs : List D
       met_join s (e ∷ ys) zs p q = (p.0, met_join (core.step g s e) ys zs p.1 q)
 
 -- where it is answered by these events
-pub ends : (g : Opening) (group : ℕ) (xs : List Done) (own : ℕ) (first : List happening.Event) (v : View) → Behind g xs first v → (x : Done) → x.events ≡ first → EachTells limits g group xs → Tells limits g group xs x → {half : Bool} → is_half_done own (x ∷ xs) ≡ half → Ties g group (x ∷ xs) own half v
+pub ends : (g : Opening) (group : ℕ) (xs : List Done) (own : ℕ) (first : List happening.Event) (v : View) → Behind g xs first v → (x : Done) → x.events ≡ first → EachTells limits g group xs → Tells limits g group xs x → {is_half_aborted : Bool} → is_half_done own (x ∷ xs) ≡ is_half_aborted → Ties g group (x ∷ xs) own is_half_aborted v
 ends g group xs own first v b x is told tells half_is = record {
   opens = b.opens;
   told = (told, tells);
@@ -166,7 +166,7 @@ rows_on z v w own workers frames count e r = record {
 -- ## On the disk
 
 -- the loads of the opening are not seen there
-pub gone_loads : (s : Story) → IsLawful s → EveryPart s s s → (g : Opening) (group : ℕ) (xs : List Done) (own : ℕ) {half : Bool} (v : View) (t : Ties g group xs own half v) (s0 : Crash) (k : Known) → Between limits g group xs s0 k s → Gone g xs t.loads s0 k s k s
+pub gone_loads : (s : Story) → IsLawful s → EveryPart s s s → (g : Opening) (group : ℕ) (xs : List Done) (own : ℕ) {is_half_aborted : Bool} (v : View) (t : Ties g group xs own is_half_aborted v) (s0 : Crash) (k : Known) → Between limits g group xs s0 k s → Gone g xs t.loads s0 k s k s
 gone_loads s lawful part g group xs own v t s0 k b = (part limits g group xs s0 k [] k b).quiet t.loads (loads_quiet t.loads t.are_loads) ((part limits g group xs s0 k [] k b).none lawful)
 
 -- nothing was written

@@ -1,5 +1,5 @@
 -- What comes of a change of the tree that room for a key takes.
-use Rattle.std.proofs.Common.{◌≡◌, inl, ◌<◌, ℕ, false, List, [], ◌∷◌, length, None, Some, Result, Ok, Err, refl, sym, ap, subst, arith}
+use Rattle.std.proofs.Common.{◌≡◌, inl, ◌<◌, ℕ, false, List, [], ◌∷◌, length, None, Some, Result, Ok, Err, refl, sym, ap, ◌∙◌, subst, arith}
 use Rattle.map_model.specs.Lists.{Has}
 use Rattle.map_model.specs.declared.call.Refusal.{Refusal}
 use Rattle.map_model.specs.declared.call.Refusal.TheVariants as refusal
@@ -20,12 +20,15 @@ use Rattle.btree_smo.specs.declared.outcome.Outcome.{Outcome}
 use Rattle.btree_smo.specs.declared.outcome.Outcome.TheVariants as outcome
 use Rattle.row_engine.specs.Free.{first_of, without_first}
 use Rattle.row_engine.specs.Holds.{Holds}
-use Rattle.row_engine.specs.Puts.{KeepsLog, MayChange}
-use Rattle.row_engine.specs.Rooms.{IsExpected, answer_of}
-use Rattle.row_engine.specs.Staging.{IsFullFor, Staging}
+use Rattle.row_engine.specs.Puts.{MayChange}
+use Rattle.row_engine.specs.Calls.{IsSameSession}
+use Rattle.row_engine.specs.Inside.Rooms.{IsExpected, answer_of, session_after}
+use Rattle.row_engine.specs.Staging.{Staging}
 use Rattle.row_engine.specs.declared.session.Session.{Session}
+use Rattle.row_engine.proofs.DelLemmas.{same_by_clock, same_then}
 use Rattle.row_engine.proofs.GrowthLemmas.{sound}
 use Rattle.row_engine.proofs.PutLemmas.{low_page}
+use Rattle.row_engine.proofs.UndoLemmas.{room_to_end}
 
 -- ## Free pages
 
@@ -58,9 +61,9 @@ module _ (rooms : EveryRoom) (z : Shape) (v : View) (x : Session) (log : Log) (h
 pub not_spent : (z : Shape) (v w : View) (x : Session) (log : Log) (key : ℕ) → Holds z v x log → MayChange v x log key → (row : ℕ) → IsSpentIn w.given (state v) row → ⊥
 not_spent z v w x log key h f row t = let a = t.spent in let b = low_page z v x log h f.is_open t.page in omega arith
 
--- the log had a block
+-- the log had a block, and be it one that is kept back
 pub not_full : (v : View) (x y : Session) (log log_now : Log) (key : ℕ) (rs now : List Record) (old new : Story) (S : Type 0) (f0 f1 used limit : ℕ) → MayChange v x log key → Staging (Err (LogFull used limit)) x y rs now log log_now old new S f0 f1 → ⊥
-not_full v x y log log_now key rs now old new S f0 f1 used limit f st = let a = subst (λ b. IsFullFor b log) f.whole st.came.full in let b = f.room in omega arith
+not_full v x y log log_now key rs now old new S f0 f1 used limit f st = let a = st.came.full in let b = room_to_end log _ f.room in omega arith
 
 abbrev failed : Result (Unit {0}) Refusal
 failed = Err refusal.DiskFault
@@ -85,6 +88,9 @@ faults_told x y rs now log log_now old new S same f0 f1 sf (outcome.RowSpent row
 faults_told x y rs now log log_now old new S same f0 f1 sf (outcome.Unstaged DiskFault) t d = record { later = d.cause.later; cause = λ e. d.cause.cause refl; calm = λ no. absurd (no refl) }
 faults_told x y rs now log log_now old new S same f0 f1 sf _ t d = absurd t
 
--- what it kept where the disk failed
-pub kept_log : (x y : Session) (rs now : List Record) (log log_now : Log) (old new : Story) (S : Type 0) (f0 f1 : ℕ) (r : Result (Unit {0}) Unstaged) → Staging r x y rs now log log_now old new S f0 f1 → KeepsLog x.own log old new
-kept_log x y rs now log log_now old new S f0 f1 r st = record { on = st.on; frame = st.frame; within = st.within }
+-- it is the same session, whatever came of it
+pub session_kept : (x y : Session) (rs now : List Record) (log log_now : Log) (old new : Story) (S same : Type 0) (f0 f1 : ℕ) → (same → y ≡ x) → (o : Outcome) → Drew o (λ r. Staging r x y rs now log log_now old new S f0 f1) same
+    → (k : Session) → k ≡ session_after o y → IsSameSession x k
+session_kept x y rs now log log_now old new S same f0 f1 sx outcome.Done d k e = same_then x y k (same_by_clock x y d.session) (ap (λ (s : Session). s.own) e, ap (λ (s : Session). s.workers) e, ap (λ (s : Session). s.group) e)
+session_kept x y rs now log log_now old new S same f0 f1 sx (outcome.Unstaged why) d k e = same_then x y k (same_by_clock x y d.session) (ap (λ (s : Session). s.own) e, ap (λ (s : Session). s.workers) e, ap (λ (s : Session). s.group) e)
+session_kept x y rs now log log_now old new S same f0 f1 sx _ d k e = let q = e ∙ sx d in (ap (λ (s : Session). s.own) q, ap (λ (s : Session). s.workers) q, ap (λ (s : Session). s.group) q)

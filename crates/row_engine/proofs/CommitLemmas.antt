@@ -26,7 +26,7 @@ use Rattle.rows_trait.specs.declared.view.View.{View}
 use Rattle.rows_trait.specs.Views.{Shape, after_all, state}
 use Rattle.key_locks.specs.Latching.{is_marked}
 use Rattle.lean_proto.specs.Controls.{CanEnd}
-use Rattle.row_engine.specs.Ends.{AreMine, Ended, Latched, Latching, MayEnd, MayFlush, end_of, gives, waiting_session}
+use Rattle.row_engine.specs.Inside.Ends.{AreMine, Ended, Latched, Latching, MayEnd, MayFlush, end_of, gives, waiting_session}
 use Rattle.row_engine.specs.Flushed.{Looked, flushed_to}
 use Rattle.row_engine.specs.Holds.{Holds, IsOf}
 use Rattle.row_engine.specs.Numbers.{AreNumbered}
@@ -47,7 +47,7 @@ over M a b xs ys p q m = subst (λ k. M k ys) p (subst (λ zs. M a zs) q m)
 pub same_state : (v w : View) → w.given ≡ v.given → w.seen ≡ v.seen → state w ≡ state v
 same_state v w given seen = λ i. after_all (given i) (seen i)
 
-pub ties_as : (g : Opening) (group : ℕ) (xs : List Done) (own : ℕ) {half : Bool} (v w : View) → w.given ≡ v.given → w.seen ≡ v.seen → Ties g group xs own half w → Ties g group xs own half v
+pub ties_as : (g : Opening) (group : ℕ) (xs : List Done) (own : ℕ) {is_half_aborted : Bool} (v w : View) → w.given ≡ v.given → w.seen ≡ v.seen → Ties g group xs own is_half_aborted w → Ties g group xs own is_half_aborted v
 ties_as g group xs own v w given seen t = record {
   opens = subst (λ k. Opens g k) given t.opens;
   told = t.told;
@@ -127,7 +127,7 @@ module _ (z : Shape) (b : View) (x : Session) (log : Log) (h : Holds z b x log) 
   high = let a = h.rows.workers in let c = h.rows.high in omega arith
 
   -- the clock of an open transaction has far to go yet
-  clock_low : x.is_open ≡ true → x.clock < 2 ^ 63
+  clock_low : x.is_open ≡ true → x.clock.clock < 2 ^ 63
   clock_low opened =
       let l = numbered_open x.workers now x.own h.rows.most h.rows.low h.rows.high (h.session.is_open ∙ opened) h.numbered in
       let top = low_small x.workers now h.rows.most l in
@@ -187,7 +187,7 @@ or_true : (b c : Bool) → b ≡ true → (b || c) ≡ true
 or_true true c e = refl
 or_true false c e = absurd (true≢false (sym e))
 
-module _ (z : Shape) (b : View) (x : Session) (log : Log) (h : Holds z b x log) (opened : x.is_open ≡ true) (number : ℕ) (number_is : number ≡ x.clock + 1) (commit : Bool) (floor : ℕ) (w : View) (e : Ended x.own (length x.held.rows) b commit floor w) where
+module _ (z : Shape) (b : View) (x : Session) (log : Log) (h : Holds z b x log) (opened : x.is_open ≡ true) (number : ℕ) (number_is : number ≡ x.clock.clock + 1) (commit : Bool) (floor : ℕ) (w : View) (e : Ended x.own (length x.held.rows) b commit floor w) where
   abbrev s0 : State
   s0 = (state b).core
 
@@ -231,10 +231,10 @@ module _ (z : Shape) (b : View) (x : Session) (log : Log) (h : Holds z b x log) 
   place_w : (state w).core.place ≡ s0.place
   place_w = ap (λ t. t.place) core_w ∙ unlocks_keep _ (λ t. t.place) (opening b.given) x.own e.rows after_end (λ t r. refl)
 
-  floor_w : x.floor ≤ flushed_by_all (opening w.given) (state w).core
-  floor_w = subst (λ k. x.floor ≤ flushed_by_all (opening k) (state w).core) (sym e.given) (subst (λ (f : ℕ → ℕ). x.floor ≤ least f (opening b.given).workers) (sym flushed_w) h.floor)
+  floor_w : x.clock.floor ≤ flushed_by_all (opening w.given) (state w).core
+  floor_w = subst (λ k. x.clock.floor ≤ flushed_by_all (opening k) (state w).core) (sym e.given) (subst (λ (f : ℕ → ℕ). x.clock.floor ≤ least f (opening b.given).workers) (sym flushed_w) h.floor)
 
-  behind_w : log_events.behind (state w).core x.own ≡ cond commit (suc x.behind) x.behind
+  behind_w : log_events.behind (state w).core x.own ≡ cond commit (suc x.unflushed) x.unflushed
   behind_w = ap (λ (t : State). log_events.behind t x.own) core_w
       ∙ (behind_same after_end (run (opening b.given) after_end (unlocks x.own e.rows)) x.own (entries_same (opening b.given) x.own e.rows after_end) (ap (λ k. k x.own) (flushed_same (opening b.given) x.own e.rows after_end))
       ∙ (behind_end (opening b.given) s0 x.own floor commit (let a = h.flushed in let c = h.session.clock in let d = h.numbers.order in let k = h.numbers.last in omega arith)
@@ -243,7 +243,7 @@ module _ (z : Shape) (b : View) (x : Session) (log : Log) (h : Holds z b x log) 
   -- A session whose transaction has ended, where nothing but the flushed number has changed since.
   module _ (u : View) (given : u.given ≡ w.given) (held : u.held ≡ w.held) (page_u : (state u).core.page ≡ (state w).core.page) (place_u : (state u).core.place ≡ (state w).core.place) (row_u : (state u).core.row ≡ (state w).core.row)
       (worker_u : (state u).core.worker ≡ (state w).core.worker) (master_u : (state u).core.floor ≡ (state w).core.floor) (is : Log) (flushed_u : (state u).core.flushed x.own ≡ is.flushed) (order : is.flushed ≤ number) (last_is : is.last ≡ number)
-      (floor_u : x.floor ≤ flushed_by_all (opening u.given) (state u).core) (waiting : ℕ) (behind_u : log_events.behind (state u).core x.own ≡ waiting) (few_behind : waiting < x.group) where
+      (floor_u : x.clock.floor ≤ flushed_by_all (opening u.given) (state u).core) (waiting : ℕ) (behind_u : log_events.behind (state u).core x.own ≡ waiting) (few_behind : waiting < x.group) where
     pub holds_ended : Holds z u (waiting_session x number waiting) is
     holds_ended = record {
       alone = h.alone;
@@ -284,10 +284,10 @@ module _ (z : Shape) (b : View) (x : Session) (log : Log) (h : Holds z b x log) 
     }
 
   -- where nothing was flushed
-  pub after_end_holds : (is : Log) → is.flushed ≡ log.flushed → is.last ≡ number → cond commit (suc x.behind) x.behind < x.group → Holds z w (waiting_session x number (cond commit (suc x.behind) x.behind)) is
+  pub after_end_holds : (is : Log) → is.flushed ≡ log.flushed → is.last ≡ number → cond commit (suc x.unflushed) x.unflushed < x.group → Holds z w (waiting_session x number (cond commit (suc x.unflushed) x.unflushed)) is
   after_end_holds is flushed_is last_is few = holds_ended w refl refl refl refl refl refl refl is
       (ap (λ k. k x.own) flushed_w ∙ (h.flushed ∙ sym flushed_is))
-      (let a = h.numbers.order in let k = h.numbers.last in omega arith) last_is floor_w (cond commit (suc x.behind) x.behind) behind_w few
+      (let a = h.numbers.order in let k = h.numbers.last in omega arith) last_is floor_w (cond commit (suc x.unflushed) x.unflushed) behind_w few
 
   -- ## Behind the flush
 
@@ -317,9 +317,9 @@ module _ (z : Shape) (b : View) (x : Session) (log : Log) (h : Holds z b x log) 
     core_u : (state u).core ≡ happens (opening w.given) (state w).core (happening.Event.Flush x.own number)
     core_u = ap (λ m. m.core) (seen_state w u (Flush x.own number ∷ []) given seen) ∙ met_core w.given (state w) (Flush x.own number) flush_met
 
-    floor_u : x.floor ≤ flushed_by_all (opening u.given) (state u).core
-    floor_u = subst (λ k. x.floor ≤ flushed_by_all (opening k) (state u).core) (sym given) (subst (λ (t : State). x.floor ≤ flushed_by_all (opening w.given) t) (sym core_u)
-        (floor_flush (opening w.given) (state w).core x.own number x.floor flushed_low floor_w))
+    floor_u : x.clock.floor ≤ flushed_by_all (opening u.given) (state u).core
+    floor_u = subst (λ k. x.clock.floor ≤ flushed_by_all (opening k) (state u).core) (sym given) (subst (λ (t : State). x.clock.floor ≤ flushed_by_all (opening w.given) t) (sym core_u)
+        (floor_flush (opening w.given) (state w).core x.own number x.clock.floor flushed_low floor_w))
 
     pub after_flush_holds : (is : Log) → is.flushed ≡ number → is.last ≡ number → Holds z u (waiting_session x number 0) is
     after_flush_holds is flushed_is last_is = holds_ended u given held (ap (λ t. t.page) core_u) (ap (λ t. t.place) core_u) (ap (λ t. t.row) core_u) (ap (λ t. t.worker) core_u) (ap (λ t. t.floor) core_u) is

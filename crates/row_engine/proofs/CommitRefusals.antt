@@ -6,7 +6,7 @@ use Rattle.map_model.specs.declared.call.Answer.TheVariants as answer
 use Rattle.map_model.specs.declared.call.Call.TheVariants as call
 use Rattle.map_model.specs.declared.call.Refusal.{Refusal}
 use Rattle.map_model.specs.declared.call.Refusal.TheVariants as refusal
-use Rattle.map_model.specs.Lists.{Has, any}
+use Rattle.map_model.specs.Lists.{Has, any, keep}
 use Rattle.core_state.specs.Openings.{Opening}
 use Rattle.core_state.specs.Events as happening
 use Rattle.core_state.specs.States.{State, flushed_by_all}
@@ -22,11 +22,12 @@ use Rattle.core_disk.specs.Versions.{EveryVersion}
 use Rattle.core_calls.specs.Deeds.{marks_by}
 use Rattle.core_calls.specs.Fronts.{Done, front, outcomes}
 use Rattle.core_calls.specs.LogEvents as log_events
-use Rattle.core_calls.specs.LogEvents.{RefusedLogs, is_log}
+use Rattle.core_calls.specs.LogEvents.{is_log}
+use Rattle.core_calls.proofs.WhereLemmas.{refused_kept}
 use Rattle.core_calls.specs.Marks.{is_half}
 use Rattle.core_calls.specs.Refusals.{IsCause}
 use Rattle.core_calls.specs.Runs.{Tells}
-use Rattle.core_calls.specs.Steps.{MayPutBack, is_step, is_structure}
+use Rattle.core_calls.specs.Steps.{Tries, is_step, is_structure}
 use Rattle.engine_calls.specs.Answers.{EveryAnswer}
 use Rattle.engine_calls.specs.Clauses.{EveryComing, IsNewLine}
 use Rattle.engine_calls.specs.Parts.{EveryPart, behind_first}
@@ -49,7 +50,7 @@ use Rattle.rows_trait.specs.Views.{Shape, state}
 use Rattle.key_locks.specs.Latching.{is_marked}
 use Rattle.row_engine.specs.Calls.{CallDoes, DoesOn, commit_answer}
 use Rattle.btree_smo.specs.Outcomes.{AreMisses}
-use Rattle.row_engine.specs.Ends.{AreAmong, AreMine, Missed}
+use Rattle.row_engine.specs.Inside.Ends.{AreAmong, AreMine, Missed}
 use Rattle.row_engine.specs.Holds.{Holds, IsOf}
 use Rattle.row_engine.specs.Inside.{call_test, is_going}
 use Rattle.row_engine.specs.Numbers.{AreNumbered}
@@ -70,7 +71,7 @@ use Rattle.row_engine.proofs.Moments.{free_same, resident_on}
 pub record IsReady (x : Session) : Type 0 where
   pub works : x.works ≡ true
   pub is_open : x.is_open ≡ true
-  pub whole : x.half ≡ false
+  pub whole : x.is_half_aborted ≡ false
 
 pub ready_of : (x : Session) → call_test x ≡ None → IsReady x
 ready_of x e = works_case x.works refl e
@@ -135,7 +136,7 @@ holds_missed z y v w x log same m h = subst (λ k. Holds k w x log) (sym same) (
   numbers = h.numbers;
   numbered = subst (λ (k : State). AreNumbered x.workers k) (sym core_is) h.numbered;
   flushed = ap (λ k. k.flushed x.own) core_is ∙ h.flushed;
-  floor = subst (λ k. x.floor ≤ flushed_by_all (opening k) (state w).core) (sym m.given) (subst (λ (k : State). x.floor ≤ flushed_by_all (opening v.given) k) (sym core_is) h.floor);
+  floor = subst (λ k. x.clock.floor ≤ flushed_by_all (opening k) (state w).core) (sym m.given) (subst (λ (k : State). x.clock.floor ≤ flushed_by_all (opening v.given) k) (sym core_is) h.floor);
   behind = ap (λ (k : State). log_events.behind k x.own) core_is ∙ h.behind;
   resident = resident_on z v w m.given (ap (λ k. k.place) core_is) h.resident;
   held = λ i. subst (λ (k : State). holds_row (k.row i) x.own ≡ true ↔ Has i x.held.rows) (sym core_is) (h.held i);
@@ -152,7 +153,7 @@ holds_missed z y v w x log same m h = subst (λ k. Holds k w x log) (sym same) (
 -- ## In a run
 
 module _ (reached : EveryReached) (needs : EveryNeed) (answers : EveryAnswer) (coming : EveryComing) (versions : EveryVersion) (keeps : EveryKept) (prefixes : EveryPrefix) (seals : EverySealed)
-    (g : Opening) (xs : List Done) (z : Shape) (v : View) (x : Session) (log : Log) (h : Holds z v x log) (t : Ties g x.group xs x.own x.half v) (line : IsNewLine (outcomes xs)) (w : View) (m : Missed (length x.held.rows) v w) where
+    (g : Opening) (xs : List Done) (z : Shape) (v : View) (x : Session) (log : Log) (h : Holds z v x log) (t : Ties g x.group xs x.own x.is_half_aborted v) (line : IsNewLine (outcomes xs)) (w : View) (m : Missed (length x.held.rows) v w) where
   abbrev first : List happening.Event
   first = t.loads
 
@@ -192,26 +193,26 @@ module _ (reached : EveryReached) (needs : EveryNeed) (answers : EveryAnswer) (c
   logs : any is_log es ≡ false
   logs = any_append is_log first misses (behind.loads_log first t.are_loads) (misses_log m.misses m.are_misses)
 
-  is_refusal : (why : Refusal) → IsCause limits g (front xs ++ es) (behind_first g xs es) (is_half (marks_by x.own (outcomes xs))) x.own call.Commit why → MayPutBack why [] → IsRefusal limits g xs x.own call.Commit why es
-  is_refusal why cause no_backs = record {
-    comes = (coming xs (refused_by x.own call.Commit why es).outcome).new line tt;
-    met = behind_es.met;
-    rows = subst (TakesRows x.own) (sym (keep_none is_step es steps)) tt;
-    structure = λ _. structure;
-    cause = cause;
-    due = subst (λ ys. RefusedLogs limits g xs x.own call.Commit why ys) (sym (keep_none is_log es logs)) tt;
-    no_backs = no_backs;
-  }
-
   -- the line asks what the call does
   asks : call_behind (outcomes xs) call.Commit ≡ call.Commit
   asks = behind.line_call xs call.Commit line
+
+  is_refusal : (why : Refusal) → IsCause limits g (front xs ++ es) (behind_first g xs es) (is_half (marks_by x.own (outcomes xs))) x.own call.Commit why → IsRefusal limits g xs x.own call.Commit why es
+  is_refusal why cause = record {
+    comes = (coming xs (refused_by x.own call.Commit why es).outcome).new line tt;
+    met = behind_es.met;
+    rows = subst (TakesRows x.own) (sym (keep_none is_step es steps)) tt;
+    tries = subst (λ d. Tries g x.own (outcomes xs) d why (keep is_step es)) (sym asks) (keep_none is_step es steps);
+    structure = λ _. structure;
+    cause = cause;
+    due = refused_kept limits g xs x.own call.Commit why es tt (keep_none is_log es logs);
+  }
 
   refused_is : (p q : Refusal) → answer.Refused p ≡ answer.Refused q → p ≡ q
   refused_is p q r = cc
 
   refuses : (st : Story) → IsLawful st → (why : Refusal) → IsRefusal limits g xs x.own call.Commit why es → IsRefusedFor g (state_after g (front xs ++ es)) x.own (is_half_done x.own xs) log call.Commit why
-      → ((q : Refusal) → refusal_in g (state_after g (front xs ++ first)) x.own (is_half_done x.own xs) log call.Commit ≡ Some q → (why ≡ q) ⊎ (why ≡ refusal.RowSpent)) → DoesOn g x.group xs x.own call.Commit (answer.Refused why) x.half w log log st st
+      → ((q : Refusal) → refusal_in g (state_after g (front xs ++ first)) x.own (is_half_done x.own xs) log call.Commit ≡ Some q → (why ≡ q) ⊎ (why ≡ refusal.RowSpent)) → DoesOn g x.group xs x.own call.Commit (answer.Refused why) x.is_half_aborted w log log st st
   refuses st lawful why is for_it only = record {
     does = record {
       done = refused_by x.own call.Commit why es;
@@ -230,7 +231,8 @@ module _ (reached : EveryReached) (needs : EveryNeed) (answers : EveryAnswer) (c
             (subst (λ k. IsRefusedFor g (state_after g (front xs ++ es)) x.own (is_half_done x.own xs) log call.Commit k) (refused_is why q r) for_it);
         refuses = λ q r. either q (only q ((λ i. refusal_in g (state_after g (front xs ++ first)) x.own (is_half_done x.own xs) log (sym asks i)) ∙ r));
         log = λ _. misses_logs (state_after g (front xs ++ first)) m.misses m.are_misses;
-        room = subst (λ c. MakesItsRoom g (state_after g (front xs ++ first)) c misses) (sym asks) (misses_structure m.misses m.are_misses);
+        still = λ _ _. misses_structure m.misses m.are_misses;
+        room = subst (λ c. MakesItsRoom x.own g (state_after g (front xs ++ first)) c misses) (sym asks) (misses_structure m.misses m.are_misses);
       };
       keeps = λ s0 k bt is_log.
           behind.keeps_by g x.group xs (refused_by x.own call.Commit why es) s0 k k log st st
@@ -263,13 +265,13 @@ module _ (reached : EveryReached) (needs : EveryNeed) (answers : EveryAnswer) (c
       either q (inr e) = inr (ap answer.Refused e)
 
   -- no transaction goes on
-  pub closed_does : (st : Story) → IsLawful st → is_going x ≡ false → DoesOn g x.group xs x.own call.Commit (answer.Refused refusal.NoTransaction) x.half w log log st st
-  closed_does st lawful closed = refuses st lawful refusal.NoTransaction (is_refusal refusal.NoTransaction (cause (not_going x closed)) refl)
+  pub closed_does : (st : Story) → IsLawful st → is_going x ≡ false → DoesOn g x.group xs x.own call.Commit (answer.Refused refusal.NoTransaction) x.is_half_aborted w log log st st
+  closed_does st lawful closed = refuses st lawful refusal.NoTransaction (is_refusal refusal.NoTransaction (cause (not_going x closed)))
       (inl (none (state_after g (front xs ++ es)) (behind.front_is g xs es ∙ state_es)))
       (λ q r. inl (some_is refusal.NoTransaction q (sym (none (state_after g (front xs ++ first)) here) ∙ r)))
     where
-      cause : (x.half ≡ true) ⊎ (x.is_open ≡ false) → ((behind_first g xs es).worker x.own).is_open ≡ false ⊎ ((is_half (marks_by x.own (outcomes xs)) ≡ true) × (call.Commit ≡ call.Abort → ⊥))
-      cause (inl half) = inr (t.half_is ∙ half, λ e. absurd (cc))
+      cause : (x.is_half_aborted ≡ true) ⊎ (x.is_open ≡ false) → ((behind_first g xs es).worker x.own).is_open ≡ false ⊎ ((is_half (marks_by x.own (outcomes xs)) ≡ true) × (call.Commit ≡ call.Abort → ⊥))
+      cause (inl is_half_aborted) = inr (t.half_is ∙ is_half_aborted, λ e. absurd (cc))
       cause (inr shut) = inl (ap (λ k. (k.worker x.own).is_open) state_es ∙ (of_s.is_open ∙ shut))
 
       none : (q : State) → q ≡ s → refusal_in g q x.own (is_half_done x.own xs) log call.Commit ≡ Some refusal.NoTransaction
@@ -279,8 +281,8 @@ module _ (reached : EveryReached) (needs : EveryNeed) (answers : EveryAnswer) (c
       some_is p q e = cc
 
   -- a latch has come to its end
-  pub spent_does : (st : Story) → IsLawful st → 2 ^ 61 ≤ length w.seen → DoesOn g x.group xs x.own call.Commit (answer.Refused refusal.RowSpent) x.half w log log st st
-  spent_does st lawful many = refuses st lawful refusal.RowSpent (is_refusal refusal.RowSpent many_es tt) (inr refl) (λ q r. inr refl)
+  pub spent_does : (st : Story) → IsLawful st → 2 ^ 61 ≤ length w.seen → DoesOn g x.group xs x.own call.Commit (answer.Refused refusal.RowSpent) x.is_half_aborted w log log st st
+  spent_does st lawful many = refuses st lawful refusal.RowSpent (is_refusal refusal.RowSpent many_es) (inr refl) (λ q r. inr refl)
     where
       many_es : 2 ^ 61 ≤ length (front xs ++ es)
       many_es =
@@ -292,15 +294,15 @@ module _ (reached : EveryReached) (needs : EveryNeed) (answers : EveryAnswer) (c
 -- ## In every run
 
 module _ (reached : EveryReached) (needs : EveryNeed) (answers : EveryAnswer) (coming : EveryComing) (versions : EveryVersion) (keeps : EveryKept) (prefixes : EveryPrefix) (seals : EverySealed) (z : Shape) (v : View) (x : Session) (log : Log) (h : Holds z v x log) (st : Story) (lawful : IsLawful st) where
-  pub refused_by_test : x.works ≡ true → (why : Refusal) → call_test x ≡ Some why → CallDoes x.own x.group call.Commit (commit_answer (Err why)) x.half x.half v v log log st st
+  pub refused_by_test : x.works ≡ true → (why : Refusal) → call_test x ≡ Some why → CallDoes x.own x.group call.Commit (commit_answer (Err why)) x.is_half_aborted x.is_half_aborted v v log log st st
   refused_by_test works why e = go (tested x why e)
     where
-      go : Tested x why → CallDoes x.own x.group call.Commit (answer.Refused why) x.half x.half v v log log st st
+      go : Tested x why → CallDoes x.own x.group call.Commit (answer.Refused why) x.is_half_aborted x.is_half_aborted v v log log st st
       go (Fails broken is) = absurd (true≢false (sym works ∙ broken))
-      go (Closed w closed is) = subst (λ k. CallDoes x.own x.group call.Commit (answer.Refused k) x.half x.half v v log log st st) (sym is)
+      go (Closed w closed is) = subst (λ k. CallDoes x.own x.group call.Commit (answer.Refused k) x.is_half_aborted x.is_half_aborted v v log log st st) (sym is)
           (λ g xs t line. closed_does reached needs answers coming versions keeps prefixes seals g xs z v x log h t line v (no_miss (length x.held.rows) v h.idle) st lawful closed)
 
-  pub refused_by_latch : (w : View) → Missed (length x.held.rows) v w → 2 ^ 61 ≤ length w.seen → CallDoes x.own x.group call.Commit (commit_answer (Err refusal.RowSpent)) x.half x.half v w log log st st
+  pub refused_by_latch : (w : View) → Missed (length x.held.rows) v w → 2 ^ 61 ≤ length w.seen → CallDoes x.own x.group call.Commit (commit_answer (Err refusal.RowSpent)) x.is_half_aborted x.is_half_aborted v w log log st st
   refused_by_latch w m many g xs t line = spent_does reached needs answers coming versions keeps prefixes seals g xs z v x log h t line w m st lawful many
 
 -- the answer of one whose rows are latched, from where they were not

@@ -1,5 +1,5 @@
 -- A commit, in a run and on the disk.
-use Rattle.std.proofs.Common.{◌≡◌, ◌≤◌, ◌<◌, ◌+◌, ◌^◌, ℕ, suc, Bool, true, false, cond, leb, List, length, [], ◌∷◌, ◌++◌, Some, None, refl, sym, ap, ◌∙◌, subst, arith, append-nil, true≢false}
+use Rattle.std.proofs.Common.{◌≡◌, ◌≤◌, ◌<◌, ◌+◌, ◌^◌, ℕ, suc, Bool, true, false, cond, leb, List, length, lit≤, [], ◌∷◌, ◌++◌, Some, None, refl, sym, ap, ◌∙◌, subst, arith, append-nil, true≢false}
 use Rattle.std.proofs.lemmas.Bool.{le-leb}
 use Rattle.std.proofs.lemmas.List.{append_assoc, length-append}
 use Rattle.map_model.specs.declared.call.Answer.TheVariants as answer
@@ -57,7 +57,7 @@ use Rattle.row_opening.specs.Openings.{EveryNeed, EveryReached, Opens}
 use Rattle.rows_trait.specs.declared.view.View.{View}
 use Rattle.rows_trait.specs.Views.{Shape, state}
 use Rattle.row_engine.specs.Calls.{CallDoes, DoesOn}
-use Rattle.row_engine.specs.Ends.{Ended, HasFlushed, Latched, MayEnd, MayFlush, gives, waiting_session}
+use Rattle.row_engine.specs.Inside.Ends.{Ended, HasFlushed, Latched, MayEnd, MayFlush, gives, waiting_session}
 use Rattle.row_engine.specs.Flushed.{Looked, flushed_to}
 use Rattle.row_engine.specs.Holds.{Holds, IsOf}
 use Rattle.row_engine.specs.Puts.{KeepsLog}
@@ -98,8 +98,8 @@ ending_met needs g v opens s is own commit f rows m = subst (λ (q : State). All
 -- ## In a run
 
 module _ (reached : EveryReached) (needs : EveryNeed) (answers : EveryAnswer) (entries : EveryEntry) (versions : EveryVersion) (keeps : EveryKept) (prefixes : EveryPrefix) (seals : EverySealed)
-    (g : Opening) (xs : List Done) (z : Shape) (b : View) (x : Session) (log : Log) (h : Holds z b x log) (t : Ties g x.group xs x.own x.half b) (line : IsNewLine (outcomes xs)) (opened : x.is_open ≡ true) (going : x.half ≡ false)
-    (floor : ℕ) (floor_at : floor ≡ flushed_by_all (opening b.given) (state b).core) (number : ℕ) (number_is : number ≡ x.clock + 1) where
+    (g : Opening) (xs : List Done) (z : Shape) (b : View) (x : Session) (log : Log) (h : Holds z b x log) (t : Ties g x.group xs x.own x.is_half_aborted b) (line : IsNewLine (outcomes xs)) (opened : x.is_open ≡ true) (going : x.is_half_aborted ≡ false)
+    (floor : ℕ) (floor_at : floor ≡ flushed_by_all (opening b.given) (state b).core) (number : ℕ) (number_is : number ≡ x.clock.clock + 1) where
   abbrev first : List happening.Event
   first = t.loads
 
@@ -120,7 +120,7 @@ module _ (reached : EveryReached) (needs : EveryNeed) (answers : EveryAnswer) (e
 
   -- what the end's record says
   abbrev r : Record
-  r = record { txn = x.txn; gsn = number; body = body.Commit (need_of x.debt floor) }
+  r = record { txn = x.txn; gsn = number; body = body.Commit (need_of x.clock.debt floor) }
 
   abbrev end_event : happening.Event
   end_event = happening.Event.End x.own true floor
@@ -143,7 +143,7 @@ module _ (reached : EveryReached) (needs : EveryNeed) (answers : EveryAnswer) (e
   all_is : floor ≡ flushed_by_all g s
   all_is = floor_at ∙ (λ i. least (core_in i).flushed (sym t.opens.workers i))
 
-  behind_s : log_events.behind s x.own ≡ x.behind
+  behind_s : log_events.behind s x.own ≡ x.unflushed
   behind_s = ap (λ (q : State). log_events.behind q x.own) (sym core_in) ∙ h.behind
 
   parts : (old mid new : Story) → EveryPart old mid new
@@ -166,7 +166,7 @@ module _ (reached : EveryReached) (needs : EveryNeed) (answers : EveryAnswer) (e
         let gone = (parts old old old limits g x.group xs s0 k [] k bt).none lawful in
         let passes = (parts old old new limits g x.group xs s0 k [] k bt).failed x.own h.rows.low high gone (on_known k log old new is o) in
         record {
-          stops = Nothing [] (subst (λ c. IsRoomFor g xs x.own c []) (sym asks) tt) (whole limits g x.group xs s0 k old old new [] k bt [] gone passes);
+          stops = Nothing [] (subst (λ c. IsRoomFor g xs x.own c []) (sym asks) (tt, lit≤ tt)) (whole limits g x.group xs s0 k old old new [] k bt [] gone passes);
           within = within_of x.own old new (o.within s0 g (front xs) k (record { stands = bt.stands; low = h.rows.low; high = high; is = is }));
         };
   }
@@ -197,7 +197,7 @@ module _ (reached : EveryReached) (needs : EveryNeed) (answers : EveryAnswer) (e
     core_lead : (state w).core ≡ behind_first g xs lead
     core_lead = behind.core_is reached needs g xs lead w behind_lead
 
-    is_commit : (due : Bool) → leb x.group (suc x.behind) ≡ due → IsCommit g x.group xs first x.own x.txn number floor rows due r
+    is_commit : (due : Bool) → leb x.group (suc x.unflushed) ≡ due → IsCommit g x.group xs first x.own x.txn number floor rows due r
     is_commit due due_is = record {
       line = line;
       low = h.rows.low;
@@ -216,7 +216,7 @@ module _ (reached : EveryReached) (needs : EveryNeed) (answers : EveryAnswer) (e
       due_is = ap (λ n. leb x.group (suc n)) behind_s ∙ due_is;
     }
 
-    told : (due : Bool) → leb x.group (suc x.behind) ≡ due → Tells limits g x.group xs (done due)
+    told : (due : Bool) → leb x.group (suc x.unflushed) ≡ due → Tells limits g x.group xs (done due)
     told due due_is = (answers limits g x.group xs).commit first x.own x.txn number floor rows due r (is_commit due due_is)
 
     flush_in : may g (behind_first g xs lead) flush_event ≡ true
@@ -307,10 +307,11 @@ module _ (reached : EveryReached) (needs : EveryNeed) (answers : EveryAnswer) (e
         logs_own x.own g (state_after g (front xs ++ first)) end_event log mid (subst (λ (q : State). LogsEntry x.own g q end_event log mid) (sym here) (record { record_of = r; entry = ap (λ (q : State). q.entries) (if_met (may g s end_event) end_met.0 s (ends s x.own entry_s)) ∙ ap (λ q. q ∷ s.entries) (sym entry_is); after = after })),
         unlocks_logs due (step g (state_after g (front xs ++ first)) end_event) rows mid is is_behind,
       );
-      room = subst (λ c. MakesItsRoom g (state_after g (front xs ++ first)) c (ending x.own floor rows ++ flush_if due x.own number)) (sym asks) (no_structure due x.own number rows);
+      still = λ _ _. no_structure due x.own number rows;
+      room = subst (λ c. MakesItsRoom x.own g (state_after g (front xs ++ first)) c (ending x.own floor rows ++ flush_if due x.own number)) (sym asks) (no_structure due x.own number rows);
     }
       where
-        not_refused : (why : Refusal) (half c : Bool) → half ≡ false → c ≡ true → cond half (Some refusal.NoTransaction) (cond c None (Some refusal.NoTransaction)) ≡ Some why → ⊥
+        not_refused : (why : Refusal) (is_half_aborted c : Bool) → is_half_aborted ≡ false → c ≡ true → cond is_half_aborted (Some refusal.NoTransaction) (cond c None (Some refusal.NoTransaction)) ≡ Some why → ⊥
         not_refused why true c whole q e = true≢false whole
         not_refused why false true whole q e = cc
         not_refused why false false whole q e = true≢false (sym q)
@@ -349,7 +350,7 @@ module _ (reached : EveryReached) (needs : EveryNeed) (answers : EveryAnswer) (e
 
       -- ## No flush was due
 
-      module _ (waits : leb x.group (suc x.behind) ≡ false) (after : After r log mid_log) where
+      module _ (waits : leb x.group (suc x.unflushed) ≡ false) (after : After r log mid_log) where
         keep_staged : (s0 : Crash) (k : Known) → Between limits g x.group xs s0 k old → k.log x.own ≡ log → Keeps g x.group xs (done false) s0 k mid_log old mid
         keep_staged s0 k bt k_is =
             let c = came s0 k bt k_is in
@@ -374,7 +375,7 @@ module _ (reached : EveryReached) (needs : EveryNeed) (answers : EveryAnswer) (e
 
       -- ## One was due
 
-      module _ (fills : leb x.group (suc x.behind) ≡ true) (new : Story) (flushing : KeepsLog x.own mid_log mid new) where
+      module _ (fills : leb x.group (suc x.unflushed) ≡ true) (new : Story) (flushing : KeepsLog x.own mid_log mid new) where
         frame : Framed (suc x.own) old new
         frame = framed_then (suc x.own) old mid new staged.frame flushing.frame
 
@@ -393,7 +394,7 @@ module _ (reached : EveryReached) (needs : EveryNeed) (answers : EveryAnswer) (e
           leaves = λ s0 k bt is.
               let c = came s0 k bt is in
               let a = with_log k x.own mid_log c.account in record {
-                stops = Part (done true) refl refl (told true fills) (whole limits g x.group xs s0 k old mid new lead a bt (flush_event ∷ []) c.gone
+                stops = Part (done true) refl refl (told true fills) (few_events true) (whole limits g x.group xs s0 k old mid new lead a bt (flush_event ∷ []) c.gone
                     (on_log limits g x.group xs s0 k old mid new lead a bt (flush_event ∷ []) x.own h.rows.low high c.gone (on_known a mid_log mid new (known_log k c.account) flushing)));
                 within = within s0 k bt is;
               };
@@ -449,21 +450,21 @@ found z y v w x log marks floor l same looked loaded =
     }
 
 -- one commit more waits
-pub waiting_is : (x y : Session) (number : ℕ) → y ≡ waiting_session x number (x.behind + 1) → y ≡ waiting_session x number (suc x.behind)
-waiting_is x y number e = e ∙ ap (waiting_session x number) (one_more x.behind)
+pub waiting_is : (x y : Session) (number : ℕ) → y ≡ waiting_session x number (x.unflushed + 1) → y ≡ waiting_session x number (suc x.unflushed)
+waiting_is x y number e = e ∙ ap (waiting_session x number) (one_more x.unflushed)
   where
     one_more : (n : ℕ) → n + 1 ≡ suc n
     one_more n = omega arith
 
-pub waits : (x y : Session) (number : ℕ) → y ≡ waiting_session x number (suc x.behind) → y.behind < y.group → suc x.behind < x.group
-waits x y number e lt = let a = ap (λ k. k.behind) e in let c = ap (λ k. k.group) e in omega arith
+pub waits : (x y : Session) (number : ℕ) → y ≡ waiting_session x number (suc x.unflushed) → y.unflushed < y.group → suc x.unflushed < x.group
+waits x y number e lt = let a = ap (λ k. k.unflushed) e in let c = ap (λ k. k.group) e in omega arith
 
-pub fills : (x y : Session) (number : ℕ) → y ≡ waiting_session x number (suc x.behind) → y.group ≤ y.behind → leb x.group (suc x.behind) ≡ true
-fills x y number e le = le-leb x.group (suc x.behind) (let a = ap (λ k. k.behind) e in let c = ap (λ k. k.group) e in omega arith)
+pub fills : (x y : Session) (number : ℕ) → y ≡ waiting_session x number (suc x.unflushed) → y.group ≤ y.unflushed → leb x.group (suc x.unflushed) ≡ true
+fills x y number e le = le-leb x.group (suc x.unflushed) (let a = ap (λ k. k.unflushed) e in let c = ap (λ k. k.group) e in omega arith)
 
 -- ## In every run, from where its rows are latched
 
-module _ (z : Shape) (v : View) (x : Session) (log : Log) (marks : List Bool) (opened : x.is_open ≡ true) (floor : ℕ) (f : Found z v x log marks floor) (number : ℕ) (number_is : number ≡ x.clock + 1) where
+module _ (z : Shape) (v : View) (x : Session) (log : Log) (marks : List Bool) (opened : x.is_open ≡ true) (floor : ℕ) (f : Found z v x log marks floor) (number : ℕ) (number_is : number ≡ x.clock.clock + 1) where
   abbrev l : Latched z v x log marks
   l = f.latched
 
@@ -478,7 +479,7 @@ module _ (z : Shape) (v : View) (x : Session) (log : Log) (marks : List Bool) (o
     ended = ended_as x.own (length x.held.rows) commit l.before v w floor l.latching.given l.latching.seen e
 
     -- where nothing was flushed
-    pub holds_waiting : (is : Log) → is.flushed ≡ log.flushed → is.last ≡ number → cond commit (suc x.behind) x.behind < x.group → Holds z w (waiting_session x number (cond commit (suc x.behind) x.behind)) is
+    pub holds_waiting : (is : Log) → is.flushed ≡ log.flushed → is.last ≡ number → cond commit (suc x.unflushed) x.unflushed < x.group → Holds z w (waiting_session x number (cond commit (suc x.unflushed) x.unflushed)) is
     holds_waiting is flushed_is last few = after_end_holds z l.before x log l.holds opened number number_is commit floor w ended is flushed_is last few
 
     pub may_flush_at : (waiting : ℕ) (mid : Log) → mid.last ≡ number → MayFlush z w (waiting_session x number waiting) mid
@@ -489,31 +490,31 @@ module _ (z : Shape) (v : View) (x : Session) (log : Log) (marks : List Bool) (o
         (after_flush_holds z l.before x log l.holds opened number number_is commit floor w ended u d.given d.seen d.held is
         (ap (λ (k : Log). k.flushed) d.after ∙ last) (ap (λ (k : Log). k.last) d.after ∙ last))
 
-  module _ (going : x.half ≡ false) (reached : EveryReached) (needs : EveryNeed) (answers : EveryAnswer) (entries : EveryEntry) (versions : EveryVersion) (keeps : EveryKept) (prefixes : EveryPrefix) (seals : EverySealed) (old : Story) (lawful : IsLawful old) where
-    pub unstaged_does : (new : Story) → KeepsLog x.own log old new → (half : Bool) (u : View) (is : Log) → CallDoes x.own x.group call.Commit (answer.Refused refusal.DiskFault) x.half half v u log is old new
-    unstaged_does new o half u is g xs t line =
+  module _ (going : x.is_half_aborted ≡ false) (reached : EveryReached) (needs : EveryNeed) (answers : EveryAnswer) (entries : EveryEntry) (versions : EveryVersion) (keeps : EveryKept) (prefixes : EveryPrefix) (seals : EverySealed) (old : Story) (lawful : IsLawful old) where
+    pub unstaged_does : (new : Story) → KeepsLog x.own log old new → (is_half_aborted : Bool) (u : View) (is : Log) → CallDoes x.own x.group call.Commit (answer.Refused refusal.DiskFault) x.is_half_aborted is_half_aborted v u log is old new
+    unstaged_does new o is_half_aborted u is g xs t line =
         unstaged reached needs answers entries versions keeps prefixes seals g xs z l.before x log l.holds (ties_as g x.group xs x.own l.before v l.latching.given l.latching.seen t) line opened going floor floor_at number number_is old new lawful o
 
-    module _ (w : View) (e : Ended x.own (length x.held.rows) v true floor w) (need : ℕ) (need_is : need ≡ need_of x.debt floor) (mid : Story) (mid_log : Log)
+    module _ (w : View) (e : Ended x.own (length x.held.rows) v true floor w) (need : ℕ) (need_is : need ≡ need_of x.clock.debt floor) (mid : Story) (mid_log : Log)
         (stages : StagesOn x.own (record { txn = x.txn; gsn = number; body = body.Commit need }) log mid_log old mid) (staged : KeepsLog x.own log old mid) where
-      stages_at : StagesOn x.own (record { txn = x.txn; gsn = number; body = body.Commit (need_of x.debt floor) }) log mid_log old mid
+      stages_at : StagesOn x.own (record { txn = x.txn; gsn = number; body = body.Commit (need_of x.clock.debt floor) }) log mid_log old mid
       stages_at = subst (λ q. StagesOn x.own (record { txn = x.txn; gsn = number; body = body.Commit q }) log mid_log old mid) need_is stages
 
-      after_at : After (record { txn = x.txn; gsn = number; body = body.Commit need }) log mid_log → After (record { txn = x.txn; gsn = number; body = body.Commit (need_of x.debt floor) }) log mid_log
+      after_at : After (record { txn = x.txn; gsn = number; body = body.Commit need }) log mid_log → After (record { txn = x.txn; gsn = number; body = body.Commit (need_of x.clock.debt floor) }) log mid_log
       after_at a = subst (λ q. After (record { txn = x.txn; gsn = number; body = body.Commit q }) log mid_log) need_is a
 
-      pub waiting_does : leb x.group (suc x.behind) ≡ false → After (record { txn = x.txn; gsn = number; body = body.Commit need }) log mid_log → CallDoes x.own x.group call.Commit (answer.Committed x.txn number) x.half false v w log mid_log old mid
+      pub waiting_does : leb x.group (suc x.unflushed) ≡ false → After (record { txn = x.txn; gsn = number; body = body.Commit need }) log mid_log → CallDoes x.own x.group call.Commit (answer.Committed x.txn number) x.is_half_aborted false v w log mid_log old mid
       waiting_does waits after g xs t line =
           staged_does reached needs answers entries versions keeps prefixes seals g xs z l.before x log l.holds (ties_as g x.group xs x.own l.before v l.latching.given l.latching.seen t) line opened going floor floor_at number number_is
           w (ended true w e) old mid lawful mid_log stages_at staged waits (after_at after)
 
-      pub unflushed_does : leb x.group (suc x.behind) ≡ true → (new : Story) → KeepsLog x.own mid_log mid new → (half : Bool) (u : View) (is : Log) → CallDoes x.own x.group call.Commit (answer.Refused refusal.DiskFault) x.half half v u log is old new
-      unflushed_does fills new flushing half u is g xs t line =
+      pub unflushed_does : leb x.group (suc x.unflushed) ≡ true → (new : Story) → KeepsLog x.own mid_log mid new → (is_half_aborted : Bool) (u : View) (is : Log) → CallDoes x.own x.group call.Commit (answer.Refused refusal.DiskFault) x.is_half_aborted is_half_aborted v u log is old new
+      unflushed_does fills new flushing is_half_aborted u is g xs t line =
           unflushed reached needs answers entries versions keeps prefixes seals g xs z l.before x log l.holds (ties_as g x.group xs x.own l.before v l.latching.given l.latching.seen t) line opened going floor floor_at number number_is
           w (ended true w e) old mid lawful mid_log stages_at staged fills new flushing
 
-      pub flushed_does : leb x.group (suc x.behind) ≡ true → (new : Story) → KeepsLog x.own mid_log mid new → (waiting : ℕ) (u : View) (y : Session) (is : Log) → HasFlushed w u (waiting_session x number waiting) y mid_log is mid new → mid_log.last ≡ number
-          → After (record { txn = x.txn; gsn = number; body = body.Commit need }) log mid_log → CallDoes x.own x.group call.Commit (answer.Committed x.txn number) x.half false v u log is old new
+      pub flushed_does : leb x.group (suc x.unflushed) ≡ true → (new : Story) → KeepsLog x.own mid_log mid new → (waiting : ℕ) (u : View) (y : Session) (is : Log) → HasFlushed w u (waiting_session x number waiting) y mid_log is mid new → mid_log.last ≡ number
+          → After (record { txn = x.txn; gsn = number; body = body.Commit need }) log mid_log → CallDoes x.own x.group call.Commit (answer.Committed x.txn number) x.is_half_aborted false v u log is old new
       flushed_does fills new flushing waiting u y is d last after g xs t line =
           does reached needs answers entries versions keeps prefixes seals g xs z l.before x log l.holds (ties_as g x.group xs x.own l.before v l.latching.given l.latching.seen t) line opened going floor floor_at number number_is
           w (ended true w e) old mid lawful mid_log stages_at staged fills new flushing is d.stands last (after_at after) d.after u d.given d.seen

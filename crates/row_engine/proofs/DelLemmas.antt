@@ -16,12 +16,13 @@ use Rattle.rows_trait.specs.Views.{Shape, after_all, state}
 use Rattle.rows_trait.specs.declared.view.View.{View}
 use Rattle.btree_descent.specs.Dels.{WasAbsent}
 use Rattle.key_locks.specs.declared.mode.Mode.{Mode}
+use Rattle.flush_avoidance.specs.Clocks.{risen}
 use Rattle.row_engine.specs.Calls.{IsSameSession}
-use Rattle.row_engine.specs.Dels.{IsAbsent}
+use Rattle.row_engine.specs.Inside.Dels.{IsAbsent}
 use Rattle.row_engine.specs.Holds.{AreNumbers, Holds, IsOf}
 use Rattle.row_engine.specs.Numbers.{AreNumbered}
-use Rattle.row_engine.specs.Staging.{IsButClock, session_clock}
-use Rattle.row_engine.specs.Takes.{Takes}
+use Rattle.row_engine.specs.Staging.{IsButClock}
+use Rattle.row_engine.specs.Inside.Takes.{Takes}
 use Rattle.row_engine.specs.declared.session.Session.{Session}
 use Rattle.row_engine.proofs.Behind.{rows_on}
 use Rattle.row_engine.proofs.Moments.{free_same, resident_on}
@@ -49,7 +50,7 @@ none_value : (a : Option ℕ) → is_value None a ≡ true → None ≡ a
 none_value None e = refl
 none_value (Some n) e = absurd (true≢false (sym e))
 
-module _ (z : Shape) (v w : View) (x y : Session) (log : Log) (key : ℕ) (h : Holds z v x log) (is_open : x.is_open ≡ true) (rs now : List Record) (d : WasAbsent z.alone x.own key v rs w (session_clock y) now) (held : w.held ≡ []) (only : IsButClock x y) where
+module _ (z : Shape) (v w : View) (x y : Session) (log : Log) (key : ℕ) (h : Holds z v x log) (is_open : x.is_open ≡ true) (rs now : List Record) (d : WasAbsent z.alone x.own key v rs w y.clock now) (held : w.held ≡ []) (only : IsButClock x y) where
   abbrev s : State
   s = (state v).core
 
@@ -91,18 +92,18 @@ module _ (z : Shape) (v w : View) (x y : Session) (log : Log) (key : ℕ) (h : H
   worker_is : (happens (opening v.given) s read).worker x.own ≡ touched
   worker_is = upd_same s.worker x.own touched x.own refl
 
-  clock_is : y.clock ≡ touched.clock
+  clock_is : y.clock.clock ≡ touched.clock
   clock_is = ap (λ c. c.clock) d.clock ∙ (ap (λ k. (k.worker x.own).clock) core_is ∙ ap (λ (k : Worker). k.clock) worker_is)
 
-  debt_is : y.debt ≡ touched.debt
+  debt_is : y.clock.debt ≡ touched.debt
   debt_is = ap (λ c. c.debt) d.clock ∙ (ap (λ k. (k.worker x.own).debt) core_is ∙ ap (λ (k : Worker). k.debt) worker_is)
 
   -- the clock has not fallen
-  clock_from : x.clock ≤ y.clock
+  clock_from : x.clock.clock ≤ y.clock.clock
   clock_from = let q = h.session.clock in let c = clock_is in omega arith
 
   abbrev next : Session
-  next = record x { clock = y.clock; debt = y.debt }
+  next = record x { clock = risen x.clock y.clock }
 
   session_on : IsOf next touched
   session_on = record {
@@ -145,7 +146,7 @@ module _ (z : Shape) (v w : View) (x y : Session) (log : Log) (key : ℕ) (h : H
     numbers = numbers_on;
     numbered = numbered_on;
     flushed = ap (λ k. k.flushed x.own) core_is ∙ h.flushed;
-    floor = subst (λ n. x.floor ≤ n) (λ i. flushed_by_all (opening (sym given_is i)) (sym core_is i)) h.floor;
+    floor = subst (λ n. x.clock.floor ≤ n) (λ i. flushed_by_all (opening (sym given_is i)) (sym core_is i)) h.floor;
     behind = ap (λ k. commits.behind k x.own) core_is ∙ h.behind;
     resident = resident_on z v w given_is (ap (λ k. k.place) core_is) h.resident;
     held = λ i. subst (λ k. holds_row (k.row i) x.own ≡ true ↔ Has i x.held.rows) (sym core_is) (h.held i);

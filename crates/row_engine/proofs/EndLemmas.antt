@@ -19,11 +19,11 @@ use Rattle.rows_trait.specs.declared.view.View.{View}
 use Rattle.rows_trait.specs.Views.{Shape, state}
 use Rattle.rows_trait.specs.Turns.{MayTurn, Turned}
 use Rattle.lean_proto.specs.Controls as controls
-use Rattle.row_engine.specs.Ends.{AreHeld, AreMine, Ended, Gave, HasFlushed, MayEnd, MayFlush, gives}
+use Rattle.row_engine.specs.Inside.Ends.{AreHeld, AreMine, Ended, Gave, HasFlushed, MayEnd, MayFlush, gives}
 use Rattle.row_engine.specs.declared.session.Session.{Session}
 use Rattle.row_engine.proofs.Moments.{acts, goes_seen, goes_state, met_core}
 
-module _ (turns : controls.EveryTurn) (z : Shape) (v : View) (x : Session) (commit : Bool) (floor number : ℕ) (marks : List Bool) (m : MayEnd z v x commit floor marks) (number_is : number ≡ x.clock + 1) where
+module _ (turns : controls.EveryTurn) (z : Shape) (v : View) (x : Session) (commit : Bool) (floor number : ℕ) (marks : List Bool) (m : MayEnd z v x commit floor marks) (number_is : number ≡ x.clock.clock + 1) where
   met : may (opening v.given) (state v).core (happening.Event.End x.own commit floor) ≡ true
   met = (turns z v x.own).need commit floor m.can
 
@@ -76,14 +76,14 @@ has_word zero i low few = absurd (omega arith)
 has_word (suc w) i low few = few
 
 module _ (turns : controls.EveryTurn) (z : Shape) (v : View) (x : Session) (log : Log) (m : MayFlush z v x log) where
-  pub flush_turn : MayTurn z x.own 0 (λ _. x.clock) (λ _. Flush x.own x.clock ∷ []) v
-  flush_turn = (turns z v x.own).flush x.clock (record { actor = acts z v x.own m.alone; some = m.low; met = m.met; small = m.small })
+  pub flush_turn : MayTurn z x.own 0 (λ _. x.clock.clock) (λ _. Flush x.own x.clock.clock ∷ []) v
+  flush_turn = (turns z v x.own).flush x.clock.clock (record { actor = acts z v x.own m.alone; some = m.low; met = m.met; small = m.small })
 
-  pub has_flushed : (n : ℕ) (w : View) → Turned z x.own 0 (λ _. x.clock) (λ _. Flush x.own x.clock ∷ []) v n w → (y : Session) → y ≡ record x { behind = 0 } → (is : Log) → is ≡ flushed_log log → (old new : Story) → FlushesOn x.own log is old new
+  pub has_flushed : (n : ℕ) (w : View) → Turned z x.own 0 (λ _. x.clock.clock) (λ _. Flush x.own x.clock.clock ∷ []) v n w → (y : Session) → y ≡ record x { unflushed = 0 } → (is : Log) → is ≡ flushed_log log → (old new : Story) → FlushesOn x.own log is old new
       → HasFlushed v w x y log is old new
   has_flushed n w t y session is after old new stands = record {
     given = t.goes.given;
-    seen = goes_seen z v w (Flush x.own x.clock ∷ []) m.alone t.goes;
+    seen = goes_seen z v w (Flush x.own x.clock.clock ∷ []) m.alone t.goes;
     held = t.held;
     session = session;
     after = after;

@@ -41,10 +41,10 @@ module _ (o g : Opening) (e : o.format ≡ g.format) (s : State) (k : ℕ) where
   least_as : (p : ℕ) → IsLeastFree o s p → IsLeastFree g s p
   least_as p f = (f.0, sym free_as ∙ f.1)
 
-  pub next_as : (x : Event) → IsNextRoom o s k x → IsNextRoom g s k x
-  next_as (Event.Split w l r q i) n = (sym full_as ∙ n.0, sym all_as ∙ n.1, n.2, n.3 ∙ run_as, least_as r n.4, n.5)
-  next_as (Event.Lift w c) n = (sym full_as ∙ n.0, sym all_as ∙ n.1, least_as c n.2)
-  next_as _ n = tt
+  pub next_as : (own : ℕ) (x : Event) → IsNextRoom own o s k x → IsNextRoom own g s k x
+  next_as own (Event.Split w l r q i) n = (n.0, sym full_as ∙ n.1, sym all_as ∙ n.2, n.3, n.4 ∙ run_as, least_as r n.5, n.6)
+  next_as own (Event.Lift w c) n = (n.0, sym full_as ∙ n.1, sym all_as ∙ n.2, least_as c n.3)
+  next_as own _ n = n
 
 -- And of a state on its pages alone.
 module _ (g : Opening) (s t : State) (e : s.page ≡ t.page) (k : ℕ) where

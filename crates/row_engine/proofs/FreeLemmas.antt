@@ -4,7 +4,7 @@ use Rattle.std.specs.Prelude.{reverse}
 use Rattle.std.proofs.lemmas.List.{reverse-append}
 use Rattle.page_model.specs.Nodes.{Node}
 use Rattle.page_model.specs.Page.{Page}
-use Rattle.open_rows.specs.Opened.{page_at}
+use Rattle.row_opening.specs.Opened.{page_at}
 use Rattle.core_calls.specs.Room.{frees_from}
 
 -- a page that comes behind the others is the first of them in reverse

@@ -15,12 +15,13 @@ use Rattle.core_state.specs.Needs.{holds_row, is_value, may, may_hold, value_in}
 use Rattle.core_state.specs.Steps.{at_pages, happens, state_after}
 use Rattle.core_calls.specs.Deeds.{Got, marks_by}
 use Rattle.core_calls.specs.Fronts.{Done, front, outcomes}
-use Rattle.core_calls.specs.LogEvents.{AreSyncs, is_log}
+use Rattle.core_calls.specs.LogEvents.{IsTight, is_log}
+use Rattle.core_calls.proofs.WhereLemmas.{syncs_kept}
 use Rattle.core_calls.specs.LogEvents.{behind as waits}
 use Rattle.core_calls.specs.Marks.{is_half}
 use Rattle.core_calls.specs.Refusals.{Hinders, IsCause}
 use Rattle.core_calls.specs.Runs.{Tells}
-use Rattle.core_calls.specs.Steps.{MayPutBack, is_structure}
+use Rattle.core_calls.specs.Steps.{Tries, is_structure}
 use Rattle.lean_disk.proofs.MomentLemmas.{framed}
 use Rattle.lean_disk.specs.Story.{IsLawful, Story}
 use Rattle.worker_log.specs.Logs.{Log}
@@ -47,13 +48,13 @@ use Rattle.engine_trait.specs.Calls.{call_behind, is_half_done}
 use Rattle.engine_trait.specs.Refusals.{IsRefusedFor, lock_refusal, refusal_in}
 use Rattle.engine_trait.specs.Rooms.{MakesItsRoom}
 use Rattle.engine_trait.specs.Calls.{MayCome}
+use Rattle.flush_avoidance.specs.Clocks.{after_touch}
 use Rattle.row_engine.specs.Calls.{CallDoes, DoesOn}
 use Rattle.row_engine.specs.Holds.{Holds, IsOf}
 use Rattle.row_engine.specs.Inside.{call_test, is_going}
 use Rattle.row_engine.specs.Numbers.{AreNumbered}
 use Rattle.row_engine.specs.Others.{Steps}
-use Rattle.row_engine.specs.Staging.{touched_session}
-use Rattle.row_engine.specs.Takes.{NotTaken, Takes}
+use Rattle.row_engine.specs.Inside.Takes.{NotTaken, Takes}
 use Rattle.row_engine.specs.Ties.{Ties}
 use Rattle.row_engine.specs.declared.session.Session.{Session}
 use Rattle.row_engine.proofs.Behind as behind
@@ -76,14 +77,14 @@ none_is : (r : Refusal) → None ≡ Some r → ⊥
 none_is r e = absurd (cc)
 
 -- no test refuses it
-pub call_open : (x : Session) → call_test x ≡ None → (x.works ≡ true) × (x.is_open ≡ true) × (x.half ≡ false)
+pub call_open : (x : Session) → call_test x ≡ None → (x.works ≡ true) × (x.is_open ≡ true) × (x.is_half_aborted ≡ false)
 call_open x e = works_case x.works refl e
   where
-    open_case : x.works ≡ true → (b : Bool) → is_going x ≡ b → cond b None (Some refusal.NoTransaction) ≡ None → (x.works ≡ true) × (x.is_open ≡ true) × (x.half ≡ false)
+    open_case : x.works ≡ true → (b : Bool) → is_going x ≡ b → cond b None (Some refusal.NoTransaction) ≡ None → (x.works ≡ true) × (x.is_open ≡ true) × (x.is_half_aborted ≡ false)
     open_case w true q r = let k = going x q in (w, k.is_open, k.whole)
     open_case w false q r = absurd (none_is _ (sym r))
 
-    works_case : (b : Bool) → x.works ≡ b → cond b (cond (is_going x) None (Some refusal.NoTransaction)) (Some refusal.Broken) ≡ None → (x.works ≡ true) × (x.is_open ≡ true) × (x.half ≡ false)
+    works_case : (b : Bool) → x.works ≡ b → cond b (cond (is_going x) None (Some refusal.NoTransaction)) (Some refusal.Broken) ≡ None → (x.works ≡ true) × (x.is_open ≡ true) × (x.is_half_aborted ≡ false)
     works_case true q r = open_case q (is_going x) refl r
     works_case false q r = absurd (none_is _ (sym r))
 
@@ -192,7 +193,7 @@ module _ (z : Shape) (v w : View) (x : Session) (log : Log) (h : Holds z v x log
 
   -- the session that has met it
   abbrev now : Session
-  now = touched_session x found.number found.log
+  now = record x { clock = after_touch x.own x.clock found.number found.log }
 
   now_of : IsOf now (at_pages s x.own (s.worker x.own) (a.page ∷ []))
   now_of = record {
@@ -220,7 +221,7 @@ module _ (z : Shape) (v w : View) (x : Session) (log : Log) (h : Holds z v x log
     numbers = numbers_on x now log x.held refl (omega arith) h.numbers;
     numbered = subst (λ k. AreNumbered x.workers k) (sym core_is) (numbered_read (opening v.given) x.workers s x.own a.page key (pages.said found.word) h.rows.low h.rows.high (h.session.is_open ∙ is_open) few h.numbered);
     flushed = ap (λ k. k.flushed x.own) core_is ∙ h.flushed;
-    floor = subst (λ n. x.floor ≤ n) (λ i. flushed_by_all (opening (sym read_given i)) (sym core_is i)) h.floor;
+    floor = subst (λ n. x.clock.floor ≤ n) (λ i. flushed_by_all (opening (sym read_given i)) (sym core_is i)) h.floor;
     behind = ap (λ k. waits k x.own) core_is ∙ h.behind;
     resident = resident_on z v w read_given (ap (λ k. k.place) core_is) h.resident;
     held = λ i. subst (λ k. holds_row (k.row i) x.own ≡ true ↔ Has i x.held.rows) (sym core_is) (h.held i);
@@ -259,13 +260,13 @@ keep_none p (x ∷ es) none = go (p x) none (keep_none p es)
     go false q rest = rest q
 
 -- no test refuses a get where its row may be had
-none_refuses : (g : Opening) (s : State) (own : ℕ) (half : Bool) (log : Log) (key : ℕ) → (s.worker own).is_open ≡ true → half ≡ false → may_hold (s.row (g.row_of key)) own happening.Mode.Shared ≡ true → refusal_in g s own half log (call.Get key) ≡ None
-none_refuses g s own half log key is_open whole free =
+none_refuses : (g : Opening) (s : State) (own : ℕ) (is_half_aborted : Bool) (log : Log) (key : ℕ) → (s.worker own).is_open ≡ true → is_half_aborted ≡ false → may_hold (s.row (g.row_of key)) own happening.Mode.Shared ≡ true → refusal_in g s own is_half_aborted log (call.Get key) ≡ None
+none_refuses g s own is_half_aborted log key is_open whole free =
     (λ i. cond (whole i) (Some refusal.NoTransaction) (cond (is_open i) (lock_refusal g s own key happening.Mode.Shared None) (Some refusal.NoTransaction))) ∙ lock_free g s own key happening.Mode.Shared free None
 
 -- It was answered: the row was taken by w, and the read was seen by u.
-module _ (reached : EveryReached) (needs : EveryNeed) (answers : EveryAnswer) (g : Opening) (xs : List Done) (line : IsNewLine (outcomes xs)) (z : Shape) (v w u : View) (x y : Session) (log : Log) (t : Ties g x.group xs x.own x.half v) (h : Holds z v x log) (i : Holds z w y log) (is_open : x.is_open ≡ true)
-    (whole : x.half ≡ false) (key : ℕ) (found : Found) (k : Takes v w x y (key % x.held.count) Shared) (st : descents.Stamped z.alone y.own key found w u) (held_is : u.held ≡ w.held) (story : Story) (lawful : IsLawful story) (part : EveryPart story story story) where
+module _ (reached : EveryReached) (needs : EveryNeed) (answers : EveryAnswer) (g : Opening) (xs : List Done) (line : IsNewLine (outcomes xs)) (z : Shape) (v w u : View) (x y : Session) (log : Log) (t : Ties g x.group xs x.own x.is_half_aborted v) (h : Holds z v x log) (i : Holds z w y log) (is_open : x.is_open ≡ true)
+    (whole : x.is_half_aborted ≡ false) (key : ℕ) (found : Found) (k : Takes v w x y (key % x.held.count) Shared) (st : descents.Stamped z.alone y.own key found w u) (held_is : u.held ≡ w.held) (story : Story) (lawful : IsLawful story) (part : EveryPart story story story) where
   abbrev first : List happening.Event
   first = t.loads
 
@@ -321,7 +322,7 @@ module _ (reached : EveryReached) (needs : EveryNeed) (answers : EveryAnswer) (g
     before_steps = behind.loads_steps first t.are_loads;
     between_steps = refl;
     structure = any_more is_structure first (happening.Event.Lock x.own (g.row_of key) happening.Mode.Shared ∷ []) (behind.loads_structure first t.are_loads) refl;
-    syncs = subst (λ es. AreSyncs false es) (sym no_more_logs) tt;
+    syncs = syncs_kept (λ s. IsTight g s key) g taken (state_after g (front xs)) no_more_logs;
     met = next.met;
     value_is = value_is;
     whole = t.half_is ∙ whole;
@@ -339,7 +340,7 @@ module _ (reached : EveryReached) (needs : EveryNeed) (answers : EveryAnswer) (g
   events_are : done.events ≡ first ++ (happening.Event.Lock x.own (g.row_of key) happening.Mode.Shared ∷ read ∷ [])
   events_are = append_assoc first (happening.Event.Lock x.own (g.row_of key) happening.Mode.Shared ∷ []) (read ∷ [])
 
-  pub got : DoesOn g x.group xs x.own (call.Get key) (answer.Value value) x.half u log log story story
+  pub got : DoesOn g x.group xs x.own (call.Get key) (answer.Value value) x.is_half_aborted u log log story story
   got = record {
     does = record {
       done = done;
@@ -356,7 +357,8 @@ module _ (reached : EveryReached) (needs : EveryNeed) (answers : EveryAnswer) (g
         refused = λ why q. absurd (cc);
         refuses = λ why q. absurd (none_is why (sym none ∙ q));
         log = λ _. (log, refl, (log, refl, refl));
-        room = subst (λ c. MakesItsRoom g (state_after g (front xs ++ first)) c (happening.Event.Lock x.own (g.row_of key) happening.Mode.Shared ∷ read ∷ [])) (sym (behind.line_call xs (call.Get key) line)) refl;
+        still = λ _ _. refl;
+        room = subst (λ c. MakesItsRoom x.own g (state_after g (front xs ++ first)) c (happening.Event.Lock x.own (g.row_of key) happening.Mode.Shared ∷ read ∷ [])) (sym (behind.line_call xs (call.Get key) line)) refl;
       };
       frame = framed (suc x.own) story;
       keeps = λ s0 m bt is.
@@ -376,24 +378,24 @@ may_come workers _ v w own row mode n only = absurd n
 
 module _ (reached : EveryReached) (needs : EveryNeed) (answers : EveryAnswer) (coming : EveryComing) (st : Story) (lawful : IsLawful st) (part : EveryPart st st st) (z : Shape) (v : View) (x : Session) (log : Log) (h : Holds z v x log) (key : ℕ) where
   -- the worker is open as the session is, behind the loads too
-  open_in : (g : Opening) (xs : List Done) (t : Ties g x.group xs x.own x.half v) → ((behind_first g xs t.loads).worker x.own).is_open ≡ x.is_open
+  open_in : (g : Opening) (xs : List Done) (t : Ties g x.group xs x.own x.is_half_aborted v) → ((behind_first g xs t.loads).worker x.own).is_open ≡ x.is_open
   open_in g xs t = ap (λ s. (s.worker x.own).is_open) (sym (behind.core_is reached needs g xs t.loads v (behind.begins g x.group xs x.own v t))) ∙ h.session.is_open
 
   -- by one cause, which the tests find then
-  refuse : (g : Opening) (xs : List Done) (t : Ties g x.group xs x.own x.half v) → IsNewLine (outcomes xs) → (why : Refusal) (w : View) → behind.Behind g xs t.loads w
-      → IsCause limits g (front xs ++ t.loads) (behind_first g xs t.loads) (is_half (marks_by x.own (outcomes xs))) x.own (call.Get key) why → MayPutBack why []
+  refuse : (g : Opening) (xs : List Done) (t : Ties g x.group xs x.own x.is_half_aborted v) → IsNewLine (outcomes xs) → (why : Refusal) (w : View) → behind.Behind g xs t.loads w
+      → IsCause limits g (front xs ++ t.loads) (behind_first g xs t.loads) (is_half (marks_by x.own (outcomes xs))) x.own (call.Get key) why → Tries g x.own (outcomes xs) (call.Get key) why []
       → IsRefusedFor g (behind_first g xs t.loads) x.own (is_half_done x.own xs) log (call.Get key) why
       → ((q : Refusal) → refusal_in g (behind_first g xs t.loads) x.own (is_half_done x.own xs) log (call.Get key) ≡ Some q → (why ≡ q) ⊎ (why ≡ refusal.RowSpent))
-      → DoesOn g x.group xs x.own (call.Get key) (answer.Refused why) x.half w log log st st
-  refuse g xs t line why w b cause none is_for refuses =
+      → DoesOn g x.group xs x.own (call.Get key) (answer.Refused why) x.is_half_aborted w log log st st
+  refuse g xs t line why w b cause tries is_for refuses =
       let comes = refusal_comes coming xs x.own (call.Get key) why t.loads line in
       refused_does answers g x.group xs x.own v t log st lawful part (call.Get key) why comes w b
-      (is_refusal answers g x.group xs x.own v t log st lawful part (call.Get key) why comes cause tt none) (call.Get key) (behind.line_call xs (call.Get key) line) is_for refuses
+      (is_refusal answers g x.group xs x.own v t log st lawful part (call.Get key) why comes cause tt (call.Get key) (behind.line_call xs (call.Get key) line) tries) (call.Get key) (behind.line_call xs (call.Get key) line) is_for refuses
 
-  pub not_got : (why : Refusal) → x.works ≡ true → call_test x ≡ Some why → CallDoes x.own x.group (call.Get key) (answer.Refused why) x.half x.half v v log log st st
-  not_got why works e = subst (λ q. CallDoes x.own x.group (call.Get key) (answer.Refused q) x.half x.half v v log log st st) (call_closed x why works e).1 closed
+  pub not_got : (why : Refusal) → x.works ≡ true → call_test x ≡ Some why → CallDoes x.own x.group (call.Get key) (answer.Refused why) x.is_half_aborted x.is_half_aborted v v log log st st
+  not_got why works e = subst (λ q. CallDoes x.own x.group (call.Get key) (answer.Refused q) x.is_half_aborted x.is_half_aborted v v log log st st) (call_closed x why works e).1 closed
     where
-      closed : CallDoes x.own x.group (call.Get key) (answer.Refused refusal.NoTransaction) x.half x.half v v log log st st
+      closed : CallDoes x.own x.group (call.Get key) (answer.Refused refusal.NoTransaction) x.is_half_aborted x.is_half_aborted v v log log st st
       closed g xs t line = refuse g xs t line refusal.NoTransaction v (behind.begins g x.group xs x.own v t) (cause (not_going x (call_closed x why works e).0)) refl
           (inl none) (λ q r. inl (some_is refusal.NoTransaction q (sym none ∙ r)))
         where
@@ -401,14 +403,14 @@ module _ (reached : EveryReached) (needs : EveryNeed) (answers : EveryAnswer) (c
           none = tests_as (behind_first g xs t.loads) (is_half_done x.own xs) x (open_in g xs t) t.half_is (lock_refusal g (behind_first g xs t.loads) x.own key happening.Mode.Shared None)
               ∙ ap (λ b. cond b (lock_refusal g (behind_first g xs t.loads) x.own key happening.Mode.Shared None) (Some refusal.NoTransaction)) (call_closed x why works e).0
 
-          cause : (x.half ≡ true) ⊎ (x.is_open ≡ false) → ((behind_first g xs t.loads).worker x.own).is_open ≡ false ⊎ ((is_half_done x.own xs ≡ true) × (call.Get key ≡ call.Abort → ⊥))
-          cause (inl half) = inr (t.half_is ∙ half, λ q. absurd (cc))
+          cause : (x.is_half_aborted ≡ true) ⊎ (x.is_open ≡ false) → ((behind_first g xs t.loads).worker x.own).is_open ≡ false ⊎ ((is_half_done x.own xs ≡ true) × (call.Get key ≡ call.Abort → ⊥))
+          cause (inl is_half_aborted) = inr (t.half_is ∙ is_half_aborted, λ q. absurd (cc))
           cause (inr shut) = inl (open_in g xs t ∙ shut)
 
   -- its row is spent, or another session stands in the way
-  pub not_taken : x.is_open ≡ true → x.half ≡ false → (w : View) (why : Refusal) → NotTaken why v w x.own (key % x.held.count) Shared → CallDoes x.own x.group (call.Get key) (answer.Refused why) x.half x.half v w log log st st
+  pub not_taken : x.is_open ≡ true → x.is_half_aborted ≡ false → (w : View) (why : Refusal) → NotTaken why v w x.own (key % x.held.count) Shared → CallDoes x.own x.group (call.Get key) (answer.Refused why) x.is_half_aborted x.is_half_aborted v w log log st st
   not_taken is_open whole w refusal.RowSpent s g xs t line =
-      refuse g xs t line refusal.RowSpent w (spent_behind g xs t.loads v w (behind.begins g x.group xs x.own v t) s) (spent_end g xs t.loads v w (behind.begins g x.group xs x.own v t) s) tt (inr refl) (λ q r. inr refl)
+      refuse g xs t line refusal.RowSpent w (spent_behind g xs t.loads v w (behind.begins g x.group xs x.own v t) s) (spent_end g xs t.loads v w (behind.begins g x.group xs x.own v t) s) (inl refl) (inr refl) (λ q r. inr refl)
   not_taken is_open whole w (refusal.Conflict b) s g xs t line =
       refuse g xs t line (refusal.Conflict b) w (hindered_behind g xs t.loads v w x.own (key % x.held.count) Shared b (behind.begins g x.group xs x.own v t) s) hinders refl (inl now) (λ q r. inl (some_is (refusal.Conflict b) q (sym now ∙ r)))
     where

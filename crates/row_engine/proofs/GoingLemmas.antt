@@ -10,23 +10,23 @@ use Rattle.row_engine.specs.declared.session.Session.{Session}
 -- what is so where it does
 pub record Going (x : Session) : Type 0 where
   pub is_open : x.is_open ≡ true
-  pub whole : x.half ≡ false
+  pub whole : x.is_half_aborted ≡ false
 
 pub going : (x : Session) → is_going x ≡ true → Going x
-going x e = go x.half refl e
+going x e = go x.is_half_aborted refl e
   where
-    go : (b : Bool) → x.half ≡ b → cond b false x.is_open ≡ true → Going x
+    go : (b : Bool) → x.is_half_aborted ≡ b → cond b false x.is_open ≡ true → Going x
     go true q r = absurd (true≢false (cc))
     go false q r = record { is_open = r; whole = q }
 
-pub goes : (x : Session) → x.is_open ≡ true → x.half ≡ false → is_going x ≡ true
+pub goes : (x : Session) → x.is_open ≡ true → x.is_half_aborted ≡ false → is_going x ≡ true
 goes x is_open whole = λ i. cond (whole i) false (is_open i)
 
 -- and where it does not
-pub not_going : (x : Session) → is_going x ≡ false → (x.half ≡ true) ⊎ (x.is_open ≡ false)
-not_going x e = go x.half refl e
+pub not_going : (x : Session) → is_going x ≡ false → (x.is_half_aborted ≡ true) ⊎ (x.is_open ≡ false)
+not_going x e = go x.is_half_aborted refl e
   where
-    go : (b : Bool) → x.half ≡ b → cond b false x.is_open ≡ false → (x.half ≡ true) ⊎ (x.is_open ≡ false)
+    go : (b : Bool) → x.is_half_aborted ≡ b → cond b false x.is_open ≡ false → (x.is_half_aborted ≡ true) ⊎ (x.is_open ≡ false)
     go true q r = inl q
     go false q r = inr r
 
@@ -35,6 +35,6 @@ as_one true a later = refl
 as_one false a later = refl
 
 -- the tests of the worker are those of its session
-pub tests_as : (s : State) (half : Bool) (x : Session) → (s.worker x.own).is_open ≡ x.is_open → half ≡ x.half → (later : Option Refusal) → in_transaction s x.own half later ≡ cond (is_going x) later (Some refusal.NoTransaction)
-tests_as s half x is_open half_is later =
-    (λ i. cond (half_is i) (Some refusal.NoTransaction) (cond (is_open i) later (Some refusal.NoTransaction))) ∙ as_one x.half x.is_open later
+pub tests_as : (s : State) (is_half_aborted : Bool) (x : Session) → (s.worker x.own).is_open ≡ x.is_open → is_half_aborted ≡ x.is_half_aborted → (later : Option Refusal) → in_transaction s x.own is_half_aborted later ≡ cond (is_going x) later (Some refusal.NoTransaction)
+tests_as s is_half_aborted x is_open half_is later =
+    (λ i. cond (half_is i) (Some refusal.NoTransaction) (cond (is_open i) later (Some refusal.NoTransaction))) ∙ as_one x.is_half_aborted x.is_open later

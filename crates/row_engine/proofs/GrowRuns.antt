@@ -47,11 +47,12 @@ use Rattle.row_words.specs.Openings.{opening}
 use Rattle.row_opening.specs.Openings.{EveryNeed, EveryReached, Opens}
 use Rattle.rows_trait.specs.declared.view.View.{View}
 use Rattle.rows_trait.specs.Views.{after_all, state}
+use Rattle.flush_avoidance.specs.Clocks.{risen}
 use Rattle.row_engine.specs.declared.session.Session.{Session}
 use Rattle.row_engine.specs.Puts.{IsChanged, KeepsLog}
 use Rattle.row_engine.specs.Grown.{AreAside, Behind, Gained, Goes, Grows, Went, is_aside}
 use Rattle.row_engine.specs.Others.{Steps}
-use Rattle.row_engine.specs.Rooms.{IsGrown, IsGrowth}
+use Rattle.row_engine.specs.Inside.Rooms.{IsGrown, IsGrowth}
 use Rattle.row_engine.proofs.Behind as behind
 use Rattle.row_engine.proofs.Formats.{next_as}
 use Rattle.row_engine.proofs.Misses.{is_miss}
@@ -67,12 +68,12 @@ use Rattle.row_engine.proofs.StageLemmas.{staged_flushed}
 pub record Aside (own : ℕ) (e : happening.Event) : Type 0 where
   pub step : is_step e ≡ false
   pub log : is_log e ≡ false
-  pub room : makes_room own e ≡ true
+  pub room : (row : ℕ) → makes_room own row e ≡ true
 
 aside : (own : ℕ) (e : happening.Event) → is_aside own e ≡ true → Aside own e
-aside own (happening.Event.Split w l r q i) a = record { step = refl; log = refl; room = a }
-aside own (happening.Event.Lift w c) a = record { step = refl; log = refl; room = a }
-aside own (happening.Event.Miss w) a = record { step = refl; log = refl; room = refl }
+aside own (happening.Event.Split w l r q i) a = record { step = refl; log = refl; room = λ row. a }
+aside own (happening.Event.Lift w c) a = record { step = refl; log = refl; room = λ row. a }
+aside own (happening.Event.Miss w) a = record { step = refl; log = refl; room = λ row. refl }
 aside own _ a = absurd (true≢false (sym a))
 
 both : (a b : Bool) → (a && b) ≡ true → (a ≡ true) × (b ≡ true)
@@ -88,10 +89,10 @@ pub record Asides (own : ℕ) (es : List happening.Event) : Type 0 where
   pub steps : any is_step es ≡ false
   pub no_steps : keep is_step es ≡ []
   pub no_logs : keep is_log es ≡ []
-  pub room : AreRoom own es
+  pub room : (row : ℕ) → AreRoom own row es
 
 pub asides : (own : ℕ) (es : List happening.Event) → AreAside own es → Asides own es
-asides own [] a = record { steps = refl; no_steps = refl; no_logs = refl; room = refl }
+asides own [] a = record { steps = refl; no_steps = refl; no_logs = refl; room = λ row. refl }
 asides own (e ∷ es) a =
     let p = both (is_aside own e) (all (is_aside own) es) a in
     let one = aside own e p.0 in
@@ -100,7 +101,7 @@ asides own (e ∷ es) a =
       steps = go_any (is_step e) (any is_step es) one.step r.steps;
       no_steps = go_keep is_step e (keep is_step es) (is_step e) one.step r.no_steps;
       no_logs = go_keep is_log e (keep is_log es) (is_log e) one.log r.no_logs;
-      room = each (makes_room own e) (all (makes_room own) es) one.room r.room;
+      room = λ row. each (makes_room own row e) (all (makes_room own row) es) (one.room row) (r.room row);
     }
   where
     go_any : (c d : Bool) → c ≡ false → d ≡ false → (c || d) ≡ false
@@ -156,23 +157,23 @@ module _ (own : ℕ) (g : Opening) where
   logs_same s [] (_ ∷ fs) was is a l = absurd (true≢false (sym a))
   logs_same s (x ∷ es) fs was is a l = (l.0, l.1, logs_same (core.step g s x) es fs l.0 is a l.2)
 
-module _ (g : Opening) where
-  pub makes_more : (key : ℕ) (s : State) (es : List happening.Event) (e : happening.Event) → MakesRoom g s key es → IsNextRoom g (core.run g s es) key e → MakesRoom g s key (es ++ e ∷ [])
+module _ (own : ℕ) (g : Opening) where
+  pub makes_more : (key : ℕ) (s : State) (es : List happening.Event) (e : happening.Event) → MakesRoom own g s key es → IsNextRoom own g (core.run g s es) key e → MakesRoom own g s key (es ++ e ∷ [])
   makes_more key s [] e m one = (one, tt)
   makes_more key s (x ∷ es) e m one = (m.0, makes_more key (core.step g s x) es e m.1 one)
 
-  pub makes_same : (key : ℕ) (s : State) (es fs : List happening.Event) → all is_miss fs ≡ true → MakesRoom g s key es → MakesRoom g s key (es ++ fs)
+  pub makes_same : (key : ℕ) (s : State) (es fs : List happening.Event) → all is_miss fs ≡ true → MakesRoom own g s key es → MakesRoom own g s key (es ++ fs)
   makes_same key s [] [] a m = m
   makes_same key s [] (happening.Event.Miss w ∷ fs) a m = (tt, makes_same key (core.step g s (happening.Event.Miss w)) [] fs a tt)
   makes_same key s [] (_ ∷ fs) a m = absurd (true≢false (sym a))
   makes_same key s (x ∷ es) fs a m = (m.0, makes_same key (core.step g s x) es fs a m.1)
 
   -- behind loads and a lock
-  pub makes_behind : (own key i : ℕ) (s : State) (first es : List happening.Event) → AreLoads first → MakesRoom g (core.run g s (first ++ happening.Event.Lock own i happening.Mode.Alone ∷ [])) key es
-      → MakesRoom g s key ((first ++ happening.Event.Lock own i happening.Mode.Alone ∷ []) ++ es)
-  makes_behind own key i s [] es a m = (tt, m)
-  makes_behind own key i s (happening.Event.Load p f ∷ first) es a m = (tt, makes_behind own key i (core.step g s (happening.Event.Load p f)) first es a m)
-  makes_behind own key i s (_ ∷ first) es a m = absurd a
+  pub makes_behind : (key i : ℕ) (s : State) (first es : List happening.Event) → AreLoads first → MakesRoom own g (core.run g s (first ++ happening.Event.Lock own i happening.Mode.Alone ∷ [])) key es
+      → MakesRoom own g s key ((first ++ happening.Event.Lock own i happening.Mode.Alone ∷ []) ++ es)
+  makes_behind key i s [] es a m = (tt, m)
+  makes_behind key i s (happening.Event.Load p f ∷ first) es a m = (tt, makes_behind key i (core.step g s (happening.Event.Load p f)) first es a m)
+  makes_behind key i s (_ ∷ first) es a m = absurd a
 
 -- the record of a change in a page of this format
 abbrev pub record_in : Format → (ℕ → Contents) → (txn clock page key value : ℕ) → Record
@@ -281,8 +282,8 @@ module _ (reached : EveryReached) (need : EveryNeed) (parts : (old mid new : Sto
     format_is : (opening u.given).format ≡ g.format
     format_is = sym d.behind.opens.format
 
-    made : IsNextRoom g (core.run g from es) key e
-    made = subst (λ (q : State). IsNextRoom g q key e) (core_is ∙ sym run_is) (next_as (opening u.given) g format_is (state u).core key e c.next)
+    made : IsNextRoom own g (core.run g from es) key e
+    made = subst (λ (q : State). IsNextRoom own g q key e) (core_is ∙ sym run_is) (next_as (opening u.given) g format_is (state u).core key own e (subst (λ n. IsNextRoom n (opening u.given) (state u).core key e) own_is c.next))
 
     behind_w : Behind g xs (start ++ (es ++ e ∷ [])) w
     behind_w = subst (λ ys. Behind g xs ys w) (append_assoc start es (e ∷ [])) (behind.more reached need g xs (start ++ es) u d.behind (c.event ∷ []) w c.given c.seen (met, tt))
@@ -313,7 +314,7 @@ module _ (reached : EveryReached) (need : EveryNeed) (parts : (old mid new : Sto
       behind = behind_w;
       aside = all_append (is_aside own) es (e ∷ []) d.aside (each (is_aside own e) true f.aside refl);
       logs = logs_more own g from es e was mid is d.logs logged;
-      makes = makes_more g key from es e d.makes made;
+      makes = makes_more own g key from es e d.makes made;
     }
 
     pub went_grown : (group : ℕ) (s0 : Crash) (k : Known) (base : Story) → Between limits g group xs s0 k base → Went own g xs s0 k (start ++ es) mid base s → Went own g xs s0 k (start ++ (es ++ e ∷ [])) is base new
@@ -349,7 +350,7 @@ module _ (reached : EveryReached) (need : EveryNeed) (parts : (old mid new : Sto
     given = c.given ∙ d.given;
     seen = c.seen ∙ (ap (λ ys. ys ++ c.event ∷ []) d.seen ∙ append_assoc v.seen d.events (c.event ∷ []));
     steps = every_steps x.own v u w d.steps (subst (λ n. Steps n u w) (ap (λ (q : Session). q.own) d.session) (grown_steps key u w z y mid is s new c));
-    session = c.session ∙ ap (λ (q : Session). record q { clock = y.clock; debt = y.debt; free = y.free }) d.session;
+    session = c.session ∙ ap (λ (q : Session). record q { clock = risen q.clock y.clock; free = y.free }) d.session;
     fewer = let a = d.fewer in let b = c.fewer in let l = length-append d.events (c.event ∷ []) in omega arith;
     flushed = staged_flushed c.entry mid is c.after ∙ d.flushed;
     fits = inr (first_fits key v u x z was mid d c.fits);

@@ -3,17 +3,19 @@ use Rattle.std.proofs.Common.{◌≡◌, ◌↔◌, ◌≤◌, ◌<◌, ◌++◌
 use Rattle.map_model.specs.Lists.{Has, keep}
 use Rattle.map_model.proofs.ListLemmas.{upd_same}
 use Rattle.page_model.specs.Records as records
+use Rattle.page_model.specs.Tree.{IsTree}
 use Rattle.image_model.specs.Entries.{Entry, Kind, is_commit}
 use Rattle.core_state.specs.Needs.{holds_row, may}
-use Rattle.core_state.specs.States.{Place, State, Worker, frame_of, in_frame}
+use Rattle.core_state.specs.States.{Place, State, Worker, frame_of, in_frame, nodes_of}
 use Rattle.core_state.specs.Steps.{at_pages, happens, moves, page_entry, records_in}
 use Rattle.core_calls.specs.LogEvents.{behind}
-use Rattle.core_calls.specs.Room.{free_list}
+use Rattle.core_calls.specs.Room.{free_list, room_takes}
 use Rattle.lean_disk.specs.Story.{Story}
 use Rattle.log_record.specs.declared.record.Record.{Record}
 use Rattle.disk_image.specs.Records.{entry_of}
 use Rattle.worker_log.specs.Logs.{Log}
 use Rattle.row_words.specs.declared.event.Event.{Event}
+use Rattle.row_words.specs.declared.given.Given.{Given}
 use Rattle.row_words.specs.Moments.{Moment, event_of}
 use Rattle.row_words.specs.Openings.{opening}
 use Rattle.row_words.specs.Sealed.{begun}
@@ -27,20 +29,21 @@ use Rattle.btree_smo.specs.Outcomes.{Caused, Changed, IsHotIn, Missed, WasSo}
 use Rattle.btree_smo.specs.declared.outcome.Outcome.TheVariants.{RowSpent}
 use Rattle.engine_trait.specs.Refusals.{room_refusal}
 use Rattle.engine_trait.specs.Rooms.{IsNextRoom}
+use Rattle.flush_avoidance.specs.Clocks.{risen}
 use Rattle.row_engine.specs.Free.{without_first}
 use Rattle.row_engine.specs.Holds.{AreNumbers, Holds, IsOf}
 use Rattle.row_engine.specs.Numbers.{AreNumbered}
 use Rattle.row_engine.specs.Puts.{MayChange}
-use Rattle.row_engine.specs.Undo.{undo_of}
-use Rattle.row_engine.specs.Rooms.{IsGrown, IsGrowth, IsSpentBehind}
-use Rattle.row_engine.specs.Staging.{Staging, session_clock}
+use Rattle.row_engine.specs.Undo.{HasRoomToStage, undo_of}
+use Rattle.row_engine.specs.Inside.Rooms.{IsGrown, IsGrowth, IsSpentBehind}
+use Rattle.row_engine.specs.Staging.{Staging}
 use Rattle.row_engine.specs.declared.session.Session.{Session}
 use Rattle.row_engine.proofs.Behind.{rows_on}
 use Rattle.row_engine.proofs.Moments.{resident_on}
 use Rattle.row_engine.proofs.Misses.{misses_core}
 use Rattle.row_engine.proofs.NumberLemmas.{numbered_moves}
 use Rattle.row_engine.proofs.PutLemmas.{floor_same, ran_seen, same_flushed, seen_core}
-use Rattle.row_engine.proofs.UndoLemmas.{many_of, room_to_flush, room_to_undo}
+use Rattle.row_engine.proofs.UndoLemmas.{many_of, room_after, room_to_end, room_to_flush, room_to_undo}
 
 -- ## Moments of a call, where nobody else steps
 
@@ -70,7 +73,7 @@ holds_same z v w x log given core held h = record {
   numbers = h.numbers;
   numbered = subst (λ s. AreNumbered x.workers s) (sym core) h.numbered;
   flushed = ap (λ s. s.flushed x.own) core ∙ h.flushed;
-  floor = floor_same v w x.floor given (ap (λ s. s.flushed) core) h.floor;
+  floor = floor_same v w x.clock.floor given (ap (λ s. s.flushed) core) h.floor;
   behind = ap (λ s. behind s x.own) core ∙ h.behind;
   resident = resident_on z v w given (ap (λ s. s.place) core) h.resident;
   held = λ i. subst (λ s. holds_row (s.row i) x.own ≡ true ↔ Has i x.held.rows) (sym core) (h.held i);
@@ -129,7 +132,7 @@ touched s own b (p ∷ ps) = let t = touched s own b ps in record { is_open = t.
 -- ## Behind a change
 
 module _ (z : Shape) (v w : View) (x : Session) (log : Log) (h : Holds z v x log) (key : ℕ) (f : MayChange v x log key) (kind : Kind) (no_commit : is_commit kind ≡ false) (e : Event) (ps : List ℕ) (made : records.Record) (entry_in : State → Entry)
-    (rs now : List Record) (y : Session) (log_now : Log) (d : Changed z.alone x.own e entry_in v rs w (session_clock y) now)
+    (rs now : List Record) (y : Session) (log_now : Log) (d : Changed z.alone x.own e entry_in v rs w y.clock now)
     (does : happens (opening v.given) (state v).core (event_of e) ≡ moves (state v).core kind x.own ps made)
     (enters : entry_in (state v).core ≡ page_entry kind (state v).core x.own (at_pages (state v).core x.own ((state v).core.worker x.own) ps) ps made) where
   abbrev s : State
@@ -173,10 +176,10 @@ module _ (z : Shape) (v w : View) (x : Session) (log : Log) (h : Holds z v x log
   worker_is : t.worker x.own ≡ b
   worker_is = upd_same s.worker x.own b x.own refl
 
-  clock_of : session_clock y ≡ clock_in b
+  clock_of : y.clock ≡ clock_in b
   clock_of = d.clock ∙ ((λ i. clock_in ((after_all w.given ((ap (λ ys. ys ++ e ∷ []) past_is ∙ sym seen_is) i)).core.worker x.own)) ∙ (ap (λ k. clock_in (k.worker x.own)) core_is ∙ ap clock_in worker_is))
 
-  pub clock_rises : x.clock < y.clock
+  pub clock_rises : x.clock.clock < y.clock.clock
   clock_rises = let e = ap (λ c. c.clock) clock_of in let q = h.session.clock in let k = met_by.clock in omega arith
 
   numbered_on : AreNumbered x.workers t
@@ -187,13 +190,13 @@ module _ (z : Shape) (v w : View) (x : Session) (log : Log) (h : Holds z v x log
   abbrev waiting : List Entry
   waiting = keep (λ q. is_commit q.kind && ((q.log == x.own) && ltb (s.flushed x.own) q.number)) s.entries
 
-  behind_on : behind t x.own ≡ x.behind
+  behind_on : behind t x.own ≡ x.unflushed
   behind_on = (λ i. length (cond (no_commit i && ((r.log == x.own) && ltb (s.flushed x.own) r.number)) (r ∷ waiting) waiting)) ∙ h.behind
 
-  module _ (old new : Story) (S : Type 0) (f0 f1 : ℕ) (held : w.held ≡ []) (st : Staging (Ok tt) x y rs now log log_now old new S f0 f1) (last : log_now.last ≡ y.clock)
+  module _ (old new : Story) (S : Type 0) (f0 f1 : ℕ) (held : w.held ≡ []) (st : Staging (Ok tt) x y rs now log log_now old new S f0 f1) (last : log_now.last ≡ y.clock.clock)
       (page : ℕ) (rest : List ℕ) (least : x.free ≡ page ∷ rest) (left : free_list (opening v.given) (happens (opening v.given) s (event_of e)) ≡ rest) where
     abbrev u : Session
-    u = record x { clock = y.clock; debt = y.debt; free = rest }
+    u = record x { clock = risen x.clock y.clock; free = rest }
 
     flushed_is : log_now.flushed ≡ log.flushed
     flushed_is = same_flushed st.came.entry log log_now st.came.after
@@ -209,16 +212,20 @@ module _ (z : Shape) (v w : View) (x : Session) (log : Log) (h : Holds z v x log
       undo = ap undo_of met_by.changes ∙ h.session.undo;
     }
 
+    -- what is still to come finds room
+    room_on : HasRoomToStage log_now (room_takes (opening v.given) s key)
+    room_on = room_after st.came.entry log log_now (room_takes (opening v.given) s key) st.came.short st.came.after f.room
+
     numbers_on : AreNumbers u log_now
     numbers_on = record {
       last = omega arith;
       order = let q = flushed_is in let b = h.numbers.order in let c = h.numbers.last in let k = clock_rises in omega arith;
       end = let b = h.numbers.end in let k = clock_rises in omega arith;
-      room = λ _. st.came.room f.whole;
+      room = λ _. room_to_end log_now _ room_on;
       closed_txn = λ q. absurd (true≢false (sym f.is_open ∙ q));
       txn = let b = h.numbers.txn in let k = clock_rises in omega arith;
-      undo_room = λ _. room_to_undo st.came.entry log log_now (length x.undo) st.came.short st.came.after f.room h.numbers.few;
-      flush_room = λ _ _. room_to_flush st.came.entry log log_now (length x.undo) st.came.after f.room h.numbers.few;
+      undo_room = λ _. room_to_undo log_now _ (length x.undo) room_on h.numbers.few;
+      flush_room = λ _ _. room_to_flush log_now _ (length x.undo) room_on h.numbers.few;
       few = h.numbers.few;
       behind = h.numbers.behind;
     }
@@ -232,7 +239,7 @@ module _ (z : Shape) (v w : View) (x : Session) (log : Log) (h : Holds z v x log
       numbers = numbers_on;
       numbered = subst (λ k. AreNumbered x.workers k) (sym core_is) numbered_on;
       flushed = ap (λ k. k.flushed x.own) core_is ∙ (h.flushed ∙ sym flushed_is);
-      floor = floor_same v w x.floor d.ran.given (ap (λ k. k.flushed) core_is) h.floor;
+      floor = floor_same v w x.clock.floor d.ran.given (ap (λ k. k.flushed) core_is) h.floor;
       behind = ap (λ k. behind k x.own) core_is ∙ behind_on;
       resident = resident_on z v w d.ran.given (ap (λ k. k.place) core_is) h.resident;
       held = λ i. subst (λ k. holds_row (k.row i) x.own ≡ true ↔ Has i x.held.rows) (sym core_is) (h.held i);
@@ -255,8 +262,10 @@ module _ (z : Shape) (v w : View) (x : Session) (log : Log) (h : Holds z v x log
         same : st.came.entry ≡ d.staged.0
         same = let told = st.came.told in let staged = d.staged.1 in cc
 
-    pub grown : IsGrowth x.own e → IsNextRoom (opening v.given) s key (event_of e) → room_refusal (opening v.given) s key ≡ None → IsGrown key v w x (record y { free = without_first y.free }) log log_now old new
-    grown growth next fits = record {
+    pub grown : IsGrowth x.own e → IsNextRoom x.own (opening v.given) s key (event_of e) → room_refusal (opening v.given) s key ≡ None
+        → (IsTree (opening v.given).format (nodes_of (happens (opening v.given) s (event_of e))) → room_takes (opening v.given) (happens (opening v.given) s (event_of e)) key < room_takes (opening v.given) s key)
+        → IsGrown key v w x (record y { free = without_first y.free }) log log_now old new
+    grown growth next fits fewer_now = record {
       event = e;
       growth = growth;
       given = d.ran.given;
@@ -268,7 +277,13 @@ module _ (z : Shape) (v w : View) (x : Session) (log : Log) (h : Holds z v x log
       entry_is = ap (λ k. k.entries) does ∙ ap (λ t. t ∷ s.entries) (sym enters ∙ sym staged_is);
       after = st.came.after;
       stands = st.came.stands;
-      keeps = record { on = st.on; frame = st.frame; within = st.within };
+      keeps = st.came.keeps;
+      short = st.came.short;
       session = ap (λ (k : Session). record k { free = without_first y.free }) st.session;
       fewer = ap (λ l. suc (length l)) free_is ∙ sym (ap length least);
+      takes =
+          let now : room_takes (opening w.given) (state w).core key ≡ room_takes (opening v.given) (happens (opening v.given) s (event_of e)) key = (λ i. room_takes (opening (d.ran.given i)) (happened i) key) in
+          let tree = subst (λ (k : Given). IsTree (opening k).format (nodes_of (state w).core)) d.ran.given (sound z w u log_now after_growth).tree in
+          let less = fewer_now (subst (λ k. IsTree (opening v.given).format (nodes_of k)) happened tree) in
+          omega arith;
     }

@@ -34,7 +34,7 @@ use Rattle.key_locks.specs.Latching.{AreLatched, IsAlone, IsGivenUp, NotLatched,
 use Rattle.key_locks.specs.Rows.{IsWorker, Sized, Spans}
 use Rattle.key_locks.proofs.Masks.{others_not}
 use Rattle.btree_smo.specs.Outcomes.{AreMisses}
-use Rattle.row_engine.specs.Ends.{AreAmong, AreHeld, AreMarkedTo, AreMine, Gave, Gives, Giving, Latching, Missed, Missing, gives}
+use Rattle.row_engine.specs.Inside.Ends.{AreAmong, AreHeld, AreMarkedTo, AreMine, Gave, Gives, Giving, Latching, Missed, Missing, gives}
 use Rattle.row_engine.specs.Held.{Held}
 use Rattle.row_engine.proofs.Moments.{met_core}
 

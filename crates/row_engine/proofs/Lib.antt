@@ -4,6 +4,7 @@ pub mod OnOwn
 pub mod Misses
 pub mod EntryNumbers
 pub mod UndoLemmas
+pub mod ReserveLemmas
 pub mod GoingLemmas
 pub mod NumberLemmas
 pub mod FlushLemmas
@@ -40,6 +41,7 @@ pub mod AbortLemmas
 pub mod AbortRuns
 pub mod StepLemmas
 pub mod FreeLemmas
+pub mod TakesLemmas
 pub mod GrowthLemmas
 pub mod ChangeLemmas
 pub mod LiftLemmas

@@ -1,5 +1,5 @@
 -- What comes of a lift that room for a key takes.
-use Rattle.std.proofs.Common.{◌≡◌, ◌≢◌, ◌⊎◌, inl, inr, ◌<◌, ℕ, true, false, List, [], ◌∷◌, length, Result, Ok, Err, refl, sym, ap, ◌∙◌, subst, arith, true≢false}
+use Rattle.std.proofs.Common.{◌≡◌, ◌≢◌, ◌⊎◌, inl, inr, ◌<◌, ℕ, true, false, List, [], ◌∷◌, length, Result, Ok, refl, sym, ap, ◌∙◌, subst, arith, true≢false}
 use Rattle.map_model.specs.declared.call.Refusal.{Refusal}
 use Rattle.page_model.specs.Needs.{lift_record}
 use Rattle.image_model.specs.Entries.{Kind}
@@ -29,11 +29,12 @@ use Rattle.engine_trait.specs.Rooms.{IsNextRoom}
 use Rattle.row_engine.specs.Free.{without_first}
 use Rattle.row_engine.specs.Holds.{Holds}
 use Rattle.row_engine.specs.Puts.{MayChange}
-use Rattle.row_engine.specs.Rooms.{CanLift, Grew, IsExpected, IsGrown, answer_of, session_after}
-use Rattle.row_engine.specs.Staging.{Staging, session_clock}
+use Rattle.row_engine.specs.Inside.Rooms.{CanLift, Grew, IsExpected, IsGrown, answer_of, session_after}
+use Rattle.row_engine.specs.Staging.{Staging}
 use Rattle.row_engine.specs.declared.session.Session.{Session}
 use Rattle.row_engine.proofs.GrowthLemmas.{grown, holds_grown, holds_same, hot_in, met, missed_core, now_is, sound, spent_behind, stands, was_then}
-use Rattle.row_engine.proofs.ChangeLemmas.{first_rest, kept_log, not_full, not_spent, page_bare, page_free}
+use Rattle.row_engine.proofs.ChangeLemmas.{first_rest, not_full, not_spent, page_bare, page_free}
+use Rattle.row_engine.proofs.TakesLemmas.{takes_lift}
 
 module _ (rooms : EveryRoom) (z : Shape) (v w : View) (x y : Session) (log log_now : Log) (h : Holds z v x log) (key : ℕ) (f : MayChange v x log key) (page : ℕ) (can : CanLift v x key page)
     (rs now : List Record) (old new : Story) (S same : Type 0) (f0 f1 : ℕ) where
@@ -44,7 +45,7 @@ module _ (rooms : EveryRoom) (z : Shape) (v w : View) (x y : Session) (log log_n
   s = (state v).core
 
   abbrev Lifts : Outcome → Type 0
-  Lifts o = Raised z.alone x.own page v rs o w (session_clock y) now
+  Lifts o = Raised z.alone x.own page v rs o w y.clock now
 
   abbrev Draws : Outcome → Type 0
   Draws o = Drew o (λ r. Staging r x y rs now log log_now old new S f0 f1) same
@@ -82,14 +83,14 @@ module _ (rooms : EveryRoom) (z : Shape) (v w : View) (x y : Session) (log log_n
   lift_expected (outcome.Latched l) r d q = q
   lift_expected outcome.ClockSpent r d q = spent (then_so (lifts.IsSpent page w.given) r.0 r.1)
 
-  module _ (l : Lifted z.alone x.own page v rs w (session_clock y) now) where
+  module _ (l : Lifted z.alone x.own page v rs w y.clock now) where
     here : l.page ≡ page
     here = stands z v x log h l.page page (ap (λ m. m.core.place l.page) (sym (now_is z.alone v w l.change.past h.alone l.change.ran.given l.change.onward)) ∙ l.hot)
 
     least_is : x.free ≡ l.page ∷ without_first x.free
     least_is = first_rest x.free page can.least ∙ ap (λ k. k ∷ without_first x.free) (sym here)
 
-    module _ (held : w.held ≡ []) (st : Staging (Ok tt) x y rs now log log_now old new S f0 f1) (last : log_now.last ≡ y.clock) where
+    module _ (held : w.held ≡ []) (st : Staging (Ok tt) x y rs now log log_now old new S f0 f1) (last : log_now.last ≡ y.clock.clock) where
       lift_met : may g s (happening.Event.Lift x.own l.page) ≡ true
       lift_met = met z v w x log h key f Kind.Lift refl (Lift x.own l.page) (0 ∷ l.page ∷ []) (lift_record (nodes_of s) (gsns_of s) l.page) (lift_entry x.own l.page) rs now y log_now l.change refl refl
 
@@ -102,18 +103,19 @@ module _ (rooms : EveryRoom) (z : Shape) (v w : View) (x y : Session) (log log_n
 
       pub lift_grown : IsGrown key v w x (record y { free = without_first y.free }) log log_now old new
       lift_grown = grown z v w x log h key f Kind.Lift refl (Lift x.own l.page) (0 ∷ l.page ∷ []) (lift_record (nodes_of s) (gsns_of s) l.page) (lift_entry x.own l.page) rs now y log_now l.change refl refl
-          old new S f0 f1 held st last l.page (without_first x.free) least_is left_is refl (subst (λ k. IsNextRoom g s key (happening.Event.Lift x.own k)) (sym here) can.next) can.fits
+          old new S f0 f1 held st last l.page (without_first x.free) least_is left_is refl (subst (λ k. IsNextRoom x.own g s key (happening.Event.Lift x.own k)) (sym here) can.next) can.fits
+          (λ now. takes_lift rooms g s key x.own l.page refl (sound z v x log h).tree now f.key_low can.next.2)
 
   module _ (low : EveryLow) (are : AreLow (length w.seen) w.steps) (held : w.held ≡ []) where
-    pub lift_grew : (same_now broken : Type 0) (o : Outcome) → IsExpected o → Lifts o → Draws o → Caused v o w → log_now.last ≡ last_after o log.last y.clock
+    pub lift_grew : (same_now broken : Type 0) (o : Outcome) → IsExpected o → Lifts o → Draws o → Caused v o w → log_now.last ≡ last_after o log.last y.clock.clock
         → ((row : ℕ) → o ≡ outcome.RowSpent row → same → same_now) → ((why : Unstaged) → o ≡ outcome.Unstaged why → broken)
         → Grew (answer_of o) key v w x (session_after o y) log log_now old new same_now broken
     lift_grew same_now broken outcome.Done t r d c last to off = lift_grown r held d last
     lift_grew same_now broken (outcome.RowSpent row) t r d c last to off = (spent_behind low z.alone v w row h.alone are r c, to row refl d)
-    lift_grew same_now broken (outcome.Unstaged DiskFault) t r d c last to off = (kept_log x y rs now log log_now old new S f0 f1 (Err DiskFault) d, off DiskFault refl)
+    lift_grew same_now broken (outcome.Unstaged DiskFault) t r d c last to off = (d.came, off DiskFault refl)
     lift_grew same_now broken _ t r d c last to off = absurd t
 
-    pub lift_holds : (same → y ≡ x) → (same → log_now ≡ log) → (o : Outcome) → IsExpected o → Lifts o → Draws o → log_now.last ≡ last_after o log.last y.clock → (session_after o y).works ≡ true → Holds z w (session_after o y) log_now
+    pub lift_holds : (same → y ≡ x) → (same → log_now ≡ log) → (o : Outcome) → IsExpected o → Lifts o → Draws o → log_now.last ≡ last_after o log.last y.clock.clock → (session_after o y).works ≡ true → Holds z w (session_after o y) log_now
     lift_holds sx sl outcome.Done t r d last works = lift_holds_on r held d last
     lift_holds sx sl (outcome.RowSpent row) t r d last works =
         subst (λ k. Holds z w k log_now) (sym (sx d)) (subst (λ k. Holds z w x k) (sym (sl d)) (holds_same z v w x log r.ran.given (missed_core z.alone v w h.alone r) held h))
@@ -121,7 +123,7 @@ module _ (rooms : EveryRoom) (z : Shape) (v w : View) (x y : Session) (log log_n
     lift_holds sx sl _ t r d last works = absurd t
 
     -- as its caller sees it
-    pub lift_answered : (same_now broken : Type 0) (o : Outcome) → IsExpected o → Lifts o → Draws o → Caused v o w → log_now.last ≡ last_after o log.last y.clock
+    pub lift_answered : (same_now broken : Type 0) (o : Outcome) → IsExpected o → Lifts o → Draws o → Caused v o w → log_now.last ≡ last_after o log.last y.clock.clock
         → ((row : ℕ) → o ≡ outcome.RowSpent row → same → same_now) → ((why : Unstaged) → o ≡ outcome.Unstaged why → broken)
         → (r : Result (Unit {0}) Refusal) (k : Session) → r ≡ answer_of o → k ≡ session_after o y → Grew r key v w x k log log_now old new same_now broken
     lift_answered same_now broken o t d s c last to off r k answer after =

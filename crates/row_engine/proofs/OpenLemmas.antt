@@ -20,11 +20,11 @@ use Rattle.row_engine.specs.declared.session.Session.{Session}
 use Rattle.row_engine.proofs.NumberLemmas.{numbered_same, numbered_start}
 
 module _ (g : Opening) (z : Shape) (v : View) (x : Session) (log : Log) (o : IsOpened g z v x log) where
-  pub ties : Ties g x.group [] x.own x.half v
+  pub ties : Ties g x.group [] x.own x.is_half_aborted v
   ties = record {
     opens = o.opens;
     told = tt;
-    half_is = sym o.session.half;
+    half_is = sym o.session.is_half_aborted;
     loads = events_of v.given.before;
     are_loads = o.loads;
     few = o.few;
@@ -57,9 +57,9 @@ module _ (g : Opening) (z : Shape) (v : View) (x : Session) (log : Log) (o : IsO
   numbered = at (λ s. AreNumbered x.workers s) (subst (λ n. AreNumbered n (record (start g) { place = (state v).core.place })) (o.opens.workers ∙ o.rows.workers)
       (numbered_same g.workers (start g) (record (start g) { place = (state v).core.place }) refl refl refl refl (numbered_start g o.small)))
 
-  floor : x.floor ≤ flushed_by_all (opening v.given) (state v).core
-  floor = at (λ s. x.floor ≤ flushed_by_all (opening v.given) s)
-      (least_from (start g).flushed (opening v.given).workers x.floor (opening v.given).some_worker (λ u some high. let a = o.session.floor in omega arith))
+  floor : x.clock.floor ≤ flushed_by_all (opening v.given) (state v).core
+  floor = at (λ s. x.clock.floor ≤ flushed_by_all (opening v.given) s)
+      (least_from (start g).flushed (opening v.given).workers x.clock.floor (opening v.given).some_worker (λ u some high. let a = o.session.floor in omega arith))
 
   pub holding : Holds z v x log
   holding = record {
@@ -71,7 +71,7 @@ module _ (g : Opening) (z : Shape) (v : View) (x : Session) (log : Log) (o : IsO
     numbered = numbered;
     flushed = at (λ s. s.flushed x.own ≡ log.flushed) (sym o.flushed);
     floor = floor;
-    behind = at (λ s. behind s x.own ≡ x.behind) (sym o.session.behind);
+    behind = at (λ s. behind s x.own ≡ x.unflushed) (sym o.session.behind);
     resident = o.resident;
     held = λ i. at (λ s. holds_row (s.row i) x.own ≡ true ↔ Has i x.held.rows) ((λ q. absurd (true≢false (sym q)), λ h. absurd (subst (Has i) o.session.rows h)));
     within = λ i h. absurd (subst (Has i) o.session.rows h);
@@ -109,7 +109,7 @@ every_fellow g z v x log own few o low high = record {
     few = o.rows.few;
   };
   small = o.small;
-  session = record { group = o.session.group; behind = o.session.behind; works = o.session.works; is_open = o.session.is_open; txn = o.session.txn; clock = o.session.clock; floor = o.session.floor; debt = o.session.debt; end = o.session.end; undo = o.session.undo; half = o.session.half; rows = o.session.rows };
+  session = record { group = o.session.group; behind = o.session.behind; works = o.session.works; is_open = o.session.is_open; txn = o.session.txn; clock = o.session.clock; floor = o.session.floor; debt = o.session.debt; end = o.session.end; undo = o.session.undo; is_half_aborted = o.session.is_half_aborted; rows = o.session.rows };
   free = o.free;
   spare = o.spare;
   last = o.last;

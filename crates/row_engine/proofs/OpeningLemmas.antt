@@ -24,8 +24,8 @@ use Rattle.btree_descent.specs.Known as descent
 use Rattle.key_locks.specs.Rows as locking
 use Rattle.key_locks.specs.Rows.{IsWorker}
 use Rattle.key_locks.specs.Soundness.{EverySound, unbegun}
-use Rattle.open_rows.specs.Opened as opened
-use Rattle.open_rows.specs.Opened.{ArePages, comes, contents_of, frees, given_of, loads, loads_at, page_at, pages_of}
+use Rattle.row_opening.specs.Opened as opened
+use Rattle.row_opening.specs.Opened.{ArePages, comes, contents_of, frees, given_of, loads, loads_at, page_at, pages_of}
 use Rattle.lean_proto.specs.Paging.{IsResident}
 use Rattle.worker_log.specs.Logs.{Log}
 use Rattle.engine_trait.specs.Limits.{AreLoads}

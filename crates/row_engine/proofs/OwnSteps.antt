@@ -20,15 +20,15 @@ use Rattle.btree_descent.specs.declared.descent.TheConstants.{TOMBSTONE}
 use Rattle.btree_smo.specs.Outcomes.{AreMisses}
 use Rattle.row_engine.specs.declared.commits.Ended as committed
 use Rattle.row_engine.specs.declared.session.Session.{Session}
-use Rattle.row_engine.specs.Aborts.{Finishes}
-use Rattle.row_engine.specs.Backs.{IsPutBack, PutsAllBack}
-use Rattle.row_engine.specs.Dels.{Dels}
-use Rattle.row_engine.specs.Ends.{Ended, HasFlushed, MayFlush, Missed, gives}
+use Rattle.row_engine.specs.Inside.Aborts.{Finishes}
+use Rattle.row_engine.specs.Inside.Backs.{IsPutBack, PutsAllBack}
+use Rattle.row_engine.specs.Inside.Dels.{Dels}
+use Rattle.row_engine.specs.Inside.Ends.{Ended, HasFlushed, MayFlush, Missed, gives}
 use Rattle.row_engine.specs.Others.{Steps, is_of}
-use Rattle.row_engine.specs.Outcomes.{Puts}
+use Rattle.row_engine.specs.Inside.Outcomes.{Puts}
 use Rattle.row_engine.specs.Puts.{works_after}
-use Rattle.row_engine.specs.Rooms.{IsGrown, IsGrowth}
-use Rattle.row_engine.specs.Takes.{NotTaken, Takes}
+use Rattle.row_engine.specs.Inside.Rooms.{IsGrown, IsGrowth}
+use Rattle.row_engine.specs.Inside.Takes.{NotTaken, Takes}
 use Rattle.row_engine.proofs.LatchLemmas.{gives_events}
 use Rattle.row_engine.proofs.Misses.{misses_met}
 use Rattle.row_engine.proofs.OtherLemmas.{every_steps}
@@ -90,7 +90,6 @@ pub put_steps : (r : Result (Option ℕ) Refusal) (v w : View) (key value : ℕ)
 put_steps (Ok before) v w key value x y was is old new p works = every_steps x.own v p.view w p.grows.steps (one_step x.own p.view w (event.Change x.own p.page key value) p.given p.seen (is_own x.own) p.met)
 put_steps (Err refusal.TooTall) v w key value x y was is old new p works = p.room.grows.steps
 put_steps (Err refusal.NoPages) v w key value x y was is old new p works = p.room.grows.steps
-put_steps (Err (refusal.LogFull used limit)) v w key value x y was is old new p works = p.room.grows.steps
 put_steps (Err refusal.ClockSpent) v w key value x y was is old new p works = p.room.grows.steps
 put_steps (Err refusal.RowSpent) v w key value x y was is old new p works = every_steps x.own v p.view w p.room.grows.steps (missed_steps x.own p.view w p.spent.misses p.spent.are_misses p.spent.given p.spent.seen)
 put_steps (Err refusal.DiskFault) v w key value x y was is old new p works = absurd (true≢false (sym works))
@@ -119,7 +118,7 @@ ended_steps own most v w commit floor e = record {
 }
 
 pub flushed_steps : (z : Shape) (v w : View) (x y : Session) (log was is : Log) (old new : Story) → MayFlush z v x log → HasFlushed v w x y was is old new → Steps x.own v w
-flushed_steps z v w x y log was is old new m f = one_step x.own v w (event.Flush x.own x.clock) f.given f.seen (is_own x.own) m.met
+flushed_steps z v w x y log was is old new m f = one_step x.own v w (event.Flush x.own x.clock.clock) f.given f.seen (is_own x.own) m.met
 
 pub undone_steps : (r : Result (Unit {0}) Refusal) (v w : View) (x y : Session) (was is : Log) (old new : Story) → PutsAllBack r v w x y was is old new → works_after r ≡ true → Steps x.own v w
 undone_steps (Ok u) v w x y was is old new p works = p.0.undoes.steps

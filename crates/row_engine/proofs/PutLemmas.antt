@@ -12,7 +12,7 @@ use Rattle.core_state.specs.Events as happening
 use Rattle.core_state.specs.Needs.{holds_row, is_held_by, may}
 use Rattle.core_state.specs.States.{Place, State, Worker, flushed_by_all, is_hot, nodes_of}
 use Rattle.core_calls.specs.LogEvents.{behind}
-use Rattle.core_calls.specs.Room.{EveryRoom, free_list, frees_from}
+use Rattle.core_calls.specs.Room.{EveryRoom, free_list, frees_from, room_takes}
 use Rattle.core_state.specs.Steps.{at_pages, happens, write_entry}
 use Rattle.lean_disk.specs.Story.{Story}
 use Rattle.log_record.specs.declared.record.Record.{Record}
@@ -34,16 +34,18 @@ use Rattle.btree_descent.specs.Known.{said}
 use Rattle.btree_descent.specs.Puts.{Changed, IsRowSpent, MayPut, MetFull, MetSpent, change_of, clock_in}
 use Rattle.btree_descent.specs.Trails.{Came, IsAbove}
 use Rattle.btree_descent.specs.declared.put.Put.TheVariants as put
+use Rattle.flush_avoidance.specs.Clocks.{risen}
 use Rattle.row_engine.specs.Holds.{AreNumbers, Holds, IsOf}
 use Rattle.row_engine.specs.Numbers.{AreNumbered}
-use Rattle.row_engine.specs.Outcomes.{HasNoRoom}
+use Rattle.row_engine.specs.Inside.Outcomes.{HasNoRoom}
 use Rattle.row_engine.specs.Puts.{IsChanged, MayChange}
-use Rattle.row_engine.specs.Staging.{Staging, session_clock}
-use Rattle.row_engine.specs.Takes.{IsSpent}
+use Rattle.row_engine.specs.Staging.{Staging}
+use Rattle.row_engine.specs.Inside.Takes.{IsSpent}
 use Rattle.row_engine.specs.declared.session.Session.{Session}
 use Rattle.row_engine.proofs.NumberLemmas.{low_small, numbered_change, numbered_open}
 use Rattle.row_engine.proofs.TakeLemmas.{row_is}
-use Rattle.row_engine.proofs.UndoLemmas.{many_of, room_to_flush, room_to_undo}
+use Rattle.row_engine.specs.Undo.{HasRoomToStage}
+use Rattle.row_engine.proofs.UndoLemmas.{many_of, room_after, room_to_end, room_to_flush, room_to_undo}
 use Rattle.row_engine.proofs.Behind.{rows_on}
 use Rattle.row_engine.proofs.Moments.{free_same, met_core, resident_on}
 
@@ -82,7 +84,7 @@ holds_still z v w x log given seen held h =
       numbers = h.numbers;
       numbered = subst (λ s. AreNumbered x.workers s) (sym core) h.numbered;
       flushed = ap (λ s. s.flushed x.own) core ∙ h.flushed;
-      floor = floor_same v w x.floor given (ap (λ s. s.flushed) core) h.floor;
+      floor = floor_same v w x.clock.floor given (ap (λ s. s.flushed) core) h.floor;
       behind = ap (λ s. behind s x.own) core ∙ h.behind;
       resident = resident_on z v w given (ap (λ s. s.place) core) h.resident;
       held = λ i. subst (λ s. holds_row (s.row i) x.own ≡ true ↔ Has i x.held.rows) (sym core) (h.held i);
@@ -181,7 +183,7 @@ value_said n lt = cond-true (ltb n (2 ^ 63)) (Some n) None (lt-ltb n (2 ^ 63) lt
 
 -- it was seen next, and its record was staged
 pub is_changed : (z : Shape) (v w : View) (x : Session) (log : Log) (key word : ℕ) (before : Option ℕ) (rs now : List Record) (y : Session) (log_now : Log) (old new : Story) (S : Type 0) (f0 f1 : ℕ) → z.alone ≡ true
-    → Changed z.alone x.own key word before v rs w (session_clock y) now → Staging (Ok tt) x y rs now log log_now old new S f0 f1 → IsChanged x.own v w key word (said before) log log_now old new
+    → Changed z.alone x.own key word before v rs w y.clock now → Staging (Ok tt) x y rs now log log_now old new S f0 f1 → IsChanged x.own v w key word (said before) log log_now old new
 is_changed z v w x log key word before rs now y log_now old new S f0 f1 alone d st = record {
   page = d.page;
   given = d.ran.given;
@@ -192,7 +194,7 @@ is_changed z v w x log key word before rs now y log_now old new S f0 f1 alone d 
   entry_is = first_is st.came.entry (change_of (opening w.given) (after_all w.given d.past).core x.own d.page key word) rs (sym st.came.told ∙ d.staged) ∙ (λ i. change_of (opening (d.ran.given i)) (after_all (d.ran.given i) (past_is i)).core x.own d.page key word);
   after = st.came.after;
   stands = st.came.stands;
-  keeps = record { on = st.on; frame = st.frame; within = st.within };
+  keeps = st.came.keeps;
 }
   where
     past_is : d.past ≡ v.seen
@@ -212,7 +214,7 @@ same_flushed r old new a = go (leb (length old.payload + length (records_text (r
     go false e = ap (λ k. k.flushed) (a.full (λ le. true≢false (sym (le-leb (length old.payload + length (records_text (r ∷ []))) 2000 le) ∙ e)))
 
 module _ (rooms : EveryRoom) (z : Shape) (v w : View) (x : Session) (log : Log) (h : Holds z v x log) (key value : ℕ) (f : MayChange v x log key) (before : Option ℕ) (rs now : List Record) (y : Session) (log_now : Log)
-    (d : Changed z.alone x.own key value before v rs w (session_clock y) now) where
+    (d : Changed z.alone x.own key value before v rs w y.clock now) where
   abbrev s : State
   s = (state v).core
 
@@ -248,19 +250,19 @@ module _ (rooms : EveryRoom) (z : Shape) (v w : View) (x : Session) (log : Log) 
   worker_is : t.worker x.own ≡ b
   worker_is = upd_same s.worker x.own b x.own refl
 
-  there : session_clock y ≡ clock_in b
+  there : y.clock ≡ clock_in b
   there = d.clock ∙ (ap (λ k. clock_in (k.worker x.own)) core_is ∙ ap clock_in worker_is)
 
-  pub clock_rises : x.clock < y.clock
+  pub clock_rises : x.clock.clock < y.clock.clock
   clock_rises = let e = ap (λ c. c.clock) there in let q = h.session.clock in omega arith
 
   numbered_on : AreNumbered x.workers t
   numbered_on = numbered_change (opening v.given) x.workers s x.own page key value h.rows.low h.rows.high (h.session.is_open ∙ f.is_open)
       (let m = many_of (s.worker x.own).changes x.undo h.session.undo in let q = f.few in omega arith) (let q = h.session.clock in let c = f.small in omega arith) h.numbered
 
-  module _ (old new : Story) (S : Type 0) (f0 f1 : ℕ) (held : w.held ≡ []) (st : Staging (Ok tt) x y rs now log log_now old new S f0 f1) (last : log_now.last ≡ y.clock) where
+  module _ (old new : Story) (S : Type 0) (f0 f1 : ℕ) (held : w.held ≡ []) (st : Staging (Ok tt) x y rs now log log_now old new S f0 f1) (last : log_now.last ≡ y.clock.clock) where
     abbrev u : Session
-    u = record x { clock = y.clock; debt = y.debt; undo = record { key = key; word = word_or (2 ^ 63) before } ∷ x.undo }
+    u = record x { clock = risen x.clock y.clock; undo = record { key = key; word = word_or (2 ^ 63) before } ∷ x.undo }
 
     flushed_is : log_now.flushed ≡ log.flushed
     flushed_is = same_flushed st.came.entry log log_now st.came.after
@@ -280,16 +282,20 @@ module _ (rooms : EveryRoom) (z : Shape) (v w : View) (x : Session) (log : Log) 
       undo = λ i. record { key = key; word = before_is i } ∷ h.session.undo i;
     }
 
+    -- the change may be put back
+    room_on : HasRoomToStage log_now (room_takes (opening v.given) s key)
+    room_on = room_after st.came.entry log log_now (room_takes (opening v.given) s key) st.came.short st.came.after f.room
+
     numbers_on : AreNumbers u log_now
     numbers_on = record {
       last = omega arith;
       order = let a = flushed_is in let b = h.numbers.order in let c = h.numbers.last in let q = clock_rises in omega arith;
       end = let a = h.numbers.end in let q = clock_rises in omega arith;
-      room = λ _. st.came.room f.whole;
+      room = λ _. room_to_end log_now _ room_on;
       closed_txn = λ e. absurd (true≢false (sym f.is_open ∙ e));
       txn = let a = h.numbers.txn in let q = clock_rises in omega arith;
-      undo_room = λ _. let c = f.few in room_to_undo st.came.entry log log_now (suc (length x.undo)) st.came.short st.came.after f.room (omega arith);
-      flush_room = λ _ _. let c = f.few in room_to_flush st.came.entry log log_now (suc (length x.undo)) st.came.after f.room (omega arith);
+      undo_room = λ _. let c = f.few in room_to_undo log_now _ (suc (length x.undo)) room_on (omega arith);
+      flush_room = λ _ _. let c = f.few in room_to_flush log_now _ (suc (length x.undo)) room_on (omega arith);
       few = let a = f.few in omega arith;
       behind = h.numbers.behind;
     }
@@ -308,7 +314,7 @@ module _ (rooms : EveryRoom) (z : Shape) (v w : View) (x : Session) (log : Log) 
       numbers = numbers_on;
       numbered = subst (λ k. AreNumbered x.workers k) (sym core_is) numbered_on;
       flushed = ap (λ k. k.flushed x.own) core_is ∙ (h.flushed ∙ sym flushed_is);
-      floor = floor_same v w x.floor d.ran.given (ap (λ k. k.flushed) core_is) h.floor;
+      floor = floor_same v w x.clock.floor d.ran.given (ap (λ k. k.flushed) core_is) h.floor;
       behind = ap (λ k. behind k x.own) core_is ∙ h.behind;
       resident = resident_on z v w d.ran.given (ap (λ k. k.place) core_is) h.resident;
       held = λ i. subst (λ k. holds_row (k.row i) x.own ≡ true ↔ Has i x.held.rows) (sym core_is) (h.held i);

@@ -8,7 +8,7 @@ use Rattle.map_model.specs.declared.call.Call.{Call}
 use Rattle.map_model.specs.declared.call.Call.TheVariants as call
 use Rattle.map_model.specs.declared.call.Refusal.{Refusal}
 use Rattle.map_model.specs.declared.call.Refusal.TheVariants as refusal
-use Rattle.map_model.specs.Lists.{keep}
+use Rattle.map_model.specs.Lists.{any, keep}
 use Rattle.map_model.proofs.ListLemmas.{upd_same}
 use Rattle.page_model.specs.Nodes.{Node, holds}
 use Rattle.page_model.specs.Redo.{has_key, is_some}
@@ -27,11 +27,12 @@ use Rattle.disk_image.specs.Records.{entry_of}
 use Rattle.worker_log.specs.Logs.{Log, limit, used}
 use Rattle.core_calls.specs.Deeds.{Changed, marks_by}
 use Rattle.core_calls.specs.Fronts.{Done, front, outcomes}
-use Rattle.core_calls.specs.LogEvents.{AreSyncs, is_log}
+use Rattle.core_calls.specs.LogEvents.{IsTight, is_log}
+use Rattle.core_calls.proofs.WhereLemmas.{refused_kept, syncs_kept}
 use Rattle.core_calls.specs.Marks.{is_half}
 use Rattle.core_calls.specs.Refusals.{Hinders, IsCause, IsFull}
 use Rattle.core_calls.specs.Runs.{Tells}
-use Rattle.core_calls.specs.Steps.{MayPutBack, is_step}
+use Rattle.core_calls.specs.Steps.{Tries, is_behind_row, is_step, is_structure}
 use Rattle.disk_runs.specs.Stands.{Known}
 use Rattle.engine_calls.specs.Answers.{EveryAnswer}
 use Rattle.engine_calls.specs.Clauses.{Between, EveryComing, IsNewLine}
@@ -40,6 +41,7 @@ use Rattle.engine_calls.specs.Parts.{EveryPart, behind_first}
 use Rattle.engine_calls.specs.Puts.{IsWrite, changed_by, taking}
 use Rattle.engine_calls.specs.Refused.{IsRefusal, TakesRows, refused_by}
 use Rattle.engine_calls.proofs.EntryLemmas.{every_entry}
+use Rattle.engine_calls.proofs.MarkLemmas.{any_append}
 use Rattle.row_words.specs.declared.event.Event.{Event}
 use Rattle.row_words.specs.declared.event.Event.TheVariants as event
 use Rattle.row_words.specs.Moments.{events_of}
@@ -53,19 +55,20 @@ use Rattle.key_locks.specs.Rows.{core_mode, event_mode}
 use Rattle.key_locks.specs.declared.mode.Mode.TheVariants.{Alone}
 use Rattle.engine_trait.specs.Calls.{Nothing, call_behind, is_half_done}
 use Rattle.engine_trait.specs.Logs.{Logs, LogsEntry}
+use Rattle.flush_avoidance.specs.Clocks.{risen}
 use Rattle.row_engine.specs.Deeds.{Fails}
 use Rattle.engine_trait.specs.Limits.{limits}
-use Rattle.engine_trait.specs.Refusals.{IsRefusedFor, change_refusal, is_full_for, lock_refusal, log_refusal, met_refusal, refusal_in, room_refusal}
+use Rattle.engine_trait.specs.Refusals.{IsRefusedFor, change_refusal, clock_refusal, is_full_for, lock_refusal, log_refusal, met_refusal, refusal_in, room_refusal}
 use Rattle.engine_trait.specs.Rooms.{AreRoom, IsRoomFor, MakesItsRoom, MakesRoom}
 use Rattle.row_engine.specs.Calls.{CallDoes, Comes, DoesOn, put_answer}
 use Rattle.row_engine.specs.Held.{with_row}
 use Rattle.row_engine.specs.Holds.{Holds, IsOf}
 use Rattle.row_engine.specs.Inside.{is_going, put_test}
 use Rattle.row_engine.specs.Grown.{AreAside, Behind, Gained, Grows, Went, is_aside}
-use Rattle.row_engine.specs.Outcomes.{HasFailed, HasPut, HasRoom, IsCrowded, IsStopped, Puts}
+use Rattle.row_engine.specs.Inside.Outcomes.{HasFailed, HasPut, HasRoom, IsCrowded, IsStopped, Puts}
 use Rattle.row_engine.specs.Puts.{works_after}
-use Rattle.row_engine.specs.Rooms.{IsSpentBehind, IsUnfit}
-use Rattle.row_engine.specs.Takes.{NotTaken, Takes}
+use Rattle.row_engine.specs.Inside.Rooms.{IsSpentBehind, IsUnfit}
+use Rattle.row_engine.specs.Inside.Takes.{NotTaken, Takes}
 use Rattle.row_engine.specs.Ties.{Ties}
 use Rattle.row_engine.specs.declared.session.Session.{Session}
 use Rattle.row_engine.proofs.GoingLemmas.{not_going, tests_as}
@@ -75,15 +78,15 @@ use Rattle.row_engine.proofs.BeginLemmas.{comes_told}
 use Rattle.row_engine.proofs.ConflictLemmas.{lock_free, lock_refused}
 use Rattle.row_engine.proofs.Formats.{full_as, full_on, refusal_as, refusal_on}
 use Rattle.row_engine.proofs.GrowRuns.{Asides, all_append, asides, logs_more, logs_same, makes_behind, makes_more, makes_same, record_in, went_quiet}
-use Rattle.row_engine.proofs.Misses.{misses_are, misses_aside, misses_met, misses_quiet}
+use Rattle.row_engine.proofs.Misses.{misses_are, misses_aside, misses_met, misses_quiet, misses_structure}
 use Rattle.row_engine.proofs.Moments.{events_more}
 use Rattle.row_engine.proofs.OnOwn.{logs_own}
 use Rattle.row_engine.proofs.PutLemmas.{seen_core}
-use Rattle.row_engine.proofs.PutTests.{IsFree, IsTaken, all_three, behind_still, clock_alone, clock_is_spent, free_of, full_in, gate, gate_more, gate_none, gate_of, length_events, log_none, log_some, logs_lock, many_behind, met_told, none_is, not_full, put_told, room_lock, short_is, some_is, some_true, steps_lock, taken_alone, taken_passes, taken_stays, tall_is, test_is}
-use Rattle.row_engine.proofs.StepLemmas.{ready}
+use Rattle.row_engine.proofs.PutTests.{IsFree, IsTaken, all_three, behind_still, free_of, full_in, gate, gate_more, gate_none, gate_of, length_events, logs_lock, many_behind, met_told, none_is, not_full, put_told, room_lock, short_is, some_is, some_true, steps_lock, taken_alone, taken_passes, taken_stays, tall_is, test_is}
+use Rattle.row_engine.proofs.StepLemmas.{IsAtEnd, clock_at_end, clock_below}
 
 module _ (reached : EveryReached) (need : EveryNeed) (answers : EveryAnswer) (coming : EveryComing) (parts : (old mid new : Story) → EveryPart old mid new)
-    (g : Opening) (xs : List Done) (z : Shape) (v : View) (x : Session) (log : Log) (h : Holds z v x log) (t : Ties g x.group xs x.own x.half v) (line : IsNewLine (outcomes xs)) (works : x.works ≡ true) (key value : ℕ) where
+    (g : Opening) (xs : List Done) (z : Shape) (v : View) (x : Session) (log : Log) (h : Holds z v x log) (t : Ties g x.group xs x.own x.is_half_aborted v) (line : IsNewLine (outcomes xs)) (works : x.works ≡ true) (key value : ℕ) where
   abbrev first : List happening.Event
   first = t.loads
 
@@ -94,8 +97,8 @@ module _ (reached : EveryReached) (need : EveryNeed) (answers : EveryAnswer) (co
   abbrev asks : Call
   asks = call.Put key value
 
-  abbrev half : Bool
-  half = is_half_done x.own xs
+  abbrev is_half_aborted : Bool
+  is_half_aborted = is_half_done x.own xs
 
   b : Behind g xs first v
   b = behind.begins g x.group xs x.own v t
@@ -114,14 +117,14 @@ module _ (reached : EveryReached) (need : EveryNeed) (answers : EveryAnswer) (co
   abbrev row_f : Option Refusal
   row_f = lock_refusal g sf x.own key happening.Mode.Alone (met_refusal g sf x.own key room_f)
 
-  tests : refusal_in g sf x.own half log asks ≡ gate_of x log row_f
-  tests = tests_as sf half x of_f.is_open t.half_is (change_refusal sf x.own log row_f) ∙ (λ i. gate (is_going x) (leb 64 (many_of (sf.worker x.own).changes x.undo of_f.undo i)) (leb (limit log) (used log)) (leb (2 ^ 62) (of_f.clock i)) (refusal.LogFull (used log) (limit log)) row_f)
+  tests : refusal_in g sf x.own is_half_aborted log asks ≡ gate_of x log row_f
+  tests = tests_as sf is_half_aborted x of_f.is_open t.half_is (change_refusal sf x.own log row_f) ∙ (λ i. gate (is_going x) (leb 64 (many_of (sf.worker x.own).changes x.undo of_f.undo i)) (leb (limit log) (used log)) (leb (2 ^ 62) (of_f.clock i)) (refusal.LogFull (used log) (limit log)) row_f)
 
-  early_is : (why : Refusal) → put_test x log ≡ Some why → refusal_in g sf x.own half log asks ≡ Some why
-  early_is why e = tests ∙ gate_more (is_going x) (leb 64 (length x.undo)) (leb (limit log) (used log)) (leb (2 ^ 62) x.clock) (refusal.LogFull (used log) (limit log)) why row_f (sym (test_is x log works) ∙ e)
+  early_is : (why : Refusal) → put_test x log ≡ Some why → refusal_in g sf x.own is_half_aborted log asks ≡ Some why
+  early_is why e = tests ∙ gate_more (is_going x) (leb 64 (length x.undo)) (leb (limit log) (used log)) (leb (2 ^ 62) x.clock.clock) (refusal.LogFull (used log) (limit log)) why row_f (sym (test_is x log works) ∙ e)
 
-  late_is : put_test x log ≡ None → refusal_in g sf x.own half log asks ≡ row_f
-  late_is e = tests ∙ gate_none (is_going x) (leb 64 (length x.undo)) (leb (limit log) (used log)) (leb (2 ^ 62) x.clock) (refusal.LogFull (used log) (limit log)) row_f (sym (test_is x log works) ∙ e)
+  late_is : put_test x log ≡ None → refusal_in g sf x.own is_half_aborted log asks ≡ row_f
+  late_is e = tests ∙ gate_none (is_going x) (leb 64 (length x.undo)) (leb (limit log) (used log)) (leb (2 ^ 62) x.clock.clock) (refusal.LogFull (used log) (limit log)) row_f (sym (test_is x log works) ∙ e)
 
   row_is : g.row_of key ≡ key % x.held.count
   row_is = ap (λ f. f key) t.opens.locks ∙ ap (λ n. key % n) h.rows.locks.locks
@@ -150,12 +153,13 @@ module _ (reached : EveryReached) (need : EveryNeed) (answers : EveryAnswer) (co
     no_logs : keep is_log (first ++ events) ≡ []
     few : length events ≤ 2 ^ 17
     logs : Logs x.own g sf events log is
-    makes : MakesRoom g sf key events
+    makes : MakesRoom x.own g sf key events
+    still : (q : Refusal) → refusal_in g sf x.own is_half_aborted log asks ≡ Some q → any is_structure events ≡ false
     frame : Framed (suc x.own) old new
     goes : (s0 : Crash) (k : Known) → Between limits g x.group xs s0 k old → k.log x.own ≡ log → Went x.own g xs s0 k (first ++ events) is old new
 
   module _ (why : Refusal) (w : View) (is : Log) (old new : Story) (o : Own w is old new) (cause : IsCause limits g (front xs ++ (first ++ o.events)) (behind_first g xs (first ++ o.events)) (is_half (marks_by x.own (outcomes xs))) x.own asks why)
-      (backs : MayPutBack why []) (caused : IsRefusedFor g (behind_first g xs (first ++ o.events)) x.own half is asks why) (due : (q : Refusal) → refusal_in g sf x.own half log asks ≡ Some q → (why ≡ q) ⊎ (why ≡ refusal.RowSpent)) where
+      (tries : Tries g x.own (outcomes xs) asks why (keep is_step (first ++ o.events))) (whole : is_behind_row why ≡ false → any is_structure (first ++ o.events) ≡ false) (caused : IsRefusedFor g (behind_first g xs (first ++ o.events)) x.own is_half_aborted log asks why) (due : (q : Refusal) → refusal_in g sf x.own is_half_aborted log asks ≡ Some q → (why ≡ q) ⊎ (why ≡ refusal.RowSpent)) where
     abbrev done : Done
     done = refused_by x.own asks why (first ++ o.events)
 
@@ -164,10 +168,10 @@ module _ (reached : EveryReached) (need : EveryNeed) (answers : EveryAnswer) (co
       comes = (coming xs done.outcome).new line tt;
       met = o.behind.met;
       rows = o.rows;
-      structure = λ e. absurd (true≢false e);
+      tries = subst (λ d. Tries g x.own (outcomes xs) d why (keep is_step (first ++ o.events))) (sym asks_is) tries;
+      structure = whole;
       cause = cause;
-      due = subst (AreSyncs false) (sym o.no_logs) tt;
-      no_backs = backs;
+      due = refused_kept limits g xs x.own asks why (first ++ o.events) tt o.no_logs;
     }
 
     told : Tells limits g x.group xs done
@@ -180,7 +184,7 @@ module _ (reached : EveryReached) (need : EveryNeed) (answers : EveryAnswer) (co
     as_answer q (inl e) = inl (ap answer.Refused e)
     as_answer q (inr e) = inr (ap answer.Refused e)
 
-    refused_does : DoesOn g x.group xs x.own asks (answer.Refused why) x.half w log is old new
+    refused_does : DoesOn g x.group xs x.own asks (answer.Refused why) x.is_half_aborted w log is old new
     refused_does = record {
       does = record {
         done = done;
@@ -194,11 +198,12 @@ module _ (reached : EveryReached) (need : EveryNeed) (answers : EveryAnswer) (co
           events = refl;
           loads = t.are_loads;
           few = let a = t.few in let b = length-append first o.events in let c = o.few in omega arith;
-          refused = λ q r. subst (λ k. IsRefusedFor g (state_after g (front xs ++ (first ++ o.events))) x.own half is (call_behind (outcomes xs) asks) k) (why_is why q r)
-              (subst (λ k. IsRefusedFor g (state_after g (front xs ++ (first ++ o.events))) x.own half is k why) (sym asks_is) (subst (λ k. IsRefusedFor g k x.own half is asks why) (sym (behind.front_is g xs (first ++ o.events))) caused));
-          refuses = λ q r. as_answer q (due q (ap (λ k. refusal_in g sf x.own half log k) (sym asks_is) ∙ r));
+          refused = λ q r. subst (λ k. IsRefusedFor g (state_after g (front xs ++ (first ++ o.events))) x.own is_half_aborted log (call_behind (outcomes xs) asks) k) (why_is why q r)
+              (subst (λ k. IsRefusedFor g (state_after g (front xs ++ (first ++ o.events))) x.own is_half_aborted log k why) (sym asks_is) (subst (λ k. IsRefusedFor g k x.own is_half_aborted log asks why) (sym (behind.front_is g xs (first ++ o.events))) caused));
+          refuses = λ q r. as_answer q (due q (ap (λ k. refusal_in g sf x.own is_half_aborted log k) (sym asks_is) ∙ r));
           log = λ _. o.logs;
-          room = subst (λ k. MakesItsRoom g sf k o.events) (sym asks_is) o.makes;
+          still = λ q r. o.still q (ap (λ k. refusal_in g sf x.own is_half_aborted log k) (sym asks_is) ∙ r);
+          room = subst (λ k. MakesItsRoom x.own g sf k o.events) (sym asks_is) o.makes;
         };
         frame = o.frame;
         keeps = λ s0 k bt k_is. let w = o.goes s0 k bt k_is in behind.keeps_by g x.group xs done s0 k w.known is old new w.gone told w.log_is w.others w.master_is w.within;
@@ -220,6 +225,7 @@ module _ (reached : EveryReached) (need : EveryNeed) (answers : EveryAnswer) (co
       few = omega arith;
       logs = refl;
       makes = tt;
+      still = λ q r. refl;
       frame = framed (suc x.own) st;
       goes = λ s0 k bt is. subst (λ es. Went x.own g xs s0 k es log st st) (sym (append-nil first)) (went_first st lawful s0 k bt is);
     }
@@ -230,52 +236,59 @@ module _ (reached : EveryReached) (need : EveryNeed) (answers : EveryAnswer) (co
     of_e : IsOf x ((behind_first g xs (first ++ [])).worker x.own)
     of_e = subst (λ k. IsOf x (k.worker x.own)) state_is of_f
 
-    not_open : (x.half ≡ true) ⊎ (x.is_open ≡ false) → ((behind_first g xs (first ++ [])).worker x.own).is_open ≡ false ⊎ ((is_half (marks_by x.own (outcomes xs)) ≡ true) × (asks ≡ call.Abort → ⊥))
+    not_open : (x.is_half_aborted ≡ true) ⊎ (x.is_open ≡ false) → ((behind_first g xs (first ++ [])).worker x.own).is_open ≡ false ⊎ ((is_half (marks_by x.own (outcomes xs)) ≡ true) × (asks ≡ call.Abort → ⊥))
     not_open (inl q) = inr (t.half_is ∙ q, λ e. absurd (cc))
     not_open (inr q) = inl (of_e.is_open ∙ q)
 
+    -- no step was made, nor is the tree changed
+    bare_tries : (why : Refusal) → Tries g x.own (outcomes xs) asks why [] → Tries g x.own (outcomes xs) asks why (keep is_step (first ++ []))
+    bare_tries why t0 = subst (Tries g x.own (outcomes xs) asks why) (sym (ap (λ ys. keep is_step ys) (append-nil first) ∙ behind.no_steps first t.are_loads)) t0
+
+    bare_whole : any is_structure (first ++ []) ≡ false
+    bare_whole = ap (λ ys. any is_structure ys) (append-nil first) ∙ behind.loads_structure first t.are_loads
+
     record Early (why : Refusal) : Type 0 where
       cause : IsCause limits g (front xs ++ (first ++ [])) (behind_first g xs (first ++ [])) (is_half (marks_by x.own (outcomes xs))) x.own asks why
-      backs : MayPutBack why []
+      tries : Tries g x.own (outcomes xs) asks why []
 
     early : (why : Refusal) → put_test x log ≡ Some why → Early why
-    early why e = go (is_going x) (leb 64 (length x.undo)) (leb (limit log) (used log)) (leb (2 ^ 62) x.clock) refl refl refl refl (sym (test_is x log works) ∙ e)
+    early why e = go (is_going x) (leb 64 (length x.undo)) (leb (limit log) (used log)) (leb (2 ^ 62) x.clock.clock) refl refl refl refl (sym (test_is x log works) ∙ e)
       where
-        go : (a b c d : Bool) → is_going x ≡ a → leb 64 (length x.undo) ≡ b → leb (limit log) (used log) ≡ c → leb (2 ^ 62) x.clock ≡ d → gate a b c d (refusal.LogFull (used log) (limit log)) None ≡ Some why → Early why
-        go false b c d p q r u e = subst Early (some_is _ why e) (record { cause = not_open (not_going x p); backs = refl })
-        go true true c d p q r u e = subst Early (some_is _ why e) (record { cause = let a = leb-true 64 (length x.undo) q in let m = many_of _ x.undo of_e.undo in let n = t.opens.changes in omega arith; backs = refl })
-        go true false true d p q r u e = subst Early (some_is _ why e) (record { cause = refl; backs = refl })
-        go true false false true p q r u e = subst Early (some_is _ why e) (record { cause = let a = leb-true (2 ^ 62) x.clock u in let m = of_e.clock in omega arith; backs = refl })
+        go : (a b c d : Bool) → is_going x ≡ a → leb 64 (length x.undo) ≡ b → leb (limit log) (used log) ≡ c → leb (2 ^ 62) x.clock.clock ≡ d → gate a b c d (refusal.LogFull (used log) (limit log)) None ≡ Some why → Early why
+        go false b c d p q r u e = subst Early (some_is _ why e) (record { cause = not_open (not_going x p); tries = refl })
+        go true true c d p q r u e = subst Early (some_is _ why e) (record { cause = let a = leb-true 64 (length x.undo) q in let m = many_of _ x.undo of_e.undo in let n = t.opens.changes in omega arith; tries = refl })
+        go true false true d p q r u e = subst Early (some_is _ why e) (record { cause = refl; tries = refl })
+        go true false false true p q r u e = subst Early (some_is _ why e) (record { cause = let a = leb-true (2 ^ 62) x.clock.clock u in let m = of_e.clock in omega arith; tries = inl refl })
         go true false false false p q r u e = absurd (none_is why e)
 
-    pub early_does : (st : Story) → IsLawful st → (why : Refusal) → put_test x log ≡ Some why → DoesOn g x.group xs x.own asks (answer.Refused why) x.half w log log st st
+    pub early_does : (st : Story) → IsLawful st → (why : Refusal) → put_test x log ≡ Some why → DoesOn g x.group xs x.own asks (answer.Refused why) x.is_half_aborted w log log st st
     early_does st lawful why e =
         let f = early why e in
-        refused_does why w log st st (bare st lawful) f.cause f.backs (inl (ap (λ k. refusal_in g k x.own half log asks) (sym state_is) ∙ early_is why e)) (λ q r. inl (some_is why q (sym (early_is why e) ∙ r)))
+        refused_does why w log st st (bare st lawful) f.cause (bare_tries why f.tries) (λ e. bare_whole) (inl (ap (λ k. refusal_in g k x.own is_half_aborted log asks) (sym state_is) ∙ early_is why e)) (λ q r. inl (some_is why q (sym (early_is why e) ∙ r)))
 
-    pub row_does : (st : Story) → IsLawful st → 2 ^ 61 ≤ length w.seen → DoesOn g x.group xs x.own asks (answer.Refused refusal.RowSpent) x.half w log log st st
+    pub row_does : (st : Story) → IsLawful st → 2 ^ 61 ≤ length w.seen → DoesOn g x.group xs x.own asks (answer.Refused refusal.RowSpent) x.is_half_aborted w log log st st
     row_does st lawful many =
-        refused_does refusal.RowSpent w log st st (bare st lawful) (many_behind (events_of w.given.before) (front xs) (first ++ []) w.seen bare_behind.seen many) tt (inr refl) (λ q r. inr refl)
+        refused_does refusal.RowSpent w log st st (bare st lawful) (many_behind (events_of w.given.before) (front xs) (first ++ []) w.seen bare_behind.seen many) (bare_tries refusal.RowSpent (inl refl)) (λ e. bare_whole) (inr refl) (λ q r. inr refl)
 
     -- another session stands in its way
     module _ (other : ℕ) (there : Hinders ((state v).core.row (key % x.held.count)) x.own (core_mode Alone) other) (none : put_test x log ≡ None) where
       hinders : Hinders (sf.row (g.row_of key)) x.own happening.Mode.Alone other
       hinders = subst (λ i. Hinders (sf.row i) x.own happening.Mode.Alone other) (sym row_is) (subst (λ k. Hinders (k.row (key % x.held.count)) x.own happening.Mode.Alone other) core_in there)
 
-      conflict_is : refusal_in g sf x.own half log asks ≡ Some (refusal.Conflict other)
+      conflict_is : refusal_in g sf x.own is_half_aborted log asks ≡ Some (refusal.Conflict other)
       conflict_is = late_is none ∙ lock_refused g sf x.own key happening.Mode.Alone other hinders (met_refusal g sf x.own key room_f)
 
-      pub hindered_does : (st : Story) → IsLawful st → DoesOn g x.group xs x.own asks (answer.Refused (refusal.Conflict other)) x.half w log log st st
+      pub hindered_does : (st : Story) → IsLawful st → DoesOn g x.group xs x.own asks (answer.Refused (refusal.Conflict other)) x.is_half_aborted w log log st st
       hindered_does st lawful =
-          refused_does (refusal.Conflict other) w log st st (bare st lawful) (subst (λ k. Hinders (k.row (g.row_of key)) x.own happening.Mode.Alone other) state_is hinders) refl
-          (inl (ap (λ k. refusal_in g k x.own half log asks) (sym state_is) ∙ conflict_is)) (λ q r. inl (some_is (refusal.Conflict other) q (sym conflict_is ∙ r)))
+          refused_does (refusal.Conflict other) w log st st (bare st lawful) (subst (λ k. Hinders (k.row (g.row_of key)) x.own happening.Mode.Alone other) state_is hinders) (bare_tries (refusal.Conflict other) refl) (λ e. bare_whole)
+          (inl (ap (λ k. refusal_in g k x.own is_half_aborted log asks) (sym state_is) ∙ conflict_is)) (λ q r. inl (some_is (refusal.Conflict other) q (sym conflict_is ∙ r)))
 
   -- ## Behind the taking of the row
 
   module _ (u : Shape) (v1 : View) (clock debt : ℕ) where
     -- the session has the row, and has met what it tells
     abbrev x1 : Session
-    x1 = record x { clock = clock; debt = debt; held = with_row x.held (key % x.held.count) }
+    x1 = record x { clock = record x.clock { clock = clock; debt = debt }; held = with_row x.held (key % x.held.count) }
 
     module _ (h1 : Holds u v1 x1 log) (tk : Takes v v1 x x1 (key % x.held.count) Alone) where
       abbrev lock : happening.Event
@@ -329,7 +342,7 @@ module _ (reached : EveryReached) (need : EveryNeed) (answers : EveryAnswer) (co
       met_is later = lock_free g sf x.own key happening.Mode.Alone may_lock (met_refusal g sf x.own key later) ∙ (λ i. cond (leb (2 ^ 62) (clock_is i)) (Some refusal.ClockSpent) later)
 
       -- where it is below its end still, room alone is asked for
-      room_asked : put_test x log ≡ None → clock < 2 ^ 62 → refusal_in g sf x.own half log asks ≡ room_f
+      room_asked : put_test x log ≡ None → clock < 2 ^ 62 → refusal_in g sf x.own is_half_aborted log asks ≡ room_f
       room_asked none below = late_is none ∙ (met_is room_f ∙ ap (λ k. cond k (Some refusal.ClockSpent) room_f) (lt-leb (2 ^ 62) clock below))
 
       spare1 : length x1.free ≤ 2 ^ 16
@@ -343,10 +356,16 @@ module _ (reached : EveryReached) (need : EveryNeed) (answers : EveryAnswer) (co
         pub behind : Behind g xs (start ++ events) w
         pub aside : AreAside x.own events
         pub logs : Logs x.own g (behind_first g xs start) events log is
-        pub makes : MakesRoom g (behind_first g xs start) key events
+        pub makes : MakesRoom x.own g (behind_first g xs start) key events
+        pub still : (any is_structure events ≡ false) ⊎ (room_refusal (opening v1.given) (state v1).core key ≡ None)
         pub few : length events ≤ 2 ^ 16 + 8
         pub frame : Framed (suc x.own) old new
         pub goes : (s0 : Crash) (k : Known) → Between limits g x.group xs s0 k old → Went x.own g xs s0 k start log old old → Went x.own g xs s0 k (start ++ events) is old new
+
+      -- where none was made, the tree is as it was
+      as_it_was : (es : List Event) → (es ≡ []) ⊎ (room_refusal (opening v1.given) (state v1).core key ≡ None) → (any is_structure (events_of es) ≡ false) ⊎ (room_refusal (opening v1.given) (state v1).core key ≡ None)
+      as_it_was es (inl e) = inl (ap (λ ys. any is_structure (events_of ys)) e)
+      as_it_was es (inr e) = inr e
 
       -- by the room that was made
       reached_by : (w : View) (y : Session) (is : Log) (old new : Story) → HasRoom key v1 w x1 y log is old new → Reached w is old new
@@ -357,6 +376,7 @@ module _ (reached : EveryReached) (need : EveryNeed) (answers : EveryAnswer) (co
             aside = d.aside;
             logs = d.logs;
             makes = d.makes;
+            still = as_it_was r.grows.events r.grows.fits;
             few = let a = r.grows.fewer in let n = length_events r.grows.events in let m = spare1 in omega arith;
             frame = r.frame;
             goes = λ s0 k bt at0. r.goes g xs start b1 s0 k bt at0;
@@ -371,14 +391,15 @@ module _ (reached : EveryReached) (need : EveryNeed) (answers : EveryAnswer) (co
             behind = subst (λ ys. Behind g xs ys w) (append_assoc start es (events_of q.misses)) (behind.more reached need g xs (start ++ es) u1 d.behind q.misses w q.given q.seen (misses_met g (behind_first g xs (start ++ es)) q.misses q.are_misses));
             aside = all_append (is_aside x.own) es (events_of q.misses) d.aside (misses_aside x.own q.misses q.are_misses);
             logs = logs_same x.own g (behind_first g xs start) es (events_of q.misses) log is (misses_are q.misses q.are_misses) d.logs;
-            makes = makes_same g key (behind_first g xs start) es (events_of q.misses) (misses_are q.misses q.are_misses) d.makes;
+            makes = makes_same x.own g key (behind_first g xs start) es (events_of q.misses) (misses_are q.misses q.are_misses) d.makes;
+            still = elim (as_it_was r.grows.events r.grows.fits) [ inl e ↦ inl (any_append is_structure es (events_of q.misses) e (misses_structure q.misses q.are_misses)) | inr e ↦ inr e ];
             few = let a = r.grows.fewer in let n = length_events r.grows.events in let m = spare1 in let b = length-append es (events_of q.misses) in let c = q.few in let o = length_events q.misses in omega arith;
             frame = r.frame;
             goes = λ s0 k bt at0. subst (λ ys. Went x.own g xs s0 k ys is old new) (append_assoc start es (events_of q.misses))
                 (went_quiet parts x.own x.group g low high xs s0 k old bt (start ++ es) (events_of q.misses) (misses_quiet q.misses q.are_misses) is new (r.goes g xs start b1 s0 k bt at0));
           }
 
-      module _ (w : View) (is : Log) (old new : Story) (lawful : IsLawful old) (d : Reached w is old new) where
+      module _ (w : View) (is : Log) (old new : Story) (lawful : IsLawful old) (d : Reached w is old new) (unmoved : (q : Refusal) → refusal_in g sf x.own is_half_aborted log asks ≡ Some q → any is_structure d.events ≡ false) where
         own_is : start ++ d.events ≡ first ++ lock ∷ d.events
         own_is = append_assoc first (lock ∷ []) d.events
 
@@ -396,17 +417,22 @@ module _ (reached : EveryReached) (need : EveryNeed) (answers : EveryAnswer) (co
           no_logs = logs_lock x.own first (g.row_of key) d.events t.are_loads ra.no_logs;
           few = let a = d.few in omega arith;
           logs = (log, refl, subst (λ k. Logs x.own g k d.events log is) (sym from_is) d.logs);
-          makes = (tt, subst (λ k. MakesRoom g k key d.events) (sym from_is) d.makes);
+          makes = (tt, subst (λ k. MakesRoom x.own g k key d.events) (sym from_is) d.makes);
+          still = unmoved;
           frame = d.frame;
           goes = λ s0 k bt k_is. subst (λ es. Went x.own g xs s0 k es is old new) own_is (d.goes s0 k bt (went_start s0 k bt k_is));
         }
 
+        -- the row was taken
+        row_tries : (why : Refusal) → Tries g x.own (outcomes xs) asks why (lock ∷ []) → Tries g x.own (outcomes xs) asks why (keep is_step (first ++ lock ∷ d.events))
+        row_tries why t0 = subst (Tries g x.own (outcomes xs) asks why) (sym (steps_lock x.own first (g.row_of key) d.events t.are_loads ra.no_steps)) t0
+
         core_own : (state w).core ≡ behind_first g xs (first ++ lock ∷ d.events)
         core_own = behind.core_is reached need g xs (first ++ lock ∷ d.events) w own.behind
 
-        pub spent_does : 2 ^ 61 ≤ length w.seen → DoesOn g x.group xs x.own asks (answer.Refused refusal.RowSpent) x.half w log is old new
+        pub spent_does : 2 ^ 61 ≤ length w.seen → DoesOn g x.group xs x.own asks (answer.Refused refusal.RowSpent) x.is_half_aborted w log is old new
         spent_does many =
-            refused_does refusal.RowSpent w is old new own (many_behind (events_of w.given.before) (front xs) (first ++ lock ∷ d.events) w.seen own.behind.seen many) tt (inr refl) (λ why r. inr refl)
+            refused_does refusal.RowSpent w is old new own (many_behind (events_of w.given.before) (front xs) (first ++ lock ∷ d.events) w.seen own.behind.seen many) (row_tries refusal.RowSpent (inr refl)) (λ e. absurd (true≢false e)) (inr refl) (λ why r. inr refl)
 
         -- the session has the row still
         taken_there : IsTaken x.own (g.row_of key) (behind_first g xs (first ++ lock ∷ d.events))
@@ -414,7 +440,7 @@ module _ (reached : EveryReached) (need : EveryNeed) (answers : EveryAnswer) (co
             (taken_stays g x.own (g.row_of key) (behind_first g xs start) d.events d.aside (subst (λ k. IsTaken x.own (g.row_of key) k) taken_is (taken_alone g sf x.own (g.row_of key))))
 
         -- where the session is as it is there
-        module _ (y : Session) (hw : IsOf y ((state w).core.worker x.own)) (is_open : y.is_open ≡ true) (few : length y.undo < 64) (whole : x.half ≡ false) where
+        module _ (y : Session) (hw : IsOf y ((state w).core.worker x.own)) (is_open : y.is_open ≡ true) (few : length y.undo < 64) (whole : x.is_half_aborted ≡ false) (room : used log < limit log) where
           abbrev sw : State
           sw = behind_first g xs (first ++ lock ∷ d.events)
 
@@ -424,23 +450,17 @@ module _ (reached : EveryReached) (need : EveryNeed) (answers : EveryAnswer) (co
           abbrev row_w : Option Refusal
           row_w = lock_refusal g sw x.own key happening.Mode.Alone (met_refusal g sw x.own key (cond (is_full_for g sw key) (room_refusal g sw key) None))
 
-          tests_w : refusal_in g sw x.own half is asks ≡ log_refusal y.clock is row_w
-          tests_w = (λ i. cond ((t.half_is ∙ whole) i) (Some refusal.NoTransaction) (cond (of_w.is_open i) (cond (leb 64 (many_of (sw.worker x.own).changes y.undo of_w.undo i)) (Some refusal.TooLong) (log_refusal (of_w.clock i) is row_w)) (Some refusal.NoTransaction)))
-              ∙ (λ i. cond (is_open i) (cond (lt-leb 64 (length y.undo) few i) (Some refusal.TooLong) (log_refusal y.clock is row_w)) (Some refusal.NoTransaction))
+          tests_w : refusal_in g sw x.own is_half_aborted log asks ≡ clock_refusal y.clock.clock row_w
+          tests_w = (λ i. cond ((t.half_is ∙ whole) i) (Some refusal.NoTransaction) (cond (of_w.is_open i) (cond (leb 64 (many_of (sw.worker x.own).changes y.undo of_w.undo i)) (Some refusal.TooLong) (log_refusal (of_w.clock i) log row_w)) (Some refusal.NoTransaction)))
+              ∙ ((λ i. cond (is_open i) (cond (lt-leb 64 (length y.undo) few i) (Some refusal.TooLong) (log_refusal y.clock.clock log row_w)) (Some refusal.NoTransaction)) ∙ ap (λ k. cond k (Some (refusal.LogFull (used log) (limit log))) (clock_refusal y.clock.clock row_w)) (lt-leb (limit log) (used log) room))
 
-          -- no further record may be staged
-          pub stopped_does : (why : Refusal) → (why ≡ refusal.ClockSpent) ⊎ ((n : ℕ) × (m : ℕ) × (why ≡ refusal.LogFull n m)) → log_refusal y.clock is None ≡ Some why → ((q : Refusal) → refusal_in g sf x.own half log asks ≡ Some q → (why ≡ q) ⊎ (why ≡ refusal.RowSpent)) → DoesOn g x.group xs x.own asks (answer.Refused why) x.half w log is old new
-          stopped_does why (inl e) cause due =
-              subst (λ q. DoesOn g x.group xs x.own asks (answer.Refused q) x.half w log is old new) (sym e)
-              (refused_does refusal.ClockSpent w is old new own (let a = clock_is_spent y.clock is (cause ∙ ap Some e) in let q = of_w.clock in omega arith) refl
-              (inl (tests_w ∙ log_some y.clock is refusal.ClockSpent row_w (cause ∙ ap Some e))) (λ q r. subst (λ k. (k ≡ q) ⊎ (k ≡ refusal.RowSpent)) e (due q r)))
-          stopped_does why (inr e) cause due =
-              subst (λ q. DoesOn g x.group xs x.own asks (answer.Refused q) x.half w log is old new) (sym e.2)
-              (refused_does (refusal.LogFull e.0 e.1) w is old new own refl refl
-              (inl (tests_w ∙ log_some y.clock is (refusal.LogFull e.0 e.1) row_w (cause ∙ ap Some e.2))) (λ q r. subst (λ k. (k ≡ q) ⊎ (k ≡ refusal.RowSpent)) e.2 (due q r)))
+          -- the clock has come to its end
+          pub stopped_does : 2 ^ 62 ≤ y.clock.clock → ((q : Refusal) → refusal_in g sf x.own is_half_aborted log asks ≡ Some q → (refusal.ClockSpent ≡ q) ⊎ (refusal.ClockSpent ≡ refusal.RowSpent)) → DoesOn g x.group xs x.own asks (answer.Refused refusal.ClockSpent) x.is_half_aborted w log is old new
+          stopped_does spent due =
+              refused_does refusal.ClockSpent w is old new own (let q = of_w.clock in omega arith) (row_tries refusal.ClockSpent (inr refl)) (λ e. absurd (true≢false e)) (inl (tests_w ∙ ap (λ k. cond k (Some refusal.ClockSpent) row_w) (le-leb (2 ^ 62) y.clock.clock spent))) due
 
           -- the leaf is full, and there can be no room
-          module _ (leaf : ℕ) (q : IsUnfit w key leaf) (there : log_refusal y.clock is None ≡ None) where
+          module _ (leaf : ℕ) (q : IsUnfit w key leaf) (there : y.clock.clock < 2 ^ 62) where
             fmt_w : (opening w.given).format ≡ g.format
             fmt_w = sym own.behind.opens.format
 
@@ -458,18 +478,18 @@ module _ (reached : EveryReached) (need : EveryNeed) (answers : EveryAnswer) (co
             room_is : (why : Refusal) → room_refusal (opening w.given) (state w).core key ≡ Some why → room_refusal g sw key ≡ Some why
             room_is why e = ap (λ k. room_refusal g k key) (sym core_own) ∙ (sym (refusal_as (opening w.given) g fmt_w (state w).core key) ∙ e)
 
-            caused : (why : Refusal) → room_refusal (opening w.given) (state w).core key ≡ Some why → refusal_in g sw x.own half is asks ≡ Some why
-            caused why e = tests_w ∙ (log_none y.clock is row_w there ∙ (taken_passes g sw x.own key (cond (is_full_for g sw key) (room_refusal g sw key) None) taken_there (let a = (ready y.clock is there).small in let q = of_w.clock in omega arith)
+            caused : (why : Refusal) → room_refusal (opening w.given) (state w).core key ≡ Some why → refusal_in g sw x.own is_half_aborted log asks ≡ Some why
+            caused why e = tests_w ∙ (ap (λ k. cond k (Some refusal.ClockSpent) row_w) (lt-leb (2 ^ 62) y.clock.clock there) ∙ (taken_passes g sw x.own key (cond (is_full_for g sw key) (room_refusal g sw key) None) taken_there (let a = there in let q = of_w.clock in omega arith)
                 ∙ ((λ i. cond (full_is i) (room_refusal g sw key) None) ∙ room_is why e)))
 
-            pub tall_does : room_refusal (opening w.given) (state w).core key ≡ Some refusal.TooTall → ((q : Refusal) → refusal_in g sf x.own half log asks ≡ Some q → (refusal.TooTall ≡ q) ⊎ (refusal.TooTall ≡ refusal.RowSpent)) → DoesOn g x.group xs x.own asks (answer.Refused refusal.TooTall) x.half w log is old new
+            pub tall_does : room_refusal (opening w.given) (state w).core key ≡ Some refusal.TooTall → ((q : Refusal) → refusal_in g sf x.own is_half_aborted log asks ≡ Some q → (refusal.TooTall ≡ q) ⊎ (refusal.TooTall ≡ refusal.RowSpent)) → DoesOn g x.group xs x.own asks (answer.Refused refusal.TooTall) x.is_half_aborted w log is old new
             tall_does e due =
                 let r = tall_is g sw key (room_is refusal.TooTall e) in
-                refused_does refusal.TooTall w is old new own (record { leaf = is_full; all = r.0; level = r.1 }) refl (inl (caused refusal.TooTall e)) due
+                refused_does refusal.TooTall w is old new own (record { leaf = is_full; all = r.0; level = r.1 }) (row_tries refusal.TooTall refl) (λ e. absurd (true≢false e)) (inl (caused refusal.TooTall e)) due
 
-            pub short_does : room_refusal (opening w.given) (state w).core key ≡ Some refusal.NoPages → ((q : Refusal) → refusal_in g sf x.own half log asks ≡ Some q → (refusal.NoPages ≡ q) ⊎ (refusal.NoPages ≡ refusal.RowSpent)) → DoesOn g x.group xs x.own asks (answer.Refused refusal.NoPages) x.half w log is old new
+            pub short_does : room_refusal (opening w.given) (state w).core key ≡ Some refusal.NoPages → ((q : Refusal) → refusal_in g sf x.own is_half_aborted log asks ≡ Some q → (refusal.NoPages ≡ q) ⊎ (refusal.NoPages ≡ refusal.RowSpent)) → DoesOn g x.group xs x.own asks (answer.Refused refusal.NoPages) x.is_half_aborted w log is old new
             short_does e due =
-                refused_does refusal.NoPages w is old new own (record { leaf = is_full; few = short_is g sw key (room_is refusal.NoPages e) }) refl (inl (caused refusal.NoPages e)) due
+                refused_does refusal.NoPages w is old new own (record { leaf = is_full; few = short_is g sw key (room_is refusal.NoPages e) }) (row_tries refusal.NoPages refl) (λ e. absurd (true≢false e)) (inl (caused refusal.NoPages e)) due
 
       -- ## The answers
 
@@ -478,7 +498,7 @@ module _ (reached : EveryReached) (need : EveryNeed) (answers : EveryAnswer) (co
       room_at why e = sym (refusal_on g (state v1).core sf pages_is key) ∙ (sym (refusal_as (opening v1.given) g fmt_is (state v1).core key) ∙ e)
 
       -- where some was made, no test refuses
-      none_at : put_test x log ≡ None → clock < 2 ^ 62 → room_refusal (opening v1.given) (state v1).core key ≡ None → (why : Refusal) → refusal_in g sf x.own half log asks ≡ Some why → ⊥
+      none_at : put_test x log ≡ None → clock < 2 ^ 62 → room_refusal (opening v1.given) (state v1).core key ≡ None → (why : Refusal) → refusal_in g sf x.own is_half_aborted log asks ≡ Some why → ⊥
       none_at none below e why r = none_is why (sym (room_asked none below ∙ ((λ i. cond (is_full_for g sf key) (room_at None e i) None) ∙ both_none (is_full_for g sf key))) ∙ r)
         where
           nothing : Option Refusal
@@ -488,9 +508,13 @@ module _ (reached : EveryReached) (need : EveryNeed) (answers : EveryAnswer) (co
           both_none true = refl
           both_none false = refl
 
+      -- so none was, where one does
+      unmoved_at : put_test x log ≡ None → clock < 2 ^ 62 → (w : View) (is : Log) (old new : Story) (d : Reached w is old new) (q : Refusal) → refusal_in g sf x.own is_half_aborted log asks ≡ Some q → any is_structure d.events ≡ false
+      unmoved_at none below w is old new d q r = elim d.still [ inl e ↦ e | inr e ↦ absurd (none_at none below e q r) ]
+
       -- a leaf without room: the tests say so where none was made
       due_at : put_test x log ≡ None → clock < 2 ^ 62 → (why : Refusal) (w : View) (y : Session) (is : Log) → (d : Grows key v1 w x1 y log is) → room_refusal (opening w.given) (state w).core key ≡ Some why
-          → (q : Refusal) → refusal_in g sf x.own half log asks ≡ Some q → (why ≡ q) ⊎ (why ≡ refusal.RowSpent)
+          → (q : Refusal) → refusal_in g sf x.own is_half_aborted log asks ≡ Some q → (why ≡ q) ⊎ (why ≡ refusal.RowSpent)
       due_at none below why w y is d e q r = by_fits d.fits
         where
           by_fits : (d.events ≡ []) ⊎ (room_refusal (opening v1.given) (state v1).core key ≡ None) → (why ≡ q) ⊎ (why ≡ refusal.RowSpent)
@@ -568,7 +592,7 @@ module _ (reached : EveryReached) (need : EveryNeed) (answers : EveryAnswer) (co
           high = high;
           before_steps = behind.loads_steps first t.are_loads;
           between_steps = (asides x.own es d.aside).steps;
-          syncs = subst (AreSyncs false) (sym (logs_lock x.own first (g.row_of key) es t.are_loads (asides x.own es d.aside).no_logs)) tt;
+          syncs = syncs_kept (λ s. IsTight g s key) g (first ++ happening.Event.Lock x.own (g.row_of key) happening.Mode.Alone ∷ es) (state_after g (front xs)) (logs_lock x.own first (g.row_of key) es t.are_loads (asides x.own es d.aside).no_logs);
           met = b3.met;
           was_is = c.told ∙ (λ i. value_in (fmt_u i) ((core_lead i).page page).node key);
           whole = t.half_is ∙ (free_of x log works none).whole;
@@ -607,7 +631,7 @@ module _ (reached : EveryReached) (need : EveryNeed) (answers : EveryAnswer) (co
             page_still : (state u1).core.page ≡ sf.page
             page_still = (λ i. (after_all (c.grows.given i) (still i)).core.page) ∙ pages_is
 
-        none_refuses : (why : Refusal) → refusal_in g sf x.own half log asks ≡ Some why → ⊥
+        none_refuses : (why : Refusal) → refusal_in g sf x.own is_half_aborted log asks ≡ Some why → ⊥
         none_refuses why r = by_fits c.grows.fits
           where
             by_fits : (c.grows.events ≡ []) ⊎ (room_refusal (opening v1.given) (state v1).core key ≡ None) → ⊥
@@ -634,8 +658,8 @@ module _ (reached : EveryReached) (need : EveryNeed) (answers : EveryAnswer) (co
         logged = logs_more x.own g sf (lock ∷ es) change log c.log is own_logs
             (logs_own x.own g (core.run g sf (lock ∷ es)) change c.log is (subst (λ (k : State). LogsEntry x.own g k change c.log is) (sym run_lead) (record { record_of = c.entry; entry = ap (λ (k : State). k.entries) step_in ∙ ap (λ (e : Entry). e ∷ s2.entries) (sym is_write.entry); after = c.after })))
 
-        made : MakesRoom g sf key (lock ∷ (es ++ change ∷ []))
-        made = makes_more g key sf (lock ∷ es) change (tt, subst (λ k. MakesRoom g k key es) (sym from_is) d.makes) tt
+        made : MakesRoom x.own g sf key (lock ∷ (es ++ change ∷ []))
+        made = makes_more x.own g key sf (lock ∷ es) change (tt, subst (λ k. MakesRoom x.own g k key es) (sym from_is) d.makes) tt
 
         all_is : start ++ events_of (c.grows.events ++ event.Change x.own page key value ∷ []) ≡ lead ++ change ∷ []
         all_is = ap (λ ys. start ++ ys) (events_more c.grows.events (event.Change x.own page key value ∷ [])) ∙ (sym (append_assoc start es (change ∷ [])) ∙ ap (λ ys. ys ++ change ∷ []) lead_is)
@@ -644,7 +668,7 @@ module _ (reached : EveryReached) (need : EveryNeed) (answers : EveryAnswer) (co
         went s0 k bt log_is = subst (λ ys. Went x.own g xs s0 k ys is old new) all_is
             (c.goes g xs start b1 s0 k bt (went_quiet parts x.own x.group g low high xs s0 k old bt first (lock ∷ []) refl log old (went_first old lawful s0 k bt log_is)))
 
-        pub change_does : DoesOn g x.group xs x.own asks (answer.Was before) x.half w log is old new
+        pub change_does : DoesOn g x.group xs x.own asks (answer.Was before) x.is_half_aborted w log is old new
         change_does = record {
           does = record {
             done = changed;
@@ -659,9 +683,10 @@ module _ (reached : EveryReached) (need : EveryNeed) (answers : EveryAnswer) (co
               loads = t.are_loads;
               few = let a = t.few in let b = length-append first (lock ∷ es) in let q = length-append lead (change ∷ []) in let r = c.grows.fewer in let n = length_events c.grows.events in let m = spare1 in omega arith;
               refused = λ why q. absurd (no_refusal why q);
-              refuses = λ why q. absurd (none_refuses why (ap (λ k. refusal_in g sf x.own half log k) (sym asks_is) ∙ q));
+              refuses = λ why q. absurd (none_refuses why (ap (λ k. refusal_in g sf x.own is_half_aborted log k) (sym asks_is) ∙ q));
               log = λ _. logged;
-              room = subst (λ k. MakesItsRoom g sf k (lock ∷ (es ++ change ∷ []))) (sym asks_is) made;
+              still = λ why q. absurd (none_refuses why (ap (λ k. refusal_in g sf x.own is_half_aborted log k) (sym asks_is) ∙ q));
+              room = subst (λ k. MakesItsRoom x.own g sf k (lock ∷ (es ++ change ∷ []))) (sym asks_is) made;
             };
             frame = c.frame;
             keeps = λ s0 k bt log_is. let q = went s0 k bt log_is in behind.keeps_by g x.group xs changed s0 k q.known is old new q.gone changed_told q.log_is q.others q.master_is q.within;
@@ -674,13 +699,14 @@ module _ (reached : EveryReached) (need : EveryNeed) (answers : EveryAnswer) (co
       put_fails old new lawful c =
           let es = events_of c.grows.events in
           let d = c.grows.run g xs start b1 in
-          let are_room : AreRoom x.own (start ++ es) = subst (AreRoom x.own) (sym (append_assoc first (lock ∷ []) es)) (room_lock x.own first (g.row_of key) es t.are_loads (asides x.own es d.aside).room) in
-          let makes : MakesRoom g (state_after g (front xs)) key (start ++ es) = makes_behind g x.own key (g.row_of key) (state_after g (front xs)) first es t.are_loads d.makes in
+          let are_room : AreRoom x.own (g.row_of key) (start ++ es) = subst (AreRoom x.own (g.row_of key)) (sym (append_assoc first (lock ∷ []) es)) (room_lock x.own first (g.row_of key) es t.are_loads ((asides x.own es d.aside).room (g.row_of key))) in
+          let makes : MakesRoom x.own g (state_after g (front xs)) key (start ++ es) = makes_behind x.own g key (g.row_of key) (state_after g (front xs)) first es t.are_loads d.makes in
+          let few : length (start ++ es) ≤ 2 ^ 18 = let a = t.few in let b = length-append first (lock ∷ []) in let q = length-append start es in let r = c.grows.fewer in let n = length_events c.grows.events in let m = spare1 in omega arith in
           record {
             frame = c.frame;
             leaves = λ s0 k bt log_is.
                 let l = c.leaves g xs start b1 s0 k bt (went_quiet parts x.own x.group g low high xs s0 k old bt first (lock ∷ []) refl log old (went_first old lawful s0 k bt log_is)) in
-                record { stops = Nothing (start ++ es) (subst (λ k. IsRoomFor g xs x.own k (start ++ es)) (sym asks_is) (are_room, makes)) l.0; within = l.1 };
+                record { stops = Nothing (start ++ es) (subst (λ k. IsRoomFor g xs x.own k (start ++ es)) (sym asks_is) ((are_room, makes), few)) l.0; within = l.1 };
           }
 
       -- ## By answer
@@ -689,7 +715,7 @@ module _ (reached : EveryReached) (need : EveryNeed) (answers : EveryAnswer) (co
         free : IsFree x log
         free = free_of x log works none
 
-        module _ (is_so : y ≡ record x1 { clock = y.clock; debt = y.debt; free = y.free }) (hw : IsOf y ((state w).core.worker y.own)) where
+        module _ (is_so : y ≡ record x1 { clock = risen x1.clock y.clock; free = y.free }) (hw : IsOf y ((state w).core.worker y.own)) where
           of_y : IsOf y ((state w).core.worker x.own)
           of_y = subst (λ n. IsOf y ((state w).core.worker n)) (ap (λ (q : Session). q.own) is_so) hw
 
@@ -699,34 +725,37 @@ module _ (reached : EveryReached) (need : EveryNeed) (answers : EveryAnswer) (co
           few_y : length y.undo < 64
           few_y = let a = ap (λ (q : Session). length q.undo) is_so in let f = free.few in omega arith
 
-          stopped_with : (why : Refusal) → (why ≡ refusal.ClockSpent) ⊎ ((i : ℕ) × (m : ℕ) × (why ≡ refusal.LogFull i m)) → IsStopped key why v1 w x1 y log is old new → DoesOn g x.group xs x.own asks (answer.Refused why) x.half w log is old new
-          stopped_with why which q = stopped_does w is old new lawful (reached_by w y is old new q.room) y of_y open_y few_y free.whole why which q.cause (λ p r. absurd (none_at none below q.some p r))
+          stopped_with : IsStopped key v1 w x1 y log is old new → DoesOn g x.group xs x.own asks (answer.Refused refusal.ClockSpent) x.is_half_aborted w log is old new
+          stopped_with q = stopped_does w is old new lawful (reached_by w y is old new q.room) (unmoved_at none below w is old new (reached_by w y is old new q.room)) y of_y open_y few_y free.whole free.room q.spent (λ p r. absurd (none_at none below q.some p r))
 
-          tall_with : IsCrowded key refusal.TooTall v1 w x1 y log is old new → DoesOn g x.group xs x.own asks (answer.Refused refusal.TooTall) x.half w log is old new
-          tall_with q = tall_does w is old new lawful (reached_by w y is old new q.room) y of_y open_y few_y free.whole q.leaf q.unfit q.ready q.cause (due_at none below refusal.TooTall w y is q.room.grows q.cause)
+          tall_with : IsCrowded key refusal.TooTall v1 w x1 y log is old new → DoesOn g x.group xs x.own asks (answer.Refused refusal.TooTall) x.is_half_aborted w log is old new
+          tall_with q = tall_does w is old new lawful (reached_by w y is old new q.room) (unmoved_at none below w is old new (reached_by w y is old new q.room)) y of_y open_y few_y free.whole free.room q.leaf q.unfit q.ready q.cause (due_at none below refusal.TooTall w y is q.room.grows q.cause)
 
-          short_with : IsCrowded key refusal.NoPages v1 w x1 y log is old new → DoesOn g x.group xs x.own asks (answer.Refused refusal.NoPages) x.half w log is old new
-          short_with q = short_does w is old new lawful (reached_by w y is old new q.room) y of_y open_y few_y free.whole q.leaf q.unfit q.ready q.cause (due_at none below refusal.NoPages w y is q.room.grows q.cause)
+          short_with : IsCrowded key refusal.NoPages v1 w x1 y log is old new → DoesOn g x.group xs x.own asks (answer.Refused refusal.NoPages) x.is_half_aborted w log is old new
+          short_with q = short_does w is old new lawful (reached_by w y is old new q.room) (unmoved_at none below w is old new (reached_by w y is old new q.room)) y of_y open_y few_y free.whole free.room q.leaf q.unfit q.ready q.cause (due_at none below refusal.NoPages w y is q.room.grows q.cause)
 
         -- the session has as much of an abort done
         module _ (now : Bool) where
-          as_now : (a : Answer) → now ≡ x.half → DoesOn g x.group xs x.own asks a x.half w log is old new → DoesOn g x.group xs x.own asks a now w log is old new
+          as_now : (a : Answer) → now ≡ x.is_half_aborted → DoesOn g x.group xs x.own asks a x.is_half_aborted w log is old new → DoesOn g x.group xs x.own asks a now w log is old new
           as_now a e d = subst (λ k. DoesOn g x.group xs x.own asks a k w log is old new) (sym e) d
 
-          pub put_did : (r : Result (Option ℕ) Refusal) → Puts r v1 w key value x1 y log is old new → (works_after r ≡ true → IsOf y ((state w).core.worker y.own)) → (works_after r ≡ true → now ≡ x.half) → Comes (put_answer r) (DoesOn g x.group xs x.own asks (put_answer r) now w log is old new) (Fails g x.group xs x.own asks log old new)
+          pub put_did : (r : Result (Option ℕ) Refusal) → Puts r v1 w key value x1 y log is old new → (works_after r ≡ true → IsOf y ((state w).core.worker y.own)) → (works_after r ≡ true → now ≡ x.is_half_aborted) → Comes (put_answer r) (DoesOn g x.group xs x.own asks (put_answer r) now w log is old new) (Fails g x.group xs x.own asks log old new)
           put_did (Ok before) p hw same = as_now (answer.Was before) (same refl) (change_does none below fits w before is old new lawful p)
           put_did (Err refusal.TooTall) p hw same = as_now (answer.Refused refusal.TooTall) (same refl) (tall_with p.room.grows.session (hw refl) p)
           put_did (Err refusal.NoPages) p hw same = as_now (answer.Refused refusal.NoPages) (same refl) (short_with p.room.grows.session (hw refl) p)
-          put_did (Err (refusal.LogFull i m)) p hw same = as_now (answer.Refused (refusal.LogFull i m)) (same refl) (stopped_with p.room.grows.session (hw refl) (refusal.LogFull i m) (inr (i, m, refl)) p)
-          put_did (Err refusal.ClockSpent) p hw same = as_now (answer.Refused refusal.ClockSpent) (same refl) (stopped_with p.room.grows.session (hw refl) refusal.ClockSpent (inl refl) p)
-          put_did (Err refusal.RowSpent) p hw same = as_now (answer.Refused refusal.RowSpent) (same refl) (spent_does w is old new lawful (reached_behind p.view w y is old new p.room p.spent) p.spent.many)
+          put_did (Err refusal.ClockSpent) p hw same = as_now (answer.Refused refusal.ClockSpent) (same refl) (stopped_with p.room.grows.session (hw refl) p)
+          put_did (Err refusal.RowSpent) p hw same = as_now (answer.Refused refusal.RowSpent) (same refl) (spent_does w is old new lawful (reached_behind p.view w y is old new p.room p.spent) (unmoved_at none below w is old new (reached_behind p.view w y is old new p.room p.spent)) p.spent.many)
           put_did (Err refusal.DiskFault) p hw same = put_fails old new lawful p
           put_did (Err _) p hw same = absurd p
 
       -- what the row tells brought the clock to its end
-      pub met_does : put_test x log ≡ None → (st : Story) → IsLawful st → (why : Refusal) → log_refusal clock log None ≡ Some why → DoesOn g x.group xs x.own asks (answer.Refused why) x.half v1 log log st st
-      met_does none st lawful why e = stopped_does v1 log st st lawful none_more x1 h1.session free.is_open free.few free.whole why (inl spent) e (λ q r. inl (some_is why q (ap Some spent ∙ (sym spent_is ∙ r))))
+      pub met_does : put_test x log ≡ None → (st : Story) → IsLawful st → (why : Refusal) → clock_refusal clock None ≡ Some why → DoesOn g x.group xs x.own asks (answer.Refused why) x.is_half_aborted v1 log log st st
+      met_does none st lawful why e = subst (λ k. DoesOn g x.group xs x.own asks (answer.Refused k) x.is_half_aborted v1 log log st st) (sym at_end.is)
+          (stopped_does v1 log st st lawful none_more (λ q r. refl) x1 h1.session free.is_open free.few free.whole free.room at_end.spent (λ q r. inl (some_is refusal.ClockSpent q (sym spent_is ∙ r))))
         where
+          at_end : IsAtEnd clock why
+          at_end = clock_at_end clock why e
+
           free : IsFree x log
           free = free_of x log works none
 
@@ -737,27 +766,25 @@ module _ (reached : EveryReached) (need : EveryNeed) (answers : EveryAnswer) (co
             aside = refl;
             logs = refl;
             makes = tt;
+            still = inl refl;
             few = omega arith;
             frame = framed (suc x.own) st;
             goes = λ s0 k bt at0. subst (λ es. Went x.own g xs s0 k es log st st) (sym (append-nil start)) at0;
           }
 
-          spent : why ≡ refusal.ClockSpent
-          spent = clock_alone clock log why free.room e
-
-          spent_is : refusal_in g sf x.own half log asks ≡ Some refusal.ClockSpent
-          spent_is = late_is none ∙ (met_is room_f ∙ ap (λ k. cond k (Some refusal.ClockSpent) room_f) (le-leb (2 ^ 62) clock (clock_is_spent clock log (e ∙ ap Some spent))))
+          spent_is : refusal_in g sf x.own is_half_aborted log asks ≡ Some refusal.ClockSpent
+          spent_is = late_is none ∙ (met_is room_f ∙ ap (λ k. cond k (Some refusal.ClockSpent) room_f) (le-leb (2 ^ 62) clock at_end.spent))
 
 -- ## In every run
 
 module _ (reached : EveryReached) (need : EveryNeed) (answers : EveryAnswer) (coming : EveryComing) (parts : (old mid new : Story) → EveryPart old mid new)
     (z : Shape) (v : View) (x : Session) (log : Log) (h : Holds z v x log) (works : x.works ≡ true) (key value : ℕ) where
   -- a test refused it
-  pub not_put : (st : Story) → IsLawful st → (why : Refusal) → put_test x log ≡ Some why → CallDoes x.own x.group (call.Put key value) (put_answer (Err why)) x.half x.half v v log log st st
+  pub not_put : (st : Story) → IsLawful st → (why : Refusal) → put_test x log ≡ Some why → CallDoes x.own x.group (call.Put key value) (put_answer (Err why)) x.is_half_aborted x.is_half_aborted v v log log st st
   not_put st lawful why e g xs t line = comes_told _ _ why (put_told x log why works e) (early_does reached need answers coming parts g xs z v x log h t line works key value v refl refl st lawful why e)
 
   -- its row was not taken
-  pub not_taken : (st : Story) → IsLawful st → (w : View) → put_test x log ≡ None → (why : Refusal) → NotTaken why v w x.own (key % x.held.count) Alone → CallDoes x.own x.group (call.Put key value) (put_answer (Err why)) x.half x.half v w log log st st
+  pub not_taken : (st : Story) → IsLawful st → (w : View) → put_test x log ≡ None → (why : Refusal) → NotTaken why v w x.own (key % x.held.count) Alone → CallDoes x.own x.group (call.Put key value) (put_answer (Err why)) x.is_half_aborted x.is_half_aborted v w log log st st
   not_taken st lawful w none refusal.RowSpent q g xs t line = row_does reached need answers coming parts g xs z v x log h t line works key value w q.given q.seen st lawful q.many
   not_taken st lawful w none (refusal.Conflict other) q g xs t line = hindered_does reached need answers coming parts g xs z v x log h t line works key value w q.given q.seen other q.hinders none st lawful
   not_taken st lawful w none _ q g xs t line = absurd q
@@ -766,7 +793,7 @@ module _ (reached : EveryReached) (need : EveryNeed) (answers : EveryAnswer) (co
   module _ (u : Shape) (v1 : View) (x1 : Session) (h1 : Holds u v1 x1 log) (tk : Takes v v1 x x1 (key % x.held.count) Alone) (none : put_test x log ≡ None) where
     -- the session as it is there
     abbrev x2 : Session
-    x2 = record x { clock = x1.clock; debt = x1.debt; held = with_row x.held (key % x.held.count) }
+    x2 = record x { clock = risen x.clock x1.clock; held = with_row x.held (key % x.held.count) }
 
     h2 : Holds u v1 x2 log
     h2 = subst (λ k. Holds u v1 k log) tk.session h1
@@ -775,13 +802,13 @@ module _ (reached : EveryReached) (need : EveryNeed) (answers : EveryAnswer) (co
     tk2 = record { given = tk.given; seen = tk.seen; met = tk.met; held = tk.held; session = refl; mine = tk.mine; alone = tk.alone }
 
     -- what it tells brought the clock to its end
-    pub met_put : (st : Story) → IsLawful st → (why : Refusal) → log_refusal x1.clock log None ≡ Some why → CallDoes x.own x.group (call.Put key value) (put_answer (Err why)) x.half x1.half v v1 log log st st
-    met_put st lawful why e g xs t line = comes_told _ _ why (met_told x1.clock log why e) (subst (λ k. DoesOn g x.group xs x.own (call.Put key value) (answer.Refused why) k v1 log log st st) (sym (ap (λ (k : Session). k.half) tk.session))
-        (met_does reached need answers coming parts g xs z v x log h t line works key value u v1 x1.clock x1.debt h2 tk2 none st lawful why e))
+    pub met_put : (st : Story) → IsLawful st → (why : Refusal) → clock_refusal x1.clock.clock None ≡ Some why → CallDoes x.own x.group (call.Put key value) (put_answer (Err why)) x.is_half_aborted x1.is_half_aborted v v1 log log st st
+    met_put st lawful why e g xs t line = comes_told _ _ why (met_told x1.clock.clock why e) (subst (λ k. DoesOn g x.group xs x.own (call.Put key value) (answer.Refused why) k v1 log log st st) (sym (ap (λ (k : Session). k.is_half_aborted) tk.session))
+        (met_does reached need answers coming parts g xs z v x log h t line works key value u v1 x1.clock.clock x1.clock.debt h2 tk2 none st lawful why e))
 
     -- it was tried
-    pub tried_put : (below : log_refusal x1.clock log None ≡ None) → value < 2 ^ 63 → (w : View) (y : Session) (is : Log) (old new : Story) → IsLawful old → (now : Bool) (r : Result (Option ℕ) Refusal) → Puts r v1 w key value x1 y log is old new
-        → (works_after r ≡ true → IsOf y ((state w).core.worker y.own)) → (works_after r ≡ true → now ≡ x1.half) → CallDoes x.own x.group (call.Put key value) (put_answer r) x.half now v w log is old new
+    pub tried_put : (below : clock_refusal x1.clock.clock None ≡ None) → value < 2 ^ 63 → (w : View) (y : Session) (is : Log) (old new : Story) → IsLawful old → (now : Bool) (r : Result (Option ℕ) Refusal) → Puts r v1 w key value x1 y log is old new
+        → (works_after r ≡ true → IsOf y ((state w).core.worker y.own)) → (works_after r ≡ true → now ≡ x1.is_half_aborted) → CallDoes x.own x.group (call.Put key value) (put_answer r) x.is_half_aborted now v w log is old new
     tried_put below fits w y is old new lawful now r p hw same g xs t line =
-        put_did reached need answers coming parts g xs z v x log h t line works key value u v1 x1.clock x1.debt h2 tk2 none (ready x1.clock log below).small fits w y is old new lawful now r
-        (subst (λ k. Puts r v1 w key value k y log is old new) tk.session p) hw (λ e. same e ∙ ap (λ (k : Session). k.half) tk.session)
+        put_did reached need answers coming parts g xs z v x log h t line works key value u v1 x1.clock.clock x1.clock.debt h2 tk2 none (clock_below x1.clock.clock below) fits w y is old new lawful now r
+        (subst (λ k. Puts r v1 w key value k y log is old new) tk.session p) hw (λ e. same e ∙ ap (λ (k : Session). k.is_half_aborted) tk.session)

@@ -1,6 +1,6 @@
 -- What a put is tested for, and what its tests say of a state.
 use Rattle.std.proofs.Common.{◌≡◌, ◌⊎◌, inl, inr, ◌≤◌, ◌<◌, ◌-◌, ◌^◌, ◌%◌, ◌==◌, ◌&&◌, ◌||◌, ◌++◌, ℕ, zero, suc, Bool, true, false, cond, not, leb, ltb, List, [], ◌∷◌, length, Option, Some, None, Result, Ok, Err, IfErr, IsErrAnd, refl, sym, ap, ◌∙◌, subst, arith, true≢false}
-use Rattle.std.proofs.lemmas.Bool.{and_from, and_parts, cases_eq, leb-true, leb-false, lt-leb, ltb-true, eq-eqb, eqb-true}
+use Rattle.std.proofs.lemmas.Bool.{and_from, and_parts, cases_eq, leb-false, lt-leb, ltb-true, eq-eqb, eqb-true}
 use Rattle.std.proofs.lemmas.List.{length-append}
 use Rattle.map_model.specs.declared.call.Refusal.{Refusal}
 use Rattle.map_model.specs.declared.call.Refusal.TheVariants as refusal
@@ -31,25 +31,28 @@ use Rattle.row_words.specs.declared.event.Event.{Event}
 use Rattle.row_words.specs.Moments.{events_of}
 use Rattle.row_opening.specs.Openings.{Opens}
 use Rattle.rows_trait.specs.Views.{state}
+use Rattle.row_words.specs.Openings.{opening}
 use Rattle.rows_trait.specs.declared.view.View.{View}
 use Rattle.key_locks.specs.declared.mode.Mode.{Mode}
 use Rattle.key_locks.specs.declared.mode.Mode.TheVariants.{Alone}
 use Rattle.engine_trait.specs.Calls.{IsTold}
 use Rattle.engine_trait.specs.Limits.{AreLoads}
-use Rattle.engine_trait.specs.Refusals.{lock_refusal, log_refusal, met_refusal, room_refusal}
+use Rattle.engine_trait.specs.Refusals.{clock_refusal, lock_refusal, log_refusal, met_refusal, room_refusal}
 use Rattle.engine_trait.specs.Rooms.{AreRoom, makes_room}
 use Rattle.engine_trait.specs.Calls.{MayCome}
 use Rattle.row_engine.specs.Inside.{is_going, put_test}
 use Rattle.row_engine.specs.Grown.{AreAside, Behind, is_aside}
-use Rattle.row_engine.specs.Outcomes.{Puts}
+use Rattle.row_engine.specs.Inside.Outcomes.{Puts}
 use Rattle.row_engine.specs.Puts.{IsEarly, MayChange, works_after}
-use Rattle.row_engine.specs.Takes.{NotTaken, Takes}
+use Rattle.row_engine.specs.Inside.Takes.{NotTaken, Takes}
 use Rattle.row_engine.specs.declared.session.Session.{Session}
 use Rattle.row_engine.proofs.ConflictLemmas.{lock_free}
 use Rattle.row_engine.proofs.GoingLemmas.{going}
 use Rattle.row_engine.proofs.GrowthLemmas.{touched}
 use Rattle.row_engine.proofs.StageLemmas.{staged_flushed}
-use Rattle.row_engine.proofs.StepLemmas.{ready}
+use Rattle.row_engine.proofs.StepLemmas.{clock_at_end, clock_below}
+use Rattle.row_engine.proofs.TakesLemmas.{takes_most}
+use Rattle.row_engine.proofs.UndoLemmas.{room_to_stage}
 use Rattle.row_engine.proofs.TakeLemmas.{with_count}
 
 pub some_is : (r q : Refusal) → Some r ≡ Some q → r ≡ q
@@ -65,7 +68,7 @@ abbrev pub gate : (a b c d : Bool) → (most : Refusal) → Option Refusal → O
 gate a b c d most last = cond a (cond b (Some refusal.TooLong) (cond c (Some most) (cond d (Some refusal.ClockSpent) last))) (Some refusal.NoTransaction)
 
 abbrev pub gate_of : Session → Log → Option Refusal → Option Refusal
-gate_of x log last = gate (is_going x) (leb 64 (length x.undo)) (leb (limit log) (used log)) (leb (2 ^ 62) x.clock) (refusal.LogFull (used log) (limit log)) last
+gate_of x log last = gate (is_going x) (leb 64 (length x.undo)) (leb (limit log) (used log)) (leb (2 ^ 62) x.clock.clock) (refusal.LogFull (used log) (limit log)) last
 
 pub gate_more : (a b c d : Bool) (most why : Refusal) (last : Option Refusal) → gate a b c d most None ≡ Some why → gate a b c d most last ≡ Some why
 gate_more false b c d most why last e = e
@@ -87,20 +90,20 @@ test_is x log works i = cond (works i) (gate_of x log None) (Some refusal.Broken
 -- what holds where none refuses it
 pub record IsFree (x : Session) (log : Log) : Type 0 where
   pub is_open : x.is_open ≡ true
-  pub whole : x.half ≡ false
+  pub whole : x.is_half_aborted ≡ false
   pub few : length x.undo < 64
-  pub small : x.clock < 2 ^ 62
+  pub small : x.clock.clock < 2 ^ 62
   pub room : used log < limit log
 
 pub free_of : (x : Session) (log : Log) → x.works ≡ true → put_test x log ≡ None → IsFree x log
-free_of x log works e = go (is_going x) (leb 64 (length x.undo)) (leb (limit log) (used log)) (leb (2 ^ 62) x.clock) refl refl refl refl (sym (test_is x log works) ∙ e)
+free_of x log works e = go (is_going x) (leb 64 (length x.undo)) (leb (limit log) (used log)) (leb (2 ^ 62) x.clock.clock) refl refl refl refl (sym (test_is x log works) ∙ e)
   where
-    go : (a b c d : Bool) → is_going x ≡ a → leb 64 (length x.undo) ≡ b → leb (limit log) (used log) ≡ c → leb (2 ^ 62) x.clock ≡ d → gate a b c d (refusal.LogFull (used log) (limit log)) None ≡ None → IsFree x log
+    go : (a b c d : Bool) → is_going x ≡ a → leb 64 (length x.undo) ≡ b → leb (limit log) (used log) ≡ c → leb (2 ^ 62) x.clock.clock ≡ d → gate a b c d (refusal.LogFull (used log) (limit log)) None ≡ None → IsFree x log
     go false b c d p q r u e = absurd (none_is _ (sym e))
     go true true c d p q r u e = absurd (none_is _ (sym e))
     go true false true d p q r u e = absurd (none_is _ (sym e))
     go true false false true p q r u e = absurd (none_is _ (sym e))
-    go true false false false p q r u e = record { is_open = (going x p).is_open; whole = (going x p).whole; few = leb-false 64 (length x.undo) q; small = leb-false (2 ^ 62) x.clock u; room = leb-false (limit log) (used log) r }
+    go true false false false p q r u e = record { is_open = (going x p).is_open; whole = (going x p).whole; few = leb-false 64 (length x.undo) q; small = leb-false (2 ^ 62) x.clock.clock u; room = leb-false (limit log) (used log) r }
 
 -- then the engine works
 pub works_of : (x : Session) (log : Log) → put_test x log ≡ None → x.works ≡ true
@@ -108,10 +111,10 @@ works_of x log e = go x.works refl
   where
     go : (b : Bool) → x.works ≡ b → x.works ≡ true
     go true w = w
-    go false w = absurd (none_is refusal.Broken (sym e ∙ (λ i. cond (w i) (cond (is_going x) (cond (leb 64 (length x.undo)) (Some refusal.TooLong) (log_refusal x.clock log None)) (Some refusal.NoTransaction)) (Some refusal.Broken))))
+    go false w = absurd (none_is refusal.Broken (sym e ∙ (λ i. cond (w i) (cond (is_going x) (cond (leb 64 (length x.undo)) (Some refusal.TooLong) (log_refusal x.clock.clock log None)) (Some refusal.NoTransaction)) (Some refusal.Broken))))
 
 -- and once its row is taken, and its clock is below its end still, the key may be changed
-pub may_taken : (v v1 : View) (x x1 : Session) (log : Log) (key : ℕ) → put_test x log ≡ None → Takes v v1 x x1 (key % x.held.count) Alone → key < 2 ^ 64 - 1 → log_refusal x1.clock log None ≡ None → MayChange v1 x1 log key
+pub may_taken : (v v1 : View) (x x1 : Session) (log : Log) (key : ℕ) → put_test x log ≡ None → Takes v v1 x x1 (key % x.held.count) Alone → key < 2 ^ 64 - 1 → clock_refusal x1.clock.clock None ≡ None → MayChange v1 x1 log key
 may_taken v v1 x x1 log key e t low there =
     let works = works_of x log e in
     let f = free_of x log works e in
@@ -120,17 +123,17 @@ may_taken v v1 x x1 log key e t low there =
     record {
       works = ap (λ (s : Session). s.works) t.session ∙ works;
       is_open = ap (λ (s : Session). s.is_open) t.session ∙ f.is_open;
-      whole = ap (λ (s : Session). s.half) t.session ∙ f.whole;
+      whole = ap (λ (s : Session). s.is_half_aborted) t.session ∙ f.whole;
       few = let a = ap (λ (s : Session). length s.undo) t.session in let b = f.few in omega arith;
-      small = (ready x1.clock log there).small;
-      room = f.room;
+      small = clock_below x1.clock.clock there;
+      room = room_to_stage log (suc (room_takes (opening v1.given) (state v1).core key)) f.room (let m = takes_most (opening v1.given) (state v1).core key in omega arith);
       row = (λ i. is_held_by ((state v1).core.row (key % count i)).holder (own i)) ∙ t.alone refl;
       key_low = low;
     }
 
 -- a script is told of what they refuse
 pub put_told : (x : Session) (log : Log) (why : Refusal) → x.works ≡ true → put_test x log ≡ Some why → IsTold why
-put_told x log why works e = go (is_going x) (leb 64 (length x.undo)) (leb (limit log) (used log)) (leb (2 ^ 62) x.clock) (sym (test_is x log works) ∙ e)
+put_told x log why works e = go (is_going x) (leb 64 (length x.undo)) (leb (limit log) (used log)) (leb (2 ^ 62) x.clock.clock) (sym (test_is x log works) ∙ e)
   where
     go : (a b c d : Bool) → gate a b c d (refusal.LogFull (used log) (limit log)) None ≡ Some why → IsTold why
     go false b c d e = subst IsTold (some_is _ why e) tt
@@ -150,7 +153,7 @@ put_comes workers x log why e = go x.works refl
   where
     go : (b : Bool) → x.works ≡ b → MayCome workers why ⊎ ((why ≡ refusal.Broken) ⊎ (why ≡ refusal.DiskFault))
     go true w = inl (told_comes workers why (put_told x log why w e))
-    go false w = inr (inl (sym (some_is _ why ((λ i. cond (sym w i) (cond (is_going x) (cond (leb 64 (length x.undo)) (Some refusal.TooLong) (log_refusal x.clock log None)) (Some refusal.NoTransaction)) (Some refusal.Broken)) ∙ e))))
+    go false w = inr (inl (sym (some_is _ why ((λ i. cond (sym w i) (cond (is_going x) (cond (leb 64 (length x.undo)) (Some refusal.TooLong) (log_refusal x.clock.clock log None)) (Some refusal.NoTransaction)) (Some refusal.Broken)) ∙ e))))
 
 -- where its row is not taken
 pub not_taken_comes : (workers : ℕ) (v w : View) (own row : ℕ) (mode : Mode) (why : Refusal) → NotTaken why v w own row mode → (workers ≡ 1 → why ≡ refusal.RowSpent) → MayCome workers why ⊎ ((why ≡ refusal.Broken) ⊎ (why ≡ refusal.DiskFault))
@@ -161,43 +164,23 @@ not_taken_comes workers v w own row mode (refusal.Conflict h) n only = inl (λ o
     not_spent q = cc
 not_taken_comes workers v w own row mode _ n only = absurd n
 
--- what a script is told where what the row tells brings the clock to its end
-pub met_told : (clock : ℕ) (log : Log) (why : Refusal) → log_refusal clock log None ≡ Some why → IsTold why
-met_told clock log why e = go (leb (limit log) (used log)) (leb (2 ^ 62) clock) e
-  where
-    go : (c d : Bool) → cond c (Some (refusal.LogFull (used log) (limit log))) (cond d (Some refusal.ClockSpent) None) ≡ Some why → IsTold why
-    go true d q = subst IsTold (some_is (refusal.LogFull (used log) (limit log)) why q) tt
-    go false true q = subst IsTold (some_is refusal.ClockSpent why q) tt
-    go false false q = absurd (none_is why q)
-
--- and where there is a block it is that alone
-pub clock_alone : (clock : ℕ) (log : Log) (why : Refusal) → used log < limit log → log_refusal clock log None ≡ Some why → why ≡ refusal.ClockSpent
-clock_alone clock log why room e = go (leb (limit log) (used log)) (leb (2 ^ 62) clock) refl e
-  where
-    go : (c d : Bool) → leb (limit log) (used log) ≡ c → cond c (Some (refusal.LogFull (used log) (limit log))) (cond d (Some refusal.ClockSpent) None) ≡ Some why → why ≡ refusal.ClockSpent
-    go true d p q = let a = leb-true (limit log) (used log) p in absurd (omega arith)
-    go false true p q = sym (some_is refusal.ClockSpent why q)
-    go false false p q = absurd (none_is why q)
+-- a script is told where what the row tells brings the clock to its end
+pub met_told : (clock : ℕ) (why : Refusal) → clock_refusal clock None ≡ Some why → IsTold why
+met_told clock why e = subst IsTold (sym (clock_at_end clock why e).is) tt
 
 -- which does not come before all that is done
-pub met_late : (clock : ℕ) (log : Log) (why : Refusal) → log_refusal clock log None ≡ Some why → IsEarly why → ⊥
-met_late clock log why e = go (leb (limit log) (used log)) (leb (2 ^ 62) clock) e
-  where
-    go : (c d : Bool) → cond c (Some (refusal.LogFull (used log) (limit log))) (cond d (Some refusal.ClockSpent) None) ≡ Some why → IsEarly why → ⊥
-    go true d q = subst (λ k. IsEarly k → ⊥) (some_is (refusal.LogFull (used log) (limit log)) why q) (λ early. early)
-    go false true q = subst (λ k. IsEarly k → ⊥) (some_is refusal.ClockSpent why q) (λ early. early)
-    go false false q = absurd (none_is why q)
+pub met_late : (clock : ℕ) (why : Refusal) → clock_refusal clock None ≡ Some why → IsEarly why → ⊥
+met_late clock why e = subst (λ k. IsEarly k → ⊥) (sym (clock_at_end clock why e).is) (λ early. early)
 
 -- so that may come
-pub met_comes : (workers clock : ℕ) (log : Log) (why : Refusal) → log_refusal clock log None ≡ Some why → MayCome workers why
-met_comes workers clock log why e = told_comes workers why (met_told clock log why e)
+pub met_comes : (workers clock : ℕ) (why : Refusal) → clock_refusal clock None ≡ Some why → MayCome workers why
+met_comes workers clock why e = told_comes workers why (met_told clock why e)
 
 -- behind the tests
 pub puts_told : (workers : ℕ) (r : Result (Option ℕ) Refusal) (v w : View) (key value : ℕ) (x y : Session) (was is : Log) (old new : Story) → Puts r v w key value x y was is old new → IfErr r (λ why. MayCome workers why ⊎ ((why ≡ refusal.Broken) ⊎ (why ≡ refusal.DiskFault)))
 puts_told workers (Ok before) v w key value x y was is old new p = tt
 puts_told workers (Err refusal.TooTall) v w key value x y was is old new p = inl tt
 puts_told workers (Err refusal.NoPages) v w key value x y was is old new p = inl tt
-puts_told workers (Err (refusal.LogFull used limit)) v w key value x y was is old new p = inl tt
 puts_told workers (Err refusal.ClockSpent) v w key value x y was is old new p = inl tt
 puts_told workers (Err refusal.RowSpent) v w key value x y was is old new p = inl tt
 puts_told workers (Err refusal.DiskFault) v w key value x y was is old new p = inr (inr refl)
@@ -208,7 +191,6 @@ pub never_early : (r : Result (Option ℕ) Refusal) (v w : View) (key value : �
 never_early (Ok before) v w key value x y was is old new p e = e
 never_early (Err refusal.TooTall) v w key value x y was is old new p e = e
 never_early (Err refusal.NoPages) v w key value x y was is old new p e = e
-never_early (Err (refusal.LogFull used limit)) v w key value x y was is old new p e = e
 never_early (Err refusal.ClockSpent) v w key value x y was is old new p e = e
 never_early (Err refusal.RowSpent) v w key value x y was is old new p e = e
 never_early (Err refusal.DiskFault) v w key value x y was is old new p e = e
@@ -219,7 +201,6 @@ pub put_framed : (r : Result (Option ℕ) Refusal) (v w : View) (key value : ℕ
 put_framed (Ok before) v w key value x y was is old new p = p.frame
 put_framed (Err refusal.TooTall) v w key value x y was is old new p = p.room.frame
 put_framed (Err refusal.NoPages) v w key value x y was is old new p = p.room.frame
-put_framed (Err (refusal.LogFull i m)) v w key value x y was is old new p = p.room.frame
 put_framed (Err refusal.ClockSpent) v w key value x y was is old new p = p.room.frame
 put_framed (Err refusal.RowSpent) v w key value x y was is old new p = p.room.frame
 put_framed (Err refusal.DiskFault) v w key value x y was is old new p = p.frame
@@ -230,7 +211,6 @@ pub puts_flushed : (r : Result (Option ℕ) Refusal) (v w : View) (key value : �
 puts_flushed (Ok before) v w key value x y was is old new p works = staged_flushed p.entry p.log is p.after ∙ p.grows.flushed
 puts_flushed (Err refusal.TooTall) v w key value x y was is old new p works = p.room.grows.flushed
 puts_flushed (Err refusal.NoPages) v w key value x y was is old new p works = p.room.grows.flushed
-puts_flushed (Err (refusal.LogFull i m)) v w key value x y was is old new p works = p.room.grows.flushed
 puts_flushed (Err refusal.ClockSpent) v w key value x y was is old new p works = p.room.grows.flushed
 puts_flushed (Err refusal.RowSpent) v w key value x y was is old new p works = p.room.grows.flushed
 puts_flushed (Err refusal.DiskFault) v w key value x y was is old new p works = absurd (true≢false (sym works))
@@ -322,8 +302,8 @@ logs_lock own [] i more a none = none
 logs_lock own (happening.Event.Load p f ∷ es) i more a none = logs_lock own es i more a none
 logs_lock own (_ ∷ es) i more a none = absurd a
 
-pub room_lock : (own : ℕ) (es : List happening.Event) (i : ℕ) (more : List happening.Event) → AreLoads es → AreRoom own more → AreRoom own (es ++ happening.Event.Lock own i happening.Mode.Alone ∷ more)
-room_lock own [] i more a room = and_from (own == own) (all (makes_room own) more) (eq-eqb own own refl) room
+pub room_lock : (own : ℕ) (es : List happening.Event) (i : ℕ) (more : List happening.Event) → AreLoads es → AreRoom own i more → AreRoom own i (es ++ happening.Event.Lock own i happening.Mode.Alone ∷ more)
+room_lock own [] i more a room = and_from ((own == own) && (i == i)) (all (makes_room own i) more) (and_from (own == own) (i == i) (eq-eqb own own refl) (eq-eqb i i refl)) room
 room_lock own (happening.Event.Load p f ∷ es) i more a room = room_lock own es i more a room
 room_lock own (_ ∷ es) i more a room = absurd a
 
@@ -356,31 +336,6 @@ module _ (g : Opening) (t : State) (key : ℕ) where
       go false true q e = ltb-true (length (free_list g t)) (room_takes g t key) q
       go false false q e = absurd (cc)
       go true c q e = absurd (cc)
-
--- what a log and a clock say goes on to the later tests
-pub log_some : (clock : ℕ) (log : Log) (why : Refusal) (later : Option Refusal) → log_refusal clock log None ≡ Some why → log_refusal clock log later ≡ Some why
-log_some clock log why later e = go (leb (limit log) (used log)) (leb (2 ^ 62) clock) e
-  where
-    go : (c d : Bool) → cond c (Some (refusal.LogFull (used log) (limit log))) (cond d (Some refusal.ClockSpent) None) ≡ Some why → cond c (Some (refusal.LogFull (used log) (limit log))) (cond d (Some refusal.ClockSpent) later) ≡ Some why
-    go true d e = e
-    go false true e = e
-    go false false e = absurd (cc)
-
-pub log_none : (clock : ℕ) (log : Log) (later : Option Refusal) → log_refusal clock log None ≡ None → log_refusal clock log later ≡ later
-log_none clock log later e = go (leb (limit log) (used log)) (leb (2 ^ 62) clock) e
-  where
-    go : (c d : Bool) → cond c (Some (refusal.LogFull (used log) (limit log))) (cond d (Some refusal.ClockSpent) None) ≡ None → cond c (Some (refusal.LogFull (used log) (limit log))) (cond d (Some refusal.ClockSpent) later) ≡ later
-    go true d e = absurd (cc)
-    go false true e = absurd (cc)
-    go false false e = refl
-
-pub clock_is_spent : (clock : ℕ) (log : Log) → log_refusal clock log None ≡ Some refusal.ClockSpent → 2 ^ 62 ≤ clock
-clock_is_spent clock log e = go (leb (limit log) (used log)) (leb (2 ^ 62) clock) refl e
-  where
-    go : (c d : Bool) → leb (2 ^ 62) clock ≡ d → cond c (Some (refusal.LogFull (used log) (limit log))) (cond d (Some refusal.ClockSpent) None) ≡ Some refusal.ClockSpent → 2 ^ 62 ≤ clock
-    go true d q e = absurd (cc)
-    go false true q e = leb-true (2 ^ 62) clock q
-    go false false q e = absurd (cc)
 
 -- ## A row that is taken
 

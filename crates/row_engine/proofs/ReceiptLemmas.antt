@@ -7,7 +7,7 @@ use Rattle.row_words.specs.Openings.{opening}
 use Rattle.rows_trait.specs.Views.{Shape, state}
 use Rattle.rows_trait.specs.declared.view.View.{View}
 use Rattle.worker_log.specs.Logs.{Log}
-use Rattle.row_engine.specs.Ends.{Latched}
+use Rattle.row_engine.specs.Inside.Ends.{Latched}
 use Rattle.row_engine.specs.Flushed.{flushed_to}
 use Rattle.row_engine.specs.Receipts.{IsEnded}
 use Rattle.row_engine.specs.declared.commits.Ended.{Ended}
@@ -16,8 +16,8 @@ use Rattle.row_engine.proofs.AbortRuns.{floor_found}
 use Rattle.std.specs.Prelude.{IfOk}
 
 -- where the numbers up to which all logs are flushed were loaded
-pub receipt : (z : Shape) (v : View) (x y : Session) (log : Log) (marks : List Bool) → Latched z v x log marks → x.is_open ≡ true → (floor need : ℕ) → floor ≡ flushed_to (state v).core x.workers → need ≡ need_of x.debt floor
-    → y.txn ≡ x.txn → y.end ≡ x.clock + 1 → y.debt ≡ x.debt → IsEnded v y (record { number = x.txn; at = x.clock + 1; need = need })
+pub receipt : (z : Shape) (v : View) (x y : Session) (log : Log) (marks : List Bool) → Latched z v x log marks → x.is_open ≡ true → (floor need : ℕ) → floor ≡ flushed_to (state v).core x.workers → need ≡ need_of x.clock.debt floor
+    → y.txn ≡ x.txn → y.end ≡ x.clock.clock + 1 → y.clock.debt ≡ x.clock.debt → IsEnded v y (record { number = x.txn; at = x.clock.clock + 1; need = need })
 receipt z v x y log marks l opened floor need loaded need_is txn end debt = record {
   number = sym txn;
   at = sym end;
@@ -26,5 +26,5 @@ receipt z v x y log marks l opened floor need loaded need_is txn end debt = reco
 
 -- where as much is flushed as before
 pub receipt_from : (v u : View) (y : Session) (r : Result Ended Refusal) → u.given ≡ v.given → (state u).core.flushed ≡ (state v).core.flushed → IfOk r (IsEnded u y) → IfOk r (IsEnded v y)
-receipt_from v u y (Ok told) given flushed e = record { number = e.number; at = e.at; need = e.need ∙ (λ i. need_of y.debt (least (flushed i) (opening (given i)).workers)) }
+receipt_from v u y (Ok told) given flushed e = record { number = e.number; at = e.at; need = e.need ∙ (λ i. need_of y.clock.debt (least (flushed i) (opening (given i)).workers)) }
 receipt_from v u y (Err why) given flushed e = e

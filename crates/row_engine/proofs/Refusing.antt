@@ -7,6 +7,7 @@ use Rattle.map_model.specs.declared.call.Call.{Call}
 use Rattle.map_model.specs.declared.call.Call.TheVariants as call
 use Rattle.map_model.specs.declared.call.Refusal.{Refusal}
 use Rattle.map_model.specs.declared.call.Refusal.TheVariants as refusal
+use Rattle.map_model.specs.Lists.{keep}
 use Rattle.core_state.specs.Openings.{Opening}
 use Rattle.core_state.specs.Needs.{may_hold}
 use Rattle.core_state.specs.States.{State}
@@ -15,10 +16,11 @@ use Rattle.core_state.specs.Steps.{state_after}
 use Rattle.core_calls.specs.Deeds.{marks_by}
 use Rattle.core_calls.specs.Fronts.{Done, front, outcomes}
 use Rattle.core_calls.specs.LogEvents.{RefusedLogs}
+use Rattle.core_calls.proofs.WhereLemmas.{refused_kept}
 use Rattle.core_calls.specs.Marks.{is_half}
 use Rattle.core_calls.specs.Refusals.{Hinders, IsCause}
 use Rattle.core_calls.specs.Runs.{Tells}
-use Rattle.core_calls.specs.Steps.{MayPutBack}
+use Rattle.core_calls.specs.Steps.{Tries, is_step}
 use Rattle.lean_disk.proofs.MomentLemmas.{framed}
 use Rattle.lean_disk.specs.Story.{IsLawful, Story}
 use Rattle.worker_log.specs.Logs.{Log}
@@ -41,7 +43,7 @@ use Rattle.engine_trait.specs.Rooms.{MakesItsRoom}
 use Rattle.engine_trait.specs.Limits.{limits}
 use Rattle.row_engine.specs.Calls.{DoesOn}
 use Rattle.row_engine.specs.Holds.{AreRows}
-use Rattle.row_engine.specs.Takes.{IsHindered, IsSpent, Takes}
+use Rattle.row_engine.specs.Inside.Takes.{IsHindered, IsSpent, Takes}
 use Rattle.row_engine.specs.Ties.{Ties}
 use Rattle.row_engine.specs.declared.session.Session.{Session}
 use Rattle.row_engine.proofs.Behind as behind
@@ -108,32 +110,32 @@ spent_end g xs first v w b s =
 -- ## A call is refused
 
 -- nothing makes no room
-no_room : (g : Opening) (q : State) (c : Call) → MakesItsRoom g q c []
-no_room g q (call.Put key value) = tt
-no_room g q _ = refl
+no_room : (own : ℕ) (g : Opening) (q : State) (c : Call) → MakesItsRoom own g q c []
+no_room own g q (call.Put key value) = tt
+no_room own g q _ = refl
 
 module _ (answers : EveryAnswer) (g : Opening) (group : ℕ) (xs : List Done) (own : ℕ) {before : Bool} (v : View) (t : Ties g group xs own before v) (log : Log) (st : Story) (lawful : IsLawful st) (part : EveryPart st st st)
     (c : Call) (why : Refusal) (comes : MayCome xs (refused_by own c why t.loads).outcome) where
   abbrev s : State
   s = behind_first g xs t.loads
 
-  abbrev half : Bool
-  half = is_half_done own xs
+  abbrev is_half_aborted : Bool
+  is_half_aborted = is_half_done own xs
 
-  pub is_refusal : IsCause limits g (front xs ++ t.loads) s (is_half (marks_by own (outcomes xs))) own c why → RefusedLogs limits g xs own c why [] → MayPutBack why [] → IsRefusal limits g xs own c why t.loads
-  is_refusal cause due none = record {
+  pub is_refusal : IsCause limits g (front xs ++ t.loads) s (is_half (marks_by own (outcomes xs))) own c why → RefusedLogs limits g xs own c why [] → (d : Call) → call_behind (outcomes xs) c ≡ d → Tries g own (outcomes xs) d why [] → IsRefusal limits g xs own c why t.loads
+  is_refusal cause due d d_is tries = record {
     comes = comes;
     met = t.met;
     rows = behind.takes_none own t.loads t.are_loads;
+    tries = subst (λ e. Tries g own (outcomes xs) e why (keep is_step t.loads)) (sym d_is) (subst (Tries g own (outcomes xs) d why) (sym (behind.no_steps t.loads t.are_loads)) tries);
     structure = λ _. behind.loads_structure t.loads t.are_loads;
     cause = cause;
-    due = subst (λ es. RefusedLogs limits g xs own c why es) (sym (behind.no_logs t.loads t.are_loads)) due;
-    no_backs = none;
+    due = refused_kept limits g xs own c why t.loads due (behind.no_logs t.loads t.are_loads);
   }
 
   -- with the view as it is then; d is what the call asks of the engine
   pub refused_does : (w : View) → behind.Behind g xs t.loads w → IsRefusal limits g xs own c why t.loads → (d : Call) → call_behind (outcomes xs) c ≡ d
-      → IsRefusedFor g s own half log d why → ((q : Refusal) → refusal_in g s own half log d ≡ Some q → (why ≡ q) ⊎ (why ≡ refusal.RowSpent)) → DoesOn g group xs own c (answer.Refused why) before w log log st st
+      → IsRefusedFor g s own is_half_aborted log d why → ((q : Refusal) → refusal_in g s own is_half_aborted log d ≡ Some q → (why ≡ q) ⊎ (why ≡ refusal.RowSpent)) → DoesOn g group xs own c (answer.Refused why) before w log log st st
   refused_does w b r d d_is is_for refuses = record {
     does = record {
       done = refused_by own c why t.loads;
@@ -148,10 +150,11 @@ module _ (answers : EveryAnswer) (g : Opening) (group : ℕ) (xs : List Done) (o
         events = sym (append-nil t.loads);
         loads = t.are_loads;
         few = let a = t.few in omega arith;
-        refused = λ q e. subst (λ k. IsRefusedFor g k own half log (call_behind (outcomes xs) c) q) (sym at) (subst (λ k. IsRefusedFor g s own half log k q) (sym d_is) (subst (λ k. IsRefusedFor g s own half log d k) (refused_is why q e) is_for));
-        refuses = λ q e. either q (refuses q ((λ i. refusal_in g (sym at i) own half log (sym d_is i)) ∙ e));
+        refused = λ q e. subst (λ k. IsRefusedFor g k own is_half_aborted log (call_behind (outcomes xs) c) q) (sym at) (subst (λ k. IsRefusedFor g s own is_half_aborted log k q) (sym d_is) (subst (λ k. IsRefusedFor g s own is_half_aborted log d k) (refused_is why q e) is_for));
+        refuses = λ q e. either q (refuses q ((λ i. refusal_in g (sym at i) own is_half_aborted log (sym d_is i)) ∙ e));
         log = λ _. refl;
-        room = no_room g (state_after g (front xs ++ t.loads)) (call_behind (outcomes xs) c);
+        still = λ q e. refl;
+        room = no_room own g (state_after g (front xs ++ t.loads)) (call_behind (outcomes xs) c);
       };
       keeps = λ s0 k bt is. behind.keeps_by g group xs (refused_by own c why t.loads) s0 k k log st st (behind.gone_loads st lawful part g group xs own v t s0 k bt) told is (λ _ _. refl) refl (behind.nothing_written (suc own) st lawful);
     };

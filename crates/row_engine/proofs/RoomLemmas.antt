@@ -14,7 +14,7 @@ use Rattle.core_state.specs.Needs.{is_held_by, may}
 use Rattle.core_state.specs.Openings.{Opening}
 use Rattle.core_state.specs.States.{State, nodes_of}
 use Rattle.core_state.specs.Steps.{happens}
-use Rattle.core_calls.specs.Room.{EveryRoom, IsWay, full_run, is_all_full}
+use Rattle.core_calls.specs.Room.{EveryRoom, IsWay, full_run, is_all_full, room_takes}
 use Rattle.lean_disk.specs.Story.{Story}
 use Rattle.disk_image.specs.Records.{entry_of}
 use Rattle.worker_log.specs.Logs.{Log}
@@ -32,7 +32,7 @@ use Rattle.engine_trait.specs.Rooms.{IsNextRoom}
 use Rattle.row_engine.specs.Free.{first_of}
 use Rattle.row_engine.specs.Holds.{Holds}
 use Rattle.row_engine.specs.Puts.{MayChange}
-use Rattle.row_engine.specs.Rooms.{CanGrow, CanLift, CanSplit, Grew, IsGrown, IsNoRoom, IsPathTo, IsSpentBehind, IsUnfit, next_of}
+use Rattle.row_engine.specs.Inside.Rooms.{CanGrow, CanLift, CanSplit, Grew, IsGrown, IsNoRoom, IsPathTo, IsSpentBehind, IsUnfit, next_of}
 use Rattle.row_engine.specs.declared.room.Next.{Next}
 use Rattle.row_engine.specs.declared.room.Next.TheVariants as next
 use Rattle.row_engine.specs.declared.session.Session.{Session}
@@ -195,7 +195,7 @@ module _ (rooms : EveryRoom) (z : Shape) (v : View) (x : Session) (log : Log) (h
     can_lift q qs e short free fits = record {
       least = ap first_of free;
       fits = fits;
-      next = (full_for, all_is ∙ eq-eqb n (length path) e, (qs, sym h.free ∙ free));
+      next = (refl, full_for, all_is ∙ eq-eqb n (length path) e, (qs, sym h.free ∙ free));
       full = ap (λ k. length (nodes_of s k).pairs) (sym root_is) ∙ full_at top (let a = length_is in omega arith);
       low =
           let a = way.root in
@@ -213,7 +213,7 @@ module _ (rooms : EveryRoom) (z : Shape) (v : View) (x : Session) (log : Log) (h
         record {
           least = ap first_of free;
           fits = fits;
-          next = (full_for, all_is ∙ ne_eqb n (length path) ne, (climb m low).covers, ap suc (climb m low).level ∙ (sym e ∙ sym run_is), (qs, sym h.free ∙ free), refl);
+          next = (refl, full_for, all_is ∙ ne_eqb n (length path) ne, (climb m low).covers, ap suc (climb m low).level ∙ (sym e ∙ sym run_is), (qs, sym h.free ∙ free), refl);
           below = (climb m low).below;
           full = full_at m (omega arith);
           within = (climb (suc m) up).below;
@@ -279,14 +279,14 @@ path_on v w frames key path leaf given st p = record {
   led = λ n frame below a b. subst (λ k. IsAbove k (state w) key frame below) (sym given) (subst (λ m. IsAbove v.given m key frame below) (sym st) (p.led n frame below a b));
 }
 
-pub may_on : (v w : View) (x : Session) (log : Log) (key : ℕ) → state w ≡ state v → MayChange v x log key → MayChange w x log key
-may_on v w x log key st f = record {
+pub may_on : (v w : View) (x : Session) (log : Log) (key : ℕ) → w.given ≡ v.given → state w ≡ state v → MayChange v x log key → MayChange w x log key
+may_on v w x log key given st f = record {
   works = f.works;
   is_open = f.is_open;
   whole = f.whole;
   few = f.few;
   small = f.small;
-  room = f.room;
+  room = let e : room_takes (opening w.given) (state w).core key ≡ room_takes (opening v.given) (state v).core key = (λ i. room_takes (opening (given i)) (st i).core key) in let r = f.room in omega arith;
   row = ap (λ m. is_held_by (m.core.row (key % x.held.count)).holder x.own) st ∙ f.row;
   key_low = f.key_low;
 }
@@ -302,15 +302,17 @@ module _ (key : ℕ) (v u w : View) (x y : Session) (was is : Log) (old new : St
     given = t.given ∙ given;
     seen = t.seen ∙ ap (λ ys. ys ++ t.event ∷ []) seen;
     met = (λ i. may (opening (sym given i)) (sym st i).core (event_of t.event)) ∙ t.met;
-    next = subst (λ k. IsNextRoom (opening k) (state v).core key (event_of t.event)) given (subst (λ m. IsNextRoom (opening u.given) m.core key (event_of t.event)) st t.next);
+    next = subst (λ k. IsNextRoom x.own (opening k) (state v).core key (event_of t.event)) given (subst (λ m. IsNextRoom x.own (opening u.given) m.core key (event_of t.event)) st t.next);
     fits = (λ i. room_refusal (opening (sym given i)) (sym st i).core key) ∙ t.fits;
     entry = t.entry;
     entry_is = (λ i. (happens (opening (sym given i)) (sym st i).core (event_of t.event)).entries) ∙ (t.entry_is ∙ ap (λ m. entry_of x.own t.entry ∷ m.core.entries) st);
     after = t.after;
     stands = t.stands;
     keeps = t.keeps;
+    short = t.short;
     session = t.session;
     fewer = t.fewer;
+    takes = subst (λ k. room_takes (opening w.given) (state w).core key < room_takes (opening k) (state v).core key) given (subst (λ m. room_takes (opening w.given) (state w).core key < room_takes (opening u.given) m.core key) st t.takes);
   }
 
   spent_from : IsSpentBehind u w → IsSpentBehind v w
@@ -333,7 +335,7 @@ module _ (rooms : EveryRoom) (z : Shape) (v u : View) (x : Session) (log : Log) 
   pub seen_there : u.seen ≡ v.seen
   seen_there = none_seen z.alone v u h.alone looked.ran
 
-  moment_is : state u ≡ state v
+  pub moment_is : state u ≡ state v
   moment_is = still v u looked.ran.given seen_there
 
   pub holds_there : Holds z u x log

@@ -1,5 +1,5 @@
 -- What comes of a split that room for a key takes.
-use Rattle.std.proofs.Common.{◌≡◌, ◌≢◌, ◌⊎◌, inl, inr, ◌<◌, ℕ, true, false, List, [], ◌∷◌, length, Result, Ok, Err, refl, sym, ap, ◌∙◌, subst, arith, true≢false}
+use Rattle.std.proofs.Common.{◌≡◌, ◌≢◌, ◌⊎◌, inl, inr, ◌<◌, ℕ, true, false, List, [], ◌∷◌, length, Result, Ok, refl, sym, ap, ◌∙◌, subst, arith, true≢false}
 use Rattle.map_model.specs.declared.call.Refusal.{Refusal}
 use Rattle.page_model.specs.Check.{names_page}
 use Rattle.page_model.specs.Needs.{split_record}
@@ -33,11 +33,12 @@ use Rattle.engine_trait.specs.Rooms.{IsNextRoom}
 use Rattle.row_engine.specs.Free.{without_first}
 use Rattle.row_engine.specs.Holds.{Holds}
 use Rattle.row_engine.specs.Puts.{MayChange}
-use Rattle.row_engine.specs.Rooms.{CanSplit, Grew, IsExpected, IsGrown, answer_of, session_after}
-use Rattle.row_engine.specs.Staging.{Staging, session_clock}
+use Rattle.row_engine.specs.Inside.Rooms.{CanSplit, Grew, IsExpected, IsGrown, answer_of, session_after}
+use Rattle.row_engine.specs.Staging.{Staging}
 use Rattle.row_engine.specs.declared.session.Session.{Session}
 use Rattle.row_engine.proofs.GrowthLemmas.{grown, holds_grown, holds_same, hot_in, met, missed_core, now_is, sound, spent_behind, stands, was_then}
-use Rattle.row_engine.proofs.ChangeLemmas.{first_rest, kept_log, not_full, not_spent, page_bare, page_free}
+use Rattle.row_engine.proofs.ChangeLemmas.{first_rest, not_full, not_spent, page_bare, page_free}
+use Rattle.row_engine.proofs.TakesLemmas.{takes_split}
 
 module _ (rooms : EveryRoom) (z : Shape) (v w : View) (x y : Session) (log log_now : Log) (h : Holds z v x log) (key : ℕ) (f : MayChange v x log key) (left page parent : ℕ) (can : CanSplit v x key left page parent)
     (rs now : List Record) (old new : Story) (S same : Type 0) (f0 f1 : ℕ) where
@@ -48,7 +49,7 @@ module _ (rooms : EveryRoom) (z : Shape) (v w : View) (x y : Session) (log log_n
   s = (state v).core
 
   abbrev Splits : Outcome → Type 0
-  Splits o = Parted z.alone x.own left page parent v rs o w (session_clock y) now
+  Splits o = Parted z.alone x.own left page parent v rs o w y.clock now
 
   abbrev Draws : Outcome → Type 0
   Draws o = Drew o (λ r. Staging r x y rs now log log_now old new S f0 f1) same
@@ -108,9 +109,15 @@ module _ (rooms : EveryRoom) (z : Shape) (v w : View) (x y : Session) (log log_n
   split_expected (outcome.Latched l) r d q = q
   split_expected outcome.ClockSpent r d q = spent (then_so (splits.IsSpent left page parent w.given) r.0 r.1)
 
-  module _ (l : Divided z.alone x.own left page parent v rs w (session_clock y) now) where
+  module _ (l : Divided z.alone x.own left page parent v rs w y.clock now) where
     here : (p frame : ℕ) → (after_all w.given l.change.past).core.place p ≡ Place.Hot frame → p ≡ frame
     here p frame hot = stands z v x log h p frame (ap (λ m. m.core.place p) (sym (now_is z.alone v w l.change.past h.alone l.change.ran.given l.change.onward)) ∙ hot)
+
+    left_here : l.left ≡ left
+    left_here = here l.left left l.left_hot
+
+    free_is : (page < g.format.pages) × ((nodes_of s page).live ≡ false)
+    free_is = page_free rooms z v x log h key page can.least
 
     right_is : l.right ≡ page
     right_is = here l.right page l.right_hot
@@ -118,11 +125,11 @@ module _ (rooms : EveryRoom) (z : Shape) (v w : View) (x y : Session) (log log_n
     least_is : x.free ≡ l.right ∷ without_first x.free
     least_is = first_rest x.free page can.least ∙ ap (λ k. k ∷ without_first x.free) (sym right_is)
 
-    next_is : IsNextRoom g s key (happening.Event.Split x.own l.left l.right l.parent 30)
-    next_is = subst (λ k. IsNextRoom g s key (happening.Event.Split x.own k l.right l.parent 30)) (sym (here l.left left l.left_hot))
-        (subst (λ k. IsNextRoom g s key (happening.Event.Split x.own left k l.parent 30)) (sym right_is) (subst (λ k. IsNextRoom g s key (happening.Event.Split x.own left page k 30)) (sym (here l.parent parent l.parent_hot)) can.next))
+    next_is : IsNextRoom x.own g s key (happening.Event.Split x.own l.left l.right l.parent 30)
+    next_is = subst (λ k. IsNextRoom x.own g s key (happening.Event.Split x.own k l.right l.parent 30)) (sym (here l.left left l.left_hot))
+        (subst (λ k. IsNextRoom x.own g s key (happening.Event.Split x.own left k l.parent 30)) (sym right_is) (subst (λ k. IsNextRoom x.own g s key (happening.Event.Split x.own left page k 30)) (sym (here l.parent parent l.parent_hot)) can.next))
 
-    module _ (held : w.held ≡ []) (st : Staging (Ok tt) x y rs now log log_now old new S f0 f1) (last : log_now.last ≡ y.clock) where
+    module _ (held : w.held ≡ []) (st : Staging (Ok tt) x y rs now log log_now old new S f0 f1) (last : log_now.last ≡ y.clock.clock) where
       split_met : may g s (happening.Event.Split x.own l.left l.right l.parent 30) ≡ true
       split_met = met z v w x log h key f Kind.Split refl (Split x.own l.left l.right l.parent 30) (l.left ∷ l.right ∷ l.parent ∷ []) (split_record (nodes_of s) (gsns_of s) l.left l.right l.parent 30) (split_entry x.own l.left l.right l.parent) rs now y log_now l.change refl refl
 
@@ -136,17 +143,20 @@ module _ (rooms : EveryRoom) (z : Shape) (v w : View) (x y : Session) (log log_n
       pub split_grown : IsGrown key v w x (record y { free = without_first y.free }) log log_now old new
       split_grown = grown z v w x log h key f Kind.Split refl (Split x.own l.left l.right l.parent 30) (l.left ∷ l.right ∷ l.parent ∷ []) (split_record (nodes_of s) (gsns_of s) l.left l.right l.parent 30) (split_entry x.own l.left l.right l.parent) rs now y log_now l.change refl refl
           old new S f0 f1 held st last l.right (without_first x.free) least_is left_is refl next_is can.fits
+          (λ now. takes_split rooms g s key x.own l.left l.right l.parent refl (sound z v x log h).tree now (subst (λ k. k < g.format.pages) (sym left_here) can.below)
+          (subst (λ k. k < g.format.pages) (sym right_is) free_is.0) (subst (λ k. (nodes_of s k).live ≡ false) (sym right_is) free_is.1)
+          (subst (λ k. length (nodes_of s k).pairs ≡ 60) (sym left_here) can.full) next_is.3 next_is.4 next_is.2)
 
   module _ (low : EveryLow) (are : AreLow (length w.seen) w.steps) (held : w.held ≡ []) where
-    pub split_grew : (same_now broken : Type 0) (o : Outcome) → IsExpected o → Splits o → Draws o → Caused v o w → log_now.last ≡ last_after o log.last y.clock
+    pub split_grew : (same_now broken : Type 0) (o : Outcome) → IsExpected o → Splits o → Draws o → Caused v o w → log_now.last ≡ last_after o log.last y.clock.clock
         → ((row : ℕ) → o ≡ outcome.RowSpent row → same → same_now) → ((why : Unstaged) → o ≡ outcome.Unstaged why → broken)
         → Grew (answer_of o) key v w x (session_after o y) log log_now old new same_now broken
     split_grew same_now broken outcome.Done t r d c last to off = split_grown r held d last
     split_grew same_now broken (outcome.RowSpent row) t r d c last to off = (spent_behind low z.alone v w row h.alone are r c, to row refl d)
-    split_grew same_now broken (outcome.Unstaged DiskFault) t r d c last to off = (kept_log x y rs now log log_now old new S f0 f1 (Err DiskFault) d, off DiskFault refl)
+    split_grew same_now broken (outcome.Unstaged DiskFault) t r d c last to off = (d.came, off DiskFault refl)
     split_grew same_now broken _ t r d c last to off = absurd t
 
-    pub split_holds : (same → y ≡ x) → (same → log_now ≡ log) → (o : Outcome) → IsExpected o → Splits o → Draws o → log_now.last ≡ last_after o log.last y.clock → (session_after o y).works ≡ true → Holds z w (session_after o y) log_now
+    pub split_holds : (same → y ≡ x) → (same → log_now ≡ log) → (o : Outcome) → IsExpected o → Splits o → Draws o → log_now.last ≡ last_after o log.last y.clock.clock → (session_after o y).works ≡ true → Holds z w (session_after o y) log_now
     split_holds sx sl outcome.Done t r d last works = split_holds_on r held d last
     split_holds sx sl (outcome.RowSpent row) t r d last works =
         subst (λ k. Holds z w k log_now) (sym (sx d)) (subst (λ k. Holds z w x k) (sym (sl d)) (holds_same z v w x log r.ran.given (missed_core z.alone v w h.alone r) held h))
@@ -154,7 +164,7 @@ module _ (rooms : EveryRoom) (z : Shape) (v w : View) (x y : Session) (log log_n
     split_holds sx sl _ t r d last works = absurd t
 
     -- as its caller sees it
-    pub split_answered : (same_now broken : Type 0) (o : Outcome) → IsExpected o → Splits o → Draws o → Caused v o w → log_now.last ≡ last_after o log.last y.clock
+    pub split_answered : (same_now broken : Type 0) (o : Outcome) → IsExpected o → Splits o → Draws o → Caused v o w → log_now.last ≡ last_after o log.last y.clock.clock
         → ((row : ℕ) → o ≡ outcome.RowSpent row → same → same_now) → ((why : Unstaged) → o ≡ outcome.Unstaged why → broken)
         → (r : Result (Unit {0}) Refusal) (k : Session) → r ≡ answer_of o → k ≡ session_after o y → Grew r key v w x k log log_now old new same_now broken
     split_answered same_now broken o t d s c last to off r k answer after =

@@ -1,8 +1,9 @@
 -- One step of a put: a try, and a change of the tree where the leaf has no room.
-use Rattle.std.proofs.Common.{◌≡◌, ◌≤◌, ◌<◌, ◌^◌, ◌%◌, ◌++◌, ℕ, suc, Bool, true, false, cond, leb, List, [], ◌∷◌, length, Option, Some, None, Result, Ok, Err, refl, sym, ap, ◌∙◌, subst, arith, append-nil, true≢false}
+use Rattle.std.proofs.Common.{◌≡◌, ◌≤◌, ◌<◌, ◌^◌, ◌%◌, ◌++◌, ℕ, suc, Bool, true, false, cond, leb, List, [], ◌∷◌, length, Option, Some, None, Result, Ok, Err, refl, sym, ap, ◌∙◌, subst, arith, append-nil}
 use Rattle.std.proofs.lemmas.Bool.{leb-false, leb-true}
 use Rattle.map_model.specs.declared.call.Refusal.{Refusal}
 use Rattle.map_model.specs.declared.call.Refusal.TheVariants as refusal
+use Rattle.core_calls.specs.Room.{room_takes}
 use Rattle.core_state.specs.Needs.{is_held_by, may}
 use Rattle.page_model.specs.Nodes.{holds}
 use Rattle.page_model.specs.Pairs.{find}
@@ -21,14 +22,13 @@ use Rattle.row_words.specs.Moments.{event_of}
 use Rattle.row_words.specs.Openings.{opening}
 use Rattle.rows_trait.specs.Views.{after_all, state}
 use Rattle.rows_trait.specs.declared.view.View.{View}
-use Rattle.worker_log.specs.Logs.{Log, limit, used}
-use Rattle.engine_trait.specs.Refusals.{log_refusal, room_refusal}
+use Rattle.worker_log.specs.Logs.{Log}
+use Rattle.engine_trait.specs.Refusals.{clock_refusal, room_refusal}
 use Rattle.engine_trait.specs.Rooms.{IsNextRoom}
-use Rattle.row_engine.specs.Calls.{IsSameSession}
-use Rattle.row_engine.specs.Outcomes.{Crowded, HasFailed, HasNoRoom, HasPut, HasRoom, IsCrowded, IsStopped, Puts, Steps, Stopped, Tries}
+use Rattle.row_engine.specs.Inside.Outcomes.{Crowded, HasFailed, HasNoRoom, HasPut, HasRoom, IsCrowded, IsStopped, Puts, Steps, Stopped, Tries}
 use Rattle.lean_disk.specs.Faults.{HasCause}
 use Rattle.row_engine.specs.Puts.{IsChanged, KeepsLog, MayChange, works_after}
-use Rattle.row_engine.specs.Rooms.{Grew, IsGrown, IsNoRoom, IsSpentBehind, IsUnfit}
+use Rattle.row_engine.specs.Inside.Rooms.{Grew, IsGrown, IsNoRoom, IsSpentBehind, IsUnfit}
 use Rattle.row_engine.specs.declared.puts.Stepped.{Stepped}
 use Rattle.row_engine.specs.declared.puts.Stepped.TheVariants as stepped
 use Rattle.row_engine.specs.declared.puts.Tried.{Tried}
@@ -37,47 +37,38 @@ use Rattle.row_engine.specs.declared.session.Session.{Session}
 use Rattle.row_engine.proofs.GrowRuns.{first_fits, goes_more, goes_none, goes_put, grows_more, grows_none, grows_still, growth, went_failed}
 use Rattle.row_engine.proofs.Frames.{framed_then}
 use Rattle.row_engine.proofs.PutLemmas.{seen_core}
+use Rattle.row_engine.proofs.UndoLemmas.{room_after}
 
--- ## What a test of the log and the clock says
+-- ## What a test of the clock says
 
-pub record IsReady (clock : ℕ) (log : Log) : Type 0 where
-  pub small : clock < 2 ^ 62
-  pub room : used log < limit log
-
-pub ready : (clock : ℕ) (log : Log) → log_refusal clock log None ≡ None → IsReady clock log
-ready clock log e = go (leb (limit log) (used log)) (leb (2 ^ 62) clock) refl refl e
+pub clock_below : (clock : ℕ) → clock_refusal clock None ≡ None → clock < 2 ^ 62
+clock_below clock e = go (leb (2 ^ 62) clock) refl e
   where
-    go : (a b : Bool) → leb (limit log) (used log) ≡ a → leb (2 ^ 62) clock ≡ b → cond a (Some (refusal.LogFull (used log) (limit log))) (cond b (Some refusal.ClockSpent) None) ≡ None → IsReady clock log
-    go true b p q r = absurd (cc)
-    go false true p q r = absurd (cc)
-    go false false p q r = record { small = leb-false (2 ^ 62) clock q; room = leb-false (limit log) (used log) p }
+    go : (b : Bool) → leb (2 ^ 62) clock ≡ b → cond b (Some refusal.ClockSpent) None ≡ None → clock < 2 ^ 62
+    go true q r = absurd (cc)
+    go false q r = leb-false (2 ^ 62) clock q
 
-pub is_ready : (v : View) (x : Session) (log : Log) (key : ℕ) → MayChange v x log key → log_refusal x.clock log None ≡ None
-is_ready v x log key f = go (leb (limit log) (used log)) (leb (2 ^ 62) x.clock) refl refl
+-- it refuses for one reason
+pub record IsAtEnd (clock : ℕ) (why : Refusal) : Type 0 where
+  pub is : why ≡ refusal.ClockSpent
+  pub spent : 2 ^ 62 ≤ clock
+
+pub clock_at_end : (clock : ℕ) (why : Refusal) → clock_refusal clock None ≡ Some why → IsAtEnd clock why
+clock_at_end clock why e = go (leb (2 ^ 62) clock) refl e
   where
-    go : (a b : Bool) → leb (limit log) (used log) ≡ a → leb (2 ^ 62) x.clock ≡ b → cond a (Some (refusal.LogFull (used log) (limit log))) (cond b (Some refusal.ClockSpent) None) ≡ None
-    go true b p q = let r = f.room in let l = leb-true (limit log) (used log) p in absurd (omega arith)
-    go false true p q = let r = f.small in let l = leb-true (2 ^ 62) x.clock q in absurd (omega arith)
-    go false false p q = refl
+    some_is : (r q : Refusal) → Some r ≡ Some q → r ≡ q
+    some_is r q p = cc
+
+    go : (b : Bool) → leb (2 ^ 62) clock ≡ b → cond b (Some refusal.ClockSpent) None ≡ Some why → IsAtEnd clock why
+    go true q r = record { is = sym (some_is refusal.ClockSpent why r); spent = leb-true (2 ^ 62) clock q }
+    go false q r = absurd (cc)
 
 -- the answer of a fault
 abbrev pub the_fault : (A : Type 0) → Result A Refusal
 the_fault A = Err refusal.DiskFault
 
--- whoever is refused by these tests has met no fault
-by_tests : (clock : ℕ) (log : Log) (why : Refusal) → log_refusal clock log None ≡ Some why → (P : Refusal → Type 0) → P (refusal.LogFull (used log) (limit log)) → P refusal.ClockSpent → P why
-by_tests clock log why e P full spent = go (leb (limit log) (used log)) (leb (2 ^ 62) clock) e
-  where
-    some_is : (r q : Refusal) → Some r ≡ Some q → r ≡ q
-    some_is r q p = cc
-
-    go : (a b : Bool) → cond a (Some (refusal.LogFull (used log) (limit log))) (cond b (Some refusal.ClockSpent) None) ≡ Some why → P why
-    go true b p = subst P (some_is (refusal.LogFull (used log) (limit log)) why p) full
-    go false true p = subst P (some_is refusal.ClockSpent why p) spent
-    go false false p = absurd (cc)
-
-pub stopped_works : (A : Type 0) (clock : ℕ) (log : Log) (why : Refusal) → log_refusal clock log None ≡ Some why → works_after {A = A} (Err why) ≡ true
-stopped_works A clock log why e = by_tests clock log why e (λ k. works_after {A = A} (Err k) ≡ true) refl refl
+pub stopped_works : (A : Type 0) (clock : ℕ) (why : Refusal) → clock_refusal clock None ≡ Some why → works_after {A = A} (Err why) ≡ true
+stopped_works A clock why e = subst (λ k. works_after {A = A} (Err k) ≡ true) (sym (clock_at_end clock why e).is) refl
 
 -- a try that was refused is a step that was refused
 pub tried_refused : (why : Refusal) (v w : View) (key value : ℕ) (x y : Session) (was is : Log) (old new : Story) (path : List ℕ) (same broken : Type 0) → Tries (Err why) v w key value x y was is old new path same broken → Steps (Err why) v w key value x y was is old new same
@@ -85,8 +76,9 @@ tried_refused refusal.RowSpent v w key value x y was is old new path same broken
 tried_refused refusal.DiskFault v w key value x y was is old new path same broken t = t.0
 tried_refused _ v w key value x y was is old new path same broken t = absurd t
 
-pub not_fault : (A : Type 0) (clock : ℕ) (log : Log) (why : Refusal) → log_refusal clock log None ≡ Some why → (Err why ≡ the_fault A) → ⊥
-not_fault A clock log why e = by_tests clock log why e (λ k. (Err k ≡ the_fault A) → ⊥) (λ p. absurd (cc)) (λ p. absurd (cc))
+-- whoever is refused by it has met no fault
+pub not_fault : (A : Type 0) (clock : ℕ) (why : Refusal) → clock_refusal clock None ≡ Some why → (Err why ≡ the_fault A) → ⊥
+not_fault A clock why e = subst (λ k. (Err k ≡ the_fault A) → ⊥) (sym (clock_at_end clock why e).is) (λ p. absurd (cc))
 
 pub ok_calm : {A : Type 0} (a : A) (why : Refusal) → Ok a ≡ Err why → ⊥
 ok_calm a why e = absurd (cc)
@@ -112,28 +104,30 @@ module _ (v u : View) (given : u.given ≡ v.given) (seen : u.seen ≡ v.seen) w
     given = c.given ∙ given;
     seen = c.seen ∙ ap (λ es. es ++ c.event ∷ []) seen;
     met = carried (λ k es. may (opening k) (after_all k es).core (event_of c.event) ≡ true) c.met;
-    next = carried (λ k es. IsNextRoom (opening k) (after_all k es).core key (event_of c.event)) c.next;
+    next = carried (λ k es. IsNextRoom x.own (opening k) (after_all k es).core key (event_of c.event)) c.next;
     fits = carried (λ k es. room_refusal (opening k) (after_all k es).core key ≡ None) c.fits;
     entry = c.entry;
     entry_is = carried (λ k es. (happens (opening k) (after_all k es).core (event_of c.event)).entries ≡ entry_of x.own c.entry ∷ (after_all k es).core.entries) c.entry_is;
     after = c.after;
     stands = c.stands;
     keeps = c.keeps;
+    short = c.short;
     session = c.session;
     fewer = c.fewer;
+    takes = carried (λ k es. room_takes (opening w.given) (state w).core key < room_takes (opening k) (after_all k es).core key) c.takes;
   }
 
   pub spent_from : (w : View) → IsSpentBehind u w → IsSpentBehind v w
   spent_from w q = record { misses = q.misses; are_misses = q.are_misses; few = q.few; given = q.given ∙ given; seen = q.seen ∙ ap (λ es. es ++ q.misses) seen; many = q.many }
 
   -- the leaf is full
-  pub crowded_from : (key leaf : ℕ) (why : Refusal) (w : View) (x : Session) (was : Log) → MayChange v x was key → IsUnfit u key leaf → IsNoRoom u w key why → Crowded key why v w x.clock was
+  pub crowded_from : (key leaf : ℕ) (why : Refusal) (w : View) (x : Session) (was : Log) → MayChange v x was key → IsUnfit u key leaf → IsNoRoom u w key why → Crowded key why v w x.clock.clock
   crowded_from key leaf why w x was f q r = record {
     given = r.given ∙ given;
     seen = r.seen ∙ seen;
     leaf = leaf;
     unfit = unfit_at;
-    ready = is_ready v x was key f;
+    ready = f.small;
     cause = subst (λ es. room_refusal (opening w.given) (after_all w.given es).core key ≡ Some why) (sym r.seen) (subst (λ k. room_refusal (opening k) (after_all k u.seen).core key ≡ Some why) (sym r.given) r.cause);
   }
     where
@@ -150,14 +144,14 @@ module _ (v u : View) (given : u.given ≡ v.given) (seen : u.seen ≡ v.seen) w
 
 -- ## Behind a change of the tree
 
-pub may_after : (key : ℕ) (v w : View) (x y : Session) (was is : Log) (old new : Story) → MayChange v x was key → IsGrown key v w x y was is old new → log_refusal y.clock is None ≡ None → MayChange w y is key
-may_after key v w x y was is old new f c e = let r = ready y.clock is e in record {
+pub may_after : (key : ℕ) (v w : View) (x y : Session) (was is : Log) (old new : Story) → MayChange v x was key → IsGrown key v w x y was is old new → clock_refusal y.clock.clock None ≡ None → MayChange w y is key
+may_after key v w x y was is old new f c e = record {
   works = ap (λ (s : Session). s.works) c.session ∙ f.works;
   is_open = ap (λ (s : Session). s.is_open) c.session ∙ f.is_open;
-  whole = ap (λ (s : Session). s.half) c.session ∙ f.whole;
+  whole = ap (λ (s : Session). s.is_half_aborted) c.session ∙ f.whole;
   few = let a = ap (λ (s : Session). length s.undo) c.session in let b = f.few in omega arith;
-  small = r.small;
-  room = r.room;
+  small = clock_below y.clock.clock e;
+  room = let r = room_after c.entry was is (room_takes (opening v.given) (state v).core key) c.short c.after f.room in let less = c.takes in omega arith;
   row = ap (λ (k : State). is_held_by (k.row (key % y.held.count)).holder y.own) (seen_core v w c.event c.given c.seen c.met)
       ∙ (ap (λ o. is_held_by o.holder y.own) ((growth x.own (opening v.given) (state v).core c.event c.growth).row (key % y.held.count))
       ∙ (ap (λ (s : Session). is_held_by ((state v).core.row (key % s.held.count)).holder s.own) c.session ∙ f.row));
@@ -179,31 +173,11 @@ step_refused key value leaf v u w x y was is old new same broken given seen f q 
 step_refused key value leaf v u w x y was is old new same broken given seen f q refusal.DiskFault g = g.0
 step_refused key value leaf v u w x y was is old new same broken given seen f q _ g = absurd g
 
--- and it is the same session
-pub refused_session : (key : ℕ) (v w : View) (x x0 y : Session) (was is : Log) (old new : Story) (same : Type 0) → (same → y ≡ x0) → (why : Refusal) → Grew (Err why) key v w x y was is old new same (y.works ≡ false) → y.works ≡ true → IsSameSession x0 y
-refused_session key v w x x0 y was is old new same so why g works = go why g
-  where
-    is_so : y ≡ x0 → IsSameSession x0 y
-    is_so e = (ap (λ (k : Session). k.own) e, ap (λ (k : Session). k.workers) e, ap (λ (k : Session). k.group) e)
-
-    go : (why : Refusal) → Grew (Err why) key v w x y was is old new same (y.works ≡ false) → IsSameSession x0 y
-    go refusal.TooTall g = is_so (so g.1)
-    go refusal.NoPages g = is_so (so g.1)
-    go refusal.RowSpent g = is_so (so g.1)
-    go refusal.DiskFault g = absurd (true≢false (sym works ∙ g.1))
-    go _ g = absurd g
-
--- where the tree was changed, by the tests behind it
-pub step_stopped : (key value : ℕ) (v w : View) (x y : Session) (was is : Log) (old new : Story) (same : Type 0) → IsGrown key v w x y was is old new → (why : Refusal) → log_refusal y.clock is None ≡ Some why → Steps (Err why) v w key value x y was is old new same
-step_stopped key value v w x y was is old new same c why e = go (leb (limit is) (used is)) (leb (2 ^ 62) y.clock) e
-  where
-    some_is : (r q : Refusal) → Some r ≡ Some q → r ≡ q
-    some_is r q p = cc
-
-    go : (a b : Bool) → cond a (Some (refusal.LogFull (used is) (limit is))) (cond b (Some refusal.ClockSpent) None) ≡ Some why → Steps (Err why) v w key value x y was is old new same
-    go true b p = subst (λ k. Steps (Err k) v w key value x y was is old new same) (some_is (refusal.LogFull (used is) (limit is)) why p) (record { grown = c; cause = e ∙ ap Some (sym (some_is (refusal.LogFull (used is) (limit is)) why p)) })
-    go false true p = subst (λ k. Steps (Err k) v w key value x y was is old new same) (some_is refusal.ClockSpent why p) (record { grown = c; cause = e ∙ ap Some (sym (some_is refusal.ClockSpent why p)) })
-    go false false p = absurd (cc)
+-- where the tree was changed, by the test behind it
+pub step_stopped : (key value : ℕ) (v w : View) (x y : Session) (was is : Log) (old new : Story) (same : Type 0) → IsGrown key v w x y was is old new → (why : Refusal) → clock_refusal y.clock.clock None ≡ Some why → Steps (Err why) v w key value x y was is old new same
+step_stopped key value v w x y was is old new same c why e =
+    let q = clock_at_end y.clock.clock why e in
+    subst (λ k. Steps (Err k) v w key value x y was is old new same) (sym q.is) (record { grown = c; spent = q.spent })
 
 -- where the try failed
 pub step_failed : (key value : ℕ) (v w : View) (x y : Session) (was is : Log) (old new : Story) (path : List ℕ) (same broken : Type 0) → (why : Refusal) → Tries (Err why) v w key value x y was is old new path same broken → Steps (Err why) v w key value x y was is old new same
@@ -286,14 +260,14 @@ module _ (reached : EveryReached) (need : EveryNeed) (parts : (old mid new : Sto
   same_room : d ≡ a → w.given ≡ u.given → w.seen ≡ u.seen → HasRoom key v w x (session d) was (log d) old (story d)
   same_room e given seen = room_same story log session a d e key v w x was old (room_still reached need parts key value v x low high was old u (session a) (log a) (story a) r w given seen)
 
-  crowded : (why : Refusal) → Crowded key why u w (session a).clock (log a) → d ≡ a → IsCrowded key why v w x (session d) was (log d) old (story d)
-  crowded why c e = record { room = same_room e c.given c.seen; leaf = c.leaf; unfit = c.unfit; ready = (λ i. log_refusal (session (e i)).clock (log (e i)) None) ∙ c.ready; cause = c.cause }
+  crowded : (why : Refusal) → Crowded key why u w (session a).clock.clock → d ≡ a → IsCrowded key why v w x (session d) was (log d) old (story d)
+  crowded why c e = record { room = same_room e c.given c.seen; leaf = c.leaf; unfit = c.unfit; ready = subst (λ k. (session k).clock.clock < 2 ^ 62) (sym e) c.ready; cause = c.cause }
 
-  stopped : (why : Refusal) → Stopped key why u w (session a) (session d) (log a) (log d) (story a) (story d) → IsStopped key why v w x (session d) was (log d) old (story d)
-  stopped why c = record {
+  stopped : Stopped key u w (session a) (session d) (log a) (log d) (story a) (story d) → IsStopped key v w x (session d) was (log d) old (story d)
+  stopped c = record {
     room = room_more reached need parts key value v x low high was old u (session a) (log a) (story a) r w (session d) (log d) (story d) c.grown;
     some = room_fits reached need parts key value v x low high was old u (session a) (log a) (story a) r w (session d) (log d) (story d) c.grown;
-    cause = c.cause;
+    spent = c.spent;
   }
 
   own_is : (session a).own ≡ x.own
@@ -303,8 +277,7 @@ module _ (reached : EveryReached) (need : EveryNeed) (parts : (old mid new : Sto
   put_last (Ok before) c = room_put reached need parts key value v x low high was old u (session a) (log a) (story a) r w before (log d) (story d) (subst (λ n. IsChanged n u w key value before (log a) (log d) (story a) (story d)) own_is c)
   put_last (Err refusal.TooTall) c = crowded refusal.TooTall c.0 c.1
   put_last (Err refusal.NoPages) c = crowded refusal.NoPages c.0 c.1
-  put_last (Err (refusal.LogFull i m)) c = stopped (refusal.LogFull i m) c
-  put_last (Err refusal.ClockSpent) c = stopped refusal.ClockSpent c
+  put_last (Err refusal.ClockSpent) c = stopped c
   put_last (Err refusal.RowSpent) c = record { view = u; room = room_same story log session a d c.1 key v u x was old r; spent = c.0 }
   put_last (Err refusal.DiskFault) c = room_failed reached need parts key value v x low high was old u (session a) (log a) (story a) r (story d) (subst (λ n. KeepsLog n (log a) (story a) (story d)) own_is c)
   put_last (Err _) c = absurd c

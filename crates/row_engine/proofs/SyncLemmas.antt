@@ -110,7 +110,7 @@ module _ (z : Shape) (v : View) (x : Session) (log : Log) (h : Holds z v x log) 
     small = let a = clock_small x.workers s x.own h.rows.most h.numbered in let b = h.session.clock in let c = h.numbers.last in omega arith;
   })
 
-  module _ (n : ℕ) (w : View) (t : Turned z x.own 0 (λ _. log.last) (λ _. Flush x.own log.last ∷ []) v n w) (y : Session) (session : y ≡ record x { behind = 0 }) (is : Log) (after : is ≡ flushed_log log) where
+  module _ (n : ℕ) (w : View) (t : Turned z x.own 0 (λ _. log.last) (λ _. Flush x.own log.last ∷ []) v n w) (y : Session) (session : y ≡ record x { unflushed = 0 }) (is : Log) (after : is ≡ flushed_log log) where
     given : w.given ≡ v.given
     given = t.goes.given
 
@@ -126,23 +126,23 @@ module _ (z : Shape) (v : View) (x : Session) (log : Log) (h : Holds z v x log) 
       seen = seen ∙ ap (λ ys. v.seen ++ ys) (sym (one_of x.own log differs));
       core = as_core x.own log;
       steps = one_step x.own v w (Flush x.own log.last) given seen (is_own x.own) flush_met;
-      session = session ∙ (λ i. record x { behind = sym (ap (λ (k : Session). k.behind) session) i });
+      session = session ∙ (λ i. record x { unflushed = sym (ap (λ (k : Session). k.unflushed) session) i });
       after = after ∙ sym (flushed_is log differs);
       last = ap (λ (l : Log). l.last) after;
       flushed = ap (λ (l : Log). l.flushed) after ∙ ap (λ (l : Log). l.last) (sym after);
       stands = stands;
     }
 
-    floor_w : x.floor ≤ flushed_by_all (opening w.given) (state w).core
-    floor_w = subst (λ k. x.floor ≤ flushed_by_all (opening k) (state w).core) (sym given) (subst (λ (k : State). x.floor ≤ flushed_by_all (opening v.given) k) (sym core_w)
-        (floor_flush (opening v.given) s x.own log.last x.floor low h.floor))
+    floor_w : x.clock.floor ≤ flushed_by_all (opening w.given) (state w).core
+    floor_w = subst (λ k. x.clock.floor ≤ flushed_by_all (opening k) (state w).core) (sym given) (subst (λ (k : State). x.clock.floor ≤ flushed_by_all (opening v.given) k) (sym core_w)
+        (floor_flush (opening v.given) s x.own log.last x.clock.floor low h.floor))
 
-    pub holds_whole : (0 < length x.undo → x.half ≡ false) → Holds z w y is
-    holds_whole going = subst (λ k. Holds z w k is) (sym session) (subst (λ l. Holds z w (record x { behind = 0 }) l) (sym after) (record {
+    pub holds_whole : (0 < length x.undo → x.is_half_aborted ≡ false) → Holds z w y is
+    holds_whole going = subst (λ k. Holds z w k is) (sym session) (subst (λ l. Holds z w (record x { unflushed = 0 }) l) (sym after) (record {
       alone = h.alone;
       idle = t.held ∙ h.idle;
       rows = rows_on z v w x.own x.workers x.frames x.held.count given h.rows;
-      session = subst (λ (k : State). IsOf (record x { behind = 0 }) (k.worker x.own)) (sym core_w) (let i = h.session in record { is_open = i.is_open; txn = i.txn; clock = i.clock; floor = i.floor; debt = i.debt; end = i.end; undo = i.undo });
+      session = subst (λ (k : State). IsOf (record x { unflushed = 0 }) (k.worker x.own)) (sym core_w) (let i = h.session in record { is_open = i.is_open; txn = i.txn; clock = i.clock; floor = i.floor; debt = i.debt; end = i.end; undo = i.undo });
       numbers = record {
         last = h.numbers.last;
         order = omega arith;
@@ -198,8 +198,8 @@ every_synced z v w x log number h whole e = record {
   };
   numbered = subst (λ (k : State). AreNumbered x.workers k) (sym core_w) (numbered_sync x.workers (state v).core number (number_is ∙ ap (most (λ u. ((state v).core.worker u).clock)) h.rows.workers) (few_changes v) h.numbered);
   flushed = ap (λ k. k.flushed x.own) core_w;
-  floor = subst (λ k. x.floor ≤ flushed_by_all (opening k) (state w).core) (sym e.given) (subst (λ (k : State). x.floor ≤ flushed_by_all (opening v.given) k) (sym core_w)
-      (least_from (λ _. number) (opening v.given).workers x.floor (opening v.given).some_worker (λ u some high. floor_low)));
+  floor = subst (λ k. x.clock.floor ≤ flushed_by_all (opening k) (state w).core) (sym e.given) (subst (λ (k : State). x.clock.floor ≤ flushed_by_all (opening v.given) k) (sym core_w)
+      (least_from (λ _. number) (opening v.given).workers x.clock.floor (opening v.given).some_worker (λ u some high. floor_low)));
   behind = ap (λ (k : State). log_events.behind k x.own) core_w
       ∙ (behind_same (happens (opening v.given) (state v).core (happening.Event.Flush x.own number)) (happens (opening v.given) (state v).core (happening.Event.Sync number)) x.own refl (sym (upd_same (state v).core.flushed x.own number x.own refl))
       ∙ behind_flush (opening v.given) (state v).core x.own number below);
@@ -222,13 +222,13 @@ every_synced z v w x log number h whole e = record {
     own_low : ((state v).core.worker x.own).clock ≤ number
     own_low = let a = most_low (λ u. ((state v).core.worker u).clock) (opening v.given).workers x.own h.rows.low (let p = h.rows.high in let q = h.rows.workers in omega arith) in let b = number_is in omega arith
 
-    reach : x.clock ≤ number
+    reach : x.clock.clock ≤ number
     reach = let a = own_low in let b = h.session.clock in omega arith
 
     clock_is : max ((state v).core.worker x.own).clock number ≡ number
     clock_is = let a = own_low in omega arith
 
-    floor_low : x.floor ≤ number
+    floor_low : x.clock.floor ≤ number
     floor_low = let a = h.floor in let b = least_low (state v).core.flushed (opening v.given).workers x.own h.rows.low (let p = h.rows.high in let q = h.rows.workers in omega arith) in
         let c = h.flushed in let d = h.numbers.order in let k = h.numbers.last in let r = reach in omega arith
 

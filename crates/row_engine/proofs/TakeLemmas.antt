@@ -8,6 +8,8 @@ use Rattle.map_model.specs.declared.call.Refusal.TheVariants as refusal
 use Rattle.map_model.specs.Lists.{Has, upd}
 use Rattle.map_model.proofs.ListLemmas.{has_cases, has_left, has_right}
 use Rattle.rfa_model.specs.Stamps.{is_remote, owed}
+use Rattle.flush_avoidance.specs.Clocks.{after_raise, after_touch, risen}
+use Rattle.flush_avoidance.specs.declared.Clock.{Clock}
 use Rattle.core_state.specs.Events as happening
 use Rattle.core_state.specs.Needs.{holds_row, is_held_by, is_reader, may, may_hold}
 use Rattle.core_state.specs.States.{Row, State, Worker, flushed_by_all}
@@ -34,8 +36,7 @@ use Rattle.key_locks.specs.Rows.{IsRow, core_mode, event_mode}
 use Rattle.row_engine.specs.Held.{Held, with_row}
 use Rattle.row_engine.specs.Holds.{AreNumbers, AreRows, Holds, IsOf}
 use Rattle.row_engine.specs.Numbers.{AreNumbered}
-use Rattle.row_engine.specs.Staging.{touched_session}
-use Rattle.row_engine.specs.Takes.{IsHindered, IsSpent, NotTaken, Takes}
+use Rattle.row_engine.specs.Inside.Takes.{IsHindered, IsSpent, NotTaken, Takes}
 use Rattle.row_engine.specs.declared.session.Session.{Session}
 use Rattle.row_engine.proofs.Behind.{rows_on}
 use Rattle.row_engine.proofs.ConflictLemmas.{blocking_hinders, lone_free}
@@ -76,18 +77,12 @@ no_between xs (y ∷ ys) e q =
 
 -- a session that has met what a row tells
 abbrev pub met_session : Session → (number log readers : ℕ) → Session
-met_session x number log readers = record (touched_session x number log) { clock = max (touched_session x number log).clock readers }
+met_session x number log readers = record x { clock = after_raise (after_touch x.own x.clock number log) readers }
 
 -- step by step, with the row that it takes
-module _ (x t r : Session) (k : Held) (number log readers row : ℕ) (t_is : t ≡ touched_session x number log) (r_is : r ≡ record t { clock = max t.clock readers }) (k_is : k ≡ with_row r.held row) where
-  met_is : r ≡ met_session x number log readers
-  met_is = r_is ∙ (λ i. record (t_is i) { clock = max (t_is i).clock readers })
-
-  pub session_held : k ≡ with_row x.held row
-  session_held = k_is ∙ ap (λ (q : Session). with_row q.held row) met_is
-
-  pub session_taken : (few : r.own ≤ 16) → record r { held = k; few = few } ≡ record (met_session x number log readers) { held = with_row x.held row }
-  session_taken few = (λ i. record r { held = k_is i; few = le_prop few r.few i }) ∙ (λ i. record (met_is i) { held = with_row (met_is i).held row })
+pub session_taken : (x : Session) (t r : Clock) (k : Held) (number log readers row : ℕ) → t ≡ after_touch x.own x.clock number log → r ≡ after_raise t readers → k ≡ with_row x.held row →
+    (few : x.own ≤ 16) → record x { clock = r; held = k; few = few } ≡ record (met_session x number log readers) { held = with_row x.held row }
+session_taken x t r k number log readers row t_is r_is k_is few i = record x { clock = (r_is ∙ ap (λ (c : Clock). after_raise c readers) t_is) i; held = k_is i; few = le_prop few x.few i }
 
 no_max : (a n : ℕ) → n ≤ a → max a n ≡ a
 no_max a n le = omega arith
@@ -114,10 +109,10 @@ own_of n l floor debt le = go (is_remote 1 floor n l) refl
     go true e = let p = parts _ (l == 1) (l == 0) e in absurd (neither p.0 p.1)
 
 -- where its numbers are no more than the clock, and its log is session 1's or none, session 1 stays as it is
-met_nothing : (x : Session) (n l r : ℕ) → x.own ≡ 1 → n ≤ x.clock → r ≤ x.clock → l ≤ 1 → met_session x n l r ≡ x
+met_nothing : (x : Session) (n l r : ℕ) → x.own ≡ 1 → n ≤ x.clock.clock → r ≤ x.clock.clock → l ≤ 1 → met_session x n l r ≡ x
 met_nothing x n l r one number ends log =
-    (λ i. record x { clock = max (no_max x.clock n number i) r; debt = (ap (λ w. owed w x.floor x.debt n l) one ∙ own_of n l x.floor x.debt log) i })
-    ∙ (λ i. record x { clock = no_max x.clock r ends i })
+    (λ i. record x { clock = record x.clock { clock = max (no_max x.clock.clock n number i) r; debt = (ap (λ w. owed w x.clock.floor x.clock.debt n l) one ∙ own_of n l x.clock.floor x.clock.debt log) i } })
+    ∙ (λ i. record x { clock = record x.clock { clock = no_max x.clock.clock r ends i } })
 
 -- ## A row that is taken
 
@@ -188,7 +183,7 @@ with_cases h row i = go (is_reader row h.rows)
 -- ## The session keeps what it has
 
 -- the numbers are those of a session with other rows, whose clock may have risen
-pub numbers_on : (x y : Session) (log : Log) (rows : Held) → y ≡ record x { clock = y.clock; debt = y.debt; held = rows } → x.clock ≤ y.clock → AreNumbers x log → AreNumbers y log
+pub numbers_on : (x y : Session) (log : Log) (rows : Held) → y ≡ record x { clock = risen x.clock y.clock; held = rows } → x.clock.clock ≤ y.clock.clock → AreNumbers x log → AreNumbers y log
 numbers_on x y log rows is le n = subst (λ k. AreNumbers k log) (sym is) (record {
   last = let a = n.last in omega arith;
   order = n.order;
@@ -212,7 +207,7 @@ holds_still z v w x log given seen held h = record {
   numbers = h.numbers;
   numbered = subst (λ m. AreNumbered x.workers m.core) (sym same) h.numbered;
   flushed = ap (λ m. m.core.flushed x.own) same ∙ h.flushed;
-  floor = subst (λ n. x.floor ≤ n) (λ i. flushed_by_all (opening (sym given i)) (sym same i).core) h.floor;
+  floor = subst (λ n. x.clock.floor ≤ n) (λ i. flushed_by_all (opening (sym given i)) (sym same i).core) h.floor;
   behind = ap (λ m. behind m.core x.own) same ∙ h.behind;
   resident = resident_on z v w given (ap (λ m. m.core.place) same) h.resident;
   held = λ i. subst (λ m. holds_row (m.core.row i) x.own ≡ true ↔ Has i x.held.rows) (sym same) (h.held i);
@@ -303,7 +298,7 @@ module _ (z : Shape) (v w : View) (x : Session) (log : Log) (h : Holds z v x log
     numbers = numbers_on x y log (with_row x.held row) refl (omega arith) h.numbers;
     numbered = subst (λ k. AreNumbered x.workers k) (sym core_is) (numbered_lock (opening v.given) x.workers s x.own row m h.rows.low h.rows.high (h.session.is_open ∙ is_open) few h.numbered);
     flushed = ap (λ k. k.flushed x.own) core_is ∙ h.flushed;
-    floor = subst (λ n. x.floor ≤ n) (λ i. flushed_by_all (opening (sym given i)) (sym core_is i)) h.floor;
+    floor = subst (λ n. x.clock.floor ≤ n) (λ i. flushed_by_all (opening (sym given i)) (sym core_is i)) h.floor;
     behind = ap (λ k. behind k x.own) core_is ∙ h.behind;
     resident = resident_on z v w given (ap (λ k. k.place) core_is) h.resident;
     held = λ i. subst (λ k. holds_row (k.row i) x.own ≡ true ↔ Has i (with_row x.held row).rows) (sym core_is) (row_held i);
@@ -373,7 +368,7 @@ module _ (z : Shape) (v w : View) (x : Session) (log : Log) (h : Holds z v x log
     seen = seen;
     met = met;
     held = held_is;
-    session = subst (λ k. k ≡ record x { clock = k.clock; debt = k.debt; held = with_row x.held row }) (sym y_is) refl;
+    session = subst (λ k. k ≡ record x { clock = risen x.clock k.clock; held = with_row x.held row }) (sym y_is) refl;
     mine = lock_mine z v w x log h row (mode_of (event_mode mode)) low is_open given held_is core_is;
     alone = λ e. lock_alone z v w x log h row (mode_of (event_mode mode)) low is_open given held_is core_is (ap (λ k. mode_of (event_mode k)) e);
   }
@@ -455,7 +450,7 @@ module _ (z : Shape) (v : View) (x : Session) (log : Log) (h : Holds z v x log) 
   same_session : record (met_session x held_row.number held_row.log held_row.read_end) { held = with_row x.held row } ≡ x
   same_session =
       let t = lone_row v (h.rows.workers ∙ only) row in
-      let c = subst (λ w. ((state v).core.worker w).clock ≡ x.clock) one h.session.clock in
+      let c = subst (λ w. ((state v).core.worker w).clock ≡ x.clock.clock) one h.session.clock in
       (λ i. record (met_nothing x held_row.number held_row.log held_row.read_end one (let n = t.number in omega arith) (let n = t.read_end in omega arith) sound.log i) { held = with_row x.held row }) ∙ ap (λ k. record x { held = k }) same_held
 
   module _ (w : View) (is_open : x.is_open ≡ true) (low : row < x.held.count) (t : locking.HasAgain z.alone x.own row Shared v w) (held_is : w.held ≡ v.held) where

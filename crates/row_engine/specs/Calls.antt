@@ -17,9 +17,9 @@ use Rattle.row_engine.specs.declared.commits.Ended.{Ended}
 use Rattle.row_engine.specs.declared.session.Session.{Session}
 
 -- It was answered so, and its view is tied to one outcome more, behind which an abort may be half done.
-pub record DoesOn (g : Opening) (group : ℕ) (xs : List Done) (own : ℕ) (c : Call) (a : Answer) (half : Bool) (w : View) (was is : Log) (old new : Story) : Type 0 where
+pub record DoesOn (g : Opening) (group : ℕ) (xs : List Done) (own : ℕ) (c : Call) (a : Answer) (is_half_aborted : Bool) (w : View) (was is : Log) (old new : Story) : Type 0 where
   pub does : Does g group xs own c a was is old new
-  pub ties : Ties g group (does.done ∷ xs) own half w
+  pub ties : Ties g group (does.done ∷ xs) own is_half_aborted w
 
 -- where the disk failed this, and else that
 abbrev pub Comes : Answer → (does fails : Type 0) → Type 0

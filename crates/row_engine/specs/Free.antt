@@ -2,7 +2,7 @@
 use Rattle.std.specs.Prelude.{ℕ, List, [], ◌∷◌, Option, Some, None}
 use Rattle.page_model.specs.Nodes.{Node}
 use Rattle.page_model.specs.Page as stored
-use Rattle.open_rows.specs.Opened.{contents_of, page_at}
+use Rattle.row_opening.specs.Opened.{contents_of, page_at}
 
 -- the nodes of these pages
 abbrev pub nodes_in : List stored.Page → ℕ → Node

@@ -22,6 +22,7 @@ use Rattle.row_opening.specs.Openings.{Opens}
 use Rattle.rows_trait.specs.declared.view.View.{View}
 use Rattle.rows_trait.specs.Views.{state}
 use Rattle.worker_log.specs.Logs.{Log}
+use Rattle.flush_avoidance.specs.Clocks.{risen}
 use Rattle.row_engine.specs.Others.{Steps}
 use Rattle.row_engine.specs.declared.session.Session.{Session}
 
@@ -60,7 +61,7 @@ pub record Gained (own : ℕ) (g : Opening) (xs : List Done) (start : List happe
   pub behind : Behind g xs (start ++ events) w
   pub aside : AreAside own events
   pub logs : Logs own g (behind_first g xs start) events was is
-  pub makes : MakesRoom g (behind_first g xs start) key events
+  pub makes : MakesRoom own g (behind_first g xs start) key events
 
 -- From the view v on the session made room for the key, by these changes of the tree, each of which took a free page.
 pub record Grows (key : ℕ) (v w : View) (x y : Session) (was is : Log) : Type 0 where
@@ -68,7 +69,7 @@ pub record Grows (key : ℕ) (v w : View) (x y : Session) (was is : Log) : Type 
   pub given : w.given ≡ v.given
   pub seen : w.seen ≡ v.seen ++ events
   pub steps : Steps x.own v w
-  pub session : y ≡ record x { clock = y.clock; debt = y.debt; free = y.free }
+  pub session : y ≡ record x { clock = risen x.clock y.clock; free = y.free }
   pub fewer : length events + length y.free ≡ length x.free
   pub flushed : is.flushed ≡ was.flushed
   -- where there were any, there was a way to room at first

@@ -1,5 +1,6 @@
 -- An engine as it begins, on rows that were opened.
 use Rattle.std.specs.Prelude.{◌≡◌, ◌≤◌, ◌<◌, ◌%◌, ◌^◌, ℕ, true, false, List, [], length}
+use Rattle.page_model.specs.Limits.{most_sessions}
 use Rattle.page_model.specs.Page.{Page}
 use Rattle.core_calls.specs.Room.{free_list}
 use Rattle.core_state.specs.Openings.{Opening, start_page}
@@ -9,7 +10,7 @@ use Rattle.row_words.specs.Moments.{events_of, format_of}
 use Rattle.rows_trait.specs.declared.view.View.{View}
 use Rattle.rows_trait.specs.Plain.{sizes}
 use Rattle.rows_trait.specs.Views.{Shape, no_place, state}
-use Rattle.open_rows.specs.Opened.{contents_of, page_at}
+use Rattle.row_opening.specs.Opened.{contents_of, page_at}
 use Rattle.row_opening.specs.Openings.{Opens}
 use Rattle.lean_proto.specs.Paging.{IsResident}
 use Rattle.worker_log.specs.Logs.{Log}
@@ -21,16 +22,16 @@ use Rattle.row_engine.specs.declared.session.Session.{Session}
 -- a session that has done nothing, where all is flushed up to the base
 pub record IsFirst (base : ℕ) (x : Session) : Type 0 where
   pub group : 0 < x.group
-  pub behind : x.behind ≡ 0
+  pub behind : x.unflushed ≡ 0
   pub works : x.works ≡ true
   pub is_open : x.is_open ≡ false
   pub txn : x.txn ≡ 0
-  pub clock : x.clock ≡ base
-  pub floor : x.floor ≡ base
-  pub debt : x.debt ≡ 0
+  pub clock : x.clock.clock ≡ base
+  pub floor : x.clock.floor ≡ base
+  pub debt : x.clock.debt ≡ 0
   pub end : x.end ≡ base
   pub undo : x.undo ≡ []
-  pub half : x.half ≡ false
+  pub is_half_aborted : x.is_half_aborted ≡ false
   pub rows : x.held.rows ≡ []
 
 -- The rows began as an opening, behind loads alone by which each page, also a free one, came into the frame of its own number. The seat is
@@ -55,11 +56,11 @@ pub record IsOpened (g : Opening) (z : Shape) (v : View) (x : Session) (log : Lo
 
 -- Then the engine is as between two calls, and tied to a run with no outcome yet.
 abbrev pub EveryOpened : Type 0
-EveryOpened = (g : Opening) (z : Shape) (v : View) (x : Session) (log : Log) → IsOpened g z v x log → Holds z v x log × Ties g x.group [] x.own x.half v
+EveryOpened = (g : Opening) (z : Shape) (v : View) (x : Session) (log : Log) → IsOpened g z v x log → Holds z v x log × Ties g x.group [] x.own x.is_half_aborted v
 
 -- So it is for each session of the same rows.
 abbrev pub EveryFellow : Type 0
-EveryFellow = (g : Opening) (z : Shape) (v : View) (x : Session) (log : Log) (own : ℕ) (few : own ≤ 16) → IsOpened g z v x log → 0 < own → own ≤ x.workers → IsOpened g z v (record x { own = own; few = few }) log
+EveryFellow = (g : Opening) (z : Shape) (v : View) (x : Session) (log : Log) (own : ℕ) (few : own ≤ most_sessions) → IsOpened g z v x log → 0 < own → own ≤ x.workers → IsOpened g z v (record x { own = own; few = few }) log
 
 -- ## On pages
 

@@ -1,9 +1,11 @@
 -- What a put does behind the taking of its row.
 use Rattle.std.specs.Prelude.{◌≡◌, ◌<◌, ◌%◌, ◌-◌, ◌^◌, ℕ, suc, Bool, ◌++◌, true, false, [], ◌∷◌, length, Option, Result, Err}
+use Rattle.page_model.specs.Limits.{transaction_changes}
 use Rattle.map_model.specs.declared.call.Refusal.{Refusal}
 use Rattle.map_model.specs.declared.call.Refusal.TheVariants as refusal
 use Rattle.core_state.specs.Events as happening
 use Rattle.core_state.specs.Needs.{is_held_by, may, value_in}
+use Rattle.core_calls.specs.Room.{room_takes}
 use Rattle.lean_disk.specs.Moments.{Framed}
 use Rattle.lean_disk.specs.Story.{Story}
 use Rattle.log_record.specs.declared.record.Record.{Record}
@@ -13,19 +15,20 @@ use Rattle.rows_trait.specs.declared.view.View.{View}
 use Rattle.rows_trait.specs.Views.{state}
 use Rattle.btree_descent.specs.Puts.{change_of}
 use Rattle.worker_log.specs.Calls.{After}
-use Rattle.worker_log.specs.Logs.{Log, limit, used}
+use Rattle.worker_log.specs.Logs.{Log}
 use Rattle.log_calls.specs.Calls.{KeepsWithin, StagesOn}
 use Rattle.engine_calls.specs.Clauses.{OnLog}
 use Rattle.row_engine.specs.declared.session.Session.{Session}
+use Rattle.row_engine.specs.Undo.{HasRoomToStage}
 
--- no test refuses it, and its row is held alone
+-- No test refuses it, its row is held alone, and the log has room for the changes of the tree that room for the key takes, for the change, and for what it puts back.
 pub record MayChange (v : View) (x : Session) (log : Log) (key : ℕ) : Type 0 where
   pub works : x.works ≡ true
   pub is_open : x.is_open ≡ true
-  pub whole : x.half ≡ false
-  pub few : length x.undo < 64
-  pub small : x.clock < 2 ^ 62
-  pub room : used log < limit log
+  pub whole : x.is_half_aborted ≡ false
+  pub few : length x.undo < transaction_changes
+  pub small : x.clock.clock < 2 ^ 62
+  pub room : HasRoomToStage log (suc (room_takes (opening v.given) (state v).core key))
   pub row : is_held_by ((state v).core.row (key % x.held.count)).holder x.own ≡ true
   pub key_low : key < 2 ^ 64 - 1
 
@@ -56,9 +59,10 @@ works_after (Err refusal.Broken) = false
 works_after (Err refusal.DiskFault) = false
 works_after _ = true
 
--- a refusal that comes before all that is done; one by the log or the clock may come behind room that was made
+-- a refusal that comes before all that is done; one by the clock may come behind room that was made
 abbrev pub IsEarly : Refusal → Type 0
 IsEarly refusal.Broken = Unit {0}
 IsEarly refusal.NoTransaction = Unit {0}
 IsEarly refusal.TooLong = Unit {0}
+IsEarly (refusal.LogFull used limit) = Unit {0}
 IsEarly _ = ⊥

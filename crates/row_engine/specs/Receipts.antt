@@ -13,4 +13,4 @@ use Rattle.row_engine.specs.declared.session.Session.{Session}
 pub record IsEnded (v : View) (y : Session) (e : Ended) : Type 0 where
   pub number : e.number ≡ y.txn
   pub at : e.at ≡ y.end
-  pub need : e.need ≡ need_of y.debt (flushed_by_all (opening v.given) (state v).core)
+  pub need : e.need ≡ need_of y.clock.debt (flushed_by_all (opening v.given) (state v).core)

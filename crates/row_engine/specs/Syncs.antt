@@ -40,7 +40,7 @@ pub record FlushesOwn (v w : View) (x y : Session) (was is : Log) (old new : Sto
   pub seen : w.seen ≡ v.seen ++ flushes_of x.own was
   pub core : events_of (flushes_of x.own was) ≡ flush_of x.own was
   pub steps : Steps x.own v w
-  pub session : y ≡ record x { behind = y.behind }
+  pub session : y ≡ record x { unflushed = y.unflushed }
   pub after : is ≡ flushed_of was
   pub last : is.last ≡ was.last
   pub flushed : is.flushed ≡ is.last
@@ -57,7 +57,7 @@ pub record HasSynced (v w : View) (number : ℕ) : Type 0 where
 
 -- a session behind a sync up to this number
 abbrev pub synced_session : Session → ℕ → Session
-synced_session x number = record x { clock = number; behind = 0 }
+synced_session x number = record x { clock = record x.clock { clock = number }; unflushed = 0 }
 
 -- Behind a sync each session whose log is flushed whole is as between two calls, with its clock and its log raised to the number.
 abbrev pub EverySynced : Type 0

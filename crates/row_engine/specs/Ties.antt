@@ -17,10 +17,10 @@ use Rattle.rows_trait.specs.declared.view.View.{View}
 
 -- The rows began as the opening. The view has seen just the events of these outcomes, each of which is told behind those before it, and behind them
 -- maybe the loads of the opening, which the next call takes to its own events. The outcomes tell whether an abort of session `own` is half done.
-pub record Ties (g : Opening) (group : ℕ) (xs : List Done) (own : ℕ) (half : Bool) (v : View) : Type 0 where
+pub record Ties (g : Opening) (group : ℕ) (xs : List Done) (own : ℕ) (is_half_aborted : Bool) (v : View) : Type 0 where
   pub opens : Opens g v.given
   pub told : EachTells limits g group xs
-  pub half_is : is_half_done own xs ≡ half
+  pub half_is : is_half_done own xs ≡ is_half_aborted
   pub loads : List Event
   pub are_loads : AreLoads loads
   pub few : length loads ≤ 2 ^ 16

@@ -4,10 +4,10 @@ ghost use Rattle.engine_trait.specs.Calls.{IsTold};
 ghost use Rattle.lean_disk.specs.Faults.{HasCause};
 ghost use Rattle.map_model.specs.declared.call.Call.{Call};
 ghost use Rattle.map_model.specs.declared.call.Refusal.{Refusal};
-ghost use Rattle.row_engine.specs.Aborts.{Finishes};
-ghost use Rattle.row_engine.specs.Backs.{PutsAllBack};
+ghost use Rattle.row_engine.specs.Inside.Aborts.{Finishes};
+ghost use Rattle.row_engine.specs.Inside.Backs.{PutsAllBack};
 ghost use Rattle.row_engine.specs.Calls.{AbortDoes, IsSameSession, abort_answer};
-ghost use Rattle.row_engine.specs.Ends.{Latched};
+ghost use Rattle.row_engine.specs.Inside.Ends.{Latched};
 ghost use Rattle.row_engine.specs.Holds.{Holds};
 ghost use Rattle.row_engine.specs.Others.{Steps};
 ghost use Rattle.row_engine.specs.Receipts.{IsEnded};
@@ -15,8 +15,8 @@ ghost use Rattle.row_engine.specs.Puts.{works_after};
 
 use crate::backs::put_back;
 use crate::begins::least_flushed;
-use crate::commits::{Ended, close, end_rows, latch_rows, need, unlatch_rows};
-use crate::store::{Stages, Store};
+use crate::commits::{Ended, close, end_rows, latch_rows, unlatch_rows};
+use crate::work::{Stages, Work};
 use key_locks::latches::Latches;
 use log_record::{Body, Record};
 use map_model::Refusal;
@@ -26,17 +26,18 @@ use rows_trait::rows::Rows;
 fn put_back_all<R: Rows, D: Stages>(
     rows: &mut R,
     seat: &mut R::Seat,
-    store: &mut Store<D>,
+    work: &mut Work<D>,
 ) -> Result<(), Refusal>
     requires fits { R.fits rows.old seat.old }
-    requires holds { Holds (R.shape rows.old) (R.view seat.old) store.old.session store.old.log }
-    requires works { store.old.session.works ≡ true }
-    requires is_open { store.old.session.is_open ≡ true }
+    requires holds { Holds (R.shape rows.old) (R.view seat.old) work.old.session work.old.log }
+    requires works { work.old.session.works ≡ true }
+    requires is_open { work.old.session.is_open ≡ true }
     ensures fits { R.fits rows.new seat.new × (R.shape rows.new ≡ R.shape rows.old) }
-    ensures holds { store.new.session.works ≡ true → Holds (R.shape rows.new) (R.view seat.new) store.new.session store.new.log }
-    ensures backs { PutsAllBack result (R.view seat.old) (R.view seat.new) store.old.session store.new.session store.old.log store.new.log (D.story store.old.disk) (D.story store.new.disk) }
-    ensures works { store.new.session.works ≡ works_after result }
-    ensures cause_disk_fault { HasCause (D.faults store.old.disk) (D.faults store.new.disk) (result ≡ Err Refusal.DiskFault) }
+    ensures holds { work.new.session.works ≡ true → Holds (R.shape rows.new) (R.view seat.new) work.new.session work.new.log }
+    ensures session { IsSameSession work.old.session work.new.session }
+    ensures backs { PutsAllBack result (R.view seat.old) (R.view seat.new) work.old.session work.new.session work.old.log work.new.log (D.story work.old.disk) (D.story work.new.disk) }
+    ensures works { work.new.session.works ≡ works_after result }
+    ensures cause_disk_fault { HasCause (D.faults work.old.disk) (D.faults work.new.disk) (result ≡ Err Refusal.DiskFault) }
 {
     core_disk::every_version();
     worker_log::every_kept();
@@ -45,10 +46,10 @@ fn put_back_all<R: Rows, D: Stages>(
     row_opening::every_reached();
     row_opening::every_need();
     'left: loop {
-        if store.session.undo.len() == 0 {
+        if work.session.undo.len() == 0 {
             return Ok(());
         }
-        if let Err(why) = put_back(rows, seat, store) {
+        if let Err(why) = put_back(rows, seat, work) {
             return Err(why);
         }
     }
@@ -58,41 +59,41 @@ fn put_back_all<R: Rows, D: Stages>(
 fn finish<R: Rows, D: Stages>(
     rows: &mut R,
     seat: &mut R::Seat,
-    store: &mut Store<D>,
+    work: &mut Work<D>,
     latches: &mut Latches,
 ) -> Result<Ended, Refusal>
     requires fits { R.fits rows.old seat.old }
-    requires latched { Latched (R.shape rows.old) (R.view seat.old) store.old.session store.old.log latches.old }
-    requires is_open { store.old.session.is_open ≡ true }
-    requires works { store.old.session.works ≡ true }
-    requires left { store.old.session.undo ≡ [] }
+    requires latched { Latched (R.shape rows.old) (R.view seat.old) work.old.session work.old.log latches.old }
+    requires is_open { work.old.session.is_open ≡ true }
+    requires works { work.old.session.works ≡ true }
+    requires left { work.old.session.undo ≡ [] }
     ensures fits { R.fits rows.new seat.new × (R.shape rows.new ≡ R.shape rows.old) }
-    ensures holds { store.new.session.works ≡ true → Holds (R.shape rows.new) (R.view seat.new) store.new.session store.new.log }
-    ensures session { store.new.session.works ≡ true → IsSameSession store.old.session store.new.session }
-    ensures unmarked { store.new.session.works ≡ true → latches.new ≡ replicate store.old.session.held.count false }
-    ensures finishes { Finishes result (R.view seat.old) (R.view seat.new) store.old.session store.old.log store.new.log (D.story store.old.disk) (D.story store.new.disk) }
-    ensures receipt { IfOk result (IsEnded (R.view seat.old) store.new.session) }
-    ensures whole { store.new.session.works ≡ true → store.new.session.half ≡ false }
-    ensures works { store.new.session.works ≡ works_after result }
-    ensures cause_disk_fault { HasCause (D.faults store.old.disk) (D.faults store.new.disk) (result ≡ Err Refusal.DiskFault) }
+    ensures holds { work.new.session.works ≡ true → Holds (R.shape rows.new) (R.view seat.new) work.new.session work.new.log }
+    ensures session { IsSameSession work.old.session work.new.session }
+    ensures unmarked { work.new.session.works ≡ true → latches.new ≡ replicate work.old.session.held.count false }
+    ensures finishes { Finishes result (R.view seat.old) (R.view seat.new) work.old.session work.old.log work.new.log (D.story work.old.disk) (D.story work.new.disk) }
+    ensures receipt { IfOk result (IsEnded (R.view seat.old) work.new.session) }
+    ensures whole { work.new.session.works ≡ true → work.new.session.is_half_aborted ≡ false }
+    ensures works { work.new.session.works ≡ works_after result }
+    ensures cause_disk_fault { HasCause (D.faults work.old.disk) (D.faults work.new.disk) (result ≡ Err Refusal.DiskFault) }
 {
     lean_proto::every_turn();
-    let own = store.session.own;
-    let txn = store.session.txn;
-    let number = store.session.clock + 1;
-    let floor = least_flushed(rows, seat, store.session.workers);
-    let need = need(store.session.debt, floor);
+    let own = work.session.own;
+    let txn = work.session.txn;
+    let number = work.session.clock.clock + 1;
+    let floor = least_flushed(rows, seat, work.session.workers);
+    let need = work.session.clock.need(floor);
     let entry = Record {
         txn,
         gsn: number,
         body: Body::Abort { need },
     };
-    if let Err(_) = log_calls::stage_end(&mut store.disk, &mut store.log, own, &entry) {
-        store.session.works = false;
+    if let Err(_) = log_calls::stage_end(&mut work.disk, &mut work.log, own, &entry) {
+        work.session.works = false;
         return Err(Refusal::DiskFault);
     }
-    end_rows(rows, seat, &store.session, latches, false, floor, number);
-    close(&mut store.session, number);
+    end_rows(rows, seat, &work.session, latches, false, floor, number);
+    close(&mut work.session, number);
     Ok(Ended {
         number: txn,
         at: number,
@@ -103,30 +104,31 @@ fn finish<R: Rows, D: Stages>(
 /// The session's transaction is aborted: what it changed is put back, the newest change first, its end is staged, and the lock rows that it
 /// holds are given back. Nothing is flushed. Where a latch has come to its end the abort is refused, and the next
 /// one goes on.
+#[inline(never)]
 pub fn abort<R: Rows, D: Stages>(
     rows: &mut R,
     seat: &mut R::Seat,
-    store: &mut Store<D>,
+    work: &mut Work<D>,
     latches: &mut Latches,
 ) -> Result<Ended, Refusal>
     requires fits { R.fits rows.old seat.old }
-    requires holds { store.old.session.works ≡ true → Holds (R.shape rows.old) (R.view seat.old) store.old.session store.old.log }
-    requires unmarked { store.old.session.works ≡ true → latches.old ≡ replicate store.old.session.held.count false }
+    requires holds { work.old.session.works ≡ true → Holds (R.shape rows.old) (R.view seat.old) work.old.session work.old.log }
+    requires unmarked { work.old.session.works ≡ true → latches.old ≡ replicate work.old.session.held.count false }
     ensures fits { R.fits rows.new seat.new × (R.shape rows.new ≡ R.shape rows.old) }
-    ensures holds { store.new.session.works ≡ true → Holds (R.shape rows.new) (R.view seat.new) store.new.session store.new.log }
-    ensures session { store.new.session.works ≡ true → IsSameSession store.old.session store.new.session }
+    ensures holds { work.new.session.works ≡ true → Holds (R.shape rows.new) (R.view seat.new) work.new.session work.new.log }
+    ensures session { IsSameSession work.old.session work.new.session }
     // Whatever happened is of this session.
-    ensures steps { store.old.session.works ≡ true → store.new.session.works ≡ true → Steps store.old.session.own (R.view seat.old) (R.view seat.new) }
-    ensures unmarked { store.new.session.works ≡ true → latches.new ≡ latches.old }
-    ensures does { store.old.session.works ≡ true → AbortDoes store.old.session.own store.old.session.group store.old.session.is_open (abort_answer result) store.old.session.half store.new.session.half (R.view seat.old) (R.view seat.new) store.old.log store.new.log (D.story store.old.disk) (D.story store.new.disk) }
-    ensures receipt { IfOk result (IsEnded (R.view seat.old) store.new.session) }
-    ensures works { (store.new.session.works ≡ true) ↔ ((store.old.session.works ≡ true) × (result ≡ Err Refusal.DiskFault → ⊥)) }
+    ensures steps { work.old.session.works ≡ true → work.new.session.works ≡ true → Steps work.old.session.own (R.view seat.old) (R.view seat.new) }
+    ensures unmarked { work.new.session.works ≡ true → latches.new ≡ latches.old }
+    ensures does { work.old.session.works ≡ true → AbortDoes work.old.session.own work.old.session.group work.old.session.is_open (abort_answer result) work.old.session.is_half_aborted work.new.session.is_half_aborted (R.view seat.old) (R.view seat.new) work.old.log work.new.log (D.story work.old.disk) (D.story work.new.disk) }
+    ensures receipt { IfOk result (IsEnded (R.view seat.old) work.new.session) }
+    ensures works { (work.new.session.works ≡ true) ↔ ((work.old.session.works ≡ true) × (result ≡ Err Refusal.DiskFault → ⊥)) }
     ensures told { IfErr result (λ why. IsTold why ⊎ ((why ≡ Refusal.Broken) ⊎ (why ≡ Refusal.DiskFault))) }
-    ensures same_broken { result ≡ Err Refusal.Broken → (R.view seat.new ≡ R.view seat.old) × (store.new ≡ store.old) × (latches.new ≡ latches.old) }
-    ensures same_closed { result ≡ Err Refusal.NoTransaction → (R.view seat.new ≡ R.view seat.old) × (store.new ≡ store.old) × (latches.new ≡ latches.old) }
+    ensures same_broken { result ≡ Err Refusal.Broken → (R.view seat.new ≡ R.view seat.old) × (work.new ≡ work.old) × (latches.new ≡ latches.old) }
+    ensures same_closed { result ≡ Err Refusal.NoTransaction → (R.view seat.new ≡ R.view seat.old) × (work.new ≡ work.old) × (latches.new ≡ latches.old) }
 
-    ensures cause_broken { (result ≡ Err Refusal.Broken) ↔ (store.old.session.works ≡ false) }
-    ensures cause_disk_fault { HasCause (D.faults store.old.disk) (D.faults store.new.disk) (result ≡ Err Refusal.DiskFault) }
+    ensures cause_broken { (result ≡ Err Refusal.Broken) ↔ (work.old.session.works ≡ false) }
+    ensures cause_disk_fault { HasCause (D.faults work.old.disk) (D.faults work.new.disk) (result ≡ Err Refusal.DiskFault) }
 {
     core_disk::every_version();
     worker_log::every_kept();
@@ -137,16 +139,16 @@ pub fn abort<R: Rows, D: Stages>(
     engine_calls::every_entry();
     row_opening::every_reached();
     row_opening::every_need();
-    if let Some(why) = store.session.abort_refusal() {
+    if let Some(why) = work.session.abort_refusal() {
         return Err(why);
     }
-    if let Err(why) = put_back_all(rows, seat, store) {
+    if let Err(why) = put_back_all(rows, seat, work) {
         return Err(why);
     }
-    let frames = store.session.frames;
-    if !latch_rows(rows, seat, &store.session, latches) {
-        unlatch_rows(rows, seat, frames, &store.session.held, latches);
+    let frames = work.session.frames;
+    if !latch_rows(rows, seat, &work.session, latches) {
+        unlatch_rows(rows, seat, frames, &work.session.held, latches);
         return Err(Refusal::RowSpent);
     }
-    finish(rows, seat, store, latches)
+    finish(rows, seat, work, latches)
 }

@@ -2,14 +2,15 @@
 ghost use Rattle.std.specs.Prelude.{◌≡◌, ◌<◌, Err, Some, true, length};
 ghost use Rattle.lean_disk.specs.Faults.{HasCause};
 ghost use Rattle.map_model.specs.declared.call.Refusal.{Refusal};
-ghost use Rattle.row_engine.specs.Backs.{StepsBack};
+ghost use Rattle.row_engine.specs.Inside.Backs.{StepsBack};
+ghost use Rattle.row_engine.specs.Calls.{IsSameSession};
 ghost use Rattle.row_engine.specs.Holds.{Holds};
 ghost use Rattle.row_engine.specs.Puts.{works_after};
 ghost use Rattle.row_engine.specs.Undo.{newest_of};
 
 use crate::session::Session;
-use crate::store::{Stages, Store};
 use crate::undo::Undone;
+use crate::work::{Stages, Work};
 use btree_descent::put::{Put, leaf_put_back};
 use draw_trait::draw::Unstaged;
 use lean_proto::path::Path;
@@ -31,48 +32,49 @@ fn newest_left(session: &Session) -> Undone
 pub(crate) fn put_back<R: Rows, D: Stages>(
     rows: &mut R,
     seat: &mut R::Seat,
-    store: &mut Store<D>,
+    work: &mut Work<D>,
 ) -> Result<(), Refusal>
     requires fits { R.fits rows.old seat.old }
-    requires holds { Holds (R.shape rows.old) (R.view seat.old) store.old.session store.old.log }
-    requires works { store.old.session.works ≡ true }
-    requires is_open { store.old.session.is_open ≡ true }
-    requires left { 0 < length store.old.session.undo }
+    requires holds { Holds (R.shape rows.old) (R.view seat.old) work.old.session work.old.log }
+    requires works { work.old.session.works ≡ true }
+    requires is_open { work.old.session.is_open ≡ true }
+    requires left { 0 < length work.old.session.undo }
     ensures fits { R.fits rows.new seat.new × (R.shape rows.new ≡ R.shape rows.old) }
-    ensures holds { store.new.session.works ≡ true → Holds (R.shape rows.new) (R.view seat.new) store.new.session store.new.log }
-    ensures backs { StepsBack result (R.view seat.old) (R.view seat.new) store.old.session store.new.session store.old.log store.new.log (D.story store.old.disk) (D.story store.new.disk) (store.new ≡ store.old) }
-    ensures works { store.new.session.works ≡ works_after result }
-    ensures cause_disk_fault { HasCause (D.faults store.old.disk) (D.faults store.new.disk) (result ≡ Err Refusal.DiskFault) }
+    ensures holds { work.new.session.works ≡ true → Holds (R.shape rows.new) (R.view seat.new) work.new.session work.new.log }
+    ensures session { IsSameSession work.old.session work.new.session }
+    ensures backs { StepsBack result (R.view seat.old) (R.view seat.new) work.old.session work.new.session work.old.log work.new.log (D.story work.old.disk) (D.story work.new.disk) (work.new ≡ work.old) }
+    ensures works { work.new.session.works ≡ works_after result }
+    ensures cause_disk_fault { HasCause (D.faults work.old.disk) (D.faults work.new.disk) (result ≡ Err Refusal.DiskFault) }
 {
     core_calls::every_room();
     rows_trait::every_low();
-    let undone = newest_left(&store.session);
-    let frames = store.session.frames;
-    // From here on an abort is under way, so its records may take the blocks that are kept back.
-    let half = store.session.half;
-    store.session.half = true;
+    let undone = newest_left(&work.session);
+    let frames = work.session.frames;
+    // From here on an abort is under way.
+    let is_half_aborted = work.session.is_half_aborted;
+    work.session.is_half_aborted = true;
     let mut path = Path::new();
     match leaf_put_back(
         rows,
         seat,
-        store.session.own,
+        work.session.own,
         frames,
         undone.key,
         undone.word,
         &mut path,
-        store,
+        work,
     ) {
         Put::Done(_) => {
-            store.session.undo.pop();
+            work.session.undo.pop();
             Ok(())
         }
         Put::RowSpent { row: _ } => {
-            store.session.half = half;
+            work.session.is_half_aborted = is_half_aborted;
             rows.versions(seat);
             Err(Refusal::RowSpent)
         }
         Put::Unstaged(Unstaged::DiskFault) => {
-            store.session.works = false;
+            work.session.works = false;
             Err(Refusal::DiskFault)
         }
         // The key has an entry, the log has a block, each page stands in a frame, no number is above the clock, and nobody else steps.

@@ -1,5 +1,6 @@
 // A begin.
 ghost use Rattle.std.specs.Prelude.{◌≡◌, ◌⊎◌, ◌↔◌, ◌≤◌, IfErr, IfOk, IsErr, IsOk, Err, None, Some, true, false, min};
+ghost use Rattle.page_model.specs.Limits.{most_sessions};
 ghost use Rattle.engine_trait.specs.Calls.{IsTold};
 ghost use Rattle.map_model.specs.declared.call.Call.{Call};
 ghost use Rattle.map_model.specs.declared.call.Refusal.{Refusal};
@@ -12,7 +13,7 @@ ghost use Rattle.row_engine.specs.Holds.{Holds};
 ghost use Rattle.row_engine.specs.Others.{Steps};
 ghost use Rattle.rows_trait.specs.Views.{state};
 
-use crate::store::Store;
+use crate::work::Work;
 use lean_disk::Disk;
 use map_model::Refusal;
 use rows_trait::names::{Names, Nothing};
@@ -36,7 +37,7 @@ impl Names for Beginning {
 pub(crate) fn least_flushed<R: Rows>(rows: &mut R, seat: &mut R::Seat, count: u32) -> u64
     requires fits { R.fits rows.old seat.old }
     requires count { count ≤ (R.shape rows.old).sizes.workers }
-    requires few { count ≤ 16 }
+    requires few { count ≤ most_sessions }
     ensures fits { R.fits rows.new seat.new × (R.shape rows.new ≡ R.shape rows.old) }
     ensures seen { (R.shape rows.old).alone ≡ true → Looked (R.view seat.old) (R.view seat.new) }
     ensures least { (R.shape rows.old).alone ≡ true → result ≡ flushed_to (state (R.view seat.old)).core count }
@@ -60,36 +61,36 @@ fn lesser(a: u64, b: u64) -> u64
 pub fn begin<R: Rows, D: Disk>(
     rows: &mut R,
     seat: &mut R::Seat,
-    store: &mut Store<D>,
+    work: &mut Work<D>,
 ) -> Result<u64, Refusal>
     requires fits { R.fits rows.old seat.old }
-    requires holds { store.old.session.works ≡ true → Holds (R.shape rows.old) (R.view seat.old) store.old.session store.old.log }
+    requires holds { work.old.session.works ≡ true → Holds (R.shape rows.old) (R.view seat.old) work.old.session work.old.log }
     ensures fits { R.fits rows.new seat.new × (R.shape rows.new ≡ R.shape rows.old) }
-    ensures holds { store.new.session.works ≡ true → Holds (R.shape rows.new) (R.view seat.new) store.new.session store.new.log }
-    ensures session { store.new.session.works ≡ true → IsSameSession store.old.session store.new.session }
+    ensures holds { work.new.session.works ≡ true → Holds (R.shape rows.new) (R.view seat.new) work.new.session work.new.log }
+    ensures session { IsSameSession work.old.session work.new.session }
     // Whatever happened is of this session.
-    ensures steps { store.old.session.works ≡ true → store.new.session.works ≡ true → Steps store.old.session.own (R.view seat.old) (R.view seat.new) }
-    ensures begins { IfOk result (Begins (R.view seat.old) (R.view seat.new) store.old.session store.new.session) }
-    ensures refused { IfErr result (λ why. store.old.session.works ≡ true → refusal_in (opening (R.view seat.old).given) (state (R.view seat.old)).core store.old.session.own store.old.session.half store.old.log Call.Begin ≡ Some why) }
-    ensures free { IsOk result → refusal_in (opening (R.view seat.old).given) (state (R.view seat.old)).core store.old.session.own store.old.session.half store.old.log Call.Begin ≡ None }
-    ensures same { IsErr result → (R.view seat.new ≡ R.view seat.old) × (store.new ≡ store.old) }
+    ensures steps { work.old.session.works ≡ true → work.new.session.works ≡ true → Steps work.old.session.own (R.view seat.old) (R.view seat.new) }
+    ensures begins { IfOk result (Begins (R.view seat.old) (R.view seat.new) work.old.session work.new.session) }
+    ensures refused { IfErr result (λ why. work.old.session.works ≡ true → refusal_in (opening (R.view seat.old).given) (state (R.view seat.old)).core work.old.session.own work.old.session.is_half_aborted work.old.log Call.Begin ≡ Some why) }
+    ensures free { IsOk result → refusal_in (opening (R.view seat.old).given) (state (R.view seat.old)).core work.old.session.own work.old.session.is_half_aborted work.old.log Call.Begin ≡ None }
+    ensures same { IsErr result → (R.view seat.new ≡ R.view seat.old) × (work.new ≡ work.old) }
     ensures come { IfErr result (λ why. IsTold why ⊎ (why ≡ Refusal.Broken)) }
     // It touches no device.
-    ensures same_disk { (store.new.disk ≡ store.old.disk) × (store.new.log ≡ store.old.log) × (store.new.session.works ≡ store.old.session.works) }
+    ensures same_disk { (work.new.disk ≡ work.old.disk) × (work.new.log ≡ work.old.log) × (work.new.session.works ≡ work.old.session.works) }
 
-    ensures cause_broken { (result ≡ Err Refusal.Broken) ↔ (store.old.session.works ≡ false) }
+    ensures cause_broken { (result ≡ Err Refusal.Broken) ↔ (work.old.session.works ≡ false) }
     ensures no_disk_fault { result ≡ Err Refusal.DiskFault → ⊥ }
 {
     lean_proto::every_begin();
     row_opening::every_reached();
     row_opening::every_need();
-    if let Some(why) = store.session.begin_refusal(&store.log) {
+    if let Some(why) = work.session.begin_refusal(&work.log) {
         return Err(why);
     }
-    let own = store.session.own;
-    let workers = store.session.workers;
+    let own = work.session.own;
+    let workers = work.session.workers;
     let least = least_flushed(rows, seat, workers - 1);
     let last = rows.load_control(seat, workers, 0, &Beginning { own, least });
-    store.session.begun(lesser(least, last));
-    Ok(store.session.txn)
+    work.session.begun(lesser(least, last));
+    Ok(work.session.txn)
 }

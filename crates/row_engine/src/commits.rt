@@ -5,12 +5,11 @@ ghost use Rattle.lean_disk.specs.Faults.{HasCause};
 ghost use Rattle.map_model.specs.declared.call.Call.{Call};
 ghost use Rattle.map_model.specs.declared.call.Refusal.{Refusal};
 ghost use Rattle.map_model.specs.Lists.{Has};
-ghost use Rattle.rfa_model.specs.Stamps.{need_of};
 ghost use Rattle.rows_trait.specs.Views.{state};
 ghost use Rattle.key_locks.specs.Latching.{is_marked};
 ghost use Rattle.key_locks.specs.Rows.{Sized, Spans};
 ghost use Rattle.row_engine.specs.Calls.{CallDoes, IsSameSession, commit_answer};
-ghost use Rattle.row_engine.specs.Ends.{AreAmong, AreHeld, AreMine, Ended as HasEnded, Gave, HasFlushed, Latched, Latching, MayEnd, MayFlush, Missed, ended_session, waiting_session};
+ghost use Rattle.row_engine.specs.Inside.Ends.{AreAmong, AreHeld, AreMine, Ended as HasEnded, Gave, HasFlushed, Latched, Latching, MayEnd, MayFlush, Missed, ended_session, waiting_session};
 ghost use Rattle.row_engine.specs.Puts.{KeepsLog};
 ghost use Rattle.row_engine.specs.Holds.{Holds};
 ghost use Rattle.row_engine.specs.Others.{Steps};
@@ -19,7 +18,7 @@ ghost use Rattle.row_engine.specs.Receipts.{IsEnded};
 use crate::begins::least_flushed;
 use crate::held::HeldRows;
 use crate::session::Session;
-use crate::store::Store;
+use crate::work::Work;
 use key_locks::latches::Latches;
 use lean_disk::Disk;
 use log_record::{Body, Record};
@@ -154,7 +153,7 @@ pub(crate) fn end_rows<R: Rows>(
 )
     requires fits { R.fits rows.old seat.old }
     requires may_end { MayEnd (R.shape rows.old) (R.view seat.old) session.now commit floor latches.old }
-    requires number { number ≡ session.now.clock + 1 }
+    requires number { number ≡ session.now.clock.clock + 1 }
     ensures fits { R.fits rows.new seat.new × (R.shape rows.new ≡ R.shape rows.old) }
     ensures unmarked { latches.new ≡ replicate session.now.held.count false }
     ensures ended { HasEnded session.now.own (length session.now.held.rows) (R.view seat.old) commit floor (R.view seat.new) }
@@ -165,67 +164,61 @@ pub(crate) fn end_rows<R: Rows>(
     unlock_rows(rows, seat, session, latches, number);
 }
 
-// What an end needs of other logs.
-pub(crate) fn need(debt: u64, floor: u64) -> u64
-    ensures { result ≡ need_of debt floor }
-{
-    if floor < debt { debt } else { 0 }
-}
-
 // The transaction of a session has ended, by this number.
 pub(crate) fn close(session: &mut Session, number: u64)
     ensures { session.new ≡ ended_session session.old number }
 {
     session.is_open = false;
-    session.clock = number;
+    session.clock.clock = number;
     session.end = number;
     session.undo.clear();
-    session.half = false;
+    session.is_half_aborted = false;
     session.held.clear();
 }
 
 // It has ended by a commit, which waits for a flush.
 fn close_by_commit(session: &mut Session, number: u64)
-    requires room { session.old.behind < session.old.group }
-    ensures { session.new ≡ waiting_session session.old number (session.old.behind + 1) }
+    requires room { session.old.unflushed < session.old.group }
+    ensures { session.new ≡ waiting_session session.old number (session.old.unflushed + 1) }
 {
     close(session, number);
-    session.behind += 1;
+    session.unflushed += 1;
 }
 
 // No commit of the session's log waits any more.
 pub(crate) fn settle(session: &mut Session)
-    ensures { session.new ≡ record session.old { behind = 0 } }
+    ensures { session.new ≡ record session.old { unflushed = 0 } }
 {
-    session.behind = 0;
+    session.unflushed = 0;
 }
 
 // Flushes the session's log, up to its clock, which is the number of its last record.
 fn flush_log<R: Rows, D: Disk>(
     rows: &mut R,
     seat: &mut R::Seat,
-    store: &mut Store<D>,
+    work: &mut Work<D>,
 ) -> Result<(), Refusal>
     requires fits { R.fits rows.old seat.old }
-    requires may { MayFlush (R.shape rows.old) (R.view seat.old) store.old.session store.old.log }
-    requires works { store.old.session.works ≡ true }
+    requires may { MayFlush (R.shape rows.old) (R.view seat.old) work.old.session work.old.log }
+    requires works { work.old.session.works ≡ true }
     ensures fits { R.fits rows.new seat.new × (R.shape rows.new ≡ R.shape rows.old) }
-    ensures flushed { OnOk result (HasFlushed (R.view seat.old) (R.view seat.new) store.old.session store.new.session store.old.log store.new.log (D.story store.old.disk) (D.story store.new.disk)) }
-    ensures keeps { KeepsLog store.old.session.own store.old.log (D.story store.old.disk) (D.story store.new.disk) }
-    ensures works { (store.new.session.works ≡ true) ↔ IsOk result }
+    ensures session { IsSameSession work.old.session work.new.session }
+    ensures flushed { OnOk result (HasFlushed (R.view seat.old) (R.view seat.new) work.old.session work.new.session work.old.log work.new.log (D.story work.old.disk) (D.story work.new.disk)) }
+    ensures keeps { KeepsLog work.old.session.own work.old.log (D.story work.old.disk) (D.story work.new.disk) }
+    ensures works { (work.new.session.works ≡ true) ↔ IsOk result }
 
     ensures only_disk_fault { IfErr result (λ why. why ≡ Refusal.DiskFault) }
-    ensures cause_disk_fault { HasCause (D.faults store.old.disk) (D.faults store.new.disk) (result ≡ Err Refusal.DiskFault) }
+    ensures cause_disk_fault { HasCause (D.faults work.old.disk) (D.faults work.new.disk) (result ≡ Err Refusal.DiskFault) }
 {
     lean_proto::every_turn();
-    let own = store.session.own;
-    let number = store.session.clock;
-    if let Err(_) = log_calls::flush(&mut store.disk, &mut store.log, own) {
-        store.session.works = false;
+    let own = work.session.own;
+    let number = work.session.clock.clock;
+    if let Err(_) = log_calls::flush(&mut work.disk, &mut work.log, own) {
+        work.session.works = false;
         return Err(Refusal::DiskFault);
     }
     rows.store_control(seat, own, 0, number, &Flushes { own, number });
-    settle(&mut store.session);
+    settle(&mut work.session);
     Ok(())
 }
 
@@ -233,25 +226,25 @@ fn flush_log<R: Rows, D: Disk>(
 fn finish<R: Rows, D: Disk>(
     rows: &mut R,
     seat: &mut R::Seat,
-    store: &mut Store<D>,
+    work: &mut Work<D>,
     latches: &mut Latches,
 ) -> Result<Ended, Refusal>
     requires fits { R.fits rows.old seat.old }
-    requires latched { Latched (R.shape rows.old) (R.view seat.old) store.old.session store.old.log latches.old }
-    requires is_open { store.old.session.is_open ≡ true }
-    requires whole { store.old.session.half ≡ false }
-    requires works { store.old.session.works ≡ true }
+    requires latched { Latched (R.shape rows.old) (R.view seat.old) work.old.session work.old.log latches.old }
+    requires is_open { work.old.session.is_open ≡ true }
+    requires whole { work.old.session.is_half_aborted ≡ false }
+    requires works { work.old.session.works ≡ true }
     ensures fits { R.fits rows.new seat.new × (R.shape rows.new ≡ R.shape rows.old) }
-    ensures holds { store.new.session.works ≡ true → Holds (R.shape rows.new) (R.view seat.new) store.new.session store.new.log }
-    ensures session { store.new.session.works ≡ true → IsSameSession store.old.session store.new.session }
-    ensures steps { store.new.session.works ≡ true → Steps store.old.session.own (R.view seat.old) (R.view seat.new) }
-    ensures unmarked { store.new.session.works ≡ true → latches.new ≡ replicate store.old.session.held.count false }
-    ensures does { CallDoes store.old.session.own store.old.session.group Call.Commit (commit_answer result) store.old.session.half store.new.session.half (R.view seat.old) (R.view seat.new) store.old.log store.new.log (D.story store.old.disk) (D.story store.new.disk) }
-    ensures receipt { IfOk result (IsEnded (R.view seat.old) store.new.session) }
-    ensures works { (store.new.session.works ≡ true) ↔ IsOk result }
+    ensures holds { work.new.session.works ≡ true → Holds (R.shape rows.new) (R.view seat.new) work.new.session work.new.log }
+    ensures session { IsSameSession work.old.session work.new.session }
+    ensures steps { work.new.session.works ≡ true → Steps work.old.session.own (R.view seat.old) (R.view seat.new) }
+    ensures unmarked { work.new.session.works ≡ true → latches.new ≡ replicate work.old.session.held.count false }
+    ensures does { CallDoes work.old.session.own work.old.session.group Call.Commit (commit_answer result) work.old.session.is_half_aborted work.new.session.is_half_aborted (R.view seat.old) (R.view seat.new) work.old.log work.new.log (D.story work.old.disk) (D.story work.new.disk) }
+    ensures receipt { IfOk result (IsEnded (R.view seat.old) work.new.session) }
+    ensures works { (work.new.session.works ≡ true) ↔ IsOk result }
 
     ensures only_disk_fault { IfErr result (λ why. why ≡ Refusal.DiskFault) }
-    ensures cause_disk_fault { HasCause (D.faults store.old.disk) (D.faults store.new.disk) (result ≡ Err Refusal.DiskFault) }
+    ensures cause_disk_fault { HasCause (D.faults work.old.disk) (D.faults work.new.disk) (result ≡ Err Refusal.DiskFault) }
 {
     core_disk::every_version();
     worker_log::every_kept();
@@ -262,31 +255,31 @@ fn finish<R: Rows, D: Disk>(
     lean_proto::every_turn();
     row_opening::every_reached();
     row_opening::every_need();
-    let own = store.session.own;
-    let txn = store.session.txn;
-    let number = store.session.clock + 1;
-    let floor = least_flushed(rows, seat, store.session.workers);
-    let need = need(store.session.debt, floor);
+    let own = work.session.own;
+    let txn = work.session.txn;
+    let number = work.session.clock.clock + 1;
+    let floor = least_flushed(rows, seat, work.session.workers);
+    let need = work.session.clock.need(floor);
     let entry = Record {
         txn,
         gsn: number,
         body: Body::Commit { need },
     };
-    if let Err(_) = log_calls::stage_end(&mut store.disk, &mut store.log, own, &entry) {
-        store.session.works = false;
+    if let Err(_) = log_calls::stage_end(&mut work.disk, &mut work.log, own, &entry) {
+        work.session.works = false;
         return Err(Refusal::DiskFault);
     }
-    end_rows(rows, seat, &store.session, latches, true, floor, number);
-    close_by_commit(&mut store.session, number);
+    end_rows(rows, seat, &work.session, latches, true, floor, number);
+    close_by_commit(&mut work.session, number);
     let ended = Ended {
         number: txn,
         at: number,
         need,
     };
-    if store.session.behind < store.session.group {
+    if work.session.unflushed < work.session.group {
         return Ok(ended);
     }
-    if let Err(why) = flush_log(rows, seat, store) {
+    if let Err(why) = flush_log(rows, seat, work) {
         return Err(why);
     }
     Ok(ended)
@@ -294,30 +287,31 @@ fn finish<R: Rows, D: Disk>(
 
 /// The session's transaction commits: its end is staged, the lock rows that it holds are given back, and its log is flushed if so many of its commits wait
 /// for that as make a group.
+#[inline(never)]
 pub fn commit<R: Rows, D: Disk>(
     rows: &mut R,
     seat: &mut R::Seat,
-    store: &mut Store<D>,
+    work: &mut Work<D>,
     latches: &mut Latches,
 ) -> Result<Ended, Refusal>
     requires fits { R.fits rows.old seat.old }
-    requires holds { store.old.session.works ≡ true → Holds (R.shape rows.old) (R.view seat.old) store.old.session store.old.log }
-    requires unmarked { store.old.session.works ≡ true → latches.old ≡ replicate store.old.session.held.count false }
+    requires holds { work.old.session.works ≡ true → Holds (R.shape rows.old) (R.view seat.old) work.old.session work.old.log }
+    requires unmarked { work.old.session.works ≡ true → latches.old ≡ replicate work.old.session.held.count false }
     ensures fits { R.fits rows.new seat.new × (R.shape rows.new ≡ R.shape rows.old) }
-    ensures holds { store.new.session.works ≡ true → Holds (R.shape rows.new) (R.view seat.new) store.new.session store.new.log }
-    ensures session { store.new.session.works ≡ true → IsSameSession store.old.session store.new.session }
+    ensures holds { work.new.session.works ≡ true → Holds (R.shape rows.new) (R.view seat.new) work.new.session work.new.log }
+    ensures session { IsSameSession work.old.session work.new.session }
     // Whatever happened is of this session.
-    ensures steps { store.old.session.works ≡ true → store.new.session.works ≡ true → Steps store.old.session.own (R.view seat.old) (R.view seat.new) }
-    ensures unmarked { store.new.session.works ≡ true → latches.new ≡ latches.old }
-    ensures does { store.old.session.works ≡ true → CallDoes store.old.session.own store.old.session.group Call.Commit (commit_answer result) store.old.session.half store.new.session.half (R.view seat.old) (R.view seat.new) store.old.log store.new.log (D.story store.old.disk) (D.story store.new.disk) }
-    ensures receipt { IfOk result (IsEnded (R.view seat.old) store.new.session) }
-    ensures works { (store.new.session.works ≡ true) ↔ ((store.old.session.works ≡ true) × (result ≡ Err Refusal.DiskFault → ⊥)) }
+    ensures steps { work.old.session.works ≡ true → work.new.session.works ≡ true → Steps work.old.session.own (R.view seat.old) (R.view seat.new) }
+    ensures unmarked { work.new.session.works ≡ true → latches.new ≡ latches.old }
+    ensures does { work.old.session.works ≡ true → CallDoes work.old.session.own work.old.session.group Call.Commit (commit_answer result) work.old.session.is_half_aborted work.new.session.is_half_aborted (R.view seat.old) (R.view seat.new) work.old.log work.new.log (D.story work.old.disk) (D.story work.new.disk) }
+    ensures receipt { IfOk result (IsEnded (R.view seat.old) work.new.session) }
+    ensures works { (work.new.session.works ≡ true) ↔ ((work.old.session.works ≡ true) × (result ≡ Err Refusal.DiskFault → ⊥)) }
     ensures told { IfErr result (λ why. IsTold why ⊎ ((why ≡ Refusal.Broken) ⊎ (why ≡ Refusal.DiskFault))) }
-    ensures same_broken { result ≡ Err Refusal.Broken → (R.view seat.new ≡ R.view seat.old) × (store.new ≡ store.old) × (latches.new ≡ latches.old) }
-    ensures same_closed { result ≡ Err Refusal.NoTransaction → (R.view seat.new ≡ R.view seat.old) × (store.new ≡ store.old) × (latches.new ≡ latches.old) }
+    ensures same_broken { result ≡ Err Refusal.Broken → (R.view seat.new ≡ R.view seat.old) × (work.new ≡ work.old) × (latches.new ≡ latches.old) }
+    ensures same_closed { result ≡ Err Refusal.NoTransaction → (R.view seat.new ≡ R.view seat.old) × (work.new ≡ work.old) × (latches.new ≡ latches.old) }
 
-    ensures cause_broken { (result ≡ Err Refusal.Broken) ↔ (store.old.session.works ≡ false) }
-    ensures cause_disk_fault { HasCause (D.faults store.old.disk) (D.faults store.new.disk) (result ≡ Err Refusal.DiskFault) }
+    ensures cause_broken { (result ≡ Err Refusal.Broken) ↔ (work.old.session.works ≡ false) }
+    ensures cause_disk_fault { HasCause (D.faults work.old.disk) (D.faults work.new.disk) (result ≡ Err Refusal.DiskFault) }
 {
     core_disk::every_version();
     worker_log::every_kept();
@@ -327,13 +321,13 @@ pub fn commit<R: Rows, D: Disk>(
     engine_calls::every_coming();
     row_opening::every_reached();
     row_opening::every_need();
-    if let Some(why) = store.session.call_refusal() {
+    if let Some(why) = work.session.call_refusal() {
         return Err(why);
     }
-    let frames = store.session.frames;
-    if !latch_rows(rows, seat, &store.session, latches) {
-        unlatch_rows(rows, seat, frames, &store.session.held, latches);
+    let frames = work.session.frames;
+    if !latch_rows(rows, seat, &work.session, latches) {
+        unlatch_rows(rows, seat, frames, &work.session.held, latches);
         return Err(Refusal::RowSpent);
     }
-    finish(rows, seat, store, latches)
+    finish(rows, seat, work, latches)
 }

@@ -8,12 +8,12 @@ ghost use Rattle.engine_trait.specs.Calls.{MayCome};
 ghost use Rattle.row_engine.specs.Calls.{CallDoes, IsSameSession, del_answer};
 ghost use Rattle.row_engine.specs.Holds.{Holds};
 ghost use Rattle.row_engine.specs.Others.{Steps};
-ghost use Rattle.row_engine.specs.Dels.{Dels};
+ghost use Rattle.row_engine.specs.Inside.Dels.{Dels};
 ghost use Rattle.row_engine.specs.Inside.{put_test};
 ghost use Rattle.row_engine.specs.Puts.{IsEarly, MayChange, works_after};
 
-use crate::store::{Stages, Store};
 use crate::taking::take_row;
+use crate::work::{Stages, Work};
 use btree_descent::del::{Del, leaf_del};
 use draw_trait::draw::Unstaged;
 use key_locks::mode::Mode;
@@ -25,27 +25,27 @@ use rows_trait::rows::Rows;
 fn del_held<R: Rows, D: Stages>(
     rows: &mut R,
     seat: &mut R::Seat,
-    store: &mut Store<D>,
+    work: &mut Work<D>,
     key: u64,
 ) -> Result<Option<u64>, Refusal>
     requires fits { R.fits rows.old seat.old }
-    requires holds { Holds (R.shape rows.old) (R.view seat.old) store.old.session store.old.log }
-    requires may { MayChange (R.view seat.old) store.old.session store.old.log key }
+    requires holds { Holds (R.shape rows.old) (R.view seat.old) work.old.session work.old.log }
+    requires may { MayChange (R.view seat.old) work.old.session work.old.log key }
     ensures fits { R.fits rows.new seat.new × (R.shape rows.new ≡ R.shape rows.old) }
-    ensures holds { store.new.session.works ≡ true → Holds (R.shape rows.new) (R.view seat.new) store.new.session store.new.log }
-    ensures session { store.new.session.works ≡ true → IsSameSession store.old.session store.new.session }
-    ensures half { store.new.session.works ≡ true → store.new.session.half ≡ store.old.session.half }
-    ensures dels { Dels result store.old.session.own (R.view seat.old) (R.view seat.new) key store.old.log store.new.log (D.story store.old.disk) (D.story store.new.disk) (store.new ≡ store.old) (store.new.disk ≡ store.old.disk) }
-    ensures works { store.new.session.works ≡ works_after result }
-    ensures cause_disk_fault { HasCause (D.faults store.old.disk) (D.faults store.new.disk) (result ≡ Err Refusal.DiskFault) }
+    ensures holds { work.new.session.works ≡ true → Holds (R.shape rows.new) (R.view seat.new) work.new.session work.new.log }
+    ensures session { IsSameSession work.old.session work.new.session }
+    ensures is_half_aborted { work.new.session.works ≡ true → work.new.session.is_half_aborted ≡ work.old.session.is_half_aborted }
+    ensures dels { Dels result work.old.session.own (R.view seat.old) (R.view seat.new) key work.old.log work.new.log (D.story work.old.disk) (D.story work.new.disk) (work.new ≡ work.old) (work.new.disk ≡ work.old.disk) }
+    ensures works { work.new.session.works ≡ works_after result }
+    ensures cause_disk_fault { HasCause (D.faults work.old.disk) (D.faults work.new.disk) (result ≡ Err Refusal.DiskFault) }
 {
     core_calls::every_room();
     rows_trait::every_low();
-    let frames = store.session.frames;
+    let frames = work.session.frames;
     let mut path = Path::new();
-    match leaf_del(rows, seat, store.session.own, frames, key, &mut path, store) {
+    match leaf_del(rows, seat, work.session.own, frames, key, &mut path, work) {
         Del::Done(was) => {
-            store.session.undo.push(key, was);
+            work.session.undo.push(key, was);
             Ok(Some(was))
         }
         Del::Absent => Ok(None),
@@ -54,7 +54,7 @@ fn del_held<R: Rows, D: Stages>(
             Err(Refusal::RowSpent)
         }
         Del::Unstaged(Unstaged::DiskFault) => {
-            store.session.works = false;
+            work.session.works = false;
             Err(Refusal::DiskFault)
         }
         // The log has a block, each page stands in a frame, no number is above the clock, and nobody else steps.
@@ -67,35 +67,36 @@ fn del_held<R: Rows, D: Stages>(
 }
 
 /// Takes the value of a key away. The answer is the value that it had.
+#[inline(never)]
 pub fn del<R: Rows, D: Stages>(
     rows: &mut R,
     seat: &mut R::Seat,
-    store: &mut Store<D>,
+    work: &mut Work<D>,
     key: u64,
 ) -> Result<Option<u64>, Refusal>
     requires fits { R.fits rows.old seat.old }
-    requires holds { store.old.session.works ≡ true → Holds (R.shape rows.old) (R.view seat.old) store.old.session store.old.log }
+    requires holds { work.old.session.works ≡ true → Holds (R.shape rows.old) (R.view seat.old) work.old.session work.old.log }
     requires key { key < 2 ^ 64 - 1 }
     ensures fits { R.fits rows.new seat.new × (R.shape rows.new ≡ R.shape rows.old) }
-    ensures holds { store.new.session.works ≡ true → Holds (R.shape rows.new) (R.view seat.new) store.new.session store.new.log }
-    ensures session { store.new.session.works ≡ true → IsSameSession store.old.session store.new.session }
+    ensures holds { work.new.session.works ≡ true → Holds (R.shape rows.new) (R.view seat.new) work.new.session work.new.log }
+    ensures session { IsSameSession work.old.session work.new.session }
     // Whatever happened is of this session.
-    ensures steps { store.old.session.works ≡ true → store.new.session.works ≡ true → Steps store.old.session.own (R.view seat.old) (R.view seat.new) }
-    ensures does { store.old.session.works ≡ true → CallDoes store.old.session.own store.old.session.group (Call.Del key) (del_answer result) store.old.session.half store.new.session.half (R.view seat.old) (R.view seat.new) store.old.log store.new.log (D.story store.old.disk) (D.story store.new.disk) }
+    ensures steps { work.old.session.works ≡ true → work.new.session.works ≡ true → Steps work.old.session.own (R.view seat.old) (R.view seat.new) }
+    ensures does { work.old.session.works ≡ true → CallDoes work.old.session.own work.old.session.group (Call.Del key) (del_answer result) work.old.session.is_half_aborted work.new.session.is_half_aborted (R.view seat.old) (R.view seat.new) work.old.log work.new.log (D.story work.old.disk) (D.story work.new.disk) }
     // Whether the engine works is seen from the answer.
-    ensures works { store.new.session.works ≡ works_after result }
+    ensures works { work.new.session.works ≡ works_after result }
     // Which refusals a script is told.
-    ensures told { IfErr result (λ why. MayCome store.old.session.workers why ⊎ ((why ≡ Refusal.Broken) ⊎ (why ≡ Refusal.DiskFault))) }
+    ensures told { IfErr result (λ why. MayCome work.old.session.workers why ⊎ ((why ≡ Refusal.Broken) ⊎ (why ≡ Refusal.DiskFault))) }
     // No log is flushed.
-    ensures flushed { store.new.session.works ≡ true → store.new.log.flushed ≡ store.old.log.flushed }
+    ensures flushed { work.new.session.works ≡ true → work.new.log.flushed ≡ work.old.log.flushed }
     // It stays within the area of its log.
-    ensures frame { Framed (suc store.old.session.own) (D.story store.old.disk) (D.story store.new.disk) }
-    ensures same { IsErrAnd result IsEarly → (R.view seat.new ≡ R.view seat.old) × (store.new ≡ store.old) }
+    ensures frame { Framed (suc work.old.session.own) (D.story work.old.disk) (D.story work.new.disk) }
+    ensures same { IsErrAnd result IsEarly → (R.view seat.new ≡ R.view seat.old) × (work.new ≡ work.old) }
     // A test of the session and its log that refuses it comes before all else.
-    ensures tested { (why : Refusal) → put_test store.old.session store.old.log ≡ Some why → (result ≡ Err why) × (R.view seat.new ≡ R.view seat.old) × (store.new ≡ store.old) }
+    ensures tested { (why : Refusal) → put_test work.old.session work.old.log ≡ Some why → (result ≡ Err why) × (R.view seat.new ≡ R.view seat.old) × (work.new ≡ work.old) }
 
-    ensures cause_broken { (result ≡ Err Refusal.Broken) ↔ (store.old.session.works ≡ false) }
-    ensures cause_disk_fault { HasCause (D.faults store.old.disk) (D.faults store.new.disk) (result ≡ Err Refusal.DiskFault) }
+    ensures cause_broken { (result ≡ Err Refusal.Broken) ↔ (work.old.session.works ≡ false) }
+    ensures cause_disk_fault { HasCause (D.faults work.old.disk) (D.faults work.new.disk) (result ≡ Err Refusal.DiskFault) }
 {
     core_disk::every_version();
     worker_log::every_kept();
@@ -105,15 +106,15 @@ pub fn del<R: Rows, D: Stages>(
     engine_calls::every_coming();
     row_opening::every_reached();
     row_opening::every_need();
-    if let Some(why) = store.session.put_refusal(&store.log) {
+    if let Some(why) = work.session.put_refusal(&work.log) {
         return Err(why);
     }
-    if let Err(why) = take_row(rows, seat, &mut store.session, &store.log, key, Mode::Alone) {
+    if let Err(why) = take_row(rows, seat, &mut work.session, &work.log, key, Mode::Alone) {
         return Err(why);
     }
     // What the row tells may have brought the clock to its end.
-    if let Some(why) = store.session.block_refusal(&store.log) {
+    if let Some(why) = work.session.clock_refusal() {
         return Err(why);
     }
-    del_held(rows, seat, store, key)
+    del_held(rows, seat, work, key)
 }

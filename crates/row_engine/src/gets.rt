@@ -8,8 +8,8 @@ ghost use Rattle.row_engine.specs.Calls.{CallDoes, IsSameSession, get_answer};
 ghost use Rattle.row_engine.specs.Holds.{Holds};
 ghost use Rattle.row_engine.specs.Others.{Steps};
 
-use crate::store::Store;
 use crate::taking::take_row;
+use crate::work::Work;
 use btree_descent::descent::{Answer, TOMBSTONE, find};
 use key_locks::mode::Mode;
 use lean_disk::Disk;
@@ -30,45 +30,40 @@ pub(crate) fn value_of(word: Option<u64>) -> Option<u64>
 pub fn get<R: Rows, D: Disk>(
     rows: &mut R,
     seat: &mut R::Seat,
-    store: &mut Store<D>,
+    work: &mut Work<D>,
     key: u64,
 ) -> Result<Option<u64>, Refusal>
     requires fits { R.fits rows.old seat.old }
-    requires holds { store.old.session.works ≡ true → Holds (R.shape rows.old) (R.view seat.old) store.old.session store.old.log }
+    requires holds { work.old.session.works ≡ true → Holds (R.shape rows.old) (R.view seat.old) work.old.session work.old.log }
     requires key { key < 2 ^ 64 - 1 }
     ensures fits { R.fits rows.new seat.new × (R.shape rows.new ≡ R.shape rows.old) }
-    ensures holds { store.new.session.works ≡ true → Holds (R.shape rows.new) (R.view seat.new) store.new.session store.new.log }
-    ensures session { store.new.session.works ≡ true → IsSameSession store.old.session store.new.session }
+    ensures holds { work.new.session.works ≡ true → Holds (R.shape rows.new) (R.view seat.new) work.new.session work.new.log }
+    ensures session { IsSameSession work.old.session work.new.session }
     // Whatever happened is of this session.
-    ensures steps { store.old.session.works ≡ true → store.new.session.works ≡ true → Steps store.old.session.own (R.view seat.old) (R.view seat.new) }
-    ensures does { store.old.session.works ≡ true → CallDoes store.old.session.own store.old.session.group (call.Get key) (get_answer result) store.old.session.half store.new.session.half (R.view seat.old) (R.view seat.new) store.old.log store.new.log (D.story store.old.disk) (D.story store.new.disk) }
-    ensures same { (result ≡ Err Refusal.Broken) ⊎ (result ≡ Err Refusal.NoTransaction) → (R.view seat.new ≡ R.view seat.old) × (store.new ≡ store.old) }
+    ensures steps { work.old.session.works ≡ true → work.new.session.works ≡ true → Steps work.old.session.own (R.view seat.old) (R.view seat.new) }
+    ensures does { work.old.session.works ≡ true → CallDoes work.old.session.own work.old.session.group (call.Get key) (get_answer result) work.old.session.is_half_aborted work.new.session.is_half_aborted (R.view seat.old) (R.view seat.new) work.old.log work.new.log (D.story work.old.disk) (D.story work.new.disk) }
+    ensures same { (result ≡ Err Refusal.Broken) ⊎ (result ≡ Err Refusal.NoTransaction) → (R.view seat.new ≡ R.view seat.old) × (work.new ≡ work.old) }
     // It touches no device.
-    ensures same_disk { (store.new.disk ≡ store.old.disk) × (store.new.log ≡ store.old.log) × (store.new.session.works ≡ store.old.session.works) }
-    ensures come { IfErr result (λ why. MayCome store.old.session.workers why ⊎ (why ≡ Refusal.Broken)) }
+    ensures same_disk { (work.new.disk ≡ work.old.disk) × (work.new.log ≡ work.old.log) × (work.new.session.works ≡ work.old.session.works) }
+    ensures come { IfErr result (λ why. MayCome work.old.session.workers why ⊎ (why ≡ Refusal.Broken)) }
 
-    ensures cause_broken { (result ≡ Err Refusal.Broken) ↔ (store.old.session.works ≡ false) }
+    ensures cause_broken { (result ≡ Err Refusal.Broken) ↔ (work.old.session.works ≡ false) }
     ensures no_disk_fault { result ≡ Err Refusal.DiskFault → ⊥ }
 {
     engine_calls::every_answer();
-    engine_calls::every_part(&store.disk, &store.disk, &store.disk);
+    engine_calls::every_part(&work.disk, &work.disk, &work.disk);
     engine_calls::every_coming();
     row_opening::every_reached();
     row_opening::every_need();
-    if let Some(why) = store.session.call_refusal() {
+    if let Some(why) = work.session.call_refusal() {
         return Err(why);
     }
-    take_row(
-        rows,
-        seat,
-        &mut store.session,
-        &store.log,
-        key,
-        Mode::Shared,
-    )?;
-    match find(rows, seat, store.session.own, store.session.frames, key) {
+    take_row(rows, seat, &mut work.session, &work.log, key, Mode::Shared)?;
+    match find(rows, seat, work.session.own, work.session.frames, key) {
         Answer::Found(found) => {
-            store.session.touch(found.number, found.log);
+            work.session
+                .clock
+                .touch(work.session.own, found.number, found.log);
             Ok(value_of(found.word))
         }
         // Each page is hot.

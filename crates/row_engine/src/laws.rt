@@ -1,6 +1,7 @@
 // What holds of an engine as it begins, and of its sessions beside each other.
 ghost use Rattle.row_engine.specs.Opened.{EveryFellow, EveryOpened};
 ghost use Rattle.row_engine.specs.Others.{EveryOther, EverySteps};
+ghost use Rattle.row_engine.specs.Reserves.{EveryReserve};
 ghost use Rattle.row_engine.specs.Syncs.{EverySynced};
 
 /// On rows that were opened, with a session that has done nothing and a log at the base, an engine is as between two calls, in a run
@@ -28,4 +29,9 @@ pub fn every_steps()
 /// Behind a sync each session whose log is flushed whole is as between two calls.
 pub fn every_synced()
     ensures { EverySynced }
+{}
+
+/// The blocks that are kept back suffice for all that a call stages behind its test, and for all that its transaction puts back.
+pub fn every_reserve()
+    ensures { EveryReserve }
 {}

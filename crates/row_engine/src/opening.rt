@@ -1,8 +1,9 @@
 // An engine's rows and its session, on pages.
 ghost use Rattle.std.specs.Prelude.{◌≡◌, ◌≤◌, [], IfOk, length};
+ghost use Rattle.page_model.specs.Limits.{most_sessions};
 ghost use Rattle.rows_trait.specs.Plain.{sizes};
 ghost use Rattle.rows_trait.specs.Rule.{IsPicture, plan};
-ghost use Rattle.open_rows.specs.Opened.{ArePages};
+ghost use Rattle.row_opening.specs.Opened.{ArePages};
 ghost use Rattle.row_engine.specs.Opened.{IsFirst, IsOpenedOn, plain_shape};
 
 use crate::free::FreePages;
@@ -10,7 +11,8 @@ use crate::held::HeldRows;
 use crate::session::Session;
 use crate::undo::UndoList;
 use btree_node::Node;
-use open_rows::open_rows;
+use flush_avoidance::Clock;
+use row_opening::open_rows;
 use rows_trait::plain::PlainRows;
 use rows_trait::trace::Trace;
 use std::alloc::{AllocError, Global};
@@ -28,7 +30,7 @@ pub fn open_session(
     requires pages { ArePages pages.now base }
     requires few { length pages.now ≤ 65536 }
     requires locks { (1 ≤ count) × (count ≤ 65536) }
-    requires workers { (1 ≤ workers) × (workers ≤ 16) }
+    requires workers { (1 ≤ workers) × (workers ≤ most_sessions) }
     requires group { 1 ≤ group }
     ensures fits { IfOk result (λ r. IsPicture (plan (sizes r.0.frames r.0.locks r.0.workers) r.1.view.given) r.0.words.items r.1.view) }
     ensures session { IfOk result (λ r. (r.2.own ≡ 1) × (r.2.workers ≡ workers) × (r.2.group ≡ group)) }
@@ -47,13 +49,11 @@ pub fn open_session(
         group,
         works: true,
         is_open: false,
-        half: false,
+        is_half_aborted: false,
         txn: 0,
-        clock: base,
-        floor: base,
-        debt: 0,
+        clock: Clock::new(base),
         end: base,
-        behind: 0,
+        unflushed: 0,
         frames,
         undo: UndoList::new(alloc)?,
         held: HeldRows::new(alloc, count)?,
@@ -64,7 +64,7 @@ pub fn open_session(
 
 /// A further session of the same rows as the first one, by its number. Which pages are free is known to the session whose turn it is.
 pub fn further_session(alloc: Global, own: u32, first: &Session) -> Result<Session, AllocError>
-    requires own { own ≤ 16 }
+    requires own { own ≤ most_sessions }
     requires undo { first.now.undo ≡ [] }
     requires held { first.now.held.rows ≡ [] }
     ensures { IfOk result (λ s. (few : _) × (s ≡ record first.now { own = own; free = []; few = few })) }
@@ -75,13 +75,11 @@ pub fn further_session(alloc: Global, own: u32, first: &Session) -> Result<Sessi
         group: first.group,
         works: first.works,
         is_open: first.is_open,
-        half: first.half,
+        is_half_aborted: first.is_half_aborted,
         txn: first.txn,
         clock: first.clock,
-        floor: first.floor,
-        debt: first.debt,
         end: first.end,
-        behind: first.behind,
+        unflushed: first.unflushed,
         frames: first.frames,
         undo: UndoList::new(alloc)?,
         held: HeldRows::new(alloc, first.held.count())?,

@@ -1,5 +1,6 @@
 // A put.
 ghost use Rattle.std.specs.Prelude.{◌≡◌, suc, ◌⊎◌, ◌<◌, ◌-◌, ◌^◌, ◌↔◌, [], Err, IfErr, IsErrAnd, Some, true, false};
+ghost use Rattle.page_model.specs.Limits.{tombstone};
 ghost use Rattle.map_model.specs.declared.call.Call.{Call};
 ghost use Rattle.map_model.specs.declared.call.Refusal.{Refusal};
 ghost use Rattle.lean_disk.specs.Faults.{HasCause};
@@ -9,14 +10,14 @@ ghost use Rattle.engine_trait.specs.Calls.{MayCome};
 ghost use Rattle.row_engine.specs.Calls.{CallDoes, IsSameSession, put_answer};
 ghost use Rattle.row_engine.specs.Holds.{Holds};
 ghost use Rattle.row_engine.specs.Others.{Steps as OwnSteps};
-ghost use Rattle.row_engine.specs.Outcomes.{Puts, Steps, Tries};
+ghost use Rattle.row_engine.specs.Inside.Outcomes.{Puts, Steps, Tries};
 ghost use Rattle.row_engine.specs.Inside.{put_test};
 ghost use Rattle.row_engine.specs.Puts.{IsEarly, MayChange, works_after};
 
 use crate::gets::value_of;
 use crate::room::make_room;
-use crate::store::{Stages, Store};
 use crate::taking::take_row;
+use crate::work::{Stages, Work};
 use btree_descent::descent::TOMBSTONE;
 use btree_descent::put::{Put, leaf_put};
 use draw_trait::draw::Unstaged;
@@ -27,7 +28,7 @@ use rows_trait::rows::Rows;
 
 // The word that a key had, which is a tombstone's where it had none.
 fn word_of(before: Option<u64>) -> u64
-    ensures { result ≡ word_or (2 ^ 63) before }
+    ensures { result ≡ word_or tombstone before }
 {
     before.unwrap_or(TOMBSTONE)
 }
@@ -45,39 +46,30 @@ enum Tried {
 fn put_in_leaf<R: Rows, D: Stages>(
     rows: &mut R,
     seat: &mut R::Seat,
-    store: &mut Store<D>,
+    work: &mut Work<D>,
     key: u64,
     value: u64,
     path: &mut Path,
 ) -> Result<Tried, Refusal>
     requires fits { R.fits rows.old seat.old }
-    requires holds { Holds (R.shape rows.old) (R.view seat.old) store.old.session store.old.log }
-    requires may { MayChange (R.view seat.old) store.old.session store.old.log key }
-    requires value { value < 2 ^ 63 }
+    requires holds { Holds (R.shape rows.old) (R.view seat.old) work.old.session work.old.log }
+    requires may { MayChange (R.view seat.old) work.old.session work.old.log key }
+    requires value { value < tombstone }
     requires path { path.old ≡ [] }
     ensures fits { R.fits rows.new seat.new × (R.shape rows.new ≡ R.shape rows.old) }
-    ensures holds { store.new.session.works ≡ true → Holds (R.shape rows.new) (R.view seat.new) store.new.session store.new.log }
-    ensures session { store.new.session.works ≡ true → IsSameSession store.old.session store.new.session }
-    ensures half { store.new.session.works ≡ true → store.new.session.half ≡ store.old.session.half }
-    ensures tries { Tries result (R.view seat.old) (R.view seat.new) key value store.old.session store.new.session store.old.log store.new.log (D.story store.old.disk) (D.story store.new.disk) path.new (store.new ≡ store.old) (store.new.session.works ≡ false) }
-    ensures works { store.new.session.works ≡ works_after result }
-    ensures cause_disk_fault { HasCause (D.faults store.old.disk) (D.faults store.new.disk) (result ≡ Err Refusal.DiskFault) }
+    ensures holds { work.new.session.works ≡ true → Holds (R.shape rows.new) (R.view seat.new) work.new.session work.new.log }
+    ensures session { IsSameSession work.old.session work.new.session }
+    ensures is_half_aborted { work.new.session.works ≡ true → work.new.session.is_half_aborted ≡ work.old.session.is_half_aborted }
+    ensures tries { Tries result (R.view seat.old) (R.view seat.new) key value work.old.session work.new.session work.old.log work.new.log (D.story work.old.disk) (D.story work.new.disk) path.new (work.new ≡ work.old) (work.new.session.works ≡ false) }
+    ensures works { work.new.session.works ≡ works_after result }
+    ensures cause_disk_fault { HasCause (D.faults work.old.disk) (D.faults work.new.disk) (result ≡ Err Refusal.DiskFault) }
 {
     core_calls::every_room();
     rows_trait::every_low();
-    let frames = store.session.frames;
-    match leaf_put(
-        rows,
-        seat,
-        store.session.own,
-        frames,
-        key,
-        value,
-        path,
-        store,
-    ) {
+    let frames = work.session.frames;
+    match leaf_put(rows, seat, work.session.own, frames, key, value, path, work) {
         Put::Done(before) => {
-            store.session.undo.push(key, word_of(before));
+            work.session.undo.push(key, word_of(before));
             Ok(Tried::Done(value_of(before)))
         }
         Put::Full { row: _ } => Ok(Tried::Full),
@@ -86,7 +78,7 @@ fn put_in_leaf<R: Rows, D: Stages>(
             Err(Refusal::RowSpent)
         }
         Put::Unstaged(Unstaged::DiskFault) => {
-            store.session.works = false;
+            work.session.works = false;
             Err(Refusal::DiskFault)
         }
         // The log has a block, each page stands in a frame, no number is above the clock, and nobody else steps.
@@ -111,56 +103,57 @@ enum Stepped {
 fn put_step<R: Rows, D: Stages>(
     rows: &mut R,
     seat: &mut R::Seat,
-    store: &mut Store<D>,
+    work: &mut Work<D>,
     key: u64,
     value: u64,
 ) -> Result<Stepped, Refusal>
     requires fits { R.fits rows.old seat.old }
-    requires holds { Holds (R.shape rows.old) (R.view seat.old) store.old.session store.old.log }
-    requires may { MayChange (R.view seat.old) store.old.session store.old.log key }
-    requires value { value < 2 ^ 63 }
+    requires holds { Holds (R.shape rows.old) (R.view seat.old) work.old.session work.old.log }
+    requires may { MayChange (R.view seat.old) work.old.session work.old.log key }
+    requires value { value < tombstone }
     ensures fits { R.fits rows.new seat.new × (R.shape rows.new ≡ R.shape rows.old) }
-    ensures holds { store.new.session.works ≡ true → Holds (R.shape rows.new) (R.view seat.new) store.new.session store.new.log }
-    ensures session { store.new.session.works ≡ true → IsSameSession store.old.session store.new.session }
-    ensures half { store.new.session.works ≡ true → store.new.session.half ≡ store.old.session.half }
-    ensures steps { Steps result (R.view seat.old) (R.view seat.new) key value store.old.session store.new.session store.old.log store.new.log (D.story store.old.disk) (D.story store.new.disk) (store.new ≡ store.old) }
-    ensures works { store.new.session.works ≡ works_after result }
-    ensures cause_disk_fault { HasCause (D.faults store.old.disk) (D.faults store.new.disk) (result ≡ Err Refusal.DiskFault) }
+    ensures holds { work.new.session.works ≡ true → Holds (R.shape rows.new) (R.view seat.new) work.new.session work.new.log }
+    ensures session { IsSameSession work.old.session work.new.session }
+    ensures is_half_aborted { work.new.session.works ≡ true → work.new.session.is_half_aborted ≡ work.old.session.is_half_aborted }
+    ensures steps { Steps result (R.view seat.old) (R.view seat.new) key value work.old.session work.new.session work.old.log work.new.log (D.story work.old.disk) (D.story work.new.disk) (work.new ≡ work.old) }
+    ensures works { work.new.session.works ≡ works_after result }
+    ensures cause_disk_fault { HasCause (D.faults work.old.disk) (D.faults work.new.disk) (result ≡ Err Refusal.DiskFault) }
 {
     let mut path = Path::new();
-    match put_in_leaf(rows, seat, store, key, value, &mut path) {
+    match put_in_leaf(rows, seat, work, key, value, &mut path) {
         Err(why) => return Err(why),
         Ok(Tried::Done(before)) => return Ok(Stepped::Done(before)),
         Ok(Tried::Full) => {}
     }
-    if let Err(why) = make_room(rows, seat, store, key, &path) {
+    if let Err(why) = make_room(rows, seat, work, key, &path) {
         return Err(why);
     }
-    match store.session.block_refusal(&store.log) {
+    match work.session.clock_refusal() {
         Some(why) => Err(why),
         None => Ok(Stepped::Grown),
     }
 }
 
-// The key, whose row is held, gets its value. Room is made for it by one change of the tree after another, each of which takes a free page.
+// The key, whose row is held, gets its value. Room is made for it by one change of the tree after another, each of which takes a free page, and whose records
+// may take the blocks that are kept back.
 fn put_held<R: Rows, D: Stages>(
     rows: &mut R,
     seat: &mut R::Seat,
-    store: &mut Store<D>,
+    work: &mut Work<D>,
     key: u64,
     value: u64,
 ) -> Result<Option<u64>, Refusal>
     requires fits { R.fits rows.old seat.old }
-    requires holds { Holds (R.shape rows.old) (R.view seat.old) store.old.session store.old.log }
-    requires may { MayChange (R.view seat.old) store.old.session store.old.log key }
-    requires value { value < 2 ^ 63 }
+    requires holds { Holds (R.shape rows.old) (R.view seat.old) work.old.session work.old.log }
+    requires may { MayChange (R.view seat.old) work.old.session work.old.log key }
+    requires value { value < tombstone }
     ensures fits { R.fits rows.new seat.new × (R.shape rows.new ≡ R.shape rows.old) }
-    ensures holds { store.new.session.works ≡ true → Holds (R.shape rows.new) (R.view seat.new) store.new.session store.new.log }
-    ensures session { store.new.session.works ≡ true → IsSameSession store.old.session store.new.session }
-    ensures half { store.new.session.works ≡ true → store.new.session.half ≡ store.old.session.half }
-    ensures puts { Puts result (R.view seat.old) (R.view seat.new) key value store.old.session store.new.session store.old.log store.new.log (D.story store.old.disk) (D.story store.new.disk) }
-    ensures works { store.new.session.works ≡ works_after result }
-    ensures cause_disk_fault { HasCause (D.faults store.old.disk) (D.faults store.new.disk) (result ≡ Err Refusal.DiskFault) }
+    ensures holds { work.new.session.works ≡ true → Holds (R.shape rows.new) (R.view seat.new) work.new.session work.new.log }
+    ensures session { IsSameSession work.old.session work.new.session }
+    ensures is_half_aborted { work.new.session.works ≡ true → work.new.session.is_half_aborted ≡ work.old.session.is_half_aborted }
+    ensures puts { Puts result (R.view seat.old) (R.view seat.new) key value work.old.session work.new.session work.old.log work.new.log (D.story work.old.disk) (D.story work.new.disk) }
+    ensures works { work.new.session.works ≡ works_after result }
+    ensures cause_disk_fault { HasCause (D.faults work.old.disk) (D.faults work.new.disk) (result ≡ Err Refusal.DiskFault) }
 {
     core_disk::every_version();
     worker_log::every_kept();
@@ -169,7 +162,7 @@ fn put_held<R: Rows, D: Stages>(
     row_opening::every_reached();
     row_opening::every_need();
     'room: loop {
-        match put_step(rows, seat, store, key, value) {
+        match put_step(rows, seat, work, key, value) {
             Ok(Stepped::Done(before)) => return Ok(before),
             Ok(Stepped::Grown) => {}
             Err(why) => return Err(why),
@@ -178,37 +171,38 @@ fn put_held<R: Rows, D: Stages>(
 }
 
 /// Gives a key a value. The answer is the value that it had.
+#[inline(never)]
 pub fn put<R: Rows, D: Stages>(
     rows: &mut R,
     seat: &mut R::Seat,
-    store: &mut Store<D>,
+    work: &mut Work<D>,
     key: u64,
     value: u64,
 ) -> Result<Option<u64>, Refusal>
     requires fits { R.fits rows.old seat.old }
-    requires holds { store.old.session.works ≡ true → Holds (R.shape rows.old) (R.view seat.old) store.old.session store.old.log }
+    requires holds { work.old.session.works ≡ true → Holds (R.shape rows.old) (R.view seat.old) work.old.session work.old.log }
     requires key { key < 2 ^ 64 - 1 }
-    requires value { value < 2 ^ 63 }
+    requires value { value < tombstone }
     ensures fits { R.fits rows.new seat.new × (R.shape rows.new ≡ R.shape rows.old) }
-    ensures holds { store.new.session.works ≡ true → Holds (R.shape rows.new) (R.view seat.new) store.new.session store.new.log }
-    ensures session { store.new.session.works ≡ true → IsSameSession store.old.session store.new.session }
+    ensures holds { work.new.session.works ≡ true → Holds (R.shape rows.new) (R.view seat.new) work.new.session work.new.log }
+    ensures session { IsSameSession work.old.session work.new.session }
     // Whatever happened is of this session.
-    ensures steps { store.old.session.works ≡ true → store.new.session.works ≡ true → OwnSteps store.old.session.own (R.view seat.old) (R.view seat.new) }
-    ensures does { store.old.session.works ≡ true → CallDoes store.old.session.own store.old.session.group (Call.Put key value) (put_answer result) store.old.session.half store.new.session.half (R.view seat.old) (R.view seat.new) store.old.log store.new.log (D.story store.old.disk) (D.story store.new.disk) }
+    ensures steps { work.old.session.works ≡ true → work.new.session.works ≡ true → OwnSteps work.old.session.own (R.view seat.old) (R.view seat.new) }
+    ensures does { work.old.session.works ≡ true → CallDoes work.old.session.own work.old.session.group (Call.Put key value) (put_answer result) work.old.session.is_half_aborted work.new.session.is_half_aborted (R.view seat.old) (R.view seat.new) work.old.log work.new.log (D.story work.old.disk) (D.story work.new.disk) }
     // Whether the engine works is seen from the answer.
-    ensures works { store.new.session.works ≡ works_after result }
+    ensures works { work.new.session.works ≡ works_after result }
     // Which refusals a script is told.
-    ensures told { IfErr result (λ why. MayCome store.old.session.workers why ⊎ ((why ≡ Refusal.Broken) ⊎ (why ≡ Refusal.DiskFault))) }
+    ensures told { IfErr result (λ why. MayCome work.old.session.workers why ⊎ ((why ≡ Refusal.Broken) ⊎ (why ≡ Refusal.DiskFault))) }
     // No log is flushed.
-    ensures flushed { store.new.session.works ≡ true → store.new.log.flushed ≡ store.old.log.flushed }
+    ensures flushed { work.new.session.works ≡ true → work.new.log.flushed ≡ work.old.log.flushed }
     // It stays within the area of its log.
-    ensures frame { Framed (suc store.old.session.own) (D.story store.old.disk) (D.story store.new.disk) }
-    ensures same { IsErrAnd result IsEarly → (R.view seat.new ≡ R.view seat.old) × (store.new ≡ store.old) }
+    ensures frame { Framed (suc work.old.session.own) (D.story work.old.disk) (D.story work.new.disk) }
+    ensures same { IsErrAnd result IsEarly → (R.view seat.new ≡ R.view seat.old) × (work.new ≡ work.old) }
     // A test of the session and its log that refuses it comes before all else.
-    ensures tested { (why : Refusal) → put_test store.old.session store.old.log ≡ Some why → (result ≡ Err why) × (R.view seat.new ≡ R.view seat.old) × (store.new ≡ store.old) }
+    ensures tested { (why : Refusal) → put_test work.old.session work.old.log ≡ Some why → (result ≡ Err why) × (R.view seat.new ≡ R.view seat.old) × (work.new ≡ work.old) }
 
-    ensures cause_broken { (result ≡ Err Refusal.Broken) ↔ (store.old.session.works ≡ false) }
-    ensures cause_disk_fault { HasCause (D.faults store.old.disk) (D.faults store.new.disk) (result ≡ Err Refusal.DiskFault) }
+    ensures cause_broken { (result ≡ Err Refusal.Broken) ↔ (work.old.session.works ≡ false) }
+    ensures cause_disk_fault { HasCause (D.faults work.old.disk) (D.faults work.new.disk) (result ≡ Err Refusal.DiskFault) }
 {
     core_disk::every_version();
     worker_log::every_kept();
@@ -218,15 +212,15 @@ pub fn put<R: Rows, D: Stages>(
     engine_calls::every_coming();
     row_opening::every_reached();
     row_opening::every_need();
-    if let Some(why) = store.session.put_refusal(&store.log) {
+    if let Some(why) = work.session.put_refusal(&work.log) {
         return Err(why);
     }
-    if let Err(why) = take_row(rows, seat, &mut store.session, &store.log, key, Mode::Alone) {
+    if let Err(why) = take_row(rows, seat, &mut work.session, &work.log, key, Mode::Alone) {
         return Err(why);
     }
-    // What the row tells may have brought the clock to its end.
-    if let Some(why) = store.session.block_refusal(&store.log) {
+    // What the row tells may have brought the clock to its end. The log is not tested again.
+    if let Some(why) = work.session.clock_refusal() {
         return Err(why);
     }
-    put_held(rows, seat, store, key, value)
+    put_held(rows, seat, work, key, value)
 }

@@ -2,13 +2,14 @@
 ghost use Rattle.std.specs.Prelude.{◌≡◌, ◌≤◌, ◌<◌, ℕ, length, Err, true, false};
 ghost use Rattle.map_model.specs.declared.call.Refusal.{Refusal};
 ghost use Rattle.lean_disk.specs.Faults.{HasCause};
+ghost use Rattle.row_engine.specs.Calls.{IsSameSession};
 ghost use Rattle.row_engine.specs.Holds.{Holds};
 ghost use Rattle.row_engine.specs.Puts.{MayChange, works_after};
-ghost use Rattle.row_engine.specs.Rooms.{CanGrow, CanLift, CanSplit, Grew, IsExpected, IsPathTo, IsUnfit, answer_of, next_of, session_after};
+ghost use Rattle.row_engine.specs.Inside.Rooms.{CanGrow, CanLift, CanSplit, Grew, IsExpected, IsPathTo, IsUnfit, answer_of, next_of, session_after};
 
 use crate::free::FreePages;
 use crate::session::Session;
-use crate::store::{Stages, Store};
+use crate::work::{Stages, Work};
 use btree_smo::lift::lift;
 use btree_smo::outcome::Outcome;
 use btree_smo::room::full_run;
@@ -91,87 +92,90 @@ fn finish(session: &mut Session, outcome: Outcome) -> Result<(), Refusal>
 fn lift_root<R: Rows, D: Stages>(
     rows: &mut R,
     seat: &mut R::Seat,
-    store: &mut Store<D>,
+    work: &mut Work<D>,
     key: u64,
     page: u32,
 ) -> Result<(), Refusal>
     requires fits { R.fits rows.old seat.old }
-    requires holds { Holds (R.shape rows.old) (R.view seat.old) store.old.session store.old.log }
-    requires may { MayChange (R.view seat.old) store.old.session store.old.log key }
-    requires can { CanLift (R.view seat.old) store.old.session key page }
+    requires holds { Holds (R.shape rows.old) (R.view seat.old) work.old.session work.old.log }
+    requires may { MayChange (R.view seat.old) work.old.session work.old.log key }
+    requires can { CanLift (R.view seat.old) work.old.session key page }
     ensures fits { R.fits rows.new seat.new × (R.shape rows.new ≡ R.shape rows.old) }
-    ensures holds { store.new.session.works ≡ true → Holds (R.shape rows.new) (R.view seat.new) store.new.session store.new.log }
-    ensures grew { Grew result key (R.view seat.old) (R.view seat.new) store.old.session store.new.session store.old.log store.new.log (D.story store.old.disk) (D.story store.new.disk) (store.new ≡ store.old) (store.new.session.works ≡ false) }
-    ensures works { store.new.session.works ≡ works_after result }
-    ensures cause_disk_fault { HasCause (D.faults store.old.disk) (D.faults store.new.disk) (result ≡ Err Refusal.DiskFault) }
+    ensures holds { work.new.session.works ≡ true → Holds (R.shape rows.new) (R.view seat.new) work.new.session work.new.log }
+    ensures session { IsSameSession work.old.session work.new.session }
+    ensures grew { Grew result key (R.view seat.old) (R.view seat.new) work.old.session work.new.session work.old.log work.new.log (D.story work.old.disk) (D.story work.new.disk) (work.new ≡ work.old) (work.new.session.works ≡ false) }
+    ensures works { work.new.session.works ≡ works_after result }
+    ensures cause_disk_fault { HasCause (D.faults work.old.disk) (D.faults work.new.disk) (result ≡ Err Refusal.DiskFault) }
 {
     rows_trait::every_low();
     core_calls::every_room();
-    let frames = store.session.frames;
-    let outcome = lift(rows, seat, store.session.own, frames, page, store);
+    let frames = work.session.frames;
+    let outcome = lift(rows, seat, work.session.own, frames, page, work);
     rows.versions(seat);
-    finish(&mut store.session, outcome)
+    finish(&mut work.session, outcome)
 }
 
 // Half of the page in the frame `left` goes into the page, under the one in the frame `parent`.
 fn split_page<R: Rows, D: Stages>(
     rows: &mut R,
     seat: &mut R::Seat,
-    store: &mut Store<D>,
+    work: &mut Work<D>,
     key: u64,
     left: u32,
     page: u32,
     parent: u32,
 ) -> Result<(), Refusal>
     requires fits { R.fits rows.old seat.old }
-    requires holds { Holds (R.shape rows.old) (R.view seat.old) store.old.session store.old.log }
-    requires may { MayChange (R.view seat.old) store.old.session store.old.log key }
-    requires can { CanSplit (R.view seat.old) store.old.session key left page parent }
+    requires holds { Holds (R.shape rows.old) (R.view seat.old) work.old.session work.old.log }
+    requires may { MayChange (R.view seat.old) work.old.session work.old.log key }
+    requires can { CanSplit (R.view seat.old) work.old.session key left page parent }
     ensures fits { R.fits rows.new seat.new × (R.shape rows.new ≡ R.shape rows.old) }
-    ensures holds { store.new.session.works ≡ true → Holds (R.shape rows.new) (R.view seat.new) store.new.session store.new.log }
-    ensures grew { Grew result key (R.view seat.old) (R.view seat.new) store.old.session store.new.session store.old.log store.new.log (D.story store.old.disk) (D.story store.new.disk) (store.new ≡ store.old) (store.new.session.works ≡ false) }
-    ensures works { store.new.session.works ≡ works_after result }
-    ensures cause_disk_fault { HasCause (D.faults store.old.disk) (D.faults store.new.disk) (result ≡ Err Refusal.DiskFault) }
+    ensures holds { work.new.session.works ≡ true → Holds (R.shape rows.new) (R.view seat.new) work.new.session work.new.log }
+    ensures session { IsSameSession work.old.session work.new.session }
+    ensures grew { Grew result key (R.view seat.old) (R.view seat.new) work.old.session work.new.session work.old.log work.new.log (D.story work.old.disk) (D.story work.new.disk) (work.new ≡ work.old) (work.new.session.works ≡ false) }
+    ensures works { work.new.session.works ≡ works_after result }
+    ensures cause_disk_fault { HasCause (D.faults work.old.disk) (D.faults work.new.disk) (result ≡ Err Refusal.DiskFault) }
 {
     rows_trait::every_low();
     core_calls::every_room();
-    let frames = store.session.frames;
+    let frames = work.session.frames;
     let outcome = split(
         rows,
         seat,
-        store.session.own,
+        work.session.own,
         frames,
         left,
         page,
         parent,
-        store,
+        work,
     );
     rows.versions(seat);
-    finish(&mut store.session, outcome)
+    finish(&mut work.session, outcome)
 }
 
 // Makes the change, and takes the page.
 fn change_tree<R: Rows, D: Stages>(
     rows: &mut R,
     seat: &mut R::Seat,
-    store: &mut Store<D>,
+    work: &mut Work<D>,
     key: u64,
     next: Next,
 ) -> Result<(), Refusal>
     requires fits { R.fits rows.old seat.old }
-    requires holds { Holds (R.shape rows.old) (R.view seat.old) store.old.session store.old.log }
-    requires may { MayChange (R.view seat.old) store.old.session store.old.log key }
-    requires can { CanGrow (R.view seat.old) store.old.session key next }
+    requires holds { Holds (R.shape rows.old) (R.view seat.old) work.old.session work.old.log }
+    requires may { MayChange (R.view seat.old) work.old.session work.old.log key }
+    requires can { CanGrow (R.view seat.old) work.old.session key next }
     ensures fits { R.fits rows.new seat.new × (R.shape rows.new ≡ R.shape rows.old) }
-    ensures holds { store.new.session.works ≡ true → Holds (R.shape rows.new) (R.view seat.new) store.new.session store.new.log }
-    ensures grew { Grew result key (R.view seat.old) (R.view seat.new) store.old.session store.new.session store.old.log store.new.log (D.story store.old.disk) (D.story store.new.disk) (store.new ≡ store.old) (store.new.session.works ≡ false) }
-    ensures works { store.new.session.works ≡ works_after result }
-    ensures cause_disk_fault { HasCause (D.faults store.old.disk) (D.faults store.new.disk) (result ≡ Err Refusal.DiskFault) }
+    ensures holds { work.new.session.works ≡ true → Holds (R.shape rows.new) (R.view seat.new) work.new.session work.new.log }
+    ensures session { IsSameSession work.old.session work.new.session }
+    ensures grew { Grew result key (R.view seat.old) (R.view seat.new) work.old.session work.new.session work.old.log work.new.log (D.story work.old.disk) (D.story work.new.disk) (work.new ≡ work.old) (work.new.session.works ≡ false) }
+    ensures works { work.new.session.works ≡ works_after result }
+    ensures cause_disk_fault { HasCause (D.faults work.old.disk) (D.faults work.new.disk) (result ≡ Err Refusal.DiskFault) }
 {
     match next {
-        Next::Lift { page } => lift_root(rows, seat, store, key, page),
+        Next::Lift { page } => lift_root(rows, seat, work, key, page),
         Next::Split { left, page, parent } => {
-            split_page(rows, seat, store, key, left, page, parent)
+            split_page(rows, seat, work, key, left, page, parent)
         }
     }
 }
@@ -180,28 +184,29 @@ fn change_tree<R: Rows, D: Stages>(
 pub(crate) fn make_room<R: Rows, D: Stages>(
     rows: &mut R,
     seat: &mut R::Seat,
-    store: &mut Store<D>,
+    work: &mut Work<D>,
     key: u64,
     path: &Path,
 ) -> Result<(), Refusal>
     requires fits { R.fits rows.old seat.old }
-    requires holds { Holds (R.shape rows.old) (R.view seat.old) store.old.session store.old.log }
-    requires may { MayChange (R.view seat.old) store.old.session store.old.log key }
-    requires leaf { (leaf : ℕ) × IsUnfit (R.view seat.old) key leaf × IsPathTo (R.view seat.old) store.old.session.frames key path.now leaf }
+    requires holds { Holds (R.shape rows.old) (R.view seat.old) work.old.session work.old.log }
+    requires may { MayChange (R.view seat.old) work.old.session work.old.log key }
+    requires leaf { (leaf : ℕ) × IsUnfit (R.view seat.old) key leaf × IsPathTo (R.view seat.old) work.old.session.frames key path.now leaf }
     ensures fits { R.fits rows.new seat.new × (R.shape rows.new ≡ R.shape rows.old) }
-    ensures holds { store.new.session.works ≡ true → Holds (R.shape rows.new) (R.view seat.new) store.new.session store.new.log }
-    ensures grew { Grew result key (R.view seat.old) (R.view seat.new) store.old.session store.new.session store.old.log store.new.log (D.story store.old.disk) (D.story store.new.disk) (store.new ≡ store.old) (store.new.session.works ≡ false) }
-    ensures works { store.new.session.works ≡ works_after result }
-    ensures cause_disk_fault { HasCause (D.faults store.old.disk) (D.faults store.new.disk) (result ≡ Err Refusal.DiskFault) }
+    ensures holds { work.new.session.works ≡ true → Holds (R.shape rows.new) (R.view seat.new) work.new.session work.new.log }
+    ensures session { IsSameSession work.old.session work.new.session }
+    ensures grew { Grew result key (R.view seat.old) (R.view seat.new) work.old.session work.new.session work.old.log work.new.log (D.story work.old.disk) (D.story work.new.disk) (work.new ≡ work.old) (work.new.session.works ≡ false) }
+    ensures works { work.new.session.works ≡ works_after result }
+    ensures cause_disk_fault { HasCause (D.faults work.old.disk) (D.faults work.new.disk) (result ≡ Err Refusal.DiskFault) }
 {
     core_calls::every_room();
-    let frames = store.session.frames;
-    let run = match full_run(rows, seat, store.session.own, frames, path) {
+    let frames = work.session.frames;
+    let run = match full_run(rows, seat, work.session.own, frames, path) {
         Ok(run) => run,
         Err(_) => unreachable!(),
     };
-    match next_room(path, run, &store.session.free) {
-        Ok(next) => change_tree(rows, seat, store, key, next),
+    match next_room(path, run, &work.session.free) {
+        Ok(next) => change_tree(rows, seat, work, key, next),
         Err(why) => Err(why),
     }
 }

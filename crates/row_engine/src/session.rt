@@ -1,9 +1,11 @@
 // What a session has in memory.
 ghost use Rattle.std.specs.Prelude.{◌≤◌};
+ghost use Rattle.page_model.specs.Limits.{most_sessions};
 
 use crate::free::FreePages;
 use crate::held::HeldRows;
 use crate::undo::UndoList;
+use flush_avoidance::Clock;
 
 /// A session: its number, which is its worker's and its log's too, of so many; how many of its commits are flushed at once; whether no
 /// device has failed; what the core's worker has; whether an abort has put changes back and was then refused; how many of its commits wait
@@ -16,16 +18,14 @@ pub struct Session {
     pub group: u32,
     pub works: bool,
     pub is_open: bool,
-    pub half: bool,
+    pub is_half_aborted: bool,
     pub txn: u64,
-    pub clock: u64,
-    pub floor: u64,
-    pub debt: u64,
+    pub clock: Clock,
     pub end: u64,
-    pub behind: u32,
+    pub unflushed: u32,
     pub frames: u32,
     pub undo: UndoList,
     pub held: HeldRows,
     pub free: FreePages,
-    ghost few: { own ≤ 16 },
+    ghost few: { own ≤ most_sessions },
 }

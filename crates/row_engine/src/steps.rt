@@ -1,24 +1,16 @@
 // What a session asks of itself before a call, and how it goes on.
-ghost use Rattle.std.specs.Prelude.{◌≡◌, ◌<◌, ◌^◌, max};
+ghost use Rattle.std.specs.Prelude.{◌≡◌, ◌<◌, ◌^◌};
 ghost use Rattle.std.specs.Prelude.{None};
-ghost use Rattle.engine_trait.specs.Refusals.{log_refusal};
-ghost use Rattle.row_engine.specs.Staging.{touched_session};
+ghost use Rattle.engine_trait.specs.Refusals.{clock_refusal, log_refusal};
 ghost use Rattle.row_engine.specs.Inside.{abort_test, begin_test, begun_session, call_test, is_going, put_test};
 
 use crate::session::Session;
-use crate::undo::CHANGES;
 use map_model::Refusal;
+use page_model::limits::TRANSACTION_CHANGES;
 use worker_log::WorkerLog;
 
 /// Where the clock ends.
 pub(crate) const CLOCK_END: u64 = 1 << 62;
-
-// The greater of two numbers.
-fn greater(a: u64, b: u64) -> u64
-    ensures { result ≡ max a b }
-{
-    if a < b { b } else { a }
-}
 
 // Why a call that takes numbers is refused by its log or its clock.
 fn log_refusal(clock: u64, log: &WorkerLog) -> Option<Refusal>
@@ -46,14 +38,14 @@ impl Session {
         if self.is_open {
             return Some(Refusal::InTransaction);
         }
-        log_refusal(self.clock, log)
+        log_refusal(self.clock.clock, log)
     }
 
     // Whether a transaction is open, and its abort is not half done.
     fn is_going(&self) -> bool
         ensures { result ≡ is_going self.now }
     {
-        !self.half && self.is_open
+        !self.is_half_aborted && self.is_open
     }
 
     // Why a call within a transaction is refused before it is begun.
@@ -89,35 +81,20 @@ impl Session {
         if let Some(why) = self.call_refusal() {
             return Some(why);
         }
-        if CHANGES <= self.undo.len() {
+        if TRANSACTION_CHANGES <= self.undo.len() {
             return Some(Refusal::TooLong);
         }
-        log_refusal(self.clock, log)
+        log_refusal(self.clock.clock, log)
     }
 
-    // Why no further record of a change may be staged.
-    pub(crate) fn block_refusal(&self, log: &WorkerLog) -> Option<Refusal>
-        ensures { result ≡ log_refusal self.now.clock log.now None }
+    // Why no further change may be made: a row or a page that was met may have brought the clock to its end.
+    pub(crate) fn clock_refusal(&self) -> Option<Refusal>
+        ensures { result ≡ clock_refusal self.now.clock.clock None }
     {
-        log_refusal(self.clock, log)
-    }
-
-    // The session has met a stamp.
-    pub(crate) fn touch(&mut self, number: u64, log: u32)
-        ensures { self.new ≡ touched_session self.old number log }
-    {
-        let remote = self.floor < number && log != self.own && log != 0;
-        self.clock = greater(self.clock, number);
-        if remote {
-            self.debt = greater(self.debt, number);
+        if CLOCK_END <= self.clock.clock {
+            return Some(Refusal::ClockSpent);
         }
-    }
-
-    // Its clock is at least this.
-    pub(crate) fn raise(&mut self, number: u64)
-        ensures { self.new ≡ record self.old { clock = max self.old.clock number } }
-    {
-        self.clock = greater(self.clock, number);
+        None
     }
 
     // A transaction begins, with all logs flushed up to this number.
@@ -126,12 +103,9 @@ impl Session {
         ensures { self.new ≡ begun_session self.old floor }
     {
         self.is_open = true;
-        self.floor = floor;
-        if self.debt <= floor {
-            self.debt = 0;
-        }
+        self.clock.begin(floor);
         self.txn += 1;
         self.undo.clear();
-        self.half = false;
+        self.is_half_aborted = false;
     }
 }

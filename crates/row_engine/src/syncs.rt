@@ -6,13 +6,14 @@ ghost use Rattle.lean_disk.specs.Faults.{HasCause};
 ghost use Rattle.log_calls.specs.Wholes.{EndsInRecord};
 ghost use Rattle.row_words.specs.Openings.{opening};
 ghost use Rattle.rows_trait.specs.Views.{state};
+ghost use Rattle.row_engine.specs.Calls.{IsSameSession};
 ghost use Rattle.row_engine.specs.Holds.{Holds};
 ghost use Rattle.row_engine.specs.Puts.{KeepsLog};
 ghost use Rattle.row_engine.specs.Syncs.{FlushesOwn, HasNoneBehind, HasSynced, synced_session};
 
 use crate::commits::{Flushes, settle};
 use crate::session::Session;
-use crate::store::Store;
+use crate::work::Work;
 use lean_disk::Disk;
 use log_calls::flush_whole;
 use rows_trait::names::Names;
@@ -37,35 +38,37 @@ impl Names for Syncs {
 pub fn flush_own<R: Rows, D: Disk>(
     rows: &mut R,
     seat: &mut R::Seat,
-    store: &mut Store<D>,
+    work: &mut Work<D>,
 ) -> Result<(), DiskFault>
     requires fits { R.fits rows.old seat.old }
-    requires holds { Holds (R.shape rows.old) (R.view seat.old) store.old.session store.old.log }
-    requires works { store.old.session.works ≡ true }
-    requires ends { EndsInRecord (state (R.view seat.old)).core store.old.session.own store.old.log }
-    requires last { HasNoneBehind (state (R.view seat.old)).core store.old.session.own store.old.log }
-    requires whole { 0 < length store.old.session.undo → store.old.session.half ≡ false }
+    requires holds { Holds (R.shape rows.old) (R.view seat.old) work.old.session work.old.log }
+    requires works { work.old.session.works ≡ true }
+    requires ends { EndsInRecord (state (R.view seat.old)).core work.old.session.own work.old.log }
+    requires last { HasNoneBehind (state (R.view seat.old)).core work.old.session.own work.old.log }
+    requires whole { 0 < length work.old.session.undo → work.old.session.is_half_aborted ≡ false }
     ensures fits { R.fits rows.new seat.new × (R.shape rows.new ≡ R.shape rows.old) }
-    ensures holds { OnOk result (Holds (R.shape rows.new) (R.view seat.new) store.new.session store.new.log) }
-    ensures flushes { OnOk result (FlushesOwn (R.view seat.old) (R.view seat.new) store.old.session store.new.session store.old.log store.new.log (D.story store.old.disk) (D.story store.new.disk)) }
-    ensures keeps { KeepsLog store.old.session.own store.old.log (D.story store.old.disk) (D.story store.new.disk) }
-    ensures works { (store.new.session.works ≡ true) ↔ IsOk result }
+    ensures holds { OnOk result (Holds (R.shape rows.new) (R.view seat.new) work.new.session work.new.log) }
+    // Also where the device failed.
+    ensures session { IsSameSession work.old.session work.new.session }
+    ensures flushes { OnOk result (FlushesOwn (R.view seat.old) (R.view seat.new) work.old.session work.new.session work.old.log work.new.log (D.story work.old.disk) (D.story work.new.disk)) }
+    ensures keeps { KeepsLog work.old.session.own work.old.log (D.story work.old.disk) (D.story work.new.disk) }
+    ensures works { (work.new.session.works ≡ true) ↔ IsOk result }
 
-    ensures cause_disk_fault { HasCause (D.faults store.old.disk) (D.faults store.new.disk) (IsErr result) }
+    ensures cause_disk_fault { HasCause (D.faults work.old.disk) (D.faults work.new.disk) (IsErr result) }
 {
     lean_proto::every_turn();
-    let own = store.session.own;
-    let number = store.log.last();
-    let flushed = store.log.flushed();
-    if let Err(fault) = flush_whole(&mut store.disk, &mut store.log, own) {
-        store.session.works = false;
+    let own = work.session.own;
+    let number = work.log.last();
+    let flushed = work.log.flushed();
+    if let Err(fault) = flush_whole(&mut work.disk, &mut work.log, own) {
+        work.session.works = false;
         return Err(fault);
     }
     if number == flushed {
         return Ok(());
     }
     rows.store_control(seat, own, 0, number, &Flushes { own, number });
-    settle(&mut store.session);
+    settle(&mut work.session);
     Ok(())
 }
 
@@ -85,7 +88,7 @@ impl Session {
     pub fn synced(&mut self, number: u64)
         ensures { self.new ≡ synced_session self.old number }
     {
-        self.clock = number;
-        self.behind = 0;
+        self.clock.clock = number;
+        self.unflushed = 0;
     }
 }

@@ -4,7 +4,7 @@ ghost use Rattle.core_state.specs.Needs.{is_reader};
 ghost use Rattle.key_locks.specs.declared.mode.Mode.TheVariants as mode;
 ghost use Rattle.map_model.specs.declared.call.Refusal.{Refusal};
 ghost use Rattle.row_engine.specs.Holds.{Holds};
-ghost use Rattle.row_engine.specs.Takes.{IsSpent, NotTaken, Takes};
+ghost use Rattle.row_engine.specs.Inside.Takes.{IsSpent, NotTaken, Takes};
 
 use crate::session::Session;
 use key_locks::locking::{Refusal as Unlocked, RowSpent, lock_again, lock_row, row_of};
@@ -35,8 +35,8 @@ fn take_first<R: Rows>(
     let count = session.held.count();
     match lock_row(rows, seat, session.own, session.frames, count, row, mode) {
         Ok(stamp) => {
-            session.touch(stamp.number, stamp.log);
-            session.raise(stamp.readers);
+            session.clock.touch(session.own, stamp.number, stamp.log);
+            session.clock.raise(stamp.readers);
             session.held.take(row);
             session.held.few();
             Ok(())

@@ -1,12 +1,11 @@
 // What a transaction has still to put back.
 ghost use Rattle.std.specs.Prelude.{◌≡◌, ◌<◌, [], ◌∷◌, length, IfOk};
+ghost use Rattle.page_model.specs.Limits.{transaction_changes};
 ghost use Rattle.row_engine.specs.Undo.{newest_of, without_newest};
 
+use page_model::limits::TRANSACTION_CHANGES;
 use std::alloc::{AllocError, Global};
 use std::marker::Model;
-
-/// How many changes a transaction may make.
-pub const CHANGES: usize = 64;
 
 /// A change that is still to put back: its key, and the word that the key had before it.
 #[derive(Clone, Copy, Debug, PartialEq, Eq)]
@@ -24,6 +23,7 @@ pub struct UndoList {
 
 impl Model for UndoList {
     ghost use Rattle.std.specs.Prelude.{◌≤◌, reverse, vec_capacity, List};
+    ghost use Rattle.page_model.specs.Limits.{transaction_changes};
     ghost use Rattle.row_engine.specs.declared.undo.Undone.{Undone};
 
     // The newest first.
@@ -31,7 +31,7 @@ impl Model for UndoList {
 
     ghost view = { λ u. reverse u.changes.items };
 
-    ghost invariant = { λ u. 64 ≤ vec_capacity u.changes };
+    ghost invariant = { λ u. transaction_changes ≤ vec_capacity u.changes };
 }
 
 impl UndoList {
@@ -39,7 +39,7 @@ impl UndoList {
     pub fn new(alloc: Global) -> Result<UndoList, AllocError>
         ensures { IfOk result (λ u. u ≡ []) }
     {
-        let changes = Vec::with_capacity(alloc, CHANGES)?;
+        let changes = Vec::with_capacity(alloc, TRANSACTION_CHANGES)?;
         Ok(UndoList { changes })
     }
 
@@ -59,7 +59,7 @@ impl UndoList {
 
     /// A change was made.
     pub fn push(&mut self, key: u64, word: u64)
-        requires { length self.old < 64 }
+        requires { length self.old < transaction_changes }
         ensures { self.new ≡ record { key = key; word = word } ∷ self.old }
     {
         self.changes.push_reserved(Undone { key, word });

@@ -1,2 +1,4 @@
--- Read Openings.
+-- Read Opened, what rows begin with, and Openings, the laws. Inside has the words of private functions.
+pub mod Opened
 pub mod Openings
+pub mod Inside

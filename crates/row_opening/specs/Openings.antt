@@ -1,5 +1,6 @@
 -- Rows that begin as an opening gives them.
 use Rattle.std.specs.Prelude.{◌≡◌, ◌<◌, ℕ, List, ◌++◌}
+use Rattle.page_model.specs.Limits.{transaction_changes}
 use Rattle.page_model.specs.Tree.{IsTree}
 use Rattle.core_state.specs.Openings.{Opening}
 use Rattle.core_state.specs.Events as happening
@@ -20,7 +21,7 @@ pub record Opens (x : Opening) (v : Given) : Type 0 where
   pub workers : x.workers ≡ (rows.opening v).workers
   pub frames : x.frames ≡ (rows.opening v).frames
   pub locks : x.row_of ≡ (rows.opening v).row_of
-  pub changes : x.changes ≡ 64
+  pub changes : x.changes ≡ transaction_changes
   pub joined : x.joined ≡ 45
   pub format : x.format ≡ (rows.opening v).format
   pub first : start x ≡ first_state v

@@ -1,7 +1,60 @@
-//! Rows that begin as an opening gives them: the laws of the core hold of each moment of such rows.
+//! Rows that begin as an opening gives them: plain rows in which each page, also a free one, stands in the frame of its own number, and the laws of
+//! the core at each moment of such rows. Read specs/Opened.antt, what the rows begin with, and specs/Openings.antt, the laws.
 #![tactic(auto)]
 
+mod frame;
+mod worker;
+
+ghost use Rattle.std.specs.Prelude.{◌≡◌, ◌+◌, ◌<◌, ◌≤◌, ◌^◌, length, IfOk};
+ghost use Rattle.rows_trait.specs.Plain.{sizes, IsOpening};
+ghost use Rattle.rows_trait.specs.Rule.{IsPicture, plan};
+ghost use Rattle.rows_trait.specs.Views.{first_plain};
+ghost use Rattle.row_opening.specs.Opened.{ArePages, given_of, IsOpened};
 ghost use Rattle.row_opening.specs.Openings.{EveryNeed, EveryOpened, EveryReached};
+
+use btree_node::Node;
+use frame::set_frames;
+use rows_trait::plain::PlainRows;
+use rows_trait::trace::{Trace, Which};
+use std::alloc::{AllocError, Global};
+use std::marker::Brand;
+use worker::set_workers;
+
+/// Plain rows in which each page, also a free one, stands in the frame of its own number, and their seat. The frames behind the last
+/// page are empty. There are `locks` lock rows, and numbers are drawn above `base`. The one error is that memory is refused.
+pub fn open_rows(
+    alloc: Global,
+    pages: &[Node],
+    frames: u32,
+    locks: u32,
+    workers: u32,
+    base: u64,
+) -> Result<(PlainRows, Trace), AllocError>
+    requires pages { ArePages pages.now base }
+    requires frames { length pages.now ≤ frames }
+    requires workers { 1 ≤ workers }
+    requires few { frames + locks + workers < 2 ^ 32 }
+    ensures sizes { IfOk result (λ r. (r.0.frames ≡ frames) × (r.0.locks ≡ locks) × (r.0.workers ≡ workers)) }
+    ensures view { IfOk result (λ r. r.1.view ≡ first_plain (given_of frames locks workers base pages.now)) }
+    ensures picture { IfOk result (λ r. IsPicture (plan (sizes r.0.frames r.0.locks r.0.workers) r.1.view.given) r.0.words.items r.1.view) }
+    ensures opened { IsOpened pages.now (given_of frames locks workers base pages.now) }
+{
+    let mut rows = PlainRows::new(alloc, frames, locks, workers)?;
+    set_frames(&mut rows.words, 2 + 4 * workers as usize, frames, pages);
+    set_workers(&mut rows.words, workers, base);
+    let seat = seat_of::<Brand>(&rows, pages, base);
+    Ok((rows, seat))
+}
+
+// The seat of rows whose words are those of the pages. Pages and base number stand here for the proof alone.
+fn seat_of<K: Which>(rows: &PlainRows, pages: &[Node], base: u64) -> Trace
+    requires words { IsOpening (sizes rows.now.frames rows.now.locks rows.now.workers) K.which.given rows.now.words.items }
+    requires first { K.which ≡ first_plain K.which.given }
+    ensures seat { result.view ≡ K.which }
+    ensures picture { IsPicture (plan (sizes rows.now.frames rows.now.locks rows.now.workers) result.view.given) rows.now.words.items result.view }
+{
+    rows.begin::<K>()
+}
 
 /// After every list of events the pages are a tree, and where pages stand in frames is in order: one page a frame, the root hot,
 /// the parent of a hot page hot; each page's last log is below 256, where there are fewer than 256 workers; whoever holds a lock row

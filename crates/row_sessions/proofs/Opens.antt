@@ -15,7 +15,7 @@ use Rattle.btree_descent.specs.Known as descent
 use Rattle.key_locks.specs.Rows.{IsWorker, IsSound}
 use Rattle.key_locks.specs.Soundness.{unbegun}
 use Rattle.key_locks.proofs.Soundness.{every_sound}
-use Rattle.open_rows.specs.Opened.{given_of, pages_of, IsOpened}
+use Rattle.row_opening.specs.Opened.{given_of, pages_of, IsOpened}
 use Rattle.row_sessions.specs.declared.session.Session.{Session}
 use Rattle.row_sessions.specs.Standing.{IsOf, no_session, first_session, session_at, AreSessions}
 

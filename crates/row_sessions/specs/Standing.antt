@@ -12,7 +12,7 @@ use Rattle.btree_descent.specs.Known.{IsSound}
 use Rattle.key_locks.specs.Rows as locks
 use Rattle.page_model.specs.Page.{Page}
 use Rattle.page_model.specs.Tree.{IsTree}
-use Rattle.open_rows.specs.Opened.{page_at}
+use Rattle.row_opening.specs.Opened.{page_at}
 use Rattle.row_words.specs.Moments.{format_of}
 use Rattle.row_sessions.specs.declared.session.Session.{Session}
 use Rattle.row_sessions.specs.declared.sessions.Sessions.{Sessions}

@@ -1,6 +1,6 @@
 //! Whether pages are what rows may begin with.
 ghost use Rattle.std.specs.Prelude.{◌≡◌, ◌≤◌, ◌<◌, ℕ, true, IfOk, length};
-ghost use Rattle.open_rows.specs.Opened.{ArePages, page_at};
+ghost use Rattle.row_opening.specs.Opened.{ArePages, page_at};
 ghost use Rattle.row_words.specs.Moments.{format_of};
 ghost use Rattle.page_model.specs.Tree.{IsTree};
 ghost use Rattle.row_sessions.specs.Standing.{IsTreeOf, AreNumbered};

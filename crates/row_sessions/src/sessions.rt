@@ -7,7 +7,7 @@ use crate::opening::are_pages;
 use crate::session::Session;
 use btree_node::Node;
 use key_locks::latches::Latches;
-use open_rows::open_rows;
+use row_opening::open_rows;
 use rows_trait::plain::PlainRows;
 use rows_trait::trace::Trace;
 use std::alloc::{AllocError, Global};

@@ -12,10 +12,10 @@ use Rattle.lean_disk.proofs.MomentLemmas.{weaker}
 use Rattle.lean_disk.proofs.MomentLemmas as moments
 use Rattle.disk_slots.specs.declared.master.Master.{Master}
 use Rattle.disk_image.specs.Laws.{EveryAgreement}
-use Rattle.disk_image.specs.Masters.{IsOfRun}
 use Rattle.disk_image.specs.Shown.{Areas, image_by}
 use Rattle.core_disk.specs.Held.{HoldsRun}
 use Rattle.core_disk.specs.Shows.{EveryShown}
+use Rattle.disk_runs.specs.Masters.{IsOfRunBy}
 use Rattle.disk_runs.specs.Moments.{HoldsSome}
 use Rattle.disk_runs.proofs.LineLemmas.{opened}
 use Rattle.core_calls.specs.Crashes.{EveryRunCrash, WithOneInHand}
@@ -81,6 +81,11 @@ nil_first (x ∷ a) b e = absurd (cons_nil x (a ++ b) e)
 at_end : (g : Opening) (es : List Event) (n : Master) (area : Areas) (a : HoldsSome g es [] n area) → HoldsRun g es a.master area
 at_end g es n area a = subst (λ (k : List Event). HoldsRun g k a.master area) (ap (λ (k : List Event). es ++ k) (nil_first a.first a.rest a.is) ∙ append-nil es) a.holds
 
+-- by a master that is of the run behind these
+of_end : (g : Opening) (es : List Event) (m n : Master) (area : Areas) (a : HoldsSome g es [] n area) → IsOfRunBy es m n → IsOfRunBy es m a.master
+of_end g es m n area a q =
+    subst (λ (k : List Event). IsOfRunBy k m a.master) (ap (λ (k : List Event). es ++ k) (nil_first a.first a.rest a.is) ∙ append-nil es) (opened es a.first m n a.master q a.no_earlier)
+
 -- ## What commits nothing
 
 commits_later : (a b : List Mark) → commits (a ++ b) ≡ false → commits b ≡ false
@@ -121,9 +126,9 @@ any_next : (g : Opening) (Such : List Done → List Event → Type 0) (heard : L
     → Recovers g Such heard next out m area
 any_next g Such heard next out m area r = record {
   n = r.n;
-  of_run = r.of_run;
   behind = r.behind;
   fell = none_fell (Such heard) next r.behind r.fell;
+  of_run = r.of_run;
   holds = r.holds;
   by_then = r.by_then;
   by_then_is = none_in_hand (image_by r.n area) (outcomes heard) (outcome_of next) r.by_then r.by_then_is;
@@ -168,9 +173,9 @@ wider g Such Other so s0 m xs c r = record {
     recovered : Recovers g Such r.heard (next_of r.unheard) r.out m c.image → Recovers g Other r.heard (next_of r.unheard) r.out m c.image
     recovered a = record {
       n = a.n;
-      of_run = a.of_run;
       behind = a.behind;
       fell = fell (next_of r.unheard) a.behind a.fell;
+      of_run = a.of_run;
       holds = a.holds;
       by_then = a.by_then;
       by_then_is = a.by_then_is;
@@ -207,7 +212,7 @@ module _ (Such : List Done → List Event → Type 0) (reopened : EveryReopenedF
   }
 
   -- all lines before the call are out, and none of it
-  pub call : (xs : List Done) (c : Crash) (x : Done) → EachTells l g group (x ∷ xs) → IsOfRun m n → CallLeaves g xs x.events s0 n c → RunLeft g Such (x ∷ xs) s0 m c
+  pub call : (xs : List Done) (c : Crash) (x : Done) → EachTells l g group (x ∷ xs) → IsOfRunBy (front xs) m n → CallLeaves g xs x.events s0 n c → RunLeft g Such (x ∷ xs) s0 m c
   call xs c x t q h = record {
     unheard = x ∷ [];
     heard = xs;
@@ -217,10 +222,10 @@ module _ (Such : List Done → List Event → Type 0) (reopened : EveryReopenedF
     lines = refl;
     notes = h.notes;
     recovers = λ fair. let a = h.some fair in
-        (reopened l g group xs m a.master c.image).between x a.first a.rest [] (printed g xs) t a.is refl (opened m n a.master q a.no_earlier) a.holds;
+        (reopened l g group xs m a.master c.image).between x a.first a.rest [] (printed g xs) t a.is refl (opened (front xs) a.first m n a.master q a.no_earlier) a.holds;
   }
 
-  pub stopped : (xs : List Done) (c : Crash) (es : List Event) → EachTells l g group xs → CommitsNone g xs es → OfEachFirst (Such xs) es → IsOfRun m n → CallLeaves g xs es s0 n c → RunLeft g Such xs s0 m c
+  pub stopped : (xs : List Done) (c : Crash) (es : List Event) → EachTells l g group xs → CommitsNone g xs es → OfEachFirst (Such xs) es → IsOfRunBy (front xs) m n → CallLeaves g xs es s0 n c → RunLeft g Such xs s0 m c
   stopped xs c es t none such q h = record {
     unheard = [];
     heard = xs;
@@ -230,11 +235,11 @@ module _ (Such : List Done → List Event → Type 0) (reopened : EveryReopenedF
     lines = refl;
     notes = h.notes;
     recovers = λ fair. let a = h.some fair in
-        (reopened l g group xs m a.master c.image).stopped a.first [] (printed g xs) t (part g xs a.first a.rest es a.is none) (such a.first a.rest a.is) refl (opened m n a.master q a.no_earlier) a.holds;
+        (reopened l g group xs m a.master c.image).stopped a.first [] (printed g xs) t (part g xs a.first a.rest es a.is none) (such a.first a.rest a.is) refl (opened (front xs) a.first m n a.master q a.no_earlier) a.holds;
   }
 
   -- between two calls
-  pub behind : (xs : List Done) (c : Crash) → EachTells l g group xs → IsOfRun m n → CallLeaves g xs [] s0 n c → RunLeft g Such xs s0 m c
+  pub behind : (xs : List Done) (c : Crash) → EachTells l g group xs → IsOfRunBy (front xs) m n → CallLeaves g xs [] s0 n c → RunLeft g Such xs s0 m c
   behind xs c t q h = record {
     unheard = [];
     heard = xs;
@@ -244,25 +249,25 @@ module _ (Such : List Done → List Event → Type 0) (reopened : EveryReopenedF
     lines = refl;
     notes = h.notes;
     recovers = λ fair. let a = h.some fair in
-        (reopened l g group xs m a.master c.image).behind [] (printed g xs) t refl (opened m n a.master q a.no_earlier) (at_end g (front xs) n c.image a);
+        (reopened l g group xs m a.master c.image).behind [] (printed g xs) t refl (of_end g (front xs) m n c.image a q) (at_end g (front xs) n c.image a);
   }
 
   -- no line of the outcome is out
-  silent : (xs : List Done) (c : Crash) (x : Done) → EachTells l g group (x ∷ xs) → IsOfRun m n → PutLeaves g xs x s0 n c → c.notes ≡ notes_of g xs s0 → RunLeft g Such (x ∷ xs) s0 m c
-  silent xs c x t q h notes = call xs c x t q (record {
+  silent : (xs : List Done) (c : Crash) (x : Done) → EachTells l g group (x ∷ xs) → IsOfRunBy (front (x ∷ xs)) m n → PutLeaves g xs x s0 n c → c.notes ≡ notes_of g xs s0 → RunLeft g Such (x ∷ xs) s0 m c
+  silent xs c x t q h notes = record {
+    unheard = x ∷ [];
+    heard = xs;
+    calls = refl;
+    missing = [];
+    out = printed g xs;
+    lines = refl;
     notes = notes;
-    some = λ fair. let a = h.some fair in record {
-      first = x.events;
-      rest = [];
-      is = append-nil x.events;
-      master = a.master;
-      no_earlier = a.no_earlier;
-      holds = at_end g (front (x ∷ xs)) n c.image a;
-    };
-  })
+    recovers = λ fair. let a = h.some fair in
+        (reopened l g group xs m a.master c.image).between x x.events [] [] (printed g xs) t (append-nil x.events) refl (of_end g (front (x ∷ xs)) m n c.image a q) (at_end g (front (x ∷ xs)) n c.image a);
+  }
 
   -- some lines are
-  spoken : (xs : List Done) (c : Crash) (x : Done) → EachTells l g group (x ∷ xs) → IsOfRun m n → PutLeaves g xs x s0 n c → (later : List Reply) (o : Reply) (first : List Reply)
+  spoken : (xs : List Done) (c : Crash) (x : Done) → EachTells l g group (x ∷ xs) → IsOfRunBy (front (x ∷ xs)) m n → PutLeaves g xs x s0 n c → (later : List Reply) (o : Reply) (first : List Reply)
       → later ++ o ∷ first ≡ lines_of g xs x → c.notes ≡ notes_of g xs s0 + length (o ∷ first) → RunLeft g Such (x ∷ xs) s0 m c
   spoken xs c x t q h later o first split notes = record {
     unheard = [];
@@ -273,7 +278,7 @@ module _ (Such : List Done → List Event → Type 0) (reopened : EveryReopenedF
     lines = lines;
     notes = let e = length-append (o ∷ first) (printed g xs) in omega (arith, notes, e);
     recovers = λ fair. let a = h.some fair in
-        (reopened l g group (x ∷ xs) m a.master c.image).behind (durable_lines d.0) ((o ∷ first) ++ printed g xs) t lines (opened m n a.master q a.no_earlier) (at_end g (front (x ∷ xs)) n c.image a);
+        (reopened l g group (x ∷ xs) m a.master c.image).behind (durable_lines d.0) ((o ∷ first) ++ printed g xs) t lines (of_end g (front (x ∷ xs)) m n c.image a q) (at_end g (front (x ∷ xs)) n c.image a);
   }
     where
       d : Durables later
@@ -285,7 +290,7 @@ module _ (Such : List Done → List Event → Type 0) (reopened : EveryReopenedF
           ∙ (ap (λ (k : List Reply). k ++ printed g xs) split
           ∙ append_assoc (durable_lines (names_of g xs x)) (reply_of x ∷ []) (printed g xs)))
 
-  pub put : (xs : List Done) (c : Crash) (x : Done) → EachTells l g group (x ∷ xs) → IsOfRun m n → PutLeaves g xs x s0 n c → RunLeft g Such (x ∷ xs) s0 m c
+  pub put : (xs : List Done) (c : Crash) (x : Done) → EachTells l g group (x ∷ xs) → IsOfRunBy (front (x ∷ xs)) m n → PutLeaves g xs x s0 n c → RunLeft g Such (x ∷ xs) s0 m c
   put xs c x t q h = go h.later h.first h.split h.notes
     where
       go : (later first : List Reply) → later ++ first ≡ lines_of g xs x → c.notes ≡ notes_of g xs s0 + length first → RunLeft g Such (x ∷ xs) s0 m c

@@ -15,7 +15,6 @@ use Rattle.core_crash.specs.Crashes.{image_of}
 use Rattle.core_crash.proofs.Images.{gathered_has}
 use Rattle.disk_slots.specs.declared.master.Master.{Master}
 use Rattle.disk_image.specs.Laws.{Agreement, EveryAgreement}
-use Rattle.disk_image.specs.Masters.{IsOfRun}
 use Rattle.disk_image.specs.Shown.{Areas, image_by}
 use Rattle.core_disk.specs.Held.{HoldsRun}
 use Rattle.core_disk.specs.Shows.{EveryShown, Shows}
@@ -25,6 +24,7 @@ use Rattle.core_calls.specs.Deeds.{Outcome}
 use Rattle.core_calls.specs.Fronts.{Done, front, outcomes}
 use Rattle.core_calls.specs.Printed.{printed}
 use Rattle.core_calls.specs.Told.{kept_of}
+use Rattle.disk_runs.specs.Masters.{IsOfRunBy}
 use Rattle.run_crashes.specs.Laws.{EveryReopened, EveryReopenedFor, Passing}
 use Rattle.run_crashes.specs.Lines.{FellIn, Between, InCall, Stopped, Recovers, outcome_of}
 
@@ -49,7 +49,7 @@ in_hand i j told next by_then same (inr h) = inr (record {
 })
 
 module _ (agrees : EveryAgreement) (g : Opening) (Such : List Done → List Event → Type 0) (m n : Master) (area : Areas) (heard : List Done) (next : Option Done) (newer out : List Reply) (lines : newer ++ out ≡ printed g heard)
-    (of_run : IsOfRun m n) (behind : List Event) (fell : FellIn (Such heard) next behind) (h : HoldsRun g (front heard ++ behind) n area) (x : Shows g (front heard ++ behind) n area)
+    (behind : List Event) (fell : FellIn (Such heard) next behind) (of_run : IsOfRunBy (front heard ++ behind) m n) (h : HoldsRun g (front heard ++ behind) n area) (x : Shows g (front heard ++ behind) n area)
     (r : RunSurvives g (front heard ++ behind) x.logs x.page heard (outcome_of next)) where
   abbrev es : List Event
   es = front heard ++ behind
@@ -89,9 +89,9 @@ module _ (agrees : EveryAgreement) (g : Opening) (Such : List Done → List Even
   pub recovers : Recovers g Such heard next out m area
   recovers = record {
     n = n;
-    of_run = of_run;
     behind = behind;
     fell = fell;
+    of_run = of_run;
     holds = h;
     by_then = r.by_then;
     by_then_is = in_hand image shown (outcomes heard) (outcome_of next) r.by_then keeps_same r.by_then_is;
@@ -115,11 +115,11 @@ module _ (agrees : EveryAgreement) (g : Opening) (Such : List Done → List Even
 pub every_reopened_for : EveryShown → EveryRunCrash → EveryAgreement → (Such : List Done → List Event → Type 0) → EveryReopenedFor Such
 every_reopened_for shows crashes agrees Such l g group xs m n area = record {
   between = λ x before after newer out t e lines q h. let s = shows g (front xs ++ before) n area h in
-      recovers agrees g Such m n area xs (Some x) newer out lines q before (InCall x refl after e) h s ((crashes l g group).between xs x before after t (sym e) s.logs s.page s.leaves);
+      recovers agrees g Such m n area xs (Some x) newer out lines before (InCall x refl after e) q h s ((crashes l g group).between xs x before after t (sym e) s.logs s.page s.leaves);
   stopped = λ es newer out t none such lines q h. let s = shows g (front xs ++ es) n area h in
-      recovers agrees g Such m n area xs None newer out lines q es (Stopped such) h s ((crashes l g group).stopped xs es t none s.logs s.page s.leaves);
+      recovers agrees g Such m n area xs None newer out lines es (Stopped such) q h s ((crashes l g group).stopped xs es t none s.logs s.page s.leaves);
   behind = λ newer out t lines q h. let at = subst (λ (k : List Event). HoldsRun g k n area) (sym (append-nil (front xs))) h in let s = shows g (front xs ++ []) n area at in
-      recovers agrees g Such m n area xs None newer out lines q [] (Between refl) at s ((crashes l g group).stopped xs [] t (λ w. refl) s.logs s.page s.leaves);
+      recovers agrees g Such m n area xs None newer out lines [] (Between refl) (subst (λ (k : List Event). IsOfRunBy k m n) (sym (append-nil (front xs))) q) at s ((crashes l g group).stopped xs [] t (λ w. refl) s.logs s.page s.leaves);
 }
 
 pub every_reopened : EveryShown → EveryRunCrash → EveryAgreement → EveryReopened

@@ -6,19 +6,19 @@ use Rattle.lean_disk.specs.Moments.{LeavesOnly}
 use Rattle.lean_disk.specs.Story.{Crash, Story}
 use Rattle.disk_slots.specs.declared.master.Master.{Master}
 use Rattle.disk_image.specs.Laws.{EveryAgreement}
-use Rattle.disk_image.specs.Masters.{IsOfRun}
 use Rattle.core_disk.specs.Shows.{EveryShown}
 use Rattle.core_calls.specs.Crashes.{EveryRunCrash}
-use Rattle.core_calls.specs.Fronts.{Done}
+use Rattle.core_calls.specs.Fronts.{Done, front}
 use Rattle.core_calls.specs.Refusals.{Limits}
 use Rattle.core_calls.specs.Runs.{EachTells}
+use Rattle.disk_runs.specs.Masters.{IsOfRunBy}
 use Rattle.run_crashes.specs.Lines.{CallLeaves, PutLeaves, RunLeft}
 use Rattle.run_crashes.proofs.LineLemmas.{every_line_for}
 
 -- From one story to another by these calls, the newest first: each answered, and its lines put. Its master is n while it runs, and k behind it.
 pub data Ran (l : Limits) (g : Opening) (group : ℕ) (Such : List Done → List Event → Type 0) (s0 : Crash) (m : Master) (from : Story) : List Done → Story → Type 1 where
   Begins : (now : Story) → LeavesOnly from now (RunLeft g Such [] s0 m) → Ran l g group Such s0 m from [] now
-  Line : (xs : List Done) (x : Done) (n k : Master) (old mid new : Story) → Ran l g group Such s0 m from xs old → EachTells l g group (x ∷ xs) → IsOfRun m n → IsOfRun m k
+  Line : (xs : List Done) (x : Done) (n k : Master) (old mid new : Story) → Ran l g group Such s0 m from xs old → EachTells l g group (x ∷ xs) → IsOfRunBy (front xs) m n → IsOfRunBy (front (x ∷ xs)) m k
       → LeavesOnly old mid (CallLeaves g xs x.events s0 n) → LeavesOnly mid new (PutLeaves g xs x s0 k) → Ran l g group Such s0 m from (x ∷ xs) new
 
 -- A crash at whatever moment of it leaves what the lines that were out by then say.

@@ -9,9 +9,9 @@ use Rattle.lean_disk.specs.Area.{Leaves}
 use Rattle.lean_disk.specs.Moments.{LeavesOnly}
 use Rattle.lean_disk.specs.Story.{Crash, Story, Tells}
 use Rattle.disk_slots.specs.declared.master.Master.{Master}
-use Rattle.disk_image.specs.Masters.{IsOfRun}
 use Rattle.disk_image.specs.Shown.{Areas}
 use Rattle.core_disk.specs.Held.{HoldsRun}
+use Rattle.disk_runs.specs.Masters.{IsOfRunBy}
 use Rattle.disk_runs.specs.Stands.{Known, LeavesRun, Stands}
 use Rattle.core_calls.specs.Deeds.{commits}
 use Rattle.core_calls.specs.Fronts.{Done, front}
@@ -39,10 +39,10 @@ OfEachFirst Such es = (first rest : List Event) → first ++ rest ≡ es → Suc
 -- What a disk holds where some outcomes were heard: among the events of the next one, among such events that commit nothing, and behind these outcomes.
 pub record ReopenedLaws (l : Limits) (g : Opening) (group : ℕ) (Such : List Done → List Event → Type 0) (xs : List Done) (m n : Master) (area : Areas) : Type 0 where
   pub between : (x : Done) (before after : List Event) (newer out : List Reply) → EachTells l g group (x ∷ xs) → before ++ after ≡ x.events → newer ++ out ≡ printed g xs →
-      IsOfRun m n → HoldsRun g (front xs ++ before) n area → Recovers g Such xs (Some x) out m area
+      IsOfRunBy (front xs ++ before) m n → HoldsRun g (front xs ++ before) n area → Recovers g Such xs (Some x) out m area
   pub stopped : (es : List Event) (newer out : List Reply) → EachTells l g group xs → CommitsNone g xs es → Such xs es → newer ++ out ≡ printed g xs →
-      IsOfRun m n → HoldsRun g (front xs ++ es) n area → Recovers g Such xs None out m area
-  pub behind : (newer out : List Reply) → EachTells l g group xs → newer ++ out ≡ printed g xs → IsOfRun m n → HoldsRun g (front xs) n area → Recovers g Such xs None out m area
+      IsOfRunBy (front xs ++ es) m n → HoldsRun g (front xs ++ es) n area → Recovers g Such xs None out m area
+  pub behind : (newer out : List Reply) → EachTells l g group xs → newer ++ out ≡ printed g xs → IsOfRunBy (front xs) m n → HoldsRun g (front xs) n area → Recovers g Such xs None out m area
 
 -- in each run, on each disk
 abbrev pub EveryReopenedFor : (List Done → List Event → Type 0) → Type 0
@@ -56,10 +56,10 @@ EveryReopened = (test : List Done → List Event → Bool) → EveryReopenedFor 
 
 -- a crash in a call that is answered, in one that is not, while lines are put, and between two calls
 pub record CrashedLaws (l : Limits) (g : Opening) (group : ℕ) (Such : List Done → List Event → Type 0) (s0 : Crash) (m n : Master) (xs : List Done) (c : Crash) : Type 0 where
-  pub call : (x : Done) → EachTells l g group (x ∷ xs) → IsOfRun m n → CallLeaves g xs x.events s0 n c → RunLeft g Such (x ∷ xs) s0 m c
-  pub stopped : (es : List Event) → EachTells l g group xs → CommitsNone g xs es → OfEachFirst (Such xs) es → IsOfRun m n → CallLeaves g xs es s0 n c → RunLeft g Such xs s0 m c
-  pub put : (x : Done) → EachTells l g group (x ∷ xs) → IsOfRun m n → PutLeaves g xs x s0 n c → RunLeft g Such (x ∷ xs) s0 m c
-  pub behind : EachTells l g group xs → IsOfRun m n → CallLeaves g xs [] s0 n c → RunLeft g Such xs s0 m c
+  pub call : (x : Done) → EachTells l g group (x ∷ xs) → IsOfRunBy (front xs) m n → CallLeaves g xs x.events s0 n c → RunLeft g Such (x ∷ xs) s0 m c
+  pub stopped : (es : List Event) → EachTells l g group xs → CommitsNone g xs es → OfEachFirst (Such xs) es → IsOfRunBy (front xs) m n → CallLeaves g xs es s0 n c → RunLeft g Such xs s0 m c
+  pub put : (x : Done) → EachTells l g group (x ∷ xs) → IsOfRunBy (front (x ∷ xs)) m n → PutLeaves g xs x s0 n c → RunLeft g Such (x ∷ xs) s0 m c
+  pub behind : EachTells l g group xs → IsOfRunBy (front xs) m n → CallLeaves g xs [] s0 n c → RunLeft g Such xs s0 m c
   -- and one more call
   pub more : (x : Done) → RunLeft g Such xs s0 m c → RunLeft g Such (x ∷ xs) s0 m c
 
@@ -80,7 +80,7 @@ EveryPut s = (s0 : Crash) (g : Opening) (es : List Event) (x : Known) → Stands
 
 -- One line more: the call is answered, by when the master may be a later one, and its lines are put, all or some.
 abbrev pub EveryLineFor : (List Done → List Event → Type 0) → (from old mid new : Story) → Type 0
-EveryLineFor Such from old mid new = (l : Limits) (g : Opening) (group : ℕ) (s0 : Crash) (m n k : Master) (xs : List Done) (x : Done) → EachTells l g group (x ∷ xs) → IsOfRun m n → IsOfRun m k
+EveryLineFor Such from old mid new = (l : Limits) (g : Opening) (group : ℕ) (s0 : Crash) (m n k : Master) (xs : List Done) (x : Done) → EachTells l g group (x ∷ xs) → IsOfRunBy (front xs) m n → IsOfRunBy (front (x ∷ xs)) m k
     → LeavesOnly from old (RunLeft g Such xs s0 m) → LeavesOnly old mid (CallLeaves g xs x.events s0 n) → LeavesOnly mid new (PutLeaves g xs x s0 k) → LeavesOnly from new (RunLeft g Such (x ∷ xs) s0 m)
 
 -- and for each test
@@ -89,9 +89,9 @@ EveryLine from old mid new = (test : List Done → List Event → Bool) → Ever
 
 -- A call that is not answered: it committed nothing, and its events are such, however many happened; or it is the first part of one whose reply is never out.
 pub record StopLaws (l : Limits) (g : Opening) (group : ℕ) (Such : List Done → List Event → Type 0) (s0 : Crash) (m n : Master) (xs : List Done) (from old new : Story) : Type 0 where
-  pub nothing : (es : List Event) → EachTells l g group xs → CommitsNone g xs es → OfEachFirst (Such xs) es → IsOfRun m n
+  pub nothing : (es : List Event) → EachTells l g group xs → CommitsNone g xs es → OfEachFirst (Such xs) es → IsOfRunBy (front xs) m n
       → LeavesOnly from old (RunLeft g Such xs s0 m) → LeavesOnly old new (CallLeaves g xs es s0 n) → LeavesOnly from new (RunLeft g Such xs s0 m)
-  pub part : (x : Done) → EachTells l g group (x ∷ xs) → IsOfRun m n
+  pub part : (x : Done) → EachTells l g group (x ∷ xs) → IsOfRunBy (front xs) m n
       → LeavesOnly from old (RunLeft g Such xs s0 m) → LeavesOnly old new (CallLeaves g xs x.events s0 n) → LeavesOnly from new (RunLeft g Such (x ∷ xs) s0 m)
 
 -- of any such call

@@ -12,10 +12,10 @@ use Rattle.core_state.specs.Events.{Event}
 use Rattle.core_state.specs.Steps.{state_after}
 use Rattle.lean_disk.specs.Story.{Crash}
 use Rattle.disk_slots.specs.declared.master.Master.{Master}
-use Rattle.disk_image.specs.Masters.{IsOfRun}
 use Rattle.disk_image.specs.Shown.{Areas, DiskStandsFor, IsCleanDisk, image_by}
 use Rattle.core_disk.specs.Held.{HoldsRun}
 use Rattle.disk_runs.specs.Fair.{IsFairFrom}
+use Rattle.disk_runs.specs.Masters.{IsOfRunBy}
 use Rattle.disk_runs.specs.Moments.{LeavesSome}
 use Rattle.core_calls.specs.Crashes.{WithOneInHand}
 use Rattle.core_calls.specs.Deeds.{Outcome, answered}
@@ -45,14 +45,14 @@ NoneStopped heard es = ⊥
 
 -- These outcomes were heard, with these lines out, and the next one, if there is one, may be in hand. The image is clean; it stands for the map
 -- after the kept transactions, by its own winners. The kept are those up to its master's floor and its winners: a closed part of the
--- transactions by then, with each that was reported durable. The run began with a master of m's run. The disk holds what a crash behind the events
--- of these outcomes and those that it fell behind leaves, by the master that counts.
+-- transactions by then, with each that was reported durable. The disk holds what a crash behind the events of these outcomes and those that it fell
+-- behind leaves, by the master that counts; that is of m's run, behind these events.
 pub record Recovers (g : Opening) (Such : List Done → List Event → Type 0) (heard : List Done) (next : Option Done) (out : List Reply) (m : Master) (area : Areas) : Type 0 where
   pub n : Master
-  pub of_run : IsOfRun m n
   -- where the crash fell
   pub behind : List Event
   pub fell : FellIn (Such heard) next behind
+  pub of_run : IsOfRunBy (front heard ++ behind) m n
   pub holds : HoldsRun g (front heard ++ behind) n area
   -- the transactions by then: those that were told, and one in hand, if there is one; each commit in the image has the number of its transaction
   pub by_then : Journal

@@ -1,20 +1,26 @@
 -- Events among which one step is taken: what they tell of a session, and how it stands behind them.
 use Rattle.std.proofs.Common.{◌≡◌, ℕ, suc, Bool, true, false, cond, ◌&&◌, List, [], ◌∷◌, ◌++◌, Option, Some, None, refl, sym, ◌∙◌, ap, subst, true≢false}
-use Rattle.std.proofs.lemmas.Bool.{and_parts, eq-eqb, or_parts}
+use Rattle.std.proofs.lemmas.Bool.{eq-eqb, or_parts}
+use Rattle.map_model.specs.declared.call.Call.{Call}
+use Rattle.map_model.specs.declared.call.Call.TheVariants as call
+use Rattle.map_model.specs.declared.call.Refusal.{Refusal}
+use Rattle.map_model.specs.declared.call.Refusal.TheVariants as refusal
+use Rattle.map_model.specs.Histories.{Step}
 use Rattle.map_model.specs.Lists.{any, keep, upd}
-use Rattle.map_model.specs.Maps.{MapAnswer}
-use Rattle.image_model.specs.Entries.{Entry}
 use Rattle.core_state.specs.Events.{Event}
 use Rattle.core_state.specs.Local.{is_of}
-use Rattle.core_state.specs.Needs.{are_hot, following, holds_answer, is_following, is_leaf_of, may, may_hold, may_put_back, needs}
+use Rattle.core_state.specs.Needs.{may}
 use Rattle.core_state.specs.Openings.{Opening}
 use Rattle.core_state.specs.States.{State, Worker}
-use Rattle.core_state.specs.Steps.{AllMet, at_pages, at_row, begun, happens, put_back, run, step}
-use Rattle.core_calls.specs.LogEvents.{is_log}
+use Rattle.core_state.specs.Steps.{AllMet, begun, happens, run, state_after, step}
+use Rattle.core_calls.specs.Deeds.{Refused, Unsaid}
+use Rattle.core_calls.specs.Fronts.{Done, front, outcomes}
+use Rattle.core_calls.specs.LogEvents.{IsPressedYet, RefusedLogs, SyncsWhere, is_log}
 use Rattle.core_calls.specs.Marks.{Mark, Began, Ended, mark, marks, onto}
-use Rattle.core_calls.specs.Steps.{Tries, Unlocks, is_step, is_structure}
-use Rattle.engine_trait.specs.Logs.{Logs, LogsOne}
-use Rattle.worker_log.specs.Logs.{Log}
+use Rattle.core_calls.specs.Runs.{Tells}
+use Rattle.core_calls.specs.Steps.{Tries, Unlocks, call_behind, is_behind_row, is_change_call, is_step, is_structure}
+use Rattle.core_calls.proofs.WhereLemmas.{commit_never, syncs_nowhere}
+use Rattle.engine_trait.specs.Limits.{limits}
 
 abbrev is_sync : Event → Bool
 is_sync (Event.Sync n) = true
@@ -45,30 +51,6 @@ still_flush (e ∷ es) b w n a q =
     let p = or_parts (is_structure e) (any is_structure (es ++ cond b (Event.Flush w n ∷ []) [])) a in
     let l = or_parts (is_log e) (any is_log es) q in
     (p.0, no_sync e l.0, still_flush es b w n p.1 l.1)
-
--- no event changes the session, the tree or the log
-abbrev pub AreIdle : List Event → Type 0
-AreIdle [] = Unit {0}
-AreIdle (e ∷ es) = (is_step e ≡ false) × (is_structure e ≡ false) × (is_log e ≡ false) × AreIdle es
-
-none_kept : (p : Event → Bool) (e : Event) (es : List Event) → keep p (e ∷ es) ≡ [] → (p e ≡ false) × (keep p es ≡ [])
-none_kept p e es = go (p e)
-  where
-    go : (b : Bool) → cond b (e ∷ keep p es) (keep p es) ≡ [] → (b ≡ false) × (keep p es ≡ [])
-    go true h = absurd (cc)
-    go false h = (refl, h)
-
-pub idle : (es : List Event) → any is_structure es ≡ false → keep is_log es ≡ [] → keep is_step es ≡ [] → AreIdle es
-idle [] a b c = tt
-idle (e ∷ es) a b c =
-    let structure = or_parts (is_structure e) (any is_structure es) a in
-    let log = none_kept is_log e es b in
-    let steps = none_kept is_step e es c in
-    (steps.0, structure.0, log.0, idle es structure.1 log.1 steps.1)
-
-pub idle_behind : (first own : List Event) → AreIdle (first ++ own) → AreIdle own
-idle_behind [] own i = i
-idle_behind (e ∷ first) own i = idle_behind first own i.3
 
 -- what was set of a worker
 set_here : (f : ℕ → Worker) (own : ℕ) (a : Worker) → upd f own a own ≡ a
@@ -195,97 +177,46 @@ module _ (g : Opening) (own : ℕ) where
       one_mark s es others (Event.End own true f) (Ended true (s.worker own).txn (suc (s.worker own).clock)) met still k u (eq-eqb own own refl)
       (λ t same. ap (λ (r : ℕ → Worker). Some (Ended true (r own).txn (suc (r own).clock))) same)
 
-  -- ## A call that is refused
+-- ## A call that is refused
 
-  -- a step of it needs an open transaction
-  try_is_open : (s : State) (e : Event) (es : List Event) → Tries own (e ∷ es) → may g s e ≡ true → (s.worker own).is_open ≡ true
-  try_is_open s (Event.Lock v i mode) es t met =
-      subst (λ (w : ℕ). (s.worker w).is_open ≡ true) t.0 (and_parts (s.worker v).is_open (may_hold (s.row i) v mode) (and_parts (are_hot s []) (needs g s (Event.Lock v i mode)) met).1).0
-  try_is_open s (Event.Next v p k a) es t met =
-      subst (λ (w : ℕ). (s.worker w).is_open ≡ true) t.0
-      (and_parts (s.worker v).is_open (is_leaf_of g (s.page p).node p k && (is_following a (following g.format k (s.page p).node.pairs (s.page p).node.high) && holds_answer g s v a)) (and_parts (are_hot s (p ∷ [])) (needs g s (Event.Next v p k a)) met).1).0
-  try_is_open s (Event.Put_back v p) es t met =
-      subst (λ (w : ℕ). (s.worker w).is_open ≡ true) t.0
-      (and_parts (s.worker v).is_open (may_put_back g (s.page p).node p (s.worker v).changes) (and_parts (are_hot s (p ∷ [])) (needs g s (Event.Put_back v p)) met).1).0
-  try_is_open s _ es t met = absurd t
+-- no step, nothing at the logs, and the tree as it was
+pub record HasNone (es : List Event) : Type 0 where
+  pub steps : keep is_step es ≡ []
+  pub logs : keep is_log es ≡ []
+  pub structure : any is_structure es ≡ false
 
-  -- so without one it takes none
-  pub tries_none : (s : State) (es : List Event) → AllMet g s es → AreStill es → Tries own (keep is_step es) → (s.worker own).is_open ≡ false → keep is_step es ≡ []
-  tries_none s [] met still t closed = refl
-  tries_none s (e ∷ es) met still t closed =
-      go (is_step e) refl t (λ rest same. tries_none (step g s e) es met.1 still.2 rest (ap (λ (r : ℕ → Worker). (r own).is_open) same ∙ closed))
-    where
-      go : (b : Bool) → is_step e ≡ b → Tries own (cond b (e ∷ keep is_step es) (keep is_step es)) → (Tries own (keep is_step es) → (step g s e).worker ≡ s.worker → keep is_step es ≡ []) →
-          cond b (e ∷ keep is_step es) (keep is_step es) ≡ []
-      go true q h ih = absurd (true≢false (sym (try_is_open s e (keep is_step es) h met.0) ∙ closed))
-      go false q h ih = ih h (same_step s e q still.0 still.1)
+none_logged : (es : List Event) → any is_log es ≡ false → keep is_log es ≡ []
+none_logged [] q = refl
+none_logged (e ∷ es) q =
+    let p = or_parts (is_log e) (any is_log es) q in
+    go (is_log e) p.0 (none_logged es p.1)
+  where
+    go : (b : Bool) → b ≡ false → keep is_log es ≡ [] → cond b (e ∷ keep is_log es) (keep is_log es) ≡ []
+    go true r k = absurd (true≢false r)
+    go false r k = k
 
-  -- and with one it leaves it open
-  open_here : (s : State) (a : Worker) → a.is_open ≡ true → (upd s.worker own a own).is_open ≡ true
-  open_here s a o = ap (λ (w : Worker). w.is_open) (set_here s.worker own a) ∙ o
+-- a first begin, since no end waits
+begin_logs : (g : Opening) (own : ℕ) (why : Refusal) (es : List Event) → RefusedLogs limits g [] own call.Begin why es → keep is_log es ≡ []
+begin_logs g own refusal.InTransaction es h = h
+begin_logs g own refusal.RowSpent es h = h
+begin_logs g own _ es h = h
 
-  try_opens : (s : State) (e : Event) (es : List Event) → Tries own (e ∷ es) → (s.worker own).is_open ≡ true → ((happens g s e).worker own).is_open ≡ true
-  try_opens s (Event.Lock v i mode) es t o = subst (λ (w : ℕ). ((happens g s (Event.Lock w i mode)).worker own).is_open ≡ true) (sym t.0) (open_here s (at_row own (s.worker own) (s.row i)) o)
-  try_opens s (Event.Next v p k a) es t o = subst (λ (w : ℕ). ((happens g s (Event.Next w p k a)).worker own).is_open ≡ true) (sym t.0) (go a)
-    where
-      touched : Worker
-      touched = at_pages s own (s.worker own) (p ∷ [])
+module _ (g : Opening) (group own : ℕ) (c : Call) (why : Refusal) (backs : List Step) (us : List Unsaid) (es : List Event) where
+  abbrev refused : Done
+  refused = record { outcome = record { session = own; deed = Refused c why backs; unsaid = us }; events = es }
 
-      go : (b : MapAnswer) → ((happens g s (Event.Next own p k b)).worker own).is_open ≡ true
-      go (MapAnswer.Pair j x) = open_here s touched o
-      go (MapAnswer.Gap h) = open_here s touched o
-      go _ = o
-  try_opens s (Event.Put_back v p) es t o = subst (λ (w : ℕ). ((happens g s (Event.Put_back w p)).worker own).is_open ≡ true) (sym t.0) (go (s.worker own).changes)
-    where
-      touched : Worker
-      touched = at_pages s own (s.worker own) (p ∷ [])
+  pub begin_none : c ≡ call.Begin → Tells limits g group [] refused → HasNone es
+  begin_none e t = record {
+    steps = subst (λ (d : Call). Tries g own [] d why (keep is_step es)) e t.steps.2;
+    logs = begin_logs g own why es (subst (λ (d : Call). RefusedLogs limits g [] own d why es) e t.logs);
+    structure = t.structure (ap (λ (d : Call). is_change_call d && is_behind_row why) e);
+  }
 
-      go : (cs : List Entry) → ((put_back g s own p cs).worker own).is_open ≡ true
-      go [] = o
-      go (c ∷ cs) = open_here s (record touched { clock = suc touched.clock; changes = cs }) o
-  try_opens s _ es t o = absurd t
-
-  try_rest : (e : Event) (es : List Event) → Tries own (e ∷ es) → Tries own es
-  try_rest (Event.Lock v i mode) es t = t.1
-  try_rest (Event.Next v p k a) es t = t.1
-  try_rest (Event.Put_back v p) es t = t.1
-  try_rest _ es t = absurd t
-
-  -- a sync leaves it open too
-  same_opens : (s : State) (e : Event) → is_step e ≡ false → is_structure e ≡ false → ((step g s e).worker own).is_open ≡ (s.worker own).is_open
-  same_opens s (Event.Sync n) a b = go (may g s (Event.Sync n))
-    where
-      go : (m : Bool) → ((cond m (happens g s (Event.Sync n)) s).worker own).is_open ≡ (s.worker own).is_open
-      go true = refl
-      go false = refl
-  same_opens s e a b = ap (λ (r : ℕ → Worker). (r own).is_open) (same_step s e a b refl)
-
-  pub tries_open : (s : State) (es : List Event) → AllMet g s es → any is_structure es ≡ false → Tries own (keep is_step es) → (s.worker own).is_open ≡ true → ((run g s es).worker own).is_open ≡ true
-  tries_open s [] met calm t o = o
-  tries_open s (e ∷ es) met calm t o =
-      let parts = or_parts (is_structure e) (any is_structure es) calm in
-      let here = go (is_step e) refl parts.0 t in
-      tries_open (step g s e) es met.1 parts.1 here.0 here.1
-    where
-      go : (b : Bool) → is_step e ≡ b → is_structure e ≡ false → Tries own (cond b (e ∷ keep is_step es) (keep is_step es)) → Tries own (keep is_step es) × (((step g s e).worker own).is_open ≡ true)
-      go true q calm h = (try_rest e (keep is_step es) h, ap (λ (m : Bool). ((cond m (happens g s e) s).worker own).is_open) met.0 ∙ try_opens s e (keep is_step es) h o)
-      go false q calm h = (h, same_opens s e q calm ∙ o)
-
-  -- ## Events that leave the log as it was
-
-  idle_one : (s : State) (e : Event) (was is : Log) → is_step e ≡ false → is_structure e ≡ false → is_log e ≡ false → LogsOne own g s e was is → is ≡ was
-  idle_one s (Event.Change w p k v) was is a b c h = absurd (true≢false a)
-  idle_one s (Event.Put_back w p) was is a b c h = absurd (true≢false a)
-  idle_one s (Event.End w commit f) was is a b c h = absurd (true≢false a)
-  idle_one s (Event.Split w l r q i) was is a b c h = absurd (true≢false b)
-  idle_one s (Event.Lift w d) was is a b c h = absurd (true≢false b)
-  idle_one s (Event.Join w l r q) was is a b c h = absurd (true≢false b)
-  idle_one s (Event.Drop w d) was is a b c h = absurd (true≢false b)
-  idle_one s (Event.Purge w p keys) was is a b c h = absurd (true≢false b)
-  idle_one s (Event.Flush w n) was is a b c h = absurd (true≢false c)
-  idle_one s (Event.Sync n) was is a b c h = absurd (true≢false c)
-  idle_one s _ was is a b c h = h
-
-  pub idle_log : (s : State) (es : List Event) (was is : Log) → AreIdle es → Logs own g s es was is → is ≡ was
-  idle_log s [] was is i h = h
-  idle_log s (e ∷ es) was is i h = idle_log (step g s e) es h.0 is i.3 h.2 ∙ idle_one s e was h.0 i.0 i.1 i.2 h.1
+  -- and a commit that is no abort
+  pub commit_none : (xs : List Done) → c ≡ call.Commit → call_behind (outcomes xs) call.Commit ≡ call.Commit → Tells limits g group xs refused → HasNone es
+  commit_none xs e line t = record {
+    steps = subst (λ (d : Call). Tries g own (outcomes xs) d why (keep is_step es)) (ap (call_behind (outcomes xs)) e ∙ line) t.steps.2;
+    logs = none_logged es (syncs_nowhere (IsPressedYet g call.Commit why) g (commit_never g why) es (state_after g (front xs))
+        (subst (λ (d : Call). SyncsWhere (IsPressedYet g d why) g (state_after g (front xs)) false es) line (subst (λ (d : Call). RefusedLogs limits g xs own d why es) e t.logs)));
+    structure = t.structure (ap (λ (d : Call). is_change_call d && is_behind_row why) e);
+  }

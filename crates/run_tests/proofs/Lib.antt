@@ -4,3 +4,4 @@ mod FirstLemmas
 mod RuledOutLemmas
 mod ReadLemmas
 mod RoomLemmas
+mod TieLemmas

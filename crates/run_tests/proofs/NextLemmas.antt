@@ -14,6 +14,7 @@ use Rattle.disk_image.specs.MasterSlots.{master_on}
 use Rattle.disk_image.specs.Shown.{Areas, IsCleanDisk}
 use Rattle.lean_shell.specs.Crashes.{HasMasterOf, IsUnwritten, IsYoung, MasterLeaves, TellsCrashes}
 use Rattle.lean_shell.specs.Headline.{RunLeaves, Survives}
+use Rattle.lean_shell.specs.Runs.{AreOf}
 use Rattle.lean_shell.specs.Starts.{IsOfOpening}
 use Rattle.run_tests.specs.Laws.{EveryNextRun, IsCutOff, IsOfMap, IsReadyAgain}
 
@@ -33,6 +34,12 @@ young_again m n area s is sequence generation notes = elim is [
       record { sequence = sequence; generation = omega (arith, a, b, generation); notes = omega (arith, notes) }
 ]
 
+next_generation : (m n : Master) (area : Areas) → (n ≡ m) ⊎ IsOfOpening m area n → n.generation ≤ suc m.generation
+next_generation m n area is = elim is [
+  | inl same ↦ let b : n.generation ≡ m.generation = ap (λ (x : Master). x.generation) same in omega (arith, b)
+  | inr o ↦ let a : o.first.generation ≡ suc m.generation = ap (λ (x : Master). x.generation) o.next.is in let b : n.generation ≡ o.first.generation = o.later.generation in omega (arith, a, b)
+]
+
 -- where nothing was written yet, a crash leaves what stood there
 unwritten_image : EveryArea → (m : Master) (first : MemDisk) (areas : ℕ) (bytes : Areas) (input put : List ℕ) (c : Crash) → Begins areas bytes (disk_story first) → IsUnwritten m (disk_story first) input put c →
     c.image ≡ areas_of (disk_story first)
@@ -48,27 +55,34 @@ module _ (told : EveryArea) (m : Master) (first last left : MemDisk) (x : IsCutO
   abbrev Ready : Type 0
   Ready = IsReadyAgain m (disk_story first) (disk_story left) x.feed.left x.ends.put
 
-  ready : (n : Master) → (n ≡ m) ⊎ IsOfOpening m (areas_of (disk_story first)) n → n.sequence < 2 ^ 62 → IsCleanDisk n c.image → IsOfMap m (disk_story first) x.feed.left x.ends.put c.image → Ready
-  ready n is sequence clean map = record {
+  ready : (n : Master) → (n ≡ m) ⊎ IsOfOpening m (areas_of (disk_story first)) n → n.sequence < m.sequence + 2 ^ 60 → IsCleanDisk n c.image → IsOfMap m (disk_story first) x.feed.left x.ends.put c.image → Ready
+  ready n is raised clean map = record {
     n = n;
     is = is;
     tells = λ most. tells_crashes told most left (disk_story last).areas (areas_of (disk_story left)) x.after.begins;
     clean = subst (IsCleanDisk n) image clean;
-    young = young_again m n (areas_of (disk_story first)) (disk_story left) is sequence x.generation x.after.begins.notes;
+    young = young_again m n (areas_of (disk_story first)) (disk_story left) is (let a = x.sequence in omega arith) x.generation x.after.begins.notes;
+    raised = raised;
+    next_generation = next_generation m n (areas_of (disk_story first)) is;
     map = subst (IsOfMap m (disk_story first) x.feed.left x.ends.put) image map;
   }
 
   stands : c.image ≡ areas_of (disk_story first) → Ready
-  stands same = ready m (inl refl) x.sequence (subst (IsCleanDisk m) (sym same) x.clean) (inl same)
+  stands same = ready m (inl refl) (omega arith) (subst (IsCleanDisk m) (sym same) x.clean) (inl same)
 
-  by_map : HasMasterOf x.size m (disk_story first) x.feed.left x.ends.put c → RunLeaves m (disk_story first) x.feed.left x.ends.put c → Ready
+  by_master : HasMasterOf x.size (AreOf x.ends.how) m (disk_story first) x.feed.left x.ends.put c → Survives m (disk_story first) x.feed.left x.ends.put c → Ready
+  by_master h s =
+      let one : h.n ≡ s.n = sym (one_master h.n s.n (c.image 0) h.counts s.clean.master) in
+      let raised : h.n.sequence < m.sequence + 2 ^ 60 = let same = ap (λ (n : Master). n.sequence) one in let a = s.near.sequence in omega arith in
+      ready h.n h.is raised (subst (λ n. IsCleanDisk n c.image) (sym one) s.clean) (inr (c, refl, s))
+
+  by_map : HasMasterOf x.size (AreOf x.ends.how) m (disk_story first) x.feed.left x.ends.put c → RunLeaves m (disk_story first) x.feed.left x.ends.put c → Ready
   by_map h leaves = elim leaves [
     | inl u ↦ stands (unwritten_image told m first x.areas x.bytes x.feed.left x.ends.put c x.begins u)
-    | inr survives ↦ let s : Survives m (disk_story first) x.feed.left x.ends.put c = survives fair in
-        ready h.n h.is (x.sequence_after h.n (subst (λ (area : Areas). master_on (area 0) ≡ Some h.n) image h.counts)) (subst (λ n. IsCleanDisk n c.image) (one_master h.n s.n (c.image 0) h.counts s.clean.master) s.clean) (inr (c, refl, s))
+    | inr survives ↦ by_master h (survives fair)
   ]
 
-  pub ready_by : MasterLeaves x.size m (disk_story first) x.feed.left x.ends.put c → RunLeaves m (disk_story first) x.feed.left x.ends.put c → Ready
+  pub ready_by : MasterLeaves x.size (AreOf x.ends.how) m (disk_story first) x.feed.left x.ends.put c → RunLeaves m (disk_story first) x.feed.left x.ends.put c → Ready
   ready_by masters leaves = elim masters [
     | inl u ↦ stands (unwritten_image told m first x.areas x.bytes x.feed.left x.ends.put c x.begins u)
     | inr h ↦ by_map (h fair) leaves
@@ -77,7 +91,7 @@ module _ (told : EveryArea) (m : Master) (first last left : MemDisk) (x : IsCutO
 pub every_next_run : EveryArea → EveryMoment → EveryNextRun
 every_next_run told every m first last left x =
     let tells : TellsCrashes x.size.sessions (disk_story first) = tells_crashes told x.size.sessions first x.areas x.bytes x.begins in
-    let young : IsYoung m (disk_story first) = young_again m m (areas_of (disk_story first)) (disk_story first) (inl refl) x.sequence x.generation x.begins.notes in
+    let young : IsYoung m (disk_story first) = young_again m m (areas_of (disk_story first)) (disk_story first) (inl refl) (let a = x.sequence in omega arith) x.generation x.begins.notes in
     let here : HasCrash (disk_story last) x.moment = every last x.moment (x.ends.tells_on.counts ∙ x.begins.counts) x.by_now in
     let there : (disk_story last).left_at x.moment (record here.crash { image = areas_of (disk_story left) }) = x.after.left here.crash here.there in
     let later : (disk_story first).moment ≤ x.moment = subst (λ k. k ≤ x.moment) (sym x.begins.moment) (omega arith) in

@@ -11,7 +11,7 @@ use Rattle.core_calls.specs.Fronts.{Done, outcomes}
 use Rattle.core_calls.specs.Steps.{hindered_in, is_structure}
 use Rattle.engine_trait.specs.Calls.{call_behind, due_call}
 use Rattle.engine_trait.specs.Limits.{AreLoads}
-use Rattle.engine_trait.specs.Rooms.{AreForSync, AreReady, IsRoomFor, makes_room, makes_sync, needs_sync, puts_back}
+use Rattle.engine_trait.specs.Rooms.{AreForSync, AreReady, HasDoneFor, IsRoomFor, makes_room, makes_sync, needs_sync, puts_back}
 use Rattle.engine_trait.specs.Turns.{IsHindered}
 use Rattle.script_run.specs.Runs.{calls_of}
 use Rattle.transcripts.specs.Laws.{ComesNext}
@@ -39,9 +39,9 @@ back_grows_none own (Event.Drop w c) back = absurd (true≢false (sym back))
 back_grows_none own (Event.Purge w p keys) back = absurd (true≢false (sym back))
 back_grows_none own _ back = refl
 
-room_backs_none : (own : ℕ) (e : Event) → makes_room own e ≡ true → is_back e ≡ false
-room_backs_none own (Event.Put_back w p) room = absurd (true≢false (sym room))
-room_backs_none own _ room = refl
+room_backs_none : (own row : ℕ) (e : Event) → makes_room own row e ≡ true → is_back e ≡ false
+room_backs_none own row (Event.Put_back w p) room = absurd (true≢false (sym room))
+room_backs_none own row _ room = refl
 
 sync_grows_none : (e : Event) → makes_sync e ≡ true → is_structure e ≡ false
 sync_grows_none (Event.Split w l r q i) sync = absurd (true≢false (sym sync))
@@ -102,19 +102,19 @@ module _ (sessions : ℕ) (input : List ℕ) (g : Opening) (heard : List Done) (
     such = such;
   }
 
-  structure : (c : Call) → IsLine c → IsRoomFor g heard session c es → (Asks sessions IsPut input → ⊥) → any is_structure es ≡ false
+  structure : (c : Call) → IsLine c → HasDoneFor g heard session c es → (Asks sessions IsPut input → ⊥) → any is_structure es ≡ false
   structure (call.Put key value) line room none = absurd (none (asks (call.Put key value) line IsPut tt))
   structure (call.Del key) line room none = room.1
   structure call.Abort line backs none = each_none (puts_back session) is_structure (back_grows_none session) es backs
   structure c line ready none = each_none makes_sync is_structure sync_grows_none es (ready_for_sync (needs_sync g heard session c) es ready)
 
-  backs : (c : Call) → IsLine c → IsRoomFor g heard session c es → (Asks sessions IsAbort input → ⊥) → any is_back es ≡ false
-  backs (call.Put key value) line room none = each_none (makes_room session) is_back (room_backs_none session) es room.0
-  backs (call.Del key) line room none = each_none (makes_room session) is_back (room_backs_none session) es room.0
+  backs : (c : Call) → IsLine c → HasDoneFor g heard session c es → (Asks sessions IsAbort input → ⊥) → any is_back es ≡ false
+  backs (call.Put key value) line room none = each_none (makes_room session (g.row_of key)) is_back (room_backs_none session (g.row_of key)) es room.0
+  backs (call.Del key) line room none = each_none (makes_room session (g.row_of key)) is_back (room_backs_none session (g.row_of key)) es room.0
   backs call.Abort line room none = absurd (none (asks call.Abort line IsAbort tt))
   backs c line ready none = each_none makes_sync is_back sync_backs_none es (ready_for_sync (needs_sync g heard session c) es ready)
 
-  for_sync : (c : Call) → IsLine c → IsRoomFor g heard session c es → (Asks sessions IsPut input → ⊥) → (Asks sessions IsDel input → ⊥) → (Asks sessions IsAbort input → ⊥) → AreForSync es
+  for_sync : (c : Call) → IsLine c → HasDoneFor g heard session c es → (Asks sessions IsPut input → ⊥) → (Asks sessions IsDel input → ⊥) → (Asks sessions IsAbort input → ⊥) → AreForSync es
   for_sync (call.Put key value) line room put del abort = absurd (put (asks (call.Put key value) line IsPut tt))
   for_sync (call.Del key) line room put del abort = absurd (del (asks (call.Del key) line IsDel tt))
   for_sync call.Abort line room put del abort = absurd (abort (asks call.Abort line IsAbort tt))
@@ -123,13 +123,13 @@ module _ (sessions : ℕ) (input : List ℕ) (g : Opening) (heard : List Done) (
   pub stopped : (c : Call) → IsAskedNext sessions input heard session c → IsRoomFor g heard session (call_behind (outcomes heard) c) es → StoppedLaws sessions input heard es
   stopped c asked room = elim (turn c asked) [
     | inl due ↦
-        let back : IsRoomFor g heard session call.Abort es = subst (λ (d : Call). IsRoomFor g heard session d es) due.1 room in record {
+        let back : HasDoneFor g heard session call.Abort es = subst (λ (d : Call). HasDoneFor g heard session d es) due.1 room.0 in record {
           structure = λ none. each_none (puts_back session) is_structure (back_grows_none session) es back;
           backs = λ none calm. absurd (calm due.0);
           for_sync = λ put del abort calm. absurd (calm due.0);
         }
     | inr own ↦
-        let there : IsRoomFor g heard session c es = subst (λ (d : Call). IsRoomFor g heard session d es) own.0 room in record {
+        let there : HasDoneFor g heard session c es = subst (λ (d : Call). HasDoneFor g heard session d es) own.0 room.0 in record {
           structure = structure c own.1 there;
           backs = λ none calm. backs c own.1 there none;
           for_sync = λ put del abort calm. for_sync c own.1 there put del abort;

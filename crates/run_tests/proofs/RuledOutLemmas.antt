@@ -7,7 +7,7 @@ use Rattle.map_model.specs.declared.call.Call.{Call}
 use Rattle.map_model.specs.declared.call.Call.TheVariants as call
 use Rattle.map_model.specs.declared.call.Refusal.{Refusal}
 use Rattle.map_model.specs.declared.call.Refusal.TheVariants.{ClockSpent, InTransaction, LogFull, NoTransaction, RowSpent}
-use Rattle.map_model.specs.Lists.{Has, any, keep}
+use Rattle.map_model.specs.Lists.{Has, any}
 use Rattle.map_model.specs.Maps.{Map, MapCall, write_of, writes_key}
 use Rattle.map_model.specs.Histories.{Step, first_of, last_write, write_or}
 use Rattle.map_model.specs.Journals.{Journal, Txn, after}
@@ -29,10 +29,10 @@ use Rattle.core_state.specs.Steps.{begun, run, state_after}
 use Rattle.core_state.proofs.Runs.{run_more}
 use Rattle.core_calls.specs.Deeds.{Deed, Begun, Committed, Aborted, Refused, Unsaid, answered, asked, marks_for, marks_of, reads_of}
 use Rattle.core_calls.specs.Fronts.{Done, front, outcomes}
-use Rattle.core_calls.specs.LogEvents.{RefusedLogs, behind, is_log}
+use Rattle.core_calls.specs.LogEvents.{behind}
 use Rattle.core_calls.specs.Marks.{Mark, Began, Ended, is_half}
 use Rattle.core_calls.specs.Runs.{IsRefused, Tells}
-use Rattle.core_calls.specs.Steps.{IsBehind, hindered_in, is_change_call, is_structure}
+use Rattle.core_calls.specs.Steps.{IsBehind, hindered_in, is_structure}
 use Rattle.engine_trait.specs.Calls.{Answers, Memory, call_behind, due_call, is_half_done}
 use Rattle.engine_trait.specs.Limits.{limits}
 use Rattle.engine_trait.specs.Refusals.{in_transaction, log_refusal, refusal_in}
@@ -43,7 +43,7 @@ use Rattle.lean_engine.specs.declared.engine.Size.{Size}
 use Rattle.lean_shell.specs.Headline.{Survives}
 use Rattle.lean_shell.specs.Runs.{Counts, Executed, IsFrom, first_log}
 use Rattle.run_tests.specs.RuledOut.{BeginsAt, EveryDurableIsFound, EveryFirstBegin, EveryFirstCommit, EveryKeyStands, EveryOtherKeyStands, HasItsCommit, IsOneOf, NoneWrites}
-use Rattle.run_tests.proofs.FirstLemmas.{AreIdle, AreStill, begin_tells, begun_at, commit_tells, idle, idle_behind, idle_log, same_run, still, still_flush, tries_none, tries_open}
+use Rattle.run_tests.proofs.FirstLemmas.{AreStill, begin_none, begin_tells, begun_at, commit_none, commit_tells, same_run, still, still_flush}
 use Rattle.run_tests.proofs.KeyLemmas.{asks_to_write}
 
 -- ## Keys
@@ -176,17 +176,11 @@ not_spent g own xs c why backs us es few before refused spent =
 
 -- Where the tests refuse nothing behind its events, and it asks what its line does, no refusal is answered.
 not_refused : (g : Opening) (group own : ℕ) (xs : List Done) (was is : Log) (c : Call) (why : Refusal) (backs : List Step) (us : List Unsaid) (es : List Event) → let x : Done = by own (Refused c why backs) us es in
-    Answers g xs x was is → Tells limits g group xs x → call_behind (outcomes xs) c ≡ c → length (front xs) ≤ 2 ^ 18 → refusal_in g (state_after g (front xs ++ es)) own (is_half_done own xs) is c ≡ None → ⊥
+    Answers g xs x was is → Tells limits g group xs x → call_behind (outcomes xs) c ≡ c → length (front xs) ≤ 2 ^ 18 → refusal_in g (state_after g (front xs ++ es)) own (is_half_done own xs) was c ≡ None → ⊥
 not_refused g group own xs was is c why backs us es a t asks few none = elim (a.refused why refl) [
-  | inl there ↦ let clash : None ≡ Some why = sym none ∙ (ap (refusal_in g (state_after g (front xs ++ es)) own (is_half_done own xs) is) (sym asks) ∙ there) in absurd (cc)
+  | inl there ↦ let clash : None ≡ Some why = sym none ∙ (ap (refusal_in g (state_after g (front xs ++ es)) own (is_half_done own xs) was) (sym asks) ∙ there) in absurd (cc)
   | inr spent ↦ not_spent g own xs c why backs us es a.few few t.refused spent
 ]
-
--- a first begin that is refused has prepared nothing, since no end waits and no latch is spent
-begin_logs : (g : Opening) (own : ℕ) (why : Refusal) (es : List Event) → (why ≡ RowSpent → ⊥) → RefusedLogs limits g [] own call.Begin why es → es ≡ []
-begin_logs g own InTransaction es live h = h
-begin_logs g own RowSpent es live h = absurd (live refl)
-begin_logs g own _ es live h = h
 
 -- the deed of which a mark tells
 abbrev as_begun : List Mark → Deed
@@ -251,15 +245,11 @@ module _ (master : EveryMasterIn) (s : Story) (size : Size) (base : ℕ) (at : B
 
     -- as they do behind a begin that is refused
     begin_refused : (d : Call) (why : Refusal) (backs : List Step) (us : List Unsaid) (es : List Event) (before after : Log) → d ≡ call.Begin → Tells limits g size.group [] (by own (Refused d why backs) us es) → Answers g [] (by own (Refused d why backs) us es) before after →
-        before ≡ y.first.log own → refusal_in g (state_after g es) own false after d ≡ None
+        before ≡ y.first.log own → refusal_in g (state_after g es) own false before d ≡ None
     begin_refused d why backs us es before after c t a log =
-        let calm = t.structure (ap is_change_call c) in
-        let none = begin_logs g own why (keep is_log es) (not_spent g own [] d why backs us es a.few (omega arith) t.refused) (subst (λ (e : Call). RefusedLogs limits g [] own e why (keep is_log es)) c t.logs) in
-        let quiet = still es calm none in
-        let steps = tries_none g own (start g) es t.met quiet t.steps.2 refl in
-        let idle_own = idle_behind a.first a.own (subst AreIdle a.events (idle es calm none steps)) in
-        ap (refusal_in g (state_after g es) own false after) c
-        ∙ begin_open es after (same_run g own (start g) es quiet steps) (idle_log g own (state_after g (front [] ++ a.first)) a.own before after idle_own (a.log one.0) ∙ log)
+        let none = begin_none g size.group own d why backs us es c t in
+        let quiet = still es none.structure none.logs in
+        ap (refusal_in g (state_after g es) own false before) c ∙ begin_open es before (same_run g own (start g) es quiet none.steps) log
 
     begins : (d : Deed) (us : List Unsaid) (es : List Event) (before after : Log) → asked d ≡ call.Begin → Tells limits g size.group [] (by own d us es) → Answers g [] (by own d us es) before after → before ≡ y.first.log own →
         HasBegun g own d es
@@ -278,8 +268,9 @@ module _ (master : EveryMasterIn) (s : Story) (size : Size) (base : ℕ) (at : B
       commit_open : (d : Call) (why : Refusal) (backs : List Step) (us : List Unsaid) (es : List Event) (log : Log) → d ≡ call.Commit → Tells limits g size.group (x ∷ []) (by own (Refused d why backs) us es) →
           refusal_in g (state_after g (x.events ++ es)) own (is_half_done own (x ∷ [])) log d ≡ None
       commit_open d why backs us es log c t =
-          let calm = t.structure (ap is_change_call c) in
-          let stays = tries_open g own (state_after g x.events) es t.met calm t.steps.2 (ap (λ (w : Worker). w.is_open) b.session) in
+          let none = commit_none g size.group own d why backs us es (x ∷ []) c (ap (λ (e : Deed). due_call (hindered_in e) call.Commit) b.deed) t in
+          let same = same_run g own (state_after g x.events) es (still es none.structure none.logs) none.steps in
+          let stays = ap (λ (r : ℕ → Worker). (r own).is_open) same ∙ ap (λ (w : Worker). w.is_open) b.session in
           ap (refusal_in g (state_after g (x.events ++ es)) own (is_half_done own (x ∷ [])) log) c
           ∙ (ap (λ (half : Bool). in_transaction (state_after g (x.events ++ es)) own half None) (half_of_begun own x b.deed)
           ∙ (ap (λ (z : State). cond (z.worker own).is_open None (Some NoTransaction)) (run_more g (start g) x.events es)
@@ -296,7 +287,7 @@ module _ (master : EveryMasterIn) (s : Story) (size : Size) (base : ℕ) (at : B
           let abort : d ≡ call.Abort = subst (λ (e : Deed). IsBehind (hindered_in e) x.outcome.session (by own (Aborted d n at backs) us es).outcome) b.deed t.hindered in
           absurd (cc)
       commits (Refused d why backs) us es was is c t a =
-          absurd (not_refused g size.group own (x ∷ []) was is d why backs us es a t (ap (λ (e : Deed). due_call (hindered_in e) d) b.deed) few (commit_open d why backs us es is c t))
+          absurd (not_refused g size.group own (x ∷ []) was is d why backs us es a t (ap (λ (e : Deed). due_call (hindered_in e) d) b.deed) few (commit_open d why backs us es was c t))
       commits _ us es was is c t a = absurd (cc)
 
   -- the oldest call is a begin

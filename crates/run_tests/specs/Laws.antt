@@ -1,5 +1,5 @@
 -- What the next run may rest on, where a crash cut off a run on a disk in memory.
-use Rattle.std.specs.Prelude.{◌≡◌, ◌⊎◌, ◌≤◌, ◌<◌, ◌+◌, ◌^◌, ℕ, List, length, IsTrue, Some}
+use Rattle.std.specs.Prelude.{◌≡◌, ◌⊎◌, ◌≤◌, ◌<◌, ◌+◌, ◌^◌, ℕ, suc, List, length, IsTrue}
 use Rattle.lean_disk.specs.MemDisk.{disk_story}
 use Rattle.lean_disk.specs.Story.{Crash, Story, areas_of}
 use Rattle.lean_disk.specs.Told.{Begins, BeginsAfter}
@@ -7,7 +7,6 @@ use Rattle.lean_disk.specs.declared.mem_disk.MemDisk.{MemDisk}
 use Rattle.lean_edge.specs.Outside.{Feed, Held}
 use Rattle.disk_slots.specs.declared.master.Master.{Master}
 use Rattle.disk_image.specs.Fair.{IsFairCrash}
-use Rattle.disk_image.specs.MasterSlots.{master_on}
 use Rattle.disk_image.specs.Shown.{Areas, IsCleanDisk}
 use Rattle.lean_engine.specs.declared.engine.Size.{Size}
 use Rattle.lean_shell.specs.Crashes.{IsYoung, TellsCrashes}
@@ -21,7 +20,7 @@ pub record IsCutOff (m : Master) (first last left : MemDisk) : Type 0 where
   pub bytes : Areas
   pub begins : Begins areas bytes (disk_story first)
   pub clean : IsCleanDisk m (areas_of (disk_story first))
-  pub sequence : m.sequence < 2 ^ 62
+  pub sequence : m.sequence + 2 ^ 60 < 2 ^ 62
   pub generation : m.generation + 1 < 2 ^ 62
   -- the run
   pub size : Size
@@ -39,8 +38,6 @@ pub record IsCutOff (m : Master) (first last left : MemDisk) : Type 0 where
   pub moment : ℕ
   pub by_now : moment ≤ (disk_story last).moment
   pub after : BeginsAfter moment (disk_story last) (disk_story left)
-  -- each sync of the run wrote a master, with the next sequence number
-  pub sequence_after : (n : Master) → master_on (areas_of (disk_story left) 0) ≡ Some n → n.sequence < 2 ^ 62
   pub fair : (c : Crash) → (disk_story last).left_at moment c → c.image ≡ areas_of (disk_story left) → IsFairCrash (length m.heads) (disk_story first) c
 
 -- The disk stands for what it stood for, or for what the headline says of a crash.
@@ -54,6 +51,9 @@ pub record IsReadyAgain (m : Master) (first left : Story) (input output : List �
   pub tells : (most : ℕ) → TellsCrashes most left
   pub clean : IsCleanDisk n (areas_of left)
   pub young : IsYoung n left
+  -- and so the run behind it finds numbers, while there are so many left
+  pub raised : n.sequence < m.sequence + 2 ^ 60
+  pub next_generation : n.generation ≤ suc m.generation
   pub map : IsOfMap m first input output (areas_of left)
 
 -- After a crash of a run the next run's premises hold.

@@ -205,7 +205,7 @@ pub(crate) static FOUR: Script = Script {
     ],
 };
 
-/// Its dumps.
+/// Its dumps, behind their first lines.
 pub(crate) static FOUR_MAPS: [&str; 7] = [
     "end\n",
     "pair 1 11\nend\n",
@@ -278,5 +278,5 @@ pub(crate) static FOUR_OPENING: Script = Script {
     ],
 };
 
-/// Its dumps.
+/// Its dumps, behind their first lines.
 pub(crate) static FOUR_OPENED_MAPS: [&str; 1] = ["pair 1 11\npair 4 44\nend\n"];

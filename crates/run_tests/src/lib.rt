@@ -6,6 +6,7 @@ ghost use Rattle.disk_slots.specs.Slots as slots;
 ghost use Rattle.log_block.specs.Block as blocks;
 ghost use Rattle.run_tests.specs.Laws.{EveryNextRun};
 ghost use Rattle.run_tests.specs.RuledOut.{EveryDurableIsFound, EveryFirstBegin, EveryFirstCommit, EveryKeyStands, EveryOtherKeyStands, EveryReadIsFair, EveryStoppedCall};
+ghost use Rattle.run_tests.specs.Ties.{EveryConflictIsAborted, EveryFlushedIsLeft, EveryHandIsNext, EveryUsedIsWritten};
 
 use lean_disk::Disk;
 
@@ -56,6 +57,26 @@ pub fn every_read_is_fair()
     ensures masters { EveryReadIsFair 1024 (slots.IsSealed (codes "LEANMAST")) }
     ensures pages { EveryReadIsFair 1024 (slots.IsSealed (codes "LEANPAGE")) }
     ensures log { EveryReadIsFair 2048 blocks.IsSealed }
+{}
+
+/// Behind a conflict the abort was executed.
+pub fn every_conflict_is_aborted<D: Disk>(old: &D, new: &D)
+    ensures { EveryConflictIsAborted (D.story old.now) (D.story new.now) }
+{}
+
+/// The commit in hand is what the script's next line asks.
+pub fn every_hand_is_next()
+    ensures { EveryHandIsNext }
+{}
+
+/// A crash leaves each record that is flushed.
+pub fn every_flushed_is_left()
+    ensures { EveryFlushedIsLeft }
+{}
+
+/// Of the blocks that a log uses all but one lie on the disk at the end.
+pub fn every_used_is_written<D: Disk>(old: &D, new: &D)
+    ensures { EveryUsedIsWritten (D.story old.now) (D.story new.now) }
 {}
 
 #[cfg(test)]

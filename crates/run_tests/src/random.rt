@@ -1,6 +1,6 @@
 // Random lines of one session, run after run, against a plain map with a list of what to undo.
 use crate::cases::expect;
-use crate::runs::{MEMORY, crashed, dumped, formatted, run_script};
+use crate::runs::{MEMORY, at_rest, crashed, dumped, formatted, run_script};
 use lean_disk::{Choice, MemDisk};
 use map_model::Call;
 use rand_core::utils::NextWord;
@@ -221,6 +221,11 @@ fn any_call(random: &mut Pcg32, is_open: bool, ends: u32) -> Call {
     }
 }
 
+// What a run tells first, but for a number: how many transactions were undone, of which the last one may have no record.
+fn first_of<R: Abort>(rt: &R, alloc: Global, run: u64, winners: u64) -> String {
+    format!(in alloc; "open {run} winners {winners} undone ").expect(rt, MEMORY)
+}
+
 // The lines of a run, and what each is answered. A line that ends in a space goes on with a number.
 #[derive(Drop)]
 struct Script {
@@ -238,7 +243,7 @@ fn script_of<R: Abort>(
     let winners = plain.committed;
     plain.begun = 0;
     plain.committed = 0;
-    let first = format!(in alloc; "open {run} winners {winners} undone ").expect(rt, MEMORY);
+    let first = first_of(rt, alloc, run, winners);
     let mut script = Script {
         text: String::new(alloc),
         printed: Vec::new(alloc),
@@ -303,8 +308,18 @@ fn random_lines_are_answered_as_by_a_plain_map(rt: HostRuntime) {
         // What was not committed is undone.
         plain.undo(&rt);
         disk = crashed(&rt, &done.disk, done.disk.moment(), any_choice(&mut random));
-        let copy = crashed(&rt, &disk, disk.moment(), Choice::AllBytes);
+        let opened = run_script(&rt, alloc, "", at_rest(&rt, &disk));
+        let first = first_of(&rt, alloc, run.saturating_add(1), plain.committed);
+        let is_met = opened.printed().starts_with(first.as_str());
+        expect(&rt, "the first line behind a run", is_met);
         let pairs = plain.pairs(&rt, alloc);
-        dumped(&rt, alloc, "the map behind a run", copy, &pairs);
+        dumped(
+            &rt,
+            alloc,
+            "the map behind a run",
+            at_rest(&rt, &disk),
+            opened.printed(),
+            &pairs,
+        );
     }
 }

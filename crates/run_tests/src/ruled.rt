@@ -142,17 +142,32 @@ struct Scene<'a> {
     opening: u64,
 }
 
-// Crashes the run. The next one tells the winners, and a dump prints the map.
+// What the rules say that a crash leaves.
+fn left_behind<R: Abort>(rt: &R, scene: &Scene<'_>, crash: &Crash) -> Left {
+    let rules = scene.rules;
+    rules
+        .left(rt, scene.before, &counted(crash, scene.opening))
+        .expect(rt, "what was told durable")
+}
+
+// None: all is left that was written.
+fn at_end(moment: u64) -> Crash {
+    Crash {
+        moment,
+        one: Choice::AllBytes,
+        other: Choice::AllBytes,
+        mask: 0,
+    }
+}
+
+// Crashes the run. The next one tells the winners, and so does a dump, which prints the map.
 fn crash_once<R: Threads + Wait + Sync + Abort>(
     rt: &R,
     alloc: Global,
     scene: &Scene<'_>,
     crash: &Crash,
 ) -> (MemDisk, Left) {
-    let left = scene
-        .rules
-        .left(rt, scene.before, &counted(crash, scene.opening))
-        .expect(rt, "what was told durable");
+    let left = left_behind(rt, scene, crash);
     let disk = crashed_apart(
         rt,
         alloc,
@@ -170,7 +185,14 @@ fn crash_once<R: Threads + Wait + Sync + Abort>(
         next.printed() == first.as_str(),
     );
     let pairs = pairs_of(rt, alloc, &left.map);
-    dumped(rt, alloc, "the map behind a crash", next.disk, &pairs);
+    dumped(
+        rt,
+        alloc,
+        "the map behind a crash",
+        at_rest(rt, &disk),
+        &first,
+        &pairs,
+    );
     (disk, left)
 }
 
@@ -214,19 +236,21 @@ fn run_once<R: Threads + Wait + Sync + Abort>(
         opening == least || opening == least.saturating_add(1),
     );
     let pairs = pairs_of(rt, alloc, &replayed(rt, alloc, before, &rules));
-    dumped(
-        rt,
-        alloc,
-        "the map behind a run",
-        at_rest(rt, &done.disk),
-        &pairs,
-    );
     let scene = Scene {
         rules: &rules,
         before,
         disk: &done.disk,
         opening,
     };
+    let first = left_behind(rt, &scene, &at_end(end)).first_line(rt, alloc);
+    dumped(
+        rt,
+        alloc,
+        "the map behind a run",
+        at_rest(rt, &done.disk),
+        &first,
+        &pairs,
+    );
     for _ in 1..CRASHES {
         crash_once(rt, alloc, &scene, &any_crash(random, opening, end));
     }

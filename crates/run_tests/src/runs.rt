@@ -181,16 +181,18 @@ pub(crate) fn formatted<R: Threads + Wait + Sync + Abort>(
     at_rest(rt, &run_command(rt, alloc, command, "", disk).disk)
 }
 
-/// Ends the test where a dump does not print these lines. What it leaves.
+/// Ends the test where a dump does not print this first line, of its opening, and then these lines. What it leaves.
 pub(crate) fn dumped<R: Threads + Wait + Sync + Abort>(
     rt: &R,
     alloc: Global,
     name: &str,
     disk: MemDisk,
+    opened: &str,
     lines: &str,
 ) -> MemDisk {
     let done = run_command(rt, alloc, &DUMP, "", disk);
-    expect(rt, name, done.status == 0 && done.printed() == lines);
+    let is_met = done.status == 0 && done.printed().strip_prefix(opened) == Some(lines);
+    expect(rt, name, is_met);
     done.disk
 }
 

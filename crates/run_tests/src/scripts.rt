@@ -20,7 +20,7 @@ pub(crate) struct Script {
 pub(crate) struct Find {
     /// What the next run prints.
     pub lines: &'static str,
-    /// Which of the maps a dump prints.
+    /// Which of the maps a dump prints, behind the same first line.
     pub map: usize,
     /// So many lines were out before the last call: the commit of the last transaction that is kept had begun.
     pub from: u64,
@@ -184,7 +184,7 @@ pub(crate) static PUT: Script = Script {
     ],
 };
 
-/// Its dumps.
+/// Its dumps, behind their first lines.
 pub(crate) static PUT_MAPS: [&str; 2] = ["end\n", "pair 5 7\nend\n"];
 
 /// The lines of the six transactions. One puts twice, one reads what it wrote, one writes over it, one only reads, one puts three
@@ -318,7 +318,7 @@ pub(crate) static ABORT: Script = Script {
     ],
 };
 
-/// Its dumps.
+/// Its dumps, behind their first lines.
 pub(crate) static ABORT_MAPS: [&str; 3] = ["end\n", "pair 5 7\nend\n", "pair 7 3\nend\n"];
 
 /// An abort of 38 changes, of which one is a del. A block has room for 37 changes or put-backs: the first one is written before the last
@@ -375,7 +375,7 @@ pub(crate) static LONG_ABORT: Script = Script {
     ],
 };
 
-/// Its dumps.
+/// Its dumps, behind their first lines.
 pub(crate) static LONG_ABORT_MAPS: [&str; 3] = [
     "end\n",
     "pair 5 7\nend\n",
@@ -449,7 +449,7 @@ pub(crate) static OPENING: Script = Script {
 pub(crate) static DUMP: Script = Script {
     command: &["lean", "dump"],
     text: "",
-    lines: "pair 5 7\nend\n",
+    lines: "open 2 winners 1 undone 1\npair 5 7\nend\n",
     next: GETS,
     finds: TWO_FINDS,
     sweeps: &[],
@@ -543,7 +543,7 @@ pub(crate) static SYNC: Script = Script {
     ],
 };
 
-/// Its dumps.
+/// Its dumps, behind their first lines.
 pub(crate) static SYNC_MAPS: [&str; 3] = ["end\n", "pair 5 7\nend\n", "pair 5 7\npair 6 8\nend\n"];
 
 /// A session meets a conflict and is aborted, and its next transaction commits behind a change of the other log, so it is durable with the
@@ -594,5 +594,5 @@ pub(crate) static CONFLICT: Script = Script {
     ],
 };
 
-/// Its dumps.
+/// Its dumps, behind their first lines.
 pub(crate) static CONFLICT_MAPS: [&str; 2] = ["end\n", "pair 5 7\npair 6 8\nend\n"];

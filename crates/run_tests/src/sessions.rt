@@ -90,6 +90,11 @@ fn line<R: Abort>(rt: &R, alloc: Global, text: &str) -> String {
     String::from_str(alloc, text).expect(rt, MEMORY)
 }
 
+// What a run tells first.
+fn first_of<R: Abort>(rt: &R, alloc: Global, run: u64, winners: u64, undone: u64) -> String {
+    format!(in alloc; "open {run} winners {winners} undone {undone}").expect(rt, MEMORY)
+}
+
 impl Plain {
     fn new(alloc: Global) -> Plain {
         Plain {
@@ -331,9 +336,7 @@ impl Plain {
     // A run begins, behind one that left so many transactions undone.
     fn restart<R: Abort>(&mut self, rt: &R, run: u64, undone: u64) {
         let winners = self.committed;
-        let first = format!(in self.alloc; "open {run} winners {winners} undone {undone}").expect(
-            rt, MEMORY,
-        );
+        let first = first_of(rt, self.alloc, run, winners, undone);
         self.committed = 0;
         self.sessions = [NEW; 3];
         self.text = String::new(self.alloc);
@@ -478,6 +481,8 @@ fn random_lines_of_several_sessions_are_answered_as_by_a_plain_map(rt: HostRunti
         disk = crashed(&rt, &done.disk, done.disk.moment(), any_choice(&mut random));
         let copy = crashed(&rt, &disk, disk.moment(), Choice::AllBytes);
         let pairs = plain.pairs(&rt);
-        dumped(&rt, alloc, "the map behind a run", copy, &pairs);
+        let first = first_of(&rt, alloc, run.saturating_add(1), plain.committed, undone);
+        let opened = format!(in alloc; "{first}\n").expect(&rt, MEMORY);
+        dumped(&rt, alloc, "the map behind a run", copy, &opened, &pairs);
     }
 }

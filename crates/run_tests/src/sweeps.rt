@@ -72,6 +72,18 @@ fn place_of(finds: &[Find], printed: &str) -> usize {
     finds.len()
 }
 
+// The first line of what a run printed.
+fn first_line(printed: &str) -> &str {
+    printed.split_inclusive('\n').next().unwrap_or("")
+}
+
+// The first line behind an opening that told this one: no record was left.
+fn line_behind<R: Abort>(rt: &R, alloc: Global, first: &str) -> String {
+    let word = first.split(' ').nth(1).unwrap_or("");
+    let generation = word.parse::<u64>().unwrap_or(0).saturating_add(1);
+    format!(in alloc; "open {generation} winners 0 undone 0\n").expect(rt, MEMORY)
+}
+
 // Counts what is found on a disk that a crash at a moment left, of a run that put so many lines.
 fn count_found<R: Threads + Wait + Sync + Abort>(
     rt: &R,
@@ -94,9 +106,11 @@ fn count_found<R: Threads + Wait + Sync + Abort>(
         next.status == 0 && find.from <= out_before && out < find.below,
     );
     let map = scene.maps.get(find.map).expect(rt, name);
-    let again = dumped(rt, alloc, name, left, map);
-    dumped(rt, alloc, name, again, map);
-    dumped(rt, alloc, name, next.disk, map);
+    let first = first_line(find.lines);
+    let second = line_behind(rt, alloc, first);
+    let again = dumped(rt, alloc, name, left, first, map);
+    dumped(rt, alloc, name, again, &second, map);
+    dumped(rt, alloc, name, next.disk, &second, map);
     if let Some(count) = tally.get_mut(place) {
         *count = count.saturating_add(1);
     }

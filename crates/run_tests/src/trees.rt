@@ -164,6 +164,7 @@ fn go<R: Threads + Wait + Sync + Abort>(rt: &R, alloc: Global, order: &Order) {
         alloc,
         order.name,
         read.disk,
+        "open 3 winners 1 undone 0\n",
         &pairs_of(rt, alloc, &values),
     );
 }

@@ -10,12 +10,13 @@ use Rattle.map_model.specs.declared.call.Call.{Call}
 use Rattle.map_model.specs.declared.call.Answer.{Answer}
 use Rattle.map_model.specs.Lists.{any}
 use Rattle.map_model.specs.Outputs.{Reply}
+use Rattle.core_state.specs.Events.{Event}
 use Rattle.core_state.specs.Local.{is_sync}
 use Rattle.core_state.specs.Openings.{Opening}
 use Rattle.disk_slots.specs.declared.master.Master.{Master}
-use Rattle.disk_image.specs.Masters.{IsOfRun}
-use Rattle.core_calls.specs.Fronts.{Done}
+use Rattle.core_calls.specs.Fronts.{Done, front}
 use Rattle.core_calls.specs.Printed.{printed}
+use Rattle.disk_runs.specs.Masters.{IsOfRunBy}
 use Rattle.disk_runs.specs.Stands.{Known}
 use Rattle.run_crashes.specs.Lines.{lines_of}
 use Rattle.engine_calls.specs.Clauses.{Between}
@@ -48,7 +49,7 @@ module _ (laws : Laws) (group : ℕ) (g : Opening) (xs : List Done) (m0 : Memory
     others = others_same g.workers old;
     disk = λ s0 m k between of_run memory_is room. (
       stays_none g.workers 0 old law,
-      calm stop hand g group xs s0 m k old old m0 of (none_stands laws g group s0 m xs k old law between of_run m0 memory_is),
+      calm stop hand g group xs [] s0 m k old old m0 of (none_stands laws g group s0 m xs k old law between of_run m0 memory_is),
     );
   }
 
@@ -100,6 +101,11 @@ module _ (laws : Laws) (group : ℕ) (g : Opening) (xs : List Done) (m0 : Memory
 
 -- ## One behind another
 
+-- their events
+front_more : (zs ys : List Done) → front (zs ++ ys) ≡ front ys ++ front zs
+front_more [] ys = sym (append-nil (front ys))
+front_more (z ∷ zs) ys = ap (λ (es : List Event). es ++ z.events) (front_more zs ys) ∙ append_assoc (front ys) (front zs) z.events
+
 executes_then : (g : Opening) (group : ℕ) (xs ys zs : List Done) (m0 m1 m2 : Memory) → Executes g group xs m0 ys m1 → Executes g group (ys ++ xs) m1 zs m2 → Executes g group xs m0 (zs ++ ys) m2
 executes_then g group xs ys [] m0 m1 m2 first second = subst (Executes g group xs m0 ys) (sym second) first
 executes_then g group xs ys (z ∷ zs) m0 m1 m2 first second =
@@ -129,19 +135,20 @@ module _ (laws : Laws) (group : ℕ) (g : Opening) (xs : List Done) (m0 m1 m2 : 
         told_are = ap (λ (rs : List Reply). rs ++ a.told) c.told_are ∙ (append_assoc c.said c.firsts a.told ∙ ap (λ (rs : List Reply). c.said ++ (c.firsts ++ rs)) a.prints.told_is);
       }
 
-  disk_then : (z0 : Crash) (m : Master) (k : Known) → Between limits g group xs z0 k s0 → IsOfRun m k.master → IsOf g m0 k → s0.notes + length (b.told ++ a.told) < 2 ^ 64
-      → LeavesOnly s0 s2 (StaysAside g.workers (length (b.told ++ a.told)) s0) × DiskTo stop hand g group ((zs ++ ys) ++ xs) z0 m k s0 s2 b.memory
+  disk_then : (z0 : Crash) (m : Master) (k : Known) → Between limits g group xs z0 k s0 → IsOfRunBy (front xs) m k.master → IsOf g m0 k → s0.notes + length (b.told ++ a.told) < 2 ^ 64
+      → LeavesOnly s0 s2 (StaysAside g.workers (length (b.told ++ a.told)) s0) × DiskTo stop hand g group ((zs ++ ys) ++ xs) (front (zs ++ ys)) z0 m k s0 s2 b.memory
   disk_then z0 m k between of_run memory_is room =
       let lines : length (b.told ++ a.told) ≡ length b.told + length a.told = length-append b.told a.told in
       let first = a.disk z0 m k between of_run memory_is (omega arith) in
-      let stands : RunStands g group (ys ++ xs) z0 m k s0 s1 a.memory = first.1 in
+      let stands : RunStands g group (ys ++ xs) (front ys) z0 m k s0 s1 a.memory = first.1 in
       let one : s1.notes ≡ s0.notes + length a.told = a.others.notes between.counts (omega arith) in
       let second = b.disk z0 m stands.known stands.runs.between stands.runs.of_run (subst (λ (r : Memory). IsOf g r stands.known) (sym (a.memory_is goes)) stands.memory_is) (omega arith) in
-      let later = disk_later laws.shown laws.crashes laws.agrees g group z0 m (ys ++ xs) s0 s1 s2 stands.runs.any_moment zs k stands.known stands.no_earlier b.memory stop hand second.1 in (
+      let later = disk_later laws.shown laws.crashes laws.agrees g group z0 m (ys ++ xs) s0 s1 s2 stands.runs.any_moment zs (front ys) (front zs) k stands.known stands.no_earlier b.memory stop hand second.1 in (
         then s0 s1 s2 (StaysAside g.workers (length (b.told ++ a.told)) s0)
             (stays_more g.workers (length a.told) (length (b.told ++ a.told)) s0 s0 s1 (omega (arith, lines)) first.0)
             (stays_more g.workers (length b.told + length a.told) (length (b.told ++ a.told)) s0 s1 s2 (omega (arith, lines)) (stays_behind g.workers a.told (length b.told) s0 s1 s2 a.others between.counts (omega (arith, lines, room)) second.0)),
-        subst (λ (calls : List Done). DiskTo stop hand g group calls z0 m k s0 s2 b.memory) behind later,
+        subst (λ (es : List Event). DiskTo stop hand g group ((zs ++ ys) ++ xs) es z0 m k s0 s2 b.memory) (sym (front_more zs ys))
+            (subst (λ (calls : List Done). DiskTo stop hand g group calls (front ys ++ front zs) z0 m k s0 s2 b.memory) behind later),
       )
 
   pub calls_then : CallsRun (zs ++ ys) stop hand group g xs m0 m2 h0 h2 s0 s2

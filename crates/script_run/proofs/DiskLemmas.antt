@@ -11,13 +11,12 @@ use Rattle.core_state.specs.Events.{Event}
 use Rattle.core_state.specs.Openings.{Opening}
 use Rattle.disk_slots.specs.declared.master.Master.{Master}
 use Rattle.disk_image.specs.Laws.{EveryAgreement}
-use Rattle.disk_image.specs.Masters.{IsOfRun}
 use Rattle.core_disk.specs.Shows.{EveryShown}
 use Rattle.core_calls.specs.Crashes.{EveryRunCrash}
 use Rattle.core_calls.specs.Fronts.{Done, front, outcomes}
 use Rattle.core_calls.specs.Printed.{printed}
 use Rattle.disk_runs.specs.Fair.{TellsAll}
-use Rattle.disk_runs.specs.Masters.{IsNoEarlier}
+use Rattle.disk_runs.specs.Masters.{IsNoEarlier, IsOfRunBy}
 use Rattle.disk_runs.specs.Stands.{Known}
 use Rattle.disk_runs.proofs.LineLemmas.{every_master_line}
 use Rattle.disk_runs.proofs.StandLemmas.{every_same}
@@ -42,8 +41,8 @@ use Rattle.script_run.proofs.StopLemmas.{FirstOf, first_of}
 unstopped : (g : Opening) (Such : List Done → List Event → Type 0) (s0 : Crash) (m : Master) (xs : List Done) (from now : Story) → LeavesOnly from now (RunLeft g NoneStopped xs s0 m) → LeavesOnly from now (RunLeft g Such xs s0 m)
 unstopped g Such s0 m xs from now run = weaker from now (RunLeft g NoneStopped xs s0 m) (RunLeft g Such xs s0 m) (wider g NoneStopped Such (λ heard es none. absurd none) s0 m xs) run
 
-no_earlier : (n m k : Master) → IsNoEarlier n m → IsNoEarlier m k → IsNoEarlier n k
-no_earlier n m k p q = let laws = every_master_line n m k in laws.further p q
+no_earlier : (xs ys : List Event) (n m k : Master) → IsNoEarlier xs n m → IsNoEarlier ys m k → IsNoEarlier (xs ++ ys) n k
+no_earlier xs ys n m k p q = let laws = every_master_line n m k in laws.further xs ys p q
 
 -- ## Other areas
 
@@ -139,14 +138,14 @@ abbrev pub IsCalm : Option Stop → Type 0
 IsCalm None = Unit {0}
 IsCalm (Some stop) = IsOfReading stop
 
-pub calm : (stop : Option Stop) (hand : Hand) (g : Opening) (group : ℕ) (calls : List Done) (s0 : Crash) (m : Master) (k : Known) (from now : Story) (memory : Memory)
-    → IsCalm stop → RunStands g group calls s0 m k from now memory → DiskTo stop hand g group calls s0 m k from now memory
-calm None hand g group calls s0 m k from now memory of stands = stands
-calm (Some End) hand g group calls s0 m k from now memory of stands = stands
-calm (Some (Refused line)) hand g group calls s0 m k from now memory of stands = stands
-calm (Some ReadFault) hand g group calls s0 m k from now memory of stands = stands
-calm (Some WriteFault) hand g group calls s0 m k from now memory of stands = absurd of
-calm (Some DiskFault) hand g group calls s0 m k from now memory of stands = absurd of
+pub calm : (stop : Option Stop) (hand : Hand) (g : Opening) (group : ℕ) (calls : List Done) (last : List Event) (s0 : Crash) (m : Master) (k : Known) (from now : Story) (memory : Memory)
+    → IsCalm stop → RunStands g group calls last s0 m k from now memory → DiskTo stop hand g group calls last s0 m k from now memory
+calm None hand g group calls last s0 m k from now memory of stands = stands
+calm (Some End) hand g group calls last s0 m k from now memory of stands = stands
+calm (Some (Refused line)) hand g group calls last s0 m k from now memory of stands = stands
+calm (Some ReadFault) hand g group calls last s0 m k from now memory of stands = stands
+calm (Some WriteFault) hand g group calls last s0 m k from now memory of stands = absurd of
+calm (Some DiskFault) hand g group calls last s0 m k from now memory of stands = absurd of
 
 -- ## One run behind another
 
@@ -163,32 +162,32 @@ module _ (shown : EveryShown) (crashes : EveryRunCrash) (agrees : EveryAgreement
     moments : (newer : List Done) → LeavesOnly old new (RunLeft g NoneStopped (newer ++ ys) s0 m) → LeavesOnly from new (RunLeft g NoneStopped (newer ++ ys) s0 m)
     moments newer second = then from old new (RunLeft g NoneStopped (newer ++ ys) s0 m) (first_later newer) second
 
-    module _ (newer : List Done) (k known : Known) (behind : IsNoEarlier k.master known.master) (memory : Memory) where
-      runs_later : RunStands g group (newer ++ ys) s0 m known old new memory → RunStands g group (newer ++ ys) s0 m k from new memory
+    module _ (newer : List Done) (es last : List Event) (k known : Known) (behind : IsNoEarlier es k.master known.master) (memory : Memory) where
+      runs_later : RunStands g group (newer ++ ys) last s0 m known old new memory → RunStands g group (newer ++ ys) (es ++ last) s0 m k from new memory
       runs_later d = record {
         known = d.known;
         memory_is = d.memory_is;
-        no_earlier = no_earlier k.master known.master d.known.master behind d.no_earlier;
+        no_earlier = no_earlier es last k.master known.master d.known.master behind d.no_earlier;
         runs = record { between = d.runs.between; of_run = d.runs.of_run; any_moment = moments newer d.runs.any_moment };
       }
 
-      missing_later : LinesMissing g (newer ++ ys) s0 m known old new memory → LinesMissing g (newer ++ ys) s0 m k from new memory
+      missing_later : LinesMissing g (newer ++ ys) last s0 m known old new memory → LinesMissing g (newer ++ ys) (es ++ last) s0 m k from new memory
       missing_later d = record {
         any_moment = moments newer d.any_moment;
         known = d.known;
         stands = d.stands;
         memory_is = d.memory_is;
-        no_earlier = no_earlier k.master known.master d.known.master behind d.no_earlier;
+        no_earlier = no_earlier es last k.master known.master d.known.master behind d.no_earlier;
       }
 
       call_later : (hand : Hand) → CallMissing g group (newer ++ ys) hand s0 m old new → CallMissing g group (newer ++ ys) hand s0 m from new
       call_later hand (missing.Nothing l) =
           let Left : Crash → Type 0 = RunLeft g (StoppedIn g (newer ++ ys) hand) (newer ++ ys) s0 m in
           missing.Nothing (then from old new Left (unstopped g (StoppedIn g (newer ++ ys) hand) s0 m (newer ++ ys) from old (first_later newer)) l)
-      call_later hand (missing.Part x asks session tells l) = missing.Part x asks session tells (moments (x ∷ newer) l)
+      call_later hand (missing.Part x asks session tells few l) = missing.Part x asks session tells few (moments (x ∷ newer) l)
 
       -- A run that began at another story goes on so.
-      pub disk_later : (stop : Option Stop) (hand : Hand) → DiskTo stop hand g group (newer ++ ys) s0 m known old new memory → DiskTo stop hand g group (newer ++ ys) s0 m k from new memory
+      pub disk_later : (stop : Option Stop) (hand : Hand) → DiskTo stop hand g group (newer ++ ys) last s0 m known old new memory → DiskTo stop hand g group (newer ++ ys) (es ++ last) s0 m k from new memory
       disk_later None hand d = runs_later d
       disk_later (Some End) hand d = runs_later d
       disk_later (Some (Refused line)) hand d = runs_later d
@@ -199,7 +198,7 @@ module _ (shown : EveryShown) (crashes : EveryRunCrash) (agrees : EveryAgreement
 -- ## One call
 
 module _ (laws : Laws) (g : Opening) (group : ℕ) (s0 : Crash) (m : Master) where
-  module _ (xs : List Done) (k : Known) (old : Story) (law : IsLawful old) (between : Between limits g group xs s0 k old) (of_run : IsOfRun m k.master) where
+  module _ (xs : List Done) (k : Known) (old : Story) (law : IsLawful old) (between : Between limits g group xs s0 k old) (of_run : IsOfRunBy (front xs) m k.master) where
     -- nothing happened yet
     rests : Runs limits g group NoneStopped xs s0 m k old old
     rests = record {
@@ -210,16 +209,16 @@ module _ (laws : Laws) (g : Opening) (group : ℕ) (s0 : Crash) (m : Master) whe
           (still laws.keeps laws.prefixes laws.seals g xs [] s0 k old law between.stands between.notes);
     }
 
-    pub none_stands : (memory : Memory) → IsOf g memory k → RunStands g group xs s0 m k old old memory
-    none_stands memory is = record { known = k; memory_is = is; no_earlier = (every_master_line k.master k.master k.master).same; runs = rests }
+    pub none_stands : (memory : Memory) → IsOf g memory k → RunStands g group xs [] s0 m k old old memory
+    none_stands memory is = record { known = k; memory_is = is; no_earlier = (every_master_line k.master k.master k.master).same []; runs = rests }
 
     -- the disk failed
     pub stopped : (mid : Story) (hand : Hand) → Stops g group xs hand.session hand.call s0 k old mid → CallMissing g group xs hand s0 m old mid
     stopped mid hand (stops.Nothing es room l) =
         missing.Nothing ((every_stop_for laws.shown laws.crashes laws.agrees (StoppedIn g xs hand) old old mid limits g group s0 m k.master xs).nothing es between.told (room_commits_none g xs hand.session (call_behind (outcomes xs) hand.call) es room)
         (stopped_of_each_first g xs hand es room) of_run (unstopped g (StoppedIn g xs hand) s0 m xs old old rests.any_moment) l)
-    stopped mid hand (stops.Part x asks session tells l) =
-        missing.Part x asks session tells ((every_stop_for laws.shown laws.crashes laws.agrees NoneStopped old old mid limits g group s0 m k.master xs).part x (between.told, tells) of_run rests.any_moment l)
+    stopped mid hand (stops.Part x asks session tells few l) =
+        missing.Part x asks session tells few ((every_stop_for laws.shown laws.crashes laws.agrees NoneStopped old old mid limits g group s0 m k.master xs).part x (between.told, tells) of_run rests.any_moment l)
 
     -- it was answered, and these lines of it were put
     module _ (x : Done) (syncs : Bool) (memory : Memory) (mid new : Story) (frame : Around g.workers syncs old mid) (kept : Keeps g group xs x s0 k memory old mid) (told : List Reply) (notes : OnlyNotes told mid new) (puts : LeavesOnly mid new (PutLeaves told mid)) (few : old.notes + length told < 2 ^ 64) where
@@ -264,7 +263,7 @@ module _ (laws : Laws) (g : Opening) (group : ℕ) (s0 : Crash) (m : Master) whe
             notes = omega (arith, was, same, now, size, more, each);
           }
 
-      all_out : told ≡ lines_of g xs x → RunStands g group (x ∷ xs) s0 m k old new memory
+      all_out : told ≡ lines_of g xs x → RunStands g group (x ∷ xs) x.events s0 m k old new memory
       all_out all = record {
         known = kept.answers.known;
         memory_is = kept.memory;
@@ -272,7 +271,7 @@ module _ (laws : Laws) (g : Opening) (group : ℕ) (s0 : Crash) (m : Master) whe
         runs = (every_run_for laws.shown laws.crashes laws.agrees laws.keeps laws.prefixes laws.seals NoneStopped old old mid new limits g group s0 m k).answered xs x rests kept.answers (out all);
       }
 
-      some_out : (lacks : List Reply) → lacks ++ told ≡ lines_of g xs x → LinesMissing g (x ∷ xs) s0 m k old new memory
+      some_out : (lacks : List Reply) → lacks ++ told ≡ lines_of g xs x → LinesMissing g (x ∷ xs) x.events s0 m k old new memory
       some_out lacks all = record {
         any_moment = line laws.shown laws.crashes laws.agrees laws.keeps laws.prefixes laws.seals NoneStopped limits g group s0 m k old old mid new xs x rests kept.answers (lines lacks all);
         known = kept.answers.known;
@@ -281,9 +280,9 @@ module _ (laws : Laws) (g : Opening) (group : ℕ) (s0 : Crash) (m : Master) whe
         no_earlier = kept.answers.no_earlier;
       }
 
-      pub answered : (stop : Option Stop) (hand : Hand) (tail : List ℕ) → IsOfPutting stop → PrintsTo stop (lines_of g xs x) told tail → DiskTo stop hand g group (x ∷ xs) s0 m k old new memory
+      pub answered : (stop : Option Stop) (hand : Hand) (tail : List ℕ) → IsOfPutting stop → PrintsTo stop (lines_of g xs x) told tail → DiskTo stop hand g group (x ∷ xs) x.events s0 m k old new memory
       answered None hand tail of prints = all_out prints.told_is
       answered (Some stop) hand tail of prints =
           let f : FirstOf (lines_of g xs x) told = first_of (Some stop) (lines_of g xs x) told tail prints in
-          let P : Stop → Type 0 = λ s. DiskTo (Some s) hand g group (x ∷ xs) s0 m k old new memory in
+          let P : Stop → Type 0 = λ s. DiskTo (Some s) hand g group (x ∷ xs) x.events s0 m k old new memory in
           let at : P WriteFault = some_out f.later f.is in subst P (sym of) at

@@ -1,5 +1,6 @@
 -- Events of a call that was not answered: they end nothing, and the first of them are such events too.
-use Rattle.std.proofs.Common.{◌≡◌, ◌++◌, ◌∷◌, [], ℕ, Bool, true, false, cond, ◌||◌, List, Option, Some, None, refl, sym, ◌∙◌, subst, true≢false}
+use Rattle.std.proofs.Common.{◌≡◌, ◌++◌, ◌∷◌, [], ℕ, arith, Bool, true, false, cond, ◌||◌, List, Option, Some, None, refl, sym, ◌∙◌, subst, true≢false}
+use Rattle.std.proofs.lemmas.List.{length-append}
 use Rattle.std.proofs.lemmas.Bool.{and_parts, and_from}
 use Rattle.map_model.specs.declared.call.Call.{Call}
 use Rattle.map_model.specs.declared.call.Call.TheVariants as call
@@ -20,7 +21,7 @@ use Rattle.run_crashes.specs.Laws.{CommitsNone, OfEachFirst}
 use Rattle.engine_calls.proofs.MarkLemmas.{either_false}
 use Rattle.engine_trait.specs.Calls.{call_behind}
 use Rattle.engine_trait.specs.Limits.{AreLoads}
-use Rattle.engine_trait.specs.Rooms.{AreReady, IsRoomFor, MakesRoom, makes_room, makes_sync, needs_sync, puts_back}
+use Rattle.engine_trait.specs.Rooms.{AreReady, HasDoneFor, IsRoomFor, MakesRoom, makes_room, makes_sync, needs_sync, puts_back}
 use Rattle.script_run.specs.Runs.{Hand, StoppedIn}
 
 neither : (p q : Bool) → (p || q) ≡ false → (p ≡ false) × (q ≡ false)
@@ -71,9 +72,9 @@ each_none p q so (e ∷ es) each =
     let parts = and_parts (p e) (all p es) each in
     either_false (q e) (any q es) (so e parts.0) (each_none p q so es parts.1)
 
-room_ends_none : (own : ℕ) (e : Event) → makes_room own e ≡ true → ends e ≡ false
-room_ends_none own (Event.End w commit f) room = absurd (true≢false (sym room))
-room_ends_none own _ room = refl
+room_ends_none : (own row : ℕ) (e : Event) → makes_room own row e ≡ true → ends e ≡ false
+room_ends_none own row (Event.End w commit f) room = absurd (true≢false (sym room))
+room_ends_none own row _ room = refl
 
 back_ends_none : (own : ℕ) (e : Event) → puts_back own e ≡ true → ends e ≡ false
 back_ends_none own (Event.End w commit f) back = absurd (true≢false (sym back))
@@ -92,15 +93,15 @@ ready_end_none : (syncs : Bool) (es : List Event) → AreReady syncs es → any 
 ready_end_none true es ready = each_none makes_sync ends sync_ends_none es ready
 ready_end_none false es ready = loads_end_none es ready
 
-ends_none : (g : Opening) (xs : List Done) (own : ℕ) (c : Call) (es : List Event) → IsRoomFor g xs own c es → any ends es ≡ false
-ends_none g xs own (call.Put key value) es room = each_none (makes_room own) ends (room_ends_none own) es room.0
-ends_none g xs own (call.Del key) es room = each_none (makes_room own) ends (room_ends_none own) es room.0
+ends_none : (g : Opening) (xs : List Done) (own : ℕ) (c : Call) (es : List Event) → HasDoneFor g xs own c es → any ends es ≡ false
+ends_none g xs own (call.Put key value) es room = each_none (makes_room own (g.row_of key)) ends (room_ends_none own (g.row_of key)) es room.0
+ends_none g xs own (call.Del key) es room = each_none (makes_room own (g.row_of key)) ends (room_ends_none own (g.row_of key)) es room.0
 ends_none g xs own call.Abort es backs = each_none (puts_back own) ends (back_ends_none own) es backs
 ends_none g xs own c es ready = ready_end_none (needs_sync g xs own c) es ready
 
 -- such events commit nothing
 pub room_commits_none : (g : Opening) (xs : List Done) (own : ℕ) (c : Call) (es : List Event) → IsRoomFor g xs own c es → CommitsNone g xs es
-room_commits_none g xs own c es room w = marks_no_end g (state_after g (front xs)) es w [] (ends_none g xs own c es room)
+room_commits_none g xs own c es room w = marks_no_end g (state_after g (front xs)) es w [] (ends_none g xs own c es room.0)
 
 -- the first events of those that each pass a test, of those of which none does, of loads, and of those that make room
 front_of_all : (p : Event → Bool) (first rest : List Event) → all p (first ++ rest) ≡ true → all p first ≡ true
@@ -120,19 +121,22 @@ front_of_loads [] rest loads = tt
 front_of_loads (Event.Load p f ∷ first) rest loads = front_of_loads first rest loads
 front_of_loads (_ ∷ first) rest loads = absurd loads
 
-front_makes : (g : Opening) (s : State) (key : ℕ) (first rest : List Event) → MakesRoom g s key (first ++ rest) → MakesRoom g s key first
-front_makes g s key [] rest makes = tt
-front_makes g s key (e ∷ first) rest makes = (makes.0, front_makes g (step g s e) key first rest makes.1)
+front_makes : (own : ℕ) (g : Opening) (s : State) (key : ℕ) (first rest : List Event) → MakesRoom own g s key (first ++ rest) → MakesRoom own g s key first
+front_makes own g s key [] rest makes = tt
+front_makes own g s key (e ∷ first) rest makes = (makes.0, front_makes own g (step g s e) key first rest makes.1)
 
 front_ready : (syncs : Bool) (first rest : List Event) → AreReady syncs (first ++ rest) → AreReady syncs first
 front_ready true first rest ready = front_of_all makes_sync first rest ready
 front_ready false first rest ready = front_of_loads first rest ready
 
+front_done : (g : Opening) (xs : List Done) (own : ℕ) (c : Call) (first rest : List Event) → HasDoneFor g xs own c (first ++ rest) → HasDoneFor g xs own c first
+front_done g xs own (call.Put key value) first rest room = (front_of_all (makes_room own (g.row_of key)) first rest room.0, front_makes own g (state_after g (front xs)) key first rest room.1)
+front_done g xs own (call.Del key) first rest room = (front_of_all (makes_room own (g.row_of key)) first rest room.0, front_of_none is_structure first rest room.1)
+front_done g xs own call.Abort first rest backs = front_of_all (puts_back own) first rest backs
+front_done g xs own c first rest ready = front_ready (needs_sync g xs own c) first rest ready
+
 front_for : (g : Opening) (xs : List Done) (own : ℕ) (c : Call) (first rest : List Event) → IsRoomFor g xs own c (first ++ rest) → IsRoomFor g xs own c first
-front_for g xs own (call.Put key value) first rest room = (front_of_all (makes_room own) first rest room.0, front_makes g (state_after g (front xs)) key first rest room.1)
-front_for g xs own (call.Del key) first rest room = (front_of_all (makes_room own) first rest room.0, front_of_none is_structure first rest room.1)
-front_for g xs own call.Abort first rest backs = front_of_all (puts_back own) first rest backs
-front_for g xs own c first rest ready = front_ready (needs_sync g xs own c) first rest ready
+front_for g xs own c first rest room = (front_done g xs own c first rest room.0, (let few = room.1 in let more = length-append first rest in omega arith))
 
 -- and the first of them are such events too
 pub stopped_of_each_first : (g : Opening) (xs : List Done) (hand : Hand) (es : List Event) → IsRoomFor g xs hand.session (call_behind (outcomes xs) hand.call) es → OfEachFirst (StoppedIn g xs hand xs) es

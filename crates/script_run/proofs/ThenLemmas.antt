@@ -11,7 +11,7 @@ use Rattle.map_model.specs.Journals.{Name}
 use Rattle.map_model.specs.Pairings.{is_open_line, script_of}
 use Rattle.core_state.specs.Openings.{Opening}
 use Rattle.core_calls.specs.Deeds.{in_words}
-use Rattle.core_calls.specs.Fronts.{Done}
+use Rattle.core_calls.specs.Fronts.{Done, front}
 use Rattle.core_calls.specs.Crashes.{EveryRunCrash}
 use Rattle.core_disk.specs.Shows.{EveryShown}
 use Rattle.disk_image.specs.Laws.{EveryAgreement}
@@ -132,11 +132,11 @@ module _ (stop : Option Stop) (sessions group : ℕ) (g : Opening) (xs : List Do
     (a : ScriptRuns stop sessions group g xs before start seen m0 m1 reader feed h0 h1 old new) where
   -- a run that began at an earlier story
   pub disk_from : EveryShown → EveryRunCrash → EveryAgreement → (s0 : Crash) (m : Master) (k : Known) (from : Story) → runs.Runs limits g group NoneStopped xs s0 m k from old → IsOf g m0 k → old.notes + length a.told < 2 ^ 64
-      → LeavesOnly old new (StaysAside g.workers (length a.told) old) × DiskTo stop a.hand g group (a.newer ++ xs) s0 m k from new a.memory
+      → LeavesOnly old new (StaysAside g.workers (length a.told) old) × DiskTo stop a.hand g group (a.newer ++ xs) (front a.newer) s0 m k from new a.memory
   disk_from shown crashes agrees s0 m k from run memory_is room =
       let d = a.disk s0 m k run.between run.of_run memory_is room in (
         d.0,
-        disk_later shown crashes agrees g group s0 m xs from old new run.any_moment a.newer k k (every_master_line k.master k.master k.master).same a.memory stop a.hand d.1,
+        disk_later shown crashes agrees g group s0 m xs from old new run.any_moment a.newer [] (front a.newer) k k ((every_master_line k.master k.master k.master).same []) a.memory stop a.hand d.1,
       )
 
 pub not_below_itself : (n : ℕ) → n < n → ⊥

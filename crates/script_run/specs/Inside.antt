@@ -10,14 +10,14 @@ use Rattle.lean_disk.specs.Moments.{LeavesOnly}
 use Rattle.lean_disk.specs.Story.{Crash, Story, Tells}
 use Rattle.disk_slots.specs.declared.master.Master.{Master}
 use Rattle.disk_image.specs.Laws.{EveryAgreement, EverySealed}
-use Rattle.disk_image.specs.Masters.{IsOfRun}
 use Rattle.worker_log.specs.Laws.{EveryKept, EveryPrefix}
 use Rattle.core_calls.specs.Crashes.{EveryRunCrash}
 use Rattle.core_calls.specs.Deeds.{answered}
 use Rattle.core_calls.specs.Durables.{durables, moments}
-use Rattle.core_calls.specs.Fronts.{Done}
+use Rattle.core_calls.specs.Fronts.{Done, front}
 use Rattle.core_calls.specs.Printed.{durable_lines, printed}
 use Rattle.core_disk.specs.Shows.{EveryShown}
+use Rattle.disk_runs.specs.Masters.{IsOfRunBy}
 use Rattle.disk_runs.specs.Stands.{Known}
 use Rattle.engine_calls.specs.Clauses.{Between}
 use Rattle.engine_trait.specs.Calls.{IsOf, Memory}
@@ -141,8 +141,8 @@ pub record CallsRun (newer : List Done) (stop : Option Stop) (hand : Hand) (grou
   pub cut : stop ≡ Some WriteFault → IsLastCut g xs newer told
   pub holds : Holds told tail held0 held1
   pub others : OthersStand g.workers told old new
-  pub disk : (s0 : Crash) (m : Master) (k : Known) → Between limits g group xs s0 k old → IsOfRun m k.master → IsOf g m0 k → old.notes + length told < 2 ^ 64
-      → LeavesOnly old new (StaysAside g.workers (length told) old) × DiskTo stop hand g group (newer ++ xs) s0 m k old new memory
+  pub disk : (s0 : Crash) (m : Master) (k : Known) → Between limits g group xs s0 k old → IsOfRunBy (front xs) m k.master → IsOf g m0 k → old.notes + length told < 2 ^ 64
+      → LeavesOnly old new (StaysAside g.workers (length told) old) × DiskTo stop hand g group (newer ++ xs) (front newer) s0 m k old new memory
 
 -- how the engine stands, where it goes on or stops
 abbrev pub EngineGoes : Option Stop → (List Name → Type 0) → Opening → List Done → Type 0

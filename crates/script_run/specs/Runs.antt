@@ -12,14 +12,13 @@ use Rattle.lean_disk.specs.Area.{Leaves}
 use Rattle.lean_disk.specs.Moments.{LeavesOnly}
 use Rattle.lean_disk.specs.Story.{Crash, Story, Tells}
 use Rattle.disk_slots.specs.declared.master.Master.{Master}
-use Rattle.disk_image.specs.Masters.{IsOfRun}
 use Rattle.core_calls.specs.Deeds.{asked, in_words}
 use Rattle.core_calls.specs.Durables.{durables, moments}
 use Rattle.core_calls.specs.Fronts.{Done, front, outcomes}
 use Rattle.core_calls.specs.Printed.{printed}
 use Rattle.core_calls.specs.Runs as told
 use Rattle.core_calls.specs.Steps.{hindered_in}
-use Rattle.disk_runs.specs.Masters.{IsNoEarlier}
+use Rattle.disk_runs.specs.Masters.{IsNoEarlier, IsOfRunBy}
 use Rattle.disk_runs.specs.Stands.{Known, Stands}
 use Rattle.run_crashes.specs.Lines.{NoneStopped, RunLeft}
 use Rattle.engine_calls.specs.Clauses.{Between}
@@ -139,20 +138,21 @@ pub record StaysAside (logs count : ℕ) (s : Story) (c : Crash) : Type 0 where
   pub writes : (a : ℕ) → IsAside logs true a → Tells s a → c.writes a ≡ (s.area a).writes
   pub leaves : (a : ℕ) → IsAside logs true a → Tells s a → Leaves (s.area a) (c.image a)
 
--- From one story to now by these calls and their lines: the run goes on, with this memory, under the same master or a later one.
-pub record RunStands (g : Opening) (group : ℕ) (calls : List Done) (s0 : Crash) (m : Master) (k : Known) (from now : Story) (memory : Memory) : Type 0 where
+-- From one story to now by these calls and their lines, the last of them by these events: the run goes on, with this memory, under the same master or one
+-- that was written by these.
+pub record RunStands (g : Opening) (group : ℕ) (calls : List Done) (last : List Event) (s0 : Crash) (m : Master) (k : Known) (from now : Story) (memory : Memory) : Type 0 where
   pub known : Known
   pub memory_is : IsOf g memory known
-  pub no_earlier : IsNoEarlier k.master known.master
+  pub no_earlier : IsNoEarlier last k.master known.master
   pub runs : runs.Runs limits g group NoneStopped calls s0 m known from now
 
 -- Lines of the last call are missing: the disk stands for all events, and a crash leaves what the lines that were out by then say.
-pub record LinesMissing (g : Opening) (calls : List Done) (s0 : Crash) (m : Master) (k : Known) (from now : Story) (memory : Memory) : Type 0 where
+pub record LinesMissing (g : Opening) (calls : List Done) (last : List Event) (s0 : Crash) (m : Master) (k : Known) (from now : Story) (memory : Memory) : Type 0 where
   pub any_moment : LeavesOnly from now (RunLeft g NoneStopped calls s0 m)
   pub known : Known
   pub stands : Stands g (front calls) s0 known now
   pub memory_is : IsOf g memory known
-  pub no_earlier : IsNoEarlier k.master known.master
+  pub no_earlier : IsNoEarlier last k.master known.master
 
 -- behind all of these outcomes, events of the call in hand, which was not answered
 abbrev pub StoppedIn : Opening → List Done → Hand → List Done → List Event → Type 0
@@ -163,16 +163,16 @@ StoppedIn g calls hand heard es = (heard ≡ calls) × IsRoomFor g heard hand.se
 -- answered so.
 pub data CallMissing (g : Opening) (group : ℕ) (calls : List Done) (hand : Hand) (s0 : Crash) (m : Master) (from now : Story) : Type 0 where
   Nothing : LeavesOnly from now (RunLeft g (StoppedIn g calls hand) calls s0 m) → CallMissing g group calls hand s0 m from now
-  Part : (x : Done) → asked x.outcome.deed ≡ hand.call → x.outcome.session ≡ hand.session → told.Tells limits g group calls x → LeavesOnly from now (RunLeft g NoneStopped (x ∷ calls) s0 m) → CallMissing g group calls hand s0 m from now
+  Part : (x : Done) → asked x.outcome.deed ≡ hand.call → x.outcome.session ≡ hand.session → told.Tells limits g group calls x → length x.events ≤ 2 ^ 18 → LeavesOnly from now (RunLeft g NoneStopped (x ∷ calls) s0 m) → CallMissing g group calls hand s0 m from now
 
 -- By why the script stopped there, or goes on.
-abbrev pub DiskTo : (stop : Option Stop) → Hand → Opening → (group : ℕ) → List Done → Crash → Master → Known → (from now : Story) → Memory → Type 0
-DiskTo None hand g group calls s0 m k from now memory = RunStands g group calls s0 m k from now memory
-DiskTo (Some End) hand g group calls s0 m k from now memory = RunStands g group calls s0 m k from now memory
-DiskTo (Some (Refused line)) hand g group calls s0 m k from now memory = RunStands g group calls s0 m k from now memory
-DiskTo (Some ReadFault) hand g group calls s0 m k from now memory = RunStands g group calls s0 m k from now memory
-DiskTo (Some WriteFault) hand g group calls s0 m k from now memory = LinesMissing g calls s0 m k from now memory
-DiskTo (Some DiskFault) hand g group calls s0 m k from now memory = CallMissing g group calls hand s0 m from now
+abbrev pub DiskTo : (stop : Option Stop) → Hand → Opening → (group : ℕ) → List Done → (last : List Event) → Crash → Master → Known → (from now : Story) → Memory → Type 0
+DiskTo None hand g group calls last s0 m k from now memory = RunStands g group calls last s0 m k from now memory
+DiskTo (Some End) hand g group calls last s0 m k from now memory = RunStands g group calls last s0 m k from now memory
+DiskTo (Some (Refused line)) hand g group calls last s0 m k from now memory = RunStands g group calls last s0 m k from now memory
+DiskTo (Some ReadFault) hand g group calls last s0 m k from now memory = RunStands g group calls last s0 m k from now memory
+DiskTo (Some WriteFault) hand g group calls last s0 m k from now memory = LinesMissing g calls last s0 m k from now memory
+DiskTo (Some DiskFault) hand g group calls last s0 m k from now memory = CallMissing g group calls hand s0 m from now
 
 -- ## A run
 
@@ -203,8 +203,8 @@ pub record ScriptRuns (stop : Option Stop) (sessions group : ℕ) (g : Opening) 
   -- the disk
   pub others : OthersStand g.workers told old new
   -- at every moment, where it stood for xs in a run that began as s0, on a disk whose master was m, and counts no more notes than it can
-  pub disk : (s0 : Crash) (m : Master) (k : Known) → Between limits g group xs s0 k old → IsOfRun m k.master → IsOf g m0 k → old.notes + length told < 2 ^ 64
-      → LeavesOnly old new (StaysAside g.workers (length told) old) × DiskTo stop hand g group (newer ++ xs) s0 m k old new memory
+  pub disk : (s0 : Crash) (m : Master) (k : Known) → Between limits g group xs s0 k old → IsOfRunBy (front xs) m k.master → IsOf g m0 k → old.notes + length told < 2 ^ 64
+      → LeavesOnly old new (StaysAside g.workers (length told) old) × DiskTo stop hand g group (newer ++ xs) (front newer) s0 m k old new memory
 
 -- how the engine stands then: all lines that are due were told; unless the sink failed, behind the lines of some, or the disk
 abbrev pub EngineStands : Stop → (List Name → Type 0) → Opening → List Done → Type 0

@@ -127,7 +127,7 @@ pub static COMMANDS: [Command; 4] = [
         words: "lean dump",
         script: b"1 begin\n",
         status: 0,
-        printed: b"pair 5 7\nend\n",
+        printed: b"open 3 winners 0 undone 0\npair 5 7\nend\n",
         files: &[
             // The fourth master in slot 1.
             FileRow(

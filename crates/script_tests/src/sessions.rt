@@ -130,7 +130,7 @@ static CASES: [Case; 15] = [
             "2 begin;2 get 5;2 get 6;2 get 7;",
             "open 2 winners 2 undone 0;2 begun 2.1;2 value 7;2 value 8;2 none;"
         ),
-        row!(Dump, "", "pair 5 7;pair 6 8;end;")
+        row!(Dump, "", "open 3 winners 0 undone 0;pair 5 7;pair 6 8;end;")
     ),
     // The commit of session s has number s + 1, behind a change of the log before it with number s - 1, which each log has to have flushed. As the last log was
     // flushed each other one was, and the first one up to 2; then a sync flushes all up to 17.
@@ -163,7 +163,11 @@ static CASES: [Case; 15] = [
                 command: Command::Dump,
                 script: Lines::Once(""),
                 status: 0,
-                printed: Lines::Many(&[Text("pair # @;", 1, 16), Text("end;", 1, 1)]),
+                printed: Lines::Many(&[
+                    Text("open 2 winners 16 undone 0;", 1, 1),
+                    Text("pair # @;", 1, 16),
+                    Text("end;", 1, 1),
+                ]),
             },
         ],
         leaves: None,
@@ -217,7 +221,7 @@ static CASES: [Case; 15] = [
             "2 begin;2 get 5;",
             "open 2 winners 1 undone 1;2 begun 2.1;2 none;"
         ),
-        row!(Dump, "", "end;")
+        row!(Dump, "", "open 3 winners 0 undone 0;end;")
     ),
     // Each commit of session 2 needs the change of session 1, and the number of its transaction is half its own. Where 256 of them wait, its begin syncs first.
     Case {

@@ -14,7 +14,7 @@ const NONE: &[u8] = b"lean: usage\n";
 
 const OPENED: &[u8] = b"open 1 winners 0 undone 0\n";
 
-const ENDED: &[u8] = b"end\n";
+const DUMPED: &[u8] = b"open 1 winners 0 undone 0\nend\n";
 
 static LINES: [Line; 191] = [
     // No command.
@@ -156,8 +156,8 @@ static LINES: [Line; 191] = [
     Line("lean run -- --rows", 2, NONE),
     Line("lean run -- --", 2, NONE),
     // A dump.
-    Line("lean dump", 0, ENDED),
-    Line("lean dump --", 0, ENDED),
+    Line("lean dump", 0, DUMPED),
+    Line("lean dump --", 0, DUMPED),
     Line("lean dump x", 2, NONE),
     Line("lean dump ", 2, NONE),
     Line("lean dump dump", 2, NONE),

@@ -28,7 +28,7 @@ use Rattle.recovery.specs.declared.opening.Unrecovered.TheVariants as why
 use Rattle.lean_engine.specs.Openings.{Shows}
 use Rattle.lean_shell.specs.Dumps.{DumpEnds, DumpLeaves, IsAsOpened, PutOrCut, dump_text}
 use Rattle.lean_shell.specs.Endings.{finished}
-use Rattle.lean_shell.specs.Inside.Puts.{OnlyPuts, PutsMap}
+use Rattle.lean_shell.specs.Inside.Puts.{OnlyPuts, PutsDump, counts_of}
 use Rattle.lean_shell.specs.Lines.{IsPut, line_of}
 use Rattle.lean_shell.specs.Runs.{notice_of, status_of}
 use Rattle.lean_shell.proofs.Dumps.MapLemmas.{of_disk}
@@ -120,16 +120,17 @@ put_or_cut status text Failed held0 held1 sink0 sink1 is t cause = inr (is, (t.p
 
 pub dumped : EveryUndone → EveryOwn → ListingLaws → (s0 s new : Story) → IsLawful s → HasDone s0 s → (r : Recovered) → HasGiven s0 s r
     → (held0 held1 : Held) (sink0 sink1 : ℕ) (answer : Put) (status : ℕ) → status ≡ finished answer
-    → PutsMap (value (format_of (length r.pages.items)) (nodes_of r.pages.items)) answer held0 held1 sink0 sink1 s new → DumpEnds status s0 new held0 held1 sink0 sink1
+    → PutsDump (counts_of r) (value (format_of (length r.pages.items)) (nodes_of r.pages.items)) answer held0 held1 sink0 sink1 s new → DumpEnds status s0 new held0 held1 sink0 sink1
 dumped undone every_own listing s0 s new law did r given held0 held1 sink0 sink1 answer status is p =
-    let t = put_text (dump_text p.pairs) answer held0 held1 p.put.puts in record {
+    let t = put_text (dump_text (counts_of r) p.pairs) answer held0 held1 p.put.puts in record {
       put = t.text;
       holds = t.holds;
       how = inr (record {
+        counts = counts_of r;
         pairs = p.pairs;
         rising = p.are.rising;
         of_disk = λ tells. of_disk undone every_own listing s0 r given.whole (given.answer tells) p.pairs p.are;
-        printed = put_or_cut status (dump_text p.pairs) answer held0 held1 sink0 sink1 is t p.put.cause;
+        printed = put_or_cut status (dump_text (counts_of r) p.pairs) answer held0 held1 sink0 sink1 is t p.put.cause;
         left = as_opened s0 s new r given p.put.only.area;
       });
       logs = logs_on s0 s new law did p.put.only;

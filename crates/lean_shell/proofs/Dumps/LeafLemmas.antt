@@ -12,8 +12,9 @@ use Rattle.lean_edge.specs.declared.sink.Put.{Put}
 use Rattle.lean_edge.specs.declared.sink.Put.TheVariants.{Done, Failed}
 use Rattle.script_lang.specs.Notices.{Notice}
 use Rattle.lean_shell.specs.Lines.{IsPut, line_of}
-use Rattle.lean_shell.specs.Dumps.{pair_lines}
-use Rattle.lean_shell.specs.Inside.Puts.{ArePut, ArePutTo, IsStillToPut, PutsMap, PutsPairs}
+use Rattle.lean_shell.specs.Dumps.{map_text, pair_lines}
+use Rattle.lean_shell.specs.Inside.Puts.{ArePut, ArePutTo, IsStillToPut, PutsDump, PutsMap, PutsPairs}
+use Rattle.lean_shell.specs.Runs.{Counts, first_line}
 use Rattle.lean_shell.proofs.Dumps.TextLemmas.{line_dead, line_live, lines_append, lines_end, lines_from}
 use Rattle.lean_shell.proofs.Dumps.PutLemmas.{are_put_cut, are_put_line, are_put_none, are_put_same, are_put_then, still_cut, still_more, still_none}
 
@@ -94,4 +95,24 @@ map_end map a r is h0 h1 h2 k0 k1 k2 s0 s1 s2 p q cause = record {
   are = p.are;
   put = are_put_then (pair_lines p.pairs) (line_of Notice.End) r h0 h1 h2 k0 k1 k2 s0 s1 s2 (subst (λ (b : Put). ArePut (pair_lines p.pairs) b h0 h1 k0 k1 s0 s1) is p.put)
       (are_put_line (line_of Notice.End) r h1 h2 k1 k2 s1 s2 q cause);
+}
+
+-- ## The first line
+
+pub opened_cut : ListingLaws → (counts : Counts) (map : Map) (r : Put) → r ≡ Failed → (h0 h1 : Held) (k0 k1 : ℕ) (s0 s1 : Story) → IsPut (first_line counts) r h0 h1 s0 s1 → HasCause k0 k1 (r ≡ Failed)
+    → PutsDump counts map Failed h0 h1 k0 k1 s0 s1
+opened_cut listing counts map r is h0 h1 k0 k1 s0 s1 p cause = let all = listing.some map 0 key_end (omega arith) in record {
+  pairs = all.pairs;
+  are = all.are;
+  put = are_put_cut (first_line counts) (map_text all.pairs) h0 h1 k0 k1 s0 s1
+      (subst (λ (a : Put). ArePut (first_line counts) a h0 h1 k0 k1 s0 s1) is (are_put_line (first_line counts) r h0 h1 k0 k1 s0 s1 p cause));
+}
+
+pub opened_then : (counts : Counts) (map : Map) (a r : Put) → a ≡ Done → (h0 h1 h2 : Held) (k0 k1 k2 : ℕ) (s0 s1 s2 : Story) → IsPut (first_line counts) a h0 h1 s0 s1 → HasCause k0 k1 (a ≡ Failed) → PutsMap map r h1 h2 k1 k2 s1 s2
+    → PutsDump counts map r h0 h2 k0 k2 s0 s2
+opened_then counts map a r is h0 h1 h2 k0 k1 k2 s0 s1 s2 p cause q = record {
+  pairs = q.pairs;
+  are = q.are;
+  put = are_put_then (first_line counts) (map_text q.pairs) r h0 h1 h2 k0 k1 k2 s0 s1 s2
+      (subst (λ (b : Put). ArePut (first_line counts) b h0 h1 k0 k1 s0 s1) is (are_put_line (first_line counts) a h0 h1 k0 k1 s0 s1 p cause)) q.put;
 }

@@ -23,6 +23,7 @@ use Rattle.recovery.specs.Opened.{IsRecovered, IsWhole}
 use Rattle.recovery.specs.Own.{EveryOwn}
 use Rattle.recovery.specs.declared.opening.Recovered.{Recovered}
 use Rattle.lean_shell.specs.Dumps.{AreOfDisk}
+use Rattle.lean_shell.specs.Inside.Puts.{counts_of}
 
 pub whole_tree : (r : Recovered) → IsWhole r → IsTree (format_of (length r.pages.items)) (nodes_of r.pages.items)
 whole_tree r whole = subst (λ (n : ℕ). IsTree (format_of n) (nodes_of r.pages.items)) (sym whole.count) whole.tree
@@ -57,10 +58,13 @@ module _ (undone : EveryUndone) (every_own : EveryOwn) (m : Master) (area : Area
       record { rising = all.rising; all = λ k. all.all k ∙ map_is k }
 
 pub of_disk : EveryUndone → EveryOwn → ListingLaws → (s : Story) (r : Recovered) → IsWhole r → (q : (m : Master) × IsOpenable 16 m × IsRecovered m (areas_of s) r)
-    → (ps : List Pair) → Lists (value (format_of (length r.pages.items)) (nodes_of r.pages.items)) 0 key_end ps → AreOfDisk s ps
+    → (ps : List Pair) → Lists (value (format_of (length r.pages.items)) (nodes_of r.pages.items)) 0 key_end ps → AreOfDisk s (counts_of r) ps
 of_disk undone every_own listing s r whole q ps lists = let is : IsRecovered q.0 (areas_of s) r = q.2 in record {
   m = q.0;
   openable = q.1;
   sound = is.sound;
+  generation = ap (λ (x : Master). x.generation) is.master;
+  won = is.won;
+  lost = is.lost;
   are = pairs_are undone every_own q.0 (areas_of s) r is whole listing ps lists;
 }

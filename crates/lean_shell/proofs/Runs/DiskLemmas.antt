@@ -1,6 +1,6 @@
 -- The disk of a run, by why its script stopped: what a crash leaves of it, and what it stands for.
-use Rattle.std.proofs.Common.{◌≡◌, inl, inr, ⊎_elim, ◌≤◌, ◌++◌, ℕ, Bool, true, false, cond, List, [], ◌∷◌, length, Option, Some, None, refl, sym, ◌∙◌, ap, subst, arith, true≢false}
-use Rattle.std.proofs.lemmas.List.{append-nil}
+use Rattle.std.proofs.Common.{◌≡◌, ◌⊎◌, inl, inr, ⊎_elim, ◌≤◌, ◌^◌, ◌++◌, ℕ, Bool, true, false, cond, List, [], ◌∷◌, length, Option, Some, None, refl, sym, ◌∙◌, ap, subst, arith, true≢false}
+use Rattle.std.proofs.lemmas.List.{append-nil, length-append}
 use Rattle.map_model.specs.declared.call.Call.{Call}
 use Rattle.map_model.specs.declared.call.Refusal.{Refusal}
 use Rattle.map_model.specs.declared.call.Refusal.TheVariants as refusal
@@ -14,7 +14,6 @@ use Rattle.lean_edge.specs.Outside.{Feed}
 use Rattle.script_lang.specs.Reading.{Unread}
 use Rattle.disk_slots.specs.declared.master.Master.{Master}
 use Rattle.disk_image.specs.Laws.{EveryAgreement}
-use Rattle.disk_image.specs.Masters.{IsOfRun}
 use Rattle.core_state.specs.Events.{Event}
 use Rattle.core_state.specs.Openings.{Opening}
 use Rattle.core_state.specs.Steps.{state_after}
@@ -27,9 +26,9 @@ use Rattle.core_calls.specs.Runs.{EachTells, Tells}
 use Rattle.core_calls.specs.Steps.{hindered_in, is_conflict}
 use Rattle.core_disk.specs.Held.{HoldsRun}
 use Rattle.core_disk.specs.Shows.{EveryShown}
-use Rattle.disk_runs.specs.Masters.{IsNoEarlier}
+use Rattle.disk_runs.specs.Masters.{IsNoEarlier, IsOfRunBy}
 use Rattle.disk_runs.specs.Stands.{Known, Stands}
-use Rattle.engine_trait.specs.Calls.{Memory}
+use Rattle.engine_trait.specs.Calls.{IsOf, Memory}
 use Rattle.engine_trait.specs.Limits.{limits}
 use Rattle.run_crashes.specs.Lines.{NoneStopped, Recovers, RunLeft, next_of}
 use Rattle.run_crashes.proofs.ReopenLemmas.{every_reopened_for}
@@ -51,27 +50,27 @@ use Rattle.lean_shell.proofs.Runs.ScriptLemmas.{begins_line, same_line}
 pub data Moved (stop : Stop) (hand : Hand) (g : Opening) (group : ℕ) (xs : List Done) (c0 : Crash) (m : Master) (from now : Story) : Type 0 where
   InRun : LeavesOnly from now (RunLeft g NoneStopped xs c0 m) → Moved stop hand g group xs c0 m from now
   InRoom : stop ≡ stops.DiskFault → LeavesOnly from now (RunLeft g (StoppedIn g xs hand) xs c0 m) → Moved stop hand g group xs c0 m from now
-  InPart : (x : Done) → stop ≡ stops.DiskFault → asked x.outcome.deed ≡ hand.call → x.outcome.session ≡ hand.session → Tells limits g group xs x → LeavesOnly from now (RunLeft g NoneStopped (x ∷ xs) c0 m) → Moved stop hand g group xs c0 m from now
+  InPart : (x : Done) → stop ≡ stops.DiskFault → asked x.outcome.deed ≡ hand.call → x.outcome.session ≡ hand.session → Tells limits g group xs x → length x.events ≤ 2 ^ 18 → LeavesOnly from now (RunLeft g NoneStopped (x ∷ xs) c0 m) → Moved stop hand g group xs c0 m from now
 
-pub moved : (stop : Stop) (hand : Hand) (g : Opening) (group : ℕ) (xs : List Done) (c0 : Crash) (m : Master) (k : Known) (from now : Story) (memory : Memory) → DiskTo (Some stop) hand g group xs c0 m k from now memory → Moved stop hand g group xs c0 m from now
-moved stops.End hand g group xs c0 m k from now memory d = InRun d.runs.any_moment
-moved (stops.Refused line) hand g group xs c0 m k from now memory d = InRun d.runs.any_moment
-moved stops.ReadFault hand g group xs c0 m k from now memory d = InRun d.runs.any_moment
-moved stops.WriteFault hand g group xs c0 m k from now memory d = InRun d.any_moment
-moved stops.DiskFault hand g group xs c0 m k from now memory d = go d
+pub moved : (stop : Stop) (hand : Hand) (g : Opening) (group : ℕ) (xs : List Done) (last : List Event) (c0 : Crash) (m : Master) (k : Known) (from now : Story) (memory : Memory) → DiskTo (Some stop) hand g group xs last c0 m k from now memory → Moved stop hand g group xs c0 m from now
+moved stops.End hand g group xs last c0 m k from now memory d = InRun d.runs.any_moment
+moved (stops.Refused line) hand g group xs last c0 m k from now memory d = InRun d.runs.any_moment
+moved stops.ReadFault hand g group xs last c0 m k from now memory d = InRun d.runs.any_moment
+moved stops.WriteFault hand g group xs last c0 m k from now memory d = InRun d.any_moment
+moved stops.DiskFault hand g group xs last c0 m k from now memory d = go d
   where
     go : CallMissing g group xs hand c0 m from now → Moved stops.DiskFault hand g group xs c0 m from now
     go (Nothing l) = InRoom refl l
-    go (Part x is session tells l) = InPart x refl is session tells l
+    go (Part x is session tells few l) = InPart x refl is session tells few l
 
 -- the master of a fair image is of a run of this one
 left_counts : (g : Opening) (Such : List Done → List Event → Type 0) (xs : List Done) (c0 : Crash) (m : Master) (c : Crash) → RunLeft g Such xs c0 m c → CountsFrom g c0 m c
-left_counts g Such xs c0 m c q = λ fair. let r = q.recovers fair in (r.n, r.of_run, r.holds.master)
+left_counts g Such xs c0 m c q = λ fair. let r = q.recovers fair in (r.n, r.of_run.of_run, r.holds.master)
 
 pub counts_moved : (stop : Stop) (hand : Hand) (g : Opening) (group : ℕ) (xs : List Done) (c0 : Crash) (m : Master) (from now : Story) → Moved stop hand g group xs c0 m from now → LeavesOnly from now (CountsFrom g c0 m)
 counts_moved stop hand g group xs c0 m from now (InRun l) = weaker from now (RunLeft g NoneStopped xs c0 m) (CountsFrom g c0 m) (left_counts g NoneStopped xs c0 m) l
 counts_moved stop hand g group xs c0 m from now (InRoom e l) = weaker from now (RunLeft g (StoppedIn g xs hand) xs c0 m) (CountsFrom g c0 m) (left_counts g (StoppedIn g xs hand) xs c0 m) l
-counts_moved stop hand g group xs c0 m from now (InPart x e is session tells l) = weaker from now (RunLeft g NoneStopped (x ∷ xs) c0 m) (CountsFrom g c0 m) (left_counts g NoneStopped (x ∷ xs) c0 m) l
+counts_moved stop hand g group xs c0 m from now (InPart x e is session tells few l) = weaker from now (RunLeft g NoneStopped (x ∷ xs) c0 m) (CountsFrom g c0 m) (left_counts g NoneStopped (x ∷ xs) c0 m) l
 
 -- two facts of each moment
 pub both : (from now : Story) (P Q : Crash → Type 0) → LeavesOnly from now P → LeavesOnly from now Q → LeavesOnly from now (λ c. P c × Q c)
@@ -125,26 +124,30 @@ lines_with sessions input calls x l a = go (is_open_line (calls_of calls)) refl 
 -- ## The disk at the end
 
 -- unless the disk failed, it stands for all events
-pub record StandsNow (g : Opening) (xs : List Done) (c0 : Crash) (k : Known) (now : Story) : Type 0 where
+pub record StandsNow (g : Opening) (xs : List Done) (last : List Event) (c0 : Crash) (k : Known) (now : Story) (memory : Memory) : Type 0 where
   pub known : Known
   pub stands : Stands g (front xs) c0 known now
-  pub no_earlier : IsNoEarlier k.master known.master
+  pub memory_is : IsOf g memory known
+  pub no_earlier : IsNoEarlier last k.master known.master
 
-pub stands_now : (stop : Stop) (hand : Hand) (g : Opening) (group : ℕ) (xs : List Done) (c0 : Crash) (m : Master) (k : Known) (from now : Story) (memory : Memory) → (stop ≡ stops.DiskFault → ⊥) → DiskTo (Some stop) hand g group xs c0 m k from now memory → StandsNow g xs c0 k now
-stands_now stops.End hand g group xs c0 m k from now memory not_disk d = record { known = d.known; stands = d.runs.between.stands; no_earlier = d.no_earlier }
-stands_now (stops.Refused line) hand g group xs c0 m k from now memory not_disk d = record { known = d.known; stands = d.runs.between.stands; no_earlier = d.no_earlier }
-stands_now stops.ReadFault hand g group xs c0 m k from now memory not_disk d = record { known = d.known; stands = d.runs.between.stands; no_earlier = d.no_earlier }
-stands_now stops.WriteFault hand g group xs c0 m k from now memory not_disk d = record { known = d.known; stands = d.stands; no_earlier = d.no_earlier }
-stands_now stops.DiskFault hand g group xs c0 m k from now memory not_disk d = absurd (not_disk refl)
+pub stands_now : (stop : Stop) (hand : Hand) (g : Opening) (group : ℕ) (xs : List Done) (last : List Event) (c0 : Crash) (m : Master) (k : Known) (from now : Story) (memory : Memory) → (stop ≡ stops.DiskFault → ⊥) → DiskTo (Some stop) hand g group xs last c0 m k from now memory → StandsNow g xs last c0 k now memory
+stands_now stops.End hand g group xs last c0 m k from now memory not_disk d = record { known = d.known; stands = d.runs.between.stands; memory_is = d.memory_is; no_earlier = d.no_earlier }
+stands_now (stops.Refused line) hand g group xs last c0 m k from now memory not_disk d = record { known = d.known; stands = d.runs.between.stands; memory_is = d.memory_is; no_earlier = d.no_earlier }
+stands_now stops.ReadFault hand g group xs last c0 m k from now memory not_disk d = record { known = d.known; stands = d.runs.between.stands; memory_is = d.memory_is; no_earlier = d.no_earlier }
+stands_now stops.WriteFault hand g group xs last c0 m k from now memory not_disk d = record { known = d.known; stands = d.stands; memory_is = d.memory_is; no_earlier = d.no_earlier }
+stands_now stops.DiskFault hand g group xs last c0 m k from now memory not_disk d = absurd (not_disk refl)
 
 -- with these replies told, the first of the outcomes were heard
 pub record HeardNow (g : Opening) (calls : List Done) (told : List Reply) : Type 0 where
   pub unheard : List Done
   pub heard : List Done
   pub are : unheard ++ heard ≡ calls
+  -- at most one was not, and none if all lines were told
+  pub newest : (unheard ≡ []) ⊎ ((x : Done) × (unheard ≡ x ∷ []))
+  pub whole : length (printed g calls) ≤ length told → unheard ≡ []
   pub missing : List Name
   pub lines : durable_lines missing ++ told ≡ printed g heard
-  pub recovers : (shows : EveryShown) (crashes : EveryRunCrash) (agrees : EveryAgreement) (m n : Master) (area : ℕ → List ℕ) → IsOfRun m n → HoldsRun g (front calls) n area → Recovers g NoneStopped heard (next_of unheard) told m area
+  pub recovers : (shows : EveryShown) (crashes : EveryRunCrash) (agrees : EveryAgreement) (m n : Master) (area : ℕ → List ℕ) → IsOfRunBy (front calls) m n → HoldsRun g (front calls) n area → Recovers g NoneStopped heard (next_of unheard) told m area
 
 -- the lines of all calls but the last are told
 abbrev pub IsCutLast : Opening → List Done → List Reply → Type 0
@@ -156,6 +159,8 @@ heard_now g group [] newer told each e cut = record {
   unheard = [];
   heard = [];
   are = refl;
+  newest = inl refl;
+  whole = λ all. refl;
   missing = [];
   lines = none newer told e;
   recovers = λ shows crashes agrees m n area of_run h. (every_reopened_for shows crashes agrees NoneStopped limits g group [] m n area).behind [] told tt (none newer told e) of_run h;
@@ -168,6 +173,8 @@ heard_now g group (x ∷ earlier) newer told each e cut = ⊎_elim (λ l. record
   unheard = [];
   heard = x ∷ earlier;
   are = refl;
+  newest = inl refl;
+  whole = λ all. refl;
   missing = l.missing;
   lines = l.is;
   recovers = λ shows crashes agrees m n area of_run h. (every_reopened_for shows crashes agrees NoneStopped limits g group (x ∷ earlier) m n area).behind (durable_lines l.missing) told each l.is of_run h;
@@ -175,10 +182,18 @@ heard_now g group (x ∷ earlier) newer told each e cut = ⊎_elim (λ l. record
   unheard = x ∷ [];
   heard = earlier;
   are = refl;
+  newest = inr (x, refl);
+  whole = λ all. absurd (shorter l.0 l.1 all);
   missing = [];
   lines = same l.0 l.1;
   recovers = λ shows crashes agrees m n area of_run h. (every_reopened_for shows crashes agrees NoneStopped limits g group earlier m n area).between x x.events [] [] told each (append-nil x.events) (same l.0 l.1) of_run h;
 }) (lacks (due g (state_after g (front (x ∷ earlier))) (durables g (moments earlier))) x.outcome.session (answered x.outcome.deed) (printed g earlier) newer told e)
   where
+    shorter : (n : List Reply) → n ++ told ≡ printed g earlier → length (printed g (x ∷ earlier)) ≤ length told → ⊥
+    shorter n q all =
+        let a = length-append (durable_lines (due g (state_after g (front (x ∷ earlier))) (durables g (moments earlier)))) (Reply.Answered x.outcome.session (answered x.outcome.deed) ∷ printed g earlier) in
+        let b = prefix_few n told (printed g earlier) q in
+        omega (arith, a, b, all)
+
     same : (n : List Reply) → n ++ told ≡ printed g earlier → told ≡ printed g earlier
     same n q = same_prefix n told (printed g earlier) q (let a = prefix_few n told (printed g earlier) q in let b = cut in omega arith)

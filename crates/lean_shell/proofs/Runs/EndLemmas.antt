@@ -1,5 +1,5 @@
 -- How a run ends whose disk was not opened, or whose first line was cut off.
-use Rattle.std.proofs.Common.{◌≡◌, inl, inr, ◌<◌, ◌+◌, ℕ, List, IsTrue, drop, length, refl, sym, ◌∙◌, ap, subst, arith}
+use Rattle.std.proofs.Common.{◌≡◌, ◌<◌, ◌+◌, ℕ, List, Option, IsTrue, drop, length, refl, sym, ◌∙◌, ap, subst, arith}
 use Rattle.lean_disk.specs.Area.{Area}
 use Rattle.lean_disk.specs.Faults.{Rose}
 use Rattle.lean_disk.specs.Moments.{LeavesOnly}
@@ -18,6 +18,7 @@ use Rattle.recovery.specs.Crashes.{RecoveryLeaves}
 use Rattle.recovery.specs.Opened.{IsRefusal, IsUntouched, Keeps}
 use Rattle.recovery.specs.Telling.{TellsAll}
 use Rattle.recovery.specs.declared.opening.Unrecovered.{Unrecovered}
+use Rattle.core_calls.specs.Fronts.{Done}
 use Rattle.core_state.specs.Openings.{Opening}
 use Rattle.transcripts.specs.Laws.{EveryNotice, EveryTail}
 use Rattle.transcripts.specs.Told.{IsTail}
@@ -31,6 +32,7 @@ use Rattle.lean_shell.specs.Inside.Openings.{Refuses}
 use Rattle.lean_shell.specs.Inside.Lefts.{LivesOn}
 use Rattle.lean_shell.specs.Lines.{IsPut, line_of}
 use Rattle.lean_shell.specs.Runs.{Counts, IsFrom, first_line, notice_of, status_of}
+use Rattle.lean_shell.specs.Runs.HowRun.{OfCut, OfReason}
 use Rattle.lean_shell.proofs.Runs.LastLemmas.{PutText, put_text, went_out}
 use Rattle.lean_shell.proofs.Runs.MomentLemmas.{line_moments}
 use Rattle.lean_shell.proofs.Runs.NoteLemmas.{put_notes}
@@ -39,7 +41,7 @@ use Rattle.lean_shell.proofs.Runs.QuietLemmas.{master_leaves, run_leaves}
 
 -- ## A disk that was not opened, or a first line that was cut off
 
-module _ (size : Size) (notice_law : EveryNotice) (s0 old new : Story) (law : IsLawful old) (keeps : Keeps s0 old)
+module _ (size : Size) (AreIts : Opening → List Done → Option Done → Type 0) (notice_law : EveryNotice) (s0 old new : Story) (law : IsLawful old) (keeps : Keeps s0 old)
     (any : (m : Master) → TellsAll size.sessions s0 → IsCleanDisk m (areas_of s0) → LeavesOnly s0 old (RecoveryLeaves m s0)) (feed : Feed) (n : Notice) (fits : NoticeFits n) (answer : Put) (held0 held1 : Held)
     (p : IsPut (line_of n) answer held0 held1 old new) where
   abbrev pub line_text : PutText (line_of n) answer held0 held1
@@ -56,52 +58,54 @@ module _ (size : Size) (notice_law : EveryNotice) (s0 old new : Story) (law : Is
     later = let a = keeps.later in let b = notes_put.later in omega arith;
   }
 
-  pub line_leaves : (m : Master) → TellsCrashes size.sessions s0 → IsCleanDisk m (areas_of s0) → IsYoung m s0 → LeavesOnly s0 new (LivesOn size m s0 feed.left line_text.text)
-  line_leaves m all clean young = line_moments size m s0 old new clean young.notes feed.left line_text.text answer (any m all.all clean) law keeps.later keeps.notes p.noted p.same
+  pub line_leaves : (m : Master) → TellsCrashes size.sessions s0 → IsCleanDisk m (areas_of s0) → IsYoung m s0 → LeavesOnly s0 new (LivesOn size AreIts m s0 feed.left line_text.text)
+  line_leaves m all clean young = line_moments size AreIts m s0 old new clean young.notes feed.left line_text.text answer (any m all.all clean) law keeps.later keeps.notes p.noted p.same
       (notice_law (length m.heads) n feed.left 0 fits)
       (λ is. subst (λ (t : List ℕ). IsQuiet (length m.heads) feed.left (first_lines 1 t)) (sym (line_text.whole is)) (notice_law (length m.heads) n feed.left 1 fits))
 
-  pub line_masters : (m : Master) → TellsCrashes size.sessions s0 → IsCleanDisk m (areas_of s0) → IsYoung m s0 → LeavesOnly s0 new (MasterLeaves size m s0 feed.left line_text.text)
-  line_masters m all clean young = weaker s0 new (LivesOn size m s0 feed.left line_text.text) (MasterLeaves size m s0 feed.left line_text.text) (master_leaves size m s0 feed.left line_text.text) (line_leaves m all clean young)
+  pub line_masters : (m : Master) → TellsCrashes size.sessions s0 → IsCleanDisk m (areas_of s0) → IsYoung m s0 → LeavesOnly s0 new (MasterLeaves size AreIts m s0 feed.left line_text.text)
+  line_masters m all clean young = weaker s0 new (LivesOn size AreIts m s0 feed.left line_text.text) (MasterLeaves size AreIts m s0 feed.left line_text.text) (master_leaves size AreIts m s0 feed.left line_text.text) (line_leaves m all clean young)
 
   -- the line tells of no call
   pub line_says : EveryTail → TellsAll size.sessions s0 → Headline s0 new feed.left line_text.text
   line_says tail_law all = record {
     serial = λ m map won stands. subst (λ (j : Journal). Serial map j) (sym (ap journal (tail_law (length m.heads) feed.left line_text.text (subst IsTail (sym line_text.is_prefix) (notice_tail n fits line_text.prefix))))) tt;
-    any_moment = λ counts m clean young. weaker s0 new (LivesOn size m s0 feed.left line_text.text) (RunLeaves m s0 feed.left line_text.text) (run_leaves size m s0 feed.left line_text.text) (line_leaves m (record { all = all; counts = counts }) clean young);
+    any_moment = λ counts m clean young. weaker s0 new (LivesOn size AreIts m s0 feed.left line_text.text) (RunLeaves m s0 feed.left line_text.text) (run_leaves size AreIts m s0 feed.left line_text.text) (line_leaves m (record { all = all; counts = counts }) clean young);
   }
 
   pub line_headline : EveryTail → IsTrue held0.tells → TellsAll size.sessions s0 → Headline s0 new feed.left (added held0 held1)
   line_headline tail_law sink_tells all =
       subst (Headline s0 new feed.left) (sym (ap (drop (length held0.bytes)) (line_text.holds sink_tells) ∙ drop-append_seam held0.bytes line_text.text)) (line_says tail_law all)
 
+-- no script was executed
+abbrev NoCalls : Opening → List Done → Option Done → Type 0
+NoCalls opening heard next_one = ⊥
+
 pub refused_ends : (size : Size) → EveryNotice → EveryTail → (status : ℕ) (s0 old new : Story) → IsLawful old → Keeps s0 old → ((a : ℕ) → 1 + size.sessions < a → old.area a ≡ s0.area a)
     → ((m : Master) → TellsAll size.sessions s0 → IsCleanDisk m (areas_of s0) → LeavesOnly s0 old (RecoveryLeaves m s0)) → (feed : Feed) (reason : Unrecovered) → status ≡ status_of reason → Shows size.sessions s0 reason
     → (IsRefusal reason → (a : ℕ) → IsUntouched (s0.area a) (old.area a))
     → (held0 held1 : Held) (sink0 sink1 : ℕ) → Refuses reason held0 held1 sink0 sink1 old new → RunEnds size status s0 new feed feed held0 held1 sink0 sink1
 refused_ends size notice_law tail_law status s0 old new law keeps others any feed reason is shown left held0 held1 sink0 sink1 r =
-    let t = line_text size notice_law s0 old new law keeps any feed (notice_of reason) r.fits r.answer held0 held1 r.line in record {
+    let t = line_text size NoCalls notice_law s0 old new law keeps any feed (notice_of reason) r.fits r.answer held0 held1 r.line in record {
       put = t.text;
       holds = t.holds;
-      how = inl (
-        record {
-          reason = reason;
-          status_is = is;
-          shown = shown;
-          printed = went_out (line_of (notice_of reason)) t.text r.answer sink0 sink1 t.prefix t.is_prefix t.whole r.cause;
-          left = λ refused a. subst (λ (x : Area). IsUntouched (s0.area a) x) (sym ((put_notes old new r.answer r.line.noted r.line.same).area a)) (left refused a);
-        },
-        refl,
-      );
+      how = OfReason (
+          record {
+            reason = reason;
+            status_is = is;
+            shown = shown;
+            printed = went_out (line_of (notice_of reason)) t.text r.answer sink0 sink1 t.prefix t.is_prefix t.whole r.cause;
+            left = λ refused a. subst (λ (x : Area). IsUntouched (s0.area a) x) (sym ((put_notes old new r.answer r.line.noted r.line.same).area a)) (left refused a);
+          }) refl;
       others = λ a lt. (put_notes old new r.answer r.line.noted r.line.same).area a ∙ others a lt;
-      tells_on = line_on size notice_law s0 old new law keeps any feed (notice_of reason) r.fits r.answer held0 held1 r.line;
-      headline = λ tells. line_says size notice_law s0 old new law keeps any feed (notice_of reason) r.fits r.answer held0 held1 r.line tail_law;
-      masters = λ tells. line_masters size notice_law s0 old new law keeps any feed (notice_of reason) r.fits r.answer held0 held1 r.line;
+      tells_on = line_on size NoCalls notice_law s0 old new law keeps any feed (notice_of reason) r.fits r.answer held0 held1 r.line;
+      headline = λ tells. line_says size NoCalls notice_law s0 old new law keeps any feed (notice_of reason) r.fits r.answer held0 held1 r.line tail_law;
+      masters = λ tells. line_masters size NoCalls notice_law s0 old new law keeps any feed (notice_of reason) r.fits r.answer held0 held1 r.line;
     }
 
 pub refused_headline : (size : Size) → EveryNotice → EveryTail → (s0 old new : Story) → IsLawful old → Keeps s0 old → ((m : Master) → TellsAll size.sessions s0 → IsCleanDisk m (areas_of s0) → LeavesOnly s0 old (RecoveryLeaves m s0))
     → (feed : Feed) (reason : Unrecovered) (held0 held1 : Held) (sink0 sink1 : ℕ) → Refuses reason held0 held1 sink0 sink1 old new → IsTrue held0.tells → TellsAll size.sessions s0 → Headline s0 new feed.left (added held0 held1)
-refused_headline size notice_law tail_law s0 old new law keeps any feed reason held0 held1 sink0 sink1 r = line_headline size notice_law s0 old new law keeps any feed (notice_of reason) r.fits r.answer held0 held1 r.line tail_law
+refused_headline size notice_law tail_law s0 old new law keeps any feed reason held0 held1 sink0 sink1 r = line_headline size NoCalls notice_law s0 old new law keeps any feed (notice_of reason) r.fits r.answer held0 held1 r.line tail_law
 
 module _ (size : Size) (notice_law : EveryNotice) (s0 old new : Story) (law : IsLawful old) (keeps : Keeps s0 old) (any : (m : Master) → TellsAll size.sessions s0 → IsCleanDisk m (areas_of s0) → LeavesOnly s0 old (RecoveryLeaves m s0))
     (feed : Feed) (n : Counts) (fits : NoticeFits (Notice.Opened n.generation n.winners n.undone)) (held0 held1 : Held) (answer : Put) (p : IsPut (first_line n) answer held0 held1 old new) where
@@ -110,15 +114,15 @@ module _ (size : Size) (notice_law : EveryNotice) (s0 old new : Story) (law : Is
 
   pub cut_ends : EveryTail → ((a : ℕ) → 1 + size.sessions < a → old.area a ≡ s0.area a) → (g : Opening) → (TellsAll size.sessions s0 → IsFrom size.sessions g s0 n) → (sink0 sink1 : ℕ) → Rose sink0 sink1 → RunEnds size 5 s0 new feed feed held0 held1 sink0 sink1
   cut_ends tail_law others g from sink0 sink1 rose =
-      let t = line_text size notice_law s0 old new law keeps any feed opened fits answer held0 held1 p in record {
+      let t = line_text size NoCalls notice_law s0 old new law keeps any feed opened fits answer held0 held1 p in record {
         put = t.text;
         holds = t.holds;
-        how = inr (inl (record { status_is = refl; cause = rose; counts = n; opening = g; from = from; prefix = t.prefix; printed = t.is_prefix; unread = refl }));
+        how = OfCut (record { status_is = refl; cause = rose; counts = n; opening = g; from = from; prefix = t.prefix; printed = t.is_prefix; unread = refl });
         others = λ a lt. (put_notes old new answer p.noted p.same).area a ∙ others a lt;
-        tells_on = line_on size notice_law s0 old new law keeps any feed opened fits answer held0 held1 p;
-        headline = λ tells. line_says size notice_law s0 old new law keeps any feed opened fits answer held0 held1 p tail_law;
-        masters = λ tells. line_masters size notice_law s0 old new law keeps any feed opened fits answer held0 held1 p;
+        tells_on = line_on size NoCalls notice_law s0 old new law keeps any feed opened fits answer held0 held1 p;
+        headline = λ tells. line_says size NoCalls notice_law s0 old new law keeps any feed opened fits answer held0 held1 p tail_law;
+        masters = λ tells. line_masters size NoCalls notice_law s0 old new law keeps any feed opened fits answer held0 held1 p;
       }
 
   pub cut_headline : EveryTail → IsTrue held0.tells → TellsAll size.sessions s0 → Headline s0 new feed.left (added held0 held1)
-  cut_headline = line_headline size notice_law s0 old new law keeps any feed opened fits answer held0 held1 p
+  cut_headline = line_headline size NoCalls notice_law s0 old new law keeps any feed opened fits answer held0 held1 p

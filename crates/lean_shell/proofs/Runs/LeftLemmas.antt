@@ -1,9 +1,10 @@
 -- What a crash leaves in a run of outcomes, from what recovery gives of it.
-use Rattle.std.proofs.Common.{◌≡◌, ◌⊎◌, inl, inr, ⊎_elim, ◌<◌, ◌≤◌, ◌+◌, ◌^◌, ◌++◌, ◌==◌, ◌&&◌, ℕ, suc, leb, false, true, List, [], ◌∷◌, length, map, Option, Some, refl, sym, ◌∙◌, ap, ap₂, subst, arith, codes}
+use Rattle.std.proofs.Common.{◌≡◌, ◌⊎◌, inl, inr, ⊎_elim, ◌<◌, ◌≤◌, ◌+◌, ◌^◌, ◌++◌, ◌==◌, ◌&&◌, not, ℕ, suc, leb, false, true, List, [], ◌∷◌, length, map, Option, Some, refl, sym, ◌∙◌, ap, ap₂, subst, arith, codes}
 use mathlib.Core.Path.{fun_ext}
 use Rattle.std.proofs.lemmas.Bool.{and_parts, eqb-true, leb-true, or_cases}
+use Rattle.std.proofs.lemmas.List.{length-append}
 use Rattle.map_model.proofs.CountLemmas.{every_count}
-use Rattle.map_model.proofs.ListLemmas.{any_has, has_order}
+use Rattle.map_model.proofs.ListLemmas.{any_has, has_order, has_right, keep_has}
 use Rattle.map_model.specs.declared.call.Answered.{Answered}
 use Rattle.map_model.specs.declared.call.Answer.{Answer}
 use Rattle.map_model.specs.declared.call.Answer.TheVariants as answer
@@ -12,13 +13,13 @@ use Rattle.map_model.specs.Journals.{Serial, Txn, after, is_earlier, journal_of}
 use Rattle.map_model.specs.Lists.{Has, any}
 use Rattle.map_model.specs.Maps.{Map}
 use Rattle.map_model.specs.Outputs.{Reply, answers_told, names}
-use Rattle.map_model.specs.Pairings.{EachGoesOn, EachIsAnswered, answers_in, counted, in_turn, is_open_line}
+use Rattle.map_model.specs.Pairings.{EachGoesOn, EachIsAnswered, answers_in, counted, in_turn, is_open_line, script_of}
 use Rattle.map_model.specs.Transcripts as model
 use Rattle.map_model.specs.Transcripts.{Line, Told, journal, lines_in, lines_of, told_onto, txn_of}
 use Rattle.image_model.specs.Ends.{reach, wins}
-use Rattle.image_model.specs.Entries.{Contents, Entry, is_commit}
+use Rattle.image_model.specs.Entries.{Contents, Entry, is_commit, is_record}
 use Rattle.image_model.specs.Fair.{IsFair}
-use Rattle.image_model.specs.Images.{Image, found, map_of, won_by}
+use Rattle.image_model.specs.Images.{Image, found, map_of, page_or, won_by}
 use Rattle.image_model.specs.Slots.{base_of}
 use Rattle.lean_disk.specs.Area.{Leaves}
 use Rattle.lean_disk.specs.Story.{Crash, Story, areas_of}
@@ -40,29 +41,34 @@ use Rattle.core_crash.proofs.Images.{gathered_has}
 use Rattle.core_disk.specs.Held.{HoldsLog}
 use Rattle.core_state.specs.Steps.{state_after}
 use Rattle.disk_runs.specs.Fair.{EveryFair, IsAsRead, IsFairFrom}
-use Rattle.disk_runs.specs.Masters.{IsNoEarlier}
+use Rattle.disk_runs.specs.Masters.{IsNoEarlier, masters}
+use Rattle.disk_runs.proofs.LineLemmas.{every_master_count}
 use Rattle.run_crashes.specs.Lines.{FellIn, Between, InCall, Stopped, Recovers, RunLeft, next_of, outcome_of}
 use Rattle.engine_trait.specs.Calls.{Memory}
 use Rattle.engine_trait.specs.Limits.{limits}
 use Rattle.lean_engine.specs.declared.engine.Size.{Size}
 use Rattle.script_lang.specs.Replies.{reply_line}
 use Rattle.script_lang.specs.Text.{script_lines}
-use Rattle.transcripts.specs.Told.{IsOutput}
+use Rattle.transcripts.specs.Told.{EachLineFits, IsOutput, asked_lines}
 use Rattle.transcripts.specs.Transcripts.{asked as asked_by, durables, first_lines, transcript}
 use Rattle.transcripts.proofs.AbortLemmas.{lines_more}
 use Rattle.transcripts.proofs.MoreLemmas.{next_told}
 use Rattle.transcripts.proofs.OrderLemmas.{all_count}
 use Rattle.transcripts.proofs.TranscriptLemmas.{calls_told, names_told}
+use Rattle.lean_shell.specs.Crashes.{IsNear}
 use Rattle.lean_shell.specs.Headline.{IsInHand, Survives}
 use Rattle.lean_shell.specs.Inside.Begins.{Begins}
 use Rattle.lean_shell.specs.Inside.Laws.{Laws}
 use Rattle.lean_shell.specs.Inside.Lefts.{IsSameBut, Lives}
 use Rattle.lean_shell.specs.Starts.{HasLinesFor, IsLeft, IsOfSize, IsRoomOfNext}
+use Rattle.lean_shell.proofs.Runs.BeginLemmas.{one_greatest}
 use Rattle.lean_shell.proofs.Runs.BelowLemmas.{commit_above}
+use Rattle.lean_shell.proofs.Runs.ClockLemmas.{goes_to}
 use Rattle.lean_shell.proofs.Runs.CountLemmas.{commit_closed}
 use Rattle.lean_shell.proofs.Runs.FoundLemmas.{IsBounded, bounded}
+use Rattle.lean_shell.proofs.Runs.NearLemmas.{front_few, greatest_most}
 use Rattle.lean_shell.proofs.Runs.PrintedLemmas.{HasOutcome, IsNext, answers_heard, goes_on, next_behind, next_is, tells_first, with_outcome}
-use Rattle.lean_shell.proofs.Runs.ScriptLemmas.{answered_by, answered_first, first_lines_for}
+use Rattle.lean_shell.proofs.Runs.ScriptLemmas.{answered_by, answered_first, comes_behind, first_lines_for}
 use Rattle.script_run.specs.Runs.{calls_of}
 
 -- ## The transaction in hand
@@ -94,12 +100,16 @@ abbrev pub CountsFrom : Opening → Crash → Master → Crash → Type 0
 CountsFrom g s0 n1 c = IsFairFrom g.workers s0 c → (n : Master) × IsOfRun n1 n × (master_on (c.image 0) ≡ Some n)
 
 -- A crash of a run of these outcomes, with another count of notes: as so many lines of an output were out, which have the lines that were out in the run.
-pub record WasOut (Such Then : List Done → List Event → Type 0) (g : Opening) (xs : List Done) (c0 : Crash) (m n1 : Master) (s0 sa : Story) (input put : List ℕ) (generation winners undone : ℕ) (d : Crash) : Type 0 where
+pub record WasOut (Such Then : List Done → List Event → Type 0) (AreIts : Opening → List Done → Option Done → Type 0) (g : Opening) (xs : List Done) (c0 : Crash) (m n1 : Master) (s0 sa : Story) (input put : List ℕ) (generation winners undone : ℕ) (d : Crash) : Type 0 where
   pub crash : Crash
   pub left : RunLeft g Such xs c0 m crash
   -- where a call was not answered all others were heard, and what it did is such
   pub so : (es : List Event) → Such left.heard es → Then left.heard es
   pub alone : (es : List Event) → Such left.heard es → left.unheard ≡ []
+  pub its : AreIts g left.heard (next_of left.unheard)
+  -- there are few events, and few of a call that was not answered
+  pub few : length (front xs) ≤ 2 ^ 59
+  pub so_few : (es : List Event) → Such left.heard es → length es ≤ 2 ^ 18
   pub counts : CountsFrom g c0 n1 crash
   pub pages : Leaves (sa.area 1) (crash.image 1)
   pub same : IsSameBut crash d
@@ -109,7 +119,7 @@ pub record WasOut (Such Then : List Done → List Event → Type 0) (g : Opening
   pub script : HasLinesFor g.workers input xs
 
 module _ (size : Size) (laws : Laws) (m : Master) (s0 sa : Story) (g : Opening) (first : Memory) (few : size.sessions ≤ 16) (of_size : IsOfSize size g) (b : Begins m s0 sa g first) (xs : List Done) (each : EachTells limits g size.group xs) (c0 : Crash)
-    (input put : List ℕ) (generation winners undone : ℕ) (d : Crash) (Such : List Done → List Event → Type 0) (Then : Opening → List Done → List Event → Type 0) (o : WasOut Such (Then g) g xs c0 m first.master s0 sa input put generation winners undone d) where
+    (input put : List ℕ) (generation winners undone : ℕ) (d : Crash) (Such : List Done → List Event → Type 0) (Then : Opening → List Done → List Event → Type 0) (AreIts : Opening → List Done → Option Done → Type 0) (o : WasOut Such (Then g) AreIts g xs c0 m first.master s0 sa input put generation winners undone d) where
   abbrev q : RunLeft g Such xs c0 m o.crash
   q = o.left
 
@@ -166,6 +176,10 @@ module _ (size : Size) (laws : Laws) (m : Master) (s0 sa : Story) (g : Opening) 
       }
 
   module _ (r : Recovers g Such o.left.heard (next_of o.left.unheard) o.left.out m o.crash.image) (at_first : (n : Master) × IsOfRun first.master n × (master_on (o.crash.image 0) ≡ Some n)) where
+    -- the events behind which it counts
+    abbrev by : List Event
+    by = front o.left.heard ++ r.behind
+
     -- the master that counts is that of the opening, or a later one
     of_first : IsOfRun first.master r.n
     of_first = subst (IsOfRun first.master) (some_is at_first.0 r.n (sym at_first.2 ∙ r.holds.master)) at_first.1
@@ -175,10 +189,13 @@ module _ (size : Size) (laws : Laws) (m : Master) (s0 sa : Story) (g : Opening) 
 
     generation_is : r.n.generation ≡ first.master.generation
     generation_is = let e = next_generation in
-        ⊎_elim (λ p. p) (λ p. ⊎_elim (λ s. absurd (omega (arith, p, s, e))) (λ s. s ∙ sym e) r.of_run.generation) of_first.generation
+        ⊎_elim (λ p. p) (λ p. ⊎_elim (λ s. absurd (omega (arith, p, s, e))) (λ s. s ∙ sym e) r.of_run.of_run.generation) of_first.generation
 
-    later : IsNoEarlier first.master r.n
-    later = record { sequence = of_first.sequence; generation = generation_is; pages = of_first.pages; blocks = of_first.blocks; logs = of_first.logs }
+    most : r.n.sequence ≤ first.master.sequence + masters by
+    most = let q = r.of_run.most in let u = generation_is in let v = next_generation in let w : first.master.sequence ≡ suc m.sequence = ap (λ (x : Master). x.sequence) b.next.is in omega arith
+
+    later : IsNoEarlier (front o.left.heard ++ r.behind) first.master r.n
+    later = record { sequence = of_first.sequence; most = most; generation = generation_is; pages = of_first.pages; blocks = of_first.blocks; logs = of_first.logs }
 
     abbrev image : Image
     image = image_by r.n o.crash.image
@@ -310,14 +327,25 @@ module _ (size : Size) (laws : Laws) (m : Master) (s0 sa : Story) (g : Opening) 
           next_told laws.back laws.quiet (length m.heads) generation winners undone x said o.left.out input put o.lines in_order (omega (arith, p, w, f, few), (z.bounds.txn, z.bounds.number)) answers_are o.output
           ∙ all_count (x ∷ said) goes refl
 
+      next_lines : HasLinesFor (length m.heads) input (nx.done ∷ o.left.heard)
+      next_lines = first_lines_for (length m.heads) input comes.0 (nx.done ∷ o.left.heard) xs behind_heard script
+
+      comes_next : asked_by (length m.heads) (script_lines input) ≡ script_of said ++ (end_of.end.log, call.Commit) ∷ asked_by (length m.heads) next_lines.others
+      comes_next = comes_behind (length m.heads) input x said next_lines.others many closed (subst (λ (y : Answered). EachLineFits (length m.heads) (script_of (y ∷ said))) next_words next_lines.fits)
+          (next_lines.lines ∙ ap (λ (y : Answered). asked_lines (script_of (y ∷ said)) ++ next_lines.others) next_words)
+
       in_hand : IsInHand (length m.heads) input out (found image) r.by_then
       in_hand = record {
         end = end_of.end;
         has = end_of.has;
         commit = end_of.commit;
+        calls = said;
+        told = told_is ∙ all_count_now;
+        others = asked_by (length m.heads) next_lines.others;
+        comes = comes_next;
         reply = reply_line (Reply.Answered end_of.end.log a);
         reply_is = refl;
-        next = more_is ∙ ap (λ (ts : List Answered). ts ++ x ∷ []) (sym (told_is ∙ all_count_now));
+        next = more_is;
         all_is = k.all ∙ (ap (λ (z : Answered). journal (in_turn said ++ z ∷ [])) words_are ∙ ap journal (sym more_is));
       }
 
@@ -330,25 +358,6 @@ module _ (size : Size) (laws : Laws) (m : Master) (s0 sa : Story) (g : Opening) 
     -- with the bytes of the crash
     abbrev with_bytes : Areas → Crash
     with_bytes i = record d { image = i }
-
-    survives : Survives m s0 input put (with_bytes o.crash.image)
-    survives = record {
-      lines = o.lines;
-      notes = o.notes;
-      n = r.n;
-      of_run = r.of_run;
-      by_then = r.by_then;
-      by_then_is = by_then_is;
-      falls = r.falls;
-      serial = subst (λ (mp : Map). Serial mp r.by_then) maps r.serial;
-      numbers = r.numbers;
-      kept_ones = r.kept_ones;
-      kept_is = r.kept_is;
-      closed = r.closed;
-      reported = λ name i. r.reported name (subst (Has name) durables_are i);
-      clean = r.clean;
-      stands = subst (λ (mp : Map). DiskStandsFor r.n o.crash.image (after mp r.kept_ones) (won_by (image_by r.n o.crash.image))) maps r.stands;
-    }
 
     -- a page's base shows by generation, number of pages and bytes
     abbrev base_at : (generation pages p : ℕ) → List ℕ → Option Contents
@@ -365,13 +374,13 @@ module _ (size : Size) (laws : Laws) (m : Master) (s0 sa : Story) (g : Opening) 
     fell_then (InCall y e after is) = InCall y e after is
     fell_then (Stopped such) = Stopped (o.so r.behind such)
 
-    left : IsLeft size Then m s0 input put (with_bytes o.crash.image)
+    left : IsLeft size Then AreIts m s0 input put (with_bytes o.crash.image)
     left = record {
       lines = o.lines;
       notes = o.notes;
       n = r.n;
       counts = r.holds.master;
-      of_opening = record { first = first.master; next = b.next; later = later };
+      of_opening = record { first = first.master; next = b.next; events = by; later = later };
       opening = g;
       starts = b.starts;
       of_size = of_size;
@@ -388,26 +397,95 @@ module _ (size : Size) (laws : Laws) (m : Master) (s0 sa : Story) (g : Opening) 
         lines = first_lines_for g.workers input n.0 (x ∷ o.left.heard) xs behind o.script;
         tells = (tells_first g size.group n.0 (x ∷ o.left.heard) (subst (EachTells limits g size.group) (sym behind) each)).1;
       };
+      its = o.its;
       behind = r.behind;
       fell = fell_then r.fell;
-      logs = λ w low high. let h = r.holds.logs w low (let e = workers_are in omega arith) in record { newer = h.holds.prefix.0; left = h.left; logged = h.holds.prefix.1; are = h.holds.entries };
+      written = refl;
+      floor = r.holds.is.floor;
+      logs = λ w low high. let h = r.holds.logs w low (let e = workers_are in omega arith) in record { newer = h.holds.prefix.0; left = h.left; logged = h.holds.prefix.1; flushed = h.holds.flushed; are = h.holds.entries };
     }
 
-    pub left_there : IsLeft size Then m s0 input put d
-    left_there = subst (λ (i : Areas). IsLeft size Then m s0 input put (with_bytes i)) (sym (fun_ext o.same.image)) left
+    -- ## Numbers
+
+    events_few : length by ≤ 2 ^ 59 + 2 ^ 18
+    events_few = go r.fell
+      where
+        all : length (front xs) ≤ 2 ^ 59
+        all = o.few
+
+        parts : length by ≡ length (front o.left.heard) + length r.behind
+        parts = length-append (front o.left.heard) r.behind
+
+        go : FellIn (Such o.left.heard) (next_of o.left.unheard) r.behind → length by ≤ 2 ^ 59 + 2 ^ 18
+        go (Between e) = let a = front_few o.left.unheard o.left.heard xs o.left.calls in let b = ap (λ (es : List Event). length es) e in let c = all in let d = parts in omega arith
+        go (InCall y e after is) =
+            let n = next_is o.left.unheard y e in
+            let a = front_few n.0 (y ∷ o.left.heard) xs (next_behind o.left.unheard o.left.heard xs y o.left.calls n) in
+            let b = length-append (front o.left.heard) y.events in
+            let c = ap (λ (es : List Event). length es) is in
+            let d = length-append r.behind after in
+            let e = all in let h = parts in
+            omega arith
+        go (Stopped such) = let a = front_few o.left.unheard o.left.heard xs o.left.calls in let b = o.so_few r.behind such in let c = all in let d = parts in omega arith
+
+    -- a record that is found is one of the run's
+    found_low : (e : Entry) → Has e (found image) → e.number ≤ g.base + length by
+    found_low e i =
+        let w = gathered_has image.log image.logs e i in
+        let high : w.0 ≤ g.workers = let a = r.holds.is.logs in let c = w.1.1 in omega arith in
+        let h : HoldsLog g (state_after g by) r.n w.0 (o.crash.image (suc w.0)) = r.holds.logs w.0 w.1.0 high in
+        let own = (keep_has (λ z. not (leb z.number ((state_after g by).head w.0))) h.left e (subst (Has e) h.holds.entries w.2)).0 in
+        let there = subst (Has e) h.holds.prefix.1 (has_right e h.holds.prefix.0 h.left own) in
+        (goes_to g by).entered e (keep_has (λ z. is_record z.kind && (z.log == w.0)) (state_after g by).entries e there).0
+
+    near : IsNear m s0 r.n o.crash.image
+    near = record {
+      sequence = let q = most in let u = (every_master_count by []).few in let v = events_few in let w : first.master.sequence ≡ suc m.sequence = ap (λ (x : Master). x.sequence) b.next.is in omega arith;
+      greatest = λ low high l h.
+          let base : g.base ≡ low = one_greatest (image_by m (areas_of s0)) g.base low b.starts.base l in
+          let v = events_few in
+          let floor = r.holds.is.floor in
+          let own = (goes_to g by).floor in
+          let top : high ≤ g.base + length by = greatest_most image high (g.base + length by) h (omega (arith, floor, own)) found_low
+          (λ p within. let e = ap (λ o. (page_or o).gsn) (base_is p within) in let d = g.low p in omega arith) in
+          omega (arith, top, base, v);
+    }
+
+    survives : Survives m s0 input put (with_bytes o.crash.image)
+    survives = record {
+      lines = o.lines;
+      notes = o.notes;
+      n = r.n;
+      of_run = r.of_run.of_run;
+      near = near;
+      by_then = r.by_then;
+      by_then_is = by_then_is;
+      falls = r.falls;
+      serial = subst (λ (mp : Map). Serial mp r.by_then) maps r.serial;
+      numbers = r.numbers;
+      kept_ones = r.kept_ones;
+      kept_is = r.kept_is;
+      closed = r.closed;
+      reported = λ name i. r.reported name (subst (Has name) durables_are i);
+      clean = r.clean;
+      stands = subst (λ (mp : Map). DiskStandsFor r.n o.crash.image (after mp r.kept_ones) (won_by (image_by r.n o.crash.image))) maps r.stands;
+    }
+
+    pub left_there : IsLeft size Then AreIts m s0 input put d
+    left_there = subst (λ (i : Areas). IsLeft size Then AreIts m s0 input put (with_bytes i)) (sym (fun_ext o.same.image)) left
 
     pub survives_there : Survives m s0 input put d
     survives_there = subst (λ (i : Areas). Survives m s0 input put (with_bytes i)) (sym (fun_ext o.same.image)) survives
 
 -- where a call may have been stopped
 module _ (size : Size) (laws : Laws) (m : Master) (s0 sa : Story) (g : Opening) (first : Memory) (few : size.sessions ≤ 16) (of_size : IsOfSize size g) (b : Begins m s0 sa g first) (xs : List Done) (each : EachTells limits g size.group xs) (c0 : Crash)
-    (input put : List ℕ) (generation winners undone : ℕ) (d : Crash) (Such : List Done → List Event → Type 0) (o : WasOut Such (IsRoomOfNext input g) g xs c0 m first.master s0 sa input put generation winners undone d) where
-  pub lives_as : EveryFair s0 → IsAsRead s0 c0 → IsFairCrash (length m.heads) s0 d → Lives size m s0 input put d
+    (input put : List ℕ) (generation winners undone : ℕ) (d : Crash) (Such : List Done → List Event → Type 0) (AreIts : Opening → List Done → Option Done → Type 0) (o : WasOut Such (IsRoomOfNext input g) AreIts g xs c0 m first.master s0 sa input put generation winners undone d) where
+  pub lives_as : EveryFair s0 → IsAsRead s0 c0 → IsFairCrash (length m.heads) s0 d → Lives size AreIts m s0 input put d
   lives_as fair_law read fair =
-      let f = fair_from size laws m s0 sa g first few of_size b xs each c0 input put generation winners undone d Such (IsRoomOfNext input) o fair_law read fair in
+      let f = fair_from size laws m s0 sa g first few of_size b xs each c0 input put generation winners undone d Such (IsRoomOfNext input) AreIts o fair_law read fair in
       let r = o.left.recovers f in
-      let l = left_there size laws m s0 sa g first few of_size b xs each c0 input put generation winners undone d Such (IsRoomOfNext input) o r (o.counts f) in
+      let l = left_there size laws m s0 sa g first few of_size b xs each c0 input put generation winners undone d Such (IsRoomOfNext input) AreIts o r (o.counts f) in
       record {
-        survives = survives_there size laws m s0 sa g first few of_size b xs each c0 input put generation winners undone d Such (IsRoomOfNext input) o r (o.counts f);
+        survives = survives_there size laws m s0 sa g first few of_size b xs each c0 input put generation winners undone d Such (IsRoomOfNext input) AreIts o r (o.counts f);
         master = record { n = l.n; counts = l.counts; is = inr l.of_opening; left = inr l };
       }

@@ -1,5 +1,5 @@
 -- Moments of a run: a line is put after other calls.
-use Rattle.std.proofs.Common.{◌≡◌, inl, inr, ◌≤◌, ◌<◌, ◌+◌, ◌-◌, ◌^◌, ℕ, List, length, min, refl, sym, ◌∙◌, ap, subst, arith}
+use Rattle.std.proofs.Common.{◌≡◌, inl, inr, ◌≤◌, ◌<◌, ◌+◌, ◌-◌, ◌^◌, ℕ, List, length, min, Option, refl, sym, ◌∙◌, ap, subst, arith}
 use Rattle.lean_disk.specs.Area.{Area, Leaves}
 use Rattle.lean_disk.specs.Calls.{Noted}
 use Rattle.lean_disk.specs.Moments.{LeavesOnly}
@@ -9,6 +9,8 @@ use Rattle.lean_disk.proofs.MomentLemmas.{goes_on_by, weaker, started}
 use Rattle.lean_edge.specs.declared.sink.Put.{Put}
 use Rattle.lean_edge.specs.declared.sink.Put.TheVariants.{Done, Failed}
 use Rattle.disk_slots.specs.declared.master.Master.{Master}
+use Rattle.core_calls.specs.Fronts.{Done as DoneCall}
+use Rattle.core_state.specs.Openings.{Opening}
 use Rattle.disk_image.specs.Shown.{IsCleanDisk}
 use Rattle.recovery.specs.Crashes.{RecoveryLeaves}
 use Rattle.transcripts.specs.Transcripts.{first_lines, IsQuiet}
@@ -52,21 +54,21 @@ recovery_notes m s c (inr l) = l.notes
 
 -- ## A line that answers no call, after an opening or before it
 
-module _ (size : Size) (m : Master) (s0 old new : Story) (clean : IsCleanDisk m (areas_of s0)) (few : s0.notes < 2 ^ 62) (input put : List ℕ) (answer : Put)
+module _ (size : Size) (AreIts : Opening → List DoneCall → Option DoneCall → Type 0) (m : Master) (s0 old new : Story) (clean : IsCleanDisk m (areas_of s0)) (few : s0.notes < 2 ^ 62) (input put : List ℕ) (answer : Put)
     (run : LeavesOnly s0 old (RecoveryLeaves m s0)) (law : IsLawful old) (later : s0.moment ≤ old.moment) (notes : old.notes ≡ s0.notes)
     (noted : answer ≡ Done → Noted old new) (same : answer ≡ Failed → TellsSame old new)
     (none : IsQuiet (length m.heads) input (first_lines 0 put)) (one : answer ≡ Done → IsQuiet (length m.heads) input (first_lines 1 put)) where
-  before : (c : Crash) → RecoveryLeaves m s0 c → LivesOn size m s0 input put c
-  before c r = quiet_leaves size m s0 clean input put 0 none c c (record { writes = λ a. refl; image = λ a. refl }) (let e = recovery_notes m s0 c r in omega arith) r
+  before : (c : Crash) → RecoveryLeaves m s0 c → LivesOn size AreIts m s0 input put c
+  before c r = quiet_leaves size AreIts m s0 clean input put 0 none c c (record { writes = λ a. refl; image = λ a. refl }) (let e = recovery_notes m s0 c r in omega arith) r
 
-  after : (r : Put) → answer ≡ r → (c : Crash) → LeavesNow new c → RecoveryLeaves m s0 (then old c) → LivesOn size m s0 input put c
-  after Done is c now r = quiet_leaves size m s0 clean input put 1 (one is) (then old c) c (same_but old c)
+  after : (r : Put) → answer ≡ r → (c : Crash) → LeavesNow new c → RecoveryLeaves m s0 (then old c) → LivesOn size AreIts m s0 input put c
+  after Done is c now r = quiet_leaves size AreIts m s0 clean input put 1 (one is) (then old c) c (same_but old c)
       (let e = noted_more old new (noted is) c now (let n = notes in omega arith) in let n = notes in omega arith) r
-  after Failed is c now r = quiet_leaves size m s0 clean input put 0 none (then old c) c (same_but old c)
+  after Failed is c now r = quiet_leaves size AreIts m s0 clean input put 0 none (then old c) c (same_but old c)
       (let e = (same is).notes in let f = now.notes in let n = notes in omega arith) r
 
-  pub line_moments : LeavesOnly s0 new (LivesOn size m s0 input put)
-  line_moments = put_moments s0 old new (RecoveryLeaves m s0) (LivesOn size m s0 input put) run before law later (put_notes old new answer noted same) (after answer refl)
+  pub line_moments : LeavesOnly s0 new (LivesOn size AreIts m s0 input put)
+  line_moments = put_moments s0 old new (RecoveryLeaves m s0) (LivesOn size AreIts m s0 input put) run before law later (put_notes old new answer noted same) (after answer refl)
 
 -- before the first call
 pub unmoved : (m : Master) (s : Story) → IsLawful s → LeavesOnly s s (RecoveryLeaves m s)

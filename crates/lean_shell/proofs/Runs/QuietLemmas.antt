@@ -1,5 +1,5 @@
 -- What a crash leaves of a disk of a run before a call is answered.
-use Rattle.std.proofs.Common.{◌≡◌, ◌⊎◌, inl, inr, ⊎_elim, ◌+◌, ℕ, suc, List, [], length, Some, refl, sym, ◌∙◌, ap, subst, arith, codes}
+use Rattle.std.proofs.Common.{◌≡◌, ◌⊎◌, inl, inr, ⊎_elim, ◌+◌, ℕ, suc, List, [], length, Option, Some, refl, sym, ◌∙◌, ap, subst, arith, codes}
 use mathlib.Core.Path.{fun_ext}
 use Rattle.map_model.specs.Lists.{Has}
 use Rattle.map_model.specs.Transcripts as model
@@ -9,6 +9,8 @@ use Rattle.lean_disk.specs.Area.{Leaves}
 use Rattle.lean_disk.specs.Moments.{AsAt}
 use Rattle.lean_disk.specs.Story.{Crash, Story, areas_of}
 use Rattle.disk_slots.specs.declared.master.Master.{Master}
+use Rattle.core_calls.specs.Fronts.{Done}
+use Rattle.core_state.specs.Openings.{Opening}
 use Rattle.disk_image.specs.Fair.{IsFairCrash}
 use Rattle.disk_image.specs.Masters.{IsOfRun}
 use Rattle.disk_image.specs.MasterSlots.{master_on}
@@ -21,19 +23,20 @@ use Rattle.lean_shell.specs.Headline.{RunLeaves}
 use Rattle.lean_shell.specs.Starts.{IsOfOpening}
 use Rattle.lean_engine.specs.declared.engine.Size.{Size}
 use Rattle.lean_shell.specs.Inside.Lefts.{IsSameBut, Lives, LivesOn}
+use Rattle.lean_shell.proofs.Runs.NearLemmas.{near_still}
 
-pub run_leaves : (size : Size) (m : Master) (s : Story) (input put : List ℕ) (c : Crash) → LivesOn size m s input put c → RunLeaves m s input put c
-run_leaves size m s input put c (inl u) = inl u
-run_leaves size m s input put c (inr l) = inr (λ fair. (l fair).survives)
+pub run_leaves : (size : Size) (AreIts : Opening → List Done → Option Done → Type 0) (m : Master) (s : Story) (input put : List ℕ) (c : Crash) → LivesOn size AreIts m s input put c → RunLeaves m s input put c
+run_leaves size AreIts m s input put c (inl u) = inl u
+run_leaves size AreIts m s input put c (inr l) = inr (λ fair. (l fair).survives)
 
-pub master_leaves : (size : Size) (m : Master) (s : Story) (input put : List ℕ) (c : Crash) → LivesOn size m s input put c → MasterLeaves size m s input put c
-master_leaves size m s input put c (inl u) = inl u
-master_leaves size m s input put c (inr l) = inr (λ fair. (l fair).master)
+pub master_leaves : (size : Size) (AreIts : Opening → List Done → Option Done → Type 0) (m : Master) (s : Story) (input put : List ℕ) (c : Crash) → LivesOn size AreIts m s input put c → MasterLeaves size AreIts m s input put c
+master_leaves size AreIts m s input put c (inl u) = inl u
+master_leaves size AreIts m s input put c (inr l) = inr (λ fair. (l fair).master)
 
 -- what the disk shows is by the same master or the one of the opening
 made_of : (m n : Master) (area image : Areas) → ShowsStill m area n image → (n ≡ m) ⊎ IsOfOpening m area n
 made_of m n area image (inl same) = inl same.0
-made_of m n area image (inr next) = inr (record { first = n; next = next.is; later = record { sequence = omega arith; generation = refl; pages = refl; blocks = refl; logs = refl } })
+made_of m n area image (inr next) = inr (record { first = n; next = next.is; events = []; later = record { sequence = omega arith; most = omega arith; generation = refl; pages = refl; blocks = refl; logs = refl } })
 
 -- the next master is of the run that began with the other
 of_run : (m n : Master) → IsSameOrNext m n → IsOfRun m n
@@ -42,7 +45,7 @@ of_run m n same = ⊎_elim
     (λ (e : (n.sequence ≡ suc m.sequence) × (n.generation ≡ suc m.generation)). record { pages = same.pages; blocks = same.blocks; logs = same.logs; generation = inr e.1; sequence = let q : n.sequence ≡ suc m.sequence = e.0 in omega arith })
     same.numbers
 
-module _ (size : Size) (m : Master) (s : Story) (clean : IsCleanDisk m (areas_of s)) (input put : List ℕ) (lines : ℕ) (quiet : IsQuiet (length m.heads) input (first_lines lines put)) where
+module _ (size : Size) (AreIts : Opening → List Done → Option Done → Type 0) (m : Master) (s : Story) (clean : IsCleanDisk m (areas_of s)) (input put : List ℕ) (lines : ℕ) (quiet : IsQuiet (length m.heads) input (first_lines lines put)) where
   unwritten : (c d : Crash) → IsSameBut c d → d.notes ≡ s.notes + lines → AsAt s c → IsUnwritten m s input put d
   unwritten c d same notes at = record {
     lines = lines;
@@ -52,7 +55,7 @@ module _ (size : Size) (m : Master) (s : Story) (clean : IsCleanDisk m (areas_of
     leaves = λ a told. subst (Leaves (s.area a)) (sym (same.image a)) (at.leaves a told);
   }
 
-  lasts : (c d : Crash) → IsSameBut c d → d.notes ≡ s.notes + lines → Lasts m s c → IsFairCrash (length m.heads) s d → Lives size m s input put d
+  lasts : (c d : Crash) → IsSameBut c d → d.notes ≡ s.notes + lines → Lasts m s c → IsFairCrash (length m.heads) s d → Lives size AreIts m s input put d
   lasts c d same notes l fair =
       let masters = fair.masters l.masters (same.writes 0 ∙ l.masters_are) in
       let pages = fair.pages l.pages (same.writes 1 ∙ l.pages_are) in
@@ -72,6 +75,7 @@ module _ (size : Size) (m : Master) (s : Story) (clean : IsCleanDisk m (areas_of
           numbers = λ r has commit u there. absurd there;
           n = still.next;
           of_run = of_run m still.next still.same;
+          near = near_still m s d still.next still.same (subst (λ (i : Areas). ShowsStill m (areas_of s) still.next i) (sym images) still.shows);
           clean = subst (IsCleanDisk still.next) (sym images) still.clean;
           kept_ones = [];
           kept_is = refl;
@@ -86,6 +90,6 @@ module _ (size : Size) (m : Master) (s : Story) (clean : IsCleanDisk m (areas_of
         };
       }
 
-  pub quiet_leaves : (c d : Crash) → IsSameBut c d → d.notes ≡ s.notes + lines → RecoveryLeaves m s c → LivesOn size m s input put d
+  pub quiet_leaves : (c d : Crash) → IsSameBut c d → d.notes ≡ s.notes + lines → RecoveryLeaves m s c → LivesOn size AreIts m s input put d
   quiet_leaves c d same notes (inl at) = inl (unwritten c d same notes at)
   quiet_leaves c d same notes (inr l) = inr (lasts c d same notes l)

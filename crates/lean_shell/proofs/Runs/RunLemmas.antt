@@ -1,5 +1,5 @@
 -- A script that was executed on a disk that was opened.
-use Rattle.std.proofs.Common.{◌≡◌, inl, inr, ⊎_elim, ◌≤◌, ◌<◌, ◌+◌, ◌-◌, ◌^◌, ◌++◌, ℕ, suc, List, [], ◌∷◌, length, drop, min, true, Some, IsTrue, refl, sym, ◌∙◌, ap, subst, arith}
+use Rattle.std.proofs.Common.{◌≡◌, inl, inr, ⊎_elim, ◌≤◌, ◌<◌, ◌+◌, ◌-◌, ◌^◌, ◌++◌, ℕ, suc, List, [], ◌∷◌, length, drop, min, true, Option, Some, IsTrue, refl, sym, ◌∙◌, ap, subst, arith}
 use Rattle.std.proofs.lemmas.List.{append-nil, length-append}
 use mathlib.Core.List.{append_assoc}
 use mathlib.Core.Path.{fun_ext}
@@ -40,13 +40,14 @@ use Rattle.core_calls.specs.Runs.{EachTells}
 use Rattle.core_calls.proofs.RunLemmas.{answers_all}
 use Rattle.core_disk.specs.Held.{HoldsRun}
 use Rattle.disk_runs.specs.Fair.{IsAsRead}
-use Rattle.disk_runs.specs.Masters.{LineLaws}
+use Rattle.disk_runs.specs.Masters.{IsOfRunBy, LineLaws}
 use Rattle.disk_runs.specs.Stands.{Stands}
 use Rattle.disk_runs.proofs.LineLemmas.{every_fair, every_master_line}
 use Rattle.disk_runs.proofs.ReadLemmas.{every_read}
 use Rattle.disk_runs.proofs.StandLemmas.{every_same}
 use Rattle.engine_calls.specs.Clauses.{Between}
 use Rattle.engine_trait.specs.Calls.{Memory}
+use Rattle.worker_log.specs.Logs.{Log}
 use Rattle.engine_trait.specs.Limits.{limits}
 use Rattle.lean_engine.specs.declared.engine.Size.{Size}
 use Rattle.run_crashes.specs.Lines.{NoneStopped, Recovers, RunLeft, next_of}
@@ -68,7 +69,10 @@ use Rattle.lean_shell.specs.Inside.Lefts.{IsSameBut, LivesOn}
 use Rattle.lean_shell.specs.Inside.Assembled.{EveryRun}
 use Rattle.lean_shell.specs.Inside.Openings.{EndsWith}
 use Rattle.lean_shell.specs.Lines.{IsPut}
-use Rattle.lean_shell.specs.Runs.{Counts, ended, first_line}
+use Rattle.lean_shell.specs.Runs.{AreAll, AreAllOf, AreFirst, AreFirstOf, Counts, HasBlocks, IsClosed, IsOnDisk, ended, first_line}
+use Rattle.lean_shell.specs.Runs.AreAll.{All, ButNewest}
+use Rattle.lean_shell.specs.Runs.AreFirst.{Among, Behind}
+use Rattle.lean_shell.specs.Runs.HowRun.{OfScript}
 use Rattle.lean_shell.specs.Starts.{AllAnswered, HasLinesFor, IsAskedNext, IsLeft, IsRoomOfNext}
 use Rattle.lean_shell.proofs.Runs.CountLemmas.{few_printed, two_a_line}
 use Rattle.lean_shell.proofs.Runs.DiskLemmas.{HeardNow, InPart, InRoom, InRun, IsCutLast, Moved, StandsNow, asked_of, both, counts_moved, heard_now, lines_with, moved, stands_now}
@@ -94,6 +98,10 @@ module _ (size : Size) (few : size.sessions ≤ 16) (laws : Laws) (s0 sa sb sc s
 
   abbrev input : List ℕ
   input = feed0.left
+
+  -- of which calls a crash leaves something
+  abbrev Its : Opening → List Done → Option Done → Type 0
+  Its = AreFirstOf g stop r.newer
 
   noted : Noted sa sb
   noted = p.noted refl
@@ -218,6 +226,9 @@ module _ (size : Size) (few : size.sessions ≤ 16) (laws : Laws) (s0 sa sb sc s
   calls_few : length r.newer < 2 ^ 41
   calls_few = let a = two_a_line g size.group g.workers r.newer each r.fits in let f = r.few in omega (arith, a, f)
 
+  all_few : length (front r.newer) + 2 ^ 18 ≤ 2 ^ 59
+  all_few = let a = few_events g size.group first r.newer r.memory r.executes in let b = calls_few in omega arith
+
   told_few : length r.told < 2 ^ 61
   told_few =
       let a = prefix_few text.later text.out r.replies text.first in
@@ -268,34 +279,37 @@ module _ (size : Size) (few : size.sessions ≤ 16) (laws : Laws) (s0 sa sb sc s
     quiet_none : IsQuiet (length m.heads) input (first_lines 0 put)
     quiet_none = record { transcript_is = refl; durables_are = refl }
 
-    before : LeavesOnly s0 sb (LivesOn size m s0 input put)
-    before = line_moments size m s0 sa sb clean young.notes input put PutDone (any m all.all clean) law_a keeps.later keeps.notes p.noted p.same quiet_none (λ e. quiet_one)
+    before : LeavesOnly s0 sb (LivesOn size Its m s0 input put)
+    before = line_moments size Its m s0 sa sb clean young.notes input put PutDone (any m all.all clean) law_a keeps.later keeps.notes p.noted p.same quiet_none (λ e. quiet_one)
 
     -- in it
     stands_b : Stands g [] c0 b.known sb
     stands_b = every_same sa sb c0 g [] b.known b.stands (λ a low. subst (λ (t : Rattle.std.proofs.Common.Bool). IsTrue t) (sym (noted.tells a)) (b.stands.tells a low)) (λ a low. noted.area a)
 
-    of_known : IsOfRun m b.known.master
-    of_known = subst (IsOfRun m) (sym b.memory_is.master) b.of_run
+    of_known : IsOfRunBy [] m b.known.master
+    of_known = subst (IsOfRunBy [] m) (sym b.memory_is.master) (record {
+      of_run = b.of_run;
+      most = let d : first.master.sequence ≡ suc m.sequence = ap (λ (x : Master). x.sequence) b.next.is in let e : first.master.generation ≡ suc m.generation = ap (λ (x : Master). x.generation) b.next.is in omega arith;
+    })
 
     lines_law : (x y z : Master) → LineLaws x y z
     lines_law = every_master_line
 
-    of_first : IsOfRun first.master b.known.master
-    of_first = subst (IsOfRun first.master) (sym b.memory_is.master) ((lines_law first.master first.master first.master).of_run (lines_law first.master first.master first.master).same)
+    of_first : IsOfRunBy [] first.master b.known.master
+    of_first = subst (IsOfRunBy [] first.master) (sym b.memory_is.master) (let l = lines_law first.master first.master first.master in l.of_run [] (l.same []))
 
     between_b : Between limits g size.group [] c0 b.known sb
     between_b = record { told = tt; stands = stands_b; counts = counts_b; notes = notes_b ∙ (let q : s0.notes + 1 ≡ s0.notes + 1 + 0 = omega arith in q) }
 
     -- on a disk of m, and of the master of the opening
-    disk : LeavesOnly sb sc (StaysAside g.workers (length r.told) sb) × DiskTo (Some stop) r.hand g size.group (r.newer ++ []) c0 m b.known sb sc r.memory
+    disk : LeavesOnly sb sc (StaysAside g.workers (length r.told) sb) × DiskTo (Some stop) r.hand g size.group (r.newer ++ []) (front r.newer) c0 m b.known sb sc r.memory
     disk = r.disk c0 m b.known between_b of_known b.memory_is notes_few
 
-    disk_first : LeavesOnly sb sc (StaysAside g.workers (length r.told) sb) × DiskTo (Some stop) r.hand g size.group (r.newer ++ []) c0 first.master b.known sb sc r.memory
+    disk_first : LeavesOnly sb sc (StaysAside g.workers (length r.told) sb) × DiskTo (Some stop) r.hand g size.group (r.newer ++ []) (front r.newer) c0 first.master b.known sb sc r.memory
     disk_first = r.disk c0 first.master b.known between_b of_first b.memory_is notes_few
 
     counts_all : LeavesOnly sb sc (CountsFrom g c0 first.master)
-    counts_all = counts_moved stop r.hand g size.group (r.newer ++ []) c0 first.master sb sc (moved stop r.hand g size.group (r.newer ++ []) c0 first.master b.known sb sc r.memory disk_first.1)
+    counts_all = counts_moved stop r.hand g size.group (r.newer ++ []) c0 first.master sb sc (moved stop r.hand g size.group (r.newer ++ []) (front r.newer) c0 first.master b.known sb sc r.memory disk_first.1)
 
     -- the area of the pages is that of the opening
     pages_kept : (c : Crash) → StaysAside g.workers (length r.told) sb c → Leaves (sa.area 1) (c.image 1)
@@ -325,16 +339,19 @@ module _ (size : Size) (few : size.sessions ≤ 16) (laws : Laws) (s0 sa sb sc s
       first_told : later ++ q.out ≡ r.told
       so : (es : List Event) → Such q.heard es → IsRoomOfNext input g q.heard es
       alone : (es : List Event) → Such q.heard es → q.unheard ≡ []
+      its : AreFirst stop r.newer q.heard (next_of q.unheard)
+      short : length (front xs) ≤ 2 ^ 59
+      so_few : (es : List Event) → Such q.heard es → length es ≤ 2 ^ 18
 
     -- its notes are those of these replies
     few_out : (Such : List Done → List Event → Type 0) (xs : List Done) (c : Crash) (q : Left Such xs c) → c.notes ≤ sb.notes + length r.told → length q.out ≤ length r.told
     few_out Such xs c q few = let e = q.notes in let f = notes_b in omega arith
 
     knows_all : (Such : List Done → List Event → Type 0) (c : Crash) (q : Left Such r.newer c) → ((es : List Event) → Such q.heard es → IsRoomOfNext input g q.heard es) → ((es : List Event) → Such q.heard es → q.unheard ≡ [])
-        → c.notes ≤ sb.notes + length r.told → Knows Such r.newer c q
-    knows_all Such c q so alone few =
+        → ((es : List Event) → Such q.heard es → length es ≤ 2 ^ 18) → c.notes ≤ sb.notes + length r.told → Knows Such r.newer c q
+    knows_all Such c q so alone so_few few =
         let f = firsts q.out (older_of q.unheard q.heard q.missing q.out q.calls q.lines) (few_out Such r.newer c q few) in
-        record { later = f.0; first_told = f.1; so = so; alone = alone }
+        record { later = f.0; first_told = f.1; so = so; alone = alone; its = Among q.unheard q.calls refl; short = omega (arith, all_few); so_few = so_few }
 
     -- what was asked and not answered
     abbrev Asked : Type 0
@@ -361,12 +378,12 @@ module _ (size : Size) (few : size.sessions ≤ 16) (laws : Laws) (s0 sa sb sc s
     none_unheard (x ∷ unheard) heard e is =
         absurd (let a = ap (λ (xs : List Done). length xs) e in let b = ap (λ (xs : List Done). length xs) is in let c = length-append unheard heard in omega (arith, a, b, c))
 
-    module _ (x : Done) (is : stop ≡ stops.DiskFault) where
+    module _ (x : Done) (is : stop ≡ stops.DiskFault) (few_own : length x.events ≤ 2 ^ 18) where
       told_all : r.told ≡ r.replies
       told_all = (subst (λ (z : Stop). PrintsTo (Some z) r.replies r.told r.tail) is r.prints).told_is
 
       knows_part : (c : Crash) (q : Left NoneStopped (x ∷ r.newer) c) → c.notes ≤ sb.notes + length r.told → Knows NoneStopped (x ∷ r.newer) c q
-      knows_part c q few = record { later = f.0; first_told = f.1; so = λ es none. absurd none; alone = λ es none. absurd none }
+      knows_part c q few = record { later = f.0; first_told = f.1; so = λ es none. absurd none; alone = λ es none. absurd none; its = its_of q.unheard q.calls; short = (let a = all_few in let b = length-append (front r.newer) x.events in omega (arith, a, b, few_own)); so_few = λ es none. absurd none }
         where
           -- the one that was not answered was not heard
           not_all : q.heard ≡ x ∷ r.newer → ⊥
@@ -382,6 +399,15 @@ module _ (size : Size) (few : size.sessions ≤ 16) (laws : Laws) (s0 sa sb sc s
             where
               tail_is : (y : Done) (ys : List Done) → y ∷ ys ≡ x ∷ r.newer → ys ≡ r.newer
               tail_is y ys e = cc
+
+          -- so it is one of the others, or all those were
+          its_of : (u : List Done) → u ++ q.heard ≡ x ∷ r.newer → AreFirst stop r.newer q.heard (next_of u)
+          its_of [] e = absurd (not_all e)
+          its_of (y ∷ []) e = Behind is (rest_of (y ∷ []) e).1
+          its_of (y ∷ z ∷ v) e = Among (z ∷ v) (tail_of y (z ∷ v ++ q.heard) e) refl
+            where
+              tail_of : (y : Done) (ys : List Done) → y ∷ ys ≡ x ∷ r.newer → ys ≡ r.newer
+              tail_of y ys e = cc
 
           f : (later : List Reply) × (later ++ q.out ≡ r.told)
           f = let v = rest_of q.unheard q.calls in firsts q.out (older_of v.0 q.heard q.missing q.out v.1 q.lines) (few_out NoneStopped (x ∷ r.newer) c q few)
@@ -399,18 +425,18 @@ module _ (size : Size) (few : size.sessions ≤ 16) (laws : Laws) (s0 sa sb sc s
 
       -- so it was out
       was_out : (c : Crash) (q : Q c) → Knows Such xs c q.1.0 → (d : Crash) → IsSameBut c d → (lines_out : ℕ) → d.notes ≡ s0.notes + lines_out → IsOutput counts.generation counts.winners counts.undone q.1.0.out (first_lines lines_out put)
-          → WasOut Such (IsRoomOfNext input g) g xs c0 m first.master s0 sa input put counts.generation counts.winners counts.undone d
-      was_out c q k d same lines_out notes is = record { crash = c; left = q.1.0; so = k.so; alone = k.alone; counts = q.1.1; pages = pages_kept c q.0; same = same; lines = lines_out; notes = notes; output = is; script = lines }
+          → WasOut Such (IsRoomOfNext input g) Its g xs c0 m first.master s0 sa input put counts.generation counts.winners counts.undone d
+      was_out c q k d same lines_out notes is = record { crash = c; left = q.1.0; so = k.so; alone = k.alone; its = (refl, k.its); few = k.short; so_few = k.so_few; counts = q.1.1; pages = pages_kept c q.0; same = same; lines = lines_out; notes = notes; output = is; script = lines }
 
-      lives_on : (d : Crash) → WasOut Such (IsRoomOfNext input g) g xs c0 m first.master s0 sa input put counts.generation counts.winners counts.undone d → LivesOn size m s0 input put d
-      lives_on d w = inr (λ fair. lives_as size laws m s0 sa g first few o.of_size b xs each_x c0 input put counts.generation counts.winners counts.undone d Such w (every_fair s0) as_began fair)
+      lives_on : (d : Crash) → WasOut Such (IsRoomOfNext input g) Its g xs c0 m first.master s0 sa input put counts.generation counts.winners counts.undone d → LivesOn size Its m s0 input put d
+      lives_on d w = inr (λ fair. lives_as size laws m s0 sa g first few o.of_size b xs each_x c0 input put counts.generation counts.winners counts.undone d Such Its w (every_fair s0) as_began fair)
 
-      in_script : (c : Crash) → Q c → LivesOn size m s0 input put c
+      in_script : (c : Crash) → Q c → LivesOn size Its m s0 input put c
       in_script c q =
           let k = knows c q.1.0 q.0.notes in
           lives_on c (was_out c q k c (record { writes = λ a. refl; image = λ a. refl }) (suc (length q.1.0.out)) (let e = q.1.0.notes in omega arith) (first_output k.later q.1.0.out k.first_told))
 
-      at_last : (c : Crash) → LeavesNow s1 c → Q (then sc c) → LivesOn size m s0 input put c
+      at_last : (c : Crash) → LeavesNow s1 c → Q (then sc c) → LivesOn size Its m s0 input put c
       at_last c now q = ⊎_elim
           (λ (e : c.notes ≡ sc.notes). lives_on c (was_out (then sc c) q k c (same_but sc c) (suc (length q.1.0.out)) (let n = q.1.0.notes in omega arith) (first_output k.later q.1.0.out k.first_told)))
           (λ (e : (c.notes ≡ sc.notes + 1) × (stop ≡ stops.WriteFault → ⊥)). whole e.0 e.1)
@@ -419,7 +445,7 @@ module _ (size : Size) (few : size.sessions ≤ 16) (laws : Laws) (s0 sa sb sc s
           k : Knows Such xs (then sc c) q.1.0
           k = knows (then sc c) q.1.0 q.0.notes
 
-          whole : c.notes ≡ sc.notes + 1 → (stop ≡ stops.WriteFault → ⊥) → LivesOn size m s0 input put c
+          whole : c.notes ≡ sc.notes + 1 → (stop ≡ stops.WriteFault → ⊥) → LivesOn size Its m s0 input put c
           whole e not_write =
               let n = notes_c in
               let b = notes_b in
@@ -429,26 +455,26 @@ module _ (size : Size) (few : size.sessions ≤ 16) (laws : Laws) (s0 sa sb sc s
               lives_on c (was_out (then sc c) q k c (same_but sc c) (suc (suc (length r.told))) (omega (arith, e, n, b))
               (subst (λ (rs : List Reply). IsOutput counts.generation counts.winners counts.undone rs (first_lines (suc (suc (length r.told))) put)) (sym told) (last_output not_write)))
 
-      leaves_all : LeavesOnly s0 s1 (LivesOn size m s0 input put)
-      leaves_all = moments.then s0 sb s1 (LivesOn size m s0 input put) before (put_moments sb sc s1 Q (LivesOn size m s0 input put) script in_script law_c r.others.later l.notes at_last)
+      leaves_all : LeavesOnly s0 s1 (LivesOn size Its m s0 input put)
+      leaves_all = moments.then s0 sb s1 (LivesOn size Its m s0 input put) before (put_moments sb sc s1 Q (LivesOn size Its m s0 input put) script in_script law_c r.others.later l.notes at_last)
 
-    leaves_by : Moved stop r.hand g size.group r.newer c0 m sb sc → LeavesOnly s0 s1 (LivesOn size m s0 input put)
-    leaves_by (InRun run) = leaves_all NoneStopped r.newer each (script_for tells) (λ c q. knows_all NoneStopped c q (λ es none. absurd none) (λ es none. absurd none)) run
+    leaves_by : Moved stop r.hand g size.group r.newer c0 m sb sc → LeavesOnly s0 s1 (LivesOn size Its m s0 input put)
+    leaves_by (InRun run) = leaves_all NoneStopped r.newer each (script_for tells) (λ c q. knows_all NoneStopped c q (λ es none. absurd none) (λ es none. absurd none) (λ es none. absurd none)) run
     leaves_by (InRoom is run) = leaves_all (StoppedIn g r.newer r.hand) r.newer each (script_for tells)
-        (λ c q. knows_all (StoppedIn g r.newer r.hand) c q (λ es s. room_of_next (asks is) q.heard es s) (λ es s. none_unheard q.unheard q.heard q.calls s.0)) run
-    leaves_by (InPart x is call session told run) = leaves_all NoneStopped (x ∷ r.newer) (each, told) (lines_with g.workers input r.newer x (script_for tells) (own (asks is))) (knows_part x is) run
+        (λ c q. knows_all (StoppedIn g r.newer r.hand) c q (λ es s. room_of_next (asks is) q.heard es s) (λ es s. none_unheard q.unheard q.heard q.calls s.0) (λ es s. s.1.1)) run
+    leaves_by (InPart x is call session told few_own run) = leaves_all NoneStopped (x ∷ r.newer) (each, told) (lines_with g.workers input r.newer x (script_for tells) (own (asks is))) (knows_part x is few_own) run
       where
         own : Asked → IsAskedNext g.workers input r.newer x.outcome.session (asked x.outcome.deed)
         own a = subst (λ (w : ℕ). IsAskedNext g.workers input r.newer w (asked x.outcome.deed)) (sym session)
             (subst (λ (c : Rattle.map_model.specs.declared.call.Call.Call). IsAskedNext g.workers input r.newer r.hand.session c) (sym call) a)
 
-    pub leaves : LeavesOnly s0 s1 (LivesOn size m s0 input put)
-    leaves = leaves_by (subst (λ (xs : List Done). Moved stop r.hand g size.group xs c0 m sb sc) nil (moved stop r.hand g size.group (r.newer ++ []) c0 m b.known sb sc r.memory disk.1))
+    pub leaves : LeavesOnly s0 s1 (LivesOn size Its m s0 input put)
+    leaves = leaves_by (subst (λ (xs : List Done). Moved stop r.hand g size.group xs c0 m sb sc) nil (moved stop r.hand g size.group (r.newer ++ []) (front r.newer) c0 m b.known sb sc r.memory disk.1))
 
     -- as a read gives it
     module _ (no_fault : stop ≡ stops.DiskFault → ⊥) where
-      st : StandsNow g r.newer c0 b.known sc
-      st = subst (λ (xs : List Done). StandsNow g xs c0 b.known sc) nil (stands_now stop r.hand g size.group (r.newer ++ []) c0 m b.known sb sc r.memory no_fault disk.1)
+      st : StandsNow g r.newer (front r.newer) c0 b.known sc r.memory
+      st = subst (λ (xs : List Done). StandsNow g xs (front r.newer) c0 b.known sc r.memory) nil (stands_now stop r.hand g size.group (r.newer ++ []) (front r.newer) c0 m b.known sb sc r.memory no_fault disk.1)
 
       stands_1 : Stands g (front r.newer) c0 st.known s1
       stands_1 = every_same sc s1 c0 g (front r.newer) st.known st.stands (λ a low. subst (λ (t : Rattle.std.proofs.Common.Bool). IsTrue t) (sym (l.notes.tells a)) (st.stands.tells a low)) (λ a low. l.notes.area a)
@@ -492,8 +518,25 @@ module _ (size : Size) (few : size.sessions ≤ 16) (laws : Laws) (s0 sa sb sc s
       now_heard : HeardNow g r.newer r.told
       now_heard = let t = told_first stop r.replies r.told r.tail r.prints in heard_now g size.group r.newer t.0 r.told each (t.1 ∙ replies_are) cut
 
+      its_now : AreAll stop r.newer now_heard.heard (next_of now_heard.unheard)
+      its_now = go stop refl
+        where
+          none_left : now_heard.unheard ≡ [] → AreAll stop r.newer now_heard.heard (next_of now_heard.unheard)
+          none_left e = All (ap (λ (xs : List Done). xs ++ now_heard.heard) (sym e) ∙ now_heard.are) (ap next_of e)
+
+          whole : (stop ≡ stops.WriteFault → ⊥) → AreAll stop r.newer now_heard.heard (next_of now_heard.unheard)
+          whole not_write = none_left (now_heard.whole (let a = ap (λ (rs : List Reply). length rs) ((all_put stop r.replies r.told r.tail not_write r.prints).told_is ∙ replies_are) in omega arith))
+
+          go : (s : Stop) → stop ≡ s → AreAll stop r.newer now_heard.heard (next_of now_heard.unheard)
+          go stops.End e = whole (λ q. cc)
+          go (stops.Refused line) e = whole (λ q. cc)
+          go stops.ReadFault e = whole (λ q. cc)
+          go stops.DiskFault e = whole (λ q. cc)
+          go stops.WriteFault e = ⊎_elim none_left
+              (λ one. ButNewest e one.0 (sym now_heard.are ∙ ap (λ (xs : List Done). xs ++ now_heard.heard) one.1) (ap next_of one.1)) now_heard.newest
+
       recovered : Recovers g NoneStopped now_heard.heard (next_of now_heard.unheard) r.told m (areas_of s1)
-      recovered = now_heard.recovers laws.shown laws.crashes laws.agrees m st.known.master (areas_of s1) ((lines_law m b.known.master st.known.master).opened of_known st.no_earlier) holds_now
+      recovered = now_heard.recovers laws.shown laws.crashes laws.agrees m st.known.master (areas_of s1) ((lines_law m b.known.master st.known.master).opened [] (front r.newer) of_known st.no_earlier) holds_now
 
       -- that crash, with the notes of these replies
       abbrev c1 : Crash
@@ -508,14 +551,17 @@ module _ (size : Size) (few : size.sessions ≤ 16) (laws : Laws) (s0 sa sb sc s
           subst (λ (x : Area). Leaves x (areas_of s1 1)) same (law_1.reads_so 1 (stands_1.tells 1 (omega arith)))
 
       at_first : (n : Master) × IsOfRun first.master n × (Rattle.disk_image.specs.MasterSlots.master_on (areas_of s1 0) ≡ Some n)
-      at_first = (st.known.master, (lines_law first.master b.known.master st.known.master).opened of_first st.no_earlier, holds_now.master)
+      at_first = (st.known.master, ((lines_law first.master b.known.master st.known.master).opened [] (front r.newer) of_first st.no_earlier).of_run, holds_now.master)
 
-      abbrev was_now : (lines_out : ℕ) → s1.notes ≡ s0.notes + lines_out → IsOutput counts.generation counts.winners counts.undone r.told (first_lines lines_out put) → WasOut NoneStopped (AllAnswered g) g r.newer c0 m first.master s0 sa input put counts.generation counts.winners counts.undone (as_read s1)
+      abbrev was_now : (lines_out : ℕ) → s1.notes ≡ s0.notes + lines_out → IsOutput counts.generation counts.winners counts.undone r.told (first_lines lines_out put) → WasOut NoneStopped (AllAnswered g) (AreAllOf g stop r.newer) g r.newer c0 m first.master s0 sa input put counts.generation counts.winners counts.undone (as_read s1)
       was_now lines_out notes is = record {
         crash = c1;
         left = q1;
         so = λ es none. absurd none;
         alone = λ es none. absurd none;
+        its = (refl, its_now);
+        few = omega (arith, all_few);
+        so_few = λ es none. absurd none;
         counts = λ fair. at_first;
         pages = pages_1;
         same = record { writes = λ a. refl; image = λ a. refl };
@@ -528,33 +574,52 @@ module _ (size : Size) (few : size.sessions ≤ 16) (laws : Laws) (s0 sa sb sc s
       now : LeavesNow s1 (as_read s1)
       now = record { counts = subst (λ (t : Rattle.std.proofs.Common.Bool). IsTrue t) (sym (l.notes.counts ∙ r.others.counts)) counts_b; notes = refl; writes = λ a told. refl; leaves = λ a told. law_1.reads_so a told }
 
-      at_end : (P : Type 0) → ((w : WasOut NoneStopped (AllAnswered g) g r.newer c0 m first.master s0 sa input put counts.generation counts.winners counts.undone (as_read s1)) → Recovers g NoneStopped w.left.heard (next_of w.left.unheard) w.left.out m w.crash.image → ((n : Master) × IsOfRun first.master n × (Rattle.disk_image.specs.MasterSlots.master_on (w.crash.image 0) ≡ Some n)) → P) → P
+      at_end : (P : Type 0) → ((w : WasOut NoneStopped (AllAnswered g) (AreAllOf g stop r.newer) g r.newer c0 m first.master s0 sa input put counts.generation counts.winners counts.undone (as_read s1)) → Recovers g NoneStopped w.left.heard (next_of w.left.unheard) w.left.out m w.crash.image → ((n : Master) × IsOfRun first.master n × (Rattle.disk_image.specs.MasterSlots.master_on (w.crash.image 0) ≡ Some n)) → P) → P
       at_end P so = ⊎_elim
           (λ (e : s1.notes ≡ sc.notes). so (was_now (suc (length r.told)) (let n = notes_c in let b = notes_b in omega arith) (first_output [] r.told refl)) recovered at_first)
           (λ (e : (s1.notes ≡ sc.notes + 1) × (stop ≡ stops.WriteFault → ⊥)). so (was_now (suc (suc (length r.told))) (let n = notes_c in let b = notes_b in let f = e.0 in omega arith) (last_output e.1)) recovered at_first)
           (l.noted (let a = told_few in let b = notes_b in let y = young.notes in let n = notes_c in omega arith) (as_read s1) now)
 
       pub stands : Survives m s0 input put (as_read s1)
-      stands = at_end (Survives m s0 input put (as_read s1)) (λ w back of. survives_there size laws m s0 sa g first few o.of_size b r.newer each c0 input put counts.generation counts.winners counts.undone (as_read s1) NoneStopped AllAnswered w back of)
+      stands = at_end (Survives m s0 input put (as_read s1)) (λ w back of. survives_there size laws m s0 sa g first few o.of_size b r.newer each c0 input put counts.generation counts.winners counts.undone (as_read s1) NoneStopped AllAnswered (AreAllOf g stop r.newer) w back of)
 
-      pub stays : IsLeft size AllAnswered m s0 input put (as_read s1)
-      stays = at_end (IsLeft size AllAnswered m s0 input put (as_read s1)) (λ w back of. left_there size laws m s0 sa g first few o.of_size b r.newer each c0 input put counts.generation counts.winners counts.undone (as_read s1) NoneStopped AllAnswered w back of)
+      pub stays : IsLeft size AllAnswered (AreAllOf g stop r.newer) m s0 input put (as_read s1)
+      stays = at_end (IsLeft size AllAnswered (AreAllOf g stop r.newer) m s0 input put (as_read s1)) (λ w back of. left_there size laws m s0 sa g first few o.of_size b r.newer each c0 input put counts.generation counts.winners counts.undone (as_read s1) NoneStopped AllAnswered (AreAllOf g stop r.newer) w back of)
+
+      -- the logs of the engine
+      blocks : (w : ℕ) → 0 < w → w ≤ g.workers → HasBlocks (state_after g (front r.newer)) st.known.master w (st.known.log w) (areas_of s1 (suc w))
+      blocks w low high = let l = stands_1.logs w low high in record {
+        is = l.is;
+        written = (st.known.account w).written;
+        in_hand = (st.known.account w).current;
+        count = l.kept.next;
+        lie = l.kept.holds.reads;
+        payload = (l.kept.payload, l.kept.count);
+        records = l.accounts.entries;
+      }
+
+      pub on_disk : IsOnDisk g r.newer r.memory (areas_of s1)
+      on_disk = record {
+        master = holds_now.master ∙ ap (λ (n : Master). Some n) st.memory_is.master;
+        logs = λ w low high. subst (λ (log : Log). HasBlocks (state_after g (front r.newer)) r.memory.master w log (areas_of s1 (suc w))) (st.memory_is.log w low high)
+            (subst (λ (n : Master). HasBlocks (state_after g (front r.newer)) n w (st.known.log w) (areas_of s1 (suc w))) st.memory_is.master (blocks w low high));
+      }
 
   pub run_says : IsTrue feed0.tells → TellsAll size.sessions s0 → Headline s0 s1 input put
   run_says tells all = record {
     serial = serial tells all;
-    any_moment = λ counts m clean young. weaker s0 s1 (LivesOn size m s0 input put) (RunLeaves m s0 input put) (run_leaves size m s0 input put) (leaves tells m (record { all = all; counts = counts }) clean young);
+    any_moment = λ counts m clean young. weaker s0 s1 (LivesOn size Its m s0 input put) (RunLeaves m s0 input put) (run_leaves size Its m s0 input put) (leaves tells m (record { all = all; counts = counts }) clean young);
   }
 
   -- behind the logs of the sessions nothing is written
   beside : (a : ℕ) → suc g.workers < a → IsUntouched (s0.area a) (s1.area a)
   beside a high = subst (λ (x : Area). IsUntouched (s0.area a) x) (sym (l.notes.area a ∙ (r.others.area a (inr (inl high)) ∙ noted.area a))) (o.untouched a (omega (arith, high)))
 
-  pub run_ends : (status : ℕ) → status ≡ ended stop → (sink0 : ℕ) → HasCause sink0 sink_c (stop ≡ stops.WriteFault) → ((a : ℕ) → 1 + size.sessions < a → sa.area a ≡ s0.area a) → RunEnds size status s0 s1 feed0 feed1 held0 held1 sink0 sink1
-  run_ends status is sink0 sinks others = record {
+  pub run_ends : (status : ℕ) → status ≡ ended stop → (sink0 : ℕ) → HasCause sink0 sink_c (stop ≡ stops.WriteFault) → ((a : ℕ) → 1 + size.sessions < a → sa.area a ≡ s0.area a) → IsClosed stop r.newer → RunEnds size status s0 s1 feed0 feed1 held0 held1 sink0 sink1
+  run_ends status is sink0 sinks others closed = record {
     put = put;
     holds = holds;
-    how = inr (inr (record {
+    how = OfScript (record {
       stop = stop;
       status_is = is;
       counts = counts;
@@ -562,6 +627,7 @@ module _ (size : Size) (few : size.sessions ≤ 16) (laws : Laws) (s0 sa sb sc s
       few = let f = r.few in omega (arith, f);
       calls_few = calls_few;
       none_spent = none_spent g size.group first r.newer r.memory r.executes calls_few;
+      closed = closed;
       executed = record { opening = g; of_size = o.of_size; from = o.from; first = first; log = o.log; master = o.master; last = r.memory; executes = r.executes };
       read = text.read;
       printed = record {
@@ -583,7 +649,8 @@ module _ (size : Size) (few : size.sessions ≤ 16) (laws : Laws) (s0 sa sb sc s
       beside = beside;
       stands = λ no_fault tells m all clean young. stands tells m all clean young no_fault;
       left = λ no_fault tells m all clean young. stays tells m all clean young no_fault;
-    }));
+      disk = λ no_fault tells m all clean young. on_disk tells m all clean young no_fault;
+    });
     others = λ a lt. l.notes.area a ∙ (r.others.area a (inr (inl (let f = o.of_size.few in omega arith))) ∙ (noted.area a ∙ others a lt));
     tells_on = record {
       counts = l.notes.counts ∙ (r.others.counts ∙ (noted.counts ∙ keeps.counts));
@@ -592,7 +659,7 @@ module _ (size : Size) (few : size.sessions ≤ 16) (laws : Laws) (s0 sa sb sc s
       later = let a = keeps.later in let b = noted.later in let c = r.others.later in let d = l.notes.later in omega arith;
     };
     headline = run_says;
-    masters = λ tells m all clean young. weaker s0 s1 (LivesOn size m s0 input put) (MasterLeaves size m s0 input put) (master_leaves size m s0 input put) (leaves tells m all clean young);
+    masters = λ tells m all clean young. weaker s0 s1 (LivesOn size Its m s0 input put) (MasterLeaves size Its m s0 input put) (master_leaves size Its m s0 input put) (leaves tells m all clean young);
   }
 
   pub run_headline : IsTrue feed0.tells → IsTrue held0.tells → TellsAll size.sessions s0 → Headline s0 s1 input (added held0 held1)
@@ -600,6 +667,6 @@ module _ (size : Size) (few : size.sessions ≤ 16) (laws : Laws) (s0 sa sb sc s
 
 pub every_run : Laws → (s0 sa sb sc s1 : Story) → EveryRun s0 sa sb sc s1
 every_run laws s0 sa sb sc s1 size feed0 feed1 held0 held_b held_c held1 stop sink_c sink1 x = record {
-  ends = run_ends size x.few laws s0 sa sb sc s1 x.law_a x.law_c x.law_1 x.g x.first x.counts x.starts x.keeps x.any held0 held_b held_c held1 x.opened_fits x.put feed0 feed1 x.reader stop x.last_memory x.runs sink_c sink1 x.last;
+  ends = λ status is sink0 sinks others. run_ends size x.few laws s0 sa sb sc s1 x.law_a x.law_c x.law_1 x.g x.first x.counts x.starts x.keeps x.any held0 held_b held_c held1 x.opened_fits x.put feed0 feed1 x.reader stop x.last_memory x.runs sink_c sink1 x.last status is sink0 sinks others x.closed;
   headline = run_headline size x.few laws s0 sa sb sc s1 x.law_a x.law_c x.law_1 x.g x.first x.counts x.starts x.keeps x.any held0 held_b held_c held1 x.opened_fits x.put feed0 feed1 x.reader stop x.last_memory x.runs sink_c sink1 x.last;
 }

@@ -3,6 +3,7 @@ use Rattle.std.proofs.Common.{◌≡◌, ◌<◌, ◌^◌, ◌++◌, ℕ, true, 
 use Rattle.std.proofs.lemmas.Bool.{cond-false, cond-true}
 use Rattle.std.proofs.lemmas.List.{append-nil}
 use mathlib.Core.List.{append_assoc}
+use Rattle.map_model.specs.declared.call.Answered.{Answered}
 use Rattle.map_model.specs.declared.call.Call.{Call}
 use Rattle.map_model.specs.Pairings.{EachIsAnswered, in_turn, is_open_line, script_of}
 use Rattle.core_state.specs.Openings.{Opening}
@@ -16,6 +17,7 @@ use Rattle.script_run.specs.Runs.{Executes, calls_of}
 use Rattle.transcripts.proofs.AskedLemmas.{lines_append}
 use Rattle.transcripts.proofs.OrderLemmas.{first_script, line_first, lines_answered}
 use Rattle.transcripts.proofs.PrefixLemmas.{first_in_order}
+use Rattle.transcripts.proofs.TranscriptLemmas.{every_asked}
 use Rattle.transcripts.specs.Laws.{ComesNext}
 use Rattle.transcripts.specs.Told.{ask, asked_lines, EachLineFits, LineFits}
 use Rattle.transcripts.specs.Transcripts.{asked as asked_by}
@@ -70,6 +72,15 @@ begins_line sessions input calls x closed fits own next =
     both : (xs : List (ℕ × Call)) → EachLineFits sessions xs → EachLineFits sessions (xs ++ (x.outcome.session, asked x.outcome.deed) ∷ [])
     both [] f = (own, tt)
     both (y ∷ ys) f = (f.0, both ys f.1)
+
+-- its line comes next
+pub comes_behind : (sessions : ℕ) (input : List ℕ) (x : Answered) (said : List Answered) (others : List (List ℕ)) → sessions < 2 ^ 32 → is_open_line said ≡ false → EachLineFits sessions (script_of (x ∷ said)) → script_lines input ≡ asked_lines (script_of (x ∷ said)) ++ others
+    → asked_by sessions (script_lines input) ≡ script_of said ++ (x.session, x.call) ∷ asked_by sessions others
+comes_behind sessions input x said others many closed fits lines =
+    ap (asked_by sessions) lines
+    ∙ (every_asked sessions (script_of (x ∷ said)) others many fits
+    ∙ (ap (λ (xs : List (ℕ × Call)). xs ++ asked_by sessions others) (cond-false (is_open_line said) (script_of said) (script_of said ++ (x.session, x.call) ∷ []) closed)
+    ∙ append_assoc (script_of said) ((x.session, x.call) ∷ []) (asked_by sessions others)))
 
 -- it goes on with the newest one
 pub same_line : (sessions : ℕ) (input : List ℕ) (calls : List Done) (x : Done) → is_open_line (calls_of calls) ≡ true → HasLinesFor sessions input calls → HasLinesFor sessions input (x ∷ calls)

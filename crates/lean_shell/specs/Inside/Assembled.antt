@@ -23,7 +23,7 @@ use Rattle.lean_shell.specs.Headline.{Headline}
 use Rattle.lean_shell.specs.Inside.Begins.{HasStarted}
 use Rattle.lean_shell.specs.Inside.Openings.{EndsWith}
 use Rattle.lean_shell.specs.Lines.{IsPut}
-use Rattle.lean_shell.specs.Runs.{Counts, ended, first_line}
+use Rattle.lean_shell.specs.Runs.{Counts, IsClosed, ended, first_line}
 
 -- A disk that told s0 was opened and told sa; the first line was put, which it told as sb; the script was executed, sc; and the last line was put, s1.
 pub record IsRun (size : Size) (s0 sa sb sc s1 : Story) (feed0 feed1 : Feed) (held0 held_b held_c held1 : Held) (stop : Stop) (sink_c sink1 : ℕ) : Type 0 where
@@ -45,6 +45,7 @@ pub record IsRun (size : Size) (s0 sa sb sc s1 : Story) (feed0 feed1 : Feed) (he
   pub reader : Unread
   pub last_memory : Memory
   pub runs : ScriptRuns (Some stop) g.workers size.group g [] 0 feed0 [] first last_memory reader feed1 held_b held_c sb sc
+  pub closed : IsClosed stop runs.newer
   -- the last line
   pub last : EndsWith stop held_c held1 sink_c sink1 sc s1
 

@@ -1,8 +1,10 @@
 -- Words of private functions: what a crash leaves in a run, from the opening of a clean disk on.
-use Rattle.std.specs.Prelude.{◌≡◌, ◌⊎◌, ℕ, List, length}
+use Rattle.std.specs.Prelude.{◌≡◌, ◌⊎◌, ℕ, List, length, Option}
 use Rattle.lean_disk.specs.Story.{Crash, Story}
 use Rattle.disk_slots.specs.declared.master.Master.{Master}
 use Rattle.disk_image.specs.Fair.{IsFairCrash}
+use Rattle.core_calls.specs.Fronts.{Done}
+use Rattle.core_state.specs.Openings.{Opening}
 use Rattle.lean_engine.specs.declared.engine.Size.{Size}
 use Rattle.lean_shell.specs.Crashes.{HasMasterOf, IsUnwritten}
 use Rattle.lean_shell.specs.Headline.{Survives}
@@ -13,10 +15,10 @@ pub record IsSameBut (c d : Crash) : Type 0 where
   pub image : (a : ℕ) → d.image a ≡ c.image a
 
 -- the image survives, by a master of the disk on entry
-pub record Lives (size : Size) (m : Master) (s : Story) (input put : List ℕ) (c : Crash) : Type 0 where
+pub record Lives (size : Size) (AreIts : Opening → List Done → Option Done → Type 0) (m : Master) (s : Story) (input put : List ℕ) (c : Crash) : Type 0 where
   pub survives : Survives m s input put c
-  pub master : HasMasterOf size m s input put c
+  pub master : HasMasterOf size AreIts m s input put c
 
 -- so it is once something is written
-abbrev pub LivesOn : (size : Size) (m : Master) (s : Story) (input put : List ℕ) (c : Crash) → Type 0
-LivesOn size m s input put c = IsUnwritten m s input put c ⊎ (IsFairCrash (length m.heads) s c → Lives size m s input put c)
+abbrev pub LivesOn : (size : Size) (AreIts : Opening → List Done → Option Done → Type 0) (m : Master) (s : Story) (input put : List ℕ) (c : Crash) → Type 0
+LivesOn size AreIts m s input put c = IsUnwritten m s input put c ⊎ (IsFairCrash (length m.heads) s c → Lives size AreIts m s input put c)

@@ -8,7 +8,9 @@ use Rattle.lean_disk.specs.Story.{Crash, LeavesNow, Story}
 use Rattle.lean_edge.specs.Outside.{Held, Puts}
 use Rattle.lean_edge.specs.declared.sink.Put.{Put}
 use Rattle.lean_edge.specs.declared.sink.Put.TheVariants as answers
-use Rattle.lean_shell.specs.Dumps.{dump_text, pair_lines}
+use Rattle.recovery.specs.declared.opening.Recovered.{Recovered}
+use Rattle.lean_shell.specs.Dumps.{dump_text, map_text, pair_lines}
+use Rattle.lean_shell.specs.Runs.{Counts}
 
 -- Lines may have been noted, and else nothing happened: a crash is one that there was, or one that there might have been before but for its notes.
 pub record OnlyPuts (old new : Story) : Type 0 where
@@ -47,4 +49,14 @@ pub record PutsPairs (map : Map) (answer : Put) (held0 held1 : Held) (sink0 sink
 pub record PutsMap (map : Map) (answer : Put) (held0 held1 : Held) (sink0 sink1 : ℕ) (s0 s1 : Story) : Type 0 where
   pub pairs : List Pair
   pub are : Lists map 0 key_end pairs
-  pub put : ArePut (dump_text pairs) answer held0 held1 sink0 sink1 s0 s1
+  pub put : ArePut (map_text pairs) answer held0 held1 sink0 sink1 s0 s1
+
+-- what the first line tells of what recovery gave
+abbrev pub counts_of : Recovered → Counts
+counts_of r = record { generation = r.master.generation; winners = r.winners; undone = r.undone }
+
+-- the line of the opening before them
+pub record PutsDump (counts : Counts) (map : Map) (answer : Put) (held0 held1 : Held) (sink0 sink1 : ℕ) (s0 s1 : Story) : Type 0 where
+  pub pairs : List Pair
+  pub are : Lists map 0 key_end pairs
+  pub put : ArePut (dump_text counts pairs) answer held0 held1 sink0 sink1 s0 s1

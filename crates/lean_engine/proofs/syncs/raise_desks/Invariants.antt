@@ -1,5 +1,5 @@
 use Rattle.std.proofs.Common.{◌≡◌, ◌<◌, ◌≤◌, ℕ, length, get_or}
-use Rattle.lean_engine.specs.Syncs.{raised_desk}
+use Rattle.lean_engine.specs.Inside.Syncs.{raised_desk}
 use Rattle.lean_engine.specs.declared.desk.Desk.{Desk}
 use Rattle.lean_engine.proofs.syncs.raise_desks.Given as goal
 

@@ -1,6 +1,6 @@
 use Rattle.std.proofs.Common.{◌≡◌, drop}
 use Rattle.map_model.specs.Lists.{any}
-use Rattle.lean_engine.specs.Syncs.{is_half_desk}
+use Rattle.lean_engine.specs.Inside.Syncs.{is_half_desk}
 use Rattle.lean_engine.proofs.syncs.some_half.Given as goal
 
 abbrev pub invariant-loop-desk : goal.invariant-loop-desk

@@ -1,7 +1,7 @@
 use Rattle.std.proofs.Common.{subst}
 use Rattle.disk_slots.specs.declared.master.Master.{Master}
 use Rattle.log_calls.specs.Syncs.{SyncsOn}
-use Rattle.lean_engine.specs.Syncs.{IsWriting}
+use Rattle.lean_engine.specs.Inside.Syncs.{IsWriting}
 use Rattle.lean_engine.proofs.syncs.write_floor.Goals as goal
 
 pub returns-clause-next : goal.returns-clause-next

@@ -9,11 +9,12 @@ use Rattle.lean_shell.specs.Inside.Assembled.{RunSays}
 use Rattle.lean_shell.specs.Inside.Begins.{HasStarted}
 use Rattle.script_run.specs.Runs.{ScriptRuns}
 use Rattle.lean_shell.specs.Lines.{IsPut}
-use Rattle.lean_shell.specs.Runs.{first_line}
+use Rattle.lean_shell.specs.Runs.{IsClosed, first_line}
 use Rattle.lean_shell.proofs.Runs.EndLemmas.{cut_ends, cut_headline, refused_ends, refused_headline}
 use Rattle.lean_shell.proofs.Runs.LastLemmas.{cause_from, disk_cause, put_not_done, read_cause, write_blame}
 use Rattle.lean_shell.proofs.Runs.MomentLemmas.{unmoved}
 use Rattle.lean_shell.proofs.Runs.OpeningLemmas.{counts, from, started}
+use Rattle.lean_shell.proofs.Runs.ClosedLemmas.{closed_by}
 use Rattle.lean_shell.proofs.Runs.RunLemmas.{every_run}
 use Rattle.recovery.specs.declared.opening.Unrecovered.TheVariants.{Memory}
 use Rattle.lean_shell.proofs.disk_run.run_disk.Given.{Over}
@@ -89,6 +90,10 @@ says g c =
     let sa = g.D.Disk.story n.engine.disk in
     let feed0 = g.S.Source.feed c.args.source.now in
     let counted = counts c.args.size s0 sa n.engine n.generation n.winners n.undone o in
+    let whole =
+    subst (λ n. (r : ScriptRuns (Some c.run_script-stop.result) n c.args.size.group o.opening [] 0 feed0 [] (memory_in c.put_opened.new.engine) (memory_in c.run_script-stop.new.engine) c.run_script-stop.new.reader (g.S.Source.feed c.run_script-stop.new.source) (g.K.Sink.held c.put_opened.new.sink) (g.K.Sink.held c.run_script-stop.new.sink) (g.D.Disk.story c.put_opened.new.engine.disk) (g.D.Disk.story c.run_script-stop.new.engine.disk)) × IsClosed c.run_script-stop.result r.newer) (c.put_opened.ensures.sizes.0 ∙ sym o.in_run.workers)
+    (subst (λ n. (r : ScriptRuns (Some c.run_script-stop.result) c.put_opened.new.engine.sessions n o.opening [] 0 feed0 [] (memory_in c.put_opened.new.engine) (memory_in c.run_script-stop.new.engine) c.run_script-stop.new.reader (g.S.Source.feed c.run_script-stop.new.source) (g.K.Sink.held c.put_opened.new.sink) (g.K.Sink.held c.run_script-stop.new.sink) (g.D.Disk.story c.put_opened.new.engine.disk) (g.D.Disk.story c.run_script-stop.new.engine.disk)) × IsClosed c.run_script-stop.result r.newer) (c.put_opened.ensures.sizes.1 ∙ o.group)
+    (let there = (c.run_script-stop.ensures.runs o.opening [] feed0 [] (c.put_opened.ensures.in_run o.opening [] [] o.in_run) (c.in-Ok.ensures feed0)) in (there.0, closed_by c.run_script-stop.result c.run_script-stop.new.engine o.opening there.0.newer there.1 c.run_script-stop.ensures.next))) in
     every_run c.laws.ensures
     s0 sa (g.D.Disk.story c.put_opened.new.engine.disk) (g.D.Disk.story c.run_script-stop.new.engine.disk) (g.D.Disk.story c.put_last.new.engine.disk)
     c.args.size feed0 (g.S.Source.feed c.run_script-stop.new.source) (g.K.Sink.held c.args.sink.now) (g.K.Sink.held c.put_opened.new.sink) (g.K.Sink.held c.run_script-stop.new.sink) (g.K.Sink.held c.put_last.new.sink)
@@ -108,9 +113,8 @@ says g c =
       put = subst (λ (a : Put). IsPut (first_line counted) a (g.K.Sink.held c.args.sink.now) (g.K.Sink.held c.put_opened.new.sink) sa (g.D.Disk.story c.put_opened.new.engine.disk)) c.in-Done.is c.put_opened.ensures.put;
       reader = c.run_script-stop.new.reader;
       last_memory = (memory_in c.run_script-stop.new.engine);
-      runs = subst (λ n. ScriptRuns (Some c.run_script-stop.result) n c.args.size.group o.opening [] 0 feed0 [] (memory_in c.put_opened.new.engine) (memory_in c.run_script-stop.new.engine) c.run_script-stop.new.reader (g.S.Source.feed c.run_script-stop.new.source) (g.K.Sink.held c.put_opened.new.sink) (g.K.Sink.held c.run_script-stop.new.sink) (g.D.Disk.story c.put_opened.new.engine.disk) (g.D.Disk.story c.run_script-stop.new.engine.disk)) (c.put_opened.ensures.sizes.0 ∙ sym o.in_run.workers)
-          (subst (λ n. ScriptRuns (Some c.run_script-stop.result) c.put_opened.new.engine.sessions n o.opening [] 0 feed0 [] (memory_in c.put_opened.new.engine) (memory_in c.run_script-stop.new.engine) c.run_script-stop.new.reader (g.S.Source.feed c.run_script-stop.new.source) (g.K.Sink.held c.put_opened.new.sink) (g.K.Sink.held c.run_script-stop.new.sink) (g.D.Disk.story c.put_opened.new.engine.disk) (g.D.Disk.story c.run_script-stop.new.engine.disk)) (c.put_opened.ensures.sizes.1 ∙ o.group)
-          (c.run_script-stop.ensures.runs o.opening [] feed0 [] (c.put_opened.ensures.in_run o.opening [] [] o.in_run) (c.in-Ok.ensures feed0)).0);
+      runs = whole.0;
+      closed = whole.1;
       last = c.put_last.ensures.put;
     })
 

@@ -1,10 +1,5 @@
-use Rattle.std.proofs.Common.{List, length, sym, ap, subst}
-use Rattle.page_model.specs.Page.{Page}
-use Rattle.page_model.specs.Tree.{value}
-use Rattle.disk_image.specs.Formats.{format_of}
-use Rattle.node_tree.specs.Nodes.{nodes_of}
+use Rattle.std.proofs.Common.{sym, ap}
 use Rattle.lean_shell.specs.Endings.{finished}
-use Rattle.lean_shell.specs.Inside.Puts.{PutsMap}
 use Rattle.lean_shell.proofs.Dumps.EndLemmas.{dumped, refused, refused_blame, refused_cause}
 use Rattle.lean_shell.proofs.Runs.ReasonLemmas.{shows}
 use Rattle.lean_shell.proofs.dump.dump_disk.Goals as goal
@@ -37,12 +32,11 @@ returns-in-Done-clause-ends g c =
     let e = c.recover.ensures in
     let k = c.in-Ok.ensures in
     let law = ((g.met.D.Disk g.world.𝓛 g.world.𝓜 g.world.𝓡 ((λ s x. x), (λ x. x), (λ x. x), (λ x. x))).lawful c.recover.new.disk) in
-    dumped c.every_undone.ensures c.every_own.ensures c.every_listing.ensures (story c.args.disk.now) (story c.recover.new.disk) (story c.put_map.new.disk) law
+    dumped c.every_undone.ensures c.every_own.ensures c.every_listing.ensures (story c.args.disk.now) (story c.recover.new.disk) (story c.put_recovered.new.disk) law
     (record { keeps = e.keeps; logs = e.logs; others = e.others; any = e.any_moment }) c.in-Ok.recovered
     (record { answer = k.answer; opened = k.opened; installed = k.installed; whole = k.whole; beyond = k.beyond })
-    (held c.args.sink.now) (held c.put_map.new.sink) (faults c.args.sink.now) (faults c.put_map.new.sink) c.put_map.result 0 (sym (ap finished c.in-Done.is))
-    (subst (λ (ps : List Page). PutsMap (value (format_of (length ps)) (nodes_of ps)) c.put_map.result (held c.args.sink.now) (held c.put_map.new.sink) (faults c.args.sink.now) (faults c.put_map.new.sink) (story c.recover.new.disk) (story c.put_map.new.disk))
-    c.deref.ensures.value c.put_map.ensures.put)
+    (held c.args.sink.now) (held c.put_recovered.new.sink) (faults c.args.sink.now) (faults c.put_recovered.new.sink) c.put_recovered.result 0 (sym (ap finished c.in-Done.is))
+    c.put_recovered.ensures.put
 
 pub returns-clause-ends : goal.returns-clause-ends
 returns-clause-ends g c =
@@ -52,9 +46,8 @@ returns-clause-ends g c =
     let e = c.recover.ensures in
     let k = c.in-Ok.ensures in
     let law = ((g.met.D.Disk g.world.𝓛 g.world.𝓜 g.world.𝓡 ((λ s x. x), (λ x. x), (λ x. x), (λ x. x))).lawful c.recover.new.disk) in
-    dumped c.every_undone.ensures c.every_own.ensures c.every_listing.ensures (story c.args.disk.now) (story c.recover.new.disk) (story c.put_map.new.disk) law
+    dumped c.every_undone.ensures c.every_own.ensures c.every_listing.ensures (story c.args.disk.now) (story c.recover.new.disk) (story c.put_recovered.new.disk) law
     (record { keeps = e.keeps; logs = e.logs; others = e.others; any = e.any_moment }) c.in-Ok.recovered
     (record { answer = k.answer; opened = k.opened; installed = k.installed; whole = k.whole; beyond = k.beyond })
-    (held c.args.sink.now) (held c.put_map.new.sink) (faults c.args.sink.now) (faults c.put_map.new.sink) c.put_map.result 5 (sym (ap finished c.in-Failed.is))
-    (subst (λ (ps : List Page). PutsMap (value (format_of (length ps)) (nodes_of ps)) c.put_map.result (held c.args.sink.now) (held c.put_map.new.sink) (faults c.args.sink.now) (faults c.put_map.new.sink) (story c.recover.new.disk) (story c.put_map.new.disk))
-    c.deref.ensures.value c.put_map.ensures.put)
+    (held c.args.sink.now) (held c.put_recovered.new.sink) (faults c.args.sink.now) (faults c.put_recovered.new.sink) c.put_recovered.result 5 (sym (ap finished c.in-Failed.is))
+    c.put_recovered.ensures.put

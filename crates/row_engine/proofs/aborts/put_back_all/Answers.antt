@@ -11,15 +11,15 @@ left-init g c = record {
   holds = c.requires.holds;
   works = c.requires.works;
   is_open = c.requires.is_open;
-  undone = undone_none c.every_reached.ensures c.every_need.ensures (every_part c.every_version.ensures c.every_kept.ensures c.every_prefix.ensures c.every_sealed.ensures) (g.R.Rows.view c.args.seat.now) c.args.store.now.session c.requires.holds.rows.low (within_workers (g.R.Rows.shape c.args.rows.now) (g.R.Rows.view c.args.seat.now) c.args.store.now.session c.args.store.now.log c.requires.holds) c.args.store.now.log (g.D.Disk.story c.args.store.now.disk);
+  undone = undone_none c.every_reached.ensures c.every_need.ensures (every_part c.every_version.ensures c.every_kept.ensures c.every_prefix.ensures c.every_sealed.ensures) (g.R.Rows.view c.args.seat.now) c.args.work.now.session c.requires.holds.rows.low (within_workers (g.R.Rows.shape c.args.rows.now) (g.R.Rows.view c.args.seat.now) c.args.work.now.session c.args.work.now.log c.requires.holds) c.args.work.now.log (g.D.Disk.story c.args.work.now.disk);
   faults = refl;
 }
 
 pub returns-in-Err-clause-backs : goal.returns-in-Err-clause-backs
 returns-in-Err-clause-backs g c =
     back_last c.every_reached.ensures c.every_need.ensures (every_part c.every_version.ensures c.every_kept.ensures c.every_prefix.ensures c.every_sealed.ensures)
-    (λ k. g.D.Disk.story k.disk) (λ k. k.log) (λ k. k.session) (g.R.Rows.view c.args.seat.now) (g.R.Rows.view c.left.seat) (g.R.Rows.view c.put_back.new.seat) c.args.store.now.session
-    c.requires.holds.rows.low (within_workers (g.R.Rows.shape c.args.rows.now) (g.R.Rows.view c.args.seat.now) c.args.store.now.session c.args.store.now.log c.requires.holds) c.args.store.now.log (g.D.Disk.story c.args.store.now.disk) c.left.store c.put_back.new.store c.left.invariant.undone c.in-Err.why c.in-Err.ensures.backs
+    (λ k. g.D.Disk.story k.disk) (λ k. k.log) (λ k. k.session) (g.R.Rows.view c.args.seat.now) (g.R.Rows.view c.left.seat) (g.R.Rows.view c.put_back.new.seat) c.args.work.now.session
+    c.requires.holds.rows.low (within_workers (g.R.Rows.shape c.args.rows.now) (g.R.Rows.view c.args.seat.now) c.args.work.now.session c.args.work.now.log c.requires.holds) c.args.work.now.log (g.D.Disk.story c.args.work.now.disk) c.left.work c.put_back.new.work c.left.invariant.undone c.in-Err.why c.in-Err.ensures.backs
 
 pub left-preserved : goal.left-preserved
 left-preserved g c =
@@ -30,8 +30,14 @@ left-preserved g c =
       holds = e.holds e.works;
       works = e.works;
       is_open = ap (λ (s : Session). s.is_open) e.backs.session ∙ i.is_open;
-      undone = undone_next c.every_reached.ensures c.every_need.ensures (every_part c.every_version.ensures c.every_kept.ensures c.every_prefix.ensures c.every_sealed.ensures) (g.R.Rows.view c.args.seat.now) c.args.store.now.session
-          c.requires.holds.rows.low (within_workers (g.R.Rows.shape c.args.rows.now) (g.R.Rows.view c.args.seat.now) c.args.store.now.session c.args.store.now.log c.requires.holds) c.args.store.now.log (g.D.Disk.story c.args.store.now.disk) (g.R.Rows.view c.left.seat) c.left.store.session c.left.store.log (g.D.Disk.story c.left.store.disk) i.undone
-          (g.R.Rows.view c.put_back.new.seat) c.put_back.new.store.session c.put_back.new.store.log (g.D.Disk.story c.put_back.new.store.disk) e.backs;
+      undone = undone_next c.every_reached.ensures c.every_need.ensures (every_part c.every_version.ensures c.every_kept.ensures c.every_prefix.ensures c.every_sealed.ensures) (g.R.Rows.view c.args.seat.now) c.args.work.now.session
+          c.requires.holds.rows.low (within_workers (g.R.Rows.shape c.args.rows.now) (g.R.Rows.view c.args.seat.now) c.args.work.now.session c.args.work.now.log c.requires.holds) c.args.work.now.log (g.D.Disk.story c.args.work.now.disk) (g.R.Rows.view c.left.seat) c.left.work.session c.left.work.log (g.D.Disk.story c.left.work.disk) i.undone
+          (g.R.Rows.view c.put_back.new.seat) c.put_back.new.work.session c.put_back.new.work.log (g.D.Disk.story c.put_back.new.work.disk) e.backs;
       faults = e.cause_disk_fault.calm (ok_calm _ _) ∙ i.faults;
     }
+
+pub returns-in-Err-clause-session : goal.returns-in-Err-clause-session
+returns-in-Err-clause-session g c =
+    let r = c.left.invariant.undone.undoes.session in
+    let a = c.in-Err.ensures.session in
+    (a.0 ∙ ap (λ (s : Session). s.own) r, a.1 ∙ ap (λ (s : Session). s.workers) r, a.2 ∙ ap (λ (s : Session). s.group) r)

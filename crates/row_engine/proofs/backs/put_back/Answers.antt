@@ -1,5 +1,5 @@
 use Rattle.std.proofs.Common.{◌≡◌, ◌∙◌, ap, refl, sym, subst}
-use Rattle.row_engine.specs.Backs.{IsPutBack}
+use Rattle.row_engine.specs.Inside.Backs.{IsPutBack}
 use Rattle.row_engine.specs.Undo.{without_newest}
 use Rattle.row_engine.specs.declared.session.Session.{Session}
 use Rattle.row_engine.proofs.BackLemmas.{draws_back, half_back, holds_back, is_put_back, key_low}
@@ -9,53 +9,62 @@ use Rattle.row_engine.proofs.backs.put_back.Goals as goal
 
 pub leaf_put_back-requires-clause-key : goal.leaf_put_back-requires-clause-key
 leaf_put_back-requires-clause-key g c =
-    key_low (g.R.Rows.shape c.args.rows.now) (g.R.Rows.view c.args.seat.now) c.args.store.now.session c.args.store.now.log c.requires.holds c.newest_left-undone.result c.requires.is_open c.newest_left-undone.ensures.newest
+    key_low (g.R.Rows.shape c.args.rows.now) (g.R.Rows.view c.args.seat.now) c.args.work.now.session c.args.work.now.log c.requires.holds c.newest_left-undone.result c.requires.is_open c.newest_left-undone.ensures.newest
 
 pub leaf_put_back-requires-clause-draws : goal.leaf_put_back-requires-clause-draws
 leaf_put_back-requires-clause-draws g c =
-    draws_back (g.R.Rows.shape c.args.rows.now) (g.R.Rows.view c.args.seat.now) c.args.store.now.session c.args.store.now.log c.requires.holds c.requires.is_open
+    draws_back (g.R.Rows.shape c.args.rows.now) (g.R.Rows.view c.args.seat.now) c.args.work.now.session c.args.work.now.log c.requires.holds c.requires.is_open
 
 pub returns-in-Done-clause-holds : goal.returns-in-Done-clause-holds
 returns-in-Done-clause-holds g c works =
     let z = g.R.Rows.shape c.args.rows.now in
     let v = g.R.Rows.view c.args.seat.now in
     let w = g.R.Rows.view c.leaf_put_back.new.seat in
-    let x = c.args.store.now.session in
+    let x = c.args.work.now.session in
     let y = c.leaf_put_back.new.draw.session in
     let e = c.in-Done.ensures in
     holds_as z (g.R.Rows.shape c.leaf_put_back.new.rows) w (record y { undo = without_newest y.undo }) _ c.leaf_put_back.new.draw.log c.leaf_put_back.new.draw.log e.fits.1 (undo_set y c.pop.new.self (without_newest y.undo) _ c.pop.ensures) refl
-    (holds_back c.every_room.ensures z v w x c.args.store.now.log c.requires.holds c.newest_left-undone.result c.requires.is_open c.newest_left-undone.ensures.newest c.in-Done.field-0 _ c.args.store.now.staged.list c.leaf_put_back.new.draw.staged.list y c.leaf_put_back.new.draw.log e.put
-    (g.D.Disk.story c.args.store.now.disk) (g.D.Disk.story c.leaf_put_back.new.draw.disk) (c.leaf_put_back.new.draw.disk ≡ c.args.store.now.disk) (g.D.Disk.faults c.args.store.now.disk) (g.D.Disk.faults c.leaf_put_back.new.draw.disk) e.fits.2 e.drew e.last)
+    (holds_back c.every_room.ensures z v w x c.args.work.now.log c.requires.holds c.newest_left-undone.result c.requires.is_open c.newest_left-undone.ensures.newest c.in-Done.field-0 _ c.args.work.now.staged.list c.leaf_put_back.new.draw.staged.list y c.leaf_put_back.new.draw.log e.put
+    (g.D.Disk.story c.args.work.now.disk) (g.D.Disk.story c.leaf_put_back.new.draw.disk) (c.leaf_put_back.new.draw.disk ≡ c.args.work.now.disk) (g.D.Disk.faults c.args.work.now.disk) (g.D.Disk.faults c.leaf_put_back.new.draw.disk) e.fits.2 e.drew e.last)
 
 pub returns-in-Done-clause-backs : goal.returns-in-Done-clause-backs
 returns-in-Done-clause-backs g c =
     let z = g.R.Rows.shape c.args.rows.now in
     let v = g.R.Rows.view c.args.seat.now in
     let w = g.R.Rows.view c.leaf_put_back.new.seat in
-    let x = c.args.store.now.session in
+    let x = c.args.work.now.session in
     let y = c.leaf_put_back.new.draw.session in
     let e = c.in-Done.ensures in
-    subst (λ k. IsPutBack v w x k c.args.store.now.log c.leaf_put_back.new.draw.log (g.D.Disk.story c.args.store.now.disk) (g.D.Disk.story c.leaf_put_back.new.draw.disk)) (sym (undo_set y c.pop.new.self (without_newest y.undo) _ c.pop.ensures))
-    (is_put_back c.every_room.ensures z v w x c.args.store.now.log c.requires.holds c.newest_left-undone.result c.requires.is_open c.newest_left-undone.ensures.newest c.in-Done.field-0 _ c.args.store.now.staged.list c.leaf_put_back.new.draw.staged.list y c.leaf_put_back.new.draw.log e.put
-    (g.D.Disk.story c.args.store.now.disk) (g.D.Disk.story c.leaf_put_back.new.draw.disk) (c.leaf_put_back.new.draw.disk ≡ c.args.store.now.disk) (g.D.Disk.faults c.args.store.now.disk) (g.D.Disk.faults c.leaf_put_back.new.draw.disk) e.fits.2 e.drew e.last)
+    subst (λ k. IsPutBack v w x k c.args.work.now.log c.leaf_put_back.new.draw.log (g.D.Disk.story c.args.work.now.disk) (g.D.Disk.story c.leaf_put_back.new.draw.disk)) (sym (undo_set y c.pop.new.self (without_newest y.undo) _ c.pop.ensures))
+    (is_put_back c.every_room.ensures z v w x c.args.work.now.log c.requires.holds c.newest_left-undone.result c.requires.is_open c.newest_left-undone.ensures.newest c.in-Done.field-0 _ c.args.work.now.staged.list c.leaf_put_back.new.draw.staged.list y c.leaf_put_back.new.draw.log e.put
+    (g.D.Disk.story c.args.work.now.disk) (g.D.Disk.story c.leaf_put_back.new.draw.disk) (c.leaf_put_back.new.draw.disk ≡ c.args.work.now.disk) (g.D.Disk.faults c.args.work.now.disk) (g.D.Disk.faults c.leaf_put_back.new.draw.disk) e.fits.2 e.drew e.last)
 
 pub returns-in-RowSpent-clause-holds : goal.returns-in-RowSpent-clause-holds
 returns-in-RowSpent-clause-holds g c works =
     let z = g.R.Rows.shape c.args.rows.now in
     let v = g.R.Rows.view c.args.seat.now in
     let w = g.R.Rows.view c.leaf_put_back.new.seat in
-    let x = c.args.store.now.session in
+    let x = c.args.work.now.session in
     let e = c.in-RowSpent.ensures in
     let y = c.leaf_put_back.new.draw.session in
-    holds_as z (g.R.Rows.shape c.leaf_put_back.new.rows) w x _ c.args.store.now.log c.leaf_put_back.new.draw.log e.fits.1 (half_back x y _ _ (ap (λ k. k.session) e.drew)) (ap (λ k. k.log) e.drew)
-    (holds_still z v w x c.args.store.now.log e.put.given (none_seen z.alone v w c.requires.holds.alone e.put) e.fits.2 c.requires.holds)
+    holds_as z (g.R.Rows.shape c.leaf_put_back.new.rows) w x _ c.args.work.now.log c.leaf_put_back.new.draw.log e.fits.1 (half_back x y _ _ (ap (λ k. k.session) e.drew)) (ap (λ k. k.log) e.drew)
+    (holds_still z v w x c.args.work.now.log e.put.given (none_seen z.alone v w c.requires.holds.alone e.put) e.fits.2 c.requires.holds)
 
 pub returns-in-RowSpent-clause-backs : goal.returns-in-RowSpent-clause-backs
 returns-in-RowSpent-clause-backs g c =
     let z = g.R.Rows.shape c.args.rows.now in
     let v = g.R.Rows.view c.args.seat.now in
     let w = g.R.Rows.view c.leaf_put_back.new.seat in
-    let x = c.args.store.now.session in (
+    let x = c.args.work.now.session in (
       is_spent c.every_low.ensures z c.in-RowSpent.row v w c.requires.holds.alone c.in-RowSpent.ensures.put c.versions.ensures.low c.in-RowSpent.ensures.cause,
       ap (λ (k : Session). record c.leaf_put_back.new.draw { session = k }) (half_back x c.leaf_put_back.new.draw.session _ _ (ap (λ k. k.session) c.in-RowSpent.ensures.drew)) ∙ (λ i. record (c.in-RowSpent.ensures.drew i) { session = x }),
     )
+
+pub returns-in-Done-clause-session : goal.returns-in-Done-clause-session
+returns-in-Done-clause-session g c = let e = c.in-Done.ensures.drew.session in (ap (λ (k : Session). k.own) e, ap (λ (k : Session). k.workers) e, ap (λ (k : Session). k.group) e)
+
+pub returns-in-Unstaged-DiskFault-clause-session : goal.returns-in-Unstaged-DiskFault-clause-session
+returns-in-Unstaged-DiskFault-clause-session g c = let e = c.in-Unstaged-DiskFault.ensures.drew.session in (ap (λ (k : Session). k.own) e, ap (λ (k : Session). k.workers) e, ap (λ (k : Session). k.group) e)
+
+pub returns-in-RowSpent-clause-session : goal.returns-in-RowSpent-clause-session
+returns-in-RowSpent-clause-session g c = let e = c.in-RowSpent.ensures.drew in (ap (λ k. k.session.own) e, ap (λ k. k.session.workers) e, ap (λ k. k.session.group) e)

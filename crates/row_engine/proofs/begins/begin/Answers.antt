@@ -13,22 +13,22 @@ use Rattle.row_engine.proofs.begins.begin.Goals as goal
 
 pub returns-in-Some-clause-refused : goal.returns-in-Some-clause-refused
 returns-in-Some-clause-refused g c works =
-    let x = c.args.store.now.session in
+    let x = c.args.work.now.session in
     let v = g.R.Rows.view c.args.seat.now in
-    sym (test_is (opening v.given) (state v).core x.half x c.args.store.now.log works (c.requires.holds works).session) ∙ (sym c.begin_refusal.ensures ∙ c.in-Some.is)
+    sym (test_is (opening v.given) (state v).core x.is_half_aborted x c.args.work.now.log works (c.requires.holds works).session) ∙ (sym c.begin_refusal.ensures ∙ c.in-Some.is)
 
 pub load_control-last-requires-clause-event : goal.load_control-last-requires-clause-event
 load_control-last-requires-clause-event g c n =
-    let x = c.args.store.now.session in
+    let x = c.args.work.now.session in
     let z = g.R.Rows.shape c.least_flushed-least.new.rows in
     let u = g.R.Rows.view c.least_flushed-least.new.seat in
-    let free = free_of x c.args.store.now.log (sym c.begin_refusal.ensures ∙ c.in_default.is) in
+    let free = free_of x c.args.work.now.log (sym c.begin_refusal.ensures ∙ c.in_default.is) in
     (c.every_begin.ensures z u x.own).silent (acts z u x.own (ap (λ z. z.alone) c.least_flushed-least.ensures.fits.1 ∙ (c.requires.holds free.works).alone)) (min c.least_flushed-least.result n)
 
 pub returns-clause-holds : goal.returns-clause-holds
 returns-clause-holds g c works =
-    let x = c.args.store.now.session in
-    let log = c.args.store.now.log in
+    let x = c.args.work.now.session in
+    let log = c.args.work.now.log in
     let free = free_of x log (sym c.begin_refusal.ensures ∙ c.in_default.is) in
     let z = g.R.Rows.shape c.args.rows.now in
     let y = g.R.Rows.shape c.least_flushed-least.new.rows in
@@ -43,16 +43,16 @@ returns-clause-holds g c works =
 
 pub returns-clause-free : goal.returns-clause-free
 returns-clause-free g c _ =
-    let x = c.args.store.now.session in
-    let log = c.args.store.now.log in
+    let x = c.args.work.now.session in
+    let log = c.args.work.now.log in
     let v = g.R.Rows.view c.args.seat.now in
     let works = (free_of x log (sym c.begin_refusal.ensures ∙ c.in_default.is)).works in
-    sym (test_is (opening v.given) (state v).core x.half x log works (c.requires.holds works).session) ∙ (sym c.begin_refusal.ensures ∙ c.in_default.is)
+    sym (test_is (opening v.given) (state v).core x.is_half_aborted x log works (c.requires.holds works).session) ∙ (sym c.begin_refusal.ensures ∙ c.in_default.is)
 
 pub returns-clause-begins : goal.returns-clause-begins
 returns-clause-begins g c =
-    let x = c.args.store.now.session in
-    let log = c.args.store.now.log in
+    let x = c.args.work.now.session in
+    let log = c.args.work.now.log in
     let z = g.R.Rows.shape c.args.rows.now in
     let v = g.R.Rows.view c.args.seat.now in
     let u = g.R.Rows.view c.least_flushed-least.new.seat in
@@ -63,15 +63,15 @@ returns-clause-begins g c =
     (subst (λ y. Heard y x.workers 0 (λ n. Begin x.own (min c.least_flushed-least.result n) ∷ []) u c.load_control-last.result w) c.least_flushed-least.ensures.fits.1 c.load_control-last.ensures.step) (c.begun.ensures ∙ ap (begun_session x) c.lesser.ensures)
 
 pub returns-in-Some-clause-come : goal.returns-in-Some-clause-come
-returns-in-Some-clause-come g c = begin_comes c.args.store.now.session c.args.store.now.log c.in-Some.why (sym c.begin_refusal.ensures ∙ c.in-Some.is)
+returns-in-Some-clause-come g c = begin_comes c.args.work.now.session c.args.work.now.log c.in-Some.why (sym c.begin_refusal.ensures ∙ c.in-Some.is)
 
 pub returns-in-Some-clause-steps : goal.returns-in-Some-clause-steps
-returns-in-Some-clause-steps g c works still = no_steps c.args.store.now.session.own (g.R.Rows.view c.args.seat.now) (g.R.Rows.view c.args.seat.now) refl refl
+returns-in-Some-clause-steps g c works still = no_steps c.args.work.now.session.own (g.R.Rows.view c.args.seat.now) (g.R.Rows.view c.args.seat.now) refl refl
 
 pub returns-clause-steps : goal.returns-clause-steps
 returns-clause-steps g c works still =
-    let x = c.args.store.now.session in
-    let log = c.args.store.now.log in
+    let x = c.args.work.now.session in
+    let log = c.args.work.now.log in
     let free = free_of x log (sym c.begin_refusal.ensures ∙ c.in_default.is) in
     let z = g.R.Rows.shape c.args.rows.now in
     let y = g.R.Rows.shape c.least_flushed-least.new.rows in

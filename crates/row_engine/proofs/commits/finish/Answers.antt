@@ -4,7 +4,7 @@ use Rattle.map_model.specs.declared.call.Answer.TheVariants as answer
 use Rattle.map_model.specs.declared.call.Call.TheVariants as call
 use Rattle.map_model.specs.declared.call.Refusal.TheVariants as refusal
 use Rattle.row_engine.specs.Calls.{CallDoes}
-use Rattle.row_engine.specs.Ends.{HasFlushed, MayFlush, waiting_session}
+use Rattle.row_engine.specs.Inside.Ends.{HasFlushed, MayFlush, waiting_session}
 use Rattle.row_engine.specs.Puts.{KeepsLog}
 use Rattle.row_engine.specs.declared.session.Session.{Session}
 use Rattle.row_engine.proofs.TakeLemmas.{holds_as}
@@ -22,71 +22,71 @@ returns-in-Err-clause-does g c =
     let z0 = g.R.Rows.shape c.args.rows.now in
     let v0 = g.R.Rows.view c.args.seat.now in
     let v = g.R.Rows.view c.least_flushed-floor.new.seat in
-    let x = c.args.store.now.session in
-    let log = c.args.store.now.log in
+    let x = c.args.work.now.session in
+    let log = c.args.work.now.log in
     let l = c.least_flushed-floor.ensures in
     let f = found z0 (g.R.Rows.shape c.least_flushed-floor.new.rows) v0 v x log c.args.latches.now c.least_flushed-floor.result c.requires.latched l.fits.1 l.seen l.least in
     let s = l.seen c.requires.latched.holds.alone in
-    let st = g.D.Disk.story c.args.store.now.disk in
-    let lawful = ((g.met.D.Disk g.world.𝓛 g.world.𝓜 g.world.𝓡 ((λ s x. x), (λ x. x), (λ x. x), (λ x. x))).lawful c.args.store.now.disk) in
+    let st = g.D.Disk.story c.args.work.now.disk in
+    let lawful = ((g.met.D.Disk g.world.𝓛 g.world.𝓜 g.world.𝓡 ((λ s x. x), (λ x. x), (λ x. x), (λ x. x))).lawful c.args.work.now.disk) in
     let new = g.D.Disk.story c.stage_end.new.disk in
     let e = c.in-Err.ensures in
     let keeps : KeepsLog x.own log st new = record { on = record { moments = e.any_moment; told = e.told; notes = e.same_notes }; frame = frame_of x.own _ _ e.frame; within = e.within } in
-    does_from x.own x.group (answer.Refused refusal.DiskFault) x.half (x.half) v0 v (v) log (c.stage_end.new.log) st (new) s.given s.seen
-    (unstaged_does (g.R.Rows.shape c.least_flushed-floor.new.rows) v x log c.args.latches.now c.requires.is_open c.least_flushed-floor.result f _ refl c.requires.whole c.every_reached.ensures c.every_need.ensures c.every_answer.ensures c.every_entry.ensures c.every_version.ensures c.every_kept.ensures c.every_prefix.ensures c.every_sealed.ensures st lawful new keeps x.half v c.stage_end.new.log)
+    does_from x.own x.group (answer.Refused refusal.DiskFault) x.is_half_aborted (x.is_half_aborted) v0 v (v) log (c.stage_end.new.log) st (new) s.given s.seen
+    (unstaged_does (g.R.Rows.shape c.least_flushed-floor.new.rows) v x log c.args.latches.now c.requires.is_open c.least_flushed-floor.result f _ refl c.requires.whole c.every_reached.ensures c.every_need.ensures c.every_answer.ensures c.every_entry.ensures c.every_version.ensures c.every_kept.ensures c.every_prefix.ensures c.every_sealed.ensures st lawful new keeps x.is_half_aborted v c.stage_end.new.log)
 
 pub end_rows-requires-clause-may_end : goal.end_rows-requires-clause-may_end
 end_rows-requires-clause-may_end g c =
     let z0 = g.R.Rows.shape c.args.rows.now in
     let v0 = g.R.Rows.view c.args.seat.now in
     let v = g.R.Rows.view c.least_flushed-floor.new.seat in
-    let x = c.args.store.now.session in
-    let log = c.args.store.now.log in
+    let x = c.args.work.now.session in
+    let log = c.args.work.now.log in
     let l = c.least_flushed-floor.ensures in
     let f = found z0 (g.R.Rows.shape c.least_flushed-floor.new.rows) v0 v x log c.args.latches.now c.least_flushed-floor.result c.requires.latched l.fits.1 l.seen l.least in
     let s = l.seen c.requires.latched.holds.alone in
     may_end_at (g.R.Rows.shape c.least_flushed-floor.new.rows) v x log c.args.latches.now c.requires.is_open c.least_flushed-floor.result f _ refl true (λ e. absurd (true≢false e))
 
-pub returns-then-store-clause-holds : goal.returns-then-store-clause-holds
-returns-then-store-clause-holds g c works =
+pub returns-then-work-clause-holds : goal.returns-then-work-clause-holds
+returns-then-work-clause-holds g c works =
     let z0 = g.R.Rows.shape c.args.rows.now in
     let v0 = g.R.Rows.view c.args.seat.now in
     let v = g.R.Rows.view c.least_flushed-floor.new.seat in
-    let x = c.args.store.now.session in
-    let log = c.args.store.now.log in
+    let x = c.args.work.now.session in
+    let log = c.args.work.now.log in
     let l = c.least_flushed-floor.ensures in
     let f = found z0 (g.R.Rows.shape c.least_flushed-floor.new.rows) v0 v x log c.args.latches.now c.least_flushed-floor.result c.requires.latched l.fits.1 l.seen l.least in
     let s = l.seen c.requires.latched.holds.alone in
     let w = g.R.Rows.view c.end_rows.new.seat in
-    let same = waiting_is x c.close_by_commit.new.session (x.clock + 1) c.close_by_commit.ensures in
-    holds_as (g.R.Rows.shape c.least_flushed-floor.new.rows) (g.R.Rows.shape c.end_rows.new.rows) w (waiting_session x (x.clock + 1) (suc x.behind)) _ c.stage_end.new.log c.end_rows.ensures.fits.1 same
-    (holds_waiting (g.R.Rows.shape c.least_flushed-floor.new.rows) v x log c.args.latches.now c.requires.is_open c.least_flushed-floor.result f _ refl true w c.end_rows.ensures.ended c.stage_end.new.log (same_flushed _ log c.stage_end.new.log c.in_default.ensures.after) c.in_default.ensures.last (waits x _ (x.clock + 1) same c.if-store.true))
+    let same = waiting_is x c.close_by_commit.new.session (x.clock.clock + 1) c.close_by_commit.ensures in
+    holds_as (g.R.Rows.shape c.least_flushed-floor.new.rows) (g.R.Rows.shape c.end_rows.new.rows) w (waiting_session x (x.clock.clock + 1) (suc x.unflushed)) _ c.stage_end.new.log c.end_rows.ensures.fits.1 same
+    (holds_waiting (g.R.Rows.shape c.least_flushed-floor.new.rows) v x log c.args.latches.now c.requires.is_open c.least_flushed-floor.result f _ refl true w c.end_rows.ensures.ended c.stage_end.new.log (same_flushed _ log c.stage_end.new.log c.in_default.ensures.after) c.in_default.ensures.last (waits x _ (x.clock.clock + 1) same c.if-work.true))
 
-pub returns-then-store-clause-does : goal.returns-then-store-clause-does
-returns-then-store-clause-does g c =
+pub returns-then-work-clause-does : goal.returns-then-work-clause-does
+returns-then-work-clause-does g c =
     let z0 = g.R.Rows.shape c.args.rows.now in
     let v0 = g.R.Rows.view c.args.seat.now in
     let v = g.R.Rows.view c.least_flushed-floor.new.seat in
-    let x = c.args.store.now.session in
-    let log = c.args.store.now.log in
+    let x = c.args.work.now.session in
+    let log = c.args.work.now.log in
     let l = c.least_flushed-floor.ensures in
     let f = found z0 (g.R.Rows.shape c.least_flushed-floor.new.rows) v0 v x log c.args.latches.now c.least_flushed-floor.result c.requires.latched l.fits.1 l.seen l.least in
     let s = l.seen c.requires.latched.holds.alone in
-    let st = g.D.Disk.story c.args.store.now.disk in
-    let lawful = ((g.met.D.Disk g.world.𝓛 g.world.𝓜 g.world.𝓡 ((λ s x. x), (λ x. x), (λ x. x), (λ x. x))).lawful c.args.store.now.disk) in
+    let st = g.D.Disk.story c.args.work.now.disk in
+    let lawful = ((g.met.D.Disk g.world.𝓛 g.world.𝓜 g.world.𝓡 ((λ s x. x), (λ x. x), (λ x. x), (λ x. x))).lawful c.args.work.now.disk) in
     let mid = g.D.Disk.story c.stage_end.new.disk in
     let e = c.in_default.ensures in
     let keeps : KeepsLog x.own log st mid = record { on = record { moments = e.any_moment; told = e.told; notes = e.same_notes }; frame = frame_of x.own _ _ e.frame; within = e.within } in
     let w = g.R.Rows.view c.end_rows.new.seat in
-    let same = waiting_is x c.close_by_commit.new.session (x.clock + 1) c.close_by_commit.ensures in
-    subst (λ k. CallDoes x.own x.group call.Commit (answer.Committed x.txn (x.clock + 1)) x.half k v0 w log c.stage_end.new.log st mid) (sym (ap (λ y. y.half) same))
-    (does_from x.own x.group (answer.Committed x.txn (x.clock + 1)) x.half (false) v0 v (w) log (c.stage_end.new.log) st (mid) s.given s.seen
-    (waiting_does (g.R.Rows.shape c.least_flushed-floor.new.rows) v x log c.args.latches.now c.requires.is_open c.least_flushed-floor.result f _ refl c.requires.whole c.every_reached.ensures c.every_need.ensures c.every_answer.ensures c.every_entry.ensures c.every_version.ensures c.every_kept.ensures c.every_prefix.ensures c.every_sealed.ensures st lawful w c.end_rows.ensures.ended c.need-need.result c.need-need.ensures mid c.stage_end.new.log e.stands keeps (lt-leb x.group (suc x.behind) (waits x _ (x.clock + 1) same c.if-store.true)) e.after))
+    let same = waiting_is x c.close_by_commit.new.session (x.clock.clock + 1) c.close_by_commit.ensures in
+    subst (λ k. CallDoes x.own x.group call.Commit (answer.Committed x.txn (x.clock.clock + 1)) x.is_half_aborted k v0 w log c.stage_end.new.log st mid) (sym (ap (λ y. y.is_half_aborted) same))
+    (does_from x.own x.group (answer.Committed x.txn (x.clock.clock + 1)) x.is_half_aborted (false) v0 v (w) log (c.stage_end.new.log) st (mid) s.given s.seen
+    (waiting_does (g.R.Rows.shape c.least_flushed-floor.new.rows) v x log c.args.latches.now c.requires.is_open c.least_flushed-floor.result f _ refl c.requires.whole c.every_reached.ensures c.every_need.ensures c.every_answer.ensures c.every_entry.ensures c.every_version.ensures c.every_kept.ensures c.every_prefix.ensures c.every_sealed.ensures st lawful w c.end_rows.ensures.ended c.need-need.result c.need-need.ensures mid c.stage_end.new.log e.stands keeps (lt-leb x.group (suc x.unflushed) (waits x _ (x.clock.clock + 1) same c.if-work.true)) e.after))
 
-pub returns-then-store-clause-session : goal.returns-then-store-clause-session
-returns-then-store-clause-session g c works =
-    let x = c.args.store.now.session in
-    let same = waiting_is x c.close_by_commit.new.session (x.clock + 1) c.close_by_commit.ensures in
+pub returns-then-work-clause-session : goal.returns-then-work-clause-session
+returns-then-work-clause-session g c =
+    let x = c.args.work.now.session in
+    let same = waiting_is x c.close_by_commit.new.session (x.clock.clock + 1) c.close_by_commit.ensures in
     (ap (λ (k : Session). k.own) same, ap (λ (k : Session). k.workers) same, ap (λ (k : Session). k.group) same)
 
 pub flush_log-requires-clause-may : goal.flush_log-requires-clause-may
@@ -94,66 +94,66 @@ flush_log-requires-clause-may g c _ _ =
     let z0 = g.R.Rows.shape c.args.rows.now in
     let v0 = g.R.Rows.view c.args.seat.now in
     let v = g.R.Rows.view c.least_flushed-floor.new.seat in
-    let x = c.args.store.now.session in
-    let log = c.args.store.now.log in
+    let x = c.args.work.now.session in
+    let log = c.args.work.now.log in
     let l = c.least_flushed-floor.ensures in
     let f = found z0 (g.R.Rows.shape c.least_flushed-floor.new.rows) v0 v x log c.args.latches.now c.least_flushed-floor.result c.requires.latched l.fits.1 l.seen l.least in
     let s = l.seen c.requires.latched.holds.alone in
     let w = g.R.Rows.view c.end_rows.new.seat in
-    let same = waiting_is x c.close_by_commit.new.session (x.clock + 1) c.close_by_commit.ensures in
+    let same = waiting_is x c.close_by_commit.new.session (x.clock.clock + 1) c.close_by_commit.ensures in
     subst (λ k. MayFlush k w c.close_by_commit.new.session c.stage_end.new.log) (sym c.end_rows.ensures.fits.1) (subst (λ y. MayFlush (g.R.Rows.shape c.least_flushed-floor.new.rows) w y c.stage_end.new.log) (sym same)
-    (may_flush_at (g.R.Rows.shape c.least_flushed-floor.new.rows) v x log c.args.latches.now c.requires.is_open c.least_flushed-floor.result f _ refl true w c.end_rows.ensures.ended (suc x.behind) c.stage_end.new.log c.in_default.ensures.last))
+    (may_flush_at (g.R.Rows.shape c.least_flushed-floor.new.rows) v x log c.args.latches.now c.requires.is_open c.least_flushed-floor.result f _ refl true w c.end_rows.ensures.ended (suc x.unflushed) c.stage_end.new.log c.in_default.ensures.last))
 
 pub returns-in-Err-flush_log-clause-does : goal.returns-in-Err-flush_log-clause-does
 returns-in-Err-flush_log-clause-does g c =
     let z0 = g.R.Rows.shape c.args.rows.now in
     let v0 = g.R.Rows.view c.args.seat.now in
     let v = g.R.Rows.view c.least_flushed-floor.new.seat in
-    let x = c.args.store.now.session in
-    let log = c.args.store.now.log in
+    let x = c.args.work.now.session in
+    let log = c.args.work.now.log in
     let l = c.least_flushed-floor.ensures in
     let f = found z0 (g.R.Rows.shape c.least_flushed-floor.new.rows) v0 v x log c.args.latches.now c.least_flushed-floor.result c.requires.latched l.fits.1 l.seen l.least in
     let s = l.seen c.requires.latched.holds.alone in
-    let st = g.D.Disk.story c.args.store.now.disk in
-    let lawful = ((g.met.D.Disk g.world.𝓛 g.world.𝓜 g.world.𝓡 ((λ s x. x), (λ x. x), (λ x. x), (λ x. x))).lawful c.args.store.now.disk) in
+    let st = g.D.Disk.story c.args.work.now.disk in
+    let lawful = ((g.met.D.Disk g.world.𝓛 g.world.𝓜 g.world.𝓡 ((λ s x. x), (λ x. x), (λ x. x), (λ x. x))).lawful c.args.work.now.disk) in
     let mid = g.D.Disk.story c.stage_end.new.disk in
     let e = c.in_default.ensures in
     let keeps : KeepsLog x.own log st mid = record { on = record { moments = e.any_moment; told = e.told; notes = e.same_notes }; frame = frame_of x.own _ _ e.frame; within = e.within } in
     let w = g.R.Rows.view c.end_rows.new.seat in
-    let same = waiting_is x c.close_by_commit.new.session (x.clock + 1) c.close_by_commit.ensures in
-    let new = g.D.Disk.story c.flush_log.new.store.disk in
+    let same = waiting_is x c.close_by_commit.new.session (x.clock.clock + 1) c.close_by_commit.ensures in
+    let new = g.D.Disk.story c.flush_log.new.work.disk in
     let u = g.R.Rows.view c.flush_log.new.seat in
-    let y = c.flush_log.new.store.session in
-    let is = c.flush_log.new.store.log in
+    let y = c.flush_log.new.work.session in
+    let is = c.flush_log.new.work.log in
     let flushing : KeepsLog x.own c.stage_end.new.log mid new = subst (λ k. KeepsLog k c.stage_end.new.log mid new) (ap (λ k. k.own) same) c.in-Err-flush_log.ensures.keeps in
-    subst (λ why. CallDoes x.own x.group call.Commit (answer.Refused why) x.half y.half v0 u log is st new) (sym c.in-Err-flush_log.ensures.only_disk_fault)
-    (does_from x.own x.group (answer.Refused refusal.DiskFault) x.half (y.half) v0 v (u) log (is) st (new) s.given s.seen
-    (unflushed_does (g.R.Rows.shape c.least_flushed-floor.new.rows) v x log c.args.latches.now c.requires.is_open c.least_flushed-floor.result f _ refl c.requires.whole c.every_reached.ensures c.every_need.ensures c.every_answer.ensures c.every_entry.ensures c.every_version.ensures c.every_kept.ensures c.every_prefix.ensures c.every_sealed.ensures st lawful w c.end_rows.ensures.ended c.need-need.result c.need-need.ensures mid c.stage_end.new.log e.stands keeps (fills x _ (x.clock + 1) same c.if-store.false) new flushing y.half u is))
+    subst (λ why. CallDoes x.own x.group call.Commit (answer.Refused why) x.is_half_aborted y.is_half_aborted v0 u log is st new) (sym c.in-Err-flush_log.ensures.only_disk_fault)
+    (does_from x.own x.group (answer.Refused refusal.DiskFault) x.is_half_aborted (y.is_half_aborted) v0 v (u) log (is) st (new) s.given s.seen
+    (unflushed_does (g.R.Rows.shape c.least_flushed-floor.new.rows) v x log c.args.latches.now c.requires.is_open c.least_flushed-floor.result f _ refl c.requires.whole c.every_reached.ensures c.every_need.ensures c.every_answer.ensures c.every_entry.ensures c.every_version.ensures c.every_kept.ensures c.every_prefix.ensures c.every_sealed.ensures st lawful w c.end_rows.ensures.ended c.need-need.result c.need-need.ensures mid c.stage_end.new.log e.stands keeps (fills x _ (x.clock.clock + 1) same c.if-work.false) new flushing y.is_half_aborted u is))
 
 pub returns-clause-holds : goal.returns-clause-holds
 returns-clause-holds g c works =
     let z0 = g.R.Rows.shape c.args.rows.now in
     let v0 = g.R.Rows.view c.args.seat.now in
     let v = g.R.Rows.view c.least_flushed-floor.new.seat in
-    let x = c.args.store.now.session in
-    let log = c.args.store.now.log in
+    let x = c.args.work.now.session in
+    let log = c.args.work.now.log in
     let l = c.least_flushed-floor.ensures in
     let f = found z0 (g.R.Rows.shape c.least_flushed-floor.new.rows) v0 v x log c.args.latches.now c.least_flushed-floor.result c.requires.latched l.fits.1 l.seen l.least in
     let s = l.seen c.requires.latched.holds.alone in
     let w = g.R.Rows.view c.end_rows.new.seat in
-    let same = waiting_is x c.close_by_commit.new.session (x.clock + 1) c.close_by_commit.ensures in
+    let same = waiting_is x c.close_by_commit.new.session (x.clock.clock + 1) c.close_by_commit.ensures in
     let u = g.R.Rows.view c.flush_log.new.seat in
-    let y = c.flush_log.new.store.session in
-    let is = c.flush_log.new.store.log in
+    let y = c.flush_log.new.work.session in
+    let is = c.flush_log.new.work.log in
     let mid = g.D.Disk.story c.stage_end.new.disk in
-    let new = g.D.Disk.story c.flush_log.new.store.disk in
-    let d : HasFlushed w u (waiting_session x (x.clock + 1) (suc x.behind)) y c.stage_end.new.log is mid new = subst (λ k. HasFlushed w u k y c.stage_end.new.log is mid new) same c.in_default-flush_log.ensures.flushed in
+    let new = g.D.Disk.story c.flush_log.new.work.disk in
+    let d : HasFlushed w u (waiting_session x (x.clock.clock + 1) (suc x.unflushed)) y c.stage_end.new.log is mid new = subst (λ k. HasFlushed w u k y c.stage_end.new.log is mid new) same c.in_default-flush_log.ensures.flushed in
     holds_as (g.R.Rows.shape c.least_flushed-floor.new.rows) (g.R.Rows.shape c.flush_log.new.rows) u y y is (c.in_default-flush_log.ensures.fits.1 ∙ c.end_rows.ensures.fits.1) refl
-    (holds_flushed (g.R.Rows.shape c.least_flushed-floor.new.rows) v x log c.args.latches.now c.requires.is_open c.least_flushed-floor.result f _ refl true w c.end_rows.ensures.ended (suc x.behind) u y c.stage_end.new.log is mid new c.in_default.ensures.last d)
+    (holds_flushed (g.R.Rows.shape c.least_flushed-floor.new.rows) v x log c.args.latches.now c.requires.is_open c.least_flushed-floor.result f _ refl true w c.end_rows.ensures.ended (suc x.unflushed) u y c.stage_end.new.log is mid new c.in_default.ensures.last d)
 
 pub returns-clause-session : goal.returns-clause-session
-returns-clause-session g c works =
-    let x = c.args.store.now.session in
+returns-clause-session g c =
+    let x = c.args.work.now.session in
     let same = c.close_by_commit.ensures in
     let last = c.in_default-flush_log.ensures.flushed.session in
     (ap (λ (k : Session). k.own) last ∙ ap (λ (k : Session). k.own) same, ap (λ (k : Session). k.workers) last ∙ ap (λ (k : Session). k.workers) same, ap (λ (k : Session). k.group) last ∙ ap (λ (k : Session). k.group) same)
@@ -163,34 +163,34 @@ returns-clause-does g c =
     let z0 = g.R.Rows.shape c.args.rows.now in
     let v0 = g.R.Rows.view c.args.seat.now in
     let v = g.R.Rows.view c.least_flushed-floor.new.seat in
-    let x = c.args.store.now.session in
-    let log = c.args.store.now.log in
+    let x = c.args.work.now.session in
+    let log = c.args.work.now.log in
     let l = c.least_flushed-floor.ensures in
     let f = found z0 (g.R.Rows.shape c.least_flushed-floor.new.rows) v0 v x log c.args.latches.now c.least_flushed-floor.result c.requires.latched l.fits.1 l.seen l.least in
     let s = l.seen c.requires.latched.holds.alone in
-    let st = g.D.Disk.story c.args.store.now.disk in
-    let lawful = ((g.met.D.Disk g.world.𝓛 g.world.𝓜 g.world.𝓡 ((λ s x. x), (λ x. x), (λ x. x), (λ x. x))).lawful c.args.store.now.disk) in
+    let st = g.D.Disk.story c.args.work.now.disk in
+    let lawful = ((g.met.D.Disk g.world.𝓛 g.world.𝓜 g.world.𝓡 ((λ s x. x), (λ x. x), (λ x. x), (λ x. x))).lawful c.args.work.now.disk) in
     let mid = g.D.Disk.story c.stage_end.new.disk in
     let e = c.in_default.ensures in
     let keeps : KeepsLog x.own log st mid = record { on = record { moments = e.any_moment; told = e.told; notes = e.same_notes }; frame = frame_of x.own _ _ e.frame; within = e.within } in
     let w = g.R.Rows.view c.end_rows.new.seat in
-    let same = waiting_is x c.close_by_commit.new.session (x.clock + 1) c.close_by_commit.ensures in
-    let new = g.D.Disk.story c.flush_log.new.store.disk in
+    let same = waiting_is x c.close_by_commit.new.session (x.clock.clock + 1) c.close_by_commit.ensures in
+    let new = g.D.Disk.story c.flush_log.new.work.disk in
     let u = g.R.Rows.view c.flush_log.new.seat in
-    let y = c.flush_log.new.store.session in
-    let is = c.flush_log.new.store.log in
+    let y = c.flush_log.new.work.session in
+    let is = c.flush_log.new.work.log in
     let flushing : KeepsLog x.own c.stage_end.new.log mid new = subst (λ k. KeepsLog k c.stage_end.new.log mid new) (ap (λ k. k.own) same) c.in_default-flush_log.ensures.keeps in
-    let d : HasFlushed w u (waiting_session x (x.clock + 1) (suc x.behind)) y c.stage_end.new.log is mid new = subst (λ k. HasFlushed w u k y c.stage_end.new.log is mid new) same c.in_default-flush_log.ensures.flushed in
-    subst (λ k. CallDoes x.own x.group call.Commit (answer.Committed x.txn (x.clock + 1)) x.half k v0 u log is st new) (sym (ap (λ k. k.half) d.session))
-    (does_from x.own x.group (answer.Committed x.txn (x.clock + 1)) x.half (false) v0 v (u) log (is) st (new) s.given s.seen
-    (flushed_does (g.R.Rows.shape c.least_flushed-floor.new.rows) v x log c.args.latches.now c.requires.is_open c.least_flushed-floor.result f _ refl c.requires.whole c.every_reached.ensures c.every_need.ensures c.every_answer.ensures c.every_entry.ensures c.every_version.ensures c.every_kept.ensures c.every_prefix.ensures c.every_sealed.ensures st lawful w c.end_rows.ensures.ended c.need-need.result c.need-need.ensures mid c.stage_end.new.log e.stands keeps (fills x _ (x.clock + 1) same c.if-store.false) new flushing (suc x.behind) u y is d c.in_default.ensures.last e.after))
+    let d : HasFlushed w u (waiting_session x (x.clock.clock + 1) (suc x.unflushed)) y c.stage_end.new.log is mid new = subst (λ k. HasFlushed w u k y c.stage_end.new.log is mid new) same c.in_default-flush_log.ensures.flushed in
+    subst (λ k. CallDoes x.own x.group call.Commit (answer.Committed x.txn (x.clock.clock + 1)) x.is_half_aborted k v0 u log is st new) (sym (ap (λ k. k.is_half_aborted) d.session))
+    (does_from x.own x.group (answer.Committed x.txn (x.clock.clock + 1)) x.is_half_aborted (false) v0 v (u) log (is) st (new) s.given s.seen
+    (flushed_does (g.R.Rows.shape c.least_flushed-floor.new.rows) v x log c.args.latches.now c.requires.is_open c.least_flushed-floor.result f _ refl c.requires.whole c.every_reached.ensures c.every_need.ensures c.every_answer.ensures c.every_entry.ensures c.every_version.ensures c.every_kept.ensures c.every_prefix.ensures c.every_sealed.ensures st lawful w c.end_rows.ensures.ended c.need-need.result c.need-need.ensures mid c.stage_end.new.log e.stands keeps (fills x _ (x.clock.clock + 1) same c.if-work.false) new flushing (suc x.unflushed) u y is d c.in_default.ensures.last e.after))
 
-pub returns-then-store-clause-steps : goal.returns-then-store-clause-steps
-returns-then-store-clause-steps g c works =
+pub returns-then-work-clause-steps : goal.returns-then-work-clause-steps
+returns-then-work-clause-steps g c works =
     let v0 = g.R.Rows.view c.args.seat.now in
     let v = g.R.Rows.view c.least_flushed-floor.new.seat in
     let w = g.R.Rows.view c.end_rows.new.seat in
-    let own = c.args.store.now.session.own in
+    let own = c.args.work.now.session.own in
     let s = c.least_flushed-floor.ensures.seen c.requires.latched.holds.alone in
     every_steps own v0 v w (no_steps own v0 v s.given s.seen) (ended_steps own _ v w true c.least_flushed-floor.result c.end_rows.ensures.ended)
 
@@ -202,36 +202,36 @@ returns-clause-steps g c works =
     let v = g.R.Rows.view c.least_flushed-floor.new.seat in
     let w = g.R.Rows.view c.end_rows.new.seat in
     let u = g.R.Rows.view c.flush_log.new.seat in
-    let x = c.args.store.now.session in
-    let y = c.flush_log.new.store.session in
-    let log = c.args.store.now.log in
-    let is = c.flush_log.new.store.log in
+    let x = c.args.work.now.session in
+    let y = c.flush_log.new.work.session in
+    let log = c.args.work.now.log in
+    let is = c.flush_log.new.work.log in
     let l = c.least_flushed-floor.ensures in
     let f = found z0 z v0 v x log c.args.latches.now c.least_flushed-floor.result c.requires.latched l.fits.1 l.seen l.least in
     let s = l.seen c.requires.latched.holds.alone in
     let mid = g.D.Disk.story c.stage_end.new.disk in
-    let new = g.D.Disk.story c.flush_log.new.store.disk in
-    let same = waiting_is x c.close_by_commit.new.session (x.clock + 1) c.close_by_commit.ensures in
-    let d : HasFlushed w u (waiting_session x (x.clock + 1) (suc x.behind)) y c.stage_end.new.log is mid new = subst (λ k. HasFlushed w u k y c.stage_end.new.log is mid new) same c.in_default-flush_log.ensures.flushed in
-    let may = may_flush_at z v x log c.args.latches.now c.requires.is_open c.least_flushed-floor.result f _ refl true w c.end_rows.ensures.ended (suc x.behind) c.stage_end.new.log c.in_default.ensures.last in
+    let new = g.D.Disk.story c.flush_log.new.work.disk in
+    let same = waiting_is x c.close_by_commit.new.session (x.clock.clock + 1) c.close_by_commit.ensures in
+    let d : HasFlushed w u (waiting_session x (x.clock.clock + 1) (suc x.unflushed)) y c.stage_end.new.log is mid new = subst (λ k. HasFlushed w u k y c.stage_end.new.log is mid new) same c.in_default-flush_log.ensures.flushed in
+    let may = may_flush_at z v x log c.args.latches.now c.requires.is_open c.least_flushed-floor.result f _ refl true w c.end_rows.ensures.ended (suc x.unflushed) c.stage_end.new.log c.in_default.ensures.last in
     every_steps x.own v0 v u (no_steps x.own v0 v s.given s.seen) (every_steps x.own v w u (ended_steps x.own _ v w true c.least_flushed-floor.result c.end_rows.ensures.ended)
-    (flushed_steps z w u (waiting_session x (x.clock + 1) (suc x.behind)) y c.stage_end.new.log c.stage_end.new.log is mid new may d))
+    (flushed_steps z w u (waiting_session x (x.clock.clock + 1) (suc x.unflushed)) y c.stage_end.new.log c.stage_end.new.log is mid new may d))
 
-pub returns-then-store-clause-receipt : goal.returns-then-store-clause-receipt
-returns-then-store-clause-receipt g c =
-    let x = c.args.store.now.session in
+pub returns-then-work-clause-receipt : goal.returns-then-work-clause-receipt
+returns-then-work-clause-receipt g c =
+    let x = c.args.work.now.session in
     let y = c.close_by_commit.new.session in
     let l = c.least_flushed-floor.ensures in
     let same = c.close_by_commit.ensures in
-    receipt (g.R.Rows.shape c.args.rows.now) (g.R.Rows.view c.args.seat.now) x y c.args.store.now.log c.args.latches.now c.requires.latched c.requires.is_open c.least_flushed-floor.result c.need-need.result (l.least c.requires.latched.holds.alone) c.need-need.ensures
-    (ap (λ (k : Session). k.txn) same) (ap (λ (k : Session). k.end) same) (ap (λ (k : Session). k.debt) same)
+    receipt (g.R.Rows.shape c.args.rows.now) (g.R.Rows.view c.args.seat.now) x y c.args.work.now.log c.args.latches.now c.requires.latched c.requires.is_open c.least_flushed-floor.result c.need-need.result (l.least c.requires.latched.holds.alone) c.need-need.ensures
+    (ap (λ (k : Session). k.txn) same) (ap (λ (k : Session). k.end) same) (ap (λ (k : Session). k.clock.debt) same)
 
 pub returns-clause-receipt : goal.returns-clause-receipt
 returns-clause-receipt g c =
-    let x = c.args.store.now.session in
-    let y = c.flush_log.new.store.session in
+    let x = c.args.work.now.session in
+    let y = c.flush_log.new.work.session in
     let l = c.least_flushed-floor.ensures in
     let same = c.close_by_commit.ensures in
     let last = c.in_default-flush_log.ensures.flushed.session in
-    receipt (g.R.Rows.shape c.args.rows.now) (g.R.Rows.view c.args.seat.now) x y c.args.store.now.log c.args.latches.now c.requires.latched c.requires.is_open c.least_flushed-floor.result c.need-need.result (l.least c.requires.latched.holds.alone) c.need-need.ensures
-    (ap (λ (k : Session). k.txn) last ∙ ap (λ (k : Session). k.txn) same) (ap (λ (k : Session). k.end) last ∙ ap (λ (k : Session). k.end) same) (ap (λ (k : Session). k.debt) last ∙ ap (λ (k : Session). k.debt) same)
+    receipt (g.R.Rows.shape c.args.rows.now) (g.R.Rows.view c.args.seat.now) x y c.args.work.now.log c.args.latches.now c.requires.latched c.requires.is_open c.least_flushed-floor.result c.need-need.result (l.least c.requires.latched.holds.alone) c.need-need.ensures
+    (ap (λ (k : Session). k.txn) last ∙ ap (λ (k : Session). k.txn) same) (ap (λ (k : Session). k.end) last ∙ ap (λ (k : Session). k.end) same) (ap (λ (k : Session). k.clock.debt) last ∙ ap (λ (k : Session). k.clock.debt) same)

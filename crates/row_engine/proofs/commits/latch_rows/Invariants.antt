@@ -1,5 +1,5 @@
 use Rattle.std.proofs.Common.{◌≡◌}
-use Rattle.row_engine.specs.Ends.{AreMarkedTo, Latching}
+use Rattle.row_engine.specs.Inside.Ends.{AreMarkedTo, Latching}
 use Rattle.row_engine.proofs.commits.latch_rows.Given as goal
 
 abbrev pub invariant-loop-at : goal.invariant-loop-at

@@ -1,5 +1,5 @@
 use Rattle.std.proofs.Common.{◌≡◌}
-use Rattle.row_engine.specs.Ends.{Missing}
+use Rattle.row_engine.specs.Inside.Ends.{Missing}
 use Rattle.row_engine.proofs.commits.unlatch_rows.Given as goal
 
 abbrev pub invariant-loop-at : goal.invariant-loop-at

@@ -1,5 +1,5 @@
 use Rattle.std.proofs.Common.{◌≡◌}
-use Rattle.row_engine.specs.Ends.{Giving}
+use Rattle.row_engine.specs.Inside.Ends.{Giving}
 use Rattle.row_engine.proofs.commits.unlock_rows.Given as goal
 
 abbrev pub invariant-loop-at : goal.invariant-loop-at

@@ -9,21 +9,21 @@ use Rattle.row_engine.proofs.dels.del_held.Goals as goal
 
 pub unreachable-requires-in-Cold : goal.unreachable-requires-in-Cold
 unreachable-requires-in-Cold g c =
-    not_cold (g.R.Rows.shape c.args.rows.now) (g.R.Rows.view c.args.seat.now) (g.R.Rows.view c.leaf_del.new.seat) c.args.store.now.session c.args.store.now.log c.args.key c.in-Cold.field-0 c.requires.holds c.in-Cold.ensures.fits.2 c.in-Cold.ensures.del
+    not_cold (g.R.Rows.shape c.args.rows.now) (g.R.Rows.view c.args.seat.now) (g.R.Rows.view c.leaf_del.new.seat) c.args.work.now.session c.args.work.now.log c.args.key c.in-Cold.field-0 c.requires.holds c.in-Cold.ensures.fits.2 c.in-Cold.ensures.del
 
 pub leaf_del-requires-clause-may : goal.leaf_del-requires-clause-may
-leaf_del-requires-clause-may g c = may_put (g.R.Rows.shape c.args.rows.now) (g.R.Rows.view c.args.seat.now) c.args.store.now.session c.args.store.now.log c.args.key TOMBSTONE c.requires.holds c.requires.may (omega arith)
+leaf_del-requires-clause-may g c = may_put (g.R.Rows.shape c.args.rows.now) (g.R.Rows.view c.args.seat.now) c.args.work.now.session c.args.work.now.log c.args.key TOMBSTONE c.requires.holds c.requires.may (omega arith)
 
 pub returns-in-Done-clause-dels : goal.returns-in-Done-clause-dels
 returns-in-Done-clause-dels g c =
     let z = g.R.Rows.shape c.args.rows.now in
     let v = g.R.Rows.view c.args.seat.now in
     let w = g.R.Rows.view c.leaf_del.new.seat in
-    let old = g.D.Disk.story c.args.store.now.disk in
+    let old = g.D.Disk.story c.args.work.now.disk in
     let new = g.D.Disk.story c.leaf_del.new.draw.disk in
-    subst (λ (b : Option ℕ). IsChanged c.args.store.now.session.own v w c.args.key TOMBSTONE b c.args.store.now.log c.leaf_del.new.draw.log old new) (value_said c.in-Done.was c.in-Done.ensures.del.value)
-    (is_changed z v w c.args.store.now.session c.args.store.now.log c.args.key TOMBSTONE (Some c.in-Done.was) c.args.store.now.staged.list c.leaf_del.new.draw.staged.list c.leaf_del.new.draw.session c.leaf_del.new.draw.log
-    old new (c.leaf_del.new.draw.disk ≡ c.args.store.now.disk) (g.D.Disk.faults c.args.store.now.disk) (g.D.Disk.faults c.leaf_del.new.draw.disk) c.requires.holds.alone c.in-Done.ensures.del.changed c.in-Done.ensures.drew)
+    subst (λ (b : Option ℕ). IsChanged c.args.work.now.session.own v w c.args.key TOMBSTONE b c.args.work.now.log c.leaf_del.new.draw.log old new) (value_said c.in-Done.was c.in-Done.ensures.del.value)
+    (is_changed z v w c.args.work.now.session c.args.work.now.log c.args.key TOMBSTONE (Some c.in-Done.was) c.args.work.now.staged.list c.leaf_del.new.draw.staged.list c.leaf_del.new.draw.session c.leaf_del.new.draw.log
+    old new (c.leaf_del.new.draw.disk ≡ c.args.work.now.disk) (g.D.Disk.faults c.args.work.now.disk) (g.D.Disk.faults c.leaf_del.new.draw.disk) c.requires.holds.alone c.in-Done.ensures.del.changed c.in-Done.ensures.drew)
 
 pub returns-in-Done-clause-holds : goal.returns-in-Done-clause-holds
 returns-in-Done-clause-holds g c works =
@@ -32,29 +32,29 @@ returns-in-Done-clause-holds g c works =
     let w = g.R.Rows.view c.leaf_del.new.seat in
     let y = c.leaf_del.new.draw.session in
     holds_as z (g.R.Rows.shape c.leaf_del.new.rows) w (record y { undo = record { key = c.args.key; word = c.in-Done.was } ∷ y.undo }) _ c.leaf_del.new.draw.log c.leaf_del.new.draw.log c.in-Done.ensures.fits.1 (undo_set y c.push.new.self (record { key = c.args.key; word = c.in-Done.was } ∷ y.undo) _ c.push.ensures) refl
-    (holds_changed c.every_room.ensures z v w c.args.store.now.session c.args.store.now.log c.requires.holds c.args.key TOMBSTONE c.requires.may (Some c.in-Done.was) c.args.store.now.staged.list c.leaf_del.new.draw.staged.list y c.leaf_del.new.draw.log c.in-Done.ensures.del.changed
-    (g.D.Disk.story c.args.store.now.disk) (g.D.Disk.story c.leaf_del.new.draw.disk) (c.leaf_del.new.draw.disk ≡ c.args.store.now.disk) (g.D.Disk.faults c.args.store.now.disk) (g.D.Disk.faults c.leaf_del.new.draw.disk) c.in-Done.ensures.fits.2 c.in-Done.ensures.drew c.in-Done.ensures.last)
+    (holds_changed c.every_room.ensures z v w c.args.work.now.session c.args.work.now.log c.requires.holds c.args.key TOMBSTONE c.requires.may (Some c.in-Done.was) c.args.work.now.staged.list c.leaf_del.new.draw.staged.list y c.leaf_del.new.draw.log c.in-Done.ensures.del.changed
+    (g.D.Disk.story c.args.work.now.disk) (g.D.Disk.story c.leaf_del.new.draw.disk) (c.leaf_del.new.draw.disk ≡ c.args.work.now.disk) (g.D.Disk.faults c.args.work.now.disk) (g.D.Disk.faults c.leaf_del.new.draw.disk) c.in-Done.ensures.fits.2 c.in-Done.ensures.drew c.in-Done.ensures.last)
 
 pub returns-in-Absent-clause-holds : goal.returns-in-Absent-clause-holds
 returns-in-Absent-clause-holds g c works =
     let z = g.R.Rows.shape c.args.rows.now in
     let v = g.R.Rows.view c.args.seat.now in
     let w = g.R.Rows.view c.leaf_del.new.seat in
-    let x = c.args.store.now.session in
+    let x = c.args.work.now.session in
     let y = c.leaf_del.new.draw.session in
     let e = c.in-Absent.ensures in
-    holds_as z (g.R.Rows.shape c.leaf_del.new.rows) w y y c.args.store.now.log c.leaf_del.new.draw.log e.fits.1 refl (ap (λ k. k.log) e.drew)
-    (holds_absent z v w x y c.args.store.now.log c.args.key c.requires.holds c.requires.may.is_open c.args.store.now.staged.list c.leaf_del.new.draw.staged.list e.del e.fits.2 (ap (λ k. k.session) e.drew))
+    holds_as z (g.R.Rows.shape c.leaf_del.new.rows) w y y c.args.work.now.log c.leaf_del.new.draw.log e.fits.1 refl (ap (λ k. k.log) e.drew)
+    (holds_absent z v w x y c.args.work.now.log c.args.key c.requires.holds c.requires.may.is_open c.args.work.now.staged.list c.leaf_del.new.draw.staged.list e.del e.fits.2 (ap (λ k. k.session) e.drew))
 
 pub returns-in-Absent-clause-dels : goal.returns-in-Absent-clause-dels
 returns-in-Absent-clause-dels g c =
     let z = g.R.Rows.shape c.args.rows.now in
     let v = g.R.Rows.view c.args.seat.now in
     let w = g.R.Rows.view c.leaf_del.new.seat in
-    let x = c.args.store.now.session in
+    let x = c.args.work.now.session in
     let y = c.leaf_del.new.draw.session in
     let e = c.in-Absent.ensures in
-    (is_absent z v w x y c.args.store.now.log c.args.key c.requires.holds c.requires.may.is_open c.args.store.now.staged.list c.leaf_del.new.draw.staged.list e.del e.fits.2 (ap (λ k. k.session) e.drew), ap (λ k. k.log) e.drew, ap (λ k. k.disk) e.drew)
+    (is_absent z v w x y c.args.work.now.log c.args.key c.requires.holds c.requires.may.is_open c.args.work.now.staged.list c.leaf_del.new.draw.staged.list e.del e.fits.2 (ap (λ k. k.session) e.drew), ap (λ k. k.log) e.drew, ap (λ k. k.disk) e.drew)
 
 pub returns-in-RowSpent-clause-holds : goal.returns-in-RowSpent-clause-holds
 returns-in-RowSpent-clause-holds g c works =
@@ -62,8 +62,8 @@ returns-in-RowSpent-clause-holds g c works =
     let v = g.R.Rows.view c.args.seat.now in
     let w = g.R.Rows.view c.leaf_del.new.seat in
     let e = c.in-RowSpent.ensures.del in
-    holds_as z (g.R.Rows.shape c.leaf_del.new.rows) w c.args.store.now.session c.leaf_del.new.draw.session c.args.store.now.log c.leaf_del.new.draw.log c.in-RowSpent.ensures.fits.1 (ap (λ k. k.session) c.in-RowSpent.ensures.drew) (ap (λ k. k.log) c.in-RowSpent.ensures.drew)
-    (holds_still z v w c.args.store.now.session c.args.store.now.log e.given (none_seen z.alone v w c.requires.holds.alone e) c.in-RowSpent.ensures.fits.2 c.requires.holds)
+    holds_as z (g.R.Rows.shape c.leaf_del.new.rows) w c.args.work.now.session c.leaf_del.new.draw.session c.args.work.now.log c.leaf_del.new.draw.log c.in-RowSpent.ensures.fits.1 (ap (λ k. k.session) c.in-RowSpent.ensures.drew) (ap (λ k. k.log) c.in-RowSpent.ensures.drew)
+    (holds_still z v w c.args.work.now.session c.args.work.now.log e.given (none_seen z.alone v w c.requires.holds.alone e) c.in-RowSpent.ensures.fits.2 c.requires.holds)
 
 pub returns-in-RowSpent-clause-dels : goal.returns-in-RowSpent-clause-dels
 returns-in-RowSpent-clause-dels g c =
@@ -74,10 +74,13 @@ returns-in-RowSpent-clause-dels g c =
 
 pub returns-in-Done-clause-cause_disk_fault : goal.returns-in-Done-clause-cause_disk_fault
 returns-in-Done-clause-cause_disk_fault g c =
-    cause_from (g.D.Disk.faults c.args.store.now.disk) (g.D.Disk.faults c.args.store.now.disk) (g.D.Disk.faults c.leaf_del.new.draw.disk) _ _ refl c.in-Done.ensures.drew.cause (λ q. absurd (ok_calm _ _ q)) (λ p. absurd (cc))
+    cause_from (g.D.Disk.faults c.args.work.now.disk) (g.D.Disk.faults c.args.work.now.disk) (g.D.Disk.faults c.leaf_del.new.draw.disk) _ _ refl c.in-Done.ensures.drew.cause (λ q. absurd (ok_calm _ _ q)) (λ p. absurd (cc))
 
 pub returns-in-Done-clause-session : goal.returns-in-Done-clause-session
-returns-in-Done-clause-session g c works = same_by_clock c.args.store.now.session c.leaf_del.new.draw.session c.in-Done.ensures.drew.session
+returns-in-Done-clause-session g c = same_by_clock c.args.work.now.session c.leaf_del.new.draw.session c.in-Done.ensures.drew.session
 
 pub returns-in-Absent-clause-session : goal.returns-in-Absent-clause-session
-returns-in-Absent-clause-session g c works = same_by_clock c.args.store.now.session c.leaf_del.new.draw.session (ap (λ k. k.session) c.in-Absent.ensures.drew)
+returns-in-Absent-clause-session g c = same_by_clock c.args.work.now.session c.leaf_del.new.draw.session (ap (λ k. k.session) c.in-Absent.ensures.drew)
+
+pub returns-in-Unstaged-DiskFault-clause-session : goal.returns-in-Unstaged-DiskFault-clause-session
+returns-in-Unstaged-DiskFault-clause-session g c = same_by_clock c.args.work.now.session c.leaf_del.new.draw.session c.in-Unstaged-DiskFault.ensures.drew.session

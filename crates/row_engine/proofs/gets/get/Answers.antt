@@ -8,32 +8,33 @@ use Rattle.btree_descent.specs.Known.{said}
 use Rattle.key_locks.specs.declared.mode.Mode.TheVariants.{Shared}
 use Rattle.engine_trait.specs.Calls.{MayCome}
 use Rattle.row_engine.specs.Calls.{CallDoes, get_answer}
-use Rattle.row_engine.specs.Takes.{NotTaken}
+use Rattle.row_engine.specs.Inside.Takes.{NotTaken}
 use Rattle.row_engine.proofs.GetLemmas.{after_read, call_open, got, key_mine, may_come, no_cold, not_got, not_taken, open_still, read_steps}
 use Rattle.row_engine.proofs.OwnSteps.{no_steps, taken_then, untaken_steps}
+use Rattle.row_engine.proofs.StageLemmas.{clock_set}
 use Rattle.row_engine.proofs.TakeLemmas.{holds_as}
 use Rattle.row_engine.proofs.gets.get.Goals as goal
 
 pub returns-in-Some-clause-does : goal.returns-in-Some-clause-does
 returns-in-Some-clause-does g c works =
-    let st = g.D.Disk.story c.args.store.now.disk in
-    let lawful = ((g.met.D.Disk g.world.𝓛 g.world.𝓜 g.world.𝓡 ((λ s x. x), (λ x. x), (λ x. x), (λ x. x))).lawful c.args.store.now.disk) in
-    not_got c.every_reached.ensures c.every_need.ensures c.every_answer.ensures c.every_coming.ensures st lawful c.every_part.ensures (g.R.Rows.shape c.args.rows.now) (g.R.Rows.view c.args.seat.now) c.args.store.now.session c.args.store.now.log (c.requires.holds works) c.args.key
+    let st = g.D.Disk.story c.args.work.now.disk in
+    let lawful = ((g.met.D.Disk g.world.𝓛 g.world.𝓜 g.world.𝓡 ((λ s x. x), (λ x. x), (λ x. x), (λ x. x))).lawful c.args.work.now.disk) in
+    not_got c.every_reached.ensures c.every_need.ensures c.every_answer.ensures c.every_coming.ensures st lawful c.every_part.ensures (g.R.Rows.shape c.args.rows.now) (g.R.Rows.view c.args.seat.now) c.args.work.now.session c.args.work.now.log (c.requires.holds works) c.args.key
     c.in-Some.why works (sym c.call_refusal.ensures ∙ c.in-Some.is)
 
 pub returns-in_err-take_row-clause-does : goal.returns-in_err-take_row-clause-does
 returns-in_err-take_row-clause-does g c works =
-    let st = g.D.Disk.story c.args.store.now.disk in
-    let lawful = ((g.met.D.Disk g.world.𝓛 g.world.𝓜 g.world.𝓡 ((λ s x. x), (λ x. x), (λ x. x), (λ x. x))).lawful c.args.store.now.disk) in
-    let x = c.args.store.now.session in
+    let st = g.D.Disk.story c.args.work.now.disk in
+    let lawful = ((g.met.D.Disk g.world.𝓛 g.world.𝓜 g.world.𝓡 ((λ s x. x), (λ x. x), (λ x. x), (λ x. x))).lawful c.args.work.now.disk) in
+    let x = c.args.work.now.session in
     let v = g.R.Rows.view c.args.seat.now in
     let w = g.R.Rows.view c.take_row.new.seat in
-    let log = c.args.store.now.log in
+    let log = c.args.work.now.log in
     let n = c.in_err-take_row.ensures.not_taken in
     let p = err_from_is_err_and c.from_residual.result c.from_residual.ensures.1 in
     let o = call_open x (sym c.call_refusal.ensures ∙ c.in_default.is) in
-    subst (λ r. CallDoes x.own x.group (call.Get c.args.key) (get_answer r) x.half c.take_row.new.session.half v w log log st st) (sym p.1)
-    (subst (λ k. CallDoes x.own x.group (call.Get c.args.key) (answer.Refused p.0) x.half k v w log log st st) (sym (ap (λ k. k.half) n.1))
+    subst (λ r. CallDoes x.own x.group (call.Get c.args.key) (get_answer r) x.is_half_aborted c.take_row.new.session.is_half_aborted v w log log st st) (sym p.1)
+    (subst (λ k. CallDoes x.own x.group (call.Get c.args.key) (answer.Refused p.0) x.is_half_aborted k v w log log st st) (sym (ap (λ k. k.is_half_aborted) n.1))
     (not_taken c.every_reached.ensures c.every_need.ensures c.every_answer.ensures c.every_coming.ensures st lawful c.every_part.ensures (g.R.Rows.shape c.args.rows.now) v x log (c.requires.holds works) c.args.key o.1 o.2 w p.0
     (subst (λ q. NotTaken q v w x.own (c.args.key % x.held.count) Shared) (sym p.2) n.0)))
 
@@ -42,7 +43,7 @@ unreachable-requires g c =
     let z = g.R.Rows.shape c.take_row.new.rows in
     let w = g.R.Rows.view c.take_row.new.seat in
     let u = g.R.Rows.view c.find.new.seat in
-    no_cold z w u c.take_row.new.session c.args.store.now.log c.take_row.ensures.holds c.args.key c.in-Cold.field-0 c.in-Cold.ensures.went c.in-Cold.ensures.fits.2
+    no_cold z w u c.take_row.new.session c.args.work.now.log c.take_row.ensures.holds c.args.key c.in-Cold.field-0 c.in-Cold.ensures.went c.in-Cold.ensures.fits.2
 
 pub returns-clause-holds : goal.returns-clause-holds
 returns-clause-holds g c works =
@@ -50,36 +51,36 @@ returns-clause-holds g c works =
     let v = g.R.Rows.view c.args.seat.now in
     let w = g.R.Rows.view c.take_row.new.seat in
     let u = g.R.Rows.view c.find.new.seat in
-    let x = c.args.store.now.session in
+    let x = c.args.work.now.session in
     let y = c.take_row.new.session in
-    let log = c.args.store.now.log in
+    let log = c.args.work.now.log in
     let o = call_open x (sym c.call_refusal.ensures ∙ c.in_default.is) in
     let t = c.in_ok-take_row.ensures.taken in
-    holds_as z (g.R.Rows.shape c.find.new.rows) u _ c.touch.new.self log c.in-Found.ensures.fits.1 c.touch.ensures
+    holds_as z (g.R.Rows.shape c.find.new.rows) u _ _ log c.in-Found.ensures.fits.1 (clock_set y _ _ _ c.touch.ensures)
     (after_read z w u y log c.take_row.ensures.holds (open_still v w x y (c.args.key % x.held.count) t o.1) c.args.key c.in-Found.found c.in-Found.ensures.went c.in-Found.ensures.fits.2 (key_mine z v w x y log c.take_row.ensures.holds c.args.key t))
 
 pub returns-clause-does : goal.returns-clause-does
 returns-clause-does g c works =
-    let st = g.D.Disk.story c.args.store.now.disk in
-    let lawful = ((g.met.D.Disk g.world.𝓛 g.world.𝓜 g.world.𝓡 ((λ s x. x), (λ x. x), (λ x. x), (λ x. x))).lawful c.args.store.now.disk) in
+    let st = g.D.Disk.story c.args.work.now.disk in
+    let lawful = ((g.met.D.Disk g.world.𝓛 g.world.𝓜 g.world.𝓡 ((λ s x. x), (λ x. x), (λ x. x), (λ x. x))).lawful c.args.work.now.disk) in
     let z = g.R.Rows.shape c.args.rows.now in
     let v = g.R.Rows.view c.args.seat.now in
     let w = g.R.Rows.view c.take_row.new.seat in
     let u = g.R.Rows.view c.find.new.seat in
-    let x = c.args.store.now.session in
+    let x = c.args.work.now.session in
     let y = c.take_row.new.session in
-    let log = c.args.store.now.log in
+    let log = c.args.work.now.log in
     let found = c.in-Found.found in
     let o = call_open x (sym c.call_refusal.ensures ∙ c.in_default.is) in
     let t = c.in_ok-take_row.ensures.taken in
-    subst (λ r. CallDoes x.own x.group (call.Get c.args.key) (answer.Value r) x.half c.touch.new.self.half v u log log st st) (sym c.value_of.ensures)
-    (subst (λ k. CallDoes x.own x.group (call.Get c.args.key) (answer.Value (said found.word)) x.half k v u log log st st) (sym (ap (λ k. k.half) c.touch.ensures ∙ ap (λ k. k.half) t.session))
+    subst (λ r. CallDoes x.own x.group (call.Get c.args.key) (answer.Value r) x.is_half_aborted y.is_half_aborted v u log log st st) (sym c.value_of.ensures)
+    (subst (λ k. CallDoes x.own x.group (call.Get c.args.key) (answer.Value (said found.word)) x.is_half_aborted k v u log log st st) (sym (ap (λ k. k.is_half_aborted) t.session))
     (λ h xs ties line. got c.every_reached.ensures c.every_need.ensures c.every_answer.ensures h xs line z v w u x y log ties (c.requires.holds works) (holds_as (g.R.Rows.shape c.take_row.new.rows) z w y y log (sym c.take_row.ensures.fits.1) refl c.take_row.ensures.holds) o.1 o.2
     c.args.key found t (subst (λ s. Stamped s.alone y.own c.args.key found w u) c.take_row.ensures.fits.1 c.in-Found.ensures.went) c.in-Found.ensures.fits.2 st lawful c.every_part.ensures))
 
 pub returns-in_err-take_row-clause-come : goal.returns-in_err-take_row-clause-come
 returns-in_err-take_row-clause-come g c =
-    let x = c.args.store.now.session in
+    let x = c.args.work.now.session in
     let v = g.R.Rows.view c.args.seat.now in
     let w = g.R.Rows.view c.take_row.new.seat in
     let row = c.args.key % x.held.count in
@@ -89,11 +90,11 @@ returns-in_err-take_row-clause-come g c =
     (inl (may_come x.workers p.0 v w x.own row Shared (subst (λ q. NotTaken q v w x.own row Shared) (sym p.2) n.not_taken.0) (λ one. p.2 ∙ n.only one)))
 
 pub returns-in-Some-clause-steps : goal.returns-in-Some-clause-steps
-returns-in-Some-clause-steps g c works still = no_steps c.args.store.now.session.own (g.R.Rows.view c.args.seat.now) (g.R.Rows.view c.args.seat.now) refl refl
+returns-in-Some-clause-steps g c works still = no_steps c.args.work.now.session.own (g.R.Rows.view c.args.seat.now) (g.R.Rows.view c.args.seat.now) refl refl
 
 pub returns-in_err-take_row-clause-steps : goal.returns-in_err-take_row-clause-steps
 returns-in_err-take_row-clause-steps g c works still =
-    let x = c.args.store.now.session in
+    let x = c.args.work.now.session in
     let v = g.R.Rows.view c.args.seat.now in
     let w = g.R.Rows.view c.take_row.new.seat in
     let p = err_from_is_err_and c.from_residual.result c.from_residual.ensures.1 in
@@ -105,9 +106,9 @@ returns-clause-steps g c works still =
     let v = g.R.Rows.view c.args.seat.now in
     let w = g.R.Rows.view c.take_row.new.seat in
     let u = g.R.Rows.view c.find.new.seat in
-    let x = c.args.store.now.session in
+    let x = c.args.work.now.session in
     let y = c.take_row.new.session in
-    let log = c.args.store.now.log in
+    let log = c.args.work.now.log in
     let o = call_open x (sym c.call_refusal.ensures ∙ c.in_default.is) in
     let t = c.in_ok-take_row.ensures.taken in
     taken_then v w u x y (c.args.key % x.held.count) Shared t

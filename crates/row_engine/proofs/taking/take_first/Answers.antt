@@ -1,6 +1,6 @@
 use Rattle.std.proofs.Common.{◌≤◌, ◌+◌, length, refl, subst}
 use Rattle.key_locks.specs.Locking.{Refuses}
-use Rattle.row_engine.proofs.TakeLemmas.{hindered, holds_as, holds_still, holds_taken, session_held, session_taken, spent, takes}
+use Rattle.row_engine.proofs.TakeLemmas.{hindered, holds_as, holds_still, holds_taken, session_taken, spent, takes}
 use Rattle.row_engine.proofs.taking.take_first.Goals as goal
 
 pub returns-in-Ok-clause-holds : goal.returns-in-Ok-clause-holds
@@ -13,7 +13,7 @@ returns-in-Ok-clause-holds g c =
     holds_as z (g.R.Rows.shape c.lock_row.new.rows) w _ _ c.args.log.now c.in-Ok.ensures.fits.1
     (session_taken x c.touch.new.self c.raise.new.self c.take.new.self stamp.number stamp.log stamp.readers row c.touch.ensures c.raise.ensures c.take.ensures _)
     (holds_taken z (g.R.Rows.view c.args.seat.now) w x c.args.log.now c.requires.holds c.requires.open_is row c.requires.row c.args.mode stamp c.in-Ok.ensures.ok c.in-Ok.ensures.fits.2
-    (subst (λ k. length k.rows ≤ k.count) (session_held x c.touch.new.self c.raise.new.self c.take.new.self stamp.number stamp.log stamp.readers row c.touch.ensures c.raise.ensures c.take.ensures) c.few.ensures))
+    (subst (λ k. length k.rows ≤ k.count) c.take.ensures c.few.ensures))
 
 pub returns-in-Ok-clause-taken : goal.returns-in-Ok-clause-taken
 returns-in-Ok-clause-taken g c =

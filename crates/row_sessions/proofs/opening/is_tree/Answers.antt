@@ -5,7 +5,7 @@ use Rattle.page_model.specs.Tree.{IsTree}
 use Rattle.page_model.specs.Check.{first_break}
 use Rattle.row_words.specs.Moments.{format_of}
 use Rattle.node_tree.specs.Nodes.{node_or, nodes_of}
-use Rattle.open_rows.specs.Opened.{page_or, page_at}
+use Rattle.row_opening.specs.Opened.{page_or, page_at}
 use Rattle.std.specs.Prelude.{slice_get, is_some}
 use Rattle.row_sessions.proofs.opening.is_tree.Goals as goal
 

@@ -6,4 +6,4 @@ use Rattle.lean_engine.proofs.engine.Engine.begin.Goals as goal
 
 pub returns-in-Begun-clause-asked : goal.returns-in-Begun-clause-asked
 returns-in-Begun-clause-asked g c =
-    subst (λ (a : Answer). Asked c.args.session calls.Begin a c.args.self.now c.ask.new.self (g.D.Disk.story c.args.self.now.disk) (g.D.Disk.story c.ask.new.self.disk)) c.in-Begun.is c.ask.ensures.asked
+    subst (λ (a : Answer). Asked g.D.Disk.story c.args.session calls.Begin a c.args.self.now c.ask.new.self) c.in-Begun.is c.ask.ensures.asked

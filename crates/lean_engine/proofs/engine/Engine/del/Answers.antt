@@ -6,4 +6,4 @@ use Rattle.lean_engine.proofs.engine.Engine.del.Goals as goal
 
 pub returns-in-Was-clause-asked : goal.returns-in-Was-clause-asked
 returns-in-Was-clause-asked g c =
-    subst (λ (a : Answer). Asked c.args.session (calls.Del c.args.key) a c.args.self.now c.ask.new.self (g.D.Disk.story c.args.self.now.disk) (g.D.Disk.story c.ask.new.self.disk)) c.in-Was.is c.ask.ensures.asked
+    subst (λ (a : Answer). Asked g.D.Disk.story c.args.session (calls.Del c.args.key) a c.args.self.now c.ask.new.self) c.in-Was.is c.ask.ensures.asked

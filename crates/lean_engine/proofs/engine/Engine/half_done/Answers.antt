@@ -1,4 +1,5 @@
 use Rattle.std.proofs.Common.{◌≤◌, sym, ap, ◌∙◌, subst}
+use Rattle.lean_engine.specs.Inside.Parts.{here}
 use Rattle.lean_engine.specs.States.{InRun, State}
 use Rattle.lean_engine.proofs.DurableLemmas.{half_in, seated_in, works_of}
 use Rattle.lean_engine.proofs.engine.Engine.half_done.Goals as goal
@@ -6,12 +7,12 @@ use Rattle.lean_engine.proofs.engine.Engine.half_done.Goals as goal
 pub is_half-requires-clause-seated : goal.is_half-requires-clause-seated
 is_half-requires-clause-seated g c =
     let m = c.self.inside.machine in
-    seated_in m.seat.view m.store.disk (record { session = m.store.session; log = m.store.log }) m.desks.items m.master c.self.inside.next c.self.inside.unripe m.rows.frames m.rows.locks m.rows.workers m.rows.words.items m.latches
+    seated_in m.seat.view m.work.disk (here m) m.desks.items m.master c.self.inside.next c.self.inside.unripe m.rows.frames m.rows.locks m.rows.workers m.rows.words.items m.latches
     (ap (λ s. s.works) c.self.view_is ∙ works_of c.is_working.result c.in_ok-is_working.field-0 c.args.self.now.works c.in_ok-is_working.was c.is_working.ensures.cause) c.self.invariant.0
 
-pub returns-clause-half : goal.returns-clause-half
-returns-clause-half g c o xs names run =
+pub returns-clause-is_half_aborted : goal.returns-clause-is_half_aborted
+returns-clause-is_half_aborted g c o xs names run =
     let m = c.self.inside.machine in
-    c.is_half.ensures ∙ half_in m.seat.view m.store.disk (record { session = m.store.session; log = m.store.log }) m.desks.items m.master c.self.inside.next c.self.inside.unripe m.rows.frames m.rows.locks m.rows.workers m.rows.words.items m.latches
+    c.is_half.ensures ∙ half_in m.seat.view m.work.disk (here m) m.desks.items m.master c.self.inside.next c.self.inside.unripe m.rows.frames m.rows.locks m.rows.workers m.rows.words.items m.latches
     (ap (λ s. s.works) c.self.view_is ∙ works_of c.is_working.result c.in_ok-is_working.field-0 c.args.self.now.works c.in_ok-is_working.was c.is_working.ensures.cause) c.self.invariant.0
     c.args.session c.requires.session.0 (subst (λ s. c.args.session ≤ s.sessions) (sym c.self.view_is) c.requires.session.1) o xs names (subst (λ (s : State g.row.D.Denot). InRun s o xs names) (sym c.self.view_is) run)

@@ -6,4 +6,4 @@ use Rattle.lean_engine.proofs.engine.Engine.sync.Goals as goal
 
 pub returns-in-Synced-clause-asked : goal.returns-in-Synced-clause-asked
 returns-in-Synced-clause-asked g c =
-    subst (λ (a : Answer). Asked 0 calls.Sync a c.args.self.now c.ask.new.self (g.D.Disk.story c.args.self.now.disk) (g.D.Disk.story c.ask.new.self.disk)) c.in-Synced.is c.ask.ensures.asked
+    subst (λ (a : Answer). Asked g.D.Disk.story 0 calls.Sync a c.args.self.now c.ask.new.self) c.in-Synced.is c.ask.ensures.asked

@@ -1,7 +1,8 @@
 use Rattle.std.proofs.Common.{◌≡◌, ◌<◌, ◌-◌, true}
+use Rattle.lean_engine.specs.Inside.Parts.{here}
 use Rattle.lean_engine.specs.Desks.{log_of}
 use Rattle.lean_engine.specs.Machines.{IsMachine}
-use Rattle.lean_engine.specs.Syncs.{AreStill, Flushed}
+use Rattle.lean_engine.specs.Inside.Syncs.{AreStill, Flushed}
 use Rattle.lean_engine.proofs.machine.Machine.flush_all.Given as goal
 
 abbrev pub invariant-loop-session : goal.invariant-loop-session
@@ -9,13 +10,13 @@ invariant-loop-session g l =
     let n = l.self in
     let s = l.fn.self in
     record {
-      machine : IsMachine n.rows.frames n.rows.locks n.rows.workers n.rows.words.items n.seat.view (record { session = n.store.session; log = n.store.log }) n.desks.items n.latches n.master;
+      machine : IsMachine n.rows.frames n.rows.locks n.rows.workers n.rows.words.items n.seat.view (here n) n.desks.items n.latches n.master;
       some : 0 < l.session;
-      works : n.store.session.works ≡ true;
-      workers : n.store.session.workers ≡ s.store.session.workers;
-      group : n.store.session.group ≡ s.store.session.group;
-      still : AreStill s.store.session.workers (record { session = s.store.session; log = s.store.log }) s.desks.items (record { session = n.store.session; log = n.store.log }) n.desks.items;
-      flushed : Flushed (l.session - 1) s.store.session.workers s.seat.view n.seat.view (log_of (record { session = s.store.session; log = s.store.log }) s.desks.items) (log_of (record { session = n.store.session; log = n.store.log }) n.desks.items) (g.D.Disk.story s.store.disk) (g.D.Disk.story n.store.disk);
+      works : n.work.session.works ≡ true;
+      workers : n.work.session.workers ≡ s.work.session.workers;
+      group : n.work.session.group ≡ s.work.session.group;
+      still : AreStill s.work.session.workers (here s) s.desks.items (here n) n.desks.items;
+      flushed : Flushed (l.session - 1) s.work.session.workers s.seat.view n.seat.view (log_of (here s) s.desks.items) (log_of (here n) n.desks.items) (g.D.Disk.story s.work.disk) (g.D.Disk.story n.work.disk);
       master : n.master ≡ s.master;
-      calm : g.D.Disk.faults n.store.disk ≡ g.D.Disk.faults s.store.disk;
+      calm : g.D.Disk.faults n.work.disk ≡ g.D.Disk.faults s.work.disk;
     }

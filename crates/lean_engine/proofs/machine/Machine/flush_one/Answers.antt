@@ -1,9 +1,9 @@
 use Rattle.std.proofs.Common.{false, sym, refl, subst}
-use Rattle.row_engine.specs.Opened.{plain_shape}
 use Rattle.row_engine.specs.Puts.{KeepsLog}
+use Rattle.lean_engine.specs.Inside.Parts.{here, in_store, shape}
 use Rattle.lean_engine.specs.Desks.{log_of}
 use Rattle.lean_engine.specs.Machines.{AreDesks}
-use Rattle.lean_engine.specs.Syncs.{FlushedOne}
+use Rattle.lean_engine.specs.Inside.Syncs.{FlushedOne}
 use Rattle.lean_engine.specs.declared.desk.Desk.{Desk}
 use Rattle.lean_engine.proofs.FlushOnes.{flushed_one, from_turn, half_is, on_ok, same, still_same}
 use Rattle.lean_engine.proofs.MachineLemmas.{machine_behind}
@@ -13,66 +13,66 @@ use Rattle.lean_engine.proofs.machine.Machine.flush_one.Goals as goal
 pub flush_own-requires-clause-holds : goal.flush_own-requires-clause-holds
 flush_own-requires-clause-holds g c κs within =
     let t = c.turn_to.new.self in
-    holds_of (plain_shape t.rows.frames t.rows.locks t.rows.workers) t.seat.view (record { session = t.store.session; log = t.store.log }) t.desks.items c.turn_to.ensures.machine.desks
+    holds_of (shape t) t.seat.view (here t) t.desks.items c.turn_to.ensures.machine.desks
 
 pub returns-clause-machine : goal.returns-clause-machine
 returns-clause-machine g c =
     let t = c.turn_to.new.self in
     let n = c.flush_own.new in
     let e = c.flush_own.ensures in
-    let x : Desk = record { session = t.store.session; log = t.store.log } in
-    let y : Desk = record { session = n.store.session; log = n.store.log } in
+    let x : Desk = here t in
+    let y : Desk = in_store n.work in
     let s = c.args.self.now in
-    let old : Desk = record { session = s.store.session; log = s.store.log } in
+    let old : Desk = here s in
     on_ok c.flush_own.result e.holds e.flushes e.works (λ h f w.
     machine_behind c.every_other.ensures t.rows.frames t.rows.locks t.rows.workers n.rows.frames n.rows.locks n.rows.workers t.rows.words.items n.rows.words.items t.seat.view n.seat.view x y t.desks.items t.latches t.latches t.master
     c.turn_to.ensures.machine e.fits.1 e.fits.0 w
-    (same (plain_shape s.rows.frames s.rows.locks s.rows.workers) t.seat.view n.seat.view c.args.session old x y s.desks.items t.desks.items (subst (λ k. AreDesks (plain_shape s.rows.frames s.rows.locks s.rows.workers) k old s.desks.items) (sym c.turn_to.ensures.same.0) c.requires.machine.desks) c.requires.session.0 c.requires.session.1 c.turn_to.ensures.turned
-    (g.D.Disk.story t.store.disk) (g.D.Disk.story n.store.disk) f) f.steps h (refl {a = t.latches}))
+    (same (shape s) t.seat.view n.seat.view c.args.session old x y s.desks.items t.desks.items (subst (λ k. AreDesks (shape s) k old s.desks.items) (sym c.turn_to.ensures.same.0) c.requires.machine.desks) c.requires.session.0 c.requires.session.1 c.turn_to.ensures.turned
+    (g.D.Disk.story t.work.disk) (g.D.Disk.story n.work.disk) f) f.steps h (refl {a = t.latches}))
 
 pub returns-clause-still : goal.returns-clause-still
 returns-clause-still g c =
     let t = c.turn_to.new.self in
     let n = c.flush_own.new in
     let e = c.flush_own.ensures in
-    let x : Desk = record { session = t.store.session; log = t.store.log } in
-    let y : Desk = record { session = n.store.session; log = n.store.log } in
+    let x : Desk = here t in
+    let y : Desk = in_store n.work in
     let s = c.args.self.now in
-    let old : Desk = record { session = s.store.session; log = s.store.log } in
+    let old : Desk = here s in
     on_ok c.flush_own.result e.holds e.flushes e.works (λ h f w.
-    still_same (plain_shape s.rows.frames s.rows.locks s.rows.workers) t.seat.view n.seat.view c.args.session old x y s.desks.items t.desks.items (subst (λ k. AreDesks (plain_shape s.rows.frames s.rows.locks s.rows.workers) k old s.desks.items) (sym c.turn_to.ensures.same.0) c.requires.machine.desks) c.requires.session.0 c.requires.session.1 c.turn_to.ensures.turned
-    (g.D.Disk.story t.store.disk) (g.D.Disk.story n.store.disk) f)
+    still_same (shape s) t.seat.view n.seat.view c.args.session old x y s.desks.items t.desks.items (subst (λ k. AreDesks (shape s) k old s.desks.items) (sym c.turn_to.ensures.same.0) c.requires.machine.desks) c.requires.session.0 c.requires.session.1 c.turn_to.ensures.turned
+    (g.D.Disk.story t.work.disk) (g.D.Disk.story n.work.disk) f)
 
 pub returns-clause-flushed : goal.returns-clause-flushed
 returns-clause-flushed g c =
     let t = c.turn_to.new.self in
     let n = c.flush_own.new in
     let e = c.flush_own.ensures in
-    let x : Desk = record { session = t.store.session; log = t.store.log } in
-    let y : Desk = record { session = n.store.session; log = n.store.log } in
+    let x : Desk = here t in
+    let y : Desk = in_store n.work in
     let s = c.args.self.now in
-    let old : Desk = record { session = s.store.session; log = s.store.log } in
+    let old : Desk = here s in
     on_ok c.flush_own.result e.holds e.flushes e.works (λ h f w.
-    subst (λ d. FlushedOne c.args.session s.store.session.workers s.seat.view n.seat.view (log_of old s.desks.items) (log_of y t.desks.items) (g.D.Disk.story d) (g.D.Disk.story n.store.disk)) c.turn_to.ensures.same.1
-    (subst (λ k. FlushedOne c.args.session s.store.session.workers k n.seat.view (log_of old s.desks.items) (log_of y t.desks.items) (g.D.Disk.story t.store.disk) (g.D.Disk.story n.store.disk)) c.turn_to.ensures.same.0
-    (flushed_one (plain_shape s.rows.frames s.rows.locks s.rows.workers) t.seat.view n.seat.view c.args.session old x y s.desks.items t.desks.items (subst (λ k. AreDesks (plain_shape s.rows.frames s.rows.locks s.rows.workers) k old s.desks.items) (sym c.turn_to.ensures.same.0) c.requires.machine.desks) c.requires.session.0 c.requires.session.1 c.turn_to.ensures.turned
-    (g.D.Disk.story t.store.disk) (g.D.Disk.story n.store.disk) f)))
+    subst (λ d. FlushedOne c.args.session s.work.session.workers s.seat.view n.seat.view (log_of old s.desks.items) (log_of y t.desks.items) (g.D.Disk.story d) (g.D.Disk.story n.work.disk)) c.turn_to.ensures.same.1
+    (subst (λ k. FlushedOne c.args.session s.work.session.workers k n.seat.view (log_of old s.desks.items) (log_of y t.desks.items) (g.D.Disk.story t.work.disk) (g.D.Disk.story n.work.disk)) c.turn_to.ensures.same.0
+    (flushed_one (shape s) t.seat.view n.seat.view c.args.session old x y s.desks.items t.desks.items (subst (λ k. AreDesks (shape s) k old s.desks.items) (sym c.turn_to.ensures.same.0) c.requires.machine.desks) c.requires.session.0 c.requires.session.1 c.turn_to.ensures.turned
+    (g.D.Disk.story t.work.disk) (g.D.Disk.story n.work.disk) f)))
 
 pub returns-clause-keeps : goal.returns-clause-keeps
 returns-clause-keeps g c =
     let t = c.turn_to.new.self in
     let n = c.flush_own.new in
-    let x : Desk = record { session = t.store.session; log = t.store.log } in
+    let x : Desk = here t in
     let s = c.args.self.now in
-    let old : Desk = record { session = s.store.session; log = s.store.log } in
-    subst (λ d. KeepsLog c.args.session (log_of old s.desks.items c.args.session) (g.D.Disk.story d) (g.D.Disk.story n.store.disk)) c.turn_to.ensures.same.1
-    (from_turn (plain_shape s.rows.frames s.rows.locks s.rows.workers) s.seat.view s.seat.view c.args.session old x x s.desks.items t.desks.items c.requires.machine.desks c.requires.session.0 c.requires.session.1 c.turn_to.ensures.turned
-    (λ o l. KeepsLog o l (g.D.Disk.story t.store.disk) (g.D.Disk.story n.store.disk)) c.flush_own.ensures.keeps)
+    let old : Desk = here s in
+    subst (λ d. KeepsLog c.args.session (log_of old s.desks.items c.args.session) (g.D.Disk.story d) (g.D.Disk.story n.work.disk)) c.turn_to.ensures.same.1
+    (from_turn (shape s) s.seat.view s.seat.view c.args.session old x x s.desks.items t.desks.items c.requires.machine.desks c.requires.session.0 c.requires.session.1 c.turn_to.ensures.turned
+    (λ o l. KeepsLog o l (g.D.Disk.story t.work.disk) (g.D.Disk.story n.work.disk)) c.flush_own.ensures.keeps)
 
 pub flush_own-requires-clause-whole : goal.flush_own-requires-clause-whole
 flush_own-requires-clause-whole g c κs within =
     let t = c.turn_to.new.self in
-    let x : Desk = record { session = t.store.session; log = t.store.log } in
+    let x : Desk = here t in
     let s = c.args.self.now in
-    let old : Desk = record { session = s.store.session; log = s.store.log } in
-    λ _. half_is (plain_shape s.rows.frames s.rows.locks s.rows.workers) s.seat.view s.seat.view c.args.session old x x s.desks.items t.desks.items c.requires.machine.desks c.requires.session.0 c.requires.session.1 c.turn_to.ensures.turned false c.requires.whole
+    let old : Desk = here s in
+    λ _. half_is (shape s) s.seat.view s.seat.view c.args.session old x x s.desks.items t.desks.items c.requires.machine.desks c.requires.session.0 c.requires.session.1 c.turn_to.ensures.turned false c.requires.whole

@@ -1,8 +1,8 @@
 use Rattle.std.proofs.Common.{subst}
 use Rattle.disk_slots.specs.declared.master.Master.{Master}
-use Rattle.row_engine.specs.Opened.{plain_shape}
+use Rattle.lean_engine.specs.Inside.Parts.{here, shape}
 use Rattle.lean_engine.specs.Desks.{log_of}
-use Rattle.lean_engine.specs.Syncs.{SyncFails, SyncMade}
+use Rattle.lean_engine.specs.Inside.Syncs.{SyncFails, SyncMade}
 use Rattle.lean_engine.specs.declared.desk.Desk.{Desk}
 use Rattle.lean_engine.proofs.SyncGoes.{if_all, if_ok, sync_fails, sync_made, sync_sessions}
 use Rattle.lean_engine.proofs.machine.Machine.sync_all.Goals as goal
@@ -13,11 +13,11 @@ returns-clause-sessions g c =
     let m = c.flush_all.new.self in
     let n = c.sync_flushed.new.self in
     let e = c.in_ok-flush_all.ensures in
-    let x : Desk = record { session = s.store.session; log = s.store.log } in
-    let d : Desk = record { session = m.store.session; log = m.store.log } in
-    let y : Desk = record { session = n.store.session; log = n.store.log } in
-    let z = plain_shape m.rows.frames m.rows.locks m.rows.workers in
-    if_ok c.sync_flushed.result c.sync_flushed.ensures.raised c.sync_flushed.ensures.number (λ k r at. sync_sessions z s.seat.view m.seat.view x d s.desks.items m.desks.items g.D.Disk.story s.store.disk m.store.disk e.session.0 c.requires.logged e.flushed e.machine.desks c.every_reached.ensures m.master e.machine.numbers c.requires.opens k at y n.desks.items e.still r)
+    let x : Desk = here s in
+    let d : Desk = here m in
+    let y : Desk = here n in
+    let z = shape m in
+    if_ok c.sync_flushed.result c.sync_flushed.ensures.raised c.sync_flushed.ensures.number (λ k r at. sync_sessions z s.seat.view m.seat.view x d s.desks.items m.desks.items g.D.Disk.story s.work.disk m.work.disk e.session.0 c.requires.logged e.flushed e.machine.desks c.every_reached.ensures m.master e.machine.numbers c.requires.opens k at y n.desks.items e.still r)
 
 pub returns-clause-made : goal.returns-clause-made
 returns-clause-made g c =
@@ -25,14 +25,14 @@ returns-clause-made g c =
     let m = c.flush_all.new.self in
     let n = c.sync_flushed.new.self in
     let e = c.in_ok-flush_all.ensures in
-    let x : Desk = record { session = s.store.session; log = s.store.log } in
-    let d : Desk = record { session = m.store.session; log = m.store.log } in
-    let y : Desk = record { session = n.store.session; log = n.store.log } in
-    let z = plain_shape m.rows.frames m.rows.locks m.rows.workers in
+    let x : Desk = here s in
+    let d : Desk = here m in
+    let y : Desk = here n in
+    let z = shape m in
     let f = c.sync_flushed.ensures in
     if_all c.sync_flushed.result f.synced f.raised f.number f.written (λ k sync r at w.
-    subst (λ (master : Master). SyncMade g.D.Disk.story s.store.session.workers k s.seat.view n.seat.view (log_of x s.desks.items) (log_of y n.desks.items) master n.master s.store.disk n.store.disk) e.master
-    (sync_made z s.seat.view m.seat.view x d s.desks.items m.desks.items g.D.Disk.story s.store.disk m.store.disk e.session.0 c.requires.logged e.flushed e.machine.desks c.every_reached.ensures m.master e.machine.numbers c.requires.opens k at n.seat.view y n.desks.items n.master n.store.disk sync r w))
+    subst (λ (master : Master). SyncMade g.D.Disk.story s.work.session.workers k s.seat.view n.seat.view (log_of x s.desks.items) (log_of y n.desks.items) master n.master s.work.disk n.work.disk) e.master
+    (sync_made z s.seat.view m.seat.view x d s.desks.items m.desks.items g.D.Disk.story s.work.disk m.work.disk e.session.0 c.requires.logged e.flushed e.machine.desks c.every_reached.ensures m.master e.machine.numbers c.requires.opens k at n.seat.view y n.desks.items n.master n.work.disk sync r w))
 
 pub returns-clause-failed : goal.returns-clause-failed
 returns-clause-failed g c =
@@ -40,9 +40,9 @@ returns-clause-failed g c =
     let m = c.flush_all.new.self in
     let n = c.sync_flushed.new.self in
     let e = c.in_ok-flush_all.ensures in
-    let x : Desk = record { session = s.store.session; log = s.store.log } in
-    let d : Desk = record { session = m.store.session; log = m.store.log } in
-    let y : Desk = record { session = n.store.session; log = n.store.log } in
-    let z = plain_shape m.rows.frames m.rows.locks m.rows.workers in
-    λ h. subst (λ (master : Master). SyncFails g.D.Disk.story s.store.session.workers s.seat.view (log_of x s.desks.items) master s.store.disk n.store.disk) e.master
-    (sync_fails z s.seat.view m.seat.view x d s.desks.items m.desks.items g.D.Disk.story s.store.disk m.store.disk e.session.0 c.requires.logged e.flushed e.machine.desks c.every_reached.ensures m.master e.machine.numbers c.requires.opens n.store.disk (c.sync_flushed.ensures.failed h))
+    let x : Desk = here s in
+    let d : Desk = here m in
+    let y : Desk = here n in
+    let z = shape m in
+    λ h. subst (λ (master : Master). SyncFails g.D.Disk.story s.work.session.workers s.seat.view (log_of x s.desks.items) master s.work.disk n.work.disk) e.master
+    (sync_fails z s.seat.view m.seat.view x d s.desks.items m.desks.items g.D.Disk.story s.work.disk m.work.disk e.session.0 c.requires.logged e.flushed e.machine.desks c.every_reached.ensures m.master e.machine.numbers c.requires.opens n.work.disk (c.sync_flushed.ensures.failed h))

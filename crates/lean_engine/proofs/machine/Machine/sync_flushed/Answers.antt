@@ -1,7 +1,7 @@
 use Rattle.std.proofs.Common.{◌≡◌, ◌≤◌, ap, sym, subst, ◌∙◌}
-use Rattle.row_engine.specs.Opened.{plain_shape}
+use Rattle.lean_engine.specs.Inside.Parts.{here, shape}
 use Rattle.lean_engine.specs.Machines.{IsMachine}
-use Rattle.lean_engine.specs.Syncs.{IsWriting, greatest, next_with}
+use Rattle.lean_engine.specs.Inside.Syncs.{IsWriting, greatest, next_with}
 use Rattle.lean_engine.specs.declared.desk.Desk.{Desk}
 use Rattle.lean_engine.proofs.SyncGoes.{at_desk, at_store, may_sync_at, numbers_new, raised_to}
 use Rattle.lean_engine.proofs.SyncMachines.{machine_synced}
@@ -10,59 +10,59 @@ use Rattle.lean_engine.proofs.machine.Machine.sync_flushed.Goals as goal
 pub returns-in-Err-clause-failed : goal.returns-in-Err-clause-failed
 returns-in-Err-clause-failed g c =
     let s = c.args.self.now in
-    let at = c.greatest_clock-number.ensures ∙ ap (greatest s.store.session.clock) c.deref.ensures.value in
-    λ _. subst (λ k. IsWriting (next_with s.master k) (g.D.Disk.story s.store.disk) (g.D.Disk.story c.write_floor.new.disk)) at (c.in-Err.ensures.any_moment (λ q. let h = (c.in-Err.ensures.same q).0 in cc))
+    let at = c.greatest_clock-number.ensures ∙ ap (greatest s.work.session.clock.clock) c.deref.ensures.value in
+    λ _. subst (λ k. IsWriting (next_with s.master k) (g.D.Disk.story s.work.disk) (g.D.Disk.story c.write_floor.new.disk)) at (c.in-Err.ensures.any_moment (λ q. let h = (c.in-Err.ensures.same q).0 in cc))
 
 pub store_synced-requires-clause-met : goal.store_synced-requires-clause-met
 store_synced-requires-clause-met g c =
     let s = c.args.self.now in
-    let x : Desk = record { session = s.store.session; log = s.store.log } in
-    let z = plain_shape s.rows.frames s.rows.locks s.rows.workers in
+    let x : Desk = here s in
+    let z = shape s in
     let are = c.requires.machine.desks in
-    let at = c.greatest_clock-number.ensures ∙ ap (greatest s.store.session.clock) c.deref.ensures.value in
+    let at = c.greatest_clock-number.ensures ∙ ap (greatest s.work.session.clock.clock) c.deref.ensures.value in
     (may_sync_at c.every_reached.ensures z s.seat.view x s.desks.items are s.master c.requires.machine.numbers c.requires.opens c.requires.logged c.requires.flushed c.greatest_clock-number.result at).met
 
 pub raise-requires-clause-flushed : goal.raise-requires-clause-flushed
 raise-requires-clause-flushed g c =
     let s = c.args.self.now in
-    let x : Desk = record { session = s.store.session; log = s.store.log } in
-    let z = plain_shape s.rows.frames s.rows.locks s.rows.workers in
+    let x : Desk = here s in
+    let z = shape s in
     let are = c.requires.machine.desks in
     at_store z s.seat.view x s.desks.items are (λ d. d.log.flushed ≡ d.log.last) c.requires.flushed
 
 pub raise-requires-clause-rises : goal.raise-requires-clause-rises
 raise-requires-clause-rises g c =
     let s = c.args.self.now in
-    let x : Desk = record { session = s.store.session; log = s.store.log } in
-    let z = plain_shape s.rows.frames s.rows.locks s.rows.workers in
+    let x : Desk = here s in
+    let z = shape s in
     let are = c.requires.machine.desks in
-    let at = c.greatest_clock-number.ensures ∙ ap (greatest s.store.session.clock) c.deref.ensures.value in
+    let at = c.greatest_clock-number.ensures ∙ ap (greatest s.work.session.clock.clock) c.deref.ensures.value in
     at_store z s.seat.view x s.desks.items are (λ d. d.log.last ≤ c.greatest_clock-number.result) (may_sync_at c.every_reached.ensures z s.seat.view x s.desks.items are s.master c.requires.machine.numbers c.requires.opens c.requires.logged c.requires.flushed c.greatest_clock-number.result at).within
 
 pub raise_desks-requires-clause-flushed : goal.raise_desks-requires-clause-flushed
 raise_desks-requires-clause-flushed g c =
     let s = c.args.self.now in
-    let x : Desk = record { session = s.store.session; log = s.store.log } in
-    let z = plain_shape s.rows.frames s.rows.locks s.rows.workers in
+    let x : Desk = here s in
+    let z = shape s in
     let are = c.requires.machine.desks in
     at_desk z s.seat.view x s.desks.items are (λ d. d.log.flushed ≡ d.log.last) c.requires.flushed
 
 pub raise_desks-requires-clause-rises : goal.raise_desks-requires-clause-rises
 raise_desks-requires-clause-rises g c =
     let s = c.args.self.now in
-    let x : Desk = record { session = s.store.session; log = s.store.log } in
-    let z = plain_shape s.rows.frames s.rows.locks s.rows.workers in
+    let x : Desk = here s in
+    let z = shape s in
     let are = c.requires.machine.desks in
-    let at = c.greatest_clock-number.ensures ∙ ap (greatest s.store.session.clock) c.deref.ensures.value in
+    let at = c.greatest_clock-number.ensures ∙ ap (greatest s.work.session.clock.clock) c.deref.ensures.value in
     at_desk z s.seat.view x s.desks.items are (λ d. d.log.last ≤ c.greatest_clock-number.result) (may_sync_at c.every_reached.ensures z s.seat.view x s.desks.items are s.master c.requires.machine.numbers c.requires.opens c.requires.logged c.requires.flushed c.greatest_clock-number.result at).within
 
 pub returns-clause-machine : goal.returns-clause-machine
 returns-clause-machine g c =
     let s = c.args.self.now in
-    let x : Desk = record { session = s.store.session; log = s.store.log } in
-    let z = plain_shape s.rows.frames s.rows.locks s.rows.workers in
+    let x : Desk = here s in
+    let z = shape s in
     let are = c.requires.machine.desks in
-    let at = c.greatest_clock-number.ensures ∙ ap (greatest s.store.session.clock) c.deref.ensures.value in
+    let at = c.greatest_clock-number.ensures ∙ ap (greatest s.work.session.clock.clock) c.deref.ensures.value in
     let n = c.greatest_clock-number.result in
     let rows = c.store_synced.new.rows in
     let e = c.in_default.ensures in
@@ -75,8 +75,8 @@ returns-clause-machine g c =
 pub returns-clause-raised : goal.returns-clause-raised
 returns-clause-raised g c =
     let s = c.args.self.now in
-    let x : Desk = record { session = s.store.session; log = s.store.log } in
-    let z = plain_shape s.rows.frames s.rows.locks s.rows.workers in
+    let x : Desk = here s in
+    let z = shape s in
     let are = c.requires.machine.desks in
     raised_to z s.seat.view x (record { session = c.raise.new.session; log = c.raise.new.log }) s.desks.items c.raise_desks.new.desks.items c.greatest_clock-number.result are c.raise_desks.ensures c.raise.ensures.session c.raise.ensures.log
 

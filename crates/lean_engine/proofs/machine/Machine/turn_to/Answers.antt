@@ -1,23 +1,23 @@
 use Rattle.std.proofs.Common.{refl}
-use Rattle.row_engine.specs.Opened.{plain_shape}
+use Rattle.lean_engine.specs.Inside.Parts.{here, in_store, shape}
 use Rattle.lean_engine.proofs.SeatLemmas.{machine_turned, seated_of, turned_group, turned_works}
 use Rattle.lean_engine.proofs.machine.Machine.turn_to.Goals as goal
 
 pub turn_to-requires-clause-seated : goal.turn_to-requires-clause-seated
 turn_to-requires-clause-seated g c =
     let s = c.args.self.now in
-    seated_of (plain_shape s.rows.frames s.rows.locks s.rows.workers) s.seat.view (record { session = s.store.session; log = s.store.log }) s.desks.items c.requires.machine.desks
+    seated_of (shape s) s.seat.view (here s) s.desks.items c.requires.machine.desks
 
 pub returns-clause-machine : goal.returns-clause-machine
 returns-clause-machine g c =
     let s = c.args.self.now in
-    machine_turned s.rows.frames s.rows.locks s.rows.workers s.rows.words.items s.seat.view c.args.session (record { session = s.store.session; log = s.store.log }) (record { session = c.turn_to.new.store.session; log = c.turn_to.new.store.log }) s.desks.items c.turn_to.new.desks.items s.latches s.master
+    machine_turned s.rows.frames s.rows.locks s.rows.workers s.rows.words.items s.seat.view c.args.session (here s) (in_store c.turn_to.new.work) s.desks.items c.turn_to.new.desks.items s.latches s.master
     c.requires.session.0 c.requires.session.1 c.requires.machine c.turn_to.ensures.turned
 
 pub returns-clause-works : goal.returns-clause-works
 returns-clause-works g c =
     let s = c.args.self.now in
-    turned_works (plain_shape s.rows.frames s.rows.locks s.rows.workers) s.seat.view c.args.session (record { session = s.store.session; log = s.store.log }) (record { session = c.turn_to.new.store.session; log = c.turn_to.new.store.log }) s.desks.items c.turn_to.new.desks.items c.requires.machine.desks
+    turned_works (shape s) s.seat.view c.args.session (here s) (in_store c.turn_to.new.work) s.desks.items c.turn_to.new.desks.items c.requires.machine.desks
     c.requires.session.0 c.requires.session.1 c.turn_to.ensures.turned
 
 pub returns-clause-same : goal.returns-clause-same
@@ -26,6 +26,6 @@ returns-clause-same g c =
       refl {a = c.args.self.now.seat.view},
       c.turn_to.ensures.disk,
       refl {a = c.args.self.now.master},
-      turned_group (plain_shape s.rows.frames s.rows.locks s.rows.workers) s.seat.view c.args.session (record { session = s.store.session; log = s.store.log }) (record { session = c.turn_to.new.store.session; log = c.turn_to.new.store.log }) s.desks.items c.turn_to.new.desks.items
+      turned_group (shape s) s.seat.view c.args.session (here s) (in_store c.turn_to.new.work) s.desks.items c.turn_to.new.desks.items
           c.requires.machine.desks c.requires.session.0 c.requires.session.1 c.turn_to.ensures.turned,
     )

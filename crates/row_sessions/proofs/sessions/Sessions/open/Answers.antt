@@ -5,7 +5,7 @@ use Rattle.rows_trait.specs.declared.view.View.{View}
 use Rattle.rows_trait.specs.Views.{state}
 use Rattle.btree_descent.specs.Known.{IsSound}
 use Rattle.key_locks.specs.Rows as lock_rows
-use Rattle.open_rows.specs.Opened.{given_of}
+use Rattle.row_opening.specs.Opened.{given_of}
 use Rattle.row_sessions.specs.Standing.{AreSessions}
 use Rattle.row_sessions.proofs.Opens.{pages_long, first_locks, first_sessions, first_sound}
 use Rattle.row_sessions.proofs.sessions.Sessions.open.Goals as goal

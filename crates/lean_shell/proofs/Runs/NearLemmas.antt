@@ -1,0 +1,71 @@
+-- No number of a disk that a run leaves is far above those on entry.
+use Rattle.std.proofs.Common.{◌≡◌, ◌⊎◌, inl, inr, ⊎_elim, ◌≤◌, ◌<◌, ◌++◌, ℕ, suc, List, [], ◌∷◌, length, Some, refl, sym, ◌∙◌, ap, subst, arith}
+use Rattle.std.proofs.lemmas.List.{length-append}
+use Rattle.map_model.proofs.ListLemmas.{has_right, keep_has, order_has}
+use Rattle.map_model.specs.Lists.{Has}
+use Rattle.image_model.specs.Entries.{Entry, earlier}
+use Rattle.image_model.specs.Images.{Image, bases, found, gathered, page_or, sorted}
+use Rattle.lean_disk.specs.Story.{Crash, Story, areas_of}
+use Rattle.disk_slots.specs.declared.master.Master.{Master}
+use Rattle.disk_image.specs.Laws.{Agree}
+use Rattle.disk_image.specs.MasterSlots.{master_on}
+use Rattle.disk_image.specs.Shown.{image_by}
+use Rattle.recovery.specs.Crashes.{ShowsRecovered, ShowsStill}
+use Rattle.recovery.specs.Masters.{IsSameOrNext}
+use Rattle.recovery.specs.Opened.{IsGreatest}
+use Rattle.core_calls.specs.Fronts.{Done, front}
+use Rattle.core_disk.proofs.HeldLemmas.{gathered_same}
+use Rattle.lean_shell.specs.Crashes.{IsNear}
+use Rattle.lean_shell.proofs.Runs.BeginLemmas.{one_greatest}
+
+-- the greatest number of an image is no greater than one that its floor, records and pages are not above
+pub greatest_most : (i : Image) (high top : ℕ) → IsGreatest i high → i.floor ≤ top → ((r : Entry) → Has r (found i) → r.number ≤ top) → ((p : ℕ) → p < i.format.pages → (bases i p).gsn ≤ top) → high ≤ top
+greatest_most i high top h floor records pages = go h.met
+  where
+    go : (high ≡ i.floor) ⊎ (((r : Entry) × Has r (sorted i) × (high ≡ r.number)) ⊎ ((p : ℕ) × (p < i.format.pages) × (high ≡ (bases i p).gsn))) → high ≤ top
+    go (inl e) = omega (arith, e, floor)
+    go (inr (inl q)) = let e = q.2 in let a = records q.0 (order_has earlier (found i) q.0 q.1) in omega arith
+    go (inr (inr q)) = let e = q.2 in let a = pages q.0 q.1 in omega arith
+
+-- ## Before a call is answered
+
+-- images that agree have the same records
+same_found : (i j : Image) → Agree i j → found j ≡ found i
+same_found i j a = ap (gathered j.log) (sym a.logs) ∙ sym (gathered_same i.log j.log i.logs a.log)
+
+agreed : (i j : Image) (low high : ℕ) → Agree i j → IsGreatest i low → IsGreatest j high → high ≤ low
+agreed i j low high a l h = greatest_most j high low h
+    (let e = a.floor in let f = l.floor in omega arith)
+    (λ r has. l.records r (Rattle.map_model.proofs.ListLemmas.has_order earlier (found i) r (subst (Has r) (same_found i j a) has)))
+    (λ p within. let inside : p < i.format.pages = (let e = ap (λ f. f.pages) a.format in omega arith) in let e = ap (λ o. (page_or o).gsn) (a.base p inside) in let b = l.stored p inside in omega arith)
+
+module _ (m : Master) (s : Story) (d : Crash) (n : Master) (same : IsSameOrNext m n) where
+  recovered : (low high : ℕ) → ShowsRecovered m (areas_of s) n d.image → IsGreatest (image_by m (areas_of s)) low → IsGreatest (image_by n d.image) high → high ≤ low
+  recovered low high x l h =
+      let base : x.is.base ≡ low = one_greatest (image_by m (areas_of s)) x.is.base low x.is.greatest l in
+      let floor : n.floor ≡ x.is.base = ap (λ (k : Master). k.floor) x.is.is in
+      let pages : n.pages ≡ m.pages = ap (λ (k : Master). k.pages) x.is.is in
+      greatest_most (image_by n d.image) high low h (omega (arith, floor, base))
+      (λ r has. absurd (subst (Has r) x.none has))
+      (λ p within. let e = ap (λ o. (page_or o).gsn) (x.base p within) in let b = l.recovered p (omega (arith, within, pages)) in omega arith)
+
+  pub near_still : ShowsStill m (areas_of s) n d.image → IsNear m s n d.image
+  near_still shows = record {
+    sequence = ⊎_elim (λ (e : n ≡ m). let q = ap (λ (k : Master). k.sequence) e in omega arith) (λ (e : (n.sequence ≡ suc m.sequence) × (n.generation ≡ suc m.generation)). let q = e.0 in omega arith) same.numbers;
+    greatest = λ low high l h. let q : high ≤ low = go shows low high l h in omega arith;
+  }
+    where
+      go : ShowsStill m (areas_of s) n d.image → (low high : ℕ) → IsGreatest (image_by m (areas_of s)) low → IsGreatest (image_by n d.image) high → high ≤ low
+      go (inl x) low high l h = agreed (image_by m (areas_of s)) (image_by n d.image) low high x.1 l h
+      go (inr x) low high l h = recovered low high x l h
+
+-- ## Events
+
+-- the first calls have no more events than all
+pub front_few : (later first xs : List Done) → later ++ first ≡ xs → length (front first) ≤ length (front xs)
+front_few [] first xs e = let q = ap (λ (ys : List Done). length (front ys)) e in omega arith
+front_few (x ∷ later) first xs e =
+    let q = ap (λ (ys : List Done). length (front ys)) e in
+    let a = length-append (front (later ++ first)) x.events in
+    let b = front_few later first (later ++ first) refl in
+    omega arith

@@ -1,5 +1,0 @@
-mod Links
-mod Tiles
-mod Loads
-mod Openings
-mod Shows

@@ -1,5 +1,0 @@
-use Rattle.open_rows.specs.Inside.{worker_row, AreTiled}
-use Rattle.open_rows.proofs.worker.set_workers.Given as goal
-
-abbrev pub invariant-loop-worker : goal.invariant-loop-worker
-invariant-loop-worker l = AreTiled (λ _. worker_row l.base) 2 4 l.worker l.fn.words l.words

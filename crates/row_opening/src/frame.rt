@@ -1,0 +1,69 @@
+// The words of frame rows.
+ghost use Rattle.std.specs.Prelude.{◌≡◌, ◌+◌, ◌*◌, ◌<◌, ◌≤◌, ◌^◌, ◌++◌, ◌∷◌, [], length, replicate, slice_get};
+ghost use Rattle.btree_node.specs.Words.{words_of};
+ghost use Rattle.page_model.specs.Limits.{leaf_room};
+ghost use Rattle.row_opening.specs.Opened.{page_at};
+ghost use Rattle.row_opening.specs.Inside.{linked_page, turned, ArePlain, HasPlain, frame_row, AreTiled};
+
+use btree_node::Node;
+use page_model::limits::FRAME_BIT;
+
+/// The hint of a frame row in which no hot page stands.
+const MARK: u64 = (1 << 63) + 1;
+
+/// A hint that names no frame.
+const NO_HINT: u64 = 1 << 63;
+
+/// Sets the words of each frame row: each page stands in the frame of its own number, and the frames behind the last one are empty. The
+/// rows lie from `first` on, each behind its latch.
+pub(crate) fn set_frames(words: &mut [u64], first: usize, frames: u32, pages: &[Node])
+    requires size { first + 129 * frames ≤ length words.old }
+    requires few { first + 129 * frames < 2 ^ 63 }
+    requires zeros { words.old ≡ replicate (length words.old) 0 }
+    requires children { (p : _) → HasPlain (page_at pages.now p) }
+    ensures { AreTiled (λ p. frame_row (slice_get pages.now p)) first 129 frames words.old words.new }
+{
+    for frame in 0..frames as usize {
+        let at = first + 129 * frame;
+        set_frame(&mut words[at..at + 129], pages, frame);
+    }
+}
+
+/// Sets the words of one frame row.
+fn set_frame(row: &mut [u64], pages: &[Node], frame: usize)
+    requires zeros { row.old ≡ replicate 129 0 }
+    requires children { HasPlain (page_at pages.now frame) }
+    ensures { row.new ≡ frame_row (slice_get pages.now frame) }
+{
+    if frame < pages.len() {
+        set_page(row, &pages[frame]);
+    } else {
+        row[127] = MARK;
+    }
+}
+
+/// Sets the words of a page, which was saved as it stands. Its children stand in the frames of their own numbers.
+fn set_page(row: &mut [u64], page: &Node)
+    requires zeros { row.old ≡ replicate 129 0 }
+    requires children { HasPlain page.now }
+    ensures { row.new ≡ 0 ∷ words_of (linked_page page.now) ++ (2 ^ 63 ∷ page.now.gsn ∷ []) }
+{
+    row[1..127].copy_from_slice(page.words());
+    if page.level() > 0 {
+        link(&mut row[7..127], page.count());
+    }
+    row[127] = NO_HINT;
+    row[128] = page.gsn();
+}
+
+/// The word of each pair, a child's page number, becomes the word that names the child's frame.
+fn link(pairs: &mut [u64], count: usize)
+    requires room { count ≤ leaf_room }
+    requires plain { ArePlain count pairs.old }
+    ensures { pairs.new ≡ turned count pairs.old }
+{
+    for pair in 0..count {
+        let child = pairs[2 * pair + 1];
+        pairs[2 * pair + 1] = FRAME_BIT + child;
+    }
+}

@@ -1,0 +1,66 @@
+-- What ties a run's records to each other: its calls, its script, its disk and the engine's memory.
+use Rattle.std.specs.Prelude.{◌≡◌, ◌<◌, ◌≤◌, ◌+◌, ◌++◌, ℕ, suc, false, leb, List, ◌∷◌, length, IsTrue, Some}
+use Rattle.map_model.specs.declared.call.Answered.{Answered}
+use Rattle.map_model.specs.declared.call.Call.{Call}
+use Rattle.map_model.specs.declared.call.Call.TheVariants.{Commit}
+use Rattle.map_model.specs.Journals.{Journal}
+use Rattle.map_model.specs.Lists.{Has}
+use Rattle.map_model.specs.Pairings.{in_turn, script_of}
+use Rattle.core_calls.specs.Fronts.{Done}
+use Rattle.core_calls.specs.Steps.{hindered_in}
+use Rattle.core_crash.specs.Crashes.{log_of}
+use Rattle.core_state.specs.States.{State}
+use Rattle.disk_image.specs.Runs.{Block, block_at}
+use Rattle.disk_image.specs.Shown.{IsCleanDisk}
+use Rattle.disk_slots.specs.declared.master.Master.{Master}
+use Rattle.image_model.specs.Entries.{Entry}
+use Rattle.lean_disk.specs.Story.{Story, areas_of}
+use Rattle.lean_edge.specs.Outside.{Feed}
+use Rattle.lean_engine.specs.declared.engine.Size.{Size}
+use Rattle.log_record.specs.declared.record.Record.{Record}
+use Rattle.script_lang.specs.Text.{script_lines}
+use Rattle.script_run.specs.declared.stop.Stop.TheVariants as stops
+use Rattle.transcripts.specs.Transcripts.{asked, transcript}
+use Rattle.worker_log.specs.Accounts.{spelled_from}
+use Rattle.worker_log.specs.Logs.{Log, used}
+use Rattle.lean_shell.specs.Crashes.{IsYoung, TellsCrashes}
+use Rattle.lean_shell.specs.Headline.{IsInHand}
+use Rattle.lean_shell.specs.Runs.{Ran}
+use Rattle.lean_shell.specs.Starts.{IsOldestOf}
+
+-- ## The abort behind a conflict
+
+-- The last call of a run met no conflict, unless the sink failed or the disk: behind one its abort was executed.
+abbrev pub EveryConflictIsAborted : (s0 s1 : Story) → Type 0
+EveryConflictIsAborted s0 s1 = (size : Size) (status : ℕ) (feed0 feed1 : Feed) (put : List ℕ) (sink0 sink1 : ℕ) (x : Ran size status s0 s1 feed0 feed1 put sink0 sink1) (newest : Done) (earlier : List Done) (c : Call) →
+    x.calls ≡ newest ∷ earlier → (x.stop ≡ stops.WriteFault → ⊥) → (x.stop ≡ stops.DiskFault → ⊥) → hindered_in newest.outcome.deed ≡ Some c → ⊥
+
+-- ## The commit in hand
+
+-- it is the commit of this record
+pub record IsItsCommit (end : Entry) (session : ℕ) (call : Call) : Type 0 where
+  pub session_is : session ≡ end.log
+  pub call_is : call ≡ Commit
+
+-- Whatever the script's next line asks, behind the lines of the calls that were told, is the commit in hand.
+abbrev pub EveryHandIsNext : Type 0
+EveryHandIsNext = (workers : ℕ) (input output : List ℕ) (records : List Entry) (all : Journal) (x : IsInHand workers input output records all) (calls : List Answered) (session : ℕ) (call : Call) (others : List (ℕ × Call)) →
+    transcript workers input output ≡ in_turn calls → asked workers (script_lines input) ≡ script_of calls ++ (session, call) ∷ others → IsItsCommit x.end session call
+
+-- ## Records on the disk
+
+-- What is flushed and not passed by the head is among the records that a crash leaves.
+abbrev pub EveryFlushedIsLeft : Type 0
+EveryFlushedIsLeft = (s : State) (w : ℕ) (records : List Entry) → IsOldestOf s w records → (r : Entry) → Has r (log_of w s.entries) → r.number ≤ s.flushed w → leb r.number (s.head w) ≡ false → Has r records
+
+-- these bytes hold the blocks of the log from its head on: of so many all but one at least
+pub record HasAllButOne (log : Log) (many : ℕ) (bytes : List ℕ) : Type 0 where
+  pub written : List (List Record)
+  pub enough : many ≤ length written + 1
+  pub lie : (block : Block) → Has block (spelled_from log.generation log.log log.head written) → block_at log.blocks block.number bytes ≡ block.bytes
+
+-- At the end of a run whose disk did not fail, of the blocks that a log uses all but the one in hand lie on the disk.
+abbrev pub EveryUsedIsWritten : (s0 s1 : Story) → Type 0
+EveryUsedIsWritten s0 s1 = (size : Size) (status : ℕ) (feed0 feed1 : Feed) (put : List ℕ) (sink0 sink1 : ℕ) (x : Ran size status s0 s1 feed0 feed1 put sink0 sink1) (m : Master) →
+    (x.stop ≡ stops.DiskFault → ⊥) → IsTrue feed0.tells → TellsCrashes size.sessions s0 → IsCleanDisk m (areas_of s0) → IsYoung m s0 →
+    (w : ℕ) → 0 < w → w ≤ x.executed.opening.workers → HasAllButOne (x.executed.last.log w) (used (x.executed.last.log w)) (areas_of s1 (suc w))
