@@ -26,6 +26,7 @@ pub mod ReceiptLemmas
 pub mod Refusing
 pub mod GetLemmas
 pub mod StageLemmas
+pub mod PutCalls
 pub mod PutLemmas
 pub mod PutTests
 pub mod PutRuns

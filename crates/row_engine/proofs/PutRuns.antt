@@ -60,7 +60,7 @@ use Rattle.row_engine.specs.Deeds.{Fails}
 use Rattle.engine_trait.specs.Limits.{limits}
 use Rattle.engine_trait.specs.Refusals.{IsRefusedFor, change_refusal, clock_refusal, is_full_for, lock_refusal, log_refusal, met_refusal, refusal_in, room_refusal}
 use Rattle.engine_trait.specs.Rooms.{AreRoom, IsRoomFor, MakesItsRoom, MakesRoom}
-use Rattle.row_engine.specs.Calls.{CallDoes, Comes, DoesOn, put_answer}
+use Rattle.row_engine.specs.Calls.{Comes, DoesOn, put_answer}
 use Rattle.row_engine.specs.Held.{with_row}
 use Rattle.row_engine.specs.Holds.{Holds, IsOf}
 use Rattle.row_engine.specs.Inside.{is_going, put_test}
@@ -68,13 +68,12 @@ use Rattle.row_engine.specs.Grown.{AreAside, Behind, Gained, Grows, Went, is_asi
 use Rattle.row_engine.specs.Inside.Outcomes.{HasFailed, HasPut, HasRoom, IsCrowded, IsStopped, Puts}
 use Rattle.row_engine.specs.Puts.{works_after}
 use Rattle.row_engine.specs.Inside.Rooms.{IsSpentBehind, IsUnfit}
-use Rattle.row_engine.specs.Inside.Takes.{NotTaken, Takes}
+use Rattle.row_engine.specs.Inside.Takes.{Takes}
 use Rattle.row_engine.specs.Ties.{Ties}
 use Rattle.row_engine.specs.declared.session.Session.{Session}
 use Rattle.row_engine.proofs.GoingLemmas.{not_going, tests_as}
 use Rattle.row_engine.proofs.UndoLemmas.{many_of}
 use Rattle.row_engine.proofs.Behind as behind
-use Rattle.row_engine.proofs.BeginLemmas.{comes_told}
 use Rattle.row_engine.proofs.ConflictLemmas.{lock_free, lock_refused}
 use Rattle.row_engine.proofs.Formats.{full_as, full_on, refusal_as, refusal_on}
 use Rattle.row_engine.proofs.GrowRuns.{Asides, all_append, asides, logs_more, logs_same, makes_behind, makes_more, makes_same, record_in, went_quiet}
@@ -82,8 +81,8 @@ use Rattle.row_engine.proofs.Misses.{misses_are, misses_aside, misses_met, misse
 use Rattle.row_engine.proofs.Moments.{events_more}
 use Rattle.row_engine.proofs.OnOwn.{logs_own}
 use Rattle.row_engine.proofs.PutLemmas.{seen_core}
-use Rattle.row_engine.proofs.PutTests.{IsFree, IsTaken, all_three, behind_still, free_of, full_in, gate, gate_more, gate_none, gate_of, length_events, logs_lock, many_behind, met_told, none_is, not_full, put_told, room_lock, short_is, some_is, some_true, steps_lock, taken_alone, taken_passes, taken_stays, tall_is, test_is}
-use Rattle.row_engine.proofs.StepLemmas.{IsAtEnd, clock_at_end, clock_below}
+use Rattle.row_engine.proofs.PutTests.{IsFree, IsTaken, all_three, behind_still, free_of, full_in, gate, gate_more, gate_none, gate_of, length_events, logs_lock, many_behind, none_is, not_full, room_lock, short_is, some_is, some_true, steps_lock, taken_alone, taken_passes, taken_stays, tall_is, test_is}
+use Rattle.row_engine.proofs.StepLemmas.{IsAtEnd, clock_at_end}
 
 module _ (reached : EveryReached) (need : EveryNeed) (answers : EveryAnswer) (coming : EveryComing) (parts : (old mid new : Story) → EveryPart old mid new)
     (g : Opening) (xs : List Done) (z : Shape) (v : View) (x : Session) (log : Log) (h : Holds z v x log) (t : Ties g x.group xs x.own x.is_half_aborted v) (line : IsNewLine (outcomes xs)) (works : x.works ≡ true) (key value : ℕ) where
@@ -774,41 +773,3 @@ module _ (reached : EveryReached) (need : EveryNeed) (answers : EveryAnswer) (co
 
           spent_is : refusal_in g sf x.own is_half_aborted log asks ≡ Some refusal.ClockSpent
           spent_is = late_is none ∙ (met_is room_f ∙ ap (λ k. cond k (Some refusal.ClockSpent) room_f) (le-leb (2 ^ 62) clock at_end.spent))
-
--- ## In every run
-
-module _ (reached : EveryReached) (need : EveryNeed) (answers : EveryAnswer) (coming : EveryComing) (parts : (old mid new : Story) → EveryPart old mid new)
-    (z : Shape) (v : View) (x : Session) (log : Log) (h : Holds z v x log) (works : x.works ≡ true) (key value : ℕ) where
-  -- a test refused it
-  pub not_put : (st : Story) → IsLawful st → (why : Refusal) → put_test x log ≡ Some why → CallDoes x.own x.group (call.Put key value) (put_answer (Err why)) x.is_half_aborted x.is_half_aborted v v log log st st
-  not_put st lawful why e g xs t line = comes_told _ _ why (put_told x log why works e) (early_does reached need answers coming parts g xs z v x log h t line works key value v refl refl st lawful why e)
-
-  -- its row was not taken
-  pub not_taken : (st : Story) → IsLawful st → (w : View) → put_test x log ≡ None → (why : Refusal) → NotTaken why v w x.own (key % x.held.count) Alone → CallDoes x.own x.group (call.Put key value) (put_answer (Err why)) x.is_half_aborted x.is_half_aborted v w log log st st
-  not_taken st lawful w none refusal.RowSpent q g xs t line = row_does reached need answers coming parts g xs z v x log h t line works key value w q.given q.seen st lawful q.many
-  not_taken st lawful w none (refusal.Conflict other) q g xs t line = hindered_does reached need answers coming parts g xs z v x log h t line works key value w q.given q.seen other q.hinders none st lawful
-  not_taken st lawful w none _ q g xs t line = absurd q
-
-  -- behind the taking of the row
-  module _ (u : Shape) (v1 : View) (x1 : Session) (h1 : Holds u v1 x1 log) (tk : Takes v v1 x x1 (key % x.held.count) Alone) (none : put_test x log ≡ None) where
-    -- the session as it is there
-    abbrev x2 : Session
-    x2 = record x { clock = risen x.clock x1.clock; held = with_row x.held (key % x.held.count) }
-
-    h2 : Holds u v1 x2 log
-    h2 = subst (λ k. Holds u v1 k log) tk.session h1
-
-    tk2 : Takes v v1 x x2 (key % x.held.count) Alone
-    tk2 = record { given = tk.given; seen = tk.seen; met = tk.met; held = tk.held; session = refl; mine = tk.mine; alone = tk.alone }
-
-    -- what it tells brought the clock to its end
-    pub met_put : (st : Story) → IsLawful st → (why : Refusal) → clock_refusal x1.clock.clock None ≡ Some why → CallDoes x.own x.group (call.Put key value) (put_answer (Err why)) x.is_half_aborted x1.is_half_aborted v v1 log log st st
-    met_put st lawful why e g xs t line = comes_told _ _ why (met_told x1.clock.clock why e) (subst (λ k. DoesOn g x.group xs x.own (call.Put key value) (answer.Refused why) k v1 log log st st) (sym (ap (λ (k : Session). k.is_half_aborted) tk.session))
-        (met_does reached need answers coming parts g xs z v x log h t line works key value u v1 x1.clock.clock x1.clock.debt h2 tk2 none st lawful why e))
-
-    -- it was tried
-    pub tried_put : (below : clock_refusal x1.clock.clock None ≡ None) → value < 2 ^ 63 → (w : View) (y : Session) (is : Log) (old new : Story) → IsLawful old → (now : Bool) (r : Result (Option ℕ) Refusal) → Puts r v1 w key value x1 y log is old new
-        → (works_after r ≡ true → IsOf y ((state w).core.worker y.own)) → (works_after r ≡ true → now ≡ x1.is_half_aborted) → CallDoes x.own x.group (call.Put key value) (put_answer r) x.is_half_aborted now v w log is old new
-    tried_put below fits w y is old new lawful now r p hw same g xs t line =
-        put_did reached need answers coming parts g xs z v x log h t line works key value u v1 x1.clock.clock x1.clock.debt h2 tk2 none (clock_below x1.clock.clock below) fits w y is old new lawful now r
-        (subst (λ k. Puts r v1 w key value k y log is old new) tk.session p) hw (λ e. same e ∙ ap (λ (k : Session). k.is_half_aborted) tk.session)

@@ -4,7 +4,7 @@ use Rattle.row_engine.specs.Calls.{CallDoes, put_answer}
 use Rattle.std.proofs.Common.{ℕ, Option, Err, suc, ap, inl, refl, sym, ◌∙◌, subst}
 use Rattle.engine_calls.proofs.PartLemmas.{every_part}
 use Rattle.lean_disk.specs.Moments.{Framed}
-use Rattle.row_engine.proofs.PutRuns.{met_put, not_put, not_taken, tried_put}
+use Rattle.row_engine.proofs.PutCalls.{met_put, not_put, not_taken, tried_put}
 use Rattle.row_engine.proofs.PutTests.{may_taken, met_comes, met_late, never_early, none_is, not_taken_comes, put_comes, put_framed, puts_flushed, puts_told, some_is, works_of}
 use Rattle.row_engine.proofs.StepLemmas.{stopped_works}
 use Rattle.row_engine.proofs.OwnSteps.{no_steps, put_steps, taken_then, takes_steps, untaken_steps}
