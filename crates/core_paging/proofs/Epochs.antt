@@ -11,10 +11,11 @@ use Rattle.core_state.specs.Needs.{are_hot, pages_of, is_worker, is_inside, has_
 use Rattle.core_state.specs.Steps.{put_back, follows, happens, step, run}
 use Rattle.map_model.proofs.ListLemmas.{upd_same, upd_other}
 use Rattle.core_commit.proofs.Copies.{at_place as at_upd}
+use Rattle.core_commit.proofs.Controls.{worker_to}
 use Rattle.core_commit.proofs.Runs.{step_keeps}
 use Rattle.core_paging.specs.Paging.{leaves, Stays}
 use Rattle.core_paging.proofs.Places.{below, framed, hot_not_cooling, framed_not_cold, left_hot, left_frame, left_waits, left_no_more, or_off}
-use Rattle.std.proofs.Common.{◌≡◌, ◌≤◌, ℕ, suc, true, false, ◌&&◌, not, leb, ltb, List, [], ◌∷◌, ◌⊎◌, Option, Some, None, refl, sym, ap, ◌∙◌, subst, inl, inr, arith, true≢false}
+use Rattle.std.proofs.Common.{◌≡◌, ◌<◌, ◌≤◌, ℕ, suc, true, false, ◌&&◌, not, leb, ltb, List, [], ◌∷◌, ◌⊎◌, Option, Some, None, refl, sym, ap, ◌∙◌, subst, inl, inr, arith, true≢false}
 use Rattle.std.proofs.lemmas.Bool.{cases_eq, eq-eqb, eqb-false, and_parts, leb-true, not-true}
 
 -- ## A worker that stays is inside
@@ -125,6 +126,7 @@ kept_run g s w f p k (e ∷ es) st =
 
 pub record Waits (s : State) : Type 0 where
   pub local : (w x : ℕ) → s.inside w ≡ Some x → x ≤ s.epoch
+  pub some : (w x : ℕ) → s.inside w ≡ Some x → 0 < w
   pub waits : (p w : ℕ) → waits_for (s.place p) w ≡ true → (x : ℕ) × (s.inside w ≡ Some x) × (x ≤ epoch_of (s.place p))
 
 some_same : (a b : ℕ) → Some a ≡ Some b → a ≡ b
@@ -150,6 +152,7 @@ left_epoch w Cold = refl
 waits_none : (s t : State) (p : ℕ) (x : Place) → Waits s → ((w : ℕ) → waits_for x w ≡ false) → t.place ≡ upd s.place p x → t.inside ≡ s.inside → t.epoch ≡ s.epoch → Waits t
 waits_none s t p x k n ep el ee = record {
   local = λ w y e. subst (λ i. y ≤ i) (sym ee) (k.local w y (ap (λ (l : ℕ → Option ℕ). l w) (sym el) ∙ e));
+  some = λ w y e. k.some w y (ap (λ (l : ℕ → Option ℕ). l w) (sym el) ∙ e);
   waits = λ j w h. subst (λ (l : ℕ → Place). waits_for (l j) w ≡ true → (y : ℕ) × (t.inside w ≡ Some y) × (y ≤ epoch_of (l j))) (sym ep)
       (at_upd (λ j z. waits_for z w ≡ true → (y : ℕ) × (t.inside w ≡ Some y) × (y ≤ epoch_of z)) s.place p x j (λ _ b. absurd (true≢false (sym b ∙ n w)))
       (λ _ b. let q = k.waits j w b in (q.0, ap (λ (l : ℕ → Option ℕ). l w) el ∙ q.1, q.2))) h;
@@ -158,6 +161,7 @@ waits_none s t p x k n ep el ee = record {
 pub waits_event : (g : Opening) (s : State) → Waits s → (e : Event) → needs g s e ≡ true → Waits (happens g s e)
 waits_event g s k (Event.Enter w e) m = record {
   local = λ v x. at_upd (λ j o. o ≡ Some x → x ≤ s.epoch) s.inside w (Some e) v (λ _ q. subst (λ i. i ≤ s.epoch) (some_same e x q) old) (λ _ q. k.local v x q);
+  some = λ v x. at_upd (λ j o. o ≡ Some x → 0 < j) s.inside w (Some e) v (λ z q. subst (λ i. 0 < i) (sym z) (worker_to g w a.0).0) (λ _ q. k.some v x q);
   waits = λ p v h. let q = k.waits p v h in (q.0, upd_other s.inside w (Some e) v (λ z. true≢false (sym (ap is_inside (ap s.inside (sym z) ∙ q.1)) ∙ out)) ∙ q.1, q.2);
 }
   where
@@ -174,6 +178,7 @@ waits_event g s k (Event.Enter w e) m = record {
     old = leb-true e s.epoch b.1
 waits_event g s k (Event.Leave w) m = record {
   local = λ v x. at_upd (λ j o. o ≡ Some x → x ≤ s.epoch) s.inside w None v (λ _ q. none_some None x refl q) (λ _ q. k.local v x q);
+  some = λ v x. at_upd (λ j o. o ≡ Some x → 0 < j) s.inside w None v (λ _ q. none_some None x refl q) (λ _ q. k.some v x q);
   waits = λ p v h. elim (cases_eq v w) [
     | inl e ↦ absurd (true≢false (sym h ∙ (ap (λ (i : ℕ). waits_for (left_by w (s.place p)) i) e ∙ left_no_more w (s.place p))))
     | inr n ↦ (let q = k.waits p v (sym (left_waits w v (s.place p) n) ∙ h) in (q.0, upd_other s.inside w None v n ∙ q.1, subst (λ i. q.0 ≤ i) (sym (left_epoch w (s.place p))) q.2))
@@ -184,20 +189,21 @@ waits_event g s k (Event.Rescue p) m = waits_none s (happens g s (Event.Rescue p
 waits_event g s k (Event.Evict p) m = waits_none s (happens g s (Event.Evict p)) p Cold k (λ _. refl) refl refl refl
 waits_event g s k (Event.Cool p) m = record {
   local = k.local;
+  some = k.some;
   waits = λ j w. at_upd (λ j z. waits_for z w ≡ true → (y : ℕ) × (s.inside w ≡ Some y) × (y ≤ epoch_of z)) s.place p (Cooling (frame_of (s.place p)) s.epoch (λ v. is_inside (s.inside v))) j
       (λ _ h. let q = inside_some (s.inside w) h in (q.0, q.1, k.local w q.0 q.1)) (λ _ h. k.waits j w h);
 }
-waits_event g s k Event.Tick m = record { local = λ w x e. let q = k.local w x e in omega arith; waits = k.waits }
+waits_event g s k Event.Tick m = record { local = λ w x e. let q = k.local w x e in omega arith; some = k.some; waits = k.waits }
 waits_event g s k (Event.Next v q j a) m = go a
   where
     go : (a : MapAnswer) → Waits (follows g s v q a)
-    go (MapAnswer.Pair at word) = record { local = k.local; waits = k.waits }
-    go (MapAnswer.Gap b) = record { local = k.local; waits = k.waits }
-    go (MapAnswer.Value b) = record { local = k.local; waits = k.waits }
-    go (MapAnswer.Was b) = record { local = k.local; waits = k.waits }
+    go (MapAnswer.Pair at word) = record { local = k.local; some = k.some; waits = k.waits }
+    go (MapAnswer.Gap b) = record { local = k.local; some = k.some; waits = k.waits }
+    go (MapAnswer.Value b) = record { local = k.local; some = k.some; waits = k.waits }
+    go (MapAnswer.Was b) = record { local = k.local; some = k.some; waits = k.waits }
 waits_event g s k (Event.Put_back v q) m = go (s.worker v).changes
   where
     go : (cs : List Entry) → Waits (put_back g s v q cs)
-    go [] = record { local = k.local; waits = k.waits }
-    go (c ∷ cs) = record { local = k.local; waits = k.waits }
-waits_event g s k e m = record { local = k.local; waits = k.waits }
+    go [] = record { local = k.local; some = k.some; waits = k.waits }
+    go (c ∷ cs) = record { local = k.local; some = k.some; waits = k.waits }
+waits_event g s k e m = record { local = k.local; some = k.some; waits = k.waits }

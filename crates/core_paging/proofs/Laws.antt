@@ -12,7 +12,7 @@ use Rattle.core_commit.proofs.Events.{tree_now}
 use Rattle.core_commit.proofs.Controls.{worker_to}
 use Rattle.core_commit.proofs.Copies.{at_place}
 use Rattle.core_commit.proofs.Runs.{Good, step_keeps, good_event, good_start}
-use Rattle.core_paging.specs.Paging.{EveryResidence, EverySaved, Linked, EpochRule, EveryRipe, EveryHot}
+use Rattle.core_paging.specs.Paging.{EveryResidence, EverySaved, Linked, EpochRule, EveryWaiting, EveryRipe, EveryHot}
 use Rattle.core_paging.proofs.Epochs.{Inside, inside_run, Kept, kept_run, Waits, waits_event}
 use Rattle.core_paging.proofs.ResidenceKept.{PlacedIn, placed_event, placed_start}
 use Rattle.core_paging.proofs.Saves.{Saves, saves_event, saves_start, saved_run, now_been}
@@ -44,6 +44,7 @@ whole_start g = record {
   saves = saves_start g;
   waits = record {
     local = λ w x e. absurd (true≢false (sym (ap is_inside e)));
+    some = λ w x e. absurd (true≢false (sym (ap is_inside e)));
     waits = λ p w h. absurd (true≢false (sym h ∙ at_place (λ j x. waits_for x w ≡ false) (λ _. Cold) 0 (Hot 0) p (λ _. refl) (λ _. refl)));
   };
 }
@@ -146,3 +147,6 @@ pub every_hot : EveryHot
 every_hot g es p f b l h =
     let c = climb g (run g (start g) es) (every_whole g es) g.format.levels p b (omega arith) l (ap is_hot h) in
     record { hot = h; chain = c.0; linked = c.1 }
+
+pub every_waiting : EveryWaiting
+every_waiting g es = let i = (every_whole g es).waits in record { local = i.local; some = i.some; waits = i.waits }

@@ -80,6 +80,17 @@ EpochRule = (g : Opening) (before : List Event) (w e : ℕ) (during after : List
     may g entering (Event.Enter w e) ≡ true → Stays w during → Stays w after → Reachable seen f p →
     (in_frame (now.place p) f ≡ true) × ((q : ℕ) → in_frame (now.place q) f ≡ true → q ≡ p)
 
+-- No worker is inside with an epoch above the global one, and 0 is none; and a worker for whom a page waits is inside, with an epoch that is not above
+-- the page's.
+pub record Waiting (s : State) : Type 0 where
+  pub local : (w e : ℕ) → s.inside w ≡ Some e → e ≤ s.epoch
+  pub some : (w e : ℕ) → s.inside w ≡ Some e → 0 < w
+  pub waits : (p w : ℕ) → waits_for (s.place p) w ≡ true → (e : ℕ) × (s.inside w ≡ Some e) × (e ≤ epoch_of (s.place p))
+
+-- so after every list of events
+abbrev pub EveryWaiting : Type 0
+EveryWaiting = (g : Opening) (es : List Event) → Waiting (run g (start g) es)
+
 -- A cooling page waits for nobody where each worker inside has an epoch above the page's: the test by numbers.
 abbrev pub EveryRipe : Type 0
 EveryRipe = (g : Opening) (es : List Event) (p : ℕ) → let s = run g (start g) es in

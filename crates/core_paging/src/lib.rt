@@ -1,7 +1,7 @@
 //! Where pages are, what is saved of them, and the epoch rule, over every list of events.
 #![tactic(auto)]
 
-ghost use Rattle.core_paging.specs.Paging.{EveryResidence, EverySaved, EpochRule, EveryRipe, EveryHot};
+ghost use Rattle.core_paging.specs.Paging.{EveryResidence, EverySaved, EpochRule, EveryWaiting, EveryRipe, EveryHot};
 ghost use Rattle.core_paging.specs.Logs.{EveryLastLog};
 ghost use Rattle.core_paging.specs.Example.{WorkedExample};
 
@@ -21,6 +21,11 @@ pub fn every_saved()
 /// its page.
 pub fn epoch_rule()
     ensures { EpochRule }
+{}
+
+/// A worker for whom a cooling page waits is inside, with an epoch that is not above the page's, and no epoch is above the global one.
+pub fn every_waiting()
+    ensures { EveryWaiting }
 {}
 
 /// A cooling page waits for nobody where each worker inside entered at an epoch above the page's.

@@ -12,12 +12,12 @@ use Rattle.core_state.specs.Local.{publishes_row}
 use Rattle.row_words.specs.declared.event.Event.{Event}
 use Rattle.row_words.specs.declared.event.Event.TheVariants.{Lock, Unlock}
 use Rattle.row_words.specs.declared.given.Given.{Given}
-use Rattle.row_words.specs.Moments.{Moment, event_of, actor_of, is_sync}
+use Rattle.row_words.specs.Moments.{is_rising, Moment, event_of, actor_of, is_sync}
 use Rattle.row_words.specs.Openings.{opening}
 use Rattle.row_words.specs.Sealed.{begun, stepped, run, changes, sets, Shown}
 use Rattle.row_words.specs.Words.{lock_words, publishes, publishes_frame}
 use Rattle.row_words.proofs.Stays.{cases, here}
-use Rattle.row_words.proofs.SealedLemmas.{run_append}
+use Rattle.row_words.proofs.SealedLemmas.{calm_tame, run_append}
 use Rattle.rows_trait.specs.declared.view.View.{View}
 use Rattle.rows_trait.specs.Views.{Shape, after_all, state, AreApart, holds, held_at, without, settle, may}
 use Rattle.rows_trait.specs.Turns.{Leaves, MayPublish, Published}
@@ -43,14 +43,15 @@ pub record IsOf (g : Opening) (e : Event) (i : ℕ) : Type 0 where
   pub lock : (j : ℕ) → publishes_row (event_of e) j ≡ (i == j)
   pub part : is_sync e ≡ false
   pub words : (c j : ℕ) → sets e c j ≡ false
+  pub calm : is_rising e ≡ false
 
 pub of_lock : (g : Opening) (w i : ℕ) (mode : Mode) → IsOf g (Lock w i (event_mode mode)) i
 unfolding sets
-of_lock g w i mode = record { frame = λ s q. refl; lock = λ j. refl; part = refl; words = λ c j. refl }
+of_lock g w i mode = record { frame = λ s q. refl; lock = λ j. refl; part = refl; words = λ c j. refl; calm = refl }
 
 pub of_unlock : (g : Opening) (w i : ℕ) → IsOf g (Unlock w i) i
 unfolding sets
-of_unlock g w i = record { frame = λ s q. refl; lock = λ j. refl; part = refl; words = λ c j. refl }
+of_unlock g w i = record { frame = λ s q. refl; lock = λ j. refl; part = refl; words = λ c j. refl; calm = refl }
 
 only : (g : Opening) (e : Event) (i row q : ℕ) (s : State) → IsOf g e i → g.frames + i ≡ row → publishes g s (event_of e) q ≡ true → q ≡ row
 only g e i row q s of place h = cases (ltb q g.frames)
@@ -104,6 +105,7 @@ module _ (z : Shape) (v : View) (row i w : ℕ) (e : Event) (o : Row) (now : Lis
     actor = subst (λ (a : ℕ). may z.alone v a ≡ true) (sym actor) own;
     part = of.part;
     words = of.words;
+    tame = calm_tame (state v) e of.calm;
     leaves = λ between quiet apart. let s = stays between quiet apart in leaves (after_all v.given (v.seen ++ between)) s.0 s.1;
   }
 

@@ -11,6 +11,7 @@ use Rattle.lean_disk.specs.Story.{Story}
 use Rattle.row_opening.specs.Openings.{EveryReached}
 use Rattle.rows_trait.specs.declared.view.View.{View}
 use Rattle.rows_trait.specs.Views.{Shape, state}
+use Rattle.row_engine.specs.Numbers.{AreClocksLow}
 use Rattle.row_engine.specs.Calls.{begin_answer}
 use Rattle.row_engine.specs.Syncs.{HasSynced, synced_session}
 use Rattle.row_engine.specs.declared.session.Session.{Session}
@@ -75,7 +76,7 @@ module _ (z : Shape) (v : View) (work : Desk) (desks : List Desk) (are : AreDesk
 -- ## What a sync needs
 
 module _ (reached : EveryReached) (z : Shape) (u : View) (work : Desk) (desks : List Desk) (are : AreDesks z u work desks) (master : Master) (numbers : HasNumbers master work.session.workers) (o : HasOpening u.given) (logged : AreLogged (state u).core (log_of work desks) work.session.workers)
-    (flushed : AllFlushed work.session.workers (log_of work desks)) where
+    (flushed : AllFlushed work.session.workers (log_of work desks)) (clocks : AreClocksLow u) where
   abbrev number : ℕ
   number = greatest work.session.clock.clock desks
 
@@ -83,7 +84,7 @@ module _ (reached : EveryReached) (z : Shape) (u : View) (work : Desk) (desks : 
   may_sync = record {
     met = needs.sync_met z u work desks are reached o logged flushed;
     within = needs.within z u work desks are;
-    low = needs.number_small z u work desks are;
+    low = needs.number_small z u work desks are clocks;
     small = sequence_small master work.session.workers numbers;
   }
 
@@ -93,7 +94,7 @@ module _ (reached : EveryReached) (z : Shape) (u : View) (work : Desk) (desks : 
   -- behind it the master has the number as its floor, and numbers for more
   module _ (floor : master.floor ≡ (state u).core.floor) where
     high : (number ≡ master.floor → ⊥) → number ≤ 2 ^ 62 + 66 * 16
-    high other = go (needs.low_or_floor z u work desks are)
+    high other = go (needs.low_or_floor z u work desks are reached o logged flushed clocks)
       where
         go : (number ≤ 2 ^ 62 + 66 * 16) ⊎ (number ≡ (state u).core.floor) → number ≤ 2 ^ 62 + 66 * 16
         go (inl le) = le
@@ -128,12 +129,12 @@ module _ (z : Shape) (v u : View) (work mid : Desk) (desks desks_mid : List Desk
   pub opens_still : HasOpening v.given → HasOpening u.given
   opens_still o = subst HasOpening (sym f.given) o
 
-  module _ (reached : EveryReached) (master : Master) (numbers : HasNumbers master mid.session.workers) (o : HasOpening v.given) where
+  module _ (reached : EveryReached) (master : Master) (numbers : HasNumbers master mid.session.workers) (o : HasOpening v.given) (clocks : AreClocksLow u) where
     abbrev n : ℕ
     n = greatest mid.session.clock.clock desks_mid
 
     ready : MaySync work.session.workers n master u (log_of mid desks_mid)
-    ready = subst (λ k. MaySync k n master u (log_of mid desks_mid)) same (may_sync reached z u mid desks_mid are master numbers (opens_still o) all_logged all_flushed)
+    ready = subst (λ k. MaySync k n master u (log_of mid desks_mid)) same (may_sync reached z u mid desks_mid are master numbers (opens_still o) all_logged all_flushed clocks)
 
     -- it was made
     pub sync_made : (number : ℕ) → number ≡ n → (w : View) (new_store : Desk) (news : List Desk) (next : Master) (new : D) → HasSynced u w number → AreRaisedTo mid.session.workers mid desks_mid new_store news number → IsWritten story number master next between new

@@ -5,7 +5,7 @@ use Rattle.map_model.specs.Lists.{Has}
 use Rattle.map_model.proofs.ListLemmas.{any_has}
 use Rattle.image_model.specs.Entries.{Entry, is_record}
 use Rattle.core_state.specs.Lists.{most}
-use Rattle.core_state.specs.States.{flushed_by_all, start}
+use Rattle.core_state.specs.States.{State, flushed_by_all, start}
 use Rattle.core_state.specs.Events as happening
 use Rattle.core_state.specs.Needs.{is_behind, may}
 use Rattle.core_commit.proofs.Controls.{le_most}
@@ -17,7 +17,7 @@ use Rattle.row_words.specs.Moments.{events_of}
 use Rattle.row_words.specs.Openings.{opening}
 use Rattle.rows_trait.specs.declared.view.View.{View}
 use Rattle.rows_trait.specs.Views.{Shape, state}
-use Rattle.row_engine.specs.Numbers.{AreNumbered}
+use Rattle.row_engine.specs.Numbers.{AreClocksLow, AreNumbered}
 use Rattle.lean_engine.specs.Desks.{desk_of, log_of, place_of}
 use Rattle.lean_engine.specs.Machines.{AreDesks, AreLogged}
 use Rattle.lean_engine.specs.Inside.Syncs.{HasOpening, greatest}
@@ -113,6 +113,10 @@ module _ (z : Shape) (v : View) (work : Desk) (desks : List Desk) (are : AreDesk
   workers_are : (opening v.given).workers ≡ many
   workers_are = (are.each 1 (omega arith) one_some).holds.rows.workers ∙ (are.each 1 (omega arith) one_some).workers
 
+  -- numbers were in order where the rows began
+  pub numbered : AreNumbered v.given
+  numbered = (are.each 1 (omega arith) one_some).holds.rows.numbered
+
   number_is : number ≡ most (λ w. ((state v).core.worker w).clock) (opening v.given).workers
   number_is = let w = who in most_is (λ u. ((state v).core.worker u).clock) number (opening v.given).workers w.0 w.1 (let a = workers_are in let b = w.2 in omega arith) (clock_at w.0 w.1 w.2 ∙ w.3)
       (λ u low high. let b : u ≤ many = subst (λ n. u ≤ n) workers_are high in let a = clock_at u low b in let c = desk_low u low b in omega arith)
@@ -154,32 +158,23 @@ module _ (z : Shape) (v : View) (work : Desk) (desks : List Desk) (are : AreDesk
         let b = (good.inv.workers 1).based (omega arith, (let b = o.opens.workers in let c = workers_are in let d = one_some in omega arith)) in
         let c = clock_at 1 (omega arith) one_some in let d = desk_low 1 (omega arith) one_some in omega arith
 
-  -- where clocks have come to their end at the opening, none has risen since
-  pub low_or_floor : (number ≤ 2 ^ 62 + 66 * 16) ⊎ (number ≡ (state v).core.floor)
-  low_or_floor = go (are.each 1 (omega arith) one_some).holds.numbered
-    where
-      w : (w : ℕ) × (0 < w) × (w ≤ many) × ((desk_of work desks w).session.clock.clock ≡ number)
-      w = who
-
-      count : (desk_of work desks 1).session.workers ≡ many
-      count = (are.each 1 (omega arith) one_some).workers
-
-      go : AreNumbered (desk_of work desks 1).session.workers (state v).core → (number ≤ 2 ^ 62 + 66 * 16) ⊎ (number ≡ (state v).core.floor)
-      go (inl l) = inl (
-          let a = l.room in let b = l.up_to.clock w.0 in let c = clock_at w.0 w.1 w.2 in let d = w.3 in let e = (are.each 1 (omega arith) one_some).holds.rows.most in omega arith)
-      go (inr s) = inr (let a = s.floor w.0 w.1 (let q = count in let k = w.2 in omega arith) in let c = clock_at w.0 w.1 w.2 in let d = w.3 in omega arith)
+    -- where clocks have come to their end at the opening, none has risen since
+    pub low_or_floor : AreClocksLow v → (number ≤ 2 ^ 62 + 66 * 16) ⊎ (number ≡ (state v).core.floor)
+    low_or_floor low = elim (cases_lt (2 ^ 62 + 66 * 16) number) [
+      | inl far ↦ inr (
+          let w = who in
+          let a = low w.0 in let b = clock_at w.0 w.1 w.2 in let c = w.3 in
+          let d = ap (λ (s : State). (s.worker 0).clock) o.opens.first in let e = good.inv.cuts.base in let f = floor_low in
+          omega arith)
+      | inr near ↦ inl near
+    ]
 
   -- it fits a clock
-  pub number_small : number < 2 ^ 64
-  number_small = go (are.each 1 (omega arith) one_some).holds.numbered
-    where
-      w : (w : ℕ) × (0 < w) × (w ≤ many) × ((desk_of work desks w).session.clock.clock ≡ number)
-      w = who
-
-      go : AreNumbered (desk_of work desks 1).session.workers (state v).core → number < 2 ^ 64
-      go (inl l) =
-          let a = l.room in let b = l.up_to.clock w.0 in let c = clock_at w.0 w.1 w.2 in let d = w.3 in let e = (are.each 1 (omega arith) one_some).holds.rows.most in omega arith
-      go (inr s) = let a = s.small in let b = s.up_to.clock w.0 in let c = clock_at w.0 w.1 w.2 in let d = w.3 in omega arith
+  pub number_small : AreClocksLow v → number < 2 ^ 64
+  number_small low =
+      let w = who in
+      let a = low w.0 in let b = clock_at w.0 w.1 w.2 in let c = w.3 in let d = numbered.small in
+      omega arith
 
   -- no log goes above it
   pub within : (w : ℕ) → 0 < w → w ≤ many → (log_of work desks w).last ≤ number

@@ -22,7 +22,7 @@ use disk_slots::{Heads, Master};
 use lean_disk::{Did, Disk};
 use log_calls::sync_master;
 use map_model::{Answer, Refusal};
-use row_engine::{Session, Stages, flush_own, store_synced};
+use row_engine::{Session, Stages, clocks_low, flush_own, store_synced};
 use worker_log::{DiskFault, WorkerLog};
 
 // The greater of two numbers.
@@ -205,6 +205,7 @@ impl<D: Stages> Machine<D> {
     {
         row_opening::every_reached();
         row_engine::every_synced();
+        clocks_low(&self.rows, &self.seat);
         let number = greatest_clock(&self.work.session, &self.desks);
         if let Err(fault) = write_floor(&mut self.work.disk, &mut self.master, number) {
             self.work.session.works = false;
@@ -236,6 +237,7 @@ impl<D: Stages> Machine<D> {
     {
         row_opening::every_reached();
         self.flush_all()?;
+        clocks_low(&self.rows, &self.seat);
         self.sync_flushed()
     }
 

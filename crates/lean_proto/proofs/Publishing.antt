@@ -34,7 +34,7 @@ use Rattle.lean_proto.proofs.Owns.{holder_next}
 use Rattle.lean_proto.specs.declared.change.Write.{Write}
 use Rattle.lean_proto.specs.Writes.{event_by, MayWrite}
 use Rattle.lean_proto.proofs.Again.{IsPlain}
-use Rattle.lean_proto.proofs.Writing.{write_of, writer, write_part, write_steady, write_pages, write_rows, plain_write, again_write, write_page}
+use Rattle.lean_proto.proofs.Writing.{write_of, writer, write_part, write_steady, write_pages, write_rows, write_tame, plain_write, again_write, write_page}
 use Rattle.lean_proto.proofs.Steady.{empty_not, no_words, may_publish}
 
 -- What a publisher of a write rests on, at a moment.
@@ -165,7 +165,7 @@ module _ (z : Shape) (v : View) (row : ℕ) (how : Write) (w p k x : ℕ) (it : 
           (subst (λ s. Shows o s row i (slice_index (held_at v.held row).now i)) (sym step_is) (row_shows i (let a = it.wide in let b = ap (width z.sizes) e in omega arith)))
 
   pub may_change : MayPublish z row (event_by how w p k x) v
-  may_change = may_publish z v row (event_by how w p k x) plain (write_part w p k x how) (no_words (event_by how w p k x) (write_steady w p k x how)) (ap (may z.alone v) (writer w p k x how) ∙ it.actor) it.places it.met.met leaves
+  may_change = may_publish z v row (event_by how w p k x) plain (write_part w p k x how) (no_words (event_by how w p k x) (write_steady w p k x how)) (ap (may z.alone v) (writer w p k x how) ∙ it.actor) it.places it.met.met (write_tame o m0.core w p k x how m0 refl it.met) leaves
       (λ t rest. again_write o m0.core w p k x how t it.met rest)
 
 pub every_change : EveryChange

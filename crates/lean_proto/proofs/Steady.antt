@@ -18,7 +18,7 @@ use Rattle.row_words.specs.declared.event.Event.{Event}
 use Rattle.row_words.specs.declared.event.Event.TheVariants as told
 use Rattle.row_words.specs.Moments.{Moment, event_of, actor_of, is_sync, mode_of}
 use Rattle.row_words.specs.Openings.{opening}
-use Rattle.row_words.specs.Sealed.{stepped, run, Shown, changes, sets}
+use Rattle.row_words.specs.Sealed.{IsTame, stepped, run, Shown, changes, sets}
 use Rattle.row_words.specs.Words.{ShowsPage, Shows, publishes, publishes_frame, lock_words}
 use Rattle.row_words.proofs.Stays as words
 use Rattle.row_words.proofs.Stays.{cases, and_true}
@@ -33,6 +33,7 @@ use Rattle.lean_proto.proofs.Again.{agree_child, IsPlain, Rest, Again, plain_loc
 use Rattle.lean_proto.proofs.Meanwhile.{meanwhile}
 use Rattle.lean_proto.proofs.Owns.{worker_apart, holder_on}
 use Rattle.lean_proto.proofs.Loads.{load_ready}
+use Rattle.lean_proto.proofs.Moves.{cool_ready, rescue_ready, save_ready, evict_ready}
 
 -- ## What events apart from a view leave
 
@@ -192,12 +193,13 @@ module _ (z : Shape) (v : View) (row : ℕ) (e : Event) (plain : IsPlain (event_
 
 -- an event that may happen again wherever what it rests on is the same
 pub may_publish : (z : Shape) (v : View) (row : ℕ) (e : Event) → IsPlain (event_of e) → is_sync e ≡ false → ((c i : ℕ) → sets e c i ≡ false)
-    → may z.alone v (actor_of e) ≡ true → ((es : List Event) → Residence (opening v.given) (after_all v.given es).core) → core.may (opening v.given) (state v).core (event_of e) ≡ true → Leaves z row e v (state v)
+    → may z.alone v (actor_of e) ≡ true → ((es : List Event) → Residence (opening v.given) (after_all v.given es).core) → core.may (opening v.given) (state v).core (event_of e) ≡ true → IsTame (state v) e → Leaves z row e v (state v)
     → ((t : State) → Rest (state v).core t (actor_of e) (event_of e) → Again (opening v.given) (state v).core t (event_of e)) → MayPublish z row e v
-may_publish z v row e plain part words actor places met leaves again = record {
+may_publish z v row e plain part words actor places met tame leaves again = record {
   actor = actor;
   part = part;
   words = words;
+  tame = tame;
   leaves = λ between quiet apart.
       let m = after_all v.given (v.seen ++ between) in
       let kept = meanwhile z v (actor_of e) (λ n. Keeps v (actor_of e) (state v).core n.core) actor (keeps_none v (actor_of e) (state v).core)
@@ -219,12 +221,16 @@ no_words (told.PutBack w p) h c j = refl
 no_words (told.Split w l r q i) h c j = refl
 no_words (told.Lift w d) h c j = refl
 no_words (told.Load p f) h c j = refl
+no_words (told.Cool p) h c j = refl
+no_words (told.Rescue p) h c j = refl
+no_words (told.Save p) h c j = refl
+no_words (told.Evict p) h c j = refl
 no_words _ h c j = absurd (true≢false (sym h))
 
 -- what is ready, of events that move no page
 plain_ready : (z : Shape) (v : View) (row : ℕ) (e : Event) → is_steady e ≡ true → IsPlain (event_of e) → IsReady z v row e
     → ((t : State) → Rest (state v).core t (actor_of e) (event_of e) → Again (opening v.given) (state v).core t (event_of e)) → MayPublish z row e v
-plain_ready z v row e steady plain r again = may_publish z v row e plain (no_sync e steady) (no_words e steady) r.actor (λ es. (r.order es).places) r.met r.leaves again
+plain_ready z v row e steady plain r again = may_publish z v row e plain (no_sync e steady) (no_words e steady) r.actor (λ es. (r.order es).places) r.met r.tame r.leaves again
 
 pub every_ready : EveryReady
 every_ready z v row (told.Lock w i mode) h r = plain_ready z v row (told.Lock w i mode) h (plain_lock w i (mode_of mode)) r (λ t rest. again_lock (opening v.given) (state v).core t w i (mode_of mode) r.met rest)
@@ -239,4 +245,8 @@ every_ready z v row (told.Split w l right q i) h r = plain_ready z v row (told.S
 every_ready z v row (told.Lift w c) h r = plain_ready z v row (told.Lift w c) h (plain_lift w c) r
     (λ t rest. let tree = (r.order v.seen).tree in again_lift (opening v.given) (state v).core t w c (tree.formed 0 tree.some) r.met rest)
 every_ready z v row (told.Load p f) h r = load_ready z v row p f r
+every_ready z v row (told.Cool p) h r = cool_ready z v row p r
+every_ready z v row (told.Rescue p) h r = rescue_ready z v row p r
+every_ready z v row (told.Save p) h r = save_ready z v row p r
+every_ready z v row (told.Evict p) h r = evict_ready z v row p r
 every_ready z v row _ h r = absurd (true≢false (sym h))

@@ -8,5 +8,6 @@ pub mod Met
 pub mod Kept
 pub mod Controls
 pub mod Paths
+pub mod Still
 pub mod Paging
 pub mod Inside

@@ -6,15 +6,16 @@ use Rattle.core_state.specs.States.{nodes_of}
 use Rattle.core_state.specs.Needs as core
 use Rattle.core_paging.specs.Paging.{Residence}
 use Rattle.row_words.specs.declared.event.Event.{Event}
-use Rattle.row_words.specs.declared.event.Event.TheVariants.{Lock, Unlock, Change, PutBack, Split, Lift, Load}
+use Rattle.row_words.specs.declared.event.Event.TheVariants.{Lock, Unlock, Change, PutBack, Split, Lift, Load, Cool, Rescue, Save, Evict}
 use Rattle.row_words.specs.Moments.{event_of, actor_of}
 use Rattle.row_words.specs.Openings.{opening}
+use Rattle.row_words.specs.Sealed.{IsTame}
 use Rattle.rows_trait.specs.declared.view.View.{View}
 use Rattle.rows_trait.specs.Views.{Shape, after_all, state, may}
 use Rattle.rows_trait.specs.Turns.{Leaves, MayPublish}
 
--- its need and what it makes of its rows hang on these rows, on its worker and on the locks that the worker holds; a load's on
--- where pages are, which the pager alone changes
+-- its need and what it makes of its rows hang on these rows, on its worker and on the locks that the worker holds; that of an event of
+-- the pager on where pages are and on what is saved of them, which the pager alone changes, and on flushed numbers, which never fall
 abbrev pub is_steady : Event → Bool
 is_steady (Lock w i mode) = true
 is_steady (Unlock w i) = true
@@ -23,6 +24,10 @@ is_steady (PutBack w p) = true
 is_steady (Split w l r q i) = true
 is_steady (Lift w c) = true
 is_steady (Load p f) = true
+is_steady (Cool p) = true
+is_steady (Rescue p) = true
+is_steady (Save p) = true
+is_steady (Evict p) = true
 is_steady _ = false
 
 -- at every moment that can come the pages are a tree, and places are in order
@@ -36,6 +41,7 @@ pub record IsReady (z : Shape) (v : View) (row : ℕ) (e : Event) : Type 0 where
   pub order : (es : List Event) → InOrder v es
   pub met : core.may (opening v.given) (state v).core (event_of e) ≡ true
   pub leaves : Leaves z row e v (state v)
+  pub tame : IsTame (state v) e
 
 -- who knows this may publish the event
 abbrev pub EveryReady : Type 0

@@ -9,15 +9,16 @@ pub mod path;
 pub mod resident;
 
 ghost use Rattle.lean_proto.specs.Changes.{EveryChange};
-ghost use Rattle.lean_proto.specs.Controls.{EveryBegin, EveryLoad, EveryTurn};
+ghost use Rattle.lean_proto.specs.Controls.{EveryBegin, EveryEpoch, EveryLoad, EveryTurn};
 ghost use Rattle.lean_proto.specs.Kept.{EveryKept};
 ghost use Rattle.lean_proto.specs.Paging.{EveryPaged};
 ghost use Rattle.lean_proto.specs.Ready.{EveryReady};
+ghost use Rattle.lean_proto.specs.Still.{EveryStood};
 
 /// Who is ready to publish a steady event may publish it: its need is met at the state that the seat has seen, and its rows, all
 /// held, have the words that it leaves there. Whatever others did meanwhile, the need is met still, and the words are right. Steady
 /// are the lock and the unlock of a row, the change of a key and a change that is put back, the split of a page, the lift of the
-/// root, and the load of a page.
+/// root, and the load, the cooling, the rescue, the save and the eviction of a page.
 pub fn every_ready()
     ensures { EveryReady }
 {}
@@ -51,6 +52,19 @@ pub fn every_begin()
 /// at the state that its seat has seen. Whatever others did meanwhile, the need is met still, and the event makes of the word that number.
 pub fn every_turn()
     ensures { EveryTurn }
+{}
+
+/// The pager may add one to the global epoch; a worker may enter with an epoch that it has loaded, and leave. Whatever others did
+/// meanwhile, the need is met when the word is stored. A word that is loaded of a worker tells that no page waits for it which cools since
+/// an epoch before that.
+pub fn every_epoch()
+    ensures { EveryEpoch }
+{}
+
+/// While the pager appends nothing, the queue, the global epoch and where pages stand are as they were, and so are a page that is not hot
+/// and what is saved of any; and no page waits for a worker anew.
+pub fn every_stood()
+    ensures { EveryStood }
 {}
 
 /// Over a call that brings a page into a frame, a worker's transaction, its changes and its locks stay, and its clock never falls; where

@@ -143,7 +143,7 @@ record_is x number need floor number_is need_is = λ i. record { txn = x.txn; gs
 -- it says how far all logs were flushed
 pub floor_found : (z : Shape) (v : View) (x : Session) (log : Log) (marks : List Bool) → Latched z v x log marks → x.is_open ≡ true → (floor : ℕ) → floor ≡ flushed_to (state v).core x.workers → floor ≡ flushed_by_all (opening v.given) (state v).core
 floor_found z v x log marks l opened floor loaded =
-    floor_is z l.before x log l.holds v l.latching.given l.latching.seen opened floor loaded ∙ sym (λ i. flushed_by_all (opening (l.latching.given i)) (same_state l.before v l.latching.given l.latching.seen i).core)
+    floor_is z l.before x log l.holds l.room v l.latching.given l.latching.seen opened floor loaded ∙ sym (λ i. flushed_by_all (opening (l.latching.given i)) (same_state l.before v l.latching.given l.latching.seen i).core)
 
 -- ## What is told
 

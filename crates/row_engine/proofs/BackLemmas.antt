@@ -33,16 +33,15 @@ use Rattle.btree_descent.specs.Puts.{DrawsFor, MayPutBack, Written, back_of}
 use Rattle.flush_avoidance.specs.Clocks.{risen}
 use Rattle.row_engine.specs.Inside.Backs.{IsPutBack}
 use Rattle.row_engine.specs.Holds.{AreNumbers, Holds, IsOf}
-use Rattle.row_engine.specs.Numbers.{AreLow, AreNumbered}
+use Rattle.row_engine.specs.Numbers.{HaveRoom}
 use Rattle.row_engine.specs.Staging.{Staging}
 use Rattle.row_engine.specs.Undo.{HasRoomToUndo, newest_of, undo_of, without_newest}
 use Rattle.row_engine.specs.declared.session.Session.{Session}
 use Rattle.row_engine.specs.declared.undo.Undone.{Undone}
 use Rattle.row_engine.proofs.Behind.{rows_on}
 use Rattle.row_engine.proofs.Moments.{resident_on}
-use Rattle.row_engine.proofs.NumberLemmas.{low_small, numbered_back, numbered_open}
 use Rattle.row_engine.proofs.PutLemmas.{same_flushed, seen_core}
-use Rattle.row_engine.proofs.UndoLemmas.{many_of, room_behind}
+use Rattle.row_engine.proofs.UndoLemmas.{room_behind}
 
 -- ## The newest change
 
@@ -85,25 +84,17 @@ half_back x y f k e =
 
 -- ## What a put-back needs
 
--- in an open transaction no number has come to the last one
-pub low_of : (z : Shape) (v : View) (x : Session) (log : Log) → Holds z v x log → x.is_open ≡ true → AreLow x.workers (state v).core
-low_of z v x log h is_open = numbered_open x.workers (state v).core x.own h.rows.most h.rows.low h.rows.high (h.session.is_open ∙ is_open) h.numbered
-
-pub clock_low : (z : Shape) (v : View) (x : Session) (log : Log) → Holds z v x log → x.is_open ≡ true → x.clock.clock < 2 ^ 63
-clock_low z v x log h is_open =
-    let l = low_of z v x log h is_open in
-    let top = low_small x.workers (state v).core h.rows.most l in
-    let at = l.up_to.clock x.own in
-    let q = h.session.clock in
-    omega arith
+-- the clock of an open transaction has not come to the last number
+pub clock_low : (z : Shape) (v : View) (x : Session) (log : Log) → Holds z v x log → HaveRoom v → x.is_open ≡ true → x.clock.clock < 2 ^ 63
+clock_low z v x log h fits is_open = let a = (fits x.own 0 (h.session.is_open ∙ is_open)).end in let q = h.session.clock in omega arith
 
 -- so one more may be drawn
-pub draws_back : (z : Shape) (v : View) (x : Session) (log : Log) → Holds z v x log → x.is_open ≡ true → DrawsFor v x.own x.own x.txn x.clock log.last
-draws_back z v x log h is_open = record {
+pub draws_back : (z : Shape) (v : View) (x : Session) (log : Log) → Holds z v x log → HaveRoom v → x.is_open ≡ true → DrawsFor v x.own x.own x.txn x.clock log.last
+draws_back z v x log h fits is_open = record {
   log = refl;
   txn = sym h.session.txn;
   clock = λ i. record { clock = sym h.session.clock i; floor = sym h.session.floor i; debt = sym h.session.debt i };
-  room = clock_low z v x log h is_open;
+  room = clock_low z v x log h fits is_open;
   last = h.numbers.last;
 }
 
@@ -256,13 +247,6 @@ module _ (rooms : EveryRoom) (z : Shape) (v w : View) (x : Session) (log : Log) 
       behind = h.numbers.behind;
     }
 
-    few_changes : length (s.worker x.own).changes ≤ 64
-    few_changes = let m = many_of (s.worker x.own).changes x.undo h.session.undo in let q = h.numbers.few in omega arith
-
-    numbered_on : AreNumbered x.workers (state w).core
-    numbered_on = subst (AreNumbered x.workers) (sym core_seen)
-        (numbered_back (opening v.given) x.workers s x.own page b.first b.rest h.rows.low h.rows.high (h.session.is_open ∙ is_open) b.is few_changes h.numbered)
-
     -- the same pages are free
     free_after : x.free ≡ free_list (opening w.given) (state w).core
     free_after = h.free ∙ (sym ((rooms (opening v.given) s u.key).same behind (λ p. written_live r p (s.page p) refl (touches p r)))
@@ -275,7 +259,6 @@ module _ (rooms : EveryRoom) (z : Shape) (v w : View) (x : Session) (log : Log) 
       rows = rows_on z v w x.own x.workers x.frames x.held.count d.ran.given h.rows;
       session = subst (λ k. IsOf next (k.worker x.own)) (sym core_is) (subst (IsOf next) (sym worker_is) session_on);
       numbers = numbers_on;
-      numbered = numbered_on;
       flushed = ap (λ k. k.flushed x.own) core_is ∙ (h.flushed ∙ sym flushed_is);
       floor = subst (λ n. x.clock.floor ≤ n) (λ i. flushed_by_all (opening (sym d.ran.given i)) (sym core_is i)) h.floor;
       behind = ap (λ k. commits.behind k x.own) core_is ∙ h.behind;

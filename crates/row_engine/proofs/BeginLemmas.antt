@@ -33,13 +33,11 @@ use Rattle.row_engine.specs.Calls.{Comes}
 use Rattle.row_engine.specs.Flushed.{Looked, flushed_to}
 use Rattle.row_engine.specs.Holds.{Holds, IsOf}
 use Rattle.row_engine.specs.Inside.{begin_test, begun_session}
-use Rattle.row_engine.specs.Numbers.{AreNumbered}
 use Rattle.row_engine.specs.Others.{Steps}
 use Rattle.row_engine.specs.declared.session.Session.{Session}
 use Rattle.row_engine.proofs.Behind.{rows_on}
 use Rattle.row_engine.proofs.FlushLemmas.{flushed_all, flushed_from, flushed_low}
 use Rattle.row_engine.proofs.Moments.{acts, free_same, goes_seen, goes_state, met_core, resident_on}
-use Rattle.row_engine.proofs.NumberLemmas.{numbered_begin}
 use Rattle.row_engine.proofs.OwnSteps.{is_own, one_step}
 use Rattle.row_engine.proofs.TakeLemmas.{holds_still, still}
 
@@ -282,7 +280,6 @@ module _ (begins : controls.EveryBegin) (z : Shape) (v w : View) (x : Session) (
       few = omega arith;
       behind = h.numbers.behind;
     };
-    numbered = subst (λ k. AreNumbered x.workers k) (sym core_is) (numbered_begin (opening v.given) x.workers core_before x.own all_flushed (let c = h.session.clock in let k = small in omega arith) h.rows.low h.rows.high h.numbered);
     flushed = ap (λ k. k.flushed x.own) core_is ∙ h.flushed;
     floor = subst (λ n. all_flushed ≤ n) (f_all ∙ (λ i. flushed_by_all (opening (sym e.goes.given i)) (sym core_is i))) (omega arith);
     behind = ap (λ k. waits k x.own) core_is ∙ h.behind;

@@ -37,7 +37,7 @@ use Rattle.rows_trait.specs.Views.{Shape, state}
 use Rattle.btree_descent.specs.Known as pages
 use Rattle.key_locks.specs.Rows as locking
 use Rattle.row_engine.specs.Holds.{AreRows}
-use Rattle.row_engine.specs.Numbers.{AreClocked}
+use Rattle.row_engine.specs.Numbers.{AreClocked, AreNumbered}
 use Rattle.engine_trait.specs.Calls.{is_half_done}
 use Rattle.engine_trait.specs.Limits.{AreLoads, limits}
 pub use Rattle.row_engine.specs.Grown.{Behind}
@@ -155,6 +155,7 @@ rows_on z v w own workers frames count e r = record {
   locks = record { spans = r.locks.spans; given = ap (λ k. (opening k).frames) e ∙ r.locks.given; locks = ap (λ k. k.rows) e ∙ r.locks.locks; few = subst (λ k. (opening k).workers ≤ 16) (sym e) r.locks.few; works = subst (λ k. locking.IsWorker (opening k).workers own) (sym e) r.locks.works };
   locks_sound = subst (λ k. locking.IsSound k) (sym e) r.locks_sound;
   clocked = subst (λ k. AreClocked k) (sym e) r.clocked;
+  numbered = subst (λ k. AreNumbered k) (sym e) r.numbered;
   workers = ap (λ k. (opening k).workers) e ∙ r.workers;
   sized = r.sized;
   low = r.low;

@@ -20,6 +20,7 @@ use Rattle.btree_smo.specs.declared.outcome.Outcome.{Outcome}
 use Rattle.btree_smo.specs.declared.outcome.Outcome.TheVariants as outcome
 use Rattle.row_engine.specs.Free.{first_of, without_first}
 use Rattle.row_engine.specs.Holds.{Holds}
+use Rattle.row_engine.specs.Numbers.{HaveRoom}
 use Rattle.row_engine.specs.Puts.{MayChange}
 use Rattle.row_engine.specs.Calls.{IsSameSession}
 use Rattle.row_engine.specs.Inside.Rooms.{IsExpected, answer_of, session_after}
@@ -58,8 +59,8 @@ module _ (rooms : EveryRoom) (z : Shape) (v : View) (x : Session) (log : Log) (h
 -- ## What comes of either
 
 -- the number of no page is the last one
-pub not_spent : (z : Shape) (v w : View) (x : Session) (log : Log) (key : ℕ) → Holds z v x log → MayChange v x log key → (row : ℕ) → IsSpentIn w.given (state v) row → ⊥
-not_spent z v w x log key h f row t = let a = t.spent in let b = low_page z v x log h f.is_open t.page in omega arith
+pub not_spent : (z : Shape) (v w : View) (x : Session) (log : Log) (key : ℕ) → Holds z v x log → HaveRoom v → MayChange v x log key → (row : ℕ) → IsSpentIn w.given (state v) row → ⊥
+not_spent z v w x log key h fits f row t = let a = t.spent in let b = low_page z v x log h fits f.is_open t.page in omega arith
 
 -- the log had a block, and be it one that is kept back
 pub not_full : (v : View) (x y : Session) (log log_now : Log) (key : ℕ) (rs now : List Record) (old new : Story) (S : Type 0) (f0 f1 used limit : ℕ) → MayChange v x log key → Staging (Err (LogFull used limit)) x y rs now log log_now old new S f0 f1 → ⊥

@@ -15,6 +15,8 @@ use Rattle.core_calls.specs.Fronts.{Done}
 use Rattle.core_calls.specs.LogEvents as log_events
 use Rattle.engine_calls.specs.Commits.{unlocks}
 use Rattle.engine_calls.proofs.UnlockLemmas.{entries_same, flushed_same, if_met}
+use Rattle.log_record.specs.Spelling.{BodyFits, Fits}
+use Rattle.log_record.specs.declared.record.Body.{Body}
 use Rattle.worker_log.specs.Logs.{Log}
 use Rattle.row_words.specs.declared.event.Event.{Event}
 use Rattle.row_words.specs.declared.event.Event.TheVariants.{End, Flush}
@@ -29,15 +31,14 @@ use Rattle.lean_proto.specs.Controls.{CanEnd}
 use Rattle.row_engine.specs.Inside.Ends.{AreMine, Ended, Latched, Latching, MayEnd, MayFlush, end_of, gives, waiting_session}
 use Rattle.row_engine.specs.Flushed.{Looked, flushed_to}
 use Rattle.row_engine.specs.Holds.{Holds, IsOf}
-use Rattle.row_engine.specs.Numbers.{AreNumbered}
+use Rattle.row_engine.specs.Numbers.{HaveRoom}
 use Rattle.row_engine.specs.Ties.{Ties}
 use Rattle.row_engine.specs.declared.session.Session.{Session}
 use Rattle.row_engine.proofs.Behind.{rows_on}
 use Rattle.row_engine.proofs.FlushLemmas.{behind_commit, behind_flush, behind_more, behind_same, floor_flush, flushed_all}
 use Rattle.row_engine.proofs.LatchLemmas.{seen_state, sized_on}
 use Rattle.row_engine.proofs.Moments.{free_same, met_core, resident_on}
-use Rattle.row_engine.proofs.NumberLemmas.{low_small, numbered_end, numbered_open, numbered_same, numbered_unlock}
-use Rattle.row_engine.proofs.UndoLemmas.{many_of, none_left}
+use Rattle.row_engine.proofs.UndoLemmas.{none_left}
 
 -- ## Views that have seen the same
 
@@ -76,6 +77,7 @@ pub latched_on : (z y : Shape) (v w : View) (x : Session) (log : Log) (marks : L
 latched_on z y v w x log marks same s l = subst (λ k. Latched k w x log marks) (sym same) (record {
   before = l.before;
   holds = l.holds;
+  room = l.room;
   latching = record {
     given = s.given ∙ l.latching.given;
     seen = s.seen ∙ l.latching.seen;
@@ -104,14 +106,6 @@ unlocks_keep A F g own (i ∷ rows) s k = unlocks_keep A F g own rows (step g s 
     go true = k s _
     go false = refl
 
-numbered_unlocks : (g : Opening) (n own : ℕ) (rows : List ℕ) (s : State) → AreNumbered n s → AreNumbered n (run g s (unlocks own rows))
-numbered_unlocks g n own [] s a = a
-numbered_unlocks g n own (i ∷ rows) s a = numbered_unlocks g n own rows (step g s (happening.Event.Unlock own i)) (go (may g s (happening.Event.Unlock own i)))
-  where
-    go : (c : Bool) → AreNumbered n (cond c (happens g s (happening.Event.Unlock own i)) s)
-    go true = numbered_unlock g n s own i a
-    go false = a
-
 -- ## Before the end
 
 same_bool : (a b : Bool) → (a ≡ true → b ≡ true) → (b ≡ true → a ≡ true) → a ≡ b
@@ -119,7 +113,7 @@ same_bool true b p q = sym (p refl)
 same_bool false true p q = q refl
 same_bool false false p q = refl
 
-module _ (z : Shape) (b : View) (x : Session) (log : Log) (h : Holds z b x log) where
+module _ (z : Shape) (b : View) (x : Session) (log : Log) (h : Holds z b x log) (room : HaveRoom b) where
   abbrev now : State
   now = (state b).core
 
@@ -128,12 +122,7 @@ module _ (z : Shape) (b : View) (x : Session) (log : Log) (h : Holds z b x log) 
 
   -- the clock of an open transaction has far to go yet
   clock_low : x.is_open ≡ true → x.clock.clock < 2 ^ 63
-  clock_low opened =
-      let l = numbered_open x.workers now x.own h.rows.most h.rows.low h.rows.high (h.session.is_open ∙ opened) h.numbered in
-      let top = low_small x.workers now h.rows.most l in
-      let c = l.up_to.clock x.own in
-      let e = h.session.clock in
-      omega arith
+  clock_low opened = let a = (room x.own 0 (h.session.is_open ∙ opened)).end in let e = h.session.clock in omega arith
 
   -- what was loaded of all logs
   pub floor_is : (v : View) → v.given ≡ b.given → v.seen ≡ b.seen → x.is_open ≡ true → (floor : ℕ) → floor ≡ flushed_to (state v).core x.workers → floor ≡ flushed_by_all (opening b.given) now
@@ -149,6 +138,13 @@ module _ (z : Shape) (b : View) (x : Session) (log : Log) (h : Holds z b x log) 
     back = λ e. none_left (now.worker x.own).changes (h.session.undo ∙ left e);
   }
 
+-- the number behind the clock of one whose rows are latched
+pub next_small : (z : Shape) (v : View) (x : Session) (log : Log) (marks : List Bool) → Latched z v x log marks → x.is_open ≡ true → x.clock.clock + 1 < 2 ^ 63
+next_small z v x log marks l opened = let a = clock_low z l.before x log l.holds l.room opened in let b = (l.room x.own 0 (l.holds.session.is_open ∙ opened)).end in let e = l.holds.session.clock in omega arith
+
+pub entry_fits : (txn number : ℕ) (b : Body) → txn < 2 ^ 64 → number < 2 ^ 64 → BodyFits b → Fits (record { txn = txn; gsn = number; body = b })
+entry_fits txn number b t n f = record { txn = t; gsn = n; body = f }
+
 -- a session whose rows are latched may end, by an abort where nothing is left to put back
 pub may_end : (z : Shape) (v : View) (x : Session) (log : Log) (marks : List Bool) (commit : Bool) (floor : ℕ) → (l : Latched z v x log marks) → floor ≡ flushed_by_all (opening l.before.given) (state l.before).core → x.is_open ≡ true
     → (commit ≡ false → x.undo ≡ []) → MayEnd z v x commit floor marks
@@ -157,9 +153,9 @@ may_end z v x log marks commit floor l floor_at opened left = record {
   locks = sized_on z z b v x.own x.frames x.held.count x.held.count refl a.given refl h.rows.locks;
   workers = h.rows.sized;
   high = h.rows.high;
-  can = over (λ k es. CanEnd (opening k) (after_all k es).core x.own commit floor) b.given v.given b.seen v.seen (sym a.given) (sym a.seen) (can_end z b x log h commit floor floor_at opened left);
+  can = over (λ k es. CanEnd (opening k) (after_all k es).core x.own commit floor) b.given v.given b.seen v.seen (sym a.given) (sym a.seen) (can_end z b x log h l.room commit floor floor_at opened left);
   clock = ap (λ m. (m.core.worker x.own).clock) s ∙ h.session.clock;
-  small = let q = clock_low z b x log h opened in omega arith;
+  small = let q = clock_low z b x log h l.room opened in omega arith;
   mine = a.mine;
   among = a.among;
   held = λ i. ap (λ m. holds_row (m.core.row i) x.own) s ∙ same_bool (holds_row ((state b).core.row i) x.own) (is_marked marks i) (λ e. l.all i ((h.held i).0 e)) (λ e. (h.held i).1 (a.among i e));
@@ -215,16 +211,6 @@ module _ (z : Shape) (b : View) (x : Session) (log : Log) (h : Holds z b x log) 
   clock_w : ((state w).core.worker x.own).clock ≡ number
   clock_w = ap (λ a. a.clock) worker_w ∙ number_at
 
-  number_small : number < 2 ^ 64
-  number_small = let q = clock_low z b x log h opened in omega arith
-
-  few_changes : length (s0.worker x.own).changes ≤ 64
-  few_changes = let q = many_of (s0.worker x.own).changes x.undo h.session.undo in let k = h.numbers.few in omega arith
-
-  numbered_w : AreNumbered x.workers (state w).core
-  numbered_w = subst (λ (t : State). AreNumbered x.workers t) (sym core_w) (numbered_unlocks (opening b.given) x.workers x.own e.rows after_end
-      (numbered_end (opening b.given) x.workers s0 x.own commit floor h.rows.low h.rows.high (h.session.is_open ∙ opened) few_changes h.numbered))
-
   page_w : (state w).core.page ≡ s0.page
   page_w = ap (λ t. t.page) core_w ∙ unlocks_keep _ (λ t. t.page) (opening b.given) x.own e.rows after_end (λ t r. refl)
 
@@ -242,7 +228,7 @@ module _ (z : Shape) (b : View) (x : Session) (log : Log) (h : Holds z b x log) 
 
   -- A session whose transaction has ended, where nothing but the flushed number has changed since.
   module _ (u : View) (given : u.given ≡ w.given) (held : u.held ≡ w.held) (page_u : (state u).core.page ≡ (state w).core.page) (place_u : (state u).core.place ≡ (state w).core.place) (row_u : (state u).core.row ≡ (state w).core.row)
-      (worker_u : (state u).core.worker ≡ (state w).core.worker) (master_u : (state u).core.floor ≡ (state w).core.floor) (is : Log) (flushed_u : (state u).core.flushed x.own ≡ is.flushed) (order : is.flushed ≤ number) (last_is : is.last ≡ number)
+      (worker_u : (state u).core.worker ≡ (state w).core.worker) (is : Log) (flushed_u : (state u).core.flushed x.own ≡ is.flushed) (order : is.flushed ≤ number) (last_is : is.last ≡ number)
       (floor_u : x.clock.floor ≤ flushed_by_all (opening u.given) (state u).core) (waiting : ℕ) (behind_u : log_events.behind (state u).core x.own ≡ waiting) (few_behind : waiting < x.group) where
     pub holds_ended : Holds z u (waiting_session x number waiting) is
     holds_ended = record {
@@ -270,7 +256,6 @@ module _ (z : Shape) (b : View) (x : Session) (log : Log) (h : Holds z b x log) 
         few = omega arith;
         behind = few_behind;
       };
-      numbered = numbered_same x.workers (state w).core (state u).core page_u row_u worker_u master_u numbered_w;
       flushed = flushed_u;
       floor = floor_u;
       behind = behind_u;
@@ -285,7 +270,7 @@ module _ (z : Shape) (b : View) (x : Session) (log : Log) (h : Holds z b x log) 
 
   -- where nothing was flushed
   pub after_end_holds : (is : Log) → is.flushed ≡ log.flushed → is.last ≡ number → cond commit (suc x.unflushed) x.unflushed < x.group → Holds z w (waiting_session x number (cond commit (suc x.unflushed) x.unflushed)) is
-  after_end_holds is flushed_is last_is few = holds_ended w refl refl refl refl refl refl refl is
+  after_end_holds is flushed_is last_is few = holds_ended w refl refl refl refl refl refl is
       (ap (λ k. k x.own) flushed_w ∙ (h.flushed ∙ sym flushed_is))
       (let a = h.numbers.order in let k = h.numbers.last in omega arith) last_is floor_w (cond commit (suc x.unflushed) x.unflushed) behind_w few
 
@@ -305,8 +290,8 @@ module _ (z : Shape) (b : View) (x : Session) (log : Log) (h : Holds z b x log) 
   flush_met = and_true _ _ (le-leb ((state w).core.flushed x.own) number flushed_low)
       (subst (λ es. any (λ r. is_record r.kind && ((r.log == x.own) && (r.number == number))) es ≡ true) (sym entries_w) stands)
 
-  pub may_flush : (waiting : ℕ) (mid : Log) → mid.last ≡ number → MayFlush z w (waiting_session x number waiting) mid
-  may_flush waiting mid last = record { alone = h.alone; sized = h.rows.sized; low = h.rows.low; high = h.rows.high; last = last; small = number_small; met = flush_met }
+  pub may_flush : HaveRoom b → (waiting : ℕ) (mid : Log) → mid.last ≡ number → MayFlush z w (waiting_session x number waiting) mid
+  may_flush room waiting mid last = record { alone = h.alone; sized = h.rows.sized; low = h.rows.low; high = h.rows.high; last = last; small = let q = clock_low z b x log h room opened in omega arith; met = flush_met }
 
   -- no entry of its log is above that
   below : (r : Entry) → Has r (state w).core.entries → is_commit r.kind ≡ true → r.log ≡ x.own → r.number ≤ number
@@ -322,6 +307,6 @@ module _ (z : Shape) (b : View) (x : Session) (log : Log) (h : Holds z b x log) 
         (floor_flush (opening w.given) (state w).core x.own number x.clock.floor flushed_low floor_w))
 
     pub after_flush_holds : (is : Log) → is.flushed ≡ number → is.last ≡ number → Holds z u (waiting_session x number 0) is
-    after_flush_holds is flushed_is last_is = holds_ended u given held (ap (λ t. t.page) core_u) (ap (λ t. t.place) core_u) (ap (λ t. t.row) core_u) (ap (λ t. t.worker) core_u) (ap (λ t. t.floor) core_u) is
+    after_flush_holds is flushed_is last_is = holds_ended u given held (ap (λ t. t.page) core_u) (ap (λ t. t.place) core_u) (ap (λ t. t.row) core_u) (ap (λ t. t.worker) core_u) is
         (ap (λ t. t.flushed x.own) core_u ∙ (upd_same (state w).core.flushed x.own number x.own refl ∙ sym flushed_is)) (omega arith) last_is floor_u 0
         (ap (λ (t : State). log_events.behind t x.own) core_u ∙ behind_flush (opening w.given) (state w).core x.own number below) (let q = h.numbers.behind in omega arith)

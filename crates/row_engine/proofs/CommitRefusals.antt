@@ -53,7 +53,6 @@ use Rattle.btree_smo.specs.Outcomes.{AreMisses}
 use Rattle.row_engine.specs.Inside.Ends.{AreAmong, AreMine, Missed}
 use Rattle.row_engine.specs.Holds.{Holds, IsOf}
 use Rattle.row_engine.specs.Inside.{call_test, is_going}
-use Rattle.row_engine.specs.Numbers.{AreNumbered}
 use Rattle.row_engine.specs.Ties.{Ties}
 use Rattle.row_engine.specs.declared.commits.Ended as committed
 use Rattle.row_engine.specs.declared.session.Session.{Session}
@@ -134,7 +133,6 @@ holds_missed z y v w x log same m h = subst (λ k. Holds k w x log) (sym same) (
   rows = rows_on z v w x.own x.workers x.frames x.held.count m.given h.rows;
   session = subst (λ k. IsOf x (k.worker x.own)) (sym core_is) h.session;
   numbers = h.numbers;
-  numbered = subst (λ (k : State). AreNumbered x.workers k) (sym core_is) h.numbered;
   flushed = ap (λ k. k.flushed x.own) core_is ∙ h.flushed;
   floor = subst (λ k. x.clock.floor ≤ flushed_by_all (opening k) (state w).core) (sym m.given) (subst (λ (k : State). x.clock.floor ≤ flushed_by_all (opening v.given) k) (sym core_is) h.floor);
   behind = ap (λ (k : State). log_events.behind k x.own) core_is ∙ h.behind;

@@ -469,7 +469,7 @@ module _ (z : Shape) (v : View) (x : Session) (log : Log) (marks : List Bool) (o
   l = f.latched
 
   floor_at : floor ≡ flushed_by_all (opening l.before.given) (state l.before).core
-  floor_at = floor_is z l.before x log l.holds v l.latching.given l.latching.seen opened floor f.loaded
+  floor_at = floor_is z l.before x log l.holds l.room v l.latching.given l.latching.seen opened floor f.loaded
 
   pub may_end_at : (commit : Bool) → (commit ≡ false → x.undo ≡ []) → MayEnd z v x commit floor marks
   may_end_at commit left = may_end z v x log marks commit floor l floor_at opened left
@@ -483,7 +483,7 @@ module _ (z : Shape) (v : View) (x : Session) (log : Log) (marks : List Bool) (o
     holds_waiting is flushed_is last few = after_end_holds z l.before x log l.holds opened number number_is commit floor w ended is flushed_is last few
 
     pub may_flush_at : (waiting : ℕ) (mid : Log) → mid.last ≡ number → MayFlush z w (waiting_session x number waiting) mid
-    may_flush_at waiting mid last = may_flush z l.before x log l.holds opened number number_is commit floor w ended waiting mid last
+    may_flush_at waiting mid last = may_flush z l.before x log l.holds opened number number_is commit floor w ended l.room waiting mid last
 
     pub holds_flushed : (waiting : ℕ) (u : View) (y : Session) (mid is : Log) (now new : Story) → mid.last ≡ number → HasFlushed w u (waiting_session x number waiting) y mid is now new → Holds z u y is
     holds_flushed waiting u y mid is now new last d = subst (λ k. Holds z u k is) (sym d.session)

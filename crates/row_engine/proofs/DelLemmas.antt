@@ -20,15 +20,12 @@ use Rattle.flush_avoidance.specs.Clocks.{risen}
 use Rattle.row_engine.specs.Calls.{IsSameSession}
 use Rattle.row_engine.specs.Inside.Dels.{IsAbsent}
 use Rattle.row_engine.specs.Holds.{AreNumbers, Holds, IsOf}
-use Rattle.row_engine.specs.Numbers.{AreNumbered}
 use Rattle.row_engine.specs.Staging.{IsButClock}
 use Rattle.row_engine.specs.Inside.Takes.{Takes}
 use Rattle.row_engine.specs.declared.session.Session.{Session}
 use Rattle.row_engine.proofs.Behind.{rows_on}
 use Rattle.row_engine.proofs.Moments.{free_same, resident_on}
-use Rattle.row_engine.proofs.NumberLemmas.{numbered_read}
 use Rattle.row_engine.proofs.PutLemmas.{seen_core}
-use Rattle.row_engine.proofs.UndoLemmas.{many_of}
 
 -- ## The session
 
@@ -130,13 +127,6 @@ module _ (z : Shape) (v w : View) (x y : Session) (log : Log) (key : ℕ) (h : H
     behind = h.numbers.behind;
   }
 
-  few_changes : length (s.worker x.own).changes ≤ 64
-  few_changes = let m = many_of (s.worker x.own).changes x.undo h.session.undo in let q = h.numbers.few in omega arith
-
-  numbered_on : AreNumbered x.workers (state w).core
-  numbered_on = subst (AreNumbered x.workers) (sym core_is)
-      (numbered_read (opening v.given) x.workers s x.own page key None h.rows.low h.rows.high (h.session.is_open ∙ is_open) few_changes h.numbered)
-
   after_read : Holds z w next log
   after_read = record {
     alone = h.alone;
@@ -144,7 +134,6 @@ module _ (z : Shape) (v w : View) (x y : Session) (log : Log) (key : ℕ) (h : H
     rows = rows_on z v w x.own x.workers x.frames x.held.count given_is h.rows;
     session = subst (λ k. IsOf next (k.worker x.own)) (sym core_is) (subst (IsOf next) (sym worker_is) session_on);
     numbers = numbers_on;
-    numbered = numbered_on;
     flushed = ap (λ k. k.flushed x.own) core_is ∙ h.flushed;
     floor = subst (λ n. x.clock.floor ≤ n) (λ i. flushed_by_all (opening (sym given_is i)) (sym core_is i)) h.floor;
     behind = ap (λ k. commits.behind k x.own) core_is ∙ h.behind;

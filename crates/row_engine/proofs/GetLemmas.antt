@@ -52,7 +52,6 @@ use Rattle.flush_avoidance.specs.Clocks.{after_touch}
 use Rattle.row_engine.specs.Calls.{CallDoes, DoesOn}
 use Rattle.row_engine.specs.Holds.{Holds, IsOf}
 use Rattle.row_engine.specs.Inside.{call_test, is_going}
-use Rattle.row_engine.specs.Numbers.{AreNumbered}
 use Rattle.row_engine.specs.Others.{Steps}
 use Rattle.row_engine.specs.Inside.Takes.{NotTaken, Takes}
 use Rattle.row_engine.specs.Ties.{Ties}
@@ -62,11 +61,9 @@ use Rattle.row_engine.proofs.Behind.{rows_on}
 use Rattle.row_engine.proofs.ConflictLemmas.{lock_free, lock_refused}
 use Rattle.row_engine.proofs.GoingLemmas.{goes, going, not_going, tests_as}
 use Rattle.row_engine.proofs.Moments.{free_same, resident_on}
-use Rattle.row_engine.proofs.NumberLemmas.{numbered_read}
 use Rattle.row_engine.proofs.OwnSteps.{is_own, one_step}
 use Rattle.row_engine.proofs.Refusing.{hindered_behind, is_refusal, key_free, key_hindered, refusal_comes, refused_does, spent_behind, spent_end, taken_behind}
 use Rattle.row_engine.proofs.TakeLemmas.{holds_still, numbers_on, ran_seen, row_is, seen_core, seen_state, with_count}
-use Rattle.row_engine.proofs.UndoLemmas.{many_of}
 
 -- ## The tests
 
@@ -209,9 +206,6 @@ module _ (z : Shape) (v w : View) (x : Session) (log : Log) (h : Holds z v x log
   at_worker : upd s.worker x.own (at_pages s x.own (s.worker x.own) (a.page ∷ [])) x.own ≡ at_pages s x.own (s.worker x.own) (a.page ∷ [])
   at_worker = ap (λ b. cond b (at_pages s x.own (s.worker x.own) (a.page ∷ [])) (s.worker x.own)) (eq-eqb x.own x.own refl)
 
-  few : length (s.worker x.own).changes ≤ 64
-  few = let q = many_of (s.worker x.own).changes x.undo h.session.undo in let n = h.numbers.few in omega arith
-
   pub after_read : Holds z w now log
   after_read = record {
     alone = h.alone;
@@ -219,7 +213,6 @@ module _ (z : Shape) (v w : View) (x : Session) (log : Log) (h : Holds z v x log
     rows = rows_on z v w x.own x.workers x.frames x.held.count read_given h.rows;
     session = subst (λ k. IsOf now (k.worker x.own)) (sym core_is) (subst (λ k. IsOf now k) (sym at_worker) now_of);
     numbers = numbers_on x now log x.held refl (omega arith) h.numbers;
-    numbered = subst (λ k. AreNumbered x.workers k) (sym core_is) (numbered_read (opening v.given) x.workers s x.own a.page key (pages.said found.word) h.rows.low h.rows.high (h.session.is_open ∙ is_open) few h.numbered);
     flushed = ap (λ k. k.flushed x.own) core_is ∙ h.flushed;
     floor = subst (λ n. x.clock.floor ≤ n) (λ i. flushed_by_all (opening (sym read_given i)) (sym core_is i)) h.floor;
     behind = ap (λ k. waits k x.own) core_is ∙ h.behind;

@@ -32,7 +32,6 @@ use Rattle.engine_trait.specs.Rooms.{IsNextRoom}
 use Rattle.flush_avoidance.specs.Clocks.{risen}
 use Rattle.row_engine.specs.Free.{without_first}
 use Rattle.row_engine.specs.Holds.{AreNumbers, Holds, IsOf}
-use Rattle.row_engine.specs.Numbers.{AreNumbered}
 use Rattle.row_engine.specs.Puts.{MayChange}
 use Rattle.row_engine.specs.Undo.{HasRoomToStage, undo_of}
 use Rattle.row_engine.specs.Inside.Rooms.{IsGrown, IsGrowth, IsSpentBehind}
@@ -41,7 +40,6 @@ use Rattle.row_engine.specs.declared.session.Session.{Session}
 use Rattle.row_engine.proofs.Behind.{rows_on}
 use Rattle.row_engine.proofs.Moments.{resident_on}
 use Rattle.row_engine.proofs.Misses.{misses_core}
-use Rattle.row_engine.proofs.NumberLemmas.{numbered_moves}
 use Rattle.row_engine.proofs.PutLemmas.{floor_same, ran_seen, same_flushed, seen_core}
 use Rattle.row_engine.proofs.UndoLemmas.{many_of, room_after, room_to_end, room_to_flush, room_to_undo}
 
@@ -71,7 +69,6 @@ holds_same z v w x log given core held h = record {
   rows = rows_on z v w x.own x.workers x.frames x.held.count given h.rows;
   session = subst (λ s. IsOf x (s.worker x.own)) (sym core) h.session;
   numbers = h.numbers;
-  numbered = subst (λ s. AreNumbered x.workers s) (sym core) h.numbered;
   flushed = ap (λ s. s.flushed x.own) core ∙ h.flushed;
   floor = floor_same v w x.clock.floor given (ap (λ s. s.flushed) core) h.floor;
   behind = ap (λ s. behind s x.own) core ∙ h.behind;
@@ -182,10 +179,6 @@ module _ (z : Shape) (v w : View) (x : Session) (log : Log) (h : Holds z v x log
   pub clock_rises : x.clock.clock < y.clock.clock
   clock_rises = let e = ap (λ c. c.clock) clock_of in let q = h.session.clock in let k = met_by.clock in omega arith
 
-  numbered_on : AreNumbered x.workers t
-  numbered_on = numbered_moves (opening v.given) x.workers s x.own kind ps made h.rows.low h.rows.high (h.session.is_open ∙ f.is_open)
-      (let m = many_of (s.worker x.own).changes x.undo h.session.undo in let q = f.few in omega arith) (let q = h.session.clock in let c = f.small in omega arith) h.numbered
-
   -- which is no commit
   abbrev waiting : List Entry
   waiting = keep (λ q. is_commit q.kind && ((q.log == x.own) && ltb (s.flushed x.own) q.number)) s.entries
@@ -237,7 +230,6 @@ module _ (z : Shape) (v w : View) (x : Session) (log : Log) (h : Holds z v x log
       rows = rows_on z v w x.own x.workers x.frames x.held.count d.ran.given h.rows;
       session = subst (λ k. IsOf u (k.worker x.own)) (sym core_is) (subst (λ k. IsOf u k) (sym worker_is) session_on);
       numbers = numbers_on;
-      numbered = subst (λ k. AreNumbered x.workers k) (sym core_is) numbered_on;
       flushed = ap (λ k. k.flushed x.own) core_is ∙ (h.flushed ∙ sym flushed_is);
       floor = floor_same v w x.clock.floor d.ran.given (ap (λ k. k.flushed) core_is) h.floor;
       behind = ap (λ k. behind k x.own) core_is ∙ behind_on;

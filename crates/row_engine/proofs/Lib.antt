@@ -6,7 +6,6 @@ pub mod EntryNumbers
 pub mod UndoLemmas
 pub mod ReserveLemmas
 pub mod GoingLemmas
-pub mod NumberLemmas
 pub mod FlushLemmas
 pub mod Behind
 pub mod OtherLemmas
@@ -20,7 +19,6 @@ pub mod HeldLemmas
 pub mod LoneLemmas
 pub mod ConflictLemmas
 pub mod SyncLemmas
-pub mod SyncNumbers
 pub mod TakeLemmas
 pub mod ReceiptLemmas
 pub mod Refusing

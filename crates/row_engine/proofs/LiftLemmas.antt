@@ -28,6 +28,7 @@ use Rattle.btree_smo.specs.declared.outcome.Outcome.TheVariants as outcome
 use Rattle.engine_trait.specs.Rooms.{IsNextRoom}
 use Rattle.row_engine.specs.Free.{without_first}
 use Rattle.row_engine.specs.Holds.{Holds}
+use Rattle.row_engine.specs.Numbers.{HaveRoom}
 use Rattle.row_engine.specs.Puts.{MayChange}
 use Rattle.row_engine.specs.Inside.Rooms.{CanLift, Grew, IsExpected, IsGrown, answer_of, session_after}
 use Rattle.row_engine.specs.Staging.{Staging}
@@ -36,7 +37,7 @@ use Rattle.row_engine.proofs.GrowthLemmas.{grown, holds_grown, holds_same, hot_i
 use Rattle.row_engine.proofs.ChangeLemmas.{first_rest, not_full, not_spent, page_bare, page_free}
 use Rattle.row_engine.proofs.TakesLemmas.{takes_lift}
 
-module _ (rooms : EveryRoom) (z : Shape) (v w : View) (x y : Session) (log log_now : Log) (h : Holds z v x log) (key : ℕ) (f : MayChange v x log key) (page : ℕ) (can : CanLift v x key page)
+module _ (rooms : EveryRoom) (z : Shape) (v w : View) (x y : Session) (log log_now : Log) (h : Holds z v x log) (key : ℕ) (f : MayChange v x log key) (fits : HaveRoom v) (page : ℕ) (can : CanLift v x key page)
     (rs now : List Record) (old new : Story) (S same : Type 0) (f0 f1 : ℕ) where
   abbrev g : Opening
   g = opening v.given
@@ -68,8 +69,8 @@ module _ (rooms : EveryRoom) (z : Shape) (v w : View) (x y : Session) (log log_n
       go (inr b) = true≢false (sym (b.1 page (subst (λ k. IsHotIn k (state v) page page) (sym given) (hot_in z v x log h page free_at.0))) ∙ free_at.1)
 
   spent : lifts.IsSpent page w.given (state v) → ⊥
-  spent (inl t) = not_spent z v w x log key h f 0 t
-  spent (inr t) = not_spent z v w x log key h f page t
+  spent (inl t) = not_spent z v w x log key h fits f 0 t
+  spent (inr t) = not_spent z v w x log key h fits f page t
 
   pub lift_expected : (o : Outcome) → Lifts o → Draws o → IsUndisturbed o → IsExpected o
   lift_expected outcome.Done r d q = tt

@@ -13,11 +13,9 @@ use Rattle.rows_trait.specs.declared.view.View.{View}
 use Rattle.rows_trait.specs.Views.{Shape, state}
 use Rattle.worker_log.specs.Logs.{Log}
 use Rattle.row_engine.specs.Holds.{AreNumbers, Holds, IsOf}
-use Rattle.row_engine.specs.Numbers.{AreNumbered}
 use Rattle.row_engine.specs.Opened.{EveryFellow, EveryOpened, IsOpened}
 use Rattle.row_engine.specs.Ties.{Ties}
 use Rattle.row_engine.specs.declared.session.Session.{Session}
-use Rattle.row_engine.proofs.NumberLemmas.{numbered_same, numbered_start}
 
 module _ (g : Opening) (z : Shape) (v : View) (x : Session) (log : Log) (o : IsOpened g z v x log) where
   pub ties : Ties g x.group [] x.own x.is_half_aborted v
@@ -53,10 +51,6 @@ module _ (g : Opening) (z : Shape) (v : View) (x : Session) (log : Log) (o : IsO
     behind = let a = o.session.behind in let b = o.session.group in omega arith;
   }
 
-  numbered : AreNumbered x.workers (state v).core
-  numbered = at (λ s. AreNumbered x.workers s) (subst (λ n. AreNumbered n (record (start g) { place = (state v).core.place })) (o.opens.workers ∙ o.rows.workers)
-      (numbered_same g.workers (start g) (record (start g) { place = (state v).core.place }) refl refl refl refl (numbered_start g o.small)))
-
   floor : x.clock.floor ≤ flushed_by_all (opening v.given) (state v).core
   floor = at (λ s. x.clock.floor ≤ flushed_by_all (opening v.given) s)
       (least_from (start g).flushed (opening v.given).workers x.clock.floor (opening v.given).some_worker (λ u some high. let a = o.session.floor in omega arith))
@@ -68,7 +62,6 @@ module _ (g : Opening) (z : Shape) (v : View) (x : Session) (log : Log) (o : IsO
     rows = o.rows;
     session = at (λ s. IsOf x (s.worker x.own)) of_start;
     numbers = numbers;
-    numbered = numbered;
     flushed = at (λ s. s.flushed x.own ≡ log.flushed) (sym o.flushed);
     floor = floor;
     behind = at (λ s. behind s x.own ≡ x.unflushed) (sym o.session.behind);
@@ -101,6 +94,7 @@ every_fellow g z v x log own few o low high = record {
     locks = record { spans = o.rows.locks.spans; given = o.rows.locks.given; locks = o.rows.locks.locks; few = o.rows.locks.few; works = record { one = low; among = let e = o.rows.workers in omega arith } };
     locks_sound = o.rows.locks_sound;
     clocked = o.rows.clocked;
+    numbered = o.rows.numbered;
     workers = o.rows.workers;
     sized = o.rows.sized;
     low = low;

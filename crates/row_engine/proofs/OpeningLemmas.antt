@@ -11,7 +11,9 @@ use Rattle.row_engine.specs.Free.{nodes_in}
 use Rattle.core_state.specs.Events as happening
 use Rattle.core_state.specs.Needs.{is_worker}
 use Rattle.core_state.specs.Steps as core
-use Rattle.core_state.specs.Steps.{AllMet, happens}
+use Rattle.core_state.specs.Steps.{AllMet, happens, step}
+use Rattle.core_numbers.specs.Numbers.{AreTame, AreUpTo}
+use Rattle.row_numbers.specs.Views.{EveryBegun}
 use Rattle.row_words.specs.declared.event.Event.{Event}
 use Rattle.row_words.specs.declared.given.Given.{Given}
 use Rattle.row_words.specs.declared.given.Page as plain
@@ -31,6 +33,7 @@ use Rattle.worker_log.specs.Logs.{Log}
 use Rattle.engine_trait.specs.Limits.{AreLoads}
 use Rattle.row_engine.specs.Held.{Held}
 use Rattle.row_engine.specs.Holds.{AreRows}
+use Rattle.row_engine.specs.Numbers.{AreNumbered}
 use Rattle.row_engine.specs.Opened.{IsFirst, IsOpened, IsOpenedOn, plain_shape}
 use Rattle.row_engine.specs.declared.session.Session.{Session}
 use Rattle.row_engine.specs.declared.undo.Undone.{Undone}
@@ -190,9 +193,28 @@ further x own few undo held free n u old_u h count rows f =
     let same : held ≡ x.held = h ∙ (λ i. record { count = count i; rows = sym rows i }) in
     (few, (λ i. record x { own = own; undo = (u ∙ sym old_u) i; held = same i; free = f i; few = few }))
 
+-- ## Numbers
+
+-- at the start no number is above the base
+up_to : (g : Opening) (base : ℕ) → g.base ≡ base → AreUpTo (start g) base
+up_to g base e = record {
+  page = λ p. let a = g.low p in omega arith;
+  saved = λ p. let a = g.low p in omega arith;
+  row = λ i. omega arith;
+  read_end = λ i. omega arith;
+  clock = λ w. omega arith;
+  end = λ w. omega arith;
+}
+
+-- loads are tame
+loads_tame : (g : Opening) (s : State) (es : List happening.Event) → AreLoads es → AreTame g s es
+loads_tame g s [] a = tt
+loads_tame g s (happening.Event.Load p f ∷ es) a = (tt, loads_tame g (step g s (happening.Event.Load p f)) es a)
+loads_tame g s (_ ∷ es) a = absurd a
+
 -- ## On pages
 
-module _ (every : EveryOpened) (need : EveryNeed) (reached : EveryReached) (sound : EverySound) (pages : List Page) (count many base : ℕ) (are : ArePages pages base) (few : length pages ≤ 65536) (some_lock : 1 ≤ count) (few_locks : count ≤ 65536) (some_worker : 1 ≤ many) (few_workers : many ≤ 16) (small : base < 2 ^ 64) where
+module _ (every : EveryOpened) (need : EveryNeed) (reached : EveryReached) (sound : EverySound) (first_numbers : EveryBegun) (pages : List Page) (count many base : ℕ) (are : ArePages pages base) (few : length pages ≤ 65536) (some_lock : 1 ≤ count) (few_locks : count ≤ 65536) (some_worker : 1 ≤ many) (few_workers : many ≤ 16) (small : base < 2 ^ 64) where
   abbrev v : Given
   v = given_of (length pages) count many base pages
 
@@ -230,6 +252,13 @@ module _ (every : EveryOpened) (need : EveryNeed) (reached : EveryReached) (soun
     resident : IsResident (plain_shape (length pages) count many) (first_plain v)
     resident = record { room = let a = long in omega arith; hot = λ p lt. o.hot p (let a = long in omega arith) }
 
+    numbered : AreNumbered v
+    numbered = record {
+      small = small;
+      few = let e = workers_is in omega arith;
+      begun = first_numbers v (subst (λ s. AreUpTo s base) o.opens.first (up_to g base base_is)) (loads_tame (opening v) (first_state v) (events_of v.before) (every_load v.pages));
+    }
+
     rows : AreRows (plain_shape (length pages) count many) (first_plain v) 1 many (length pages) count
     rows = record {
       tree = record { some = are.tree.some; shape = refl; given = let a = are.tree.some in omega arith };
@@ -237,6 +266,7 @@ module _ (every : EveryOpened) (need : EveryNeed) (reached : EveryReached) (soun
       locks = record { spans = record { shape = refl; rows = refl; some = some_lock; small = omega arith }; given = let a = are.tree.some in omega arith; locks = refl; few = let e = workers_is in omega arith; works = record { one = omega arith; among = let e = workers_is in omega arith } };
       locks_sound = locks_sound every sound g v o.opens;
       clocked = entries_clocked reached g v o.opens;
+      numbered = numbered;
       workers = workers_is;
       sized = refl;
       low = omega arith;

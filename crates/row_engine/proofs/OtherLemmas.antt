@@ -28,7 +28,6 @@ use Rattle.rows_trait.specs.declared.view.View.{View}
 use Rattle.rows_trait.specs.Views.{after_all, state}
 use Rattle.key_locks.proofs.Masks.{others_else, reads_else}
 use Rattle.row_engine.specs.Holds.{IsOf}
-use Rattle.row_engine.specs.Numbers.{AreNumbered}
 use Rattle.row_engine.specs.Others.{EveryOther, EverySteps, Steps, is_of}
 use Rattle.row_engine.proofs.Behind.{rows_on}
 use Rattle.row_engine.proofs.FlushLemmas.{behind_more, behind_same, floor_flush}
@@ -214,7 +213,6 @@ every_other z v w x y log log_of_y h k other _ _ _ t = record {
   rows = rows_on z v w x.own x.workers x.frames x.held.count t.given h.rows;
   session = let i = subst (λ a. IsOf x a) (sym now.worker) h.session in record { is_open = i.is_open; txn = i.txn; clock = i.clock; floor = i.floor; debt = i.debt; end = i.end; undo = i.undo };
   numbers = let n = h.numbers in record { last = n.last; order = n.order; end = n.end; room = n.room; undo_room = n.undo_room; flush_room = n.flush_room; closed_txn = n.closed_txn; txn = n.txn; few = n.few; behind = n.behind };
-  numbered = subst (λ n. AreNumbered n (state w).core) (sym many) k.numbered;
   flushed = now.flushed ∙ h.flushed;
   floor = let a = h.floor in let b = now.least in let c = ap (λ q. flushed_by_all (opening q) (state w).core) t.given in omega arith;
   behind = now.commits ∙ h.behind;

@@ -36,13 +36,12 @@ use Rattle.btree_descent.specs.Trails.{Came, IsAbove}
 use Rattle.btree_descent.specs.declared.put.Put.TheVariants as put
 use Rattle.flush_avoidance.specs.Clocks.{risen}
 use Rattle.row_engine.specs.Holds.{AreNumbers, Holds, IsOf}
-use Rattle.row_engine.specs.Numbers.{AreNumbered}
+use Rattle.row_engine.specs.Numbers.{HaveRoom}
 use Rattle.row_engine.specs.Inside.Outcomes.{HasNoRoom}
 use Rattle.row_engine.specs.Puts.{IsChanged, MayChange}
 use Rattle.row_engine.specs.Staging.{Staging}
 use Rattle.row_engine.specs.Inside.Takes.{IsSpent}
 use Rattle.row_engine.specs.declared.session.Session.{Session}
-use Rattle.row_engine.proofs.NumberLemmas.{low_small, numbered_change, numbered_open}
 use Rattle.row_engine.proofs.TakeLemmas.{row_is}
 use Rattle.row_engine.specs.Undo.{HasRoomToStage}
 use Rattle.row_engine.proofs.UndoLemmas.{many_of, room_after, room_to_end, room_to_flush, room_to_undo}
@@ -82,7 +81,6 @@ holds_still z v w x log given seen held h =
       rows = rows_on z v w x.own x.workers x.frames x.held.count given h.rows;
       session = subst (λ s. IsOf x (s.worker x.own)) (sym core) h.session;
       numbers = h.numbers;
-      numbered = subst (λ s. AreNumbered x.workers s) (sym core) h.numbered;
       flushed = ap (λ s. s.flushed x.own) core ∙ h.flushed;
       floor = floor_same v w x.clock.floor given (ap (λ s. s.flushed) core) h.floor;
       behind = ap (λ s. behind s x.own) core ∙ h.behind;
@@ -96,18 +94,14 @@ holds_still z v w x log given seen held h =
     }
 
 -- no page's number comes near the last one while a transaction is open
-pub low_page : (z : Shape) (v : View) (x : Session) (log : Log) → Holds z v x log → x.is_open ≡ true → (p : ℕ) → ((state v).core.page p).gsn < 2 ^ 63
-low_page z v x log h opened p =
-    let l = numbered_open x.workers (state v).core x.own h.rows.most h.rows.low h.rows.high (h.session.is_open ∙ opened) h.numbered in
-    let a = low_small x.workers (state v).core h.rows.most l in
-    let b = l.up_to.page p in
-    omega arith
+pub low_page : (z : Shape) (v : View) (x : Session) (log : Log) → Holds z v x log → HaveRoom v → x.is_open ≡ true → (p : ℕ) → ((state v).core.page p).gsn < 2 ^ 63
+low_page z v x log h room opened p = let a = (room x.own p (h.session.is_open ∙ opened)).page in omega arith
 
 -- so the number of a leaf is none
-pub not_last : (z : Shape) (v w : View) (x : Session) (log : Log) (key : ℕ) → Holds z v x log → x.is_open ≡ true → MetSpent z.alone key v w → ⊥
-not_last z v w x log key h opened m =
+pub not_last : (z : Shape) (v w : View) (x : Session) (log : Log) (key : ℕ) → Holds z v x log → HaveRoom v → x.is_open ≡ true → MetSpent z.alone key v w → ⊥
+not_last z v w x log key h room opened m =
     let e = ap (λ k. (k.core.page m.page).gsn) (still v w m.ran.given (none_seen z.alone v w h.alone m.ran)) in
-    let a = low_page z v x log h opened m.page in
+    let a = low_page z v x log h room opened m.page in
     let b = m.spent in
     omega arith
 
@@ -171,6 +165,7 @@ may_put z v x log key word h f low = record {
   lock = ap (λ r. is_held_by ((state v).core.row r).holder x.own) (row_is z v x.own x.workers x.frames x.held.count key h.rows) ∙ f.row;
   word = low;
   small = let a = h.rows.high in let b = h.rows.most in omega arith;
+  young = let e = h.session.clock in let y = f.small in omega arith;
 }
 
 -- a word as it is said is a value, if it is one
@@ -256,10 +251,6 @@ module _ (rooms : EveryRoom) (z : Shape) (v w : View) (x : Session) (log : Log) 
   pub clock_rises : x.clock.clock < y.clock.clock
   clock_rises = let e = ap (λ c. c.clock) there in let q = h.session.clock in omega arith
 
-  numbered_on : AreNumbered x.workers t
-  numbered_on = numbered_change (opening v.given) x.workers s x.own page key value h.rows.low h.rows.high (h.session.is_open ∙ f.is_open)
-      (let m = many_of (s.worker x.own).changes x.undo h.session.undo in let q = f.few in omega arith) (let q = h.session.clock in let c = f.small in omega arith) h.numbered
-
   module _ (old new : Story) (S : Type 0) (f0 f1 : ℕ) (held : w.held ≡ []) (st : Staging (Ok tt) x y rs now log log_now old new S f0 f1) (last : log_now.last ≡ y.clock.clock) where
     abbrev u : Session
     u = record x { clock = risen x.clock y.clock; undo = record { key = key; word = word_or (2 ^ 63) before } ∷ x.undo }
@@ -312,7 +303,6 @@ module _ (rooms : EveryRoom) (z : Shape) (v w : View) (x : Session) (log : Log) 
       rows = rows_on z v w x.own x.workers x.frames x.held.count d.ran.given h.rows;
       session = subst (λ k. IsOf u (k.worker x.own)) (sym core_is) (subst (λ k. IsOf u k) (sym worker_is) session_on);
       numbers = numbers_on;
-      numbered = subst (λ k. AreNumbered x.workers k) (sym core_is) numbered_on;
       flushed = ap (λ k. k.flushed x.own) core_is ∙ (h.flushed ∙ sym flushed_is);
       floor = floor_same v w x.clock.floor d.ran.given (ap (λ k. k.flushed) core_is) h.floor;
       behind = ap (λ k. behind k x.own) core_is ∙ h.behind;

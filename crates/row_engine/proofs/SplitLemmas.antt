@@ -32,6 +32,7 @@ use Rattle.btree_smo.specs.declared.outcome.Outcome.TheVariants as outcome
 use Rattle.engine_trait.specs.Rooms.{IsNextRoom}
 use Rattle.row_engine.specs.Free.{without_first}
 use Rattle.row_engine.specs.Holds.{Holds}
+use Rattle.row_engine.specs.Numbers.{HaveRoom}
 use Rattle.row_engine.specs.Puts.{MayChange}
 use Rattle.row_engine.specs.Inside.Rooms.{CanSplit, Grew, IsExpected, IsGrown, answer_of, session_after}
 use Rattle.row_engine.specs.Staging.{Staging}
@@ -40,7 +41,7 @@ use Rattle.row_engine.proofs.GrowthLemmas.{grown, holds_grown, holds_same, hot_i
 use Rattle.row_engine.proofs.ChangeLemmas.{first_rest, not_full, not_spent, page_bare, page_free}
 use Rattle.row_engine.proofs.TakesLemmas.{takes_split}
 
-module _ (rooms : EveryRoom) (z : Shape) (v w : View) (x y : Session) (log log_now : Log) (h : Holds z v x log) (key : ℕ) (f : MayChange v x log key) (left page parent : ℕ) (can : CanSplit v x key left page parent)
+module _ (rooms : EveryRoom) (z : Shape) (v w : View) (x y : Session) (log log_now : Log) (h : Holds z v x log) (key : ℕ) (f : MayChange v x log key) (fits : HaveRoom v) (left page parent : ℕ) (can : CanSplit v x key left page parent)
     (rs now : List Record) (old new : Story) (S same : Type 0) (f0 f1 : ℕ) where
   abbrev g : Opening
   g = opening v.given
@@ -93,9 +94,9 @@ module _ (rooms : EveryRoom) (z : Shape) (v w : View) (x y : Session) (log log_n
   no_room row t = can.room (ap (λ k. length (nodes_of s k).pairs) (sym (stands z v x log h t.page parent t.stands.hot)) ∙ t.full)
 
   spent : splits.IsSpent left page parent w.given (state v) → ⊥
-  spent (inl t) = not_spent z v w x log key h f left t
-  spent (inr (inl t)) = not_spent z v w x log key h f page t
-  spent (inr (inr t)) = not_spent z v w x log key h f parent t
+  spent (inl t) = not_spent z v w x log key h fits f left t
+  spent (inr (inl t)) = not_spent z v w x log key h fits f page t
+  spent (inr (inr t)) = not_spent z v w x log key h fits f parent t
 
   pub split_expected : (o : Outcome) → Splits o → Draws o → IsUndisturbed o → IsExpected o
   split_expected outcome.Done r d q = tt

@@ -17,6 +17,7 @@ use Rattle.log_calls.specs.Wholes.{EndsInRecord, FlushesWhole, flush_of}
 use Rattle.worker_log.specs.Calls.{flushed_log}
 use Rattle.worker_log.specs.Logs.{Log, used}
 use Rattle.row_words.specs.declared.event.Event.TheVariants.{Flush, Sync}
+use Rattle.core_commit.proofs.Controls.{le_most}
 use Rattle.row_words.specs.Moments.{events_of}
 use Rattle.row_words.specs.Openings.{opening}
 use Rattle.rows_trait.specs.declared.view.View.{View}
@@ -24,16 +25,13 @@ use Rattle.rows_trait.specs.Turns.{MayTurn, Synced, Turned}
 use Rattle.rows_trait.specs.Views.{Shape, state}
 use Rattle.lean_proto.specs.Controls as controls
 use Rattle.row_engine.specs.Holds.{Holds, IsOf}
-use Rattle.row_engine.specs.Numbers.{AreNumbered}
 use Rattle.row_engine.specs.Syncs.{EverySynced, FlushesOwn, HasNoneBehind, HasSynced, flushed_of, flushes_of, synced_session}
 use Rattle.row_engine.specs.declared.session.Session.{Session}
 use Rattle.row_engine.proofs.Behind.{rows_on}
 use Rattle.row_engine.proofs.FlushLemmas.{behind_flush, behind_same, floor_flush}
 use Rattle.row_engine.proofs.LatchLemmas.{seen_state}
 use Rattle.row_engine.proofs.Moments.{acts, free_same, goes_seen, met_core, resident_on}
-use Rattle.row_engine.proofs.NumberLemmas.{low_small, numbered_flush}
 use Rattle.row_engine.proofs.OwnSteps.{is_own, no_steps, one_step}
-use Rattle.row_engine.proofs.SyncNumbers.{few_changes, most_low, numbered_sync}
 
 -- ## What is to be flushed
 
@@ -84,10 +82,6 @@ used_flushed log = go (log.count == 0)
     go true = omega arith
     go false = omega arith
 
-clock_small : (n : ℕ) (s : State) (w : ℕ) → n ≤ 16 → AreNumbered n s → (s.worker w).clock < 2 ^ 64
-clock_small n s w few (inl l) = let a = low_small n s few l in let b = l.up_to.clock w in omega arith
-clock_small n s w few (inr p) = let a = p.small in let b = p.up_to.clock w in omega arith
-
 module _ (z : Shape) (v : View) (x : Session) (log : Log) (h : Holds z v x log) (ends : EndsInRecord (state v).core x.own log) (last : HasNoneBehind (state v).core x.own log) (differs : log.last ≡ log.flushed → ⊥) where
   abbrev s : State
   s = (state v).core
@@ -102,12 +96,12 @@ module _ (z : Shape) (v : View) (x : Session) (log : Log) (h : Holds z v x log) 
       (has_any (λ (r : Entry). is_record r.kind && ((r.log == x.own) && (r.number == log.last))) s.entries d.0 d.1
       (and_from (is_record d.0.kind) ((d.0.log == x.own) && (d.0.number == log.last)) d.2 (and_from (d.0.log == x.own) (d.0.number == log.last) (eq-eqb d.0.log x.own d.3) (eq-eqb d.0.number log.last d.4))))
 
-  pub whole_turn : controls.EveryTurn → MayTurn z x.own 0 (λ _. log.last) (λ _. Flush x.own log.last ∷ []) v
-  whole_turn turns = (turns z v x.own).flush log.last (record {
+  pub whole_turn : controls.EveryTurn → log.last < 2 ^ 64 → MayTurn z x.own 0 (λ _. log.last) (λ _. Flush x.own log.last ∷ []) v
+  whole_turn turns small = (turns z v x.own).flush log.last (record {
     actor = acts z v x.own h.alone;
     some = h.rows.low;
     met = flush_met;
-    small = let a = clock_small x.workers s x.own h.rows.most h.numbered in let b = h.session.clock in let c = h.numbers.last in omega arith;
+    small = small;
   })
 
   module _ (n : ℕ) (w : View) (t : Turned z x.own 0 (λ _. log.last) (λ _. Flush x.own log.last ∷ []) v n w) (y : Session) (session : y ≡ record x { unflushed = 0 }) (is : Log) (after : is ≡ flushed_log log) where
@@ -155,7 +149,6 @@ module _ (z : Shape) (v : View) (x : Session) (log : Log) (h : Holds z v x log) 
         few = h.numbers.few;
         behind = let a = h.numbers.behind in omega arith;
       };
-      numbered = subst (λ (k : State). AreNumbered x.workers k) (sym core_w) (numbered_flush (opening v.given) x.workers s x.own log.last h.numbered);
       flushed = ap (λ k. k.flushed x.own) core_w ∙ upd_same s.flushed x.own log.last x.own refl;
       floor = floor_w;
       behind = ap (λ (k : State). log_events.behind k x.own) core_w ∙ behind_flush (opening v.given) s x.own log.last (λ e i is. last e i (commit_record e.kind is));
@@ -196,7 +189,6 @@ every_synced z v w x log number h whole e = record {
     few = n.few;
     behind = let a = n.behind in omega arith;
   };
-  numbered = subst (λ (k : State). AreNumbered x.workers k) (sym core_w) (numbered_sync x.workers (state v).core number (number_is ∙ ap (most (λ u. ((state v).core.worker u).clock)) h.rows.workers) (few_changes v) h.numbered);
   flushed = ap (λ k. k.flushed x.own) core_w;
   floor = subst (λ k. x.clock.floor ≤ flushed_by_all (opening k) (state w).core) (sym e.given) (subst (λ (k : State). x.clock.floor ≤ flushed_by_all (opening v.given) k) (sym core_w)
       (least_from (λ _. number) (opening v.given).workers x.clock.floor (opening v.given).some_worker (λ u some high. floor_low)));
@@ -220,7 +212,7 @@ every_synced z v w x log number h whole e = record {
 
     -- no clock is above it
     own_low : ((state v).core.worker x.own).clock ≤ number
-    own_low = let a = most_low (λ u. ((state v).core.worker u).clock) (opening v.given).workers x.own h.rows.low (let p = h.rows.high in let q = h.rows.workers in omega arith) in let b = number_is in omega arith
+    own_low = let a = le_most (λ u. ((state v).core.worker u).clock) (opening v.given).workers x.own (h.rows.low, let p = h.rows.high in let q = h.rows.workers in omega arith) in let b = number_is in omega arith
 
     reach : x.clock.clock ≤ number
     reach = let a = own_low in let b = h.session.clock in omega arith

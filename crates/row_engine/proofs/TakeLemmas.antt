@@ -35,7 +35,6 @@ use Rattle.key_locks.specs.Locking as locking
 use Rattle.key_locks.specs.Rows.{IsRow, core_mode, event_mode}
 use Rattle.row_engine.specs.Held.{Held, with_row}
 use Rattle.row_engine.specs.Holds.{AreNumbers, AreRows, Holds, IsOf}
-use Rattle.row_engine.specs.Numbers.{AreNumbered}
 use Rattle.row_engine.specs.Inside.Takes.{IsHindered, IsSpent, NotTaken, Takes}
 use Rattle.row_engine.specs.declared.session.Session.{Session}
 use Rattle.row_engine.proofs.Behind.{rows_on}
@@ -43,8 +42,6 @@ use Rattle.row_engine.proofs.ConflictLemmas.{blocking_hinders, lone_free}
 use Rattle.row_engine.proofs.HeldLemmas.{reader_has}
 use Rattle.row_engine.proofs.LoneLemmas.{lone_row}
 use Rattle.row_engine.proofs.Moments.{free_same, met_core, resident_on}
-use Rattle.row_engine.proofs.NumberLemmas.{numbered_lock}
-use Rattle.row_engine.proofs.UndoLemmas.{many_of}
 
 -- ## What a seat that is alone has seen
 
@@ -205,7 +202,6 @@ holds_still z v w x log given seen held h = record {
   rows = rows_on z v w x.own x.workers x.frames x.held.count given h.rows;
   session = subst (λ m. IsOf x (m.core.worker x.own)) (sym same) h.session;
   numbers = h.numbers;
-  numbered = subst (λ m. AreNumbered x.workers m.core) (sym same) h.numbered;
   flushed = ap (λ m. m.core.flushed x.own) same ∙ h.flushed;
   floor = subst (λ n. x.clock.floor ≤ n) (λ i. flushed_by_all (opening (sym given i)) (sym same i).core) h.floor;
   behind = ap (λ m. behind m.core x.own) same ∙ h.behind;
@@ -254,9 +250,6 @@ module _ (z : Shape) (v w : View) (x : Session) (log : Log) (h : Holds z v x log
   at_worker : upd s.worker x.own (at_row x.own a o) x.own ≡ at_row x.own a o
   at_worker = ap (λ b. cond b (at_row x.own a o) (s.worker x.own)) (eq-eqb x.own x.own refl)
 
-  few : length a.changes ≤ 64
-  few = let q = many_of a.changes x.undo h.session.undo in let n = h.numbers.few in omega arith
-
   at_it : upd s.row row (locked o x.own m) row ≡ locked o x.own m
   at_it = ap (λ b. cond b (locked o x.own m) (s.row row)) (eq-eqb row row refl)
 
@@ -296,7 +289,6 @@ module _ (z : Shape) (v w : View) (x : Session) (log : Log) (h : Holds z v x log
     rows = subst (λ n. AreRows z w x.own x.workers x.frames n) (sym (with_count x.held row)) (rows_on z v w x.own x.workers x.frames x.held.count given h.rows);
     session = subst (λ k. IsOf y (k.worker x.own)) (sym core_is) (subst (λ b. IsOf y b) (sym at_worker) now_of);
     numbers = numbers_on x y log (with_row x.held row) refl (omega arith) h.numbers;
-    numbered = subst (λ k. AreNumbered x.workers k) (sym core_is) (numbered_lock (opening v.given) x.workers s x.own row m h.rows.low h.rows.high (h.session.is_open ∙ is_open) few h.numbered);
     flushed = ap (λ k. k.flushed x.own) core_is ∙ h.flushed;
     floor = subst (λ n. x.clock.floor ≤ n) (λ i. flushed_by_all (opening (sym given i)) (sym core_is i)) h.floor;
     behind = ap (λ k. behind k x.own) core_is ∙ h.behind;

@@ -48,13 +48,15 @@ pub record AreNumbers (x : Session) (log : Log) : Type 0 where
   -- so few of its commits wait for a flush
   pub behind : x.unflushed < x.group
 
--- the rows are those of the opening, with so many workers; the tree, the locks and the entries' numbers are sound at each moment that can come
+-- the rows are those of the opening, with so many workers; the tree, the locks and the entries' numbers are sound at each moment that can come, and
+-- numbers where the rows began
 pub record AreRows (z : Shape) (v : View) (own many frames count : ℕ) : Type 0 where
   pub tree : descents.Sized z v frames
   pub tree_sound : pages.IsSound v.given
   pub locks : locking.Sized z v own frames count
   pub locks_sound : locking.IsSound v.given
   pub clocked : AreClocked v.given
+  pub numbered : AreNumbered v.given
   pub workers : (opening v.given).workers ≡ many
   pub sized : z.sizes.workers ≡ many
   pub low : 0 < own
@@ -71,7 +73,6 @@ pub record Holds (z : Shape) (v : View) (x : Session) (log : Log) : Type 0 where
   pub rows : AreRows z v x.own x.workers x.frames x.held.count
   pub session : IsOf x ((state v).core.worker x.own)
   pub numbers : AreNumbers x log
-  pub numbered : AreNumbered x.workers (state v).core
   pub flushed : (state v).core.flushed x.own ≡ log.flushed
   pub floor : x.clock.floor ≤ flushed_by_all (opening v.given) (state v).core
   pub behind : behind (state v).core x.own ≡ x.unflushed

@@ -16,6 +16,7 @@ ghost use Rattle.row_engine.specs.Puts.{works_after};
 use crate::backs::put_back;
 use crate::begins::least_flushed;
 use crate::commits::{Ended, close, end_rows, latch_rows, unlatch_rows};
+use crate::numbers::next_fits;
 use crate::work::{Stages, Work};
 use key_locks::latches::Latches;
 use log_record::{Body, Record};
@@ -145,6 +146,7 @@ pub fn abort<R: Rows, D: Stages>(
     if let Err(why) = put_back_all(rows, seat, work) {
         return Err(why);
     }
+    next_fits(rows, seat);
     let frames = work.session.frames;
     if !latch_rows(rows, seat, &work.session, latches) {
         unlatch_rows(rows, seat, frames, &work.session.held, latches);

@@ -8,6 +8,7 @@ ghost use Rattle.row_engine.specs.Holds.{Holds};
 ghost use Rattle.row_engine.specs.Puts.{works_after};
 ghost use Rattle.row_engine.specs.Undo.{newest_of};
 
+use crate::numbers::next_fits;
 use crate::session::Session;
 use crate::undo::Undone;
 use crate::work::{Stages, Work};
@@ -48,6 +49,7 @@ pub(crate) fn put_back<R: Rows, D: Stages>(
 {
     core_calls::every_room();
     rows_trait::every_low();
+    next_fits(rows, seat);
     let undone = newest_left(&work.session);
     let frames = work.session.frames;
     // From here on an abort is under way.

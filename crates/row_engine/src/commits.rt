@@ -17,6 +17,7 @@ ghost use Rattle.row_engine.specs.Receipts.{IsEnded};
 
 use crate::begins::least_flushed;
 use crate::held::HeldRows;
+use crate::numbers::next_fits;
 use crate::session::Session;
 use crate::work::Work;
 use key_locks::latches::Latches;
@@ -324,6 +325,7 @@ pub fn commit<R: Rows, D: Disk>(
     if let Some(why) = work.session.call_refusal() {
         return Err(why);
     }
+    next_fits(rows, seat);
     let frames = work.session.frames;
     if !latch_rows(rows, seat, &work.session, latches) {
         unlatch_rows(rows, seat, frames, &work.session.held, latches);

@@ -12,6 +12,7 @@ ghost use Rattle.row_engine.specs.Inside.Dels.{Dels};
 ghost use Rattle.row_engine.specs.Inside.{put_test};
 ghost use Rattle.row_engine.specs.Puts.{IsEarly, MayChange, works_after};
 
+use crate::numbers::next_fits;
 use crate::taking::take_row;
 use crate::work::{Stages, Work};
 use btree_descent::del::{Del, leaf_del};
@@ -41,6 +42,7 @@ fn del_held<R: Rows, D: Stages>(
 {
     core_calls::every_room();
     rows_trait::every_low();
+    next_fits(rows, seat);
     let frames = work.session.frames;
     let mut path = Path::new();
     match leaf_del(rows, seat, work.session.own, frames, key, &mut path, work) {

@@ -41,6 +41,7 @@ pub fn open_session(
     row_opening::every_need();
     row_opening::every_reached();
     key_locks::every_sound();
+    row_numbers::every_begun();
     let frames = pages.len() as u32;
     let (rows, seat) = open_rows(alloc, pages, frames, count, workers, base)?;
     let session = Session {

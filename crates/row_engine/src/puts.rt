@@ -15,6 +15,7 @@ ghost use Rattle.row_engine.specs.Inside.{put_test};
 ghost use Rattle.row_engine.specs.Puts.{IsEarly, MayChange, works_after};
 
 use crate::gets::value_of;
+use crate::numbers::next_fits;
 use crate::room::make_room;
 use crate::taking::take_row;
 use crate::work::{Stages, Work};
@@ -66,6 +67,7 @@ fn put_in_leaf<R: Rows, D: Stages>(
 {
     core_calls::every_room();
     rows_trait::every_low();
+    next_fits(rows, seat);
     let frames = work.session.frames;
     match leaf_put(rows, seat, work.session.own, frames, key, value, path, work) {
         Put::Done(before) => {

@@ -8,6 +8,7 @@ ghost use Rattle.row_engine.specs.Puts.{MayChange, works_after};
 ghost use Rattle.row_engine.specs.Inside.Rooms.{CanGrow, CanLift, CanSplit, Grew, IsExpected, IsPathTo, IsUnfit, answer_of, next_of, session_after};
 
 use crate::free::FreePages;
+use crate::numbers::next_fits;
 use crate::session::Session;
 use crate::work::{Stages, Work};
 use btree_smo::lift::lift;
@@ -109,6 +110,7 @@ fn lift_root<R: Rows, D: Stages>(
 {
     rows_trait::every_low();
     core_calls::every_room();
+    next_fits(rows, seat);
     let frames = work.session.frames;
     let outcome = lift(rows, seat, work.session.own, frames, page, work);
     rows.versions(seat);
@@ -138,6 +140,7 @@ fn split_page<R: Rows, D: Stages>(
 {
     rows_trait::every_low();
     core_calls::every_room();
+    next_fits(rows, seat);
     let frames = work.session.frames;
     let outcome = split(
         rows,

@@ -12,7 +12,7 @@ use Rattle.core_state.specs.Needs.{is_held_by, is_worker, may, may_put_back}
 use Rattle.core_state.specs.Steps.{happens, follows, put_back}
 use Rattle.core_state.specs.Steps as steps
 use Rattle.core_state.proofs.Runs.{run_more}
-use Rattle.core_paging.specs.Paging.{Residence}
+use Rattle.core_paging.specs.Paging.{Residence, Waiting}
 use Rattle.core_commit.specs.Holders.{HeldByWorkers}
 use Rattle.core_commit.proofs.HolderLemmas as commit
 use Rattle.core_paging.proofs.Laws as paging
@@ -176,6 +176,7 @@ module _ (x : Opening) (v : Given) (o : Opens x v) where
   opened es = let all = events_of v.before ++ events_of es in record {
     tree = subst (λ s. IsTree (rows.opening v).format (nodes_of s)) (sym (reached es)) (subst (λ f. IsTree f (nodes_of (steps.run x (start x) all))) o.format (index.every_tree x all));
     places = subst (λ s. Residence (rows.opening v) s) (sym (reached es)) (residence (steps.run x (start x) all) (paging.every_residence x all));
+    waiting = subst Waiting (sym (reached es)) (paging.every_waiting x all);
     logs = λ few p. subst (λ s. (s.page p).last < 256) (sym (reached es)) (let l = (within few all).page p in omega arith);
     saved = λ few p. subst (λ s. (s.saved p).last < 256) (sym (reached es)) (let l = (within few all).saved p in omega arith);
     locks = subst (λ s. HeldByWorkers (rows.opening v) s) (sym (reached es)) (holders (steps.run x (start x) all) (commit.every_holder x all));

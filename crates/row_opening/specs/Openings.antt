@@ -9,7 +9,7 @@ use Rattle.core_state.specs.States.{State, nodes_of, start}
 use Rattle.core_state.specs.Steps.{state_after}
 use Rattle.core_commit.specs.Holders.{HeldByWorkers}
 use Rattle.core_index.specs.Undo.{EachUndo}
-use Rattle.core_paging.specs.Paging.{Residence}
+use Rattle.core_paging.specs.Paging.{Residence, Waiting}
 use Rattle.row_words.specs.declared.event.Event.{Event}
 use Rattle.row_words.specs.declared.given.Given.{Given}
 use Rattle.row_words.specs.Moments.{first_state, events_of}
@@ -32,6 +32,8 @@ pub record Opens (x : Opening) (v : Given) : Type 0 where
 pub record Opened (v : Given) (es : List Event) : Type 0 where
   pub tree : IsTree (rows.opening v).format (nodes_of (after_all v es).core)
   pub places : Residence (rows.opening v) (after_all v es).core
+  -- whoever a page waits for is inside
+  pub waiting : Waiting (after_all v es).core
   -- each page's last log is below 256, and so is that of its saved contents, where there are fewer than 256 workers
   pub logs : (rows.opening v).workers < 256 → (p : ℕ) → ((after_all v es).core.page p).last < 256
   pub saved : (rows.opening v).workers < 256 → (p : ℕ) → ((after_all v es).core.saved p).last < 256

@@ -95,12 +95,12 @@ pub record Stands (s : Sessions) : Type 0 where
 pub record IsPutter (s : Session) : Type 0 where
   pub is_open : s.is_open ≡ true
   pub few : s.changes < 64
-  pub room : s.clock < 2 ^ 63
+  pub room : s.clock < 2 ^ 62
 
 -- the session may draw a number
 pub record IsDrawer (s : Session) : Type 0 where
   pub is_open : s.is_open ≡ true
-  pub room : s.clock < 2 ^ 63
+  pub room : s.clock < 2 ^ 62
 
 -- the worker holds the key's lock row alone
 abbrev pub HoldsAlone : Sessions → (worker key : ℕ) → Type 0

@@ -3,9 +3,9 @@ ghost use Rattle.std.specs.Prelude.{◌≡◌, ◌-◌, ◌<◌, ◌≤◌, ◌^
 ghost use Rattle.row_sessions.specs.Standing.{Stands, HoldsAlone, IsPutter};
 
 use crate::locking::Unlocked;
-use crate::session::{Session, session_of, set_session};
+use crate::session::{CLOCK_END, Session, session_of, set_session};
 use crate::sessions::Sessions;
-use btree_descent::put::{LAST_NUMBER, Put, leaf_put};
+use btree_descent::put::{Put, leaf_put};
 use key_locks::mode::Mode;
 use lean_proto::path::Path;
 
@@ -15,7 +15,7 @@ pub const CHANGES: u32 = 64;
 /// Why a key got no word.
 #[derive(Clone, Copy)]
 pub enum Unput {
-    /// The worker has no transaction open, or one with `CHANGES` changes, or its clock has come to the last number.
+    /// The worker has no transaction open, or one with `CHANGES` changes, or its clock has come to `CLOCK_END`.
     Spent,
     /// The lock of the key was not taken.
     Unlocked(Unlocked),
@@ -27,7 +27,7 @@ pub enum Unput {
 fn may_put(session: &Session) -> bool
     ensures { result ≡ true → IsPutter session.now }
 {
-    session.is_open && session.changes < CHANGES && session.clock < LAST_NUMBER
+    session.is_open && session.changes < CHANGES && session.clock < CLOCK_END
 }
 
 impl Sessions {

@@ -7,6 +7,9 @@ ghost use Rattle.key_locks.specs.Locking.{IsStamp};
 
 use key_locks::locking::Stamp;
 
+/// Where a worker's clock ends: from here on it begins no transaction and changes no page. An end still has its number.
+pub const CLOCK_END: u64 = 1 << 62;
+
 /// What the core's worker has. `last` is the number of the last record of its log, and `changes` counts those of its transaction.
 #[derive(Clone, Copy, Debug, PartialEq, Eq)]
 pub struct Session {

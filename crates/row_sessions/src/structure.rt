@@ -2,9 +2,8 @@
 ghost use Rattle.std.specs.Prelude.{◌≡◌, ◌<◌, ◌≤◌, true, IsTrue, EachIndex, slice_index};
 ghost use Rattle.row_sessions.specs.Standing.{Stands, IsDrawer};
 
-use crate::session::{Session, session_of, set_session};
+use crate::session::{CLOCK_END, Session, session_of, set_session};
 use crate::sessions::Sessions;
-use btree_descent::put::LAST_NUMBER;
 use btree_smo::lift::lift;
 use btree_smo::outcome::Outcome;
 use btree_smo::room::full_run;
@@ -14,7 +13,7 @@ use lean_proto::path::Path;
 /// Why the tree stayed as it was.
 #[derive(Clone, Copy)]
 pub enum Unchanged {
-    /// The worker has no transaction open, or its clock has come to the last number.
+    /// The worker has no transaction open, or its clock has come to `CLOCK_END`.
     Spent,
     /// There are fewer frames.
     NoFrame,
@@ -26,7 +25,7 @@ pub enum Unchanged {
 fn may_draw(session: &Session) -> bool
     ensures { result ≡ true → IsDrawer session.now }
 {
-    session.is_open && session.clock < LAST_NUMBER
+    session.is_open && session.clock < CLOCK_END
 }
 
 // Each frame of the path is one of so many.

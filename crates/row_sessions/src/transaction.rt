@@ -3,13 +3,14 @@ ghost use Rattle.std.specs.Prelude.{◌≡◌, ◌-◌, ◌<◌, ◌≤◌, ◌^
 ghost use Rattle.row_sessions.specs.Standing.{Stands};
 
 use crate::events::{Begins, Ends};
-use crate::session::{session_of, set_session};
+use crate::session::{CLOCK_END, session_of, set_session};
 use crate::sessions::Sessions;
 use btree_descent::descent::{Answer, find};
 use rows_trait::rows::Rows;
 
 impl Sessions {
-    /// Begins a transaction of a worker. False where it has one open, or where its transactions' numbers have come to an end.
+    /// Begins a transaction of a worker. False where it has one open, where its clock has come to `CLOCK_END`, or where its
+    /// transactions' numbers have come to an end.
     pub fn begin(&mut self, worker: u32) -> bool
         requires stands { Stands self.old }
         requires worker { (0 < worker) × (worker ≤ self.old.rows.workers) }
@@ -17,7 +18,7 @@ impl Sessions {
         ensures same { self.new.rows.workers ≡ self.old.rows.workers }
     {
         let session = session_of(&self.sessions, worker);
-        if session.is_open || session.txn == u64::MAX {
+        if session.is_open || session.clock >= CLOCK_END || session.txn == u64::MAX {
             return false;
         }
         let begins = Begins {

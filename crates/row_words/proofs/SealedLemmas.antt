@@ -1,5 +1,5 @@
 -- The laws of the sealed words.
-use Rattle.std.proofs.Common.{◌≡◌, ◌==◌, ◌-◌, ◌<◌, ◌&&◌, not, ltb, ℕ, zero, suc, arith, Bool, true, false, List, [], ◌∷◌, ◌++◌, refl, sym, ap, true≢false, cond}
+use Rattle.std.proofs.Common.{◌≡◌, ◌≢◌, ◌==◌, ◌-◌, ◌<◌, ◌^◌, ◌&&◌, not, ltb, ℕ, zero, suc, arith, Bool, true, false, List, [], ◌∷◌, ◌++◌, refl, sym, ap, ◌∙◌, subst, true≢false, cond}
 use Rattle.std.proofs.lemmas.Bool.{lt-ltb}
 use Rattle.std.proofs.lemmas.Bool.Decides.{nat_tests}
 use Rattle.row_words.specs.declared.event.Event.{Event}
@@ -9,11 +9,11 @@ use Rattle.core_state.specs.Openings.{Opening}
 use Rattle.core_state.specs.States as core
 use Rattle.core_state.specs.Local.{publishes_row}
 use Rattle.row_words.specs.Words.{publishes, publishes_frame}
-use Rattle.row_words.specs.Moments.{Moment, event_of, actor_of, is_sync, by}
+use Rattle.row_words.specs.Moments.{Moment, event_of, actor_of, is_rising, is_sync, by}
 use Rattle.row_words.specs.Openings.{opening}
-use Rattle.row_words.specs.Sealed.{stepped, run, Shown, changes, heard, sets}
+use Rattle.row_words.specs.Sealed.{stepped, run, Shown, changes, heard, sets, IsTame}
 use Rattle.row_words.proofs.Stays as words
-use Rattle.row_words.proofs.Controls.{every_control}
+use Rattle.row_words.proofs.Controls.{every_control, every_own}
 
 pub shown_stays : (v : Given) (m : Moment) (e : Event) (row i x : ℕ) → changes v m e row ≡ false → Shown v m row i x → Shown v (stepped v m e) row i x
 unfolding changes Shown stepped
@@ -115,3 +115,22 @@ pub sync_heard : (v : Given) (m : Moment) (n w : ℕ) → 0 < w → Rattle.core_
 unfolding heard stepped
 sync_heard v m n zero some met = absurd (omega arith)
 sync_heard v m n (suc w) some met = rw met refl
+
+-- ## Tame events
+
+pub calm_tame : (m : Moment) (e : Event) → is_rising e ≡ false → IsTame m e
+unfolding IsTame
+calm_tame m e calm up = absurd (true≢false (sym up ∙ calm))
+
+pub low_tame : (m : Moment) (e : Event) → (m.core.worker (actor_of e)).clock < 2 ^ 62 → IsTame m e
+unfolding IsTame
+low_tame m e low up = low
+
+pub tame_low : (m : Moment) (e : Event) → is_rising e ≡ true → IsTame m e → (m.core.worker (actor_of e)).clock < 2 ^ 62
+unfolding IsTame
+tame_low m e up t = t up
+
+-- an event of another actor, no sync, leaves what an event needs for it
+pub tame_stays : (v : Given) (m : Moment) (f e : Event) → actor_of f ≢ actor_of e → is_sync f ≡ false → IsTame m e → IsTame (stepped v m f) e
+unfolding IsTame stepped
+tame_stays v m f e other part t up = subst (λ (a : core.Worker). a.clock < 2 ^ 62) (sym (every_own (opening v) m f (actor_of e) other part).worker) (t up)

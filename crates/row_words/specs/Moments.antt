@@ -178,6 +178,17 @@ abbrev pub by : ℕ → List Event → List Event
 by a [] = []
 by a (e ∷ es) = if actor_of e == a then e ∷ by a es else by a es
 
+-- begins and records of pages, but for put-backs: for these a worker's clock has to be below 2^62
+abbrev pub is_rising : Event → Bool
+is_rising (told.Begin w f) = true
+is_rising (told.Change w p k v) = true
+is_rising (told.Split w l r q i) = true
+is_rising (told.Lift w c) = true
+is_rising (told.Join w l r q) = true
+is_rising (told.Drop w c) = true
+is_rising (told.Purge w p keys) = true
+is_rising _ = false
+
 -- a sync changes all workers
 abbrev pub is_sync : Event → Bool
 is_sync (told.Sync n) = true

@@ -1,8 +1,8 @@
 -- The same words, sealed: of them the trait of rows and its rule know the laws of proofs/SealedLemmas.antt alone.
-use Rattle.std.specs.Prelude.{ℕ, Bool, List, [], ◌∷◌}
+use Rattle.std.specs.Prelude.{◌≡◌, ◌<◌, ◌^◌, ℕ, Bool, true, List, [], ◌∷◌}
 use Rattle.row_words.specs.declared.event.Event.{Event}
 use Rattle.row_words.specs.declared.given.Given.{Given}
-use Rattle.row_words.specs.Moments.{Moment, event_of, step, first_moment}
+use Rattle.row_words.specs.Moments.{Moment, event_of, actor_of, is_rising, step, first_moment}
 use Rattle.row_words.specs.Openings.{opening}
 use Rattle.row_words.specs.Words.{Shows, publishes, control}
 use Rattle.row_words.specs.Laws as laws
@@ -35,3 +35,7 @@ heard m c i = control m c i
 -- the event changes the control word
 unfoldable pub sets : Event → ℕ → ℕ → Bool
 sets e c i = laws.sets e c i
+
+-- a begin, or a record of pages that is no put-back, comes only while its worker's clock is below 2^62
+unfoldable pub IsTame : Moment → Event → Type 0
+IsTame m e = is_rising e ≡ true → (m.core.worker (actor_of e)).clock < 2 ^ 62

@@ -6,6 +6,7 @@ use crate::answers::{Call, TOMBSTONE, Told, answer};
 use crate::expect::expect;
 use key_locks::mode::Mode;
 use row_sessions::pages::two_levels;
+use row_sessions::session::CLOCK_END;
 use row_sessions::sessions::{Sessions, Unopened};
 use std::alloc::Global;
 
@@ -97,13 +98,34 @@ static A_TRANSACTION_MAKES_NO_MORE_CHANGES: [Case; 4] = [
     Case(1, Call::Put(1000, 64), Told::Word(Some(63))),
 ];
 
+// Where the base is one below the clock's end. A put that is told its word draws the number behind it.
+static CLOCKS_COME_TO_THEIR_END: [Case; 9] = [
+    Case(1, Call::Begin, Told::Did(true)),
+    Case(1, Call::Put(1000, 5), Told::Word(Some(0))),
+    Case(1, Call::Put(1000, 6), Told::NotOpen),
+    Case(2, Call::Begin, Told::Did(true)),
+    Case(2, Call::Put(1010, 5), Told::Word(Some(1))),
+    Case(1, Call::End, Told::Did(true)),
+    Case(1, Call::Begin, Told::Did(false)),
+    Case(3, Call::Begin, Told::Did(true)),
+    Case(3, Call::End, Told::Did(true)),
+];
+
 /// Three workers and eight lock rows over two leaves, which begin at 0 and 1000, with entries ten apart.
 pub fn opened(alloc: Global, entries: u64) -> Result<Sessions, Unopened>
     requires { entries ≤ 60 }
     ensures { IfOk result (λ s. Stands s × (3 ≤ workers_of s)) }
 {
+    opened_at(alloc, entries, 7)
+}
+
+// The same, where numbers begin behind this base.
+fn opened_at(alloc: Global, entries: u64, base: u64) -> Result<Sessions, Unopened>
+    requires { entries ≤ 60 }
+    ensures { IfOk result (λ s. Stands s × (3 ≤ workers_of s)) }
+{
     match two_levels(alloc, 2, 1000, 10, entries) {
-        Ok(pages) => Sessions::open(alloc, &pages, 4, 8, 3, 7),
+        Ok(pages) => Sessions::open(alloc, &pages, 4, 8, 3, base),
         Err(_) => Err(Unopened::Memory),
     }
 }
@@ -163,6 +185,13 @@ fn makes_no_more_changes(alloc: Global) -> bool {
     }
 }
 
+fn clocks_end(alloc: Global) -> bool {
+    match opened_at(alloc, 60, CLOCK_END - 1) {
+        Ok(mut sessions) => are_told(&mut sessions, &CLOCKS_COME_TO_THEIR_END),
+        Err(_) => false,
+    }
+}
+
 #[test]
 fn each_call_is_told_what_its_row_says(rt: HostRuntime) {
     let alloc = rt.alloc();
@@ -173,5 +202,10 @@ fn each_call_is_told_what_its_row_says(rt: HostRuntime) {
         &rt,
         "a transaction makes sixty-four changes",
         makes_no_more_changes(alloc),
+    );
+    expect(
+        &rt,
+        "behind its clock's end a session ends, and begins and puts no more",
+        clocks_end(alloc),
     );
 }

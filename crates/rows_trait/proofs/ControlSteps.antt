@@ -16,14 +16,14 @@ use Rattle.rows_trait.specs.Layout.{cell, count_of, control_at}
 use Rattle.rows_trait.specs.Inside.{flushed_words, after, NoneBy}
 use Rattle.rows_trait.specs.declared.view.Act.TheVariants.{Hear, Turn}
 use Rattle.rows_trait.specs.declared.view.View.{View}
-use Rattle.rows_trait.specs.Views.{Shape, IsEven, after_all, state, AreStill, holds, held_at, AreApart, AreSilent, NoSync, may, AreBelow, Ends}
+use Rattle.rows_trait.specs.Views.{Shape, IsEven, after_all, state, AreStill, holds, held_at, AreApart, AreAside, AreTame, AreCalm, BeginsTame, NoSync, may, AreBelow, Ends}
 use Rattle.rows_trait.specs.Turns.{Heard, AreTurning, MayTurn, Turned, AreSyncing, MaySync, Synced}
 use Rattle.rows_trait.specs.Rule.{Plan, moment, IsHeld, Keeps, IsAlone}
 use Rattle.rows_trait.proofs.Cells.{bool_cases, control_inside, set_cell_apart, same_control, flushed_length, flushed_cell, flushed_other, flushed_here}
-use Rattle.rows_trait.proofs.EventLemmas.{silent_sync}
+use Rattle.rows_trait.proofs.EventLemmas.{silent_sync, begins_are, calm_are}
 use Rattle.rows_trait.proofs.Memory.{Moves, moves_not, remembers_on, remembers_hear, remembers_turn}
 use Rattle.rows_trait.proofs.Keeping.{advances}
-use Rattle.rows_trait.proofs.Stepping.{row_cases, Stepping, fit, at_length, state_is, quiet, goes, few_still, counted_still, low_still, silent_word, no_other, not_actor, alone_acts, still_old, silent_rows, fits_after, solo_after, held_still, stays, steady_still}
+use Rattle.rows_trait.proofs.Stepping.{row_cases, Stepping, fit, at_length, state_is, quiet, goes, few_still, counted_still, low_still, silent_word, begins_now, no_other, not_actor, alone_acts, still_old, silent_rows, fits_after, solo_after, held_still, stays, steady_still}
 
 module _ (alone : Bool) (spot : TableId) (k : Plan) (happened : List Event) (words : List ℕ) (views : List View) (id : ℕ) (v : View)
     (keeps : Keeps k happened words views) (mine : get_elem? views id ≡ some v) (alive : v.live ≡ true)
@@ -36,14 +36,14 @@ module _ (alone : Bool) (spot : TableId) (k : Plan) (happened : List Event) (wor
   abbrev on : Stepping alone k happened words views id v
   on = record { spot = spot; keeps = keeps; mine = mine; alive = alive; between = between; whole = whole; apart = apart; solo = solo }
 
-  pub hears : (c i n : ℕ) (names : ℕ → List Event) → c ≤ k.sizes.workers → i < count_of c → n ≡ slice_index words (control_at c i) → AreSilent (may alone v) v.given (names n)
+  pub hears : (c i n : ℕ) (names : ℕ → List Event) → c ≤ k.sizes.workers → i < count_of c → n ≡ slice_index words (control_at c i) → AreAside (may alone v) v.given (names n) → BeginsTame (state v) (names n)
       → (w : View) × (w ≡ after v between (names n) (Hear c i n ∷ v.steps) v.held) × Keeps k (happened ++ names n) words (set views id w) × Heard shape c i names v n w
       × (alone ≡ true → IsAlone k (happened ++ names n) words (set views id w) w)
-  hears c i n names h l is s =
+  hears c i n names h l is s b =
       let w = after v between (names n) (Hear c i n ∷ v.steps) v.held in (
         w,
         refl,
-        advances k happened words views id v (names n) words w keeps mine alive (stays on (names n) (Hear c i n ∷ v.steps) s (remembers_hear k.sizes words v.steps c i n (fit on).memory) (still_old on (names n) words (moves_not k.sizes words) (silent_rows on (names n) s)) (low_still on (names n))) (at_length on),
+        advances k happened words views id v (names n) words w keeps mine alive (stays on (names n) (Hear c i n ∷ v.steps) (begins_are k.given (moment k happened) (names n) (begins_now on (names n) s b)) s (remembers_hear k.sizes words v.steps c i n (fit on).memory) (still_old on (names n) words (moves_not k.sizes words) (silent_rows on (names n) s)) (low_still on (names n))) (at_length on),
         record {
           goes = goes on (names n) (Hear c i n ∷ v.steps) v.held words (held_still on (names n) s) (λ y. silent_sync (may alone v) v.given (names n) s);
           steps = refl;
@@ -72,6 +72,10 @@ module _ (alone : Bool) (spot : TableId) (k : Plan) (happened : List Event) (wor
 
     own_k : AreTurning (may alone v) alone k.given k.sizes.workers c i (names n)
     own_k = subst (λ g. AreTurning (may alone v) alone g k.sizes.workers c i (names n)) (fit on).given (may_turn.own n)
+
+    turning_calm : (es : List Event) → AreTurning (may alone v) alone k.given k.sizes.workers c i es → AreCalm es
+    turning_calm [] a = tt
+    turning_calm (e ∷ es) a = (a.0.calm, turning_calm es a.1)
 
     then_words : after_all v.given (v.seen ++ between) ≡ moment k happened
     then_words = λ j. after_all ((fit on).given j) (sym whole j)
@@ -173,6 +177,7 @@ module _ (alone : Bool) (spot : TableId) (k : Plan) (happened : List Event) (wor
             free = λ q t ev j u. turn_is q j (cell k.sizes turned_words q (j + 1)) (subst (λ y. Shown k.given (moment k happened) q j y) (sym (turn_cell q (j + 1))) (keeps.free q t (subst IsEven (turn_cell q 0) ev) j u));
             few = few_still on (names n) turned_words (λ q t. turn_cell q 0);
             controls = turned_controls;
+            tame = calm_are k.given (moment k happened) (names n) (turning_calm (names n) own_k);
             live = alive;
             actor = refl;
             made = refl;
@@ -210,6 +215,10 @@ module _ (alone : Bool) (spot : TableId) (k : Plan) (happened : List Event) (wor
     sync_still : (row : ℕ) (es : List Event) (m : Moment) → AreSyncing k.given k.sizes.workers es → AreStill k.given row m es
     sync_still row [] m a = tt
     sync_still row (e ∷ es) m a = (a.0.rows m row, sync_still row es (stepped k.given m e) a.1)
+
+    syncing_calm : (es : List Event) → AreSyncing k.given k.sizes.workers es → AreCalm es
+    syncing_calm [] a = tt
+    syncing_calm (e ∷ es) a = (a.0.calm, syncing_calm es a.1)
 
     sync_own : AreSyncing k.given k.sizes.workers es
     sync_own = subst (λ g. AreSyncing g k.sizes.workers es) (fit on).given may_sync.own
@@ -263,6 +272,7 @@ module _ (alone : Bool) (spot : TableId) (k : Plan) (happened : List Event) (wor
             free = λ q t ev j u. sync_is q j (cell k.sizes flushed q (j + 1)) (subst (λ y. Shown k.given (moment k happened) q j y) (sym (flushed_row q (j + 1))) (keeps.free q t (subst IsEven (flushed_row q 0) ev) j u));
             few = few_still on es flushed (λ q t. flushed_row q 0);
             controls = sync_controls;
+            tame = calm_are k.given (moment k happened) es (syncing_calm es sync_own);
             live = alive;
             actor = refl;
             made = refl;

@@ -4,10 +4,10 @@ use Rattle.std.proofs.lemmas.Bool.Decides.{nat_tests}
 use Rattle.row_words.specs.declared.event.Event.{Event}
 use Rattle.row_words.specs.declared.given.Given.{Given}
 use Rattle.row_words.specs.Moments.{Moment, actor_of, by}
-use Rattle.row_words.specs.Sealed.{begun, stepped, run, Shown, changes, heard}
-use Rattle.row_words.proofs.SealedLemmas.{shown_stays, heard_stays, run_append, by_append}
+use Rattle.row_words.specs.Sealed.{begun, stepped, run, Shown, changes, heard, IsTame}
+use Rattle.row_words.proofs.SealedLemmas.{shown_stays, heard_stays, run_append, by_append, calm_tame, tame_stays}
 use Rattle.rows_trait.specs.declared.view.View.{View}
-use Rattle.rows_trait.specs.Views.{after_all, holds, AreApart, AreSilent, NoSync, may, AreBelow, AreStill, IsStill}
+use Rattle.rows_trait.specs.Views.{after_all, holds, AreApart, AreAside, AreSilent, AreTame, AreCalm, BeginsTame, NoSync, may, AreBelow, AreStill, IsStill}
 use Rattle.rows_trait.specs.Inside.{NoneBy}
 
 pub apart_append : (v : View) (m : Moment) (es fs : List Event) → AreApart v m es → AreApart v (run v.given m es) fs → AreApart v m (es ++ fs)
@@ -18,15 +18,15 @@ pub apart_shown : (v : View) (es : List Event) (m : Moment) (row i x : ℕ) → 
 apart_shown v [] m row i x a h s = s
 apart_shown v (e ∷ es) m row i x a h s = apart_shown v es (stepped v.given m e) row i x a.1 h (shown_stays v.given m e row i x (a.0.rows row h) s)
 
-pub silent_shown : (p : ℕ → Bool) (v : Given) (es : List Event) (m : Moment) (row i x : ℕ) → AreSilent p v es → Shown v m row i x → Shown v (run v m es) row i x
+pub silent_shown : (p : ℕ → Bool) (v : Given) (es : List Event) (m : Moment) (row i x : ℕ) → AreAside p v es → Shown v m row i x → Shown v (run v m es) row i x
 silent_shown p v [] m row i x a s = s
 silent_shown p v (e ∷ es) m row i x a s = silent_shown p v es (stepped v m e) row i x a.1 (shown_stays v m e row i x (a.0.rows m row) s)
 
-pub silent_heard : (p : ℕ → Bool) (v : Given) (es : List Event) (m : Moment) (c i : ℕ) → AreSilent p v es → heard (run v m es) c i ≡ heard m c i
+pub silent_heard : (p : ℕ → Bool) (v : Given) (es : List Event) (m : Moment) (c i : ℕ) → AreAside p v es → heard (run v m es) c i ≡ heard m c i
 silent_heard p v [] m c i a = refl
 silent_heard p v (e ∷ es) m c i a = silent_heard p v es (stepped v m e) c i a.1 ∙ heard_stays v m e c i (a.0.words c i)
 
-pub silent_apart : (v u : View) (es : List Event) (m : Moment) → u.given ≡ v.given → u.actor ≢ v.actor → AreSilent (may false v) v.given es → AreApart u m es
+pub silent_apart : (v u : View) (es : List Event) (m : Moment) → u.given ≡ v.given → u.actor ≢ v.actor → AreAside (may false v) v.given es → AreApart u m es
 silent_apart v u [] m same ne a = tt
 silent_apart v u (e ∷ es) m same ne a =
     let s : actor_of e ≡ v.actor = let t : (actor_of e == v.actor) ≡ true = a.0.own in grind (arith, nat_tests) in
@@ -51,19 +51,19 @@ pub none_apart : (v : View) (m : Moment) (es : List Event) → AreApart v m es �
 none_apart v m [] a = tt
 none_apart v m (e ∷ es) a = (a.0.other, none_apart v (stepped v.given m e) es a.1)
 
-pub silent_none : (v : View) (a : ℕ) (es : List Event) → v.actor ≢ a → AreSilent (may false v) v.given es → NoneBy a es
+pub silent_none : (v : View) (a : ℕ) (es : List Event) → v.actor ≢ a → AreAside (may false v) v.given es → NoneBy a es
 silent_none v a [] ne s = tt
 silent_none v a (e ∷ es) ne s =
     let t : (actor_of e == v.actor) ≡ true = s.0.own in let same : actor_of e ≡ v.actor = grind (arith, nat_tests) in
     ((λ x. ne (sym same ∙ x)), silent_none v a es ne s.1)
 
-pub silent_below : (v : View) (m : ℕ) (es : List Event) → v.actor < m → AreSilent (may false v) v.given es → AreBelow m es
+pub silent_below : (v : View) (m : ℕ) (es : List Event) → v.actor < m → AreAside (may false v) v.given es → AreBelow m es
 silent_below v m [] lt s = tt
 silent_below v m (e ∷ es) lt s =
     let t : (actor_of e == v.actor) ≡ true = s.0.own in let same : actor_of e ≡ v.actor = grind (arith, nat_tests) in
     (omega arith, silent_below v m es lt s.1)
 
-pub silent_sync : (p : ℕ → Bool) (v : Given) (es : List Event) → AreSilent p v es → NoSync es
+pub silent_sync : (p : ℕ → Bool) (v : Given) (es : List Event) → AreAside p v es → NoSync es
 silent_sync p v [] a = tt
 silent_sync p v (e ∷ es) a = (a.0.part, silent_sync p v es a.1)
 
@@ -79,7 +79,7 @@ pub still_append : (v : Given) (row : ℕ) (m : Moment) (es fs : List Event) →
 still_append v row m [] fs a b = b
 still_append v row m (e ∷ es) fs a b = (a.0, still_append v row (stepped v m e) es fs a.1 b)
 
-pub silent_still : (p : ℕ → Bool) (v : Given) (row : ℕ) (es : List Event) (m : Moment) → AreSilent p v es → AreStill v row m es
+pub silent_still : (p : ℕ → Bool) (v : Given) (row : ℕ) (es : List Event) (m : Moment) → AreAside p v es → AreStill v row m es
 silent_still p v row [] m a = tt
 silent_still p v row (e ∷ es) m a = (a.0.rows m row, silent_still p v row es (stepped v m e) a.1)
 
@@ -97,3 +97,34 @@ still_more v row at happened es s a = record {
   whole = ap (λ z. z ++ es) s.whole ∙ append_assoc at s.more es;
   still = still_append v row (after_all v at) s.more es s.still (subst (λ m. AreStill v row m es) (ap (run v (begun v)) s.whole ∙ run_append v (begun v) at s.more) a);
 }
+
+-- ## Tame events
+
+pub tame_append : (v : Given) (m : Moment) (es fs : List Event) → AreTame v m es → AreTame v (run v m es) fs → AreTame v m (es ++ fs)
+tame_append v m [] fs a b = b
+tame_append v m (e ∷ es) fs a b = (a.0, tame_append v (stepped v m e) es fs a.1 b)
+
+pub tame_first : (v : Given) (m : Moment) (es fs : List Event) → AreTame v m (es ++ fs) → AreTame v m es
+tame_first v m [] fs a = tt
+tame_first v m (e ∷ es) fs a = (a.0, tame_first v (stepped v m e) es fs a.1)
+
+pub calm_are : (v : Given) (m : Moment) (es : List Event) → AreCalm es → AreTame v m es
+calm_are v m [] a = tt
+calm_are v m (e ∷ es) a = (calm_tame m e a.0, calm_are v (stepped v m e) es a.1)
+
+pub begins_are : (v : Given) (m : Moment) (es : List Event) → BeginsTame m es → AreTame v m es
+begins_are v m [] a = tt
+begins_are v m (e ∷ es) a = (a.0, calm_are v (stepped v m e) es a.1)
+
+pub silent_calm : (p : ℕ → Bool) (v : Given) (es : List Event) → AreSilent p v es → AreCalm es
+silent_calm p v [] a = tt
+silent_calm p v (e ∷ es) a = (a.0.calm, silent_calm p v es a.1)
+
+pub silent_aside : (p : ℕ → Bool) (v : Given) (es : List Event) → AreSilent p v es → AreAside p v es
+silent_aside p v [] a = tt
+silent_aside p v (e ∷ es) a = (record { own = a.0.own; part = a.0.part; rows = a.0.rows; words = a.0.words }, silent_aside p v es a.1)
+
+-- what others do leaves an event tame
+pub apart_tame : (v : View) (m : Moment) (es : List Event) (e : Event) → actor_of e ≡ v.actor → AreApart v m es → IsTame m e → IsTame (run v.given m es) e
+apart_tame v m [] e own a t = t
+apart_tame v m (x ∷ es) e own a t = apart_tame v (stepped v.given m x) es e own a.1 (tame_stays v.given m x e (λ same. a.0.other (same ∙ own)) a.0.part t)

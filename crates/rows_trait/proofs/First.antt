@@ -29,6 +29,7 @@ module _ (z : Sizes) (v : Given) (words : List ℕ) (o : IsOpening z v words) wh
       free = λ row lt ev i l. o.rows row lt i l;
       few = λ row lt. let y = o.latch row lt in omega arith;
       controls = o.controls;
+      tame = tt;
       fits = λ j u e l. subst (Fits (plan z v) [] words) (only j u e).1 first_fits;
       actors = λ i j a b ea eb la lb same. (only i a ea).0 ∙ sym (only j b eb).0;
       owners = λ i j a b ea eb la lb row ha hb. (only i a ea).0 ∙ sym (only j b eb).0;

@@ -11,11 +11,11 @@ use Rattle.rows_trait.specs.Layout.{rows_of, width, cell, count_of, control_at}
 use Rattle.rows_trait.specs.declared.view.Hold.{Hold}
 use Rattle.rows_trait.specs.declared.view.Ended.{Ended}
 use Rattle.rows_trait.specs.declared.view.View.{View}
-use Rattle.rows_trait.specs.Views.{IsEven, after_all, Since, holds, held_at, AreApart, AreStill, IsStill, AreBelow, Ends}
+use Rattle.rows_trait.specs.Views.{IsEven, after_all, Since, holds, held_at, AreApart, AreStill, IsStill, AreBelow, Ends, AreTame}
 use Rattle.rows_trait.specs.Inside.{NoneBy}
 use Rattle.rows_trait.specs.Rule.{Plan, moment, Remembers, IsHeld, Fits, Keeps}
 use Rattle.rows_trait.proofs.Cells.{bool_cases}
-use Rattle.rows_trait.proofs.EventLemmas.{apart_append, apart_shown, below_append, by_longer, still_more}
+use Rattle.rows_trait.proofs.EventLemmas.{apart_append, apart_shown, below_append, by_longer, still_more, tame_append}
 use Rattle.rows_trait.specs.declared.view.Act.{Act}
 use Rattle.rows_trait.proofs.Memory.{Moves, remembers_on, even_of_has, has_of_since}
 
@@ -76,6 +76,7 @@ pub record Step (k : Plan) (happened : List Event) (words : List ℕ) (views : L
       → Shown k.given (moment k (happened ++ es)) row i (cell k.sizes now row (i + 1))
   pub few : (row : ℕ) → row < rows_of k.sizes → cell k.sizes now row 0 ≤ 2 * length (happened ++ es) + 1
   pub controls : (c i : ℕ) → c ≤ k.sizes.workers → i < count_of c → slice_index now (control_at c i) ≡ heard (moment k (happened ++ es)) c i
+  pub tame : AreTame k.given (moment k happened) es
   pub live : w.live ≡ true
   pub actor : w.actor ≡ v.actor
   pub made : w.made ≡ v.made
@@ -116,6 +117,7 @@ module _ (k : Plan) (happened : List Event) (words : List ℕ) (views : List Vie
     free = s.free;
     few = s.few;
     controls = s.controls;
+    tame = tame_append k.given (begun k.given) happened es keeps.tame s.tame;
     fits = λ j u e l. ⊎_elim
         (λ (t : (j ≡ id) × (w ≡ u)). subst (Fits k (happened ++ es) now) t.1 s.fits)
         (λ (t : (j ≢ id) × (get_elem? views j ≡ some u)). other_fits j u t.1 l t.0)

@@ -3,12 +3,12 @@ use Rattle.std.proofs.Common.{◌≡◌, ℕ, zero, suc, get_or, ◌+◌, ◌<�
 use Rattle.std.specs.Prelude.{slice_index}
 use Rattle.row_words.specs.declared.event.Event.{Event}
 use Rattle.row_words.specs.declared.event.Event.TheVariants.{Miss}
-use Rattle.row_words.specs.Sealed.{heard}
+use Rattle.row_words.specs.Sealed.{begun, heard}
 use Rattle.rows_trait.specs.Layout.{Sizes, rows_of, width, row_at, cell, count_of, control_at}
 use Rattle.rows_trait.specs.Inside.{row_cells, flushed_words, after, look_at, first_of}
 use Rattle.rows_trait.specs.declared.view.Act.TheVariants.{Load, Store, Set, Hear, Turn}
 use Rattle.rows_trait.specs.declared.view.View.{View}
-use Rattle.rows_trait.specs.Views.{IsEven, after_all, state, no_place, Shape, AreLow, hold, holds, held_at, without, write, settle, AreApart, AreSilent, may}
+use Rattle.rows_trait.specs.Views.{IsEven, after_all, state, no_place, Shape, AreLow, hold, holds, held_at, without, write, settle, AreApart, AreAside, AreSilent, AreTame, BeginsTame, may}
 use Rattle.rows_trait.specs.Turns.{Looked, Loaded, Taken, Stored, MayPublish, Published, Released, Heard, MayTurn, Turned, MaySync, Synced}
 use Rattle.rows_trait.specs.Rule.{Plan, plan, Keeps, IsAlone, IsPicture}
 use Rattle.rows_trait.proofs.Steps.{looks, loads, stores, takes, publishing, releases, latch_of}
@@ -76,10 +76,13 @@ module _ (k : Plan) (words : List ℕ) (v : View) (p : IsPicture k words v) wher
   pub plain_low : AreLow (length v.seen) v.steps
   plain_low = (p.keeps.fits 0 v refl p.live).low
 
-  pub plain_hear : (c i n : ℕ) (names : ℕ → List Event) → c ≤ k.sizes.workers → i < count_of c → n ≡ slice_index words (control_at c i) → ((n : ℕ) → AreSilent (may true v) v.given (names n))
+  pub plain_tame : AreTame v.given (begun v.given) v.seen
+  plain_tame = subst (λ g. AreTame g (begun g) v.seen) (sym (p.keeps.fits 0 v refl p.live).given) (subst (λ z. AreTame k.given (begun k.given) z) p.alone.seen p.keeps.tame)
+
+  pub plain_hear : (c i n : ℕ) (names : ℕ → List Event) → c ≤ k.sizes.workers → i < count_of c → n ≡ slice_index words (control_at c i) → ((n : ℕ) → AreAside (may true v) v.given (names n)) → ((n : ℕ) → BeginsTame (state v) (names n))
       → IsPicture k words (after v [] (names n) (Hear c i n ∷ v.steps) v.held) × Heard shape c i names v n (after v [] (names n) (Hear c i n ∷ v.steps) v.held)
-  plain_hear c i n names h l is s =
-      stepped (Heard shape c i names v n) words (names n) (after v [] (names n) (Hear c i n ∷ v.steps) v.held) p.live (hears true no_place k p.happened words (v ∷ []) 0 v p.keeps refl p.live [] whole tt solo c i n names h l is (s n))
+  plain_hear c i n names h l is s b =
+      stepped (Heard shape c i names v n) words (names n) (after v [] (names n) (Hear c i n ∷ v.steps) v.held) p.live (hears true no_place k p.happened words (v ∷ []) 0 v p.keeps refl p.live [] whole tt solo c i n names h l is (s n) (b n))
 
   pub plain_turn : (c i n : ℕ) (f : ℕ → ℕ) (names : ℕ → List Event) → c ≤ k.sizes.workers → i < count_of c → n ≡ slice_index words (control_at c i) → MayTurn shape c i f names v
       → IsPicture k (set words (control_at c i) (f n)) (after v [] (names n) (Turn c i n ∷ v.steps) v.held) × Turned shape c i f names v n (after v [] (names n) (Turn c i n ∷ v.steps) v.held)

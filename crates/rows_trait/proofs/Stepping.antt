@@ -8,7 +8,7 @@ use Rattle.atomic_table.specs.Seated.{TableId}
 use Rattle.row_words.specs.declared.event.Event.{Event}
 use Rattle.row_words.specs.declared.given.Given.{Given}
 use Rattle.row_words.specs.Moments.{Moment, actor_of}
-use Rattle.row_words.specs.Sealed.{begun, Shown, heard}
+use Rattle.row_words.specs.Sealed.{begun, run, Shown, heard, IsTame}
 use Rattle.row_words.proofs.SealedLemmas.{run_append}
 use Rattle.rows_trait.specs.Layout.{rows_of, cell}
 use Rattle.rows_trait.specs.Inside.{after, look_at, NoneBy}
@@ -17,11 +17,11 @@ use Rattle.rows_trait.specs.declared.view.Act.TheVariants.{Look}
 use Rattle.rows_trait.specs.declared.view.Hold.{Hold}
 use Rattle.rows_trait.specs.declared.view.Ended.{Ended}
 use Rattle.rows_trait.specs.declared.view.View.{View}
-use Rattle.rows_trait.specs.Views.{Shape, IsEven, after_all, state, Since, AreStill, IsStill, Knows, latest, AreLow, holds, held_at, AreApart, AreSilent, NoSync, may, AreBelow, Ends}
+use Rattle.rows_trait.specs.Views.{Shape, IsEven, after_all, state, Since, AreStill, IsStill, Knows, latest, AreLow, holds, held_at, AreApart, AreAside, AreTame, BeginsTame, NoSync, may, AreBelow, Ends}
 use Rattle.rows_trait.specs.Turns.{Goes}
 use Rattle.rows_trait.specs.Rule.{Plan, moment, Remembers, IsHeld, Fits, Keeps, IsAlone}
 use Rattle.rows_trait.proofs.Cells.{bool_cases}
-use Rattle.rows_trait.proofs.EventLemmas.{silent_shown, silent_heard, silent_apart, silent_none, silent_below, silent_still, still_none}
+use Rattle.rows_trait.proofs.EventLemmas.{silent_shown, silent_heard, silent_apart, silent_none, silent_below, silent_still, still_none, apart_tame}
 use Rattle.rows_trait.proofs.Memory.{Moves, moves_not, low_more}
 use Rattle.rows_trait.proofs.Keeping.{still_on, Step}
 
@@ -114,13 +114,13 @@ module _ {alone : Bool} {k : Plan} {happened : List Event} {words : List ℕ} {v
   pub low_looked : (row n : ℕ) (es : List Event) → row < rows_of k.sizes → n ≡ cell k.sizes words row 0 → AreLow (length ((v.seen ++ on.between) ++ es)) (look_at row n v on.between es ∷ v.steps)
   low_looked row n es lt is = ((let f = on.keeps.few row lt in let l = longer es in let s = ap length (seen_all es) in omega arith), low_still es)
 
-  pub silent_in : (es : List Event) → AreSilent (may alone v) v.given es → AreSilent (may alone v) k.given es
-  silent_in es s = subst (λ g. AreSilent (may alone v) g es) fit.given s
+  pub silent_in : (es : List Event) → AreAside (may alone v) v.given es → AreAside (may alone v) k.given es
+  silent_in es s = subst (λ g. AreAside (may alone v) g es) fit.given s
 
-  pub silent_is : (es : List Event) → AreSilent (may alone v) v.given es → (row i x : ℕ) → Shown k.given (moment k happened) row i x → Shown k.given (moment k (happened ++ es)) row i x
+  pub silent_is : (es : List Event) → AreAside (may alone v) v.given es → (row i x : ℕ) → Shown k.given (moment k happened) row i x → Shown k.given (moment k (happened ++ es)) row i x
   silent_is es s row i x h = subst (λ m. Shown k.given m row i x) (sym (run_append k.given (begun k.given) happened es)) (silent_shown (may alone v) k.given es (moment k happened) row i x (silent_in es s) h)
 
-  pub silent_word : (es : List Event) → AreSilent (may alone v) v.given es → (c i : ℕ) → heard (moment k (happened ++ es)) c i ≡ heard (moment k happened) c i
+  pub silent_word : (es : List Event) → AreAside (may alone v) v.given es → (c i : ℕ) → heard (moment k (happened ++ es)) c i ≡ heard (moment k happened) c i
   silent_word es s c i = ap (λ m. heard m c i) (run_append k.given (begun k.given) happened es) ∙ silent_heard (may alone v) k.given es (moment k happened) c i (silent_in es s)
 
   pub no_other : alone ≡ true → (j : ℕ) (u : View) → get_elem? views j ≡ some u → j ≢ id → ⊥
@@ -139,10 +139,10 @@ module _ {alone : Bool} {k : Plan} {happened : List Event} {words : List ℕ} {v
       (λ n. let t : (false || (a == v.actor)) ≡ true = subst (λ (z : Bool). (z || (a == v.actor)) ≡ true) n m in
       let s : a ≡ v.actor = grind (arith, nat_tests) in not_actor j u e l ne (sym same ∙ s))
 
-  pub others_silent : (es : List Event) → AreSilent (may alone v) v.given es → (j : ℕ) (u : View) → get_elem? views j ≡ some u → u.live ≡ true → j ≢ id → AreApart u (moment k happened) es
+  pub others_silent : (es : List Event) → AreAside (may alone v) v.given es → (j : ℕ) (u : View) → get_elem? views j ≡ some u → u.live ≡ true → j ≢ id → AreApart u (moment k happened) es
   others_silent es s j u e l ne = bool_cases alone
       (λ y. absurd (no_other y j u e ne))
-      (λ n. silent_apart v u es (moment k happened) ((on.keeps.fits j u e l).given ∙ sym fit.given) (not_actor j u e l ne) (subst (λ (z : Bool). AreSilent (may z v) v.given es) n s))
+      (λ n. silent_apart v u es (moment k happened) ((on.keeps.fits j u e l).given ∙ sym fit.given) (not_actor j u e l ne) (subst (λ (z : Bool). AreAside (may z v) v.given es) n s))
 
   -- the one view of those who step alone makes no seats
   pub alone_acts : {P : Type 0} → alone ≡ true → (j : ℕ) (u : View) → get_elem? views j ≡ some u → (0 < u.made → P) × ((a : ℕ) (own : List Event) → Ends a own u.ended → P)
@@ -154,10 +154,10 @@ module _ {alone : Bool} {k : Plan} {happened : List Event} {words : List ℕ} {v
         (λ a own en. let Q : List Ended → Type 0 = λ l. Ends a own l in absurd (subst Q (ap (λ x. x.ended) (sym same) ∙ (on.solo y).ended) en)),
       )
 
-  pub acts_silent : (es : List Event) → AreSilent (may alone v) v.given es → (j : ℕ) (u : View) → get_elem? views j ≡ some u → u.live ≡ true → (0 < u.made → AreBelow u.made es) × ((a : ℕ) (own : List Event) → Ends a own u.ended → NoneBy a es)
+  pub acts_silent : (es : List Event) → AreAside (may alone v) v.given es → (j : ℕ) (u : View) → get_elem? views j ≡ some u → u.live ≡ true → (0 < u.made → AreBelow u.made es) × ((a : ℕ) (own : List Event) → Ends a own u.ended → NoneBy a es)
   acts_silent es s j u e l = bool_cases alone
       (λ y. ((alone_acts y j u e).0, λ a own en. (alone_acts y j u e).1 a own en))
-      (λ n. let t = subst (λ (z : Bool). AreSilent (may z v) v.given es) n s in
+      (λ n. let t = subst (λ (z : Bool). AreAside (may z v) v.given es) n s in
       ((λ up. silent_below v u.made es (on.keeps.makers j id u v e on.mine l on.alive up).0 t), λ a own en. silent_none v a es ((on.keeps.ended j u e l a own en).2 id v on.mine on.alive) t))
 
   pub acts_one : (x : Event) → may alone v (actor_of x) ≡ true → (j : ℕ) (u : View) → get_elem? views j ≡ some u → u.live ≡ true → (0 < u.made → AreBelow u.made (x ∷ [])) × ((a : ℕ) (own : List Event) → Ends a own u.ended → NoneBy a (x ∷ []))
@@ -178,7 +178,7 @@ module _ {alone : Bool} {k : Plan} {happened : List Event} {words : List ℕ} {v
       (λ (t : (row ≡ q) × (n ≡ s) × ((v.seen ++ on.between) ++ es ≡ at) × IsEven s). subst (λ z. IsStill k.given q z (happened ++ es)) (seen_all es ∙ t.2) (still_none k.given q (happened ++ es)))
       (λ (t : Since q s at v.steps). still_old es now m still q s at t e) h
 
-  pub silent_rows : (es : List Event) → AreSilent (may alone v) v.given es → (row : ℕ) → IsEven (cell k.sizes words row 0) → AreStill k.given row (moment k happened) es
+  pub silent_rows : (es : List Event) → AreAside (may alone v) v.given es → (row : ℕ) → IsEven (cell k.sizes words row 0) → AreStill k.given row (moment k happened) es
   silent_rows es s row e = silent_still (may alone v) k.given row es (moment k happened) (silent_in es s)
 
   -- what a view has seen is all that has happened
@@ -223,7 +223,7 @@ module _ {alone : Bool} {k : Plan} {happened : List Event} {words : List ℕ} {v
       at true t e = let r : row ≡ q = grind (arith, nat_tests) in let m : n ≡ s = (cc) in ap (λ z. cell k.sizes words z 0) (sym r) ∙ (sym is ∙ m)
       at false t e = (on.solo a).steady q s lt e
 
-  pub held_still : (es : List Event) → AreSilent (may alone v) v.given es → (row : ℕ) → holds v.held row ≡ true → IsHeld k (happened ++ es) words row (held_at v.held row)
+  pub held_still : (es : List Event) → AreAside (may alone v) v.given es → (row : ℕ) → holds v.held row ≡ true → IsHeld k (happened ++ es) words row (held_at v.held row)
   held_still es s row h = let g = fit.held row h in record {
     inside = g.inside;
     even = g.even;
@@ -235,11 +235,25 @@ module _ {alone : Bool} {k : Plan} {happened : List Event} {words : List ℕ} {v
     counted = counted_still es row h;
   }
 
-  pub stays : (es : List Event) (steps : List Act) → AreSilent (may alone v) v.given es → Remembers k.sizes words steps
+  -- an event that is tame where the seat stands is so where it happens
+  pub tame_now : (x : Event) → may alone v (actor_of x) ≡ true → IsTame (state v) x → IsTame (moment k happened) x
+  tame_now x m t = subst (λ s. IsTame s x) (λ i. after_all (fit.given i) (sym on.whole i)) (subst (λ s. IsTame s x) (sym (run_append v.given (begun v.given) v.seen on.between)) later)
+    where
+      later : IsTame (run v.given (state v) on.between) x
+      later = bool_cases alone
+          (λ y. subst (λ z. IsTame (run v.given (state v) z) x) (sym (quiet y)) t)
+          (λ n. let u : (false || (actor_of x == v.actor)) ≡ true = subst (λ (z : Bool). (z || (actor_of x == v.actor)) ≡ true) n m in
+          let same : actor_of x ≡ v.actor = grind (arith, nat_tests) in apart_tame v (state v) on.between x same on.apart t)
+
+  pub begins_now : (es : List Event) → AreAside (may alone v) v.given es → BeginsTame (state v) es → BeginsTame (moment k happened) es
+  begins_now [] s t = tt
+  begins_now (x ∷ es) s t = (tame_now x s.0.own t.0, t.1)
+
+  pub stays : (es : List Event) (steps : List Act) → AreTame k.given (moment k happened) es → AreAside (may alone v) v.given es → Remembers k.sizes words steps
       → ((row s : ℕ) (at : List Event) → Since row s at steps → cell k.sizes words row 0 ≡ s → IsStill k.given row at (happened ++ es))
       → AreLow (length ((v.seen ++ on.between) ++ es)) steps
       → Step k happened words views id v es words (after v on.between es steps v.held)
-  stays es steps s r st low = record {
+  stays es steps tame s r st low = record {
     moves = moves_not k.sizes words;
     size = refl;
     others = others_silent es s;
@@ -249,6 +263,7 @@ module _ {alone : Bool} {k : Plan} {happened : List Event} {words : List ℕ} {v
     free = λ row lt ev i l. silent_is es s row i (cell k.sizes words row (i + 1)) (on.keeps.free row lt ev i l);
     few = few_still es words (λ row lt. refl);
     controls = λ c i h l. on.keeps.controls c i h l ∙ sym (silent_word es s c i);
+    tame = tame;
     live = on.alive;
     actor = refl;
     made = refl;

@@ -12,22 +12,22 @@ use Rattle.row_words.specs.declared.event.Event.TheVariants.{Miss}
 use Rattle.row_words.specs.declared.given.Given.{Given}
 use Rattle.row_words.specs.Moments.{Moment, actor_of}
 use Rattle.row_words.specs.Sealed.{begun, stepped, Shown, changes, heard}
-use Rattle.row_words.proofs.SealedLemmas.{run_append, shown_stays, heard_stays, miss_changes, miss_sets}
+use Rattle.row_words.proofs.SealedLemmas.{run_append, calm_tame, shown_stays, heard_stays, miss_changes, miss_sets}
 use Rattle.rows_trait.specs.Layout.{rows_of, width, row_at, cell, count_of, control_at}
 use Rattle.rows_trait.specs.Inside.{row_cells, after, look_at, NoneBy}
 use Rattle.rows_trait.specs.declared.view.Act.{Act}
 use Rattle.rows_trait.specs.declared.view.Act.TheVariants.{Look, Load, Store, Set}
 use Rattle.rows_trait.specs.declared.view.Hold.{Hold}
 use Rattle.rows_trait.specs.declared.view.View.{View}
-use Rattle.rows_trait.specs.Views.{Shape, IsEven, after_all, state, Spells, AreStill, latest, hold, holds, held_at, without, write, settle, AreApart, AreSilent, may, AreBelow, Ends}
+use Rattle.rows_trait.specs.Views.{Shape, IsEven, after_all, state, Spells, AreStill, latest, hold, holds, held_at, without, write, settle, AreApart, AreAside, AreSilent, AreTame, may, AreBelow, Ends}
 use Rattle.rows_trait.specs.Turns.{Looked, Loaded, Taken, Refused, Stored, Leaves, MayPublish, Published, Released}
 use Rattle.rows_trait.specs.Rule.{Plan, moment, IsHeld, Keeps, IsAlone}
 use Rattle.rows_trait.proofs.Cells.{bool_cases, inside, set_here, set_row_apart, set_word_apart, set_control_apart, cells_length, row_cells_at}
 use Rattle.rows_trait.proofs.Holds.{holds_write, write_apart, write_here, holds_without_here, holds_without, without_apart, settled, holds_settle, settle_at}
-use Rattle.rows_trait.proofs.EventLemmas.{silent_sync}
+use Rattle.rows_trait.proofs.EventLemmas.{silent_sync, silent_aside, silent_calm, calm_are}
 use Rattle.rows_trait.proofs.Memory.{Moves, moves_not, remembers_on, remembers_look, remembers_load, remembers_store, remembers_set}
 use Rattle.rows_trait.proofs.Keeping.{Step, odd_of, advances}
-use Rattle.rows_trait.proofs.Stepping.{row_cases, Stepping, fit, at_length, to_view, quiet, goes, longer, few_still, counted_still, version_low, low_still, low_looked, silent_is, silent_word, may_other, others_silent, acts_silent, acts_one, still_old, still_looked, silent_rows, still_view, fits_after, solo_after, steady_look, held_still, stays, odd_free, spelled, steady_still}
+use Rattle.rows_trait.proofs.Stepping.{row_cases, Stepping, fit, at_length, to_view, quiet, goes, longer, few_still, counted_still, version_low, low_still, low_looked, silent_is, silent_word, tame_now, may_other, others_silent, acts_silent, acts_one, still_old, still_looked, silent_rows, still_view, fits_after, solo_after, steady_look, held_still, stays, odd_free, spelled, steady_still}
 
 module _ (alone : Bool) (spot : TableId) (k : Plan) (happened : List Event) (words : List ℕ) (views : List View) (id : ℕ) (v : View)
     (keeps : Keeps k happened words views) (mine : get_elem? views id ≡ some v) (alive : v.live ≡ true)
@@ -40,7 +40,7 @@ module _ (alone : Bool) (spot : TableId) (k : Plan) (happened : List Event) (wor
   abbrev on : Stepping alone k happened words views id v
   on = record { spot = spot; keeps = keeps; mine = mine; alive = alive; between = between; whole = whole; apart = apart; solo = solo }
 
-  looked_is : (row n : ℕ) (names : ℕ → List Event) → row < rows_of k.sizes → n ≡ cell k.sizes words row 0 → AreSilent (may alone v) v.given (names n)
+  looked_is : (row n : ℕ) (names : ℕ → List Event) → row < rows_of k.sizes → n ≡ cell k.sizes words row 0 → AreAside (may alone v) v.given (names n)
       → Looked shape row names v n (after v between (names n) (look_at row n v between (names n) ∷ v.steps) v.held)
   looked_is row n names lt is s = record {
     goes = goes on (names n) (look_at row n v between (names n) ∷ v.steps) v.held words (held_still on (names n) s) (λ y. silent_sync (may alone v) v.given (names n) s);
@@ -57,11 +57,12 @@ module _ (alone : Bool) (spot : TableId) (k : Plan) (happened : List Event) (wor
   pub looks : (row n : ℕ) (names : ℕ → List Event) → row < rows_of k.sizes → n ≡ cell k.sizes words row 0 → AreSilent (may alone v) v.given (names n)
       → (w : View) × (w ≡ after v between (names n) (look_at row n v between (names n) ∷ v.steps) v.held) × Keeps k (happened ++ names n) words (set views id w) × Looked shape row names v n w
       × (alone ≡ true → IsAlone k (happened ++ names n) words (set views id w) w)
-  looks row n names lt is s =
+  looks row n names lt is quiet_names =
+      let s = silent_aside (may alone v) v.given (names n) quiet_names in
       let w = after v between (names n) (look_at row n v between (names n) ∷ v.steps) v.held in (
         w,
         refl,
-        advances k happened words views id v (names n) words w keeps mine alive (stays on (names n) (look_at row n v between (names n) ∷ v.steps) s (remembers_look k.sizes words v.steps row n ((v.seen ++ between) ++ names n) is (fit on).memory) (still_looked on row n (names n) words (moves_not k.sizes words) (silent_rows on (names n) s)) (low_looked on row n (names n) lt is)) (at_length on),
+        advances k happened words views id v (names n) words w keeps mine alive (stays on (names n) (look_at row n v between (names n) ∷ v.steps) (calm_are k.given (moment k happened) (names n) (silent_calm (may alone v) v.given (names n) quiet_names)) s (remembers_look k.sizes words v.steps row n ((v.seen ++ between) ++ names n) is (fit on).memory) (still_looked on row n (names n) words (moves_not k.sizes words) (silent_rows on (names n) s)) (low_looked on row n (names n) lt is)) (at_length on),
         looked_is row n names lt is s,
         λ a. solo_after on (names n) words (look_at row n v between (names n) ∷ v.steps) v.held a (steady_look on row n ((v.seen ++ between) ++ names n) is a),
       )
@@ -74,7 +75,7 @@ module _ (alone : Bool) (spot : TableId) (k : Plan) (happened : List Event) (wor
       let w = after v between [] (Load row i n ∷ v.steps) v.held in (
         w,
         refl,
-        advances k happened words views id v [] words w keeps mine alive (stays on [] (Load row i n ∷ v.steps) tt (remembers_load k.sizes words v.steps row i n lt l is (fit on).memory) (still_old on [] words (moves_not k.sizes words) (silent_rows on [] tt)) (low_still on [])) (at_length on),
+        advances k happened words views id v [] words w keeps mine alive (stays on [] (Load row i n ∷ v.steps) tt tt (remembers_load k.sizes words v.steps row i n lt l is (fit on).memory) (still_old on [] words (moves_not k.sizes words) (silent_rows on [] tt)) (low_still on [])) (at_length on),
         record {
           goes = goes on [] (Load row i n ∷ v.steps) v.held words (held_still on [] tt) (λ y. tt);
           steps = refl;
@@ -165,6 +166,7 @@ module _ (alone : Bool) (spot : TableId) (k : Plan) (happened : List Event) (wor
                 silent_is on [] tt q j (cell k.sizes stored q (j + 1)) (subst (λ y. Shown k.given (moment k happened) q j y) (sym (row_still q (j + 1) (omega arith) (not_even q ev'))) (keeps.free q t ev' j u));
             few = few_still on [] stored (λ q t. latch_still q);
             controls = λ c j h u. set_control_apart k.sizes words row (i + 1) c j x h u ∙ (keeps.controls c j h u ∙ sym (silent_word on [] tt c j));
+            tame = tt;
             live = alive;
             actor = refl;
             made = refl;
@@ -230,7 +232,10 @@ module _ (alone : Bool) (spot : TableId) (k : Plan) (happened : List Event) (wor
         at false r e = others_latch q 0 (omega arith) (λ same. let d : row ≢ q = grind (arith, nat_tests) in d (sym same)) ∙ (solo a).steady q s t e
 
   -- a row is latched
-  module _ (row version : ℕ) (names : ℕ → List Event) (lt : row < rows_of k.sizes) (ev : IsEven version) (fits_word : version + 2 < 18446744073709551616) (is : cell k.sizes words row 0 ≡ version) (silent : AreSilent (may alone v) v.given (names version)) where
+  module _ (row version : ℕ) (names : ℕ → List Event) (lt : row < rows_of k.sizes) (ev : IsEven version) (fits_word : version + 2 < 18446744073709551616) (is : cell k.sizes words row 0 ≡ version) (quiet_names : AreSilent (may alone v) v.given (names version)) where
+    silent : AreAside (may alone v) v.given (names version)
+    silent = silent_aside (may alone v) v.given (names version) quiet_names
+
     abbrev found : List ℕ
     found = row_cells k.sizes words row
 
@@ -322,6 +327,7 @@ module _ (alone : Bool) (spot : TableId) (k : Plan) (happened : List Event) (wor
             (λ ne. silent_is on (names version) silent q j (cell k.sizes taken_words q (j + 1)) (subst (λ y. Shown k.given (moment k happened) q j y) (sym (words_still row (version + 1) lt q j u)) (keeps.free q t (subst IsEven (others_latch row (version + 1) lt q 0 (omega arith) ne) ev') j u)));
         few = relatch_few row (version + 1) lt (names version) taken_low;
         controls = λ c j h u. relatch_controls row (version + 1) lt c j h u ∙ (keeps.controls c j h u ∙ sym (silent_word on (names version) silent c j));
+        tame = calm_are k.given (moment k happened) (names version) (silent_calm (may alone v) v.given (names version) quiet_names);
         live = alive;
         actor = refl;
         made = refl;
@@ -368,7 +374,8 @@ module _ (alone : Bool) (spot : TableId) (k : Plan) (happened : List Event) (wor
       (untouched : (q : ℕ) → holds v.held q ≡ false → (i x : ℕ) → Shown k.given (moment k happened) q i x → Shown k.given (moment k (happened ++ es)) q i x)
       (word_kept : (c i : ℕ) → heard (moment k (happened ++ es)) c i ≡ heard (moment k happened) c i)
       (kept_hold : (q : ℕ) → holds kept q ≡ true → ((held_at kept q).version ≡ (held_at v.held q).version) × ((held_at kept q).now ≡ (held_at v.held q).now) × Spells k.given (moment k (happened ++ es)) (width k.sizes q) q (held_at kept q).was × ((held_at kept q).done ≡ true → (held_at kept q).version + 2 ≤ 2 * length (happened ++ es)))
-      (counts : (held_at v.held row).version + 2 ≤ 2 * length (happened ++ es)) where
+      (counts : (held_at v.held row).version + 2 ≤ 2 * length (happened ++ es))
+      (tame_es : AreTame k.given (moment k happened) es) where
     abbrev up : ℕ
     up = (held_at v.held row).version + 2
 
@@ -418,6 +425,7 @@ module _ (alone : Bool) (spot : TableId) (k : Plan) (happened : List Event) (wor
       free = given_free;
       few = relatch_few row up lt es (let c = counts in omega arith);
       controls = λ c j h u. relatch_controls row up lt c j h u ∙ (keeps.controls c j h u ∙ sym (word_kept c j));
+      tame = tame_es;
       live = alive;
       actor = refl;
       made = refl;
@@ -512,6 +520,9 @@ module _ (alone : Bool) (spot : TableId) (k : Plan) (happened : List Event) (wor
         (λ p. subst Q (sym p) (refl, refl, published_shown q p, λ y. publish_counts q s.0.1))
         (λ n. subst Q (sym n) (refl, refl, λ i l. other_shown q n i (slice_index (held_at v.held q).was i) (g.was i l), counted_still on (e ∷ []) q s.0.1)))
 
+    publish_tame : AreTame k.given (moment k happened) (e ∷ [])
+    publish_tame = (tame_now on e may_publish.actor may_publish.tame, tt)
+
     settled_all : (q : ℕ) → q ≢ row → holds v.held q ≡ true → holds settled_held q ≡ true
     settled_all q ne h = holds_settle v.given then (without v.held row) e q ∙ (holds_without v.held row q ne ∙ h)
 
@@ -519,7 +530,7 @@ module _ (alone : Bool) (spot : TableId) (k : Plan) (happened : List Event) (wor
     not_published q n = other_shown q (bool_cases (changes v.given then e q) (λ p. absurd (true≢false (sym (leaves.rows q p).0 ∙ n))) (λ f. f))
 
     published_fits : (q : ℕ) → holds settled_held q ≡ true → IsHeld k (happened ++ e ∷ []) (set words (row_at k.sizes row 0) ((held_at v.held row).version + 2)) q (held_at settled_held q)
-    published_fits = given_fits row lt mine_row (e ∷ []) settled_held publish_others (acts_one on e may_publish.actor) publish_still (λ q h. (settled_at q h).0) settled_all (published_shown row leaves.here) not_published published_word settled_hold (publish_counts row mine_row)
+    published_fits = given_fits row lt mine_row (e ∷ []) settled_held publish_others (acts_one on e may_publish.actor) publish_still (λ q h. (settled_at q h).0) settled_all (published_shown row leaves.here) not_published published_word settled_hold (publish_counts row mine_row) publish_tame
 
     pub publishing : (w : View) × (w ≡ after v between (e ∷ []) (Set row ((held_at v.held row).version + 2) ∷ v.steps) settled_held) × Keeps k (happened ++ e ∷ []) (set words (row_at k.sizes row 0) ((held_at v.held row).version + 2)) (set views id w) × Published shape row e v w
         × (alone ≡ true → IsAlone k (happened ++ e ∷ []) (set words (row_at k.sizes row 0) ((held_at v.held row).version + 2)) (set views id w) w)
@@ -527,9 +538,9 @@ module _ (alone : Bool) (spot : TableId) (k : Plan) (happened : List Event) (wor
     publishing = (
       after v between (e ∷ []) (Set row ((held_at v.held row).version + 2) ∷ v.steps) settled_held,
       refl,
-      given row lt mine_row (e ∷ []) settled_held publish_others (acts_one on e may_publish.actor) publish_still (λ q h. (settled_at q h).0) settled_all (published_shown row leaves.here) not_published published_word settled_hold (publish_counts row mine_row),
+      given row lt mine_row (e ∷ []) settled_held publish_others (acts_one on e may_publish.actor) publish_still (λ q h. (settled_at q h).0) settled_all (published_shown row leaves.here) not_published published_word settled_hold (publish_counts row mine_row) publish_tame,
       record { goes = goes on (e ∷ []) (Set row ((held_at v.held row).version + 2) ∷ v.steps) settled_held (set words (row_at k.sizes row 0) ((held_at v.held row).version + 2)) published_fits (λ y. (may_publish.part, tt)); steps = refl; held = refl },
-      given_alone row lt mine_row (e ∷ []) settled_held publish_others (acts_one on e may_publish.actor) publish_still (λ q h. (settled_at q h).0) settled_all (published_shown row leaves.here) not_published published_word settled_hold (publish_counts row mine_row),
+      given_alone row lt mine_row (e ∷ []) settled_held publish_others (acts_one on e may_publish.actor) publish_still (λ q h. (settled_at q h).0) settled_all (published_shown row leaves.here) not_published published_word settled_hold (publish_counts row mine_row) publish_tame,
     )
 
   -- a held row is given up without a publish
@@ -544,12 +555,19 @@ module _ (alone : Bool) (spot : TableId) (k : Plan) (happened : List Event) (wor
         at true = refl
         at false = grind (arith, nat_tests)
 
-    miss_silent : AreSilent (may alone v) v.given missed
+    miss_silent : AreAside (may alone v) v.given missed
     miss_silent = at (held_at v.held row).done
       where
-        at : (b : Bool) → AreSilent (may alone v) v.given (cond b [] (Miss v.actor ∷ []))
+        at : (b : Bool) → AreAside (may alone v) v.given (cond b [] (Miss v.actor ∷ []))
         at true = tt
         at false = (record { own = may_own; part = refl; rows = λ m q. miss_changes v.given m v.actor q; words = λ c i. miss_sets v.actor c i }, tt)
+
+    miss_tame : AreTame k.given (moment k happened) missed
+    miss_tame = at (held_at v.held row).done
+      where
+        at : (b : Bool) → AreTame k.given (moment k happened) (cond b [] (Miss v.actor ∷ []))
+        at true = tt
+        at false = (calm_tame (moment k happened) (Miss v.actor) refl, tt)
 
     release_hold : (q : ℕ) → holds (without v.held row) q ≡ true
         → ((held_at (without v.held row) q).version ≡ (held_at v.held q).version) × ((held_at (without v.held row) q).now ≡ (held_at v.held q).now) × Spells k.given (moment k (happened ++ missed)) (width k.sizes q) q (held_at (without v.held row) q).was
@@ -575,16 +593,16 @@ module _ (alone : Bool) (spot : TableId) (k : Plan) (happened : List Event) (wor
     release_spells = subst (λ ws. Spells k.given (moment k (happened ++ missed)) (width k.sizes row) row ws) (sym same) (λ i l. silent_is on missed miss_silent row i (slice_index (held_at v.held row).was i) (((fit on).held row mine_row).was i l))
 
     released_fits : (q : ℕ) → holds (without v.held row) q ≡ true → IsHeld k (happened ++ missed) (set words (row_at k.sizes row 0) ((held_at v.held row).version + 2)) q (held_at (without v.held row) q)
-    released_fits = given_fits row lt mine_row missed (without v.held row) (others_silent on missed miss_silent) (acts_silent on missed miss_silent) (silent_rows on missed miss_silent) (held_without row) release_all release_spells (λ q n. silent_is on missed miss_silent q) (silent_word on missed miss_silent) release_hold release_counts
+    released_fits = given_fits row lt mine_row missed (without v.held row) (others_silent on missed miss_silent) (acts_silent on missed miss_silent) (silent_rows on missed miss_silent) (held_without row) release_all release_spells (λ q n. silent_is on missed miss_silent q) (silent_word on missed miss_silent) release_hold release_counts miss_tame
 
     pub releases : (w : View) × (w ≡ after v between missed (Set row ((held_at v.held row).version + 2) ∷ v.steps) (without v.held row)) × Keeps k (happened ++ missed) (set words (row_at k.sizes row 0) ((held_at v.held row).version + 2)) (set views id w) × Released shape row v w
         × (alone ≡ true → IsAlone k (happened ++ missed) (set words (row_at k.sizes row 0) ((held_at v.held row).version + 2)) (set views id w) w)
     releases = (
       after v between missed (Set row ((held_at v.held row).version + 2) ∷ v.steps) (without v.held row),
       refl,
-      given row lt mine_row missed (without v.held row) (others_silent on missed miss_silent) (acts_silent on missed miss_silent) (silent_rows on missed miss_silent) (held_without row) release_all release_spells (λ q n. silent_is on missed miss_silent q) (silent_word on missed miss_silent) release_hold release_counts,
+      given row lt mine_row missed (without v.held row) (others_silent on missed miss_silent) (acts_silent on missed miss_silent) (silent_rows on missed miss_silent) (held_without row) release_all release_spells (λ q n. silent_is on missed miss_silent q) (silent_word on missed miss_silent) release_hold release_counts miss_tame,
       record { goes = goes on missed (Set row ((held_at v.held row).version + 2) ∷ v.steps) (without v.held row) (set words (row_at k.sizes row 0) ((held_at v.held row).version + 2)) released_fits (λ y. silent_sync (may alone v) v.given missed miss_silent); steps = refl; held = refl },
-      given_alone row lt mine_row missed (without v.held row) (others_silent on missed miss_silent) (acts_silent on missed miss_silent) (silent_rows on missed miss_silent) (held_without row) release_all release_spells (λ q n. silent_is on missed miss_silent q) (silent_word on missed miss_silent) release_hold release_counts,
+      given_alone row lt mine_row missed (without v.held row) (others_silent on missed miss_silent) (acts_silent on missed miss_silent) (silent_rows on missed miss_silent) (held_without row) release_all release_spells (λ q n. silent_is on missed miss_silent q) (silent_word on missed miss_silent) release_hold release_counts miss_tame,
     )
 
   -- the latch of a held row

@@ -5,12 +5,12 @@ use lib.ListN.{get_elem?}
 use Rattle.row_words.specs.declared.event.Event.{Event}
 use Rattle.row_words.specs.declared.given.Given.{Given}
 use Rattle.row_words.specs.Moments.{Moment, by}
-use Rattle.row_words.specs.Sealed.{Shown, heard}
+use Rattle.row_words.specs.Sealed.{begun, Shown, heard}
 use Rattle.rows_trait.specs.Layout.{Sizes, rows_of, width, cell, count_of, control_at, size_of}
 use Rattle.rows_trait.specs.declared.view.Act.{Act}
 use Rattle.rows_trait.specs.declared.view.Hold.{Hold}
 use Rattle.rows_trait.specs.declared.view.View.{View}
-use Rattle.rows_trait.specs.Views.{IsEven, after_all, Spells, Has, Since, IsStill, Knows, latest, AreLow, holds, held_at, AreApart, AreBelow, Ends}
+use Rattle.rows_trait.specs.Views.{IsEven, after_all, Spells, Has, Since, IsStill, Knows, latest, AreLow, holds, held_at, AreApart, AreBelow, Ends, AreTame}
 
 -- how many rows there are, and where they began
 pub record Plan : Type 0 where
@@ -62,6 +62,8 @@ pub record Keeps (k : Plan) (happened : List Event) (words : List ℕ) (views : 
   pub few : (row : ℕ) → row < rows_of k.sizes → cell k.sizes words row 0 ≤ 2 * length happened + 1
   -- control words are those of the core state
   pub controls : (c i : ℕ) → c ≤ k.sizes.workers → i < count_of c → slice_index words (control_at c i) ≡ heard (moment k happened) c i
+  -- what has happened is tame
+  pub tame : AreTame k.given (begun k.given) happened
   pub fits : (j : ℕ) (v : View) → get_elem? views j ≡ some v → v.live ≡ true → Fits k happened words v
   -- no two views are of one actor, nor hold one row
   pub actors : (i j : ℕ) (u v : View) → get_elem? views i ≡ some u → get_elem? views j ≡ some v → u.live ≡ true → v.live ≡ true → u.actor ≡ v.actor → i ≡ j

@@ -3,8 +3,8 @@ use Rattle.std.specs.Prelude.{◌≡◌, ◌≢◌, ℕ, ◌+◌, ◌<◌, ◌�
 use Rattle.row_words.specs.declared.event.Event.{Event}
 use Rattle.row_words.specs.declared.event.Event.TheVariants.{Miss}
 use Rattle.row_words.specs.declared.given.Given.{Given}
-use Rattle.row_words.specs.Moments.{Moment, actor_of, by, is_sync}
-use Rattle.row_words.specs.Sealed.{stepped, Shown, changes, heard, sets}
+use Rattle.row_words.specs.Moments.{Moment, actor_of, by, is_rising, is_sync}
+use Rattle.row_words.specs.Sealed.{stepped, Shown, changes, heard, sets, IsTame}
 use Rattle.rows_trait.specs.declared.view.Act.TheVariants.{Look, Load, Store, Set, Hear, Turn}
 use Rattle.rows_trait.specs.declared.view.View.{View}
 use Rattle.rows_trait.specs.declared.rows.Latch.{Latch}
@@ -87,6 +87,7 @@ pub record MayPublish (z : Shape) (row : ℕ) (e : Event) (v : View) : Type 0 wh
   pub actor : may z.alone v (actor_of e) ≡ true
   pub part : is_sync e ≡ false
   pub words : (c i : ℕ) → sets e c i ≡ false
+  pub tame : IsTame (state v) e
   pub leaves : (between : List Event) → (z.alone ≡ true → between ≡ []) → AreApart v (state v) between → Leaves z row e v (after_all v.given (v.seen ++ between))
 
 -- the event of a held row was published, and the row's latch given up
@@ -116,6 +117,7 @@ pub record IsTurning (may : ℕ → Bool) (alone : Bool) (v : Given) (workers c 
   pub part : alone ≡ false → is_sync e ≡ false
   pub rows : (m : Moment) (row : ℕ) → changes v m e row ≡ false
   pub words : (d j : ℕ) → d ≤ workers → ((d ≡ c) × (j ≡ i) → ⊥) → sets e d j ≡ false
+  pub calm : is_rising e ≡ false
 
 -- each of them is such
 abbrev pub AreTurning : (ℕ → Bool) → Bool → Given → ℕ → ℕ → ℕ → List Event → Type 0
@@ -140,6 +142,7 @@ pub record Turned (z : Shape) (c i : ℕ) (f : ℕ → ℕ) (names : ℕ → Lis
 pub record IsSyncing (v : Given) (workers : ℕ) (e : Event) : Type 0 where
   pub rows : (m : Moment) (row : ℕ) → changes v m e row ≡ false
   pub words : (d j : ℕ) → d ≤ workers → ((0 < d) × (j ≡ 0) → ⊥) → sets e d j ≡ false
+  pub calm : is_rising e ≡ false
 
 -- each of them is such
 abbrev pub AreSyncing : Given → ℕ → List Event → Type 0

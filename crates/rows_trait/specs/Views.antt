@@ -3,8 +3,8 @@ use Rattle.std.specs.Prelude.{◌≡◌, ◌≢◌, ℕ, ◌+◌, ◌*◌, ◌%�
 use Rattle.atomic_table.specs.Seated.{TableId}
 use Rattle.row_words.specs.declared.event.Event.{Event}
 use Rattle.row_words.specs.declared.given.Given.{Given}
-use Rattle.row_words.specs.Moments.{Moment, actor_of, is_sync}
-use Rattle.row_words.specs.Sealed.{begun, stepped, run, Shown, changes, sets}
+use Rattle.row_words.specs.Moments.{Moment, actor_of, is_rising, is_sync}
+use Rattle.row_words.specs.Sealed.{begun, stepped, run, Shown, changes, sets, IsTame}
 use Rattle.rows_trait.specs.Layout.{Sizes}
 use Rattle.rows_trait.specs.declared.view.Act.{Act}
 use Rattle.rows_trait.specs.declared.view.Act.TheVariants.{Look, Load, Store, Set, Hear, Turn}
@@ -130,16 +130,44 @@ AreApart v m [] = Unit {0}
 AreApart v m (e ∷ es) = IsApart v m e × AreApart v (stepped v.given m e) es
 
 -- an event of an actor that the seat may play, which changes no row and no control word
-pub record IsSilent (may : ℕ → Bool) (v : Given) (e : Event) : Type 0 where
+pub record IsAside (may : ℕ → Bool) (v : Given) (e : Event) : Type 0 where
   pub own : may (actor_of e) ≡ true
   pub part : is_sync e ≡ false
   pub rows : (m : Moment) (row : ℕ) → changes v m e row ≡ false
   pub words : (c i : ℕ) → sets e c i ≡ false
 
+-- each of them is aside
+abbrev pub AreAside : (ℕ → Bool) → Given → List Event → Type 0
+AreAside may v [] = Unit {0}
+AreAside may v (e ∷ es) = IsAside may v e × AreAside may v es
+
+-- and no begin
+pub record IsSilent (may : ℕ → Bool) (v : Given) (e : Event) : Type 0 where
+  pub own : may (actor_of e) ≡ true
+  pub part : is_sync e ≡ false
+  pub rows : (m : Moment) (row : ℕ) → changes v m e row ≡ false
+  pub words : (c i : ℕ) → sets e c i ≡ false
+  pub calm : is_rising e ≡ false
+
 -- each of them is silent
 abbrev pub AreSilent : (ℕ → Bool) → Given → List Event → Type 0
 AreSilent may v [] = Unit {0}
 AreSilent may v (e ∷ es) = IsSilent may v e × AreSilent may v es
+
+-- each of them is tame at the moment at which it happens
+abbrev pub AreTame : Given → Moment → List Event → Type 0
+AreTame v m [] = Unit {0}
+AreTame v m (e ∷ es) = IsTame m e × AreTame v (stepped v m e) es
+
+-- none of the events is a begin or a record of pages
+abbrev pub AreCalm : List Event → Type 0
+AreCalm [] = Unit {0}
+AreCalm (e ∷ es) = (is_rising e ≡ false) × AreCalm es
+
+-- the first of them is tame at a moment, and the others always are
+abbrev pub BeginsTame : Moment → List Event → Type 0
+BeginsTame m [] = Unit {0}
+BeginsTame m (e ∷ es) = IsTame m e × AreCalm es
 
 -- none of the events is a sync
 abbrev pub NoSync : List Event → Type 0

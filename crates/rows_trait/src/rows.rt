@@ -4,8 +4,9 @@
 //! after: in between others may have stepped, and what they did is apart from what the seat holds.
 ghost use Rattle.std.specs.Prelude.{◌≡◌, ◌+◌, ◌<◌, ◌≤◌, ◌^◌, ℕ, suc, max, true, false, length, ◌∷◌, []};
 ghost use Rattle.rows_trait.specs.declared.view.View.{View};
+ghost use Rattle.row_words.specs.Sealed.{begun};
 ghost use Rattle.rows_trait.specs.Layout.{rows_of, width, count_of};
-ghost use Rattle.rows_trait.specs.Views.{IsEven, AreLow, AreSilent, Shape, holds, held_at, may};
+ghost use Rattle.rows_trait.specs.Views.{IsEven, AreLow, AreAside, AreSilent, AreTame, BeginsTame, Shape, holds, held_at, may, state};
 ghost use Rattle.rows_trait.specs.Turns.{Looked, Loaded, Tried, Stored, MayPublish, Published, Released, Heard, MayTurn, Turned, MaySync, Synced};
 
 use crate::names::Names;
@@ -105,7 +106,8 @@ pub trait Rows {
     ) -> u64
         requires fits { fits self.old seat.old }
         requires place { (control ≤ (shape self.old).sizes.workers) × (word < count_of control) }
-        requires event { (n : ℕ) → AreSilent (may (shape self.old).alone (view seat.old)) (view seat.old).given (E.names event.now n) }
+        requires event { (n : ℕ) → AreAside (may (shape self.old).alone (view seat.old)) (view seat.old).given (E.names event.now n) }
+        requires tame { (n : ℕ) → BeginsTame (state (view seat.old)) (E.names event.now n) }
         ensures fits { fits self.new seat.new }
         ensures shape { shape self.new ≡ shape self.old }
         ensures step { Heard (shape self.old) control word (E.names event.now) (view seat.old) result (view seat.new) };
@@ -157,8 +159,9 @@ pub trait Rows {
         ensures { result ≡ (shape self.now).alone };
 
     /// Each number that was loaded from a latch is at most one above twice the number of events that were seen: a row is given up
-    /// behind an event of it, or a miss. The call does nothing.
+    /// behind an event of it, or a miss. What was seen is tame. The call does nothing.
     fn versions(&self, seat: &Self::Seat)
         requires fits { fits self.now seat.now }
-        ensures low { AreLow (length (view seat.now).seen) (view seat.now).steps };
+        ensures low { AreLow (length (view seat.now).seen) (view seat.now).steps }
+        ensures tame { AreTame (view seat.now).given (begun (view seat.now).given) (view seat.now).seen };
 }

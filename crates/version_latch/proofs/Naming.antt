@@ -4,23 +4,23 @@ use Rattle.std.specs.Prelude.{if◌then◌else◌}
 use Rattle.row_words.specs.declared.event.Event.{Event}
 use Rattle.row_words.specs.declared.event.Event.TheVariants.{Miss}
 use Rattle.row_words.specs.declared.given.Given.{Given}
-use Rattle.row_words.specs.Moments.{actor_of}
+use Rattle.row_words.specs.Moments.{actor_of, is_rising}
 use Rattle.row_words.proofs.SealedLemmas.{is_silent, silent_changes, silent_sets, silent_part}
 use Rattle.rows_trait.specs.Views.{IsEven, AreSilent}
 use Rattle.version_latch.specs.Named.{missed, checked}
 
-pub one_silent : (p : ℕ → Bool) (v : Given) (e : Event) → p (actor_of e) ≡ true → is_silent e ≡ true → AreSilent p v (e ∷ [])
-one_silent p v e a s = (record { own = a; part = silent_part e s; rows = λ m q. silent_changes v m e q s; words = λ c i. silent_sets e c i s }, tt)
+pub one_silent : (p : ℕ → Bool) (v : Given) (e : Event) → p (actor_of e) ≡ true → is_silent e ≡ true → is_rising e ≡ false → AreSilent p v (e ∷ [])
+one_silent p v e a s calm = (record { own = a; part = silent_part e s; rows = λ m q. silent_changes v m e q s; words = λ c i. silent_sets e c i s; calm = calm }, tt)
 
 pub either_silent : (p : ℕ → Bool) (v : Given) (b : Bool) (xs ys : List Event) → AreSilent p v xs → AreSilent p v ys → AreSilent p v (if b then xs else ys)
 either_silent p v true xs ys a b = a
 either_silent p v false xs ys a b = b
 
 pub missed_silent : (p : ℕ → Bool) (v : Given) (worker n : ℕ) → p worker ≡ true → AreSilent p v (missed worker n)
-missed_silent p v worker n m = either_silent p v (n % 2 == 0) [] (Miss worker ∷ []) tt (one_silent p v (Miss worker) m refl)
+missed_silent p v worker n m = either_silent p v (n % 2 == 0) [] (Miss worker ∷ []) tt (one_silent p v (Miss worker) m refl refl)
 
 pub checked_silent : (p : ℕ → Bool) (v : Given) (worker version n : ℕ) → p worker ≡ true → AreSilent p v (checked worker version n)
-checked_silent p v worker version n m = either_silent p v (n == version) [] (Miss worker ∷ []) tt (one_silent p v (Miss worker) m refl)
+checked_silent p v worker version n m = either_silent p v (n == version) [] (Miss worker ∷ []) tt (one_silent p v (Miss worker) m refl refl)
 
 pub missed_even : (worker n : ℕ) → IsEven n → missed worker n ≡ []
 missed_even worker n e = rw (eq-eqb (n % 2) 0 e) refl

@@ -21,6 +21,7 @@ use Rattle.worker_log.specs.Logs.{Log}
 use Rattle.btree_smo.specs.Outcomes.{AreMisses}
 use Rattle.row_engine.specs.Held.{Held}
 use Rattle.row_engine.specs.Holds.{Holds}
+use Rattle.row_engine.specs.Numbers.{HaveRoom}
 use Rattle.row_engine.specs.declared.session.Session.{Session}
 
 -- ## Latches
@@ -46,10 +47,11 @@ pub record Latching (frames : ℕ) (h : Held) (marks : List Bool) (v w : View) :
   pub mine : AreMine frames h.count marks w.held
   pub among : AreAmong marks h.rows
 
--- as between two calls, but the rows that the session holds are latched
+-- as between two calls, but the rows that the session holds are latched, and its next number fits
 pub record Latched (z : Shape) (v : View) (x : Session) (log : Log) (marks : List Bool) : Type 0 where
   pub before : View
   pub holds : Holds z before x log
+  pub room : HaveRoom before
   pub latching : Latching x.frames x.held marks before v
   pub all : (i : ℕ) → Has i x.held.rows → is_marked marks i ≡ true
 

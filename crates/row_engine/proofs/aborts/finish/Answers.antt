@@ -1,14 +1,16 @@
-use Rattle.std.proofs.Common.{◌+◌, refl, ap, subst, length, false}
+use Rattle.std.proofs.Common.{◌+◌, arith, refl, ap, subst, sym, length, false, true≢false}
+use Rattle.log_record.specs.declared.record.Body.TheVariants as body
 use Rattle.worker_log.specs.Calls.{After}
 use Rattle.log_calls.specs.Calls.{StagesOn}
 use Rattle.row_engine.specs.Inside.Ends.{ended_session}
 use Rattle.row_engine.proofs.AbortRuns.{floor_found, record_is}
 use Rattle.row_engine.proofs.TakeLemmas.{holds_as}
-use Rattle.row_engine.proofs.CommitLemmas.{ended_as}
+use Rattle.row_engine.proofs.CommitLemmas.{ended_as, entry_fits, next_small}
 use Rattle.row_engine.proofs.CommitRuns.{found, holds_waiting, may_end_at}
 use Rattle.row_engine.proofs.Frames.{frame_of}
 use Rattle.row_engine.proofs.PutLemmas.{same_flushed}
 use Rattle.row_engine.proofs.ReceiptLemmas.{receipt}
+use Rattle.row_engine.proofs.StepLemmas.{cause_from, ok_calm}
 use Rattle.row_engine.proofs.aborts.finish.Goals as goal
 
 pub returns-in-Err-clause-finishes : goal.returns-in-Err-clause-finishes
@@ -80,3 +82,14 @@ returns-clause-receipt g c =
     let same = c.close.ensures in
     receipt (g.R.Rows.shape c.args.rows.now) (g.R.Rows.view c.args.seat.now) x c.close.new.session c.args.work.now.log c.args.latches.now c.requires.latched c.requires.is_open c.least_flushed-floor.result c.need-need.result (l.least c.requires.latched.holds.alone) c.need-need.ensures
     (ap (λ y. y.txn) same) (ap (λ y. y.end) same) (ap (λ y. y.clock.debt) same)
+
+pub overflow_add-number : goal.overflow_add-number
+overflow_add-number g c = let n = (next_small (g.R.Rows.shape c.args.rows.now) (g.R.Rows.view c.args.seat.now) c.args.work.now.session c.args.work.now.log c.args.latches.now c.requires.latched c.requires.is_open) in omega arith
+
+pub stage_end-requires-clause-fits : goal.stage_end-requires-clause-fits
+stage_end-requires-clause-fits g c _ _ =
+    let n = (next_small (g.R.Rows.shape c.args.rows.now) (g.R.Rows.view c.args.seat.now) c.args.work.now.session c.args.work.now.log c.args.latches.now c.requires.latched c.requires.is_open) in
+    entry_fits c.args.work.now.session.txn (c.args.work.now.session.clock.clock + 1) (body.Abort c.need-need.result) (let t = c.requires.latched.holds.numbers.txn in omega arith) (omega arith) c.need-need.type_inv
+
+pub returns-clause-cause_disk_fault : goal.returns-clause-cause_disk_fault
+returns-clause-cause_disk_fault g c = cause_from (g.D.Disk.faults c.args.work.now.disk) (g.D.Disk.faults c.args.work.now.disk) (g.D.Disk.faults c.stage_end.new.disk) _ _ refl c.in_default.ensures.cause_disk_fault (λ q. absurd (ok_calm _ _ q)) (λ p. absurd (true≢false (sym p)))

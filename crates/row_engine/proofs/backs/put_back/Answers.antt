@@ -1,10 +1,11 @@
-use Rattle.std.proofs.Common.{◌≡◌, ◌∙◌, ap, refl, sym, subst}
+use Rattle.std.proofs.Common.{◌≡◌, ◌∙◌, Err, ap, refl, sym, subst}
 use Rattle.row_engine.specs.Inside.Backs.{IsPutBack}
 use Rattle.row_engine.specs.Undo.{without_newest}
 use Rattle.row_engine.specs.declared.session.Session.{Session}
 use Rattle.row_engine.proofs.BackLemmas.{draws_back, half_back, holds_back, is_put_back, key_low}
-use Rattle.row_engine.proofs.PutLemmas.{holds_as, holds_still, is_spent, none_seen}
+use Rattle.row_engine.proofs.PutLemmas.{holds_as, holds_still, is_spent, none_seen, not_last}
 use Rattle.row_engine.proofs.StageLemmas.{undo_set}
+use Rattle.row_engine.proofs.StepLemmas.{cause_from}
 use Rattle.row_engine.proofs.backs.put_back.Goals as goal
 
 pub leaf_put_back-requires-clause-key : goal.leaf_put_back-requires-clause-key
@@ -13,7 +14,7 @@ leaf_put_back-requires-clause-key g c =
 
 pub leaf_put_back-requires-clause-draws : goal.leaf_put_back-requires-clause-draws
 leaf_put_back-requires-clause-draws g c =
-    draws_back (g.R.Rows.shape c.args.rows.now) (g.R.Rows.view c.args.seat.now) c.args.work.now.session c.args.work.now.log c.requires.holds c.requires.is_open
+    draws_back (g.R.Rows.shape c.args.rows.now) (g.R.Rows.view c.args.seat.now) c.args.work.now.session c.args.work.now.log c.requires.holds c.next_fits.ensures c.requires.is_open
 
 pub returns-in-Done-clause-holds : goal.returns-in-Done-clause-holds
 returns-in-Done-clause-holds g c works =
@@ -68,3 +69,11 @@ returns-in-Unstaged-DiskFault-clause-session g c = let e = c.in-Unstaged-DiskFau
 
 pub returns-in-RowSpent-clause-session : goal.returns-in-RowSpent-clause-session
 returns-in-RowSpent-clause-session g c = let e = c.in-RowSpent.ensures.drew in (ap (λ k. k.session.own) e, ap (λ k. k.session.workers) e, ap (λ k. k.session.group) e)
+
+pub unreachable-requires-in-ClockSpent : goal.unreachable-requires-in-ClockSpent
+unreachable-requires-in-ClockSpent g c =
+    not_last (g.R.Rows.shape c.args.rows.now) (g.R.Rows.view c.args.seat.now) (g.R.Rows.view c.leaf_put_back.new.seat) c.args.work.now.session c.args.work.now.log c.newest_left-undone.result.key c.requires.holds c.next_fits.ensures c.requires.is_open c.in-ClockSpent.ensures.put
+
+pub returns-in-Unstaged-DiskFault-clause-cause_disk_fault : goal.returns-in-Unstaged-DiskFault-clause-cause_disk_fault
+returns-in-Unstaged-DiskFault-clause-cause_disk_fault g c =
+    cause_from (g.D.Disk.faults c.args.work.now.disk) (g.D.Disk.faults c.args.work.now.disk) (g.D.Disk.faults c.leaf_put_back.new.draw.disk) _ _ refl c.in-Unstaged-DiskFault.ensures.drew.cause (λ q. ap Err c.in-Unstaged-DiskFault.field-0-is) (λ p. refl)

@@ -1,4 +1,4 @@
-use Rattle.std.proofs.Common.{◌∙◌, [], ◌∷◌, min, refl, sym, ap, subst}
+use Rattle.std.proofs.Common.{◌<◌, ◌^◌, arith, ◌∙◌, [], ◌∷◌, min, refl, sym, ap, subst}
 use Rattle.row_words.specs.declared.event.Event.TheVariants.{Begin}
 use Rattle.row_words.specs.Openings.{opening}
 use Rattle.rows_trait.specs.Turns.{Heard}
@@ -24,6 +24,20 @@ load_control-last-requires-clause-event g c n =
     let u = g.R.Rows.view c.least_flushed-least.new.seat in
     let free = free_of x c.args.work.now.log (sym c.begin_refusal.ensures ∙ c.in_default.is) in
     (c.every_begin.ensures z u x.own).silent (acts z u x.own (ap (λ z. z.alone) c.least_flushed-least.ensures.fits.1 ∙ (c.requires.holds free.works).alone)) (min c.least_flushed-least.result n)
+
+pub load_control-last-requires-clause-tame : goal.load_control-last-requires-clause-tame
+load_control-last-requires-clause-tame g c n =
+    let x = c.args.work.now.session in
+    let log = c.args.work.now.log in
+    let z = g.R.Rows.shape c.least_flushed-least.new.rows in
+    let y = g.R.Rows.shape c.args.rows.now in
+    let v = g.R.Rows.view c.args.seat.now in
+    let u = g.R.Rows.view c.least_flushed-least.new.seat in
+    let free = free_of x log (sym c.begin_refusal.ensures ∙ c.in_default.is) in
+    let h = c.requires.holds free.works in
+    let e = (looked_holds y v u x log (c.least_flushed-least.ensures.seen h.alone) h).session.clock in
+    let s = free.small in
+    (c.every_begin.ensures z u x.own).tame (omega arith) (min c.least_flushed-least.result n)
 
 pub returns-clause-holds : goal.returns-clause-holds
 returns-clause-holds g c works =

@@ -48,6 +48,7 @@ finish-requires-clause-latched g c _ _ =
     let ready = ready_of c.args.work.now.session (sym c.call_refusal.ensures ∙ c.in_default.is) in record {
       before = g.R.Rows.view c.args.seat.now;
       holds = holds_as (g.R.Rows.shape c.args.rows.now) (g.R.Rows.shape c.latch_rows.new.rows) (g.R.Rows.view c.args.seat.now) c.args.work.now.session c.args.work.now.session c.args.work.now.log c.latch_rows.ensures.fits.1 refl (c.requires.holds ready.works);
+      room = c.next_fits.ensures;
       latching = c.latch_rows.ensures.latching;
       all = c.latch_rows.ensures.all c.if-not-latch_rows.false;
     }

@@ -1,5 +1,6 @@
-use Rattle.std.proofs.Common.{◌+◌, ◌∙◌, suc, true, false, refl, ap, subst, sym, true≢false}
+use Rattle.std.proofs.Common.{◌+◌, Err, arith, ◌∙◌, suc, true, false, refl, ap, subst, sym, true≢false}
 use Rattle.std.proofs.lemmas.Bool.{lt-leb}
+use Rattle.log_record.specs.declared.record.Body.TheVariants as body
 use Rattle.map_model.specs.declared.call.Answer.TheVariants as answer
 use Rattle.map_model.specs.declared.call.Call.TheVariants as call
 use Rattle.map_model.specs.declared.call.Refusal.TheVariants as refusal
@@ -15,6 +16,8 @@ use Rattle.row_engine.proofs.PutLemmas.{same_flushed}
 use Rattle.row_engine.proofs.OtherLemmas.{every_steps}
 use Rattle.row_engine.proofs.OwnSteps.{ended_steps, flushed_steps, no_steps}
 use Rattle.row_engine.proofs.ReceiptLemmas.{receipt}
+use Rattle.row_engine.proofs.CommitLemmas.{entry_fits, next_small}
+use Rattle.row_engine.proofs.StepLemmas.{calm_then, cause_from, ok_calm}
 use Rattle.row_engine.proofs.commits.finish.Goals as goal
 
 pub returns-in-Err-clause-does : goal.returns-in-Err-clause-does
@@ -235,3 +238,23 @@ returns-clause-receipt g c =
     let last = c.in_default-flush_log.ensures.flushed.session in
     receipt (g.R.Rows.shape c.args.rows.now) (g.R.Rows.view c.args.seat.now) x y c.args.work.now.log c.args.latches.now c.requires.latched c.requires.is_open c.least_flushed-floor.result c.need-need.result (l.least c.requires.latched.holds.alone) c.need-need.ensures
     (ap (λ (k : Session). k.txn) last ∙ ap (λ (k : Session). k.txn) same) (ap (λ (k : Session). k.end) last ∙ ap (λ (k : Session). k.end) same) (ap (λ (k : Session). k.clock.debt) last ∙ ap (λ (k : Session). k.clock.debt) same)
+
+pub overflow_add-number : goal.overflow_add-number
+overflow_add-number g c = let n = (next_small (g.R.Rows.shape c.args.rows.now) (g.R.Rows.view c.args.seat.now) c.args.work.now.session c.args.work.now.log c.args.latches.now c.requires.latched c.requires.is_open) in omega arith
+
+pub stage_end-requires-clause-fits : goal.stage_end-requires-clause-fits
+stage_end-requires-clause-fits g c _ _ =
+    let n = (next_small (g.R.Rows.shape c.args.rows.now) (g.R.Rows.view c.args.seat.now) c.args.work.now.session c.args.work.now.log c.args.latches.now c.requires.latched c.requires.is_open) in
+    entry_fits c.args.work.now.session.txn (c.args.work.now.session.clock.clock + 1) (body.Commit c.need-need.result) (let t = c.requires.latched.holds.numbers.txn in omega arith) (omega arith) c.need-need.type_inv
+
+pub returns-then-work-clause-cause_disk_fault : goal.returns-then-work-clause-cause_disk_fault
+returns-then-work-clause-cause_disk_fault g c = cause_from (g.D.Disk.faults c.args.work.now.disk) (g.D.Disk.faults c.args.work.now.disk) (g.D.Disk.faults c.stage_end.new.disk) _ _ refl c.in_default.ensures.cause_disk_fault (λ q. absurd (ok_calm _ _ q)) (λ p. absurd (true≢false (sym p)))
+
+pub returns-in-Err-flush_log-clause-cause_disk_fault : goal.returns-in-Err-flush_log-clause-cause_disk_fault
+returns-in-Err-flush_log-clause-cause_disk_fault g c =
+    let only = c.in-Err-flush_log.ensures.only_disk_fault in
+    cause_from (g.D.Disk.faults c.args.work.now.disk) (g.D.Disk.faults c.stage_end.new.disk) (g.D.Disk.faults c.flush_log.new.work.disk) _ _ (c.in_default.ensures.cause_disk_fault.calm (λ p. true≢false (sym p))) c.in-Err-flush_log.ensures.cause_disk_fault (λ q. ap Err only) (λ p. ap Err only)
+
+pub returns-clause-cause_disk_fault : goal.returns-clause-cause_disk_fault
+returns-clause-cause_disk_fault g c =
+    calm_then (g.D.Disk.faults c.args.work.now.disk) (g.D.Disk.faults c.stage_end.new.disk) (g.D.Disk.faults c.flush_log.new.work.disk) _ _ _ c.in_default.ensures.cause_disk_fault (λ p. true≢false (sym p)) c.in_default-flush_log.ensures.cause_disk_fault (λ q. ok_calm _ _ q) (λ q. ok_calm _ _ q)

@@ -1,8 +1,8 @@
-use Rattle.std.proofs.Common.{◌≡◌, ℕ, ◌∷◌, Option, Some, ap, refl, subst, arith}
+use Rattle.std.proofs.Common.{◌≡◌, ℕ, ◌∷◌, Option, Some, Err, ap, refl, subst, arith}
 use Rattle.btree_descent.specs.declared.descent.TheConstants.{TOMBSTONE}
 use Rattle.row_engine.specs.Puts.{IsChanged}
 use Rattle.row_engine.proofs.DelLemmas.{holds_absent, is_absent, same_by_clock}
-use Rattle.row_engine.proofs.PutLemmas.{holds_as, holds_changed, holds_still, is_changed, is_spent, may_put, none_seen, not_cold, value_said}
+use Rattle.row_engine.proofs.PutLemmas.{holds_as, holds_changed, holds_still, is_changed, is_spent, may_put, none_seen, not_cold, not_last, value_said}
 use Rattle.row_engine.proofs.StageLemmas.{undo_set}
 use Rattle.row_engine.proofs.StepLemmas.{cause_from, ok_calm}
 use Rattle.row_engine.proofs.dels.del_held.Goals as goal
@@ -84,3 +84,11 @@ returns-in-Absent-clause-session g c = same_by_clock c.args.work.now.session c.l
 
 pub returns-in-Unstaged-DiskFault-clause-session : goal.returns-in-Unstaged-DiskFault-clause-session
 returns-in-Unstaged-DiskFault-clause-session g c = same_by_clock c.args.work.now.session c.leaf_del.new.draw.session c.in-Unstaged-DiskFault.ensures.drew.session
+
+pub unreachable-requires-in-ClockSpent : goal.unreachable-requires-in-ClockSpent
+unreachable-requires-in-ClockSpent g c =
+    not_last (g.R.Rows.shape c.args.rows.now) (g.R.Rows.view c.args.seat.now) (g.R.Rows.view c.leaf_del.new.seat) c.args.work.now.session c.args.work.now.log c.args.key c.requires.holds c.next_fits.ensures c.requires.may.is_open c.in-ClockSpent.ensures.del
+
+pub returns-in-Unstaged-DiskFault-clause-cause_disk_fault : goal.returns-in-Unstaged-DiskFault-clause-cause_disk_fault
+returns-in-Unstaged-DiskFault-clause-cause_disk_fault g c =
+    cause_from (g.D.Disk.faults c.args.work.now.disk) (g.D.Disk.faults c.args.work.now.disk) (g.D.Disk.faults c.leaf_del.new.draw.disk) _ _ refl c.in-Unstaged-DiskFault.ensures.drew.cause (λ q. ap Err c.in-Unstaged-DiskFault.field-0-is) (λ p. refl)

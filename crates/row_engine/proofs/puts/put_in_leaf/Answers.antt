@@ -1,4 +1,4 @@
-use Rattle.std.proofs.Common.{◌≡◌, ◌^◌, ◌∙◌, ℕ, ◌∷◌, Option, ap, refl, sym, subst, arith}
+use Rattle.std.proofs.Common.{◌≡◌, ◌^◌, ◌∙◌, ℕ, ◌∷◌, Option, Err, ap, refl, sym, subst, arith}
 use Rattle.page_model.specs.Tree.{word_or}
 use Rattle.row_engine.specs.Puts.{IsChanged}
 use Rattle.row_engine.proofs.DelLemmas.{same_by_clock}
@@ -13,7 +13,7 @@ unreachable-requires-in-Cold g c =
 
 pub unreachable-requires-in-ClockSpent : goal.unreachable-requires-in-ClockSpent
 unreachable-requires-in-ClockSpent g c =
-    not_last (g.R.Rows.shape c.args.rows.now) (g.R.Rows.view c.args.seat.now) (g.R.Rows.view c.leaf_put.new.seat) c.args.work.now.session c.args.work.now.log c.args.key c.requires.holds c.requires.may.is_open c.in-ClockSpent.ensures.put
+    not_last (g.R.Rows.shape c.args.rows.now) (g.R.Rows.view c.args.seat.now) (g.R.Rows.view c.leaf_put.new.seat) c.args.work.now.session c.args.work.now.log c.args.key c.requires.holds c.next_fits.ensures c.requires.may.is_open c.in-ClockSpent.ensures.put
 
 pub leaf_put-requires-clause-may : goal.leaf_put-requires-clause-may
 leaf_put-requires-clause-may g c = may_put (g.R.Rows.shape c.args.rows.now) (g.R.Rows.view c.args.seat.now) c.args.work.now.session c.args.work.now.log c.args.key c.args.value c.requires.holds c.requires.may (let low = c.requires.value in omega arith)
@@ -75,3 +75,7 @@ returns-in-Done-clause-cause_disk_fault g c =
 
 pub returns-in-Unstaged-DiskFault-clause-session : goal.returns-in-Unstaged-DiskFault-clause-session
 returns-in-Unstaged-DiskFault-clause-session g c = same_by_clock c.args.work.now.session c.leaf_put.new.draw.session c.in-Unstaged-DiskFault.ensures.drew.session
+
+pub returns-in-Unstaged-DiskFault-clause-cause_disk_fault : goal.returns-in-Unstaged-DiskFault-clause-cause_disk_fault
+returns-in-Unstaged-DiskFault-clause-cause_disk_fault g c =
+    cause_from (g.D.Disk.faults c.args.work.now.disk) (g.D.Disk.faults c.args.work.now.disk) (g.D.Disk.faults c.leaf_put.new.draw.disk) _ _ refl c.in-Unstaged-DiskFault.ensures.drew.cause (λ q. ap Err c.in-Unstaged-DiskFault.field-0-is) (λ p. refl)

@@ -1,4 +1,4 @@
-use Rattle.std.proofs.Common.{◌≡◌, ◌∙◌, [], ◌∷◌, arith, refl, subst, sym}
+use Rattle.std.proofs.Common.{◌≡◌, ◌<◌, ◌^◌, ◌∙◌, [], ◌∷◌, arith, refl, subst, sym}
 use Rattle.row_words.specs.declared.event.Event.TheVariants.{Flush}
 use Rattle.rows_trait.specs.Turns.{MayTurn, Turned}
 use Rattle.row_engine.proofs.EndLemmas.{has_word}
@@ -35,7 +35,7 @@ store_control-requires-clause-event g c =
     let v = g.R.Rows.view c.args.seat.now in
     let own = c.args.work.now.session.own in
     subst (λ k. MayTurn z own 0 (λ _. k) (λ _. Flush own k ∷ []) v) (sym c.last-number.ensures.answer)
-    (whole_turn z v c.args.work.now.session c.args.work.now.log c.requires.holds c.requires.ends c.requires.last differs c.every_turn.ensures)
+    (whole_turn z v c.args.work.now.session c.args.work.now.log c.requires.holds c.requires.ends c.requires.last differs c.every_turn.ensures (subst (λ k. k < 2 ^ 64) c.last-number.ensures.answer c.last-number.type_inv))
 
 pub store_control-requires-clause-place : goal.store_control-requires-clause-place
 store_control-requires-clause-place g c = let r = c.requires.holds.rows in (let q = r.sized in let k = r.high in omega arith, has_word c.args.work.now.session.own 0 r.low (omega arith))

@@ -5,6 +5,7 @@ use Rattle.lean_engine.specs.Inside.Syncs.{IsWriting, greatest, next_with}
 use Rattle.lean_engine.specs.declared.desk.Desk.{Desk}
 use Rattle.lean_engine.proofs.SyncGoes.{at_desk, at_store, may_sync_at, numbers_new, raised_to}
 use Rattle.lean_engine.proofs.SyncMachines.{machine_synced}
+use Rattle.lean_engine.proofs.SyncNeeds.{numbered}
 use Rattle.lean_engine.proofs.machine.Machine.sync_flushed.Goals as goal
 
 pub returns-in-Err-clause-failed : goal.returns-in-Err-clause-failed
@@ -13,6 +14,9 @@ returns-in-Err-clause-failed g c =
     let at = c.greatest_clock-number.ensures ∙ ap (greatest s.work.session.clock.clock) c.deref.ensures.value in
     λ _. subst (λ k. IsWriting (next_with s.master k) (g.D.Disk.story s.work.disk) (g.D.Disk.story c.write_floor.new.disk)) at (c.in-Err.ensures.any_moment (λ q. let h = (c.in-Err.ensures.same q).0 in cc))
 
+pub clocks_low-requires-clause-numbered : goal.clocks_low-requires-clause-numbered
+clocks_low-requires-clause-numbered g c = let s = c.args.self.now in numbered (shape s) s.seat.view (here s) s.desks.items c.requires.machine.desks
+
 pub store_synced-requires-clause-met : goal.store_synced-requires-clause-met
 store_synced-requires-clause-met g c =
     let s = c.args.self.now in
@@ -20,7 +24,7 @@ store_synced-requires-clause-met g c =
     let z = shape s in
     let are = c.requires.machine.desks in
     let at = c.greatest_clock-number.ensures ∙ ap (greatest s.work.session.clock.clock) c.deref.ensures.value in
-    (may_sync_at c.every_reached.ensures z s.seat.view x s.desks.items are s.master c.requires.machine.numbers c.requires.opens c.requires.logged c.requires.flushed c.greatest_clock-number.result at).met
+    (may_sync_at c.every_reached.ensures z s.seat.view x s.desks.items are s.master c.requires.machine.numbers c.requires.opens c.requires.logged c.requires.flushed c.clocks_low.ensures c.greatest_clock-number.result at).met
 
 pub raise-requires-clause-flushed : goal.raise-requires-clause-flushed
 raise-requires-clause-flushed g c =
@@ -37,7 +41,7 @@ raise-requires-clause-rises g c =
     let z = shape s in
     let are = c.requires.machine.desks in
     let at = c.greatest_clock-number.ensures ∙ ap (greatest s.work.session.clock.clock) c.deref.ensures.value in
-    at_store z s.seat.view x s.desks.items are (λ d. d.log.last ≤ c.greatest_clock-number.result) (may_sync_at c.every_reached.ensures z s.seat.view x s.desks.items are s.master c.requires.machine.numbers c.requires.opens c.requires.logged c.requires.flushed c.greatest_clock-number.result at).within
+    at_store z s.seat.view x s.desks.items are (λ d. d.log.last ≤ c.greatest_clock-number.result) (may_sync_at c.every_reached.ensures z s.seat.view x s.desks.items are s.master c.requires.machine.numbers c.requires.opens c.requires.logged c.requires.flushed c.clocks_low.ensures c.greatest_clock-number.result at).within
 
 pub raise_desks-requires-clause-flushed : goal.raise_desks-requires-clause-flushed
 raise_desks-requires-clause-flushed g c =
@@ -54,7 +58,7 @@ raise_desks-requires-clause-rises g c =
     let z = shape s in
     let are = c.requires.machine.desks in
     let at = c.greatest_clock-number.ensures ∙ ap (greatest s.work.session.clock.clock) c.deref.ensures.value in
-    at_desk z s.seat.view x s.desks.items are (λ d. d.log.last ≤ c.greatest_clock-number.result) (may_sync_at c.every_reached.ensures z s.seat.view x s.desks.items are s.master c.requires.machine.numbers c.requires.opens c.requires.logged c.requires.flushed c.greatest_clock-number.result at).within
+    at_desk z s.seat.view x s.desks.items are (λ d. d.log.last ≤ c.greatest_clock-number.result) (may_sync_at c.every_reached.ensures z s.seat.view x s.desks.items are s.master c.requires.machine.numbers c.requires.opens c.requires.logged c.requires.flushed c.clocks_low.ensures c.greatest_clock-number.result at).within
 
 pub returns-clause-machine : goal.returns-clause-machine
 returns-clause-machine g c =
@@ -66,7 +70,7 @@ returns-clause-machine g c =
     let n = c.greatest_clock-number.result in
     let rows = c.store_synced.new.rows in
     let e = c.in_default.ensures in
-    let next = numbers_new c.every_reached.ensures z s.seat.view x s.desks.items are s.master c.requires.machine.numbers c.requires.opens c.requires.logged c.requires.flushed c.requires.machine.floor c.write_floor.new.master
+    let next = numbers_new c.every_reached.ensures z s.seat.view x s.desks.items are s.master c.requires.machine.numbers c.requires.opens c.requires.logged c.requires.flushed c.clocks_low.ensures c.requires.machine.floor c.write_floor.new.master
     (λ q. (e.same (at ∙ q)).2) (λ o. subst (λ k. c.write_floor.new.master ≡ next_with s.master k) at (e.next (λ q. o (sym at ∙ q))).1) in
     subst (λ (d : Desk). IsMachine rows.frames rows.locks rows.workers rows.words.items c.store_synced.new.seat.view d c.raise_desks.new.desks.items s.latches c.write_floor.new.master) (λ i. record { session = sym c.raise.ensures.session i; log = sym c.raise.ensures.log i })
     (machine_synced c.every_synced.ensures s.rows.frames s.rows.locks s.rows.workers rows.frames rows.locks rows.workers s.rows.words.items rows.words.items s.seat.view c.store_synced.new.seat.view x s.desks.items c.raise_desks.new.desks.items s.latches s.master c.write_floor.new.master n

@@ -1,4 +1,4 @@
-use Rattle.std.proofs.Common.{refl, ◌∙◌, sym, ap, subst}
+use Rattle.std.proofs.Common.{refl, ◌∙◌, sym, ap, subst, arith}
 use Rattle.rows_trait.specs.Views.{state}
 use Rattle.row_sessions.specs.Standing.{AreSessions, IsOf}
 use Rattle.row_sessions.proofs.Standings.{shape_of, stands_then}
@@ -8,6 +8,14 @@ use Rattle.row_sessions.proofs.sessions.Sessions.begin.Goals as goal
 
 pub load_control-requires-clause-event : goal.load_control-requires-clause-event
 load_control-requires-clause-event c n = (every_begin (shape_of c.args.self.now.rows) c.args.self.now.seat.view c.args.worker).silent refl c.args.self.now.base
+
+pub load_control-requires-clause-tame : goal.load_control-requires-clause-tame
+load_control-requires-clause-tame c n =
+    let s = c.args.self.now in
+    let at = (c.requires.stands.sessions.each c.args.worker c.requires.worker.1).clock in
+    let e = ap (λ x. x.clock) c.session_of-session.ensures in
+    let low = c.if-session-ge-CLOCK_END.false in
+    (every_begin (shape_of s.rows) s.seat.view c.args.worker).tame (omega arith) s.base
 
 pub returns-clause-stands : goal.returns-clause-stands
 returns-clause-stands c =
