@@ -1,10 +1,8 @@
 pub mod Causes
 pub mod Waiting
-pub mod Latching
+pub mod Refusing
 pub mod Words
-pub mod Storing
 pub mod Standing
-pub mod Releasing
 pub mod Leaving
 pub mod Publishing
 pub mod Raising

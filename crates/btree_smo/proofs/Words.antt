@@ -1,35 +1,14 @@
--- Words that are copied one by one, and pairs of a record.
-use Rattle.std.proofs.Common.{◌≡◌, ◌≢◌, ◌==◌, ◌<◌, ◌≤◌, ◌+◌, ◌-◌, ◌*◌, ℕ, zero, suc, Bool, true, false, List, [], ◌∷◌, ◌++◌, length, map, set, take, drop, replicate, refl, sym, ap, subst, ◌∙◌, arith}
+-- Pairs of a record.
+use Rattle.std.proofs.Common.{◌≡◌, ◌<◌, ◌≤◌, ◌+◌, ◌-◌, ◌*◌, ℕ, zero, suc, List, [], ◌∷◌, ◌++◌, length, map, set, take, drop, replicate, refl, sym, ap, subst, ◌∙◌, arith}
 use Rattle.std.specs.Prelude.{slice_index}
 use Rattle.std.specs.List.{All}
-use Rattle.std.proofs.lemmas.List.{get_or-set_same, get_or-set_other, take_more, drop_more, set_at, append_assoc, length-take-le, take_more_set, map-append}
+use Rattle.std.proofs.lemmas.List.{take_more_set, map-append}
 use Rattle.std.proofs.lemmas.List.Elements.{All-push}
-use Rattle.std.proofs.lemmas.Bool.Decides.{nat_tests}
 use Rattle.page_model.specs.Pairs as model
 use Rattle.btree_node.specs.Words.{pairs_in}
 use Rattle.log_record.specs.Model.{model_pair}
 use Rattle.log_record.specs.Spelling.{PairFits, no_pair}
 use Rattle.log_record.specs.declared.record.Pair.{Pair}
-
--- the first words are those of another list, and one more
-pub one_more : (xs ys : List ℕ) (n x : ℕ) → n < length xs → ((i : ℕ) → i < n → slice_index xs i ≡ slice_index ys i) → x ≡ slice_index ys n → (i : ℕ) → i < n + 1 → slice_index (set xs n x) i ≡ slice_index ys i
-one_more xs ys n x long first one i lt = at (i == n) refl
-  where
-    at : (b : Bool) → (i == n) ≡ b → slice_index (set xs n x) i ≡ slice_index ys i
-    at true e = let is : i ≡ n = grind (arith, nat_tests) in ap (slice_index (set xs n x)) is ∙ (get_or-set_same xs n x 0 long ∙ (one ∙ ap (slice_index ys) (sym is)))
-    at false e = let ne : i ≢ n = grind (arith, nat_tests) in get_or-set_other xs n i x 0 ne ∙ first i (omega arith)
-
--- one more word is written over
-pub over_more : (ws now : List ℕ) (i : ℕ) → i < length ws → i < length now → set (take i ws ++ drop i now) i (slice_index ws i) ≡ take (i + 1) ws ++ drop (i + 1) now
-over_more ws now i short long =
-    let x = slice_index ws i in
-    let a : take (i + 1) ws ≡ take i ws ++ x ∷ [] = take_more ws i 0 short in
-    let b : drop i now ≡ slice_index now i ∷ drop (i + 1) now = drop_more now i 0 long in
-    ap (λ (ys : List ℕ). set (take i ws ++ ys) i x) b
-    ∙ (set_at (take i ws) (slice_index now i) (drop (i + 1) now) x i (length-take-le i ws (omega arith))
-    ∙ (sym (append_assoc (take i ws) (x ∷ []) (drop (i + 1) now)) ∙ ap (λ (ys : List ℕ). ys ++ drop (i + 1) now) (sym a)))
-
--- ## Pairs
 
 pairs_suc : (n : ℕ) (ws : List ℕ) → pairs_in (suc n) ws ≡ pairs_in n ws ++ record { key = slice_index ws (2 * n); word = slice_index ws (2 * n + 1) } ∷ []
 pairs_suc zero ws = (λ i. record { key = slice_index ws 0; word = slice_index ws 1 } ∷ [])

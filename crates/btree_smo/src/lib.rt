@@ -12,6 +12,5 @@ mod latch;
 pub mod lift;
 pub mod outcome;
 mod record;
-mod release;
 pub mod room;
 pub mod split;

@@ -4,3 +4,6 @@ pub mod Pages
 pub mod Stillness
 pub mod Writing
 pub mod Staying
+pub mod Standing
+pub mod Naming
+pub mod Sighting

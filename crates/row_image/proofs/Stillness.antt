@@ -21,7 +21,7 @@ use Rattle.rows_trait.specs.declared.view.View.{View}
 use Rattle.rows_trait.specs.Views.{AreStill, IsStill, after_all, state}
 use Rattle.rows_trait.proofs.EventLemmas.{still_rest}
 use Rattle.btree_descent.specs.Known.{Sound, IsSound}
-use Rattle.btree_descent.specs.Inside.{mark}
+use Rattle.swips.specs.Hints.{mark}
 use Rattle.row_words.proofs.Stays.{cases}
 use Rattle.row_words.proofs.Frames.{hot_place, hot_swip, framed_inner, swips_length}
 use Rattle.btree_descent.proofs.Nodes.{shown_frame}

@@ -1,5 +1,5 @@
 -- Looking at rows: what others did meanwhile, and what stays.
-use Rattle.std.proofs.Common.{◌≡◌, ◌≢◌, ◌==◌, ◌<◌, ◌+◌, ◌-◌, ◌*◌, ◌^◌, ℕ, suc, set, length, Bool, true, false, List, [], ◌∷◌, ◌++◌, refl, sym, ap, subst, ◌∙◌, append-nil, append_assoc, inr, arith}
+use Rattle.std.proofs.Common.{◌≡◌, ◌≢◌, ◌==◌, ◌||◌, ◌<◌, ◌+◌, ◌-◌, ◌*◌, ◌^◌, ℕ, suc, set, length, Bool, true, false, List, [], ◌∷◌, ◌++◌, refl, sym, ap, subst, ◌∙◌, append-nil, append_assoc, inr, arith}
 use Rattle.std.specs.Prelude.{slice_index, Result, Err, IfErr}
 use Rattle.std.proofs.lemmas.List.{get_or-set_same, get_or-set_other}
 use Rattle.std.proofs.lemmas.Bool.Decides.{nat_tests}
@@ -104,6 +104,10 @@ watched_check {z = z} {row = row} {n = n} {v = v} {w = w} actor l = watched_look
 -- a check after it changes nothing
 pub check_silent : {z y : Shape} {v w : View} (actor version n : ℕ) → may y.alone v actor ≡ true → z ≡ y → Watched y.alone v w → AreSilent (may z.alone w) w.given (checked actor version n)
 check_silent {z = z} {y = y} {v = v} {w = w} actor version n own same k = checked_silent (may z.alone w) w.given actor version n (may_shape z y w actor same (may_ran y.alone v w [] actor k.ran own))
+
+-- who may act after it could before
+pub may_before : (alone : Bool) (v w : View) (a : ℕ) → Watched alone v w → may alone w a ≡ true → may alone v a ≡ true
+may_before alone v w a k m = subst (λ (z : ℕ). (alone || (a == z)) ≡ true) k.ran.actor m
 
 -- on rows of the same shape
 pub watched_shape : {z y : Shape} {v w : View} → z ≡ y → Watched z.alone v w → Watched y.alone v w

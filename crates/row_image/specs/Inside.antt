@@ -1,34 +1,17 @@
 -- What is known on the way: of views between which rows were only looked at, of words, and of the children's numbers.
-use Rattle.std.specs.Prelude.{◌≡◌, ◌<◌, ◌≤◌, ◌+◌, ◌-◌, ◌*◌, ◌/◌, ◌%◌, ◌^◌, ℕ, Bool, true, false, List, [], ◌∷◌, ◌++◌, slice_index, Some}
+use Rattle.std.specs.Prelude.{◌≡◌, ◌<◌, ◌≤◌, ◌+◌, ◌-◌, ◌*◌, ◌/◌, ◌%◌, ◌^◌, ℕ, Bool, true, false, List, [], ◌∷◌, slice_index, Some}
 use Rattle.btree_node.specs.Words.{Spells}
 use Rattle.core_state.specs.States.{in_frame}
 use Rattle.row_words.specs.declared.event.Event.{Event}
 use Rattle.row_words.specs.declared.event.Event.TheVariants.{Miss}
 use Rattle.row_words.specs.Sealed.{Shown}
-use Rattle.rows_trait.specs.declared.view.Act.{Act}
 use Rattle.rows_trait.specs.declared.view.View.{View}
-use Rattle.rows_trait.specs.Views.{IsEven, AreApart, Has, Knows, latest, holds, state}
+use Rattle.rows_trait.specs.Views.{IsEven, Has, Since, Knows, IsStill, latest, holds, state}
 use Rattle.rows_trait.specs.Causes.{OnlyLoads, HasFound}
 use Rattle.rows_trait.specs.Turns.{Ran}
 use Rattle.row_image.specs.declared.refusal.Unseen.{Unseen}
 use Rattle.row_image.specs.Images.{Caused, written, StaysIn}
-
--- From one view to another rows were only looked at, and what others did meanwhile is apart from what the seat holds.
-pub record Watched (alone : Bool) (v w : View) : Type 0 where
-  pub ran : Ran alone v [] w
-  pub between : List Event
-  pub quiet : alone ≡ true → between ≡ []
-  pub apart : AreApart v (state v) between
-  pub seen : w.seen ≡ v.seen ++ between
-  pub held : w.held ≡ v.held
-  pub loads : OnlyLoads v w
-  pub has : (row s : ℕ) → Has row s v.steps → Has row s w.steps
-  pub knows : (row s i x : ℕ) → Knows row s i x v.steps → Knows row s i x w.steps
-  pub latest : alone ≡ true → (row s : ℕ) → latest row v.steps ≡ Some s → latest row w.steps ≡ Some s
-
--- the first n words were loaded of the row
-abbrev pub AreKnown : (row version n : ℕ) → List ℕ → List Act → Type 0
-AreKnown row version n words acts = (i : ℕ) → i < n → Knows row version i (slice_index words i) acts
+pub use Rattle.row_image.specs.Looks.{Watched, AreKnown}
 
 -- At some view between v and w the first word of the frame's row read this number.
 pub record Stood (alone : Bool) (v : View) (frame number : ℕ) (w : View) : Type 0 where
@@ -82,6 +65,26 @@ pub record IsChildRow (frames : ℕ) (words : List ℕ) (row : ℕ) : Type 0 whe
 pub record IsSpelled (w : View) (row p generation : ℕ) (words : List ℕ) : Type 0 where
   pub stands : in_frame ((state w).core.place p) row ≡ true
   pub spells : Spells words (written (state w).core p generation)
+
+-- A look at a row has begun: it was found free, with this version.
+pub record Begun (alone : Bool) (row version : ℕ) (v w : View) : Type 0 where
+  pub watched : Watched alone v w
+  pub free : IsEven version
+  pub has : Has row version w.steps
+  pub found : HasFound row version v w
+  pub since : Since row version w.seen w.steps
+  pub last : latest row w.steps ≡ Some version
+
+-- The row was found again with the version, so what was loaded of it are its words, and no event has changed it since.
+pub record Again (alone : Bool) (row version : ℕ) (v w : View) : Type 0 where
+  pub watched : Watched alone v w
+  pub shown : (i x : ℕ) → Knows row version i x v.steps → Shown w.given (state w) row i x
+  pub still : (at : List Event) → Since row version at v.steps → IsStill w.given row at w.seen
+  pub last : latest row w.steps ≡ Some version
+
+-- The row had moved. A call that began at u and found the version has only looked since.
+abbrev pub IsMovedSince : (alone : Bool) (actor row version : ℕ) → View → Unseen → View → Type 0
+IsMovedSince alone actor row version v why w = (u : View) → Watched alone u v → HasFound row version u v → (alone ≡ true → latest row v.steps ≡ Some version) → Refused alone actor (λ q. q ≡ row) u why w
 
 -- Nothing was appended. The row was found free, and the words spell the page that stays in it.
 pub record IsLoaded (alone : Bool) (v : View) (row generation : ℕ) (words : List ℕ) (w : View) : Type 0 where

@@ -4,13 +4,14 @@ ghost use Rattle.rows_trait.specs.Layout.{rows_of, width};
 ghost use Rattle.row_words.specs.Sealed.{Shown};
 ghost use Rattle.rows_trait.specs.Views.{may, state};
 ghost use Rattle.btree_descent.specs.Descents.{Sized};
-ghost use Rattle.row_image.specs.Inside.{Watched, IsNamed, AreNamed, HasChildren, Refused, IsRowOf, IsRowIn, IsChildRow};
+ghost use Rattle.row_image.specs.Looks.{Watched};
+ghost use Rattle.row_image.specs.Inside.{IsNamed, AreNamed, HasChildren, Refused, IsRowOf, IsRowIn, IsChildRow};
 
+use crate::look::{again, begin};
 use crate::refusal::Unseen;
-use btree_descent::descent::{FRAME, row_of};
+use page_model::limits::FRAME_BIT;
 use rows_trait::rows::Rows;
-use version_latch::Glimpse;
-use version_latch::events::{Checks, Misses};
+use swips::row_of;
 
 // The number of the page that stands in a row.
 fn number<R: Rows>(rows: &mut R, seat: &mut R::Seat, actor: u32, row: u32) -> Result<u64, Unseen>
@@ -21,18 +22,14 @@ fn number<R: Rows>(rows: &mut R, seat: &mut R::Seat, actor: u32, row: u32) -> Re
     ensures ok { IfOk result (λ n. Watched (R.shape rows.old).alone (R.view seat.old) (R.view seat.new) × Shown (R.view seat.new).given (state (R.view seat.new)) row 0 n) }
     ensures err { IfErr result (λ why. Refused (R.shape rows.old).alone actor (λ q. q ≡ row) (R.view seat.old) why (R.view seat.new)) }
 {
-    let glimpse = match Glimpse::start(rows, seat, row, &Misses { worker: actor }) {
-        Err(latched) => return Err(Unseen::Latched(latched)),
+    let glimpse = match begin(rows, seat, actor, row) {
+        Err(why) => return Err(why),
         Ok(found) => found,
     };
     let number = glimpse.word(rows, seat, 0);
-    let checks = Checks {
-        worker: actor,
-        version: glimpse.version,
-    };
-    match glimpse.check(rows, seat, &checks) {
+    match again(rows, seat, actor, &glimpse) {
         Ok(()) => Ok(number),
-        Err(moved) => Err(Unseen::Moved(moved)),
+        Err(why) => Err(why),
     }
 }
 
@@ -51,7 +48,7 @@ fn named<R: Rows>(
     ensures ok { IfOk result (λ n. Watched (R.shape rows.old).alone (R.view seat.old) (R.view seat.new) × IsNamed (R.shape rows.old).alone frames (R.view seat.old) word n (R.view seat.new)) }
     ensures err { IfErr result (λ why. Refused (R.shape rows.old).alone actor (IsRowOf frames word) (R.view seat.old) why (R.view seat.new)) }
 {
-    if word < FRAME {
+    if word < FRAME_BIT {
         return Ok(word);
     }
     number(rows, seat, actor, row_of(word, frames))

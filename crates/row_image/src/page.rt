@@ -5,17 +5,23 @@ ghost use Rattle.rows_trait.specs.Views.{Has, may};
 ghost use Rattle.btree_descent.specs.Known.{IsSound};
 ghost use Rattle.btree_descent.specs.Descents.{Sized};
 ghost use Rattle.row_image.specs.Images.{StaysIn, IsImage, IsMissed};
-ghost use Rattle.row_image.specs.Inside.{Watched, AreKnown, IsLoaded};
+ghost use Rattle.row_image.specs.Looks.{Watched, AreKnown};
+ghost use Rattle.row_image.specs.Inside.{IsLoaded};
 
 use crate::children::name_children;
+use crate::look::{again, begin};
 use crate::refusal::Unseen;
 use btree_node::Node;
 use rows_trait::rows::Rows;
 use version_latch::Glimpse;
-use version_latch::events::{Checks, Misses};
 
 // Loads the words of the page.
-fn load<R: Rows>(rows: &mut R, seat: &mut R::Seat, glimpse: &Glimpse, into: &mut [u64; 126])
+pub(crate) fn load<R: Rows>(
+    rows: &mut R,
+    seat: &mut R::Seat,
+    glimpse: &Glimpse,
+    into: &mut [u64; 126],
+)
     requires fits { R.fits rows.old seat.old }
     requires row { (glimpse.now.row < rows_of (R.shape rows.old).sizes) × (width (R.shape rows.old).sizes glimpse.now.row ≡ 128) }
     requires seen { Has glimpse.now.row glimpse.now.version (R.view seat.old).steps }
@@ -48,21 +54,14 @@ fn load_written<R: Rows>(
     ensures cause { IfErr result (λ why. IsMissed (R.shape rows.old).alone actor (R.view seat.old) why (R.view seat.new)) }
     ensures quiet { IfErr result (λ _. (R.shape rows.old).alone ≡ true → (R.view seat.old).held ≡ [] → ⊥) }
 {
-    let glimpse = match Glimpse::start(rows, seat, row, &Misses { worker: actor }) {
-        Err(latched) => return Err(Unseen::Latched(latched)),
+    let glimpse = match begin(rows, seat, actor, row) {
+        Err(why) => return Err(why),
         Ok(found) => found,
     };
     load(rows, seat, &glimpse, into);
     name_children(rows, seat, actor, frames, into)?;
     into[2] = generation;
-    let checks = Checks {
-        worker: actor,
-        version: glimpse.version,
-    };
-    match glimpse.check(rows, seat, &checks) {
-        Ok(()) => Ok(()),
-        Err(moved) => Err(Unseen::Moved(moved)),
-    }
+    again(rows, seat, actor, &glimpse)
 }
 
 /// The page that stands in frame row `row`, as it is written: with the numbers of its children where the row has swips, and with

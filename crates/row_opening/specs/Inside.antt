@@ -4,6 +4,7 @@ use Rattle.page_model.specs.Limits.{frame_bit}
 use Rattle.page_model.specs.Pairs.{Pair}
 use Rattle.page_model.specs.Page.{Page, with_pairs}
 use Rattle.btree_node.specs.Words.{words_of, pair_words}
+use Rattle.swips.specs.Hints.{mark}
 
 -- each word names the frame of the page's own number
 abbrev pub linked : List Pair → List Pair
@@ -19,21 +20,21 @@ abbrev pub turned : ℕ → List ℕ → List ℕ
 turned (suc n) (k ∷ w ∷ ws) = k ∷ (frame_bit + w) ∷ turned n ws
 turned _ ws = ws
 
--- n pairs stand there, and their words are below 2^63
+-- n pairs stand there, and their words have not the bit of a frame
 abbrev pub ArePlain : ℕ → List ℕ → Type 0
 ArePlain zero ws = Unit {0}
 ArePlain (suc n) [] = ⊥
 ArePlain (suc n) (k ∷ []) = ⊥
-ArePlain (suc n) (k ∷ w ∷ ws) = (w < 2 ^ 63) × ArePlain n ws
+ArePlain (suc n) (k ∷ w ∷ ws) = (w < frame_bit) × ArePlain n ws
 
--- the children of an inner node have numbers below 2^63
+-- the children of an inner node have numbers without it
 abbrev pub HasPlain : Page → Type 0
 HasPlain p = ltb 0 p.node.level ≡ true → ArePlain (length p.node.pairs) (pair_words p.node.pairs)
 
 -- a row with its latch: of a page its words, no hint, and its number; where there is none the mark
 abbrev pub frame_row : Option Page → List ℕ
-frame_row (Some p) = 0 ∷ words_of (linked_page p) ++ (2 ^ 63 ∷ p.gsn ∷ [])
-frame_row None = replicate 127 0 ++ ((2 ^ 63 + 1) ∷ 0 ∷ [])
+frame_row (Some p) = 0 ∷ words_of (linked_page p) ++ (frame_bit ∷ p.gsn ∷ [])
+frame_row None = replicate 127 0 ++ (mark ∷ 0 ∷ [])
 
 -- the words of a worker: flushed number, last end number, outside, no answer
 abbrev pub worker_row : ℕ → List ℕ

@@ -1,18 +1,13 @@
 // The words of frame rows.
 ghost use Rattle.std.specs.Prelude.{◌≡◌, ◌+◌, ◌*◌, ◌<◌, ◌≤◌, ◌^◌, ◌++◌, ◌∷◌, [], length, replicate, slice_get};
 ghost use Rattle.btree_node.specs.Words.{words_of};
-ghost use Rattle.page_model.specs.Limits.{leaf_room};
+ghost use Rattle.page_model.specs.Limits.{frame_bit, leaf_room};
 ghost use Rattle.row_opening.specs.Opened.{page_at};
 ghost use Rattle.row_opening.specs.Inside.{linked_page, turned, ArePlain, HasPlain, frame_row, AreTiled};
 
 use btree_node::Node;
 use page_model::limits::FRAME_BIT;
-
-/// The hint of a frame row in which no hot page stands.
-const MARK: u64 = (1 << 63) + 1;
-
-/// A hint that names no frame.
-const NO_HINT: u64 = 1 << 63;
+use swips::{MARK, NO_HINT};
 
 /// Sets the words of each frame row: each page stands in the frame of its own number, and the frames behind the last one are empty. The
 /// rows lie from `first` on, each behind its latch.
@@ -46,7 +41,7 @@ fn set_frame(row: &mut [u64], pages: &[Node], frame: usize)
 fn set_page(row: &mut [u64], page: &Node)
     requires zeros { row.old ≡ replicate 129 0 }
     requires children { HasPlain page.now }
-    ensures { row.new ≡ 0 ∷ words_of (linked_page page.now) ++ (2 ^ 63 ∷ page.now.gsn ∷ []) }
+    ensures { row.new ≡ 0 ∷ words_of (linked_page page.now) ++ (frame_bit ∷ page.now.gsn ∷ []) }
 {
     row[1..127].copy_from_slice(page.words());
     if page.level() > 0 {

@@ -1,12 +1,13 @@
 -- The words of swips. A swip names a page by its frame where it is hot, else by its number.
 use Rattle.std.specs.Prelude.{◌≡◌, ◌<◌, ◌≤◌, ◌+◌, ◌^◌, ◌⊎◌, ℕ}
+use Rattle.page_model.specs.Limits.{frame_bit}
 use Rattle.core_state.specs.States.{Place}
 use Rattle.swips.specs.declared.swip.Swip.{Swip}
 use Rattle.swips.specs.declared.swip.Swip.TheVariants.{Frame, Page}
 
 -- a frame has the highest bit
 abbrev pub word_of : Swip → ℕ
-word_of (Frame f) = 2 ^ 63 + f
+word_of (Frame f) = frame_bit + f
 word_of (Page p) = p
 
 -- the swip of page p where it stands at this place
@@ -27,4 +28,4 @@ pub record Spells (word : ℕ) (s : Swip) : Type 0 where
 
 -- the words that spell a swip
 abbrev pub IsSpelling : ℕ → Type 0
-IsSpelling word = (word < 2 ^ 32) ⊎ ((2 ^ 63 ≤ word) × (word < 2 ^ 63 + 2 ^ 32))
+IsSpelling word = (word < 2 ^ 32) ⊎ ((frame_bit ≤ word) × (word < frame_bit + 2 ^ 32))
