@@ -1,0 +1,4 @@
+pub mod QueueLemmas
+pub mod SlotLemmas
+pub mod KeptLemmas
+pub mod WalkLemmas

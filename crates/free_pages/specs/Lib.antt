@@ -1,0 +1,3 @@
+-- Read Pages. Inside is for private functions.
+pub mod Pages
+pub mod Inside
