@@ -116,6 +116,7 @@ pub(crate) fn open_parts<D: Disk>(
     are_pages(&recovered);
     let Recovered {
         pages,
+        slots: _,
         winners,
         undone,
         master,

@@ -1,3 +1,4 @@
+pub mod SlotLemmas
 pub mod BaseLemmas
 pub mod PieceLemmas
 pub mod HeldLemmas

@@ -1,24 +1,29 @@
 // The base of a page: its valid slot of the greatest generation and number.
-ghost use Rattle.std.specs.Prelude.{◌≡◌, ◌<◌, ◌≤◌, ◌+◌, ◌*◌, ℕ, Err, Option, Some, None, IfOk, IfSome, IsErr, IsTrue, length};
-ghost use Rattle.page_model.specs.Page.{Page};
+ghost use Rattle.std.specs.Prelude.{◌≡◌, ◌<◌, Err, Option, IfOk};
 ghost use Rattle.lean_disk.specs.Faults.{HasCause};
 ghost use Rattle.lean_disk.specs.Moments.{OnlyReads};
 ghost use Rattle.lean_disk.specs.Story.{Tells, areas_of};
 ghost use Rattle.disk_image.specs.Breaks.{HasNoBase};
-ghost use Rattle.disk_image.specs.PageSlots.{page_in};
-ghost use Rattle.page_store.specs.Bases.{IsBase, IsOwn};
-ghost use Rattle.page_store.specs.Inside.{IsNewest, IsOfSlot, is_older_page, valid_in, valid_page};
+ghost use Rattle.page_store.specs.Bases.{IsAhead, IsBase, IsOwn};
+ghost use Rattle.page_store.specs.Inside.{IsChosen, IsNewest, is_ahead, is_older_page, page_of};
 
+use crate::slot::{Bounds, Held, Seal, fetch_at};
 use btree_node::Node;
-use disk_image::every_page_in;
-use disk_slots::{Master, every_page, read_valid};
-use lean_disk::{Part, Read};
+use disk_slots::Master;
+use lean_disk::Part;
 
 /// A page as it was saved last, and the slot in which it stands.
 #[derive(Drop)]
 pub struct Base {
     pub node: Node,
     pub slot: u32,
+}
+
+/// The base of a page, and whether its other slot holds the page as a later generation has saved it.
+#[derive(Drop)]
+pub struct Seen {
+    pub base: Base,
+    pub ahead: bool,
 }
 
 /// Why a page's base could not be fetched.
@@ -29,40 +34,24 @@ pub enum Unread {
     DiskFault,
 }
 
-#[derive(Clone, Copy, Debug, PartialEq, Eq)]
-struct DiskFault;
-
-// What a slot of the page holds.
-fn read_slot<P: Part>(
-    dev: &mut P,
-    master: &Master,
-    page: u32,
-    slot: u32,
-    buffer: &mut [u8],
-) -> Result<Option<Node>, DiskFault>
-    requires half { slot < 2 }
-    requires room { length buffer.old ≡ 1024 }
-    ensures answer { IfOk result (λ found. Tells (P.story dev.old) (P.seat dev.old).area →
-        found ≡ valid_in master.now page slot ((P.story dev.old).area (P.seat dev.old).area).bytes) }
-    ensures own { IfOk result (IsOfSlot master.now page) }
-    ensures reads { OnlyReads (P.story dev.old) (P.story dev.new) }
-    ensures seat { P.seat dev.new ≡ P.seat dev.old }
-    ensures cause { HasCause (P.faults dev.old) (P.faults dev.new) (IsErr result) }
+// The page, if it is valid.
+fn page_of(held: Held) -> Option<Node>
+    ensures { result ≡ page_of held }
 {
-    let Read::Got(n) = dev.read(2048 * page as u64 + 1024 * slot as u64, buffer) else {
-        return Err(DiskFault);
-    };
-    Ok(take_valid(master, page, &buffer[..n]))
+    match held {
+        Held::Page(node) => Some(node),
+        Held::NoPage(_) => None,
+    }
 }
 
-// The page that the bytes of a slot spell, if it is valid for the master.
-fn take_valid(master: &Master, page: u32, bytes: &[u8]) -> Option<Node>
-    ensures answer { result ≡ valid_page master.now.generation (page_in page master.now.pages bytes.now) }
-    ensures own { IsOfSlot master.now page result }
+// Whether a later generation has saved it.
+fn is_ahead(held: &Held) -> bool
+    ensures { result ≡ is_ahead held.now }
 {
-    every_page();
-    every_page_in();
-    read_valid(page, master.pages, master.generation, bytes)
+    match held {
+        Held::NoPage(Seal::LaterGeneration) => true,
+        _ => false,
+    }
 }
 
 // By generation, then by number.
@@ -93,6 +82,47 @@ fn newer(first: Option<Node>, second: Option<Node>) -> Option<Base>
     }
 }
 
+// The base among what two slots hold.
+fn choose(first: Held, second: Held) -> Option<Seen>
+    ensures { IsChosen first second result }
+{
+    let ahead = is_ahead(&first) || is_ahead(&second);
+    match newer(page_of(first), page_of(second)) {
+        Some(base) => Some(Seen { base, ahead }),
+        None => None,
+    }
+}
+
+/// Fetches the base of a page, by the master that counts, and tells what its other slot holds.
+pub fn fetch_seen<P: Part>(dev: &mut P, master: &Master, page: u32) -> Result<Seen, Unread>
+    requires page { page < master.now.pages }
+    requires seat { (P.seat dev.old).area ≡ 1 }
+    ensures base { IfOk result (λ seen. Tells (P.story dev.old) 1 → IsBase master.now page (areas_of (P.story dev.old)) seen.base) }
+    ensures ahead { IfOk result (λ seen. Tells (P.story dev.old) 1 → IsAhead master.now page (areas_of (P.story dev.old)) seen.base.slot seen.ahead) }
+    ensures own { IfOk result (λ seen. IsOwn master.now page seen.base) }
+    ensures reads { OnlyReads (P.story dev.old) (P.story dev.new) }
+    ensures seat { P.seat dev.new ≡ P.seat dev.old }
+
+    ensures cause_damaged { result ≡ Err Unread.Damaged → Tells (P.story dev.old) 1 → HasNoBase master.now (areas_of (P.story dev.old)) page }
+    ensures cause_disk_fault { HasCause (P.faults dev.old) (P.faults dev.new) (result ≡ Err Unread.DiskFault) }
+{
+    let bounds = Bounds {
+        pages: master.pages,
+        generation: master.generation,
+    };
+    let mut buffer = [0; 1024];
+    let Ok(first) = fetch_at(dev, bounds, page, 0, &mut buffer) else {
+        return Err(Unread::DiskFault);
+    };
+    let Ok(second) = fetch_at(dev, bounds, page, 1, &mut buffer) else {
+        return Err(Unread::DiskFault);
+    };
+    match choose(first, second) {
+        Some(seen) => Ok(seen),
+        None => Err(Unread::Damaged),
+    }
+}
+
 /// Fetches the base of a page, by the master that counts.
 pub fn fetch<P: Part>(dev: &mut P, master: &Master, page: u32) -> Result<Base, Unread>
     requires page { page < master.now.pages }
@@ -105,15 +135,8 @@ pub fn fetch<P: Part>(dev: &mut P, master: &Master, page: u32) -> Result<Base, U
     ensures cause_damaged { result ≡ Err Unread.Damaged → Tells (P.story dev.old) 1 → HasNoBase master.now (areas_of (P.story dev.old)) page }
     ensures cause_disk_fault { HasCause (P.faults dev.old) (P.faults dev.new) (result ≡ Err Unread.DiskFault) }
 {
-    let mut buffer = [0; 1024];
-    let Ok(first) = read_slot(dev, master, page, 0, &mut buffer) else {
-        return Err(Unread::DiskFault);
-    };
-    let Ok(second) = read_slot(dev, master, page, 1, &mut buffer) else {
-        return Err(Unread::DiskFault);
-    };
-    match newer(first, second) {
-        Some(base) => Ok(base),
-        None => Err(Unread::Damaged),
+    match fetch_seen(dev, master, page) {
+        Ok(seen) => Ok(seen.base),
+        Err(why) => Err(why),
     }
 }

@@ -3,12 +3,22 @@
 #![tactic(auto)]
 
 ghost use Rattle.page_store.specs.Laws.{EveryFewer, EveryLeft, EveryReach, EveryRead, EveryWhole};
+ghost use Rattle.page_store.specs.Slots.{EverySeal};
 
 mod base;
+mod known;
 mod saving;
+mod slot;
 
-pub use base::{Base, Unread, fetch};
+pub use base::{Base, Seen, Unread, fetch, fetch_seen};
+pub use known::{Lost, fetch_known};
 pub use saving::{save, spare};
+pub use slot::{Bounds, DiskFault, Held, Seal, fetch_at};
+
+/// The bytes of a slot are one thing: without a seal, malformed, of a later generation, or valid.
+pub fn every_seal()
+    ensures { EverySeal }
+{}
 
 /// A slot that holds a page is whole.
 pub fn every_whole()

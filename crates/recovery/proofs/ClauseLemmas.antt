@@ -1,5 +1,5 @@
 -- What recovery's clauses say, from what its steps say.
-use Rattle.std.proofs.Common.{◌≡◌, ◌<◌, ◌≤◌, ◌*◌, ◌%◌, ◌^◌, ℕ, List, length, Some, slice_get, IsTrue, sym, ◌∙◌, ap, subst, inl, inr, arith}
+use Rattle.std.proofs.Common.{◌≡◌, ◌<◌, ◌≤◌, ◌*◌, ◌%◌, ◌^◌, ℕ, Bool, true, false, List, length, get_or, Some, slice_get, IsTrue, sym, ◌∙◌, ap, subst, inl, inr, arith}
 use Rattle.std.proofs.lemmas.Option.{slice_get_within}
 use Rattle.page_model.specs.Tree.{IsTree}
 use Rattle.lean_disk.specs.Area.{synced, written}
@@ -16,7 +16,7 @@ use Rattle.page_store.specs.Runs.{IsReady}
 use Rattle.page_store.specs.Saved.{LeavesSaves, Save}
 use Rattle.record_redo.specs.Pages as redo_images
 use Rattle.recovery.specs.Crashes.{RecoveryLeaves}
-use Rattle.recovery.specs.Inside.{AreSettled, IsPrepared, IsReadied, OnlySettles, SavesAll, saves_to}
+use Rattle.recovery.specs.Inside.{AreAhead, AreSettled, IsPrepared, IsReadied, IsTurned, OnlySettles, SavesAll, saves_to, turned}
 use Rattle.master_store.specs.Masters.{IsOfSlot, WritesOnce}
 use Rattle.recovery.specs.Masters.{IsOpenable, next_master}
 use Rattle.recovery.specs.Installed.{HasInstalled}
@@ -82,10 +82,11 @@ module _ {most : ℕ} (it : Prepared) (readied : IsReadied it) (openable : IsOpe
             (λ c at. inr (writing it readied openable s0 s4 logs settles t (all t) prepared clean s6 (saves ready).run.frame ((saves ready).are done) ((saves ready).done done told_1) wide c at))
             (subst (λ (k : Master). LeavesOnly s6 s7 (CrashIn s6 0 (WritesOnce (1024 * (k.sequence % 2)) (master_slot k) (s6.area 0)))) next_is run)))
 
-        pub opens : Framed 0 s6 s7 → s7.area 0 ≡ synced (written (1024 * (next.sequence % 2)) (master_slot next) (s6.area 0)) → (r : Recovered) → r.pages ≡ it.pages → r.master ≡ next → IsOpened m (areas_of s0) r s7
-        opens frame wrote r pages is = subst (λ (k : Master). IsOpened k (areas_of s0) r s7) same_master
+        pub opens : Framed 0 s6 s7 → s7.area 0 ≡ synced (written (1024 * (next.sequence % 2)) (master_slot next) (s6.area 0)) → (r : Recovered) → r.pages ≡ it.pages → r.master ≡ next
+            → length it.ahead.items ≡ it.master.pages → AreAhead it.master (areas_of s0) it.slots.items it.ahead.items → IsTurned it.changed.items it.ahead.items it.slots.items r.slots.items → IsOpened m (areas_of s0) r s7
+        opens frame wrote r pages is marks ahead turns = subst (λ (k : Master). IsOpened k (areas_of s0) r s7) same_master
             (opened it readied openable s0 s4 logs settles t (all t) prepared clean s6 (saves ready).run.frame ((saves ready).are done) ((saves ready).done done told_1) wide s7 frame
-            (subst (λ (k : Master). s7.area 0 ≡ synced (written (1024 * (k.sequence % 2)) (master_slot k) (s6.area 0))) next_is wrote) r pages (is ∙ next_is))
+            (subst (λ (k : Master). s7.area 0 ≡ synced (written (1024 * (k.sequence % 2)) (master_slot k) (s6.area 0))) next_is wrote) r pages (is ∙ next_is) marks ahead turns)
 
 -- ## The answer
 
@@ -108,9 +109,14 @@ module _ {most : ℕ} (it : Prepared) (readied : IsReadied it) (openable : IsOpe
     },
   )
 
-  pub wholes : it.base < 2 ^ 64 → IsWhole r
-  wholes wide = record {
+  pub wholes : it.base < 2 ^ 64 → IsTurned it.changed.items it.ahead.items it.slots.items r.slots.items → IsWhole r
+  wholes wide turns = record {
     count = ap (λ v. length v.items) pages ∙ (readied.count ∙ sym (ap (λ (k : Master). k.pages) master));
+    places = turns.count ∙ (readied.places ∙ sym (ap (λ (k : Master). k.pages) master));
+    halves = λ p l.
+        let lt : p < it.master.pages = subst (λ (k : Master). p < k.pages) master l in
+        subst (λ (i : ℕ). i < 2) (sym (turns.each p (let c : length it.slots.items ≡ it.master.pages = readied.places in omega arith)))
+        (turned_half (get_or it.changed.items p false) (get_or it.ahead.items p false) (get_or it.slots.items p 0) (readied.halves p lt));
     own = λ p v e. readied.own p v (ap (λ xs. slice_get xs.items p) (sym pages) ∙ e);
     tree = subst (λ (k : Master). IsTree (format_of k.pages) (nodes_of r.pages.items)) (sym master)
         (subst (λ xs. IsTree (format_of it.master.pages) (nodes_of xs.items)) (sym pages) readied.tree);
@@ -119,5 +125,10 @@ module _ {most : ℕ} (it : Prepared) (readied : IsReadied it) (openable : IsOpe
     master = subst IsOfSlot (sym master) (slot_of (next_master it.master it.base), next_master_valid);
   }
     where
+      turned_half : (on a : Bool) (i : ℕ) → i < 2 → turned on a i < 2
+      turned_half true a i h = omega arith
+      turned_half false true i h = omega arith
+      turned_half false false i h = h
+
       next_master_valid : IsMaster (slot_of (next_master it.master it.base)) (next_master it.master it.base)
       next_master_valid = valid_next it.master it.base (readied.valid.0, readied.valid.1) openable wide

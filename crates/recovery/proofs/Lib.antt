@@ -4,6 +4,7 @@ pub mod BaseLemmas
 pub mod MasterLemmas
 pub mod WriteLemmas
 pub mod StampLemmas
+pub mod TurnLemmas
 pub mod LoadLemmas
 pub mod SaveLemmas
 pub mod SettleLemmas

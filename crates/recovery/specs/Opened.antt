@@ -1,5 +1,5 @@
 -- What recovery gives, and the disk that it leaves.
-use Rattle.std.specs.Prelude.{◌≡◌, ◌⊎◌, ◌<◌, ◌≤◌, ◌+◌, ℕ, suc, [], length, slice_get, Some}
+use Rattle.std.specs.Prelude.{◌≡◌, ◌⊎◌, ◌<◌, ◌≤◌, ◌+◌, ◌-◌, ℕ, suc, List, [], length, slice_get, slice_index, Some}
 use Rattle.map_model.specs.Lists.{Has}
 use Rattle.page_model.specs.Page.{Page}
 use Rattle.page_model.specs.Tree.{IsTree}
@@ -12,9 +12,10 @@ use Rattle.disk_slots.specs.Masters.{IsMaster}
 use Rattle.disk_slots.specs.declared.master.Master.{Master}
 use Rattle.disk_image.specs.Formats.{format_of}
 use Rattle.disk_image.specs.MasterSlots.{master_on}
-use Rattle.disk_image.specs.Shown.{Areas, shown_by, image_by, IsSoundDisk}
+use Rattle.disk_image.specs.Shown.{Areas, page_slot_in, shown_by, image_by, IsSoundDisk}
 use Rattle.node_tree.specs.Nodes.{nodes_of}
 use Rattle.record_redo.specs.Pages.{page_of}
+use Rattle.page_store.specs.Bases.{YieldsTo, image_page}
 use Rattle.recovery.specs.Masters.{next_master}
 use Rattle.recovery.specs.declared.opening.Recovered.{Recovered}
 use Rattle.recovery.specs.declared.opening.Unrecovered.{Unrecovered}
@@ -46,10 +47,20 @@ pub record IsRecovered (m : Master) (area : Areas) (r : Recovered) : Type 0 wher
   pub base : IsGreatest (image_by m area) r.master.floor
   pub master : r.master ≡ next_master m r.master.floor
 
+-- Slot `at` of page p counts: what is in memory of the page stands there, and a page in the other slot does not count beside it.
+pub record Counts (pages : ℕ) (area : List ℕ) (p at : ℕ) (v : Page) : Type 0 where
+  pub node : Page
+  pub there : page_slot_in pages p at area ≡ Some node
+  pub is : image_page node ≡ image_page v
+  pub other : (y : Page) → page_slot_in pages p (1 - at) area ≡ Some y → YieldsTo (record { node = node; slot = at }) y
+
 -- Whatever the disk told: as many pages as the master has, each with its own number, which form a tree; and the master is one of a
 -- slot.
 pub record IsWhole (r : Recovered) : Type 0 where
   pub count : length r.pages.items ≡ r.master.pages
+  -- of each page a slot
+  pub places : length r.slots.items ≡ r.master.pages
+  pub halves : (p : ℕ) → p < r.master.pages → slice_index r.slots.items p < 2
   pub own : (p : ℕ) (v : Page) → slice_get r.pages.items p ≡ Some v → v.number ≡ p
   pub tree : IsTree (format_of r.master.pages) (nodes_of r.pages.items)
   -- no page has a number above the floor
@@ -78,6 +89,8 @@ pub record IsOpened (m : Master) (area : Areas) (r : Recovered) (s : Story) : Ty
   pub master : master_on (s.area 0).bytes ≡ Some r.master
   pub base : (p : ℕ) → p < m.pages → base_of (shown_by r.master (areas_of s)) p ≡ Some (recovered_page (image_by m area) p)
   pub held : (p : ℕ) (v : Page) → slice_get r.pages.items p ≡ Some v → IsHeld (shown_by r.master (areas_of s)) p v
+  -- the slot that is given for a page counts
+  pub counts : (p : ℕ) (v : Page) → slice_get r.pages.items p ≡ Some v → Counts m.pages (s.area 1).bytes p (slice_index r.slots.items p) v
   pub slots : (p i : ℕ) (x : Slot) → p < m.pages → i < 2 → (shown_by r.master (areas_of s)).slot p i ≡ Some x → x.generation ≤ r.master.generation
   pub blocks : (w : ℕ) → 0 < w → w ≤ length m.heads → HasNone r.master.generation m.blocks (s.area (suc w)).bytes
   pub settled : (a : ℕ) → a < 2 + length m.heads → IsSettled (s.area a)

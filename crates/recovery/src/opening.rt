@@ -19,18 +19,19 @@ ghost use Rattle.recovery.specs.Inside.{AreFormed, AreOwn, IsReadied, SavesAll, 
 ghost use Rattle.master_store.specs.Masters.{WritesOnce};
 
 use crate::master::next_master;
-use crate::pages::save_pages;
+use crate::pages::{save_pages, turn};
 use crate::prepare::{Prepared, prepare};
 use btree_node::Node;
 use disk_slots::Master;
 use lean_disk::{AreaOf, Did, Disk};
 use std::alloc::Global;
 
-/// What recovery gives: all pages, by their numbers; how many transactions are committed by the log, and how many were
+/// What recovery gives: all pages, by their numbers, and which slot of each counts; how many transactions are committed by the log, and how many were
 /// undone; and the master that was written. Its floor is the base number, above which no record and no page is.
 #[derive(Drop)]
 pub struct Recovered {
     pub pages: Vec<Node>,
+    pub slots: Vec<u32>,
     pub winners: u64,
     pub undone: u64,
     pub master: Master,
@@ -132,8 +133,10 @@ pub fn recover<D: Disk>(alloc: Global, disk: &mut D, most: u32) -> Result<Recove
     let Did::Done = write_next(disk, &master) else {
         return Err(Unrecovered::DiskFault);
     };
+    let slots = turn(it.slots, &it.changed, &it.ahead);
     Ok(Recovered {
         pages: it.pages,
+        slots,
         winners: it.winners,
         undone: it.undone,
         master,

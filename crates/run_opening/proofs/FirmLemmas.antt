@@ -1,5 +1,5 @@
 -- Which slot of a page is firm, and what is saved in a slot.
-use Rattle.std.proofs.Common.{◌≡◌, ◌⊎◌, inl, inr, ⊎_elim, ◌≤◌, ◌<◌, ℕ, Bool, true, false, cond, List, [], ◌∷◌, map, Option, Some, None, refl, sym, ap, ap₂, ◌∙◌, subst, arith, true≢false}
+use Rattle.std.proofs.Common.{◌≡◌, ◌⊎◌, inl, inr, ⊎_elim, ◌≤◌, ◌<◌, ◌-◌, ℕ, Bool, true, false, cond, List, [], ◌∷◌, map, Option, Some, None, refl, sym, ap, ap₂, ◌∙◌, subst, arith, true≢false}
 use Rattle.std.proofs.lemmas.Bool.{cases_eq, cases_lt, cond-true, cond-false}
 use Rattle.std.proofs.lemmas.Option.{none-some, same_Some}
 use Rattle.map_model.specs.Lists.{Has}
@@ -9,7 +9,7 @@ use Rattle.image_model.specs.Entries.{Contents}
 use Rattle.image_model.specs.Slots.{is_older, newer_page, valid}
 use Rattle.lean_disk.specs.Area.{Write}
 use Rattle.disk_image.specs.Shown.{slot_of}
-use Rattle.page_store.specs.Bases.{image_page}
+use Rattle.page_store.specs.Bases.{YieldsTo, image_page}
 use Rattle.page_store.specs.Saved.{IsSpared, Save, write_of}
 use Rattle.disk_runs.specs.Pages.{Firm, Yields}
 use Rattle.disk_runs.proofs.PageLemmas.{first_alone, older_is, older_true, second_alone, slotted, valid_is}
@@ -100,3 +100,24 @@ pub wrote_save : (saves : List Save) (w : Write) → Has w (map write_of saves) 
 wrote_save [] w h = absurd h
 wrote_save (x ∷ saves) w (inl e) = (x, inl refl, e)
 wrote_save (x ∷ saves) w (inr h) = let r = wrote_save saves w h in (r.0, inr r.1, r.2)
+
+-- ## The slot that counts
+
+-- of two slots, of which each counts beside the other, both are one
+module _ (f : Firm) (at : ℕ) (x : Page) where
+  never_both : (f.slot ≡ at → ⊥) → YieldsTo (record { node = x; slot = at }) f.page → Yields f x → ⊥
+  never_both ne (inl (inl a)) (inl (inl b)) = omega arith
+  never_both ne (inl (inl a)) (inl (inr b)) = let e = b.0 in omega arith
+  never_both ne (inl (inl a)) (inr b) = let e = b.1 in omega arith
+  never_both ne (inl (inr a)) (inl (inl b)) = let e = a.0 in omega arith
+  never_both ne (inl (inr a)) (inl (inr b)) = let k = a.1 in let l = b.1 in omega arith
+  never_both ne (inl (inr a)) (inr b) = let k = a.1 in let l = b.2 in omega arith
+  never_both ne (inr a) (inl (inl b)) = let e = a.1 in omega arith
+  never_both ne (inr a) (inl (inr b)) = let k = a.2 in let l = b.1 in omega arith
+  never_both ne (inr a) (inr b) = ne (b.0 ∙ sym a.0)
+
+  pub one_counts : f.slot < 2 → at < 2 → (f.slot ≡ 1 - at → YieldsTo (record { node = x; slot = at }) f.page) → (at ≡ 1 - f.slot → Yields f x) → f.slot ≡ at
+  one_counts half low one two = elim (cases_eq f.slot at) [
+    | inl e ↦ e
+    | inr ne ↦ absurd (never_both ne (one (omega arith)) (two (omega arith)))
+  ]

@@ -1,11 +1,12 @@
 -- A run begins where recovery ends.
-use Rattle.std.proofs.Common.{◌≡◌, ◌⊎◌, inl, inr, ⊎_elim, ◌≤◌, ◌<◌, ◌-◌, ◌*◌, ◌%◌, ℕ, suc, List, [], ◌∷◌, length, map, replicate, get_or, Option, Some, refl, sym, ap, ◌∙◌, subst, arith}
+use Rattle.std.proofs.Common.{◌≡◌, ◌⊎◌, inl, inr, ⊎_elim, ◌≤◌, ◌<◌, ◌-◌, ◌*◌, ◌%◌, ℕ, suc, List, [], ◌∷◌, length, map, replicate, get_or, Option, Some, slice_get, refl, sym, ap, ◌∙◌, subst, arith}
 use Rattle.std.proofs.lemmas.Bool.{cases_eq, cases_lt}
 use Rattle.std.proofs.lemmas.List.{length-replicate, get_or-replicate}
-use Rattle.std.proofs.lemmas.Option.{same_Some}
+use Rattle.std.proofs.lemmas.Option.{same_Some, slice_get-get_or}
 use Rattle.std.proofs.Math.Nat.{zero-mod}
 use Rattle.map_model.specs.Lists.{Has}
-use Rattle.page_model.specs.Page.{Page}
+use Rattle.page_model.specs.Nodes.{free}
+use Rattle.page_model.specs.Page.{Page, new_page}
 use Rattle.image_model.specs.Entries.{Contents, Entry}
 use Rattle.image_model.specs.Images.{Image, bases, recovered_page, sorted}
 use Rattle.core_state.specs.Openings.{Opening, start_page}
@@ -37,7 +38,7 @@ use Rattle.disk_runs.specs.Pages.{Firm, IsBehind, Yields}
 use Rattle.disk_runs.proofs.PageLemmas.{slotted}
 use Rattle.disk_runs.proofs.SlotLemmas.{master_own, own_more, saves_own}
 use Rattle.run_opening.specs.Starts.{EveryStart, IsStart, Starts, empty_log}
-use Rattle.run_opening.proofs.FirmLemmas.{Counts, base_of_two, counts, find_save, firm_of, wrote_save}
+use Rattle.run_opening.proofs.FirmLemmas.{Counts, base_of_two, counts, find_save, firm_of, one_counts, wrote_save}
 
 -- ## The base number
 
@@ -126,6 +127,16 @@ module _ (s0 s : Story) (m : Master) (r : Recovered) (g : Opening) (log : ℕ �
 
   start_of : (p : ℕ) → p < m.pages → image_page (firm p).page ≡ start_page g p
   start_of p lt = (count p lt).is ∙ sym (is.opening.pages p lt)
+
+  -- the slot that recovery gives
+  given_slot : (p : ℕ) → p < m.pages → (firm p).slot ≡ get_or r.slots.items p 0
+  given_slot p lt =
+      let d : Page = new_page p free in
+      let here : slice_get r.pages.items p ≡ Some (get_or r.pages.items p d) = slice_get-get_or r.pages.items p d (let k = is.recovered.count in omega arith) in
+      let c = is.opened.counts p (get_or r.pages.items p d) here in
+      one_counts (firm p) (get_or r.slots.items p 0) c.node (half_of p lt) (is.whole.halves p (let k = pages in omega arith))
+      (λ e. c.other (firm p).page (subst (λ (k : ℕ). page_slot_in m.pages p k bytes ≡ Some (firm p).page) e (there_of p lt)))
+      (λ e. spare_of p lt c.node (subst (λ (k : ℕ). page_slot_in m.pages p k bytes ≡ Some c.node) e c.there))
 
   -- what stands in a slot now
   now_may : (p i : ℕ) → p < m.pages → i < 2 → (y : Page) → page_slot_in m.pages p i bytes ≡ Some y → MayBe g n.generation p (firm p) y
@@ -281,7 +292,7 @@ module _ (s0 s : Story) (m : Master) (r : Recovered) (g : Opening) (log : ℕ �
     }
 
     pub starts : EveryOpened s → Starts g r log c s
-    starts every_opened = record { firm = firm; opens = opens; stands = every_opened c g r.master log firm opens }
+    starts every_opened = record { firm = firm; opens = opens; stands = every_opened c g r.master log firm opens; slots = λ p lt. given_slot p (let k = pages in omega arith) }
 
 pub every_start : (s : Story) → EveryOpened s → (s0 : Story) → EveryStart s0 s
 every_start s every_opened s0 m r g log c read is = starts s0 s m r g log is c read every_opened

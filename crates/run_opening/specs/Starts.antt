@@ -1,5 +1,5 @@
 -- A run begins on a disk that recovery has opened: what recovery's clauses give, and the logs as they are made.
-use Rattle.std.specs.Prelude.{◌≡◌, ◌<◌, ◌≤◌, ℕ, suc, [], length}
+use Rattle.std.specs.Prelude.{◌≡◌, ◌<◌, ◌≤◌, ℕ, suc, [], length, slice_index}
 use Rattle.core_state.specs.Openings.{Opening}
 use Rattle.lean_disk.specs.Area.{Area}
 use Rattle.lean_disk.specs.Story.{Crash, Story, areas_of}
@@ -46,6 +46,8 @@ pub record Starts (g : Opening) (r : Recovered) (log : ℕ → Log) (c : Crash) 
   pub firm : ℕ → Firm
   pub opens : Opens g c r.master log firm s
   pub stands : Stands g [] c (opened r.master log firm s) s
+  -- the firm slot of each page is the one that recovery gives
+  pub slots : (p : ℕ) → p < r.master.pages → (firm p).slot ≡ slice_index r.slots.items p
 
 abbrev pub EveryStart : (s0 s : Story) → Type 0
 EveryStart s0 s = (m : Master) (r : Recovered) (g : Opening) (log : ℕ → Log) (c : Crash) → IsAsRead s0 c → IsStart m r g log s0 s → Starts g r log c s

@@ -88,7 +88,7 @@ same_areas s new e = λ i a. sym (e a) i
 opened_on : (m : Master) (area : Areas) (r : Recovered) (s new : Story) → ((a : ℕ) → new.area a ≡ s.area a) → IsOpened m area r s → IsOpened m area r new
 opened_on m area r s new e x =
     let y : IsOpened m area r (record s { area = new.area }) = subst (λ (areas : ℕ → Area). IsOpened m area r (record s { area = areas })) (same_areas s new e) x in
-    record { master = y.master; base = y.base; held = y.held; slots = y.slots; blocks = y.blocks; settled = y.settled }
+    record { master = y.master; base = y.base; held = y.held; counts = y.counts; slots = y.slots; blocks = y.blocks; settled = y.settled }
 
 installed_on : (m : Master) (r : Recovered) (s0 s new : Story) → ((a : ℕ) → new.area a ≡ s.area a) → HasInstalled m r s0 s → HasInstalled m r s0 new
 installed_on m r s0 s new e x =

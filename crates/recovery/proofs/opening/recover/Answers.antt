@@ -1,7 +1,8 @@
-use Rattle.std.proofs.Common.{◌≡◌, ◌^◌, ◌<◌, ◌≤◌, ◌+◌, ℕ, suc, length, refl, ap, subst, ◌∙◌, arith}
+use Rattle.std.proofs.Common.{◌≡◌, ◌^◌, ◌<◌, ◌≤◌, ◌+◌, ℕ, suc, Bool, List, length, refl, ap, subst, ◌∙◌, arith}
 use Rattle.std.proofs.lemmas.List.{length-replicate}
 use Rattle.lean_disk.specs.Story.{Tells}
 use Rattle.disk_slots.specs.declared.master.Master.{Master}
+use Rattle.recovery.specs.Inside.{IsTurned}
 use Rattle.recovery.specs.Masters.{next_master}
 use Rattle.recovery.proofs.ClauseLemmas.{answers, installs, opens, saved_moments, wholes, written_moments}
 use Rattle.recovery.proofs.opening.recover.Goals as goal
@@ -34,6 +35,10 @@ returns-clause-any_moment g c m t clean =
     (((g.met.D.Disk g.world.𝓛 g.world.𝓜 g.world.𝓡 ((λ s x. x), (λ x. x), (λ x. x), (λ x. x))).whole c.prepare.new.disk) 1) clean
     (story c.save_changed.new.disk) c.save_changed.result c.save_changed.ensures.saves c.in-Done.is wide next.result next.ensures.answer (story c.write_next.new.disk) c.write_next.ensures.any_moment
 
+-- the marks are those of the pages
+turned_by : (changed marks ahead others : List Bool) (old new : List ℕ) → marks ≡ changed → others ≡ ahead → IsTurned marks others old new → IsTurned changed ahead old new
+turned_by changed marks ahead others old new one two is = subst (λ bs. IsTurned changed bs old new) two (subst (λ bs. IsTurned bs others old new) one is)
+
 pub returns-clause-opened : goal.returns-clause-opened
 returns-clause-opened g c t m clean =
     let story = g.D.Disk.story in
@@ -46,7 +51,7 @@ returns-clause-opened g c t m clean =
     let told : Tells s6 0 = c.save_changed.ensures.frame.tells 0 ∙ (e.settles.tells 0 ∙ t.master) in
     opens c.in-Ok.it e.readied e.openable s0 s4 c.args.most e.settles t e.settled (e.prepared t) m
     (((g.met.D.Disk g.world.𝓛 g.world.𝓜 g.world.𝓡 ((λ s x. x), (λ x. x), (λ x. x), (λ x. x))).whole c.prepare.new.disk) 1) clean
-    s6 c.save_changed.result c.save_changed.ensures.saves c.in-Done.is wide next.result next.ensures.answer (story c.write_next.new.disk) c.write_next.ensures.frame (c.write_next.ensures.done (c.in-Done-write_next).is told) _ refl refl
+    s6 c.save_changed.result c.save_changed.ensures.saves c.in-Done.is wide next.result next.ensures.answer (story c.write_next.new.disk) c.write_next.ensures.frame (c.write_next.ensures.done (c.in-Done-write_next).is told) _ refl refl e.marks (e.ahead t) (turned_by c.in-Ok.it.changed.items c.deref.result.now c.in-Ok.it.ahead.items c.deref-2.result.now c.in-Ok.it.slots.items c.turn-slots.result.items c.deref.ensures.value c.deref-2.ensures.value c.turn-slots.ensures)
 
 pub returns-clause-installed : goal.returns-clause-installed
 returns-clause-installed g c t m counts =
@@ -69,7 +74,7 @@ pub returns-clause-whole : goal.returns-clause-whole
 returns-clause-whole g c =
     let next = c.next_master-master in
     let wide : c.in-Ok.it.base < 2 ^ 64 = subst (λ (k : Master). k.floor < 2 ^ 64) next.ensures.answer next.ensures.wide in
-    wholes c.in-Ok.it c.in-Ok.ensures.readied c.in-Ok.ensures.openable _ refl refl refl next.ensures.answer wide
+    wholes c.in-Ok.it c.in-Ok.ensures.readied c.in-Ok.ensures.openable _ refl refl refl next.ensures.answer wide (turned_by c.in-Ok.it.changed.items c.deref.result.now c.in-Ok.it.ahead.items c.deref-2.result.now c.in-Ok.it.slots.items c.turn-slots.result.items c.deref.ensures.value c.deref-2.ensures.value c.turn-slots.ensures)
 
 -- the next master has as many logs
 as_many : (m : Master) (base : ℕ) (next : Master) → next ≡ next_master m base → length next.heads ≡ length m.heads

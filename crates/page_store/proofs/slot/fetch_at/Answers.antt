@@ -1,19 +1,16 @@
-use Rattle.std.proofs.Common.{◌≡◌, ◌+◌, ◌*◌, ℕ, List, take, ◌∙◌, ap}
-use Rattle.image_model.specs.Fair.{piece}
+use Rattle.std.proofs.Common.{◌≡◌, ◌+◌, ◌*◌, ℕ, List, take, subst}
 use Rattle.lean_disk.proofs.MomentLemmas.{reads_none, reads_more}
-use Rattle.disk_image.specs.PageSlots.{page_in}
-use Rattle.page_store.specs.Inside.{valid_page}
+use Rattle.page_store.specs.Slots.{HoldsIn, slot_bytes}
 use Rattle.page_store.proofs.PieceLemmas.{read_piece}
-use Rattle.page_store.proofs.base.read_slot.Goals as goal
+use Rattle.page_store.proofs.slot.fetch_at.Goals as goal
 
 pub returns-clause-answer : goal.returns-clause-answer
 returns-clause-answer g c told =
     let s = g.P.Part.story c.args.dev.now in
     let bytes : List ℕ = (s.area (g.P.Part.seat c.args.dev.now).area).bytes in
-    let m = c.args.master.now in
-    let read : take c.in-Got.n c.read.new.into ≡ piece 1024 (2 * c.args.page + c.args.slot) bytes =
+    let read : take c.in-Got.n c.read.new.into ≡ slot_bytes c.args.page c.args.slot bytes =
     read_piece c.args.page c.args.slot c.in-Got.n bytes c.args.buffer.now c.read.new.into c.requires.room (c.in-Got.ensures.looked.bytes told) in
-    c.take_valid.ensures.answer ∙ ap (λ (b : List ℕ). valid_page m.generation (page_in c.args.page m.pages b)) read
+    subst (λ (b : List ℕ). HoldsIn c.args.bounds c.args.page b c.take_page.result) read c.take_page.ensures.answer
 
 pub returns-clause-reads : goal.returns-clause-reads
 returns-clause-reads g c =

@@ -1,0 +1,3 @@
+pub mod Knowing
+pub mod Saving
+pub mod Loading

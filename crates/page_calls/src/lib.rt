@@ -1,0 +1,19 @@
+//! The pages of a disk in the words of a run of the core: what is known of each page's slots, a page saved, all saves synced, a page
+//! loaded.
+//!
+//! Read specs/Slots, then specs/Calls.
+#![tactic(auto)]
+
+ghost use Rattle.page_calls.specs.Calls.{EveryOn};
+
+mod calls;
+mod slots;
+
+pub use calls::{load, save, settle};
+use lean_disk::Disk;
+pub use slots::{Slot, Slots};
+
+/// What is known of the slots where a run begins.
+pub fn every_on<D: Disk>(now: &D)
+    ensures { EveryOn (D.story now.now) }
+{}
