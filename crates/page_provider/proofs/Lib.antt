@@ -1,0 +1,11 @@
+pub mod Standing
+pub mod Pools
+pub mod Keeping
+pub mod Running
+pub mod Departures
+pub mod Glances
+pub mod Saves
+pub mod Outcomes
+pub mod Writing
+pub mod Savings
+pub mod Parts

@@ -1,0 +1,36 @@
+-- The laws of the crates below on which the pager's calls rest.
+use Rattle.lean_proto.specs.Controls.{EveryLoad}
+use Rattle.lean_proto.specs.Still.{EveryStood}
+use Rattle.row_image.specs.Images.{EveryStay}
+use Rattle.row_opening.specs.Openings.{EveryNeed, EveryReached}
+use Rattle.page_pool.specs.Counts.{EveryFrame}
+use Rattle.page_pool.specs.Pools.{EveryPool, EveryStanding}
+use Rattle.disk_slots.specs.Laws.{EveryPage}
+use Rattle.disk_image.specs.Laws.{EverySealed}
+use Rattle.worker_log.specs.Laws.{EveryKept, EveryPrefix}
+use Rattle.core_disk.specs.Versions.{EveryVersion}
+use Rattle.disk_runs.specs.Masters.{EveryMasterLine}
+use Rattle.disk_runs.specs.Moments.{EveryAmong}
+use Rattle.disk_runs.specs.Quiet.{EveryQuiet}
+
+-- of rows, and of what the pager knows of them
+pub record RowLaws : Type 0 where
+  pub stood : EveryStood
+  pub loads : EveryLoad
+  pub stays : EveryStay
+  pub reached : EveryReached
+  pub needs : EveryNeed
+  pub pools : EveryPool
+  pub standing : EveryStanding
+  pub counts : EveryFrame
+  pub pages : EveryPage
+
+-- of the disk under a run
+pub record DiskLaws : Type 0 where
+  pub versions : EveryVersion
+  pub kept : EveryKept
+  pub prefixes : EveryPrefix
+  pub seals : EverySealed
+  pub quiet : EveryQuiet
+  pub among : EveryAmong
+  pub lines : EveryMasterLine

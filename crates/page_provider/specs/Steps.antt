@@ -1,0 +1,27 @@
+-- How a call of the pager goes on from what its seat knew.
+use Rattle.std.specs.Prelude.{◌≡◌, List, [], ◌∷◌}
+use Rattle.row_words.specs.declared.event.Event.{Event}
+use Rattle.row_words.specs.declared.event.Event.TheVariants.{Miss}
+use Rattle.rows_trait.specs.declared.view.View.{View}
+use Rattle.rows_trait.specs.Views.{Shape}
+use Rattle.rows_trait.specs.Turns.{Ran}
+use Rattle.page_provider.specs.Providers.{Provider, Keeps}
+
+-- The seat has appended these events and holds no row, and the pager, whose memory is this now, agrees with what it has
+-- seen by then.
+pub record Goes (z : Shape) (v : View) (es : List Event) (u : View) (k : Provider) : Type 0 where
+  pub ran : Ran z.alone v es u
+  pub held : u.held ≡ []
+  pub keeps : Keeps z u k
+
+-- each of the events is a miss
+abbrev pub AreMisses : List Event → Type 0
+AreMisses [] = Unit {0}
+AreMisses (Miss w ∷ es) = AreMisses es
+AreMisses (_ ∷ es) = ⊥
+
+-- one miss at most
+abbrev pub IsMissAtMost : List Event → Type 0
+IsMissAtMost [] = Unit {0}
+IsMissAtMost (Miss w ∷ []) = Unit {0}
+IsMissAtMost _ = ⊥

@@ -1,0 +1,25 @@
+// What the pager's calls rest on.
+ghost use Rattle.page_provider.specs.Laws.{DiskLaws, RowLaws};
+
+// The laws of rows, of what the pager knows of them, and of the disk under a run.
+pub(crate) fn laws()
+    ensures rows { RowLaws }
+    ensures disk { DiskLaws }
+{
+    lean_proto::every_stood();
+    lean_proto::every_load();
+    row_image::every_stay();
+    row_opening::every_reached();
+    row_opening::every_need();
+    page_pool::every_pool();
+    page_pool::every_standing();
+    page_pool::every_frame();
+    disk_slots::every_page();
+    core_disk::every_version();
+    worker_log::every_kept();
+    worker_log::every_prefix();
+    disk_image::every_sealed();
+    disk_runs::every_quiet();
+    disk_runs::every_among();
+    disk_runs::every_master_line();
+}

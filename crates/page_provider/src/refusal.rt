@@ -1,0 +1,31 @@
+//! Why the pager refused.
+use version_latch::{Latched, Moved};
+
+#[derive(Clone, Copy)]
+pub enum Refusal {
+    /// A row had another version at the second look than at the first.
+    Moved(Moved),
+    /// A row was held by another seat.
+    Latched(Latched),
+    /// No frame can be given: each has a page of the path, or is latched, or its page is above what is flushed
+    /// everywhere, or waits for a worker.
+    PoolFull {
+        path: u32,
+        latched: u32,
+        above: u32,
+        held: u32,
+    },
+    /// Fewer pages are free than were asked for.
+    NoPages,
+    /// Neither slot of the page holds it.
+    Damaged {
+        page: u32,
+    },
+    DiskFault,
+    /// The version of the row has come to the last one, or the global epoch has.
+    RowSpent {
+        row: u32,
+    },
+    /// An earlier call met a damaged page or a fault of the device.
+    Broken,
+}
