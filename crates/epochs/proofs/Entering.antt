@@ -1,10 +1,10 @@
 -- A worker enters and leaves.
-use Rattle.std.proofs.Common.{◌≡◌, ◌<◌, ◌≤◌, ◌^◌, ℕ, suc, inl, inr, true, [], ◌∷◌, ◌++◌, Some, None, refl, sym, subst, ◌∙◌, arith}
+use Rattle.std.proofs.Common.{◌≡◌, ◌<◌, ◌≤◌, ◌^◌, ◌+◌, ℕ, suc, inl, inr, true, [], ◌∷◌, ◌++◌, Some, None, refl, sym, subst, ◌∙◌, arith}
 use Rattle.std.proofs.lemmas.Bool.{cases_lt}
 use Rattle.core_state.specs.Needs as core
 use Rattle.core_state.specs.Needs.{is_worker}
 use Rattle.row_words.specs.declared.event.Event.{Event}
-use Rattle.row_words.specs.declared.event.Event.TheVariants.{Enter, Leave}
+use Rattle.row_words.specs.declared.event.Event.TheVariants.{Enter, Leave, Tick}
 use Rattle.row_words.specs.declared.given.Given.{Given}
 use Rattle.row_words.specs.Moments.{event_of}
 use Rattle.row_words.specs.Openings.{opening}
@@ -13,8 +13,8 @@ use Rattle.rows_trait.specs.Views.{Shape, after_all, state}
 use Rattle.rows_trait.specs.Turns.{Heard, Turned, Ran}
 use Rattle.rows_trait.proofs.Runs.{ran_goes, ran_append}
 use Rattle.version_latch.proofs.Keeping.{may_ran}
-use Rattle.lean_proto.specs.Controls.{IsEnter, IsLeave, Entered, EveryEpoch}
-use Rattle.epochs.specs.Epochs.{IsInside, IsOutside, HasEntered, HasLeft, Met}
+use Rattle.lean_proto.specs.Controls.{IsTick, IsEnter, IsLeave, Entered, EveryEpoch}
+use Rattle.epochs.specs.Epochs.{HasTicked, IsInside, IsOutside, HasEntered, HasLeft, Met}
 
 pub heard_ran : (z : Shape) (c i n : ℕ) (v u : View) → Heard z c i (λ _. []) v n u → Ran z.alone v [] u
 heard_ran z c i n v u h = ran_goes z v [] u tt h.goes
@@ -72,3 +72,8 @@ module _ (every : EveryEpoch) (z : Shape) (v : View) (w : ℕ) (o : IsInside z v
         met = met_at z v v x (Leave w) w 2 k (λ _. 2 ^ 63) w None refl t done;
         inside = done.inside;
       }
+
+-- ## A tick
+
+pub has_ticked : (z : Shape) (v : View) (k : ℕ) (x : View) → IsTick z v → Turned z 0 0 (λ n. n + 1) (λ _. Tick ∷ []) v k x → HasTicked z v x
+has_ticked z v k x i t = record { ran = ran_goes z v (Tick ∷ []) x (i.actor, tt) t.goes; held = t.held }

@@ -5,7 +5,7 @@ use Rattle.core_state.specs.Needs.{is_worker, is_inside}
 use Rattle.core_state.specs.States.{epoch_of, waits_for}
 use Rattle.core_paging.specs.Paging.{Waiting}
 use Rattle.row_words.specs.declared.event.Event.{Event}
-use Rattle.row_words.specs.declared.event.Event.TheVariants.{Enter, Leave}
+use Rattle.row_words.specs.declared.event.Event.TheVariants.{Enter, Leave, Tick}
 use Rattle.row_words.specs.Moments.{event_of, pager}
 use Rattle.row_words.specs.Openings.{opening}
 use Rattle.rows_trait.specs.declared.view.View.{View}
@@ -59,6 +59,11 @@ pub record IsStamp (z : Shape) (v : View) (epoch : ℕ) (u : View) : Type 0 wher
   pub ran : Ran z.alone v [] u
   pub held : u.held ≡ v.held
   pub epoch_is : (state u).core.epoch ≡ epoch
+
+-- the global epoch has gone on
+pub record HasTicked (z : Shape) (v u : View) : Type 0 where
+  pub ran : Ran z.alone v (Tick ∷ []) u
+  pub held : u.held ≡ v.held
 
 -- Only the seat itself cools pages; at every moment whoever a page waits for is inside; and the global epoch is below
 -- 2^63.

@@ -1,8 +1,10 @@
 // Whether an epoch is ripe.
 ghost use Rattle.std.specs.Prelude.{◌≡◌, true};
-ghost use Rattle.epochs.specs.Epochs.{Ripens, Unwaited, IsStamp, IsJudge, IsDeserted};
+ghost use Rattle.epochs.specs.Epochs.{Ripens, Unwaited, IsStamp, IsJudge, IsDeserted, HasTicked};
+ghost use Rattle.lean_proto.specs.Controls.{IsTick};
 ghost use Rattle.epochs.specs.declared.judging.Ripeness.TheVariants.{Yes};
 
+use crate::events::Ticks;
 use lean_proto::{every_epoch, every_stood};
 use rows_trait::names::Nothing;
 use rows_trait::rows::Rows;
@@ -26,6 +28,17 @@ pub fn stamp<R: Rows>(rows: &mut R, seat: &mut R::Seat) -> u64
 {
     every_epoch();
     rows.load_control(seat, 0, 0, &Nothing)
+}
+
+/// The global epoch goes on by one.
+pub fn tick<R: Rows>(rows: &mut R, seat: &mut R::Seat)
+    requires fits { R.fits rows.old seat.old }
+    requires tick { IsTick (R.shape rows.old) (R.view seat.old) }
+    ensures fits { R.fits rows.new seat.new × (R.shape rows.new ≡ R.shape rows.old) }
+    ensures after { HasTicked (R.shape rows.old) (R.view seat.old) (R.view seat.new) }
+{
+    every_epoch();
+    rows.tick(seat, &Ticks);
 }
 
 /// Whether a page that cools since an epoch, or an earlier one, waits for no worker: whoever was inside when it began

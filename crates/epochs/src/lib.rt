@@ -7,4 +7,4 @@ mod inside;
 mod judging;
 
 pub use inside::{enter, leave};
-pub use judging::{Ripeness, ripe, stamp};
+pub use judging::{Ripeness, ripe, stamp, tick};

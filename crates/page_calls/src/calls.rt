@@ -3,10 +3,11 @@ ghost use Rattle.std.specs.Prelude.{◌≡◌, ◌<◌, ◌^◌, ℕ, length, tr
 ghost use Rattle.lean_disk.specs.Faults.{HasCause};
 ghost use Rattle.lean_disk.specs.Moments.{Framed, OnlyReads};
 ghost use Rattle.lean_disk.specs.Story.{Tells};
-ghost use Rattle.page_store.specs.Slots.{IsOf};
+ghost use Rattle.page_store.specs.Slots.{HoldsIn, IsOf, slot_bytes};
+ghost use Rattle.page_store.specs.declared.slot.Held.{Held};
 ghost use Rattle.page_store.specs.declared.slot.Seal.{Seal};
 ghost use Rattle.page_calls.specs.declared.slots.Slot.{Slot};
-ghost use Rattle.page_calls.specs.Slots.{saved_slot, settled_slot};
+ghost use Rattle.page_calls.specs.Slots.{last_slot, saved_slot, settled_slot};
 ghost use Rattle.page_calls.specs.Calls.{IsDamaged, KeepsMoments, KeepsWithin, LoadsOn, ReadsOn, SavesMoments, SavesOn, SettlesOn, bounds_of};
 
 use crate::slots::{Slots, last_slot};
@@ -90,6 +91,8 @@ pub fn load<P: Part>(
     requires room { length buffer.old ≡ 1024 }
     ensures answer { LoadsOn slots.now generation page result (P.story dev.old) }
     ensures own { IfOk result (IsOf (bounds_of slots.now generation) page) }
+    ensures given { IfOk result (λ node. Tells (P.story dev.old) 1 → (slot : Slot) → slice_get slots.now page ≡ Some slot →
+        HoldsIn (bounds_of slots.now generation) page (slot_bytes page (last_slot slot) ((P.story dev.old).area 1).bytes) (Held.Page node)) }
     ensures stands { ReadsOn slots.now (P.story dev.old) (P.story dev.new) }
     ensures any_moment { KeepsMoments slots.now (P.story dev.old) (P.story dev.new) }
     ensures reads { OnlyReads (P.story dev.old) (P.story dev.new) }

@@ -52,7 +52,7 @@ pub fn every_frame()
 {}
 
 /// Where a turn has found no page to cool and none of the queue can be evicted, each frame has a page of the way, or one
-/// whose number is above what is flushed everywhere, or one that waits for a worker.
+/// whose number is above what is flushed everywhere, or one that is held back by a worker.
 pub fn every_full()
     ensures { EveryFull }
 {}

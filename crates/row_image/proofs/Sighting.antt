@@ -65,7 +65,7 @@ module _ {alone : Bool} {v v1 u w : View} (g : Glimpse) (b : Begun alone g.row g
       pub here : Here w.given (state w) g.row hint lt (a.shown 126 hint hint_known) words long (λ i l. a.shown i (slice_index words i) (words_known i l)) sound_w
       here = page_here w.given (state w) g.row hint lt (a.shown 126 hint hint_known) words long (λ i l. a.shown i (slice_index words i) (words_known i l)) sound_w unmarked
 
-      pub is_sight : (n : stored.Page) → Spells words n → IsSight alone g.row v (record { glimpse = g; node = n }) w
+      pub is_sight : (n : stored.Page) → Spells words n → IsSight alone g.row v (record { glimpse = g; hint = hint; node = n }) w
       is_sight n s = record {
         ran = all_watched.ran;
         of_row = refl;

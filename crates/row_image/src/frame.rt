@@ -59,7 +59,11 @@ pub fn sight<R: Rows>(
             let Some(node) = Node::from_words(words) else {
                 unreachable!()
             };
-            Ok(Some(Sight { glimpse, node }))
+            Ok(Some(Sight {
+                glimpse,
+                hint,
+                node,
+            }))
         }
     }
 }

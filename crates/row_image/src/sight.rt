@@ -16,10 +16,11 @@ use swips::Swip;
 use version_latch::Glimpse;
 
 /// A page that stands hot in a frame row, as it stands there (it names its children by swips), and the version of the row from which it
-/// was taken.
+/// was taken. `hint` is the word of the row that may name the frame of the node above.
 #[derive(Drop)]
 pub struct Sight {
     pub glimpse: Glimpse,
+    pub hint: u64,
     pub node: Node,
 }
 
