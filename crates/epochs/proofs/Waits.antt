@@ -20,7 +20,7 @@ use Rattle.epochs.specs.Epochs.{IsJudge, IsStamp, IsDeserted, Unwaited}
 use Rattle.epochs.proofs.Entering.{heard_ran}
 
 pub is_stamp : EveryEpoch → (z : Shape) (n : ℕ) (v u : View) → Heard z 0 0 (λ _. []) v n u → IsStamp z v n u
-is_stamp every z n v u h = record { ran = heard_ran z 0 0 n v u h; held = h.held; epoch_is = (every z v 0).epoch (λ _. []) n u h }
+is_stamp every z n v u h = record { ran = heard_ran z 0 0 n v u h; held = h.held; steps = h.steps; epoch_is = (every z v 0).epoch (λ _. []) n u h }
 
 -- the pager's seat, or the only one, over steps that append nothing
 is_still : (alone : Bool) (v : View) → may alone v pager ≡ true → IsStill alone v []

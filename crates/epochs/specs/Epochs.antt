@@ -54,10 +54,11 @@ pub record HasLeft (z : Shape) (v : View) (w : ℕ) (u : View) : Type 0 where
 
 -- ## Ripe
 
--- nothing was appended, and this is the global epoch
+-- nothing was appended, and this is the global epoch, which alone was loaded
 pub record IsStamp (z : Shape) (v : View) (epoch : ℕ) (u : View) : Type 0 where
   pub ran : Ran z.alone v [] u
   pub held : u.held ≡ v.held
+  pub steps : u.steps ≡ Hear 0 0 epoch ∷ v.steps
   pub epoch_is : (state u).core.epoch ≡ epoch
 
 -- the global epoch has gone on

@@ -11,8 +11,9 @@ use Rattle.rows_trait.specs.declared.view.View.{View}
 use Rattle.rows_trait.specs.Layout.{width}
 use Rattle.rows_trait.specs.Views.{Shape, Knows, hold, holds, held_at, latest, may, state}
 use Rattle.rows_trait.specs.Views as rows
+use Rattle.rows_trait.specs.Causes.{HasFound}
 use Rattle.rows_trait.specs.Turns.{Goes, Taken}
-use Rattle.rows_trait.proofs.Causes.{found_after}
+use Rattle.rows_trait.proofs.Causes.{found_after, looked_found}
 use Rattle.rows_trait.proofs.Runs.{ran_goes}
 use Rattle.version_latch.specs.Named.{checked}
 use Rattle.version_latch.specs.Unheld.{NotHeld}
@@ -94,6 +95,8 @@ module _ (z : Shape) (v w : View) (actor : ℕ) (s : Sight) where
     held = h.2.looked.held;
     of_row = h.0;
     seen = h.1;
+    unequal = λ e. h.2.other (e ∙ h.1);
+    looked = subst (λ q. HasFound q m.found v w) (sym h.0) (looked_found z s.glimpse.row m.found (checked actor s.glimpse.version) v w h.2.looked);
     cause = h.3;
   }
   unheld own RowSpent h = h

@@ -74,6 +74,8 @@ pub record IsBehind (alone : Bool) (actor : ℕ) (s : Sight) (v : View) (m : two
   pub held : w.held ≡ v.held
   pub of_row : m.row ≡ s.glimpse.row
   pub seen : m.seen ≡ s.glimpse.version
+  pub unequal : m.found ≢ m.seen
+  pub looked : HasFound m.row m.found v w
   pub cause : (u : View) → HasFound s.glimpse.row s.glimpse.version u v → HasMoved m.row m.seen m.found u w
 
 -- why the row was not latched: its latch was another number, or its version has come to the last one, and then nothing was done
