@@ -97,6 +97,13 @@ module _ (slots : List Slot) (s : Slot) (generation p : ℕ) (there : slice_get 
     sound = λ counts other e. never counts other e (one (bounds_of slots generation) p here counts seal.Valid (why counts other e (told s0 g es x on same)) (valid s0 g es x on same));
   }
 
+pub held_is : (s0 : Crash) (g : Opening) (es : List Event) (x : Known) (slots : List Slot) (generation p : ℕ) (slot : Slot) (y : Page) (now : Story) → IsOn g es s0 x slots now → p < length slots → slice_get slots p ≡ Some slot
+    → HoldsIn (bounds_of slots generation) p (slot_bytes p (last_slot slot) (now.area 1).bytes) (held.Page y) → image_page y ≡ (state_after g es).saved p
+held_is s0 g es x slots generation p slot y now on few there holds =
+    let last = lasts slots slot p there few s0 g es x now on in
+    let read : page_in p (length slots) (slot_bytes p (last_slot slot) (now.area 1).bytes) ≡ Some (last_saved (x.firm p) (x.late p)) = ap (λ (k : ℕ). page_in p k (slot_bytes p (last_slot slot) (now.area 1).bytes)) on.knows.count ∙ last.there in
+    ap image_page (same_Some y (last_saved (x.firm p) (x.late p)) (sym holds.0 ∙ read)) ∙ saved_is slots slot p there few s0 g es x now on
+
 -- ## What is only read
 
 pub reads_on : (slots : List Slot) (old new : Story) → OnlyReads old new → ReadsOn slots old new

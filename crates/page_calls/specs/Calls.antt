@@ -10,7 +10,8 @@ use Rattle.lean_disk.specs.Moments.{CrashIn, LeavesOnly}
 use Rattle.lean_disk.specs.Story.{Crash, Story}
 use Rattle.disk_slots.specs.Pages.{IsPage}
 use Rattle.page_store.specs.Bases.{image_page}
-use Rattle.page_store.specs.Slots.{HasSeal, slot_bytes}
+use Rattle.page_store.specs.Slots.{HasSeal, HoldsIn, slot_bytes}
+use Rattle.page_store.specs.declared.slot.Held.TheVariants as held
 use Rattle.page_store.specs.declared.known.Lost.{Lost}
 use Rattle.page_store.specs.declared.known.Lost.TheVariants as lost
 use Rattle.page_store.specs.declared.slot.Bounds.{Bounds}
@@ -94,6 +95,11 @@ pub record IsDamaged (slots : List Slot) (generation p : ℕ) (bytes : List ℕ)
   pub counts_is : HasSeal (bounds_of slots generation) p (slot_bytes p (last_slot slot) bytes) counts
   pub other_is : HasSeal (bounds_of slots generation) p (slot_bytes p (1 - last_slot slot) bytes) other
   pub not_valid : counts ≡ seal.Valid → ⊥
+
+-- What the slot of a page that was written last holds, if it holds a page, is the page as it is saved.
+abbrev pub EveryHeld : (s : Story) → Type 0
+EveryHeld s = (s0 : Crash) (g : Opening) (es : List Event) (x : Known) (slots : List Slot) (generation p : ℕ) (slot : Slot) (y : Page) → IsOn g es s0 x slots s → p < length slots → slice_get slots p ≡ Some slot
+    → HoldsIn (bounds_of slots generation) p (slot_bytes p (last_slot slot) (s.area 1).bytes) (held.Page y) → image_page y ≡ (state_after g es).saved p
 
 -- ## A start
 

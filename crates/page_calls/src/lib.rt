@@ -4,16 +4,21 @@
 //! Read specs/Slots, then specs/Calls.
 #![tactic(auto)]
 
-ghost use Rattle.page_calls.specs.Calls.{EveryOn};
+ghost use Rattle.page_calls.specs.Calls.{EveryHeld, EveryOn};
 
 mod calls;
 mod slots;
 
 pub use calls::{load, save, settle};
-use lean_disk::Disk;
+use lean_disk::{Disk, Part};
 pub use slots::{Slot, Slots};
 
 /// What is known of the slots where a run begins.
 pub fn every_on<D: Disk>(now: &D)
     ensures { EveryOn (D.story now.now) }
+{}
+
+/// Where a run stands, the slot of a page that was written last holds the page as it is saved.
+pub fn every_held<P: Part>(now: &P)
+    ensures { EveryHeld (P.story now.now) }
 {}

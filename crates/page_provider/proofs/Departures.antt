@@ -31,12 +31,12 @@ use Rattle.page_provider.proofs.Keeping.{Parted, at_event, by_event, event_happe
 
 -- ## Flushed numbers
 
-least_up : (f h : ℕ → ℕ) (n : ℕ) → ((c : ℕ) → 0 < c → f c ≤ h c) → least f n ≤ least h n
+pub least_up : (f h : ℕ → ℕ) (n : ℕ) → ((c : ℕ) → 0 < c → f c ≤ h c) → least f n ≤ least h n
 least_up f h zero up = up 1 (omega arith)
 least_up f h (suc n) up = let a = up (suc n) (omega arith) in let b = least_up f h n up in omega arith
 
 -- a load of the word would tell that it never falls
-flushed_up : EveryLoad → Shape → (v u : View) (more : List Event) → v.held ≡ [] → u.given ≡ v.given → u.seen ≡ v.seen ++ more → NoSync more → (c : ℕ) → 0 < c → (state v).core.flushed c ≤ (state u).core.flushed c
+pub flushed_up : EveryLoad → Shape → (v u : View) (more : List Event) → v.held ≡ [] → u.given ≡ v.given → u.seen ≡ v.seen ++ more → NoSync more → (c : ℕ) → 0 < c → (state v).core.flushed c ≤ (state u).core.flushed c
 flushed_up every z v u more none given seen part c some =
     let n = heard (state v) c 0 in
     let w : View = record v { steps = Hear c 0 n ∷ v.steps } in
@@ -76,13 +76,13 @@ cool_off Place.Cold h = absurd (true≢false (sym h))
 pub save_met : (g : Opening) (s : State) (p : ℕ) → is_cooling (s.place p) ≡ true → (s.page p).gsn ≤ flushed_by_all g s → core.may g s (happening.Event.Save p) ≡ true
 save_met g s p c low = and_from (not (is_cold (s.place p))) (leb (s.page p).gsn (flushed_by_all g s)) (ap not (cool_off (s.place p) c).1) (le-leb (s.page p).gsn (flushed_by_all g s) low)
 
-none_waits : (n : ℕ) (x : Place) → ((w : ℕ) → waits_for x w ≡ false) → all_below n (λ w. not (waits_for x w)) ≡ true
+none_waits : (n : ℕ) (x : Place) → ((w : ℕ) → w < n → waits_for x w ≡ false) → all_below n (λ w. not (waits_for x w)) ≡ true
 none_waits zero x none = refl
-none_waits (suc n) x none = and_from (not (waits_for x n)) (all_below n (λ w. not (waits_for x w))) (ap not (none n)) (none_waits n x none)
+none_waits (suc n) x none = and_from (not (waits_for x n)) (all_below n (λ w. not (waits_for x w))) (ap not (none n (omega arith))) (none_waits n x (λ w few. none w (omega arith)))
 
-pub evict_met : (g : Opening) (s : State) (p : ℕ) → is_cooling (s.place p) ≡ true → is_dirty s p ≡ false → ((w : ℕ) → waits_for (s.place p) w ≡ false) → core.may g s (happening.Event.Evict p) ≡ true
+pub evict_met : (g : Opening) (s : State) (p : ℕ) → is_cooling (s.place p) ≡ true → is_dirty s p ≡ false → ((w : ℕ) → w ≤ g.workers → waits_for (s.place p) w ≡ false) → core.may g s (happening.Event.Evict p) ≡ true
 evict_met g s p c clean none = and_from (is_cooling (s.place p)) (not (is_dirty s p) && all_below (suc g.workers) (λ w. not (waits_for (s.place p) w))) c
-    (and_from (not (is_dirty s p)) (all_below (suc g.workers) (λ w. not (waits_for (s.place p) w))) (ap not clean) (none_waits (suc g.workers) (s.place p) none))
+    (and_from (not (is_dirty s p)) (all_below (suc g.workers) (λ w. not (waits_for (s.place p) w))) (ap not clean) (none_waits (suc g.workers) (s.place p) (λ w few. none w (omega arith))))
 
 -- ## What stays
 
@@ -90,7 +90,7 @@ pub go_on : {v u : View} {p : ℕ} → u.given ≡ v.given → Stood v u → May
 go_on {p = p} given st m = record {
   below = subst (λ (g : Given). p < (opening g).format.pages) (sym given) m.below;
   cooling = st.cooling p ∙ m.cooling;
-  unwaited = λ w. st.unwaited p w (m.unwaited w);
+  unwaited = λ w few. st.unwaited p w (m.unwaited w (subst (λ (g : Given). w ≤ (opening g).workers) given few));
 }
 
 pub page_on : {v u : View} {p : ℕ} → Stood v u → MayGo v p → (state u).core.page p ≡ (state v).core.page p
@@ -139,7 +139,7 @@ module _ {z : Shape} {v u : View} {k : Provider} {p : ℕ} (every : EveryStood) 
   behind = record {
     below = m.below;
     cooling = ap (λ (t : State). is_cooling (t.place p)) now ∙ mid.cooling;
-    unwaited = λ w. ap (λ (t : State). waits_for (t.place p) w) now ∙ mid.unwaited w;
+    unwaited = λ w few. ap (λ (t : State). waits_for (t.place p) w) now ∙ mid.unwaited w few;
   }
 
   pub saved_goes : MayGo u p

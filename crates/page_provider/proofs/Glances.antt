@@ -23,11 +23,12 @@ use Rattle.version_latch.proofs.Keeping.{looked_ran, may_ran}
 use Rattle.held_rows.specs.Latching.{Refused, Took}
 use Rattle.held_rows.specs.Rows.{HoldsOne, OpensOne}
 use Rattle.held_rows.specs.Steps as steps
-use Rattle.page_provider.specs.Inside.{Judges, Missed, Takes}
+use Rattle.page_provider.specs.Inside.{Judges, Missed, Numbers, Takes}
 use Rattle.page_provider.specs.declared.refusal.Refusal.{Refusal}
 use Rattle.page_provider.specs.declared.refusal.Refusal.TheVariants as refusal
 use Rattle.page_provider.specs.Refusals.{Caused, IsOfRow, IsOthers}
 use Rattle.page_provider.specs.Steps.{IsMissAtMost}
+use Rattle.page_provider.proofs.Loaded.{latched_loaded, moved_loaded}
 
 -- ## Looks
 
@@ -42,7 +43,7 @@ module _ {z : Shape} {row : ℕ} {v u : View} where
     ran = looked_ran z row l.word (missed pager) v u (Miss pager ∷ []) look (missed_odd pager l.word odd) (actor, tt);
     held = look.held;
     kind = tt;
-    cause = why;
+    cause = latched_loaded why;
     quiet = λ alone none _. let e : l.word % 2 ≡ 0 = look.free alone (ap (λ hs. holds hs row) none) in absurd (omega arith);
   }
 
@@ -55,7 +56,7 @@ module _ {z : Shape} {row : ℕ} {v u : View} where
     ran = ran_append z.alone v [] u (Miss pager ∷ []) w r (looked_ran z row m.found (checked pager version) u w (Miss pager ∷ []) look (checked_other pager version m.found ne) (may_ran z.alone v u [] pager r actor, tt));
     held = look.held ∙ held;
     kind = tt;
-    cause = why;
+    cause = moved_loaded why;
     quiet = λ alone none _. absurd (ne (look.steady alone version (last alone)));
   }
 
@@ -77,6 +78,14 @@ judges {v = v} {w = w} row frames number saved sized lt r a b = record {
       let x = number_at w.given (state w) row p number within below here a in
       let y = saved_at w.given (state w) row p saved within below here b in
       (λ i. ltb (y i) (x i));
+}
+
+pub numbers : {z : Shape} {v w : View} (row frames number : ℕ) → Sized z v frames → row < frames → Ran z.alone v [] w → Shown w.given (state w) row 1 number → Numbers z v row number w
+numbers {v = v} {w = w} row frames number sized lt r a = record {
+  ran = r;
+  says = λ p below here.
+      let within : row < (opening w.given).frames = subst (λ (g : Given). row < (opening g).frames) (sym r.given) (subst (λ n. row < n) (sym sized.given) lt) in
+      number_at w.given (state w) row p number within below here a;
 }
 
 -- ## A row that was latched, or not

@@ -54,6 +54,7 @@ keeps_stood {z = z} {v = v} {u = u} {k = k} standing given actor st c = record {
   sound = subst IsSound (sym given) c.sound;
   waiting = subst (λ (g : Given). (es : List Event) → Waiting (after_all g es).core) (sym given) c.waiting;
   sized = record { some = c.sized.some; shape = c.sized.shape; given = ap (λ (g : Given). (opening g).frames) given ∙ c.sized.given };
+  some = c.some;
   workers = (c.workers.0, ap (λ (g : Given). (opening g).workers) given ∙ c.workers.1);
   pages = c.pages ∙ sym (ap (λ (g : Given). (opening g).format.pages) given);
   agrees = standing v u (pool k) given st c.agrees;
@@ -153,6 +154,7 @@ module _ {z : Shape} {v u : View} {e : Event} {was is : Provider} (every : Every
     sound = c.sound;
     waiting = c.waiting;
     sized = record { some = subst (λ n. 0 < n) (sym l.frame) c.sized.some; shape = c.sized.shape ∙ sym l.frame; given = c.sized.given ∙ sym l.frame };
+    some = subst (λ n. 0 < n) (sym l.worker) c.some;
     workers = (c.workers.0 ∙ sym l.worker, c.workers.1 ∙ sym l.worker);
     pages = l.page ∙ c.pages;
     agrees = subst (λ s. Agrees (opening v.given) s (pool is)) (sym e) l.agrees;
@@ -165,4 +167,4 @@ module _ {z : Shape} {v u : View} {e : Event} {was is : Provider} (every : Every
 
 -- what is known of slots, and whether the device failed, it keeps whatever it is
 pub keeps_slots : {z : Shape} {v : View} {k : Provider} (slots : List Slot) (broken : Bool) → Keeps z v k → Keeps z v (record k { slots = slots; broken = broken })
-keeps_slots slots broken c = record { actor = c.actor; sound = c.sound; waiting = c.waiting; sized = c.sized; workers = c.workers; pages = c.pages; agrees = c.agrees; epoch = c.epoch }
+keeps_slots slots broken c = record { actor = c.actor; sound = c.sound; waiting = c.waiting; sized = c.sized; some = c.some; workers = c.workers; pages = c.pages; agrees = c.agrees; epoch = c.epoch }

@@ -14,11 +14,11 @@ use Rattle.page_provider.specs.Providers.{Provider}
 use Rattle.page_provider.specs.Refusals.{IsOfEvict, IsOthers, IsRefused, breaks}
 use Rattle.page_provider.specs.Steps.{Goes, IsMissAtMost}
 
--- the page cools, waits for nobody, and its number is flushed everywhere
+-- the page cools, waits for none of the workers, and its number is flushed everywhere
 pub record CanLeave (v : View) (page : ℕ) : Type 0 where
   pub below : page < (opening v.given).format.pages
   pub cooling : is_cooling ((state v).core.place page) ≡ true
-  pub unwaited : (w : ℕ) → waits_for ((state v).core.place page) w ≡ false
+  pub unwaited : (w : ℕ) → w ≤ (opening v.given).workers → waits_for ((state v).core.place page) w ≡ false
   pub low : ((state v).core.page page).gsn ≤ flushed_by_all (opening v.given) (state v).core
 
 -- it is saved, or not

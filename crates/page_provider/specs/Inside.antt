@@ -32,11 +32,11 @@ pub record IsWhole (frames capacity : ℕ) (free : List Bool) (slots : List Slot
   pub each : length slots ≡ length free
   pub size : length buffer ≡ 1024
 
--- the page cools, and waits for nobody
+-- the page cools, and waits for none of the workers
 pub record MayGo (v : View) (page : ℕ) : Type 0 where
   pub below : page < (opening v.given).format.pages
   pub cooling : is_cooling ((state v).core.place page) ≡ true
-  pub unwaited : (w : ℕ) → waits_for ((state v).core.place page) w ≡ false
+  pub unwaited : (w : ℕ) → w ≤ (opening v.given).workers → waits_for ((state v).core.place page) w ≡ false
 
 -- what the queue holds of it
 pub record IsEntered (v : View) (k : Provider) (entry : Cooling) : Type 0 where
@@ -47,6 +47,11 @@ pub record IsEntered (v : View) (k : Provider) (entry : Cooling) : Type 0 where
 pub record Judges (z : Shape) (v : View) (frame : ℕ) (dirty : Bool) (u : View) : Type 0 where
   pub ran : Ran z.alone v [] u
   pub says : (p : ℕ) → p < (opening u.given).format.pages → in_frame ((state u).core.place p) frame ≡ true → dirty ≡ is_dirty (state u).core p
+
+-- Nothing was appended, and this is the number of the page in the frame.
+pub record Numbers (z : Shape) (v : View) (frame number : ℕ) (u : View) : Type 0 where
+  pub ran : Ran z.alone v [] u
+  pub says : (p : ℕ) → p < (opening u.given).format.pages → in_frame ((state u).core.place p) frame ≡ true → number ≡ ((state u).core.page p).gsn
 
 -- A row was not as it has to be: one miss at most was appended, the same rows are held, and this is why.
 pub record Missed (z : Shape) (v : View) (why : Refusal) (u : View) : Type 0 where

@@ -2,9 +2,13 @@
 use Rattle.lean_proto.specs.Controls.{EveryLoad}
 use Rattle.lean_proto.specs.Still.{EveryStood}
 use Rattle.row_image.specs.Images.{EveryStay}
+use Rattle.row_image.specs.Sights.{EveryPair, EverySight}
 use Rattle.row_opening.specs.Openings.{EveryNeed, EveryReached}
+use Rattle.cooling_stage.specs.Walk.{EveryPlace}
 use Rattle.page_pool.specs.Counts.{EveryFrame}
+use Rattle.page_pool.specs.Full.{EveryFull}
 use Rattle.page_pool.specs.Pools.{EveryPool, EveryStanding}
+use Rattle.page_pool.specs.Queues.{EveryChill, EveryPop, EveryQueue}
 use Rattle.disk_slots.specs.Laws.{EveryPage}
 use Rattle.disk_image.specs.Laws.{EverySealed}
 use Rattle.worker_log.specs.Laws.{EveryKept, EveryPrefix}
@@ -24,6 +28,13 @@ pub record RowLaws : Type 0 where
   pub standing : EveryStanding
   pub counts : EveryFrame
   pub pages : EveryPage
+  pub pairs : EveryPair
+  pub queues : EveryQueue
+  pub pops : EveryPop
+  pub sights : EverySight
+  pub chills : EveryChill
+  pub full : EveryFull
+  pub places : EveryPlace
 
 -- of the disk under a run
 pub record DiskLaws : Type 0 where

@@ -5,6 +5,16 @@ pub mod Providers
 pub mod Steps
 pub mod Disks
 pub mod Refusals
+pub mod Moves
+pub mod Cools
+pub mod Ends
+pub mod Faults
+pub mod Amounts
+pub mod Gives
+pub mod Fresh
 pub mod Evicts
 pub mod Laws
 pub mod Inside
+pub mod Finds
+pub mod Leaves
+pub mod Comes

@@ -1,5 +1,5 @@
 -- A pager, and what it keeps: its memory agrees with the state that its seat has seen.
-use Rattle.std.specs.Prelude.{◌≡◌, ◌≤◌, ◌^◌, ℕ, Bool, true, List, length}
+use Rattle.std.specs.Prelude.{◌≡◌, ◌≤◌, ◌<◌, ◌^◌, ℕ, Bool, true, List, length}
 use Rattle.core_paging.specs.Paging.{Waiting}
 use Rattle.row_words.specs.Moments.{pager}
 use Rattle.row_words.specs.Openings.{opening}
@@ -37,6 +37,7 @@ pub record Keeps (z : Shape) (v : View) (k : Provider) : Type 0 where
   pub sound : IsSound v.given
   pub waiting : (es : _) → Waiting (after_all v.given es).core
   pub sized : Sized z v k.frames
+  pub some : 0 < k.workers
   pub workers : (z.sizes.workers ≡ k.workers) × ((opening v.given).workers ≡ k.workers)
   pub pages : length k.free ≡ (opening v.given).format.pages
   pub agrees : Agrees (opening v.given) (state v).core (pool k)

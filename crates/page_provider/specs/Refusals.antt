@@ -1,18 +1,47 @@
 -- Why a call of the pager refused.
-use Rattle.std.specs.Prelude.{◌≤◌, ◌^◌, ◌⊎◌, ℕ, Bool, true, false, List}
+use Rattle.std.specs.Prelude.{◌≡◌, ◌≢◌, ◌≤◌, ◌^◌, ◌%◌, ◌⊎◌, ℕ, Bool, true, false, List, [], ◌∷◌, ◌++◌}
 use Rattle.row_words.specs.declared.event.Event.{Event}
 use Rattle.rows_trait.specs.declared.view.View.{View}
 use Rattle.rows_trait.specs.Views.{Shape, state}
-use Rattle.rows_trait.specs.Causes.{HasFound, HasMoved, IsLatched}
+use Rattle.rows_trait.specs.Causes.{Finds}
+use Rattle.rows_trait.specs.declared.view.Act.{Act}
+use Rattle.rows_trait.specs.declared.view.Act.TheVariants.{Look, Load, Store, Set, Hear, Turn}
 use Rattle.rows_trait.specs.Turns.{Ran}
 use Rattle.page_provider.specs.declared.refusal.Refusal.{Refusal}
 use Rattle.page_provider.specs.declared.refusal.Refusal.TheVariants as refusal
 
+-- ## What the call has loaded
+
+-- no number was stored to the row's latch
+abbrev pub NoSet : ℕ → List Act → Type 0
+NoSet row [] = Unit {0}
+NoSet row (Look q n at ∷ ss) = NoSet row ss
+NoSet row (Load q i n ∷ ss) = NoSet row ss
+NoSet row (Store q i n ∷ ss) = NoSet row ss
+NoSet row (Set q n ∷ ss) = (q ≢ row) × NoSet row ss
+NoSet row (Hear c j n ∷ ss) = NoSet row ss
+NoSet row (Turn c j n ∷ ss) = NoSet row ss
+
+-- the row's latch was loaded as this number
+pub record HasLoaded (row n : ℕ) (v u : View) : Type 0 where
+  pub acts : List Act
+  pub steps : u.steps ≡ acts ++ v.steps
+  pub finds : Finds row n acts
+
+-- it was loaded as two unequal numbers, and none was stored there
+pub record HasLoadedTwo (row seen found : ℕ) (v u : View) : Type 0 where
+  pub unequal : found ≢ seen
+  pub acts : List Act
+  pub steps : u.steps ≡ acts ++ v.steps
+  pub first : Finds row seen acts
+  pub last : Finds row found acts
+  pub unset : NoSet row acts
+
 -- what was loaded since a view, by the time of the refusal
 abbrev pub Caused : View → Refusal → View → Type 0
-Caused v (refusal.Moved m) u = HasMoved m.row m.seen m.found v u
-Caused v (refusal.Latched l) u = IsLatched l.row l.word v u
-Caused v (refusal.RowSpent row) u = ((version : ℕ) × (2 ^ 62 ≤ version) × HasFound row version v u) ⊎ (2 ^ 62 ≤ (state u).core.epoch)
+Caused v (refusal.Moved m) u = HasLoadedTwo m.row m.seen m.found v u
+Caused v (refusal.Latched l) u = (l.word % 2 ≡ 1) × HasLoaded l.row l.word v u
+Caused v (refusal.RowSpent row) u = ((version : ℕ) × (2 ^ 62 ≤ version) × HasLoaded row version v u) ⊎ (2 ^ 62 ≤ (state u).core.epoch)
 Caused v _ u = Unit {0}
 
 -- since some view of the call
@@ -31,7 +60,7 @@ IsOthers _ = ⊥
 -- the device failed, or a page that is needed is damaged
 abbrev pub breaks : Refusal → Bool
 breaks (refusal.DiskFault) = true
-breaks (refusal.Damaged page) = true
+breaks (refusal.Damaged page counts other) = true
 breaks _ = false
 
 -- the row of a frame was another seat's, or its version has come to the last one

@@ -9,12 +9,20 @@ pub(crate) fn laws()
     lean_proto::every_stood();
     lean_proto::every_load();
     row_image::every_stay();
+    row_image::every_sight();
+    row_image::every_pair();
     row_opening::every_reached();
     row_opening::every_need();
     page_pool::every_pool();
     page_pool::every_standing();
     page_pool::every_frame();
+    page_pool::every_queue();
+    page_pool::every_chill();
+    page_pool::every_full();
+    cooling_stage::every_place();
     disk_slots::every_page();
+    row_image::every_pair();
+    page_pool::every_queue();
     core_disk::every_version();
     worker_log::every_kept();
     worker_log::every_prefix();
@@ -22,4 +30,5 @@ pub(crate) fn laws()
     disk_runs::every_quiet();
     disk_runs::every_among();
     disk_runs::every_master_line();
+    page_pool::every_pop();
 }

@@ -8,7 +8,7 @@ ghost use Rattle.rows_trait.specs.Views.{may};
 ghost use Rattle.btree_descent.specs.Descents.{Sized};
 ghost use Rattle.btree_descent.specs.Known.{IsSound};
 ghost use Rattle.row_image.specs.Images.{IsImage, StaysIn};
-ghost use Rattle.page_provider.specs.Inside.{Judges, Missed};
+ghost use Rattle.page_provider.specs.Inside.{Judges, Missed, Numbers};
 
 use crate::refusal::Refusal;
 use btree_node::Node;
@@ -48,6 +48,36 @@ pub(crate) fn is_dirty<R: Rows>(
     };
     match glimpse.check(rows, seat, &checks) {
         Ok(()) => Ok(saved < number),
+        Err(moved) => Err(Refusal::Moved(moved)),
+    }
+}
+
+// The number of the page in the frame.
+pub(crate) fn number<R: Rows>(
+    rows: &mut R,
+    seat: &mut R::Seat,
+    frames: u32,
+    frame: u32,
+) -> Result<u64, Refusal>
+    requires fits { R.fits rows.old seat.old }
+    requires sized { Sized (R.shape rows.old) (R.view seat.old) frames }
+    requires frame { frame < frames }
+    requires actor { may (R.shape rows.old).alone (R.view seat.old) pager ≡ true }
+    ensures fits { R.fits rows.new seat.new × (R.shape rows.new ≡ R.shape rows.old) × ((R.view seat.new).held ≡ (R.view seat.old).held) }
+    ensures ok { IfOk result (λ number. Numbers (R.shape rows.old) (R.view seat.old) frame number (R.view seat.new)) }
+    ensures err { IfErr result (λ why. Missed (R.shape rows.old) (R.view seat.old) why (R.view seat.new)) }
+{
+    let glimpse = match Glimpse::start(rows, seat, frame, &Misses { worker: PAGER }) {
+        Err(latched) => return Err(Refusal::Latched(latched)),
+        Ok(found) => found,
+    };
+    let number = glimpse.word(rows, seat, 1);
+    let checks = Checks {
+        worker: PAGER,
+        version: glimpse.version,
+    };
+    match glimpse.check(rows, seat, &checks) {
+        Ok(()) => Ok(number),
         Err(moved) => Err(Refusal::Moved(moved)),
     }
 }

@@ -1,9 +1,11 @@
 // The pager's memory.
-ghost use Rattle.std.specs.Prelude.{◌≡◌, ◌≤◌, ◌<◌, [], length};
+ghost use Rattle.std.specs.Prelude.{◌≡◌, ◌≤◌, vec_capacity, IfOk};
+ghost use Rattle.page_provider.specs.Fresh.{down_to_one};
 
 use cooling_stage::CoolingStage;
 use free_pages::FreePages;
 use page_calls::Slots;
+use std::alloc::{AllocError, Global};
 use std::marker::Model;
 
 /// Moves pages between a disk and the frames of rows: for the only seat of rows, or for a seat of its own beside the
@@ -31,4 +33,50 @@ impl Model for Pager {
     ghost view = { λ s. record { frames = s.stage.frames; workers = s.workers; generation = s.generation; queue = s.stage.queue; empty = s.empty.items; free = s.free; slots = s.slots; hand = s.hand; broken = s.broken } };
 
     ghost invariant = { λ s. IsWhole s.stage.frames (vec_capacity s.empty) s.free s.slots s.buffer.items };
+}
+
+// The frames but frame 0, the last one first: the least is taken first.
+fn empty_frames(alloc: Global, frames: u32) -> Result<Vec<u32>, AllocError>
+    ensures items { IfOk result (λ v. v.items ≡ down_to_one frames) }
+    ensures room { IfOk result (λ v. frames ≤ vec_capacity v) }
+{
+    let mut empty = Vec::with_capacity(alloc, frames as usize)?;
+    for i in 1..frames {
+        empty.push_reserved(frames - i);
+    }
+    Ok(empty)
+}
+
+impl Pager {
+    ghost use Rattle.std.specs.Prelude.{◌≡◌, ◌<◌, List, Bool, length, IfOk};
+    ghost use Rattle.page_provider.specs.Fresh.{fresh};
+
+    /// A pager where page 0 alone is in a frame, frame 0: with the pages that are free, and what is known of each page's slots. Pages are saved
+    /// by this generation. The one error is that memory is refused, and no later call takes any.
+    pub fn new(
+        alloc: Global,
+        frames: u32,
+        workers: u32,
+        generation: u64,
+        free: FreePages,
+        slots: Slots,
+    ) -> Result<Pager, AllocError>
+        requires slots { length slots ≡ length free }
+        ensures made { IfOk result (λ k. k ≡ fresh frames workers generation free slots) }
+    {
+        let empty = empty_frames(alloc, frames)?;
+        let mut buffer = Vec::new(alloc);
+        buffer.resize(1024, 0)?;
+        Ok(Pager {
+            stage: CoolingStage::new(alloc, frames)?,
+            slots,
+            free,
+            empty,
+            hand: 0,
+            workers,
+            generation,
+            broken: false,
+            buffer,
+        })
+    }
 }

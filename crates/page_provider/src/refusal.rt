@@ -1,4 +1,5 @@
 //! Why the pager refused.
+use page_store::Seal;
 use version_latch::{Latched, Moved};
 
 #[derive(Clone, Copy)]
@@ -17,9 +18,11 @@ pub enum Refusal {
     },
     /// Fewer pages are free than were asked for.
     NoPages,
-    /// Neither slot of the page holds it.
+    /// The slot of the page that counts holds no valid page, and this is what both are. The other one is never taken for it.
     Damaged {
         page: u32,
+        counts: Seal,
+        other: Seal,
     },
     DiskFault,
     /// The version of the row has come to the last one, or the global epoch has.

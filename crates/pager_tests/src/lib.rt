@@ -1,6 +1,9 @@
-//! Tests of what a pager keeps in memory, by public functions alone: the cooling queue and the set of free pages.
+//! Tests of what a pager keeps in memory, by public functions alone: the cooling queue, the set of free pages, and a new
+//! pager.
 #![tactic(auto)]
 
+#[cfg(test)]
+mod pagers;
 #[cfg(test)]
 mod queues;
 #[cfg(test)]

@@ -4,6 +4,7 @@ use Rattle.rows_trait.specs.Views.{holds}
 use Rattle.held_rows.specs.Latching as latching
 use Rattle.held_rows.specs.declared.latching.Refusal.{Refusal}
 use Rattle.page_provider.proofs.Glances.{refused, takes}
+use Rattle.page_provider.proofs.Loaded.{found_loaded, latched_loaded, moved_loaded}
 use Rattle.page_provider.proofs.taking.take.Goals as goal
 
 pub latch-requires-clause-row : goal.latch-requires-clause-row
@@ -19,7 +20,7 @@ returns-in-Err-Moved-clause-err g c =
     let w = g.R.Rows.view c.latch.new.seat in
     let cause = subst (λ (q : Refusal). latching.Caused c.args.frame v q w) c.in-Err-Moved.field-0-is c.in-Err-Moved.ensures.cause in
     let quiet = subst (λ (q : Refusal). z.alone ≡ true → holds v.held c.args.frame ≡ false → latching.IsUndisturbed q) c.in-Err-Moved.field-0-is c.in-Err-Moved.ensures.quiet in
-    refused c.in-Err-Moved.ensures.err tt cause.1 (λ alone none _. quiet alone (ap (λ hs. holds hs c.args.frame) none))
+    refused c.in-Err-Moved.ensures.err tt (moved_loaded cause.1) (λ alone none _. quiet alone (ap (λ hs. holds hs c.args.frame) none))
 
 pub returns-in-Err-Latched-clause-err : goal.returns-in-Err-Latched-clause-err
 returns-in-Err-Latched-clause-err g c =
@@ -28,7 +29,7 @@ returns-in-Err-Latched-clause-err g c =
     let w = g.R.Rows.view c.latch.new.seat in
     let cause = subst (λ (q : Refusal). latching.Caused c.args.frame v q w) c.in-Err-Latched.field-0-is c.in-Err-Latched.ensures.cause in
     let quiet = subst (λ (q : Refusal). z.alone ≡ true → holds v.held c.args.frame ≡ false → latching.IsUndisturbed q) c.in-Err-Latched.field-0-is c.in-Err-Latched.ensures.quiet in
-    refused c.in-Err-Latched.ensures.err tt cause.1 (λ alone none _. quiet alone (ap (λ hs. holds hs c.args.frame) none))
+    refused c.in-Err-Latched.ensures.err tt (latched_loaded cause.1) (λ alone none _. quiet alone (ap (λ hs. holds hs c.args.frame) none))
 
 pub returns-in-Err-RowSpent-clause-err : goal.returns-in-Err-RowSpent-clause-err
 returns-in-Err-RowSpent-clause-err g c =
@@ -36,4 +37,4 @@ returns-in-Err-RowSpent-clause-err g c =
     let w = g.R.Rows.view c.latch.new.seat in
     let cause = subst (λ (q : Refusal). latching.Caused c.args.frame v q w) c.in-Err-RowSpent.field-0-is c.in-Err-RowSpent.ensures.cause in
     let version = cause.1.0 in
-    refused c.in-Err-RowSpent.ensures.err tt (inl (version, cause.1.1, subst (λ q. HasFound q version v w) (sym cause.0) cause.1.2)) (λ _ _ o. o)
+    refused c.in-Err-RowSpent.ensures.err tt (inl (version, cause.1.1, found_loaded (subst (λ q. HasFound q version v w) (sym cause.0) cause.1.2))) (λ _ _ o. o)

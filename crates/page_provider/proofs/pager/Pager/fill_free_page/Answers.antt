@@ -1,0 +1,33 @@
+use Rattle.std.proofs.Common.{◌∙◌, ◌-◌, [], ◌∷◌, take, ap, subst, arith}
+use Rattle.row_words.specs.declared.event.Event.TheVariants.{Load}
+use Rattle.rows_trait.specs.Turns.{Ran}
+use Rattle.rows_trait.specs.Views.{Shape}
+use Rattle.rows_trait.proofs.Runs.{ran_append}
+use Rattle.page_provider.specs.Providers.{Provider}
+use Rattle.page_provider.proofs.Coming.{can_fill_free, empty_is, filled_free}
+use Rattle.page_provider.proofs.pager.Pager.fill_free_page.Goals as goal
+
+pub take-requires-clause-frame : goal.take-requires-clause-frame
+take-requires-clause-frame g c =
+    let a = (empty_is c.requires.keeps c.requires.comes).0 in
+    let b = c.requires.keeps.sized.given in
+    let d = ap (λ (p : Provider). p.frames) c.self.view_is in
+    let e = c.frames.ensures in
+    omega arith
+
+pub fill_free-requires-clause-fills : goal.fill_free-requires-clause-fills
+fill_free-requires-clause-fills g c =
+    let h = c.in_ok-own.ensures.ok in
+    can_fill_free c.laws.ensures.rows c.requires.keeps c.requires.comes c.requires.free h.1.ran c.in_ok-own.ensures.fits.1 h.0
+
+pub returns-clause-ok : goal.returns-clause-ok
+returns-clause-ok g c =
+    let z = g.R.Rows.shape c.args.rows.now in
+    let v = g.R.Rows.view c.args.seat.now in
+    let t = g.R.Rows.view c.take.new.seat in
+    let w = g.R.Rows.view c.fill_free.new.seat in
+    let went = c.fill_free.ensures.went in
+    let h = c.in_ok-own.ensures.ok in
+    let ran = subst (λ row. Ran (g.R.Rows.shape c.take.new.rows).alone t (Load c.args.page row ∷ []) w) h.0 went.ran in
+    let all = ran_append z.alone v [] t (Load c.args.page c.args.frame ∷ []) w h.1.ran (subst (λ (s : Shape). Ran s.alone t (Load c.args.page c.args.frame ∷ []) w) c.in_ok-own.ensures.fits.1 ran) in
+    filled_free c.self.view_is c.laws.ensures.rows c.requires.keeps went.held c.requires.comes c.requires.free all c.pop.new.self.items (let p = c.self.inside.empty.ok.0 in c.pop.ensures.rest ∙ ap (λ n. take (n - 1) c.self.inside.empty.items) p) c.remove.new.self c.remove.ensures

@@ -1,0 +1,82 @@
+use Rattle.std.proofs.Common.{◌≡◌, ◌∙◌, ◌<◌, ◌-◌, [], ◌∷◌, take, sym, ap, subst}
+use Rattle.std.proofs.lemmas.Result.{err_from_is_err_and}
+use Rattle.row_words.specs.declared.event.Event.TheVariants.{Load}
+use Rattle.rows_trait.specs.Turns.{Ran}
+use Rattle.rows_trait.specs.Views.{Shape, state}
+use Rattle.rows_trait.proofs.Runs.{ran_append}
+use Rattle.page_provider.specs.Finds.{Halts, IsSeen, Naming}
+use Rattle.page_provider.specs.Providers.{Provider}
+use Rattle.page_provider.specs.declared.refusal.Refusal.{Refusal}
+use Rattle.page_provider.proofs.Coming.{cold_hot, come_on, empty_is, filled_node, node_is}
+use Rattle.page_provider.proofs.Parents.{can_fill, frame_fits, halts_stopped, linked, named_off, named_keeps, named_seen, none_comes}
+use Rattle.page_provider.proofs.Savings.{if_err}
+use Rattle.page_provider.proofs.pager.Pager.fill_node.Goals as goal
+
+pub returns-in_default-clause-ok : goal.returns-in_default-clause-ok
+returns-in_default-clause-ok g c =
+    let v = g.R.Rows.view c.args.seat.now in
+    let m = c.requires.comes in
+    let n = subst (λ o. Naming (g.R.Rows.shape c.args.rows.now) v c.frames-frames.result c.from.result o (g.R.Rows.view c.naming.new.seat)) c.in_default.is c.in_ok-parent.ensures.ok in
+    none_comes c.args.page c.laws.ensures.rows c.requires.keeps c.requires.held m.below (cold_hot ((state v).core.place c.args.page) m.cold) (ap (λ x. x.node.live) (node_is c.requires.keeps m) ∙ c.requires.live) c.in_ok-parent.ensures.fits.2
+    (c.frames-frames.ensures ∙ ap (λ (p : Provider). p.frames) c.self.view_is) c.from.ensures n.0 n.1
+
+pub take_with-requires-clause-sound : goal.take_with-requires-clause-sound
+take_with-requires-clause-sound g c =
+    let n = subst (λ o. Naming (g.R.Rows.shape c.args.rows.now) (g.R.Rows.view c.args.seat.now) c.frames-frames.result c.from.result o (g.R.Rows.view c.naming.new.seat)) c.in-Some.is c.in_ok-parent.ensures.ok in
+    (named_keeps c.laws.ensures.rows c.requires.keeps n).sound
+
+pub take_with-requires-clause-first : goal.take_with-requires-clause-first
+take_with-requires-clause-first g c =
+    let u = g.R.Rows.view c.naming.new.seat in
+    let n = subst (λ o. Naming (g.R.Rows.shape c.args.rows.now) (g.R.Rows.view c.args.seat.now) c.frames-frames.result c.from.result o u) c.in-Some.is c.in_ok-parent.ensures.ok in
+    subst (λ (s : Shape). IsSeen s c.in-Some.parent u) (sym c.in_ok-parent.ensures.fits.1) (named_seen c.laws.ensures.rows c.requires.keeps n)
+
+pub take_with-requires-clause-frame : goal.take_with-requires-clause-frame
+take_with-requires-clause-frame g c =
+    let n = subst (λ o. Naming (g.R.Rows.shape c.args.rows.now) (g.R.Rows.view c.args.seat.now) c.frames-frames.result c.from.result o (g.R.Rows.view c.naming.new.seat)) c.in-Some.is c.in_ok-parent.ensures.ok in
+    let now = named_keeps c.laws.ensures.rows c.requires.keeps n in
+    frame_fits c.in_ok-parent.ensures.fits.1 now (empty_is now (come_on c.laws.ensures.rows c.requires.keeps c.requires.comes n.sight.ran)).0
+
+pub take_with-requires-clause-apart : goal.take_with-requires-clause-apart
+take_with-requires-clause-apart g c =
+    let n = subst (λ o. Naming (g.R.Rows.shape c.args.rows.now) (g.R.Rows.view c.args.seat.now) c.frames-frames.result c.from.result o (g.R.Rows.view c.naming.new.seat)) c.in-Some.is c.in_ok-parent.ensures.ok in
+    named_off c.laws.ensures.rows c.requires.keeps n c.requires.comes
+
+pub returns-in_err-above-clause-err : goal.returns-in_err-above-clause-err
+returns-in_err-above-clause-err g c =
+    let z = g.R.Rows.shape c.args.rows.now in
+    let v = g.R.Rows.view c.args.seat.now in
+    let w = g.R.Rows.view c.take_with.new.seat in
+    let n = subst (λ o. Naming z v c.frames-frames.result c.from.result o (g.R.Rows.view c.naming.new.seat)) c.in-Some.is c.in_ok-parent.ensures.ok in
+    let p = err_from_is_err_and c.from_residual-in_err-above.result c.from_residual-in_err-above.ensures.1 in
+    let p2 = p.2 in
+    let why = c.in_err-above.field-0.0 in
+    let e : why ≡ p.0 = cc in
+    let P : Refusal → Type 0 = λ q. Halts 2 z v q w in
+    if_err c.from_residual-in_err-above.result p.0 P p.1 (subst P e (halts_stopped c.in_ok-parent.ensures.fits.1 n c.in_err-above.ensures.err c.in_err-above.ensures.cause))
+
+pub fill-requires-clause-fills : goal.fill-requires-clause-fills
+fill-requires-clause-fills g c =
+    let v = g.R.Rows.view c.args.seat.now in
+    let n = subst (λ o. Naming (g.R.Rows.shape c.args.rows.now) v c.frames-frames.result c.from.result o (g.R.Rows.view c.naming.new.seat)) c.in-Some.is c.in_ok-parent.ensures.ok in
+    let m = c.requires.comes in
+    let h = c.in_ok-above.ensures.ok in
+    let l = linked c.laws.ensures.rows c.requires.keeps c.in_ok-parent.ensures.fits.1 m.below (cold_hot ((state v).core.place c.args.page) m.cold) c.from.ensures n h.2 in
+    let many = c.frames-frames.ensures ∙ ap (λ (p : Provider). p.frames) c.self.view_is in
+    can_fill c.laws.ensures.rows c.requires.keeps (subst (λ m. m < 4294967296) many c.frames-frames.type_inv) m l (c.in_ok-above.ensures.fits.1 ∙ c.in_ok-parent.ensures.fits.1) h.0 h.1
+
+pub returns-clause-ok : goal.returns-clause-ok
+returns-clause-ok g c =
+    let z = g.R.Rows.shape c.args.rows.now in
+    let v = g.R.Rows.view c.args.seat.now in
+    let t = g.R.Rows.view c.take_with.new.seat in
+    let w = g.R.Rows.view c.fill.new.seat in
+    let n = subst (λ o. Naming z v c.frames-frames.result c.from.result o (g.R.Rows.view c.naming.new.seat)) c.in-Some.is c.in_ok-parent.ensures.ok in
+    let m = c.requires.comes in
+    let h = c.in_ok-above.ensures.ok in
+    let l = linked c.laws.ensures.rows c.requires.keeps c.in_ok-parent.ensures.fits.1 m.below (cold_hot ((state v).core.place c.args.page) m.cold) c.from.ensures n h.2 in
+    let went = c.fill.ensures.went in
+    let ran = subst (λ row. Ran (g.R.Rows.shape c.take_with.new.rows).alone t (Load c.args.page row ∷ []) w) h.1 went.ran in
+    let all = ran_append z.alone v [] t (Load c.args.page c.args.frame ∷ []) w l.ran (subst (λ (s : Shape). Ran s.alone t (Load c.args.page c.args.frame ∷ []) w) (c.in_ok-above.ensures.fits.1 ∙ c.in_ok-parent.ensures.fits.1) ran) in
+    let p = c.self.inside.empty.ok.0 in
+    filled_node c.self.view_is c.laws.ensures.rows c.requires.keeps went.held m c.requires.live l.before all c.pop.new.self.items (c.pop.ensures.rest ∙ ap (λ n. take (n - 1) c.self.inside.empty.items) p)

@@ -1,0 +1,136 @@
+use Rattle.std.proofs.Common.{◌≡◌, ◌∙◌, ℕ, Option, sym, ap, subst}
+use Rattle.std.proofs.lemmas.Result.{err_from_is_err_and, IfErr-weaker, IfOk-weaker}
+use Rattle.rows_trait.specs.Views.{Shape}
+use Rattle.row_image.specs.declared.sight.Sight.{Sight}
+use Rattle.page_provider.specs.Disks.{Disked}
+use Rattle.page_provider.specs.Ends.{HasRefused}
+use Rattle.page_provider.specs.Faults.{Faulted, IsDescent, LeadsTo}
+use Rattle.page_provider.specs.Finds.{Naming, Standing}
+use Rattle.page_provider.specs.Inside.{Missed}
+use Rattle.page_provider.specs.Providers.{Provider}
+use Rattle.page_provider.specs.declared.refusal.Refusal.{Refusal}
+use Rattle.page_provider.proofs.Faulting.{cold_of, descent_on, faulted_before, gives_on, leads_on, missed_refused, named_on, no_astray, refused_before, settled, settled_disk, stood_look, unsettled}
+use Rattle.page_provider.proofs.Keeping.{keeps_ran}
+use Rattle.page_provider.proofs.Parts.{disk_after, keeps_shape}
+use Rattle.page_provider.proofs.Savings.{if_err}
+use Rattle.page_provider.proofs.Sightings.{sound_still}
+use Rattle.page_provider.proofs.pager.Pager.look_for.Goals as goal
+
+pub returns-in_err-naming-clause-err : goal.returns-in_err-naming-clause-err
+returns-in_err-naming-clause-err g c =
+    let z = g.R.Rows.shape c.args.rows.now in
+    let v = g.R.Rows.view c.args.seat.now in
+    let w = g.R.Rows.view c.naming.new.seat in
+    let p = err_from_is_err_and c.from_residual.result c.from_residual.ensures.1 in
+    let p2 = p.2 in
+    let why = c.in_err-naming.field-0.0 in
+    let e : why ≡ p.0 = cc in
+    let P : Refusal → Type 0 = λ q. HasRefused 4 z c.args.path.now v c.args.self.now q w c.args.self.now in
+    if_err c.from_residual.result p.0 P p.1 (subst P e (missed_refused c.laws.ensures.rows c.requires.keeps c.requires.held c.in_err-naming.ensures.err))
+
+pub standing-requires-clause-sound : goal.standing-requires-clause-sound
+standing-requires-clause-sound g c = sound_still (g.R.Rows.view c.args.seat.now) (g.R.Rows.view c.naming.new.seat) c.in_ok-naming.ensures.kept.ran.given c.requires.keeps.sound
+
+pub returns-in_default-clause-ok : goal.returns-in_default-clause-ok
+returns-in_default-clause-ok g c =
+    let z = g.R.Rows.shape c.args.rows.now in
+    let v = g.R.Rows.view c.args.seat.now in
+    let u = g.R.Rows.view c.naming.new.seat in
+    let w = g.R.Rows.view c.standing.new.seat in
+    let o = c.in_ok-naming.ensures in
+    let names = subst (λ (x : Option (Sight × ℕ)). Naming z v c.frames-frames.result c.from.result x u) c.in_default.is o.ok in
+    let P : Option ℕ → Type 0 = λ come. Standing (g.R.Rows.shape c.naming.new.rows) u c.args.page come w in
+    let Q : Option ℕ → Type 0 = λ come. Faulted 4 z c.args.path.now v c.args.self.now c.args.page come w c.args.self.now in
+    IfOk-weaker c.standing.result P Q (λ come h. settled w c.args.page c.args.path.now c.laws.ensures.rows c.requires.keeps c.requires.held o.fits.1 o.kept c.standing.ensures.fits.2 (c.frames-frames.ensures ∙ ap (λ (k : Provider). k.frames) c.self.view_is) c.from.ensures c.requires.below c.requires.used names come h) c.standing.ensures.ok
+
+pub returns-in_default-clause-err : goal.returns-in_default-clause-err
+returns-in_default-clause-err g c =
+    let z = g.R.Rows.shape c.args.rows.now in
+    let v = g.R.Rows.view c.args.seat.now in
+    let u = g.R.Rows.view c.naming.new.seat in
+    let w = g.R.Rows.view c.standing.new.seat in
+    let o = c.in_ok-naming.ensures in
+    let P : Refusal → Type 0 = λ why. Missed (g.R.Rows.shape c.naming.new.rows) u why w in
+    let Q : Refusal → Type 0 = λ why. HasRefused 4 z c.args.path.now v c.args.self.now why w c.args.self.now in
+    IfErr-weaker c.standing.result P Q (λ why h. unsettled w c.args.page c.args.path.now c.laws.ensures.rows c.requires.keeps c.requires.held o.fits.1 o.kept why h) c.standing.ensures.err
+
+pub returns-in_default-clause-disk : goal.returns-in_default-clause-disk
+returns-in_default-clause-disk g c =
+    let o = c.in_ok-naming.ensures in
+    settled_disk (g.R.Rows.view c.standing.new.seat) c.args.page c.args.path.now c.laws.ensures.rows c.requires.keeps c.requires.held o.fits.1 o.kept c.laws.ensures.disk (g.met.P.Part.lawful c.args.dev.now) c.standing.result c.standing.ensures.ok c.standing.ensures.err
+
+pub bring-requires-clause-keeps : goal.bring-requires-clause-keeps
+bring-requires-clause-keeps g c = let laws = c.laws.ensures.rows in let o = c.in_ok-naming.ensures in keeps_shape o.fits.1 (keeps_ran laws.stood laws.standing tt o.kept.ran c.requires.keeps)
+
+pub bring-requires-clause-cold : goal.bring-requires-clause-cold
+bring-requires-clause-cold g c =
+    let z = g.R.Rows.shape c.args.rows.now in
+    let v = g.R.Rows.view c.args.seat.now in
+    let u = g.R.Rows.view c.naming.new.seat in
+    let laws = c.laws.ensures.rows in
+    let o = c.in_ok-naming.ensures in
+    let n = named_on laws c.requires.keeps c.requires.below c.from.ensures o.kept.ran (subst (λ (x : Option (Sight × ℕ)). Naming z v c.frames-frames.result c.from.result x u) c.in-Some.is o.ok) in
+    cold_of c.args.page laws (keeps_ran laws.stood laws.standing tt o.kept.ran c.requires.keeps) c.requires.absent n.off
+
+pub bring-requires-clause-parent : goal.bring-requires-clause-parent
+bring-requires-clause-parent g c =
+    let z = g.R.Rows.shape c.args.rows.now in
+    let v = g.R.Rows.view c.args.seat.now in
+    let u = g.R.Rows.view c.naming.new.seat in
+    let o = c.in_ok-naming.ensures in
+    let n = named_on c.laws.ensures.rows c.requires.keeps c.requires.below c.from.ensures o.kept.ran (subst (λ (x : Option (Sight × ℕ)). Naming z v c.frames-frames.result c.from.result x u) c.in-Some.is o.ok) in
+    λ only. n.parent
+
+pub bring-requires-clause-descent : goal.bring-requires-clause-descent
+bring-requires-clause-descent g c = let o = c.in_ok-naming.ensures in subst (λ (s : Shape). IsDescent s (g.R.Rows.view c.naming.new.seat) c.args.path.now) (sym o.fits.1) (descent_on (g.R.Rows.shape c.args.rows.now) o.kept.ran c.requires.descent)
+
+pub bring-requires-clause-leads : goal.bring-requires-clause-leads
+bring-requires-clause-leads g c = let o = c.in_ok-naming.ensures in subst (λ (s : Shape). LeadsTo s (g.R.Rows.view c.naming.new.seat) c.args.path.now c.args.page) (sym o.fits.1) (leads_on (g.R.Rows.shape c.args.rows.now) o.kept.ran c.args.path.now c.args.page c.requires.leads)
+
+pub bring-requires-clause-gives : goal.bring-requires-clause-gives
+bring-requires-clause-gives g c =
+    let z = g.R.Rows.shape c.args.rows.now in
+    let r = c.in_ok-naming.ensures.kept.ran in
+    let laws = c.laws.ensures.rows in
+    λ cold. gives_on z r laws c.requires.keeps (c.requires.gives (sym ((stood_look z r laws c.requires.keeps).cold c.args.page) ∙ cold))
+
+pub returns-clause-ok : goal.returns-clause-ok
+returns-clause-ok g c =
+    let z = g.R.Rows.shape c.args.rows.now in
+    let y = g.R.Rows.shape c.naming.new.rows in
+    let v = g.R.Rows.view c.args.seat.now in
+    let u = g.R.Rows.view c.naming.new.seat in
+    let w = g.R.Rows.view c.bring.new.seat in
+    let o = c.in_ok-naming.ensures in
+    let P : Option ℕ → Type 0 = λ come. Faulted 4 y c.args.path.now u c.args.self.now c.args.page come w c.bring.new.self in
+    let Q : Option ℕ → Type 0 = λ come. Faulted 4 z c.args.path.now v c.args.self.now c.args.page come w c.bring.new.self in
+    IfOk-weaker c.bring.result P Q (λ come h. faulted_before z o.kept.ran c.laws.ensures.rows c.requires.keeps 4 c.args.path.now c.args.page w c.bring.new.self c.requires.held o.kept.held come (subst (λ (s : Shape). Faulted 4 s c.args.path.now u c.args.self.now c.args.page come w c.bring.new.self) o.fits.1 h)) c.bring.ensures.ok
+
+pub returns-clause-err : goal.returns-clause-err
+returns-clause-err g c =
+    let z = g.R.Rows.shape c.args.rows.now in
+    let y = g.R.Rows.shape c.naming.new.rows in
+    let v = g.R.Rows.view c.args.seat.now in
+    let u = g.R.Rows.view c.naming.new.seat in
+    let w = g.R.Rows.view c.bring.new.seat in
+    let o = c.in_ok-naming.ensures in
+    let P : Refusal → Type 0 = λ why. HasRefused 4 y c.args.path.now u c.args.self.now why w c.bring.new.self in
+    let Q : Refusal → Type 0 = λ why. HasRefused 4 z c.args.path.now v c.args.self.now why w c.bring.new.self in
+    IfErr-weaker c.bring.result P Q (λ why h. refused_before z o.kept.ran c.laws.ensures.rows c.requires.keeps c.requires.held o.kept.held (subst (λ (s : Shape). HasRefused 4 s c.args.path.now u c.args.self.now why w c.bring.new.self) o.fits.1 h)) c.bring.ensures.err
+
+pub returns-clause-disk : goal.returns-clause-disk
+returns-clause-disk g c =
+    let u = g.R.Rows.view c.naming.new.seat in
+    let w = g.R.Rows.view c.bring.new.seat in
+    let o = c.in_ok-naming.ensures in
+    disk_after c.laws.ensures.disk (g.met.P.Part.lawful c.args.dev.now) c.requires.well o.kept.ran
+    (subst (λ (s : Shape). Disked s.alone c.args.self.now u c.bring.new.self w (g.P.Part.story c.args.dev.now) (g.P.Part.story c.bring.new.dev)) o.fits.1 c.bring.ensures.disk)
+
+pub returns-clause-astray : goal.returns-clause-astray
+returns-clause-astray g c =
+    let z = g.R.Rows.shape c.args.rows.now in
+    let v = g.R.Rows.view c.args.seat.now in
+    let u = g.R.Rows.view c.naming.new.seat in
+    let o = c.in_ok-naming.ensures in
+    let n = named_on c.laws.ensures.rows c.requires.keeps c.requires.below c.from.ensures o.kept.ran (subst (λ (x : Option (Sight × ℕ)). Naming z v c.frames-frames.result c.from.result x u) c.in-Some.is o.ok) in
+    λ only a. no_astray z o.kept.ran n only a

@@ -1,0 +1,60 @@
+use Rattle.std.proofs.Common.{◌≡◌, ◌≤◌, ◌∙◌, ℕ, Option, arith, subst}
+use Rattle.std.proofs.lemmas.Result.{IfOk-weaker, err_from_is_err_and}
+use Rattle.rows_trait.specs.Views.{Shape}
+use Rattle.page_provider.specs.Comes.{IsUnseen}
+use Rattle.page_provider.specs.Ends.{HasRefused}
+use Rattle.page_provider.specs.Faults.{Faulted}
+use Rattle.page_provider.specs.Finds.{Halts}
+use Rattle.page_provider.specs.declared.refusal.Refusal.{Refusal}
+use Rattle.page_provider.proofs.Filling.{faulted_then, refused_behind}
+use Rattle.page_provider.proofs.Moving.{refused_up}
+use Rattle.page_provider.proofs.Parts.{err_to}
+use Rattle.page_provider.proofs.Placing.{unseen_disk}
+use Rattle.page_provider.proofs.Running.{disked_then}
+use Rattle.page_provider.proofs.Savings.{if_err}
+use Rattle.page_provider.proofs.pager.Pager.place.Goals as goal
+
+pub returns-in_err-frame-clause-err : goal.returns-in_err-frame-clause-err
+returns-in_err-frame-clause-err g c =
+    let z = g.R.Rows.shape c.args.rows.now in
+    let v = g.R.Rows.view c.args.seat.now in
+    let w = g.R.Rows.view c.room.new.seat in
+    let p = err_from_is_err_and c.from_residual.result c.from_residual.ensures.1 in
+    let p2 = p.2 in
+    let why = c.in_err-frame.field-0.0 in
+    let e : why ≡ p.0 = cc in
+    let P : Refusal → Type 0 = λ q. HasRefused 4 z c.args.path.now v c.args.self.now q w c.room.new.self in
+    if_err c.from_residual.result p.0 P p.1 (subst P e (refused_up (let few : 3 ≤ 4 = omega arith in few) c.in_err-frame.ensures.err))
+
+pub returns-clause-ok : goal.returns-clause-ok
+returns-clause-ok g c =
+    let z = g.R.Rows.shape c.args.rows.now in
+    let v = g.R.Rows.view c.args.seat.now in
+    let u = g.R.Rows.view c.room.new.seat in
+    let w = g.R.Rows.view c.fill.new.seat in
+    let mid = c.room.new.self in
+    let is = c.fill.new.self in
+    let P : Option ℕ → Type 0 = λ come. Faulted 1 (g.R.Rows.shape c.room.new.rows) c.args.path.now u mid c.args.page come w is in
+    let Q : Option ℕ → Type 0 = λ come. Faulted 4 z c.args.path.now v c.args.self.now c.args.page come w is in
+    IfOk-weaker c.fill.result P Q (λ come h. faulted_then c.laws.ensures.rows c.requires.keeps c.in_ok-frame.ensures.ok w is c.requires.contents c.requires.leads c.requires.parent come
+    (subst (λ (s : Shape). Faulted 1 s c.args.path.now u mid c.args.page come w is) c.in_ok-frame.ensures.fits.1 h)) c.fill.ensures.ok
+
+pub returns-clause-err : goal.returns-clause-err
+returns-clause-err g c =
+    let z = g.R.Rows.shape c.args.rows.now in
+    let v = g.R.Rows.view c.args.seat.now in
+    let u = g.R.Rows.view c.room.new.seat in
+    let w = g.R.Rows.view c.fill.new.seat in
+    let mid = c.room.new.self in
+    let is = c.fill.new.self in
+    let P : Refusal → Type 0 = λ why. Halts 2 (g.R.Rows.shape c.room.new.rows) u why w in
+    let Q : Refusal → Type 0 = λ why. HasRefused 4 z c.args.path.now v c.args.self.now why w is in
+    err_to P Q c.fill.result (λ why same h. refused_behind c.laws.ensures.rows c.requires.keeps c.in_ok-frame.ensures.ok same (subst (λ (s : Shape). Halts 2 s u why w) c.in_ok-frame.ensures.fits.1 h)) c.fill.ensures.same c.fill.ensures.err
+
+pub returns-clause-disk : goal.returns-clause-disk
+returns-clause-disk g c =
+    let z = g.R.Rows.shape c.args.rows.now in
+    let u = g.R.Rows.view c.room.new.seat in
+    let w = g.R.Rows.view c.fill.new.seat in
+    let unseen = subst (λ (s : Shape). IsUnseen s.alone u c.room.new.self w c.fill.new.self) c.in_ok-frame.ensures.fits.1 c.fill.ensures.unseen in
+    disked_then c.laws.ensures.disk (c.in_ok-frame.ensures.ok.broken ∙ c.requires.well) c.in_ok-frame.ensures.disk (unseen_disk c.laws.ensures.disk (g.met.P.Part.lawful c.room.new.dev) unseen)

@@ -1,0 +1,40 @@
+use Rattle.std.proofs.Common.{[], ◌∷◌, length, ap, subst, arith}
+use Rattle.row_words.specs.declared.event.Event.TheVariants.{Rescue}
+use Rattle.rows_trait.specs.Turns.{Ran}
+use Rattle.rows_trait.specs.Views.{Shape}
+use Rattle.rows_trait.proofs.Runs.{ran_append}
+use Rattle.page_provider.specs.Providers.{Provider}
+use Rattle.page_provider.proofs.Coming.{can_revive, entry_is, revived}
+use Rattle.page_provider.proofs.pager.Pager.rescue_free.Goals as goal
+
+pub take-requires-clause-frame : goal.take-requires-clause-frame
+take-requires-clause-frame g c =
+    let x = entry_is c.laws.ensures.rows c.requires.keeps c.requires.there in
+    let a = x.within in
+    let b = c.requires.keeps.sized.given in
+    let d = ap (λ (p : Provider). p.frames) c.self.view_is in
+    let e = c.frames.ensures in
+    omega arith
+
+pub revive-requires-clause-revives : goal.revive-requires-clause-revives
+revive-requires-clause-revives g c =
+    let h = c.in_ok-own.ensures.ok in
+    can_revive c.laws.ensures.rows c.requires.keeps c.requires.there c.requires.free h.1.ran c.in_ok-own.ensures.fits.1 h.0
+
+pub remove-requires : goal.remove-requires
+remove-requires g c =
+    let x = entry_is c.laws.ensures.rows c.requires.keeps c.requires.there in
+    let a = x.below in
+    let b = c.requires.keeps.pages in
+    let d = ap (λ (p : Provider). length p.free) c.self.view_is in
+    omega arith
+
+pub returns-clause-ok : goal.returns-clause-ok
+returns-clause-ok g c =
+    let z = g.R.Rows.shape c.args.rows.now in
+    let v = g.R.Rows.view c.args.seat.now in
+    let t = g.R.Rows.view c.take.new.seat in
+    let w = g.R.Rows.view c.revive.new.seat in
+    let went = c.revive.ensures.went in
+    let all = ran_append z.alone v [] t (Rescue c.args.entry.page ∷ []) w c.in_ok-own.ensures.ok.1.ran (subst (λ (s : Shape). Ran s.alone t (Rescue c.args.entry.page ∷ []) w) c.in_ok-own.ensures.fits.1 went.ran) in
+    revived c.self.view_is c.laws.ensures.rows c.requires.keeps went.held c.requires.there c.requires.free all c.take-2.new.self c.take-2.ensures c.remove.new.self c.remove.ensures

@@ -1,0 +1,94 @@
+use Rattle.std.proofs.Common.{◌≡◌, ◌∙◌, ◌<◌, [], ◌∷◌, sym, ap, subst, true≢false}
+use Rattle.std.proofs.lemmas.Result.{err_from_is_err_and}
+use Rattle.row_words.specs.declared.event.Event.TheVariants.{Rescue}
+use Rattle.rows_trait.specs.Turns.{Ran}
+use Rattle.rows_trait.specs.Views.{Shape, state}
+use Rattle.rows_trait.proofs.Runs.{ran_append}
+use Rattle.page_provider.specs.Finds.{Halts, IsSeen, Naming}
+use Rattle.page_provider.specs.Providers.{Provider}
+use Rattle.page_provider.specs.declared.refusal.Refusal.{Refusal}
+use Rattle.page_provider.proofs.Coming.{cool_hot, entry_is, rescued_node}
+use Rattle.page_provider.proofs.Parents.{can_relink, frame_fits, halts_stopped, linked, named_apart, named_hot, named_keeps, named_seen, none_comes}
+use Rattle.page_provider.proofs.Savings.{if_err}
+use Rattle.page_provider.proofs.pager.Pager.rescue_node.Goals as goal
+
+pub returns-in_default-clause-ok : goal.returns-in_default-clause-ok
+returns-in_default-clause-ok g c =
+    let v = g.R.Rows.view c.args.seat.now in
+    let x = entry_is c.laws.ensures.rows c.requires.keeps c.requires.there in
+    let n = subst (λ o. Naming (g.R.Rows.shape c.args.rows.now) v c.frames-frames.result c.from.result o (g.R.Rows.view c.naming.new.seat)) c.in_default.is c.in_ok-parent.ensures.ok in
+    none_comes c.args.entry.page c.laws.ensures.rows c.requires.keeps c.requires.held x.below (cool_hot ((state v).core.place c.args.entry.page) x.cooling) c.requires.live c.in_ok-parent.ensures.fits.2
+    (c.frames-frames.ensures ∙ ap (λ (p : Provider). p.frames) c.self.view_is) c.from.ensures n.0 n.1
+
+pub take_with-requires-clause-sound : goal.take_with-requires-clause-sound
+take_with-requires-clause-sound g c =
+    let n = subst (λ o. Naming (g.R.Rows.shape c.args.rows.now) (g.R.Rows.view c.args.seat.now) c.frames-frames.result c.from.result o (g.R.Rows.view c.naming.new.seat)) c.in-Some.is c.in_ok-parent.ensures.ok in
+    (named_keeps c.laws.ensures.rows c.requires.keeps n).sound
+
+pub take_with-requires-clause-first : goal.take_with-requires-clause-first
+take_with-requires-clause-first g c =
+    let u = g.R.Rows.view c.naming.new.seat in
+    let n = subst (λ o. Naming (g.R.Rows.shape c.args.rows.now) (g.R.Rows.view c.args.seat.now) c.frames-frames.result c.from.result o u) c.in-Some.is c.in_ok-parent.ensures.ok in
+    subst (λ (s : Shape). IsSeen s c.in-Some.parent u) (sym c.in_ok-parent.ensures.fits.1) (named_seen c.laws.ensures.rows c.requires.keeps n)
+
+pub take_with-requires-clause-frame : goal.take_with-requires-clause-frame
+take_with-requires-clause-frame g c =
+    let n = subst (λ o. Naming (g.R.Rows.shape c.args.rows.now) (g.R.Rows.view c.args.seat.now) c.frames-frames.result c.from.result o (g.R.Rows.view c.naming.new.seat)) c.in-Some.is c.in_ok-parent.ensures.ok in
+    let now = named_keeps c.laws.ensures.rows c.requires.keeps n in
+    frame_fits c.in_ok-parent.ensures.fits.1 now (entry_is c.laws.ensures.rows now c.requires.there).within
+
+pub take_with-requires-clause-apart : goal.take_with-requires-clause-apart
+take_with-requires-clause-apart g c =
+    let n = subst (λ o. Naming (g.R.Rows.shape c.args.rows.now) (g.R.Rows.view c.args.seat.now) c.frames-frames.result c.from.result o (g.R.Rows.view c.naming.new.seat)) c.in-Some.is c.in_ok-parent.ensures.ok in
+    named_apart c.laws.ensures.rows c.requires.keeps n c.requires.there
+
+pub returns-in_err-above-clause-err : goal.returns-in_err-above-clause-err
+returns-in_err-above-clause-err g c =
+    let z = g.R.Rows.shape c.args.rows.now in
+    let v = g.R.Rows.view c.args.seat.now in
+    let w = g.R.Rows.view c.take_with.new.seat in
+    let n = subst (λ o. Naming z v c.frames-frames.result c.from.result o (g.R.Rows.view c.naming.new.seat)) c.in-Some.is c.in_ok-parent.ensures.ok in
+    let p = err_from_is_err_and c.from_residual-in_err-above.result c.from_residual-in_err-above.ensures.1 in
+    let p2 = p.2 in
+    let why = c.in_err-above.field-0.0 in
+    let e : why ≡ p.0 = cc in
+    let P : Refusal → Type 0 = λ q. Halts 2 z v q w in
+    if_err c.from_residual-in_err-above.result p.0 P p.1 (subst P e (halts_stopped c.in_ok-parent.ensures.fits.1 n c.in_err-above.ensures.err c.in_err-above.ensures.cause))
+
+pub relink-requires-clause-relinks : goal.relink-requires-clause-relinks
+relink-requires-clause-relinks g c =
+    let v = g.R.Rows.view c.args.seat.now in
+    let n = subst (λ o. Naming (g.R.Rows.shape c.args.rows.now) v c.frames-frames.result c.from.result o (g.R.Rows.view c.naming.new.seat)) c.in-Some.is c.in_ok-parent.ensures.ok in
+    let x = entry_is c.laws.ensures.rows c.requires.keeps c.requires.there in
+    let h = c.in_ok-above.ensures.ok in
+    let l = linked c.laws.ensures.rows c.requires.keeps c.in_ok-parent.ensures.fits.1 x.below (cool_hot ((state v).core.place c.args.entry.page) x.cooling) c.from.ensures n h.2 in
+    let many = c.frames-frames.ensures ∙ ap (λ (p : Provider). p.frames) c.self.view_is in
+    can_relink c.laws.ensures.rows c.requires.keeps (subst (λ m. m < 4294967296) many c.frames-frames.type_inv) c.requires.there l (c.in_ok-above.ensures.fits.1 ∙ c.in_ok-parent.ensures.fits.1) h.0 h.1
+
+pub returns-clause-ok : goal.returns-clause-ok
+returns-clause-ok g c =
+    let z = g.R.Rows.shape c.args.rows.now in
+    let v = g.R.Rows.view c.args.seat.now in
+    let t = g.R.Rows.view c.take_with.new.seat in
+    let w = g.R.Rows.view c.relink.new.seat in
+    let n = subst (λ o. Naming z v c.frames-frames.result c.from.result o (g.R.Rows.view c.naming.new.seat)) c.in-Some.is c.in_ok-parent.ensures.ok in
+    let x = entry_is c.laws.ensures.rows c.requires.keeps c.requires.there in
+    let h = c.in_ok-above.ensures.ok in
+    let l = linked c.laws.ensures.rows c.requires.keeps c.in_ok-parent.ensures.fits.1 x.below (cool_hot ((state v).core.place c.args.entry.page) x.cooling) c.from.ensures n h.2 in
+    let went = c.relink.ensures.went in
+    let all = ran_append z.alone v [] t (Rescue c.args.entry.page ∷ []) w l.ran (subst (λ (s : Shape). Ran s.alone t (Rescue c.args.entry.page ∷ []) w) (c.in_ok-above.ensures.fits.1 ∙ c.in_ok-parent.ensures.fits.1) went.ran) in
+    rescued_node c.self.view_is c.laws.ensures.rows c.requires.keeps went.held c.requires.there c.requires.live l.before all c.take.new.self c.take.ensures
+
+pub returns-in_err-above-clause-astray : goal.returns-in_err-above-clause-astray
+returns-in_err-above-clause-astray g c = λ alone none.
+    let v = g.R.Rows.view c.args.seat.now in
+    let n = subst (λ o. Naming (g.R.Rows.shape c.args.rows.now) v c.frames-frames.result c.from.result o (g.R.Rows.view c.naming.new.seat)) c.in-Some.is c.in_ok-parent.ensures.ok in
+    let x = entry_is c.laws.ensures.rows c.requires.keeps c.requires.there in
+    absurd (true≢false (sym (named_hot c.laws.ensures.rows c.requires.keeps x.below (cool_hot ((state v).core.place c.args.entry.page) x.cooling) c.from.ensures n alone) ∙ none))
+
+pub returns-clause-astray : goal.returns-clause-astray
+returns-clause-astray g c = λ alone none.
+    let v = g.R.Rows.view c.args.seat.now in
+    let n = subst (λ o. Naming (g.R.Rows.shape c.args.rows.now) v c.frames-frames.result c.from.result o (g.R.Rows.view c.naming.new.seat)) c.in-Some.is c.in_ok-parent.ensures.ok in
+    let x = entry_is c.laws.ensures.rows c.requires.keeps c.requires.there in
+    absurd (true≢false (sym (named_hot c.laws.ensures.rows c.requires.keeps x.below (cool_hot ((state v).core.place c.args.entry.page) x.cooling) c.from.ensures n alone) ∙ none))

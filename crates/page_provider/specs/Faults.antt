@@ -1,0 +1,99 @@
+-- A page that is brought into a frame: what is asked, what comes, and why no frame could be given.
+use Rattle.std.specs.Prelude.{◌≡◌, ◌≤◌, ◌<◌, ◌+◌, ◌⊎◌, ℕ, true, false, List, length, Option, Some, None}
+use Rattle.map_model.specs.Lists.{Has}
+use Rattle.page_model.specs.Check.{names_page}
+use Rattle.core_state.specs.Needs.{has_hot_parent}
+use Rattle.core_state.specs.States.{Place, flushed_by_all, is_cooling, is_hot}
+use Rattle.lean_disk.specs.Story.{Story, Tells}
+use Rattle.page_calls.specs.Calls.{IsDamaged}
+use Rattle.free_pages.specs.Pages.{count}
+use Rattle.row_words.specs.Openings.{opening}
+use Rattle.rows_trait.specs.declared.view.View.{View}
+use Rattle.rows_trait.specs.Views.{Shape, state}
+use Rattle.page_pool.specs.Full.{IsHeldBack, IsTaken, IsWay}
+use Rattle.page_provider.specs.declared.refusal.Refusal.{Refusal}
+use Rattle.page_provider.specs.declared.refusal.Refusal.TheVariants as refusal
+use Rattle.page_provider.specs.Moves.{KeepsPath, Moved, way}
+use Rattle.page_provider.specs.Providers.{Provider}
+
+-- ## What is asked
+
+-- The frames of a descent. Where nobody else steps they begin with the root's, and have with each page the one that names it.
+pub record IsDescent (z : Shape) (v : View) (path : List ℕ) : Type 0 where
+  pub within : (f : ℕ) → Has f path → f < (opening v.given).frames
+  pub root : z.alone ≡ true → Has 0 path
+  pub closed : z.alone ≡ true → IsWay (opening v.given) (state v).core (way path (state v).core)
+
+-- if a hot page names this one, it is among them
+abbrev pub LeadsTo : Shape → View → List ℕ → (page : ℕ) → Type 0
+LeadsTo z v path page = z.alone ≡ true → (q : ℕ) → q < (opening v.given).format.pages → names_page ((state v).core.page q).node page ≡ true → is_hot ((state v).core.place q) ≡ true → way path (state v).core q ≡ true
+
+-- the page is neither hot nor free, and no hot page names it
+pub record IsAstray (v : View) (page : ℕ) : Type 0 where
+  pub hot : is_hot ((state v).core.place page) ≡ false
+  pub live : ((state v).core.page page).node.live ≡ true
+  pub parent : has_hot_parent (opening v.given) (state v).core page ≡ false
+
+-- the page is hot, or free, or each page that names it is hot and nobody else steps
+pub record IsWanted (z : Shape) (v : View) (page : ℕ) : Type 0 where
+  pub below : page < (opening v.given).format.pages
+  pub at_hand : (is_hot ((state v).core.place page) ≡ true) ⊎ ((((state v).core.page page).node.live ≡ false) ⊎ ((z.alone ≡ true) × (has_hot_parent (opening v.given) (state v).core page ≡ true)))
+
+-- ## What comes
+
+-- The page stands hot in the frame, and each page of the path where it stood.
+pub record HasPlaced (most : ℕ) (z : Shape) (path : List ℕ) (v : View) (was : Provider) (page frame : ℕ) (u : View) (is : Provider) : Type 0 where
+  pub moved : Moved most z v was u is
+  pub keeps : KeepsPath path v u
+  pub hot : (state u).core.place page ≡ Place.Hot frame
+  pub broken : is.broken ≡ was.broken
+
+-- It stands in none, and is no free one. Where nobody else steps no hot page names it, and nothing was done.
+pub record HasLost (most : ℕ) (z : Shape) (path : List ℕ) (v : View) (was : Provider) (page : ℕ) (u : View) (is : Provider) : Type 0 where
+  pub moved : Moved most z v was u is
+  pub keeps : KeepsPath path v u
+  pub broken : is.broken ≡ was.broken
+  pub hot : is_hot ((state v).core.place page) ≡ false
+  pub live : ((state v).core.page page).node.live ≡ true
+  pub astray : z.alone ≡ true → IsAstray v page × (is ≡ was)
+
+abbrev pub Faulted : (most : ℕ) → Shape → List ℕ → View → Provider → (page : ℕ) → Option ℕ → View → Provider → Type 0
+Faulted most z path v was page (Some frame) u is = HasPlaced most z path v was page frame u is
+Faulted most z path v was page None u is = HasLost most z path v was page u is
+
+-- ## No frame
+
+-- Of so many frames each is in one of the four counts. Where nobody else steps, and the frames of the path are those of a descent: each
+-- has a page of the path, or one above what is flushed everywhere, or one that is held back by a worker; and there is such a page where
+-- the count of these is not 0.
+pub record IsFull (z : Shape) (path : List ℕ) (on above held : ℕ) (u : View) : Type 0 where
+  pub taken : (f : ℕ) → f < (opening u.given).frames → IsTaken (opening u.given) (state u).core (way path (state u).core) f
+  pub on_few : on ≤ length path
+  pub some_above : 0 < above → (p : ℕ) × (is_cooling ((state u).core.place p) ≡ true) × (flushed_by_all (opening u.given) (state u).core < ((state u).core.page p).gsn)
+  pub some_held : 0 < held → (p : ℕ) × (is_cooling ((state u).core.place p) ≡ true) × IsHeldBack (state u).core p
+
+abbrev pub FullCause : Shape → List ℕ → View → Provider → Refusal → Type 0
+FullCause z path u is (refusal.PoolFull on latched above held) = (on + latched + above + held ≡ is.frames) × (z.alone ≡ true → (latched ≡ 0) × IsFull z path on above held u)
+FullCause z path u is _ = Unit {0}
+
+-- ## Why a page could not be read
+
+abbrev pub LostCause : Provider → (page : ℕ) → Story → Refusal → Type 0
+LostCause was page s (refusal.DiskFault) = Unit {0}
+LostCause was page s (refusal.Damaged p counts other) = (p ≡ page) × (Tells s 1 → IsDamaged was.slots was.generation page (s.area 1).bytes counts other)
+LostCause was page s _ = ⊥
+
+-- ## Why no page came: s is what the device told before
+
+abbrev pub FaultCause : Shape → List ℕ → Provider → (page : ℕ) → Story → View → Provider → Refusal → Type 0
+FaultCause z path was page s u is (refusal.PoolFull on latched above held) = FullCause z path u is (refusal.PoolFull on latched above held)
+FaultCause z path was page s u is (refusal.Damaged p counts other) = LostCause was page s (refusal.Damaged p counts other)
+FaultCause z path was page s u is (refusal.NoPages) = ⊥
+FaultCause z path was page s u is _ = Unit {0}
+
+-- ## Why no page was given out
+
+abbrev pub NoPageCause : Provider → (wanted : ℕ) → Refusal → Type 0
+NoPageCause k wanted (refusal.NoPages) = (k.broken ≡ false) × (count k.free < wanted)
+NoPageCause k wanted (refusal.Broken) = k.broken ≡ true
+NoPageCause k wanted _ = ⊥
