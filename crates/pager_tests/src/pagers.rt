@@ -53,10 +53,11 @@ fn the_least_of_the_free_pages_is_given_out(rt: HostRuntime) -> Result<(), Fail>
         (32, 16, &[], 1, Answer::NoPages),
         (4096, 65536, &[65535], 1, Answer::Page(65535)),
     ] {
-        let Some(pager) = pager_with(rt.alloc(), frames, pages, free)? else {
-            unreachable!(rt; "as many slots as pages")
+        let given = match pager_with(rt.alloc(), frames, pages, free)? {
+            Some(pager) => given(&pager, wanted),
+            None => Answer::Other,
         };
-        assert_eq!(rt; given(&pager, wanted), answer, "of {pages} pages");
+        assert_eq!(rt; given, answer, "of {pages} pages");
     }
     Ok(())
 }
