@@ -7,7 +7,7 @@ use Rattle.page_model.specs.Pairs.{Pair, Has}
 use Rattle.page_model.specs.Page.{Page, with_pairs}
 use Rattle.btree_node.specs.Words.{flat, packed, kind_of, pair_words, words_of}
 use Rattle.btree_node.proofs.FlatLemmas.{length-flat}
-use Rattle.row_opening.specs.Inside.{linked, linked_page, turned, ArePlain}
+use Rattle.row_opening.specs.Inside.{linked, linked_page, turned, ArePlain, page_row}
 
 -- ## Pairs in words
 
@@ -75,21 +75,28 @@ none = 0 ∷ 0 ∷ []
 pub copied : (p : Page) (row ws : List ℕ) → row ≡ replicate 129 0 → ws ≡ words_of p → put_mid 1 126 row ws ≡ 0 ∷ (words_of p ++ none)
 copied p row ws zeros is = ap (λ r. put_mid 1 126 r ws) zeros ∙ ap (λ z. 0 ∷ (z ++ none)) is
 
-pub pairs_of_row : (p : Page) (row : List ℕ) → length p.node.pairs ≤ 60 → row ≡ 0 ∷ (words_of p ++ none) → take 120 (drop 7 row) ≡ pair_words p.node.pairs
-pairs_of_row p row room is = ap (λ r. take 120 (drop 7 r)) is ∙ take_at (pair_words p.node.pairs) none 120 (pairs_long p.node.pairs room)
+pub pairs_of_row : (p : Page) (tail row : List ℕ) → length p.node.pairs ≤ 60 → row ≡ 0 ∷ (words_of p ++ tail) → take 120 (drop 7 row) ≡ pair_words p.node.pairs
+pairs_of_row p tail row room is = ap (λ r. take 120 (drop 7 r)) is ∙ take_at (pair_words p.node.pairs) tail 120 (pairs_long p.node.pairs room)
 
-pub linked_row : (p : Page) (row new : List ℕ) → length p.node.pairs ≤ 60 → row ≡ 0 ∷ (words_of p ++ none) → new ≡ turned (length p.node.pairs) (take 120 (drop 7 row)) →
-    put_mid 7 120 row new ≡ 0 ∷ (words_of (with_pairs p (linked p.node.pairs)) ++ none)
-linked_row p row new room is done =
+pub linked_row : (p : Page) (tail row new : List ℕ) → length p.node.pairs ≤ 60 → row ≡ 0 ∷ (words_of p ++ tail) → new ≡ turned (length p.node.pairs) (take 120 (drop 7 row)) →
+    put_mid 7 120 row new ≡ 0 ∷ (words_of (with_pairs p (linked p.node.pairs)) ++ tail)
+linked_row p tail row new room is done =
     let ps = p.node.pairs in
-    let e : new ≡ pair_words (linked ps) = done ∙ (ap (turned (length ps)) (pairs_of_row p row room is) ∙ turned_pairs ps) in
+    let e : new ≡ pair_words (linked ps) = done ∙ (ap (turned (length ps)) (pairs_of_row p tail row room is) ∙ turned_pairs ps) in
     ap (λ r. put_mid 7 120 r new) is
-    ∙ (ap (λ z. 0 ∷ p.number ∷ p.gsn ∷ p.generation ∷ packed (length ps) p.node.level p.last_log (kind_of p.node.live) ∷ p.node.low ∷ p.node.high ∷ (z ++ drop 120 (pair_words ps ++ none))) e
-    ∙ (ap (λ z. 0 ∷ p.number ∷ p.gsn ∷ p.generation ∷ packed (length ps) p.node.level p.last_log (kind_of p.node.live) ∷ p.node.low ∷ p.node.high ∷ (pair_words (linked ps) ++ z)) (drop_at (pair_words ps) none 120 (pairs_long ps room))
-    ∙ ap (λ n. 0 ∷ p.number ∷ p.gsn ∷ p.generation ∷ packed n p.node.level p.last_log (kind_of p.node.live) ∷ p.node.low ∷ p.node.high ∷ (pair_words (linked ps) ++ none)) (sym (linked_long ps))))
+    ∙ (ap (λ z. 0 ∷ p.number ∷ p.gsn ∷ p.generation ∷ packed (length ps) p.node.level p.last_log (kind_of p.node.live) ∷ p.node.low ∷ p.node.high ∷ (z ++ drop 120 (pair_words ps ++ tail))) e
+    ∙ (ap (λ z. 0 ∷ p.number ∷ p.gsn ∷ p.generation ∷ packed (length ps) p.node.level p.last_log (kind_of p.node.live) ∷ p.node.low ∷ p.node.high ∷ (pair_words (linked ps) ++ z)) (drop_at (pair_words ps) tail 120 (pairs_long ps room))
+    ∙ ap (λ n. 0 ∷ p.number ∷ p.gsn ∷ p.generation ∷ packed n p.node.level p.last_log (kind_of p.node.live) ∷ p.node.low ∷ p.node.high ∷ (pair_words (linked ps) ++ tail)) (sym (linked_long ps))))
 
 pub words_long : (p : Page) → length p.node.pairs ≤ 60 → length (words_of p) ≡ 126
 words_long p h = let a = pairs_long p.node.pairs h in omega arith
+
+pub row_long : (p : Page) → 129 ≤ length (page_row p)
+row_long p =
+    let ps = p.node.pairs in
+    let a = length-append (words_of p) (2 ^ 63 ∷ p.gsn ∷ []) in
+    let b = length-append (flat ps) (replicate {A = ℕ} (120 - 2 * length ps) 0) in
+    let d = length-flat ps in let e = length-replicate {A = ℕ} (120 - 2 * length ps) 0 in omega arith
 
 set_last : (W : List ℕ) (a b x y : ℕ) (n : ℕ) → length W ≡ n → set (set (W ++ (x ∷ y ∷ [])) n a) (suc n) b ≡ W ++ (a ∷ b ∷ [])
 set_last [] a b x y n e = ap (λ j. set (set (x ∷ y ∷ []) j a) (suc j) b) (sym e)

@@ -2,7 +2,7 @@
 -- of its own number.
 use Rattle.std.proofs.Common.{◌≡◌, ◌<◌, ◌≤◌, ◌+◌, ◌&&◌, ◌||◌, ◌==◌, not, ltb, leb, ℕ, zero, suc, Bool, true, false, List, [], ◌∷◌, ◌++◌, length, refl, sym, ap, ◌∙◌, subst, true≢false, arith}
 use Rattle.std.specs.Prelude.{if◌then◌else◌}
-use Rattle.std.proofs.lemmas.Bool.{lt-ltb, le-ltb, eqb-true, and_parts, not-true, and_from, or_left, or_right, cond-true, cond-false}
+use Rattle.std.proofs.lemmas.Bool.{lt-ltb, le-ltb, eqb-true, ne_eqb, and_parts, not-true, and_from, or_left, or_right, cond-true, cond-false}
 use Rattle.std.proofs.lemmas.Bool.Decides.{nat_tests}
 use Rattle.map_model.specs.Lists.{upd}
 use Rattle.page_model.specs.Nodes.{Node}
@@ -122,6 +122,18 @@ stands v hot = record (first_state v) { place = λ p. place_of (hot p) p }
 
 abbrev pub at : Given → (ℕ → Bool) → Moment
 at v hot = record { core = stands v hot; answer = λ _. 0 }
+
+-- page 0 alone is hot at the start
+pub root_alone : (v : Given) → stands v (λ q. q == 0) ≡ first_state v
+root_alone v = λ i. record (first_state v) { place = λ q. root_place q i }
+  where
+    root_place : (q : ℕ) → place_of (q == 0) q ≡ upd (λ _. Place.Cold) 0 (Place.Hot 0) q
+    root_place q = cases (q == 0)
+        (λ t. ap (λ b. place_of b q) t ∙ (ap Place.Hot (eqb-true q 0 t) ∙ sym (cond-true (q == 0) (Place.Hot 0) Place.Cold t)))
+        (λ f. ap (λ b. place_of b q) f ∙ sym (cond-false (q == 0) (Place.Hot 0) Place.Cold f))
+
+pub cold_others : (q : ℕ) → 0 < q → place_of (q == 0) q ≡ Place.Cold
+cold_others q some = ap (λ b. place_of b q) (ne_eqb q 0 (λ e. absurd (omega arith)))
 
 module _ (v : Given) (tree : IsTree (opening v).format (node_in v.pages)) (some : 0 < length v.pages) (fit : length v.pages ≤ v.frames) where
   abbrev g : Opening
@@ -277,18 +289,13 @@ module _ (v : Given) (tree : IsTree (opening v).format (node_in v.pages)) (some 
   -- ## All loads
 
   starts : stands v (from_level 8) ≡ first_state v
-  starts = λ i. record (first_state v) { place = λ q. place_at q i }
+  starts = ap (stands v) (same_hot (from_level 8) (λ q. q == 0) (λ q. only_root (node q).live (node q).level q (low q) (λ e. ap (λ z. (node z).live) e ∙ tree.root.0))) ∙ root_alone v
     where
       low : (q : ℕ) → (node q).live ≡ true → (node q).level ≤ 7
       low q t = let l = live_below v.pages q t in ((tree.formed q (omega arith)).node t).tall
 
-      root_alone : (l : Bool) (k q : ℕ) → (l ≡ true → k ≤ 7) → (q ≡ 0 → l ≡ true) → in_from l k 8 q ≡ (q == 0)
-      root_alone l k q h r = same_tests (in_from l k 8 q) (q == 0) (λ t. grind (arith, nat_tests)) (λ t. grind (arith, nat_tests))
-
-      place_at : (q : ℕ) → place_of (from_level 8 q) q ≡ upd (λ _. Place.Cold) 0 (Place.Hot 0) q
-      place_at q = ap (λ b. place_of b q) (root_alone (node q).live (node q).level q (low q) (λ e. ap (λ z. (node z).live) e ∙ tree.root.0)) ∙ cases (q == 0)
-          (λ t. ap (λ b. place_of b q) t ∙ (ap Place.Hot (eqb-true q 0 t) ∙ sym (cond-true (q == 0) (Place.Hot 0) Place.Cold t)))
-          (λ f. ap (λ b. place_of b q) f ∙ sym (cond-false (q == 0) (Place.Hot 0) Place.Cold f))
+      only_root : (l : Bool) (k q : ℕ) → (l ≡ true → k ≤ 7) → (q ≡ 0 → l ≡ true) → in_from l k 8 q ≡ (q == 0)
+      only_root l k q h r = same_tests (in_from l k 8 q) (q == 0) (λ t. grind (arith, nat_tests)) (λ t. grind (arith, nat_tests))
 
   ends : (q : ℕ) → from_level 0 q ≡ (node q).live
   ends q = all_in (node q).live (node q).level q

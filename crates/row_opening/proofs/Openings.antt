@@ -1,5 +1,5 @@
 -- What is given of pages: the pages as they are, and an opening of the core that opens so.
-use Rattle.std.proofs.Common.{◌≡◌, ◌<◌, ◌≤◌, ◌-◌, ◌^◌, ltb, ℕ, zero, suc, true, List, Some, None, slice_get, [], ◌∷◌, length, refl, sym, ap, subst, ◌∙◌, inl, inr, arith}
+use Rattle.std.proofs.Common.{◌≡◌, ◌<◌, ◌≤◌, ◌-◌, ◌^◌, ◌==◌, ltb, ℕ, zero, suc, true, List, Some, None, slice_get, get_or, [], ◌∷◌, length, refl, sym, ap, subst, ◌∙◌, inl, inr, arith}
 use Rattle.std.proofs.lemmas.Bool.{cases_lt, cases_Bool, lt-ltb, le-ltb, ltb-true}
 use Rattle.image_model.specs.Entries.{Contents}
 use Rattle.page_model.specs.Pairs.{Pair}
@@ -7,14 +7,17 @@ use Rattle.page_model.specs.Nodes.{Node, free}
 use Rattle.page_model.specs.Page.{Page, new_page}
 use Rattle.page_model.specs.Tree.{IsTree}
 use Rattle.core_state.specs.Openings.{Opening}
+use Rattle.row_words.specs.declared.event.Event.{Event}
+use Rattle.row_words.specs.declared.given.Given.{Given}
 use Rattle.row_words.specs.Moments.{Moment, format_of, pairs_of, page_in, first_state}
 use Rattle.row_words.specs.Openings.{opening}
 use Rattle.row_words.specs.Sealed.{begun}
 use Rattle.row_opening.specs.Openings.{Opens}
 use Rattle.row_opening.specs.Opened.{page_at, ArePages, entries_of, pages_of, given_of, contents_of, IsOpened}
+use Rattle.row_opening.specs.Rooted.{rooted_of, IsRooted}
 use Rattle.row_opening.specs.Inside.{HasPlain}
 use Rattle.row_opening.proofs.Links.{plain_pairs}
-use Rattle.row_opening.proofs.Loads.{node_in, place_of, stands, begins, met}
+use Rattle.row_opening.proofs.Loads.{node_in, place_of, at, root_alone, cold_others, begins, met}
 
 -- ## Pages as data
 
@@ -42,6 +45,12 @@ pub some_at : (pages : List Page) (p : ℕ) → p < length pages → slice_get p
 some_at [] p h = absurd (omega arith)
 some_at (x ∷ xs) zero h = refl
 some_at (x ∷ xs) (suc p) h = some_at xs p (omega arith)
+
+-- what an index reads
+pub here_at : (pages : List Page) (p : ℕ) (other : Page) → p < length pages → get_or pages p other ≡ page_at pages p
+here_at [] p other h = absurd (omega arith)
+here_at (x ∷ xs) zero other h = refl
+here_at (x ∷ xs) (suc p) other h = here_at xs p other (omega arith)
 
 -- behind the last page nothing does
 pub none_at : (pages : List Page) (p : ℕ) → length pages ≤ p → slice_get pages p ≡ None
@@ -82,50 +91,48 @@ module _ (pages : List Page) (workers base : ℕ) (are : ArePages pages base) wh
       let ok = (are.tree.formed p l.0).node l.1 in
       plain_pairs (page_at pages p).node.pairs _ (λ x h. let c = (ok.children some x h).1 in omega arith)
 
-  module _ (frames locks : ℕ) (fit : length pages ≤ frames) (some_worker : 1 ≤ workers) where
-    abbrev v : Rattle.row_words.specs.declared.given.Given.Given
-    v = given_of frames locks workers base pages
+  pub page_room : (p : ℕ) → p < length pages → length (page_at pages p).node.pairs ≤ 60
+  page_room p within = elim (cases_Bool (page_at pages p).node.live) [
+    | inl t ↦ ((are.tree.formed p within).node t).sized
+    | inr f ↦ let e = ap (λ (n : Node). length n.pairs) ((are.tree.formed p within).other f) in omega arith
+  ]
 
-    many : 0 < length v.pages
-    many = let a = pages_long pages in let b = are.tree.some in omega arith
+  -- the pages as they are, and what happened before
+  module _ (frames locks : ℕ) (before : List Event) where
+    abbrev given : Given
+    given = record { workers = workers; frames = frames; rows = locks; base = base; pages = pages_of pages; before = before }
 
-    fits : length v.pages ≤ v.frames
-    fits = let a = pages_long pages in omega arith
-
-    nodes : (λ p. (page_at pages p).node) ≡ node_in v.pages
+    nodes : (λ p. (page_at pages p).node) ≡ node_in given.pages
     nodes = λ i p. (sym (page_back pages p) i).node
 
-    pub tree : IsTree (opening v).format (node_in v.pages)
+    tree : IsTree (opening given).format (node_in given.pages)
     tree =
-        let e : length pages ≡ suc (length v.pages - 1) = let a = pages_long pages in let b = are.tree.some in omega arith in
+        let e : length pages ≡ suc (length given.pages - 1) = let a = pages_long pages in let b = are.tree.some in omega arith in
         let P : ℕ × (ℕ → Node) → Type 0 = λ z. IsTree (format_of z.0) z.1 in
         subst P (λ i. (e i, nodes i)) are.tree
 
-    pub began : begun v ≡ record { core = stands v (λ q. ltb q (length v.pages)); answer = λ _. 0 }
-    began = begins v tree many fits refl
-
     abbrev start : Opening
     start = record {
-      workers = (opening v).workers;
-      frames = (opening v).frames;
-      row_of = (opening v).row_of;
+      workers = (opening given).workers;
+      frames = (opening given).frames;
+      row_of = (opening given).row_of;
       changes = 64;
       joined = 45;
       base = base;
-      format = (opening v).format;
-      gsn = λ p. (page_in v.pages p).gsn;
-      last = λ p. (page_in v.pages p).last;
-      node = node_in v.pages;
-      some_worker = (opening v).some_worker;
-      some_frame = (opening v).some_frame;
-      fit = (opening v).fit;
-      keys = (opening v).keys;
-      values = (opening v).values;
+      format = (opening given).format;
+      gsn = λ p. (page_in given.pages p).gsn;
+      last = λ p. (page_in given.pages p).last;
+      node = node_in given.pages;
+      some_worker = (opening given).some_worker;
+      some_frame = (opening given).some_frame;
+      fit = (opening given).fit;
+      keys = (opening given).keys;
+      values = (opening given).values;
       low = λ p. subst (λ (c : Contents). c.gsn ≤ base) (sym (page_back pages p)) (gsn_low p);
       tree = tree;
     }
 
-    opens : Opens start v
+    opens : Opens start given
     opens = record {
       workers = refl;
       frames = refl;
@@ -137,13 +144,53 @@ module _ (pages : List Page) (workers base : ℕ) (are : ArePages pages base) wh
       logs = λ p. let a = log_low p in let b = ap (λ (c : Contents). c.last) (page_back pages p) in omega arith;
     }
 
+  -- ## Each page in a frame
+
+  module _ (frames locks : ℕ) (fit : length pages ≤ frames) where
+    abbrev v : Given
+    v = given_of frames locks workers base pages
+
+    many : 0 < length v.pages
+    many = let a = pages_long pages in let b = are.tree.some in omega arith
+
+    fits : length v.pages ≤ v.frames
+    fits = let a = pages_long pages in omega arith
+
+    pub began : begun v ≡ at v (λ q. ltb q (length v.pages))
+    began = begins v (tree frames locks v.before) many fits refl
+
     pub opened : IsOpened pages v
     opened = record {
       hot = λ p l. ap (λ m. m.core.place p) began ∙ ap (λ b. place_of b p) (lt-ltb p (length v.pages) (let a = pages_long pages in omega arith));
       cold = λ p h. ap (λ m. m.core.place p) began ∙ ap (λ b. place_of b p) (le-ltb p (length v.pages) (let a = pages_long pages in omega arith));
       page = λ p. ap (λ m. m.core.page p) began ∙ page_back pages p;
       rest = subst (λ (m : Moment). m ≡ record { core = record (first_state v) { place = m.core.place }; answer = λ _. 0 }) (sym began) refl;
-      met = met v tree many fits refl;
-      start = start;
-      opens = opens;
+      met = met v (tree frames locks v.before) many fits refl;
+      start = start frames locks v.before;
+      opens = opens frames locks v.before;
+    }
+
+  -- ## The root alone
+
+  module _ (frames locks : ℕ) where
+    abbrev rooted_v : Given
+    rooted_v = rooted_of frames locks workers base pages
+
+    rest : begun rooted_v ≡ record { core = first_state rooted_v; answer = λ _. 0 }
+    unfolding begun
+    rest = refl
+
+    pub began_rooted : begun rooted_v ≡ at rooted_v (λ q. q == 0)
+    began_rooted = rest ∙ ap (λ s. record { core = s; answer = λ _. 0 }) (sym (root_alone rooted_v))
+
+    pub rooted : IsRooted pages rooted_v
+    rooted = record {
+      root = ap (λ m. m.core.place 0) rest;
+      cold = λ p some. ap (λ m. m.core.place p) began_rooted ∙ cold_others p some;
+      page = λ p. ap (λ m. m.core.page p) rest ∙ page_back pages p;
+      saved = λ p. ap (λ m. m.core.saved p) rest ∙ page_back pages p;
+      queue = ap (λ m. m.core.queue) rest;
+      rest = rest;
+      start = start frames locks [];
+      opens = opens frames locks [];
     }

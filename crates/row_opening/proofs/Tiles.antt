@@ -1,9 +1,10 @@
 -- Rows side by side.
-use Rattle.std.proofs.Common.{◌≡◌, ◌⊎◌, ◌<◌, ◌≤◌, ◌+◌, ◌*◌, ◌-◌, ℕ, List, ◌++◌, length, get_or, take, drop, replicate, refl, sym, ap, ◌∙◌, inl, inr, arith}
+use Rattle.std.proofs.Common.{◌≡◌, ◌⊎◌, ◌<◌, ◌≤◌, ◌+◌, ◌*◌, ◌-◌, ℕ, zero, suc, List, ◌++◌, length, get_or, take, drop, replicate, refl, sym, ap, ◌∙◌, inl, inr, arith}
 use Rattle.std.proofs.lemmas.Bool.{cases_eq}
 use Rattle.std.proofs.lemmas.List.{length-append, length-take-le, length-drop, get_or_append_left, get_or-append_right, get_or-take, get_or-drop, get_or-replicate, ext_get_or}
 use borrow.Rule.Slice.PartMut.{put_mid}
-use Rattle.row_opening.specs.Inside.{AreTiled}
+use Rattle.page_model.specs.Page.{Page}
+use Rattle.row_opening.specs.Inside.{empty_row, root_row, AreTiled}
 
 -- ## A write to a part
 
@@ -52,6 +53,15 @@ tiled_zeros piece first n old ws t zeros at m e em fits = ext_get_or 0 (take m (
         ∙ (t.others (at + i) (inr (omega arith))
         ∙ (ap (λ z. get_or z (at + i) 0) zeros
         ∙ (get_or-replicate (length old) (at + i) 0 0 (omega arith) ∙ sym (get_or-replicate 129 i 0 0 (omega arith))))))
+
+-- no row yet
+pub untiled : (piece : ℕ → List ℕ) (first : ℕ) (ws : List ℕ) → AreTiled piece first 129 0 ws ws
+untiled piece first ws = record { long = refl; tiles = λ k i kl. absurd (omega arith); others = λ j out. refl }
+
+-- a row behind the root's
+pub empty_at : (root : Page) (f : ℕ) → 1 ≤ f → empty_row ≡ root_row root f
+empty_at root zero h = absurd (omega arith)
+empty_at root (suc f) h = refl
 
 -- one row more
 pub tiled_more : (piece : ℕ → List ℕ) (first n : ℕ) (old ws row : List ℕ) → AreTiled piece first 129 n old ws → (at m : ℕ) → at ≡ first + 129 * n → m ≡ 129 → at + 129 ≤ length ws → row ≡ piece n → length row ≡ 129 → AreTiled piece first 129 (n + 1) old (put_mid at m ws row)

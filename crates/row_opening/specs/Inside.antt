@@ -31,10 +31,23 @@ ArePlain (suc n) (k ∷ w ∷ ws) = (w < frame_bit) × ArePlain n ws
 abbrev pub HasPlain : Page → Type 0
 HasPlain p = ltb 0 p.node.level ≡ true → ArePlain (length p.node.pairs) (pair_words p.node.pairs)
 
--- a row with its latch: of a page its words, no hint, and its number; where there is none the mark
+-- a row with its latch: a page's words, no hint, and its number
+abbrev pub page_row : Page → List ℕ
+page_row p = 0 ∷ words_of p ++ (frame_bit ∷ p.gsn ∷ [])
+
+-- the row of an empty frame has the mark
+abbrev pub empty_row : List ℕ
+empty_row = replicate 127 0 ++ (mark ∷ 0 ∷ [])
+
+-- a page whose children are in frames, where there is one
 abbrev pub frame_row : Option Page → List ℕ
-frame_row (Some p) = 0 ∷ words_of (linked_page p) ++ (frame_bit ∷ p.gsn ∷ [])
-frame_row None = replicate 127 0 ++ (mark ∷ 0 ∷ [])
+frame_row (Some p) = page_row (linked_page p)
+frame_row None = empty_row
+
+-- the root, whose children are in no frames, in frame 0, and no page in any other
+abbrev pub root_row : Page → ℕ → List ℕ
+root_row root zero = page_row root
+root_row root (suc f) = empty_row
 
 -- the words of a worker: flushed number, last end number, outside, no answer
 abbrev pub worker_row : ℕ → List ℕ

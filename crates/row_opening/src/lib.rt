@@ -1,5 +1,6 @@
-//! Rows that begin as an opening gives them: plain rows in which each page, also a free one, stands in the frame of its own number, and the laws of
-//! the core at each moment of such rows. Read specs/Opened.antt, what the rows begin with, and specs/Openings.antt, the laws.
+//! Rows that begin as an opening gives them: plain rows in which each page, also a free one, stands in the frame of its
+//! own number, plain rows of which the root alone is in a frame, and the laws of the core at each moment of such rows.
+//! Read specs/Opened.antt and specs/Rooted.antt, what the rows begin with, and specs/Openings.antt, the laws.
 #![tactic(auto)]
 
 mod frame;
@@ -10,10 +11,11 @@ ghost use Rattle.rows_trait.specs.Plain.{sizes, IsOpening};
 ghost use Rattle.rows_trait.specs.Rule.{IsPicture, plan};
 ghost use Rattle.rows_trait.specs.Views.{first_plain};
 ghost use Rattle.row_opening.specs.Opened.{ArePages, given_of, IsOpened};
+ghost use Rattle.row_opening.specs.Rooted.{rooted_of, IsRooted};
 ghost use Rattle.row_opening.specs.Openings.{EveryNeed, EveryOpened, EveryReached};
 
 use btree_node::Node;
-use frame::set_frames;
+use frame::{set_frames, set_root};
 use rows_trait::plain::PlainRows;
 use rows_trait::trace::{Trace, Which};
 use std::alloc::{AllocError, Global};
@@ -41,6 +43,33 @@ pub fn open_rows(
 {
     let mut rows = PlainRows::new(alloc, frames, locks, workers)?;
     set_frames(&mut rows.words, 2 + 4 * workers as usize, frames, pages);
+    set_workers(&mut rows.words, workers, base);
+    let seat = seat_of::<Brand>(&rows, pages, base);
+    Ok((rows, seat))
+}
+
+/// Plain rows of which page 0, the root, alone is in a frame, the first, and their seat. The other frames are empty, so
+/// there may be more pages than frames. There are `locks` lock rows, and numbers are drawn above `base`. The one error
+/// is that memory is refused.
+pub fn open_root(
+    alloc: Global,
+    pages: &[Node],
+    frames: u32,
+    locks: u32,
+    workers: u32,
+    base: u64,
+) -> Result<(PlainRows, Trace), AllocError>
+    requires pages { ArePages pages.now base }
+    requires some { 1 ≤ frames }
+    requires workers { 1 ≤ workers }
+    requires few { frames + locks + workers < 2 ^ 32 }
+    ensures sizes { IfOk result (λ r. (r.0.frames ≡ frames) × (r.0.locks ≡ locks) × (r.0.workers ≡ workers)) }
+    ensures view { IfOk result (λ r. r.1.view ≡ first_plain (rooted_of frames locks workers base pages.now)) }
+    ensures picture { IfOk result (λ r. IsPicture (plan (sizes r.0.frames r.0.locks r.0.workers) r.1.view.given) r.0.words.items r.1.view) }
+    ensures opened { IsRooted pages.now (rooted_of frames locks workers base pages.now) }
+{
+    let mut rows = PlainRows::new(alloc, frames, locks, workers)?;
+    set_root(&mut rows.words, 2 + 4 * workers as usize, frames, &pages[0]);
     set_workers(&mut rows.words, workers, base);
     let seat = seat_of::<Brand>(&rows, pages, base);
     Ok((rows, seat))
