@@ -1,10 +1,11 @@
--- Read Known, Named, Descents, Puts, Trails and Dels in this order; Inside, Spots and DelSpots have words of private functions alone.
+-- Read Known, Named, Descents, Puts, Trails, Dels and Reaches in this order; Inside, Spots and DelSpots have words of private functions alone.
 pub mod Named
 pub mod Known
 pub mod Descents
 pub mod Puts
 pub mod Trails
 pub mod Dels
+pub mod Reaches
 pub mod Inside
 pub mod Spots
 pub mod DelSpots

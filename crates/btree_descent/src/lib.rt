@@ -9,4 +9,5 @@ pub mod descent;
 pub mod events;
 mod node;
 pub mod put;
+pub mod reach;
 mod trace;
