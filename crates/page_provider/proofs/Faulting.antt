@@ -118,7 +118,7 @@ all_true : (n : ℕ) (f : ℕ → Bool) → ((q : ℕ) → q < n → f q ≡ tru
 all_true zero f h = refl
 all_true (suc n) f h = and_from (f n) (all_below n f) (h n (omega arith)) (all_true n f (λ q l. h q (omega arith)))
 
-are_hot : (g : Opening) (s : State) (p : ℕ) → ((q : ℕ) → q < g.format.pages → names_page (s.page q).node p ≡ true → is_hot (s.place q) ≡ true) → has_hot_parent g s p ≡ true
+pub are_hot : (g : Opening) (s : State) (p : ℕ) → ((q : ℕ) → q < g.format.pages → names_page (s.page q).node p ≡ true → is_hot (s.place q) ≡ true) → has_hot_parent g s p ≡ true
 are_hot g s p h = all_true g.format.pages (λ q. not (names_page (s.page q).node p) || is_hot (s.place q)) (λ q l. go q l (names_page (s.page q).node p) refl)
   where
     go : (q : ℕ) → q < g.format.pages → (b : Bool) → names_page (s.page q).node p ≡ b → (not b || is_hot (s.place q)) ≡ true

@@ -1,4 +1,5 @@
 pub mod Loaded
+pub mod Sequels
 pub mod Standing
 pub mod Pools
 pub mod Keeping
@@ -36,4 +37,5 @@ pub mod Ticks
 pub mod Named
 pub mod Cooled
 pub mod Faulting
+pub mod Descents
 pub mod Filling

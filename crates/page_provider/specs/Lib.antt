@@ -9,6 +9,7 @@ pub mod Moves
 pub mod Cools
 pub mod Ends
 pub mod Faults
+pub mod Descents
 pub mod Amounts
 pub mod Gives
 pub mod Fresh
@@ -18,3 +19,4 @@ pub mod Inside
 pub mod Finds
 pub mod Leaves
 pub mod Comes
+pub mod Sequels

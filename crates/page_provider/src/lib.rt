@@ -19,8 +19,10 @@ mod taking;
 mod turning;
 
 ghost use Rattle.page_provider.specs.Amounts.{EveryFew};
+ghost use Rattle.page_provider.specs.Descents.{EveryDescent};
 ghost use Rattle.page_provider.specs.Fresh.{EveryFree, EveryFresh};
 ghost use Rattle.page_provider.specs.Gives.{EveryGiven};
+ghost use Rattle.page_provider.specs.Sequels.{EveryDiskRest, EveryDiskSequel, EverySequel};
 
 use lean_disk::Part;
 pub use pager::Pager;
@@ -43,10 +45,36 @@ pub fn every_few()
     lean_proto::every_stood();
 }
 
+/// The frames through which a search came are those of a descent, and lead to the page that it met and that is not hot.
+pub fn every_descent()
+    ensures { EveryDescent }
+{}
+
 /// A disk over which a run of the core stands gives each page as it is saved.
 pub fn every_given<P: Part>(now: &P)
     ensures { EveryGiven (P.story now.now) }
 {
     page_calls::every_held(now);
     row_opening::every_reached();
+}
+
+/// Two calls, one behind the other, have done together what each did; and where nobody else steps no page has other contents behind them.
+pub fn every_sequel()
+    ensures { EverySequel }
+{
+    laws::laws();
+}
+
+/// A disk of which nothing was asked is as it was.
+pub fn every_disk_rest<P: Part>(now: &P)
+    ensures { EveryDiskRest (P.story now.now) }
+{
+    laws::laws();
+}
+
+/// The disk behind two calls is as the two have made it.
+pub fn every_disk_sequel<P: Part>()
+    ensures { (old mid new : P) → EveryDiskSequel (P.story old) (P.story mid) (P.story new) }
+{
+    laws::laws();
 }

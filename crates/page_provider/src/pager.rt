@@ -79,4 +79,18 @@ impl Pager {
             buffer,
         })
     }
+
+    /// How many frames there are.
+    pub fn frames(&self) -> u32
+        ensures { result ≡ self.now.frames }
+    {
+        self.stage.frames()
+    }
+
+    /// Whether an earlier call met a damaged page or a fault of the device: then every call is refused.
+    pub fn is_broken(&self) -> bool
+        ensures { result ≡ self.now.broken }
+    {
+        self.broken
+    }
 }
