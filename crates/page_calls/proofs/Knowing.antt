@@ -144,7 +144,7 @@ pub opened_all : (ns : List ℕ) → opened_first (length ns) ns ≡ map opened_
 opened_all [] = refl
 opened_all (x ∷ ns) = ap (λ ys. opened_slot x ∷ ys) (opened_all ns)
 
-opened_length : (ns : List ℕ) → length (map opened_slot ns) ≡ length ns
+pub opened_length : (ns : List ℕ) → length (map opened_slot ns) ≡ length ns
 opened_length [] = refl
 opened_length (x ∷ ns) = ap suc (opened_length ns)
 
@@ -153,7 +153,7 @@ opened_at p [] s e = absurd (none_not s e)
 opened_at zero (x ∷ ns) s e = (omega arith, sym (some_is (opened_slot x) s e))
 opened_at (suc p) (x ∷ ns) s e = let k = opened_at p ns s e in ((let l = k.0 in omega arith), k.1)
 
-number_one : (n : ℕ) → n < 2 → n ≡ number_of (n == 1)
+pub number_one : (n : ℕ) → n < 2 → n ≡ number_of (n == 1)
 number_one zero lt = refl
 number_one (suc zero) lt = refl
 number_one (suc (suc n)) lt = absurd (omega arith)

@@ -1,3 +1,4 @@
 pub mod Knowing
 pub mod Saving
 pub mod Loading
+pub mod Mirroring

@@ -29,7 +29,7 @@ use Rattle.page_calls.specs.Calls.{IsOn, IsSaved, KeepsMoments, LoadsOn, ReadsOn
 -- ## The slot that was written last
 
 -- the slot that is not firm
-other_number : (o : Bool) (n : ℕ) → n ≡ number_of o → 1 - n ≡ number_of (not o)
+pub other_number : (o : Bool) (n : ℕ) → n ≡ number_of o → 1 - n ≡ number_of (not o)
 other_number true n e = omega arith
 other_number false n e = omega arith
 

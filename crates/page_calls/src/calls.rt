@@ -9,6 +9,7 @@ ghost use Rattle.page_store.specs.declared.slot.Seal.{Seal};
 ghost use Rattle.page_calls.specs.declared.slots.Slot.{Slot};
 ghost use Rattle.page_calls.specs.Slots.{last_slot, saved_slot, settled_slot};
 ghost use Rattle.page_calls.specs.Calls.{IsDamaged, KeepsMoments, KeepsWithin, LoadsOn, ReadsOn, SavesMoments, SavesOn, SettlesOn, bounds_of};
+ghost use Rattle.page_calls.specs.Mirrors.{FailsMirrors, LoadsMirrored, KeepsMirrors, SavesMirrors};
 
 use crate::slots::{Slots, last_slot};
 use btree_node::Node;
@@ -33,6 +34,8 @@ pub fn save<P: Part>(dev: &mut P, slots: &mut Slots, node: &Node, buffer: &mut [
     ensures stands { result ≡ Did.Done → SavesOn slots.old slots.new node.now (P.story dev.old) (P.story dev.new) }
     ensures after { result ≡ Did.Done → slots.new ≡ saved_slot node.now.number slots.old }
     ensures same { result ≡ Did.Failed → slots.new ≡ slots.old }
+    ensures mirrors { result ≡ Did.Done → SavesMirrors slots.old slots.new node.now (P.story dev.old) (P.story dev.new) }
+    ensures mirrors_failed { result ≡ Did.Failed → FailsMirrors slots.old node.now (P.story dev.old) (P.story dev.new) }
     ensures any_moment { SavesMoments slots.old node.now (P.story dev.old) (P.story dev.new) }
     ensures within { KeepsWithin (P.story dev.old) (P.story dev.new) }
     ensures frame { Framed 1 (P.story dev.old) (P.story dev.new) }
@@ -44,6 +47,8 @@ pub fn save<P: Part>(dev: &mut P, slots: &mut Slots, node: &Node, buffer: &mut [
     worker_log::every_kept();
     worker_log::every_prefix();
     disk_image::every_sealed();
+    disk_slots::every_page();
+    page_store::every_read();
     let _pages = slots.len();
     let page = node.number() as u32;
     let slot = slots.of(page);
@@ -60,6 +65,7 @@ pub fn settle<P: Part>(dev: &mut P, slots: &mut Slots) -> Did
     ensures stands { result ≡ Did.Done → SettlesOn slots.old slots.new (P.story dev.old) (P.story dev.new) }
     ensures after { result ≡ Did.Done → slots.new ≡ map settled_slot slots.old }
     ensures same { result ≡ Did.Failed → slots.new ≡ slots.old }
+    ensures mirrors { KeepsMirrors slots.old slots.new (P.story dev.old) (P.story dev.new) }
     ensures any_moment { KeepsMoments slots.old (P.story dev.old) (P.story dev.new) }
     ensures within { KeepsWithin (P.story dev.old) (P.story dev.new) }
     ensures frame { Framed 1 (P.story dev.old) (P.story dev.new) }
@@ -93,7 +99,9 @@ pub fn load<P: Part>(
     ensures own { IfOk result (IsOf (bounds_of slots.now generation) page) }
     ensures given { IfOk result (λ node. Tells (P.story dev.old) 1 → (slot : Slot) → slice_get slots.now page ≡ Some slot →
         HoldsIn (bounds_of slots.now generation) page (slot_bytes page (last_slot slot) ((P.story dev.old).area 1).bytes) (Held.Page node)) }
+    ensures saved { IfOk result (LoadsMirrored slots.now generation page (P.story dev.old)) }
     ensures stands { ReadsOn slots.now (P.story dev.old) (P.story dev.new) }
+    ensures mirrors { KeepsMirrors slots.now slots.now (P.story dev.old) (P.story dev.new) }
     ensures any_moment { KeepsMoments slots.now (P.story dev.old) (P.story dev.new) }
     ensures reads { OnlyReads (P.story dev.old) (P.story dev.new) }
     ensures seat { P.seat dev.new ≡ P.seat dev.old }

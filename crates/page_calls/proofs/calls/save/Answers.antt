@@ -4,7 +4,9 @@ use Rattle.disk_slots.specs.Pages.{page_slot}
 use Rattle.page_store.specs.Saved.{place_of}
 use Rattle.page_calls.specs.Slots.{saved_slot}
 use Rattle.page_calls.specs.Calls.{SavesOn}
+use Rattle.page_calls.specs.Mirrors.{SavesMirrors}
 use Rattle.page_calls.proofs.Saving.{keeps_moments, saves_on, other_of, wrote_within}
+use Rattle.page_calls.proofs.Mirroring.{fails_mirrors, saves_mirrors}
 use Rattle.page_calls.proofs.calls.save.Goals as goal
 
 pub returns-in_default-clause-any_moment : goal.returns-in_default-clause-any_moment
@@ -48,3 +50,24 @@ pub returns-clause-within : goal.returns-clause-within
 returns-clause-within g c =
     wrote_within (place_of c.args.node.now.number c.other.result) (page_slot c.args.node.now) c.save.result (g.P.Part.story c.args.dev.now) (g.P.Part.story c.save.new.dev) (g.met.P.Part.lawful c.args.dev.now)
     (subst (λ a. Wrote a (place_of c.args.node.now.number c.other.result) (page_slot c.args.node.now) c.save.result (g.P.Part.story c.args.dev.now) (g.P.Part.story c.save.new.dev)) c.requires.seat c.save.ensures.wrote)
+
+pub returns-clause-mirrors : goal.returns-clause-mirrors
+returns-clause-mirrors g c = λ _.
+    let y = c.args.node.now in
+    let slots = c.args.slots.now in
+    let s = c.of-slot.result in
+    let there : slice_get slots y.number ≡ Some s = subst (λ p. slice_get slots p ≡ Some s) c.number-page.ensures c.of-slot.ensures in
+    let wrote = subst (λ a. Wrote a (place_of y.number c.other.result) (page_slot y) c.save.result (g.P.Part.story c.args.dev.now) (g.P.Part.story c.save.new.dev)) c.requires.seat c.save.ensures.wrote in
+    subst (λ n. SavesMirrors slots n y (g.P.Part.story c.args.dev.now) (g.P.Part.story c.save.new.dev)) (sym (c.note.ensures ∙ ap (λ p. saved_slot p slots) c.number-page.ensures))
+    (saves_mirrors slots s y there (c.requires.early s there) c.requires.page (g.P.Part.story c.args.dev.now) (g.P.Part.story c.save.new.dev) c.other.result (other_of s.second c.other.result c.other.ensures.other c.other.ensures.first) c.save.result wrote
+    c.every_read.ensures c.in-Done.is)
+
+pub returns-in_default-clause-mirrors_failed : goal.returns-in_default-clause-mirrors_failed
+returns-in_default-clause-mirrors_failed g c = λ _.
+    let y = c.args.node.now in
+    let slots = c.args.slots.now in
+    let s = c.of-slot.result in
+    let there : slice_get slots y.number ≡ Some s = subst (λ p. slice_get slots p ≡ Some s) c.number-page.ensures c.of-slot.ensures in
+    let wrote = subst (λ a. Wrote a (place_of y.number c.other.result) (page_slot y) c.save.result (g.P.Part.story c.args.dev.now) (g.P.Part.story c.save.new.dev)) c.requires.seat c.save.ensures.wrote in
+    fails_mirrors slots s y there (c.requires.early s there) c.requires.page (g.P.Part.story c.args.dev.now) (g.P.Part.story c.save.new.dev) c.other.result (other_of s.second c.other.result c.other.ensures.other c.other.ensures.first) c.save.result wrote
+    c.every_page.ensures (g.met.P.Part.lawful c.args.dev.now) (g.met.P.Part.lawful c.save.new.dev)
