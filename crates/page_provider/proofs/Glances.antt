@@ -10,7 +10,7 @@ use Rattle.row_words.specs.Moments.{Moment, pager}
 use Rattle.row_words.specs.Openings.{opening}
 use Rattle.row_words.specs.Sealed.{Shown}
 use Rattle.rows_trait.specs.declared.view.View.{View}
-use Rattle.rows_trait.specs.Causes.{HasMoved, IsLatched}
+use Rattle.rows_trait.specs.Causes.{HasFound, HasMoved, IsLatched, OnlyLoads}
 use Rattle.rows_trait.specs.Layout.{width}
 use Rattle.rows_trait.specs.Turns.{Looked, Ran}
 use Rattle.rows_trait.specs.Views.{Shape, IsEven, Spells, held_at, hold, holds, latest, may, state}
@@ -20,15 +20,17 @@ use Rattle.version_latch.specs.declared.glimpse.Latched.{Latched}
 use Rattle.version_latch.specs.declared.glimpse.Moved.{Moved}
 use Rattle.version_latch.proofs.Naming.{checked_other, missed_even, missed_odd}
 use Rattle.version_latch.proofs.Keeping.{looked_ran, may_ran}
+use Rattle.held_rows.specs.Latching as latching
 use Rattle.held_rows.specs.Latching.{Refused, Took}
+use Rattle.held_rows.specs.declared.latching.Refusal.TheVariants.{RowSpent}
 use Rattle.held_rows.specs.Rows.{HoldsOne, OpensOne}
 use Rattle.held_rows.specs.Steps as steps
 use Rattle.page_provider.specs.Inside.{Judges, Missed, Numbers, Takes}
 use Rattle.page_provider.specs.declared.refusal.Refusal.{Refusal}
 use Rattle.page_provider.specs.declared.refusal.Refusal.TheVariants as refusal
-use Rattle.page_provider.specs.Refusals.{Caused, IsOfRow, IsOthers}
+use Rattle.page_provider.specs.Refusals.{Caused, IsOfRow, IsOthers, SpentAt}
 use Rattle.page_provider.specs.Steps.{IsMissAtMost}
-use Rattle.page_provider.proofs.Loaded.{latched_loaded, moved_loaded}
+use Rattle.page_provider.proofs.Loaded.{found_loaded, latched_loaded, moved_loaded}
 
 -- ## Looks
 
@@ -70,9 +72,10 @@ saved_at : (v : Given) (m : Moment) (row p x : ℕ) → row < (opening v).frames
 unfolding Shown
 saved_at v m row p x lt below here s = ((s.frame (lt-ltb row (opening v).frames lt)).page p below here).saved refl
 
-pub judges : {z : Shape} {v w : View} (row frames number saved : ℕ) → Sized z v frames → row < frames → Ran z.alone v [] w → Shown w.given (state w) row 1 number → Shown w.given (state w) row 127 saved → Judges z v row (ltb saved number) w
-judges {v = v} {w = w} row frames number saved sized lt r a b = record {
+pub judges : {z : Shape} {v w : View} (row frames number saved : ℕ) → Sized z v frames → row < frames → Ran z.alone v [] w → OnlyLoads v w → Shown w.given (state w) row 1 number → Shown w.given (state w) row 127 saved → Judges z v row (ltb saved number) w
+judges {v = v} {w = w} row frames number saved sized lt r loads a b = record {
   ran = r;
+  loads = loads;
   says = λ p below here.
       let within : row < (opening w.given).frames = subst (λ (g : Given). row < (opening g).frames) (sym r.given) (subst (λ n. row < n) (sym sized.given) lt) in
       let x = number_at w.given (state w) row p number within below here a in
@@ -130,6 +133,13 @@ at_most (_ ∷ es) m few = absurd m
 
 pub refused : {z : Shape} {v w : View} {why : Refusal} → Refused z.alone v w → IsOfRow why → Caused v why w → (z.alone ≡ true → v.held ≡ [] → IsOthers why → ⊥) → Missed z v why w
 refused r kind cause quiet = record { misses = r.missed.events; few = at_most r.missed.events r.missed.misses r.missed.few; ran = r.missed.ran; held = r.held; kind = kind; cause = cause; quiet = quiet }
+
+-- of a row that was not latched since its version has come to the last one
+pub spent_taken : {z : Shape} {v w : View} {row frames q : ℕ} → Sized z v frames → row < frames → Refused z.alone v w → latching.Caused row v (RowSpent q) w → SpentAt row v (refusal.RowSpent q) w
+spent_taken {v = v} {w = w} {row = row} {q = q} sized lt r k =
+    let version = k.1.0 in
+    let low : row < (opening v.given).frames = subst (λ n. row < n) (sym sized.given) lt in
+    (k.0, (subst (λ (y : Given × ℕ). y.1 < (opening y.0).frames) (λ i. (sym r.missed.ran.given i, sym k.0 i)) low, (version, k.1.1, found_loaded (subst (λ n. HasFound n version v w) (sym k.0) k.1.2))))
 
 -- a row that is held may be given up
 pub opens : {z : Shape} {v : View} {row : ℕ} → HoldsOne z v row → OpensOne z v row

@@ -30,8 +30,8 @@ use Rattle.row_image.specs.Sights.{EverySight, HasTaken, HasWords, IsBehind, IsK
 use Rattle.page_provider.specs.declared.refusal.Refusal.{Refusal}
 use Rattle.page_provider.specs.declared.refusal.Refusal.TheVariants as refusal
 use Rattle.page_provider.specs.Finds.{IsSeen, SinceFound, SinceBoth, Stopped, TakesSeen, TakesTwo, TakesWith}
-use Rattle.page_provider.specs.Refusals.{HasLoaded, HasLoadedTwo, IsOfRow, IsOthers, NoSet}
-use Rattle.page_provider.proofs.Loaded.{loads_unset}
+use Rattle.page_provider.specs.Refusals.{Caused, HasLoaded, HasLoadedTwo, IsOfRow, IsOthers, NoSet}
+use Rattle.page_provider.proofs.Loaded.{found_loaded, loads_unset}
 
 -- ## A row that was taken
 
@@ -197,6 +197,11 @@ module _ {z : Shape} {a : Sight} {from v u w x : View} (t : HasTaken z a v u) (o
   pub moved_after : (row seen found : ℕ) → a.glimpse.row ≢ row → found ≢ seen → Finds row seen k.acts → Finds row found k.acts → HasLoadedTwo row seen found from x
   moved_after row seen found ne unequal f l = record { unequal = unequal; acts = all_acts; steps = all_steps; first = after_finds row seen f; last = after_finds row found l; unset = all_unset row ne }
 
+-- ## Why a row was not latched
+
+pub spent_seen : {z : Shape} {s : Sight} {from v w : View} → IsSeen z s v → 2 ^ 62 ≤ s.glimpse.version → w ≡ v → HasFound s.glimpse.row s.glimpse.version from v → Caused from (refusal.RowSpent s.glimpse.row) w
+spent_seen {s = s} {from = from} seen last is f = subst (λ (y : View). Caused from (refusal.RowSpent s.glimpse.row) y) (sym is) (inl (seen.frame, (s.glimpse.version, last, found_loaded f)))
+
 -- ## Why the second row was not latched
 
 -- of two sights
@@ -207,8 +212,8 @@ module _ {z : Shape} {a : Sight} (b : Sight) {v u w x : View} (ne : a.glimpse.ro
       let f : Finds m.row m.seen fb.loads.acts = subst (λ (p : ℕ × ℕ). Finds p.0 p.1 fb.loads.acts) (λ i. (at i, sym k.seen i)) fb.finds in
       moved_over t fb.loads k.looked.loads r m.row m.seen m.found (λ e. ne (e ∙ k.of_row)) k.unequal f k.looked.finds
 
-  pub both_spent : 2 ^ 62 ≤ b.glimpse.version → w ≡ u → SinceBoth a b v (refusal.RowSpent b.glimpse.row) x
-  both_spent last is from fa fb = inl (b.glimpse.version, last, loaded_before t fb.loads (record { acts = []; steps = ap (λ (y : View). y.steps) is; loads = tt }) r b.glimpse.row b.glimpse.version fb.finds)
+  pub both_spent : b.glimpse.row < (opening v.given).frames → 2 ^ 62 ≤ b.glimpse.version → w ≡ u → SinceBoth a b v (refusal.RowSpent b.glimpse.row) x
+  both_spent low last is from fa fb = inl (subst (λ (g : Given). b.glimpse.row < (opening g).frames) (sym (r.goes.given ∙ (ap (λ (y : View). y.given) is ∙ t.ran.given))) low, (b.glimpse.version, last, loaded_before t fb.loads (record { acts = []; steps = ap (λ (y : View). y.steps) is; loads = tt }) r b.glimpse.row b.glimpse.version fb.finds))
 
 -- of a sight and another row
 module _ {z : Shape} {a : Sight} {v u w x : View} {row : ℕ} (ne : a.glimpse.row ≢ row) (t : HasTaken z a v u) (r : Released z a.glimpse.row w x) where
@@ -218,8 +223,8 @@ module _ {z : Shape} {a : Sight} {v u w x : View} {row : ℕ} (ne : a.glimpse.ro
   pub with_latched : {l : Latched} → IsLatched l.row l.word u w → SinceFound a v (refusal.Latched l) x
   with_latched {l} k from fa = (k.odd, loaded_after t fa.loads k.found.loads r l.row l.word k.found.finds)
 
-  pub with_spent : {q version : ℕ} → q ≡ row → 2 ^ 62 ≤ version → HasFound row version u w → SinceFound a v (refusal.RowSpent q) x
-  with_spent {q} {version} at last k from fa = inl (version, last, loaded_after t fa.loads k.loads r q version (subst (λ p. Finds p version k.loads.acts) (sym at) k.finds))
+  pub with_spent : {q version : ℕ} → row < (opening v.given).frames → w.given ≡ u.given → q ≡ row → 2 ^ 62 ≤ version → HasFound row version u w → SinceFound a v (refusal.RowSpent q) x
+  with_spent {q} {version} low given at last k from fa = inl (subst (λ (y : Given × ℕ). y.1 < (opening y.0).frames) (λ i. (sym (r.goes.given ∙ (given ∙ t.ran.given)) i, sym at i)) low, (version, last, loaded_after t fa.loads k.loads r q version (subst (λ p. Finds p version k.loads.acts) (sym at) k.finds)))
 
 -- said of the shape that others speak of
 pub refused_as : {z y : Shape} {u w : View} → y ≡ z → Refused y.alone u w → Refused z.alone u w

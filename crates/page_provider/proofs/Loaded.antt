@@ -1,10 +1,15 @@
 -- Why a call refused: what only loads have found was loaded, and nothing was stored to the latch in between.
-use Rattle.std.proofs.Common.{◌≡◌, ◌%◌, ℕ, List, [], ◌∷◌}
+use Rattle.std.proofs.Common.{◌≡◌, ◌%◌, ◌∙◌, ℕ, List, [], ◌∷◌, refl, ap}
 use Rattle.rows_trait.specs.declared.view.Act.{Act}
 use Rattle.rows_trait.specs.declared.view.Act.TheVariants.{Look, Load, Store, Set, Hear, Turn}
 use Rattle.rows_trait.specs.declared.view.View.{View}
-use Rattle.rows_trait.specs.Causes.{AreLoads, HasFound, HasMoved, IsLatched}
-use Rattle.page_provider.specs.Refusals.{HasLoaded, HasLoadedTwo, NoSet}
+use Rattle.rows_trait.specs.Causes.{AreLoads, HasFound, HasMoved, IsLatched, OnlyLoads}
+use Rattle.rows_trait.specs.Turns.{Looked}
+use Rattle.rows_trait.specs.Views.{Shape}
+use Rattle.row_words.specs.declared.event.Event.{Event}
+use Rattle.page_provider.specs.declared.refusal.Refusal.{Refusal}
+use Rattle.page_provider.specs.declared.refusal.Refusal.TheVariants as refusal
+use Rattle.page_provider.specs.Refusals.{HasLoaded, HasLoadedTwo, IsOthers, NoSet, SpentAt}
 
 pub loads_unset : (row : ℕ) (acts : List Act) → AreLoads acts → NoSet row acts
 loads_unset row [] l = tt
@@ -23,3 +28,16 @@ moved_loaded {row} h = record { unequal = h.unequal; acts = h.loads.acts; steps 
 
 pub latched_loaded : {row word : ℕ} {v u : View} → IsLatched row word v u → (word % 2 ≡ 1) × HasLoaded row word v u
 latched_loaded h = (h.odd, found_loaded h.found)
+
+-- a further look at a latch
+pub looked_loads : {z : Shape} {row n : ℕ} {names : ℕ → List Event} {v u w : View} → OnlyLoads v u → Looked z row names u n w → OnlyLoads v w
+looked_loads {row = row} {n = n} {w = w} l look = record { acts = Look row n w.seen ∷ l.acts; steps = look.steps ∙ ap (λ ss. Look row n w.seen ∷ ss) l.steps; loads = l.loads }
+
+-- no row was spent
+pub spent_others : (row : ℕ) (v u : View) (why : Refusal) → IsOthers why → SpentAt row v why u
+spent_others row v u (refusal.Moved m) o = tt
+spent_others row v u (refusal.Latched l) o = tt
+spent_others row v u _ o = absurd o
+
+pub loads_none : (v : View) → OnlyLoads v v
+loads_none v = record { acts = []; steps = refl; loads = tt }

@@ -38,7 +38,7 @@ use Rattle.page_provider.specs.declared.refusal.Refusal.TheVariants as refusal
 use Rattle.page_provider.specs.Cools.{Hangs}
 use Rattle.page_provider.specs.Finds.{Candidate, HasCandidate, HasNaming, IsChildless, Naming, NoneNames}
 use Rattle.page_provider.specs.Inside.{Missed}
-use Rattle.page_provider.specs.Refusals.{Caused, HasLoaded, NoSet}
+use Rattle.page_provider.specs.Refusals.{Caused, HasLoaded, NoSet, SpentAt}
 use Rattle.page_provider.proofs.Keeping.{plays}
 use Rattle.page_provider.proofs.Loaded.{latched_loaded, loads_unset, moved_loaded}
 use Rattle.page_provider.proofs.Standing.{ran_state}
@@ -90,9 +90,16 @@ caused_before w (refusal.Moved m) l h = record {
   unset = unset_append m.row h.acts l.acts h.unset (loads_unset m.row l.acts l.loads);
 }
 caused_before w (refusal.Latched x) l h = (h.0, loaded_before l h.1)
-caused_before w (refusal.RowSpent row) l (inl h) = inl (h.0, h.1, loaded_before l h.2)
+caused_before w (refusal.RowSpent row) l (inl h) = inl (h.0, (h.1.0, h.1.1, loaded_before l h.1.2))
 caused_before w (refusal.RowSpent row) l (inr h) = inr h
 caused_before w _ l h = tt
+
+-- and so it is of a row that was spent
+pub spent_before : {v u : View} {a b : ℕ} (w : View) (why : Refusal) → a ≡ b → OnlyLoads v u → SpentAt a u why w → SpentAt b v why w
+spent_before w (refusal.RowSpent row) e l h = (h.0 ∙ e, (h.1.0, (h.1.1.0, h.1.1.1, loaded_before l h.1.1.2)))
+spent_before w (refusal.Moved m) e l h = tt
+spent_before w (refusal.Latched x) e l h = tt
+spent_before w _ e l h = tt
 
 pub missed_before : {z y : Shape} {v u w : View} {why : Refusal} → y ≡ z → Watched z.alone v u → Missed y u why w → Missed z v why w
 missed_before {z = z} {v = v} {u = u} {w = w} {why = why} same k n =

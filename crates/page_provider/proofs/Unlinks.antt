@@ -90,7 +90,7 @@ caused_before {from = from} u o (refusal.Moved m) k = record {
   unset = unset_append m.row k.acts o.acts k.unset (loads_unset m.row o.acts o.loads);
 }
 caused_before u o (refusal.Latched l) k = (k.0, loaded_from o k.1)
-caused_before u o (refusal.RowSpent row) k = elim k [ inl x ↦ inl (x.0, x.1, loaded_from o x.2) | inr e ↦ inr e ]
+caused_before u o (refusal.RowSpent row) k = elim k [ inl x ↦ inl (x.0, (x.1.0, x.1.1, loaded_from o x.1.2)) | inr e ↦ inr e ]
 caused_before u o _ k = k
 
 pub missed_since : {z : Shape} {v u : View} {why : Refusal} (s : Sight) → Missed z v why u → SinceFound s v why u

@@ -1,6 +1,7 @@
 -- Why a call of the pager refused.
-use Rattle.std.specs.Prelude.{◌≡◌, ◌≢◌, ◌≤◌, ◌^◌, ◌%◌, ◌⊎◌, ℕ, Bool, true, false, List, [], ◌∷◌, ◌++◌}
+use Rattle.std.specs.Prelude.{◌≡◌, ◌≢◌, ◌≤◌, ◌<◌, ◌^◌, ◌%◌, ◌⊎◌, ℕ, Bool, true, false, List, [], ◌∷◌, ◌++◌}
 use Rattle.row_words.specs.declared.event.Event.{Event}
+use Rattle.row_words.specs.Openings.{opening}
 use Rattle.rows_trait.specs.declared.view.View.{View}
 use Rattle.rows_trait.specs.Views.{Shape, state}
 use Rattle.rows_trait.specs.Causes.{Finds}
@@ -37,12 +38,22 @@ pub record HasLoadedTwo (row seen found : ℕ) (v u : View) : Type 0 where
   pub last : Finds row found acts
   pub unset : NoSet row acts
 
--- what was loaded since a view, by the time of the refusal
+-- the row is a frame, and its latch was loaded as a version that is the last one, or behind it
+abbrev pub HasSpent : View → (row : ℕ) → View → Type 0
+HasSpent v row u = (row < (opening u.given).frames) × ((version : ℕ) × (2 ^ 62 ≤ version) × HasLoaded row version v u)
+
+-- What was loaded since a view, by the time of the refusal. Of RowSpent: of a frame the last version was, or the global
+-- epoch has come to its end, and a page was to cool.
 abbrev pub Caused : View → Refusal → View → Type 0
 Caused v (refusal.Moved m) u = HasLoadedTwo m.row m.seen m.found v u
 Caused v (refusal.Latched l) u = (l.word % 2 ≡ 1) × HasLoaded l.row l.word v u
-Caused v (refusal.RowSpent row) u = ((version : ℕ) × (2 ^ 62 ≤ version) × HasLoaded row version v u) ⊎ (2 ^ 62 ≤ (state u).core.epoch)
+Caused v (refusal.RowSpent row) u = HasSpent v row u ⊎ ((row < (opening u.given).frames) × (2 ^ 62 ≤ (state u).core.epoch))
 Caused v _ u = Unit {0}
+
+-- if a row has come to its last version, it is this one, and that version was loaded since the view
+abbrev pub SpentAt : (row : ℕ) → View → Refusal → View → Type 0
+SpentAt row v (refusal.RowSpent q) u = (q ≡ row) × HasSpent v q u
+SpentAt row v _ u = Unit {0}
 
 -- since some view of the call
 pub record IsRefused (z : Shape) (v : View) (why : Refusal) (u : View) : Type 0 where

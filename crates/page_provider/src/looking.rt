@@ -9,6 +9,7 @@ ghost use Rattle.btree_descent.specs.Descents.{Sized};
 ghost use Rattle.btree_descent.specs.Known.{IsSound};
 ghost use Rattle.row_image.specs.Images.{IsImage, StaysIn};
 ghost use Rattle.page_provider.specs.Inside.{Judges, Missed, Numbers};
+ghost use Rattle.page_provider.specs.Refusals.{IsOthers};
 
 use crate::refusal::Refusal;
 use btree_node::Node;
@@ -35,6 +36,7 @@ pub(crate) fn is_dirty<R: Rows>(
     ensures fits { R.fits rows.new seat.new × (R.shape rows.new ≡ R.shape rows.old) × ((R.view seat.new).held ≡ (R.view seat.old).held) }
     ensures ok { IfOk result (λ dirty. Judges (R.shape rows.old) (R.view seat.old) frame dirty (R.view seat.new)) }
     ensures err { IfErr result (λ why. Missed (R.shape rows.old) (R.view seat.old) why (R.view seat.new)) }
+    ensures kind { IfErr result IsOthers }
 {
     let glimpse = match Glimpse::start(rows, seat, frame, &Misses { worker: PAGER }) {
         Err(latched) => return Err(Refusal::Latched(latched)),
@@ -107,6 +109,7 @@ pub(crate) fn page_in<R: Rows>(
     ensures ok { IfOk result (λ node. IsImage (R.shape rows.old).alone (R.view seat.old) frame generation node (R.view seat.new)) }
     ensures words { IfOk result (λ node. AreWords (words_of node)) }
     ensures err { IfErr result (λ why. Missed (R.shape rows.old) (R.view seat.old) why (R.view seat.new)) }
+    ensures kind { IfErr result IsOthers }
 {
     match image(rows, seat, PAGER, frames, frame, generation) {
         Ok(node) => {

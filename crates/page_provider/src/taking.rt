@@ -6,6 +6,7 @@ ghost use Rattle.btree_descent.specs.Descents.{Sized};
 ghost use Rattle.held_rows.specs.Rows.{HoldsOne};
 ghost use Rattle.held_rows.specs.Steps.{MissedUpTo};
 ghost use Rattle.page_provider.specs.Inside.{Missed, Takes};
+ghost use Rattle.page_provider.specs.Refusals.{SpentAt};
 
 use crate::looking::PAGER;
 use crate::refusal::Refusal;
@@ -28,6 +29,7 @@ pub(crate) fn take<R: Rows>(
     ensures fits { R.fits rows.new seat.new × (R.shape rows.new ≡ R.shape rows.old) }
     ensures ok { IfOk result (λ hold. (hold.row ≡ frame) × Takes (R.shape rows.old) (R.view seat.old) frame (R.view seat.new)) }
     ensures err { IfErr result (λ why. Missed (R.shape rows.old) (R.view seat.old) why (R.view seat.new)) }
+    ensures spent { IfErr result (λ why. SpentAt frame (R.view seat.old) why (R.view seat.new)) }
 {
     match latch(rows, seat, PAGER, frame) {
         Ok(hold) => Ok(hold),

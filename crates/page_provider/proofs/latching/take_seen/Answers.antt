@@ -2,7 +2,7 @@ use Rattle.std.proofs.Common.{subst}
 use Rattle.version_latch.specs.declared.glimpse.Unheld.{Unheld}
 use Rattle.row_image.specs.Sights.{IsUnheld}
 use Rattle.row_words.specs.Moments.{pager}
-use Rattle.page_provider.proofs.Latches.{stopped_spent, takes_seen}
+use Rattle.page_provider.proofs.Latches.{spent_seen, stopped_spent, takes_seen}
 use Rattle.page_provider.proofs.Loaded.{moved_loaded}
 use Rattle.page_provider.proofs.latching.take_seen.Goals as goal
 
@@ -24,3 +24,11 @@ returns-in-Err-RowSpent-clause-err g c =
     let w = g.R.Rows.view c.take.new.seat in
     let k = subst (λ (q : Unheld). IsUnheld z.alone pager c.args.seen.now v q w) c.in-Err-RowSpent.field-0-is c.in-Err-RowSpent.ensures.cause in
     stopped_spent c.requires.held k.1
+
+pub returns-in-Err-RowSpent-clause-cause : goal.returns-in-Err-RowSpent-clause-cause
+returns-in-Err-RowSpent-clause-cause g c from f =
+    let z = g.R.Rows.shape c.args.rows.now in
+    let v = g.R.Rows.view c.args.seat.now in
+    let w = g.R.Rows.view c.take.new.seat in
+    let k = subst (λ (q : Unheld). IsUnheld z.alone pager c.args.seen.now v q w) c.in-Err-RowSpent.field-0-is c.in-Err-RowSpent.ensures.cause in
+    spent_seen c.requires.seen k.0 k.1 f

@@ -64,4 +64,4 @@ returns-in-RowSpent-clause-cause g c =
     let u = g.R.Rows.view c.take_seen.new.seat in
     let w = g.R.Rows.view c.take.new.seat in
     let k = subst (λ (q : Unheld). IsUnheld y.alone pager c.args.second.now u q w) c.in-RowSpent.is c.in-Err.ensures.cause in
-    both_spent c.args.second.now c.requires.apart c.in_ok-held.ensures.taken (released_as (c.in-Err.ensures.fits.1 ∙ c.in_ok-held.ensures.fits.1) c.in_ok-held.ensures.ok.0 c.release.ensures.step) k.0 k.1
+    both_spent c.args.second.now c.requires.apart c.in_ok-held.ensures.taken (released_as (c.in-Err.ensures.fits.1 ∙ c.in_ok-held.ensures.fits.1) c.in_ok-held.ensures.ok.0 c.release.ensures.step) c.requires.second.frame k.0 k.1

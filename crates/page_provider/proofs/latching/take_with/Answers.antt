@@ -65,4 +65,4 @@ returns-in-RowSpent-clause-cause g c =
     let u = g.R.Rows.view c.take_seen.new.seat in
     let w = g.R.Rows.view c.latch.new.seat in
     let cause = subst (λ (q : Refusal). latching.Caused c.args.row u q w) c.in-RowSpent.is c.in-Err.ensures.cause in
-    with_spent c.requires.apart c.in_ok-held.ensures.taken (released_as (c.in-Err.ensures.fits.1 ∙ c.in_ok-held.ensures.fits.1) c.in_ok-held.ensures.ok.0 c.release.ensures.step) cause.0 cause.1.1 cause.1.2
+    with_spent c.requires.apart c.in_ok-held.ensures.taken (released_as (c.in-Err.ensures.fits.1 ∙ c.in_ok-held.ensures.fits.1) c.in_ok-held.ensures.ok.0 c.release.ensures.step) c.requires.frame.1 c.in-Err.ensures.err.missed.ran.given cause.0 cause.1.1 cause.1.2

@@ -3,8 +3,8 @@ use Rattle.rows_trait.specs.Causes.{HasFound}
 use Rattle.rows_trait.specs.Views.{holds}
 use Rattle.held_rows.specs.Latching as latching
 use Rattle.held_rows.specs.declared.latching.Refusal.{Refusal}
-use Rattle.page_provider.proofs.Glances.{refused, takes}
-use Rattle.page_provider.proofs.Loaded.{found_loaded, latched_loaded, moved_loaded}
+use Rattle.page_provider.proofs.Glances.{refused, spent_taken, takes}
+use Rattle.page_provider.proofs.Loaded.{latched_loaded, moved_loaded}
 use Rattle.page_provider.proofs.taking.take.Goals as goal
 
 pub latch-requires-clause-row : goal.latch-requires-clause-row
@@ -36,5 +36,11 @@ returns-in-Err-RowSpent-clause-err g c =
     let v = g.R.Rows.view c.args.seat.now in
     let w = g.R.Rows.view c.latch.new.seat in
     let cause = subst (λ (q : Refusal). latching.Caused c.args.frame v q w) c.in-Err-RowSpent.field-0-is c.in-Err-RowSpent.ensures.cause in
-    let version = cause.1.0 in
-    refused c.in-Err-RowSpent.ensures.err tt (inl (version, cause.1.1, found_loaded (subst (λ q. HasFound q version v w) (sym cause.0) cause.1.2))) (λ _ _ o. o)
+    refused c.in-Err-RowSpent.ensures.err tt (inl (spent_taken c.requires.sized c.requires.frame c.in-Err-RowSpent.ensures.err cause).1) (λ _ _ o. o)
+
+pub returns-in-Err-RowSpent-clause-spent : goal.returns-in-Err-RowSpent-clause-spent
+returns-in-Err-RowSpent-clause-spent g c =
+    let v = g.R.Rows.view c.args.seat.now in
+    let w = g.R.Rows.view c.latch.new.seat in
+    let cause = subst (λ (q : Refusal). latching.Caused c.args.frame v q w) c.in-Err-RowSpent.field-0-is c.in-Err-RowSpent.ensures.cause in
+    spent_taken c.requires.sized c.requires.frame c.in-Err-RowSpent.ensures.err cause

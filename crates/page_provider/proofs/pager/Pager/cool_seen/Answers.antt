@@ -1,5 +1,7 @@
-use Rattle.std.proofs.Common.{◌≡◌, ◌∙◌, Bool, true, false, rules, refl, sym, ap, subst}
+use Rattle.std.proofs.Common.{◌≡◌, ◌∙◌, ◌<◌, ◌≤◌, inr, Bool, true, false, rules, refl, sym, ap, subst}
 use Rattle.std.proofs.lemmas.Result.{err_from_is_err_and}
+use Rattle.row_words.specs.declared.given.Given.{Given}
+use Rattle.row_words.specs.Openings.{opening}
 use Rattle.rows_trait.specs.Views.{Shape}
 use Rattle.epochs.specs.Epochs.{HasTicked}
 use Rattle.cooling_stage.specs.declared.stage.Cooling.{Cooling}
@@ -72,3 +74,9 @@ returns-clause-ok g c =
     let tick = subst (λ (q : Shape). HasTicked q t u) (c.in_ok-unhook.ensures.fits.1 ∙ s) c.tick.ensures.after in
     let k = has_cooled {entry = entry} c.laws.ensures.rows c.requires.keeps c.stamp-epoch.ensures.answer c.requires.held c.if-epoch-ge-LAST.false h tick in
     (k.0, c.number.ensures, refl, k.1)
+
+pub returns-then-epoch-ge-LAST-clause-cause : goal.returns-then-epoch-ge-LAST-clause-cause
+returns-then-epoch-ge-LAST-clause-cause g c from f =
+    let k = c.stamp-epoch.ensures.answer in
+    let late = c.if-epoch-ge-LAST.true in
+    inr (subst (λ (y : Given). c.args.seen.now.glimpse.row < (opening y).frames) (sym k.ran.given) c.requires.seen.frame, subst (λ n. 4611686018427387904 ≤ n) (sym k.epoch_is) late)

@@ -1,4 +1,4 @@
-use Rattle.std.proofs.Common.{◌≡◌, sym, subst}
+use Rattle.std.proofs.Common.{◌≡◌, ◌∙◌, refl, sym, subst}
 use Rattle.std.proofs.lemmas.Result.{err_from_is_err_and, IfOk-weaker}
 use Rattle.rows_trait.specs.Views.{Shape}
 use Rattle.page_provider.specs.Evicts.{HasStayed}
@@ -8,7 +8,7 @@ use Rattle.page_provider.specs.declared.refusal.Refusal.{Refusal}
 use Rattle.page_provider.proofs.Outcomes.{stayed_saved}
 use Rattle.page_provider.proofs.Parts.{cause_to, err_to, keeps_shape, leave_disk, saved_well}
 use Rattle.page_provider.proofs.Running.{disked_then}
-use Rattle.page_provider.proofs.Savings.{if_err}
+use Rattle.page_provider.proofs.Savings.{frame_is, if_err}
 use Rattle.page_provider.proofs.pager.Pager.leave_dirty.Goals as goal
 
 pub leave-requires-clause-keeps : goal.leave-requires-clause-keeps
@@ -59,7 +59,7 @@ returns-clause-err g c =
     let P : Refusal → Type 0 = λ why. HasStayed (g.R.Rows.shape c.save.new.rows) t c.save.new.self c.args.entry.page why w c.leave.new.self in
     let Q : Refusal → Type 0 = λ why. HasStayed z v c.args.self.now c.args.entry.page why w c.leave.new.self in
     err_to P Q c.leave.result (λ why same h. subst (λ (p : Provider). HasStayed z v c.args.self.now c.args.entry.page why w p) (sym same)
-    (stayed_saved k.goes.ran c.requires.dirty k.clean k.pool (subst (λ (q : Shape × Provider). HasStayed q.0 t c.save.new.self c.args.entry.page why w q.1) (λ i. (c.in_ok-save.ensures.fits.1 i, same i)) h)))
+    (stayed_saved k.goes.ran c.requires.dirty k.clean (frame_is k.goes.keeps k.entered refl ∙ sym (frame_is c.requires.keeps c.requires.entered refl)) k.pool (subst (λ (q : Shape × Provider). HasStayed q.0 t c.save.new.self c.args.entry.page why w q.1) (λ i. (c.in_ok-save.ensures.fits.1 i, same i)) h)))
     c.leave.ensures.same c.leave.ensures.err
 
 pub returns-clause-disk : goal.returns-clause-disk
