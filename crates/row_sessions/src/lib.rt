@@ -7,7 +7,7 @@
 mod drawing;
 mod events;
 pub mod locking;
-mod opening;
+pub mod opening;
 pub mod pages;
 pub mod puts;
 pub mod session;

@@ -32,12 +32,7 @@ fn are_numbered(pages: &[Node], workers: u32, base: u64) -> bool
 }
 
 /// Whether rows may begin with these pages, and their last logs are workers' or none.
-pub(crate) fn are_pages(
-    alloc: Global,
-    pages: &[Node],
-    workers: u32,
-    base: u64,
-) -> Result<bool, AllocError>
+pub fn are_pages(alloc: Global, pages: &[Node], workers: u32, base: u64) -> Result<bool, AllocError>
     requires few { workers ≤ 16 }
     ensures { IfOk result (λ b. b ≡ true → ArePages pages.now base) }
 {

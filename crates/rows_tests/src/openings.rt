@@ -1,6 +1,8 @@
-// The words of two openings, written down by hand.
+// The words of three openings, written down by hand.
 use crate::expect::expect;
 use btree_node::Node;
+use row_opening::open_root;
+use row_sessions::opening::are_pages;
 use row_sessions::sessions::Sessions;
 use std::alloc::Global;
 
@@ -71,6 +73,48 @@ static TWO_LEAVES: [Word; 24] = [
     Word(10 + 5 * ROW + 127, MARK),
 ];
 
+// The same pages over two frames, of which the root alone has one.
+static ROOT_ALONE: [Word; 34] = [
+    // common, and the workers'
+    Word(0, 0),
+    Word(1, 0),
+    Word(2, 9),
+    Word(3, 9),
+    Word(4, FRAME),
+    Word(5, 0),
+    Word(6, 9),
+    Word(7, 9),
+    Word(8, FRAME),
+    Word(9, 0),
+    // the root in frame 0: its number, its last change, its kind, and two pairs with pages for words
+    Word(10, 0),
+    Word(11, 0),
+    Word(12, 9),
+    Word(13, 0),
+    Word(14, 2 + (1 << 8) + (1 << 16) + (1 << 24)),
+    Word(15, 0),
+    Word(16, u64::MAX),
+    Word(17, 0),
+    Word(18, 1),
+    Word(19, 10),
+    Word(20, 3),
+    Word(21, 0),
+    Word(10 + 127, FRAME),
+    Word(10 + 128, 9),
+    // frame 1 is empty, though there are pages
+    Word(10 + ROW, 0),
+    Word(10 + ROW + 1, 0),
+    Word(10 + ROW + 127, MARK),
+    Word(10 + ROW + 128, 0),
+    // the lock row
+    Word(10 + 2 * ROW, 0),
+    Word(10 + 2 * ROW + 1, 0),
+    Word(10 + 2 * ROW + 2, 0),
+    Word(10 + 2 * ROW + 3, 0),
+    Word(10 + 2 * ROW + 4, 0),
+    Word(10 + 2 * ROW + 5, 0),
+];
+
 // Page 0: level 1, all keys, its last change by log 1, and two pairs.
 static ROOT: [Word; 6] = [
     Word(1, 9),
@@ -138,6 +182,20 @@ fn is_root_over_leaves(alloc: Global) -> bool {
     has_words(alloc, &pages, 6, 2, 9, &TWO_LEAVES)
 }
 
+fn is_root_alone(alloc: Global) -> bool {
+    let (Some(root), Some(left)) = (node(&ROOT), node(&LEFT_LEAF)) else {
+        return false;
+    };
+    let pages = [root, left, Node::free(2), Node::empty_leaf(3, 10, u64::MAX)];
+    let Ok(true) = are_pages(alloc, &pages, 2, 9) else {
+        return false;
+    };
+    match open_root(alloc, &pages, 2, 1, 2, 9) {
+        Ok((rows, _)) => are_there(rows.words.as_slice(), &ROOT_ALONE),
+        Err(_) => false,
+    }
+}
+
 #[test]
 fn each_opening_has_the_words_that_its_rows_name(rt: HostRuntime) {
     let alloc = rt.alloc();
@@ -150,5 +208,10 @@ fn each_opening_has_the_words_that_its_rows_name(rt: HostRuntime) {
         &rt,
         "a root names the frames of its leaves",
         is_root_over_leaves(alloc),
+    );
+    expect(
+        &rt,
+        "a root alone in a frame names pages",
+        is_root_alone(alloc),
     );
 }
