@@ -34,7 +34,9 @@ use Rattle.page_provider.proofs.Departures.{low_on}
 use Rattle.page_provider.proofs.Flushing.{same_state}
 use Rattle.page_provider.proofs.Judging.{SomeAbove, SomeHeld, tells}
 use Rattle.page_provider.proofs.Keeping.{keeps_ran, plays, ran_stood}
-use Rattle.page_provider.proofs.Moving.{moved_then, rested_then}
+use Rattle.page_provider.specs.Shares.{cools_in}
+use Rattle.page_provider.proofs.Moving.{moved_then, rested_then, then_events}
+use Rattle.page_provider.proofs.Shares.{cools_append}
 use Rattle.page_provider.proofs.Standing.{core_step, onward, ran_state, state_on}
 
 -- ## Where nothing was appended
@@ -81,12 +83,14 @@ moved_ran {z = z} {v = v} laws c none r free = record {
 -- ## One behind another
 
 pub chills_ran : {z : Shape} {path : List ℕ} {v u : View} {k : Provider} → RowLaws → Keeps z v k → v.held ≡ [] → Ran z.alone v [] u → u.held ≡ v.held → Chills z path v k u k
+unfolding moved_ran
 chills_ran {path = path} {k = k} laws c none r free = record {
   moved = moved_ran laws c none r free;
   keeps = path_stood path (ran_stood laws.stood c tt r);
   rested = rested_ran laws c r;
   more = [];
   queue = sym (append-nil k.queue);
+  count = refl;
   memory = refl;
 }
 
@@ -103,6 +107,7 @@ chills_then {a = a} {b = b} {c = c} one two = record {
   rested = rested_then one.rested two.rested;
   more = one.more ++ two.more;
   queue = two.queue ∙ (ap (λ q. q ++ two.more) one.queue ∙ append_assoc a.queue one.more two.more);
+  count = let t = ap cools_in (then_events one.moved two.moved) in let d = cools_append one.moved.events two.moved.events in let e = one.count in let f = two.count in let h = length-append one.more two.more in omega arith;
   memory = memory_then a b c one.memory two.memory;
 }
 
@@ -136,6 +141,7 @@ chills_step {path = path} {v = v} {u = u} {k = k} {is = is} {entry = entry} s = 
   rested = s.cooled.rested;
   more = entry ∷ [];
   queue = ap (λ (p : Provider). p.queue) s.cooled.memory;
+  count = ap cools_in s.cooled.events_are;
   memory = s.cooled.memory ∙ (λ i. record k { queue = sym (ap (λ (p : Provider). p.queue) s.cooled.memory) i; free = is.free; hand = is.hand });
 }
 
@@ -152,6 +158,7 @@ chills_idle {path = path} {k = k} {is = is} laws c i =
       rested = i.rested;
       more = [];
       queue = same ∙ sym (append-nil k.queue);
+      count = ap cools_in i.events_are;
       memory = i.memory ∙ (λ j. record k { queue = sym same j; free = sym (ap (λ (p : Provider). p.free) i.memory) j; hand = is.hand });
     }
 
@@ -288,6 +295,10 @@ module _ {v : View} {k : Provider} {held : ℕ} (p : ℕ) (n : NoneLeaves k held
     | inl e ↦ subst (λ j. (flushed_by_all (opening v.given) (state (ticked v p)).core < ((state (ticked v p)).core.page j).gsn) ⊎ IsHeldBack (state (ticked v p)).core j) (sym e) this
     | inr ne ↦ elim (n.none q below (ap is_cooling (sym (cd.others q ne)) ∙ c)) [ inl a ↦ inl (above_on q a) | inr b ↦ inr (held_on q ne b) ]
   ]
+
+  -- so none of the others can leave
+  pub none_others : (q : ℕ) → q < (opening v.given).format.pages → q ≢ p → is_cooling ((state (ticked v p)).core.place q) ≡ true → (flushed_by_all (opening v.given) (state (ticked v p)).core < ((state (ticked v p)).core.page q).gsn) ⊎ IsHeldBack (state (ticked v p)).core q
+  none_others q below ne c = elim (n.none q below (ap is_cooling (sym (cd.others q ne)) ∙ c)) [ inl a ↦ inl (above_on q a) | inr b ↦ inr (held_on q ne b) ]
 
   pub none_above : (is : Provider) → flushed_by_all (opening v.given) (state (ticked v p)).core < ((state (ticked v p)).core.page p).gsn → NoneLeaves is held (ticked v p)
   none_above is this = record {

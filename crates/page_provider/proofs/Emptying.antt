@@ -1,5 +1,5 @@
 -- A page is chosen that can leave: how the calls that look for one end.
-use Rattle.std.proofs.Common.{◌≡◌, ◌<◌, ◌≤◌, ◌+◌, ℕ, true, List, [], ◌∷◌, length, Some, refl, sym, ap, ◌∙◌, arith, subst, Option}
+use Rattle.std.proofs.Common.{◌≡◌, ◌≢◌, ◌<◌, ◌≤◌, ◌+◌, ◌⊎◌, inl, inr, ℕ, true, List, [], ◌∷◌, length, Some, refl, sym, ap, ◌∙◌, arith, subst, Option}
 use Rattle.map_model.specs.Lists.{all}
 use Rattle.disk_runs.specs.Quiet.{is_quiet}
 use Rattle.held_rows.specs.Steps as held
@@ -23,10 +23,10 @@ use Rattle.page_provider.specs.Finds.{Stalls}
 use Rattle.page_provider.specs.Inside.{Missed}
 use Rattle.page_provider.specs.Laws.{RowLaws}
 use Rattle.page_provider.specs.Leaves as leaves
-use Rattle.page_provider.specs.Leaves.{Chooses, Chose, HasFlushed, HasHalted, IsCalm, IsFlushed, MissedLater, NoneLeaves}
+use Rattle.page_provider.specs.Leaves.{Chooses, Chose, HasFlushed, HasHalted, IsCalm, IsFlushed, MissedLater, NoOther, NoneLeaves}
 use Rattle.page_provider.specs.Providers.{Provider, Keeps}
 use Rattle.page_provider.specs.Steps.{IsMissAtMost}
-use Rattle.page_provider.proofs.Chilling.{calm_then, chills_calm, chills_idle, chills_none, chills_ran, chills_step, chills_then, cooled_long, cooled_there, flushed_cooled, idle_ran, none_above, none_held, ticked, ticked_state}
+use Rattle.page_provider.proofs.Chilling.{calm_then, chills_calm, chills_idle, chills_none, chills_ran, chills_step, chills_then, cooled_long, cooled_there, flushed_cooled, idle_ran, none_above, none_held, none_others, ticked, ticked_state}
 use Rattle.page_provider.proofs.Flushing.{flushed_ran, same_state}
 use Rattle.page_provider.proofs.Judging.{as_there, entry_is, none_same, tells}
 use Rattle.page_provider.proofs.Keeping.{keeps_ran}
@@ -148,6 +148,11 @@ module _ {z : Shape} {path : List ℕ} {v u : View} {was k : Provider} {flushed 
       cools : z.alone ≡ true → Ran z.alone w [] x → is_cooling ((state (ticked u entry.page)).core.place entry.page) ≡ true
       cools alone r = ap (λ m. is_cooling (m.core.place entry.page)) (sym (state_is alone r)) ∙ (entry_is laws (keeps_ran laws.stood laws.standing tt r s.cooled.moved.goes.keeps) stepped_there).cooling
 
+      -- none of the others can leave
+      pub stepped_others : leaves.Tells z w entry.page leave.Yes x → NoOther z x (chosen.Page entry)
+      stepped_others t alone = as_there (ticked u entry.page) x (λ g m. (q : ℕ) → q < (opening g).format.pages → q ≢ entry.page → is_cooling (m.core.place q) ≡ true → (Rattle.core_state.specs.States.flushed_by_all (opening g) m.core < (m.core.page q).gsn) ⊎ Rattle.page_pool.specs.Full.IsHeldBack m.core q)
+          (given_is t.ran) (state_is alone t.ran) (none_others entry.page (j.none alone) hot (cools alone t.ran))
+
       pub stepped_above : leaves.Tells z w entry.page leave.Above x → IsChilling z path v was flushed (i + 1) n x is
       stepped_above t =
           let long = cooled_long s.cooled in let many = j.many in let few = j.few in
@@ -196,20 +201,24 @@ module _ {z : Shape} {v u : View} {k : Provider} {flushed : ℕ} (laws : RowLaws
 
 -- ## Pages cool until the queue has so many
 
--- So many turns have cooled a page each.
-pub record IsSharing (z : Shape) (path : List ℕ) (v : View) (was : Provider) (i : ℕ) (u : View) (is : Provider) : Type 0 where
+-- So many turns have cooled a page each, and the queue has no more than is wanted.
+pub record IsSharing (z : Shape) (path : List ℕ) (v : View) (was : Provider) (wanted i : ℕ) (u : View) (is : Provider) : Type 0 where
   pub chills : Chills z path v was u is
   pub many : i ≤ length is.queue
+  pub low : (length is.queue ≡ length was.queue) ⊎ (length is.queue ≤ wanted)
 
-pub sharing_none : {z : Shape} {path : List ℕ} {v : View} {k : Provider} → RowLaws → Keeps z v k → v.held ≡ [] → IsSharing z path v k 0 v k
-sharing_none laws c none = record { chills = chills_none laws c none; many = omega arith }
+pub sharing_none : {z : Shape} {path : List ℕ} {v : View} {k : Provider} {wanted : ℕ} → RowLaws → Keeps z v k → v.held ≡ [] → IsSharing z path v k wanted 0 v k
+sharing_none laws c none = record { chills = chills_none laws c none; many = omega arith; low = inl refl }
 
-module _ {z : Shape} {path : List ℕ} {v u : View} {was k : Provider} {i : ℕ} (j : IsSharing z path v was i u k) where
-  pub sharing_more : {w : View} {is : Provider} {entry : Cooling} → Stepped z path u k entry w is → IsSharing z path v was (i + 1) w is
-  sharing_more s = let long = cooled_long s.cooled in let many = j.many in record { chills = chills_then j.chills (chills_step s); many = omega arith }
+module _ {z : Shape} {path : List ℕ} {v u : View} {was k : Provider} {wanted i : ℕ} (j : IsSharing z path v was wanted i u k) where
+  pub sharing_more : {w : View} {is : Provider} {entry : Cooling} → length k.queue < wanted → Stepped z path u k entry w is → IsSharing z path v was wanted (i + 1) w is
+  sharing_more few s = let long = cooled_long s.cooled in let many = j.many in record { chills = chills_then j.chills (chills_step s); many = omega arith; low = inr (omega arith) }
 
   pub sharing_idle : {w : View} {is : Provider} → RowLaws → Idle z u k w is → Chills z path v was w is
   sharing_idle laws t = chills_then j.chills (chills_idle laws j.chills.moved.goes.keeps t)
+
+  pub sharing_low : {w : View} {is : Provider} → Idle z u k w is → (length is.queue ≡ length was.queue) ⊎ (length is.queue ≤ wanted)
+  sharing_low t = let same = ap (λ (p : Provider). length p.queue) t.memory in elim j.low [ inl e ↦ inl (omega arith) | inr few ↦ inr (omega arith) ]
 
 -- a turn was stopped behind pages that cooled
 pub then_stopped : {z : Shape} {path : List ℕ} {v u w : View} {was k is : Provider} {why : Refusal} → RowLaws → Chills z path v was u k → Stalls 2 z u k why w is → HasRefused 2 z path v was why w is × HasHalted z v was why w is

@@ -63,6 +63,7 @@ use Rattle.page_provider.proofs.Keeping.{keeps_ran, ran_stood}
 use Rattle.page_provider.proofs.Moving.{come_moved, halts_refused, missed_halts, moved_none, moved_then, moved_up, path_none, path_then, refused_then, refused_up, same_none}
 use Rattle.page_provider.proofs.Pools.{found_entry}
 use Rattle.page_provider.proofs.Running.{disked_quiet}
+use Rattle.page_provider.proofs.Shares.{needed_before, share_before}
 use Rattle.page_provider.proofs.Sightings.{missed_before, state_same}
 use Rattle.page_provider.proofs.Writing.{disked_misses}
 
@@ -272,7 +273,7 @@ module _ (z : Shape) {v u : View} (r : Ran z.alone v [] u) where
     refused_before {n} {path} none held h = refused_up (omega arith) (refused_then (moved_look none held) (path_look path) refl h)
 
     pub faulted_before : (n : ℕ) (path : List ℕ) (page : ℕ) (w : View) (is : Provider) → v.held ≡ [] → u.held ≡ v.held → (come : Option ℕ) → Faulted n z path u k page come w is → Faulted n z path v k page come w is
-    faulted_before n path page w is none held (Some f) h = record { moved = moved_up (omega arith) (moved_then (moved_look none held) h.moved); keeps = path_then path v u w (path_look path) h.keeps; hot = h.hot; broken = h.broken }
+    faulted_before n path page w is none held (Some f) h = record { moved = moved_up (omega arith) (moved_then (moved_look none held) h.moved); keeps = path_then path v u w (path_look path) h.keeps; hot = h.hot; broken = h.broken; needed = λ alone. needed_before r (h.needed alone); enough = λ alone cold. share_before k is r (h.enough alone (stood_look.cold page ∙ cold)) }
     faulted_before n path page w is none held None h =
         let off = sym (stood_look.hot page) ∙ h.hot in
         record {
@@ -286,12 +287,17 @@ module _ (z : Shape) {v u : View} (r : Ran z.alone v [] u) where
 
 -- ## What no hot node names
 
+hot_cold : (x : Place) → is_hot x ≡ true → is_cold x ≡ false
+hot_cold (Place.Hot f) h = refl
+hot_cold (Place.Cooling f e w) h = absurd (true≢false (sym h))
+hot_cold Place.Cold h = absurd (true≢false (sym h))
+
 -- no node names it, where nobody else steps, and this is where it stands
 pub standing_faulted : {z : Shape} {v u : View} (w : View) {k : Provider} {page frames : ℕ} (path : List ℕ) → RowLaws → Keeps z v k → v.held ≡ [] → w.held ≡ v.held → frames ≡ k.frames → page < (opening v.given).format.pages → is_in k.free page ≡ false
     → Ran z.alone v [] u → (z.alone ≡ true → NoneNames frames page u) → (come : Option ℕ) → Standing z u page come w → Faulted 4 z path v k page come w k
-standing_faulted {z = z} {v = v} {u = u} w path laws c none held all below used r names (Some f) h =
+standing_faulted {z = z} {v = v} {u = u} w {page = page} path laws c none held all below used r names (Some f) h =
     let t = ran_append z.alone v [] u [] w r h.0 in
-    record { moved = moved_up (omega arith) (moved_look z t laws c none held); keeps = path_look z t laws c path; hot = h.1; broken = refl }
+    record { moved = moved_up (omega arith) (moved_look z t laws c none held); keeps = path_look z t laws c path; hot = h.1; broken = refl; needed = λ alone. record { events = []; ran = t; few = inl refl }; enough = λ alone cold. absurd (true≢false (sym cold ∙ hot_cold ((state v).core.place page) (sym ((stood_look z t laws c).hot page) ∙ ap is_hot h.1))) }
 standing_faulted {z = z} {v = v} {u = u} w {k = k} {page = page} {frames = frames} path laws c none held all below used r names None h =
     let t = ran_append z.alone v [] u [] w r h.0 in
     let off = sym ((stood_look z t laws c).hot page) ∙ h.1 in
@@ -458,17 +464,6 @@ module _ {z : Shape} {v : View} {now : Provider} {entry : Cooling} (laws : RowLa
     live = live;
     astray = λ only. (record { hot = entry_off; live = live; parent = i.2 only }, i.1);
   }
-
-pub come_placed : {z : Shape} {v u : View} {k is : Provider} {page frame : ℕ} (path : List ℕ) {e : Event} → is_pagers e ≡ true → others_in (e ∷ []) ≡ 1 → HasCome z e page frame v k u is → HasPlaced 1 z path v k page frame u is
-come_placed path pagers one h = record {
-  moved = come_moved pagers one h;
-  keeps = λ f p on e. h.others p (ap is_hot e) ∙ e;
-  hot = h.hot;
-  broken = ap (λ (p : Provider). p.broken) h.memory;
-}
-
-pub placed_up : {z : Shape} {v u : View} {k is : Provider} {page frame m n : ℕ} {path : List ℕ} → m ≤ n → HasPlaced m z path v k page frame u is → HasPlaced n z path v k page frame u is
-placed_up le h = record { moved = moved_up le h.moved; keeps = h.keeps; hot = h.hot; broken = h.broken }
 
 pub rescue_quiet : {z : Shape} {v u : View} {k is : Provider} {page frame : ℕ} → HasCome z (told.Rescue page) page frame v k u is → IsUnseen z.alone v k u is
 rescue_quiet {page = page} h = record { events = told.Rescue page ∷ []; ran = h.goes.ran; quiet = refl; slots = ap (λ (p : Provider). p.slots) h.memory; generation = ap (λ (p : Provider). p.generation) h.memory }

@@ -6,7 +6,7 @@ use Rattle.page_model.specs.Page as stored
 use Rattle.page_model.specs.Check.{names_page}
 use Rattle.core_state.specs.Lists.{all_below}
 use Rattle.core_state.specs.Needs.{has_hot_parent}
-use Rattle.core_state.specs.States.{Place, is_cold, is_hot}
+use Rattle.core_state.specs.States.{Place, is_cold, is_cooling, is_hot}
 use Rattle.row_words.specs.declared.given.Given.{Given}
 use Rattle.row_words.specs.declared.event.Event.TheVariants.{Load}
 use Rattle.row_words.specs.Openings.{opening}
@@ -14,7 +14,7 @@ use Rattle.rows_trait.specs.declared.view.View.{View}
 use Rattle.rows_trait.specs.Views.{Shape, state}
 use Rattle.page_provider.specs.declared.refusal.Refusal.{Refusal}
 use Rattle.page_provider.specs.declared.refusal.Refusal.TheVariants as refusal
-use Rattle.page_provider.specs.Comes.{CanCome, ComesOrNot, HasCome, HasContents, HasRoom, HasRead, IsOfRoom, PlaceCause, ReadsWell}
+use Rattle.page_provider.specs.Comes.{CanCome, ComesOrNot, Fills, HasCome, HasContents, HasRoom, HasRead, IsOfRoom, PlaceCause, ReadsWell}
 use Rattle.page_provider.specs.Ends.{HasRefused}
 use Rattle.page_provider.specs.Faults.{Faulted, FullCause, HasLost, HasPlaced, LeadsTo, LostCause}
 use Rattle.page_provider.specs.Finds.{Halts}
@@ -32,7 +32,9 @@ use Rattle.page_provider.specs.Laws.{DiskLaws}
 use Rattle.page_provider.proofs.Keeping.{keeps_slots}
 use Rattle.page_provider.proofs.Running.{beside_same, went_call}
 use Rattle.page_provider.proofs.Moving.{come_moved, halts_refused, moved_then, moved_up, path_then, refused_then, refused_up}
+use Rattle.page_pool.specs.Full.{NoneRipe}
 use Rattle.page_provider.proofs.Placing.{none_lost}
+use Rattle.page_provider.proofs.Shares.{loaded_long, needed_behind, none_sunk, share_behind, sinks_ran}
 
 -- ## Refusals
 
@@ -73,9 +75,6 @@ row_fault _ k e = absurd k
 
 -- ## It fills the frame
 
-pub placed_once : (path : List ℕ) {z : Shape} {v u : View} {k is : Provider} {page frame : ℕ} → HasCome z (Load page frame) page frame v k u is → HasPlaced 1 z path v k page frame u is
-placed_once path h = record { moved = come_moved refl refl h; keeps = λ f p has hot. h.others p (ap is_hot hot) ∙ hot; hot = h.hot; broken = ap (λ (p : Provider). p.broken) h.memory }
-
 cold_off : (x : Place) → is_cold x ≡ true → is_hot x ≡ false
 cold_off (Place.Hot f) h = absurd (true≢false (sym h))
 cold_off (Place.Cooling f e w) h = absurd (true≢false (sym h))
@@ -111,13 +110,19 @@ module _ {z : Shape} {path : List ℕ} {v u : View} {was mid : Provider} {frame 
     last = room.last;
   }
 
-  pub placed_then : {w : View} {is : Provider} {page f : ℕ} → HasPlaced 1 z path u mid page f w is → HasPlaced 4 z path v was page f w is
-  placed_then {w} h = record {
-    moved = moved_up (let few : 2 + 1 ≤ 4 = omega arith in few) (moved_then room.moved h.moved);
-    keeps = path_then path v u w room.keeps h.keeps;
+  pub placed_then : {w : View} {is : Provider} {page f : ℕ} → HasCome z (Load page f) page f u mid w is → HasPlaced 4 z path v was page f w is
+  placed_then {w} {is} {page} {f} h = record {
+    moved = moved_up (let few : 2 + 1 ≤ 4 = omega arith in few) (moved_then room.moved (come_moved refl refl h));
+    keeps = path_then path v u w room.keeps (λ i p has hot. h.others p (ap is_hot hot) ∙ hot);
     hot = h.hot;
-    broken = h.broken ∙ room.broken;
+    broken = ap (λ (p : Provider). p.broken) h.memory ∙ room.broken;
+    needed = λ alone. needed_behind refl h.goes.ran (still alone) (room.needed alone);
+    enough = λ alone cold. share_behind was mid is h.goes.ran (loaded_long room.moved.goes.keeps h.goes.keeps h.goes.ran alone) (room.enough alone);
   }
+    where
+      still : z.alone ≡ true → NoneRipe (opening u.given) (state u).core → NoneRipe (opening w.given) (state w).core
+      still alone none = subst (λ (g : Given). NoneRipe (opening g) (state w).core) (sym h.goes.ran.given)
+          (none_sunk (opening u.given) (sinks_ran h.goes.ran tt alone) page (λ q below ne c. none q below c) (ap is_cooling h.hot))
 
   -- a cold page is as it was
   same_page : {page : ℕ} {n : stored.Page} → HasContents v page n → (state u).core.page page ≡ (state v).core.page page
@@ -173,7 +178,7 @@ module _ {z : Shape} {path : List ℕ} {v u : View} {was mid : Provider} {frame 
   refused_behind {w} {is} {why} same h = subst (λ p. HasRefused 4 z path v was why w p) (sym same) (refused_up (let few : 2 + 2 ≤ 4 = omega arith in few) (refused_then room.moved room.keeps room.broken (halts_refused laws room.moved.goes.keeps room.moved.goes.held h)))
 
   pub faulted_then : (w : View) (is : Provider) {page : ℕ} {n : stored.Page} → HasContents v page n → LeadsTo z v path page → (z.alone ≡ true → has_hot_parent (opening v.given) (state v).core page ≡ true)
-      → (come : Option ℕ) → Faulted 1 z path u mid page come w is → Faulted 4 z path v was page come w is
+      → (come : Option ℕ) → Fills z path u mid page come w is → Faulted 4 z path v was page come w is
   faulted_then w is h leads parent (Some f) k = placed_then k
   faulted_then w is h leads parent None k = lost_then h leads parent k
 

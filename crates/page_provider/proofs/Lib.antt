@@ -29,6 +29,7 @@ pub mod Placing
 pub mod Unlinks
 pub mod Flushing
 pub mod Judging
+pub mod Shares
 pub mod Chilling
 pub mod Emptying
 pub mod Crowded

@@ -58,6 +58,10 @@ moved_then {z = z} {v = v} {u = u} {w = w} x y = record {
   same = same_then x.same y.same;
 }
 
+pub then_events : {m n : ℕ} {z : Shape} {v u w : View} {a b c : Provider} (x : Moved m z v a u b) (y : Moved n z u b w c) → (moved_then x y).events ≡ x.events ++ y.events
+unfolding moved_then
+then_events x y = refl
+
 pub moved_up : {m n : ℕ} {z : Shape} {v u : View} {a b : Provider} → m ≤ n → Moved m z v a u b → Moved n z v a u b
 moved_up le x = record { events = x.events; goes = x.goes; pagers = x.pagers; ticked = x.ticked; few = let f = x.few in omega arith; met = x.met; same = x.same }
 

@@ -2,7 +2,7 @@
 use Rattle.std.proofs.Common.{◌≡◌, ◌<◌, ◌≤◌, ◌&&◌, ◌⊎◌, inl, inr, not, ℕ, Bool, true, false, List, [], ◌∷◌, length, Some, refl, sym, ap, subst, ◌∙◌, arith, true≢false}
 use Rattle.row_words.proofs.Stays.{and_true}
 use Rattle.core_state.specs.Needs.{has_hot_parent}
-use Rattle.core_state.specs.States.{Place, is_cooling, is_hot}
+use Rattle.core_state.specs.States.{Place, is_cold, is_cooling, is_hot}
 use Rattle.cooling_stage.specs.declared.stage.Cooling.{Cooling}
 use Rattle.cooling_stage.specs.Queue.{found}
 use Rattle.free_pages.specs.Pages.{is_in}
@@ -27,6 +27,7 @@ use Rattle.page_provider.specs.Laws.{DiskLaws, RowLaws}
 use Rattle.page_provider.specs.Steps.{AreMisses}
 use Rattle.page_provider.specs.Moves.{AreMet, is_pagers, others_in}
 use Rattle.page_provider.specs.Providers.{Provider, Keeps}
+use Rattle.page_provider.specs.Shares.{cools_in}
 use Rattle.page_provider.proofs.Hands.{idle_is, idle_path}
 use Rattle.page_provider.proofs.Joins.{held_misses}
 use Rattle.page_provider.proofs.Running.{disked_quiet}
@@ -39,6 +40,11 @@ cool_hot : (x : Place) → is_cooling x ≡ true → is_hot x ≡ false
 cool_hot (Place.Hot f) h = absurd (true≢false (sym h))
 cool_hot (Place.Cooling f e w) h = refl
 cool_hot Place.Cold h = refl
+
+cool_cold : (x : Place) → is_cooling x ≡ true → is_cold x ≡ false
+cool_cold (Place.Hot f) h = refl
+cool_cold (Place.Cooling f e w) h = refl
+cool_cold Place.Cold h = absurd (true≢false (sym h))
 
 live_by : (live hot : Bool) → hot ≡ false → live ≡ not (not live && not hot)
 live_by true hot e = refl
@@ -62,13 +68,23 @@ module _ {z : Shape} {v : View} {k : Provider} {entry : Cooling} (c : Keeps z v 
   pub entry_hot : is_hot ((state v).core.place entry.page) ≡ false
   entry_hot = cool_hot ((state v).core.place entry.page) in_queue.cooling
 
+  pub entry_cold : is_cold ((state v).core.place entry.page) ≡ false
+  entry_cold = cool_cold ((state v).core.place entry.page) in_queue.cooling
+
   pub entry_live : (b : Bool) → is_in k.free entry.page ≡ b → ((state v).core.page entry.page).node.live ≡ not b
   entry_live b e = live_is c entry.page entry_page entry_hot b e
 
 -- ## It comes, or not
 
-pub come_placed : (path : List ℕ) {z : Shape} {v u : View} {k is : Provider} {page frame : ℕ} {e : Event} → is_pagers e ≡ true → others_in (e ∷ []) ≡ 1 → HasCome z e page frame v k u is → HasPlaced 4 z path v k page frame u is
-come_placed path pagers one h = record { moved = moved_up (omega arith) (come_moved pagers one h); keeps = λ f p has hot. h.others p (ap is_hot hot) ∙ hot; hot = h.hot; broken = ap (λ (p : Provider). p.broken) h.memory }
+pub come_placed : (path : List ℕ) {z : Shape} {v u : View} {k is : Provider} {page frame : ℕ} {e : Event} → is_pagers e ≡ true → others_in (e ∷ []) ≡ 1 → cools_in (e ∷ []) ≡ 0 → is_cold ((state v).core.place page) ≡ false → HasCome z e page frame v k u is → HasPlaced 4 z path v k page frame u is
+come_placed path {e = e} pagers one none off h = record {
+  moved = moved_up (omega arith) (come_moved pagers one h);
+  keeps = λ f p has hot. h.others p (ap is_hot hot) ∙ hot;
+  hot = h.hot;
+  broken = ap (λ (p : Provider). p.broken) h.memory;
+  needed = λ alone. record { events = e ∷ []; ran = h.goes.ran; few = inl none };
+  enough = λ alone cold. absurd (true≢false (sym cold ∙ off));
+}
 
 pub none_lost : (path : List ℕ) {z : Shape} {v u : View} {k is : Provider} {page : ℕ} → RowLaws → Keeps z v k → is_hot ((state v).core.place page) ≡ false → ((state v).core.page page).node.live ≡ true
     → Idle z v k u is × (is ≡ k) × (z.alone ≡ true → has_hot_parent (opening v.given) (state v).core page ≡ false) → HasLost 4 z path v k page u is

@@ -1,11 +1,12 @@
 -- Words of private functions: a frame that is to be filled, and a page that came into one.
-use Rattle.std.specs.Prelude.{◌≡◌, ◌<◌, ℕ, Bool, true, false, List, [], ◌∷◌, ◌++◌}
+use Rattle.std.specs.Prelude.{◌≡◌, ◌<◌, ℕ, Bool, true, false, List, [], ◌∷◌, ◌++◌, Option, Some, None}
 use Rattle.map_model.specs.Lists.{all}
 use Rattle.core_state.specs.Needs.{has_hot_parent}
 use Rattle.core_state.specs.States.{Place, is_cold, is_hot}
 use Rattle.page_model.specs.Page as stored
 use Rattle.page_moves.specs.Moves.{contents_of}
 use Rattle.row_words.specs.declared.event.Event.{Event}
+use Rattle.row_words.specs.declared.event.Event.TheVariants.{Load}
 use Rattle.row_words.specs.Moments.{events_of}
 use Rattle.row_words.specs.Openings.{opening}
 use Rattle.rows_trait.specs.declared.view.View.{View}
@@ -18,11 +19,12 @@ use Rattle.lean_disk.specs.Story.{Crash, Story}
 use Rattle.disk_runs.specs.Stands.{Known, LeavesRun}
 use Rattle.page_provider.specs.declared.refusal.Refusal.{Refusal}
 use Rattle.page_provider.specs.declared.refusal.Refusal.TheVariants as refusal
-use Rattle.page_provider.specs.Faults.{FullCause, LostCause}
+use Rattle.page_provider.specs.Faults.{FullCause, HasLost, LostCause}
 use Rattle.page_provider.specs.Cools.{Idle}
 use Rattle.page_provider.specs.Disks.{Runs, told}
 use Rattle.page_provider.specs.Moves.{AreMet, KeepsPath, Moved, Rested}
 use Rattle.page_provider.specs.Providers.{Provider}
+use Rattle.page_provider.specs.Shares.{AreNeeded, HasShare}
 use Rattle.page_provider.specs.Steps.{Goes}
 
 -- The disk does not see what was appended, and the same is known of each page's slots.
@@ -43,6 +45,8 @@ pub record HasRoom (z : Shape) (path : List ℕ) (v : View) (was : Provider) (fr
   pub rest : List ℕ
   pub last : is.empty ≡ rest ++ frame ∷ []
   pub broken : is.broken ≡ was.broken
+  pub needed : z.alone ≡ true → AreNeeded z.alone v was u
+  pub enough : z.alone ≡ true → HasShare path z.alone v was u is
 
 -- no frame is made empty for these alone
 abbrev pub IsOfRoom : Refusal → Type 0
@@ -64,6 +68,11 @@ pub record HasCome (z : Shape) (e : Event) (page frame : ℕ) (v : View) (was : 
 abbrev pub ComesOrNot : Bool → Shape → Event → (page frame : ℕ) → View → Provider → View → Provider → Type 0
 ComesOrNot true z e page frame v was u is = HasCome z e page frame v was u is
 ComesOrNot false z e page frame v was u is = Idle z v was u is × (is ≡ was) × (z.alone ≡ true → has_hot_parent (opening v.given) (state v).core page ≡ false)
+
+-- A cold page came into a frame, or was not named.
+abbrev pub Fills : Shape → List ℕ → View → Provider → (page : ℕ) → Option ℕ → View → Provider → Type 0
+Fills z path v was page (Some frame) u is = HasCome z (Load page frame) page frame v was u is
+Fills z path v was page None u is = HasLost 1 z path v was page u is
 
 -- The page is cold, these are its saved contents, and the frame is the last of the empty ones.
 pub record CanCome (v : View) (k : Provider) (page frame : ℕ) (n : stored.Page) : Type 0 where

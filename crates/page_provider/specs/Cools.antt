@@ -12,6 +12,7 @@ use Rattle.cooling_stage.specs.declared.stage.Cooling.{Cooling}
 use Rattle.page_pool.specs.Full.{NoCandidate}
 use Rattle.page_provider.specs.Moves.{AreMet, KeepsPath, Moved, Rested, way}
 use Rattle.page_provider.specs.Providers.{Provider}
+use Rattle.page_provider.specs.Shares.{cools_in}
 use Rattle.page_provider.specs.Steps.{Goes}
 
 -- ## Which page
@@ -108,9 +109,11 @@ pub record Chills (z : Shape) (path : List ℕ) (v : View) (was : Provider) (u :
   pub rested : Rested z v u
   pub more : List Cooling
   pub queue : is.queue ≡ was.queue ++ more
+  pub count : cools_in moved.events ≡ length more
   pub memory : is ≡ record was { queue = is.queue; free = is.free; hand = is.hand }
 
--- Behind that the queue has so many pages, or a turn has found none to cool.
+-- Behind that the queue has so many pages, or a turn has found none to cool. It has no more, or is as long as it was.
 pub record HasChilled (z : Shape) (path : List ℕ) (wanted : ℕ) (v : View) (was : Provider) (u : View) (is : Provider) : Type 0 where
   pub chills : Chills z path v was u is
+  pub few : (length is.queue ≡ length was.queue) ⊎ (length is.queue ≤ wanted)
   pub enough : (wanted ≤ length is.queue) ⊎ (z.alone ≡ true → NoCandidate (opening u.given) (state u).core (way path (state u).core))

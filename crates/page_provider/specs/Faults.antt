@@ -3,7 +3,7 @@ use Rattle.std.specs.Prelude.{◌≡◌, ◌≤◌, ◌<◌, ◌+◌, ◌⊎◌,
 use Rattle.map_model.specs.Lists.{Has}
 use Rattle.page_model.specs.Check.{names_page}
 use Rattle.core_state.specs.Needs.{has_hot_parent}
-use Rattle.core_state.specs.States.{Place, flushed_by_all, is_cooling, is_hot}
+use Rattle.core_state.specs.States.{Place, flushed_by_all, is_cold, is_cooling, is_hot}
 use Rattle.lean_disk.specs.Story.{Story, Tells}
 use Rattle.page_calls.specs.Calls.{IsDamaged}
 use Rattle.free_pages.specs.Pages.{count}
@@ -15,6 +15,7 @@ use Rattle.page_provider.specs.declared.refusal.Refusal.{Refusal}
 use Rattle.page_provider.specs.declared.refusal.Refusal.TheVariants as refusal
 use Rattle.page_provider.specs.Moves.{KeepsPath, Moved, way}
 use Rattle.page_provider.specs.Providers.{Provider}
+use Rattle.page_provider.specs.Shares.{AreNeeded, HasShare}
 
 -- ## What is asked
 
@@ -47,6 +48,9 @@ pub record HasPlaced (most : ℕ) (z : Shape) (path : List ℕ) (v : View) (was 
   pub keeps : KeepsPath path v u
   pub hot : (state u).core.place page ≡ Place.Hot frame
   pub broken : is.broken ≡ was.broken
+  -- where nobody else steps, no page cooled that had not to, and where a cold page came the queue has its share
+  pub needed : z.alone ≡ true → AreNeeded z.alone v was u
+  pub enough : z.alone ≡ true → is_cold ((state v).core.place page) ≡ true → HasShare path z.alone v was u is
 
 -- It stands in none, and is no free one. Where nobody else steps no hot page names it, and nothing was done.
 pub record HasLost (most : ℕ) (z : Shape) (path : List ℕ) (v : View) (was : Provider) (page : ℕ) (u : View) (is : Provider) : Type 0 where

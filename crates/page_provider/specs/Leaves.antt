@@ -1,5 +1,5 @@
 -- Words of private functions: which page of the queue can leave.
-use Rattle.std.specs.Prelude.{◌≡◌, ◌≤◌, ◌<◌, ◌+◌, ℕ, true, List, [], length, Some}
+use Rattle.std.specs.Prelude.{◌≡◌, ◌≢◌, ◌⊎◌, ◌≤◌, ◌<◌, ◌+◌, ℕ, true, List, [], length, Some}
 use Rattle.map_model.specs.Lists.{all}
 use Rattle.core_state.specs.States.{flushed_by_all, is_cooling}
 use Rattle.disk_runs.specs.Quiet.{is_quiet}
@@ -68,6 +68,11 @@ pub record Chose (z : Shape) (v : View) (k : Provider) (answer : Chosen) (u : Vi
   pub ran : Ran z.alone v [] u
   pub held : u.held ≡ v.held
   pub chooses : Chooses z k answer u
+
+-- where nobody else steps, no page of the queue but the chosen one can leave
+abbrev pub NoOther : Shape → View → Chosen → Type 0
+NoOther z u (chosen.Page entry) = z.alone ≡ true → (p : ℕ) → p < (opening u.given).format.pages → p ≢ entry.page → is_cooling ((state u).core.place p) ≡ true → (flushed_by_all (opening u.given) (state u).core < ((state u).core.page p).gsn) ⊎ IsHeldBack (state u).core p
+NoOther z u (chosen.Nobody held) = Unit {0}
 
 -- where none leaves, none can be cooled either, where nobody else steps
 abbrev pub NoneCools : Shape → List ℕ → View → Chosen → Type 0

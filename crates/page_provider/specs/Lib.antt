@@ -8,6 +8,7 @@ pub mod Refusals
 pub mod Moves
 pub mod Cools
 pub mod Ends
+pub mod Shares
 pub mod Faults
 pub mod Descents
 pub mod Amounts

@@ -7,7 +7,7 @@ ghost use Rattle.lean_disk.specs.Faults.{HasCause};
 ghost use Rattle.row_words.specs.Openings.{opening};
 ghost use Rattle.rows_trait.specs.Views.{state};
 ghost use Rattle.free_pages.specs.Pages.{IsLeast, count, is_in};
-ghost use Rattle.page_provider.specs.Comes.{CanCome, HasContents, IsUnseen, PlaceCause};
+ghost use Rattle.page_provider.specs.Comes.{CanCome, Fills, HasContents, IsUnseen, PlaceCause};
 ghost use Rattle.page_provider.specs.Disks.{Disked};
 ghost use Rattle.page_provider.specs.Ends.{HasRefused};
 ghost use Rattle.page_provider.specs.Faults.{FaultCause, Faulted, HasPlaced, IsAstray, IsDescent, IsWanted, LeadsTo, NoPageCause};
@@ -75,7 +75,7 @@ impl Pager {
         requires held { (R.view seat.old).held ≡ [] }
         requires comes { CanCome (R.view seat.old) self.old page frame node.now }
         ensures fits { R.fits rows.new seat.new × (R.shape rows.new ≡ R.shape rows.old) }
-        ensures ok { IfOk result (λ come. Faulted 1 (R.shape rows.old) path.now (R.view seat.old) self.old page come (R.view seat.new) self.new) }
+        ensures ok { IfOk result (λ come. Fills (R.shape rows.old) path.now (R.view seat.old) self.old page come (R.view seat.new) self.new) }
         ensures err { IfErr result (λ why. Halts 2 (R.shape rows.old) (R.view seat.old) why (R.view seat.new)) }
         ensures same { IfErr result (λ _. self.new ≡ self.old) }
         ensures unseen { IsUnseen (R.shape rows.old).alone (R.view seat.old) self.old (R.view seat.new) self.new }

@@ -1,12 +1,12 @@
 // A frame is made empty.
-ghost use Rattle.std.specs.Prelude.{◌≡◌, ◌<◌, ◌≤◌, ◌++◌, ◌∷◌, ℕ, List, true, false, [], IfOk, IfErr, MatchOption, Err, length};
+ghost use Rattle.std.specs.Prelude.{◌≡◌, ◌<◌, ◌≤◌, ◌⊎◌, ◌++◌, ◌∷◌, ℕ, List, true, false, [], IfOk, IfErr, MatchOption, Err, length};
 ghost use Rattle.lean_disk.specs.Faults.{HasCause};
 ghost use Rattle.page_provider.specs.Comes.{HasRoom, IsOfRoom};
 ghost use Rattle.page_provider.specs.Cools.{Chills};
 ghost use Rattle.page_provider.specs.Disks.{Disked};
 ghost use Rattle.page_provider.specs.Ends.{HasRefused};
 ghost use Rattle.page_provider.specs.Faults.{FullCause, IsDescent};
-ghost use Rattle.page_provider.specs.Leaves.{Chooses, HasHalted, IsCounted, IsFlushed, NoneCools, NoneLeaves};
+ghost use Rattle.page_provider.specs.Leaves.{Chooses, HasHalted, IsCounted, IsFlushed, NoOther, NoneCools, NoneLeaves};
 ghost use Rattle.page_provider.specs.Providers.{Keeps};
 ghost use Rattle.page_provider.specs.declared.refusal.Refusal.TheVariants as refusal;
 
@@ -37,6 +37,7 @@ impl Pager {
         ensures fits { R.fits rows.new seat.new × (R.shape rows.new ≡ R.shape rows.old) }
         ensures ok { IfOk result (λ answer. Chills (R.shape rows.old) path.now (R.view seat.old) self.old (R.view seat.new) self.new × Chooses (R.shape rows.old) self.new answer (R.view seat.new)) }
         ensures none_cools { IfOk result (NoneCools (R.shape rows.old) path.now (R.view seat.new)) }
+        ensures others { IfOk result (NoOther (R.shape rows.old) (R.view seat.new)) }
         ensures err { IfErr result (λ why. HasRefused 3 (R.shape rows.old) path.now (R.view seat.old) self.old why (R.view seat.new) self.new) }
         ensures halted { IfErr result (λ why. HasHalted (R.shape rows.old) (R.view seat.old) self.old why (R.view seat.new) self.new) }
     {
@@ -67,6 +68,7 @@ impl Pager {
         ensures fits { R.fits rows.new seat.new × (R.shape rows.new ≡ R.shape rows.old) }
         ensures ok { IfOk result (λ answer. Chills (R.shape rows.old) path.now (R.view seat.old) self.old (R.view seat.new) self.new × Chooses (R.shape rows.old) self.new answer (R.view seat.new)) }
         ensures none_cools { IfOk result (NoneCools (R.shape rows.old) path.now (R.view seat.new)) }
+        ensures others { IfOk result (λ answer. (length self.new.queue ≡ length self.old.queue) ⊎ NoOther (R.shape rows.old) (R.view seat.new) answer) }
         ensures err { IfErr result (λ why. HasRefused 3 (R.shape rows.old) path.now (R.view seat.old) self.old why (R.view seat.new) self.new) }
         ensures halted { IfErr result (λ why. HasHalted (R.shape rows.old) (R.view seat.old) self.old why (R.view seat.new) self.new) }
     {

@@ -6,7 +6,7 @@ use Rattle.page_provider.specs.Ends.{HasRefused}
 use Rattle.page_provider.specs.Finds.{Stalls}
 use Rattle.page_provider.specs.Leaves.{HasHalted}
 use Rattle.page_provider.specs.Providers.{Provider}
-use Rattle.page_provider.proofs.Emptying.{sharing_idle, sharing_more, sharing_none, then_stopped, turned}
+use Rattle.page_provider.proofs.Emptying.{sharing_idle, sharing_low, sharing_more, sharing_none, then_stopped, turned}
 use Rattle.page_provider.proofs.Parts.{keeps_shape}
 use Rattle.page_provider.proofs.Savings.{if_err}
 use Rattle.page_provider.proofs.pager.Pager.chill_some.Goals as goal
@@ -22,7 +22,7 @@ returns-then-len-wanted-clause-ok g c =
     let a = c.len.ensures.answer in
     let b = ap (λ (p : Provider). length p.queue) c.self.view_is in
     let many = c.if-len-wanted.true in
-    record { chills = c.loop-turn.invariant.sharing.chills; enough = inl (omega arith) }
+    record { chills = c.loop-turn.invariant.sharing.chills; few = c.loop-turn.invariant.sharing.low; enough = inl (omega arith) }
 
 pub turn-requires-clause-fits : goal.turn-requires-clause-fits
 turn-requires-clause-fits g c = c.loop-turn.invariant.fits.0
@@ -72,12 +72,15 @@ returns-in_default-clause-fits g c = (c.turn.ensures.fits.0, c.turn.ensures.fits
 pub returns-in_default-clause-ok : goal.returns-in_default-clause-ok
 returns-in_default-clause-ok g c =
     let t = turned c.args.path.now (g.R.Rows.view c.loop-turn.seat) (g.R.Rows.view c.turn.new.seat) c.loop-turn.self c.turn.new.self None c.loop-turn.invariant.fits.1 c.in_default.is c.in_ok-_entry.ensures.ok in
-    record { chills = sharing_idle c.loop-turn.invariant.sharing c.laws.ensures.rows t.0; enough = inr t.1 }
+    record { chills = sharing_idle c.loop-turn.invariant.sharing c.laws.ensures.rows t.0; few = sharing_low c.loop-turn.invariant.sharing t.0; enough = inr t.1 }
 
 pub loop-turn-preserved : goal.loop-turn-preserved
 loop-turn-preserved g c =
     let t = turned c.args.path.now (g.R.Rows.view c.loop-turn.seat) (g.R.Rows.view c.turn.new.seat) c.loop-turn.self c.turn.new.self (Some c.in-Some._entry) c.loop-turn.invariant.fits.1 c.in-Some.is c.in_ok-_entry.ensures.ok in
-    record { fits = (c.turn.ensures.fits.0, c.turn.ensures.fits.1 ∙ c.loop-turn.invariant.fits.1); sharing = sharing_more c.loop-turn.invariant.sharing t }
+    let a = c.len.ensures.answer in
+    let b = ap (λ (p : Provider). length p.queue) c.self.view_is in
+    let few = c.if-len-wanted.false in
+    record { fits = (c.turn.ensures.fits.0, c.turn.ensures.fits.1 ∙ c.loop-turn.invariant.fits.1); sharing = sharing_more c.loop-turn.invariant.sharing (omega arith) t }
 
 pub returns-clause-fits : goal.returns-clause-fits
 returns-clause-fits g c = c.loop-turn.invariant.fits
@@ -86,4 +89,4 @@ pub returns-clause-ok : goal.returns-clause-ok
 returns-clause-ok g c =
     let many = c.loop-turn.invariant.sharing.many in
     let last = c.loop-turn-test.false in
-    record { chills = c.loop-turn.invariant.sharing.chills; enough = inl (omega arith) }
+    record { chills = c.loop-turn.invariant.sharing.chills; few = c.loop-turn.invariant.sharing.low; enough = inl (omega arith) }

@@ -10,7 +10,7 @@ use Rattle.page_provider.specs.Finds.{Stalls}
 use Rattle.page_provider.specs.Inside.{Missed}
 use Rattle.page_provider.specs.Leaves.{HasHalted, IsFlushed, Tells}
 use Rattle.page_provider.specs.Providers.{Provider}
-use Rattle.page_provider.proofs.Emptying.{IsChilling, chilling_few, chilling_none, idle_chills, idle_nobody, stepped_above, stepped_flushed, stepped_held, stepped_missed, stepped_there, stepped_yes, then_stalled, turned}
+use Rattle.page_provider.proofs.Emptying.{IsChilling, chilling_few, chilling_none, idle_chills, idle_nobody, stepped_above, stepped_flushed, stepped_held, stepped_missed, stepped_others, stepped_there, stepped_yes, then_stalled, turned}
 use Rattle.page_provider.proofs.Parts.{keeps_shape}
 use Rattle.page_provider.proofs.Savings.{if_err}
 use Rattle.page_provider.proofs.pager.Pager.chill_until.Goals as goal
@@ -173,3 +173,8 @@ unreachable-requires g c =
     let e = ap (λ (p : Provider). p.frames) c.self.view_is in
     let last = c.loop-turn-test.false in
     omega arith
+
+pub returns-in-Yes-clause-others : goal.returns-in-Yes-clause-others
+returns-in-Yes-clause-others g c =
+    let s = turned c.args.path.now (g.R.Rows.view c.loop-turn.seat) (g.R.Rows.view c.turn.new.seat) c.loop-turn.self c.turn.new.self (Some c.in-Some.entry) c.loop-turn.invariant.fits.1 c.in-Some.is c.in_ok-entry.ensures.ok in
+    stepped_others c.laws.ensures.rows c.loop-turn.invariant.chilling s (told leave.Yes (c.turn.ensures.fits.1 ∙ c.loop-turn.invariant.fits.1) c.in-Yes.is c.in_ok-judge.ensures.ok)

@@ -1,4 +1,4 @@
-use Rattle.std.proofs.Common.{◌≡◌, ◌∙◌, sym, subst}
+use Rattle.std.proofs.Common.{◌≡◌, ◌∙◌, ◌⊎◌, inl, inr, length, refl, sym, subst}
 use Rattle.std.proofs.lemmas.Result.{err_from_is_err_and, IfErr-weaker, IfOk-weaker}
 use Rattle.rows_trait.specs.declared.view.View.{View}
 use Rattle.rows_trait.specs.Views.{Shape}
@@ -7,7 +7,7 @@ use Rattle.page_provider.specs.declared.leaving.Chosen.TheVariants as chosen
 use Rattle.page_provider.specs.declared.refusal.Refusal.{Refusal}
 use Rattle.page_provider.specs.Cools.{Chills}
 use Rattle.page_provider.specs.Ends.{HasRefused}
-use Rattle.page_provider.specs.Leaves.{Chooses, Chose, HasHalted, IsFlushed, MissedLater}
+use Rattle.page_provider.specs.Leaves.{Chooses, Chose, HasHalted, IsFlushed, MissedLater, NoOther}
 use Rattle.page_provider.specs.Providers.{Provider}
 use Rattle.page_provider.proofs.Chilling.{chills_then}
 use Rattle.page_provider.proofs.Emptying.{chose_chills, chose_flushed, flushed_keeps, later_missed, then_halted, then_refused}
@@ -117,3 +117,17 @@ returns-in-Nobody-clause-halted g c =
     let P : Refusal → Type 0 = λ why. HasHalted y x k why w is in
     let Q : Refusal → Type 0 = λ why. HasHalted z v k why w is in
     IfErr-weaker c.chill_until.result P Q (λ why h. then_halted c.laws.ensures.rows first (subst (λ (s : Shape). HasHalted s x k why w is) (c.choose.ensures.fits.1 ∙ c.flushed-flushed.ensures.fits.1) h)) c.chill_until.ensures.halted
+
+pub returns-in-Page-clause-others : goal.returns-in-Page-clause-others
+returns-in-Page-clause-others g c = inl refl
+
+pub returns-in-Nobody-clause-others : goal.returns-in-Nobody-clause-others
+returns-in-Nobody-clause-others g c =
+    let z = g.R.Rows.shape c.args.rows.now in
+    let w = g.R.Rows.view c.chill_until.new.seat in
+    let k = c.args.self.now in
+    let is = c.chill_until.new.self in
+    let y = g.R.Rows.shape c.choose.new.rows in
+    let P : Chosen → Type 0 = λ answer. NoOther y w answer in
+    let Q : Chosen → Type 0 = λ answer. (length is.queue ≡ length k.queue) ⊎ NoOther z w answer in
+    IfOk-weaker c.chill_until.result P Q (λ answer h. inr (subst (λ (s : Shape). NoOther s w answer) (c.choose.ensures.fits.1 ∙ c.flushed-flushed.ensures.fits.1) h)) c.chill_until.ensures.others

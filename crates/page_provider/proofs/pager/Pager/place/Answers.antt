@@ -1,7 +1,7 @@
 use Rattle.std.proofs.Common.{◌≡◌, ◌≤◌, ◌∙◌, ℕ, Option, arith, subst}
 use Rattle.std.proofs.lemmas.Result.{IfOk-weaker, err_from_is_err_and}
 use Rattle.rows_trait.specs.Views.{Shape}
-use Rattle.page_provider.specs.Comes.{IsUnseen}
+use Rattle.page_provider.specs.Comes.{Fills, IsUnseen}
 use Rattle.page_provider.specs.Ends.{HasRefused}
 use Rattle.page_provider.specs.Faults.{Faulted}
 use Rattle.page_provider.specs.Finds.{Halts}
@@ -34,10 +34,10 @@ returns-clause-ok g c =
     let w = g.R.Rows.view c.fill.new.seat in
     let mid = c.room.new.self in
     let is = c.fill.new.self in
-    let P : Option ℕ → Type 0 = λ come. Faulted 1 (g.R.Rows.shape c.room.new.rows) c.args.path.now u mid c.args.page come w is in
+    let P : Option ℕ → Type 0 = λ come. Fills (g.R.Rows.shape c.room.new.rows) c.args.path.now u mid c.args.page come w is in
     let Q : Option ℕ → Type 0 = λ come. Faulted 4 z c.args.path.now v c.args.self.now c.args.page come w is in
     IfOk-weaker c.fill.result P Q (λ come h. faulted_then c.laws.ensures.rows c.requires.keeps c.in_ok-frame.ensures.ok w is c.requires.contents c.requires.leads c.requires.parent come
-    (subst (λ (s : Shape). Faulted 1 s c.args.path.now u mid c.args.page come w is) c.in_ok-frame.ensures.fits.1 h)) c.fill.ensures.ok
+    (subst (λ (s : Shape). Fills s c.args.path.now u mid c.args.page come w is) c.in_ok-frame.ensures.fits.1 h)) c.fill.ensures.ok
 
 pub returns-clause-err : goal.returns-clause-err
 returns-clause-err g c =

@@ -1,16 +1,17 @@
-use Rattle.std.proofs.Common.{◌≡◌, ◌∙◌, ◌≤◌, ℕ, List, arith, ap, subst}
+use Rattle.std.proofs.Common.{◌≡◌, ◌∙◌, ◌≤◌, ◌⊎◌, ◌/◌, max, length, ℕ, List, arith, ap, subst}
 use Rattle.std.proofs.lemmas.Result.{err_from_is_err_and}
 use Rattle.rows_trait.specs.declared.view.View.{View}
 use Rattle.rows_trait.specs.Views.{Shape}
 use Rattle.page_provider.specs.declared.leaving.Chosen.{Chosen}
 use Rattle.page_provider.specs.declared.leaving.Chosen.TheVariants as chosen
 use Rattle.page_provider.specs.declared.refusal.Refusal.{Refusal}
-use Rattle.page_provider.specs.Cools.{Chills}
+use Rattle.page_provider.specs.Cools.{Chills, HasChilled}
 use Rattle.page_provider.specs.Disks.{Disked}
 use Rattle.page_provider.specs.Ends.{HasRefused}
 use Rattle.page_provider.specs.Evicts.{HasLeft, HasStayed}
-use Rattle.page_provider.specs.Leaves.{Chooses, HasHalted, NoneCools}
+use Rattle.page_provider.specs.Leaves.{Chooses, HasHalted, NoOther, NoneCools}
 use Rattle.page_provider.specs.Providers.{Provider}
+use Rattle.page_provider.specs.Shares.{share}
 use Rattle.page_provider.proofs.Chilling.{calm_then, chills_calm, chills_then}
 use Rattle.page_provider.proofs.Crowded.{full_cause, way_closed}
 use Rattle.page_provider.proofs.Emptying.{then_refused}
@@ -28,6 +29,10 @@ behind {path = path} {u = u} {w = w} {k = k} {is = is} shape one two = chills_th
 -- how the search for a page ended
 ended : (path : List ℕ) (u w : View) (k is : Provider) {y z : Shape} {done : Chosen} (answer : Chosen) → y ≡ z → done ≡ answer → Chills y path u k w is × Chooses y is done w → Chills z path u k w is × Chooses z is answer w
 ended path u w k is answer shape same h = subst (λ (s : Shape × Chosen). Chills s.0 path u k w is × Chooses s.0 is s.1 w) (λ i. (shape i, same i)) h
+
+-- the share of the frames, as it was reckoned
+shared : {z : Shape} {path : List ℕ} {v u : View} {old was is : Provider} {n m : ℕ} → old ≡ was → n ≡ old.frames → m ≡ max (n / 10) 1 → HasChilled z path m v was u is → HasChilled z path (share was.frames) v was u is
+shared {z} {path} {v} {u} {old} {was} {is} same many wanted h = subst (λ j. HasChilled z path j v was u is) (wanted ∙ (ap share many ∙ ap (λ (p : Provider). share p.frames) same)) h
 
 -- ## The first part is refused
 
@@ -50,7 +55,7 @@ returns-in_err-chill_some-clause-disk g c = calm_disked c.laws.ensures.disk (g.m
 -- ## A frame is empty
 
 pub returns-in-Some-clause-ok : goal.returns-in-Some-clause-ok
-returns-in-Some-clause-ok g c = let o = c.in-Some.ensures.last in room_kept c.in_ok-chill_some.ensures.ok.chills o.0 o.1
+returns-in-Some-clause-ok g c = let o = c.in-Some.ensures.last in room_kept (shared c.self.view_is c.frames.ensures c.max-wanted.ensures c.in_ok-chill_some.ensures.ok) o.0 o.1
 
 pub returns-in-Some-clause-disk : goal.returns-in-Some-clause-disk
 returns-in-Some-clause-disk g c = calm_disked c.laws.ensures.disk (g.met.P.Part.lawful c.args.dev.now) (chills_calm c.in_ok-chill_some.ensures.ok.chills)
@@ -148,10 +153,10 @@ returns-clause-ok g c =
     let w = g.R.Rows.view c.leaver.new.seat in
     let x = g.R.Rows.view c.evict.new.seat in
     let k = c.leaver.new.self in
-    let h = behind c.in_ok-chill_some.ensures.fits.1 c.in_ok-chill_some.ensures.ok.chills c.in_ok-entry.ensures.ok.0 in
     let a = ended c.args.path.now u w c.chill_some.new.self k (chosen.Page c.in-Page.entry) c.in_ok-chill_some.ensures.fits.1 c.in-Page.is c.in_ok-entry.ensures.ok in
     let left = subst (λ (s : Shape). HasLeft s w k c.in-Page.entry.page x c.evict.new.self) (c.in_ok-entry.ensures.fits.1 ∙ c.in_ok-chill_some.ensures.fits.1) c.in_ok-evict.ensures.ok in
-    room_left c.laws.ensures.rows h a.1.0 a.1.1 left
+    let no = subst (λ (s : Shape × Chosen). (length k.queue ≡ length c.chill_some.new.self.queue) ⊎ NoOther s.0 w s.1) (λ i. (c.in_ok-chill_some.ensures.fits.1 i, c.in-Page.is i)) c.in_ok-entry.ensures.others in
+    room_left c.laws.ensures.rows (shared c.self.view_is c.frames.ensures c.max-wanted.ensures c.in_ok-chill_some.ensures.ok) a.0 no c.in_default.ensures.last a.1.0 a.1.1 left
 
 pub returns-clause-disk : goal.returns-clause-disk
 returns-clause-disk g c =
