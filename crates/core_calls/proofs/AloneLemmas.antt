@@ -6,7 +6,7 @@ use Rattle.map_model.specs.Histories.{Step}
 use Rattle.map_model.specs.Journals.{Name}
 use Rattle.map_model.specs.Lists.{Has}
 use Rattle.map_model.proofs.ListLemmas.{has_left}
-use Rattle.image_model.specs.Entries.{Entry, Contents, is_commit, touches, written}
+use Rattle.image_model.specs.Entries.{Entry, is_commit, touches, written}
 use Rattle.image_model.specs.Ends.{name_of}
 use Rattle.rfa_model.specs.Stamps.{is_remote, need_of}
 use Rattle.core_state.specs.Openings.{Opening}
@@ -19,7 +19,7 @@ use Rattle.core_commit.specs.Debts.{Stamp, stamps_of, touched, Touched, EveryNee
 use Rattle.core_commit.specs.Holders.{EveryHolder}
 use Rattle.core_commit.specs.Rises.{EveryRise}
 use Rattle.core_commit.specs.Floors.{EveryFloor}
-use Rattle.core_commit.proofs.History.{IsHistory, page_at}
+use Rattle.core_commit.proofs.History.{IsRecorded, page_at}
 use Rattle.core_commit.proofs.Runs.{good_run, good_start}
 use Rattle.core_crash.proofs.Ends.{one_end}
 use Rattle.core_crash.proofs.Journal.{commit_is_end}
@@ -33,7 +33,7 @@ use Rattle.core_calls.specs.Alone.{names_by, commits_name, EveryAlone}
 use Rattle.core_calls.proofs.EntryLemmas.{Deal, deals_in, Adds, None_new, One_new, Begin_new, adds}
 use Rattle.core_calls.proofs.MarkLemmas.{commit_is}
 use Rattle.core_calls.proofs.RunLemmas.{marks_behind}
-use Rattle.core_calls.proofs.DurableLemmas.{has_later, history_of, entered, Ripe, ripe_from, ripe_to, ripe_later, told_from, due_has}
+use Rattle.core_calls.proofs.DurableLemmas.{has_later, recorded_of, entered, Ripe, ripe_from, ripe_to, ripe_later, told_from, due_has}
 use Rattle.core_calls.proofs.CommitLemmas.{session_commit, session_deal, up_to_moments}
 
 -- ## What is touched
@@ -65,7 +65,7 @@ touched_near s n base h r (Event.Purge v p keys) x i = stamps_near s n base h (p
 touched_near s n base h r _ x i = absurd i
 
 -- a page that has been changed has the log of a worker, and any other has a number up to the base
-page_near : (g : Opening) (f p : ℕ) (h : List Entry) → IsHistory g f h → ((page_at g h p).last ≤ g.workers) ⊎ ((page_at g h p).gsn ≤ g.base)
+page_near : (g : Opening) (f p : ℕ) (h : List Entry) → IsRecorded g f h → ((page_at g h p).last ≤ g.workers) ⊎ ((page_at g h p).gsn ≤ g.base)
 page_near g f p [] all = inr (g.low p)
 page_near g f p (r ∷ h) all = go (page_near g f p h all.1) (touches p r)
   where
@@ -118,8 +118,11 @@ module _ (need_laws : EveryNeed) (holders : EveryHolder) (floors : EveryFloor) (
   pages_near : (before : List Event) (p : ℕ) → Near 1 g.base (page_stamp (run g (start g) before) p)
   pages_near before p =
       let i = (good_run g before (start g) (good_start g)).inv in
-      let a = subst (λ (c : Contents). (c.last ≤ g.workers) ⊎ (c.gsn ≤ g.base)) (sym (i.pages p)) (page_near g (flushed_by_all g (run g (start g) before)) p (run g (start g) before).entries i.history) in
-      elim a [ inl l ↦ inl (omega (arith, l, alone)) | inr n ↦ inr n ]
+      let k = i.stamps p in let number = k.0 in let log = k.1 in
+      elim (page_near g (flushed_by_all g (run g (start g) before)) p (run g (start g) before).entries i.records) [
+        | inl l ↦ inl (omega (arith, l, log, alone))
+        | inr n ↦ inr (omega (arith, n, number))
+      ]
 
   untouched : (es before : List Event) (n : ℕ) → Touched g (run g (start g) before) es 1 n → ⊥
   untouched [] before n t = t
@@ -232,7 +235,7 @@ module _ (l : Limits) (g : Opening) (group : ℕ) (x : Done) (xs : List Done) (t
   now = run g (start g) (front (x ∷ xs))
 
   same_end : (d e : Entry) → Has d now.entries → Has e now.entries → is_commit d.kind ≡ true → is_commit e.kind ≡ true → d.log ≡ e.log → d.txn ≡ e.txn → d ≡ e
-  same_end d e i j k m s n = one_end g (flushed_by_all g now) now.entries (history_of g (front (x ∷ xs))) d e i j (commit_is_end d.kind k) (commit_is_end e.kind m) (s, n)
+  same_end d e i j k m s n = one_end g (flushed_by_all g now) now.entries (recorded_of g (front (x ∷ xs))) d e i j (commit_is_end d.kind k) (commit_is_end e.kind m) (s, n)
 
   stays : (e : Entry) → Has e before.entries → Has e now.entries
   stays e i = subst (λ (s : State). Has e s.entries) (sym (run_more g (start g) (front xs) x.events)) (has_later g x.events before e i)

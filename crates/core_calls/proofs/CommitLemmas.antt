@@ -16,7 +16,7 @@ use Rattle.core_state.specs.Needs.{pages_of, are_hot, needs, may}
 use Rattle.core_state.specs.Steps.{happens, run, AllMet, state_after}
 use Rattle.core_state.proofs.Runs.{run_more, met_more}
 use Rattle.core_commit.specs.Rises.{EveryRise}
-use Rattle.core_commit.proofs.History.{IsHistory}
+use Rattle.core_commit.proofs.History.{IsRecorded}
 use Rattle.core_commit.proofs.Invariants.{Inv}
 use Rattle.core_commit.proofs.Runs.{Good, good_event, good_start}
 use Rattle.core_crash.proofs.Ends.{one_end}
@@ -30,7 +30,7 @@ use Rattle.core_calls.specs.Durables.{is_told, up_to, durables, moments, CommitL
 use Rattle.core_calls.proofs.EntryLemmas.{call_mark, entry_mark, Deal, deal_of, deals_of, deals_in, deal_onto, Adds, Quiet, Enters, Opens, None_new, One_new, Begin_new, adds, commit_record}
 use Rattle.core_calls.proofs.MarkLemmas.{is_by, marked}
 use Rattle.core_calls.proofs.RunLemmas.{marks_all}
-use Rattle.core_calls.proofs.DurableLemmas.{history_of, has_later, Ripe, ripe_from, ripe_to, was_ripe, has_due}
+use Rattle.core_calls.proofs.DurableLemmas.{recorded_of, has_later, Ripe, ripe_from, ripe_to, was_ripe, has_due}
 
 -- ## The newest record of a log whose session has ended
 
@@ -141,7 +141,7 @@ abbrev pub DealsFall : List Deal → Type 0
 DealsFall [] = Unit {0}
 DealsFall (d ∷ ds) = DealsFall ds × ((x : Deal) → Has x ds → x.session ≡ d.session → x.at < d.at)
 
-deals_fall : (g : Opening) (F : ℕ) (f : Format) (h : List Entry) → IsHistory g F h → DealsFall (deals_of f h)
+deals_fall : (g : Opening) (F : ℕ) (f : Format) (h : List Entry) → IsRecorded g F h → DealsFall (deals_of f h)
 deals_fall g F f [] hist = tt
 deals_fall g F f (e ∷ h) hist = go (deals_fall g F f h hist.1) (is_commit e.kind) refl
   where
@@ -159,7 +159,7 @@ fall_keep p (d ∷ ds) a = go (fall_keep p ds a.0) (p d)
 
 -- what a session's marks commit falls
 pub session_falls : (g : Opening) (es : List Event) (w : ℕ) → DealsFall (deals_in w (marks g (start g) es w []))
-session_falls g es w = subst DealsFall ((marked g es).done w) (fall_keep (is_by w) (deals_of g.format (run g (start g) es).entries) (deals_fall g (flushed_by_all g (run g (start g) es)) g.format (run g (start g) es).entries (history_of g es)))
+session_falls g es w = subst DealsFall ((marked g es).done w) (fall_keep (is_by w) (deals_of g.format (run g (start g) es).entries) (deals_fall g (flushed_by_all g (run g (start g) es)) g.format (run g (start g) es).entries (recorded_of g es)))
 
 -- a deal of its marks has its entry
 pub session_commit : (g : Opening) (es : List Event) (w : ℕ) (d : Deal) → Has d (deals_in w (marks g (start g) es w [])) → CommitOf (run g (start g) es).entries d × (d.session ≡ w)
@@ -281,7 +281,7 @@ module _ (rises : EveryRise) (l : Limits) (g : Opening) (group n at : ℕ) (x : 
           let there = subst (λ (es : List Event). Has i.0 (run g (start g) es).entries) (up_to_moments xs) i.1 in
           let c = (ripe_to g (run g (start g) (up_to (moments xs))) i.0 i.2).commit in
           let later = subst (λ (s : State). Has i.0 s.entries) (sym (run_more g (start g) (front xs) x.events)) (has_later g x.events before i.0 there) in
-          let same = one_end g (flushed_by_all g now) now.entries (history_of g (front (x ∷ xs))) i.0 found.entry later found.has (Rattle.core_crash.proofs.Journal.commit_is_end i.0.kind c) (Rattle.core_crash.proofs.Journal.commit_is_end found.entry.kind found.commit) (ap (λ (m : Name). m.session) i.3, ap (λ (m : Name). m.number) i.3) in
+          let same = one_end g (flushed_by_all g now) now.entries (recorded_of g (front (x ∷ xs))) i.0 found.entry later found.has (Rattle.core_crash.proofs.Journal.commit_is_end i.0.kind c) (Rattle.core_crash.proofs.Journal.commit_is_end found.entry.kind found.commit) (ap (λ (m : Name). m.session) i.3, ap (λ (m : Name). m.number) i.3) in
           let old = session_deal g (front xs) i.0 there c in
           let log_is = ap (λ (m : Entry). m.log) same ∙ found.session in
           let has_old = subst (λ (v : ℕ). Has old.0 (deals_in v (marks g (start g) (front xs) v []))) log_is old.1 in

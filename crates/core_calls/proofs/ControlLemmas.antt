@@ -22,7 +22,7 @@ use Rattle.core_calls.specs.Told.{EveryTold}
 use Rattle.core_calls.specs.Durables.{is_ripe, up_to, durables, EveryDurable}
 use Rattle.core_calls.specs.Controls.{of, Controls, EveryControl}
 use Rattle.core_calls.proofs.TranscriptLemmas.{lines, lines_are, line_of}
-use Rattle.core_calls.proofs.DurableLemmas.{history_of, ripe_to}
+use Rattle.core_calls.proofs.DurableLemmas.{recorded_of, ripe_to}
 
 -- the marks of a session's own outcome
 mine : (w : ℕ) (d : Deed) (earlier : List Outcome) → marks_by w (of w d ∷ earlier) ≡ marks_for (of w d) ++ marks_by w earlier
@@ -83,7 +83,7 @@ module _ (laws : EveryTold) (durable : EveryDurable) (ordered : EveryOrdered) (g
   early : (ms : List (List Event)) (e : Entry) → Has e (run g (start g) (up_to ms)).entries → is_commit e.kind ≡ true → is_ripe g (run g (start g) (up_to ms)) e ≡ false → Has (name_of e) (durables g ms) → ⊥
   early ms e i k n h =
       let d = (durable g ms).told (name_of e) h in
-      let same = one_end g (flushed_by_all g (run g (start g) (up_to ms))) (run g (start g) (up_to ms)).entries (history_of g (up_to ms)) d.0 e d.1 i
+      let same = one_end g (flushed_by_all g (run g (start g) (up_to ms))) (run g (start g) (up_to ms)).entries (recorded_of g (up_to ms)) d.0 e d.1 i
       (commit_is_end d.0.kind (ripe_to g (run g (start g) (up_to ms)) d.0 d.2).commit) (commit_is_end e.kind k) (ap (λ (m : Name). m.session) d.3, ap (λ (m : Name). m.number) d.3) in
       true≢false (sym d.2 ∙ (ap (is_ripe g (run g (start g) (up_to ms))) same ∙ n))
 

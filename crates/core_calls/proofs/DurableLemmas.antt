@@ -21,7 +21,7 @@ use Rattle.core_commit.specs.Rises.{EveryRise}
 use Rattle.map_model.proofs.ListLemmas.{any_has, has_any, insert_has, order_has, has_order, has_keep, keep_has, has_cases, has_left, has_right}
 use Rattle.core_commit.proofs.Lists.{Before, has_before, each_at, le_least}
 use Rattle.core_commit.proofs.Controls.{le_most}
-use Rattle.core_commit.proofs.History.{Entered, IsHistory}
+use Rattle.core_commit.proofs.History.{Recorded, IsRecorded}
 use Rattle.core_commit.proofs.Invariants.{Inv}
 use Rattle.core_commit.proofs.Runs.{good_run, good_start}
 use Rattle.core_crash.specs.Crashes.{Leaves, image_of, journal_in, IsRipe}
@@ -49,11 +49,11 @@ pub has_later : (g : Opening) (es : List Event) (s : State) (x : Entry) → Has 
 has_later g [] s x i = i
 has_later g (e ∷ es) s x i = has_later g es (step g s e) x (has_step g s e x i)
 
-pub history_of : (g : Opening) (es : List Event) → IsHistory g (flushed_by_all g (run g (start g) es)) (run g (start g) es).entries
-history_of g es = (good_run g es (start g) (good_start g)).inv.history
+pub recorded_of : (g : Opening) (es : List Event) → IsRecorded g (flushed_by_all g (run g (start g) es)) (run g (start g) es).entries
+recorded_of g es = (good_run g es (start g) (good_start g)).inv.records
 
-pub entered : (g : Opening) (es : List Event) (e : Entry) → Has e (run g (start g) es).entries → (b : List Entry) × Before e b (run g (start g) es).entries × Entered g (flushed_by_all g (run g (start g) es)) e b
-entered g es e i = let p = has_before e (run g (start g) es).entries i in (p.0, p.1, each_at (Entered g (flushed_by_all g (run g (start g) es))) (run g (start g) es).entries e p.0 (history_of g es) p.1)
+pub entered : (g : Opening) (es : List Event) (e : Entry) → Has e (run g (start g) es).entries → (b : List Entry) × Before e b (run g (start g) es).entries × Recorded g (flushed_by_all g (run g (start g) es)) e b
+entered g es e i = let p = has_before e (run g (start g) es).entries i in (p.0, p.1, each_at (Recorded g (flushed_by_all g (run g (start g) es))) (run g (start g) es).entries e p.0 (recorded_of g es) p.1)
 
 pub record Ripe (g : Opening) (s : State) (e : Entry) : Type 0 where
   pub commit : is_commit e.kind ≡ true
@@ -136,7 +136,7 @@ once_order : (lt : Entry → Entry → Bool) (xs : List Entry) → AreOnce (name
 once_order lt [] o = tt
 once_order lt (x ∷ xs) o = once_insert lt x (in_order lt xs) (once_order lt xs o.0) (λ i. let a = names_has (in_order lt xs) (name_of x) i in o.1 (subst (λ (m : Name). Has m (names_of xs)) a.2 (has_names xs a.0 (order_has lt xs a.0 a.1))))
 
-once_keep : (g : Opening) (F : ℕ) (p : Entry → Bool) (h : List Entry) → ((e : Entry) → p e ≡ true → is_commit e.kind ≡ true) → IsHistory g F h → AreOnce (names_of (keep p h))
+once_keep : (g : Opening) (F : ℕ) (p : Entry → Bool) (h : List Entry) → ((e : Entry) → p e ≡ true → is_commit e.kind ≡ true) → IsRecorded g F h → AreOnce (names_of (keep p h))
 once_keep g F p [] c hist = tt
 once_keep g F p (e ∷ h) c hist = go (once_keep g F p h c hist.1) (p e) refl
   where
@@ -189,7 +189,7 @@ module _ (rises : EveryRise) (g : Opening) where
   once : (ms : List (List Event)) → AreOnce (durables g ms)
   once [] = tt
   once (es ∷ ms) = once_both (due g (at (es ∷ ms)) (durables g ms)) (durables g ms)
-      (once_order earlier (keep (passes g (at (es ∷ ms)) (durables g ms)) (at (es ∷ ms)).entries) (once_keep g (flushed_by_all g (at (es ∷ ms))) (passes g (at (es ∷ ms)) (durables g ms)) (at (es ∷ ms)).entries commits (history_of g (up_to (es ∷ ms))))) (once ms) apart
+      (once_order earlier (keep (passes g (at (es ∷ ms)) (durables g ms)) (at (es ∷ ms)).entries) (once_keep g (flushed_by_all g (at (es ∷ ms))) (passes g (at (es ∷ ms)) (durables g ms)) (at (es ∷ ms)).entries commits (recorded_of g (up_to (es ∷ ms))))) (once ms) apart
     where
       commits : (e : Entry) → passes g (at (es ∷ ms)) (durables g ms) e ≡ true → is_commit e.kind ≡ true
       commits e q = (ripe_to g (at (es ∷ ms)) e (and_parts (is_ripe g (at (es ∷ ms)) e) (not (is_told (durables g ms) e)) q).0).commit
@@ -256,7 +256,7 @@ module _ (rises : EveryRise) (g : Opening) where
       is : n ≡ most (λ w. ((run g (start g) before).worker w).clock) g.workers
       is = eqb-true n (most (λ w. ((run g (start g) before).worker w).clock) g.workers) (and_parts (n == most (λ w. ((run g (start g) before).worker w).clock) g.workers) (not (is_behind (run g (start g) before))) (and_parts true (needs g (run g (start g) before) (Event.Sync n)) m).1).0
 
-      own : (b : List Entry) × Before e b (run g (start g) before).entries × Entered g (flushed_by_all g (run g (start g) before)) e b
+      own : (b : List Entry) × Before e b (run g (start g) before).entries × Recorded g (flushed_by_all g (run g (start g) before)) e b
       own = entered g before e i
 
       number : e.number ≤ n

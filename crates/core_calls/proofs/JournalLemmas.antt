@@ -13,7 +13,7 @@ use Rattle.image_model.specs.Histories as histories
 use Rattle.image_model.specs.Histories.{said, write_call, steps_of, step_onto}
 use Rattle.core_state.specs.Openings.{Opening}
 use Rattle.core_state.specs.Steps.{claims}
-use Rattle.core_commit.proofs.History.{IsHistory}
+use Rattle.core_commit.proofs.History.{IsRecorded}
 use Rattle.core_calls.specs.Marks.{Mark, Began, Called, Back, Ended}
 use Rattle.core_calls.specs.Told.{Pairwise, Covers, SameCall, Same, Absent, Met, IsRead}
 use Rattle.core_calls.proofs.PairLemmas.{pair_of, pair_for, covers_of, covers_join, pairs_keep, pairs_join, SameKey, falls_pair, apart_keep, apart_pairs, of_session, apart_from}
@@ -128,7 +128,7 @@ ended_at f (e ∷ h) u i = go (ended_at f h u) (is_commit e.kind) i
     go ih true (inr j) = let z = ih j in (z.0, inr z.1, z.2, z.3)
     go ih false j = let z = ih j in (z.0, inr z.1, z.2, z.3)
 
-pub core_apart : (g : Opening) (F : ℕ) (f : Format) (h : List Entry) → IsHistory g F h → AreApart (histories.committed f h)
+pub core_apart : (g : Opening) (F : ℕ) (f : Format) (h : List Entry) → IsRecorded g F h → AreApart (histories.committed f h)
 core_apart g F f [] hist = tt
 core_apart g F f (e ∷ h) hist = go (core_apart g F f h hist.1) (is_commit e.kind) refl
   where
@@ -207,7 +207,7 @@ tie h t u d a b = record {
 }
 
 -- Where each session's transactions are those of the entries, the two journals are tied pair by pair.
-module _ (order : EveryOrder) (g : Opening) (F : ℕ) (h : List Entry) (hist : IsHistory g F h) (ts : List Txn)
+module _ (order : EveryOrder) (g : Opening) (F : ℕ) (h : List Entry) (hist : IsRecorded g F h) (ts : List Txn)
     (each : (w : ℕ) → Pairwise IsDeal (keep (of_session w) ts) (keep (is_by w) (deals_of g.format h))) where
   abbrev us : List Txn
   us = histories.committed g.format h

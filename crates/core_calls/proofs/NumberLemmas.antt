@@ -13,7 +13,7 @@ use Rattle.core_state.specs.Steps.{state_after}
 use Rattle.core_crash.specs.Crashes.{journal_in}
 use Rattle.core_crash.proofs.Ends.{one_end}
 use Rattle.core_crash.proofs.Journal.{commit_is_end}
-use Rattle.core_calls.proofs.DurableLemmas.{history_of}
+use Rattle.core_calls.proofs.DurableLemmas.{recorded_of}
 
 -- the commit of a transaction
 record Commits (h : List Entry) (u : Txn) : Type 0 where
@@ -41,6 +41,6 @@ pub number_of : (g : Opening) (es : List Event) (u : Txn) → Has u (journal_in 
     → u.session ≡ r.log → u.number ≡ r.txn → u.at ≡ r.number
 number_of g es u i r here commit session number =
     let c = commits_of g.format (state_after g es).entries u (order_has is_earlier (committed g.format (state_after g es).entries) u i) in
-    let same = one_end g (flushed_by_all g (state_after g es)) (state_after g es).entries (history_of g es) c.end r c.has here (commit_is_end c.end.kind c.commit) (commit_is_end r.kind commit)
+    let same = one_end g (flushed_by_all g (state_after g es)) (state_after g es).entries (recorded_of g es) c.end r c.has here (commit_is_end c.end.kind c.commit) (commit_is_end r.kind commit)
     (sym c.session ∙ session, sym c.number ∙ number) in
     c.at ∙ ap (λ (x : Entry). x.number) same

@@ -9,9 +9,9 @@ use Rattle.image_model.specs.Entries.{Entry, is_commit, earlier}
 use Rattle.core_state.specs.Openings.{Opening}
 use Rattle.core_state.specs.States.{start, flushed_by_all}
 use Rattle.core_state.specs.Steps.{run}
-use Rattle.core_commit.proofs.History.{IsHistory}
+use Rattle.core_commit.proofs.History.{IsRecorded}
 use Rattle.core_calls.specs.Durables.{is_ripe, is_told, place_of, EveryDue}
-use Rattle.core_calls.proofs.DurableLemmas.{history_of, passes, ripe_to}
+use Rattle.core_calls.proofs.DurableLemmas.{recorded_of, passes, ripe_to}
 
 insert_as : (x : Entry) (ys : List Entry) → map place_of (insert_by earlier x ys) ≡ insert_by is_earlier (place_of x) (map place_of ys)
 insert_as x [] = refl
@@ -31,7 +31,7 @@ mapped [] t i = absurd i
 mapped (x ∷ xs) t (inl q) = (x, inl refl, q)
 mapped (x ∷ xs) t (inr i) = let r = mapped xs t i in (r.0, inr r.1, r.2)
 
-apart : (g : Opening) (p : Entry → Bool) (h : List Entry) → ((e : Entry) → p e ≡ true → is_commit e.kind ≡ true) → (F : Rattle.std.proofs.Common.ℕ) → IsHistory g F h → AreApart (map place_of (keep p h))
+apart : (g : Opening) (p : Entry → Bool) (h : List Entry) → ((e : Entry) → p e ≡ true → is_commit e.kind ≡ true) → (F : Rattle.std.proofs.Common.ℕ) → IsRecorded g F h → AreApart (map place_of (keep p h))
 apart g p [] c F hist = tt
 apart g p (e ∷ h) c F hist = go (apart g p h c F hist.1) (p e) refl
   where
@@ -51,4 +51,4 @@ every_due order g es told = subst IsFalling (sym (order_as (keep (passes g (run 
     (order (map place_of (keep (passes g (run g (start g) es) told) (run g (start g) es).entries))
     (apart g (passes g (run g (start g) es) told) (run g (start g) es).entries
     (λ e q. (ripe_to g (run g (start g) es) e (Rattle.std.proofs.lemmas.Bool.and_parts (is_ripe g (run g (start g) es) e) (Rattle.std.specs.Prelude.not (is_told told e)) q).0).commit)
-    (flushed_by_all g (run g (start g) es)) (history_of g es))).falls
+    (flushed_by_all g (run g (start g) es)) (recorded_of g es))).falls

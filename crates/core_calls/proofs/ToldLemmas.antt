@@ -13,7 +13,7 @@ use Rattle.core_state.specs.States.{State, start, flushed_by_all}
 use Rattle.core_state.specs.Events.{Event}
 use Rattle.core_state.specs.Steps.{run}
 use Rattle.core_commit.proofs.Runs.{good_run, good_start}
-use Rattle.core_commit.proofs.History.{IsHistory}
+use Rattle.core_commit.proofs.History.{IsRecorded}
 use Rattle.core_crash.specs.Crashes.{Recovers, image_of, journal_in, IsRipe, EveryCrash, EverySerial}
 use Rattle.core_calls.specs.Marks.{Mark, Ended, Began, Called, Back}
 use Rattle.core_calls.specs.Deeds.{Outcome, marks_by, commits, Answers, transcript}
@@ -46,8 +46,8 @@ module _ (order : EveryOrder) (closed : EveryClosed) (serial : EverySerial) (cra
   abbrev K : Journal
   K = journal_in g (run g (start g) es)
 
-  hist : IsHistory g (flushed_by_all g now) now.entries
-  hist = (good_run g es (start g) (good_start g)).inv.history
+  hist : IsRecorded g (flushed_by_all g now) now.entries
+  hist = (good_run g es (start g) (good_start g)).inv.records
 
   each : (w : ℕ) → Pairwise IsDeal (keep (of_session w) (told_in (lines xs))) (keep (is_by w) (deals_of g.format now.entries))
   each w = subst (λ (l : List Deal). Pairwise IsDeal (keep (of_session w) (told_in (lines xs))) l)

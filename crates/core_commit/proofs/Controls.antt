@@ -12,9 +12,9 @@ use Rattle.core_state.specs.Events.{Event, Mode}
 use Rattle.core_state.specs.Steps.{claims, touch, at_pages, at_row, begun, locked, unlocked, looks, synced, happens}
 use Rattle.core_commit.proofs.Lists.{Within, has_before, each_at, least_le, le_least, pick}
 use Rattle.map_model.proofs.ListLemmas.{any_has, has_any, keep_has, has_keep, upd_same, at_upd}
-use Rattle.core_commit.proofs.History.{same_to, Entered, Covered, EndOf, IsHistory, history_pick, history_value, not_by, without}
+use Rattle.core_commit.proofs.History.{same_to, Recorded, Covered, EndOf, IsHistory, history_pick, history_value, not_by, without}
 use Rattle.core_commit.proofs.Nodes.{on_key}
-use Rattle.core_commit.proofs.Invariants.{Holds, top_of, RowOk, some_same, AtMost, row_same, marker, WorkerOk, pages_more, KeepsHolds, worker_same, bound, tops, Inv, touch_covers, touch_debt, history_same, stamp_flushed}
+use Rattle.core_commit.proofs.Invariants.{Holds, top_of, RowOk, some_same, AtMost, row_same, marker, WorkerOk, pages_more, KeepsHolds, worker_same, bound, tops, IsTold, Inv, undo_at, touch_covers, touch_debt, records_same, history_same, stamp_flushed}
 use Rattle.core_commit.proofs.Events.{upd_at_most, worker_raised, holds_to, held_to, free_to, open_top, shut_top, touched_all}
 
 -- ## Begin
@@ -43,11 +43,13 @@ worker_to g w h = let p = and_parts (ltb 0 w) (leb w g.workers) h in (ltb-true 0
 pub inv_begin : (g : Opening) (s : State) → Inv g s → (w f : ℕ) → needs g s (Event.Begin w f) ≡ true → Inv g (happens g s (Event.Begin w f))
 inv_begin g s i w f m = record {
   cuts = i.cuts;
-  history = i.history;
-  pages = i.pages;
+  records = i.records;
+  stamps = i.stamps;
+  tree = i.tree;
   rows = λ j. row_same g (bound g s) (tops s) (λ v. max (upd s.worker w (begun a f) v).debt F) (λ v. top_of (upd s.worker w (begun a f) v)) h j (s.row j)
       (upd_at_most (λ b. max b.debt F) s.worker w (begun a f) debt_le.1) (upd_at_most top_of s.worker w (begun a f) (let e = o.end in rw (shut_top a shut) (omega arith))) (i.rows j);
   workers = λ j. at_upd (λ j b. WorkerOk g F s.floor (s.flushed j) h s.row j b) s.worker w (begun a f) j own (λ _. i.workers j);
+  told = told i.told;
 }
   where
     h : List Entry
@@ -97,7 +99,13 @@ inv_begin g s i w f m = record {
       used = λ _ r ir k l t. absurd (old r ir l t);
       changes = λ _ c ic. absurd ic;
       words = λ _ c ic. absurd ic;
-      undo = λ _ k. without_none g F (marker w (begun a f)) k h i.history (λ r ir. false_from_ne_true (same_txn r (marker w (begun a f))) (λ q. let z = same_to r (marker w (begun a f)) q in old r ir z.0 z.1));
+    }
+
+    told : IsTold g s → IsTold g (happens g s (Event.Begin w f))
+    told t = record {
+      history = t.history;
+      pages = t.pages;
+      undo = undo_at g h s.worker w (begun a f) t.undo (λ _ k. without_none g F (marker w (begun a f)) k h t.history (λ r ir. false_from_ne_true (same_txn r (marker w (begun a f))) (λ q. let z = same_to r (marker w (begun a f)) q in old r ir z.0 z.1)));
     }
 
 -- ## Locks
@@ -109,8 +117,9 @@ inv_lock : (g : Opening) (s : State) → Inv g s → (w i : ℕ) (o' : Row) → 
     Inv g (record s { row = upd s.row i o'; worker = upd s.worker w (at_row w (s.worker w) (s.row i)) })
 inv_lock g s v w i o' op hold mk = record {
   cuts = v.cuts;
-  history = v.history;
-  pages = v.pages;
+  records = v.records;
+  stamps = v.stamps;
+  tree = v.tree;
   rows = λ j. at_upd (λ j r. RowOk g X T h j r) s.row i o' j
       (mk X T lx lt (subst (λ t. max r.number r.read_end ≤ t) (sym (ap top_of (upd_same s.worker w a' w refl) ∙ open_top a' op)) (omega arith))
       (subst (λ b. (r.log ≡ w) ⊎ (r.number ≤ max b.debt F)) (sym (upd_same s.worker w a' w refl)) (touch_covers w a r.number r.log F o.floor (λ z. let q = (v.rows i).fresh z in omega arith))))
@@ -118,6 +127,7 @@ inv_lock g s v w i o' op hold mk = record {
   workers = λ j. at_upd (λ j b. WorkerOk g F s.floor (s.flushed j) h (upd s.row i o') j b) s.worker w a' j
       (worker_same g F F s.floor (s.flushed w) h s.row (upd s.row i o') w a' (omega arith) (keeps w) (worker_raised g F s.floor (s.flushed w) h s.row w a a'.clock a'.debt (omega arith) td.0 (let q = td.1 in omega arith) o))
       (λ _. worker_same g F F s.floor (s.flushed j) h s.row (upd s.row i o') j (s.worker j) (omega arith) (keeps j) (v.workers j));
+  told = let t = v.told in record { history = t.history; pages = t.pages; undo = undo_at g h s.worker w a' t.undo (t.undo w) };
 }
   where
     h : List Entry
@@ -294,13 +304,15 @@ inv_lock_event g s v w i mode m = go mode (cases_Bool (is_held_by (s.row i).hold
 pub inv_unlock : (g : Opening) (s : State) → Inv g s → (w i : ℕ) → needs g s (Event.Unlock w i) ≡ true → Inv g (happens g s (Event.Unlock w i))
 inv_unlock g s v w i m = record {
   cuts = v.cuts;
-  history = v.history;
-  pages = v.pages;
+  records = v.records;
+  stamps = v.stamps;
+  tree = v.tree;
   rows = λ j. at_upd (λ j r. RowOk g X T h j r) s.row i (unlocked o w a.end) j (mk (cases_Bool (is_held_by o.holder w))) (λ _. v.rows j);
   workers = λ j. elim (cases_eq j w) [
     | inl e ↦ subst (λ j. WorkerOk g F s.floor (s.flushed j) h (upd s.row i (unlocked o w a.end)) j (s.worker j)) (sym e) shut_own
     | inr n ↦ worker_same g F F s.floor (s.flushed j) h s.row (upd s.row i (unlocked o w a.end)) j (s.worker j) (omega arith) (keeps j n) (v.workers j)
   ];
+  told = let t = v.told in record { history = t.history; pages = t.pages; undo = t.undo };
 }
   where
     h : List Entry
@@ -421,7 +433,6 @@ inv_unlock g s v w i m = record {
       used = λ q. absurd (true≢false (sym q ∙ shut));
       changes = λ q. absurd (true≢false (sym q ∙ shut));
       words = λ q. absurd (true≢false (sym q ∙ shut));
-      undo = λ q. absurd (true≢false (sym q ∙ shut));
     }
 
 -- ## Flush and Sync
@@ -440,10 +451,12 @@ inv_flush g s v w n m = record {
     heads = v.cuts.heads;
     ripe = λ r ir k l. let q = v.cuts.ripe r ir k l in let z = lF in let u = upd_rises s.flushed w n up q.0.end.log in let q1 = q.1 in let q2 = q.2 in (q.0, omega arith, omega arith);
   };
-  history = history_same g F F' h lF v.history;
-  pages = v.pages;
+  records = records_same g F F' h lF v.records;
+  stamps = v.stamps;
+  tree = v.tree;
   rows = λ j. row_same g (bound g s) (tops s) (λ u. max (s.worker u).debt F') (tops s) h j (s.row j) (λ u. let z = lF in omega arith) (λ u. omega arith) (v.rows j);
   workers = λ j. at_upd (λ j fl. WorkerOk g F' s.floor fl h s.row j (s.worker j)) s.flushed w n j own (λ _. grown j);
+  told = let t = v.told in record { history = history_same g F F' h lF t.history; pages = t.pages; undo = t.undo };
 }
   where
     h : List Entry
@@ -497,7 +510,6 @@ inv_flush g s v w n m = record {
           used = o.used;
           changes = o.changes;
           words = o.words;
-          undo = o.undo;
         }
 
 pub le_most : (f : ℕ → ℕ) (n i : ℕ) → Within n i → f i ≤ most f n
@@ -513,17 +525,19 @@ inv_synced g s v = record {
     ripe = λ r ir k l.
         let q = v.cuts.ripe r ir k l in
         let p = has_before q.0.end h q.0.stands in
-        let lg = (each_at (Entered g F) h q.0.end p.0 v.history p.1).log in
+        let lg = (each_at (Recorded g F) h q.0.end p.0 v.records p.1).log in
         let a = (v.workers q.0.end.log).flushed in
         let b = le_most (λ w. (s.worker w).clock) g.workers q.0.end.log lg in
         let z = lF in
         let q1 = q.1 in let q2 = q.2 in
         (q.0, omega arith, omega arith);
   };
-  history = history_same g F F' h lF v.history;
-  pages = v.pages;
+  records = records_same g F F' h lF v.records;
+  stamps = v.stamps;
+  tree = v.tree;
   rows = λ j. row_same g (bound g s) (tops s) (λ u. max (s.worker u).debt F') (tops (synced s n)) h j (s.row j) (λ u. let z = lF in omega arith) tops_rise (v.rows j);
   workers = own;
+  told = let t = v.told in record { history = history_same g F F' h lF t.history; pages = t.pages; undo = t.undo };
 }
   where
     h : List Entry
@@ -567,7 +581,6 @@ inv_synced g s v = record {
           used = o.used;
           changes = o.changes;
           words = o.words;
-          undo = o.undo;
         }
 
 pub inv_sync : (g : Opening) (s : State) → Inv g s → (n : ℕ) → needs g s (Event.Sync n) ≡ true → Inv g (happens g s (Event.Sync n))
@@ -589,8 +602,9 @@ inv_cut g s v x heads m = record {
       | inl q ↦ ripe r ir k (omega arith)
     ];
   };
-  history = v.history;
-  pages = v.pages;
+  records = v.records;
+  stamps = v.stamps;
+  tree = v.tree;
   rows = v.rows;
   workers = λ w. let o = v.workers w in record {
     floor = o.floor;
@@ -608,8 +622,8 @@ inv_cut g s v x heads m = record {
     used = o.used;
     changes = o.changes;
     words = o.words;
-    undo = o.undo;
   };
+  told = let t = v.told in record { history = t.history; pages = t.pages; undo = t.undo };
 }
   where
     h : List Entry
@@ -648,12 +662,14 @@ inv_cut g s v x heads m = record {
 pub inv_looks : (g : Opening) (s : State) → Inv g s → (w p : ℕ) → (s.worker w).is_open ≡ true → Inv g (looks s w p)
 inv_looks g s v w p op = record {
   cuts = v.cuts;
-  history = v.history;
-  pages = v.pages;
+  records = v.records;
+  stamps = v.stamps;
+  tree = v.tree;
   rows = λ j. row_same g (bound g s) (tops s) (λ u. max (upd s.worker w a u).debt F) (λ u. top_of (upd s.worker w a u)) s.entries j (s.row j)
       (upd_at_most (λ b. max b.debt F) s.worker w a (let q = t.1 in omega arith)) (upd_at_most top_of s.worker w a (rw (open_top (s.worker w) op, open_top a op) (let q = t.0 in omega arith))) (v.rows j);
   workers = λ j. at_upd (λ j b. WorkerOk g F s.floor (s.flushed j) s.entries s.row j b) s.worker w a j
       (worker_raised g F s.floor (s.flushed w) s.entries s.row w (s.worker w) a.clock a.debt t.0 t.1 t.2 (v.workers w)) (λ _. v.workers j);
+  told = let k = v.told in record { history = k.history; pages = k.pages; undo = undo_at g s.entries s.worker w a k.undo (k.undo w) };
 }
   where
     F : ℕ
@@ -668,8 +684,9 @@ inv_looks g s v w p op = record {
 pub inv_start : (g : Opening) → Inv g (start g)
 inv_start g = record {
   cuts = record { base = omega arith; low = omega arith; heads = λ w. omega arith; ripe = λ r ir. absurd ir };
-  history = tt;
-  pages = λ p. refl;
+  records = tt;
+  stamps = λ p. (refl, refl);
+  tree = g.tree;
   rows = λ i. record { writes = λ y iy. absurd iy; reads = λ y iy. absurd iy; alone = λ w u e hu. absurd hu; touched = λ w hw y iy. absurd iy; sole = λ w hw y iy. absurd iy; known = λ w hw. elim hw [ inl e ↦ none_some None w refl e | inr e ↦ absurd e ]; fresh = λ _. refl };
   workers = λ w. record {
     floor = le_least (λ _. g.base) g.workers g.base g.some_worker (λ i l. omega arith);
@@ -687,6 +704,6 @@ inv_start g = record {
     used = λ q. absurd (true≢false (sym q));
     changes = λ q. absurd (true≢false (sym q));
     words = λ q. absurd (true≢false (sym q));
-    undo = λ q. absurd (true≢false (sym q));
   };
+  told = record { history = tt; pages = λ p. refl; undo = λ w q. absurd (true≢false (sym q)) };
 }

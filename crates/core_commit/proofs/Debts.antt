@@ -14,7 +14,7 @@ use Rattle.core_state.specs.Steps.{at_pages, at_row, begun, finished, write_entr
 use Rattle.core_commit.specs.Debts.{Stamp, IsBy, stamps_of, touched, IsRemoteTouch, Touched, EveryNeed, Ended, Knows, EveryDebt}
 use Rattle.core_commit.proofs.KindFacts.{write_claims}
 use Rattle.core_commit.proofs.Lists.{Before, has_before, before_has, each_at}
-use Rattle.core_commit.proofs.History.{EndOf, Entered, IsHistory, PagesCovered, Covered, compare, same_from, page_at, number_le_gsn}
+use Rattle.core_commit.proofs.History.{EndOf, Recorded, PagesCovered, Covered, compare, same_from, page_at, number_le_gsn}
 use Rattle.core_commit.proofs.Invariants.{Inv, Holds}
 use Rattle.core_commit.proofs.Events.{holds_to}
 use Rattle.core_commit.proofs.Copies.{at_place}
@@ -247,9 +247,9 @@ every_debt g es w = record { pages = pages; rows = rows; floor = o.floor; debt =
         behind br byy pr py = elim (compare s.entries r br y byy pr py) [
           | inl q ↦ (let e = ap (λ (z : Entry). z.number) q.0 in absurd (omega arith))
           | inr q ↦ elim q [
-            | inl q ↦ (let n = each_at (Entered g F) s.entries y byy i.history py in
+            | inl q ↦ (let n = each_at (Recorded g F) s.entries y byy i.records py in
                 let up = n.rises p ty in
-                let le = number_le_gsn g F p byy (Rattle.core_commit.proofs.History.each_behind (Entered g F) s.entries y byy i.history py) r (before_has r br byy q) tr in absurd (omega arith))
+                let le = number_le_gsn g F p byy (Rattle.core_commit.proofs.History.each_behind (Recorded g F) s.entries y byy i.records py) r (before_has r br byy q) tr in absurd (omega arith))
             | inr q ↦ before_has y byy br q
           ]
         ]

@@ -26,10 +26,10 @@ use Rattle.page_model.specs.Tree.{IsTree}
 use Rattle.image_model.specs.Entries.Kind.{Change, Put_back, Split, Lift, Join, Drop, Purge, Read, Commit, Abort}
 use Rattle.core_commit.proofs.Lists.{Within}
 use Rattle.map_model.proofs.ListLemmas.{any_has, upd_same, upd_other, at_upd}
-use Rattle.core_commit.proofs.Nodes.{lookup_at, on_key, is_move, Fits, fits_before}
-use Rattle.core_commit.proofs.History.{SameTxn, Covered, EndOf, Entered, page_at, nodes, not_by, without, touch_ref, history_on, history_off, history_parted}
+use Rattle.core_commit.proofs.Nodes.{lookup_at, on_key, is_move, Fits, fits_parted, fits_before}
+use Rattle.core_commit.proofs.History.{SameTxn, Covered, EndOf, Recorded, Entered, IsHistory, HasStamp, stamp_step, page_at, nodes, nodes_step, not_by, without, touch_ref, history_on, history_off, history_parted}
 use Rattle.core_commit.proofs.KindFacts.{write_claims, claims_call, write_is_no_end, write_is_call, write_is_record}
-use Rattle.core_commit.proofs.Invariants.{cuts_more, Holds, top_of, end_more, covered_more, AtMost, row_same, MayEnter, row_more, marker, undone, values_of, WorkerOk, pages_more, undone_at, worker_more, bound, tops, Inv, touch_covers, touch_debt, page_covers, stamp_flushed}
+use Rattle.core_commit.proofs.Invariants.{cuts_more, Holds, top_of, end_more, covered_more, AtMost, row_same, MayEnter, row_more, marker, undone, values_of, WorkerOk, Undoes, pages_more, undone_at, worker_more, undo_more, bound, tops, IsTold, Inv, touch_covers, touch_debt, page_covers, stamp_flushed}
 use mathlib.Core.Path.{fun_ext}
 
 pub upd_at_most : (f : Worker → ℕ) (worker : ℕ → Worker) (w : ℕ) (a : Worker) → f (worker w) ≤ f a → AtMost (λ v. f (worker v)) (λ v. f (upd worker w a v))
@@ -41,19 +41,33 @@ upd_at_most f worker w a l v = elim (cases_eq v w) [
 -- ## Entries
 
 pub inv_entry : (g : Opening) (s : State) → Inv g s → (w : ℕ) (a : Worker) (x : Entry) (page : ℕ → Contents) →
-    x.log ≡ w → ((p : ℕ) → page p ≡ page_at g (x ∷ s.entries) p) → Entered g (flushed_by_all g s) x s.entries → ((i : ℕ) → MayEnter g i (s.row i) x) →
+    x.log ≡ w → ((p : ℕ) → HasStamp (page p) (page_at g (x ∷ s.entries) p)) → IsTree g.format (nodes page) → Recorded g (flushed_by_all g s) x s.entries → ((i : ℕ) → MayEnter g i (s.row i) x) →
     max (s.worker w).debt (flushed_by_all g s) ≤ max a.debt (flushed_by_all g s) → top_of (s.worker w) ≤ top_of a →
     WorkerOk g (flushed_by_all g s) s.floor (s.flushed w) (x ∷ s.entries) s.row w a → (is_record x.kind ≡ true → s.cut < x.number) →
+    (IsTold g s → IsTold g (record s { entries = x ∷ s.entries; page = page; worker = upd s.worker w a })) →
     Inv g (record s { entries = x ∷ s.entries; page = page; worker = upd s.worker w a })
-inv_entry g s v w a x page l pg en me lx lt own fresh = record {
+inv_entry g s v w a x page l st tree en me lx lt own fresh told = record {
   cuts = cuts_more g (flushed_by_all g s) s.floor s.cut s.head s.flushed s.entries x fresh v.cuts;
-  history = (en, v.history);
-  pages = pg;
+  records = (en, v.records);
+  stamps = st;
+  tree = tree;
   rows = λ i. row_same g (bound g s) (tops s) (λ v. max (upd s.worker w a v).debt (flushed_by_all g s)) (λ v. top_of (upd s.worker w a v)) (x ∷ s.entries) i (s.row i)
       (upd_at_most (λ b. max b.debt (flushed_by_all g s)) s.worker w a lx) (upd_at_most top_of s.worker w a lt)
       (row_more g (bound g s) (tops s) s.entries i (s.row i) x (me i) (v.rows i));
   workers = λ j. at_upd (λ j b. WorkerOk g (flushed_by_all g s) s.floor (s.flushed j) (x ∷ s.entries) s.row j b) s.worker w a j own
-      (λ n. worker_more g (flushed_by_all g s) s.floor (s.flushed j) s.entries s.row j (s.worker j) x v.history en.fits (λ e. n (sym e ∙ l)) (λ k. (me (g.row_of x.key) (write_is_call x.kind k) refl).1 (write_claims x k)) (v.workers j));
+      (λ n. worker_more g (flushed_by_all g s) s.floor (s.flushed j) s.entries s.row j (s.worker j) x (λ e. n (sym e ∙ l)) (v.workers j));
+  told = told v.told;
+}
+
+-- what is told of contents then
+pub told_entry : (g : Opening) (s : State) → Inv g s → IsTold g s → (w : ℕ) (a : Worker) (x : Entry) (page : ℕ → Contents) →
+    x.log ≡ w → ((p : ℕ) → page p ≡ page_at g (x ∷ s.entries) p) → Entered g (flushed_by_all g s) x s.entries → ((i : ℕ) → MayEnter g i (s.row i) x) →
+    Undoes g (x ∷ s.entries) w a → IsTold g (record s { entries = x ∷ s.entries; page = page; worker = upd s.worker w a })
+told_entry g s v k w a x page l pg en me own = record {
+  history = (en, k.history);
+  pages = pg;
+  undo = λ j. at_upd (λ j b. Undoes g (x ∷ s.entries) j b) s.worker w a j own
+      (λ n. undo_more g (flushed_by_all g s) s.entries s.row j (s.worker j) x k.history en.fits (λ e. n (sym e ∙ l)) (λ k. (me (g.row_of x.key) (write_is_call x.kind k) refl).1 (write_claims x k)) (v.workers j).changes (k.undo j));
 }
 
 -- clock and debt rise
@@ -75,7 +89,6 @@ worker_raised g F base fl h row w a n m ln lm mn o = record {
   used = o.used;
   changes = o.changes;
   words = o.words;
-  undo = o.undo;
 }
 
 -- an entry of the worker's own comes
@@ -84,9 +97,8 @@ pub own_more : (g : Opening) (F base fl : ℕ) (h : List Entry) (row : ℕ → R
     ((p : ℕ) → touches p x ≡ true → (y : Entry) → Has y h → touches p y ≡ true → Covered w (max a.debt F) y) →
     (is_call x.kind ≡ true → Holds (row (g.row_of x.key)) w × (claims x ≡ true → (row (g.row_of x.key)).holder ≡ Some w)) →
     ((c : Entry) → Has c cs → ((row (g.row_of c.key)).holder ≡ Some w) × (c.before ≤ g.format.dead)) →
-    ((k : ℕ) → undone cs (values_of g (x ∷ h)) k ≡ undone a.changes (values_of g h) k) →
     WorkerOk g F base fl (x ∷ h) row w (record { clock = n; floor = a.floor; debt = a.debt; txn = a.txn; end = a.end; is_open = a.is_open; changes = cs })
-own_more g F base fl h row w a x n cs o lx tx kx op nx cn pg us ch un = record {
+own_more g F base fl h row w a x n cs o lx tx kx op nx cn pg us ch = record {
   floor = o.floor;
   debt = let e = o.debt in omega arith;
   end = let e = o.end in omega arith;
@@ -102,7 +114,6 @@ own_more g F base fl h row w a x n cs o lx tx kx op nx cn pg us ch un = record {
   used = used;
   changes = λ op c i. (ch c i).0;
   words = λ op c i. (ch c i).1;
-  undo = λ op k. un k ∙ (o.undo op k ∙ sym (cond-false (not_by (marker w a) k x h) x.after (without g (marker w a) k h) (and_right (on_key k x) (not (same_txn x (marker w a))) (not_from_true (same_txn x (marker w a)) (and_from (x.log == w) (x.txn == a.txn) (eq-eqb x.log w lx) (eq-eqb x.txn a.txn tx))))));
 }
   where
     older : (e : Entry) → Has e (x ∷ h) → is_end e.kind ≡ true → Has e h
@@ -120,6 +131,12 @@ own_more g F base fl h row w a x n cs o lx tx kx op nx cn pg us ch un = record {
     used : a.is_open ≡ true → (r : Entry) → Has r (x ∷ h) → is_call r.kind ≡ true → r.log ≡ w → r.txn ≡ a.txn → Holds (row (g.row_of r.key)) w × (claims r ≡ true → (row (g.row_of r.key)).holder ≡ Some w)
     used op r (inl e) k l t = rw e (us (ap (λ (z : Entry). is_call z.kind) (sym e) ∙ k))
     used op r (inr i) k l t = o.used op r i k l t
+
+-- it is put back with the others of the list
+pub own_undo : (g : Opening) (h : List Entry) (w : ℕ) (a : Worker) (x : Entry) (n : ℕ) (cs : List Entry) → x.log ≡ w → x.txn ≡ a.txn → ((k : ℕ) → undone cs (values_of g (x ∷ h)) k ≡ undone a.changes (values_of g h) k) → Undoes g h w a →
+    Undoes g (x ∷ h) w (record { clock = n; floor = a.floor; debt = a.debt; txn = a.txn; end = a.end; is_open = a.is_open; changes = cs })
+own_undo g h w a x n cs lx tx un undo op k =
+    un k ∙ (undo op k ∙ sym (cond-false (not_by (marker w a) k x h) x.after (without g (marker w a) k h) (and_right (on_key k x) (not (same_txn x (marker w a))) (not_from_true (same_txn x (marker w a)) (and_from (x.log == w) (x.txn == a.txn) (eq-eqb x.log w lx) (eq-eqb x.txn a.txn tx))))))
 
 pub holds_to : (o : Row) (w : ℕ) → holds_row o w ≡ true → Holds o w
 holds_to o w h = elim (or_cases (is_held_by o.holder w) (is_reader w o.readers) h) [
@@ -191,79 +208,92 @@ touch_has s ps x e p o =
     let f = touch_ref p x o in
     subst (λ (q : ℕ). Has q ps) f.2 (refs_have s ps f.0 (subst (λ (l : List Ref). Has f.0 l) e f.1)).0
 
--- a record of these pages, by a worker who touched them
-pub inv_records : (g : Opening) (s : State) → Inv g s → (w : ℕ) (ps : List ℕ) (n m : ℕ) (x : Entry) (cs : List Entry) → (s.worker w).is_open ≡ true →
-    (s.worker w).clock ≤ n → (s.worker w).debt ≤ m → m ≤ n → ((p : ℕ) → Has p ps → ((s.page p).gsn ≤ n) × (((s.page p).last ≡ w) ⊎ ((s.page p).gsn ≤ max m (flushed_by_all g s)))) →
-    x.log ≡ w → x.txn ≡ (s.worker w).txn → n < x.number → is_end x.kind ≡ false → is_record x.kind ≡ true → x.refs ≡ refs_of s ps →
-    Fits g.format (nodes s.page) x → (is_call x.kind ≡ true → is_write x.kind ≡ true) → (is_call x.kind ≡ true → (s.row (g.row_of x.key)).holder ≡ Some w) →
-    ((c : Entry) → Has c cs → ((s.row (g.row_of c.key)).holder ≡ Some w) × (c.before ≤ g.format.dead)) →
-    (is_purge x.kind ≡ true → (k : ℕ) → pairs.is_in k x.record_of.keys ≡ true → is_settled g s k ≡ true) →
-    ((j : ℕ) → undone cs (values_of g (x ∷ s.entries)) j ≡ undone (s.worker w).changes (values_of g s.entries) j) →
-    Inv g (records_in s w (record (s.worker w) { clock = n; debt = m }) x cs)
-inv_records g s i w ps n m x cs op ln lm mn tc lx tx nx ex rx xr fit wc hold ch settled un =
-    inv_entry g s i w (record { clock = x.number; floor = a.floor; debt = m; txn = a.txn; end = a.end; is_open = a.is_open; changes = cs }) x (λ p. if touches p x then written x p (s.page p) else s.page p) lx pages entered
-    (λ j cx e. let q = subst (λ (u : ℕ). (s.row u).holder ≡ Some w) e (hold cx) in (inl (q ∙ ap (λ (u : ℕ). Some u) (sym lx)), λ _. q ∙ ap (λ (u : ℕ). Some u) (sym lx)))
-    (omega arith) (rw (open_top (s.worker w) op, open_top (record { clock = x.number; floor = a.floor; debt = m; txn = a.txn; end = a.end; is_open = a.is_open; changes = cs }) op) (omega arith))
-    (own_more g F s.floor (s.flushed w) h s.row w a x x.number cs (worker_raised g F s.floor (s.flushed w) h s.row w (s.worker w) n m ln lm mn o) lx tx ex op (omega arith) (omega arith)
-    cover (λ cx. (inl (hold cx), λ _. hold cx)) ch un)
-    (λ _. let z0 = (i.workers w).based ((i.workers w).is_log op) in let z1 = (i.workers w).flushed in let z2 = i.cuts.low in omega arith)
-  where
-    h : List Entry
-    h = s.entries
+pub same_nodes : (g : Opening) (s : State) → IsTold g s → nodes s.page ≡ nodes (page_at g s.entries)
+same_nodes g s k = fun_ext (λ p. ap (λ (z : Contents). z.node) (k.pages p))
 
-    F : ℕ
-    F = flushed_by_all g s
+-- a record of these pages, by a worker who touched them: its clock is n then, its debt m, and cs its changes from then on
+pub record IsNext (g : Opening) (s : State) (w : ℕ) (ps : List ℕ) (n m : ℕ) (x : Entry) (cs : List Entry) : Type 0 where
+  pub is_open : (s.worker w).is_open ≡ true
+  pub clock : (s.worker w).clock ≤ n
+  pub debt : (s.worker w).debt ≤ m
+  pub low : m ≤ n
+  pub met : (p : ℕ) → Has p ps → ((s.page p).gsn ≤ n) × (((s.page p).last ≡ w) ⊎ ((s.page p).gsn ≤ max m (flushed_by_all g s)))
+  pub log : x.log ≡ w
+  pub txn : x.txn ≡ (s.worker w).txn
+  pub number : n < x.number
+  pub no_end : is_end x.kind ≡ false
+  pub is_record : is_record x.kind ≡ true
+  pub refs : x.refs ≡ refs_of s ps
+  pub fits : Fits g.format (nodes_of s) x
+  pub call : is_call x.kind ≡ true → is_write x.kind ≡ true
+  pub hold : is_call x.kind ≡ true → (s.row (g.row_of x.key)).holder ≡ Some w
+  pub changes : (c : Entry) → Has c cs → ((s.row (g.row_of c.key)).holder ≡ Some w) × (c.before ≤ g.format.dead)
+  pub settled : is_purge x.kind ≡ true → (k : ℕ) → pairs.is_in k x.record_of.keys ≡ true → is_settled g s k ≡ true
 
-    a : Worker
-    a = record (s.worker w) { clock = n; debt = m }
+module _ (g : Opening) (s : State) (i : Inv g s) (w : ℕ) (ps : List ℕ) (n m : ℕ) (x : Entry) (cs : List Entry) (e : IsNext g s w ps n m x cs) where
+  -- the worker before the record, and after it
+  abbrev raised : Worker
+  raised = record (s.worker w) { clock = n; debt = m }
 
-    o : WorkerOk g F s.floor (s.flushed w) h s.row w (s.worker w)
-    o = i.workers w
+  abbrev next_worker : Worker
+  next_worker = record raised { clock = x.number; changes = cs }
 
-    same : nodes s.page ≡ nodes (page_at g h)
-    same = fun_ext (λ p. ap (λ (z : Contents). z.node) (i.pages p))
+  abbrev next_page : ℕ → Contents
+  next_page p = if touches p x then written x p (s.page p) else s.page p
 
-    cover : (p : ℕ) → touches p x ≡ true → (y : Entry) → Has y h → touches p y ≡ true → Covered w (max m F) y
-    cover p tp y iy ty = page_covers g F w (max m F) p h i.history (pages_more w (max (s.worker w).debt F) (max m F) h (let q = lm in omega arith) o.pages)
-        (subst (λ (q : Contents). (q.last ≡ w) ⊎ (q.gsn ≤ max m F)) (i.pages p) (tc p (touch_has s ps x xr p tp)).1) y iy ty
+  next_enters : (j : ℕ) → MayEnter g j (s.row j) x
+  next_enters j cx at = let q = subst (λ (u : ℕ). (s.row u).holder ≡ Some w) at (e.hold cx) in (inl (q ∙ ap (λ (u : ℕ). Some u) (sym e.log)), λ _. q ∙ ap (λ (u : ℕ). Some u) (sym e.log))
 
-    pages : (q : ℕ) → cond (touches q x) (written x q (s.page q)) (s.page q) ≡ page_at g (x ∷ h) q
-    pages q = ap (λ (z : Contents). cond (touches q x) (written x q z) z) (i.pages q)
+  next_cover : (p : ℕ) → touches p x ≡ true → (y : Entry) → Has y s.entries → touches p y ≡ true → Covered w (max m (flushed_by_all g s)) y
+  next_cover p tp y iy ty = page_covers g (flushed_by_all g s) w (max m (flushed_by_all g s)) p s.entries i.records (pages_more w (max (s.worker w).debt (flushed_by_all g s)) (max m (flushed_by_all g s)) s.entries (let q = e.debt in omega arith) (i.workers w).pages)
+      (let z = (i.stamps p).0 in elim (e.met p (touch_has s ps x e.refs p tp)).1 [ inl q ↦ inl (sym (i.stamps p).1 ∙ q) | inr q ↦ inr (omega arith) ]) y iy ty
 
-    entered : Entered g F x h
-    entered = record {
-      log = subst (Within g.workers) (sym lx) (o.is_log op);
-      later = λ _ y iy l. let q = (o.numbers y iy (l ∙ lx)).0 in let u = nx in let v = ln in omega arith;
-      logged = λ p t. rx;
-      prev = λ f jf. let z = refs_have s ps f (subst (λ (l : List Ref). Has f l) xr jf) in z.1 ∙ ap (λ (v : Contents). v.gsn) (i.pages f.page);
-      rises = λ p t. let z = (tc p (touch_has s ps x xr p t)).0 in let e = ap (λ (v : Contents). v.gsn) (i.pages p) in let u = nx in omega arith;
-      fits = subst (λ (v : ℕ → Node). Fits g.format v x) same fit;
-      still_open = λ d id kd sd. o.unended op d id kd (sd.0 ∙ lx) (sd.1 ∙ tx);
-      purged = λ c k ik y iy ky e. (let z = and_parts (is_free (s.row (g.row_of k)).holder) (is_empty (s.row (g.row_of k)).readers && leb (s.row (g.row_of k)).number F) (settled c k ik) in
-          let zz = and_parts (is_empty (s.row (g.row_of k)).readers) (leb (s.row (g.row_of k)).number F) z.1 in
-          elim ((i.rows (g.row_of k)).writes y iy (write_claims y ky) (ap g.row_of e)) [
-            | inl q ↦ absurd (true≢false (sym z.0 ∙ ap is_free q))
-            | inr d ↦ (d.0, let u = leb-true (s.row (g.row_of k)).number F zz.1 in let v = d.1 in omega arith)
-          ]);
-      locked = λ kx y iy ky row. elim ((i.rows (g.row_of x.key)).touched w (inl (hold (write_is_call x.kind kx))) y iy (write_claims y ky) row) [
-        | inl l ↦ elim (o.past y iy l) [ inl q ↦ inl (l ∙ sym lx, q.1 ∙ sym tx) | inr d ↦ inr (d, let q = (o.numbers d.end d.stands (d.same.0 ∙ l)).0 in let u = nx in let v = ln in omega arith) ]
-        | inr d ↦ inr (d.0, let q : d.0.end.number ≤ (s.worker w).clock = subst (λ t. d.0.end.number ≤ t) (open_top (s.worker w) op) d.1 in let u = nx in let v = ln in omega arith)
-      ];
-      guarded = λ cx y iy cy _ row. elim ((i.rows (g.row_of x.key)).sole w (hold cx) y iy cy row) [
-        | inl l ↦ elim (o.past y iy l) [ inl q ↦ inl (l ∙ sym lx, q.1 ∙ sym tx) | inr d ↦ inr d ]
-        | inr d ↦ inr d.0
-      ];
-      answers = λ cx. cond-true (is_write x.kind) x.before x.after (wc cx) ∙ fits_before g.format (nodes (page_at g h)) x (history_parted g F h i.history) (subst (λ (v : ℕ → Node). Fits g.format v x) same fit) (wc cx);
-      closes = λ ke. absurd (true≢false (sym ke ∙ ex));
-      aborts = λ ke. absurd (true≢false (sym ke ∙ ex));
-    }
+  next_recorded : Recorded g (flushed_by_all g s) x s.entries
+  next_recorded = record {
+    log = subst (Within g.workers) (sym e.log) ((i.workers w).is_log e.is_open);
+    later = λ _ y iy l. let q = ((i.workers w).numbers y iy (l ∙ e.log)).0 in let u = e.number in let v = e.clock in omega arith;
+    logged = λ p t. e.is_record;
+    prev = λ f jf. let z = refs_have s ps f (subst (λ (l : List Ref). Has f l) e.refs jf) in z.1 ∙ (i.stamps f.page).0;
+    rises = λ p t. let z = (e.met p (touch_has s ps x e.refs p t)).0 in let q = (i.stamps p).0 in let u = e.number in omega arith;
+    still_open = λ d id kd sd. (i.workers w).unended e.is_open d id kd (sd.0 ∙ e.log) (sd.1 ∙ e.txn);
+    purged = λ c k ik y iy ky is. (let z = and_parts (is_free (s.row (g.row_of k)).holder) (is_empty (s.row (g.row_of k)).readers && leb (s.row (g.row_of k)).number (flushed_by_all g s)) (e.settled c k ik) in
+        let zz = and_parts (is_empty (s.row (g.row_of k)).readers) (leb (s.row (g.row_of k)).number (flushed_by_all g s)) z.1 in
+        elim ((i.rows (g.row_of k)).writes y iy (write_claims y ky) (ap g.row_of is)) [
+          | inl q ↦ absurd (true≢false (sym z.0 ∙ ap is_free q))
+          | inr d ↦ (d.0, let u = leb-true (s.row (g.row_of k)).number (flushed_by_all g s) zz.1 in let v = d.1 in omega arith)
+        ]);
+    locked = λ kx y iy ky row. elim ((i.rows (g.row_of x.key)).touched w (inl (e.hold (write_is_call x.kind kx))) y iy (write_claims y ky) row) [
+      | inl l ↦ elim ((i.workers w).past y iy l) [ inl q ↦ inl (l ∙ sym e.log, q.1 ∙ sym e.txn) | inr d ↦ inr (d, let q = ((i.workers w).numbers d.end d.stands (d.same.0 ∙ l)).0 in let u = e.number in let v = e.clock in omega arith) ]
+      | inr d ↦ inr (d.0, let q : d.0.end.number ≤ (s.worker w).clock = subst (λ t. d.0.end.number ≤ t) (open_top (s.worker w) e.is_open) d.1 in let u = e.number in let v = e.clock in omega arith)
+    ];
+    guarded = λ cx y iy cy _ row. elim ((i.rows (g.row_of x.key)).sole w (e.hold cx) y iy cy row) [
+      | inl l ↦ elim ((i.workers w).past y iy l) [ inl q ↦ inl (l ∙ sym e.log, q.1 ∙ sym e.txn) | inr d ↦ inr d ]
+      | inr d ↦ inr d.0
+    ];
+    closes = λ ke. absurd (true≢false (sym ke ∙ e.no_end));
+  }
 
-pub same_nodes : (g : Opening) (s : State) → Inv g s → nodes s.page ≡ nodes (page_at g s.entries)
-same_nodes g s i = fun_ext (λ p. ap (λ (z : Contents). z.node) (i.pages p))
+  told_records : ((j : ℕ) → undone cs (values_of g (x ∷ s.entries)) j ≡ undone (s.worker w).changes (values_of g s.entries) j) → IsTold g s → IsTold g (records_in s w (record (s.worker w) { clock = n; debt = m }) x cs)
+  told_records un k = told_entry g s i k w next_worker x next_page e.log (λ q. ap (λ (z : Contents). cond (touches q x) (written x q z) z) (k.pages q)) entered next_enters (own_undo g s.entries w raised x x.number cs e.log e.txn un (k.undo w))
+    where
+      fits : Fits g.format (nodes (page_at g s.entries)) x
+      fits = subst (λ (v : ℕ → Node). Fits g.format v x) (same_nodes g s k) e.fits
 
--- the pages are a tree
-pub tree_now : (g : Opening) (s : State) → Inv g s → IsTree g.format (nodes_of s)
-tree_now g s i = subst (IsTree g.format) (sym (same_nodes g s i)) (history_parted g (flushed_by_all g s) s.entries i.history)
+      entered : Entered g (flushed_by_all g s) x s.entries
+      entered = record {
+        recorded = next_recorded;
+        fits = fits;
+        answers = λ cx. cond-true (is_write x.kind) x.before x.after (e.call cx) ∙ fits_before g.format (nodes (page_at g s.entries)) x (history_parted g (flushed_by_all g s) s.entries k.history) fits (e.call cx);
+        aborts = λ ke. absurd (true≢false (sym ke ∙ e.no_end));
+      }
+
+  pub inv_records : (IsTold g s → (j : ℕ) → undone cs (values_of g (x ∷ s.entries)) j ≡ undone (s.worker w).changes (values_of g s.entries) j) → Inv g (records_in s w (record (s.worker w) { clock = n; debt = m }) x cs)
+  inv_records un =
+      inv_entry g s i w next_worker x next_page e.log (λ p. stamp_step x p (s.page p) (page_at g s.entries p) (i.stamps p)) (subst (IsTree g.format) (sym (nodes_step s.page x)) (fits_parted g.format (nodes_of s) x i.tree e.fits)) next_recorded next_enters
+      (let q = e.debt in omega arith) (let q = e.clock in let u = e.number in rw (open_top (s.worker w) e.is_open, open_top next_worker e.is_open) (omega arith))
+      (own_more g (flushed_by_all g s) s.floor (s.flushed w) s.entries s.row w raised x x.number cs (worker_raised g (flushed_by_all g s) s.floor (s.flushed w) s.entries s.row w (s.worker w) n m e.clock e.debt e.low (i.workers w)) e.log e.txn e.no_end e.is_open (omega arith) (let u = e.number in omega arith)
+      next_cover (λ cx. (inl (e.hold cx), λ _. e.hold cx)) e.changes)
+      (λ _. let z0 = (i.workers w).based ((i.workers w).is_log e.is_open) in let z1 = (i.workers w).flushed in let z2 = i.cuts.low in let q = e.clock in let u = e.number in omega arith) (λ k. told_records (un k) k)
 
 write_no_clean : (K : Kind) → is_write K ≡ true → is_purge K ≡ false
 write_no_clean Purge h = absurd (true≢false (sym h))
@@ -271,12 +301,11 @@ write_no_clean _ h = refl
 
 -- a write by the one who holds the row alone
 pub inv_write : (g : Opening) (s : State) → Inv g s → (kind : Kind) (w p k v : ℕ) (changes : Entry → List Entry) → is_write kind ≡ true → (s.worker w).is_open ≡ true → (s.row (g.row_of k)).holder ≡ Some w →
-    (fit : Fits g.format (nodes s.page) (write_entry g kind s w (at_pages s w (s.worker w) (p ∷ [])) p k v)) →
+    Fits g.format (nodes_of s) (write_entry g kind s w (at_pages s w (s.worker w) (p ∷ [])) p k v) →
     ((c : Entry) → Has c (changes (write_entry g kind s w (at_pages s w (s.worker w) (p ∷ [])) p k v)) → ((s.row (g.row_of c.key)).holder ≡ Some w) × (c.before ≤ g.format.dead)) →
-    (Fits g.format (nodes s.page) (write_entry g kind s w (at_pages s w (s.worker w) (p ∷ [])) p k v) → (j : ℕ) → undone (changes (write_entry g kind s w (at_pages s w (s.worker w) (p ∷ [])) p k v)) (values_of g (write_entry g kind s w (at_pages s w (s.worker w) (p ∷ [])) p k v ∷ s.entries)) j ≡ undone (s.worker w).changes (values_of g s.entries) j) →
+    (IsTold g s → (j : ℕ) → undone (changes (write_entry g kind s w (at_pages s w (s.worker w) (p ∷ [])) p k v)) (values_of g (write_entry g kind s w (at_pages s w (s.worker w) (p ∷ [])) p k v ∷ s.entries)) j ≡ undone (s.worker w).changes (values_of g s.entries) j) →
     Inv g (writes g s kind w p k v changes)
-inv_write g s i kind w p k v changes kw op hold fit ch un =
-    inv_records g s i w (p ∷ []) a.clock a.debt x (changes x) op t.0 t.1 t.2 t.4 refl refl (omega arith) (write_is_no_end kind kw) (write_is_record kind kw) refl fit (λ _. kw) (λ _. hold) ch (λ c. absurd (true≢false (sym c ∙ write_no_clean kind kw))) (un fit)
+inv_write g s i kind w p k v changes kw op hold fit ch un = inv_records g s i w (p ∷ []) a.clock a.debt x (changes x) next un
   where
     a : Worker
     a = at_pages s w (s.worker w) (p ∷ [])
@@ -286,6 +315,26 @@ inv_write g s i kind w p k v changes kw op hold fit ch un =
 
     t : ((s.worker w).clock ≤ a.clock) × ((s.worker w).debt ≤ a.debt) × (a.debt ≤ a.clock) × (a.floor ≤ flushed_by_all g s) × ((q : ℕ) → Has q (p ∷ []) → ((s.page q).gsn ≤ a.clock) × (((s.page q).last ≡ w) ⊎ ((s.page q).gsn ≤ max a.debt (flushed_by_all g s))))
     t = touched_all s w (flushed_by_all g s) (s.worker w) (p ∷ []) (stamp_flushed g s i) (i.workers w).floor (i.workers w).debt
+
+    next : IsNext g s w (p ∷ []) a.clock a.debt x (changes x)
+    next = record {
+      is_open = op;
+      clock = t.0;
+      debt = t.1;
+      low = t.2;
+      met = t.4;
+      log = refl;
+      txn = refl;
+      number = omega arith;
+      no_end = write_is_no_end kind kw;
+      is_record = write_is_record kind kw;
+      refs = refl;
+      fits = fit;
+      call = λ _. kw;
+      hold = λ _. hold;
+      changes = ch;
+      settled = λ c. absurd (true≢false (sym c ∙ write_no_clean kind kw));
+    }
 
 none_has : (k : ℕ) (n : Node) → pairs.find k n.pairs ≡ None → redo_of.has_key k n ≡ false
 none_has k n e = ap redo_of.is_some e
@@ -304,7 +353,7 @@ before_le f node r t m =
 
 pub inv_change : (g : Opening) (s : State) → Inv g s → (w p k v : ℕ) → needs g s (Event.Change w p k v) ≡ true → Inv g (happens g s (Event.Change w p k v))
 inv_change g s i w p k v m = inv_write g s i Change w p k v (λ r. r ∷ (s.worker w).changes) refl p1.0 hold fits ch
-    (λ fit j. undone_at (s.worker w).changes (upd (values_of g (x ∷ s.entries)) k x.before) (values_of g s.entries) j (back (subst (λ (n : ℕ → Node). Fits g.format n x) (same_nodes g s i) fit) j))
+    (λ t j. undone_at (s.worker w).changes (upd (values_of g (x ∷ s.entries)) k x.before) (values_of g s.entries) j (back t.history (subst (λ (n : ℕ → Node). Fits g.format n x) (same_nodes g s t) fits) j))
   where
     n : Node
     n = (s.page p).node
@@ -331,7 +380,7 @@ inv_change g s i w p k v m = inv_write g s i Change w p k v (λ r. r ∷ (s.work
     x = write_entry g Change s w (at_pages s w (s.worker w) (p ∷ [])) p k v
 
     fit : FitsAs g.format page_records.Kind.Change (nodes_of s) x.record_of
-    fit = (page_needs.every_need g.format (nodes_of s) (gsns_of s) (tree_now g s i)).change p k v (record {
+    fit = (page_needs.every_need g.format (nodes_of s) (gsns_of s) i.tree).change p k v (record {
       page = ltb-true p g.format.pages p3.0;
       leaf = p4.0;
       word = leb-true v g.format.dead p5.0;
@@ -341,17 +390,17 @@ inv_change g s i w p k v m = inv_write g s i Change w p k v (λ r. r ∷ (s.work
       ];
     })
 
-    fits : Fits g.format (nodes s.page) x
+    fits : Fits g.format (nodes_of s) x
     fits = record { page = λ _. record { refs = refl; key = λ _. (refl, refl, refl); fits = fit }; none = λ z. absurd (true≢false z) }
 
     ch : (c : Entry) → Has c (x ∷ (s.worker w).changes) → ((s.row (g.row_of c.key)).holder ≡ Some w) × (c.before ≤ g.format.dead)
-    ch c (inl e) = rw e (hold, before_le g.format (nodes_of s) x.record_of (tree_now g s i) fit)
+    ch c (inl e) = rw e (hold, before_le g.format (nodes_of s) x.record_of i.tree fit)
     ch c (inr ic) = ((i.workers w).changes p1.0 c ic, (i.workers w).words p1.0 c ic)
 
-    back : Fits g.format (nodes (page_at g s.entries)) x → (j : ℕ) → upd (values_of g (x ∷ s.entries)) k x.before j ≡ values_of g s.entries j
-    back fit j = elim (cases_eq j k) [
-      | inl e ↦ upd_same (values_of g (x ∷ s.entries)) k x.before j e ∙ (fits_before g.format (nodes (page_at g s.entries)) x (history_parted g (flushed_by_all g s) s.entries i.history) fit refl ∙ ap (values_of g s.entries) (sym e))
-      | inr n ↦ upd_other (values_of g (x ∷ s.entries)) k x.before j n ∙ history_off g (flushed_by_all g s) j x s.entries i.history fit (ne_eqb k j (λ e. n (sym e)))
+    back : IsHistory g (flushed_by_all g s) s.entries → Fits g.format (nodes (page_at g s.entries)) x → (j : ℕ) → upd (values_of g (x ∷ s.entries)) k x.before j ≡ values_of g s.entries j
+    back hist fit j = elim (cases_eq j k) [
+      | inl e ↦ upd_same (values_of g (x ∷ s.entries)) k x.before j e ∙ (fits_before g.format (nodes (page_at g s.entries)) x (history_parted g (flushed_by_all g s) s.entries hist) fit refl ∙ ap (values_of g s.entries) (sym e))
+      | inr n ↦ upd_other (values_of g (x ∷ s.entries)) k x.before j n ∙ history_off g (flushed_by_all g s) j x s.entries hist fit (ne_eqb k j (λ e. n (sym e)))
     ]
 
 pub inv_put_back : (g : Opening) (s : State) → Inv g s → (w p : ℕ) → needs g s (Event.Put_back w p) ≡ true → Inv g (happens g s (Event.Put_back w p))
@@ -369,7 +418,7 @@ inv_put_back g s i w p m = go (s.worker w).changes refl parts.1
     go : (cs : List Entry) → (s.worker w).changes ≡ cs → may_put_back g n p cs ≡ true → Inv g (put_back g s w p cs)
     go [] e z = i
     go (c ∷ cs) e z = inv_write g s i Put_back w p c.key c.before (λ _. cs) refl op (held c (inl refl)).0 fits (λ d id. held d (inr id))
-        (λ fit j. undone_at cs (values_of g (x ∷ s.entries)) (upd (values_of g s.entries) c.key c.before) j (back (subst (λ (n : ℕ → Node). Fits g.format n x) (same_nodes g s i) fit) j) ∙ ap (λ (l : List Entry). undone l (values_of g s.entries) j) (sym e))
+        (λ t j. undone_at cs (values_of g (x ∷ s.entries)) (upd (values_of g s.entries) c.key c.before) j (back t.history (subst (λ (n : ℕ → Node). Fits g.format n x) (same_nodes g s t) fits) j) ∙ ap (λ (l : List Entry). undone l (values_of g s.entries) j) (sym e))
       where
         x : Entry
         x = write_entry g Put_back s w (at_pages s w (s.worker w) (p ∷ [])) p c.key c.before
@@ -383,12 +432,12 @@ inv_put_back g s i w p m = go (s.worker w).changes refl parts.1
         p4 : (holds n c.key ≡ true) × (redo_of.has_key c.key n ≡ true)
         p4 = and_parts (holds n c.key) (redo_of.has_key c.key n) p3.1
 
-        fits : Fits g.format (nodes s.page) x
+        fits : Fits g.format (nodes_of s) x
         fits = record {
           page = λ _. record {
             refs = refl;
             key = λ _. (refl, refl, refl);
-            fits = (page_needs.every_need g.format (nodes_of s) (gsns_of s) (tree_now g s i)).back p c.key c.before (record {
+            fits = (page_needs.every_need g.format (nodes_of s) (gsns_of s) i.tree).back p c.key c.before (record {
               page = ltb-true p g.format.pages p3.0;
               leaf = p4.0;
               word = (held c (inl refl)).1;
@@ -398,10 +447,10 @@ inv_put_back g s i w p m = go (s.worker w).changes refl parts.1
           none = λ z. absurd (true≢false z);
         }
 
-        back : Fits g.format (nodes (page_at g s.entries)) x → (j : ℕ) → values_of g (x ∷ s.entries) j ≡ upd (values_of g s.entries) c.key c.before j
-        back fit j = elim (cases_eq j c.key) [
-          | inl q ↦ history_on g (flushed_by_all g s) j x s.entries i.history fit (eq-eqb c.key j (sym q)) ∙ sym (upd_same (values_of g s.entries) c.key c.before j q)
-          | inr n ↦ history_off g (flushed_by_all g s) j x s.entries i.history fit (ne_eqb c.key j (λ q. n (sym q))) ∙ sym (upd_other (values_of g s.entries) c.key c.before j n)
+        back : IsHistory g (flushed_by_all g s) s.entries → Fits g.format (nodes (page_at g s.entries)) x → (j : ℕ) → values_of g (x ∷ s.entries) j ≡ upd (values_of g s.entries) c.key c.before j
+        back hist fit j = elim (cases_eq j c.key) [
+          | inl q ↦ history_on g (flushed_by_all g s) j x s.entries hist fit (eq-eqb c.key j (sym q)) ∙ sym (upd_same (values_of g s.entries) c.key c.before j q)
+          | inr n ↦ history_off g (flushed_by_all g s) j x s.entries hist fit (ne_eqb c.key j (λ q. n (sym q))) ∙ sym (upd_other (values_of g s.entries) c.key c.before j n)
         ]
 
 -- ## Records that change no value
@@ -439,8 +488,8 @@ at_shape s w a (p ∷ ps) = ap (λ (z : Worker). record z { clock = (at_pages s 
 pub inv_move : (g : Opening) (s : State) → Inv g s → (K : Kind) (w : ℕ) (ps : List ℕ) (y : Record) → (s.worker w).is_open ≡ true → is_move K ≡ true → refs_of s ps ≡ page_records.refs_as (page_kind K) y →
     FitsAs g.format (page_kind K) (nodes_of s) y → (is_purge K ≡ true → (k : ℕ) → pairs.is_in k y.keys ≡ true → is_settled g s k ≡ true) → Inv g (moves s K w ps y)
 inv_move g s i K w ps y op mx xr fm settled = subst (λ (z : Worker). Inv g (records_in s w z (page_entry K s w z ps y) z.changes)) (at_shape s w (s.worker w) ps) (
-    inv_records g s i w ps a.clock a.debt x (s.worker w).changes op t.0 t.1 t.2 t.4 refl refl (omega arith) (move_no_end K mx) (move_is_record K mx) refl fit (λ c. absurd (true≢false (sym c ∙ move_no_call K mx))) (λ c. absurd (true≢false (sym c ∙ move_no_call K mx))) (λ c ic. ((i.workers w).changes op c ic, (i.workers w).words op c ic)) settled
-    (λ j. undone_at (s.worker w).changes (values_of g (x ∷ s.entries)) (values_of g s.entries) j (history_off g (flushed_by_all g s) j x s.entries i.history (subst (λ (n : ℕ → Node). Fits g.format n x) (same_nodes g s i) fit) (and_left (is_write K) (0 == j) (move_no_write K mx)))))
+    inv_records g s i w ps a.clock a.debt x (s.worker w).changes next
+    (λ k j. undone_at (s.worker w).changes (values_of g (x ∷ s.entries)) (values_of g s.entries) j (history_off g (flushed_by_all g s) j x s.entries k.history (subst (λ (n : ℕ → Node). Fits g.format n x) (same_nodes g s k) fit) (and_left (is_write K) (0 == j) (move_no_write K mx)))))
   where
     a : Worker
     a = at_pages s w (s.worker w) ps
@@ -454,10 +503,30 @@ inv_move g s i K w ps y op mx xr fm settled = subst (λ (z : Worker). Inv g (rec
     t : ((s.worker w).clock ≤ a.clock) × ((s.worker w).debt ≤ a.debt) × (a.debt ≤ a.clock) × (a.floor ≤ flushed_by_all g s) × ((p : ℕ) → Has p ps → ((s.page p).gsn ≤ a.clock) × (((s.page p).last ≡ w) ⊎ ((s.page p).gsn ≤ max a.debt (flushed_by_all g s))))
     t = touched_all s w (flushed_by_all g s) (s.worker w) ps (stamp_flushed g s i) (i.workers w).floor (i.workers w).debt
 
-    fit : Fits g.format (nodes s.page) x
+    fit : Fits g.format (nodes_of s) x
     fit = record {
       page = λ _. record { refs = xr; key = λ z. absurd (true≢false (sym z ∙ move_no_write K mx)); fits = fm };
       none = λ z. absurd (true≢false (sym (move_is_page K mx) ∙ z));
+    }
+
+    next : IsNext g s w ps a.clock a.debt x (s.worker w).changes
+    next = record {
+      is_open = op;
+      clock = t.0;
+      debt = t.1;
+      low = t.2;
+      met = t.4;
+      log = refl;
+      txn = refl;
+      number = omega arith;
+      no_end = move_no_end K mx;
+      is_record = move_is_record K mx;
+      refs = refl;
+      fits = fit;
+      call = λ c. absurd (true≢false (sym c ∙ move_no_call K mx));
+      hold = λ c. absurd (true≢false (sym c ∙ move_no_call K mx));
+      changes = λ c ic. ((i.workers w).changes op c ic, (i.workers w).words op c ic);
+      settled = settled;
     }
 
 pub names_to : (v : Node) (c : ℕ) → check.names_page v c ≡ true → (z : pairs.Span) × page_tree.Names v z × (z.child ≡ c)
@@ -483,7 +552,7 @@ inv_split g s i w l r q j m =
     let p5 = and_parts (ltb (length (n q).pairs) g.format.room) (ltb 0 j && ltb j (length (n l).pairs)) p4.1 in
     let p6 = and_parts (ltb 0 j) (ltb j (length (n l).pairs)) p5.1 in
     inv_move g s i Split w (l ∷ r ∷ q ∷ []) (record_needs.split_record n (gsns_of s) l r q j) p0.0 refl refl
-    ((page_needs.every_need g.format n (gsns_of s) (tree_now g s i)).split l r q j (record {
+    ((page_needs.every_need g.format n (gsns_of s) i.tree).split l r q j (record {
       right = ltb-true r g.format.pages p1.0;
       empty = not_to (n r).live p2.0;
       parent = ltb-true q g.format.pages p3.0;
@@ -500,7 +569,7 @@ inv_lift g s i w c m =
     let p1 = and_parts (ltb c g.format.pages) (not (n c).live && ltb (n 0).level g.format.levels) p'.1 in
     let p2 = and_parts (not (n c).live) (ltb (n 0).level g.format.levels) p1.1 in
     inv_move g s i Lift w (0 ∷ c ∷ []) (record_needs.lift_record n (gsns_of s) c) p0.0 refl refl
-    ((page_needs.every_need g.format n (gsns_of s) (tree_now g s i)).lift c (record { page = ltb-true c g.format.pages p1.0; empty = not_to (n c).live p2.0; low = ltb-true (n 0).level g.format.levels p2.1 })) (λ z. absurd (true≢false (sym z)))
+    ((page_needs.every_need g.format n (gsns_of s) i.tree).lift c (record { page = ltb-true c g.format.pages p1.0; empty = not_to (n c).live p2.0; low = ltb-true (n 0).level g.format.levels p2.1 })) (λ z. absurd (true≢false (sym z)))
 
 pub inv_join : (g : Opening) (s : State) → Inv g s → (w l r q : ℕ) → needs g s (Event.Join w l r q) ≡ true → Inv g (happens g s (Event.Join w l r q))
 inv_join g s i w l r q m =
@@ -512,8 +581,8 @@ inv_join g s i w l r q m =
     let p4 = and_parts ((n l).high == (n r).low) (leb (length (n l).pairs + length (n r).pairs) g.joined) p3.1 in
     let lq = ltb-true q g.format.pages p1.0 in
     let a = names_to (n q) l p2.0 in let b = names_to (n q) r p3.0 in
-    let ea = page_needs.span_is g.format n (tree_now g s i) q l a.0 lq a.1 a.2 in
-    let eb = page_needs.span_is g.format n (tree_now g s i) q r b.0 lq b.1 b.2 in
+    let ea = page_needs.span_is g.format n i.tree q l a.0 lq a.1 a.2 in
+    let eb = page_needs.span_is g.format n i.tree q r b.0 lq b.1 b.2 in
     let meet = eqb-true (n l).high (n r).low p4.0 in
     inv_move g s i Join w (l ∷ r ∷ q ∷ []) (record_needs.join_record n (gsns_of s) l r q) p0.0 refl refl
     (record {
@@ -535,7 +604,7 @@ inv_drop g s i w c m =
     let p0 = and_parts (s.worker w).is_open (may_drop n c) m in
     let p1 = and_parts (ltb 0 (n 0).level) (is_single (n 0).pairs c) p0.1 in
     inv_move g s i Drop w (0 ∷ c ∷ []) (record_needs.drop_record n (gsns_of s) c) p0.0 refl refl
-    ((page_needs.every_need g.format n (gsns_of s) (tree_now g s i)).drop c (record { inner = ltb-true 0 (n 0).level p1.0; one = single_to (n 0).pairs c p1.1 })) (λ z. absurd (true≢false (sym z)))
+    ((page_needs.every_need g.format n (gsns_of s) i.tree).drop c (record { inner = ltb-true 0 (n 0).level p1.0; one = single_to (n 0).pairs c p1.1 })) (λ z. absurd (true≢false (sym z)))
 
 dead_to : (f : page_nodes.Format) (z : Option ℕ) → is_dead f z ≡ true → z ≡ Some f.dead
 dead_to f None h = absurd (true≢false (sym h))
@@ -567,11 +636,11 @@ inv_purge g s i w p keys m =
 
 pub inv_reads : (g : Opening) (s : State) → Inv g s → (w p k : ℕ) → may_read g s w p k ≡ true → Inv g (reads g s w p k)
 inv_reads g s i w p k m =
-    inv_entry g s i w a x s.page refl (λ q. i.pages q) entered (λ j nk e. (rw (← e) hold, λ kw. rw (← e) (alone kw)))
+    inv_entry g s i w a x s.page refl i.stamps i.tree recorded enters
     (let q = t.1 in omega arith) (rw (open_top (s.worker w) op, open_top a op) (let q = t.0 in omega arith))
     (own_more g F s.floor (s.flushed w) h s.row w a x a.clock a.changes (worker_raised g F s.floor (s.flushed w) h s.row w (s.worker w) a.clock a.debt t.0 t.1 t.2 o) refl refl refl op (omega arith) (omega arith)
-    (λ q tq. absurd (true≢false (sym tq))) (λ _. (hold, λ kw. alone kw)) (λ c ic. (o.changes op c ic, o.words op c ic))
-    (λ j. undone_at a.changes (values_of g (x ∷ h)) (values_of g h) j refl)) (λ kr. absurd (true≢false (sym kr)))
+    (λ q tq. absurd (true≢false (sym tq))) (λ _. (hold, λ kw. alone kw)) (λ c ic. (o.changes op c ic, o.words op c ic))) (λ kr. absurd (true≢false (sym kr)))
+    (λ z. told_entry g s i z w a x s.page refl (λ q. z.pages q) (entered z) enters (own_undo g h w a x a.clock a.changes refl refl (λ j. undone_at a.changes (values_of g (x ∷ h)) (values_of g h) j refl) (z.undo w)))
   where
     h : List Entry
     h = s.entries
@@ -608,14 +677,16 @@ inv_reads g s i w p k m =
     t : ((s.worker w).clock ≤ a.clock) × ((s.worker w).debt ≤ a.debt) × (a.debt ≤ a.clock) × (a.floor ≤ F) × ((q : ℕ) → Has q (p ∷ []) → ((s.page q).gsn ≤ a.clock) × (((s.page q).last ≡ w) ⊎ ((s.page q).gsn ≤ max a.debt F)))
     t = touched_all s w F (s.worker w) (p ∷ []) (stamp_flushed g s i) o.floor o.debt
 
-    entered : Entered g F x h
-    entered = record {
+    enters : (j : ℕ) → MayEnter g j (s.row j) x
+    enters j nk e = (rw (← e) hold, λ kw. rw (← e) (alone kw))
+
+    recorded : Recorded g F x h
+    recorded = record {
       log = o.is_log op;
       later = λ kr. absurd (true≢false (sym kr));
       logged = λ q tq. absurd (true≢false (sym tq));
       prev = λ f jf. absurd jf;
       rises = λ q tq. absurd (true≢false (sym tq));
-      fits = record { page = λ kw. absurd (true≢false (sym kw)); none = λ _ q. refl };
       still_open = λ d id kd sd. o.unended op d id kd sd.0 sd.1;
       purged = λ c. absurd (true≢false (sym c));
       locked = λ kw. absurd (true≢false (sym kw));
@@ -623,8 +694,14 @@ inv_reads g s i w p k m =
         | inl l ↦ elim (o.past y iy l) [ inl q ↦ inl (l, q.1) | inr d ↦ inr d ]
         | inr d ↦ inr d.0
       ];
-      answers = λ _. ap (λ (v : Contents). word_in g.format v.node k) (i.pages p) ∙ sym (lookup_at g.format (nodes (page_at g h)) k p (history_parted g F h i.history) (ltb-true p g.format.pages own_leaf.0) (subst (λ (v : Contents). holds v.node k ≡ true) (i.pages p) own_leaf.1));
       closes = λ ke. absurd (true≢false (sym ke));
+    }
+
+    entered : IsTold g s → Entered g F x h
+    entered z = record {
+      recorded = recorded;
+      fits = record { page = λ kw. absurd (true≢false (sym kw)); none = λ _ q. refl };
+      answers = λ _. ap (λ (v : Contents). word_in g.format v.node k) (z.pages p) ∙ sym (lookup_at g.format (nodes (page_at g h)) k p (history_parted g F h z.history) (ltb-true p g.format.pages own_leaf.0) (subst (λ (v : Contents). holds v.node k ≡ true) (z.pages p) own_leaf.1));
       aborts = λ ke. absurd (true≢false (sym ke));
     }
 
@@ -635,9 +712,10 @@ need_covers f debt F l = elim (cases_lt f debt) [ inl q ↦ rw (lt-ltb f debt q)
 
 pub inv_end : (g : Opening) (s : State) → Inv g s → (w : ℕ) (commit : Bool) (f : ℕ) → needs g s (Event.End w commit f) ≡ true → Inv g (happens g s (Event.End w commit f))
 inv_end g s i w commit f m =
-    inv_entry g s i w (finished a n) x s.page refl (λ p. i.pages p) entered
-    (λ j nk e. absurd (true≢false (sym nk ∙ no_call commit))) (omega arith) (rw (open_top a op) (omega arith)) own
+    inv_entry g s i w (finished a n) x s.page refl i.stamps i.tree recorded
+    enters (omega arith) (rw (open_top a op) (omega arith)) own
     (λ _. let z0 = o.based (o.is_log op) in let z1 = o.flushed in let z2 = i.cuts.low in omega arith)
+    (λ t. told_entry g s i t w (finished a n) x s.page refl (λ p. t.pages p) (entered t) enters (λ q. absurd (true≢false (sym q))))
   where
     h : List Entry
     h = s.entries
@@ -700,19 +778,20 @@ inv_end g s i w commit f m =
     empty false k [] e mm = refl
     empty false k (c ∷ cs) e mm = absurd (true≢false (sym e))
 
-    entered : Entered g F x h
-    entered = record {
+    enters : (j : ℕ) → MayEnter g j (s.row j) x
+    enters j nk e = absurd (true≢false (sym nk ∙ no_call commit))
+
+    recorded : Recorded g F x h
+    recorded = record {
       log = o.is_log op;
       later = λ _ y iy l. let q = (o.numbers y iy l).0 in omega arith;
       logged = λ q tq. absurd (true≢false (sym tq));
       prev = λ f jf. absurd jf;
       rises = λ q tq. absurd (true≢false (sym tq));
-      fits = record { page = λ k. absurd (true≢false (sym k ∙ no_page commit)); none = λ _ q. refl };
       still_open = λ d id kd sd. o.unended op d id kd sd.0 sd.1;
       purged = λ c. absurd (true≢false (sym c ∙ no_clean commit));
       locked = λ k. never k;
       guarded = λ c. absurd (true≢false (sym c ∙ no_call commit));
-      answers = λ c. absurd (true≢false (sym c ∙ no_call commit));
       closes = λ _. record {
         pages = pages_more w (max a.debt F) (max x.need F) h nd.0 o.pages;
         rows = λ r ir sr cr y iy ky row. elim ((i.rows (g.row_of r.key)).touched w (used r ir sr cr).0 y iy ky row) [
@@ -726,7 +805,6 @@ inv_end g s i w commit f m =
         ends = λ d id kd l. let q = (o.ends d id kd l).1 in let p = nd.0 in omega arith;
         need = let q = nd.1 in let p = o.debt in omega arith;
       };
-      aborts = λ _ kc k. sym (ap (λ (m : ℕ → ℕ). m k) (empty commit kc a.changes (and_parts (leb f F) (commit || is_empty a.changes) parts.1).1 (values_of g h))) ∙ o.undo op k;
     }
       where
         used : (r : Entry) → Has r h → SameTxn r x → is_call r.kind ≡ true → Holds (s.row (g.row_of r.key)) w × (claims r ≡ true → (s.row (g.row_of r.key)).holder ≡ Some w)
@@ -740,6 +818,14 @@ inv_end g s i w commit f m =
           | inl q ↦ inl (l, q.1)
           | inr d ↦ inr (d, inl (d.same.0 ∙ l), let q = (o.numbers d.end d.stands (d.same.0 ∙ l)).0 in omega arith)
         ]
+
+    entered : IsTold g s → Entered g F x h
+    entered t = record {
+      recorded = recorded;
+      fits = record { page = λ k. absurd (true≢false (sym k ∙ no_page commit)); none = λ _ q. refl };
+      answers = λ c. absurd (true≢false (sym c ∙ no_call commit));
+      aborts = λ _ kc k. sym (ap (λ (m : ℕ → ℕ). m k) (empty commit kc a.changes (and_parts (leb f F) (commit || is_empty a.changes) parts.1).1 (values_of g h))) ∙ t.undo w op k;
+    }
 
     own : WorkerOk g F s.floor (s.flushed w) (x ∷ h) s.row w (finished a n)
     own = record {
@@ -758,7 +844,6 @@ inv_end g s i w commit f m =
       used = λ q. absurd (true≢false (sym q));
       changes = λ q. absurd (true≢false (sym q));
       words = λ q. absurd (true≢false (sym q));
-      undo = λ q. absurd (true≢false (sym q));
     }
       where
         numbers : (r : Entry) → Has r (x ∷ h) → r.log ≡ w → (r.number ≤ n) × (r.txn ≤ a.txn)

@@ -9,7 +9,7 @@ use Rattle.core_state.specs.Steps.{claims}
 use Rattle.core_state.specs.Openings.{Opening, start_page, first}
 use Rattle.page_model.specs.Nodes.{Node}
 use Rattle.page_model.specs.Tree.{lookup, IsTree}
-use Rattle.core_commit.proofs.Lists.{Within, Each, Before, pick, any_is}
+use Rattle.core_commit.proofs.Lists.{Within, Each, each_map, Before, pick, any_is}
 use Rattle.map_model.proofs.ListLemmas.{any_has, has_any}
 use Rattle.core_commit.proofs.Nodes.{on_key, Fits, moved_on, fits_parted, fits_on, fits_off}
 use mathlib.Core.Path.{fun_ext}
@@ -70,24 +70,46 @@ pub record Closes (g : Opening) (F : ℕ) (e : Entry) (b : List Entry) : Type 0 
   pub ends : (d : Entry) → Has d b → is_end d.kind ≡ true → d.log ≡ e.log → d.need ≤ max e.need F
   pub need : e.need < e.number
 
--- of the entry r behind which b stands
-pub record Entered (g : Opening) (F : ℕ) (r : Entry) (b : List Entry) : Type 0 where
+-- of the entry r behind which b stands, but for what pages contain
+pub record Recorded (g : Opening) (F : ℕ) (r : Entry) (b : List Entry) : Type 0 where
   pub log : Within g.workers r.log
   pub later : is_record r.kind ≡ true → (y : Entry) → Has y b → y.log ≡ r.log → y.number < r.number
   pub logged : (p : ℕ) → touches p r ≡ true → is_record r.kind ≡ true
   pub prev : (f : Ref) → Has f r.refs → f.prev ≡ (page_at g b f.page).gsn
   pub rises : (p : ℕ) → touches p r ≡ true → (page_at g b p).gsn < r.number
-  pub fits : Fits g.format (nodes (page_at g b)) r
   pub still_open : (d : Entry) → Has d b → is_end d.kind ≡ true → SameTxn d r → ⊥
   pub locked : is_write r.kind ≡ true → (y : Entry) → Has y b → is_write y.kind ≡ true → g.row_of y.key ≡ g.row_of r.key → SameTxn y r ⊎ ((d : EndOf b y) × (d.end.number < r.number))
   pub guarded : is_call r.kind ≡ true → (y : Entry) → Has y b → is_call y.kind ≡ true → (is_write r.kind || is_write y.kind) ≡ true → g.row_of y.key ≡ g.row_of r.key → SameTxn y r ⊎ EndOf b y
-  pub answers : is_call r.kind ≡ true → answer r ≡ history_value g r.key b
   pub closes : is_end r.kind ≡ true → Closes g F r b
   pub purged : is_purge r.kind ≡ true → (k : ℕ) → pairs.is_in k r.record_of.keys ≡ true → (y : Entry) → Has y b → is_write y.kind ≡ true → y.key ≡ k → (d : EndOf b y) × (d.end.number ≤ F)
+
+abbrev pub IsRecorded : Opening → ℕ → List Entry → Type 0
+IsRecorded g F h = Each (Recorded g F) h
+
+-- and what the start's pages contain after b
+pub record Entered (g : Opening) (F : ℕ) (r : Entry) (b : List Entry) : Type 0 where
+  pub recorded : Recorded g F r b
+  pub fits : Fits g.format (nodes (page_at g b)) r
+  pub answers : is_call r.kind ≡ true → answer r ≡ history_value g r.key b
   pub aborts : is_end r.kind ≡ true → is_commit r.kind ≡ false → (k : ℕ) → history_value g k b ≡ without g r k b
 
 abbrev pub IsHistory : Opening → ℕ → List Entry → Type 0
 IsHistory g F h = Each (Entered g F) h
+
+pub records_of : (g : Opening) (F : ℕ) (h : List Entry) → IsHistory g F h → IsRecorded g F h
+records_of g F h hist = each_map (Entered g F) (Recorded g F) h (λ r b n. n.recorded) hist
+
+-- the same number and log
+abbrev pub HasStamp : Contents → Contents → Type 0
+HasStamp v u = (v.gsn ≡ u.gsn) × (v.last ≡ u.last)
+
+-- an entry makes the same stamp of equal ones
+pub stamp_step : (r : Entry) (p : ℕ) (v u : Contents) → HasStamp v u → HasStamp (if touches p r then written r p v else v) (if touches p r then written r p u else u)
+stamp_step r p v u e = go (touches p r)
+  where
+    go : (b : Bool) → HasStamp (cond b (written r p v) v) (cond b (written r p u) u)
+    go true = (refl, refl)
+    go false = e
 
 pub page_hit : (g : Opening) (p : ℕ) (r : Entry) (h : List Entry) → touches p r ≡ true → page_at g (r ∷ h) p ≡ written r p (page_at g h p)
 page_hit g p r h e = rw e refl
@@ -96,7 +118,7 @@ pub page_miss : (g : Opening) (p : ℕ) (r : Entry) (h : List Entry) → touches
 page_miss g p r h e = rw e refl
 
 -- a page's number does not fall
-pub gsn_rises : (g : Opening) (F : ℕ) (p : ℕ) (r : Entry) (h : List Entry) → Entered g F r h → (page_at g h p).gsn ≤ (page_at g (r ∷ h) p).gsn
+pub gsn_rises : (g : Opening) (F : ℕ) (p : ℕ) (r : Entry) (h : List Entry) → Recorded g F r h → (page_at g h p).gsn ≤ (page_at g (r ∷ h) p).gsn
 gsn_rises g F p r h n = go (touches p r) refl
   where
     go : (b : Bool) → touches p r ≡ b → (page_at g h p).gsn ≤ (cond b (written r p (page_at g h p)) (page_at g h p)).gsn
@@ -104,7 +126,7 @@ gsn_rises g F p r h n = go (touches p r) refl
     go false e = omega arith
 
 -- each record of a page has a number up to the page's
-pub number_le_gsn : (g : Opening) (F : ℕ) (p : ℕ) (h : List Entry) → IsHistory g F h → (y : Entry) → Has y h → touches p y ≡ true → y.number ≤ (page_at g h p).gsn
+pub number_le_gsn : (g : Opening) (F : ℕ) (p : ℕ) (h : List Entry) → IsRecorded g F h → (y : Entry) → Has y h → touches p y ≡ true → y.number ≤ (page_at g h p).gsn
 number_le_gsn g F p [] hist y i o = absurd i
 number_le_gsn g F p (r ∷ h) hist y (inl e) o =
     let q : touches p r ≡ true = subst (λ (x : Entry). touches p x ≡ true) e o in
@@ -122,12 +144,16 @@ ref_touch r f i = any_is (λ (x : Ref). x.page == f.page) r.refs ∙ has_any (λ
 
 -- ## The history's values
 
-pub history_step : (g : Opening) (r : Entry) (h : List Entry) → nodes (page_at g (r ∷ h)) ≡ moved_on (nodes (page_at g h)) r
-history_step g r h = fun_ext (λ p. go p (touches p r))
+-- what a record makes of contents
+pub nodes_step : (page : ℕ → Contents) (r : Entry) → nodes (λ p. if touches p r then written r p (page p) else page p) ≡ moved_on (nodes page) r
+nodes_step page r = fun_ext (λ p. go p (touches p r))
   where
-    go : (p : ℕ) (b : Bool) → (cond b (written r p (page_at g h p)) (page_at g h p)).node ≡ cond b (applied_as r.kind r p (page_at g h p).node) (page_at g h p).node
+    go : (p : ℕ) (b : Bool) → (cond b (written r p (page p)) (page p)).node ≡ cond b (applied_as r.kind r p (page p).node) (page p).node
     go p true = refl
     go p false = refl
+
+pub history_step : (g : Opening) (r : Entry) (h : List Entry) → nodes (page_at g (r ∷ h)) ≡ moved_on (nodes (page_at g h)) r
+history_step g r h = nodes_step (page_at g h) r
 
 pub history_parted : (g : Opening) (F : ℕ) (h : List Entry) → IsHistory g F h → IsTree g.format (nodes (page_at g h))
 history_parted g F [] hist = g.tree

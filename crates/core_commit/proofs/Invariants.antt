@@ -2,17 +2,18 @@
 use Rattle.std.proofs.Common.{◌≡◌, ℕ, ◌≤◌, ◌<◌, max, Bool, true, false, cond, ◌&&◌, if◌then◌else◌, not, ltb, ◌==◌, List, [], ◌∷◌, ◌⊎◌, Some, refl, sym, ap, ◌∙◌, inl, inr, arith, true≢false}
 use Rattle.std.proofs.lemmas.Bool.{cases_Bool, cases_eq, cases_lt, ne_eqb, and_from, lt-ltb, and_left, cond-true, cond-false, not_from_false}
 use Rattle.map_model.specs.Lists.{upd, Has}
-use Rattle.image_model.specs.Entries.{Entry, touches, is_call, is_write, is_end, is_record, same_txn, Contents, written}
+use Rattle.image_model.specs.Entries.{Entry, touches, is_call, is_write, is_end, is_record, same_txn, written}
 use Rattle.rfa_model.specs.Stamps.{is_remote}
-use Rattle.core_state.specs.States.{Row, Worker, State, flushed_by_all}
+use Rattle.core_state.specs.States.{Row, Worker, State, flushed_by_all, nodes_of}
 use Rattle.core_state.specs.Openings.{Opening}
 use Rattle.core_state.specs.Steps.{claims, touch, end_entry}
 use Rattle.image_model.specs.Entries.Kind.{Commit}
 use Rattle.core_commit.proofs.KindFacts.{claims_call}
 use Rattle.core_commit.proofs.Lists.{Within, le_least, each_map}
-use Rattle.map_model.proofs.ListLemmas.{upd_same, upd_other}
-use Rattle.core_commit.proofs.History.{Covered, PagesCovered, EndOf, Entered, IsHistory, page_at, page_hit, page_miss, number_le_gsn, nodes, history_value, history_on, history_off, not_by, without}
+use Rattle.map_model.proofs.ListLemmas.{upd_same, upd_other, at_upd}
+use Rattle.core_commit.proofs.History.{Covered, PagesCovered, EndOf, Recorded, IsRecorded, Entered, IsHistory, HasStamp, page_at, page_hit, page_miss, number_le_gsn, nodes, history_value, history_on, history_off, not_by, without}
 use Rattle.core_commit.proofs.Nodes.{key_parts, on_key, Fits}
+use Rattle.page_model.specs.Tree.{IsTree}
 
 -- ## Rows
 
@@ -126,7 +127,10 @@ pub record WorkerOk (g : Opening) (F base fl : ℕ) (h : List Entry) (row : ℕ 
   pub changes : a.is_open ≡ true → (c : Entry) → Has c a.changes → (row (g.row_of c.key)).holder ≡ Some w
   -- what a listed change is put back to is a word that a leaf can have
   pub words : a.is_open ≡ true → (c : Entry) → Has c a.changes → c.before ≤ g.format.dead
-  pub undo : a.is_open ≡ true → (k : ℕ) → undone a.changes (values_of g h) k ≡ without g (marker w a) k h
+
+-- the open transaction's changes, put back, leave what the others wrote
+abbrev pub Undoes : Opening → List Entry → ℕ → Worker → Type 0
+Undoes g h w a = a.is_open ≡ true → (k : ℕ) → undone a.changes (values_of g h) k ≡ without g (marker w a) k h
 
 pub pages_more : (w x y : ℕ) (h : List Entry) → x ≤ y → PagesCovered w x h → PagesCovered w y h
 pages_more w x y h l p = each_map _ _ h (λ r b c lg q t z i u. covered_more w x y z l (c lg q t z i u)) p
@@ -152,7 +156,6 @@ worker_same g F F' base flushed h row row' w a l kh o = record {
   used = λ op r i k lg t. let u = o.used op r i k lg t in ((kh (g.row_of r.key)).1 u.0, λ k. (kh (g.row_of r.key)).0 (u.1 k));
   changes = λ op c i. (kh (g.row_of c.key)).0 (o.changes op c i);
   words = o.words;
-  undo = o.undo;
 }
 
 pub undone_at : (cs : List Entry) (m m' : ℕ → ℕ) (k : ℕ) → m k ≡ m' k → undone cs m k ≡ undone cs m' k
@@ -167,8 +170,8 @@ undone_off [] m k n = refl
 undone_off (c ∷ cs) m k n = undone_off cs (upd m c.key c.before) k (λ d i. n d (inr i)) ∙ upd_other m c.key c.before k (λ e. n c (inl refl) (sym e))
 
 -- an entry of another worker comes
-pub worker_more : (g : Opening) (F base flushed : ℕ) (h : List Entry) (row : ℕ → Row) (w : ℕ) (a : Worker) (x : Entry) → IsHistory g F h → Fits g.format (nodes (page_at g h)) x → (x.log ≡ w → ⊥) → (is_write x.kind ≡ true → (row (g.row_of x.key)).holder ≡ Some x.log) → WorkerOk g F base flushed h row w a → WorkerOk g F base flushed (x ∷ h) row w a
-worker_more g F base flushed h row w a x hist fit ne hx o = record {
+pub worker_more : (g : Opening) (F base flushed : ℕ) (h : List Entry) (row : ℕ → Row) (w : ℕ) (a : Worker) (x : Entry) → (x.log ≡ w → ⊥) → WorkerOk g F base flushed h row w a → WorkerOk g F base flushed (x ∷ h) row w a
+worker_more g F base flushed h row w a x ne o = record {
   floor = o.floor;
   debt = o.debt;
   end = o.end;
@@ -184,24 +187,28 @@ worker_more g F base flushed h row w a x hist fit ne hx o = record {
   used = λ op r i k l t. o.used op r (old r i l) k l t;
   changes = o.changes;
   words = o.words;
-  undo = λ op k. go op k (cases_Bool (on_key k x));
 }
   where
     old : (r : Entry) → Has r (x ∷ h) → r.log ≡ w → Has r h
     old r (inl e) l = absurd (ne (ap (λ (y : Entry). y.log) (sym e) ∙ l))
     old r (inr i) l = i
 
+-- where this one holds the rows of its changes, and the other the row of its write
+pub undo_more : (g : Opening) (F : ℕ) (h : List Entry) (row : ℕ → Row) (w : ℕ) (a : Worker) (x : Entry) → IsHistory g F h → Fits g.format (nodes (page_at g h)) x → (x.log ≡ w → ⊥) → (is_write x.kind ≡ true → (row (g.row_of x.key)).holder ≡ Some x.log) →
+    (a.is_open ≡ true → (c : Entry) → Has c a.changes → (row (g.row_of c.key)).holder ≡ Some w) → Undoes g h w a → Undoes g (x ∷ h) w a
+undo_more g F h row w a x hist fit ne hx held undo op k = go (cases_Bool (on_key k x))
+  where
     not_same : same_txn x (marker w a) ≡ false
     not_same = and_left (x.log == w) (x.txn == a.txn) (ne_eqb x.log w ne)
 
-    go : a.is_open ≡ true → (k : ℕ) → (on_key k x ≡ true) ⊎ (on_key k x ≡ false) → undone a.changes (values_of g (x ∷ h)) k ≡ without g (marker w a) k (x ∷ h)
-    go op k (inl q) =
+    go : (on_key k x ≡ true) ⊎ (on_key k x ≡ false) → undone a.changes (values_of g (x ∷ h)) k ≡ without g (marker w a) k (x ∷ h)
+    go (inl q) =
         let kx = key_parts k x q in
-        undone_off a.changes (values_of g (x ∷ h)) k (λ c i e. ne (some_same x.log w (sym (hx kx.0) ∙ (ap (λ (j : ℕ). (row (g.row_of j)).holder) (kx.1 ∙ sym e) ∙ o.changes op c i))))
+        undone_off a.changes (values_of g (x ∷ h)) k (λ c i e. ne (some_same x.log w (sym (hx kx.0) ∙ (ap (λ (j : ℕ). (row (g.row_of j)).holder) (kx.1 ∙ sym e) ∙ held op c i))))
         ∙ (history_on g F k x h hist fit q ∙ sym (cond-true (not_by (marker w a) k x h) x.after (without g (marker w a) k h) (and_from (on_key k x) (not (same_txn x (marker w a))) q (not_from_false (same_txn x (marker w a)) not_same))))
-    go op k (inr q) =
+    go (inr q) =
         undone_at a.changes (values_of g (x ∷ h)) (values_of g h) k (history_off g F k x h hist fit q)
-        ∙ (o.undo op k ∙ sym (cond-false (not_by (marker w a) k x h) x.after (without g (marker w a) k h) (and_left (on_key k x) (not (same_txn x (marker w a))) q)))
+        ∙ (undo op k ∙ sym (cond-false (not_by (marker w a) k x h) x.after (without g (marker w a) k h) (and_left (on_key k x) (not (same_txn x (marker w a))) q)))
 
 -- ## States
 
@@ -225,12 +232,25 @@ cuts_more g F floor cut head flushed h x n o = record { base = o.base; low = o.l
     ripe r (inl e) k l = let lt = n (ap (λ (z : Entry). is_record z.kind) (sym e) ∙ k) in let q = ap (λ (z : Entry). z.number) e in absurd (omega arith)
     ripe r (inr i) k l = let q = o.ripe r i k l in (end_more h r x q.0, q.1, q.2)
 
-pub record Inv (g : Opening) (s : State) : Type 0 where
-  pub cuts : CutsOk g (flushed_by_all g s) s.floor s.cut s.head s.flushed s.entries
+-- what pages contain is what the entries make of the start's pages
+pub record IsTold (g : Opening) (s : State) : Type 0 where
   pub history : IsHistory g (flushed_by_all g s) s.entries
   pub pages : (p : ℕ) → s.page p ≡ page_at g s.entries p
+  pub undo : (w : ℕ) → Undoes g s.entries w (s.worker w)
+
+-- all but `told` lasts without it
+pub record Inv (g : Opening) (s : State) : Type 0 where
+  pub cuts : CutsOk g (flushed_by_all g s) s.floor s.cut s.head s.flushed s.entries
+  pub records : IsRecorded g (flushed_by_all g s) s.entries
+  pub stamps : (p : ℕ) → HasStamp (s.page p) (page_at g s.entries p)
+  pub tree : IsTree g.format (nodes_of s)
   pub rows : (i : ℕ) → RowOk g (bound g s) (tops s) s.entries i (s.row i)
   pub workers : (w : ℕ) → WorkerOk g (flushed_by_all g s) s.floor (s.flushed w) s.entries s.row w (s.worker w)
+  pub told : IsTold g s
+
+-- one worker's part changes
+pub undo_at : (g : Opening) (h : List Entry) (worker : ℕ → Worker) (w : ℕ) (a : Worker) → ((j : ℕ) → Undoes g h j (worker j)) → Undoes g h w a → (j : ℕ) → Undoes g h j (upd worker w a j)
+undo_at g h worker w a undo own j = at_upd (λ j b. Undoes g h j b) worker w a j own (λ _. undo j)
 
 -- ## Touches
 
@@ -259,7 +279,7 @@ pub base_flushed : (g : Opening) (s : State) → Inv g s → g.base ≤ flushed_
 base_flushed g s i = le_least s.flushed g.workers g.base g.some_worker (λ w l. let a = (i.workers w).based l in let b = i.cuts.base in omega arith)
 
 -- a page without a last log is as at the start
-pub page_log : (g : Opening) (F p : ℕ) (h : List Entry) → IsHistory g F h → (page_at g h p).last ≡ 0 → (page_at g h p).gsn ≤ g.base
+pub page_log : (g : Opening) (F p : ℕ) (h : List Entry) → IsRecorded g F h → (page_at g h p).last ≡ 0 → (page_at g h p).gsn ≤ g.base
 page_log g F p [] hist e = g.low p
 page_log g F p (r ∷ h) hist e = go (page_log g F p h hist.1) (touches p r) e
   where
@@ -270,11 +290,11 @@ page_log g F p (r ∷ h) hist e = go (page_log g F p h hist.1) (touches p r) e
 pub stamp_flushed : (g : Opening) (s : State) → Inv g s → (p : ℕ) → (s.page p).last ≡ 0 → (s.page p).gsn ≤ flushed_by_all g s
 stamp_flushed g s i p z =
     let b = base_flushed g s i in
-    let q = page_log g (flushed_by_all g s) p s.entries i.history (sym (ap (λ (v : Contents). v.last) (i.pages p)) ∙ z) in
-    let e = ap (λ (v : Contents). v.gsn) (i.pages p) in omega arith
+    let q = page_log g (flushed_by_all g s) p s.entries i.records (sym (i.stamps p).1 ∙ z) in
+    let e = (i.stamps p).0 in omega arith
 
 -- what a page's stamp covers
-pub page_covers : (g : Opening) (F w x p : ℕ) (h : List Entry) → IsHistory g F h → PagesCovered w x h → ((page_at g h p).last ≡ w) ⊎ ((page_at g h p).gsn ≤ x) → (y : Entry) → Has y h → touches p y ≡ true → Covered w x y
+pub page_covers : (g : Opening) (F w x p : ℕ) (h : List Entry) → IsRecorded g F h → PagesCovered w x h → ((page_at g h p).last ≡ w) ⊎ ((page_at g h p).gsn ≤ x) → (y : Entry) → Has y h → touches p y ≡ true → Covered w x y
 page_covers g F w x p [] hist pc s y i o = absurd i
 page_covers g F w x p (r ∷ h) hist pc s y i o = go (page_covers g F w x p h hist.1 pc.1) (cases_Bool (touches p r)) s i
   where
@@ -287,20 +307,17 @@ page_covers g F w x p (r ∷ h) hist pc s y i o = go (page_covers g F w x p h hi
     go ih (inr q) s (inr i) = ih (rw (page_miss g p r h q) at s) y i o
 
 -- F grows
-pub history_same : (g : Opening) (F F' : ℕ) (h : List Entry) → F ≤ F' → IsHistory g F h → IsHistory g F' h
-history_same g F F' h l p = each_map (Entered g F) (Entered g F') h (λ r b n. record {
+pub recorded_same : (g : Opening) (F F' : ℕ) (r : Entry) (b : List Entry) → F ≤ F' → Recorded g F r b → Recorded g F' r b
+recorded_same g F F' r b l n = record {
   log = n.log;
   later = n.later;
   logged = n.logged;
   prev = n.prev;
   rises = n.rises;
-  fits = n.fits;
   still_open = n.still_open;
   purged = λ c k i y j w e. (let d = n.purged c k i y j w e in (d.0, let q = d.1 in omega arith));
   locked = n.locked;
-  aborts = n.aborts;
   guarded = n.guarded;
-  answers = n.answers;
   closes = λ k. let c = n.closes k in record {
     pages = pages_more r.log (max r.need F) (max r.need F') b (omega arith) c.pages;
     rows = λ z i s cz y iy ky q. elim (c.rows z i s cz y iy ky q) [ inl e ↦ inl e | inr e ↦ inr (e.0, covered_more r.log (max r.need F) (max r.need F') e.0.end (omega arith) e.1, e.2) ];
@@ -308,4 +325,10 @@ history_same g F F' h l p = each_map (Entered g F) (Entered g F') h (λ r b n. r
     ends = λ d i k q. let m = c.ends d i k q in omega arith;
     need = c.need;
   };
-}) p
+}
+
+pub records_same : (g : Opening) (F F' : ℕ) (h : List Entry) → F ≤ F' → IsRecorded g F h → IsRecorded g F' h
+records_same g F F' h l p = each_map (Recorded g F) (Recorded g F') h (λ r b n. recorded_same g F F' r b l n) p
+
+pub history_same : (g : Opening) (F F' : ℕ) (h : List Entry) → F ≤ F' → IsHistory g F h → IsHistory g F' h
+history_same g F F' h l p = each_map (Entered g F) (Entered g F') h (λ r b n. record { recorded = recorded_same g F F' r b l n.recorded; fits = n.fits; answers = n.answers; aborts = n.aborts }) p

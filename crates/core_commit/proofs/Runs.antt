@@ -2,6 +2,7 @@
 use Rattle.page_model.specs.Pairs.{Rising}
 use Rattle.page_model.specs.Records.{Record}
 use Rattle.page_model.specs.Nodes.{holds}
+use Rattle.page_model.specs.Tree.{IsTree}
 use Rattle.page_model.specs.Needs as record_needs
 use Rattle.map_model.specs.Lists.{upd}
 use Rattle.map_model.specs.Maps.{MapAnswer}
@@ -13,12 +14,13 @@ use Rattle.core_state.specs.Events.{Event}
 use Rattle.core_state.specs.Needs.{are_hot, pages_of, is_dirty, is_empty_frame, has_hot_parent, holds_answer, holds_row, is_following, is_inside, is_leaf_of, following, is_value, value_in, may_read, may, needs}
 use Rattle.core_state.specs.Steps.{at_pages, page_entry, write_entry, moves, put_back, follows, happens, step, run}
 use Rattle.core_commit.proofs.Invariants.{Inv}
-use Rattle.core_commit.proofs.Events.{tree_now, inv_change, inv_put_back, inv_split, inv_lift, inv_join, inv_drop, inv_purge, inv_reads, inv_end}
+use Rattle.core_commit.proofs.Events.{inv_change, inv_put_back, inv_split, inv_lift, inv_join, inv_drop, inv_purge, inv_reads, inv_end}
 use Rattle.core_commit.proofs.Controls.{inv_begin, inv_lock_event, inv_unlock, inv_flush, inv_sync, inv_cut, inv_looks, inv_start}
 use Rattle.core_commit.proofs.Nexts.{following_is, following_at, follows_in}
 use Rattle.core_commit.proofs.Copies.{Copied, loaded, copied_records, copied_place, copied_load, copied_save, copied_evict, copied_leave, copied_start, above_pages}
 use Rattle.std.proofs.Common.{◌≡◌, ◌<◌, ◌≤◌, ℕ, suc, Bool, true, false, cond, ◌&&◌, not, leb, ltb, ◌==◌, List, [], ◌∷◌, Option, Some, None, length, refl, sym, ap, ◌∙◌, subst, arith, true≢false}
 use Rattle.std.proofs.lemmas.Bool.{and_parts, and_from, ltb-true, ltb-false, not-true}
+use mathlib.Core.Path.{fun_ext}
 
 -- ## The pair that follows
 
@@ -37,7 +39,7 @@ may_read_next g s i w p k at word m =
     (and_from (ltb p g.format.pages) (holds v at) m4.0 (follows_in v k at word r m4.1 f.found)))
   where
     rising : (g : Opening) (s : State) → Inv g s → (p : ℕ) → p < g.format.pages → (k : ℕ) → holds (s.page p).node k ≡ true → Rising (s.page p).node.low (s.page p).node.pairs (s.page p).node.high
-    rising g s i p l k h = (((tree_now g s i).formed p l).node (Rattle.page_model.proofs.Entries.holds_to (s.page p).node k h).lies.live).rising
+    rising g s i p l k h = ((i.tree.formed p l).node (Rattle.page_model.proofs.Entries.holds_to (s.page p).node k h).lies.live).rising
 
 inv_next : (g : Opening) (s : State) → Inv g s → (w p k : ℕ) (a : MapAnswer) → needs g s (Event.Next w p k a) ≡ true → Inv g (happens g s (Event.Next w p k a))
 inv_next g s i w p k (MapAnswer.Pair at word) m = inv_reads g s i w p at (may_read_next g s i w p k at word m)
@@ -50,10 +52,26 @@ inv_next g s i w p k (MapAnswer.Was v) m = i
 -- what moves pages changes nothing else
 inv_moved : (g : Opening) (s : State) → Inv g s → (saved : ℕ → Contents) (place : ℕ → Place) (queue : List ℕ) (posted : ℕ) (inside : ℕ → Option ℕ) (epoch : ℕ) →
     Inv g (record s { saved = saved; place = place; queue = queue; posted = posted; inside = inside; epoch = epoch })
-inv_moved g s v saved place queue posted inside epoch = record { cuts = v.cuts; history = v.history; pages = v.pages; rows = v.rows; workers = v.workers }
+inv_moved g s v saved place queue posted inside epoch = record {
+  cuts = v.cuts;
+  records = v.records;
+  stamps = v.stamps;
+  tree = v.tree;
+  rows = v.rows;
+  workers = v.workers;
+  told = let t = v.told in record { history = t.history; pages = t.pages; undo = t.undo };
+}
 
 inv_load : (g : Opening) (s : State) → Inv g s → (p f : ℕ) → ((q : ℕ) → upd s.page p (s.saved p) q ≡ s.page q) → Inv g (happens g s (Event.Load p f))
-inv_load g s v p f same = record { cuts = v.cuts; history = v.history; pages = λ q. same q ∙ v.pages q; rows = v.rows; workers = v.workers }
+inv_load g s v p f same = record {
+  cuts = v.cuts;
+  records = v.records;
+  stamps = λ q. let k = v.stamps q in (ap (λ (c : Contents). c.gsn) (same q) ∙ k.0, ap (λ (c : Contents). c.last) (same q) ∙ k.1);
+  tree = subst (IsTree g.format) (sym (fun_ext (λ q. ap (λ (c : Contents). c.node) (same q)))) v.tree;
+  rows = v.rows;
+  workers = v.workers;
+  told = let t = v.told in record { history = t.history; pages = λ q. same q ∙ t.pages q; undo = t.undo };
+}
 
 pub load_cold : (g : Opening) (s : State) (p f : ℕ) → needs g s (Event.Load p f) ≡ true → is_cold (s.place p) ≡ true
 load_cold g s p f m =

@@ -16,7 +16,7 @@ use Rattle.page_model.specs.Tree.{IsTree}
 use Rattle.core_state.specs.Openings.{Opening, first}
 use Rattle.core_commit.proofs.Lists.{has_before, before_has, each_at, le_least}
 use Rattle.map_model.proofs.ListLemmas.{any_has, has_any, keep_has, has_keep, order_has}
-use Rattle.core_commit.proofs.History.{EndOf, SameTxn, same_to, Entered, IsHistory, nodes}
+use Rattle.core_commit.proofs.History.{EndOf, SameTxn, same_to, Recorded, IsRecorded, IsHistory, records_of, nodes}
 use Rattle.core_crash.proofs.Ends.{Cut, is_ended, ended_from, behind_end, one_end}
 use Rattle.core_crash.proofs.Redo.{CountsAre, counts_are, entry_left, Had, Placed, placed_before, redo_passes, redoes, virtual, virtual_parted, redone, redone_found, redone_lost, at_prev_no, redo_stays, counts_here, counts_else}
 use Rattle.core_crash.proofs.Undo.{redo_sorted, tested_sorted, tested_done, stands_local, redo_local, redo_off, undo_keep_found, undo_keep_lost, recovered_unsorted}
@@ -84,7 +84,7 @@ module _ (g : Opening) (F R : ℕ) (up_to head : ℕ → ℕ) (snap : ℕ → Co
   IsSame h = ((p : ℕ) → (redo snap (keep (there head up_to) h)).page p ≡ (redone up_to snap h).page p)
       × ((k l : ℕ) → ((r : Entry) → Has r h → is_cut head r ≡ true → is_record r.kind ≡ true → r.log ≡ k → r.number ≡ l → ⊥) → (redo snap (keep (there head up_to) h)).counts k l ≡ (redone up_to snap h).counts k l)
 
-  pub redo_cut : (h : List Entry) → IsHistory g F h → ((y : Entry) → Has y h → is_record y.kind ≡ true → y.number ≤ R → found up_to y ≡ true) → Placed g snap h →
+  pub redo_cut : (h : List Entry) → IsRecorded g F h → ((y : Entry) → Has y h → is_record y.kind ≡ true → y.number ≤ R → found up_to y ≡ true) → Placed g snap h →
       ((r : Entry) → Has r h → is_cut head r ≡ true → (p : ℕ) → touches p r ≡ true → r.number ≤ (snap p).gsn) →
       ((p : ℕ) → (redo snap (keep (there head up_to) h)).page p ≡ (redone up_to snap h).page p)
       × ((k l : ℕ) → ((r : Entry) → Has r h → is_cut head r ≡ true → is_record r.kind ≡ true → r.log ≡ k → r.number ≡ l → ⊥) → (redo snap (keep (there head up_to) h)).counts k l ≡ (redone up_to snap h).counts k l)
@@ -152,8 +152,8 @@ module _ (g : Opening) (F floor R : ℕ) (up_to head : ℕ → ℕ) (all : List 
   end_stays r ir kr cr e ie ke s = false_from_ne_true (is_cut head e) (λ ce.
       let pr = has_before r all ir in
       let pe = has_before e all ie in
-      let q = behind_end g F all c.history e pe.0 pe.1 ke r pr.0 pr.1 kr s in
-      let lt = (each_at (Entered g F) all e pe.0 c.history pe.1).later (end_is_record e.kind ke) r (before_has r pr.0 pe.0 q) (sym s.0) in
+      let q = behind_end g F all c.records e pe.0 pe.1 ke r pr.0 pr.1 kr s in
+      let lt = (each_at (Recorded g F) all e pe.0 c.records pe.1).later (end_is_record e.kind ke) r (before_has r pr.0 pe.0 q) (sym s.0) in
       let le = leb-true e.number (head e.log) ce in
       let le2 : e.number ≤ head r.log = subst (λ (l : ℕ). e.number ≤ head l) s.0 le in
       true≢false (sym (le-leb r.number (head r.log) (omega arith)) ∙ cr))
@@ -215,12 +215,12 @@ module _ (g : Opening) (F floor R : ℕ) (up_to head : ℕ → ℕ) (all : List 
 
   pub map_cut : (k : ℕ) → recovered g floor snap (keep (there head up_to) all) k ≡ recovered g floor snap (keep (found up_to) all) k
   map_cut k =
-      recovered_unsorted g F floor (there head up_to) all snap c.history k
+      recovered_unsorted g F floor (there head up_to) all snap c.records k
       ∙ (ap (λ (i : ℕ). undo (λ r. is_write r.kind && (d'.counts r.log r.number && not (ended i (keep (there head up_to) all) r))) (keep (there head up_to) all) (values g.format d') k) reach_same
       ∙ (ap (λ (m : ℕ → ℕ). m k) (undo_cut d d' dc all (λ r i. i) (values g.format d'))
       ∙ (ap (λ (m : ℕ → ℕ). undo (λ r. is_write r.kind && (d.counts r.log r.number && not (is_ended R up_to all r))) (keep (found up_to) all) m k) vals
       ∙ (ap (λ (i : ℕ). undo (λ r. is_write r.kind && (d.counts r.log r.number && not (ended i (keep (found up_to) all) r))) (keep (found up_to) all) (values g.format d) k) is_R
-      ∙ sym (recovered_unsorted g F floor (found up_to) all snap c.history k)))))
+      ∙ sym (recovered_unsorted g F floor (found up_to) all snap c.records k)))))
     where
       d : Redone
       d = redo snap (keep (found up_to) all)
@@ -229,7 +229,7 @@ module _ (g : Opening) (F floor R : ℕ) (up_to head : ℕ → ℕ) (all : List 
       d' = redo snap (keep (there head up_to) all)
 
       rc : ((p : ℕ) → d'.page p ≡ d.page p) × ((k l : ℕ) → ((r : Entry) → Has r all → is_cut head r ≡ true → is_record r.kind ≡ true → r.log ≡ k → r.number ≡ l → ⊥) → d'.counts k l ≡ d.counts k l)
-      rc = redo_cut g F R up_to head snap low_R all c.history c.all (λ p. inl (had p)) co.pages
+      rc = redo_cut g F R up_to head snap low_R all c.records c.all (λ p. inl (had p)) co.pages
 
       dc : (r : Entry) → Has r all → is_record r.kind ≡ true → is_cut head r ≡ false → d'.counts r.log r.number ≡ d.counts r.log r.number
       dc r ir kr x = rc.1 r.log r.number (λ y iy cy ky l n. true≢false (sym cy ∙ (unique y r iy ir ky kr l n ∙ x)))
@@ -262,7 +262,7 @@ module _ (g : Opening) (F floor R : ℕ) (up_to head : ℕ → ℕ) (all : List 
 
           there_to : (leb t.end.number floor || wins R (keep (there head up_to) all) t) ≡ true → wins R (keep (found up_to) all) t ≡ true
           there_to h = elim (or_cases (leb t.end.number floor) (wins R (keep (there head up_to) all) t) h) [
-            | inl l ↦ (let n = leb-true t.end.number floor l in let fl = floor_R in let nd = ((each_at (Entered g F) all t.end st.behind c.history st.place).closes ke).need in
+            | inl l ↦ (let n = leb-true t.end.number floor l in let fl = floor_R in let nd = ((each_at (Recorded g F) all t.end st.behind c.records st.place).closes ke).need in
                 won g F R up_to all c t ia st.commit ∙ ended_from R up_to all t.end t.end ia ke (refl, refl) (c.all t.end ia (end_is_record t.end.kind ke) (omega arith)) (omega arith))
             | inr w ↦ (let a = any_has test (keep (there head up_to) all) w in let k = keep_has (there head up_to) all a.0 a.1 in
                 has_any test (keep (found up_to) all) a.0 (has_keep (found up_to) all a.0 k.0 (and_parts (found up_to a.0) (not (is_cut head a.0)) k.1).0) a.2)
@@ -273,7 +273,7 @@ module _ (g : Opening) (F floor R : ℕ) (up_to head : ℕ → ℕ) (all : List 
             | inl x ↦ or_left (leb t.end.number floor) (wins R (keep (there head up_to) all) t) (le-leb t.end.number floor (co.low t.end ia x))
             | inr x ↦ (let a = any_has test (keep (found up_to) all) w in let k = keep_has (found up_to) all a.0 a.1 in
                 let p = and_parts (is_commit a.0.kind) (same_txn a.0 t.end && leb a.0.need R) a.2 in
-                let e = one_end g F all c.history a.0 t.end k.0 ia (commit_is_end a.0.kind p.0) ke (same_to a.0 t.end (and_parts (same_txn a.0 t.end) (leb a.0.need R) p.1).0) in
+                let e = one_end g F all c.records a.0 t.end k.0 ia (commit_is_end a.0.kind p.0) ke (same_to a.0 t.end (and_parts (same_txn a.0 t.end) (leb a.0.need R) p.1).0) in
                 or_right (leb t.end.number floor) (wins R (keep (there head up_to) all) t) (has_any test (keep (there head up_to) all) a.0 (has_keep (there head up_to) all a.0 k.0 (and_from (found up_to a.0) (not (is_cut head a.0)) k.1 (not_from_false (is_cut head a.0) (ap (is_cut head) e ∙ x)))) a.2))
           ]
 
@@ -281,31 +281,31 @@ module _ (g : Opening) (F floor R : ℕ) (up_to head : ℕ → ℕ) (all : List 
   tests : (h : List Entry) → IsHistory g F h → ((y : Entry) → Has y h → is_record y.kind ≡ true → y.number ≤ R → found up_to y ≡ true) → Placed g snap h → ((r : Entry) → Has r h → is_cut head r ≡ true → (p : ℕ) → touches p r ≡ true → r.number ≤ (snap p).gsn) →
       (tested g.format snap (keep (there head up_to) h)).sound ≡ true
   tests [] hist a pl pg = refl
-  tests (r ∷ h) hist a pl pg = go (tests h hist.1 (λ y i. a y (inr i)) (placed_before g F snap r h hist.0 pl) (λ y i. pg y (inr i))) (cases_Bool (there head up_to r))
+  tests (r ∷ h) hist a pl pg = go (tests h hist.1 (λ y i. a y (inr i)) (placed_before g F snap r h hist.0.recorded pl) (λ y i. pg y (inr i))) (cases_Bool (there head up_to r))
     where
       go : (tested g.format snap (keep (there head up_to) h)).sound ≡ true → (there head up_to r ≡ true) ⊎ (there head up_to r ≡ false) → (tested g.format snap (keep (there head up_to) (r ∷ h))).sound ≡ true
       go ih (inr e) = ap (λ (z : List Entry). (tested g.format snap z).sound) (keep_off (there head up_to) r h e) ∙ ih
       go ih (inl e) =
           let f = (and_parts (found up_to r) (not (is_cut head r)) e).0 in
-          let same = fun_ext (redo_cut g F R up_to head snap low_R h hist.1 (λ y i. a y (inr i)) (placed_before g F snap r h hist.0 pl) (λ y i. pg y (inr i))).0 in
+          let same = fun_ext (redo_cut g F R up_to head snap low_R h (records_of g F h hist.1) (λ y i. a y (inr i)) (placed_before g F snap r h hist.0.recorded pl) (λ y i. pg y (inr i))).0 in
           ap (λ (z : List Entry). (tested g.format snap z).sound) (keep_on (there head up_to) r h e)
           ∙ and_from (tested g.format snap (keep (there head up_to) h)).sound (passes g.format (tested g.format snap (keep (there head up_to) h)).done.page r) ih
           (ap (λ (d : Redone). passes g.format d.page r) (tested_done g snap (keep (there head up_to) h)) ∙ (ap (λ (d : ℕ → Contents). passes g.format d r) same ∙ redo_passes g F R up_to snap low_R r h hist a pl f))
 
-  pub stands_for : Stands g all floor (keep (there head up_to) all) snap
-  stands_for = record {
-    map = λ k. map_cut k ∙ (kept_map g F floor up_to all snap (subst (λ (i : ℕ). Cut g F i up_to all) is_R c) lowF had k
+  pub stands_for : IsHistory g F all → Stands g all floor (keep (there head up_to) all) snap
+  stands_for hist = record {
+    map = λ k. map_cut k ∙ (kept_map g F floor up_to all snap (subst (λ (i : ℕ). Cut g F i up_to all) is_R c) hist lowF had k
         ∙ ap (λ (l : List Done). after (first g) l k) (ap (λ (i : ℕ). keep (wins i (keep (found up_to) all)) (journal all)) (sym is_R) ∙ sym kept_same));
     closed = subst (IsClosed (journal all)) (sym kept_same) (closed g F R up_to all c);
-    tree = subst (IsTree g.format) (sym pages) (virtual_parted g F up_to all c.history);
+    tree = subst (IsTree g.format) (sym pages) (virtual_parted g F up_to all hist);
     entries = entries;
-    sound = ap (λ (t : Tested). t.sound) (tested_sorted g F (there head up_to) snap all c.history) ∙ tests all c.history c.all (λ p. inl (had p)) co.pages;
+    sound = ap (λ (t : Tested). t.sound) (tested_sorted g F (there head up_to) snap all c.records) ∙ tests all hist c.all (λ p. inl (had p)) co.pages;
   }
     where
       pages : (λ (p : ℕ). ((redo snap (in_order earlier (keep (there head up_to) all))).page p).node) ≡ nodes (virtual g up_to all)
-      pages = ap (λ (d : Redone). nodes d.page) (redo_sorted g F (there head up_to) snap all c.history)
-          ∙ (ap nodes (fun_ext (redo_cut g F R up_to head snap low_R all c.history c.all (λ p. inl (had p)) co.pages).0)
-          ∙ ap nodes (fun_ext (λ p. (redoes g F R up_to snap low_R all c.history c.all (λ q. inl (had q)) p).0 (had p))))
+      pages = ap (λ (d : Redone). nodes d.page) (redo_sorted g F (there head up_to) snap all c.records)
+          ∙ (ap nodes (fun_ext (redo_cut g F R up_to head snap low_R all c.records c.all (λ p. inl (had p)) co.pages).0)
+          ∙ ap nodes (fun_ext (λ p. (redoes g F R up_to snap low_R all c.records c.all (λ q. inl (had q)) p).0 (had p))))
 
       z : List Entry
       z = keep (there head up_to) all
@@ -319,19 +319,19 @@ module _ (g : Opening) (F floor R : ℕ) (up_to head : ℕ → ℕ) (all : List 
           let k = keep_has (there head up_to) all r i in
           let t = and_parts (found up_to r) (not (is_cut head r)) k.1 in
           let nc = uncut (is_cut head r) t.1 in
-          let p = and_parts (is_write r.kind) ((redo snap z).counts r.log r.number && not (ended (reach g.workers floor z) z r)) (subst (λ (D : Redone). is_lost g.workers floor z D r ≡ true) (redo_sorted g F (there head up_to) snap all c.history) l) in
+          let p = and_parts (is_write r.kind) ((redo snap z).counts r.log r.number && not (ended (reach g.workers floor z) z r)) (subst (λ (D : Redone). is_lost g.workers floor z D r ≡ true) (redo_sorted g F (there head up_to) snap all c.records) l) in
           let q = and_parts ((redo snap z).counts r.log r.number) (not (ended (reach g.workers floor z) z r)) p.1 in
           let b = has_before r all k.0 in
           let kr = (and_parts (is_record r.kind) (leb r.number (up_to r.log)) t.0).0 in
-          let rc = (redo_cut g F R up_to head snap low_R all c.history c.all (λ p. inl (had p)) co.pages).1 r.log r.number (λ y iy cy ky lg n. true≢false (sym cy ∙ (unique y r iy k.0 ky kr lg n ∙ nc))) in
-          let ca = each_at (CountsAre up_to (redone up_to snap all).counts) all r b.0 (counts_are g F R up_to snap low_R all c.history c.all (λ p. inl (had p))) b.1 t.0 in
-          entry_left g F up_to all c.history r b.0 b.1 p.0 (sym ca ∙ (sym rc ∙ q.0)) (never r k.0 p.0 nc q.1) (ap (λ (n : ℕ → Node). page_tree.entry g.format.pages n r.key) (sym pages) ∙ e)
+          let rc = (redo_cut g F R up_to head snap low_R all c.records c.all (λ p. inl (had p)) co.pages).1 r.log r.number (λ y iy cy ky lg n. true≢false (sym cy ∙ (unique y r iy k.0 ky kr lg n ∙ nc))) in
+          let ca = each_at (CountsAre up_to (redone up_to snap all).counts) all r b.0 (counts_are g F R up_to snap low_R all c.records c.all (λ p. inl (had p))) b.1 t.0 in
+          entry_left g F up_to all hist r b.0 b.1 p.0 (sym ca ∙ (sym rc ∙ q.0)) (never r k.0 p.0 nc q.1) (ap (λ (n : ℕ → Node). page_tree.entry g.format.pages n r.key) (sym pages) ∙ e)
         where
           never : (r : Entry) → Has r all → is_write r.kind ≡ true → is_cut head r ≡ false → not (ended (reach g.workers floor z) z r) ≡ true → (d : EndOf all r) → d.end.number ≤ F → ⊥
           never r i w nc n d le =
               let far = c.far in
               let pd = has_before d.end all d.stands in
-              let need = ((each_at (Entered g F) all d.end pd.0 c.history pd.1).closes d.is_end).need in
+              let need = ((each_at (Recorded g F) all d.end pd.0 c.records pd.1).closes d.is_end).need in
               let is = ended_from R up_to all r d.end d.stands d.is_end d.same (c.all d.end d.stands (end_is_record d.end.kind d.is_end) (omega arith)) (omega arith) in
               true≢false (sym n ∙ ap not (ap (λ (i : ℕ). ended i z r) reach_same ∙ (ended_stays r i (write_is_no_end r.kind w) nc ∙ is)))
 

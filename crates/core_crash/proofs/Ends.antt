@@ -12,11 +12,11 @@ use Rattle.core_commit.proofs.KindFacts.{write_claims, end_is_record, write_is_r
 use Rattle.image_model.specs.Ends.{greatest, reach, ends, ended}
 use Rattle.core_commit.proofs.Lists.{Within, Before, has_before, before_has, behind_has, least_le, le_least, each_at}
 use Rattle.map_model.proofs.ListLemmas.{any_has, has_any, keep_has, has_keep, all_of}
-use Rattle.core_commit.proofs.History.{SameTxn, same_from, same_to, Covered, EndOf, Closes, Entered, IsHistory, compare, PagesCovered, page_at, page_hit, page_miss, ref_touch, each_behind}
+use Rattle.core_commit.proofs.History.{SameTxn, same_from, same_to, Covered, EndOf, Closes, Recorded, IsRecorded, compare, PagesCovered, page_at, page_hit, page_miss, ref_touch, each_behind}
 
 -- What is known of a crash: F and the reach R, and that all records up to the reach are there.
 pub record Cut (g : Opening) (F R : ℕ) (up_to : ℕ → ℕ) (h : List Entry) : Type 0 where
-  pub history : IsHistory g F h
+  pub records : IsRecorded g F h
   pub far : F ≤ R
   pub all : (r : Entry) → Has r h → is_record r.kind ≡ true → r.number ≤ R → found up_to r ≡ true
 
@@ -54,28 +54,28 @@ pub found_to : (up_to : ℕ → ℕ) (r : Entry) → found up_to r ≡ true → 
 found_to up_to r h = leb-true r.number (up_to r.log) (and_parts (is_record r.kind) (leb r.number (up_to r.log)) h).1
 
 -- an entry that is no end stands behind the end of its transaction
-pub behind_end : (g : Opening) (F : ℕ) (h : List Entry) → IsHistory g F h → (e : Entry) (be : List Entry) → Before e be h → is_end e.kind ≡ true →
+pub behind_end : (g : Opening) (F : ℕ) (h : List Entry) → IsRecorded g F h → (e : Entry) (be : List Entry) → Before e be h → is_end e.kind ≡ true →
     (r : Entry) (b : List Entry) → Before r b h → is_end r.kind ≡ false → SameTxn e r → Before r b be
 behind_end g F h hist e be pe ke r b pr kr s = go (compare h e be r b pe pr)
   where
     go : ((e ≡ r) × (be ≡ b)) ⊎ (Before e be b ⊎ Before r b be) → Before r b be
     go (inl q) = absurd (true≢false (sym ke ∙ (ap (λ (x : Entry). is_end x.kind) q.0 ∙ kr)))
-    go (inr (inl q)) = absurd ((each_at (Entered g F) h r b hist pr).still_open e (before_has e be b q) ke s)
+    go (inr (inl q)) = absurd ((each_at (Recorded g F) h r b hist pr).still_open e (before_has e be b q) ke s)
     go (inr (inr q)) = q
 
 -- a transaction ends once
-pub one_end : (g : Opening) (F : ℕ) (h : List Entry) → IsHistory g F h → (d e : Entry) → Has d h → Has e h → is_end d.kind ≡ true → is_end e.kind ≡ true → SameTxn d e → d ≡ e
+pub one_end : (g : Opening) (F : ℕ) (h : List Entry) → IsRecorded g F h → (d e : Entry) → Has d h → Has e h → is_end d.kind ≡ true → is_end e.kind ≡ true → SameTxn d e → d ≡ e
 one_end g F h hist d e id ie kd ke s =
     let pd = has_before d h id in
     let pe = has_before e h ie in
     elim (compare h d pd.0 e pe.0 pd.1 pe.1) [
       | inl q ↦ q.0
-      | inr (inl q) ↦ absurd ((each_at (Entered g F) h e pe.0 hist pe.1).still_open d (before_has d pd.0 pe.0 q) kd s)
-      | inr (inr q) ↦ absurd ((each_at (Entered g F) h d pd.0 hist pd.1).still_open e (before_has e pe.0 pd.0 q) ke (sym s.0, sym s.1))
+      | inr (inl q) ↦ absurd ((each_at (Recorded g F) h e pe.0 hist pe.1).still_open d (before_has d pd.0 pe.0 q) kd s)
+      | inr (inr q) ↦ absurd ((each_at (Recorded g F) h d pd.0 hist pd.1).still_open e (before_has e pe.0 pd.0 q) ke (sym s.0, sym s.1))
     ]
 
 -- a record in the end's log behind it
-own_found : (g : Opening) (F : ℕ) (up_to : ℕ → ℕ) (e : Entry) (b : List Entry) → Entered g F e b → is_end e.kind ≡ true → found up_to e ≡ true → (y : Entry) → Has y b → is_record y.kind ≡ true → y.log ≡ e.log → found up_to y ≡ true
+own_found : (g : Opening) (F : ℕ) (up_to : ℕ → ℕ) (e : Entry) (b : List Entry) → Recorded g F e b → is_end e.kind ≡ true → found up_to e ≡ true → (y : Entry) → Has y b → is_record y.kind ≡ true → y.log ≡ e.log → found up_to y ≡ true
 own_found g F up_to e b n ke fe y i ky l =
     let lt = n.later (end_is_record e.kind ke) y i l in
     let le = found_to up_to e fe in
@@ -83,14 +83,14 @@ own_found g F up_to e b n ke fe y i ky l =
 
 covered_found : (g : Opening) (F R : ℕ) (up_to : ℕ → ℕ) (h : List Entry) → Cut g F R up_to h → (e : Entry) (b : List Entry) → Before e b h → is_end e.kind ≡ true → found up_to e ≡ true → e.need ≤ R →
     (y : Entry) → Has y b → is_record y.kind ≡ true → Covered e.log (max e.need F) y → found up_to y ≡ true
-covered_found g F R up_to h c e b pe ke fe ne y i ky (inl l) = own_found g F up_to e b (each_at (Entered g F) h e b c.history pe) ke fe y i ky l
+covered_found g F R up_to h c e b pe ke fe ne y i ky (inl l) = own_found g F up_to e b (each_at (Recorded g F) h e b c.records pe) ke fe y i ky l
 covered_found g F R up_to h c e b pe ke fe ne y i ky (inr l) = let far = c.far in c.all y (behind_has e b h pe y i) ky (omega arith)
 
 -- a write of an ended transaction is there
 pub ended_found : (g : Opening) (F R : ℕ) (up_to : ℕ → ℕ) (h : List Entry) → Cut g F R up_to h → (r : Entry) (b : List Entry) → Before r b h → is_write r.kind ≡ true → is_ended R up_to h r ≡ true → found up_to r ≡ true
 ended_found g F R up_to h c r b pr kr q =
     let e = ended_to R up_to h r q in
-    let p = behind_end g F h c.history e.end e.behind e.place e.is_end r b pr (write_is_no_end r.kind kr) e.same in
+    let p = behind_end g F h c.records e.end e.behind e.place e.is_end r b pr (write_is_no_end r.kind kr) e.same in
     covered_found g F R up_to h c e.end e.behind e.place e.is_end e.found e.need r (before_has r b e.behind p) (write_is_record r.kind kr) (inl (sym e.same.0))
 
 -- ## The records of a page up to the first that is missing
@@ -111,7 +111,7 @@ pub whole_miss : (up_to : ℕ → ℕ) (p : ℕ) (r : Entry) (h : List Entry) �
 whole_miss up_to p r h o = cond-false (touches p r) (counting up_to r h) (whole up_to p h) o
 
 -- a page whose number is low enough is whole
-pub whole_low : (g : Opening) (F R : ℕ) (up_to : ℕ → ℕ) (h : List Entry) → IsHistory g F h → ((r : Entry) → Has r h → is_record r.kind ≡ true → r.number ≤ R → found up_to r ≡ true) → (p : ℕ) → (page_at g h p).gsn ≤ R → whole up_to p h ≡ true
+pub whole_low : (g : Opening) (F R : ℕ) (up_to : ℕ → ℕ) (h : List Entry) → IsRecorded g F h → ((r : Entry) → Has r h → is_record r.kind ≡ true → r.number ≤ R → found up_to r ≡ true) → (p : ℕ) → (page_at g h p).gsn ≤ R → whole up_to p h ≡ true
 whole_low g F R up_to [] hist a p le = refl
 whole_low g F R up_to (r ∷ h) hist a p le = go (whole_low g F R up_to h hist.1 (λ y i. a y (inr i))) (cases_Bool (touches p r))
   where
@@ -123,7 +123,7 @@ whole_low g F R up_to (r ∷ h) hist a p le = go (whole_low g F R up_to h hist.1
     go ih (inr o) = whole_miss up_to p r h o ∙ ih p (rw (page_miss g p r h o) at le)
 
 -- a page whose every record is safe is whole: one in log w, of which the end is there, or one up to the reach
-whole_safe : (g : Opening) (F R : ℕ) (up_to : ℕ → ℕ) (w x : ℕ) (h : List Entry) → IsHistory g F h → PagesCovered w x h → x ≤ R →
+whole_safe : (g : Opening) (F R : ℕ) (up_to : ℕ → ℕ) (w x : ℕ) (h : List Entry) → IsRecorded g F h → PagesCovered w x h → x ≤ R →
     ((r : Entry) → Has r h → is_record r.kind ≡ true → r.number ≤ R → found up_to r ≡ true) → ((r : Entry) → Has r h → is_record r.kind ≡ true → r.log ≡ w → found up_to r ≡ true) →
     (p : ℕ) → ((y : Entry) → Has y h → touches p y ≡ true → Covered w x y) → whole up_to p h ≡ true
 whole_safe g F R up_to w x [] hist pc l a own p cov = refl
@@ -142,15 +142,15 @@ whole_safe g F R up_to w x (r ∷ h) hist pc l a own p cov = go (whole_safe g F 
 pub ended_counts : (g : Opening) (F R : ℕ) (up_to : ℕ → ℕ) (h : List Entry) → Cut g F R up_to h → (r : Entry) (b : List Entry) → Before r b h → is_write r.kind ≡ true → is_ended R up_to h r ≡ true → counting up_to r b ≡ true
 ended_counts g F R up_to h c r b pr kr q =
     let e = ended_to R up_to h r q in
-    let p = behind_end g F h c.history e.end e.behind e.place e.is_end r b pr (write_is_no_end r.kind kr) e.same in
-    let en = each_at (Entered g F) h e.end e.behind c.history e.place in
+    let p = behind_end g F h c.records e.end e.behind e.place e.is_end r b pr (write_is_no_end r.kind kr) e.same in
+    let en = each_at (Recorded g F) h e.end e.behind c.records e.place in
     let cl = en.closes e.is_end in
     let far = c.far in
     let need = e.need in
     let mates = each_at (λ (r : Entry) (b : List Entry). r.log ≡ e.end.log → (p : ℕ) → touches p r ≡ true → (y : Entry) → Has y b → touches p y ≡ true → Covered e.end.log (max e.end.need F) y) e.behind r b cl.pages p (sym e.same.0) in
     let inner = each_behind (λ (r : Entry) (b : List Entry). r.log ≡ e.end.log → (p : ℕ) → touches p r ≡ true → (y : Entry) → Has y b → touches p y ≡ true → Covered e.end.log (max e.end.need F) y) e.behind r b cl.pages p in
     and_from (found up_to r) (all (λ f. whole up_to f.page b) r.refs) (ended_found g F R up_to h c r b pr kr q)
-    (all_of (λ f. whole up_to f.page b) r.refs (λ f i. whole_safe g F R up_to e.end.log (max e.end.need F) b (each_behind (Entered g F) h r b c.history pr) inner (omega arith)
+    (all_of (λ f. whole up_to f.page b) r.refs (λ f i. whole_safe g F R up_to e.end.log (max e.end.need F) b (each_behind (Recorded g F) h r b c.records pr) inner (omega arith)
     (λ y iy. c.all y (behind_has r b h pr y iy))
     (λ y iy ky l. own_found g F up_to e.end e.behind en e.is_end e.found y (behind_has r b e.behind p y iy) ky l)
     f.page (mates f.page (ref_touch r f i))))
@@ -160,7 +160,7 @@ pub ended_rows : (g : Opening) (F R : ℕ) (up_to : ℕ → ℕ) (h : List Entry
     (e : Entry) (b : List Entry) → Before e b h → is_end e.kind ≡ true → found up_to e ≡ true → e.need ≤ R →
     (r : Entry) → Has r b → SameTxn r e → is_call r.kind ≡ true → (y : Entry) → Has y b → claims y ≡ true → g.row_of y.key ≡ g.row_of r.key → is_ended R up_to h y ≡ true
 ended_rows g F R up_to h c e b pe ke fe ne r ir sr cr y iy ky row =
-    let n = each_at (Entered g F) h e b c.history pe in
+    let n = each_at (Recorded g F) h e b c.records pe in
     let cl = n.closes ke in
     let far = c.far in
     elim (cl.rows r ir sr cr y iy ky row) [
@@ -173,7 +173,7 @@ ended_rows g F R up_to h c e b pe ke fe ne r ir sr cr y iy ky row =
     go cl d (inr l) fd =
         let far = c.far in
         let p = has_before d.end h (behind_has e b h pe d.end d.stands) in
-        let n = ((each_at (Entered g F) h d.end p.0 c.history p.1).closes d.is_end).need in
+        let n = ((each_at (Recorded g F) h d.end p.0 c.records p.1).closes d.is_end).need in
         ended_from R up_to h y d.end (behind_has e b h pe d.end d.stands) d.is_end d.same fd (omega arith)
 
 -- writes of a key before an ended write of it are ended
@@ -181,7 +181,7 @@ pub ended_before : (g : Opening) (F R : ℕ) (up_to : ℕ → ℕ) (h : List Ent
     (y : Entry) → Has y b → is_write y.kind ≡ true → y.key ≡ r.key → is_ended R up_to h y ≡ true
 ended_before g F R up_to h c r b pr kr q y iy ky key =
     let e = ended_to R up_to h r q in
-    let p = behind_end g F h c.history e.end e.behind e.place e.is_end r b pr (call_is_no_end r.kind kr) e.same in
+    let p = behind_end g F h c.records e.end e.behind e.place e.is_end r b pr (call_is_no_end r.kind kr) e.same in
     ended_rows g F R up_to h c e.end e.behind e.place e.is_end e.found e.need r (before_has r b e.behind p) (sym e.same.0, sym e.same.1) kr y (behind_has r b e.behind p y iy) (write_claims y ky) (ap g.row_of key)
 
 -- ## All records up to the reach are there
@@ -202,10 +202,10 @@ le_greatest w [] r i l = absurd i
 le_greatest w (y ∷ z) r (inl e) l = rw (eq-eqb y.log w (ap (λ (x : Entry). x.log) (sym e) ∙ l)) (rw e (omega arith))
 le_greatest w (y ∷ z) r (inr i) l = let k = le_greatest w z r i l in elim (cases_eq y.log w) [ inl q ↦ rw (eq-eqb y.log w q) (omega arith) | inr q ↦ rw (ne_eqb y.log w q) k ]
 
-pub reach_all : (g : Opening) (F floor : ℕ) (up_to : ℕ → ℕ) (h : List Entry) → IsHistory g F h → ((w : ℕ) → Within g.workers w → floor ≤ up_to w) → (r : Entry) → Has r h → is_record r.kind ≡ true → r.number ≤ reach g.workers floor (keep (found up_to) h) → found up_to r ≡ true
+pub reach_all : (g : Opening) (F floor : ℕ) (up_to : ℕ → ℕ) (h : List Entry) → IsRecorded g F h → ((w : ℕ) → Within g.workers w → floor ≤ up_to w) → (r : Entry) → Has r h → is_record r.kind ≡ true → r.number ≤ reach g.workers floor (keep (found up_to) h) → found up_to r ≡ true
 reach_all g F floor up_to h hist fl r i k n =
     let p = has_before r h i in
-    let en = each_at (Entered g F) h r p.0 hist p.1 in
+    let en = each_at (Recorded g F) h r p.0 hist p.1 in
     let a = least_le (λ w. max floor (greatest w (keep (found up_to) h))) g.workers r.log en.log in
     let b = greatest_le r.log up_to h in
     let c = fl r.log en.log in

@@ -19,7 +19,7 @@ use Rattle.core_crash.specs.Crashes.{log_of, IsPrefix, Leaves, from_head}
 use Rattle.image_model.specs.Images.{gathered}
 use Rattle.core_commit.proofs.Lists.{Within, Each, has_before, each_at}
 use Rattle.map_model.proofs.ListLemmas.{any_has, has_any, keep_has, has_keep, insert_has, order_has, has_order, has_cases, has_left, has_right}
-use Rattle.core_commit.proofs.History.{Entered, IsHistory}
+use Rattle.core_commit.proofs.History.{Recorded, IsRecorded}
 use Rattle.core_crash.proofs.Ends.{le_greatest, found_from, found_to}
 use Rattle.core_crash.proofs.Cuts.{keep_same, same_bool}
 use Rattle.core_commit.proofs.Invariants.{Inv}
@@ -212,7 +212,7 @@ distinct_gathered f (suc n) d l = distinct_append (f (suc n)) (gathered f n) (d 
 abbrev pub Numbers : List Entry → Type 0
 Numbers l = Each (λ x ys. (y : Entry) → Has y ys → y.number < x.number) l
 
-pub log_numbers : (g : Opening) (F w : ℕ) (h : List Entry) → IsHistory g F h → Numbers (log_of w h)
+pub log_numbers : (g : Opening) (F w : ℕ) (h : List Entry) → IsRecorded g F h → Numbers (log_of w h)
 log_numbers g F w [] hist = tt
 log_numbers g F w (r ∷ h) hist = go (log_numbers g F w h hist.1) (is_record r.kind && (r.log == w)) refl
   where
@@ -240,7 +240,7 @@ numbers_distinct : (l : List Entry) → Numbers l → Distinct l
 numbers_distinct [] n = tt
 numbers_distinct (x ∷ l) n = (λ y i. inr (earlier_by y x (inl (n.0 y i))), numbers_distinct l n.1)
 
-distinct_history : (g : Opening) (F : ℕ) (p : Entry → Bool) (h : List Entry) → ((r : Entry) → p r ≡ true → is_record r.kind ≡ true) → IsHistory g F h → Distinct (keep p h)
+distinct_history : (g : Opening) (F : ℕ) (p : Entry → Bool) (h : List Entry) → ((r : Entry) → p r ≡ true → is_record r.kind ≡ true) → IsRecorded g F h → Distinct (keep p h)
 distinct_history g F p [] pr hist = tt
 distinct_history g F p (r ∷ h) pr hist = go (distinct_history g F p h pr hist.1) (p r) refl
   where
@@ -312,7 +312,7 @@ every_image g es logs page c = (
         f = c.prefixes r.log l.0 l.1
 
         nums : Numbers (f.0 ++ logs r.log)
-        nums = subst Numbers (sym f.1) (log_numbers g (flushed_by_all g s) r.log s.entries v.history)
+        nums = subst Numbers (sym f.1) (log_numbers g (flushed_by_all g s) r.log s.entries v.records)
 
     same : SameMembers z1 z2
     same = (to, from)
@@ -331,17 +331,17 @@ every_image g es logs page c = (
             let q = keep_has (there s.head up_to) s.entries r i in
             let p = and_parts (found up_to r) (not (is_cut s.head r)) q.1 in
             let b = has_before r s.entries q.0 in
-            let l = (each_at (Entered g (flushed_by_all g s)) s.entries r b.0 v.history b.1).log in
+            let l = (each_at (Recorded g (flushed_by_all g s)) s.entries r b.0 v.records b.1).log in
             has_gathered (λ w. from_head (s.head w) (logs w)) g.workers r.log r l
             (has_keep (λ x. not (leb x.number (s.head r.log))) (logs r.log) r (filled r q.0 (and_parts (is_record r.kind) (leb r.number (up_to r.log)) p.0).0 l (found_to up_to r p.0)) p.1)
 
     d1 : Distinct z1
     d1 = distinct_gathered (λ w. from_head (s.head w) (logs w)) g.workers
-        (λ w l. distinct_keep (λ r. not (leb r.number (s.head w))) (logs w) (numbers_distinct (logs w) (numbers_behind (c.prefixes w l.0 l.1).0 (logs w) (subst Numbers (sym (c.prefixes w l.0 l.1).1) (log_numbers g (flushed_by_all g s) w s.entries v.history)))))
+        (λ w l. distinct_keep (λ r. not (leb r.number (s.head w))) (logs w) (numbers_distinct (logs w) (numbers_behind (c.prefixes w l.0 l.1).0 (logs w) (subst Numbers (sym (c.prefixes w l.0 l.1).1) (log_numbers g (flushed_by_all g s) w s.entries v.records)))))
         (λ w l r i. (of_log w l r (keep_has (λ r. not (leb r.number (s.head w))) (logs w) r i).0).2)
 
     d2 : Distinct z2
-    d2 = distinct_history g (flushed_by_all g s) (there s.head up_to) s.entries (λ r e. (and_parts (is_record r.kind) (leb r.number (up_to r.log)) (and_parts (found up_to r) (not (is_cut s.head r)) e).0).0) v.history
+    d2 = distinct_history g (flushed_by_all g s) (there s.head up_to) s.entries (λ r e. (and_parts (is_record r.kind) (leb r.number (up_to r.log)) (and_parts (found up_to r) (not (is_cut s.head r)) e).0).0) v.records
 
     keeps : kept g s.floor z1 (journal s.entries) ≡ kept g s.floor z2 (journal s.entries)
     keeps = kept_same z1 z2 same d1 d2 g s.floor (journal s.entries)

@@ -10,7 +10,7 @@ use Rattle.image_model.specs.Entries.Kind.{Change, Put_back, Split, Lift, Join, 
 use Rattle.core_commit.proofs.Lists.{Before, has_before, before_has, behind_has, each_at, pick, Newest, NoneOf, newest, newest_before, newest_holds, newest_first, newest_from, pick_newest, pick_none}
 use Rattle.map_model.proofs.ListLemmas.{any_has, has_any, keep_has, has_keep, upd_same, upd_other}
 use Rattle.core_crash.proofs.Order.{fold_up}
-use Rattle.core_commit.proofs.History.{SameTxn, same_to, same_from, EndOf, Closes, Entered, IsHistory, history_pick, history_value, not_by, without, before_trans, each_behind}
+use Rattle.core_commit.proofs.History.{SameTxn, same_to, same_from, EndOf, Closes, Recorded, Entered, IsHistory, history_pick, history_value, not_by, without, before_trans, each_behind}
 use Rattle.core_crash.proofs.Ends.{Cut, Ended, is_ended, ended_to, ended_from, ended_rows, behind_end, one_end}
 use Rattle.core_commit.proofs.Nodes.{key_parts, on_key}
 use Rattle.core_crash.proofs.Undo.{stays, lasting}
@@ -147,8 +147,8 @@ stood t (e ∷ h) i = go (stood t h) (cases_Bool (is_commit e.kind))
     go ih (inr k) = more (ih (subst (λ (l : List Done). Has t l) (committed_off e h k) i))
 
 module _ (g : Opening) (F R : ℕ) (up_to : ℕ → ℕ) (all : List Entry) (c : Cut g F R up_to all) where
-  pub at : (x : Entry) (b : List Entry) → Before x b all → Entered g F x b
-  at x b p = each_at (Entered g F) all x b c.history p
+  pub at : (x : Entry) (b : List Entry) → Before x b all → Recorded g F x b
+  at x b p = each_at (Recorded g F) all x b c.records p
 
   -- no entry of a transaction stands before its end
   pub closed_off : (x : Entry) (bx : List Entry) → Before x bx all → (d : Entry) → Has d bx → is_end d.kind ≡ true → SameTxn d x → ⊥
@@ -158,8 +158,8 @@ module _ (g : Opening) (F R : ℕ) (up_to : ℕ → ℕ) (all : List Entry) (c :
   behind_itself r b p k i = let lt = (at r b p).later (write_is_record r.kind k) r i refl in omega arith
 
   -- lasting is settled
-  pub lasting_settled : (k : ℕ) → lasting g R up_to all k all ≡ settled g R up_to all k all
-  lasting_settled k = go (newest (stays R up_to all k) all)
+  pub lasting_settled : IsHistory g F all → (k : ℕ) → lasting g R up_to all k all ≡ settled g R up_to all k all
+  lasting_settled hist k = go (newest (stays R up_to all k) all)
     where
       none : NoneOf (stays R up_to all k) all → NoneOf (seals R up_to all k) all
       none n e b p = false_from_ne_true (seals R up_to all k e b) (λ q.
@@ -173,13 +173,13 @@ module _ (g : Opening) (F R : ℕ) (up_to : ℕ → ℕ) (all : List Entry) (c :
           let qr = and_parts (on_key k r) (is_ended R up_to all r) (newest_holds (stays R up_to all k) r b all n) in
           let kr = key_parts k r qr.0 in
           let e = ended_to R up_to all r qr.1 in
-          let be = behind_end g F all c.history e.end e.behind e.place e.is_end r b pr (write_is_no_end r.kind kr.0) e.same in
+          let be = behind_end g F all c.records e.end e.behind e.place e.is_end r b pr (write_is_no_end r.kind kr.0) e.same in
           let ie = ended_same R up_to all r e.end (flip e.end r e.same) qr.1 in
           let skip : (x : Entry) (bx : List Entry) → Before x bx all → Before e.end e.behind bx → seals R up_to all k x bx ≡ false = λ x bx px pe. false_from_ne_true (seals R up_to all k x bx) (λ q. newer r b n pr kr.1 e be x bx px pe (seals_to R up_to all k x bx q)) in
           let ns : Newest (seals R up_to all k) e.end e.behind all = newest_from (seals R up_to all k) e.end e.behind all e.place (seals_from R up_to all k e.end e.behind e.is_end r (before_has r b e.behind be) qr.0 (flip e.end r e.same) ie) skip in
           let nk : Newest (λ r b. on_key k r) r b e.behind = newest_from (λ r b. on_key k r) r b e.behind be qr.0 (λ x bx px pb. false_from_ne_true (on_key k x) (λ o. later_write r b n pr kr.0 kr.1 e be x bx px pb o)) in
           pick_newest (stays R up_to all k) (λ r b. r.after) (first g k) r b all n
-          ∙ (sym (history_newest g F k r b e.behind (each_behind (Entered g F) all e.end e.behind c.history e.place) nk) ∙ sym (pick_newest (seals R up_to all k) (λ e b. history_value g k b) (first g k) e.end e.behind all ns))
+          ∙ (sym (history_newest g F k r b e.behind (each_behind (Entered g F) all e.end e.behind hist e.place) nk) ∙ sym (pick_newest (seals R up_to all k) (λ e b. history_value g k b) (first g k) e.end e.behind all ns))
         where
           -- no newer end seals the key
           newer : (r : Entry) (b : List Entry) → Newest (stays R up_to all k) r b all → Before r b all → r.key ≡ k → (e : Ended R up_to all r) → Before r b e.behind →
@@ -224,7 +224,7 @@ module _ (g : Opening) (F R : ℕ) (up_to : ℕ → ℕ) (all : List Entry) (c :
       go : (is_ended R up_to all t.end ≡ true) ⊎ (is_ended R up_to all t.end ≡ false) → wins R (keep (found up_to) all) t ≡ is_ended R up_to all t.end
       go (inl q) =
           let d = ended_to R up_to all t.end q in
-          let e = one_end g F all c.history d.end t.end (before_has d.end d.behind all d.place) i d.is_end (commit_is_end t.end.kind k) d.same in
+          let e = one_end g F all c.records d.end t.end (before_has d.end d.behind all d.place) i d.is_end (commit_is_end t.end.kind k) d.same in
           let f = subst (λ (x : Entry). found up_to x ≡ true) e d.found in
           let n = subst (λ (x : Entry). x.need ≤ R) e d.need in
           has_any test (keep (found up_to) all) t.end (has_keep (found up_to) all t.end i f)
@@ -238,8 +238,8 @@ module _ (g : Opening) (F R : ℕ) (up_to : ℕ → ℕ) (all : List Entry) (c :
           true≢false (sym (ended_from R up_to all t.end a.0 f.0 (commit_is_end a.0.kind p.0) (same_to a.0 t.end s.0) f.1 (leb-true a.0.need R s.1)) ∙ q)) ∙ sym q
 
   -- an aborted transaction that is ended leaves what was settled before it
-  pub aborted : (k : ℕ) (e : Entry) (h : List Entry) → Before e h all → Sealed R up_to all k e h → without g e k h ≡ settled g R up_to all k h
-  aborted k e h pe s = go (newest (not_by e k) h)
+  pub aborted : IsHistory g F all → (k : ℕ) (e : Entry) (h : List Entry) → Before e h all → Sealed R up_to all k e h → without g e k h ≡ settled g R up_to all k h
+  aborted hist k e h pe s = go (newest (not_by e k) h)
     where
       cl : Closes g F e h
       cl = (at e h pe).closes s.is_end
@@ -268,7 +268,7 @@ module _ (g : Opening) (F R : ℕ) (up_to : ℕ → ℕ) (all : List Entry) (c :
           let ne : SameTxn r e → ⊥ = λ t. true≢false (sym (same_from r e t) ∙ not-true (same_txn r e) qr.1) in
           let pra = before_trans all e h r b pe pr in
           let se = ended_to R up_to all e s.ended in
-          let ee = one_end g F all c.history se.end e (before_has se.end se.behind all se.place) (before_has e h all pe) se.is_end s.is_end se.same in
+          let ee = one_end g F all c.records se.end e (before_has se.end se.behind all se.place) (before_has e h all pe) se.is_end s.is_end se.same in
           let fe = subst (λ (x : Entry). found up_to x ≡ true) ee se.found in
           let nne = subst (λ (x : Entry). x.need ≤ R) ee se.need in
           let re = ended_rows g F R up_to all c e h pe s.is_end fe nne s.write s.stands s.same (write_is_call s.write.kind sk.0) r (before_has r b h pr) (write_claims r kr.0) (same_row g k r s.write kr.1 sk.1) in
@@ -281,11 +281,11 @@ module _ (g : Opening) (F R : ℕ) (up_to : ℕ → ℕ) (all : List Entry) (c :
           with_end r b n pr kr ne re d =
               let bd = has_before d.end h d.stands in
               let pd = before_trans all e h d.end bd.0 pe bd.1 in
-              let prd = behind_end g F all c.history d.end bd.0 pd d.is_end r b (before_trans all e h r b pe pr) (write_is_no_end r.kind kr.0) d.same in
+              let prd = behind_end g F all c.records d.end bd.0 pd d.is_end r b (before_trans all e h r b pe pr) (write_is_no_end r.kind kr.0) d.same in
               let nk : Newest (λ r b. on_key k r) r b bd.0 = newest_from (λ r b. on_key k r) r b bd.0 prd (key_from k r kr.0 kr.1) (λ x bx px pb. false_from_ne_true (on_key k x) (λ o. later r b n pr kr ne d bd.0 bd.1 prd x bx px pb o)) in
               let ns : Newest (seals R up_to all k) d.end bd.0 h = newest_from (seals R up_to all k) d.end bd.0 h bd.1 (seals_from R up_to all k d.end bd.0 d.is_end r (before_has r b bd.0 prd) (key_from k r kr.0 kr.1) (flip d.end r d.same) (ended_same R up_to all r d.end (flip d.end r d.same) re)) (λ x bx px pb. false_from_ne_true (seals R up_to all k x bx) (λ w. newer r b n pr kr d bd.0 bd.1 prd x bx px pb (seals_to R up_to all k x bx w))) in
               pick_newest (not_by e k) (λ r b. r.after) (first g k) r b h n
-              ∙ (sym (history_newest g F k r b bd.0 (each_behind (Entered g F) all d.end bd.0 c.history pd) nk) ∙ sym (pick_newest (seals R up_to all k) (λ e b. history_value g k b) (first g k) d.end bd.0 h ns))
+              ∙ (sym (history_newest g F k r b bd.0 (each_behind (Entered g F) all d.end bd.0 hist pd) nk) ∙ sym (pick_newest (seals R up_to all k) (λ e b. history_value g k b) (first g k) d.end bd.0 h ns))
             where
               newer : (r : Entry) (b : List Entry) → Newest (not_by e k) r b h → Before r b h → (is_write r.kind ≡ true) × (r.key ≡ k) → (d : EndOf h r) (bd : List Entry) → Before d.end bd h → Before r b bd →
                   (x : Entry) (hx : List Entry) → Before x hx h → Before d.end bd hx → Sealed R up_to all k x hx → ⊥
@@ -300,7 +300,7 @@ module _ (g : Opening) (F R : ℕ) (up_to : ℕ → ℕ) (all : List Entry) (c :
                       | inl t ↦ off (chain r q.write x (flip q.write r t) q.same)
                       | inr f ↦
                           -- its end stands behind r, so behind d, so behind itself
-                          let fx = one_end g F all c.history f.0.end x (behind_has r b all (before_trans all e h r b pe pr) f.0.end f.0.stands) (before_has x hx all pxa) f.0.is_end q.is_end (chain f.0.end q.write x f.0.same q.same) in
+                          let fx = one_end g F all c.records f.0.end x (behind_has r b all (before_trans all e h r b pe pr) f.0.end f.0.stands) (before_has x hx all pxa) f.0.is_end q.is_end (chain f.0.end q.write x f.0.same q.same) in
                           let i = behind_has d.end bd hx pdx f.0.end (behind_has r b bd prd f.0.end f.0.stands) in
                           closed_off x hx pxa f.0.end i f.0.is_end (chain f.0.end q.write x f.0.same q.same)
                     ]
@@ -331,9 +331,9 @@ module _ (g : Opening) (F R : ℕ) (up_to : ℕ → ℕ) (all : List Entry) (c :
   abbrev pub applied : ℕ → List Entry → ℕ
   applied k h = fold_up (apply_one (wins R (keep (found up_to) all))) (first g) (committed h) k
 
-  pub settled_applied : (k : ℕ) (h : List Entry) → ((x : Entry) (b : List Entry) → Before x b h → Before x b all) → settled g R up_to all k h ≡ applied k h
-  settled_applied k [] sub = refl
-  settled_applied k (e ∷ h) sub = go (settled_applied k h (λ x b i. sub x b (inr i))) (cases_Bool (is_commit e.kind)) (cases_Bool (is_ended R up_to all e)) (newest (λ r b. on_key k r && same_txn r e) h)
+  pub settled_applied : IsHistory g F all → (k : ℕ) (h : List Entry) → ((x : Entry) (b : List Entry) → Before x b h → Before x b all) → settled g R up_to all k h ≡ applied k h
+  settled_applied hist k [] sub = refl
+  settled_applied hist k (e ∷ h) sub = go (settled_applied hist k h (λ x b i. sub x b (inr i))) (cases_Bool (is_commit e.kind)) (cases_Bool (is_ended R up_to all e)) (newest (λ r b. on_key k r && same_txn r e) h)
     where
       pe : Before e h all
       pe = sub e h (inl (refl, refl))
@@ -399,10 +399,10 @@ module _ (g : Opening) (F R : ℕ) (up_to : ℕ → ℕ) (all : List Entry) (c :
           let qr = and_parts (on_key k o.0) (same_txn o.0 e) (newest_holds (λ r b. on_key k r && same_txn r e) o.0 o.1 h o.2) in
           let ke = commit_is_end e.kind q in
           on (seals_from R up_to all k e h ke o.0 (before_has o.0 o.1 h pr) qr.0 (same_to o.0 e qr.1) n)
-          ∙ (history_newest g F k o.0 o.1 h (each_behind (Entered g F) all e h c.history pe) (own_only o.0 o.1 o.2 ke)
+          ∙ (history_newest g F k o.0 o.1 h (each_behind (Entered g F) all e h hist pe) (own_only o.0 o.1 o.2 ke)
           ∙ sym (head q ∙ (ap (λ (v : ℕ → ℕ). v k) (cond-true (w t) (write_all (calls_of e h) A) A (won t (before_has e h all pe) q ∙ n))
           ∙ (write_pick (λ r. same_txn r e) A k h ∙ pick_newest (λ r b. on_key k r && same_txn r e) (λ r b. r.after) (A k) o.0 o.1 h o.2))))
       go ih (inr q) n o = elim (cases_Bool (seals R up_to all k e h)) [
-        | inl s ↦ let sl = seals_to R up_to all k e h s in on s ∙ ((at e h pe).aborts sl.is_end q k ∙ (aborted k e h pe sl ∙ (ih ∙ sym (tail q))))
+        | inl s ↦ let sl = seals_to R up_to all k e h s in on s ∙ ((each_at (Entered g F) all e h hist pe).aborts sl.is_end q k ∙ (aborted hist k e h pe sl ∙ (ih ∙ sym (tail q))))
         | inr s ↦ off s ∙ (ih ∙ sym (tail q))
       ]

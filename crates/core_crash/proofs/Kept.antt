@@ -12,7 +12,7 @@ use Rattle.core_state.specs.Openings.{first, Opening}
 use Rattle.core_commit.proofs.Lists.{Before, before_has, behind_has}
 use Rattle.map_model.proofs.ListLemmas.{any_has, keep_has, has_keep, order_has}
 use Rattle.core_crash.proofs.Order.{Swaps, Apart, fold_up_order}
-use Rattle.core_commit.proofs.History.{SameTxn, same_to, compare}
+use Rattle.core_commit.proofs.History.{SameTxn, same_to, IsHistory, compare}
 use Rattle.core_commit.proofs.Nodes.{on_key}
 use Rattle.core_crash.proofs.Ends.{Cut, is_ended, ended_to, ended_from, ended_rows, one_end, found_from}
 use Rattle.core_crash.proofs.Redo.{Had}
@@ -81,7 +81,7 @@ module _ (g : Opening) (F R : ℕ) (up_to : ℕ → ℕ) (all : List Entry) (c :
       elim (cl.order r ir sr wr s (behind_has d bd b pd s is) ns row) [
         | inl t ↦ absurd (closed_off g F R up_to all c e b pe d id (commit_is_end d.kind kd) (chain d s e (flip s d ss) t))
         | inr f ↦
-            let q = one_end g F all c.history f.0.end d (behind_has e b all pe f.0.end f.0.stands) (behind_has e b all pe d id) f.0.is_end (commit_is_end d.kind kd) (chain f.0.end s d f.0.same ss) in
+            let q = one_end g F all c.records f.0.end d (behind_has e b all pe f.0.end f.0.stands) (behind_has e b all pe d id) f.0.is_end (commit_is_end d.kind kd) (chain f.0.end s d f.0.same ss) in
             subst (λ (x : Entry). x.number < e.number) q f.1
       ]
 
@@ -107,10 +107,10 @@ module _ (g : Opening) (F R : ℕ) (up_to : ℕ → ℕ) (all : List Entry) (c :
       go ih true k = (λ u i lt. apply_swaps w (record { end = e; calls = calls_of e h }) u (disjoint e h (sub e h (inl (refl, refl))) k u i lt), ih)
       go ih false k = ih
 
-  applied_after : (k : ℕ) → lasting g R up_to all k all ≡ after (first g) (keep (wins R (keep (found up_to) all)) (journal all)) k
-  applied_after k =
-      lasting_settled g F R up_to all c k
-      ∙ (settled_applied g F R up_to all c k all (λ x b i. i)
+  applied_after : IsHistory g F all → (k : ℕ) → lasting g R up_to all k all ≡ after (first g) (keep (wins R (keep (found up_to) all)) (journal all)) k
+  applied_after hist k =
+      lasting_settled g F R up_to all c hist k
+      ∙ (settled_applied g F R up_to all c hist k all (λ x b i. i)
       ∙ (sym (ap (λ (m : ℕ → ℕ). m k) (fold_up_order done_earlier (apply_one (wins R (keep (found up_to) all))) (committed all) (apart (wins R (keep (found up_to) all)) all (λ x b i. i)) (first g)))
       ∙ sym (ap (λ (m : ℕ → ℕ). m k) (after_fold (wins R (keep (found up_to) all)) (first g) (journal all)))))
 
@@ -142,7 +142,7 @@ module _ (g : Opening) (F R : ℕ) (up_to : ℕ → ℕ) (all : List Entry) (c :
           absurd (omega arith)
       go t u lt st su et r ir sr cr s is ss ws row (inr (inr q)) =
           let e = ended_to R up_to all t.end et in
-          let q2 = one_end g F all c.history e.end t.end (before_has e.end e.behind all e.place) (before_has t.end st.behind all st.place) e.is_end (commit_is_end t.end.kind st.commit) e.same in
+          let q2 = one_end g F all c.records e.end t.end (before_has e.end e.behind all e.place) (before_has t.end st.behind all st.place) e.is_end (commit_is_end t.end.kind st.commit) e.same in
           ended_rows g F R up_to all c t.end st.behind st.place (commit_is_end t.end.kind st.commit) (subst (λ (x : Entry). found up_to x ≡ true) q2 e.found) (subst (λ (x : Entry). x.need ≤ R) q2 e.need) r ir sr cr s (behind_has u.end su.behind st.behind q s is) ws row
 
   pub ripe : (t : Done) → Has t (journal all) → t.end.number ≤ up_to t.end.log → t.end.need ≤ R → Has t (keep (wins R (keep (found up_to) all)) (journal all))
@@ -156,6 +156,6 @@ module _ (g : Opening) (F R : ℕ) (up_to : ℕ → ℕ) (all : List Entry) (c :
 -- ## Where nothing is cut
 
 pub kept_map : (g : Opening) (F floor : ℕ) (up_to : ℕ → ℕ) (h : List Entry) (snap : ℕ → Contents) →
-    Cut g F (reach g.workers floor (keep (found up_to) h)) up_to h → ((p : ℕ) → (snap p).gsn ≤ F) → ((p : ℕ) → Had g h p (snap p)) →
+    Cut g F (reach g.workers floor (keep (found up_to) h)) up_to h → IsHistory g F h → ((p : ℕ) → (snap p).gsn ≤ F) → ((p : ℕ) → Had g h p (snap p)) →
     (k : ℕ) → recovered g floor snap (keep (found up_to) h) k ≡ after (first g) (keep (wins (reach g.workers floor (keep (found up_to) h)) (keep (found up_to) h)) (journal h)) k
-kept_map g F floor up_to h snap c low had k = recovered_lasting g F floor up_to h snap c low had k ∙ applied_after g F (reach g.workers floor (keep (found up_to) h)) up_to h c k
+kept_map g F floor up_to h snap c hist low had k = recovered_lasting g F floor up_to h snap c hist low had k ∙ applied_after g F (reach g.workers floor (keep (found up_to) h)) up_to h c hist k

@@ -14,7 +14,7 @@ use Rattle.core_commit.proofs.KindFacts.{end_is_record}
 use Rattle.core_commit.proofs.Lists.{Within, has_before, before_has, each_at}
 use Rattle.core_state.specs.Steps.{HasBeen}
 use Rattle.map_model.proofs.ListLemmas.{order_has}
-use Rattle.core_commit.proofs.History.{Entered, page_at}
+use Rattle.core_commit.proofs.History.{Recorded, page_at}
 use Rattle.core_crash.proofs.Ends.{Cut, reach_all, F_reach, ended_from, found_from}
 use Rattle.core_crash.proofs.Redo.{Had}
 use Rattle.core_crash.proofs.Journal.{stood}
@@ -58,13 +58,13 @@ had_run g [] s p v h = h
 had_run g (e ∷ es) s p v h = had_run g es (step g s e) p v (had_step g s e p v h)
 
 had : (g : Opening) (es : List Event) (s : State) (p : ℕ) (v : Contents) → Good g s → HasBeen g s es p v → Had g (run g s es).entries p v
-had g [] s p v i b = subst (λ (q : Contents). Had g s.entries p q) (sym (b ∙ i.inv.pages p)) (had_now g s.entries p)
-had g (e ∷ es) s p v i (inl b) = had_run g (e ∷ es) s p v (subst (λ (q : Contents). Had g s.entries p q) (sym (b ∙ i.inv.pages p)) (had_now g s.entries p))
+had g [] s p v i b = subst (λ (q : Contents). Had g s.entries p q) (sym (b ∙ i.inv.told.pages p)) (had_now g s.entries p)
+had g (e ∷ es) s p v i (inl b) = had_run g (e ∷ es) s p v (subst (λ (q : Contents). Had g s.entries p q) (sym (b ∙ i.inv.told.pages p)) (had_now g s.entries p))
 had g (e ∷ es) s p v i (inr b) = had g es (step g s e) p v (good_step g s e i) b
 
 pub every_crash : EveryCrash
 every_crash g es up_to page c = (
-  stands_for g F s.floor R up_to s.head s.entries page refl cut c.numbers image co,
+  stands_for g F s.floor R up_to s.head s.entries page refl cut c.numbers image co v.told.history,
   λ t i r. ripe_kept g F s.floor R up_to s.head s.entries page refl cut c.numbers image co t i (own t i r) r.1,
 )
   where
@@ -85,13 +85,13 @@ every_crash g es up_to page c = (
 
     cut : Cut g F R up_to s.entries
     cut = record {
-      history = v.history;
+      records = v.records;
       far = F_reach g s.floor up_to s.flushed s.entries c.logs (λ w l. (v.workers w).in_log);
-      all = λ r i k n. reach_all g F s.floor up_to s.entries v.history (λ w l. let a = (v.workers w).based l in let b = c.logs w l in omega arith) r i k n;
+      all = λ r i k n. reach_all g F s.floor up_to s.entries v.records (λ w l. let a = (v.workers w).based l in let b = c.logs w l in omega arith) r i k n;
     }
 
     log_of : (r : Entry) → Has r s.entries → Within g.workers r.log
-    log_of r i = let p = has_before r s.entries i in (each_at (Entered g F) s.entries r p.0 v.history p.1).log
+    log_of r i = let p = has_before r s.entries i in (each_at (Recorded g F) s.entries r p.0 v.records p.1).log
 
     below : (r : Entry) → is_cut s.head r ≡ true → r.number ≤ s.cut
     below r x = let a = leb-true r.number (s.head r.log) x in let b = v.cuts.heads r.log in omega arith

@@ -73,7 +73,7 @@ every_crash g es logs page c = record { stands = stands; closed = closed; follow
     keeps = ap (Rattle.image_model.specs.Ends.kept g.workers s.floor (found i)) (journal_as g.format s.entries) ∙ kept_as g s.floor (found i) (journal s.entries)
 
     rising : (w : ℕ) → 0 < w → w ≤ g.workers → IsFalling (from_head (s.head w) (logs w))
-    rising w a b = falling_keep (λ r. not (leb r.number (s.head w))) (logs w) (falling (logs w) (numbers_behind (c.prefixes w a b).0 (logs w) (subst Numbers (sym (c.prefixes w a b).1) (log_numbers g (flushed_by_all g s) w s.entries inv.history))))
+    rising w a b = falling_keep (λ r. not (leb r.number (s.head w))) (logs w) (falling (logs w) (numbers_behind (c.prefixes w a b).0 (logs w) (subst Numbers (sym (c.prefixes w a b).1) (log_numbers g (flushed_by_all g s) w s.entries inv.records))))
 
     stands : StandsFor i (maps.after (first_map g) (kept_in g s i)) (won_by i)
     stands = record {
@@ -108,7 +108,7 @@ every_crash g es logs page c = record { stands = stands; closed = closed; follow
         let su = stood ku.0 s.entries (order_has done_earlier (committed s.entries) ku.0 ku.1) in
         let same : SameTxn ku.0.end d.claim = (sym (d.session ∙ ap (λ (x : Txn). x.session) ku.2), sym (d.number ∙ ap (λ (x : Txn). x.number) ku.2)) in
         let pc = has_before d.claim s.entries d.has in
-        let behind = behind_end g (flushed_by_all g s) s.entries inv.history ku.0.end su.behind su.place (commit_is_end ku.0.end.kind su.commit) d.claim pc.0 pc.1 (call_is_no_end d.claim.kind (claims_call d.claim d.claims)) same in
+        let behind = behind_end g (flushed_by_all g s) s.entries inv.records ku.0.end su.behind su.place (commit_is_end ku.0.end.kind su.commit) d.claim pc.0 pc.1 (call_is_no_end d.claim.kind (claims_call d.claim d.claims)) same in
         let mine = has_keep (λ r. same_txn r ku.0.end) su.behind d.claim (before_has d.claim pc.0 su.behind behind) (same_from d.claim ku.0.end (sym same.0, sym same.1)) in
         subst (λ (x : Txn). Has x (txns g.format (kept g s.floor (found i) (journal s.entries)))) (sym ku.2)
         (has_txns g.format (kept g s.floor (found i) (journal s.entries)) ku.0 (main.0.closed kt.0 ku.0 kt.1 (record {
@@ -124,7 +124,7 @@ every_crash g es logs page c = record { stands = stands; closed = closed; follow
         let kt = txns_has g.format (journal s.entries) t (subst (λ (l : List Txn). Has t l) (journal_as g.format s.entries) it) in
         let st = stood kt.0 s.entries (order_has done_earlier (committed s.entries) kt.0 kt.1) in
         let same : SameTxn r.end kt.0.end = (r.session ∙ ap (λ (x : Txn). x.session) kt.2, r.number ∙ ap (λ (x : Txn). x.number) kt.2) in
-        let e = one_end g (flushed_by_all g s) s.entries inv.history r.end kt.0.end r.has (before_has kt.0.end st.behind s.entries st.place) (commit_is_end r.end.kind r.commit) (commit_is_end kt.0.end.kind st.commit) same in
+        let e = one_end g (flushed_by_all g s) s.entries inv.records r.end kt.0.end r.has (before_has kt.0.end st.behind s.entries st.place) (commit_is_end r.end.kind r.commit) (commit_is_end kt.0.end.kind st.commit) same in
         subst (λ (l : List Txn). Has t l) (sym keeps) (subst (λ (x : Txn). Has x (txns g.format (kept g s.floor (found i) (journal s.entries)))) (sym kt.2)
         (has_txns g.format (kept g s.floor (found i) (journal s.entries)) kt.0 (main.1 kt.0 kt.1 (
           subst (λ (x : Entry). x.number ≤ s.flushed x.log) e r.flushed,

@@ -18,7 +18,7 @@ use Rattle.page_model.specs.Tree.{lookup, IsTree}
 use Rattle.core_commit.proofs.Lists.{Before, before_has, Each, each_map_has}
 use Rattle.map_model.proofs.ListLemmas.{any_has, has_any, upd_same, upd_other, all_to, all_of, all_same}
 use Rattle.core_commit.proofs.Nodes.{fits_entry, entry_stays, on_key, Fits, moved_on, fits_local, fits_parted, fits_on, fits_off, fits_before}
-use Rattle.core_commit.proofs.History.{EndOf, Entered, IsHistory, page_at, page_hit, page_miss, gsn_rises, nodes, touch_ref, ref_touch, history_parted}
+use Rattle.core_commit.proofs.History.{EndOf, Recorded, IsRecorded, Entered, IsHistory, records_of, page_at, page_hit, page_miss, gsn_rises, nodes, touch_ref, ref_touch, history_parted}
 use Rattle.core_crash.proofs.Ends.{whole, counting, whole_hit, whole_miss, whole_low}
 use mathlib.Core.Path.{fun_ext}
 
@@ -55,7 +55,7 @@ virtual_whole g up_to (r ∷ h) p w = go (virtual_whole g up_to h p) (cases_Bool
     go ih (inr o) = virtual_miss g up_to p r h o ∙ (ih (sym (whole_miss up_to p r h o) ∙ w) ∙ sym (page_miss g p r h o))
 
 -- a page that is not whole stays behind
-pub virtual_behind : (g : Opening) (F : ℕ) (up_to : ℕ → ℕ) (h : List Entry) → IsHistory g F h → (p : ℕ) → whole up_to p h ≡ false → (virtual g up_to h p).gsn < (page_at g h p).gsn
+pub virtual_behind : (g : Opening) (F : ℕ) (up_to : ℕ → ℕ) (h : List Entry) → IsRecorded g F h → (p : ℕ) → whole up_to p h ≡ false → (virtual g up_to h p).gsn < (page_at g h p).gsn
 virtual_behind g F up_to [] hist p w = absurd (true≢false w)
 virtual_behind g F up_to (r ∷ h) hist p w = go (virtual_behind g F up_to h hist.1 p) (cases_Bool (touches p r)) (cases_Bool (whole up_to p h))
   where
@@ -259,12 +259,12 @@ at_prev_off r p v o = false_from_ne_true (at_prev r p v) (λ h.
     let q = and_parts (a.0.page == p) (v.gsn == a.0.prev) a.2 in
     true≢false (sym (subst (λ (i : ℕ). touches i r ≡ true) (eqb-true a.0.page p q.0) (ref_touch r a.0 a.1)) ∙ o))
 
-pub at_prev_on : (g : Opening) (F : ℕ) (r : Entry) (h : List Entry) (p : ℕ) (v : Contents) → Entered g F r h → touches p r ≡ true → v.gsn ≡ (page_at g h p).gsn → at_prev r p v ≡ true
+pub at_prev_on : (g : Opening) (F : ℕ) (r : Entry) (h : List Entry) (p : ℕ) (v : Contents) → Recorded g F r h → touches p r ≡ true → v.gsn ≡ (page_at g h p).gsn → at_prev r p v ≡ true
 at_prev_on g F r h p v n o e =
     let f = touch_ref p r o in
     has_any (λ f. (f.page == p) && (v.gsn == f.prev)) r.refs f.0 f.1 (and_from (f.0.page == p) (v.gsn == f.0.prev) (eq-eqb f.0.page p f.2) (eq-eqb v.gsn f.0.prev (e ∙ (ap (λ (i : ℕ). (page_at g h i).gsn) (sym f.2) ∙ sym (n.prev f.0 f.1)))))
 
-pub at_prev_no : (g : Opening) (F : ℕ) (r : Entry) (h : List Entry) (p : ℕ) (v : Contents) → Entered g F r h → (v.gsn ≡ (page_at g h p).gsn → ⊥) → at_prev r p v ≡ false
+pub at_prev_no : (g : Opening) (F : ℕ) (r : Entry) (h : List Entry) (p : ℕ) (v : Contents) → Recorded g F r h → (v.gsn ≡ (page_at g h p).gsn → ⊥) → at_prev r p v ≡ false
 at_prev_no g F r h p v n ne = false_from_ne_true (at_prev r p v) (λ q.
     let a = any_has (λ f. (f.page == p) && (v.gsn == f.prev)) r.refs q in
     let b = and_parts (a.0.page == p) (v.gsn == a.0.prev) a.2 in
@@ -274,7 +274,7 @@ at_prev_no g F r h p v n ne = false_from_ne_true (at_prev r p v) (λ q.
 abbrev pub Placed : Opening → (ℕ → Contents) → List Entry → Type 0
 Placed g snap h = (p : ℕ) → Had g h p (snap p) ⊎ ((page_at g h p).gsn ≤ (snap p).gsn)
 
-pub placed_before : (g : Opening) (F : ℕ) (snap : ℕ → Contents) (r : Entry) (h : List Entry) → Entered g F r h → Placed g snap (r ∷ h) → Placed g snap h
+pub placed_before : (g : Opening) (F : ℕ) (snap : ℕ → Contents) (r : Entry) (h : List Entry) → Recorded g F r h → Placed g snap (r ∷ h) → Placed g snap h
 placed_before g F snap r h n pl p = go (pl p)
   where
     go : Had g (r ∷ h) p (snap p) ⊎ ((page_at g (r ∷ h) p).gsn ≤ (snap p).gsn) → Had g h p (snap p) ⊎ ((page_at g h p).gsn ≤ (snap p).gsn)
@@ -291,7 +291,7 @@ module _ (g : Opening) (F R : ℕ) (up_to : ℕ → ℕ) (snap : ℕ → Content
   AllUp h = (y : Entry) → Has y h → is_record y.kind ≡ true → y.number ≤ R → found up_to y ≡ true
 
   -- a record's test comes out as whether it counts
-  stands_counting : (r : Entry) (h : List Entry) → IsHistory g F (r ∷ h) → ((y : Entry) → Has y (r ∷ h) → is_record y.kind ≡ true → y.number ≤ R → found up_to y ≡ true) → Placed g snap (r ∷ h) → Redoes g up_to snap h → found up_to r ≡ true → stands (redone up_to snap h).page r ≡ counting up_to r h
+  stands_counting : (r : Entry) (h : List Entry) → IsRecorded g F (r ∷ h) → ((y : Entry) → Has y (r ∷ h) → is_record y.kind ≡ true → y.number ≤ R → found up_to y ≡ true) → Placed g snap (r ∷ h) → Redoes g up_to snap h → found up_to r ≡ true → stands (redone up_to snap h).page r ≡ counting up_to r h
   stands_counting r h hist a pl ih f =
       all_same (λ f. ((d f.page).gsn == f.prev) || leb r.number (d f.page).gsn) (λ f. whole up_to f.page h) r.refs (λ f i. each f i (ref_touch r f i) (pl f.page))
       ∙ sym (rw f refl)
@@ -328,7 +328,7 @@ module _ (g : Opening) (F R : ℕ) (up_to : ℕ → ℕ) (snap : ℕ → Content
           go (inl (inr had)) = inside had (cases_Bool (whole up_to f.page h))
           go (inr le) = ahead (rw (page_hit g f.page r h o) at le)
 
-  redoes_more : (r : Entry) (h : List Entry) → IsHistory g F (r ∷ h) → ((y : Entry) → Has y (r ∷ h) → is_record y.kind ≡ true → y.number ≤ R → found up_to y ≡ true) → Placed g snap (r ∷ h) → Redoes g up_to snap h → Redoes g up_to snap (r ∷ h)
+  redoes_more : (r : Entry) (h : List Entry) → IsRecorded g F (r ∷ h) → ((y : Entry) → Has y (r ∷ h) → is_record y.kind ≡ true → y.number ≤ R → found up_to y ≡ true) → Placed g snap (r ∷ h) → Redoes g up_to snap h → Redoes g up_to snap (r ∷ h)
   redoes_more r h hist a pl ih p = (λ had. here had, ahead)
     where
       d : Redone
@@ -372,7 +372,7 @@ module _ (g : Opening) (F R : ℕ) (up_to : ℕ → ℕ) (snap : ℕ → Content
           ahead (omega arith) ∙ (e ∙ sym (virtual_whole g up_to (r ∷ h) p (whole_low g F R up_to (r ∷ h) hist a p (omega arith))))
       here (inr had) = later had (cases_Bool (found up_to r))
 
-  pub redoes : (h : List Entry) → IsHistory g F h → ((y : Entry) → Has y h → is_record y.kind ≡ true → y.number ≤ R → found up_to y ≡ true) → Placed g snap h → Redoes g up_to snap h
+  pub redoes : (h : List Entry) → IsRecorded g F h → ((y : Entry) → Has y h → is_record y.kind ≡ true → y.number ≤ R → found up_to y ≡ true) → Placed g snap h → Redoes g up_to snap h
   redoes [] hist a pl p = (λ had. had, λ le. refl)
   redoes (r ∷ h) hist a pl p = redoes_more r h hist a pl (redoes h hist.1 (λ y i. a y (inr i)) (placed_before g F snap r h hist.0 pl)) p
 
@@ -385,10 +385,10 @@ module _ (g : Opening) (F R : ℕ) (up_to : ℕ → ℕ) (snap : ℕ → Content
       d = (redone up_to snap h).page p
 
       ih : (Had g h p (snap p) → d ≡ virtual g up_to h p) × ((page_at g h p).gsn ≤ (snap p).gsn → d ≡ snap p)
-      ih = redoes h hist.1 (λ y i. a y (inr i)) (placed_before g F snap r h hist.0 pl) p
+      ih = redoes h (records_of g F h hist.1) (λ y i. a y (inr i)) (placed_before g F snap r h hist.0.recorded pl) p
 
       ahead : {A : Type 0} → r.number ≤ (snap p).gsn → A
-      ahead le = absurd (true≢false (sym q ∙ at_prev_no g F r h p d hist.0 (λ z. (let up = hist.0.rises p o in let e = ap (λ (v : Contents). v.gsn) (ih.1 (omega arith)) in omega arith))))
+      ahead le = absurd (true≢false (sym q ∙ at_prev_no g F r h p d hist.0.recorded (λ z. (let up = hist.0.recorded.rises p o in let e = ap (λ (v : Contents). v.gsn) (ih.1 (omega arith)) in omega arith))))
 
       mine : any (λ (x : Ref). x.page == p) (page_records.refs_as (page_kind r.kind) r.record_of) ≡ true
       mine = ap (λ (l : List Ref). any (λ (x : Ref). x.page == p) l) (sym ((virtual_fits g F up_to r h hist.0 c).page k).refs) ∙ o
@@ -403,7 +403,7 @@ module _ (g : Opening) (F R : ℕ) (up_to : ℕ → ℕ) (snap : ℕ → Content
   redo_passes r h hist a pl f = and_from (names_pages g.format r) (not (is_page r.kind && stands d r) || rest) (pages_named g F r h hist.1 hist.0) (elim (cases_Bool (is_page r.kind && stands d r)) [
     | inr e ↦ or_left (not (is_page r.kind && stands d r)) rest (ap not e)
     | inl e ↦ (let q = and_parts (is_page r.kind) (stands d r) e in
-        let c = sym (stands_counting r h hist a pl (redoes h hist.1 (λ y i. a y (inr i)) (placed_before g F snap r h hist.0 pl)) f) ∙ q.1 in
+        let c = sym (stands_counting r h (hist.0.recorded, records_of g F h hist.1) a pl (redoes h (records_of g F h hist.1) (λ y i. a y (inr i)) (placed_before g F snap r h hist.0.recorded pl)) f) ∙ q.1 in
         or_right (not (is_page r.kind && stands d r)) rest (and_from (is_sayable_as g.format (page_kind r.kind) r.record_of) (all test r.refs)
         (sayable (page_kind r.kind) g.format (nodes (virtual g up_to h)) r.record_of (virtual_doable g F up_to r h hist c q.0))
         (each r.refs (λ x i. one x i c q.0 (cases_Bool (at_prev r x.page (d x.page)))))))
@@ -427,7 +427,7 @@ module _ (g : Opening) (F R : ℕ) (up_to : ℕ → ℕ) (snap : ℕ → Content
       each (x ∷ l) h = and_from (test x) (all test l) (h x (inl refl)) (each l (λ y i. h y (inr i)))
 
   -- the values that redo leaves
-  pub redo_value : (k : ℕ) (h : List Entry) → IsHistory g F h → ((y : Entry) → Has y h → is_record y.kind ≡ true → y.number ≤ R → found up_to y ≡ true) → ((p : ℕ) → Had g h p (snap p)) → values g.format (redone up_to snap h) k ≡ value g up_to k h
+  pub redo_value : (k : ℕ) (h : List Entry) → IsRecorded g F h → ((y : Entry) → Has y h → is_record y.kind ≡ true → y.number ≤ R → found up_to y ≡ true) → ((p : ℕ) → Had g h p (snap p)) → values g.format (redone up_to snap h) k ≡ value g up_to k h
   redo_value k h hist a had = ap (λ (n : ℕ → Node). lookup g.format n k) (fun_ext (λ p. ap (λ (v : Contents). v.node) ((redoes h hist a (λ q. inl (had q)) p).0 (had p))))
 
 -- ## Entries
@@ -453,7 +453,7 @@ entry_left g F up_to (r ∷ h) hist x b (inr pl) w c nd e = go (entry_left g F u
     go : (page_tree.entry g.format.pages (nodes (virtual g up_to h)) x.key ≡ None → ⊥) → (counting up_to r h ≡ true) ⊎ (counting up_to r h ≡ false) → ⊥
     go ih (inr k) = ih (at (nodes (virtual g up_to h)) (virtual_off g up_to r h k))
     go ih (inl k) = entry_stays g.format (nodes (virtual g up_to h)) r t (virtual_fits g F up_to r h hist.0 k) x.key
-        (λ kc ik. (let d = hist.0.purged kc x.key ik x (before_has x b h pl) w refl in nd (record { end = d.0.end; stands = inr d.0.stands; is_end = d.0.is_end; same = d.0.same }) d.1))
+        (λ kc ik. (let d = hist.0.recorded.purged kc x.key ik x (before_has x b h pl) w refl in nd (record { end = d.0.end; stands = inr d.0.stands; is_end = d.0.is_end; same = d.0.same }) d.1))
         ih (at (moved_on (nodes (virtual g up_to h)) r) (virtual_on g up_to r h k))
 
 -- ## Which records counted
@@ -473,7 +473,7 @@ mark_other f i j b k l ne = elim (cases_eq k i) [
 pub counts_else : (d : Redone) (r : Entry) (k l : ℕ) → (k ≡ r.log → l ≡ r.number → ⊥) → (redo_one d r).counts k l ≡ d.counts k l
 counts_else d r k l ne = mark_other d.counts r.log r.number (stands d.page r) k l ne
 
-pub counts_are : (g : Opening) (F R : ℕ) (up_to : ℕ → ℕ) (snap : ℕ → Contents) → ((p : ℕ) → (snap p).gsn ≤ R) → (h : List Entry) → IsHistory g F h → ((y : Entry) → Has y h → is_record y.kind ≡ true → y.number ≤ R → found up_to y ≡ true) → Placed g snap h → Each (CountsAre up_to (redone up_to snap h).counts) h
+pub counts_are : (g : Opening) (F R : ℕ) (up_to : ℕ → ℕ) (snap : ℕ → Contents) → ((p : ℕ) → (snap p).gsn ≤ R) → (h : List Entry) → IsRecorded g F h → ((y : Entry) → Has y h → is_record y.kind ≡ true → y.number ≤ R → found up_to y ≡ true) → Placed g snap h → Each (CountsAre up_to (redone up_to snap h).counts) h
 counts_are g F R up_to snap low [] hist a pl = tt
 counts_are g F R up_to snap low (r ∷ h) hist a pl = (
   λ f. ap (λ (d : Redone). d.counts r.log r.number) (redone_found up_to snap r h f) ∙ (counts_here (redone up_to snap h) r ∙ stands_counting g F R up_to snap low r h hist a pl (redoes g F R up_to snap low h hist.1 (λ y i. a y (inr i)) (placed_before g F snap r h hist.0 pl)) f),

@@ -90,7 +90,7 @@ every_reopening g es logs page c base low = record {
         (keep_has (λ r. is_record r.kind && (r.log == q.0)) s.entries r (subst (λ (l : List Entry). Has r l) f.1 (has_right r f.0 (logs q.0) p.0))).0
 
     laws : UndoneLaws i
-    laws = every_undone i (every_crash g es logs page c).stands.sound (λ r j l. before_word g (flushed_by_all g s) s.entries inv.history r (happened r j) (and_parts (is_write r.kind) _ l).0)
+    laws = every_undone i (every_crash g es logs page c).stands.sound (λ r j l. before_word g (flushed_by_all g s) s.entries inv.told.history r (happened r j) (and_parts (is_write r.kind) _ l).0)
 
     gsn : ℕ → ℕ
     gsn p = if ltb p g.format.pages then (recovered_page i p).gsn else 0

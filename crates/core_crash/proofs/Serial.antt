@@ -15,7 +15,7 @@ use Rattle.core_commit.proofs.Lists.{pick, Each, Before, has_before, before_has,
 use Rattle.map_model.proofs.ListLemmas.{any_has, has_any, keep_has, order_has}
 use Rattle.core_crash.proofs.Order.{fold_up, Swaps, Apart, fold_up_insert, fold_up_order}
 use Rattle.core_commit.proofs.Nodes.{on_key}
-use Rattle.core_commit.proofs.History.{SameTxn, same_to, same_from, EndOf, Entered, IsHistory, history_value, before_trans}
+use Rattle.core_commit.proofs.History.{SameTxn, same_to, same_from, EndOf, Recorded, IsRecorded, Entered, IsHistory, records_of, history_value, before_trans}
 use Rattle.core_crash.proofs.Ends.{Cut, is_ended, ended_to, ended_from, one_end, found_from}
 use Rattle.core_crash.proofs.Undo.{earlier_le, lasting, stays}
 use Rattle.core_crash.proofs.Journal.{key_from, same_row, flip, chain, write_pick, apply_one, stood, Stood, commit_is_end, won, lasting_settled, settled_applied, history_newest}
@@ -112,21 +112,21 @@ module _ (g : Opening) (F : ℕ) (b : List Entry) (hist : IsHistory g F b) where
   upto w = greatest_of F b
 
   whole_cut : Cut g F (greatest_of F b) (λ _. greatest_of F b) b
-  whole_cut = record { history = hist; far = start_le F b; all = λ r i k n. found_from (λ _. greatest_of F b) r k n }
+  whole_cut = record { records = records_of g F b hist; far = start_le F b; all = λ r i k n. found_from (λ _. greatest_of F b) r k n }
 
   -- a transaction with an end here is ended
   has_end : (y : Entry) → EndOf b y → is_ended (greatest_of F b) (λ _. greatest_of F b) b y ≡ true
   has_end y d =
       let p = has_before d.end b d.stands in
-      let n = ((each_at (Entered g F) b d.end p.0 hist p.1).closes d.is_end).need in
+      let n = ((each_at (Entered g F) b d.end p.0 hist p.1).recorded.closes d.is_end).need in
       let l = le_greatest_of F b d.end d.stands in
       ended_from (greatest_of F b) (λ _. greatest_of F b) b y d.end d.stands d.is_end d.same (found_from (λ _. greatest_of F b) d.end (end_is_record d.end.kind d.is_end) l) (omega arith)
 
   -- the map after its transactions
   pub after_lasting : (k : ℕ) → after (first g) (committed b) k ≡ lasting g (greatest_of F b) (λ _. greatest_of F b) b k b
   after_lasting k =
-      sym (lasting_settled g F (greatest_of F b) (λ _. greatest_of F b) b whole_cut k
-      ∙ (settled_applied g F (greatest_of F b) (λ _. greatest_of F b) b whole_cut k b (λ x c i. i)
+      sym (lasting_settled g F (greatest_of F b) (λ _. greatest_of F b) b whole_cut hist k
+      ∙ (settled_applied g F (greatest_of F b) (λ _. greatest_of F b) b whole_cut hist k b (λ x c i. i)
       ∙ ap (λ (m : ℕ → ℕ). m k) (fold_always (wins (greatest_of F b) (keep (found (λ _. greatest_of F b)) b)) (first g) (committed b) win)))
     where
       win : (t : Done) → Has t (committed b) → wins (greatest_of F b) (keep (found (λ _. greatest_of F b)) b) t ≡ true
@@ -137,7 +137,7 @@ module _ (g : Opening) (F : ℕ) (b : List Entry) (hist : IsHistory g F b) where
 
   -- ## The calls of a transaction that ends now
 
-  module _ (e : Entry) (en : Entered g F e b) (ke : is_end e.kind ≡ true) where
+  module _ (e : Entry) (en : Recorded g F e b) (ke : is_end e.kind ≡ true) where
     -- none of its own has an end here
     own_open : (x : Entry) → SameTxn x e → (d : EndOf b x) → ⊥
     own_open x s d = en.still_open d.end d.stands d.is_end (chain d.end x e d.same s)
@@ -145,8 +145,8 @@ module _ (g : Opening) (F : ℕ) (b : List Entry) (hist : IsHistory g F b) where
     own_not_ended : (x : Entry) → SameTxn x e → is_ended (greatest_of F b) (λ _. greatest_of F b) b x ≡ true → ⊥
     own_not_ended x s q = let d = ended_to (greatest_of F b) (λ _. greatest_of F b) b x q in own_open x s (record { end = d.end; stands = before_has d.end d.behind b d.place; is_end = d.is_end; same = d.same })
 
-    at : (x : Entry) (bx : List Entry) → Before x bx b → Entered g F x bx
-    at x bx p = each_at (Entered g F) b x bx hist p
+    at : (x : Entry) (bx : List Entry) → Before x bx b → Recorded g F x bx
+    at x bx p = (each_at (Entered g F) b x bx hist p).recorded
 
     later_end : (x : Entry) (bx : List Entry) → Before x bx b → (y : Entry) → EndOf bx y → EndOf b y
     later_end x bx p y d = record { end = d.end; stands = behind_has x bx b p d.end d.stands; is_end = d.is_end; same = d.same }
@@ -261,11 +261,11 @@ serial_history g F [] hist = tt
 serial_history g F (e ∷ b) hist = go (serial_history g F b hist.1) (is_commit e.kind) refl
   where
     go : Serial (first g) (committed b) → (q : Bool) → is_commit e.kind ≡ q → Serial (first g) (cond q (record { end = e; calls = calls_of e b } ∷ committed b) (committed b))
-    go ih true k = (ih, lawful_calls g F b hist.1 e hist.0 (commit_is_end e.kind k) b (λ x bx i. i) hist.1)
+    go ih true k = (ih, lawful_calls g F b hist.1 e hist.0.recorded (commit_is_end e.kind k) b (λ x bx i. i) hist.1)
     go ih false k = ih
 
 -- a newer commit with the smaller number uses no key that the older wrote, nor the other way round
-independent : (g : Opening) (F : ℕ) (e : Entry) (b : List Entry) → Entered g F e b → IsHistory g F b → is_commit e.kind ≡ true → (u : Done) → Has u (committed b) → earlier e u.end ≡ true → Independent (record { end = e; calls = calls_of e b }) u
+independent : (g : Opening) (F : ℕ) (e : Entry) (b : List Entry) → Recorded g F e b → IsRecorded g F b → is_commit e.kind ≡ true → (u : Done) → Has u (committed b) → earlier e u.end ≡ true → Independent (record { end = e; calls = calls_of e b }) u
 independent g F e b n hist ke u iu lt = record { left = left; right = right }
   where
     s : Stood u b
@@ -314,7 +314,7 @@ independent g F e b n hist ke u iu lt = record { left = left; right = right }
         let t = theirs y.0 y.1 in
         clash y.0 t.1 ((n.closes (commit_is_end e.kind ke)).order x.0 o.0 o.1 (write_claims x.0 kx.0) y.0 t.0 cy.0 (same_row g k y.0 x.0 (eqb-true y.0.key k cy.1) kx.1))
 
-independent_each : (g : Opening) (F : ℕ) (h : List Entry) → IsHistory g F h → Each (λ x ys. (y : Done) → Has y ys → done_earlier x y ≡ true → Independent x y) (committed h)
+independent_each : (g : Opening) (F : ℕ) (h : List Entry) → IsRecorded g F h → Each (λ x ys. (y : Done) → Has y ys → done_earlier x y ≡ true → Independent x y) (committed h)
 independent_each g F [] hist = tt
 independent_each g F (e ∷ b) hist = go (independent_each g F b hist.1) (is_commit e.kind) refl
   where
@@ -326,7 +326,7 @@ pub every_serial : EverySerial
 every_serial g es =
     let s : State = run g (start g) es in
     let v : Inv g s = (good_run g es (start g) (good_start g)).inv in
-    serial_order (first g) (committed s.entries) (independent_each g (flushed_by_all g s) s.entries v.history) (serial_history g (flushed_by_all g s) s.entries v.history)
+    serial_order (first g) (committed s.entries) (independent_each g (flushed_by_all g s) s.entries v.records) (serial_history g (flushed_by_all g s) s.entries v.told.history)
 
 write_pick_all : (m : ℕ → ℕ) (k : ℕ) (h : List Entry) → write_all h m k ≡ pick (λ r b. on_key k r) (λ r b. r.after) (m k) h
 write_pick_all m k h = ap (λ (l : List Entry). write_all l m k) (sym (keep_all h)) ∙ (write_pick (λ _. true) m k h ∙ go h)
@@ -348,4 +348,4 @@ legal_history g F [] hist = tt
 legal_history g F (r ∷ h) hist = (legal_history g F h hist.1, λ c. hist.0.answers c ∙ (history_pick g F r.key h hist.1 ∙ sym (write_pick_all (first g) r.key h)))
 
 pub every_legal : EveryLegal
-every_legal g es = let v : Inv g (run g (start g) es) = (good_run g es (start g) (good_start g)).inv in legal_history g (flushed_by_all g (run g (start g) es)) (run g (start g) es).entries v.history
+every_legal g es = let v : Inv g (run g (start g) es) = (good_run g es (start g) (good_start g)).inv in legal_history g (flushed_by_all g (run g (start g) es)) (run g (start g) es).entries v.told.history

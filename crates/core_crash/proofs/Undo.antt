@@ -16,7 +16,7 @@ use Rattle.core_commit.proofs.Lists.{each_at, has_before, before_has, Each, Befo
 use Rattle.map_model.proofs.ListLemmas.{keep_has, upd_same, upd_other, all_same}
 use Rattle.core_crash.proofs.Order.{fold_up, fold_down, Swaps, Apart, fold_up_order, fold_down_order}
 use Rattle.core_commit.proofs.Nodes.{on_key}
-use Rattle.core_commit.proofs.History.{EndOf, Entered, IsHistory, number_le_gsn, ref_touch}
+use Rattle.core_commit.proofs.History.{EndOf, Recorded, IsRecorded, IsHistory, number_le_gsn, ref_touch}
 use Rattle.core_crash.proofs.Ends.{behind_end, Cut, is_ended, ended_found, ended_counts, ended_before, counting, whole}
 use Rattle.core_crash.proofs.Redo.{redo_stays, at_prev_off, counts_here, counts_else, value, value_on, value_cut, value_key_off, value_before, redo_value, CountsAre, counts_are, Had}
 use mathlib.Core.Path.{fun_ext}
@@ -138,7 +138,7 @@ pub earlier_differ : (a b : Entry) → earlier a b ≡ true → a.log ≡ b.log 
 earlier_differ a b h l n = elim (earlier_to a b h) [ inl e ↦ omega arith | inr e ↦ let q = e.1 in omega arith ]
 
 -- a newer record that is earlier shares no page
-pub pages_apart : (g : Opening) (F : ℕ) (x : Entry) (b : List Entry) → IsHistory g F b → Entered g F x b → (y : Entry) → Has y b → earlier x y ≡ true → (p : ℕ) → touches p x ≡ true → touches p y ≡ true → ⊥
+pub pages_apart : (g : Opening) (F : ℕ) (x : Entry) (b : List Entry) → IsRecorded g F b → Recorded g F x b → (y : Entry) → Has y b → earlier x y ≡ true → (p : ℕ) → touches p x ≡ true → touches p y ≡ true → ⊥
 pages_apart g F x b hist n y i e p tx ty =
     let a = number_le_gsn g F p b hist y i ty in
     let up = n.rises p tx in
@@ -194,11 +194,11 @@ redo_swaps x y np ne d = redone_path (redo_one (redo_one d x) y) (redo_one (redo
       | inr a ↦ elim (both k l y.log y.number) [ inl b ↦ at_y k l b.0 b.1 | inr b ↦ neither k l a b ]
     ]
 
-redo_commutes : (g : Opening) (F : ℕ) (x : Entry) (b : List Entry) → IsHistory g F b → Entered g F x b → (y : Entry) → Has y b → earlier x y ≡ true → Swaps redo_one x y
+redo_commutes : (g : Opening) (F : ℕ) (x : Entry) (b : List Entry) → IsRecorded g F b → Recorded g F x b → (y : Entry) → Has y b → earlier x y ≡ true → Swaps redo_one x y
 redo_commutes g F x b hist n y i e = redo_swaps x y (pages_apart g F x b hist n y i e) (earlier_differ x y e)
 
 -- the numbers of a key's writes rise
-keys_rise : (g : Opening) (F : ℕ) (x : Entry) (b : List Entry) → IsHistory g F b → Entered g F x b → (y : Entry) → Has y b → is_write x.kind ≡ true → is_write y.kind ≡ true → x.key ≡ y.key → y.number < x.number
+keys_rise : (g : Opening) (F : ℕ) (x : Entry) (b : List Entry) → IsRecorded g F b → Recorded g F x b → (y : Entry) → Has y b → is_write x.kind ≡ true → is_write y.kind ≡ true → x.key ≡ y.key → y.number < x.number
 keys_rise g F x b hist n y i kx ky e = elim (n.locked kx y i ky (ap g.row_of (sym e))) [
   | inl s ↦ n.later (write_is_record x.kind kx) y i s.0
   | inr d ↦ go d.0 d.1
@@ -209,10 +209,10 @@ keys_rise g F x b hist n y i kx ky e = elim (n.locked kx y i ky (ap g.row_of (sy
         let pd = has_before d.end b d.stands in
         let py = has_before y b i in
         let q = behind_end g F b hist d.end pd.0 pd.1 d.is_end y py.0 py.1 (write_is_no_end y.kind ky) d.same in
-        let l = (each_at (Entered g F) b d.end pd.0 hist pd.1).later (end_is_record d.end.kind d.is_end) y (before_has y py.0 pd.0 q) (sym d.same.0) in
+        let l = (each_at (Recorded g F) b d.end pd.0 hist pd.1).later (end_is_record d.end.kind d.is_end) y (before_has y py.0 pd.0 q) (sym d.same.0) in
         omega arith
 
-undo_commutes : (g : Opening) (F : ℕ) (lost : Entry → Bool) → ((r : Entry) → lost r ≡ true → is_write r.kind ≡ true) → (x : Entry) (b : List Entry) → IsHistory g F b → Entered g F x b → (y : Entry) → Has y b → earlier x y ≡ true → Swaps (undo_one lost) x y
+undo_commutes : (g : Opening) (F : ℕ) (lost : Entry → Bool) → ((r : Entry) → lost r ≡ true → is_write r.kind ≡ true) → (x : Entry) (b : List Entry) → IsRecorded g F b → Recorded g F x b → (y : Entry) → Has y b → earlier x y ≡ true → Swaps (undo_one lost) x y
 undo_commutes g F lost lw x b hist n y i e m = go (lost x) refl (lost y) refl
   where
     go : (a : Bool) → lost x ≡ a → (c : Bool) → lost y ≡ c → undo_one lost (undo_one lost m x) y ≡ undo_one lost (undo_one lost m y) x
@@ -228,11 +228,11 @@ apart_keep lt step f (x ∷ h) a = go (apart_keep lt step f h a.1) (f x)
     go ih true = (λ y i e. a.0 y (keep_has f h y i).0 e, ih)
     go ih false = ih
 
-redo_apart : (g : Opening) (F : ℕ) (h : List Entry) → IsHistory g F h → Apart earlier redo_one h
+redo_apart : (g : Opening) (F : ℕ) (h : List Entry) → IsRecorded g F h → Apart earlier redo_one h
 redo_apart g F [] hist = tt
 redo_apart g F (x ∷ h) hist = (redo_commutes g F x h hist.1 hist.0, redo_apart g F h hist.1)
 
-undo_apart : (g : Opening) (F : ℕ) (lost : Entry → Bool) → ((r : Entry) → lost r ≡ true → is_write r.kind ≡ true) → (h : List Entry) → IsHistory g F h → Apart earlier (undo_one lost) h
+undo_apart : (g : Opening) (F : ℕ) (lost : Entry → Bool) → ((r : Entry) → lost r ≡ true → is_write r.kind ≡ true) → (h : List Entry) → IsRecorded g F h → Apart earlier (undo_one lost) h
 undo_apart g F lost lw [] hist = tt
 undo_apart g F lost lw (x ∷ h) hist = (undo_commutes g F lost lw x h hist.1 hist.0, undo_apart g F lost lw h hist.1)
 
@@ -244,7 +244,7 @@ undo_fold : (lost : Entry → Bool) (z : List Entry) (m : ℕ → ℕ) → undo 
 undo_fold lost [] m = refl
 undo_fold lost (r ∷ z) m = undo_fold lost z (undo_one lost m r)
 
-pub redo_sorted : (g : Opening) (F : ℕ) (f : Entry → Bool) (page : ℕ → Contents) (h : List Entry) → IsHistory g F h → redo page (in_order earlier (keep f h)) ≡ redo page (keep f h)
+pub redo_sorted : (g : Opening) (F : ℕ) (f : Entry → Bool) (page : ℕ → Contents) (h : List Entry) → IsRecorded g F h → redo page (in_order earlier (keep f h)) ≡ redo page (keep f h)
 redo_sorted g F f page h hist =
     redo_fold page (in_order earlier (keep f h))
     ∙ (fold_up_order earlier redo_one (keep f h) (apart_keep earlier redo_one f h (redo_apart g F h hist)) (record { page = page; counts = λ _ _. false })
@@ -275,7 +275,7 @@ test_swaps g x y np ne t = tested_path (test_one g.format (test_one g.format t x
     ∙ (and_swap t.sound (passes g.format t.done.page x) (passes g.format t.done.page y)
     ∙ ap (λ (b : Bool). (t.sound && passes g.format t.done.page y) && b) (sym (passes_local g (redo_one t.done y).page t.done.page x (λ q o. redo_off t.done y q (false_from_ne_true (touches q y) (λ z. np q o z)))))))
 
-test_apart : (g : Opening) (F : ℕ) (h : List Entry) → IsHistory g F h → Apart earlier (test_one g.format) h
+test_apart : (g : Opening) (F : ℕ) (h : List Entry) → IsRecorded g F h → Apart earlier (test_one g.format) h
 test_apart g F [] hist = tt
 test_apart g F (x ∷ h) hist = (λ y i e. test_swaps g x y (pages_apart g F x h hist.1 hist.0 y i e) (earlier_differ x y e), test_apart g F h hist.1)
 
@@ -283,7 +283,7 @@ test_fold : (g : Opening) (page : ℕ → Contents) (z : List Entry) → tested 
 test_fold g page [] = refl
 test_fold g page (r ∷ z) = ap (λ (d : Tested). test_one g.format d r) (test_fold g page z)
 
-pub tested_sorted : (g : Opening) (F : ℕ) (f : Entry → Bool) (page : ℕ → Contents) (h : List Entry) → IsHistory g F h → tested g.format page (in_order earlier (keep f h)) ≡ tested g.format page (keep f h)
+pub tested_sorted : (g : Opening) (F : ℕ) (f : Entry → Bool) (page : ℕ → Contents) (h : List Entry) → IsRecorded g F h → tested g.format page (in_order earlier (keep f h)) ≡ tested g.format page (keep f h)
 tested_sorted g F f page h hist =
     test_fold g page (in_order earlier (keep f h))
     ∙ (fold_up_order earlier (test_one g.format) (keep f h) (apart_keep earlier (test_one g.format) f h (test_apart g F h hist)) (record { done = record { page = page; counts = λ _ _. false }; sound = true })
@@ -293,7 +293,7 @@ pub tested_done : (g : Opening) (page : ℕ → Contents) (z : List Entry) → (
 tested_done g page [] = refl
 tested_done g page (r ∷ z) = ap (λ (d : Redone). redo_one d r) (tested_done g page z)
 
-undo_sorted : (g : Opening) (F : ℕ) (f lost : Entry → Bool) → ((r : Entry) → lost r ≡ true → is_write r.kind ≡ true) → (h : List Entry) → IsHistory g F h → (m : ℕ → ℕ) → undo lost (in_order earlier (keep f h)) m ≡ undo lost (keep f h) m
+undo_sorted : (g : Opening) (F : ℕ) (f lost : Entry → Bool) → ((r : Entry) → lost r ≡ true → is_write r.kind ≡ true) → (h : List Entry) → IsRecorded g F h → (m : ℕ → ℕ) → undo lost (in_order earlier (keep f h)) m ≡ undo lost (keep f h) m
 undo_sorted g F f lost lw h hist m =
     undo_fold lost (in_order earlier (keep f h)) m
     ∙ (fold_down_order earlier (undo_one lost) (keep f h) (apart_keep earlier (undo_one lost) f h (undo_apart g F lost lw h hist)) m
@@ -301,7 +301,7 @@ undo_sorted g F f lost lw h hist m =
 
 -- ## What recovery gives
 
-pub recovered_unsorted : (g : Opening) (F floor : ℕ) (f : Entry → Bool) (h : List Entry) (snap : ℕ → Contents) → IsHistory g F h → (k : ℕ) →
+pub recovered_unsorted : (g : Opening) (F floor : ℕ) (f : Entry → Bool) (h : List Entry) (snap : ℕ → Contents) → IsRecorded g F h → (k : ℕ) →
     recovered g floor snap (keep f h) k ≡ undo (is_lost g.workers floor (keep f h) (redo snap (keep f h))) (keep f h) (values g.format (redo snap (keep f h))) k
 recovered_unsorted g F floor f h snap hist k =
     ap (λ (d : Redone). undo (is_lost g.workers floor z d) (in_order earlier z) (values g.format d) k) (redo_sorted g F f snap h hist)
@@ -314,13 +314,13 @@ recovered_unsorted g F floor f h snap hist k =
     d = redo snap z
 
 pub recovered_lasting : (g : Opening) (F floor : ℕ) (up_to : ℕ → ℕ) (h : List Entry) (snap : ℕ → Contents) →
-    Cut g F (reach g.workers floor (keep (found up_to) h)) up_to h → ((p : ℕ) → (snap p).gsn ≤ F) → ((p : ℕ) → Had g h p (snap p)) →
+    Cut g F (reach g.workers floor (keep (found up_to) h)) up_to h → IsHistory g F h → ((p : ℕ) → (snap p).gsn ≤ F) → ((p : ℕ) → Had g h p (snap p)) →
     (k : ℕ) → recovered g floor snap (keep (found up_to) h) k ≡ lasting g (reach g.workers floor (keep (found up_to) h)) up_to h k h
-recovered_lasting g F floor up_to h snap c low had k =
-    recovered_unsorted g F floor (found up_to) h snap c.history k
-    ∙ undo_value g F R up_to h c d.counts k h (λ r b i. i) c.history
-    (counts_are g F R up_to snap low_R h c.history c.all (λ p. inl (had p)))
-    (values g.format d) (redo_value g F R up_to snap low_R k h c.history c.all had)
+recovered_lasting g F floor up_to h snap c hist low had k =
+    recovered_unsorted g F floor (found up_to) h snap c.records k
+    ∙ undo_value g F R up_to h c d.counts k h (λ r b i. i) hist
+    (counts_are g F R up_to snap low_R h c.records c.all (λ p. inl (had p)))
+    (values g.format d) (redo_value g F R up_to snap low_R k h c.records c.all had)
   where
     z : List Entry
     z = keep (found up_to) h

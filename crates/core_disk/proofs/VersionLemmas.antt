@@ -15,7 +15,7 @@ use Rattle.core_state.specs.Steps.{at_pages, page_entry, write_entry, moves, put
 use Rattle.core_state.proofs.Runs.{run_more}
 use Rattle.core_commit.specs.Rises.{EveryRise, Rises}
 use Rattle.core_commit.proofs.Lists.{le_least, least_le}
-use Rattle.core_commit.proofs.History.{IsHistory, gsn_rises, number_le_gsn, page_at}
+use Rattle.core_commit.proofs.History.{IsRecorded, gsn_rises, number_le_gsn, page_at}
 use Rattle.core_commit.proofs.Invariants.{Inv, stamp_flushed}
 use Rattle.core_commit.proofs.Events.{touched_all}
 use Rattle.core_commit.proofs.Runs.{Good, good_run, good_start, good_step, step_keeps}
@@ -155,13 +155,13 @@ more_step g s e = step_keeps (λ t. OneMore s.entries t.entries) g s e (inl refl
 gsn_step : (g : Opening) (s : State) (e : Event) (p : ℕ) → Good g s → (s.page p).gsn ≤ ((step g s e).page p).gsn
 gsn_step g s e p i =
     let k : Good g (step g s e) = good_step g s e i in
-    let was = ap (λ (v : Contents). v.gsn) (i.inv.pages p) in
-    let is = ap (λ (v : Contents). v.gsn) (k.inv.pages p) in
+    let was = (i.inv.stamps p).0 in
+    let is = (k.inv.stamps p).0 in
     ⊎_elim
     (λ (same : (step g s e).entries ≡ s.entries). let h = ap (λ (l : List Entry). (page_at g l p).gsn) same in omega arith)
     (λ (q : (r : Entry) × ((step g s e).entries ≡ r ∷ s.entries)).
     let F = flushed_by_all g (step g s e) in
-    let h : IsHistory g F (q.0 ∷ s.entries) = subst (IsHistory g F) q.1 k.inv.history in
+    let h : IsRecorded g F (q.0 ∷ s.entries) = subst (IsRecorded g F) q.1 k.inv.records in
     let up = gsn_rises g F p q.0 s.entries h.0 in
     let e2 = ap (λ (l : List Entry). (page_at g l p).gsn) q.1 in omega arith)
     (more_step g s e)
@@ -224,7 +224,7 @@ module _ (rises : EveryRise) (saves : EverySaved) (g : Opening) (es : List Event
     now = λ l. record {
       been = been_now g (start g) es p;
       number = l;
-      changes = λ r h t c. let a = number_le_gsn g (flushed_by_all g s) p s.entries inv.history r h t in let e = ap (λ (v : Contents). v.gsn) (inv.pages p) in omega arith;
+      changes = λ r h t c. let a = number_le_gsn g (flushed_by_all g s) p s.entries inv.records r h t in let e = (inv.stamps p).0 in omega arith;
     };
     known = λ v b. been_low g es (start g) p v (good_start g) b;
     more = more;

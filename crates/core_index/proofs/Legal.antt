@@ -19,8 +19,8 @@ use Rattle.core_state.specs.Needs.{is_value, is_following, following, holds_answ
 use Rattle.core_state.specs.Steps.{at_pages, page_entry, write_entry, read_entry, moves, put_back, follows, happens, step, run}
 use Rattle.core_commit.proofs.Nodes.{on_key}
 use Rattle.core_commit.proofs.History.{history_value, history_on, history_off}
-use Rattle.core_commit.proofs.Invariants.{Inv}
-use Rattle.core_commit.proofs.Events.{same_nodes, tree_now}
+use Rattle.core_commit.proofs.Invariants.{IsTold, Inv}
+use Rattle.core_commit.proofs.Events.{same_nodes}
 use Rattle.core_commit.proofs.Nexts.{following_is, following_at, follows_in, no_answer}
 use Rattle.core_commit.proofs.Says.{said_word, write_here, write_else}
 use Rattle.core_commit.proofs.Runs.{Good, good_event, good_run, good_start}
@@ -36,22 +36,22 @@ value_at : (f : Format) (node : ℕ → Node) → IsTree f node → (p k : ℕ) 
 value_at f node t p k l h = ap (value_of f) (entry_at f node t k p l (holds_to (node p) k h))
 
 -- it is what the newest write says
-value_is : (g : Opening) (s : State) → Inv g s → (k : ℕ) → map_in g s k ≡ said g.format (history_value g k s.entries)
+value_is : (g : Opening) (s : State) → IsTold g s → (k : ℕ) → map_in g s k ≡ said g.format (history_value g k s.entries)
 value_is g s i k = sym (said_word g.format (entry g.format.pages (nodes_of s) k)) ∙ ap (λ (n : ℕ → Node). said g.format (lookup g.format n k)) (same_nodes g s i)
 
 -- an entry came
-value_on : (g : Opening) (t : State) (x : Entry) (h : List Entry) → Inv g t → t.entries ≡ x ∷ h → (k : ℕ) → on_key k x ≡ true → map_in g t k ≡ said g.format x.after
+value_on : (g : Opening) (t : State) (x : Entry) (h : List Entry) → IsTold g t → t.entries ≡ x ∷ h → (k : ℕ) → on_key k x ≡ true → map_in g t k ≡ said g.format x.after
 value_on g t x h i e k o =
     let hist = subst (λ (l : List Entry). Rattle.core_commit.proofs.History.IsHistory g (flushed_by_all g t) l) e i.history in
     value_is g t i k ∙ (ap (λ (l : List Entry). said g.format (history_value g k l)) e ∙ ap (said g.format) (history_on g (flushed_by_all g t) k x h hist.1 hist.0.fits o))
 
-value_off : (g : Opening) (s t : State) (x : Entry) → Inv g s → Inv g t → t.entries ≡ x ∷ s.entries → (k : ℕ) → on_key k x ≡ false → map_in g t k ≡ map_in g s k
+value_off : (g : Opening) (s t : State) (x : Entry) → IsTold g s → IsTold g t → t.entries ≡ x ∷ s.entries → (k : ℕ) → on_key k x ≡ false → map_in g t k ≡ map_in g s k
 value_off g s t x j i e k o =
     let hist = subst (λ (l : List Entry). Rattle.core_commit.proofs.History.IsHistory g (flushed_by_all g t) l) e i.history in
     value_is g t i k ∙ (ap (λ (l : List Entry). said g.format (history_value g k l)) e ∙ (ap (said g.format) (history_off g (flushed_by_all g t) k x s.entries hist.1 hist.0.fits o) ∙ sym (value_is g s j k)))
 
 -- none came
-value_same : (g : Opening) (s t : State) → Inv g s → Inv g t → t.entries ≡ s.entries → (k : ℕ) → map_in g t k ≡ map_in g s k
+value_same : (g : Opening) (s t : State) → IsTold g s → IsTold g t → t.entries ≡ s.entries → (k : ℕ) → map_in g t k ≡ map_in g s k
 value_same g s t j i e k = value_is g t i k ∙ (ap (λ (l : List Entry). said g.format (history_value g k l)) e ∙ sym (value_is g s j k))
 
 -- ## What follows
@@ -122,14 +122,14 @@ leaf_parts g n p k h = let q = and_parts (ltb p g.format.pages) (holds n k) h in
 lawful_get : (g : Opening) (s : State) → Inv g s → (p k : ℕ) (a : Option ℕ) → is_leaf_of g (s.page p).node p k ≡ true → is_value a (value_in g.format (s.page p).node k) ≡ true → IsLawful (map_in g s) (MapCall.Get k) (MapAnswer.Value a)
 lawful_get g s i p k a l v =
     let q = leaf_parts g (s.page p).node p k l in
-    ap (λ (x : Option ℕ). MapAnswer.Value x) (value_to a (value_in g.format (s.page p).node k) v ∙ sym (value_at g.format (nodes_of s) (tree_now g s i) p k q.0 q.1))
+    ap (λ (x : Option ℕ). MapAnswer.Value x) (value_to a (value_in g.format (s.page p).node k) v ∙ sym (value_at g.format (nodes_of s) i.tree p k q.0 q.1))
 
 -- a write
 lawful_write : (g : Opening) (s : State) → Inv g s → (w p k v : ℕ) → is_leaf_of g (s.page p).node p k ≡ true → IsLawful (map_in g s) (write_told g s w p k v).call (write_told g s w p k v).answer
 lawful_write g s i w p k v l = go (ltb v g.format.dead)
   where
     same : value_in g.format (s.page p).node k ≡ map_in g s k
-    same = let q = leaf_parts g (s.page p).node p k l in sym (value_at g.format (nodes_of s) (tree_now g s i) p k q.0 q.1)
+    same = let q = leaf_parts g (s.page p).node p k l in sym (value_at g.format (nodes_of s) i.tree p k q.0 q.1)
 
     go : (b : Bool) → IsLawful (map_in g s) (cond b (MapCall.Put k v) (MapCall.Del k)) (MapAnswer.Was (value_in g.format (s.page p).node k))
     go true = ap (λ (x : Option ℕ). MapAnswer.Was x) same
@@ -155,7 +155,7 @@ lawful_next g s i w p k a m = go a refl
     leaf = leaf_parts g v p k m2.0
 
     tree : IsTree g.format (nodes_of s)
-    tree = tree_now g s i
+    tree = i.tree
 
     lies : Rattle.page_model.proofs.Entries.LeafWith v k
     lies = holds_to v k leaf.1
@@ -197,11 +197,11 @@ pub record Tells (g : Opening) (s : State) (h : List Step) : Type 0 where
 now : (g : Opening) (s : State) (h : List Step) → Tells g s h → map_in g s ≡ over (map_in g (start g)) (last_write h)
 now g s h t = fun_ext t.map
 
-tells_same : (g : Opening) (s t : State) (h : List Step) → Inv g s → Inv g t → t.entries ≡ s.entries → Tells g s h → Tells g t h
+tells_same : (g : Opening) (s t : State) (h : List Step) → IsTold g s → IsTold g t → t.entries ≡ s.entries → Tells g s h → Tells g t h
 tells_same g s t h i j e k = record { legal = k.legal; map = λ n. value_same g s t i j e n ∙ k.map n }
 
 -- an entry came that writes nothing
-tells_entry : (g : Opening) (s t : State) (h : List Step) (x : Entry) → Inv g s → Inv g t → t.entries ≡ x ∷ s.entries → is_write x.kind ≡ false → Tells g s h → Tells g t h
+tells_entry : (g : Opening) (s t : State) (h : List Step) (x : Entry) → IsTold g s → IsTold g t → t.entries ≡ x ∷ s.entries → is_write x.kind ≡ false → Tells g s h → Tells g t h
 tells_entry g s t h x i j e w k = record { legal = k.legal; map = λ n. value_off g s t x i j e n (and_left (is_write x.kind) (x.key == n) w) ∙ k.map n }
 
 -- a call that writes nothing
@@ -212,9 +212,9 @@ tells_call g s t h x n l a b = record {
 }
 
 -- a write
-tells_write : (g : Opening) (s t : State) (h : List Step) (K : Kind) (w p k v : ℕ) → Inv g s → Inv g t → is_write K ≡ true → t.entries ≡ write_entry g K s w (at_pages s w (s.worker w) (p ∷ [])) p k v ∷ s.entries → is_leaf_of g (s.page p).node p k ≡ true → Tells g s h → Tells g t (write_told g s w p k v ∷ h)
-tells_write g s t h K w p k v i j kw e leaf a = record {
-  legal = (a.legal, subst (λ (m : Map). IsLawful m (write_told g s w p k v).call (write_told g s w p k v).answer) (now g s h a) (lawful_write g s i w p k v leaf));
+tells_write : (g : Opening) (s t : State) (h : List Step) (K : Kind) (w p k v : ℕ) → Inv g s → IsTold g s → IsTold g t → is_write K ≡ true → t.entries ≡ write_entry g K s w (at_pages s w (s.worker w) (p ∷ [])) p k v ∷ s.entries → is_leaf_of g (s.page p).node p k ≡ true → Tells g s h → Tells g t (write_told g s w p k v ∷ h)
+tells_write g s t h K w p k v inv i j kw e leaf a = record {
+  legal = (a.legal, subst (λ (m : Map). IsLawful m (write_told g s w p k v).call (write_told g s w p k v).answer) (now g s h a) (lawful_write g s inv w p k v leaf));
   map = λ n. elim (cases_eq n k) [
     | inl q ↦ value_on g t x s.entries j e n (Rattle.std.proofs.lemmas.Bool.and_from (is_write K) (k == n) kw (eq-eqb k n (sym q))) ∙ sym (ap (λ (o : Option (Option ℕ)). write_or (first_of o (last_write h n)) (map_in g (start g) n)) (write_here g.format k v n q))
     | inr q ↦ value_off g s t x i j e n (Rattle.std.proofs.lemmas.Bool.and_right (is_write K) (k == n) (ne_eqb k n (λ z. q (sym z)))) ∙ (a.map n ∙ sym (ap (λ (o : Option (Option ℕ)). write_or (first_of o (last_write h n)) (map_in g (start g) n)) (write_else g.format k v n q)))
@@ -224,76 +224,76 @@ tells_write g s t h K w p k v i j kw e leaf a = record {
     x : Entry
     x = write_entry g K s w (at_pages s w (s.worker w) (p ∷ [])) p k v
 
-tells_moves : (g : Opening) (s : State) (h : List Step) (K : Kind) (w : ℕ) (ps : List ℕ) (y : Record) → Inv g s → Inv g (moves s K w ps y) → is_write K ≡ false → Tells g s h → Tells g (moves s K w ps y) h
+tells_moves : (g : Opening) (s : State) (h : List Step) (K : Kind) (w : ℕ) (ps : List ℕ) (y : Record) → IsTold g s → IsTold g (moves s K w ps y) → is_write K ≡ false → Tells g s h → Tells g (moves s K w ps y) h
 tells_moves g s h K w ps y i j kw a = tells_entry g s (moves s K w ps y) h (page_entry K s w (at_pages s w (s.worker w) ps) ps y) i j refl kw a
 
-tells_event : (g : Opening) (s : State) (h : List Step) (e : Event) → Inv g s → Inv g (happens g s e) → needs g s e ≡ true → Tells g s h → Tells g (happens g s e) (told g s e h)
-tells_event g s h (Event.Read w p k a) i j m t =
+tells_event : (g : Opening) (s : State) (h : List Step) (e : Event) → Inv g s → IsTold g s → IsTold g (happens g s e) → needs g s e ≡ true → Tells g s h → Tells g (happens g s e) (told g s e h)
+tells_event g s h (Event.Read w p k a) inv i j m t =
     let q = and_parts (may_read g s w p k) (is_value a (value_in g.format (s.page p).node k)) m in
     let r = and_parts (s.worker w).is_open (holds_row (s.row (g.row_of k)) w && is_leaf_of g (s.page p).node p k) q.0 in
     let l = and_parts (holds_row (s.row (g.row_of k)) w) (is_leaf_of g (s.page p).node p k) r.1 in
-    tells_call g s (happens g s (Event.Read w p k a)) h (record { session = w; call = MapCall.Get k; answer = MapAnswer.Value a }) (λ n. refl) (lawful_get g s i p k a l.1 q.1) t
+    tells_call g s (happens g s (Event.Read w p k a)) h (record { session = w; call = MapCall.Get k; answer = MapAnswer.Value a }) (λ n. refl) (lawful_get g s inv p k a l.1 q.1) t
     (tells_entry g s (happens g s (Event.Read w p k a)) h (read_entry w (at_pages s w (s.worker w) (p ∷ [])) k (Rattle.image_model.specs.Entries.word_in g.format (s.page p).node k) (is_held_by (s.row (g.row_of k)).holder w)) i j refl refl t)
-tells_event g s h (Event.Peek w p k a) i j m t =
+tells_event g s h (Event.Peek w p k a) inv i j m t =
     let q = and_parts (is_leaf_of g (s.page p).node p k) (is_value a (value_in g.format (s.page p).node k)) m in
-    tells_call g s s h (record { session = w; call = MapCall.Get k; answer = MapAnswer.Value a }) (λ n. refl) (lawful_get g s i p k a q.0 q.1) t t
-tells_event g s h (Event.Next w p k a) i j m t = tells_call g s (happens g s (Event.Next w p k a)) h (record { session = w; call = MapCall.Next k; answer = a }) (λ n. refl) (lawful_next g s i w p k a m) t (go a j)
+    tells_call g s s h (record { session = w; call = MapCall.Get k; answer = MapAnswer.Value a }) (λ n. refl) (lawful_get g s inv p k a q.0 q.1) t t
+tells_event g s h (Event.Next w p k a) inv i j m t = tells_call g s (happens g s (Event.Next w p k a)) h (record { session = w; call = MapCall.Next k; answer = a }) (λ n. refl) (lawful_next g s inv w p k a m) t (go a j)
   where
-    go : (a : MapAnswer) → Inv g (follows g s w p a) → Tells g (follows g s w p a) h
+    go : (a : MapAnswer) → IsTold g (follows g s w p a) → Tells g (follows g s w p a) h
     go (MapAnswer.Pair at word) j = tells_entry g s (follows g s w p (MapAnswer.Pair at word)) h (read_entry w (at_pages s w (s.worker w) (p ∷ [])) at (Rattle.image_model.specs.Entries.word_in g.format (s.page p).node at) (is_held_by (s.row (g.row_of at)).holder w)) i j refl refl t
     go (MapAnswer.Gap b) j = tells_same g s (follows g s w p (MapAnswer.Gap b)) h i j refl t
     go (MapAnswer.Value b) j = t
     go (MapAnswer.Was b) j = t
-tells_event g s h (Event.Change w p k v) i j m t =
+tells_event g s h (Event.Change w p k v) inv i j m t =
     let q = and_parts (ltb (length (s.worker w).changes) g.changes) ((s.worker w).is_open && (is_held_by (s.row (g.row_of k)).holder w && may_put g (s.page p).node p k v)) m in
     let r = and_parts (s.worker w).is_open (is_held_by (s.row (g.row_of k)).holder w && may_put g (s.page p).node p k v) q.1 in
     let u = and_parts (is_held_by (s.row (g.row_of k)).holder w) (may_put g (s.page p).node p k v) r.1 in
     let x = and_parts (ltb p g.format.pages) (holds (s.page p).node k && (leb v g.format.dead && (has_key k (s.page p).node || ltb (length (s.page p).node.pairs) g.format.room))) u.1 in
     let y = and_parts (holds (s.page p).node k) (leb v g.format.dead && (has_key k (s.page p).node || ltb (length (s.page p).node.pairs) g.format.room)) x.1 in
-    tells_write g s (happens g s (Event.Change w p k v)) h Kind.Change w p k v i j refl refl (Rattle.std.proofs.lemmas.Bool.and_from (ltb p g.format.pages) (holds (s.page p).node k) x.0 y.0) t
-tells_event g s h (Event.Put_back w p) i j m t = go (s.worker w).changes (and_parts (s.worker w).is_open (may_put_back g (s.page p).node p (s.worker w).changes) m).1 j
+    tells_write g s (happens g s (Event.Change w p k v)) h Kind.Change w p k v inv i j refl refl (Rattle.std.proofs.lemmas.Bool.and_from (ltb p g.format.pages) (holds (s.page p).node k) x.0 y.0) t
+tells_event g s h (Event.Put_back w p) inv i j m t = go (s.worker w).changes (and_parts (s.worker w).is_open (may_put_back g (s.page p).node p (s.worker w).changes) m).1 j
   where
-    go : (cs : List Entry) → may_put_back g (s.page p).node p cs ≡ true → Inv g (put_back g s w p cs) → Tells g (put_back g s w p cs) (put_back_told g s w p cs h)
+    go : (cs : List Entry) → may_put_back g (s.page p).node p cs ≡ true → IsTold g (put_back g s w p cs) → Tells g (put_back g s w p cs) (put_back_told g s w p cs h)
     go [] z j = t
     go (c ∷ cs) z j =
         let x = and_parts (ltb p g.format.pages) (holds (s.page p).node c.key && has_key c.key (s.page p).node) z in
         let y = and_parts (holds (s.page p).node c.key) (has_key c.key (s.page p).node) x.1 in
-        tells_write g s (put_back g s w p (c ∷ cs)) h Kind.Put_back w p c.key c.before i j refl refl (Rattle.std.proofs.lemmas.Bool.and_from (ltb p g.format.pages) (holds (s.page p).node c.key) x.0 y.0) t
-tells_event g s h (Event.Split w l r q n) i j m t = tells_moves g s h Kind.Split w (l ∷ r ∷ q ∷ []) (record_needs.split_record (nodes_of s) (gsns_of s) l r q n) i j refl t
-tells_event g s h (Event.Lift w c) i j m t = tells_moves g s h Kind.Lift w (0 ∷ c ∷ []) (record_needs.lift_record (nodes_of s) (gsns_of s) c) i j refl t
-tells_event g s h (Event.Join w l r q) i j m t = tells_moves g s h Kind.Join w (l ∷ r ∷ q ∷ []) (record_needs.join_record (nodes_of s) (gsns_of s) l r q) i j refl t
-tells_event g s h (Event.Drop w c) i j m t = tells_moves g s h Kind.Drop w (0 ∷ c ∷ []) (record_needs.drop_record (nodes_of s) (gsns_of s) c) i j refl t
-tells_event g s h (Event.Purge w p keys) i j m t = tells_moves g s h Kind.Purge w (p ∷ []) (record_needs.purge_record (gsns_of s) p keys) i j refl t
-tells_event g s h (Event.End w commit f) i j m t = go commit j
+        tells_write g s (put_back g s w p (c ∷ cs)) h Kind.Put_back w p c.key c.before inv i j refl refl (Rattle.std.proofs.lemmas.Bool.and_from (ltb p g.format.pages) (holds (s.page p).node c.key) x.0 y.0) t
+tells_event g s h (Event.Split w l r q n) inv i j m t = tells_moves g s h Kind.Split w (l ∷ r ∷ q ∷ []) (record_needs.split_record (nodes_of s) (gsns_of s) l r q n) i j refl t
+tells_event g s h (Event.Lift w c) inv i j m t = tells_moves g s h Kind.Lift w (0 ∷ c ∷ []) (record_needs.lift_record (nodes_of s) (gsns_of s) c) i j refl t
+tells_event g s h (Event.Join w l r q) inv i j m t = tells_moves g s h Kind.Join w (l ∷ r ∷ q ∷ []) (record_needs.join_record (nodes_of s) (gsns_of s) l r q) i j refl t
+tells_event g s h (Event.Drop w c) inv i j m t = tells_moves g s h Kind.Drop w (0 ∷ c ∷ []) (record_needs.drop_record (nodes_of s) (gsns_of s) c) i j refl t
+tells_event g s h (Event.Purge w p keys) inv i j m t = tells_moves g s h Kind.Purge w (p ∷ []) (record_needs.purge_record (gsns_of s) p keys) i j refl t
+tells_event g s h (Event.End w commit f) inv i j m t = go commit j
   where
-    go : (b : Bool) → Inv g (happens g s (Event.End w b f)) → Tells g (happens g s (Event.End w b f)) h
+    go : (b : Bool) → IsTold g (happens g s (Event.End w b f)) → Tells g (happens g s (Event.End w b f)) h
     go true j = tells_entry g s (happens g s (Event.End w true f)) h (Rattle.core_state.specs.Steps.end_entry Kind.Commit w (s.worker w) f) i j refl refl t
     go false j = tells_entry g s (happens g s (Event.End w false f)) h (Rattle.core_state.specs.Steps.end_entry Kind.Abort w (s.worker w) f) i j refl refl t
-tells_event g s h (Event.Enter w e) i j m t = tells_same g s (happens g s (Event.Enter w e)) h i j refl t
-tells_event g s h (Event.Leave w) i j m t = tells_same g s (happens g s (Event.Leave w)) h i j refl t
-tells_event g s h (Event.Begin w f) i j m t = tells_same g s (happens g s (Event.Begin w f)) h i j refl t
-tells_event g s h (Event.Lock w o mode) i j m t = tells_same g s (happens g s (Event.Lock w o mode)) h i j refl t
-tells_event g s h (Event.Unlock w o) i j m t = tells_same g s (happens g s (Event.Unlock w o)) h i j refl t
-tells_event g s h (Event.Flush w n) i j m t = tells_same g s (happens g s (Event.Flush w n)) h i j refl t
-tells_event g s h (Event.Sync n) i j m t = tells_same g s (happens g s (Event.Sync n)) h i j refl t
-tells_event g s h (Event.Post w n) i j m t = tells_same g s (happens g s (Event.Post w n)) h i j refl t
-tells_event g s h (Event.Load p f) i j m t = tells_same g s (happens g s (Event.Load p f)) h i j refl t
-tells_event g s h (Event.Cool p) i j m t = tells_same g s (happens g s (Event.Cool p)) h i j refl t
-tells_event g s h (Event.Rescue p) i j m t = tells_same g s (happens g s (Event.Rescue p)) h i j refl t
-tells_event g s h (Event.Save p) i j m t = tells_same g s (happens g s (Event.Save p)) h i j refl t
-tells_event g s h (Event.Evict p) i j m t = tells_same g s (happens g s (Event.Evict p)) h i j refl t
-tells_event g s h Event.Tick i j m t = tells_same g s (happens g s Event.Tick) h i j refl t
-tells_event g s h (Event.Cut x heads) i j m t = tells_same g s (happens g s (Event.Cut x heads)) h i j refl t
-tells_event g s h (Event.Ask w) i j m t = t
-tells_event g s h (Event.Refused w n k) i j m t = t
-tells_event g s h (Event.Miss w) i j m t = t
+tells_event g s h (Event.Enter w e) inv i j m t = tells_same g s (happens g s (Event.Enter w e)) h i j refl t
+tells_event g s h (Event.Leave w) inv i j m t = tells_same g s (happens g s (Event.Leave w)) h i j refl t
+tells_event g s h (Event.Begin w f) inv i j m t = tells_same g s (happens g s (Event.Begin w f)) h i j refl t
+tells_event g s h (Event.Lock w o mode) inv i j m t = tells_same g s (happens g s (Event.Lock w o mode)) h i j refl t
+tells_event g s h (Event.Unlock w o) inv i j m t = tells_same g s (happens g s (Event.Unlock w o)) h i j refl t
+tells_event g s h (Event.Flush w n) inv i j m t = tells_same g s (happens g s (Event.Flush w n)) h i j refl t
+tells_event g s h (Event.Sync n) inv i j m t = tells_same g s (happens g s (Event.Sync n)) h i j refl t
+tells_event g s h (Event.Post w n) inv i j m t = tells_same g s (happens g s (Event.Post w n)) h i j refl t
+tells_event g s h (Event.Load p f) inv i j m t = tells_same g s (happens g s (Event.Load p f)) h i j refl t
+tells_event g s h (Event.Cool p) inv i j m t = tells_same g s (happens g s (Event.Cool p)) h i j refl t
+tells_event g s h (Event.Rescue p) inv i j m t = tells_same g s (happens g s (Event.Rescue p)) h i j refl t
+tells_event g s h (Event.Save p) inv i j m t = tells_same g s (happens g s (Event.Save p)) h i j refl t
+tells_event g s h (Event.Evict p) inv i j m t = tells_same g s (happens g s (Event.Evict p)) h i j refl t
+tells_event g s h Event.Tick inv i j m t = tells_same g s (happens g s Event.Tick) h i j refl t
+tells_event g s h (Event.Cut x heads) inv i j m t = tells_same g s (happens g s (Event.Cut x heads)) h i j refl t
+tells_event g s h (Event.Ask w) inv i j m t = t
+tells_event g s h (Event.Refused w n k) inv i j m t = t
+tells_event g s h (Event.Miss w) inv i j m t = t
 
 tells_run : (g : Opening) (es : List Event) (s : State) (h : List Step) → Good g s → Tells g s h → Tells g (run g s es) (history g s es h)
 tells_run g [] s h i t = t
 tells_run g (e ∷ es) s h i t = go (may g s e) refl (λ u k j x. tells_run g es u k j x)
   where
     go : (b : Bool) → may g s e ≡ b → ((u : State) (k : List Step) → Good g u → Tells g u k → Tells g (run g u es) (history g u es k)) → Tells g (run g (cond b (happens g s e) s) es) (history g (cond b (happens g s e) s) es (cond b (told g s e h) h))
-    go true m ih = let j = good_event g s i e m in ih (happens g s e) (told g s e h) j (tells_event g s h e i.inv j.inv (and_parts (are_hot s (pages_of e)) (needs g s e) m).1 t)
+    go true m ih = let j = good_event g s i e m in ih (happens g s e) (told g s e h) j (tells_event g s h e i.inv i.inv.told j.inv.told (and_parts (are_hot s (pages_of e)) (needs g s e) m).1 t)
     go false m ih = ih s h i t
 
 every_tells : (g : Opening) (es : List Event) → Tells g (run g (start g) es) (history g (start g) es [])
@@ -315,7 +315,7 @@ every_map g es = record {
     s = run g (start g) es
 
     tree : IsTree g.format (nodes_of s)
-    tree = tree_now g s (good_run g es (start g) (good_start g)).inv
+    tree = (good_run g es (start g) (good_start g)).inv.tree
 
     live : (o : Option ℕ) (v : ℕ) → value_of g.format o ≡ Some v → v < g.format.dead
     live None v e = absurd (true≢false (sym (ap Rattle.page_model.specs.Redo.is_some e)))
@@ -326,4 +326,4 @@ every_map g es = record {
         go false q e = absurd (true≢false (sym (ap Rattle.page_model.specs.Redo.is_some e)))
 
 pub every_tree : EveryTree
-every_tree g es = tree_now g (run g (start g) es) (good_run g es (start g) (good_start g)).inv
+every_tree g es = (good_run g es (start g) (good_start g)).inv.tree

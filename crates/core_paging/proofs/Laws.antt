@@ -8,7 +8,6 @@ use Rattle.core_state.specs.Events.{Event}
 use Rattle.core_state.specs.Needs.{are_hot, pages_of, is_worker, is_inside, may, needs}
 use Rattle.core_state.specs.Steps.{happens, step, run}
 use Rattle.map_model.proofs.ListLemmas.{upd_same}
-use Rattle.core_commit.proofs.Events.{tree_now}
 use Rattle.core_commit.proofs.Controls.{worker_to}
 use Rattle.core_commit.proofs.Copies.{at_place}
 use Rattle.core_commit.proofs.Runs.{Good, step_keeps, good_event, good_start}
@@ -122,7 +121,7 @@ names_child g node q p z n e =
 climb : (g : Opening) (s : State) → Whole g s → (d p : ℕ) → p < g.format.pages → g.format.levels ≤ (nodes_of s p).level + d → (nodes_of s p).live ≡ true → is_hot (s.place p) ≡ true → (chain : List ℕ) × Linked s p chain
 climb g s i zero p b e l h = elim (cases_eq p 0) [
   | inl z ↦ ([], z)
-  | inr nz ↦ (let t = tree_now g s i.good.inv in let o = t.up p b l nz in
+  | inr nz ↦ (let t = i.good.inv.tree in let o = t.up p b l nz in
       let c = t.down o.page o.below o.span o.names in
       let lv : suc (nodes_of s o.span.child).level ≡ (nodes_of s o.page).level = c.level in
       let same = ap (λ (j : ℕ). (nodes_of s j).level) o.child in
@@ -133,7 +132,7 @@ climb g s i (suc d) p b e l h = go (λ q a b c. climb g s i d q a b c) (cases_eq
     go : ((q : ℕ) → q < g.format.pages → g.format.levels ≤ (nodes_of s q).level + d → (nodes_of s q).live ≡ true → is_hot (s.place q) ≡ true → (chain : List ℕ) × Linked s q chain) → (p ≡ 0) ⊎ (p ≡ 0 → ⊥) → (chain : List ℕ) × Linked s p chain
     go ih (inl z) = ([], z)
     go ih (inr nz) =
-        let t = tree_now g s i.good.inv in
+        let t = i.good.inv.tree in
         let o = t.up p b l nz in
         let c = t.down o.page o.below o.span o.names in
         let lv : suc (nodes_of s o.span.child).level ≡ (nodes_of s o.page).level = c.level in

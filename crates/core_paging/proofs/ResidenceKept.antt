@@ -16,7 +16,7 @@ use Rattle.core_state.specs.Events.{Event}
 use Rattle.core_state.specs.Needs.{are_hot, pages_of, has_hot_parent, has_hot_child, is_empty_frame, is_dirty, is_inside, needs}
 use Rattle.core_state.specs.Steps.{at_pages, page_entry, write_entry, moves, put_back, follows, happens}
 use Rattle.map_model.proofs.ListLemmas.{upd_other}
-use Rattle.core_commit.proofs.Events.{names_to, tree_now}
+use Rattle.core_commit.proofs.Events.{names_to}
 use Rattle.core_commit.proofs.Copies.{at_place as at_upd, loaded, above_pages}
 use Rattle.core_commit.proofs.Runs.{Good}
 use Rattle.core_paging.specs.Paging.{one_if}
@@ -268,7 +268,7 @@ placed_event g s good i (Event.Join w l r q) h m = placed_moves g s good i Kind.
 placed_event g s good i (Event.Drop w c) h m = placed_moves g s good i Kind.Drop w (0 ∷ c ∷ []) (record_needs.drop_record (nodes_of s) (gsns_of s) c) h
 placed_event g s good i (Event.Purge w p keys) h m = placed_moves g s good i Kind.Purge w (p ∷ []) (record_needs.purge_record (gsns_of s) p keys) h
 placed_event g s good i (Event.Load p f) h m = placed_load g s good i p f m
-placed_event g s good i (Event.Cool p) h m = placed_cool g s (tree_now g s good.inv) i p (and_parts (is_hot (s.place p)) true h).0 m
+placed_event g s good i (Event.Cool p) h m = placed_cool g s good.inv.tree i p (and_parts (is_hot (s.place p)) true h).0 m
 placed_event g s good i (Event.Rescue p) h m = placed_rescue g s i p m
 placed_event g s good i (Event.Evict p) h m = placed_evict g s i p (evict_cooling g s p m)
 placed_event g s good i _ h m = i

@@ -29,7 +29,7 @@ pub record Saves (g : Opening) (s : State) : Type 0 where
 
 -- a change of the page has a number up to the page's
 had : (g : Opening) (s : State) → Inv g s → (p : ℕ) (r : Entry) → Has r s.entries → touches p r ≡ true → r.number ≤ (s.page p).gsn
-had g s i p r h t = let a = number_le_gsn g (flushed_by_all g s) p s.entries i.history r h t in let e = ap (λ (v : Contents). v.gsn) (i.pages p) in omega arith
+had g s i p r h t = let a = number_le_gsn g (flushed_by_all g s) p s.entries i.records r h t in let e = (i.stamps p).0 in omega arith
 
 -- a record that comes has a number above the cut
 above_cut : (g : Opening) (s : State) → Inv g s → (w : ℕ) (ps : List ℕ) → (s.worker w).is_open ≡ true → s.cut < suc (at_pages s w (s.worker w) ps).clock

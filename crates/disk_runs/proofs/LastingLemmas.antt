@@ -11,7 +11,7 @@ use Rattle.core_state.specs.Events.{Event}
 use Rattle.core_state.specs.Steps.{run, step, state_after}
 use Rattle.core_state.proofs.Runs.{run_more}
 use Rattle.core_commit.specs.Rises.{EveryRise, Rises}
-use Rattle.core_commit.proofs.History.{Entered}
+use Rattle.core_commit.proofs.History.{Recorded}
 use Rattle.core_commit.proofs.Lists.{each_at, has_before}
 use Rattle.core_crash.specs.Crashes.{IsRipe, journal_in}
 use Rattle.map_model.proofs.ListLemmas.{has_order, has_right, order_has}
@@ -61,7 +61,7 @@ module _ (rises : EveryRise) (g : Opening) (es later : List Event) (t : Txn) (ha
     number = r.number;
     flushed = (let a = r.flushed in
         let b = has_before r.end s.entries r.has in
-        let l = (each_at (Entered g (flushed_by_all g s)) s.entries r.end b.0 (good g es).inv.history b.1).log in
+        let l = (each_at (Recorded g (flushed_by_all g s)) s.entries r.end b.0 (good g es).inv.records b.1).log in
         let c = rise.flushed r.end.log l.0 l.1 in omega arith);
     need = (let a = r.need in let b = rise.flushed_by_all in omega arith);
   }

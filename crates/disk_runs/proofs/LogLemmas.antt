@@ -69,7 +69,7 @@ module _ (prefixes : EveryPrefix) (seals : EverySealed) (g : Opening) (es : List
   prefix_here = subst (λ (v : ℕ). reads.newer ++ entries_onto v [] rs ≡ entries_onto v [] (records_of x)) is.number reads.splits ∙ accounts.entries
 
   numbers : Numbers l
-  numbers = log_numbers g (flushed_by_all g s) w s.entries (good g es).inv.history
+  numbers = log_numbers g (flushed_by_all g s) w s.entries (good g es).inv.records
 
   abbrev left : List Entry
   left = here ++ up_to_head h l

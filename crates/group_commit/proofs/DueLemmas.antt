@@ -8,7 +8,7 @@ use Rattle.image_model.specs.Entries.{Entry, is_end, same_txn, earlier}
 use Rattle.image_model.specs.Ends.{name_of, names_of}
 use Rattle.core_state.specs.Openings.{Opening}
 use Rattle.core_state.specs.States.{State}
-use Rattle.core_commit.proofs.History.{IsHistory, SameTxn, same_from, same_to}
+use Rattle.core_commit.proofs.History.{IsRecorded, SameTxn, same_from, same_to}
 use Rattle.core_commit.proofs.KindFacts.{end_is_record}
 use Rattle.core_calls.specs.Durables.{is_ripe, is_told, due}
 use Rattle.core_calls.proofs.DurableLemmas.{passes}
@@ -77,7 +77,7 @@ pub record Parts (p q : Entry → Bool) (e : Entry) : Type 0 where
   pub end : is_end e.kind ≡ true
   pub passes : p e ≡ true
 
-parted : (g : Opening) (F : ℕ) (p q : Entry → Bool) (e : Entry) → Parts p q e → (h : List Entry) → IsHistory g F h → Has e h → ((x : Entry) → Has x h → p x ≡ true → NotBehind e x) →
+parted : (g : Opening) (F : ℕ) (p q : Entry → Bool) (e : Entry) → Parts p q e → (h : List Entry) → IsRecorded g F h → Has e h → ((x : Entry) → Has x h → p x ≡ true → NotBehind e x) →
     in_order earlier (keep p h) ≡ in_order earlier (keep q h) ++ e ∷ []
 parted g F p q e a [] hist i first = absurd i
 parted g F p q e a (x ∷ h) hist (inl k) first =
@@ -123,7 +123,7 @@ own_name told e x s = or_left ((e.log == x.log) && (e.txn == x.txn)) (is_told to
 pub other_name : (told : List Name) (e x : Entry) → (SameTxn x e → ⊥) → is_told (name_of e ∷ told) x ≡ is_told told x
 other_name told e x n = ap (λ (b : Bool). b || is_told told x) (false_from_ne_true ((e.log == x.log) && (e.txn == x.txn)) (λ t. let p = and_parts (e.log == x.log) (e.txn == x.txn) t in n (sym (eqb-true e.log x.log p.0), sym (eqb-true e.txn x.txn p.1))))
 
-pub due_parted : (g : Opening) (F : ℕ) (s : State) (told : List Name) (e : Entry) → IsHistory g F s.entries → Has e s.entries → is_end e.kind ≡ true → ((x : Entry) → passes g s told x ≡ true → is_end x.kind ≡ true) → passes g s told e ≡ true →
+pub due_parted : (g : Opening) (F : ℕ) (s : State) (told : List Name) (e : Entry) → IsRecorded g F s.entries → Has e s.entries → is_end e.kind ≡ true → ((x : Entry) → passes g s told x ≡ true → is_end x.kind ≡ true) → passes g s told e ≡ true →
     ((x : Entry) → Has x s.entries → passes g s told x ≡ true → NotBehind e x) → due g s told ≡ due g s (name_of e ∷ told) ++ name_of e ∷ []
 due_parted g F s told e hist i k ends p first =
     ap names_of (parted g F (passes g s told) (passes g s (name_of e ∷ told)) e parts s.entries hist i first)

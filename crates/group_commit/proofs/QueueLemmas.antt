@@ -6,7 +6,7 @@ use Rattle.map_model.specs.Lists.{Has, keep}
 use Rattle.map_model.proofs.ListLemmas.{has_cases, has_left, has_right}
 use Rattle.image_model.specs.Entries.{Entry, is_end}
 use Rattle.core_state.specs.Openings.{Opening}
-use Rattle.core_commit.proofs.History.{IsHistory}
+use Rattle.core_commit.proofs.History.{IsRecorded}
 use Rattle.core_commit.proofs.KindFacts.{end_is_record}
 use Rattle.group_commit.specs.declared.queue.End.{End}
 use Rattle.group_commit.specs.Queues.{is_ripe_at, is_done, settled}
@@ -109,7 +109,7 @@ ends_kept w from (e ∷ h) = go (is_end e.kind) refl (ends_kept w from h)
     go true q ih = ap (λ (l : List End). cond (picks w from e) (l ++ end_of e ∷ []) l) ih
     go false q ih = ends_other w from e h (λ p. both_ways (is_end e.kind) q p.is_end) ∙ ih
 
-pub ordered_ends : (g : Opening) (all f w from : ℕ) (h : List Entry) → IsHistory g all h → Ordered f all (ends_above w from h)
+pub ordered_ends : (g : Opening) (all f w from : ℕ) (h : List Entry) → IsRecorded g all h → Ordered f all (ends_above w from h)
 ordered_ends g all f w from [] hist = tt
 ordered_ends g all f w from (e ∷ h) hist = go (ordered_ends g all f w from h hist.1) (picks w from e) refl
   where
@@ -160,7 +160,7 @@ keep_above w from m (e ∷ h) l = go (keep_above w from m h l) (cases_Bool (pick
     go ih (inr a) (inr b) = ap (keep (λ (x : End). ltb m x.gsn)) (ends_same w from e h a) ∙ (ih ∙ sym (ends_same w m e h b))
 
 -- where the first goes, the others are above it
-pub behind_first : (g : Opening) (all f w from : ℕ) (h : List Entry) → IsHistory g all h → (x : End) (q : List End) → ends_above w from h ≡ x ∷ q → ends_above w x.gsn h ≡ q
+pub behind_first : (g : Opening) (all f w from : ℕ) (h : List Entry) → IsRecorded g all h → (x : End) (q : List End) → ends_above w from h ≡ x ∷ q → ends_above w x.gsn h ≡ q
 behind_first g all f w from h hist x q e =
     sym (keep_above w from x.gsn h (let n = above in omega arith))
     ∙ (ap (keep (λ (y : End). ltb x.gsn y.gsn)) e ∙ above_first f all x q (subst (Ordered f all) e (ordered_ends g all f w from h hist)))
@@ -180,7 +180,7 @@ pub record Settles (f all w from : ℕ) (h : List Entry) : Type 0 where
   pub is : settled f all (ends_above w from h) ≡ ends_above w to h
   pub done : (e : Entry) → Has e h → Picked w from e → e.number ≤ to → is_done f all (end_of e) ≡ true
 
-pub settles : (g : Opening) (all f w : ℕ) (h : List Entry) → IsHistory g all h → (q : List End) (from : ℕ) → ends_above w from h ≡ q → Settles f all w from h
+pub settles : (g : Opening) (all f w : ℕ) (h : List Entry) → IsRecorded g all h → (q : List End) (from : ℕ) → ends_above w from h ≡ q → Settles f all w from h
 settles g all f w h hist [] from e = record { to = from; least = omega arith; most = λ b k n. k; is = ap (settled f all) e ∙ sym e; done = λ y i p l. let n = p.above in absurd (omega arith) }
 settles g all f w h hist (x ∷ q) from e = go (is_done f all x) refl (settles g all f w h hist q x.gsn rest)
   where

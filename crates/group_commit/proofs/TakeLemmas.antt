@@ -11,14 +11,14 @@ use Rattle.core_state.specs.Openings.{Opening}
 use Rattle.core_state.specs.States.{State, start, flushed_by_all}
 use Rattle.core_state.specs.Events.{Event}
 use Rattle.core_state.specs.Steps.{run}
-use Rattle.core_commit.proofs.History.{IsHistory, SameTxn}
+use Rattle.core_commit.proofs.History.{IsRecorded, SameTxn}
 use Rattle.core_commit.proofs.Invariants.{Inv}
 use Rattle.core_commit.proofs.Runs.{good_run, good_start}
 use Rattle.core_crash.proofs.Journal.{commit_is_end}
 use Rattle.core_crash.proofs.Ends.{one_end}
 use Rattle.core_calls.specs.Refusals.{waiting}
 use Rattle.core_calls.specs.Durables.{is_ripe, is_told, due}
-use Rattle.core_calls.proofs.DurableLemmas.{history_of, entered, passes}
+use Rattle.core_calls.proofs.DurableLemmas.{recorded_of, entered, passes}
 use Rattle.group_commit.specs.declared.receipts.Receipt.{Receipt}
 use Rattle.group_commit.specs.declared.queue.End.{End}
 use Rattle.group_commit.specs.Ripeness.{flushed_of}
@@ -59,14 +59,14 @@ module _ (g : Opening) (es : List Event) (told : List Name) (fs : List ℕ) (old
   all_is : least (flushed_of fs) (length fs) ≡ F
   all_is = ap (least (flushed_of fs)) flushed.logs ∙ least_same (flushed_of fs) s.flushed g.workers g.some_worker (λ i l. flushed.each i l.0 l.1)
 
-  history : IsHistory g F s.entries
-  history = history_of g es
+  records : IsRecorded g F s.entries
+  records = recorded_of g es
 
   inv : Inv g s
   inv = (good_run g es (start g) (good_start g)).inv
 
   abbrev settle : (w : ℕ) → Settles (s.flushed w) F w (a.from w) s.entries
-  settle w = settles g F (s.flushed w) w s.entries history (ends_above w (a.from w) s.entries) (a.from w) refl
+  settle w = settles g F (s.flushed w) w s.entries records (ends_above w (a.from w) s.entries) (a.from w) refl
 
   abbrev to : ℕ → ℕ
   to w = (settle w).to
@@ -83,7 +83,7 @@ module _ (g : Opening) (es : List Event) (told : List Name) (fs : List ℕ) (old
   queue_is w z l = queue w z l ∙ (settle w).is
 
   ordered : (w : ℕ) → Ordered (s.flushed w) F (Q w)
-  ordered w = ordered_ends g F (s.flushed w) w (to w) s.entries history
+  ordered w = ordered_ends g F (s.flushed w) w (to w) s.entries records
 
   -- its first end is no ripe abort
   begins : (w : ℕ) (x : End) (q : List End) → Q w ≡ x ∷ q → is_done (s.flushed w) F x ≡ false
@@ -295,7 +295,7 @@ module _ (g : Opening) (es : List Event) (told : List Name) (fs : List ℕ) (old
 
     due_is : due g s told ≡ due g s (record { session = r.log; number = r.txn } ∷ told) ++ record { session = r.log; number = r.txn } ∷ []
     due_is =
-        due_parted g F s told e history entry_in.has (commit_is_end e.kind commit) (λ y h. commit_is_end y.kind (due_to y h).commit) passed not_behind
+        due_parted g F s told e records entry_in.has (commit_is_end e.kind commit) (λ y h. commit_is_end y.kind (due_to y h).commit) passed not_behind
         ∙ ap (λ (n : Name). due g s (n ∷ told) ++ n ∷ []) name_is
 
     -- ## What is left
@@ -320,7 +320,7 @@ module _ (g : Opening) (es : List Event) (told : List Name) (fs : List ℕ) (old
     ]
       where
         own : y.log ≡ r.log → Has (end_of y) (x ∷ queued.0) → y ≡ e
-        own q (inl c) = one_end g F s.entries history y e i entry_in.has k (commit_is_end e.kind commit) (q ∙ sym log_is, ap (λ (z : End). z.txn) c ∙ ap (λ (z : End). z.txn) (sym entry_in.is))
+        own q (inl c) = one_end g F s.entries records y e i entry_in.has k (commit_is_end e.kind commit) (q ∙ sym log_is, ap (λ (z : End). z.txn) c ∙ ap (λ (z : End). z.txn) (sym entry_in.is))
         own q (inr c) =
             let d = ((subst (Ordered (s.flushed r.log) F) queued.1 (ordered r.log)).1 (end_of y) c).0 in
             let m = from_own y.log q in let o = ap (λ (z : Receipt). z.gsn) found.2 in absurd (omega arith)
@@ -328,7 +328,7 @@ module _ (g : Opening) (es : List Event) (told : List Name) (fs : List ℕ) (old
     -- another transaction
     other : (y : Entry) → Has y s.entries → is_commit y.kind ≡ true → from y.log < y.number → SameTxn y e → ⊥
     other y i k l t =
-        let q = one_end g F s.entries history y e i entry_in.has (commit_is_end y.kind k) (commit_is_end e.kind commit) t in
+        let q = one_end g F s.entries records y e i entry_in.has (commit_is_end y.kind k) (commit_is_end e.kind commit) t in
         let c = from_own y.log (t.0 ∙ log_is) in let d = ap (λ (z : Entry). z.number) q in let m = gsn_is in omega arith
 
     untold_now : (y : Entry) → Has y s.entries → is_commit y.kind ≡ true → from y.log < y.number → is_told (record { session = r.log; number = r.txn } ∷ told) y ≡ false
@@ -359,7 +359,7 @@ module _ (g : Opening) (es : List Event) (told : List Name) (fs : List ℕ) (old
         own =
             queue_set_same between r.log (drop 1 (queue_of between r.log)) some (let c = b.sessions in let d = soon.within in omega arith)
             ∙ (ap (drop 1) (queue_is r.log some within ∙ queued.1)
-            ∙ (sym (behind_first g F (s.flushed r.log) r.log (to r.log) s.entries history x queued.0 queued.1)
+            ∙ (sym (behind_first g F (s.flushed r.log) r.log (to r.log) s.entries records x queued.0 queued.1)
             ∙ ap (λ (m : ℕ). ends_above r.log m s.entries) (ap (λ (z : Receipt). z.gsn) found.2 ∙ sym (from_own r.log refl))))
 
     reached_now : (w : ℕ) → from w ≤ (s.worker w).clock

@@ -12,10 +12,10 @@ use Rattle.core_state.specs.Needs.{may}
 use Rattle.core_state.specs.Steps.{end_entry, happens, run}
 use Rattle.core_state.proofs.Runs.{run_more}
 use Rattle.core_commit.specs.Rises.{EveryRise}
-use Rattle.core_commit.proofs.History.{IsHistory}
+use Rattle.core_commit.proofs.History.{IsRecorded}
 use Rattle.core_crash.proofs.Journal.{commit_is_end}
 use Rattle.core_calls.specs.Durables.{is_told}
-use Rattle.core_calls.proofs.DurableLemmas.{history_of, told_to}
+use Rattle.core_calls.proofs.DurableLemmas.{recorded_of, told_to}
 use Rattle.group_commit.specs.declared.receipts.Receipt.{Receipt}
 use Rattle.group_commit.specs.declared.queue.End.{End}
 use Rattle.group_commit.specs.Queues.{queue_of, pushed}
@@ -87,14 +87,14 @@ module _ (rises : EveryRise) (g : Opening) (es : List Event) (told : List Name) 
   clocks : (v : ℕ) → (s.worker v).clock ≤ (t.worker v).clock
   clocks v = subst (λ (u : State). (s.worker v).clock ≤ (u.worker v).clock) (cond-true (may g s (Event.End w commit f)) t s met) ((rises g es (Event.End w commit f ∷ [])).clocks v)
 
-  history : IsHistory g (flushed_by_all g t) (entry ∷ s.entries)
-  history = subst (λ (u : State). IsHistory g (flushed_by_all g u) u.entries) goes (history_of g (es ++ Event.End w commit f ∷ []))
+  records : IsRecorded g (flushed_by_all g t) (entry ∷ s.entries)
+  records = subst (λ (u : State). IsRecorded g (flushed_by_all g u) u.entries) goes (recorded_of g (es ++ Event.End w commit f ∷ []))
 
   some : 0 < w
-  some = history.0.log.0
+  some = records.0.log.0
 
   within : w ≤ g.workers
-  within = history.0.log.1
+  within = records.0.log.1
 
   above : a.from w < entry.number
   above = let b = a.reached w in omega arith
@@ -127,7 +127,7 @@ module _ (rises : EveryRise) (g : Opening) (es : List Event) (told : List Name) 
   -- it is not told yet
   fresh : is_told told entry ≡ false
   fresh = false_from_ne_true (is_told told entry) (λ k. let d = a.known (name_of entry) (told_to told entry k) in
-      history.0.still_open d.0 d.1 (commit_is_end d.0.kind d.2) (ap (λ (n : Name). n.session) d.3, ap (λ (n : Name). n.number) d.3))
+      records.0.still_open d.0 d.1 (commit_is_end d.0.kind d.2) (ap (λ (n : Name). n.session) d.3, ap (λ (n : Name). n.number) d.3))
 
   ripe : (e : Entry) → Has e (entry ∷ s.entries) → is_end e.kind ≡ true → e.number ≤ a.from e.log → is_flushed g s e ≡ true
   ripe e (inl q) k l = absurd (let b = ap (λ (x : Entry). x.number) q in let c = ap (λ (x : Entry). a.from x.log) q in let d = above in omega arith)

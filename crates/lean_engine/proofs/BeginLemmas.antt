@@ -13,7 +13,7 @@ use Rattle.core_state.specs.Needs.{is_behind, may, needs}
 use Rattle.core_state.specs.Steps.{AllMet, happens, run, state_after, synced}
 use Rattle.core_state.proofs.Runs.{met_more, run_more}
 use Rattle.core_commit.proofs.Controls.{le_most}
-use Rattle.core_commit.proofs.History.{Entered}
+use Rattle.core_commit.proofs.History.{Recorded}
 use Rattle.core_commit.proofs.Invariants.{Inv}
 use Rattle.core_commit.proofs.Lists.{Before, le_least}
 use Rattle.core_commit.proofs.Runs.{good_run, good_start}
@@ -87,7 +87,7 @@ under_sync g es n m e i k = record { number = number; need = need }
     is : n ≡ most (λ w. ((run g (start g) es).worker w).clock) g.workers
     is = eqb-true n (most (λ w. ((run g (start g) es).worker w).clock) g.workers) (and_parts (n == most (λ w. ((run g (start g) es).worker w).clock) g.workers) (not (is_behind (run g (start g) es))) (and_parts true (needs g (run g (start g) es) (Event.Sync n)) m).1).0
 
-    own : (b : List Entry) × Before e b (run g (start g) es).entries × Entered g (flushed_by_all g (run g (start g) es)) e b
+    own : (b : List Entry) × Before e b (run g (start g) es).entries × Recorded g (flushed_by_all g (run g (start g) es)) e b
     own = entered g es e i
 
     number : e.number ≤ n

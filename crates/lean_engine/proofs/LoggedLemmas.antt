@@ -11,7 +11,7 @@ use Rattle.core_state.specs.Events.{Event}
 use Rattle.core_state.specs.Needs.{is_behind, may}
 use Rattle.core_state.specs.Steps.{AllMet, follows, put_back, happens, step, run}
 use Rattle.core_commit.proofs.Controls.{le_most}
-use Rattle.core_commit.proofs.History.{IsHistory}
+use Rattle.core_commit.proofs.History.{IsRecorded}
 use Rattle.core_commit.proofs.Runs.{Good, good_step}
 use Rattle.log_record.specs.declared.record.Record.{Record}
 use Rattle.log_record.specs.declared.record.Body.{Body}
@@ -132,12 +132,12 @@ module _ (g : Opening) (w : ℕ) (some : 0 < w) (within : w ≤ g.workers) where
     ends = λ n. (entry_of w r, subst (λ (h : List Entry). Has (entry_of w r) h) (sym e) (inl refl), record_kind r.body, refl, sym (behind_record r was is a).last);
   }
     where
-      history : IsHistory g (flushed_by_all g t) (entry_of w r ∷ s.entries)
-      history = subst (λ (h : List Entry). IsHistory g (flushed_by_all g t) h) e good.inv.history
+      records : IsRecorded g (flushed_by_all g t) (entry_of w r ∷ s.entries)
+      records = subst (λ (h : List Entry). IsRecorded g (flushed_by_all g t) h) e good.inv.records
 
       at : (x : Entry) → Has x (entry_of w r ∷ s.entries) → x.log ≡ w → x.number ≤ is.last
       at x (inl q) l = let b = (behind_record r was is a).last in let c = ap (λ (y : Entry). y.number) q in omega arith
-      at x (inr i) l = let b = (behind_record r was is a).last in let c = history.0.later (record_kind r.body) x i l in omega arith
+      at x (inr i) l = let b = (behind_record r was is a).last in let c = records.0.later (record_kind r.body) x i l in omega arith
 
   -- each number of log w is up to its clock, and so up to that of a sync
   syncing : (s : State) (n : ℕ) (was is : Log) → Good g s → may g s (Event.Sync n) ≡ true → is ≡ raised was n → Reaches (happens g s (Event.Sync n)) w is

@@ -9,7 +9,7 @@ use Rattle.core_state.specs.States.{State, flushed_by_all, start}
 use Rattle.core_state.specs.Events as happening
 use Rattle.core_state.specs.Needs.{is_behind, may}
 use Rattle.core_commit.proofs.Controls.{le_most}
-use Rattle.core_commit.proofs.History.{IsHistory}
+use Rattle.core_commit.proofs.History.{IsRecorded}
 use Rattle.core_commit.proofs.Lists.{Within}
 use Rattle.core_commit.proofs.Runs.{Good, good_run, good_start}
 use Rattle.row_opening.specs.Openings.{EveryReached}
@@ -127,7 +127,7 @@ module _ (z : Shape) (v : View) (work : Desk) (desks : List Desk) (are : AreDesk
     pub good : Good o.opening (state v).core
     good = subst (Good o.opening) (sym (reached o.opening v.given o.opens v.seen)) (good_run o.opening (events_of v.given.before ++ events_of v.seen) (start o.opening) (good_start o.opening))
 
-    entered : (F : ℕ) (h : List Entry) (r : Entry) → IsHistory o.opening F h → Has r h → Within o.opening.workers r.log
+    entered : (F : ℕ) (h : List Entry) (r : Entry) → IsRecorded o.opening F h → Has r h → Within o.opening.workers r.log
     entered F [] r i has = absurd has
     entered F (x ∷ h) r i (inl e) = subst (λ (y : Entry). Within o.opening.workers y.log) (sym e) i.0.log
     entered F (x ∷ h) r i (inr has) = entered F h r i.1 has
@@ -135,7 +135,7 @@ module _ (z : Shape) (v : View) (work : Desk) (desks : List Desk) (are : AreDesk
     none_behind : (r : Entry) → Has r (state v).core.entries → (is_record r.kind && ltb ((state v).core.flushed r.log) r.number) ≡ true → ⊥
     none_behind r has q =
         let p = and_parts (is_record r.kind) (ltb ((state v).core.flushed r.log) r.number) q in
-        let i = entered (flushed_by_all o.opening (state v).core) (state v).core.entries r good.inv.history has in
+        let i = entered (flushed_by_all o.opening (state v).core) (state v).core.entries r good.inv.records has in
         let high : r.log ≤ many = let a = i.1 in let b = o.opens.workers in let c = workers_are in omega arith in
         let l = logged r.log i.0 high in
         let a = l.last r has p.0 refl in let b = l.flushed in let c = flushed r.log i.0 high in let d = ltb-true ((state v).core.flushed r.log) r.number p.1 in absurd (omega arith)
