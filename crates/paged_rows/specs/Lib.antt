@@ -1,3 +1,0 @@
--- Read Paged, then Warms.
-pub mod Paged
-pub mod Warms
