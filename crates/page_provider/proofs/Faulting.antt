@@ -1,5 +1,5 @@
 -- A page that is asked for: what the queue, the free pages and the frames tell of it, and what the call has done by then.
-use Rattle.std.proofs.Common.{◌≡◌, ◌<◌, ◌≤◌, ◌||◌, ◌&&◌, ◌==◌, not, ltb, inl, inr, ℕ, zero, suc, Bool, true, false, List, [], ◌∷◌, length, Option, Some, None, Ok, refl, sym, ap, subst, ◌∙◌, arith, true≢false}
+use Rattle.std.proofs.Common.{◌≡◌, ◌<◌, ◌||◌, ◌&&◌, ◌==◌, not, ltb, inl, inr, ℕ, zero, suc, Bool, true, false, List, [], ◌∷◌, length, Option, Some, None, Ok, refl, sym, ap, subst, ◌∙◌, arith, true≢false}
 use Rattle.std.specs.Prelude.{Result, Err, IfErr, IfOk}
 use Rattle.std.proofs.lemmas.Bool.{and_from, eq-eqb, eqb-true, lt-ltb, ltb-true}
 use Rattle.map_model.specs.Lists.{all}
@@ -46,13 +46,13 @@ use Rattle.page_provider.specs.declared.refusal.Refusal.TheVariants as refusal
 use Rattle.page_provider.specs.Comes.{HasCome}
 use Rattle.page_provider.specs.Cools.{Idle}
 use Rattle.page_provider.specs.Ends.{HasRefused}
-use Rattle.page_provider.specs.Faults.{FaultCause, Faulted, HasLost, HasPlaced, IsAstray, IsDescent, IsWanted, LeadsTo}
+use Rattle.page_provider.specs.Faults.{FaultCause, Faulted, HasLost, IsAstray, IsDescent, IsWanted, LeadsTo}
 use Rattle.page_provider.specs.Disks.{Disked}
 use Rattle.page_provider.specs.Finds.{Halts, HasNaming, Naming, NoneNames, Standing}
 use Rattle.page_provider.specs.Gives.{Gives}
 use Rattle.page_provider.specs.Inside.{Missed}
 use Rattle.page_provider.specs.Laws.{DiskLaws, RowLaws}
-use Rattle.page_provider.specs.Moves.{KeepsPath, Moved, is_pagers, others_in, way}
+use Rattle.page_provider.specs.Moves.{KeepsPath, Moved, way}
 use Rattle.page_provider.specs.Providers.{Provider, Keeps, pool}
 use Rattle.page_provider.specs.Comes.{IsUnseen}
 use Rattle.page_provider.specs.Steps.{AreMisses}
@@ -60,7 +60,7 @@ use Rattle.page_provider.specs.Refusals.{IsOfRow, IsOthers}
 use Rattle.page_provider.proofs.Easing.{eased_path, eased_stood}
 use Rattle.page_provider.proofs.Joins.{held_misses, met_misses}
 use Rattle.page_provider.proofs.Keeping.{keeps_ran, ran_stood}
-use Rattle.page_provider.proofs.Moving.{come_moved, halts_refused, missed_halts, moved_none, moved_then, moved_up, path_none, path_then, refused_then, refused_up, same_none}
+use Rattle.page_provider.proofs.Moving.{halts_refused, missed_halts, moved_none, moved_then, moved_up, path_none, path_then, refused_then, refused_up, same_none}
 use Rattle.page_provider.proofs.Pools.{found_entry}
 use Rattle.page_provider.proofs.Running.{disked_quiet}
 use Rattle.page_provider.proofs.Shares.{needed_before, share_before}

@@ -1,5 +1,5 @@
 -- The hand: what a step over a frame has shown, and how steps join.
-use Rattle.std.proofs.Common.{◌≡◌, ◌≢◌, ◌<◌, ◌≤◌, ◌+◌, ◌^◌, ◌==◌, ◌||◌, ◌&&◌, not, ℕ, zero, suc, Bool, true, false, List, [], ◌∷◌, ◌++◌, length, get_or, Option, Some, None, Ok, Err, append-nil, append_assoc, length-append, ltb, inl, inr, refl, sym, ap, subst, ◌∙◌, arith, true≢false, eq-eqb, ne_eqb}
+use Rattle.std.proofs.Common.{◌≡◌, ◌≢◌, ◌<◌, ◌≤◌, ◌+◌, ◌^◌, ◌==◌, ◌||◌, ◌&&◌, not, ℕ, zero, suc, Bool, true, false, List, [], ◌∷◌, ◌++◌, length, get_or, Option, Some, None, Ok, Err, append-nil, ltb, inl, inr, refl, sym, ap, subst, ◌∙◌, arith, true≢false, eq-eqb, ne_eqb}
 use Rattle.std.specs.List.{IsAnyAnswer}
 use Rattle.std.specs.Prelude.{Result, IfErr}
 use Rattle.std.proofs.lemmas.Bool.{and_from, eqb-true, ltb-true, ltb-false}
@@ -24,8 +24,7 @@ use Rattle.row_image.specs.declared.sight.Sight.{Sight}
 use Rattle.row_image.specs.Hot.{IsHotIn}
 use Rattle.cooling_stage.specs.declared.stage.Cooling.{Cooling}
 use Rattle.page_provider.specs.declared.refusal.Refusal.{Refusal}
-use Rattle.page_provider.specs.Cools.{chilled, Chills, CoolsOrNot, Hangs, HasCooled, Idle, Passes, Stepped, Steps, Turns}
-use Rattle.page_provider.specs.Ends.{HasRefused}
+use Rattle.page_provider.specs.Cools.{chilled, CoolsOrNot, Hangs, HasCooled, Idle, Passes, Stepped, Steps, Turns}
 use Rattle.page_provider.specs.Finds.{Candidate, Halts, HasCandidate, IsSeen, SinceFound, Stalls, Stopped}
 use Rattle.page_provider.specs.Laws.{RowLaws}
 use Rattle.page_provider.specs.Moves.{IsSame, KeepsPath, Moved, Rested, is_on, way}
@@ -33,7 +32,7 @@ use Rattle.page_provider.specs.Providers.{Provider, Keeps}
 use Rattle.page_provider.proofs.Easing.{eased_path, eased_rested, eased_stood, hot_is, hot_stays, in_own}
 use Rattle.page_provider.proofs.Joins.{met_misses, met_then, ran_join}
 use Rattle.page_provider.proofs.Keeping.{keeps_ran, ran_stood}
-use Rattle.page_provider.proofs.Moving.{keeps_hand, moved_none, moved_then, path_none, path_then, refused_then, refused_up, rested_none, rested_then, same_none, same_then, stalls_refused}
+use Rattle.page_provider.proofs.Moving.{keeps_hand, rested_then, same_none, same_then}
 
 -- ## Lists
 

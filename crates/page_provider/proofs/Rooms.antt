@@ -73,26 +73,31 @@ module _ {z : Shape} {path : List ℕ} {v t u : View} {was first k : Provider} {
         ran = ran_append z.alone v both.moved.events u (leaving dirty entry.page) w both.moved.goes.ran left.goes.ran;
         few = elim few [
           | inl equal ↦ elim d.few [ inl e ↦ inl (omega arith) | inr low ↦ inr (inl (omega arith)) ]
-          | inr others ↦ inr (inr (full_then, subst (λ (g : Given). NoneRipe (opening g) (state w).core) (sym left.goes.ran.given)
-              (none_sunk (opening u.given) (sinks_ran left.goes.ran (leaving_sinks dirty entry.page) alone) entry.page (others alone) (left_off laws left))))
+          | inr others ↦ inr (inr (
+            full_then,
+            subst (λ (g : Given). NoneRipe (opening g) (state w).core) (sym left.goes.ran.given)
+                (none_sunk (opening u.given) (sinks_ran left.goes.ran (leaving_sinks dirty entry.page) alone) entry.page (others alone) (left_off laws left)),
+          ))
         ];
       }
 
   left_enough : {w : View} {is : Provider} → HasLeft z u k entry.page w is → z.alone ≡ true → HasShare path z.alone v was w is
   left_enough {w} {is} left alone = elim d.enough [
-    | inl many ↦ inr (inl (full_then,
-        let a = chills_long two in
-        let b = without_long entry.page k.queue (tells laws both.moved.goes.keeps).once in
-        let e = ap (λ (p : Provider). length p.queue) left.pool in
-        omega arith))
+    | inl many ↦ inr (inl (
+      full_then,
+      let a = chills_long two in
+          let b = without_long entry.page k.queue (tells laws both.moved.goes.keeps).once in
+          let e = ap (λ (p : Provider). length p.queue) left.pool in
+          omega arith,
+    ))
     | inr none ↦ inr (inr (record {
-        at = t;
-        before = d.chills.moved.events;
-        after = two.moved.events ++ leaving (is_dirty (state u).core entry.page) entry.page;
-        came = d.chills.moved.goes.ran;
-        went = ran_append z.alone t two.moved.events u (leaving (is_dirty (state u).core entry.page) entry.page) w two.moved.goes.ran left.goes.ran;
-        none = none alone;
-      }))
+      at = t;
+      before = d.chills.moved.events;
+      after = two.moved.events ++ leaving (is_dirty (state u).core entry.page) entry.page;
+      came = d.chills.moved.goes.ran;
+      went = ran_append z.alone t two.moved.events u (leaving (is_dirty (state u).core entry.page) entry.page) w two.moved.goes.ran left.goes.ran;
+      none = none alone;
+    }))
   ]
 
   pub room_left : {w : View} {is : Provider} → HasLeft z u k entry.page w is → HasRoom z path v was entry.frame w is

@@ -1,5 +1,5 @@
 -- How many pages cooled, and which can leave behind that.
-use Rattle.std.proofs.Common.{◌≡◌, ◌≢◌, ◌<◌, ◌≤◌, ◌+◌, ◌==◌, ◌⊎◌, inl, inr, ℕ, suc, Bool, true, false, List, [], ◌∷◌, ◌++◌, length, map, Some, None, refl, sym, ap, subst, ◌∙◌, arith, true≢false}
+use Rattle.std.proofs.Common.{◌≡◌, ◌≢◌, ◌<◌, ◌≤◌, ◌+◌, ◌==◌, ◌⊎◌, inl, inr, ℕ, suc, Bool, true, false, List, [], ◌∷◌, ◌++◌, length, Some, None, refl, sym, ap, subst, ◌∙◌, arith, true≢false}
 use Rattle.std.specs.Prelude.{if◌then◌else◌}
 use Rattle.std.proofs.lemmas.Bool.{cases_eq, eqb-true}
 use Rattle.std.proofs.lemmas.List.{length-map}
@@ -8,7 +8,7 @@ use Rattle.rfa_model.specs.Reaches.{least}
 use Rattle.core_state.specs.Events as happening
 use Rattle.core_state.specs.Needs as core
 use Rattle.core_state.specs.Openings.{Opening}
-use Rattle.core_state.specs.States.{Place, State, epoch_of, flushed_by_all, is_cold, is_cooling, is_hot}
+use Rattle.core_state.specs.States.{Place, State, epoch_of, flushed_by_all, is_cooling}
 use Rattle.core_state.specs.Steps.{happens, step}
 use Rattle.row_words.specs.declared.event.Event.{Event}
 use Rattle.row_words.specs.declared.event.Event.TheVariants as told
@@ -19,7 +19,7 @@ use Rattle.row_words.specs.Sealed.{run, stepped}
 use Rattle.rows_trait.specs.declared.view.View.{View}
 use Rattle.rows_trait.specs.Turns.{Ran}
 use Rattle.rows_trait.specs.Views.{Shape, state}
-use Rattle.rows_trait.proofs.Runs.{ran_append, ran_none}
+use Rattle.rows_trait.proofs.Runs.{ran_append}
 use Rattle.cooling_stage.specs.declared.stage.Cooling.{Cooling}
 use Rattle.cooling_stage.specs.Queue.{IsOnce, found, without}
 use Rattle.page_pool.specs.Full.{IsHeldBack, NoneRipe}
@@ -27,7 +27,7 @@ use Rattle.page_pool.specs.Queues.{entry_of}
 use Rattle.page_provider.specs.Evicts.{HasLeft, leaving}
 use Rattle.page_provider.specs.Laws.{RowLaws}
 use Rattle.page_provider.specs.Providers.{Keeps, Provider}
-use Rattle.page_provider.specs.Shares.{AreNeeded, HadNone, HasShare, cools_in}
+use Rattle.page_provider.specs.Shares.{AreNeeded, HasShare, cools_in}
 use Rattle.page_provider.proofs.Judging.{tells}
 use Rattle.page_provider.proofs.Standing.{core_step, ran_state, state_on}
 

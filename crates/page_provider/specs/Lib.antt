@@ -1,6 +1,6 @@
 -- Read Providers: what a pager is and what it keeps. Then Steps: how one call goes on from there. Then Disks: what it
--- makes of the disk. Refusals has the causes, Evicts says what a call did that lets a page go. Inside has words of
--- private functions alone.
+-- makes of the disk. Refusals has the causes, Evicts says what a call did that lets a page go, Shares how many pages
+-- cool where one is brought in. Inside has words of private functions alone.
 pub mod Providers
 pub mod Steps
 pub mod Disks

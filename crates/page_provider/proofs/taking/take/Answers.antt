@@ -1,5 +1,4 @@
 use Rattle.std.proofs.Common.{◌≡◌, ◌<◌, inl, true, false, sym, ap, subst, arith}
-use Rattle.rows_trait.specs.Causes.{HasFound}
 use Rattle.rows_trait.specs.Views.{holds}
 use Rattle.held_rows.specs.Latching as latching
 use Rattle.held_rows.specs.declared.latching.Refusal.{Refusal}
