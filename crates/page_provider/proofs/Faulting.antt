@@ -322,7 +322,7 @@ standing_faulted {z = z} {v = v} {u = u} w {k = k} {page = page} {frames = frame
 pub missed_refused : {z : Shape} {v u : View} {k : Provider} {path : List ℕ} {why : Refusal} → RowLaws → Keeps z v k → v.held ≡ [] → Missed z v why u → HasRefused 4 z path v k why u k
 missed_refused laws c none m = refused_up (omega arith) (halts_refused laws c none (missed_halts none m))
 
-standing_ran : (z : Shape) {v w : View} (page : ℕ) (come : Option ℕ) → Standing z v page come w → Ran z.alone v [] w
+pub standing_ran : (z : Shape) {v w : View} (page : ℕ) (come : Option ℕ) → Standing z v page come w → Ran z.alone v [] w
 standing_ran z page (Some f) h = h.0
 standing_ran z page None h = h.0
 

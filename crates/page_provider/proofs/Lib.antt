@@ -40,3 +40,4 @@ pub mod Cooled
 pub mod Faulting
 pub mod Descents
 pub mod Filling
+pub mod Mirrored

@@ -21,3 +21,4 @@ pub mod Finds
 pub mod Leaves
 pub mod Comes
 pub mod Sequels
+pub mod Mirrored

@@ -7,6 +7,7 @@ ghost use Rattle.row_words.specs.declared.event.Event.TheVariants.{Load, Rescue}
 ghost use Rattle.row_words.specs.Openings.{opening};
 ghost use Rattle.rows_trait.specs.Views.{state};
 ghost use Rattle.cooling_stage.specs.Queue.{found};
+ghost use Rattle.page_calls.specs.Mirrors.{KeepsMirrors};
 ghost use Rattle.page_provider.specs.Comes.{CanCome, ComesOrNot, HasCome, HasRead, ReadsWell};
 ghost use Rattle.page_provider.specs.Finds.{Halts};
 ghost use Rattle.page_provider.specs.Gives.{Holds};
@@ -36,6 +37,7 @@ impl Pager {
         ensures same { IfOk result (λ _. self.new ≡ self.old) }
         ensures err { IfErr result (λ why. HasRead self.old page (P.story dev.old) why self.new) }
         ensures disk { ReadsWell self.old self.new (P.story dev.old) (P.story dev.new) }
+        ensures mirrors { KeepsMirrors self.old.slots self.new.slots (P.story dev.old) (P.story dev.new) }
         ensures seat { P.seat dev.new ≡ P.seat dev.old }
         ensures cause { HasCause (P.faults dev.old) (P.faults dev.new) (result ≡ Err refusal.DiskFault) }
     {

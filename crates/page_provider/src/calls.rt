@@ -13,6 +13,7 @@ ghost use Rattle.page_provider.specs.Ends.{HasRefused};
 ghost use Rattle.page_provider.specs.Faults.{FaultCause, Faulted, HasPlaced, IsAstray, IsDescent, IsWanted, LeadsTo, NoPageCause};
 ghost use Rattle.page_provider.specs.Finds.{Halts};
 ghost use Rattle.page_provider.specs.Gives.{Gives};
+ghost use Rattle.page_provider.specs.Mirrored.{KeepsMirrored};
 ghost use Rattle.page_provider.specs.Providers.{Keeps};
 ghost use Rattle.page_provider.specs.Refusals.{Caused, IsOfRow};
 ghost use Rattle.page_provider.specs.declared.refusal.Refusal.TheVariants as refusal;
@@ -116,6 +117,7 @@ impl Pager {
         ensures err { IfErr result (λ why. HasRefused 4 (R.shape rows.old) path.now (R.view seat.old) self.old why (R.view seat.new) self.new) }
         ensures cause { IfErr result (PlaceCause (R.shape rows.old) path.now (R.view seat.new) self.new) }
         ensures disk { Disked (R.shape rows.old).alone self.old (R.view seat.old) self.new (R.view seat.new) (P.story dev.old) (P.story dev.new) }
+        ensures mirrors { KeepsMirrored (R.view seat.old) self.old (R.view seat.new) self.new (P.story dev.old) (P.story dev.new) }
         ensures seat { P.seat dev.new ≡ P.seat dev.old }
         ensures cause_disk_fault { HasCause (P.faults dev.old) (P.faults dev.new) (result ≡ Err refusal.DiskFault) }
     {
@@ -149,6 +151,7 @@ impl Pager {
         ensures err { IfErr result (λ why. HasRefused 4 (R.shape rows.old) path.now (R.view seat.old) self.old why (R.view seat.new) self.new) }
         ensures cause { IfErr result (FaultCause (R.shape rows.old) path.now self.old page (P.story dev.old) (R.view seat.new) self.new) }
         ensures disk { Disked (R.shape rows.old).alone self.old (R.view seat.old) self.new (R.view seat.new) (P.story dev.old) (P.story dev.new) }
+        ensures mirrors { KeepsMirrored (R.view seat.old) self.old (R.view seat.new) self.new (P.story dev.old) (P.story dev.new) }
         ensures seat { P.seat dev.new ≡ P.seat dev.old }
         ensures cause_disk_fault { HasCause (P.faults dev.old) (P.faults dev.new) (result ≡ Err refusal.DiskFault) }
     {
@@ -184,6 +187,7 @@ impl Pager {
         ensures since { is_cold ((state (R.view seat.old)).core.place page) ≡ false → IfErr result (λ why. Caused (R.view seat.old) why (R.view seat.new)) }
         ensures cause { IfErr result (FaultCause (R.shape rows.old) path.now self.old page (P.story dev.old) (R.view seat.new) self.new) }
         ensures disk { Disked (R.shape rows.old).alone self.old (R.view seat.old) self.new (R.view seat.new) (P.story dev.old) (P.story dev.new) }
+        ensures mirrors { KeepsMirrored (R.view seat.old) self.old (R.view seat.new) self.new (P.story dev.old) (P.story dev.new) }
         ensures seat { P.seat dev.new ≡ P.seat dev.old }
         ensures cause_disk_fault { HasCause (P.faults dev.old) (P.faults dev.new) (result ≡ Err refusal.DiskFault) }
         ensures astray { (R.shape rows.old).alone ≡ true → IsAstray (R.view seat.old) page → result ≡ Ok None }
@@ -228,6 +232,7 @@ impl Pager {
         ensures since { is_cold ((state (R.view seat.old)).core.place page) ≡ false → IfErr result (λ why. Caused (R.view seat.old) why (R.view seat.new)) }
         ensures cause { IfErr result (FaultCause (R.shape rows.old) path.now self.old page (P.story dev.old) (R.view seat.new) self.new) }
         ensures disk { Disked (R.shape rows.old).alone self.old (R.view seat.old) self.new (R.view seat.new) (P.story dev.old) (P.story dev.new) }
+        ensures mirrors { KeepsMirrored (R.view seat.old) self.old (R.view seat.new) self.new (P.story dev.old) (P.story dev.new) }
         ensures seat { P.seat dev.new ≡ P.seat dev.old }
         ensures cause_disk_fault { HasCause (P.faults dev.old) (P.faults dev.new) (result ≡ Err refusal.DiskFault) }
         ensures earlier { self.old.broken ≡ true → result ≡ Err refusal.Broken }
@@ -272,6 +277,7 @@ impl Pager {
         ensures since { is_cold ((state (R.view seat.old)).core.place page) ≡ false → IfErr result (λ why. Caused (R.view seat.old) why (R.view seat.new)) }
         ensures cause { IfErr result (FaultCause (R.shape rows.old) path.now self.old page (P.story dev.old) (R.view seat.new) self.new) }
         ensures disk { Disked (R.shape rows.old).alone self.old (R.view seat.old) self.new (R.view seat.new) (P.story dev.old) (P.story dev.new) }
+        ensures mirrors { KeepsMirrored (R.view seat.old) self.old (R.view seat.new) self.new (P.story dev.old) (P.story dev.new) }
         ensures seat { P.seat dev.new ≡ P.seat dev.old }
         ensures cause_disk_fault { HasCause (P.faults dev.old) (P.faults dev.new) (result ≡ Err refusal.DiskFault) }
         ensures earlier { self.old.broken ≡ true → result ≡ Err refusal.Broken }

@@ -8,6 +8,7 @@ ghost use Rattle.cooling_stage.specs.declared.stage.Cooling.{Cooling};
 ghost use Rattle.page_provider.specs.Cools.{CanCool, CoolsIn, CoolsOrNot, Unhooks, HasUnhooked};
 ghost use Rattle.page_provider.specs.Ends.{HasRefused};
 ghost use Rattle.page_provider.specs.Finds.{IsChildless, IsSeen, SinceFound, Stopped};
+ghost use Rattle.page_provider.specs.Mirrored.{SavesNone};
 ghost use Rattle.page_provider.specs.Providers.{Keeps};
 ghost use Rattle.page_provider.specs.Refusals.{Caused};
 ghost use Rattle.page_provider.specs.declared.refusal.Refusal.TheVariants as refusal;
@@ -188,6 +189,7 @@ impl Pager {
         ensures err { IfErr result (λ why. HasRefused 2 (R.shape rows.old) [] (R.view seat.old) self.old why (R.view seat.new) self.new) }
         ensures since { IfErr result (λ why. Caused (R.view seat.old) why (R.view seat.new)) }
         ensures same { IfErr result (λ _. self.new ≡ self.old) }
+        ensures unsaved { SavesNone (R.shape rows.old) (R.view seat.old) self.old (R.view seat.new) self.new }
         ensures device { result ≡ Err refusal.DiskFault → ⊥ }
         ensures earlier { self.old.broken ≡ true → result ≡ Err refusal.Broken }
     {

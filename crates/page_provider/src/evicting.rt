@@ -8,6 +8,7 @@ ghost use Rattle.rows_trait.specs.Views.{state};
 ghost use Rattle.page_provider.specs.Disks.{Disked};
 ghost use Rattle.page_provider.specs.Evicts.{CanLeave, HasLeft, HasStayed};
 ghost use Rattle.page_provider.specs.Inside.{HasCleared, HasGone, IsEntered};
+ghost use Rattle.page_provider.specs.Mirrored.{KeepsMirrored};
 ghost use Rattle.page_provider.specs.Providers.{Keeps};
 ghost use Rattle.page_provider.specs.declared.refusal.Refusal.TheVariants as refusal;
 
@@ -67,6 +68,7 @@ impl Pager {
         ensures ok { IfOk result (λ _. HasCleared (R.shape rows.old) (R.view seat.old) self.old entry (R.view seat.new) self.new) }
         ensures err { IfErr result (λ why. HasStayed (R.shape rows.old) (R.view seat.old) self.old entry.page why (R.view seat.new) self.new) }
         ensures disk { Disked (R.shape rows.old).alone self.old (R.view seat.old) self.new (R.view seat.new) (P.story dev.old) (P.story dev.new) }
+        ensures mirrors { KeepsMirrored (R.view seat.old) self.old (R.view seat.new) self.new (P.story dev.old) (P.story dev.new) }
         ensures seat { P.seat dev.new ≡ P.seat dev.old }
         ensures cause { HasCause (P.faults dev.old) (P.faults dev.new) (result ≡ Err refusal.DiskFault) }
     {
@@ -97,6 +99,7 @@ impl Pager {
         ensures ok { IfOk result (λ _. HasLeft (R.shape rows.old) (R.view seat.old) self.old page (R.view seat.new) self.new) }
         ensures err { IfErr result (λ why. HasStayed (R.shape rows.old) (R.view seat.old) self.old page why (R.view seat.new) self.new) }
         ensures disk { Disked (R.shape rows.old).alone self.old (R.view seat.old) self.new (R.view seat.new) (P.story dev.old) (P.story dev.new) }
+        ensures mirrors { KeepsMirrored (R.view seat.old) self.old (R.view seat.new) self.new (P.story dev.old) (P.story dev.new) }
         ensures seat { P.seat dev.new ≡ P.seat dev.old }
         ensures cause { HasCause (P.faults dev.old) (P.faults dev.new) (result ≡ Err refusal.DiskFault) }
         ensures earlier { self.old.broken ≡ true → result ≡ Err refusal.Broken }

@@ -23,6 +23,7 @@ ghost use Rattle.page_provider.specs.Descents.{EveryDescent};
 ghost use Rattle.page_provider.specs.Fresh.{EveryFree, EveryFresh};
 ghost use Rattle.page_provider.specs.Gives.{EveryGiven};
 ghost use Rattle.page_provider.specs.Sequels.{EveryDiskRest, EveryDiskSequel, EverySequel};
+ghost use Rattle.page_provider.specs.Mirrored.{EveryMirroredGives, EveryMirroredRest, EveryMirroredRun};
 
 use lean_disk::Part;
 pub use pager::Pager;
@@ -78,3 +79,21 @@ pub fn every_disk_sequel<P: Part>()
 {
     laws::laws();
 }
+
+/// Where the slots hold what is saved, and the device tells of them, it gives each page as it is saved.
+pub fn every_mirrored_gives<P: Part>(now: &P)
+    ensures { EveryMirroredGives (P.story now.now) }
+{}
+
+/// The slots hold what is saved where a run of the core stands over the disk.
+pub fn every_mirrored_run<P: Part>(now: &P)
+    ensures { EveryMirroredRun (P.story now.now) }
+{
+    page_calls::every_mirrored(now);
+    row_opening::every_reached();
+}
+
+/// They hold it still behind steps that save no page, where the device is as it was.
+pub fn every_mirrored_rest<P: Part>(now: &P)
+    ensures { EveryMirroredRest (P.story now.now) }
+{}

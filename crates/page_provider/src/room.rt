@@ -7,6 +7,7 @@ ghost use Rattle.page_provider.specs.Disks.{Disked};
 ghost use Rattle.page_provider.specs.Ends.{HasRefused};
 ghost use Rattle.page_provider.specs.Faults.{FullCause, IsDescent};
 ghost use Rattle.page_provider.specs.Leaves.{Chooses, HasHalted, IsCounted, IsFlushed, NoOther, NoneCools, NoneLeaves};
+ghost use Rattle.page_provider.specs.Mirrored.{KeepsMirrored};
 ghost use Rattle.page_provider.specs.Providers.{Keeps};
 ghost use Rattle.page_provider.specs.declared.refusal.Refusal.TheVariants as refusal;
 
@@ -128,6 +129,7 @@ impl Pager {
         ensures kind { IfErr result IsOfRoom }
         ensures full { IfErr result (λ why. FullCause (R.shape rows.old) path.now (R.view seat.new) self.new why) }
         ensures disk { Disked (R.shape rows.old).alone self.old (R.view seat.old) self.new (R.view seat.new) (P.story dev.old) (P.story dev.new) }
+        ensures mirrors { KeepsMirrored (R.view seat.old) self.old (R.view seat.new) self.new (P.story dev.old) (P.story dev.new) }
         ensures seat { P.seat dev.new ≡ P.seat dev.old }
         ensures cause { HasCause (P.faults dev.old) (P.faults dev.new) (result ≡ Err refusal.DiskFault) }
     {

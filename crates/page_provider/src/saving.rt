@@ -6,10 +6,12 @@ ghost use Rattle.lean_disk.specs.Faults.{HasCause};
 ghost use Rattle.row_words.specs.Openings.{opening};
 ghost use Rattle.rows_trait.specs.Views.{state};
 ghost use Rattle.page_calls.specs.Calls.{KeepsMoments, SavesMoments};
+ghost use Rattle.page_calls.specs.Mirrors.{KeepsMirrors, SavesMirrors};
 ghost use Rattle.page_calls.specs.declared.slots.Slot.{Slot};
 ghost use Rattle.page_provider.specs.Disks.{Disked};
 ghost use Rattle.page_provider.specs.Evicts.{HasStayed};
 ghost use Rattle.page_provider.specs.Inside.{HasSaved, IsEntered, StandsOn, WritesOn};
+ghost use Rattle.page_provider.specs.Mirrored.{KeepsMirrored};
 ghost use Rattle.page_provider.specs.Providers.{Keeps};
 ghost use Rattle.page_provider.specs.declared.refusal.Refusal.TheVariants as refusal;
 
@@ -32,6 +34,7 @@ fn settle_first<P: Part>(dev: &mut P, slots: &mut Slots, page: u32) -> Did
     ensures stands { result ≡ Did.Done → StandsOn slots.old slots.new (P.story dev.old) (P.story dev.new) }
     ensures early { result ≡ Did.Done → (s : Slot) → slice_get slots.new page ≡ Some s → s.late ≡ false }
     ensures size { length slots.new ≡ length slots.old }
+    ensures mirrors { KeepsMirrors slots.old slots.new (P.story dev.old) (P.story dev.new) }
     ensures any_moment { KeepsMoments slots.old (P.story dev.old) (P.story dev.new) }
     ensures seat { P.seat dev.new ≡ P.seat dev.old }
     ensures cause { HasCause (P.faults dev.old) (P.faults dev.new) (result ≡ Did.Failed) }
@@ -54,6 +57,7 @@ fn write<P: Part>(dev: &mut P, slots: &mut Slots, node: &Node, buffer: &mut [u8]
     requires room { length buffer.old ≡ 1024 }
     ensures writes { result ≡ Did.Done → WritesOn slots.old slots.new node.now (P.story dev.old) (P.story dev.new) }
     ensures size { length slots.new ≡ length slots.old }
+    ensures mirrors { result ≡ Did.Done → SavesMirrors slots.old slots.new node.now (P.story dev.old) (P.story dev.new) }
     ensures any_moment { SavesMoments slots.old node.now (P.story dev.old) (P.story dev.new) }
     ensures seat { P.seat dev.new ≡ P.seat dev.old }
     ensures cause { HasCause (P.faults dev.old) (P.faults dev.new) (result ≡ Did.Failed) }
@@ -86,6 +90,7 @@ impl Pager {
         ensures ok { IfOk result (λ _. HasSaved (R.shape rows.old) (R.view seat.old) self.old entry (R.view seat.new) self.new) }
         ensures err { IfErr result (λ why. HasStayed (R.shape rows.old) (R.view seat.old) self.old entry.page why (R.view seat.new) self.new) }
         ensures disk { Disked (R.shape rows.old).alone self.old (R.view seat.old) self.new (R.view seat.new) (P.story dev.old) (P.story dev.new) }
+        ensures mirrors { KeepsMirrored (R.view seat.old) self.old (R.view seat.new) self.new (P.story dev.old) (P.story dev.new) }
         ensures seat { P.seat dev.new ≡ P.seat dev.old }
         ensures cause { HasCause (P.faults dev.old) (P.faults dev.new) (result ≡ Err refusal.DiskFault) }
     {

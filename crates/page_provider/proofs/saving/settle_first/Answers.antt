@@ -1,5 +1,6 @@
 use Rattle.page_provider.proofs.Saves.{rest_moments, settled_early, settles_on}
-use Rattle.std.proofs.Common.{◌≡◌, Some, slice_get, subst}
+use Rattle.std.proofs.Common.{◌≡◌, Some, refl, slice_get, subst}
+use Rattle.page_provider.proofs.Mirrored.{keeps_same}
 use Rattle.page_provider.proofs.saving.settle_first.Goals as goal
 
 pub returns-then-not-of-clause-any_moment : goal.returns-then-not-of-clause-any_moment
@@ -10,3 +11,6 @@ returns-clause-stands g c = λ done. settles_on (c.settle.ensures.stands done)
 
 pub returns-clause-early : goal.returns-clause-early
 returns-clause-early g c = λ done s there. settled_early c.args.page c.args.slots.now s (subst (λ ss. slice_get ss c.args.page ≡ Some s) (c.settle.ensures.after done) there)
+
+pub returns-then-not-of-clause-mirrors : goal.returns-then-not-of-clause-mirrors
+returns-then-not-of-clause-mirrors g c = keeps_same refl

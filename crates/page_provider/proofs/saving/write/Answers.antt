@@ -1,5 +1,6 @@
 use Rattle.page_provider.proofs.Saves.{saved_size, writes_moments, writes_on}
 use Rattle.std.proofs.Common.{◌∙◌}
+use Rattle.page_provider.proofs.Mirrored.{settled_saves}
 use Rattle.page_provider.proofs.saving.write.Goals as goal
 
 pub returns-clause-writes : goal.returns-clause-writes
@@ -10,3 +11,6 @@ returns-clause-size g c = saved_size c.args.node.now.number c.settle_first.new.s
 
 pub returns-clause-any_moment : goal.returns-clause-any_moment
 returns-clause-any_moment g c = writes_moments (c.settle_first.ensures.stands c.in-Done.is) c.settle_first.ensures.any_moment c.save.ensures.any_moment
+
+pub returns-clause-mirrors : goal.returns-clause-mirrors
+returns-clause-mirrors g c = λ done. settled_saves c.settle_first.ensures.size c.settle_first.ensures.mirrors (c.save.ensures.mirrors done)

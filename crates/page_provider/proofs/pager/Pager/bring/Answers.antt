@@ -6,6 +6,7 @@ use Rattle.page_provider.specs.declared.refusal.Refusal.{Refusal}
 use Rattle.page_provider.proofs.Filling.{has_contents, read_refused, reads_disked}
 use Rattle.page_provider.proofs.Running.{disked_then}
 use Rattle.page_provider.proofs.Savings.{if_err}
+use Rattle.page_provider.proofs.Mirrored.{mirrored_broken, mirrored_read, mirrored_then}
 use Rattle.page_provider.proofs.pager.Pager.bring.Goals as goal
 
 pub read-requires-clause-page : goal.read-requires-clause-page
@@ -37,3 +38,11 @@ place-requires-clause-contents g c = has_contents c.requires.below c.requires.co
 pub returns-clause-disk : goal.returns-clause-disk
 returns-clause-disk g c =
     disked_then c.laws.ensures.disk (ap (λ (p : Provider). p.broken) c.in_ok-node.ensures.same ∙ c.requires.well) (reads_disked c.laws.ensures.disk c.in_ok-node.ensures.disk) c.place.ensures.disk
+
+pub returns-in_err-node-clause-mirrors : goal.returns-in_err-node-clause-mirrors
+returns-in_err-node-clause-mirrors g c = mirrored_broken (ap (λ (p : Provider). p.broken) c.in_err-node.ensures.err.memory)
+
+pub returns-clause-mirrors : goal.returns-clause-mirrors
+returns-clause-mirrors g c =
+    let same = c.in_ok-node.ensures.same in
+    mirrored_then (ap (λ (p : Provider). p.broken) same ∙ c.requires.well) (mirrored_read c.in_ok-node.ensures.mirrors (ap (λ (p : Provider). p.generation) same)) c.place.ensures.mirrors

@@ -14,6 +14,8 @@ use Rattle.page_provider.proofs.Keeping.{keeps_ran}
 use Rattle.page_provider.proofs.Parts.{keeps_shape}
 use Rattle.page_provider.proofs.Savings.{if_err}
 use Rattle.page_provider.proofs.Unlinks.{seen_sight}
+use Rattle.rows_trait.proofs.Runs.{ran_none}
+use Rattle.page_provider.proofs.Mirrored.{cooled_saves, saves_after, saves_none, stopped_saves}
 use Rattle.page_provider.proofs.pager.Pager.cool.Goals as goal
 
 pub returns-then-self-clause-err : goal.returns-then-self-clause-err
@@ -129,3 +131,27 @@ returns-in_err-cool_seen-clause-since g c =
     let e : why ≡ p.0 = cc in
     let P : Refusal → Type 0 = λ q. Caused v q u in
     if_err c.from_residual-in_err-cool_seen.result p.0 P p.1 (subst P e (c.in_err-cool_seen.ensures.cause v k.sight.found))
+
+pub returns-then-self-clause-unsaved : goal.returns-then-self-clause-unsaved
+returns-then-self-clause-unsaved g c = saves_none (ran_none (g.R.Rows.shape c.args.rows.now).alone (g.R.Rows.view c.args.seat.now)) tt
+
+pub returns-in_err-cool_seen-clause-unsaved : goal.returns-in_err-cool_seen-clause-unsaved
+returns-in_err-cool_seen-clause-unsaved g c =
+    let z = g.R.Rows.shape c.args.rows.now in
+    let v = g.R.Rows.view c.args.seat.now in
+    let n = g.R.Rows.view c.candidate.new.seat in
+    let u = g.R.Rows.view c.cool_seen.new.seat in
+    let k = subst (λ (x : Option Sight). Candidate z v c.args.frame x n) c.in-Some.is c.in_ok-seen.ensures.ok in
+    let stopped = subst (λ (s : Shape). Stopped 2 s n c.in_err-cool_seen.field-0.0 u) c.in_ok-seen.ensures.fits.1 c.in_err-cool_seen.ensures.err in
+    saves_after k.sight.ran (stopped_saves c.in_err-cool_seen.ensures.same stopped)
+
+pub returns-clause-unsaved : goal.returns-clause-unsaved
+returns-clause-unsaved g c =
+    let z = g.R.Rows.shape c.args.rows.now in
+    let v = g.R.Rows.view c.args.seat.now in
+    let n = g.R.Rows.view c.candidate.new.seat in
+    let u = g.R.Rows.view c.cool_seen.new.seat in
+    let s = c.in-Some.seen in
+    let k = subst (λ (x : Option Sight). Candidate z v c.args.frame x n) c.in-Some.is c.in_ok-seen.ensures.ok in
+    let h = subst (λ (q : Shape). CoolsOrNot q n c.args.self.now s.node.number s.glimpse.row c.in_ok-cool_seen.field-0 u c.cool_seen.new.self) c.in_ok-seen.ensures.fits.1 c.in_ok-cool_seen.ensures.ok in
+    saves_after k.sight.ran (cooled_saves s.node.number s.glimpse.row c.in_ok-cool_seen.field-0 h)

@@ -12,6 +12,7 @@ use Rattle.page_provider.proofs.Parts.{cause_none, cleared_left, disk_after, fir
 use Rattle.page_provider.proofs.Loaded.{loads_none, spent_others}
 use Rattle.page_provider.proofs.Savings.{entered_is, frame_is, if_err, is_found, left_clean}
 use Rattle.page_provider.proofs.Writing.{disked_misses}
+use Rattle.page_provider.proofs.Mirrored.{leave_mirrored, mirrored_after, mirrored_misses}
 use Rattle.page_provider.proofs.pager.Pager.evict.Goals as goal
 
 pub returns-then-self-clause-err : goal.returns-then-self-clause-err
@@ -152,3 +153,19 @@ returns-then-dirty-clause-earlier g c = λ b. absurd (true≢false (sym b ∙ (a
 
 pub returns-clause-earlier : goal.returns-clause-earlier
 returns-clause-earlier g c = λ b. absurd (true≢false (sym b ∙ (ap (λ (p : Provider). p.broken) (sym c.self.view_is) ∙ c.if-self.false)))
+
+pub returns-then-self-clause-mirrors : goal.returns-then-self-clause-mirrors
+returns-then-self-clause-mirrors g c = λ m well. m
+
+pub returns-in_err-dirty-clause-mirrors : goal.returns-in_err-dirty-clause-mirrors
+returns-in_err-dirty-clause-mirrors g c = let m = c.in_err-dirty.ensures.err in mirrored_misses c.requires.keeps m.ran m.few
+
+pub returns-then-dirty-clause-mirrors : goal.returns-then-dirty-clause-mirrors
+returns-then-dirty-clause-mirrors g c = mirrored_after c.requires.keeps c.in_ok-dirty.ensures.ok.ran c.leave_dirty.ensures.mirrors
+
+pub returns-clause-mirrors : goal.returns-clause-mirrors
+returns-clause-mirrors g c =
+    let e = entered_is c.self.view_is c.requires.keeps c.requires.leaves c.in-Some.ensures in
+    let s = seen c.laws.ensures.rows c.requires.keeps c.requires.held c.requires.leaves e.0 e.1 c.in_ok-dirty.ensures.ok in
+    mirrored_after c.requires.keeps s.ran
+    (leave_mirrored c.in-Some.entry (keeps_shape c.in_ok-dirty.ensures.fits.1 s.keeps) (s.now ∙ c.if-dirty.false) c.leave.result c.leave.ensures.ok c.leave.ensures.err c.leave.ensures.same)

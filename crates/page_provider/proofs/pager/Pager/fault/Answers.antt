@@ -5,6 +5,7 @@ use Rattle.page_provider.specs.Faults.{Faulted, IsAstray}
 use Rattle.page_provider.specs.Providers.{Provider}
 use Rattle.page_provider.proofs.Faulting.{broken_refused, found_at, free_cold, free_parents, quiet_disk}
 use Rattle.page_provider.proofs.Writing.{disked_misses}
+use Rattle.page_provider.proofs.Mirrored.{mirrored_unseen}
 use Rattle.page_provider.proofs.pager.Pager.fault.Goals as goal
 
 pub returns-then-self-clause-err : goal.returns-then-self-clause-err
@@ -41,3 +42,9 @@ returns-in-Some-clause-since g c = λ _. c.rescue.ensures.since
 pub returns-then-contains-clause-since : goal.returns-then-contains-clause-since
 returns-then-contains-clause-since g c = λ off.
     absurd (true≢false (sym (free_cold c.args.page c.laws.ensures.rows c.self.view_is c.requires.keeps c.requires.below c.in_default.ensures c.if-contains.ensures) ∙ off))
+
+pub returns-then-self-clause-mirrors : goal.returns-then-self-clause-mirrors
+returns-then-self-clause-mirrors g c = λ m well. m
+
+pub returns-in-Some-clause-mirrors : goal.returns-in-Some-clause-mirrors
+returns-in-Some-clause-mirrors g c = mirrored_unseen c.requires.keeps c.rescue.ensures.unseen

@@ -9,6 +9,7 @@ use Rattle.page_provider.proofs.Outcomes.{stayed_saved}
 use Rattle.page_provider.proofs.Parts.{cause_to, err_to, keeps_shape, leave_disk, saved_well}
 use Rattle.page_provider.proofs.Running.{disked_then}
 use Rattle.page_provider.proofs.Savings.{frame_is, if_err}
+use Rattle.page_provider.proofs.Mirrored.{leave_mirrored, mirrored_then}
 use Rattle.page_provider.proofs.pager.Pager.leave_dirty.Goals as goal
 
 pub leave-requires-clause-keeps : goal.leave-requires-clause-keeps
@@ -70,3 +71,9 @@ returns-clause-disk g c =
 
 pub returns-clause-cause : goal.returns-clause-cause
 returns-clause-cause g c = cause_to c.in_ok-save.ensures.cause (λ e. cc) c.leave.ensures.device
+
+pub returns-clause-mirrors : goal.returns-clause-mirrors
+returns-clause-mirrors g c =
+    let k = c.in_ok-save.ensures.ok in
+    mirrored_then (saved_well k c.requires.well) c.in_ok-save.ensures.mirrors
+    (leave_mirrored c.args.entry (keeps_shape c.in_ok-save.ensures.fits.1 k.goes.keeps) k.clean c.leave.result c.leave.ensures.ok c.leave.ensures.err c.leave.ensures.same)

@@ -15,6 +15,7 @@ use Rattle.page_provider.proofs.Keeping.{keeps_ran}
 use Rattle.page_provider.proofs.Parts.{disk_after, keeps_shape}
 use Rattle.page_provider.proofs.Savings.{if_err}
 use Rattle.page_provider.proofs.Sightings.{missed_before, sound_still}
+use Rattle.page_provider.proofs.Mirrored.{mirrored_after, mirrored_misses, settled_mirrored}
 use Rattle.page_provider.proofs.pager.Pager.look_for.Goals as goal
 
 pub returns-in_err-naming-clause-err : goal.returns-in_err-naming-clause-err
@@ -167,3 +168,14 @@ returns-clause-since g c = λ off.
     let n = named_on laws c.requires.keeps c.requires.below c.from.ensures o.kept.ran (subst (λ (x : Option (Sight × ℕ)). Naming z v c.frames-frames.result c.from.result x u) c.in-Some.is o.ok) in
     let cold = cold_of c.args.page laws (keeps_ran laws.stood laws.standing tt o.kept.ran c.requires.keeps) c.requires.absent n.off in
     absurd (true≢false (sym cold ∙ ((stood_look z o.kept.ran laws c.requires.keeps).cold c.args.page ∙ off)))
+
+pub returns-in_err-naming-clause-mirrors : goal.returns-in_err-naming-clause-mirrors
+returns-in_err-naming-clause-mirrors g c = let m = c.in_err-naming.ensures.err in mirrored_misses c.requires.keeps m.ran m.few
+
+pub returns-in_default-clause-mirrors : goal.returns-in_default-clause-mirrors
+returns-in_default-clause-mirrors g c =
+    let o = c.in_ok-naming.ensures in
+    settled_mirrored c.args.page c.requires.keeps o.fits.1 o.kept c.standing.result c.standing.ensures.ok c.standing.ensures.err
+
+pub returns-clause-mirrors : goal.returns-clause-mirrors
+returns-clause-mirrors g c = mirrored_after c.requires.keeps c.in_ok-naming.ensures.kept.ran c.bring.ensures.mirrors

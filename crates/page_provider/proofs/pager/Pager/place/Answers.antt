@@ -12,6 +12,7 @@ use Rattle.page_provider.proofs.Parts.{err_to}
 use Rattle.page_provider.proofs.Placing.{unseen_disk}
 use Rattle.page_provider.proofs.Running.{disked_then}
 use Rattle.page_provider.proofs.Savings.{if_err}
+use Rattle.page_provider.proofs.Mirrored.{mirrored_then, mirrored_unseen}
 use Rattle.page_provider.proofs.pager.Pager.place.Goals as goal
 
 pub returns-in_err-frame-clause-err : goal.returns-in_err-frame-clause-err
@@ -58,3 +59,10 @@ returns-clause-disk g c =
     let w = g.R.Rows.view c.fill.new.seat in
     let unseen = subst (λ (s : Shape). IsUnseen s.alone u c.room.new.self w c.fill.new.self) c.in_ok-frame.ensures.fits.1 c.fill.ensures.unseen in
     disked_then c.laws.ensures.disk (c.in_ok-frame.ensures.ok.broken ∙ c.requires.well) c.in_ok-frame.ensures.disk (unseen_disk c.laws.ensures.disk (g.met.P.Part.lawful c.room.new.dev) unseen)
+
+pub returns-clause-mirrors : goal.returns-clause-mirrors
+returns-clause-mirrors g c =
+    let u = g.R.Rows.view c.room.new.seat in
+    let w = g.R.Rows.view c.fill.new.seat in
+    let unseen = subst (λ (s : Shape). IsUnseen s.alone u c.room.new.self w c.fill.new.self) c.in_ok-frame.ensures.fits.1 c.fill.ensures.unseen in
+    mirrored_then (c.in_ok-frame.ensures.ok.broken ∙ c.requires.well) c.in_ok-frame.ensures.mirrors (mirrored_unseen c.in_ok-frame.ensures.ok.moved.goes.keeps unseen)

@@ -1,5 +1,6 @@
 use Rattle.std.proofs.Common.{refl}
 use Rattle.page_provider.proofs.Reading.{reads_well}
+use Rattle.page_provider.proofs.Mirrored.{read_keeps}
 use Rattle.page_provider.proofs.pager.Pager.read.Goals as goal
 
 pub returns-in-Ok-clause-disk : goal.returns-in-Ok-clause-disk
@@ -10,3 +11,12 @@ returns-in-Err-DiskFault-clause-disk g c = reads_well c.self.view_is refl refl c
 
 pub returns-in-Err-Damaged-clause-disk : goal.returns-in-Err-Damaged-clause-disk
 returns-in-Err-Damaged-clause-disk g c = reads_well c.self.view_is refl refl c.in-Err-Damaged.ensures.any_moment c.in-Err-Damaged.ensures.stands
+
+pub returns-in-Ok-clause-mirrors : goal.returns-in-Ok-clause-mirrors
+returns-in-Ok-clause-mirrors g c = read_keeps c.self.view_is refl c.in-Ok.ensures.mirrors
+
+pub returns-in-Err-DiskFault-clause-mirrors : goal.returns-in-Err-DiskFault-clause-mirrors
+returns-in-Err-DiskFault-clause-mirrors g c = read_keeps c.self.view_is refl c.in-Err-DiskFault.ensures.mirrors
+
+pub returns-in-Err-Damaged-clause-mirrors : goal.returns-in-Err-Damaged-clause-mirrors
+returns-in-Err-Damaged-clause-mirrors g c = read_keeps c.self.view_is refl c.in-Err-Damaged.ensures.mirrors

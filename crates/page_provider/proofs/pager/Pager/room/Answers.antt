@@ -20,6 +20,7 @@ use Rattle.page_provider.proofs.Moving.{refused_up}
 use Rattle.page_provider.proofs.Rooms.{calm_disked, room_full, room_kept, room_left, room_stayed}
 use Rattle.page_provider.proofs.Running.{disked_then}
 use Rattle.page_provider.proofs.Savings.{if_err}
+use Rattle.page_provider.proofs.Mirrored.{mirrored_calm, mirrored_then}
 use Rattle.page_provider.proofs.pager.Pager.room.Goals as goal
 
 -- what the second part cooled, behind what the first did
@@ -166,3 +167,32 @@ returns-clause-disk g c =
     disked_then c.laws.ensures.disk (ap (λ (p : Provider). p.broken) h.memory ∙ c.requires.well)
     (calm_disked c.laws.ensures.disk (g.met.P.Part.lawful c.args.dev.now) (chills_calm h))
     (subst (λ (s : Shape). Disked s.alone c.leaver.new.self w c.evict.new.self x (g.P.Part.story c.args.dev.now) (g.P.Part.story c.evict.new.dev)) (c.in_ok-entry.ensures.fits.1 ∙ c.in_ok-chill_some.ensures.fits.1) c.evict.ensures.disk)
+
+-- ## What the slots hold
+
+pub returns-in_err-chill_some-clause-mirrors : goal.returns-in_err-chill_some-clause-mirrors
+returns-in_err-chill_some-clause-mirrors g c = mirrored_calm c.requires.keeps c.in_err-chill_some.ensures.halted.calm
+
+pub returns-in-Some-clause-mirrors : goal.returns-in-Some-clause-mirrors
+returns-in-Some-clause-mirrors g c = mirrored_calm c.requires.keeps (chills_calm c.in_ok-chill_some.ensures.ok.chills)
+
+pub returns-in_err-entry-clause-mirrors : goal.returns-in_err-entry-clause-mirrors
+returns-in_err-entry-clause-mirrors g c =
+    let u = g.R.Rows.view c.chill_some.new.seat in
+    let w = g.R.Rows.view c.leaver.new.seat in
+    let why = c.in_err-entry.field-0.0 in
+    let h = subst (λ (s : Shape). HasHalted s u c.chill_some.new.self why w c.leaver.new.self) c.in_ok-chill_some.ensures.fits.1 c.in_err-entry.ensures.halted in
+    mirrored_calm c.requires.keeps (calm_then (chills_calm c.in_ok-chill_some.ensures.ok.chills) h.calm)
+
+pub returns-in-Nobody-clause-mirrors : goal.returns-in-Nobody-clause-mirrors
+returns-in-Nobody-clause-mirrors g c = mirrored_calm c.requires.keeps (chills_calm (behind c.in_ok-chill_some.ensures.fits.1 c.in_ok-chill_some.ensures.ok.chills c.in_ok-entry.ensures.ok.0))
+
+pub returns-in_err-evict-clause-mirrors : goal.returns-in_err-evict-clause-mirrors
+returns-in_err-evict-clause-mirrors g c =
+    let h = behind c.in_ok-chill_some.ensures.fits.1 c.in_ok-chill_some.ensures.ok.chills c.in_ok-entry.ensures.ok.0 in
+    mirrored_then (ap (λ (p : Provider). p.broken) h.memory ∙ c.requires.well) (mirrored_calm c.requires.keeps (chills_calm h)) c.evict.ensures.mirrors
+
+pub returns-clause-mirrors : goal.returns-clause-mirrors
+returns-clause-mirrors g c =
+    let h = behind c.in_ok-chill_some.ensures.fits.1 c.in_ok-chill_some.ensures.ok.chills c.in_ok-entry.ensures.ok.0 in
+    mirrored_then (ap (λ (p : Provider). p.broken) h.memory ∙ c.requires.well) (mirrored_calm c.requires.keeps (chills_calm h)) c.evict.ensures.mirrors

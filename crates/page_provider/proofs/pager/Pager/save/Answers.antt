@@ -15,6 +15,7 @@ use Rattle.page_provider.proofs.Outcomes.{entry_stays, entry_within, stayed_fail
 use Rattle.page_provider.proofs.Loaded.{loads_none, spent_others}
 use Rattle.page_provider.proofs.Savings.{can_save, disk_failed, disk_saved, frame_is, has_saved, if_err, image_is, page_few, page_slots}
 use Rattle.page_provider.proofs.Writing.{disked_misses}
+use Rattle.page_provider.proofs.Mirrored.{mirrored_broken, mirrored_misses, mirrored_saved}
 use Rattle.page_provider.proofs.pager.Pager.save.Goals as goal
 
 pub page_in-requires-clause-frame : goal.page_in-requires-clause-frame
@@ -159,3 +160,36 @@ returns-clause-disk g c =
     let all = ran_append z.alone v [] t (Save c.args.entry.page ∷ []) w r (subst (λ (s : Shape). Ran s.alone t (Save c.args.entry.page ∷ []) w) s2 c.note_saved.ensures.went.ran) in
     disk_saved c.self.view_is c.laws.ensures.rows c.laws.ensures.disk c.requires.keeps c.requires.entered c.requires.low c.requires.dirty c.self.invariant.each c.in_ok-node.ensures.words is c.write.ensures.any_moment
     c.write.new.slots (c.write.ensures.writes c.in-Done.is) all
+
+pub returns-in_err-node-clause-mirrors : goal.returns-in_err-node-clause-mirrors
+returns-in_err-node-clause-mirrors g c = let m = c.in_err-node.ensures.err in mirrored_misses c.requires.keeps m.ran m.few
+
+pub returns-in_err-hold-clause-mirrors : goal.returns-in_err-hold-clause-mirrors
+returns-in_err-hold-clause-mirrors g c =
+    let z = g.R.Rows.shape c.args.rows.now in
+    let v = g.R.Rows.view c.args.seat.now in
+    let u = g.R.Rows.view c.page_in.new.seat in
+    let s1 = c.in_ok-node.ensures.fits.1 in
+    let i = c.in_ok-node.ensures.ok in
+    let w = g.R.Rows.view c.take.new.seat in
+    let m = subst (λ (s : Shape). Missed s u c.in_err-hold.field-0.0 w) s1 c.in_err-hold.ensures.err in
+    mirrored_misses c.requires.keeps (ran_append z.alone v [] u m.misses w i.ran m.ran) m.few
+
+pub returns-in_default-clause-mirrors : goal.returns-in_default-clause-mirrors
+returns-in_default-clause-mirrors g c = mirrored_broken refl
+
+pub returns-clause-mirrors : goal.returns-clause-mirrors
+returns-clause-mirrors g c =
+    let z = g.R.Rows.shape c.args.rows.now in
+    let v = g.R.Rows.view c.args.seat.now in
+    let u = g.R.Rows.view c.page_in.new.seat in
+    let s1 = c.in_ok-node.ensures.fits.1 in
+    let i = c.in_ok-node.ensures.ok in
+    let t = g.R.Rows.view c.take.new.seat in
+    let taken = c.in_ok-hold.ensures.ok.1 in
+    let s2 = c.in_ok-hold.ensures.fits.1 ∙ s1 in
+    let r = ran_append z.alone v [] u [] t i.ran (subst (λ (s : Shape). Ran s.alone u [] t) s1 taken.ran) in
+    let is = image_is c.laws.ensures.rows c.requires.keeps c.requires.entered i in
+    let w = g.R.Rows.view c.note_saved.new.seat in
+    let all = ran_append z.alone v [] t (Save c.args.entry.page ∷ []) w r (subst (λ (s : Shape). Ran s.alone t (Save c.args.entry.page ∷ []) w) s2 c.note_saved.ensures.went.ran) in
+    mirrored_saved c.self.view_is c.laws.ensures.rows c.requires.keeps c.requires.held c.requires.entered c.requires.low c.self.invariant.each c.in_ok-node.ensures.words is c.write.new.slots (c.write.ensures.mirrors c.in-Done.is) all

@@ -1,0 +1,61 @@
+-- Where the device tells of the pages' area, the slots of the pager hold what the core has saved: what each call makes of that. In each,
+-- old and new are what the device tells before the call and after it.
+use Rattle.std.specs.Prelude.{◌≡◌, ◌<◌, ℕ, Bool, true, false, List, [], ◌∷◌, length}
+use Rattle.core_state.specs.Openings.{Opening}
+use Rattle.lean_disk.specs.Story.{Crash, Story, Tells}
+use Rattle.disk_runs.specs.Stands.{Known}
+use Rattle.page_calls.specs.Mirrors.{Mirrors, Spans}
+use Rattle.row_words.specs.declared.event.Event.{Event}
+use Rattle.row_words.specs.declared.event.Event.TheVariants.{Save}
+use Rattle.row_words.specs.Moments.{pager}
+use Rattle.row_words.specs.Openings.{opening}
+use Rattle.rows_trait.specs.declared.view.View.{View}
+use Rattle.rows_trait.specs.Turns.{Ran}
+use Rattle.rows_trait.specs.Views.{Shape, may, state}
+use Rattle.page_provider.specs.Disks.{Runs}
+use Rattle.page_provider.specs.Gives.{Gives}
+use Rattle.page_provider.specs.Providers.{Provider}
+
+-- Where the device tells of the area: the slot of a page that was written last holds, if it holds a page, what the core has saved of it;
+-- and all slots are within the area, but maybe the very last one.
+pub record IsMirrored (v : View) (k : Provider) (s : Story) : Type 0 where
+  pub mirrors : Mirrors k.slots k.generation (state v).core.saved s
+  pub spans : Spans k.slots s
+
+-- so it is behind a call, unless the pager is broken by then
+abbrev pub KeepsMirrored : View → (was : Provider) → View → (is : Provider) → (old new : Story) → Type 0
+KeepsMirrored v was u is old new = IsMirrored v was old → is.broken ≡ false → IsMirrored u is new
+
+-- ## Steps that save nothing
+
+-- a page is saved
+abbrev pub is_save : Event → Bool
+is_save (Save p) = true
+is_save _ = false
+
+-- none of the events saves a page
+abbrev pub NoSaves : List Event → Type 0
+NoSaves [] = Unit {0}
+NoSaves (e ∷ es) = (is_save e ≡ false) × NoSaves es
+
+-- no page was saved, and the same is known of each page's slots
+pub record SavesNone (z : Shape) (v : View) (was : Provider) (u : View) (is : Provider) : Type 0 where
+  pub events : List Event
+  pub ran : Ran z.alone v events u
+  pub none : NoSaves events
+  pub slots : is.slots ≡ was.slots
+  pub generation : is.generation ≡ was.generation
+
+-- ## Laws
+
+-- a device that tells of the area gives each page then
+abbrev pub EveryMirroredGives : (s : Story) → Type 0
+EveryMirroredGives s = (v : View) (k : Provider) (page : ℕ) → IsMirrored v k s → Tells s 1 → page < (opening v.given).format.pages → length k.slots ≡ (opening v.given).format.pages → Gives v k page s
+
+-- so it is where a run of the core stands over the disk
+abbrev pub EveryMirroredRun : (s : Story) → Type 0
+EveryMirroredRun s = (g : Opening) (s0 : Crash) (x : Known) (k : Provider) (v : View) → Runs g s0 x k v s → IsMirrored v k s
+
+-- and so it stays, whatever workers do, where the pager saves no page and asks nothing of the device
+abbrev pub EveryMirroredRest : (s : Story) → Type 0
+EveryMirroredRest s = (z : Shape) (v u : View) (k is : Provider) → may z.alone v pager ≡ true → SavesNone z v k u is → IsMirrored v k s → IsMirrored u is s
