@@ -1,0 +1,123 @@
+-- Rows of which the root alone is in a frame are those that a new pager begins with.
+use Rattle.std.proofs.Common.{◌≡◌, ◌≤◌, ◌-◌, ℕ, suc, Bool, List, [], ◌∷◌, length, map, not, refl, sym, ap, ◌∙◌, subst, arith}
+use Rattle.page_model.specs.Page.{Page}
+use Rattle.row_words.specs.Openings.{opening}
+use Rattle.row_words.specs.declared.given.Given.{Given}
+use Rattle.rows_trait.specs.Plain.{sizes}
+use Rattle.rows_trait.specs.Rule.{IsPicture, plan}
+use Rattle.rows_trait.specs.Views.{first_plain}
+use Rattle.rows_trait.specs.declared.view.View.{View}
+use Rattle.btree_descent.specs.Known.{IsSound}
+use Rattle.row_opening.specs.Opened.{ArePages, pages_of}
+use Rattle.row_opening.specs.Openings.{EveryOpened}
+use Rattle.row_opening.specs.Rooted.{IsRooted, rooted_of}
+use Rattle.page_calls.specs.Slots.{opened_slot}
+use Rattle.page_calls.specs.declared.slots.Slot.{Slot}
+use Rattle.page_provider.specs.Fresh.{Begins, EveryFresh, fresh}
+use Rattle.page_provider.specs.Providers.{Keeps, Provider}
+use Rattle.recovery.specs.Opened.{IsWhole}
+use Rattle.recovery.specs.declared.opening.Recovered.{Recovered}
+use Rattle.paged_opening.specs.Opened.{IsPaged, free_of, lone_shape}
+use Rattle.paged_opening.specs.declared.opening.Opened as code
+use Rattle.paged_opening.proofs.FreeLemmas.{marked, of_length}
+
+pages_long : (pages : List Page) → length (pages_of pages) ≡ length pages
+pages_long [] = refl
+pages_long (x ∷ xs) = ap suc (pages_long xs)
+
+module _ (every : EveryOpened) (new : EveryFresh) (pages : List Page) (frames locks workers base : ℕ) (are : ArePages pages base) (few : length pages ≤ 65536) (some_frame : 1 ≤ frames) (some_worker : 1 ≤ workers) (few_workers : workers ≤ 16) where
+  abbrev v : Given
+  v = rooted_of frames locks workers base pages
+
+  module _ (o : IsRooted pages v) where
+    long : suc (length (pages_of pages) - 1) ≡ length pages
+    long = let a = pages_long pages in let b = are.tree.some in omega arith
+
+    workers_is : (opening v).workers ≡ workers
+    workers_is = let e : suc (workers - 1) ≡ workers = omega arith in e
+
+    sound : IsSound v
+    sound es = let at = every o.start v o.opens es in record {
+      tree = at.tree;
+      residence = at.places;
+      logs = at.logs (let e = workers_is in omega arith);
+      few = let l = long in omega arith;
+      undo = at.undo;
+    }
+
+    begins : Begins (lone_shape frames locks workers) (first_plain v) frames workers (free_of pages)
+    begins = record {
+      actor = refl;
+      sound = sound;
+      waiting = λ es. (every o.start v o.opens es).waiting;
+      sized = record { some = some_frame; shape = refl; given = omega arith };
+      some = some_worker;
+      workers_are = (refl, workers_is);
+      pages = of_length pages ∙ sym long;
+      cold = o.cold;
+      queue = o.queue;
+      marks = λ p lt. marked pages p (let l = long in omega arith) ∙ ap (λ c. not c.node.live) (sym (o.page p));
+      epoch = let e = ap (λ m. m.core.epoch) o.rest in omega arith;
+    }
+
+    -- as the rows, the seat and the pager are
+    pub keeps_at : (f l w generation : ℕ) (u : View) (slots : List Slot) → f ≡ frames → l ≡ locks → w ≡ workers → u ≡ first_plain v → Keeps (lone_shape f l w) u (fresh frames workers generation (free_of pages) slots)
+    keeps_at f l w generation u slots p q r e =
+        let made = new (lone_shape frames locks workers) (first_plain v) frames workers generation (free_of pages) slots begins in
+        let k = fresh frames workers generation (free_of pages) slots in
+        subst (λ (t : View). Keeps (lone_shape f l w) t k) (sym e)
+        (subst (λ (n : ℕ). Keeps (lone_shape n l w) (first_plain v) k) (sym p)
+        (subst (λ (n : ℕ). Keeps (lone_shape frames n w) (first_plain v) k) (sym q)
+        (subst (λ (n : ℕ). Keeps (lone_shape frames locks n) (first_plain v) k) (sym r) made)))
+
+-- ## What recovery gave, and what is made of it
+
+module _ (every : EveryOpened) (new : EveryFresh) (frames locks : ℕ) (r : Recovered) (whole : IsWhole r) (are : ArePages r.pages.items r.master.floor) (some_frame : 1 ≤ frames) (o : code.Opened) where
+  abbrev workers : ℕ
+  workers = length r.master.heads
+
+  abbrev given : Given
+  given = rooted_of frames locks workers r.master.floor r.pages.items
+
+  abbrev pager : Provider
+  pager = fresh frames workers r.master.generation (free_of r.pages.items) (map opened_slot r.slots.items)
+
+  paged_by : (o.rows.frames ≡ frames) × (o.rows.locks ≡ locks) × (o.rows.workers ≡ workers)
+      → IsPicture (plan (sizes o.rows.frames o.rows.locks o.rows.workers) o.seat.view.given) o.rows.words.items o.seat.view
+      → o.seat.view ≡ first_plain given → IsRooted r.pages.items given → o.pager ≡ pager
+      → o.master ≡ r.master → o.winners ≡ r.winners → o.undone ≡ r.undone → IsPaged frames locks r o
+  paged_by size fits view rooted made master won lost =
+      let m = whole.master.1 in
+      let at = keeps_at every new r.pages.items frames locks workers r.master.floor are (let c = whole.count in let l = m.pages.1 in omega arith) some_frame m.logs.0 m.logs.1 rooted
+      o.rows.frames o.rows.locks o.rows.workers r.master.generation o.seat.view (map opened_slot r.slots.items) size.0 size.1 size.2 view in
+      record {
+        frames_are = size.0;
+        locks_are = size.1;
+        workers_are = size.2;
+        fits = fits;
+        view = view;
+        rooted = rooted;
+        pager = made;
+        keeps = subst (λ (k : Provider). Keeps (lone_shape o.rows.frames o.rows.locks o.rows.workers) o.seat.view k) (sym made) at;
+        works = ap (λ (k : Provider). k.broken) made;
+        master = master;
+        won = won;
+        lost = lost;
+      }
+
+  -- as the calls name it: workers, pages and slots by equal names
+  pub paged : (n : ℕ) (ps qs : List Page) (ns : List ℕ) (free : List Bool) (slots : List Slot) → n ≡ workers → ps ≡ r.pages.items → qs ≡ r.pages.items → ns ≡ r.slots.items
+      → free ≡ free_of qs → slots ≡ map opened_slot ns
+      → (o.rows.frames ≡ frames) × (o.rows.locks ≡ locks) × (o.rows.workers ≡ n)
+      → IsPicture (plan (sizes o.rows.frames o.rows.locks o.rows.workers) o.seat.view.given) o.rows.words.items o.seat.view
+      → o.seat.view ≡ first_plain (rooted_of frames locks n r.master.floor ps) → IsRooted ps (rooted_of frames locks n r.master.floor ps)
+      → o.pager ≡ fresh frames n r.master.generation free slots
+      → o.master ≡ r.master → o.winners ≡ r.winners → o.undone ≡ r.undone → IsPaged frames locks r o
+  paged n ps qs ns free slots e p q s f t size fits view rooted made =
+      let marks : free ≡ free_of r.pages.items = f ∙ ap free_of q in
+      let known : slots ≡ map opened_slot r.slots.items = t ∙ ap (map opened_slot) s in
+      paged_by (size.0, size.1, size.2 ∙ e) fits
+      (view ∙ (λ i. first_plain (rooted_of frames locks (e i) r.master.floor (p i))))
+      (subst (λ (k : ℕ). IsRooted r.pages.items (rooted_of frames locks k r.master.floor r.pages.items)) e
+      (subst (λ (xs : List Page). IsRooted xs (rooted_of frames locks n r.master.floor xs)) p rooted))
+      (made ∙ (λ i. fresh frames (e i) r.master.generation (marks i) (known i)))

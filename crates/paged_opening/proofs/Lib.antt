@@ -1,0 +1,4 @@
+mod PageLemmas
+mod FreeLemmas
+mod BeginLemmas
+mod MirrorLemmas

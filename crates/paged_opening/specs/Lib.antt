@@ -1,0 +1,2 @@
+-- Read Opened.
+pub mod Opened

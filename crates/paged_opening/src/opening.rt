@@ -1,0 +1,125 @@
+// An opening of which page 0 alone is in a frame.
+ghost use Rattle.std.specs.Prelude.{◌≡◌, ◌<◌, ◌≤◌, ◌+◌, ◌^◌, ℕ, Err, IfErr, IfOk, length};
+ghost use Rattle.lean_disk.specs.Faults.{HasCause};
+ghost use Rattle.lean_disk.specs.Moments.{LeavesOnly};
+ghost use Rattle.lean_disk.specs.Story.{areas_of};
+ghost use Rattle.disk_slots.specs.declared.master.Master.{Master};
+ghost use Rattle.disk_image.specs.Breaks.{IsDamaged};
+ghost use Rattle.disk_image.specs.Shown.{IsCleanDisk};
+ghost use Rattle.rows_trait.specs.Views.{state};
+ghost use Rattle.page_calls.specs.Mirrors.{IsMirror};
+ghost use Rattle.recovery.specs.Crashes.{RecoveryLeaves};
+ghost use Rattle.recovery.specs.Masters.{HasOpenable};
+ghost use Rattle.recovery.specs.Opened.{IsRefusal, IsUntouched, IsWhole, Keeps};
+ghost use Rattle.recovery.specs.Telling.{TellsAll};
+ghost use Rattle.recovery.specs.declared.opening.Unrecovered.{Unrecovered};
+ghost use Rattle.paged_opening.specs.Opened.{HasOpened, IsPaged};
+
+use crate::free::free_pages_of;
+use crate::pages::are_pages;
+use disk_slots::Master;
+use lean_disk::Disk;
+use page_calls::Slots;
+use page_provider::Pager;
+use recovery::{Recovered, Unrecovered, recover};
+use row_opening::open_root;
+use rows_trait::plain::PlainRows;
+use rows_trait::trace::Trace;
+use std::alloc::{AllocError, Global};
+
+/// Rows of which page 0 alone is in a frame, their seat, and the pager that brings the others in from the disk; the master
+/// that recovery wrote, and its counts of transactions.
+#[derive(Drop)]
+pub struct Opened {
+    pub rows: PlainRows,
+    pub seat: Trace,
+    pub pager: Pager,
+    pub master: Master,
+    pub winners: u64,
+    pub undone: u64,
+}
+
+// Rows and their pager from what recovery gave. The pages are let go: but for page 0 they are on the disk alone.
+fn page_in(
+    alloc: Global,
+    recovered: Recovered,
+    frames: u32,
+    locks: u32,
+) -> Result<Opened, AllocError>
+    requires whole { IsWhole recovered }
+    requires frames { 1 ≤ frames }
+    requires few { frames + locks + length recovered.master.heads < 2 ^ 32 }
+    ensures { IfOk result (IsPaged frames locks recovered) }
+{
+    row_opening::every_opened();
+    page_provider::every_fresh();
+    are_pages(&recovered);
+    let Recovered {
+        pages,
+        slots,
+        winners,
+        undone,
+        master,
+    } = recovered;
+    let workers = master.heads.logs();
+    let (rows, seat) = open_root(
+        alloc,
+        pages.as_slice(),
+        frames,
+        locks,
+        workers,
+        master.floor,
+    )?;
+    let free = free_pages_of(alloc, pages.as_slice())?;
+    let slots = Slots::new(alloc, slots.as_slice())?;
+    let pager = Pager::new(alloc, frames, workers, master.generation, free, slots)?;
+    Ok(Opened {
+        rows,
+        seat,
+        pager,
+        master,
+        winners,
+        undone,
+    })
+}
+
+/// Opens a disk for rows with so many frames and lock rows, and a log for each of at most so many sessions: recovers it, and
+/// leaves all pages but page 0 on it. What is refused is recovery's to refuse, and memory.
+pub fn open<D: Disk>(
+    alloc: Global,
+    disk: &mut D,
+    frames: u32,
+    locks: u32,
+    sessions: u32,
+) -> Result<Opened, Unrecovered>
+    requires frames { 1 ≤ frames }
+    requires few { frames + locks + sessions < 2 ^ 32 }
+    ensures opened { IfOk result (HasOpened frames locks sessions (D.story disk.old) (D.story disk.new)) }
+    ensures mirrors { IfOk result (λ o. TellsAll sessions (D.story disk.old) → (m : Master) → IsCleanDisk m (areas_of (D.story disk.old))
+        → IsMirror o.pager.slots o.pager.generation (state o.seat.view).core.saved (D.story disk.new)) }
+    ensures logs { (a : ℕ) → 1 < a → IsUntouched ((D.story disk.old).area a) ((D.story disk.new).area a) }
+    ensures others { (a : ℕ) → 1 + sessions < a → (D.story disk.new).area a ≡ (D.story disk.old).area a }
+    ensures keeps { Keeps (D.story disk.old) (D.story disk.new) }
+
+    // A disk that is refused is left as it was.
+    ensures left { IfErr result (λ why. IsRefusal why → (a : ℕ) → IsUntouched ((D.story disk.old).area a) ((D.story disk.new).area a)) }
+
+    // What recovery says of each refusal.
+    ensures cause_not_formatted { result ≡ Err Unrecovered.NotFormatted → TellsAll sessions (D.story disk.old) → HasOpenable sessions (areas_of (D.story disk.old)) → ⊥ }
+    ensures formatted { (area place : ℕ) → result ≡ Err (Unrecovered.Damaged area place) → TellsAll sessions (D.story disk.old) → HasOpenable sessions (areas_of (D.story disk.old)) }
+    ensures cause_damaged { (area place : ℕ) → result ≡ Err (Unrecovered.Damaged area place) → TellsAll sessions (D.story disk.old) → IsDamaged (areas_of (D.story disk.old)) area place }
+    ensures cause_disk_fault { HasCause (D.faults disk.old) (D.faults disk.new) (result ≡ Err Unrecovered.DiskFault) }
+
+    // Whenever it stops, a clean disk stands for the same map.
+    ensures any_moment { (m : Master) → TellsAll sessions (D.story disk.old) → IsCleanDisk m (areas_of (D.story disk.old)) → LeavesOnly (D.story disk.old) (D.story disk.new) (RecoveryLeaves m (D.story disk.old)) }
+{
+    page_store::every_whole();
+    let recovered = match recover(alloc, disk, sessions) {
+        Ok(recovered) => recovered,
+        Err(reason) => return Err(reason),
+    };
+    let Ok(opened) = page_in(alloc, recovered, frames, locks) else {
+        return Err(Unrecovered::Memory);
+    };
+    Ok(opened)
+}
