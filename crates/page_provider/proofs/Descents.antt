@@ -11,16 +11,13 @@ use Rattle.core_state.specs.States.{Place, State, in_frame, nodes_of}
 use Rattle.row_words.specs.declared.given.Given.{Given}
 use Rattle.row_words.specs.Moments.{Moment}
 use Rattle.row_words.specs.Openings.{opening}
-use Rattle.rows_trait.specs.declared.view.View.{View}
-use Rattle.rows_trait.specs.Views.{Shape, after_all, state}
-use Rattle.rows_trait.specs.Turns.{Ran}
+use Rattle.rows_trait.specs.Views.{after_all, state}
 use Rattle.lean_proto.specs.Paths.{above}
-use Rattle.btree_descent.specs.Known.{IsSound, Sound}
-use Rattle.btree_descent.specs.Descents.{Sized}
-use Rattle.btree_descent.specs.Trails.{IsAbove, IsColdBelow, IsTrail, Routes}
+use Rattle.btree_descent.specs.Known.{Sound}
+use Rattle.btree_descent.specs.Trails.{IsAbove, IsColdBelow, Routes}
 use Rattle.page_pool.specs.Full.{IsWay}
 use Rattle.page_provider.specs.Descents.{EveryDescent}
-use Rattle.page_provider.specs.Faults.{IsDescent, IsWanted, LeadsTo}
+use Rattle.page_provider.specs.Faults.{IsWanted, LeadsTo}
 use Rattle.core_state.specs.Needs.{has_hot_parent}
 use Rattle.core_state.specs.States.{is_hot}
 use Rattle.page_provider.proofs.Faulting.{are_hot}

@@ -41,3 +41,4 @@ pub mod Faulting
 pub mod Descents
 pub mod Filling
 pub mod Mirrored
+pub mod Framing

@@ -1,20 +1,19 @@
 -- Calls behind one another, and that no page has other contents behind them.
-use Rattle.std.proofs.Common.{◌≡◌, ◌∙◌, ℕ, Bool, true, false, List, [], ◌∷◌, ◌++◌, ap, cond, refl, subst, sym, ltb, ◌&&◌}
-use Rattle.std.proofs.lemmas.Bool.{and_parts, cases_eq, cond-true, cond-false}
+use Rattle.std.proofs.Common.{◌≡◌, ◌∙◌, ℕ, Bool, true, false, List, [], ◌∷◌, ◌++◌, ap, refl, subst, sym, ltb, ◌&&◌}
+use Rattle.std.proofs.lemmas.Bool.{and_parts}
 use Rattle.map_model.proofs.ListLemmas.{at_upd}
 use Rattle.core_paging.specs.Paging.{Residence}
 use Rattle.core_state.specs.Needs as core
 use Rattle.core_state.specs.Openings.{Opening}
 use Rattle.core_state.specs.States.{State, is_cold}
-use Rattle.core_state.specs.Steps.{happens, step}
+use Rattle.core_state.specs.Steps.{happens}
 use Rattle.row_words.specs.declared.event.Event.{Event}
 use Rattle.row_words.specs.declared.event.Event.TheVariants as told
 use Rattle.row_words.specs.declared.given.Given.{Given}
 use Rattle.row_words.specs.Moments.{event_of}
 use Rattle.row_words.specs.Openings.{opening}
 use Rattle.rows_trait.specs.declared.view.View.{View}
-use Rattle.rows_trait.specs.Views.{Shape, after_all, state}
-use Rattle.btree_descent.specs.Known.{IsSound}
+use Rattle.rows_trait.specs.Views.{Shape, state}
 use Rattle.page_provider.specs.Laws.{RowLaws}
 use Rattle.page_provider.specs.Moves.{ArePagers, Moved, is_pagers}
 use Rattle.page_provider.specs.Providers.{Keeps, Provider}
@@ -22,10 +21,8 @@ use Rattle.core_state.specs.Needs.{has_hot_parent, is_empty_frame}
 use Rattle.row_words.proofs.SealedLemmas.{run_append}
 use Rattle.row_words.specs.Moments.{Moment}
 use Rattle.row_words.specs.Sealed.{begun, run, stepped}
-use Rattle.rows_trait.specs.Turns.{Ran}
 use Rattle.std.proofs.Common.{true≢false, if◌then◌else◌}
 use Rattle.page_provider.proofs.Standing.{core_step, ran_state, state_on}
-
 use Rattle.page_provider.proofs.Chilling.{moved_ran}
 use Rattle.page_provider.proofs.Moving.{moved_then, moved_up, refused_then, refused_up}
 use Rattle.page_provider.proofs.Running.{disked_then}

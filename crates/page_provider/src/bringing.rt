@@ -2,6 +2,7 @@
 ghost use Rattle.std.specs.Prelude.{◌≡◌, ◌≢◌, ◌<◌, ◌^◌, true, false, [], length, IfOk, IfErr, Ok, Err, Some};
 ghost use Rattle.core_state.specs.Needs.{has_hot_parent};
 ghost use Rattle.lean_disk.specs.Faults.{HasCause};
+ghost use Rattle.lean_disk.specs.Moments.{Framed};
 ghost use Rattle.lean_disk.specs.Story.{Tells};
 ghost use Rattle.row_words.specs.declared.event.Event.TheVariants.{Load, Rescue};
 ghost use Rattle.row_words.specs.Openings.{opening};
@@ -38,6 +39,7 @@ impl Pager {
         ensures err { IfErr result (λ why. HasRead self.old page (P.story dev.old) why self.new) }
         ensures disk { ReadsWell self.old self.new (P.story dev.old) (P.story dev.new) }
         ensures mirrors { KeepsMirrors self.old.slots self.new.slots (P.story dev.old) (P.story dev.new) }
+        ensures frame { Framed 1 (P.story dev.old) (P.story dev.new) }
         ensures seat { P.seat dev.new ≡ P.seat dev.old }
         ensures cause { HasCause (P.faults dev.old) (P.faults dev.new) (result ≡ Err refusal.DiskFault) }
     {

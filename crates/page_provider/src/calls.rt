@@ -4,6 +4,7 @@ ghost use Rattle.core_state.specs.Needs.{has_hot_parent};
 ghost use Rattle.core_state.specs.States.{is_cold};
 ghost use Rattle.cooling_stage.specs.Queue.{found};
 ghost use Rattle.lean_disk.specs.Faults.{HasCause};
+ghost use Rattle.lean_disk.specs.Moments.{Framed};
 ghost use Rattle.row_words.specs.Openings.{opening};
 ghost use Rattle.rows_trait.specs.Views.{state};
 ghost use Rattle.free_pages.specs.Pages.{IsLeast, count, is_in};
@@ -118,6 +119,7 @@ impl Pager {
         ensures cause { IfErr result (PlaceCause (R.shape rows.old) path.now (R.view seat.new) self.new) }
         ensures disk { Disked (R.shape rows.old).alone self.old (R.view seat.old) self.new (R.view seat.new) (P.story dev.old) (P.story dev.new) }
         ensures mirrors { KeepsMirrored (R.view seat.old) self.old (R.view seat.new) self.new (P.story dev.old) (P.story dev.new) }
+        ensures frame { Framed 1 (P.story dev.old) (P.story dev.new) }
         ensures seat { P.seat dev.new ≡ P.seat dev.old }
         ensures cause_disk_fault { HasCause (P.faults dev.old) (P.faults dev.new) (result ≡ Err refusal.DiskFault) }
     {
@@ -152,6 +154,7 @@ impl Pager {
         ensures cause { IfErr result (FaultCause (R.shape rows.old) path.now self.old page (P.story dev.old) (R.view seat.new) self.new) }
         ensures disk { Disked (R.shape rows.old).alone self.old (R.view seat.old) self.new (R.view seat.new) (P.story dev.old) (P.story dev.new) }
         ensures mirrors { KeepsMirrored (R.view seat.old) self.old (R.view seat.new) self.new (P.story dev.old) (P.story dev.new) }
+        ensures frame { Framed 1 (P.story dev.old) (P.story dev.new) }
         ensures seat { P.seat dev.new ≡ P.seat dev.old }
         ensures cause_disk_fault { HasCause (P.faults dev.old) (P.faults dev.new) (result ≡ Err refusal.DiskFault) }
     {
@@ -188,6 +191,7 @@ impl Pager {
         ensures cause { IfErr result (FaultCause (R.shape rows.old) path.now self.old page (P.story dev.old) (R.view seat.new) self.new) }
         ensures disk { Disked (R.shape rows.old).alone self.old (R.view seat.old) self.new (R.view seat.new) (P.story dev.old) (P.story dev.new) }
         ensures mirrors { KeepsMirrored (R.view seat.old) self.old (R.view seat.new) self.new (P.story dev.old) (P.story dev.new) }
+        ensures frame { Framed 1 (P.story dev.old) (P.story dev.new) }
         ensures seat { P.seat dev.new ≡ P.seat dev.old }
         ensures cause_disk_fault { HasCause (P.faults dev.old) (P.faults dev.new) (result ≡ Err refusal.DiskFault) }
         ensures astray { (R.shape rows.old).alone ≡ true → IsAstray (R.view seat.old) page → result ≡ Ok None }
@@ -233,6 +237,7 @@ impl Pager {
         ensures cause { IfErr result (FaultCause (R.shape rows.old) path.now self.old page (P.story dev.old) (R.view seat.new) self.new) }
         ensures disk { Disked (R.shape rows.old).alone self.old (R.view seat.old) self.new (R.view seat.new) (P.story dev.old) (P.story dev.new) }
         ensures mirrors { KeepsMirrored (R.view seat.old) self.old (R.view seat.new) self.new (P.story dev.old) (P.story dev.new) }
+        ensures frame { Framed 1 (P.story dev.old) (P.story dev.new) }
         ensures seat { P.seat dev.new ≡ P.seat dev.old }
         ensures cause_disk_fault { HasCause (P.faults dev.old) (P.faults dev.new) (result ≡ Err refusal.DiskFault) }
         ensures earlier { self.old.broken ≡ true → result ≡ Err refusal.Broken }
@@ -278,6 +283,7 @@ impl Pager {
         ensures cause { IfErr result (FaultCause (R.shape rows.old) path.now self.old page (P.story dev.old) (R.view seat.new) self.new) }
         ensures disk { Disked (R.shape rows.old).alone self.old (R.view seat.old) self.new (R.view seat.new) (P.story dev.old) (P.story dev.new) }
         ensures mirrors { KeepsMirrored (R.view seat.old) self.old (R.view seat.new) self.new (P.story dev.old) (P.story dev.new) }
+        ensures frame { Framed 1 (P.story dev.old) (P.story dev.new) }
         ensures seat { P.seat dev.new ≡ P.seat dev.old }
         ensures cause_disk_fault { HasCause (P.faults dev.old) (P.faults dev.new) (result ≡ Err refusal.DiskFault) }
         ensures earlier { self.old.broken ≡ true → result ≡ Err refusal.Broken }

@@ -3,6 +3,7 @@ ghost use Rattle.std.specs.Prelude.{◌≡◌, ◌≤◌, true, false, [], IfOk,
 ghost use Rattle.core_state.specs.Needs as core;
 ghost use Rattle.core_state.specs.States.{flushed_by_all};
 ghost use Rattle.lean_disk.specs.Faults.{HasCause};
+ghost use Rattle.lean_disk.specs.Moments.{Framed};
 ghost use Rattle.row_words.specs.Openings.{opening};
 ghost use Rattle.rows_trait.specs.Views.{state};
 ghost use Rattle.page_provider.specs.Disks.{Disked};
@@ -69,6 +70,7 @@ impl Pager {
         ensures err { IfErr result (λ why. HasStayed (R.shape rows.old) (R.view seat.old) self.old entry.page why (R.view seat.new) self.new) }
         ensures disk { Disked (R.shape rows.old).alone self.old (R.view seat.old) self.new (R.view seat.new) (P.story dev.old) (P.story dev.new) }
         ensures mirrors { KeepsMirrored (R.view seat.old) self.old (R.view seat.new) self.new (P.story dev.old) (P.story dev.new) }
+        ensures frame { Framed 1 (P.story dev.old) (P.story dev.new) }
         ensures seat { P.seat dev.new ≡ P.seat dev.old }
         ensures cause { HasCause (P.faults dev.old) (P.faults dev.new) (result ≡ Err refusal.DiskFault) }
     {
@@ -100,6 +102,7 @@ impl Pager {
         ensures err { IfErr result (λ why. HasStayed (R.shape rows.old) (R.view seat.old) self.old page why (R.view seat.new) self.new) }
         ensures disk { Disked (R.shape rows.old).alone self.old (R.view seat.old) self.new (R.view seat.new) (P.story dev.old) (P.story dev.new) }
         ensures mirrors { KeepsMirrored (R.view seat.old) self.old (R.view seat.new) self.new (P.story dev.old) (P.story dev.new) }
+        ensures frame { Framed 1 (P.story dev.old) (P.story dev.new) }
         ensures seat { P.seat dev.new ≡ P.seat dev.old }
         ensures cause { HasCause (P.faults dev.old) (P.faults dev.new) (result ≡ Err refusal.DiskFault) }
         ensures earlier { self.old.broken ≡ true → result ≡ Err refusal.Broken }

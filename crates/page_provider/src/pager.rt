@@ -87,6 +87,14 @@ impl Pager {
         self.stage.frames()
     }
 
+    /// How many pages there are.
+    pub fn pages(&self) -> u32
+        ensures free { result ≡ length self.now.free }
+        ensures slots { result ≡ length self.now.slots }
+    {
+        self.slots.len()
+    }
+
     /// Whether an earlier call met a damaged page or a fault of the device: then every call is refused.
     pub fn is_broken(&self) -> bool
         ensures { result ≡ self.now.broken }

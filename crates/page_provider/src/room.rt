@@ -1,6 +1,7 @@
 // A frame is made empty.
 ghost use Rattle.std.specs.Prelude.{◌≡◌, ◌<◌, ◌≤◌, ◌⊎◌, ◌++◌, ◌∷◌, ℕ, List, true, false, [], IfOk, IfErr, MatchOption, Err, length};
 ghost use Rattle.lean_disk.specs.Faults.{HasCause};
+ghost use Rattle.lean_disk.specs.Moments.{Framed};
 ghost use Rattle.page_provider.specs.Comes.{HasRoom, IsOfRoom};
 ghost use Rattle.page_provider.specs.Cools.{Chills};
 ghost use Rattle.page_provider.specs.Disks.{Disked};
@@ -130,6 +131,7 @@ impl Pager {
         ensures full { IfErr result (λ why. FullCause (R.shape rows.old) path.now (R.view seat.new) self.new why) }
         ensures disk { Disked (R.shape rows.old).alone self.old (R.view seat.old) self.new (R.view seat.new) (P.story dev.old) (P.story dev.new) }
         ensures mirrors { KeepsMirrored (R.view seat.old) self.old (R.view seat.new) self.new (P.story dev.old) (P.story dev.new) }
+        ensures frame { Framed 1 (P.story dev.old) (P.story dev.new) }
         ensures seat { P.seat dev.new ≡ P.seat dev.old }
         ensures cause { HasCause (P.faults dev.old) (P.faults dev.new) (result ≡ Err refusal.DiskFault) }
     {

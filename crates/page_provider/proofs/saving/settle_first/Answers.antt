@@ -1,6 +1,7 @@
 use Rattle.page_provider.proofs.Saves.{rest_moments, settled_early, settles_on}
 use Rattle.std.proofs.Common.{◌≡◌, Some, refl, slice_get, subst}
 use Rattle.page_provider.proofs.Mirrored.{keeps_same}
+use Rattle.lean_disk.proofs.MomentLemmas.{framed}
 use Rattle.page_provider.proofs.saving.settle_first.Goals as goal
 
 pub returns-then-not-of-clause-any_moment : goal.returns-then-not-of-clause-any_moment
@@ -14,3 +15,6 @@ returns-clause-early g c = λ done s there. settled_early c.args.page c.args.slo
 
 pub returns-then-not-of-clause-mirrors : goal.returns-then-not-of-clause-mirrors
 returns-then-not-of-clause-mirrors g c = keeps_same refl
+
+pub returns-then-not-of-clause-frame : goal.returns-then-not-of-clause-frame
+returns-then-not-of-clause-frame g c = framed 1 (g.P.Part.story c.args.dev.now)

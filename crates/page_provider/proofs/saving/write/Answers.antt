@@ -1,6 +1,7 @@
 use Rattle.page_provider.proofs.Saves.{saved_size, writes_moments, writes_on}
 use Rattle.std.proofs.Common.{◌∙◌}
 use Rattle.page_provider.proofs.Mirrored.{settled_saves}
+use Rattle.page_provider.proofs.Framing.{framed_then}
 use Rattle.page_provider.proofs.saving.write.Goals as goal
 
 pub returns-clause-writes : goal.returns-clause-writes
@@ -14,3 +15,6 @@ returns-clause-any_moment g c = writes_moments (c.settle_first.ensures.stands c.
 
 pub returns-clause-mirrors : goal.returns-clause-mirrors
 returns-clause-mirrors g c = λ done. settled_saves c.settle_first.ensures.size c.settle_first.ensures.mirrors (c.save.ensures.mirrors done)
+
+pub returns-clause-frame : goal.returns-clause-frame
+returns-clause-frame g c = framed_then c.settle_first.ensures.frame c.save.ensures.frame

@@ -7,6 +7,7 @@ use Rattle.page_provider.proofs.Filling.{has_contents, read_refused, reads_diske
 use Rattle.page_provider.proofs.Running.{disked_then}
 use Rattle.page_provider.proofs.Savings.{if_err}
 use Rattle.page_provider.proofs.Mirrored.{mirrored_broken, mirrored_read, mirrored_then}
+use Rattle.page_provider.proofs.Framing.{framed_then}
 use Rattle.page_provider.proofs.pager.Pager.bring.Goals as goal
 
 pub read-requires-clause-page : goal.read-requires-clause-page
@@ -46,3 +47,6 @@ pub returns-clause-mirrors : goal.returns-clause-mirrors
 returns-clause-mirrors g c =
     let same = c.in_ok-node.ensures.same in
     mirrored_then (ap (λ (p : Provider). p.broken) same ∙ c.requires.well) (mirrored_read c.in_ok-node.ensures.mirrors (ap (λ (p : Provider). p.generation) same)) c.place.ensures.mirrors
+
+pub returns-clause-frame : goal.returns-clause-frame
+returns-clause-frame g c = framed_then c.in_ok-node.ensures.frame c.place.ensures.frame

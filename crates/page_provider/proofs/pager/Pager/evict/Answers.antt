@@ -13,6 +13,7 @@ use Rattle.page_provider.proofs.Loaded.{loads_none, spent_others}
 use Rattle.page_provider.proofs.Savings.{entered_is, frame_is, if_err, is_found, left_clean}
 use Rattle.page_provider.proofs.Writing.{disked_misses}
 use Rattle.page_provider.proofs.Mirrored.{leave_mirrored, mirrored_after, mirrored_misses}
+use Rattle.lean_disk.proofs.MomentLemmas.{framed}
 use Rattle.page_provider.proofs.pager.Pager.evict.Goals as goal
 
 pub returns-then-self-clause-err : goal.returns-then-self-clause-err
@@ -169,3 +170,12 @@ returns-clause-mirrors g c =
     let s = seen c.laws.ensures.rows c.requires.keeps c.requires.held c.requires.leaves e.0 e.1 c.in_ok-dirty.ensures.ok in
     mirrored_after c.requires.keeps s.ran
     (leave_mirrored c.in-Some.entry (keeps_shape c.in_ok-dirty.ensures.fits.1 s.keeps) (s.now ∙ c.if-dirty.false) c.leave.result c.leave.ensures.ok c.leave.ensures.err c.leave.ensures.same)
+
+pub returns-then-self-clause-frame : goal.returns-then-self-clause-frame
+returns-then-self-clause-frame g c = framed 1 (g.P.Part.story c.args.dev.now)
+
+pub returns-in_err-dirty-clause-frame : goal.returns-in_err-dirty-clause-frame
+returns-in_err-dirty-clause-frame g c = framed 1 (g.P.Part.story c.args.dev.now)
+
+pub returns-clause-frame : goal.returns-clause-frame
+returns-clause-frame g c = framed 1 (g.P.Part.story c.args.dev.now)

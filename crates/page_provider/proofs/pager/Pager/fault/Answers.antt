@@ -6,6 +6,7 @@ use Rattle.page_provider.specs.Providers.{Provider}
 use Rattle.page_provider.proofs.Faulting.{broken_refused, found_at, free_cold, free_parents, quiet_disk}
 use Rattle.page_provider.proofs.Writing.{disked_misses}
 use Rattle.page_provider.proofs.Mirrored.{mirrored_unseen}
+use Rattle.lean_disk.proofs.MomentLemmas.{framed}
 use Rattle.page_provider.proofs.pager.Pager.fault.Goals as goal
 
 pub returns-then-self-clause-err : goal.returns-then-self-clause-err
@@ -48,3 +49,9 @@ returns-then-self-clause-mirrors g c = λ m well. m
 
 pub returns-in-Some-clause-mirrors : goal.returns-in-Some-clause-mirrors
 returns-in-Some-clause-mirrors g c = mirrored_unseen c.requires.keeps c.rescue.ensures.unseen
+
+pub returns-then-self-clause-frame : goal.returns-then-self-clause-frame
+returns-then-self-clause-frame g c = framed 1 (g.P.Part.story c.args.dev.now)
+
+pub returns-in-Some-clause-frame : goal.returns-in-Some-clause-frame
+returns-in-Some-clause-frame g c = framed 1 (g.P.Part.story c.args.dev.now)

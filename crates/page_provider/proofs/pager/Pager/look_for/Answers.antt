@@ -16,6 +16,7 @@ use Rattle.page_provider.proofs.Parts.{disk_after, keeps_shape}
 use Rattle.page_provider.proofs.Savings.{if_err}
 use Rattle.page_provider.proofs.Sightings.{missed_before, sound_still}
 use Rattle.page_provider.proofs.Mirrored.{mirrored_after, mirrored_misses, settled_mirrored}
+use Rattle.lean_disk.proofs.MomentLemmas.{framed}
 use Rattle.page_provider.proofs.pager.Pager.look_for.Goals as goal
 
 pub returns-in_err-naming-clause-err : goal.returns-in_err-naming-clause-err
@@ -179,3 +180,9 @@ returns-in_default-clause-mirrors g c =
 
 pub returns-clause-mirrors : goal.returns-clause-mirrors
 returns-clause-mirrors g c = mirrored_after c.requires.keeps c.in_ok-naming.ensures.kept.ran c.bring.ensures.mirrors
+
+pub returns-in_err-naming-clause-frame : goal.returns-in_err-naming-clause-frame
+returns-in_err-naming-clause-frame g c = framed 1 (g.P.Part.story c.args.dev.now)
+
+pub returns-in_default-clause-frame : goal.returns-in_default-clause-frame
+returns-in_default-clause-frame g c = framed 1 (g.P.Part.story c.args.dev.now)

@@ -1,6 +1,7 @@
 use Rattle.std.proofs.Common.{refl}
 use Rattle.page_provider.proofs.Reading.{reads_well}
 use Rattle.page_provider.proofs.Mirrored.{read_keeps}
+use Rattle.page_provider.proofs.Framing.{framed_reads}
 use Rattle.page_provider.proofs.pager.Pager.read.Goals as goal
 
 pub returns-in-Ok-clause-disk : goal.returns-in-Ok-clause-disk
@@ -20,3 +21,12 @@ returns-in-Err-DiskFault-clause-mirrors g c = read_keeps c.self.view_is refl c.i
 
 pub returns-in-Err-Damaged-clause-mirrors : goal.returns-in-Err-Damaged-clause-mirrors
 returns-in-Err-Damaged-clause-mirrors g c = read_keeps c.self.view_is refl c.in-Err-Damaged.ensures.mirrors
+
+pub returns-in-Ok-clause-frame : goal.returns-in-Ok-clause-frame
+returns-in-Ok-clause-frame g c = framed_reads c.in-Ok.ensures.reads
+
+pub returns-in-Err-DiskFault-clause-frame : goal.returns-in-Err-DiskFault-clause-frame
+returns-in-Err-DiskFault-clause-frame g c = framed_reads c.in-Err-DiskFault.ensures.reads
+
+pub returns-in-Err-Damaged-clause-frame : goal.returns-in-Err-Damaged-clause-frame
+returns-in-Err-Damaged-clause-frame g c = framed_reads c.in-Err-Damaged.ensures.reads

@@ -21,6 +21,7 @@ use Rattle.page_provider.proofs.Rooms.{calm_disked, room_full, room_kept, room_l
 use Rattle.page_provider.proofs.Running.{disked_then}
 use Rattle.page_provider.proofs.Savings.{if_err}
 use Rattle.page_provider.proofs.Mirrored.{mirrored_calm, mirrored_then}
+use Rattle.lean_disk.proofs.MomentLemmas.{framed}
 use Rattle.page_provider.proofs.pager.Pager.room.Goals as goal
 
 -- what the second part cooled, behind what the first did
@@ -196,3 +197,17 @@ pub returns-clause-mirrors : goal.returns-clause-mirrors
 returns-clause-mirrors g c =
     let h = behind c.in_ok-chill_some.ensures.fits.1 c.in_ok-chill_some.ensures.ok.chills c.in_ok-entry.ensures.ok.0 in
     mirrored_then (ap (λ (p : Provider). p.broken) h.memory ∙ c.requires.well) (mirrored_calm c.requires.keeps (chills_calm h)) c.evict.ensures.mirrors
+
+-- ## What stays of the device
+
+pub returns-in_err-chill_some-clause-frame : goal.returns-in_err-chill_some-clause-frame
+returns-in_err-chill_some-clause-frame g c = framed 1 (g.P.Part.story c.args.dev.now)
+
+pub returns-in-Some-clause-frame : goal.returns-in-Some-clause-frame
+returns-in-Some-clause-frame g c = framed 1 (g.P.Part.story c.args.dev.now)
+
+pub returns-in_err-entry-clause-frame : goal.returns-in_err-entry-clause-frame
+returns-in_err-entry-clause-frame g c = framed 1 (g.P.Part.story c.args.dev.now)
+
+pub returns-in-Nobody-clause-frame : goal.returns-in-Nobody-clause-frame
+returns-in-Nobody-clause-frame g c = framed 1 (g.P.Part.story c.args.dev.now)

@@ -16,6 +16,7 @@ use Rattle.page_provider.proofs.Loaded.{loads_none, spent_others}
 use Rattle.page_provider.proofs.Savings.{can_save, disk_failed, disk_saved, frame_is, has_saved, if_err, image_is, page_few, page_slots}
 use Rattle.page_provider.proofs.Writing.{disked_misses}
 use Rattle.page_provider.proofs.Mirrored.{mirrored_broken, mirrored_misses, mirrored_saved}
+use Rattle.lean_disk.proofs.MomentLemmas.{framed}
 use Rattle.page_provider.proofs.pager.Pager.save.Goals as goal
 
 pub page_in-requires-clause-frame : goal.page_in-requires-clause-frame
@@ -193,3 +194,9 @@ returns-clause-mirrors g c =
     let w = g.R.Rows.view c.note_saved.new.seat in
     let all = ran_append z.alone v [] t (Save c.args.entry.page ∷ []) w r (subst (λ (s : Shape). Ran s.alone t (Save c.args.entry.page ∷ []) w) s2 c.note_saved.ensures.went.ran) in
     mirrored_saved c.self.view_is c.laws.ensures.rows c.requires.keeps c.requires.held c.requires.entered c.requires.low c.self.invariant.each c.in_ok-node.ensures.words is c.write.new.slots (c.write.ensures.mirrors c.in-Done.is) all
+
+pub returns-in_err-node-clause-frame : goal.returns-in_err-node-clause-frame
+returns-in_err-node-clause-frame g c = framed 1 (g.P.Part.story c.args.dev.now)
+
+pub returns-in_err-hold-clause-frame : goal.returns-in_err-hold-clause-frame
+returns-in_err-hold-clause-frame g c = framed 1 (g.P.Part.story c.args.dev.now)
