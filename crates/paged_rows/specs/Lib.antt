@@ -1,0 +1,3 @@
+-- Read Paged, then Warms.
+pub mod Paged
+pub mod Warms

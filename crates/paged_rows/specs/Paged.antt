@@ -1,0 +1,30 @@
+-- Rows with their pager, where nobody else steps.
+use Rattle.std.specs.Prelude.{◌≡◌, ℕ, true, []}
+use Rattle.core_calls.specs.Warms.{IsWarmFrom}
+use Rattle.lean_disk.specs.Story.{Story, Tells}
+use Rattle.page_provider.specs.Mirrored.{IsMirrored}
+use Rattle.page_provider.specs.Providers.{Keeps, Provider}
+use Rattle.row_words.specs.Openings.{opening}
+use Rattle.rows_trait.specs.declared.view.View.{View}
+use Rattle.rows_trait.specs.Views.{Shape, state}
+
+-- the rows, what their seat has seen, and the pager's memory
+pub record Paged : Type 0 where
+  pub shape : Shape
+  pub view : View
+  pub pager : Provider
+
+-- Between two calls nobody else steps, no row is held, and the pager keeps what it has to.
+pub record IsPaged (p : Paged) : Type 0 where
+  pub alone : p.shape.alone ≡ true
+  pub held : p.view.held ≡ []
+  pub keeps : Keeps p.shape p.view p.pager
+
+-- The device tells of the pages' area, and the slots hold what the core has saved.
+pub record IsFed (p : Paged) (s : Story) : Type 0 where
+  pub tells : Tells s 1
+  pub mirrored : IsMirrored p.view p.pager s
+
+-- each page on the key's way is hot, from this level up
+abbrev pub IsWarm : Paged → (key level : ℕ) → Type 0
+IsWarm p key level = IsWarmFrom (opening p.view.given) (state p.view).core key level
