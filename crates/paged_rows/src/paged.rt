@@ -43,6 +43,15 @@ impl<R: Rows> PagedRows<R> {
         PagedRows { rows, seat, pager }
     }
 
+    /// The rows, their seat and the pager again.
+    pub fn into_parts(self) -> (R, R::Seat, Pager)
+        ensures fits { R.fits result.0 result.1 }
+        ensures parts { self ≡ record { shape = R.shape result.0; view = R.view result.1; pager = result.2 } }
+    {
+        let PagedRows { rows, seat, pager } = self;
+        (rows, seat, pager)
+    }
+
     // Brings the first page of a key's way that is not hot into a frame. True: there is none.
     fn warm_one<P: Part>(&mut self, dev: &mut P, worker: u32, key: u64) -> Result<bool, Refusal>
         requires area { (P.seat dev.old).area ≡ 1 }
