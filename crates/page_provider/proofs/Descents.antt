@@ -20,9 +20,8 @@ use Rattle.page_provider.specs.Descents.{EveryDescent}
 use Rattle.page_provider.specs.Faults.{IsWanted, LeadsTo}
 use Rattle.core_state.specs.Needs.{has_hot_parent}
 use Rattle.core_state.specs.States.{is_hot}
-use Rattle.page_provider.proofs.Faulting.{are_hot}
 use Rattle.page_provider.specs.Moves.{is_on, way}
-use Rattle.page_provider.proofs.Coming.{names_to}
+use Rattle.page_provider.proofs.Coming.{hot_parents, names_to}
 use Rattle.page_provider.proofs.Easing.{in_own}
 use Rattle.page_provider.proofs.Sightings.{state_same}
 
@@ -104,7 +103,7 @@ module _ (v : Given) (m : Moment) (key : ℕ) (path : List ℕ) (sound : Sound v
 
   -- and is hot
   pub parents_hot : (frame p : ℕ) (r : Routes v m key frame) → r.span.child ≡ p → has_hot_parent (opening v) m.core p ≡ true
-  parents_hot frame p r child = are_hot (opening v) m.core p (λ q below names. ap (λ o. is_hot (m.core.place o)) (named_by frame p q r child below names) ∙ ap is_hot r.hot)
+  parents_hot frame p r child = hot_parents (opening v) m.core p (λ q below names. ap (λ o. is_hot (m.core.place o)) (named_by frame p q r child below names) ∙ ap is_hot r.hot)
 
   -- nobody names page 0
   root_free : (q p : ℕ) → q < (opening v).format.pages → names_page (m.core.page q).node p ≡ true → p ≡ 0 → ⊥

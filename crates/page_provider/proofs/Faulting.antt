@@ -65,6 +65,8 @@ use Rattle.page_provider.proofs.Pools.{found_entry}
 use Rattle.page_provider.proofs.Running.{disked_quiet}
 use Rattle.page_provider.proofs.Shares.{needed_before, share_before}
 use Rattle.page_provider.proofs.Sightings.{missed_before, state_same}
+use Rattle.page_provider.proofs.Coming as coming
+use Rattle.page_provider.proofs.Coming.{hot_parents, names_to}
 use Rattle.page_provider.proofs.Writing.{disked_misses}
 
 -- ## What the queue and the free pages tell
@@ -99,33 +101,6 @@ used_of {v = v} {page = page} c below used off = one ((state v).core.page page).
 
 -- ## Hot parents
 
-any_has : (p : Span → Bool) (xs : List Span) → any p xs ≡ true → (x : Span) × pairs.Has x xs × (p x ≡ true)
-any_has p [] h = absurd (true≢false (sym h))
-any_has p (x ∷ xs) h = go (λ k. any_has p xs k) (p x) refl h
-  where
-    go : (any p xs ≡ true → (y : Span) × pairs.Has y xs × (p y ≡ true)) → (b : Bool) → p x ≡ b → (b || any p xs) ≡ true → (y : Span) × pairs.Has y (x ∷ xs) × (p y ≡ true)
-    go rest true e k = (x, inl refl, e)
-    go rest false e k = let o = rest k in (o.0, inr o.1, o.2)
-
--- the pair by which a node names a page
-names_to : (n : Node) (p : ℕ) → names_page n p ≡ true → (s : Span) × Names n s × (s.child ≡ p)
-names_to n p h =
-    let a = and_true (n.live && ltb 0 n.level) (any (λ (s : Span). s.child == p) (spans n.pairs n.high)) h in
-    let b = and_true n.live (ltb 0 n.level) a.0 in
-    let e = any_has (λ (s : Span). s.child == p) (spans n.pairs n.high) a.1 in
-    (e.0, record { live = b.0; inner = ltb-true 0 n.level b.1; has = e.1 }, eqb-true e.0.child p e.2)
-
-all_true : (n : ℕ) (f : ℕ → Bool) → ((q : ℕ) → q < n → f q ≡ true) → all_below n f ≡ true
-all_true zero f h = refl
-all_true (suc n) f h = and_from (f n) (all_below n f) (h n (omega arith)) (all_true n f (λ q l. h q (omega arith)))
-
-pub are_hot : (g : Opening) (s : State) (p : ℕ) → ((q : ℕ) → q < g.format.pages → names_page (s.page q).node p ≡ true → is_hot (s.place q) ≡ true) → has_hot_parent g s p ≡ true
-are_hot g s p h = all_true g.format.pages (λ q. not (names_page (s.page q).node p) || is_hot (s.place q)) (λ q l. go q l (names_page (s.page q).node p) refl)
-  where
-    go : (q : ℕ) → q < g.format.pages → (b : Bool) → names_page (s.page q).node p ≡ b → (not b || is_hot (s.place q)) ≡ true
-    go q l true e = h q l e
-    go q l false e = refl
-
 -- each page that names it is hot
 pub parent_hot : (g : Opening) (s : State) (p q : ℕ) → has_hot_parent g s p ≡ true → q < g.format.pages → names_page (s.page q).node p ≡ true → is_hot (s.place q) ≡ true
 parent_hot g s p q h l n = go (names_page (s.page q).node p) n (below_false g.format.pages (λ q. not (names_page (s.page q).node p) || is_hot (s.place q)) h q l)
@@ -136,13 +111,11 @@ parent_hot g s p q h l n = go (names_page (s.page q).node p) n (below_false g.fo
 
 -- no page names a free one
 pub parents_free : {g : Given} {m : Moment} {p : ℕ} → Sound g m → (m.core.page p).node.live ≡ false → has_hot_parent (opening g) m.core p ≡ true
-parents_free {g = g} {m = m} {p = p} s free = are_hot (opening g) m.core p (λ q l n.
-    let t = names_to (m.core.page q).node p n in
-    absurd (true≢false (sym (s.tree.down q l t.0 t.1).live ∙ (ap (λ c. (m.core.page c).node.live) t.2 ∙ free))))
+parents_free {g = g} {m = m} {p = p} s free = coming.free_parents (opening g) m.core p s.tree free
 
 -- the one page that names it is hot
 pub parents_named : {g : Given} {m : Moment} {p q at : ℕ} → Sound g m → q < (opening g).format.pages → is_hot (m.core.place q) ≡ true → NamesAt m q at p → has_hot_parent (opening g) m.core p ≡ true
-parents_named {g = g} {m = m} {p = p} {q = q} {at = at} s lt hot n = are_hot (opening g) m.core p (λ o l is.
+parents_named {g = g} {m = m} {p = p} {q = q} {at = at} s lt hot n = hot_parents (opening g) m.core p (λ o l is.
     let t = names_to (m.core.page o).node p is in
     let x = named_at (m.core.page q).node.pairs (m.core.page q).node.high at n.short in
     let inner = is_inner_to (m.core.page q).node n.inner in

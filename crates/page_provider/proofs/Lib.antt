@@ -35,7 +35,6 @@ pub mod Emptying
 pub mod Crowded
 pub mod Rooms
 pub mod Ticks
-pub mod Named
 pub mod Cooled
 pub mod Faulting
 pub mod Descents
