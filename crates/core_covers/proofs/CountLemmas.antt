@@ -5,7 +5,7 @@ use Rattle.map_model.specs.Lists.{Has}
 use Rattle.core_state.specs.Lists.{count_below}
 
 -- a test that passes where another does
-count_mono : (n : ℕ) (p q : ℕ → Bool) → ((i : ℕ) → i < n → q i ≡ true → p i ≡ true) → count_below n q ≤ count_below n p
+pub count_mono : (n : ℕ) (p q : ℕ → Bool) → ((i : ℕ) → i < n → q i ≡ true → p i ≡ true) → count_below n q ≤ count_below n p
 count_mono zero p q h = omega arith
 count_mono (suc n) p q h = go (q n) (p n) (h n (omega arith)) (count_mono n p q (λ i lt. h i (omega arith)))
   where
