@@ -5,3 +5,4 @@ pub mod CutLemmas
 pub mod LowLemmas
 pub mod CountLemmas
 pub mod HighLemmas
+pub mod SaveLemmas

@@ -1,10 +1,11 @@
 -- What the covers of the shards know. Frames are dealt to eight shards; the cover of a shard is what was flushed everywhere when its pages were saved last.
-use Rattle.std.specs.Prelude.{◌≡◌, ◌<◌, ◌≤◌, ◌%◌, ◌++◌, ℕ, true, List}
-use Rattle.map_model.specs.Lists.{upd}
+use Rattle.std.specs.Prelude.{◌≡◌, ◌<◌, ◌≤◌, ◌%◌, ◌++◌, ◌∷◌, ℕ, true, List, []}
+use Rattle.map_model.specs.Lists.{Has, upd}
 use Rattle.core_state.specs.Openings.{Opening}
 use Rattle.core_state.specs.States.{State, flushed_by_all, in_frame, start}
 use Rattle.core_state.specs.Events.{Event}
-use Rattle.core_state.specs.Steps.{state_after}
+use Rattle.core_state.specs.Needs.{is_dirty}
+use Rattle.core_state.specs.Steps.{AllMet, state_after}
 use Rattle.core_covers.specs.Changes.{HasChanges}
 
 -- how many shards there are
@@ -53,3 +54,14 @@ EveryCover = (g : Opening) (es : List Event) (cover firm : ℕ → ℕ) → Cove
 -- where a run begins, each cover is the base number, whatever is firm
 abbrev pub EveryBaseCover : Type 0
 EveryBaseCover = (g : Opening) (firm : ℕ → ℕ) → AreCovers g (start g) (λ _. g.base) firm
+
+-- these pages are saved, one after another
+abbrev pub saves : List ℕ → List Event
+saves [] = []
+saves (p ∷ pages) = Event.Save p ∷ saves pages
+
+-- Where each dirty page in a frame of shard k is among those that are saved, the shard is saved, up to each number.
+abbrev pub EveryIncrement : Type 0
+EveryIncrement = (g : Opening) (es : List Event) (k : ℕ) (pages : List ℕ) → AllMet g (state_after g es) (saves pages)
+    → ((p f : ℕ) → in_frame ((state_after g es).place p) f ≡ true → shard_of f ≡ k → is_dirty (state_after g es) p ≡ true → Has p pages)
+    → (x : ℕ) → IsShardSaved (state_after g (es ++ saves pages)) k x

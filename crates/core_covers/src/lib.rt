@@ -5,7 +5,7 @@
 #![tactic(auto)]
 
 ghost use Rattle.core_covers.specs.Changes.{EveryChange};
-ghost use Rattle.core_covers.specs.Covers.{EveryBaseCover, EveryCover};
+ghost use Rattle.core_covers.specs.Covers.{EveryBaseCover, EveryCover, EveryIncrement};
 ghost use Rattle.core_covers.specs.Cuts.{EveryCutMet, EveryCutNumber};
 ghost use Rattle.core_covers.specs.Firsts.{EveryFirst, EveryFirstStep};
 ghost use Rattle.core_covers.specs.Highs.{EveryHigh};
@@ -31,6 +31,13 @@ pub fn every_cover()
 pub fn every_base_cover()
     ensures { EveryBaseCover }
 {}
+
+/// Saves of the dirty pages of a shard save the shard.
+pub fn every_increment()
+    ensures { EveryIncrement }
+{
+    every_change();
+}
 
 /// The first record of a session's open transaction is the least, and there is none at a begin and behind an end.
 pub fn every_first()
