@@ -2,23 +2,19 @@
 use Rattle.std.proofs.Common.{◌≡◌, ◌≢◌, cond, ◌⊎◌, inl, inr, ℕ, true, List, [], ◌∷◌, sym, ap, subst, ◌∙◌, arith}
 use Rattle.row_words.specs.declared.event.Event.{Event}
 use Rattle.row_words.specs.declared.event.Event.TheVariants.{Miss}
-use Rattle.rows_trait.specs.declared.view.Act.TheVariants.{Set}
 use Rattle.rows_trait.specs.declared.view.View.{View}
 use Rattle.rows_trait.specs.Views.{Shape, holds, held_at}
 use Rattle.rows_trait.specs.Turns.{Goes, Released}
 use Rattle.rows_trait.proofs.Holds.{holds_without, without_apart}
 use Rattle.rows_trait.proofs.Runs.{ran_goes}
 use Rattle.version_latch.proofs.Keeping.{may_self}
-use Rattle.held_rows.specs.Steps.{MissedUpTo, Stepped}
+use Rattle.held_rows.specs.Steps.{MissedUpTo}
 use Rattle.held_rows.specs.Rows.{IsOpen, IsUnchanged, OpensOne, OpensTwo, OpensThree}
 use Rattle.held_rows.proofs.Holding.{others_left}
 
 -- said of the shape and the row that others speak of
 pub released_as : {z y : Shape} {row q : ℕ} {v w : View} → y ≡ z → q ≡ row → Released y q v w → Released z row v w
 released_as {v = v} {w = w} a b r = subst (λ (s : Shape × ℕ). Released s.0 s.1 v w) (λ i. (a i, b i)) r
-
-pub stepped_released : {z : Shape} {row : ℕ} {v w : View} → Released z row v w → Stepped v w
-stepped_released r = record { acts = Set _ _ ∷ []; steps = r.steps }
 
 -- ## What is left
 

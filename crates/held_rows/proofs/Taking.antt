@@ -1,8 +1,7 @@
 -- A row that was latched from the version that it had, or was not.
-use Rattle.std.proofs.Common.{◌≡◌, ◌%◌, ◌+◌, ℕ, true, false, List, [], ◌∷◌, sym, ap, subst, ◌∙◌, arith}
+use Rattle.std.proofs.Common.{◌≡◌, ◌%◌, ℕ, true, false, List, [], ◌∷◌, sym, ap, subst, ◌∙◌, arith}
 use Rattle.row_words.specs.declared.event.Event.{Event}
 use Rattle.row_words.specs.declared.event.Event.TheVariants.{Miss}
-use Rattle.rows_trait.specs.declared.view.Act.TheVariants.{Look, Set}
 use Rattle.rows_trait.specs.declared.view.View.{View}
 use Rattle.rows_trait.specs.Views.{Shape, IsEven, hold, holds, may}
 use Rattle.rows_trait.specs.Turns.{Goes, Looked, Taken, Ran}
@@ -32,7 +31,6 @@ module _ {z : Shape} {row : ℕ} {v u : View} (worker : ℕ) where
     pub took_all : IsEven version → Looked z row (missed worker) v version u → Taken z row version (checked worker version) u w → Took z row v w
     took_all even l t = record {
       ran = ran_append z.alone v [] u [] w (looked_none even l) (ran_goes z u [] w tt (subst (λ (es : List Event). Goes z u es w) (checked_same worker version) t.goes));
-      since = record { acts = Set row (version + 1) ∷ Look row version w.seen ∷ Look row version u.seen ∷ []; steps = t.steps ∙ ap (λ ss. Set row (version + 1) ∷ Look row version w.seen ∷ ss) l.steps };
       version = version;
       was = t.was;
       held = t.held ∙ ap (λ hs. hold row version t.was t.was false ∷ hs) l.held;

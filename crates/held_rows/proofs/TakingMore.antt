@@ -1,17 +1,15 @@
 -- Rows that are latched one after the other, where none was held.
-use Rattle.std.proofs.Common.{◌≡◌, ◌≢◌, ◌==◌, cond, ◌<◌, ◌⊎◌, inl, inr, ℕ, Bool, true, false, List, [], ◌∷◌, length, refl, sym, ap, subst, ◌∙◌, eq-eqb, arith, true≢false}
+use Rattle.std.proofs.Common.{◌≡◌, ◌≢◌, ◌==◌, cond, ◌<◌, ◌⊎◌, inl, inr, ℕ, Bool, true, false, [], length, refl, sym, ap, subst, ◌∙◌, eq-eqb, arith, true≢false}
 use Rattle.std.proofs.lemmas.Bool.{cond-true, cond-false, ne_eqb}
 use Rattle.std.proofs.lemmas.Bool.Decides.{nat_tests}
 use Rattle.row_words.specs.declared.given.Given.{Given}
 use Rattle.row_words.specs.Openings.{opening}
 use Rattle.rows_trait.specs.declared.view.View.{View}
-use Rattle.rows_trait.specs.Layout.{width}
 use Rattle.rows_trait.specs.Views.{Shape, hold, holds, held_at}
 use Rattle.rows_trait.proofs.Runs.{ran_append}
 use Rattle.held_rows.specs.Steps.{MissedUpTo}
-use Rattle.held_rows.specs.Rows.{IsFrame, HoldsOne, HoldsTwo, HoldsThree}
+use Rattle.held_rows.specs.Rows.{IsFrame, HoldsOne}
 use Rattle.held_rows.specs.Latching.{Took, IsFrameRow, TookTwo, TookThree}
-use Rattle.held_rows.specs.Waits.{stepped_then}
 
 -- the frames are the same for each view of the rows
 pub frame_row_on : {z : Shape} {v w : View} {row : ℕ} → w.given ≡ v.given → IsFrameRow z v row → IsFrameRow z w row
@@ -81,7 +79,6 @@ pub took_two : {z : Shape} {v u w : View} {a b : ℕ} → HoldsOne z u a → IsF
 took_two {z = z} {v = v} {u = u} {w = w} {a = a} {b = b} o f s t =
     let ran = ran_append z.alone v [] u [] w s.ran t.ran in record {
       ran = ran;
-      since = stepped_then s.since t.since;
       two = record {
         first = held_still t a o.first;
         second = taken t (frame_row_on ran.given f);
@@ -95,7 +92,6 @@ pub took_three : {z : Shape} {v u w : View} {a b d : ℕ} → IsFrameRow z v d �
 took_three {z = z} {v = v} {u = u} {w = w} {a = a} {b = b} {d = d} f s t =
     let ran = ran_append z.alone v [] u [] w s.ran t.ran in record {
       ran = ran;
-      since = stepped_then s.since t.since;
       three = record {
         first = held_still t a s.two.first;
         second = held_still t b s.two.second;

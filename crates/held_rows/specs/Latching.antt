@@ -6,17 +6,16 @@ use Rattle.rows_trait.specs.declared.view.View.{View}
 use Rattle.rows_trait.specs.Layout.{rows_of, width}
 use Rattle.rows_trait.specs.Causes.{HasFound, HasMoved, IsLatched}
 use Rattle.rows_trait.specs.Views.{Shape, Spells, hold, holds, held_at, state}
-use Rattle.rows_trait.specs.Turns.{Ran}
+use Rattle.rows_trait.specs.Turns.{Ran, Stepped}
 use Rattle.version_latch.specs.declared.glimpse.TheConstants.{LAST}
 use Rattle.held_rows.specs.declared.latching.Refusal.{Refusal}
 use Rattle.held_rows.specs.declared.latching.Refusal.TheVariants.{Moved, Latched, RowSpent}
-use Rattle.held_rows.specs.Steps.{MissedUpTo, Stepped}
+use Rattle.held_rows.specs.Steps.{MissedUpTo}
 use Rattle.held_rows.specs.Rows.{HoldsTwo, HoldsThree}
 
 -- a row was latched
 pub record Took (z : Shape) (row : ℕ) (v w : View) : Type 0 where
   pub ran : Ran z.alone v [] w
-  pub since : Stepped v w
   pub version : ℕ
   pub was : List ℕ
   pub held : w.held ≡ hold row version was was false ∷ v.held
@@ -52,13 +51,11 @@ pub record IsFrameRow (z : Shape) (v : View) (row : ℕ) : Type 0 where
 -- two rows were latched
 pub record TookTwo (z : Shape) (a b : ℕ) (v w : View) : Type 0 where
   pub ran : Ran z.alone v [] w
-  pub since : Stepped v w
   pub two : HoldsTwo z w a b
 
 -- three rows were
 pub record TookThree (z : Shape) (a b d : ℕ) (v w : View) : Type 0 where
   pub ran : Ran z.alone v [] w
-  pub since : Stepped v w
   pub three : HoldsThree z w a b d
 
 -- The call, which began at the view v, found why of one of these rows, from one view to another.

@@ -6,7 +6,6 @@ use Rattle.rows_trait.specs.declared.view.View.{View}
 use Rattle.rows_trait.specs.Layout.{rows_of, width}
 use Rattle.rows_trait.specs.Views.{Shape, AreApart, Spells, holds, held_at, state}
 use Rattle.rows_trait.specs.Turns.{Ran}
-use Rattle.held_rows.specs.Steps.{Stepped}
 
 -- ## From one view to another
 
@@ -23,7 +22,6 @@ pub record Waited (alone : Bool) (v w : View) : Type 0 where
 pub record Stood (alone : Bool) (v w : View) : Type 0 where
   pub waited : Waited alone v w
   pub held : w.held ≡ v.held
-  pub since : Stepped v w
 
 -- other words were stored in a row
 pub record Wrote (alone : Bool) (row : ℕ) (words : List ℕ) (v w : View) : Type 0 where

@@ -1,8 +1,7 @@
--- What a call has appended that was refused, and which steps a seat has made since a view.
-use Rattle.std.specs.Prelude.{◌≡◌, ◌≤◌, ℕ, Bool, List, [], ◌∷◌, ◌++◌, length}
+-- What a call has appended that was refused.
+use Rattle.std.specs.Prelude.{◌≤◌, ℕ, Bool, List, [], ◌∷◌, length}
 use Rattle.row_words.specs.declared.event.Event.{Event}
 use Rattle.row_words.specs.declared.event.Event.TheVariants.{Miss}
-use Rattle.rows_trait.specs.declared.view.Act.{Act}
 use Rattle.rows_trait.specs.declared.view.View.{View}
 use Rattle.rows_trait.specs.Turns.{Ran}
 
@@ -18,8 +17,3 @@ pub record MissedUpTo (most : ℕ) (alone : Bool) (v w : View) : Type 0 where
   pub ran : Ran alone v events w
   pub misses : AreMisses events
   pub few : length events ≤ most
-
--- since the view v the seat has made these steps
-pub record Stepped (v w : View) : Type 0 where
-  pub acts : List Act
-  pub steps : w.steps ≡ acts ++ v.steps

@@ -9,28 +9,15 @@ use Rattle.row_words.specs.declared.given.Given.{Given}
 use Rattle.row_words.specs.Openings.{opening}
 use Rattle.row_words.specs.Sealed.{begun, run, Shown}
 use Rattle.row_words.proofs.SealedLemmas.{run_append}
-use Rattle.rows_trait.specs.declared.view.Act.TheVariants.{Load}
 use Rattle.rows_trait.specs.declared.view.View.{View}
-use Rattle.rows_trait.specs.Causes.{OnlyLoads}
 use Rattle.rows_trait.specs.Views.{Shape, AreApart, after_all, state, holds, held_at}
 use Rattle.rows_trait.specs.Turns.{Goes, Loaded, MayPublish}
 use Rattle.rows_trait.proofs.Runs.{ran_goes, ran_none, ran_append}
 use Rattle.rows_trait.proofs.EventLemmas.{apart_append, apart_shown, none_apart, by_none, apart_sync}
 use Rattle.lean_proto.proofs.Meanwhile.{apart_as}
-use Rattle.held_rows.specs.Steps.{AreMisses, MissedUpTo, Stepped}
+use Rattle.held_rows.specs.Steps.{AreMisses, MissedUpTo}
 use Rattle.held_rows.specs.Rows.{Waited, Stood, Wrote, IsFrame, HoldsOne, HoldsTwo, HoldsThree, IsOpen, IsUnchanged, OpensOne, OpensTwo, OpensThree}
 use Rattle.held_rows.specs.Publishing.{IsChanged, Went}
-
--- ## Steps
-
-abbrev pub stepped_none : (v : View) → Stepped v v
-stepped_none v = record { acts = []; steps = refl }
-
-abbrev pub stepped_then : {v w u : View} → Stepped v w → Stepped w u → Stepped v u
-stepped_then {v} a b = record { acts = b.acts ++ a.acts; steps = b.steps ∙ (ap (λ z. b.acts ++ z) a.steps ∙ sym (append_assoc b.acts a.acts v.steps)) }
-
-abbrev pub stepped_loads : {v w : View} → OnlyLoads v w → Stepped v w
-stepped_loads o = record { acts = o.acts; steps = o.steps }
 
 -- ## Misses
 
@@ -86,6 +73,7 @@ waited_apart z v between quiet apart = record {
     own = λ n. by_none v.actor between (none_apart v (state v) between apart);
     all = quiet;
     part = λ n. apart_sync v (state v) between apart;
+    since = record { acts = []; steps = refl };
     given = refl;
     actor = refl;
     live = refl;
@@ -100,16 +88,16 @@ waited_apart z v between quiet apart = record {
 }
 
 pub stood_none : (alone : Bool) (v : View) → Stood alone v v
-stood_none alone v = record { waited = waited_none alone v; held = refl; since = stepped_none v }
+stood_none alone v = record { waited = waited_none alone v; held = refl }
 
 pub stood_then : {alone : Bool} {v w u : View} → Stood alone v w → Stood alone w u → Stood alone v u
-stood_then a b = record { waited = waited_then a.waited b.waited; held = b.held ∙ a.held; since = stepped_then a.since b.since }
+stood_then a b = record { waited = waited_then a.waited b.waited; held = b.held ∙ a.held }
 
 pub stood_shape : {z y : Shape} {v w : View} → z ≡ y → Stood z.alone v w → Stood y.alone v w
 stood_shape {v = v} {w = w} same k = subst (λ (s : Shape). Stood s.alone v w) same k
 
 pub stood_load : {z : Shape} {row i n : ℕ} {v w : View} → Loaded z row i v n w → Stood z.alone v w
-stood_load l = record { waited = waited_goes l.goes (λ q. ap (λ hs. holds hs q) l.held); held = l.held; since = record { acts = Load _ _ _ ∷ []; steps = l.steps } }
+stood_load l = record { waited = waited_goes l.goes (λ q. ap (λ hs. holds hs q) l.held); held = l.held }
 
 -- ## Stores
 

@@ -1,6 +1,6 @@
 // Rows that are given up as they stood.
 ghost use Rattle.std.specs.Prelude.{◌≡◌, []};
-ghost use Rattle.held_rows.specs.Steps.{MissedUpTo, Stepped};
+ghost use Rattle.held_rows.specs.Steps.{MissedUpTo};
 ghost use Rattle.held_rows.specs.Rows.{OpensOne, OpensTwo, OpensThree, IsUnchanged};
 
 use rows_trait::rows::Rows;
@@ -12,7 +12,6 @@ pub fn give_up_one<R: Rows>(rows: &mut R, seat: &mut R::Seat, hold: Hold)
     requires one { OpensOne (R.shape rows.old) (R.view seat.old) hold.row }
     requires same { IsUnchanged (R.view seat.old) hold.row }
     ensures fits { R.fits rows.new seat.new × (R.shape rows.new ≡ R.shape rows.old) × ((R.view seat.new).held ≡ []) }
-    ensures since { Stepped (R.view seat.old) (R.view seat.new) }
     ensures missed { MissedUpTo 1 (R.shape rows.old).alone (R.view seat.old) (R.view seat.new) }
 {
     hold.release(rows, seat);
@@ -24,7 +23,6 @@ pub fn give_up_two<R: Rows>(rows: &mut R, seat: &mut R::Seat, first: Hold, secon
     requires two { OpensTwo (R.shape rows.old) (R.view seat.old) first.row second.row }
     requires same { IsUnchanged (R.view seat.old) first.row × IsUnchanged (R.view seat.old) second.row }
     ensures fits { R.fits rows.new seat.new × (R.shape rows.new ≡ R.shape rows.old) × ((R.view seat.new).held ≡ []) }
-    ensures since { Stepped (R.view seat.old) (R.view seat.new) }
     ensures missed { MissedUpTo 2 (R.shape rows.old).alone (R.view seat.old) (R.view seat.new) }
 {
     second.release(rows, seat);
@@ -43,7 +41,6 @@ pub fn give_up_three<R: Rows>(
     requires three { OpensThree (R.shape rows.old) (R.view seat.old) first.row second.row third.row }
     requires same { IsUnchanged (R.view seat.old) first.row × IsUnchanged (R.view seat.old) second.row × IsUnchanged (R.view seat.old) third.row }
     ensures fits { R.fits rows.new seat.new × (R.shape rows.new ≡ R.shape rows.old) × ((R.view seat.new).held ≡ []) }
-    ensures since { Stepped (R.view seat.old) (R.view seat.new) }
     ensures missed { MissedUpTo 3 (R.shape rows.old).alone (R.view seat.old) (R.view seat.new) }
 {
     third.release(rows, seat);

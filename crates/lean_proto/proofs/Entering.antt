@@ -1,17 +1,16 @@
 -- Ticks, enters and leaves at control words, whatever others do meanwhile.
-use Rattle.std.proofs.Common.{◌≡◌, ◌≢◌, ◌<◌, ◌≤◌, ◌+◌, ◌-◌, ◌^◌, ◌==◌, ◌&&◌, not, ltb, leb, ℕ, zero, suc, Bool, true, false, List, [], ◌∷◌, ◌++◌, ◌⊎◌, Option, Some, None, refl, sym, ap, subst, ◌∙◌, arith, inl, inr, true≢false}
+use Rattle.std.proofs.Common.{◌≡◌, ◌≢◌, ◌<◌, ◌≤◌, ◌+◌, ◌-◌, ◌^◌, not, ltb, leb, ℕ, zero, suc, Bool, true, false, List, [], ◌∷◌, ◌++◌, ◌⊎◌, Option, Some, None, refl, sym, ap, subst, ◌∙◌, arith, inl, inr}
 use Rattle.std.proofs.lemmas.Bool.{and_from, and_right, ne_eqb, cases_eq, leb-true, le-leb, lt-leb, cond-true, cases_Bool}
 use Rattle.std.specs.Prelude.{if◌then◌else◌}
 use Rattle.map_model.proofs.ListLemmas.{upd_same}
 use Rattle.image_model.specs.Entries.{Entry}
 use Rattle.core_state.specs.Openings.{Opening}
-use Rattle.core_state.specs.States.{Place, State, epoch_of, waits_for}
+use Rattle.core_state.specs.States.{State, epoch_of, waits_for}
 use Rattle.core_state.specs.Events as happening
 use Rattle.core_state.specs.Needs as core
 use Rattle.core_state.specs.Needs.{is_worker, is_inside}
 use Rattle.core_state.specs.Local.{publishes_row}
 use Rattle.core_state.specs.Steps.{happens, put_back}
-use Rattle.core_state.specs.Steps as steps
 use Rattle.core_paging.specs.Paging.{Waiting}
 use Rattle.row_words.specs.declared.event.Event.{Event}
 use Rattle.row_words.specs.declared.event.Event.TheVariants as told
@@ -28,9 +27,8 @@ use Rattle.row_words.proofs.Controls.{every_own}
 use Rattle.row_words.proofs.SealedLemmas.{run_append}
 use Rattle.rows_trait.specs.declared.view.View.{View}
 use Rattle.rows_trait.specs.Views.{Shape, AreApart, NoSync, after_all, may, state}
-use Rattle.rows_trait.specs.Turns.{Heard, MayTurn, Turned, Ran}
-use Rattle.rows_trait.proofs.EventLemmas.{none_apart, by_none, apart_sync}
-use Rattle.lean_proto.specs.Controls.{IsTick, IsEnter, IsLeave, Entered, EveryEpoch}
+use Rattle.rows_trait.specs.Turns.{Heard, MayTurn, Ran}
+use Rattle.lean_proto.specs.Controls.{IsTick, IsEnter, IsLeave, EveryEpoch}
 use Rattle.lean_proto.proofs.Meanwhile.{is_actor, meanwhile}
 use Rattle.lean_proto.proofs.Owns.{none_of}
 use Rattle.lean_proto.proofs.Turning.{goes_one, steps_met, other_word}

@@ -2,10 +2,9 @@
 -- them, the page stands in a row that it holds, and so does the page that names it where its swip changes.
 use Rattle.std.proofs.Common.{◌≡◌, ◌≢◌, ◌==◌, ◌||◌, ◌&&◌, not, ltb, leb, ◌<◌, ◌≤◌, ◌-◌, ℕ, zero, suc, Bool, true, false, List, [], ◌∷◌, ◌++◌, refl, sym, ap, subst, ◌∙◌, true≢false, arith}
 use Rattle.std.specs.Prelude.{slice_index, if◌then◌else◌}
-use Rattle.std.proofs.lemmas.Bool.{cond-true, cond-false, eq-eqb, lt-ltb, ltb-true, eqb-true, leb-true, le-leb, and_from, and_parts}
-use Rattle.map_model.specs.Lists.{any, upd}
+use Rattle.std.proofs.lemmas.Bool.{cond-true, cond-false, eq-eqb, lt-ltb, eqb-true, leb-true, le-leb, and_from}
+use Rattle.map_model.specs.Lists.{upd}
 use Rattle.image_model.specs.Entries.{Contents, Entry}
-use Rattle.page_model.specs.Pairs.{Span}
 use Rattle.page_model.specs.Tree.{Names, IsTree}
 use Rattle.page_model.specs.Check.{names_page}
 use Rattle.page_model.proofs.Tree.{child_page, only}
@@ -18,24 +17,24 @@ use Rattle.core_state.specs.Needs as core
 use Rattle.core_state.specs.Needs.{has_hot_parent, has_hot_child, is_empty_frame, is_dirty, is_inside}
 use Rattle.core_state.specs.Steps.{happens, put_back}
 use Rattle.core_state.specs.Steps as steps
-use Rattle.core_state.specs.Local.{published, publishes_row}
+use Rattle.core_state.specs.Local.{publishes_row}
 use Rattle.core_state.proofs.Locality.{every_local}
 use Rattle.core_commit.proofs.Controls.{least_mono}
 use Rattle.core_commit.proofs.Events.{names_to}
 use Rattle.core_paging.specs.Paging.{Residence}
-use Rattle.core_paging.proofs.Places.{left_hot, left_cooling, left_cold, left_frame, left_waits, left_no_more, own_frame, in_own, hot_not_cold, cooling_not_cold, framed}
+use Rattle.core_paging.proofs.Places.{left_frame, left_waits, left_no_more, own_frame, in_own, hot_not_cold, cooling_not_cold}
 use Rattle.row_words.specs.declared.event.Event.{Event}
 use Rattle.row_words.specs.declared.event.Event.TheVariants as told
 use Rattle.row_words.specs.declared.event.Met.TheVariants as met
-use Rattle.row_words.specs.Moments.{Moment, event_of, actor_of, pager, is_sync}
+use Rattle.row_words.specs.Moments.{Moment, event_of, actor_of, pager}
 use Rattle.row_words.specs.Openings.{opening}
 use Rattle.row_words.specs.Sealed.{stepped, run, Shown, changes, sets}
-use Rattle.row_words.specs.Words.{swip, framed as as_framed, ShowsPage, ShowsFrame, Shows, relinked, fills, has_parent_in, publishes, publishes_frame, lock_words}
+use Rattle.row_words.specs.Words.{swip, framed as as_framed, ShowsPage, ShowsFrame, Shows, has_parent_in, publishes, publishes_frame}
 use Rattle.row_words.proofs.Frames.{hot_place, framed_same}
 use Rattle.row_words.proofs.Stays as words
 use Rattle.row_words.proofs.Stays.{cases, some_below, and_true}
 use Rattle.rows_trait.specs.declared.view.View.{View}
-use Rattle.rows_trait.specs.Views.{Shape, after_all, state, AreApart, IsApart, holds, held_at, may}
+use Rattle.rows_trait.specs.Views.{Shape, after_all, state, AreApart, holds, held_at, may}
 use Rattle.rows_trait.specs.Turns.{Leaves, MayPublish}
 use Rattle.rows_trait.proofs.EventLemmas.{apart_sync}
 use Rattle.lean_proto.specs.Ready.{IsReady}

@@ -1,13 +1,12 @@
 -- Where pages stand, while the pager appends nothing.
-use Rattle.std.proofs.Common.{◌≡◌, ◌≢◌, ◌==◌, ◌&&◌, ◌||◌, ℕ, Bool, true, false, List, [], ◌∷◌, ◌++◌, refl, sym, ap, subst, ◌∙◌, true≢false, arith, inl, inr}
+use Rattle.std.proofs.Common.{◌≡◌, ◌≢◌, ◌==◌, ℕ, Bool, true, false, List, [], ◌∷◌, refl, sym, ap, subst, ◌∙◌, true≢false}
 use Rattle.std.specs.Prelude.{if◌then◌else◌}
-use Rattle.std.proofs.lemmas.Bool.{eqb-true, cond-true, cond-false}
-use Rattle.map_model.specs.Lists.{any, Has}
+use Rattle.std.proofs.lemmas.Bool.{eqb-true}
+use Rattle.map_model.specs.Lists.{Has}
 use Rattle.map_model.proofs.ListLemmas.{any_has, all_to}
-use Rattle.image_model.specs.Entries.{Contents, Entry}
+use Rattle.image_model.specs.Entries.{Entry}
 use Rattle.core_state.specs.Openings.{Opening}
 use Rattle.core_state.specs.States.{Place, State, is_hot, is_cooling, is_cold, in_frame, epoch_of, waits_for, left_by}
-use Rattle.core_state.specs.Events as happening
 use Rattle.core_state.specs.Needs as core
 use Rattle.core_state.specs.Needs.{pages_of, are_hot, needs}
 use Rattle.core_state.specs.Steps.{happens, put_back}
@@ -24,9 +23,9 @@ use Rattle.row_words.specs.Sealed.{begun, stepped, run}
 use Rattle.row_words.proofs.Stays.{cases, and_true}
 use Rattle.row_words.proofs.SealedLemmas.{run_append}
 use Rattle.rows_trait.specs.declared.view.View.{View}
-use Rattle.rows_trait.specs.Views.{Shape, after_all, state}
+use Rattle.rows_trait.specs.Views.{after_all, state}
 use Rattle.rows_trait.specs.Turns.{Ran}
-use Rattle.lean_proto.specs.Still.{Stood, IsStill, EveryStood}
+use Rattle.lean_proto.specs.Still.{IsStill, EveryStood}
 use Rattle.lean_proto.proofs.Entering.{epoch_same}
 use Rattle.lean_proto.proofs.Loads.{place_same, saved_same}
 use Rattle.lean_proto.proofs.Moves.{unwaited_happens}

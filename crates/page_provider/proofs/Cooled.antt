@@ -119,7 +119,7 @@ cool_broken {z = z} {v = v} {k = k} laws c none well =
       moved = record { events = []; goes = record { ran = ran_none z.alone v; held = none; keeps = c }; pagers = tt; ticked = tt; few = omega arith; met = met_others v.given (ran_none z.alone v).more (state v) (none_ran z.alone v v c.actor (ran_none z.alone v)); same = idle.moved.same };
       keeps = λ f p h e. e;
       broken = or_none k.broken;
-      refused = record { at = v; events = []; came = ran_none z.alone v; cause = tt };
+      cause = tt;
       quiet = λ alone o. o;
       earlier = λ e. well;
     }

@@ -47,6 +47,7 @@ flushed_up every z v u more none given seen part c some =
         apart = tt;
         seen = sym (append-nil (v.seen ++ []) ∙ append-nil v.seen);
         part = λ _. tt;
+        since = record { acts = Hear c 0 n ∷ []; steps = refl };
         given = refl;
         actor = refl;
         live = refl;

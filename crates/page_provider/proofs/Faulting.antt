@@ -1,7 +1,7 @@
 -- A page that is asked for: what the queue, the free pages and the frames tell of it, and what the call has done by then.
-use Rattle.std.proofs.Common.{◌≡◌, ◌<◌, ◌||◌, ◌&&◌, ◌==◌, not, ltb, inl, inr, ℕ, zero, suc, Bool, true, false, List, [], ◌∷◌, length, Option, Some, None, Ok, refl, sym, ap, subst, ◌∙◌, arith, true≢false}
+use Rattle.std.proofs.Common.{◌≡◌, ◌<◌, ◌||◌, ◌&&◌, not, ltb, inl, inr, ℕ, zero, suc, Bool, true, false, List, [], ◌∷◌, length, Option, Some, None, Ok, refl, sym, ap, subst, ◌∙◌, arith, true≢false}
 use Rattle.std.specs.Prelude.{Result, Err, IfErr, IfOk}
-use Rattle.std.proofs.lemmas.Bool.{and_from, eq-eqb, eqb-true, lt-ltb, ltb-true}
+use Rattle.std.proofs.lemmas.Bool.{and_from, eq-eqb, lt-ltb}
 use Rattle.map_model.specs.Lists.{all}
 use Rattle.disk_runs.specs.Quiet.{is_quiet}
 use Rattle.page_model.specs.Check.{names_page}
@@ -10,12 +10,10 @@ use Rattle.page_model.specs.Page as stored
 use Rattle.page_model.specs.Page.{word_at}
 use Rattle.page_model.specs.Pairs.{Pair, Span, spans}
 use Rattle.page_model.specs.Pairs as pairs
-use Rattle.page_model.specs.Records.{any}
 use Rattle.page_model.specs.Tree.{Names, Parent}
 use Rattle.page_model.proofs.Tree as page_tree
 use Rattle.page_moves.proofs.Words.{is_inner_to, named_at}
 use Rattle.row_image.proofs.Pages.{names_pair}
-use Rattle.core_state.specs.Lists.{all_below}
 use Rattle.core_state.specs.Needs.{has_hot_parent}
 use Rattle.core_state.specs.Openings.{Opening}
 use Rattle.core_state.specs.States.{Place, State, is_cold, is_cooling, is_hot, in_frame, nodes_of}
@@ -25,11 +23,11 @@ use Rattle.row_words.specs.declared.event.Event.TheVariants as told
 use Rattle.row_words.specs.Openings.{opening}
 use Rattle.row_words.specs.Words.{framed_page}
 use Rattle.row_words.specs.declared.given.Given.{Given}
-use Rattle.row_words.proofs.Stays.{and_true, below_false}
+use Rattle.row_words.proofs.Stays.{below_false}
 use Rattle.rows_trait.specs.declared.view.View.{View}
 use Rattle.rows_trait.specs.Views.{Shape, state}
 use Rattle.rows_trait.specs.Turns.{Ran}
-use Rattle.rows_trait.proofs.Runs.{ran_append, ran_none}
+use Rattle.rows_trait.proofs.Runs.{ran_append}
 use Rattle.btree_descent.specs.Known.{Sound}
 use Rattle.lean_disk.specs.Story.{IsLawful, Story}
 use Rattle.lean_proto.specs.Still.{Stood}
@@ -372,7 +370,7 @@ broken_refused {z = z} {v = v} {k = k} path c none well = record {
   moved = moved_up (omega arith) (moved_none c none);
   keeps = path_none path v;
   broken = or_off k.broken;
-  refused = record { at = v; events = []; came = ran_none z.alone v; cause = tt };
+  cause = tt;
   quiet = λ alone o. o;
   earlier = λ e. well;
 }

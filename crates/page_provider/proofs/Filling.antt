@@ -35,6 +35,7 @@ use Rattle.page_provider.proofs.Moving.{come_moved, halts_refused, moved_then, m
 use Rattle.page_pool.specs.Full.{NoneRipe}
 use Rattle.page_provider.proofs.Placing.{none_lost}
 use Rattle.page_provider.proofs.Shares.{loaded_long, needed_behind, none_sunk, share_behind, sinks_ran}
+use Rattle.page_provider.proofs.Joins.{ran_still}
 
 -- ## Refusals
 
@@ -213,7 +214,7 @@ read_refused {z} {v} {k} {is} {page} {s} {why} path c none h =
     record {
       moved = record {
         events = [];
-        goes = record { ran = record { more = []; seen = sym (append-nil v.seen); own = λ n. refl; all = λ y. refl; part = λ n. tt; given = refl; actor = refl; live = refl; made = refl; ended = refl }; held = none; keeps = subst (Keeps z v) (sym h.memory) (keeps_slots k.slots true c) };
+        goes = record { ran = ran_still z.alone v; held = none; keeps = subst (Keeps z v) (sym h.memory) (keeps_slots k.slots true c) };
         pagers = tt;
         ticked = tt;
         few = omega arith;
@@ -222,7 +223,7 @@ read_refused {z} {v} {k} {is} {page} {s} {why} path c none h =
       };
       keeps = λ f p has e. e;
       broken = ap (λ (p : Provider). p.broken) h.memory ∙ (or_on k.broken ∙ ap (λ b. k.broken || b) (sym (lost_breaks k page s why h.cause)));
-      refused = record { at = v; events = []; came = ran_none z.alone v; cause = lost_caused v v k page s why h.cause };
+      cause = lost_caused v v k page s why h.cause;
       quiet = λ alone o. lost_others k page s why h.cause o;
       earlier = λ e. absurd (lost_earlier k page s why h.cause e);
     }

@@ -10,7 +10,7 @@ use Rattle.row_words.specs.Moments.{Moment, pager}
 use Rattle.row_words.specs.Openings.{opening}
 use Rattle.row_words.specs.Sealed.{Shown}
 use Rattle.rows_trait.specs.declared.view.View.{View}
-use Rattle.rows_trait.specs.Causes.{HasFound, HasMoved, IsLatched, OnlyLoads}
+use Rattle.rows_trait.specs.Causes.{HasFound, HasMoved, IsLatched}
 use Rattle.rows_trait.specs.Layout.{width}
 use Rattle.rows_trait.specs.Turns.{Looked, Ran}
 use Rattle.rows_trait.specs.Views.{Shape, IsEven, Spells, held_at, hold, holds, latest, may, state}
@@ -72,10 +72,9 @@ saved_at : (v : Given) (m : Moment) (row p x : ℕ) → row < (opening v).frames
 unfolding Shown
 saved_at v m row p x lt below here s = ((s.frame (lt-ltb row (opening v).frames lt)).page p below here).saved refl
 
-pub judges : {z : Shape} {v w : View} (row frames number saved : ℕ) → Sized z v frames → row < frames → Ran z.alone v [] w → OnlyLoads v w → Shown w.given (state w) row 1 number → Shown w.given (state w) row 127 saved → Judges z v row (ltb saved number) w
-judges {v = v} {w = w} row frames number saved sized lt r loads a b = record {
+pub judges : {z : Shape} {v w : View} (row frames number saved : ℕ) → Sized z v frames → row < frames → Ran z.alone v [] w → Shown w.given (state w) row 1 number → Shown w.given (state w) row 127 saved → Judges z v row (ltb saved number) w
+judges {v = v} {w = w} row frames number saved sized lt r a b = record {
   ran = r;
-  loads = loads;
   says = λ p below here.
       let within : row < (opening w.given).frames = subst (λ (g : Given). row < (opening g).frames) (sym r.given) (subst (λ n. row < n) (sym sized.given) lt) in
       let x = number_at w.given (state w) row p number within below here a in

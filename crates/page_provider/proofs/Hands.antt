@@ -33,6 +33,7 @@ use Rattle.page_provider.proofs.Easing.{eased_path, eased_rested, eased_stood, h
 use Rattle.page_provider.proofs.Joins.{met_misses, met_then, ran_join}
 use Rattle.page_provider.proofs.Keeping.{keeps_ran, ran_stood}
 use Rattle.page_provider.proofs.Moving.{keeps_hand, rested_then, same_none, same_then}
+use Rattle.page_provider.proofs.Loaded.{caused_before}
 
 -- ## Lists
 
@@ -275,16 +276,16 @@ module _ {z : Shape} {frame : ℕ} {v t : View} {k : Provider} {s : Sight} (laws
 -- ## Over frames
 
 pub hand_stalls : {n : ℕ} {z : Shape} {v u w : View} {was k is : Provider} {why : Refusal} → Idle z v was u k → k ≡ is → Halts n z u why w → Stalls n z v was why w is
-hand_stalls {z = z} {v = v} {u = u} {was = was} i same h = record {
+hand_stalls {w = w} {was = was} {why = why} i same h = record {
   stopped = stopped_behind (idle_is i) h.stopped;
-  refused = record { at = u; events = []; came = idle_is i; cause = h.cause };
+  cause = caused_before w why (idle_is i).since h.cause;
   memory = subst (λ (p : Provider). p ≡ record was { hand = p.hand }) same i.memory;
 }
 
 pub stalls_behind : {n : ℕ} {z : Shape} {v u w : View} {was k is : Provider} {why : Refusal} → Idle z v was u k → Stalls n z u k why w is → Stalls n z v was why w is
-stalls_behind {z = z} {v = v} {u = u} {is = is} i h = record {
+stalls_behind {w = w} {is = is} {why = why} i h = record {
   stopped = stopped_behind (idle_is i) h.stopped;
-  refused = record { at = h.refused.at; events = h.refused.events; came = ran_append z.alone v [] u h.refused.events h.refused.at (idle_is i) h.refused.came; cause = h.refused.cause };
+  cause = caused_before w why (idle_is i).since h.cause;
   memory = h.memory ∙ ap (λ (p : Provider). record p { hand = is.hand }) i.memory;
 }
 

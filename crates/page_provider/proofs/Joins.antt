@@ -1,5 +1,5 @@
 -- Lists of events of a call, one after another; and where the first event of its own stands among others'.
-use Rattle.std.proofs.Common.{◌≡◌, ◌≤◌, ◌+◌, ◌==◌, ℕ, Bool, true, false, List, [], ◌∷◌, ◌++◌, length, append_assoc, refl, sym, ap, subst, ◌∙◌, arith, true≢false, eq-eqb}
+use Rattle.std.proofs.Common.{◌≡◌, ◌≤◌, ◌+◌, ◌==◌, ℕ, Bool, true, false, List, [], ◌∷◌, ◌++◌, length, append-nil, append_assoc, refl, sym, ap, subst, ◌∙◌, arith, true≢false, eq-eqb}
 use Rattle.std.specs.Prelude.{if◌then◌else◌}
 use Rattle.core_state.specs.Openings.{Opening}
 use Rattle.core_state.specs.States.{State}
@@ -20,6 +20,7 @@ use Rattle.page_provider.specs.Moves.{AreMet, ArePagers, AreTicked, others_in}
 use Rattle.page_provider.specs.Steps.{AreMisses, IsMissAtMost}
 use Rattle.page_provider.proofs.Keeping.{plays}
 use Rattle.page_provider.proofs.Standing.{onward, ran_state, state_on}
+use Rattle.rows_trait.proofs.Runs.{stepped_then}
 
 -- ## One list behind another
 
@@ -45,7 +46,10 @@ pub met_append : (g : Given) (m : Moment) (es fs : List Event) → AreMet g m es
 met_append g m [] fs a b = b
 met_append g m (e ∷ es) fs a b = (a.0, met_append g (stepped g m e) es fs a.1 b)
 
--- as ran_append, with all that ran in sight
+-- as ran_none and ran_append, with all that ran in sight
+abbrev pub ran_still : (alone : Bool) (v : View) → Ran alone v [] v
+ran_still alone v = record { more = []; seen = sym (append-nil v.seen); own = λ n. refl; all = λ y. refl; part = λ n. tt; since = record { acts = []; steps = refl }; given = refl; actor = refl; live = refl; made = refl; ended = refl }
+
 abbrev pub ran_join : (alone : Bool) (v : View) (es : List Event) (w : View) (fs : List Event) (u : View) → Ran alone v es w → Ran alone w fs u → Ran alone v (es ++ fs) u
 ran_join alone v es w fs u a b = record {
   more = a.more ++ b.more;
@@ -53,6 +57,7 @@ ran_join alone v es w fs u a b = record {
   own = λ n. by_append v.actor a.more b.more ∙ ((λ i. a.own n i ++ by v.actor b.more) ∙ ap (λ z. es ++ z) (ap (λ z. by z b.more) (sym a.actor) ∙ b.own n));
   all = λ y. (λ i. a.all y i ++ b.all y i);
   part = λ n. sync_append a.more b.more (a.part n) (b.part n);
+  since = stepped_then a.since b.since;
   given = b.given ∙ a.given;
   actor = b.actor ∙ a.actor;
   live = b.live ∙ a.live;
@@ -170,13 +175,14 @@ pub record Cut (alone : Bool) (v : View) (e : Event) (es : List Event) (u : View
 pub cut : (alone : Bool) (v u : View) (e : Event) (es : List Event) → (r : Ran alone v (e ∷ es) u) → Cut alone v e es u r.more
 cut true v u e es r = record {
   mid = onward v (e ∷ []);
-  first = record { more = e ∷ []; seen = refl; own = λ n. absurd (true≢false n); all = λ _. refl; part = λ n. absurd (true≢false n); given = refl; actor = refl; live = refl; made = refl; ended = refl };
+  first = record { more = e ∷ []; seen = refl; own = λ n. absurd (true≢false n); all = λ _. refl; part = λ n. absurd (true≢false n); since = record { acts = []; steps = refl }; given = refl; actor = refl; live = refl; made = refl; ended = refl };
   last = record {
     more = es;
     seen = r.seen ∙ (ap (λ x. v.seen ++ x) (r.all refl) ∙ sym (append_assoc v.seen (e ∷ []) es));
     own = λ n. absurd (true≢false n);
     all = λ _. refl;
     part = λ n. absurd (true≢false n);
+    since = record { acts = r.since.acts; steps = r.since.steps };
     given = r.given;
     actor = r.actor;
     live = r.live;
@@ -198,6 +204,7 @@ cut false v u e es r =
         own = λ _. by_append v.actor f.before (e ∷ []) ∙ (λ i. f.first i ++ f.own i);
         all = λ n. absurd (true≢false (sym n));
         part = λ _. sync_append f.before (e ∷ []) s.0 s.1.0;
+        since = record { acts = []; steps = refl };
         given = refl;
         actor = refl;
         live = refl;
@@ -210,6 +217,7 @@ cut false v u e es r =
         own = λ _. f.last;
         all = λ n. absurd (true≢false (sym n));
         part = λ _. s.1.1;
+        since = record { acts = r.since.acts; steps = r.since.steps };
         given = r.given;
         actor = r.actor;
         live = r.live;

@@ -12,6 +12,7 @@ use Rattle.rows_trait.specs.Causes.{Finds, HasFound, HasMoved, IsLatched, OnlyLo
 use Rattle.rows_trait.specs.Turns.{Ran, Released}
 use Rattle.rows_trait.specs.Views.{Shape, hold, held_at, holds, latest, state}
 use Rattle.rows_trait.specs.declared.view.Hold.{Hold}
+use Rattle.rows_trait.proofs.Causes.{finds_newer, finds_older}
 use Rattle.rows_trait.proofs.Runs.{ran_none}
 use Rattle.version_latch.specs.declared.glimpse.Moved.{Moved}
 use Rattle.version_latch.specs.declared.glimpse.Latched.{Latched}
@@ -38,7 +39,6 @@ use Rattle.page_provider.proofs.Loaded.{found_loaded, loads_unset}
 pub as_took : {z : Shape} {s : Sight} {v w : View} → HasTaken z s v w → Took z s.glimpse.row v w
 as_took {s = s} {w = w} t = record {
   ran = t.ran;
-  since = record { acts = Set s.glimpse.row (s.glimpse.version + 1) ∷ Look s.glimpse.row s.glimpse.version w.seen ∷ []; steps = t.taken.steps };
   version = s.glimpse.version;
   was = t.taken.was;
   held = t.taken.held;
@@ -134,26 +134,7 @@ spent_missed {alone = alone} {u = u} is = record { events = []; ran = subst (λ 
 
 -- ## What was loaded by then
 
-older_finds : (row n : ℕ) (ss ts : List Act) → Finds row n ts → Finds row n (ss ++ ts)
-older_finds row n [] ts h = h
-older_finds row n (Look q m at ∷ ss) ts h = inr (older_finds row n ss ts h)
-older_finds row n (Load q i m ∷ ss) ts h = older_finds row n ss ts h
-older_finds row n (Store q i m ∷ ss) ts h = older_finds row n ss ts h
-older_finds row n (Set q m ∷ ss) ts h = older_finds row n ss ts h
-older_finds row n (Hear c j m ∷ ss) ts h = older_finds row n ss ts h
-older_finds row n (Turn c j m ∷ ss) ts h = older_finds row n ss ts h
-
-pub newer_finds : (row n : ℕ) (ss ts : List Act) → Finds row n ss → Finds row n (ss ++ ts)
-newer_finds row n [] ts h = absurd h
-newer_finds row n (Look q m at ∷ ss) ts (inl t) = inl t
-newer_finds row n (Look q m at ∷ ss) ts (inr t) = inr (newer_finds row n ss ts t)
-newer_finds row n (Load q i m ∷ ss) ts h = newer_finds row n ss ts h
-newer_finds row n (Store q i m ∷ ss) ts h = newer_finds row n ss ts h
-newer_finds row n (Set q m ∷ ss) ts h = newer_finds row n ss ts h
-newer_finds row n (Hear c j m ∷ ss) ts h = newer_finds row n ss ts h
-newer_finds row n (Turn c j m ∷ ss) ts h = newer_finds row n ss ts h
-
-pub unset_append : (row : ℕ) (ss ts : List Act) → NoSet row ss → NoSet row ts → NoSet row (ss ++ ts)
+unset_append : (row : ℕ) (ss ts : List Act) → NoSet row ss → NoSet row ts → NoSet row (ss ++ ts)
 unset_append row [] ts a b = b
 unset_append row (Look q m at ∷ ss) ts a b = unset_append row ss ts a b
 unset_append row (Load q i m ∷ ss) ts a b = unset_append row ss ts a b
@@ -175,10 +156,10 @@ module _ {z : Shape} {a : Sight} {from v u w x : View} (t : HasTaken z a v u) (o
       r.steps ∙ ap (λ ss. Set a.glimpse.row ((held_at w.held a.glimpse.row).version + 2) ∷ ss) (k.steps ∙ (ap (λ ss. k.acts ++ ss) first ∙ sym (append_assoc k.acts first_acts from.steps)))
 
   before_finds : (row n : ℕ) → Finds row n o.acts → Finds row n all_acts
-  before_finds row n h = older_finds row n k.acts first_acts (inr h)
+  before_finds row n h = finds_older row n k.acts first_acts (inr h)
 
   after_finds : (row n : ℕ) → Finds row n k.acts → Finds row n all_acts
-  after_finds row n h = newer_finds row n k.acts first_acts h
+  after_finds row n h = finds_newer row n k.acts first_acts h
 
   all_unset : (row : ℕ) → a.glimpse.row ≢ row → NoSet row all_acts
   all_unset row ne = (ne, unset_append row k.acts first_acts (loads_unset row k.acts k.loads) (ne, loads_unset row o.acts o.loads))
@@ -192,10 +173,10 @@ module _ {z : Shape} {a : Sight} {from v u w x : View} (t : HasTaken z a v u) (o
   loaded_after row n h = record { acts = all_acts; steps = all_steps; finds = after_finds row n h }
 
   pub moved_over : (row seen found : ℕ) → a.glimpse.row ≢ row → found ≢ seen → Finds row seen o.acts → Finds row found k.acts → HasLoadedTwo row seen found from x
-  moved_over row seen found ne unequal f l = record { unequal = unequal; acts = all_acts; steps = all_steps; first = before_finds row seen f; last = after_finds row found l; unset = all_unset row ne }
+  moved_over row seen found ne unequal f l = record { unequal = unequal; early = []; acts = all_acts; steps = all_steps; first = before_finds row seen f; last = after_finds row found l; unset = all_unset row ne }
 
   pub moved_after : (row seen found : ℕ) → a.glimpse.row ≢ row → found ≢ seen → Finds row seen k.acts → Finds row found k.acts → HasLoadedTwo row seen found from x
-  moved_after row seen found ne unequal f l = record { unequal = unequal; acts = all_acts; steps = all_steps; first = after_finds row seen f; last = after_finds row found l; unset = all_unset row ne }
+  moved_after row seen found ne unequal f l = record { unequal = unequal; early = []; acts = all_acts; steps = all_steps; first = after_finds row seen f; last = after_finds row found l; unset = all_unset row ne }
 
 -- ## Why a row was not latched
 

@@ -1,12 +1,11 @@
 -- What a call has done so far, and how its parts join.
-use Rattle.std.proofs.Common.{◌≡◌, ◌≤◌, ◌+◌, ◌||◌, ℕ, Bool, true, false, List, [], ◌∷◌, ◌++◌, length, refl, sym, ap, subst, ◌∙◌, arith, true≢false}
+use Rattle.std.proofs.Common.{◌≡◌, ◌≤◌, ◌+◌, ◌||◌, ℕ, Bool, true, false, List, [], ◌∷◌, ◌++◌, length, refl, sym, ap, subst, ◌∙◌, arith}
 use Rattle.core_state.specs.Needs.{is_dirty}
 use Rattle.row_words.specs.declared.event.Event.{Event}
 use Rattle.row_words.specs.declared.event.Event.TheVariants as told
 use Rattle.rows_trait.specs.declared.view.View.{View}
 use Rattle.rows_trait.specs.Views.{Shape, state}
 use Rattle.rows_trait.specs.Turns.{Ran}
-use Rattle.rows_trait.proofs.Runs.{ran_none}
 use Rattle.held_rows.specs.Steps.{MissedUpTo}
 use Rattle.page_provider.specs.declared.refusal.Refusal.{Refusal}
 use Rattle.page_provider.specs.declared.refusal.Refusal.TheVariants as refusal
@@ -18,11 +17,12 @@ use Rattle.page_provider.specs.Inside.{MayGo, Missed}
 use Rattle.page_provider.specs.Laws.{RowLaws}
 use Rattle.page_provider.specs.Moves.{AreMet, AreTicked, IsSame, KeepsPath, Moved, Rested, is_pagers, others_in}
 use Rattle.page_provider.specs.Providers.{Provider, Keeps}
-use Rattle.page_provider.specs.Refusals.{IsOfRow, IsRefused, breaks}
+use Rattle.page_provider.specs.Refusals.{Caused, IsOfRow, breaks}
 use Rattle.page_provider.specs.Steps.{AreMisses}
 use Rattle.page_provider.proofs.Easing.{AreResting, Eased, eased_path, eased_rested, eased_stood, eased_then, evict_eases, evict_ran, save_clean, save_eases, save_goes, save_keeps, save_ran}
-use Rattle.page_provider.proofs.Joins.{Cut, cut, few_misses, held_misses, met_cut, met_misses, met_then, misses_others, misses_pagers, misses_ticked, others_append, pagers_append, ran_join, ticked_append}
+use Rattle.page_provider.proofs.Joins.{Cut, cut, few_misses, held_misses, met_cut, met_misses, met_then, misses_others, misses_pagers, misses_ticked, others_append, pagers_append, ran_join, ran_still, ticked_append}
 use Rattle.page_provider.proofs.Keeping.{keeps_ran, ran_stood}
+use Rattle.page_provider.proofs.Loaded.{caused_before}
 
 -- ## One after another
 
@@ -36,7 +36,7 @@ pub moved_none : {z : Shape} {v : View} {k : Provider} → Keeps z v k → v.hel
 moved_none {z = z} {v = v} c none = record {
   events = [];
   goes = record {
-    ran = record { more = []; seen = sym (Rattle.std.proofs.Common.append-nil v.seen); own = λ n. refl; all = λ y. refl; part = λ n. tt; given = refl; actor = refl; live = refl; made = refl; ended = refl };
+    ran = ran_still z.alone v;
     held = none;
     keeps = c;
   };
@@ -125,21 +125,21 @@ misses_moved {z = z} {v = v} {u = u} laws c none es m few r = record {
   same = same_none;
 }
 
--- a part that had done nothing was stopped, since some view of the call
-stopped_refused : {n : ℕ} {z : Shape} {path : List ℕ} {v u : View} {k : Provider} {why : Refusal} → RowLaws → Keeps z v k → Stopped n z v why u → IsRefused z v why u → HasRefused n z path v k why u k
-stopped_refused {z = z} {path = path} {v = v} {u = u} {k = k} {why = why} laws c s refused =
+-- a part that had done nothing was stopped
+stopped_refused : {n : ℕ} {z : Shape} {path : List ℕ} {v u : View} {k : Provider} {why : Refusal} → RowLaws → Keeps z v k → Stopped n z v why u → Caused v why u → HasRefused n z path v k why u k
+stopped_refused {z = z} {path = path} {v = v} {u = u} {k = k} {why = why} laws c s cause =
     let m = held_misses s.missed.events s.missed.misses in
     record {
       moved = misses_moved laws c s.held s.missed.events m s.missed.few s.missed.ran;
       keeps = eased_path v u path (eased_stood (ran_stood laws.stood c m s.missed.ran));
       broken = or_false k.broken ∙ ap (λ b. k.broken || b) (sym (row_well why s.kind).0);
-      refused = refused;
+      cause = cause;
       quiet = s.quiet;
       earlier = λ e. absurd ((row_well why s.kind).1 e);
     }
 
 pub halts_refused : {n : ℕ} {z : Shape} {path : List ℕ} {v u : View} {k : Provider} {why : Refusal} → RowLaws → Keeps z v k → v.held ≡ [] → Halts n z v why u → HasRefused n z path v k why u k
-halts_refused {z = z} {v = v} laws c none h = stopped_refused laws c h.stopped (record { at = v; events = []; came = ran_none z.alone v; cause = h.cause })
+halts_refused laws c none h = stopped_refused laws c h.stopped h.cause
 
 refused_hand : {n : ℕ} {z : Shape} {path : List ℕ} {v u : View} {a k : Provider} {why : Refusal} (hand : ℕ) → HasRefused n z path v a why u k → HasRefused n z path v a why u (record k { hand = hand })
 refused_hand hand h =
@@ -156,13 +156,13 @@ refused_hand hand h =
       };
       keeps = h.keeps;
       broken = h.broken;
-      refused = h.refused;
+      cause = h.cause;
       quiet = h.quiet;
       earlier = h.earlier;
     }
 
 pub stalls_refused : {n : ℕ} {z : Shape} {path : List ℕ} {v u : View} {k is : Provider} {why : Refusal} → RowLaws → Keeps z v k → v.held ≡ [] → Stalls n z v k why u is → HasRefused n z path v k why u is
-stalls_refused {n = n} {z = z} {path = path} {v = v} {u = u} {k = k} {is = is} {why = why} laws c none s = subst (λ (p : Provider). HasRefused n z path v k why u p) (sym s.memory) (refused_hand is.hand (stopped_refused laws c s.stopped s.refused))
+stalls_refused {n = n} {z = z} {path = path} {v = v} {u = u} {k = k} {is = is} {why = why} laws c none s = subst (λ (p : Provider). HasRefused n z path v k why u p) (sym s.memory) (refused_hand is.hand (stopped_refused laws c s.stopped s.cause))
 
 -- a part was refused behind others
 pub refused_then : {m n : ℕ} {z : Shape} {path : List ℕ} {v u w : View} {a b c : Provider} {why : Refusal} → Moved m z v a u b → KeepsPath path v u → b.broken ≡ a.broken → HasRefused n z path u b why w c → HasRefused (m + n) z path v a why w c
@@ -170,13 +170,13 @@ refused_then {z = z} {path = path} {v = v} {u = u} {w = w} {why = why} x k well 
   moved = moved_then x r.moved;
   keeps = path_then path v u w k r.keeps;
   broken = r.broken ∙ ap (λ b. b || breaks why) well;
-  refused = record { at = r.refused.at; events = x.events ++ r.refused.events; came = ran_join z.alone v x.events u r.refused.events r.refused.at x.goes.ran r.refused.came; cause = r.refused.cause };
+  cause = caused_before w why x.goes.ran.since r.cause;
   quiet = r.quiet;
   earlier = λ e. sym well ∙ r.earlier e;
 }
 
 pub refused_up : {m n : ℕ} {z : Shape} {path : List ℕ} {v u : View} {a b : Provider} {why : Refusal} → m ≤ n → HasRefused m z path v a why u b → HasRefused n z path v a why u b
-refused_up le r = record { moved = moved_up le r.moved; keeps = r.keeps; broken = r.broken; refused = r.refused; quiet = r.quiet; earlier = r.earlier }
+refused_up le r = record { moved = moved_up le r.moved; keeps = r.keeps; broken = r.broken; cause = r.cause; quiet = r.quiet; earlier = r.earlier }
 
 -- ## Evictions
 
@@ -266,7 +266,7 @@ stayed_refused {v = v} {u = u} {page = page} {path = path} laws c none m h =
       };
       keeps = eased_path v u path g.eased;
       broken = h.broken;
-      refused = h.refused;
+      cause = h.cause;
       quiet = h.quiet;
       earlier = h.earlier;
     }

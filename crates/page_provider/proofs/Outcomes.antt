@@ -12,7 +12,6 @@ use Rattle.row_words.specs.declared.event.Event.TheVariants.{Evict, Save}
 use Rattle.row_words.specs.Moments.{pager}
 use Rattle.row_words.specs.Openings.{opening}
 use Rattle.rows_trait.specs.declared.view.View.{View}
-use Rattle.rows_trait.specs.Causes.{OnlyLoads}
 use Rattle.rows_trait.specs.Turns.{Ran}
 use Rattle.rows_trait.specs.Views.{Shape, may, state}
 use Rattle.rows_trait.proofs.Runs.{ran_append, ran_none}
@@ -25,12 +24,12 @@ use Rattle.page_provider.specs.Evicts.{HasStayed, saving}
 use Rattle.page_provider.specs.Inside.{IsEntered, MayGo, Missed}
 use Rattle.page_provider.specs.Laws.{RowLaws}
 use Rattle.page_provider.specs.Providers.{Provider, Keeps, pool}
-use Rattle.page_provider.specs.Refusals.{Caused, IsOfEvict, IsOfRow, IsRefused, SpentAt, breaks}
+use Rattle.page_provider.specs.Refusals.{IsOfEvict, IsOfRow, SpentAt, breaks}
 use Rattle.page_provider.specs.Steps.{AreMisses, IsMissAtMost}
 use Rattle.page_provider.proofs.Departures.{evict_met, go_on, low_on, page_on, save_met}
+use Rattle.page_provider.proofs.Loaded.{caused_before, spent_before}
 use Rattle.page_provider.proofs.Keeping.{keeps_ran, keeps_slots, plays, ran_stood}
 use Rattle.page_provider.proofs.Pools.{found_entry, found_long, found_some}
-use Rattle.page_provider.proofs.Sightings.{caused_before, spent_before}
 
 -- ## Refusals
 
@@ -67,8 +66,8 @@ or_true true = refl
 or_true false = refl
 
 -- a row of the call was not as it has to be
-pub stayed_missed : {z : Shape} {v u w : View} {k : Provider} {page f : ℕ} {why : Refusal} → RowLaws → Keeps z v k → v.held ≡ [] → Ran z.alone v [] u → OnlyLoads v u → u.held ≡ [] → frame_of ((state v).core.place page) ≡ f → Missed z u why w → SpentAt f u why w → HasStayed z v k page why w k
-stayed_missed {z = z} {v = v} {u = u} {w = w} {k = k} {why = why} laws c none r loads free frame m spent = record {
+pub stayed_missed : {z : Shape} {v u w : View} {k : Provider} {page f : ℕ} {why : Refusal} → RowLaws → Keeps z v k → v.held ≡ [] → Ran z.alone v [] u → u.held ≡ [] → frame_of ((state v).core.place page) ≡ f → Missed z u why w → SpentAt f u why w → HasStayed z v k page why w k
+stayed_missed {z = z} {v = v} {u = u} {w = w} {k = k} {why = why} laws c none r free frame m spent = record {
   saved = false;
   misses = m.misses;
   few = m.few;
@@ -77,9 +76,8 @@ stayed_missed {z = z} {v = v} {u = u} {w = w} {k = k} {why = why} laws c none r 
   pool = refl;
   broken = subst (λ b. k.broken ≡ (k.broken || b)) (sym (row_breaks why m.kind)) (or_false k.broken);
   kind = row_evict why m.kind;
-  refused = record { at = v; events = []; came = ran_none z.alone v; cause = caused_before w why loads m.cause };
-  since = λ _. refl;
-  spent = spent_before w why (sym frame) loads spent;
+  cause = caused_before w why r.since m.cause;
+  spent = spent_before w why (sym frame) r.since spent;
   quiet = λ alone o. m.quiet alone free o;
   earlier = λ e. absurd ((row_other why m.kind).0 e);
 }
@@ -98,8 +96,7 @@ stayed_failed {z = z} {v = v} {w = w} {k = k} {es = es} laws slots c few r none 
   pool = refl;
   broken = or_true k.broken;
   kind = tt;
-  refused = record { at = v; events = []; came = ran_none z.alone v; cause = tt };
-  since = λ _. refl;
+  cause = tt;
   spent = tt;
   quiet = λ alone o. o;
   earlier = λ e. absurd (cc);
@@ -116,44 +113,29 @@ stayed_broken {z = z} {v = v} {k = k} c none well = record {
   pool = refl;
   broken = or_false k.broken;
   kind = tt;
-  refused = record { at = v; events = []; came = ran_none z.alone v; cause = tt };
-  since = λ _. refl;
+  cause = tt;
   spent = tt;
   quiet = λ alone o. o;
   earlier = λ e. well;
 }
 
--- a part of the call refused, before which rows were only looked at
-pub stayed_after : {z : Shape} {v u w : View} {k is : Provider} {page : ℕ} {why : Refusal} → Ran z.alone v [] u → OnlyLoads v u → is_dirty (state u).core page ≡ is_dirty (state v).core page → frame_of ((state u).core.place page) ≡ frame_of ((state v).core.place page)
+-- a part of the call refused, before which nothing was appended
+pub stayed_after : {z : Shape} {v u w : View} {k is : Provider} {page : ℕ} {why : Refusal} → Ran z.alone v [] u → is_dirty (state u).core page ≡ is_dirty (state v).core page → frame_of ((state u).core.place page) ≡ frame_of ((state v).core.place page)
     → HasStayed z u k page why w is → HasStayed z v k page why w is
-stayed_after {z = z} {v = v} {u = u} {w = w} {k = k} {is = is} {page = page} {why = why} r loads same frame s = go s.saved refl
-  where
-    at_first : s.refused.at ≡ u → IsRefused z v why w
-    at_first e = record { at = v; events = []; came = ran_none z.alone v; cause = caused_before w why loads (subst (λ (y : View). Caused y why w) e s.refused.cause) }
-
-    later : IsRefused z v why w
-    later = record { at = s.refused.at; events = s.refused.events; came = ran_append z.alone v [] u s.refused.events s.refused.at r s.refused.came; cause = s.refused.cause }
-
-    with_cause : (q : IsRefused z v why w) → (s.saved ≡ false → q.at ≡ v) → SpentAt (frame_of ((state v).core.place page)) q.at why w → HasStayed z v k page why w is
-    with_cause q since spent = record {
-      saved = s.saved;
-      misses = s.misses;
-      few = s.few;
-      goes = record { ran = ran_append z.alone v [] u (saving s.saved page ++ s.misses) w r s.goes.ran; held = s.goes.held; keeps = s.goes.keeps };
-      dirty = λ e. sym same ∙ s.dirty e;
-      pool = s.pool;
-      broken = s.broken;
-      kind = s.kind;
-      refused = q;
-      since = since;
-      spent = spent;
-      quiet = s.quiet;
-      earlier = s.earlier;
-    }
-
-    go : (b : Bool) → s.saved ≡ b → HasStayed z v k page why w is
-    go true e = with_cause later (λ n. absurd (true≢false (sym e ∙ n))) (subst (λ f. SpentAt f s.refused.at why w) frame s.spent)
-    go false e = with_cause (at_first (s.since e)) (λ _. refl) (spent_before w why frame loads (subst (λ (y : View). SpentAt (frame_of ((state u).core.place page)) y why w) (s.since e) s.spent))
+stayed_after {z = z} {v = v} {u = u} {w = w} {page = page} {why = why} r same frame s = record {
+  saved = s.saved;
+  misses = s.misses;
+  few = s.few;
+  goes = record { ran = ran_append z.alone v [] u (saving s.saved page ++ s.misses) w r s.goes.ran; held = s.goes.held; keeps = s.goes.keeps };
+  dirty = λ e. sym same ∙ s.dirty e;
+  pool = s.pool;
+  broken = s.broken;
+  kind = s.kind;
+  cause = caused_before w why r.since s.cause;
+  spent = spent_before w why frame r.since s.spent;
+  quiet = s.quiet;
+  earlier = s.earlier;
+}
 
 -- a part of the call refused, before which the page was saved
 pub stayed_saved : {z : Shape} {v u w : View} {was k : Provider} {page : ℕ} {why : Refusal} → Ran z.alone v (Save page ∷ []) u → is_dirty (state v).core page ≡ true → is_dirty (state u).core page ≡ false
@@ -172,9 +154,8 @@ stayed_saved {z = z} {v = v} {u = u} {w = w} {was = was} {k = k} {page = page} {
       pool = pool ∙ ap (λ b. record was { slots = k.slots; broken = b }) (sym (ap (λ (p : Provider). p.broken) pool));
       broken = s.broken ∙ ap (λ b. b || breaks why) (ap (λ (p : Provider). p.broken) pool);
       kind = s.kind;
-      refused = record { at = s.refused.at; events = Save page ∷ s.refused.events; came = ran_append z.alone v (Save page ∷ []) u s.refused.events s.refused.at r s.refused.came; cause = s.refused.cause };
-      since = λ n. absurd (true≢false n);
-      spent = subst (λ f. SpentAt f s.refused.at why w) frame s.spent;
+      cause = caused_before w why r.since s.cause;
+      spent = spent_before w why frame r.since s.spent;
       quiet = s.quiet;
       earlier = λ q. sym (ap (λ (p : Provider). p.broken) pool) ∙ s.earlier q;
     }

@@ -8,7 +8,6 @@ use Rattle.lean_disk.specs.Faults.{HasCause}
 use Rattle.lean_disk.specs.Story.{IsLawful, Story}
 use Rattle.row_words.specs.Openings.{opening}
 use Rattle.rows_trait.specs.declared.view.View.{View}
-use Rattle.rows_trait.specs.Causes.{OnlyLoads}
 use Rattle.rows_trait.specs.Turns.{Ran}
 use Rattle.rows_trait.specs.Views.{Shape, state}
 use Rattle.page_provider.specs.declared.refusal.Refusal.{Refusal}
@@ -27,7 +26,6 @@ use Rattle.page_provider.proofs.Writing.{disked_misses}
 -- what is known once it was seen whether the page is dirty
 pub record Seen (z : Shape) (v u : View) (k : Provider) (entry : Cooling) (page : ℕ) (dirty : Bool) : Type 0 where
   pub ran : Ran z.alone v [] u
-  pub loads : OnlyLoads v u
   pub keeps : Keeps z u k
   pub entered : IsEntered u k entry
   pub low : ((state u).core.page entry.page).gsn ≤ flushed_by_all (opening u.given) (state u).core
@@ -42,7 +40,6 @@ seen {z = z} {v = v} {u = u} {k = k} {entry = entry} {page = page} {dirty = dirt
     let is : is_dirty (state u).core entry.page ≡ dirty = sym (j.says entry.page e2.goes.below (entry_frame there e2)) in
     record {
       ran = j.ran;
-      loads = j.loads;
       keeps = there;
       entered = e2;
       low = low_ran laws c none e.goes j.ran (subst (λ p. ((state v).core.page p).gsn ≤ flushed_by_all (opening v.given) (state v).core) (sym same) m.low);
@@ -59,7 +56,7 @@ keeps_shape {v = v} {k = k} same c = subst (λ s. Keeps s v k) (sym same) c
 module _ {z y : Shape} {v u w : View} {k is : Provider} {entry : Cooling} {page : ℕ} {dirty : Bool} (s : Seen z v u k entry page dirty) (same : entry.page ≡ page) (shape : y ≡ z) where
   -- of a save, or of a leave with no save before it
   pub first_stayed : {why : Refusal} → HasStayed y u k entry.page why w is → HasStayed z v k page why w is
-  first_stayed {why} h = stayed_after s.ran s.loads (ap (λ p. is_dirty (state u).core p) (sym same) ∙ (s.now ∙ sym s.before)) (frame_is s.keeps s.entered same ∙ sym s.frame) (subst (λ (q : Shape × ℕ). HasStayed q.0 u k q.1 why w is) (λ i. (shape i, same i)) h)
+  first_stayed {why} h = stayed_after s.ran (ap (λ p. is_dirty (state u).core p) (sym same) ∙ (s.now ∙ sym s.before)) (frame_is s.keeps s.entered same ∙ sym s.frame) (subst (λ (q : Shape × ℕ). HasStayed q.0 u k q.1 why w is) (λ i. (shape i, same i)) h)
 
   -- of a dirty page, which has left
   pub cleared_left : dirty ≡ true → HasCleared y u k entry w is → HasLeft z v k page w is

@@ -132,7 +132,7 @@ room_full {z = z} {v = v} {u = u} {was = was} {k = k} held (refusal.PoolFull on 
   moved = moved_up (let few : 0 ≤ 3 = omega arith in few) h.moved;
   keeps = h.keeps;
   broken = ap (λ (p : Provider). p.broken) h.memory ∙ or_false was.broken;
-  refused = record { at = u; events = h.moved.events; came = h.moved.goes.ran; cause = tt };
+  cause = tt;
   quiet = λ alone o. o;
   earlier = λ e. absurd (cc);
 }

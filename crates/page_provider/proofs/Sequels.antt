@@ -73,7 +73,7 @@ pub sequels : RowLaws → EverySequel
 sequels laws = record {
   rest = λ z v u k c none free r. moved_ran laws c none r (free ∙ sym none);
   moved = λ m n most z v u w a b c few x y. moved_up few (moved_then x y);
-  refused = λ m n most z path v u w a b c why few x same r. refused_up few (refused_then x (λ f p h. absurd h) same (record { moved = r.moved; keeps = λ f p h. absurd h; broken = r.broken; refused = r.refused; quiet = r.quiet; earlier = r.earlier }));
+  refused = λ m n most z path v u w a b c why few x same r. refused_up few (refused_then x (λ f p h. absurd h) same (record { moved = r.moved; keeps = λ f p h. absurd h; broken = r.broken; cause = r.cause; quiet = r.quiet; earlier = r.earlier }));
   pages = pages_same;
 }
 

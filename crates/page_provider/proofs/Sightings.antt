@@ -1,5 +1,5 @@
 -- What the pager finds in frames without a latch, over several looks.
-use Rattle.std.proofs.Common.{◌≡◌, ◌≢◌, ◌<◌, ◌≤◌, ◌+◌, inl, inr, ℕ, suc, Bool, true, false, List, [], ◌∷◌, ◌++◌, length, Option, Some, None, append-nil, append_assoc, refl, sym, ap, subst, ◌∙◌, arith, below_more, true≢false}
+use Rattle.std.proofs.Common.{◌≡◌, ◌≢◌, ◌<◌, ◌≤◌, ◌+◌, ℕ, suc, Bool, true, false, List, [], ◌∷◌, ◌++◌, length, Option, Some, None, append-nil, refl, sym, ap, subst, ◌∙◌, arith, below_more, true≢false}
 use Rattle.std.proofs.lemmas.Bool.{eq-eqb, eqb-true}
 use Rattle.page_model.specs.Check.{names_page}
 use Rattle.page_model.specs.Nodes.{Format, Node, WellFormed}
@@ -11,10 +11,8 @@ use Rattle.row_words.specs.Openings.{opening}
 use Rattle.row_words.specs.Words.{framed, is_inner}
 use Rattle.row_words.specs.declared.event.Event.TheVariants.{Miss}
 use Rattle.row_words.specs.declared.given.Given.{Given}
-use Rattle.rows_trait.specs.declared.view.Act.{Act}
-use Rattle.rows_trait.specs.declared.view.Act.TheVariants.{Look, Load, Store, Set, Hear, Turn}
 use Rattle.rows_trait.specs.declared.view.View.{View}
-use Rattle.rows_trait.specs.Causes.{Finds, HasFound, OnlyLoads}
+use Rattle.rows_trait.specs.Causes.{HasFound}
 use Rattle.rows_trait.specs.Turns.{Ran}
 use Rattle.rows_trait.specs.Views.{Shape, after_all, latest, may, state}
 use Rattle.rows_trait.proofs.Causes.{found_before}
@@ -38,9 +36,8 @@ use Rattle.page_provider.specs.declared.refusal.Refusal.TheVariants as refusal
 use Rattle.page_provider.specs.Cools.{Hangs}
 use Rattle.page_provider.specs.Finds.{Candidate, HasCandidate, HasNaming, IsChildless, Naming, NoneNames}
 use Rattle.page_provider.specs.Inside.{Missed}
-use Rattle.page_provider.specs.Refusals.{Caused, HasLoaded, NoSet, SpentAt}
 use Rattle.page_provider.proofs.Keeping.{plays}
-use Rattle.page_provider.proofs.Loaded.{latched_loaded, loads_unset, moved_loaded}
+use Rattle.page_provider.proofs.Loaded.{caused_before, latched_loaded, moved_loaded}
 use Rattle.page_provider.proofs.Standing.{ran_state}
 
 -- ## A look that was refused
@@ -54,53 +51,6 @@ module _ {z : Shape} {v w : View} where
 
 -- ## Several looks
 
-finds_newer : (row n : ℕ) (ss ts : List Act) → Finds row n ss → Finds row n (ss ++ ts)
-finds_newer row n [] ts h = absurd h
-finds_newer row n (Look q m at ∷ ss) ts (inl t) = inl t
-finds_newer row n (Look q m at ∷ ss) ts (inr t) = inr (finds_newer row n ss ts t)
-finds_newer row n (Load q i m ∷ ss) ts h = finds_newer row n ss ts h
-finds_newer row n (Store q i m ∷ ss) ts h = finds_newer row n ss ts h
-finds_newer row n (Set q m ∷ ss) ts h = finds_newer row n ss ts h
-finds_newer row n (Hear c j m ∷ ss) ts h = finds_newer row n ss ts h
-finds_newer row n (Turn c j m ∷ ss) ts h = finds_newer row n ss ts h
-
-unset_append : (row : ℕ) (ss ts : List Act) → NoSet row ss → NoSet row ts → NoSet row (ss ++ ts)
-unset_append row [] ts a b = b
-unset_append row (Look q n at ∷ ss) ts a b = unset_append row ss ts a b
-unset_append row (Load q i n ∷ ss) ts a b = unset_append row ss ts a b
-unset_append row (Store q i n ∷ ss) ts a b = unset_append row ss ts a b
-unset_append row (Set q n ∷ ss) ts a b = (a.0, unset_append row ss ts a.1 b)
-unset_append row (Hear c j n ∷ ss) ts a b = unset_append row ss ts a b
-unset_append row (Turn c j n ∷ ss) ts a b = unset_append row ss ts a b
-
-steps_then : (acts : List Act) {v u : View} (w : View) → (l : OnlyLoads v u) → w.steps ≡ acts ++ u.steps → w.steps ≡ (acts ++ l.acts) ++ v.steps
-steps_then acts {v = v} w l e = e ∙ (ap (λ ss. acts ++ ss) l.steps ∙ sym (append_assoc acts l.acts v.steps))
-
-pub loaded_before : {row n : ℕ} {v u w : View} → OnlyLoads v u → HasLoaded row n u w → HasLoaded row n v w
-loaded_before {row = row} {n = n} {w = w} l h = record { acts = h.acts ++ l.acts; steps = steps_then h.acts w l h.steps; finds = finds_newer row n h.acts l.acts h.finds }
-
--- what was loaded since a later view was since an earlier one, if rows were only looked at in between
-pub caused_before : {v u : View} (w : View) (why : Refusal) → OnlyLoads v u → Caused u why w → Caused v why w
-caused_before w (refusal.Moved m) l h = record {
-  unequal = h.unequal;
-  acts = h.acts ++ l.acts;
-  steps = steps_then h.acts w l h.steps;
-  first = finds_newer m.row m.seen h.acts l.acts h.first;
-  last = finds_newer m.row m.found h.acts l.acts h.last;
-  unset = unset_append m.row h.acts l.acts h.unset (loads_unset m.row l.acts l.loads);
-}
-caused_before w (refusal.Latched x) l h = (h.0, loaded_before l h.1)
-caused_before w (refusal.RowSpent row) l (inl h) = inl (h.0, (h.1.0, h.1.1, loaded_before l h.1.2))
-caused_before w (refusal.RowSpent row) l (inr h) = inr h
-caused_before w _ l h = tt
-
--- and so it is of a row that was spent
-pub spent_before : {v u : View} {a b : ℕ} (w : View) (why : Refusal) → a ≡ b → OnlyLoads v u → SpentAt a u why w → SpentAt b v why w
-spent_before w (refusal.RowSpent row) e l h = (h.0 ∙ e, (h.1.0, (h.1.1.0, h.1.1.1, loaded_before l h.1.1.2)))
-spent_before w (refusal.Moved m) e l h = tt
-spent_before w (refusal.Latched x) e l h = tt
-spent_before w _ e l h = tt
-
 pub missed_before : {z y : Shape} {v u w : View} {why : Refusal} → y ≡ z → Watched z.alone v u → Missed y u why w → Missed z v why w
 missed_before {z = z} {v = v} {u = u} {w = w} {why = why} same k n =
     let m : Missed z u why w = subst (λ (s : Shape). Missed s u why w) same n in
@@ -110,7 +60,7 @@ missed_before {z = z} {v = v} {u = u} {w = w} {why = why} same k n =
       ran = ran_append z.alone v [] u m.misses w k.ran m.ran;
       held = m.held ∙ k.held;
       kind = m.kind;
-      cause = caused_before w why k.loads m.cause;
+      cause = caused_before w why k.ran.since m.cause;
       quiet = λ alone none other. m.quiet alone (k.held ∙ none) other;
     }
 

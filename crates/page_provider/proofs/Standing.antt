@@ -79,6 +79,7 @@ one_ran v es = record {
   own = λ n. absurd (true≢false n);
   all = λ _. refl;
   part = λ n. absurd (true≢false n);
+  since = record { acts = []; steps = refl };
   given = refl;
   actor = refl;
   live = refl;

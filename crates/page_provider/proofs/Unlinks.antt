@@ -1,5 +1,5 @@
 -- A node that cools: the pair above it, and what its call says.
-use Rattle.std.proofs.Common.{◌≡◌, ◌≢◌, ◌+◌, ◌<◌, ◌≤◌, ◌^◌, ◌==◌, ◌&&◌, ◌||◌, ltb, not, ℕ, suc, Bool, true, false, List, [], ◌∷◌, ◌++◌, length, inl, inr, None, append-nil, append_assoc, refl, sym, ap, subst, ◌∙◌, arith, true≢false}
+use Rattle.std.proofs.Common.{◌≡◌, ◌≢◌, ◌+◌, ◌<◌, ◌≤◌, ◌^◌, ◌==◌, ◌&&◌, ◌||◌, ltb, not, ℕ, suc, Bool, true, false, List, [], ◌∷◌, ◌++◌, length, inl, inr, None, append-nil, refl, sym, ap, subst, ◌∙◌, arith, true≢false}
 use Rattle.std.proofs.lemmas.Bool.{and_from, cases_eq, eq-eqb, lt-ltb}
 use Rattle.map_model.specs.Lists.{any, upd}
 use Rattle.map_model.proofs.ListLemmas.{upd_same, upd_other}
@@ -17,10 +17,9 @@ use Rattle.row_words.specs.Openings.{opening}
 use Rattle.row_words.specs.Words.{framed_page, is_inner}
 use Rattle.rows_trait.specs.declared.view.Act.{Act}
 use Rattle.rows_trait.specs.declared.view.View.{View}
-use Rattle.rows_trait.specs.Causes.{OnlyLoads}
 use Rattle.rows_trait.specs.Turns.{Ran}
 use Rattle.rows_trait.specs.Views.{Shape, after_all, held_at, state}
-use Rattle.rows_trait.proofs.Causes.{found_after, found_before}
+use Rattle.rows_trait.proofs.Causes.{found_after, found_before, stepped_loads}
 use Rattle.rows_trait.proofs.Runs.{ran_append}
 use Rattle.btree_descent.specs.Known.{Sound}
 use Rattle.held_rows.specs.Publishing.{Went}
@@ -36,17 +35,14 @@ use Rattle.cooling_stage.specs.Queue.{found}
 use Rattle.free_pages.specs.Pages.{is_in}
 use Rattle.page_moves.specs.Moves.{CanUnlink, HasLink}
 use Rattle.page_provider.specs.declared.refusal.Refusal.{Refusal}
-use Rattle.page_provider.specs.declared.refusal.Refusal.TheVariants as refusal
 use Rattle.page_provider.specs.Cools.{HasUnhooked, Idle, chilled}
 use Rattle.page_provider.specs.Finds.{IsChildless, IsSeen, NoneNames, SinceBoth, SinceFound, Stopped, TakesTwo}
 use Rattle.page_provider.specs.Inside.{Missed}
 use Rattle.page_provider.specs.Laws.{RowLaws}
 use Rattle.page_provider.specs.Providers.{Provider, Keeps}
-use Rattle.page_provider.specs.Refusals.{Caused, HasLoaded}
 use Rattle.page_provider.proofs.Chills.{MayChill, chill_absent, chill_met, chill_room, entry_in, fits_entry, has_unhooked, lived, met_others, node_may, none_ran, stands_later}
 use Rattle.page_provider.proofs.Keeping.{keeps_ran, ran_stood}
-use Rattle.page_provider.proofs.Latches.{newer_finds, unset_append}
-use Rattle.page_provider.proofs.Loaded.{loads_unset}
+use Rattle.page_provider.proofs.Loaded.{caused_before}
 use Rattle.page_provider.proofs.Outcomes.{is_pager}
 use Rattle.page_provider.proofs.Standing.{onward, ran_state}
 
@@ -72,29 +68,8 @@ seen_sight {s = s} {u = u} c i =
 
 -- ## Why it stopped
 
-loaded_from : {row n : ℕ} {from v u : View} → OnlyLoads from v → HasLoaded row n v u → HasLoaded row n from u
-loaded_from {row} {n} {from} o k = record {
-  acts = k.acts ++ o.acts;
-  steps = k.steps ∙ (ap (λ ss. k.acts ++ ss) o.steps ∙ sym (append_assoc k.acts o.acts from.steps));
-  finds = newer_finds row n k.acts o.acts k.finds;
-}
-
--- of what was loaded since an earlier view too
-pub caused_before : {from v : View} (u : View) → OnlyLoads from v → (why : Refusal) → Caused v why u → Caused from why u
-caused_before {from = from} u o (refusal.Moved m) k = record {
-  unequal = k.unequal;
-  acts = k.acts ++ o.acts;
-  steps = k.steps ∙ (ap (λ ss. k.acts ++ ss) o.steps ∙ sym (append_assoc k.acts o.acts from.steps));
-  first = newer_finds m.row m.seen k.acts o.acts k.first;
-  last = newer_finds m.row m.found k.acts o.acts k.last;
-  unset = unset_append m.row k.acts o.acts k.unset (loads_unset m.row o.acts o.loads);
-}
-caused_before u o (refusal.Latched l) k = (k.0, loaded_from o k.1)
-caused_before u o (refusal.RowSpent row) k = elim k [ inl x ↦ inl (x.0, (x.1.0, x.1.1, loaded_from o x.1.2)) | inr e ↦ inr e ]
-caused_before u o _ k = k
-
 pub missed_since : {z : Shape} {v u : View} {why : Refusal} (s : Sight) → Missed z v why u → SinceFound s v why u
-missed_since {u = u} {why = why} s m from f = caused_before u f.loads why m.cause
+missed_since {u = u} {why = why} s m from f = caused_before u why (stepped_loads f.loads) m.cause
 
 pub both_since : {alone : Bool} {v n : View} (w : View) (why : Refusal) (a s : Sight) → Watched alone v n → IsSight alone a.glimpse.row v a n → SinceBoth a s n why w → SinceFound s v why w
 both_since {v = v} {n = n} w why a s k i b from f = b from (found_before a.glimpse.row a.glimpse.version from v n f.loads i.found) (found_after s.glimpse.row s.glimpse.version from v n f k.loads)

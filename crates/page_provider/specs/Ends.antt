@@ -6,14 +6,14 @@ use Rattle.page_provider.specs.declared.refusal.Refusal.{Refusal}
 use Rattle.page_provider.specs.declared.refusal.Refusal.TheVariants as refusal
 use Rattle.page_provider.specs.Moves.{KeepsPath, Moved}
 use Rattle.page_provider.specs.Providers.{Provider}
-use Rattle.page_provider.specs.Refusals.{IsOthers, IsRefused, breaks}
+use Rattle.page_provider.specs.Refusals.{Caused, IsOthers, breaks}
 
--- Pages may have cooled and left by then, none of the path; what the call has loaded shows why it refuses; and the pager is broken where
--- it was, or the device or a page has failed it.
+-- Pages may have cooled and left by then, none of the path; what was loaded since the call began shows why it refuses; and the pager is
+-- broken where it was, or the device or a page has failed it.
 pub record HasRefused (most : ℕ) (z : Shape) (path : List ℕ) (v : View) (was : Provider) (why : Refusal) (u : View) (is : Provider) : Type 0 where
   pub moved : Moved most z v was u is
   pub keeps : KeepsPath path v u
   pub broken : is.broken ≡ (was.broken || breaks why)
-  pub refused : IsRefused z v why u
+  pub cause : Caused v why u
   pub quiet : z.alone ≡ true → IsOthers why → ⊥
   pub earlier : why ≡ refusal.Broken → was.broken ≡ true

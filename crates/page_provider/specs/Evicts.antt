@@ -11,7 +11,7 @@ use Rattle.cooling_stage.specs.Queue.{without}
 use Rattle.page_provider.specs.declared.refusal.Refusal.{Refusal}
 use Rattle.page_provider.specs.declared.refusal.Refusal.TheVariants as refusal
 use Rattle.page_provider.specs.Providers.{Provider}
-use Rattle.page_provider.specs.Refusals.{IsOfEvict, IsOthers, IsRefused, SpentAt, breaks}
+use Rattle.page_provider.specs.Refusals.{Caused, IsOfEvict, IsOthers, SpentAt, breaks}
 use Rattle.page_provider.specs.Steps.{Goes, IsMissAtMost}
 
 -- the page cools, waits for none of the workers, and its number is flushed everywhere
@@ -48,9 +48,7 @@ pub record HasStayed (z : Shape) (v : View) (was : Provider) (page : ℕ) (why :
   pub pool : is ≡ record was { slots = is.slots; broken = is.broken }
   pub broken : is.broken ≡ (was.broken || breaks why)
   pub kind : IsOfEvict why
-  pub refused : IsRefused z v why u
-  -- where it was not saved, why was loaded since the call began
-  pub since : saved ≡ false → refused.at ≡ v
-  pub spent : SpentAt (frame_of ((state v).core.place page)) refused.at why u
+  pub cause : Caused v why u
+  pub spent : SpentAt (frame_of ((state v).core.place page)) v why u
   pub quiet : z.alone ≡ true → IsOthers why → ⊥
   pub earlier : why ≡ refusal.Broken → was.broken ≡ true

@@ -19,7 +19,7 @@ use Rattle.row_image.specs.Sights.{HasNone, IsFirst, IsKnown, IsSight}
 use Rattle.page_provider.specs.declared.refusal.Refusal.{Refusal}
 use Rattle.page_provider.specs.Cools.{Hangs}
 use Rattle.page_provider.specs.Providers.{Provider}
-use Rattle.page_provider.specs.Refusals.{Caused, IsOfRow, IsOthers, IsRefused}
+use Rattle.page_provider.specs.Refusals.{Caused, IsOfRow, IsOthers}
 
 -- ## Sights
 
@@ -112,5 +112,5 @@ pub record Halts (most : ℕ) (z : Shape) (v : View) (why : Refusal) (u : View) 
 -- It stopped behind others that had done nothing: of the pager's memory the hand alone may have gone on.
 pub record Stalls (most : ℕ) (z : Shape) (v : View) (was : Provider) (why : Refusal) (u : View) (is : Provider) : Type 0 where
   pub stopped : Stopped most z v why u
-  pub refused : IsRefused z v why u
+  pub cause : Caused v why u
   pub memory : is ≡ record was { hand = is.hand }

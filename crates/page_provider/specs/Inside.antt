@@ -13,7 +13,6 @@ use Rattle.row_words.specs.declared.event.Event.TheVariants.{Evict, Save}
 use Rattle.row_words.specs.Openings.{opening}
 use Rattle.rows_trait.specs.declared.view.View.{View}
 use Rattle.rows_trait.specs.Views.{Shape, state}
-use Rattle.rows_trait.specs.Causes.{OnlyLoads}
 use Rattle.rows_trait.specs.Turns.{Ran}
 use Rattle.cooling_stage.specs.declared.stage.Cooling.{Cooling}
 use Rattle.cooling_stage.specs.Queue.{found}
@@ -47,7 +46,6 @@ pub record IsEntered (v : View) (k : Provider) (entry : Cooling) : Type 0 where
 -- Nothing was appended, and this says whether the page in the frame is dirty.
 pub record Judges (z : Shape) (v : View) (frame : ℕ) (dirty : Bool) (u : View) : Type 0 where
   pub ran : Ran z.alone v [] u
-  pub loads : OnlyLoads v u
   pub says : (p : ℕ) → p < (opening u.given).format.pages → in_frame ((state u).core.place p) frame ≡ true → dirty ≡ is_dirty (state u).core p
 
 -- Nothing was appended, and this is the number of the page in the frame.

@@ -1,13 +1,11 @@
 -- Why a call of the pager refused.
 use Rattle.std.specs.Prelude.{◌≡◌, ◌≢◌, ◌≤◌, ◌<◌, ◌^◌, ◌%◌, ◌⊎◌, ℕ, Bool, true, false, List, [], ◌∷◌, ◌++◌}
-use Rattle.row_words.specs.declared.event.Event.{Event}
 use Rattle.row_words.specs.Openings.{opening}
 use Rattle.rows_trait.specs.declared.view.View.{View}
-use Rattle.rows_trait.specs.Views.{Shape, state}
+use Rattle.rows_trait.specs.Views.{state}
 use Rattle.rows_trait.specs.Causes.{Finds}
 use Rattle.rows_trait.specs.declared.view.Act.{Act}
 use Rattle.rows_trait.specs.declared.view.Act.TheVariants.{Look, Load, Store, Set, Hear, Turn}
-use Rattle.rows_trait.specs.Turns.{Ran}
 use Rattle.page_provider.specs.declared.refusal.Refusal.{Refusal}
 use Rattle.page_provider.specs.declared.refusal.Refusal.TheVariants as refusal
 
@@ -29,11 +27,12 @@ pub record HasLoaded (row n : ℕ) (v u : View) : Type 0 where
   pub steps : u.steps ≡ acts ++ v.steps
   pub finds : Finds row n acts
 
--- it was loaded as two unequal numbers, and none was stored there
+-- At some time since the view it was loaded as two unequal numbers, and none was stored there meanwhile.
 pub record HasLoadedTwo (row seen found : ℕ) (v u : View) : Type 0 where
   pub unequal : found ≢ seen
+  pub early : List Act
   pub acts : List Act
-  pub steps : u.steps ≡ acts ++ v.steps
+  pub steps : u.steps ≡ acts ++ (early ++ v.steps)
   pub first : Finds row seen acts
   pub last : Finds row found acts
   pub unset : NoSet row acts
@@ -54,13 +53,6 @@ Caused v _ u = Unit {0}
 abbrev pub SpentAt : (row : ℕ) → View → Refusal → View → Type 0
 SpentAt row v (refusal.RowSpent q) u = (q ≡ row) × HasSpent v q u
 SpentAt row v _ u = Unit {0}
-
--- since some view of the call
-pub record IsRefused (z : Shape) (v : View) (why : Refusal) (u : View) : Type 0 where
-  pub at : View
-  pub events : List Event
-  pub came : Ran z.alone v events at
-  pub cause : Caused at why u
 
 -- never where nobody else steps
 abbrev pub IsOthers : Refusal → Type 0

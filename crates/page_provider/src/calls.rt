@@ -16,7 +16,7 @@ ghost use Rattle.page_provider.specs.Finds.{Halts};
 ghost use Rattle.page_provider.specs.Gives.{Gives};
 ghost use Rattle.page_provider.specs.Mirrored.{KeepsMirrored};
 ghost use Rattle.page_provider.specs.Providers.{Keeps};
-ghost use Rattle.page_provider.specs.Refusals.{Caused, IsOfRow};
+ghost use Rattle.page_provider.specs.Refusals.{IsOfRow};
 ghost use Rattle.page_provider.specs.declared.refusal.Refusal.TheVariants as refusal;
 
 use crate::finding::{naming, standing};
@@ -45,7 +45,6 @@ impl Pager {
         ensures fits { R.fits rows.new seat.new × (R.shape rows.new ≡ R.shape rows.old) }
         ensures ok { IfOk result (λ come. Faulted 4 (R.shape rows.old) path.now (R.view seat.old) self.old entry.page come (R.view seat.new) self.new) }
         ensures err { IfErr result (λ why. HasRefused 4 (R.shape rows.old) path.now (R.view seat.old) self.old why (R.view seat.new) self.new) }
-        ensures since { IfErr result (λ why. Caused (R.view seat.old) why (R.view seat.new)) }
         ensures kind { IfErr result IsOfRow }
         ensures unseen { IsUnseen (R.shape rows.old).alone (R.view seat.old) self.old (R.view seat.new) self.new }
         ensures astray { (R.shape rows.old).alone ≡ true → IsAstray (R.view seat.old) entry.page → result ≡ Ok None }
@@ -187,7 +186,6 @@ impl Pager {
         ensures fits { R.fits rows.new seat.new × (R.shape rows.new ≡ R.shape rows.old) }
         ensures ok { IfOk result (λ come. Faulted 4 (R.shape rows.old) path.now (R.view seat.old) self.old page come (R.view seat.new) self.new) }
         ensures err { IfErr result (λ why. HasRefused 4 (R.shape rows.old) path.now (R.view seat.old) self.old why (R.view seat.new) self.new) }
-        ensures since { is_cold ((state (R.view seat.old)).core.place page) ≡ false → IfErr result (λ why. Caused (R.view seat.old) why (R.view seat.new)) }
         ensures cause { IfErr result (FaultCause (R.shape rows.old) path.now self.old page (P.story dev.old) (R.view seat.new) self.new) }
         ensures disk { Disked (R.shape rows.old).alone self.old (R.view seat.old) self.new (R.view seat.new) (P.story dev.old) (P.story dev.new) }
         ensures mirrors { KeepsMirrored (R.view seat.old) self.old (R.view seat.new) self.new (P.story dev.old) (P.story dev.new) }
@@ -232,8 +230,6 @@ impl Pager {
         ensures fits { R.fits rows.new seat.new × (R.shape rows.new ≡ R.shape rows.old) }
         ensures ok { IfOk result (λ come. Faulted 4 (R.shape rows.old) path.now (R.view seat.old) self.old page come (R.view seat.new) self.new) }
         ensures err { IfErr result (λ why. HasRefused 4 (R.shape rows.old) path.now (R.view seat.old) self.old why (R.view seat.new) self.new) }
-        // Of a page that is not cold: why was loaded since the call began.
-        ensures since { is_cold ((state (R.view seat.old)).core.place page) ≡ false → IfErr result (λ why. Caused (R.view seat.old) why (R.view seat.new)) }
         ensures cause { IfErr result (FaultCause (R.shape rows.old) path.now self.old page (P.story dev.old) (R.view seat.new) self.new) }
         ensures disk { Disked (R.shape rows.old).alone self.old (R.view seat.old) self.new (R.view seat.new) (P.story dev.old) (P.story dev.new) }
         ensures mirrors { KeepsMirrored (R.view seat.old) self.old (R.view seat.new) self.new (P.story dev.old) (P.story dev.new) }
@@ -278,8 +274,6 @@ impl Pager {
         ensures fits { R.fits rows.new seat.new × (R.shape rows.new ≡ R.shape rows.old) }
         ensures ok { IfOk result (λ frame. HasPlaced 4 (R.shape rows.old) path.now (R.view seat.old) self.old page frame (R.view seat.new) self.new) }
         ensures err { IfErr result (λ why. HasRefused 4 (R.shape rows.old) path.now (R.view seat.old) self.old why (R.view seat.new) self.new) }
-        // Of a page that is not cold: why was loaded since the call began.
-        ensures since { is_cold ((state (R.view seat.old)).core.place page) ≡ false → IfErr result (λ why. Caused (R.view seat.old) why (R.view seat.new)) }
         ensures cause { IfErr result (FaultCause (R.shape rows.old) path.now self.old page (P.story dev.old) (R.view seat.new) self.new) }
         ensures disk { Disked (R.shape rows.old).alone self.old (R.view seat.old) self.new (R.view seat.new) (P.story dev.old) (P.story dev.new) }
         ensures mirrors { KeepsMirrored (R.view seat.old) self.old (R.view seat.new) self.new (P.story dev.old) (P.story dev.new) }

@@ -10,7 +10,6 @@ ghost use Rattle.page_provider.specs.Ends.{HasRefused};
 ghost use Rattle.page_provider.specs.Finds.{IsChildless, IsSeen, SinceFound, Stopped};
 ghost use Rattle.page_provider.specs.Mirrored.{SavesNone};
 ghost use Rattle.page_provider.specs.Providers.{Keeps};
-ghost use Rattle.page_provider.specs.Refusals.{Caused};
 ghost use Rattle.page_provider.specs.declared.refusal.Refusal.TheVariants as refusal;
 
 use crate::finding::{candidate, naming};
@@ -187,7 +186,6 @@ impl Pager {
         ensures fits { R.fits rows.new seat.new × (R.shape rows.new ≡ R.shape rows.old) }
         ensures ok { IfOk result (λ done. CoolsIn (R.shape rows.old) frame (R.view seat.old) self.old done (R.view seat.new) self.new) }
         ensures err { IfErr result (λ why. HasRefused 2 (R.shape rows.old) [] (R.view seat.old) self.old why (R.view seat.new) self.new) }
-        ensures since { IfErr result (λ why. Caused (R.view seat.old) why (R.view seat.new)) }
         ensures same { IfErr result (λ _. self.new ≡ self.old) }
         ensures unsaved { SavesNone (R.shape rows.old) (R.view seat.old) self.old (R.view seat.new) self.new }
         ensures device { result ≡ Err refusal.DiskFault → ⊥ }

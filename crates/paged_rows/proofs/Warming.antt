@@ -287,7 +287,7 @@ broken_to key seq p i b = let none = seq.rest p.shape p.view p.view p.pager i.ke
     moved = seq.moved 0 0 36 p.shape p.view p.view p.view p.pager p.pager p.pager (omega arith) none none;
     keeps = λ f q h. absurd h;
     broken = sym (or_false p.pager.broken);
-    refused = record { at = p.view; events = []; came = ran_none p.shape.alone p.view; cause = tt };
+    cause = tt;
     quiet = λ _ o. o;
     earlier = λ _. b;
   };

@@ -6,7 +6,7 @@ use Rattle.rows_trait.specs.declared.view.Act.TheVariants.{Look, Load, Store, Se
 use Rattle.rows_trait.specs.declared.view.View.{View}
 use Rattle.rows_trait.specs.Views.{Shape, Since, AreLow}
 use Rattle.rows_trait.specs.Causes.{AreLoads, Finds, OnlyLoads, HasFound, IsLatched, HasMoved}
-use Rattle.rows_trait.specs.Turns.{Looked, Loaded}
+use Rattle.rows_trait.specs.Turns.{Looked, Loaded, Stepped}
 
 pub loads_append : (ss ts : List Act) → AreLoads ss → AreLoads ts → AreLoads (ss ++ ts)
 loads_append [] ts a b = b
@@ -18,7 +18,7 @@ loads_append (Hear c j n ∷ ss) ts a b = loads_append ss ts a b
 loads_append (Turn c j n ∷ ss) ts a b = absurd a
 
 -- what was found before
-finds_older : (row n : ℕ) (ss ts : List Act) → Finds row n ts → Finds row n (ss ++ ts)
+pub finds_older : (row n : ℕ) (ss ts : List Act) → Finds row n ts → Finds row n (ss ++ ts)
 finds_older row n [] ts h = h
 finds_older row n (Look q m at ∷ ss) ts h = inr (finds_older row n ss ts h)
 finds_older row n (Load q i m ∷ ss) ts h = finds_older row n ss ts h
@@ -27,7 +27,7 @@ finds_older row n (Set q m ∷ ss) ts h = finds_older row n ss ts h
 finds_older row n (Hear c j m ∷ ss) ts h = finds_older row n ss ts h
 finds_older row n (Turn c j m ∷ ss) ts h = finds_older row n ss ts h
 
-finds_newer : (row n : ℕ) (ss ts : List Act) → Finds row n ss → Finds row n (ss ++ ts)
+pub finds_newer : (row n : ℕ) (ss ts : List Act) → Finds row n ss → Finds row n (ss ++ ts)
 finds_newer row n [] ts h = absurd h
 finds_newer row n (Look q m at ∷ ss) ts (inl t) = inl t
 finds_newer row n (Look q m at ∷ ss) ts (inr t) = inr (finds_newer row n ss ts t)
@@ -59,6 +59,9 @@ finds_low n (Turn c j x ∷ ss) ts row m low h = finds_low n ss ts row m low h
 
 abbrev pub loads_none : (v : View) → OnlyLoads v v
 loads_none v = record { acts = []; steps = refl; loads = tt }
+
+abbrev pub stepped_loads : {v w : View} → OnlyLoads v w → Stepped v w
+stepped_loads o = record { acts = o.acts; steps = o.steps }
 
 abbrev pub loads_then : (v w u : View) → OnlyLoads v w → OnlyLoads w u → OnlyLoads v u
 loads_then v w u a b = record { acts = b.acts ++ a.acts; steps = b.steps ∙ (ap (λ z. b.acts ++ z) a.steps ∙ sym (append_assoc b.acts a.acts v.steps)); loads = loads_append b.acts a.acts b.loads a.loads }

@@ -16,7 +16,7 @@ use Rattle.rows_trait.specs.Layout.{cell, count_of, control_at}
 use Rattle.rows_trait.specs.Inside.{flushed_words, after, NoneBy}
 use Rattle.rows_trait.specs.declared.view.Act.TheVariants.{Hear, Turn}
 use Rattle.rows_trait.specs.declared.view.View.{View}
-use Rattle.rows_trait.specs.Views.{Shape, IsEven, after_all, state, AreStill, holds, held_at, AreApart, AreAside, AreTame, AreCalm, BeginsTame, NoSync, may, AreBelow, Ends}
+use Rattle.rows_trait.specs.Views.{Shape, IsEven, after_all, state, AreStill, holds, held_at, AreApart, AreAside, AreCalm, BeginsTame, NoSync, may, AreBelow, Ends}
 use Rattle.rows_trait.specs.Turns.{Heard, AreTurning, MayTurn, Turned, AreSyncing, MaySync, Synced}
 use Rattle.rows_trait.specs.Rule.{Plan, moment, IsHeld, Keeps, IsAlone}
 use Rattle.rows_trait.proofs.Cells.{bool_cases, control_inside, set_cell_apart, same_control, flushed_length, flushed_cell, flushed_other, flushed_here}
@@ -45,7 +45,7 @@ module _ (alone : Bool) (spot : TableId) (k : Plan) (happened : List Event) (wor
         refl,
         advances k happened words views id v (names n) words w keeps mine alive (stays on (names n) (Hear c i n ∷ v.steps) (begins_are k.given (moment k happened) (names n) (begins_now on (names n) s b)) s (remembers_hear k.sizes words v.steps c i n (fit on).memory) (still_old on (names n) words (moves_not k.sizes words) (silent_rows on (names n) s)) (low_still on (names n))) (at_length on),
         record {
-          goes = goes on (names n) (Hear c i n ∷ v.steps) v.held words (held_still on (names n) s) (λ y. silent_sync (may alone v) v.given (names n) s);
+          goes = goes on (names n) (Hear c i n ∷ []) v.held words (held_still on (names n) s) (λ y. silent_sync (may alone v) v.given (names n) s);
           steps = refl;
           held = refl;
           word = ap (λ m. heard m c i) (state_is on (names n)) ∙ (silent_word on (names n) s c i ∙ (sym (keeps.controls c i h l) ∙ sym is));
@@ -187,7 +187,7 @@ module _ (alone : Bool) (spot : TableId) (k : Plan) (happened : List Event) (wor
             latched = λ q t o. bool_cases (holds v.held q) (λ y. inl y) (λ z. inr (let e = turn_cell q 0 in omega arith, z));
           } (at_length on),
           record {
-            goes = goes on (names n) (Turn c i n ∷ v.steps) v.held turned_words turned_held (turn_sync (may alone v) v.given (names n) (may_turn.own n));
+            goes = goes on (names n) (Turn c i n ∷ []) v.held turned_words turned_held (turn_sync (may alone v) v.given (names n) (may_turn.own n));
             steps = refl;
             held = refl;
             found = found_word;
@@ -281,6 +281,6 @@ module _ (alone : Bool) (spot : TableId) (k : Plan) (happened : List Event) (wor
             owner = λ q y. inl y;
             latched = λ q t o. bool_cases (holds v.held q) (λ y. inl y) (λ z. inr (let e = flushed_row q 0 in omega arith, z));
           } (at_length on),
-          record { goes = goes on es v.steps v.held flushed synced_held (λ n. absurd (true≢false (sym single ∙ n))); steps = refl; held = refl },
+          record { goes = goes on es [] v.held flushed synced_held (λ n. absurd (true≢false (sym single ∙ n))); steps = refl; held = refl },
           λ a. solo_after on es flushed v.steps v.held a (steady_still on flushed (λ q t. flushed_row q 0) a),
         )

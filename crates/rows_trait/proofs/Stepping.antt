@@ -79,13 +79,14 @@ module _ {alone : Bool} {k : Plan} {happened : List Event} {words : List ℕ} {v
   pub quiet : alone ≡ true → on.between ≡ []
   quiet a = nothing_more v.seen on.between (sym (on.solo a).seen ∙ on.whole)
 
-  unfoldable pub goes : (es : List Event) (steps : List Act) (held : List Hold) (now : List ℕ) → ((row : ℕ) → holds held row ≡ true → IsHeld k (happened ++ es) now row (held_at held row)) → (alone ≡ false → NoSync es) → Goes shape v es (after v on.between es steps held)
-  goes es steps held now is part = record {
+  unfoldable pub goes : (es : List Event) (acts : List Act) (held : List Hold) (now : List ℕ) → ((row : ℕ) → holds held row ≡ true → IsHeld k (happened ++ es) now row (held_at held row)) → (alone ≡ false → NoSync es) → Goes shape v es (after v on.between es (acts ++ v.steps) held)
+  goes es acts held now is part = record {
     between = on.between;
     quiet = quiet;
     apart = on.apart;
     seen = refl;
     part = part;
+    since = record { acts = acts; steps = refl };
     given = refl;
     actor = refl;
     live = refl;

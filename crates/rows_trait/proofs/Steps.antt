@@ -43,7 +43,7 @@ module _ (alone : Bool) (spot : TableId) (k : Plan) (happened : List Event) (wor
   looked_is : (row n : ℕ) (names : ℕ → List Event) → row < rows_of k.sizes → n ≡ cell k.sizes words row 0 → AreAside (may alone v) v.given (names n)
       → Looked shape row names v n (after v between (names n) (look_at row n v between (names n) ∷ v.steps) v.held)
   looked_is row n names lt is s = record {
-    goes = goes on (names n) (look_at row n v between (names n) ∷ v.steps) v.held words (held_still on (names n) s) (λ y. silent_sync (may alone v) v.given (names n) s);
+    goes = goes on (names n) (look_at row n v between (names n) ∷ []) v.held words (held_still on (names n) s) (λ y. silent_sync (may alone v) v.given (names n) s);
     steps = refl;
     held = refl;
     known = λ ev i x kn. to_view on (names n) row i x (silent_is on (names n) s row i x (spelled on row n i x lt is ev kn));
@@ -77,7 +77,7 @@ module _ (alone : Bool) (spot : TableId) (k : Plan) (happened : List Event) (wor
         refl,
         advances k happened words views id v [] words w keeps mine alive (stays on [] (Load row i n ∷ v.steps) tt tt (remembers_load k.sizes words v.steps row i n lt l is (fit on).memory) (still_old on [] words (moves_not k.sizes words) (silent_rows on [] tt)) (low_still on [])) (at_length on),
         record {
-          goes = goes on [] (Load row i n ∷ v.steps) v.held words (held_still on [] tt) (λ y. tt);
+          goes = goes on [] (Load row i n ∷ []) v.held words (held_still on [] tt) (λ y. tt);
           steps = refl;
           held = refl;
           own = λ h. is ∙ ((fit on).held row h).now i l;
@@ -175,7 +175,7 @@ module _ (alone : Bool) (spot : TableId) (k : Plan) (happened : List Event) (wor
             owner = λ q h. inl (sym (holds_write v.held row i x q) ∙ h);
             latched = λ q t o. bool_cases (holds v.held q) (λ y. inl (holds_write v.held row i x q ∙ y)) (λ n. inr (let e = latch_still q in omega arith, n));
           } (at_length on),
-          record { goes = goes on [] (Store row i x ∷ v.steps) wrote stored stored_held (λ y. tt); steps = refl; held = refl },
+          record { goes = goes on [] (Store row i x ∷ []) wrote stored stored_held (λ y. tt); steps = refl; held = refl },
           λ a. solo_after on [] stored (Store row i x ∷ v.steps) wrote a (steady_still on stored (λ q t. latch_still q) a),
         )
 
@@ -344,7 +344,7 @@ module _ (alone : Bool) (spot : TableId) (k : Plan) (happened : List Event) (wor
             (λ ne. bool_cases (holds v.held q) (λ y. inl (holds_tail q y)) (λ n. inr (let e = others_latch row (version + 1) lt q 0 (omega arith) ne in omega arith, n)));
       } (at_length on),
       record {
-        goes = goes on (names version) (Set row (version + 1) ∷ look_at row version v between (names version) ∷ v.steps) taken_held taken_words taken_fits (λ y. silent_sync (may alone v) v.given (names version) silent);
+        goes = goes on (names version) (Set row (version + 1) ∷ look_at row version v between (names version) ∷ []) taken_held taken_words taken_fits (λ y. silent_sync (may alone v) v.given (names version) silent);
         steps = refl;
         was = found;
         held = refl;
@@ -539,7 +539,7 @@ module _ (alone : Bool) (spot : TableId) (k : Plan) (happened : List Event) (wor
       after v between (e ∷ []) (Set row ((held_at v.held row).version + 2) ∷ v.steps) settled_held,
       refl,
       given row lt mine_row (e ∷ []) settled_held publish_others (acts_one on e may_publish.actor) publish_still (λ q h. (settled_at q h).0) settled_all (published_shown row leaves.here) not_published published_word settled_hold (publish_counts row mine_row) publish_tame,
-      record { goes = goes on (e ∷ []) (Set row ((held_at v.held row).version + 2) ∷ v.steps) settled_held (set words (row_at k.sizes row 0) ((held_at v.held row).version + 2)) published_fits (λ y. (may_publish.part, tt)); steps = refl; held = refl },
+      record { goes = goes on (e ∷ []) (Set row ((held_at v.held row).version + 2) ∷ []) settled_held (set words (row_at k.sizes row 0) ((held_at v.held row).version + 2)) published_fits (λ y. (may_publish.part, tt)); steps = refl; held = refl },
       given_alone row lt mine_row (e ∷ []) settled_held publish_others (acts_one on e may_publish.actor) publish_still (λ q h. (settled_at q h).0) settled_all (published_shown row leaves.here) not_published published_word settled_hold (publish_counts row mine_row) publish_tame,
     )
 
@@ -601,7 +601,7 @@ module _ (alone : Bool) (spot : TableId) (k : Plan) (happened : List Event) (wor
       after v between missed (Set row ((held_at v.held row).version + 2) ∷ v.steps) (without v.held row),
       refl,
       given row lt mine_row missed (without v.held row) (others_silent on missed miss_silent) (acts_silent on missed miss_silent) (silent_rows on missed miss_silent) (held_without row) release_all release_spells (λ q n. silent_is on missed miss_silent q) (silent_word on missed miss_silent) release_hold release_counts miss_tame,
-      record { goes = goes on missed (Set row ((held_at v.held row).version + 2) ∷ v.steps) (without v.held row) (set words (row_at k.sizes row 0) ((held_at v.held row).version + 2)) released_fits (λ y. silent_sync (may alone v) v.given missed miss_silent); steps = refl; held = refl },
+      record { goes = goes on missed (Set row ((held_at v.held row).version + 2) ∷ []) (without v.held row) (set words (row_at k.sizes row 0) ((held_at v.held row).version + 2)) released_fits (λ y. silent_sync (may alone v) v.given missed miss_silent); steps = refl; held = refl },
       given_alone row lt mine_row missed (without v.held row) (others_silent on missed miss_silent) (acts_silent on missed miss_silent) (silent_rows on missed miss_silent) (held_without row) release_all release_spells (λ q n. silent_is on missed miss_silent q) (silent_word on missed miss_silent) release_hold release_counts miss_tame,
     )
 

@@ -5,12 +5,18 @@ use Rattle.row_words.specs.declared.event.Event.TheVariants.{Miss}
 use Rattle.row_words.specs.declared.given.Given.{Given}
 use Rattle.row_words.specs.Moments.{Moment, actor_of, by, is_rising, is_sync}
 use Rattle.row_words.specs.Sealed.{stepped, Shown, changes, heard, sets, IsTame}
+use Rattle.rows_trait.specs.declared.view.Act.{Act}
 use Rattle.rows_trait.specs.declared.view.Act.TheVariants.{Look, Load, Store, Set, Hear, Turn}
 use Rattle.rows_trait.specs.declared.view.View.{View}
 use Rattle.rows_trait.specs.declared.rows.Latch.{Latch}
 use Rattle.rows_trait.specs.declared.rows.Latch.TheVariants.{Held, Found}
 use Rattle.rows_trait.specs.Layout.{width}
 use Rattle.rows_trait.specs.Views.{IsEven, after_all, state, Spells, Has, Since, IsStill, Knows, latest, hold, holds, held_at, without, write, settle, AreApart, NoSync, may, Shape}
+
+-- since the view v the seat has made these steps
+pub record Stepped (v w : View) : Type 0 where
+  pub acts : List Act
+  pub steps : w.steps ≡ acts ++ v.steps
 
 -- the view has seen what others did, and then these events of its own
 pub record Goes (z : Shape) (v : View) (es : List Event) (w : View) : Type 0 where
@@ -19,6 +25,7 @@ pub record Goes (z : Shape) (v : View) (es : List Event) (w : View) : Type 0 whe
   pub apart : AreApart v (state v) between
   pub seen : w.seen ≡ (v.seen ++ between) ++ es
   pub part : z.alone ≡ false → NoSync es
+  pub since : Stepped v w
   pub given : w.given ≡ v.given
   pub actor : w.actor ≡ v.actor
   pub live : w.live ≡ v.live
@@ -160,14 +167,15 @@ pub record Synced (z : Shape) (number : ℕ) (es : List Event) (v w : View) : Ty
   pub steps : w.steps ≡ v.steps
   pub held : w.held ≡ v.held
 
--- Over several steps: what was seen goes on from what was seen before, and the seat's own events in it are these. What others did
--- in it is no sync, so what a worker knows of itself stays.
+-- Over several steps: what was seen goes on from what was seen before, and the seat's own events in it are these; its steps go on too.
+-- What others did in it is no sync, so what a worker knows of itself stays.
 pub record Ran (alone : Bool) (v : View) (es : List Event) (w : View) : Type 0 where
   pub more : List Event
   pub seen : w.seen ≡ v.seen ++ more
   pub own : alone ≡ false → by v.actor more ≡ es
   pub all : alone ≡ true → more ≡ es
   pub part : alone ≡ false → NoSync more
+  pub since : Stepped v w
   pub given : w.given ≡ v.given
   pub actor : w.actor ≡ v.actor
   pub live : w.live ≡ v.live

@@ -2,8 +2,8 @@ use Rattle.std.proofs.Common.{sym, subst}
 use Rattle.rows_trait.specs.Views.{Shape}
 use Rattle.held_rows.specs.Rows.{OpensTwo}
 use Rattle.held_rows.specs.Steps.{MissedUpTo}
-use Rattle.held_rows.specs.Waits.{stepped_then, missed_then}
-use Rattle.held_rows.proofs.GivingUp.{two_left, still_unchanged, stepped_released, released_missed}
+use Rattle.held_rows.specs.Waits.{missed_then}
+use Rattle.held_rows.proofs.GivingUp.{two_left, still_unchanged, released_missed}
 use Rattle.held_rows.proofs.releasing.give_up_three.Goals as goal
 
 pub give_up_two-requires-clause-two : goal.give_up_two-requires-clause-two
@@ -14,9 +14,6 @@ give_up_two-requires-clause-same g c =
     let r = c.release.ensures.step in
     let t = c.requires.three in
     (still_unchanged r t.far c.requires.same.0, still_unchanged r t.near c.requires.same.1)
-
-pub returns-clause-since : goal.returns-clause-since
-returns-clause-since g c = stepped_then (stepped_released c.release.ensures.step) c.give_up_two.ensures.since
 
 pub returns-clause-missed : goal.returns-clause-missed
 returns-clause-missed g c =

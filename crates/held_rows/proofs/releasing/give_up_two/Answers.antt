@@ -2,8 +2,8 @@ use Rattle.std.proofs.Common.{sym, subst}
 use Rattle.rows_trait.specs.Views.{Shape}
 use Rattle.held_rows.specs.Rows.{OpensOne}
 use Rattle.held_rows.specs.Steps.{MissedUpTo}
-use Rattle.held_rows.specs.Waits.{stepped_then, missed_then}
-use Rattle.held_rows.proofs.GivingUp.{one_left, still_unchanged, stepped_released, released_missed}
+use Rattle.held_rows.specs.Waits.{missed_then}
+use Rattle.held_rows.proofs.GivingUp.{one_left, still_unchanged, released_missed}
 use Rattle.held_rows.proofs.releasing.give_up_two.Goals as goal
 
 pub give_up_one-requires-clause-one : goal.give_up_one-requires-clause-one
@@ -11,9 +11,6 @@ give_up_one-requires-clause-one g c = subst (λ (y : Shape). OpensOne y (g.R.Row
 
 pub give_up_one-requires-clause-same : goal.give_up_one-requires-clause-same
 give_up_one-requires-clause-same g c = still_unchanged c.release.ensures.step c.requires.two.apart c.requires.same.0
-
-pub returns-clause-since : goal.returns-clause-since
-returns-clause-since g c = stepped_then (stepped_released c.release.ensures.step) c.give_up_one.ensures.since
 
 pub returns-clause-missed : goal.returns-clause-missed
 returns-clause-missed g c =

@@ -10,7 +10,6 @@ use Rattle.version_latch.specs.Named.{checked, missed}
 use Rattle.version_latch.proofs.Keeping.{kept_load, kept_same, kept_then, looked_after, looked_latest, may_ran, may_shape}
 use Rattle.version_latch.proofs.Naming.{checked_same, checked_silent, missed_silent}
 use Rattle.page_provider.proofs.Glances.{judges, look_moved, start_missed, start_ran}
-use Rattle.page_provider.proofs.Loaded.{looked_loads}
 use Rattle.page_provider.proofs.looking.is_dirty.Goals as goal
 
 pub start-requires-clause-event : goal.start-requires-clause-event
@@ -61,8 +60,7 @@ returns-in-Ok-check-clause-ok g c =
     let r = ran_append z.alone v [] u [] b (start_ran o.1 o.3) k.ran in
     let all = looked_after (g.R.Rows.shape c.word-saved.new.rows) z row version (checked pager version) v b w [] s3 r c.in-Ok-check.ensures.ok (checked_same pager version) tt in
     let shown : (i x : ℕ) → Shown w.given (state w) row i x → Shown w.given (state w) c.args.frame i x = λ i x s. subst (λ q. Shown w.given (state w) q i x) o.0 s in
-    let found = found_after row version v u b (subst (λ q. HasFound q version v u) (sym o.0) c.in-Ok.ensures.since.1) k.loads in
-    judges c.args.frame c.args.frames c.word-number.result c.word-saved.result c.requires.sized c.requires.frame all (looked_loads found.loads c.in-Ok-check.ensures.ok)
+    judges c.args.frame c.args.frames c.word-number.result c.word-saved.result c.requires.sized c.requires.frame all
     (shown 1 c.word-number.result (c.in-Ok-check.ensures.valid 1 c.word-number.result (second.knows row version 1 c.word-number.result c.word-number.ensures.knows)))
     (shown 127 c.word-saved.result (c.in-Ok-check.ensures.valid 127 c.word-saved.result c.word-saved.ensures.knows))
 

@@ -8,7 +8,6 @@ use Rattle.page_provider.specs.Ends.{HasRefused}
 use Rattle.page_provider.specs.Finds.{Candidate, IsSeen, Stopped}
 use Rattle.page_provider.specs.Providers.{Provider}
 use Rattle.page_provider.specs.declared.refusal.Refusal.{Refusal}
-use Rattle.page_provider.specs.Refusals.{Caused}
 use Rattle.page_provider.proofs.Cooled.{answered, answered_not, cool_broken, cool_missed, idle_bare, idle_zero, is_there, there_is}
 use Rattle.page_provider.proofs.Keeping.{keeps_ran}
 use Rattle.page_provider.proofs.Parts.{keeps_shape}
@@ -106,31 +105,6 @@ returns-clause-ok g c =
     let h = subst (λ (q : Shape). CoolsOrNot q n c.args.self.now s.node.number s.glimpse.row c.in_ok-cool_seen.field-0 u c.cool_seen.new.self) c.in_ok-seen.ensures.fits.1 c.in_ok-cool_seen.ensures.ok in
     let there : is_there c.in_ok-cool_seen.field-0 ≡ c.is_some.result = sym (c.is_some.ensures ∙ there_is c.in_ok-cool_seen.field-0) in
     subst (λ b. CoolsIn z c.args.frame v c.args.self.now b u c.cool_seen.new.self) there (answered u c.cool_seen.new.self s c.laws.ensures.rows c.requires.keeps (c.in_ok-seen.ensures.fits.2 ∙ c.requires.held) k c.in_ok-cool_seen.field-0 h)
-
-pub returns-in_err-seen-clause-since : goal.returns-in_err-seen-clause-since
-returns-in_err-seen-clause-since g c =
-    let v = g.R.Rows.view c.args.seat.now in
-    let n = g.R.Rows.view c.candidate.new.seat in
-    let p = err_from_is_err_and c.from_residual.result c.from_residual.ensures.1 in
-    let p2 = p.2 in
-    let why = c.in_err-seen.field-0.0 in
-    let e : why ≡ p.0 = cc in
-    let P : Refusal → Type 0 = λ q. Caused v q n in
-    if_err c.from_residual.result p.0 P p.1 (subst P e c.in_err-seen.ensures.err.cause)
-
-pub returns-in_err-cool_seen-clause-since : goal.returns-in_err-cool_seen-clause-since
-returns-in_err-cool_seen-clause-since g c =
-    let z = g.R.Rows.shape c.args.rows.now in
-    let v = g.R.Rows.view c.args.seat.now in
-    let n = g.R.Rows.view c.candidate.new.seat in
-    let u = g.R.Rows.view c.cool_seen.new.seat in
-    let k = subst (λ (x : Option Sight). Candidate z v c.args.frame x n) c.in-Some.is c.in_ok-seen.ensures.ok in
-    let p = err_from_is_err_and c.from_residual-in_err-cool_seen.result c.from_residual-in_err-cool_seen.ensures.1 in
-    let p2 = p.2 in
-    let why = c.in_err-cool_seen.field-0.0 in
-    let e : why ≡ p.0 = cc in
-    let P : Refusal → Type 0 = λ q. Caused v q u in
-    if_err c.from_residual-in_err-cool_seen.result p.0 P p.1 (subst P e (c.in_err-cool_seen.ensures.cause v k.sight.found))
 
 pub returns-then-self-clause-unsaved : goal.returns-then-self-clause-unsaved
 returns-then-self-clause-unsaved g c = saves_none (ran_none (g.R.Rows.shape c.args.rows.now).alone (g.R.Rows.view c.args.seat.now)) tt

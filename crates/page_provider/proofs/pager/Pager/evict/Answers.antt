@@ -9,7 +9,7 @@ use Rattle.page_provider.specs.Providers.{Provider}
 use Rattle.page_provider.specs.declared.refusal.Refusal.{Refusal}
 use Rattle.page_provider.proofs.Outcomes.{entry_within, stayed_broken, stayed_missed}
 use Rattle.page_provider.proofs.Parts.{cause_none, cleared_left, disk_after, first_stayed, keeps_shape, leave_disk, seen}
-use Rattle.page_provider.proofs.Loaded.{loads_none, spent_others}
+use Rattle.page_provider.proofs.Loaded.{spent_others}
 use Rattle.page_provider.proofs.Savings.{entered_is, frame_is, if_err, is_found, left_clean}
 use Rattle.page_provider.proofs.Writing.{disked_misses}
 use Rattle.page_provider.proofs.Mirrored.{leave_mirrored, mirrored_after, mirrored_misses}
@@ -41,7 +41,7 @@ returns-in_err-dirty-clause-err g c =
     let e : why ≡ p.0 = cc in
     let f = entered_is c.self.view_is c.requires.keeps c.requires.leaves c.in-Some.ensures in
     let P : Refusal → Type 0 = λ q. HasStayed z v c.args.self.now c.args.page q w c.args.self.now in
-    if_err c.from_residual.result p.0 P p.1 (subst P e (stayed_missed c.laws.ensures.rows c.requires.keeps c.requires.held (ran_none z.alone v) (loads_none v) c.requires.held (frame_is c.requires.keeps f.0 f.1) c.in_err-dirty.ensures.err (spent_others c.in-Some.entry.frame v w why c.in_err-dirty.ensures.kind)))
+    if_err c.from_residual.result p.0 P p.1 (subst P e (stayed_missed c.laws.ensures.rows c.requires.keeps c.requires.held (ran_none z.alone v) c.requires.held (frame_is c.requires.keeps f.0 f.1) c.in_err-dirty.ensures.err (spent_others c.in-Some.entry.frame v w why c.in_err-dirty.ensures.kind)))
 
 pub returns-in_err-dirty-clause-disk : goal.returns-in_err-dirty-clause-disk
 returns-in_err-dirty-clause-disk g c = let m = c.in_err-dirty.ensures.err in disked_misses c.laws.ensures.disk (g.met.P.Part.lawful c.args.dev.now) m.ran m.few

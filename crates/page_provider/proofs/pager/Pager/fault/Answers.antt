@@ -1,4 +1,4 @@
-use Rattle.std.proofs.Common.{◌∙◌, sym, ap, subst, true≢false}
+use Rattle.std.proofs.Common.{◌∙◌, sym, ap, subst}
 use Rattle.std.specs.Prelude.{IfOk}
 use Rattle.rows_trait.proofs.Runs.{ran_none}
 use Rattle.page_provider.specs.Faults.{Faulted, IsAstray}
@@ -36,13 +36,6 @@ bring-requires-clause-cold g c = free_cold c.args.page c.laws.ensures.rows c.sel
 
 pub bring-requires-clause-parent : goal.bring-requires-clause-parent
 bring-requires-clause-parent g c = λ only. free_parents c.args.page c.self.view_is c.requires.keeps c.requires.below c.if-contains.ensures
-
-pub returns-in-Some-clause-since : goal.returns-in-Some-clause-since
-returns-in-Some-clause-since g c = λ _. c.rescue.ensures.since
-
-pub returns-then-contains-clause-since : goal.returns-then-contains-clause-since
-returns-then-contains-clause-since g c = λ off.
-    absurd (true≢false (sym (free_cold c.args.page c.laws.ensures.rows c.self.view_is c.requires.keeps c.requires.below c.in_default.ensures c.if-contains.ensures) ∙ off))
 
 pub returns-then-self-clause-mirrors : goal.returns-then-self-clause-mirrors
 returns-then-self-clause-mirrors g c = λ m well. m

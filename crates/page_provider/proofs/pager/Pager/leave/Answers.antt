@@ -8,7 +8,6 @@ use Rattle.page_provider.specs.Evicts.{HasStayed}
 use Rattle.page_provider.specs.Providers.{Provider}
 use Rattle.page_provider.specs.declared.refusal.Refusal.{Refusal}
 use Rattle.page_provider.proofs.Outcomes.{entry_room, entry_within, stayed_missed}
-use Rattle.page_provider.proofs.Loaded.{loads_none}
 use Rattle.page_provider.proofs.Savings.{can_evict, frame_is, gone_as, has_gone, if_err}
 use Rattle.page_provider.proofs.pager.Pager.leave.Goals as goal
 
@@ -25,7 +24,7 @@ returns-in_err-hold-clause-err g c =
     let why = c.in_err-hold.field-0.0 in
     let e : why ≡ p.0 = cc in
     let P : Refusal → Type 0 = λ q. HasStayed z v c.args.self.now c.args.entry.page q w c.args.self.now in
-    if_err c.from_residual.result p.0 P p.1 (subst P e (stayed_missed c.laws.ensures.rows c.requires.keeps c.requires.held (ran_none z.alone v) (loads_none v) c.requires.held (frame_is c.requires.keeps c.requires.entered refl) c.in_err-hold.ensures.err c.in_err-hold.ensures.spent))
+    if_err c.from_residual.result p.0 P p.1 (subst P e (stayed_missed c.laws.ensures.rows c.requires.keeps c.requires.held (ran_none z.alone v) c.requires.held (frame_is c.requires.keeps c.requires.entered refl) c.in_err-hold.ensures.err c.in_err-hold.ensures.spent))
 
 pub evict-requires-clause-evicts : goal.evict-requires-clause-evicts
 evict-requires-clause-evicts g c =

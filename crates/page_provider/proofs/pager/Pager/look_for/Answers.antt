@@ -1,4 +1,4 @@
-use Rattle.std.proofs.Common.{◌≡◌, ◌∙◌, ℕ, Option, sym, ap, subst, true≢false}
+use Rattle.std.proofs.Common.{◌≡◌, ◌∙◌, ℕ, Option, sym, ap, subst}
 use Rattle.std.proofs.lemmas.Result.{err_from_is_err_and, IfErr-weaker, IfOk-weaker}
 use Rattle.rows_trait.specs.Views.{Shape}
 use Rattle.row_image.specs.declared.sight.Sight.{Sight}
@@ -8,13 +8,12 @@ use Rattle.page_provider.specs.Faults.{Faulted, IsDescent, LeadsTo}
 use Rattle.page_provider.specs.Finds.{Naming, Standing}
 use Rattle.page_provider.specs.Inside.{Missed}
 use Rattle.page_provider.specs.Providers.{Provider}
-use Rattle.page_provider.specs.Refusals.{Caused}
 use Rattle.page_provider.specs.declared.refusal.Refusal.{Refusal}
 use Rattle.page_provider.proofs.Faulting.{cold_of, descent_on, faulted_before, gives_on, leads_on, missed_refused, named_on, no_astray, refused_before, settled, settled_disk, stood_look, unsettled}
 use Rattle.page_provider.proofs.Keeping.{keeps_ran}
 use Rattle.page_provider.proofs.Parts.{disk_after, keeps_shape}
 use Rattle.page_provider.proofs.Savings.{if_err}
-use Rattle.page_provider.proofs.Sightings.{missed_before, sound_still}
+use Rattle.page_provider.proofs.Sightings.{sound_still}
 use Rattle.page_provider.proofs.Mirrored.{mirrored_after, mirrored_misses, settled_mirrored}
 use Rattle.lean_disk.proofs.MomentLemmas.{framed}
 use Rattle.page_provider.proofs.pager.Pager.look_for.Goals as goal
@@ -137,38 +136,6 @@ returns-clause-astray g c =
     let o = c.in_ok-naming.ensures in
     let n = named_on c.laws.ensures.rows c.requires.keeps c.requires.below c.from.ensures o.kept.ran (subst (λ (x : Option (Sight × ℕ)). Naming z v c.frames-frames.result c.from.result x u) c.in-Some.is o.ok) in
     λ only a. no_astray z o.kept.ran n only a
-
-pub returns-in_err-naming-clause-since : goal.returns-in_err-naming-clause-since
-returns-in_err-naming-clause-since g c = λ off.
-    let v = g.R.Rows.view c.args.seat.now in
-    let w = g.R.Rows.view c.naming.new.seat in
-    let p = err_from_is_err_and c.from_residual.result c.from_residual.ensures.1 in
-    let p2 = p.2 in
-    let why = c.in_err-naming.field-0.0 in
-    let e : why ≡ p.0 = cc in
-    let P : Refusal → Type 0 = λ q. Caused v q w in
-    if_err c.from_residual.result p.0 P p.1 (subst P e c.in_err-naming.ensures.err.cause)
-
-pub returns-in_default-clause-since : goal.returns-in_default-clause-since
-returns-in_default-clause-since g c = λ off.
-    let v = g.R.Rows.view c.args.seat.now in
-    let u = g.R.Rows.view c.naming.new.seat in
-    let w = g.R.Rows.view c.standing.new.seat in
-    let o = c.in_ok-naming.ensures in
-    let P : Refusal → Type 0 = λ why. Missed (g.R.Rows.shape c.naming.new.rows) u why w in
-    let Q : Refusal → Type 0 = λ why. Caused v why w in
-    IfErr-weaker c.standing.result P Q (λ why h. (missed_before o.fits.1 o.kept h).cause) c.standing.ensures.err
-
-pub returns-clause-since : goal.returns-clause-since
-returns-clause-since g c = λ off.
-    let z = g.R.Rows.shape c.args.rows.now in
-    let v = g.R.Rows.view c.args.seat.now in
-    let u = g.R.Rows.view c.naming.new.seat in
-    let laws = c.laws.ensures.rows in
-    let o = c.in_ok-naming.ensures in
-    let n = named_on laws c.requires.keeps c.requires.below c.from.ensures o.kept.ran (subst (λ (x : Option (Sight × ℕ)). Naming z v c.frames-frames.result c.from.result x u) c.in-Some.is o.ok) in
-    let cold = cold_of c.args.page laws (keeps_ran laws.stood laws.standing tt o.kept.ran c.requires.keeps) c.requires.absent n.off in
-    absurd (true≢false (sym cold ∙ ((stood_look z o.kept.ran laws c.requires.keeps).cold c.args.page ∙ off)))
 
 pub returns-in_err-naming-clause-mirrors : goal.returns-in_err-naming-clause-mirrors
 returns-in_err-naming-clause-mirrors g c = let m = c.in_err-naming.ensures.err in mirrored_misses c.requires.keeps m.ran m.few

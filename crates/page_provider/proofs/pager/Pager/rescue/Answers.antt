@@ -5,7 +5,6 @@ use Rattle.row_words.specs.declared.event.Event.TheVariants.{Rescue}
 use Rattle.page_provider.specs.Comes.{ComesOrNot}
 use Rattle.page_provider.specs.Ends.{HasRefused}
 use Rattle.page_provider.specs.Providers.{Provider}
-use Rattle.page_provider.specs.Refusals.{Caused}
 use Rattle.page_provider.specs.declared.refusal.Refusal.{Refusal}
 use Rattle.page_provider.proofs.Placing.{come_placed, come_unseen, entry_below, entry_cold, entry_hot, entry_live, halts_as, halts_unseen, idle_unseen, none_lost}
 use Rattle.page_provider.proofs.Savings.{if_err}
@@ -94,25 +93,3 @@ pub returns-clause-unseen : goal.returns-clause-unseen
 returns-clause-unseen g c =
     let x = subst (λ d. ComesOrNot d (g.R.Rows.shape c.args.rows.now) (Rescue c.args.entry.page) c.args.entry.page c.args.entry.frame (g.R.Rows.view c.args.seat.now) c.args.self.now (g.R.Rows.view c.rescue_node.new.seat) c.rescue_node.new.self) c.if-branch.false c.in_ok-rescue_node.ensures.ok in
     idle_unseen x.0
-
-pub returns-in_err-rescue_free-clause-since : goal.returns-in_err-rescue_free-clause-since
-returns-in_err-rescue_free-clause-since g c =
-    let v = g.R.Rows.view c.args.seat.now in
-    let w = g.R.Rows.view c.rescue_free.new.seat in
-    let p = err_from_is_err_and c.from_residual.result c.from_residual.ensures.1 in
-    let p2 = p.2 in
-    let why = c.in_err-rescue_free.field-0.0 in
-    let e : why ≡ p.0 = cc in
-    let P : Refusal → Type 0 = λ q. Caused v q w in
-    if_err c.from_residual.result p.0 P p.1 (subst P e c.in_err-rescue_free.ensures.err.cause)
-
-pub returns-in_err-rescue_node-clause-since : goal.returns-in_err-rescue_node-clause-since
-returns-in_err-rescue_node-clause-since g c =
-    let v = g.R.Rows.view c.args.seat.now in
-    let w = g.R.Rows.view c.rescue_node.new.seat in
-    let p = err_from_is_err_and c.from_residual-in_err-rescue_node.result c.from_residual-in_err-rescue_node.ensures.1 in
-    let p2 = p.2 in
-    let why = c.in_err-rescue_node.field-0.0 in
-    let e : why ≡ p.0 = cc in
-    let P : Refusal → Type 0 = λ q. Caused v q w in
-    if_err c.from_residual-in_err-rescue_node.result p.0 P p.1 (subst P e c.in_err-rescue_node.ensures.err.cause)

@@ -12,7 +12,7 @@ use Rattle.page_provider.specs.declared.refusal.Refusal.{Refusal}
 use Rattle.page_provider.specs.declared.refusal.Refusal.TheVariants as refusal
 use Rattle.page_provider.proofs.Glances.{at_most}
 use Rattle.page_provider.proofs.Outcomes.{entry_stays, entry_within, stayed_failed, stayed_missed}
-use Rattle.page_provider.proofs.Loaded.{loads_none, spent_others}
+use Rattle.page_provider.proofs.Loaded.{spent_others}
 use Rattle.page_provider.proofs.Savings.{can_save, disk_failed, disk_saved, frame_is, has_saved, if_err, image_is, page_few, page_slots}
 use Rattle.page_provider.proofs.Writing.{disked_misses}
 use Rattle.page_provider.proofs.Mirrored.{mirrored_broken, mirrored_misses, mirrored_saved}
@@ -35,7 +35,7 @@ returns-in_err-node-clause-err g c =
     let why = c.in_err-node.field-0.0 in
     let e : why ≡ p.0 = cc in
     let P : Refusal → Type 0 = λ q. HasStayed z v c.args.self.now c.args.entry.page q w c.args.self.now in
-    if_err c.from_residual.result p.0 P p.1 (subst P e (stayed_missed c.laws.ensures.rows c.requires.keeps c.requires.held (ran_none z.alone v) (loads_none v) c.requires.held (frame_is c.requires.keeps c.requires.entered refl) c.in_err-node.ensures.err (spent_others c.args.entry.frame v w why c.in_err-node.ensures.kind)))
+    if_err c.from_residual.result p.0 P p.1 (subst P e (stayed_missed c.laws.ensures.rows c.requires.keeps c.requires.held (ran_none z.alone v) c.requires.held (frame_is c.requires.keeps c.requires.entered refl) c.in_err-node.ensures.err (spent_others c.args.entry.frame v w why c.in_err-node.ensures.kind)))
 
 pub returns-in_err-node-clause-disk : goal.returns-in_err-node-clause-disk
 returns-in_err-node-clause-disk g c = let m = c.in_err-node.ensures.err in disked_misses c.laws.ensures.disk (g.met.P.Part.lawful c.args.dev.now) m.ran m.few
@@ -57,7 +57,7 @@ returns-in_err-hold-clause-err g c =
     let e : why ≡ p.0 = cc in
     let P : Refusal → Type 0 = λ q. HasStayed z v c.args.self.now c.args.entry.page q w c.args.self.now in
     let m = subst (λ (s : Shape). Missed s u why w) s1 c.in_err-hold.ensures.err in
-    if_err c.from_residual-in_err-hold.result p.0 P p.1 (subst P e (stayed_missed c.laws.ensures.rows c.requires.keeps c.requires.held i.ran i.found.loads (c.in_ok-node.ensures.fits.2 ∙ c.requires.held) (frame_is c.requires.keeps c.requires.entered refl) m c.in_err-hold.ensures.spent))
+    if_err c.from_residual-in_err-hold.result p.0 P p.1 (subst P e (stayed_missed c.laws.ensures.rows c.requires.keeps c.requires.held i.ran (c.in_ok-node.ensures.fits.2 ∙ c.requires.held) (frame_is c.requires.keeps c.requires.entered refl) m c.in_err-hold.ensures.spent))
 
 pub returns-in_err-hold-clause-disk : goal.returns-in_err-hold-clause-disk
 returns-in_err-hold-clause-disk g c =
