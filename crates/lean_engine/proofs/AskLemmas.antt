@@ -34,7 +34,7 @@ use Rattle.group_commit.specs.Tracks.{Tracks}
 use Rattle.group_commit.specs.declared.queue.End.{End}
 use Rattle.group_commit.specs.declared.receipts.Receipt.{Receipt}
 use Rattle.group_commit.proofs.ListLemmas.{queue_set_other, queue_set_same}
-use Rattle.row_engine.specs.Opened.{plain_shape}
+use Rattle.session_state.specs.Opened.{plain_shape}
 use Rattle.lean_engine.specs.Calls.{MayBe}
 use Rattle.lean_engine.specs.Desks.{desk_of}
 use Rattle.lean_engine.specs.Inside.Asks.{IsEndOf, is_commit_in, put_ends}

@@ -42,8 +42,8 @@ use Rattle.rows_trait.specs.declared.view.View.{View}
 use Rattle.rows_trait.specs.Views.{state}
 use Rattle.worker_log.specs.Logs.{Log, limit, used}
 use Rattle.row_engine.specs.Begins.{Begins}
-use Rattle.row_engine.specs.Grown.{Behind}
-use Rattle.row_engine.specs.declared.session.Session.{Session}
+use Rattle.session_state.specs.Ties.{Behind}
+use Rattle.session_state.specs.declared.session.Session.{Session}
 use Rattle.lean_engine.specs.Desks.{desk_of}
 use Rattle.lean_engine.specs.Machines.{AreHalf, DoesTied, Tied}
 use Rattle.lean_engine.specs.Inside.Reached.{Reached}

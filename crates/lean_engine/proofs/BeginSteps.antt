@@ -33,8 +33,8 @@ use Rattle.rows_trait.specs.declared.view.View.{View}
 use Rattle.rows_trait.specs.Views.{Shape, state}
 use Rattle.row_engine.specs.Begins.{Begins}
 use Rattle.row_engine.specs.Calls.{Comes, begin_answer}
-use Rattle.row_engine.specs.Ties.{Ties}
-use Rattle.row_engine.specs.declared.session.Session.{Session}
+use Rattle.session_state.specs.Ties.{Ties}
+use Rattle.session_state.specs.declared.session.Session.{Session}
 use Rattle.lean_engine.specs.Desks.{desk_of, log_of}
 use Rattle.lean_engine.specs.Machines.{AreDesks, AreHalf, DoesTied, DoesByParts, OnBegin, Tied, memory_of}
 use Rattle.lean_engine.specs.Inside.Reached.{Reached}

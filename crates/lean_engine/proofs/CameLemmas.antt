@@ -14,9 +14,9 @@ use Rattle.lean_disk.specs.Story.{Story}
 use Rattle.row_words.specs.Openings.{opening}
 use Rattle.rows_trait.specs.Views.{Shape, state}
 use Rattle.rows_trait.specs.declared.view.View.{View}
-use Rattle.row_engine.specs.Calls.{CallDoes, IsSameSession, abort_answer, commit_answer, del_answer, get_answer, put_answer}
-use Rattle.row_engine.specs.Holds.{Holds}
-use Rattle.row_engine.specs.Others.{Steps}
+use Rattle.row_engine.specs.Calls.{CallDoes, abort_answer, commit_answer, del_answer, get_answer, put_answer}
+use Rattle.session_state.specs.Holds.{Holds, IsSameSession}
+use Rattle.session_state.specs.Others.{Steps}
 use Rattle.row_engine.specs.Puts.{works_after}
 use Rattle.row_engine.specs.Receipts.{IsEnded}
 use Rattle.row_engine.specs.declared.commits.Ended.{Ended}

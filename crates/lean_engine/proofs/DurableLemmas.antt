@@ -15,7 +15,7 @@ use Rattle.group_commit.specs.declared.receipts.Receipt.{Receipt}
 use Rattle.rows_trait.specs.declared.view.View.{View}
 use Rattle.rows_trait.specs.Views.{state}
 use Rattle.worker_log.specs.Logs.{Log}
-use Rattle.row_engine.specs.Opened.{plain_shape}
+use Rattle.session_state.specs.Opened.{plain_shape}
 use Rattle.lean_engine.specs.Desks.{AreSeated, desk_of, log_of}
 use Rattle.lean_engine.specs.Inside.Asks.{AreNumbers, durable_of}
 use Rattle.lean_engine.specs.Receipts.{AreFlushed}

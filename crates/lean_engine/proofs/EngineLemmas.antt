@@ -22,10 +22,10 @@ use Rattle.rows_trait.specs.declared.view.View.{View}
 use Rattle.rows_trait.specs.Plain.{sizes}
 use Rattle.rows_trait.specs.Rule.{IsPicture, plan}
 use Rattle.rows_trait.specs.Views.{Shape}
-use Rattle.row_engine.specs.Holds.{Holds}
-use Rattle.row_engine.specs.Opened.{EveryFellow, EveryOpened, IsOpened, IsOpenedOn, plain_shape}
-use Rattle.row_engine.specs.Ties.{Ties}
-use Rattle.row_engine.specs.declared.session.Session.{Session}
+use Rattle.session_state.specs.Holds.{Holds}
+use Rattle.session_state.specs.Opened.{EveryFellow, EveryOpened, IsOpened, IsOpenedOn, plain_shape}
+use Rattle.session_state.specs.Ties.{Ties}
+use Rattle.session_state.specs.declared.session.Session.{Session}
 use Rattle.lean_engine.specs.Desks.{desk_of, log_of}
 use Rattle.lean_engine.specs.Machines.{IsDesk, IsLogged, IsMachine}
 use Rattle.lean_engine.specs.Openings.{AreFurther, HasOpened, HasRecovered, IsFurther, IsMadeBy, IsOn, OpeningLaws}

@@ -16,7 +16,7 @@ use Rattle.row_words.specs.Sealed.{begun, run, stepped}
 use Rattle.row_words.proofs.SealedLemmas.{run_append}
 use Rattle.rows_trait.specs.declared.view.View.{View}
 use Rattle.rows_trait.specs.Views.{after_all, state}
-use Rattle.row_engine.specs.Others.{Steps, is_of}
+use Rattle.session_state.specs.Others.{Steps, is_of}
 
 happens_floor : (own : ℕ) (g : Opening) (s : State) (e : Event) → is_of own e ≡ true → (happens g s (event_of e)).floor ≡ s.floor
 happens_floor own g s (told.PutBack w p) o = at (s.worker w).changes

@@ -11,9 +11,9 @@ use Rattle.row_words.specs.Openings.{opening}
 use Rattle.rows_trait.specs.declared.view.View.{View}
 use Rattle.rows_trait.specs.Views.{Shape, state}
 use Rattle.worker_log.specs.Logs.{Log}
-use Rattle.row_engine.specs.Calls.{IsSameSession}
-use Rattle.row_engine.specs.Syncs.{FlushesOwn, flushed_of, flushes_of}
-use Rattle.row_engine.specs.declared.session.Session.{Session}
+use Rattle.session_state.specs.Holds.{IsSameSession}
+use Rattle.session_state.specs.Syncs.{FlushesOwn, flushed_of, flushes_of}
+use Rattle.session_state.specs.declared.session.Session.{Session}
 use Rattle.lean_engine.specs.Desks.{Turned, desk_of, log_of}
 use Rattle.lean_engine.specs.Machines.{AreDesks}
 use Rattle.lean_engine.specs.Inside.Syncs.{AreStill, FlushedOne}

@@ -8,7 +8,7 @@ use Rattle.map_model.specs.declared.call.Answer.TheVariants as answer
 use Rattle.map_model.specs.declared.call.Call.{Call}
 use Rattle.map_model.specs.declared.call.Refusal.TheVariants as refusal
 use Rattle.row_engine.specs.Calls.{AbortDoes, CallDoes}
-use Rattle.row_engine.specs.Others.{EveryOther, Steps}
+use Rattle.session_state.specs.Others.{EveryOther, Steps}
 use Rattle.lean_engine.specs.Desks.{log_of}
 use Rattle.lean_engine.specs.Inside.Came.{Came}
 use Rattle.lean_engine.specs.Inside.Parts.{AbortCame, CallCame, IsBeside, IsSound, MachineDoes, MachineWent, SeatFits, Works, here, logs, memory, shape}

@@ -6,10 +6,9 @@ use Rattle.rows_trait.specs.Plain.{sizes}
 use Rattle.rows_trait.specs.Rule.{IsPicture, plan}
 use Rattle.rows_trait.specs.Views.{Shape}
 use Rattle.rows_trait.specs.declared.view.View.{View}
-use Rattle.row_engine.specs.Calls.{IsSameSession}
-use Rattle.row_engine.specs.Holds.{Holds}
-use Rattle.row_engine.specs.Opened.{plain_shape}
-use Rattle.row_engine.specs.Others.{EveryOther, Steps}
+use Rattle.session_state.specs.Holds.{Holds, IsSameSession}
+use Rattle.session_state.specs.Opened.{plain_shape}
+use Rattle.session_state.specs.Others.{EveryOther, Steps}
 use Rattle.lean_engine.specs.Desks.{desk_of}
 use Rattle.lean_engine.specs.Machines.{AreDesks, IsDesk, IsMachine}
 use Rattle.lean_engine.specs.declared.desk.Desk.{Desk}

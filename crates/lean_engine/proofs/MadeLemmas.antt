@@ -3,7 +3,7 @@ use Rattle.std.proofs.Common.{◌≡◌, ⊎_elim, ◌+◌, ◌++◌, ◌∷◌,
 use Rattle.disk_slots.specs.declared.master.Master.{Master}
 use Rattle.lean_disk.specs.Area.{Area}
 use Rattle.recovery.proofs.LoadLemmas.{get_more}
-use Rattle.row_engine.specs.declared.session.Session.{Session}
+use Rattle.session_state.specs.declared.session.Session.{Session}
 use Rattle.run_opening.specs.Starts.{empty_log}
 use Rattle.worker_log.specs.Kept.{IsFresh, IsInRange, IsKept, fresh_account}
 use Rattle.worker_log.specs.Logs.{Log}

@@ -3,7 +3,7 @@ use Rattle.std.proofs.Common.{◌≡◌, ◌≤◌, ◌<◌, ◌-◌, ◌==◌, 
 use Rattle.std.proofs.lemmas.Bool.{cases_eq, ne_eqb}
 use Rattle.std.proofs.lemmas.Option.{slice_get-get_or}
 use Rattle.disk_slots.specs.declared.master.Master.{Master}
-use Rattle.row_engine.specs.declared.session.Session.{Session}
+use Rattle.session_state.specs.declared.session.Session.{Session}
 use Rattle.worker_log.specs.Logs.{Log}
 use Rattle.lean_engine.specs.Desks.{desk_of, place_of}
 use Rattle.lean_engine.specs.Openings.{AreFurther, IsFurther}

@@ -17,8 +17,8 @@ use Rattle.row_words.specs.declared.given.Given.{Given}
 use Rattle.row_words.specs.Moments.{event_of, events_of}
 use Rattle.rows_trait.specs.declared.view.View.{View}
 use Rattle.worker_log.specs.Logs.{Log}
-use Rattle.row_engine.specs.Others.{Steps, is_of}
-use Rattle.row_engine.specs.Ties.{Ties}
+use Rattle.session_state.specs.Others.{Steps, is_of}
+use Rattle.session_state.specs.Ties.{Ties}
 
 -- ## Lists
 

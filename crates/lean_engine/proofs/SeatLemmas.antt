@@ -5,9 +5,9 @@ use Rattle.disk_slots.specs.declared.master.Master.{Master}
 use Rattle.rows_trait.specs.declared.view.View.{View}
 use Rattle.rows_trait.specs.Views.{Shape}
 use Rattle.worker_log.specs.Logs.{Log}
-use Rattle.row_engine.specs.Holds.{Holds}
-use Rattle.row_engine.specs.Opened.{plain_shape}
-use Rattle.row_engine.specs.declared.session.Session.{Session}
+use Rattle.session_state.specs.Holds.{Holds}
+use Rattle.session_state.specs.Opened.{plain_shape}
+use Rattle.session_state.specs.declared.session.Session.{Session}
 use Rattle.lean_engine.specs.Desks.{AreSeated, Turned, desk_of, place_of}
 use Rattle.lean_engine.specs.Machines.{AreDesks, IsDesk, IsMachine}
 use Rattle.lean_engine.specs.declared.desk.Desk.{Desk}

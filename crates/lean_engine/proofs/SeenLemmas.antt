@@ -18,7 +18,7 @@ use Rattle.rows_trait.specs.Views.{state}
 use Rattle.worker_log.specs.Logs.{Log}
 use Rattle.engine_trait.specs.Calls.{Memory, is_half_done}
 use Rattle.engine_trait.specs.Limits.{AreLoads, limits}
-use Rattle.row_engine.specs.Ties.{Ties}
+use Rattle.session_state.specs.Ties.{Ties}
 use Rattle.lean_engine.specs.Machines.{AreLogged, IsLogged, Tied}
 use Rattle.lean_engine.proofs.HalfMarks.{half_told, halves, halves_more}
 

@@ -31,7 +31,7 @@ use Rattle.lean_engine.proofs.AskingLemmas.{aborts_in, asked_of, begun_of, due_o
 use Rattle.lean_engine.proofs.CallLemmas.{fault, no_device, went}
 use Rattle.lean_engine.proofs.SeatLemmas.{turn_low, turn_high}
 use Rattle.lean_engine.proofs.SeenLemmas.{logged_seen}
-use Rattle.row_engine.specs.Opened.{plain_shape}
+use Rattle.session_state.specs.Opened.{plain_shape}
 
 -- an engine's state by its parts
 abbrev pub state_of : {D : Type 0} → View → D → Desk → List Desk → Master → Next → List (List End) → State D

@@ -32,8 +32,8 @@ use Rattle.worker_log.specs.Laws.{EveryKept, EveryPrefix}
 use Rattle.worker_log.specs.Logs.{Log, limit, used}
 use Rattle.row_engine.specs.Begins.{Begins}
 use Rattle.row_engine.specs.Calls.{begin_answer}
-use Rattle.row_engine.specs.Syncs.{flushed_of}
-use Rattle.row_engine.specs.declared.session.Session.{Session}
+use Rattle.session_state.specs.Syncs.{flushed_of}
+use Rattle.session_state.specs.declared.session.Session.{Session}
 use Rattle.lean_engine.specs.Desks.{Turned, desk_of, log_of}
 use Rattle.lean_engine.specs.Machines.{AreDesks, AreHalf, DoesTied, DoesByParts, OnBegin, Tied, memory_of}
 use Rattle.lean_engine.specs.Inside.Reached.{Reached}

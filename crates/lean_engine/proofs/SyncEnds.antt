@@ -31,8 +31,8 @@ use Rattle.row_words.specs.Moments.{events_of}
 use Rattle.rows_trait.specs.declared.view.View.{View}
 use Rattle.worker_log.specs.Laws.{EveryKept, EveryPrefix}
 use Rattle.worker_log.specs.Logs.{Log}
-use Rattle.row_engine.specs.Ties.{Ties}
-use Rattle.row_engine.specs.declared.session.Session.{Session}
+use Rattle.session_state.specs.Ties.{Ties}
+use Rattle.session_state.specs.declared.session.Session.{Session}
 use Rattle.lean_engine.specs.Machines.{AreHalf, DoesTied, DoesByParts, OnBegin, OnLine, Tied, memory_of}
 use Rattle.lean_engine.specs.Inside.Reached.{Reached}
 use Rattle.lean_engine.specs.Inside.Syncs.{AreSynced, Stood, SyncFails, SyncMade}

@@ -11,10 +11,10 @@ use Rattle.lean_disk.specs.Story.{Story}
 use Rattle.row_opening.specs.Openings.{EveryReached}
 use Rattle.rows_trait.specs.declared.view.View.{View}
 use Rattle.rows_trait.specs.Views.{Shape, state}
-use Rattle.row_engine.specs.Numbers.{AreClocksLow}
+use Rattle.session_state.specs.Numbers.{AreClocksLow}
 use Rattle.row_engine.specs.Calls.{begin_answer}
-use Rattle.row_engine.specs.Syncs.{HasSynced, synced_session}
-use Rattle.row_engine.specs.declared.session.Session.{Session}
+use Rattle.session_state.specs.Syncs.{HasSynced, synced_session}
+use Rattle.session_state.specs.declared.session.Session.{Session}
 use Rattle.lean_engine.specs.Desks.{desk_of, log_of}
 use Rattle.lean_engine.specs.Machines.{AreDesks, AreLogged, HasNumbers}
 use Rattle.lean_engine.specs.Inside.Syncs.{AllFlushed, AreRaised, AreRaisedTo, AreStill, AreSynced, Flushed, HasOpening, IsWriting, IsWritten, MaySync, SyncFails, SyncMade, greatest, next_with, raised_desk}

@@ -18,8 +18,8 @@ use Rattle.rows_trait.specs.Rule.{IsPicture, plan}
 use Rattle.rows_trait.specs.declared.view.View.{View}
 use Rattle.rows_trait.specs.Views.{Shape, state}
 use Rattle.worker_log.specs.Logs.{Log}
-use Rattle.row_engine.specs.Opened.{plain_shape}
-use Rattle.row_engine.specs.Syncs.{EverySynced, HasSynced}
+use Rattle.session_state.specs.Opened.{plain_shape}
+use Rattle.session_state.specs.Syncs.{EverySynced, HasSynced}
 use Rattle.lean_engine.specs.Desks.{desk_of, log_of, place_of}
 use Rattle.lean_engine.specs.Machines.{AreDesks, AreLogged, HasNumbers, IsDesk, IsMachine}
 use Rattle.lean_engine.specs.Inside.Syncs.{AreRaised, Flushed, next_with, raised_desk}

@@ -17,7 +17,7 @@ use Rattle.row_words.specs.Moments.{events_of}
 use Rattle.row_words.specs.Openings.{opening}
 use Rattle.rows_trait.specs.declared.view.View.{View}
 use Rattle.rows_trait.specs.Views.{Shape, state}
-use Rattle.row_engine.specs.Numbers.{AreClocksLow, AreNumbered}
+use Rattle.session_state.specs.Numbers.{AreClocksLow, AreNumbered}
 use Rattle.lean_engine.specs.Desks.{desk_of, log_of, place_of}
 use Rattle.lean_engine.specs.Machines.{AreDesks, AreLogged}
 use Rattle.lean_engine.specs.Inside.Syncs.{HasOpening, greatest}

@@ -18,7 +18,7 @@ use Rattle.disk_slots.specs.Masters.{IsMaster}
 use Rattle.disk_slots.specs.declared.master.Master.{Master}
 use Rattle.core_disk.specs.Versions.{EveryVersion, then}
 use Rattle.disk_runs.specs.Laws.{EveryRest}
-use Rattle.disk_runs.specs.MasterLaws.{IsSync, StandsNext, with_sync, raised}
+use Rattle.disk_runs.specs.MasterLaws.{IsAllSynced, IsSync, StandsNext, raised, with_sync}
 use Rattle.disk_runs.specs.Masters.{IsNextOf, IsNoEarlier, slot_of}
 use Rattle.image_model.specs.Fair.{piece}
 use Rattle.disk_runs.specs.Moments.{LeavesSome}
@@ -39,7 +39,6 @@ use Rattle.engine_calls.proofs.PartLemmas.{on_log, whole}
 use Rattle.run_crashes.specs.Lines.{CallLeaves}
 use Rattle.engine_trait.specs.Areas.{Around, Beside, IsAside}
 use Rattle.engine_trait.specs.Limits.{limits}
-use Rattle.disk_runs.specs.MasterLaws.{IsAllSynced}
 use Rattle.lean_engine.specs.Inside.Syncs.{IsWritten, Stood, next_with}
 
 -- ## Areas

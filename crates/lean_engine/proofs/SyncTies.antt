@@ -37,9 +37,8 @@ use Rattle.row_words.specs.Openings.{opening}
 use Rattle.rows_trait.specs.declared.view.View.{View}
 use Rattle.rows_trait.specs.Views.{state}
 use Rattle.worker_log.specs.Logs.{Log}
-use Rattle.row_engine.specs.Grown.{Behind}
-use Rattle.row_engine.specs.Syncs.{HasSynced}
-use Rattle.row_engine.specs.Ties.{Ties}
+use Rattle.session_state.specs.Ties.{Behind, Ties}
+use Rattle.session_state.specs.Syncs.{HasSynced}
 use Rattle.lean_engine.specs.Desks.{desk_of}
 use Rattle.lean_engine.specs.Machines.{AreHalf, DoesTied, Tied}
 use Rattle.lean_engine.specs.Inside.Syncs.{FlushFails, Flushed, IsWriting, Stood, next_with}

@@ -34,9 +34,9 @@ use Rattle.rows_trait.specs.declared.view.View.{View}
 use Rattle.rows_trait.specs.Views.{state}
 use Rattle.worker_log.specs.Calls.{flushed_log}
 use Rattle.worker_log.specs.Logs.{Log}
-use Rattle.row_engine.specs.Grown.{Behind}
-use Rattle.row_engine.specs.Puts.{KeepsLog}
-use Rattle.row_engine.specs.Syncs.{HasNoneBehind, flushed_of, flushes_of}
+use Rattle.session_state.specs.Ties.{Behind}
+use Rattle.session_state.specs.Staging.{KeepsLog}
+use Rattle.session_state.specs.Syncs.{HasNoneBehind, flushed_of, flushes_of}
 use Rattle.lean_engine.specs.Inside.Syncs.{FlushFails, Flushed, FlushedOne, Stood}
 use Rattle.lean_engine.proofs.FloorLemmas.{seen_more}
 use Rattle.lean_engine.proofs.SyncRuns.{around_more, around_none, log_aside, stood_failed, stood_flush}

@@ -29,11 +29,11 @@ use Rattle.lean_disk.specs.Story.{Crash, Story}
 use Rattle.log_calls.specs.Calls.{Anything}
 use Rattle.rows_trait.specs.declared.view.View.{View}
 use Rattle.worker_log.specs.Logs.{Log}
-use Rattle.row_engine.specs.Calls.{AbortDoes, CallDoes, Comes, DoesOn}
+use Rattle.row_engine.specs.Calls.{AbortDoes, CallDoes, Comes, DoesOn, IsAbortDue as abort_due}
 use Rattle.row_engine.specs.Calls as alone
 use Rattle.row_engine.specs.Deeds as alone_did
-use Rattle.row_engine.specs.Others.{Steps}
-use Rattle.row_engine.specs.Ties.{IsAbortDue as abort_due, Ties}
+use Rattle.session_state.specs.Others.{Steps}
+use Rattle.session_state.specs.Ties.{Ties}
 use Rattle.lean_engine.specs.Desks.{desk_of}
 use Rattle.lean_engine.specs.Machines.{AreHalf, DoesTied, DoesByParts, IsDue, OnLine, Tied, memory_of}
 use Rattle.lean_engine.specs.declared.desk.Desk.{Desk}

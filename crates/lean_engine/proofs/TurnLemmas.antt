@@ -19,7 +19,7 @@ use Rattle.engine_trait.specs.Refusals.{IsRefusedFor, refusal_in}
 use Rattle.rows_trait.specs.declared.view.View.{View}
 use Rattle.worker_log.specs.Logs.{Log}
 use Rattle.row_engine.specs.Calls.{Comes}
-use Rattle.row_engine.specs.declared.session.Session.{Session}
+use Rattle.session_state.specs.declared.session.Session.{Session}
 use Rattle.lean_engine.specs.Desks.{Turned, desk_of}
 use Rattle.lean_engine.specs.Inside.Asks.{OnAsked}
 use Rattle.lean_engine.specs.Machines.{AreHalf, DoesTied, DoesByParts, IsLogged, OnLine, Tied, memory_of}

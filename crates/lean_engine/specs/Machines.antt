@@ -24,10 +24,10 @@ use Rattle.rows_trait.specs.Rule.{IsPicture, plan}
 use Rattle.rows_trait.specs.Views.{Shape, state}
 use Rattle.worker_log.specs.Logs.{Log}
 use Rattle.row_engine.specs.Calls.{Comes}
-use Rattle.row_engine.specs.Holds.{Holds}
-use Rattle.row_engine.specs.Opened.{plain_shape}
-use Rattle.row_engine.specs.Ties.{Ties}
-use Rattle.row_engine.specs.declared.session.Session.{Session}
+use Rattle.session_state.specs.Holds.{Holds}
+use Rattle.session_state.specs.Opened.{plain_shape}
+use Rattle.session_state.specs.Ties.{Ties}
+use Rattle.session_state.specs.declared.session.Session.{Session}
 use Rattle.lean_engine.specs.Desks.{desk_of, log_of}
 use Rattle.lean_engine.specs.declared.desk.Desk.{Desk}
 

@@ -25,7 +25,7 @@ use Rattle.recovery.specs.declared.opening.Unrecovered.TheVariants as why
 use Rattle.disk_image.specs.Breaks.{IsDamaged}
 use Rattle.engine_trait.specs.Calls.{IsOf, Memory}
 use Rattle.engine_trait.specs.declared.calls.Next.TheVariants.{Line}
-use Rattle.row_engine.specs.declared.session.Session.{Session}
+use Rattle.session_state.specs.declared.session.Session.{Session}
 use Rattle.lean_engine.specs.States.{InRun, State, memory_in}
 use Rattle.lean_engine.specs.declared.desk.Desk.{Desk}
 use Rattle.lean_engine.specs.declared.engine.Size.{Size}

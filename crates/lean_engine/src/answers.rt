@@ -9,7 +9,7 @@ use engine_trait::calls::{Calls, Durable, Unanswered};
 use lean_disk::MemDisk;
 use lean_edge::{Put, Sink};
 use map_model::{Answer, Call, Refusal};
-use row_engine::Stages;
+use session_state::Stages;
 
 // The answer, or why there is none.
 fn told(answer: Answer) -> Result<Answer, Unanswered>

@@ -22,7 +22,7 @@ use engine_trait::calls::Next;
 use group_commit::Unripe;
 use map_model::{Answer, Call, Refusal};
 use page_model::limits::WAITING_ENDS;
-use row_engine::Stages;
+use session_state::Stages;
 
 // A conflict is the answer.
 fn is_conflict(answer: &Answer) -> bool

@@ -11,7 +11,7 @@ ghost use Rattle.lean_engine.specs.Receipts.{IsReceipt};
 use crate::engine::Engine;
 use group_commit::Receipt;
 use map_model::{Answer, Call, Refusal};
-use row_engine::Stages;
+use session_state::Stages;
 
 /// A transaction has begun, with this number.
 #[derive(Clone, Copy, Debug, PartialEq, Eq)]

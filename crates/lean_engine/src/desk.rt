@@ -3,7 +3,7 @@ ghost use Rattle.std.specs.Prelude.{◌≡◌, ◌≤◌, ◌<◌};
 ghost use Rattle.lean_engine.specs.Desks.{AreSeated, Turned};
 ghost use Rattle.lean_engine.specs.Inside.Parts.{in_store};
 
-use row_engine::{Session, Work};
+use session_state::{Session, Work};
 use std::mem::swap;
 use worker_log::WorkerLog;
 

@@ -13,7 +13,7 @@ use engine_trait::calls::Next;
 use group_commit::Unripe;
 use lean_disk::Disk;
 use recovery::Unrecovered;
-use row_engine::{Staged, Work};
+use session_state::{Staged, Work};
 use std::alloc::Global;
 use std::marker::{Brand, Model};
 

@@ -21,4 +21,4 @@ pub use durables::Broken;
 pub use engine::{Engine, Opened, Size, Unopened};
 pub use engine_trait::calls::{Durable, Unanswered};
 pub use group_commit::{Receipt, Ripeness};
-pub use row_engine::{Stages, stage_end};
+pub use session_state::{Stages, stage_end};

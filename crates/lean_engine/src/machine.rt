@@ -14,9 +14,10 @@ use disk_slots::Master;
 use group_commit::Receipt;
 use key_locks::latches::Latches;
 use map_model::{Answer, Call, Refusal};
-use row_engine::{Ended, Stages, Work};
+use row_engine::Ended;
 use rows_trait::plain::PlainRows;
 use rows_trait::trace::Trace;
+use session_state::{Stages, Work};
 
 /// The rows and their seat, the disk and the session whose turn it is with its log, the other sessions at their desks, the marks of latched lock rows, and the master
 /// that counts.
@@ -136,7 +137,7 @@ impl<D: Stages> Machine<D> {
         ensures turn { self.new.work.session.own ≡ self.old.work.session.own }
         ensures flushed { (is_long : Bool) → is_still call.now is_long ≡ true → KeepsFlushed self.old self.new }
     {
-        row_engine::every_other();
+        session_state::every_other();
         let own = self.work.session.own;
         match *call {
             Call::Get { key } => Response::value(row_engine::get(
@@ -178,7 +179,7 @@ impl<D: Stages> Machine<D> {
         ensures due { self.old.work.session.is_open ≡ true → (c : Call) → MachineDoes D.story (IsDue self.old.work.session.own c) self.old.work.session.own c result.answer self.old self.new }
         ensures turn { self.new.work.session.own ≡ self.old.work.session.own }
     {
-        row_engine::every_other();
+        session_state::every_other();
         let own = self.work.session.own;
         Response::aborted(
             own,

@@ -16,9 +16,9 @@ use group_commit::Unripe;
 use key_locks::latches::Latches;
 use lean_disk::Disk;
 use recovery::{Recovered, Unrecovered, recover};
-use row_engine::{Session, further_session, open_session};
 use rows_trait::plain::PlainRows;
 use rows_trait::trace::Trace;
+use session_state::{Session, further_session, open_session};
 use std::alloc::{AllocError, Global};
 use worker_log::WorkerLog;
 
@@ -105,8 +105,8 @@ pub(crate) fn open_parts<D: Disk>(
 {
     image_model::every_undone();
     recovery::every_own();
-    row_engine::every_opened();
-    row_engine::every_fellow();
+    session_state::every_opened();
+    session_state::every_fellow();
     group_commit::every_start();
     let recovered = match recover(alloc, disk, size.sessions) {
         Ok(recovered) => recovered,

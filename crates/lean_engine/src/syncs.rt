@@ -7,8 +7,8 @@ ghost use Rattle.log_calls.specs.Syncs.{SyncsOn};
 ghost use Rattle.log_calls.specs.Wholes.{EndsInRecord};
 ghost use Rattle.disk_runs.specs.MasterLaws.{raised};
 ghost use Rattle.row_engine.specs.Calls.{begin_answer};
-ghost use Rattle.row_engine.specs.Puts.{KeepsLog};
-ghost use Rattle.row_engine.specs.Syncs.{HasNoneBehind, HasSynced, synced_session};
+ghost use Rattle.session_state.specs.Staging.{KeepsLog};
+ghost use Rattle.session_state.specs.Syncs.{HasNoneBehind, HasSynced, synced_session};
 ghost use Rattle.rows_trait.specs.Views.{state};
 ghost use Rattle.lean_engine.specs.Desks.{desk_of};
 ghost use Rattle.lean_engine.specs.Inside.Parts.{AreAsMany, FailsToFlush, FailsToSync, FlushesAll, FlushesOne, HasLogs, IsFlushed, IsRaised, IsSound, IsStill, IsSynced, KeepsFlushed, MachineWent, MakesSync, NoneIsHalf, SeatFits, Works, here, logs};
@@ -22,7 +22,7 @@ use disk_slots::{Heads, Master};
 use lean_disk::{Did, Disk};
 use log_calls::sync_master;
 use map_model::{Answer, Refusal};
-use row_engine::{Session, Stages, clocks_low, flush_own, store_synced};
+use session_state::{Session, Stages, clocks_low, flush_own, store_synced};
 use worker_log::{DiskFault, WorkerLog};
 
 // The greater of two numbers.
@@ -154,7 +154,7 @@ impl<D: Stages> Machine<D> {
 
         ensures cause_disk_fault { HasCause (D.faults self.old.work.disk) (D.faults self.new.work.disk) (IsErr result) }
     {
-        row_engine::every_other();
+        session_state::every_other();
         self.turn_to(session);
         flush_own(&mut self.rows, &mut self.seat, &mut self.work)
     }
@@ -204,7 +204,7 @@ impl<D: Stages> Machine<D> {
         ensures cause_disk_fault { HasCause (D.faults self.old.work.disk) (D.faults self.new.work.disk) (IsErr result) }
     {
         row_opening::every_reached();
-        row_engine::every_synced();
+        session_state::every_synced();
         clocks_low(&self.rows, &self.seat);
         let number = greatest_clock(&self.work.session, &self.desks);
         if let Err(fault) = write_floor(&mut self.work.disk, &mut self.master, number) {
@@ -277,7 +277,7 @@ impl<D: Stages> Machine<D> {
         ensures flushed { KeepsFlushed self.old self.new }
     {
         laws();
-        row_engine::every_other();
+        session_state::every_other();
         begun(row_engine::begin(&mut self.rows, &mut self.seat, &mut self.work))
     }
 
@@ -295,7 +295,7 @@ impl<D: Stages> Machine<D> {
         ensures turn { Works self.new → self.new.work.session.own ≡ self.old.work.session.own }
     {
         laws();
-        row_engine::every_other();
+        session_state::every_other();
         let own = self.work.session.own;
         let _last = self.work.log.last();
         if let Err(_) = self.sync_all() {

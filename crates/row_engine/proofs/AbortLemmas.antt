@@ -63,19 +63,19 @@ use Rattle.rows_trait.specs.Views.{Shape, state}
 use Rattle.btree_smo.specs.Outcomes.{AreMisses}
 use Rattle.row_engine.specs.Inside.Aborts.{abort_of}
 use Rattle.row_engine.specs.Inside.Backs.{HasFailedBack, Undoes, Undone, is_back}
-use Rattle.row_engine.specs.Calls.{DoesOn}
+use Rattle.row_engine.specs.Calls.{Asked, DoesOn, Hindered, IsAbortDue}
 use Rattle.row_engine.specs.Inside.Ends.{Ended, Missed, end_of, gives}
-use Rattle.row_engine.specs.Grown.{Behind, Goes, Went}
-use Rattle.row_engine.specs.Holds.{Holds, IsOf}
-use Rattle.row_engine.specs.Puts.{KeepsLog}
-use Rattle.row_engine.specs.Ties.{Asked, Hindered, IsAbortDue, Ties}
-use Rattle.row_engine.specs.declared.session.Session.{Session}
+use Rattle.session_state.specs.Ties.{Behind, Ties}
+use Rattle.row_engine.specs.Grown.{Goes, Went}
+use Rattle.session_state.specs.Holds.{Holds, IsOf}
+use Rattle.session_state.specs.Staging.{KeepsLog}
+use Rattle.session_state.specs.declared.session.Session.{Session}
 use Rattle.row_engine.proofs.OnOwn.{logs_own}
 use Rattle.row_engine.proofs.BackRuns.{Backs, backs_of}
 use Rattle.row_engine.proofs.Behind as behind
 use Rattle.row_engine.proofs.CommitRuns.{ending_met, length_unlocks}
 use Rattle.row_engine.proofs.CommitRefusals.{length_events}
-use Rattle.row_engine.proofs.Frames.{framed_then}
+use Rattle.session_state.proofs.Frames.{framed_then}
 use Rattle.row_engine.proofs.GrowRuns.{all_append, logs_same, went_failed, went_more, went_quiet}
 use Rattle.row_engine.proofs.LatchLemmas.{gives_events}
 use Rattle.row_engine.proofs.Misses.{misses_are, misses_log, misses_met, misses_quiet, misses_steps, misses_structure}

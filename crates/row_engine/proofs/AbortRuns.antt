@@ -23,15 +23,15 @@ use Rattle.rows_trait.specs.declared.view.View.{View}
 use Rattle.rows_trait.specs.Views.{Shape, state}
 use Rattle.row_engine.specs.Inside.Aborts.{Finishes, abort_of}
 use Rattle.row_engine.specs.Inside.Backs.{HasUndone, PutsAllBack}
-use Rattle.row_engine.specs.Calls.{AbortDoes, DoesOn, abort_answer}
+use Rattle.row_engine.specs.Calls.{AbortDoes, Asked, DoesOn, Hindered, abort_answer}
 use Rattle.row_engine.specs.Inside.Ends.{Ended, Latched, Missed}
 use Rattle.row_engine.specs.Flushed.{flushed_to}
-use Rattle.row_engine.specs.Holds.{Holds}
+use Rattle.session_state.specs.Holds.{Holds}
 use Rattle.row_engine.specs.Inside.{abort_test}
-use Rattle.row_engine.specs.Puts.{KeepsLog, works_after}
-use Rattle.row_engine.specs.Ties.{Asked, Hindered}
+use Rattle.session_state.specs.Staging.{KeepsLog}
+use Rattle.row_engine.specs.Puts.{works_after}
 use Rattle.row_engine.specs.declared.commits.Ended as committed
-use Rattle.row_engine.specs.declared.session.Session.{Session}
+use Rattle.session_state.specs.declared.session.Session.{Session}
 use Rattle.row_engine.proofs.AbortLemmas.{aborted_does, failed_back, halved_does, unended}
 use Rattle.row_engine.proofs.Behind as behind
 use Rattle.row_engine.proofs.CommitLemmas.{ended_as, floor_is, same_state}

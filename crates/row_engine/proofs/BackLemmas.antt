@@ -32,16 +32,16 @@ use Rattle.lean_proto.specs.Writes.{IsNewest}
 use Rattle.btree_descent.specs.Puts.{DrawsFor, MayPutBack, Written, back_of}
 use Rattle.flush_avoidance.specs.Clocks.{risen}
 use Rattle.row_engine.specs.Inside.Backs.{IsPutBack}
-use Rattle.row_engine.specs.Holds.{AreNumbers, Holds, IsOf}
-use Rattle.row_engine.specs.Numbers.{HaveRoom}
-use Rattle.row_engine.specs.Staging.{Staging}
-use Rattle.row_engine.specs.Undo.{HasRoomToUndo, newest_of, undo_of, without_newest}
-use Rattle.row_engine.specs.declared.session.Session.{Session}
-use Rattle.row_engine.specs.declared.undo.Undone.{Undone}
-use Rattle.row_engine.proofs.Behind.{rows_on}
-use Rattle.row_engine.proofs.Moments.{resident_on}
+use Rattle.session_state.specs.Holds.{AreNumbers, Holds, IsOf}
+use Rattle.session_state.specs.Numbers.{HaveRoom}
+use Rattle.session_state.specs.Staging.{Staging}
+use Rattle.session_state.specs.Undo.{HasRoomToUndo, newest_of, undo_of, without_newest}
+use Rattle.session_state.specs.declared.session.Session.{Session}
+use Rattle.session_state.specs.declared.undo.Undone.{Undone}
+use Rattle.session_state.proofs.HoldLemmas.{rows_on}
+use Rattle.session_state.proofs.Moments.{resident_on}
 use Rattle.row_engine.proofs.PutLemmas.{same_flushed, seen_core}
-use Rattle.row_engine.proofs.UndoLemmas.{room_behind}
+use Rattle.session_state.proofs.UndoLemmas.{room_behind}
 
 -- ## The newest change
 

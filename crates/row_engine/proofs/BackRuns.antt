@@ -34,16 +34,17 @@ use Rattle.row_opening.specs.Openings.{EveryNeed, EveryReached, Opens}
 use Rattle.rows_trait.specs.declared.view.View.{View}
 use Rattle.rows_trait.specs.Views.{after_all, state}
 use Rattle.flush_avoidance.specs.Clocks.{risen}
-use Rattle.row_engine.specs.declared.session.Session.{Session}
+use Rattle.session_state.specs.declared.session.Session.{Session}
 use Rattle.row_engine.specs.Inside.Backs.{IsPutBack, Undoes, Undone, is_back}
-use Rattle.row_engine.specs.Others.{Steps}
-use Rattle.row_engine.specs.Grown.{Behind, Goes, Went}
+use Rattle.session_state.specs.Others.{Steps}
+use Rattle.session_state.specs.Ties.{Behind}
+use Rattle.row_engine.specs.Grown.{Goes, Went}
 use Rattle.row_engine.proofs.OnOwn.{logs_own}
 use Rattle.row_engine.proofs.Behind as behind
 use Rattle.row_engine.proofs.GrowRuns.{all_append, logs_more, went_more}
-use Rattle.row_engine.proofs.Moments.{events_more}
-use Rattle.row_engine.proofs.OtherLemmas.{every_steps}
-use Rattle.row_engine.proofs.OwnSteps.{back_steps, no_steps}
+use Rattle.session_state.proofs.Moments.{events_more}
+use Rattle.session_state.proofs.OtherLemmas.{every_steps, no_steps}
+use Rattle.row_engine.proofs.OwnSteps.{back_steps}
 use Rattle.row_engine.proofs.PutLemmas.{seen_core}
 
 -- ## Lists of them
@@ -244,7 +245,7 @@ module _ (reached : EveryReached) (need : EveryNeed) (parts : (old mid new : Sto
         some_events [] h = refl
         some_events (e ∷ es) h = refl
 
-        session_is : (y z x : Session) → y ≡ record z { is_half_aborted = true; clock = risen z.clock y.clock; undo = Rattle.row_engine.specs.Undo.without_newest z.undo } → z ≡ record x { is_half_aborted = z.is_half_aborted; clock = risen x.clock z.clock; undo = z.undo } → y ≡ record x { is_half_aborted = y.is_half_aborted; clock = risen x.clock y.clock; undo = y.undo }
+        session_is : (y z x : Session) → y ≡ record z { is_half_aborted = true; clock = risen z.clock y.clock; undo = Rattle.session_state.specs.Undo.without_newest z.undo } → z ≡ record x { is_half_aborted = z.is_half_aborted; clock = risen x.clock z.clock; undo = z.undo } → y ≡ record x { is_half_aborted = y.is_half_aborted; clock = risen x.clock y.clock; undo = y.undo }
         session_is y z x p q = (λ i. record (p i) { is_half_aborted = y.is_half_aborted; clock = risen (p i).clock y.clock; undo = y.undo }) ∙ (λ i. record (q i) { is_half_aborted = y.is_half_aborted; clock = risen (q i).clock y.clock; undo = y.undo })
 
     pub goes_back : (old : Story) → Goes x.own x.group d.events v was mid old s → Goes x.own x.group (d.events ++ event.PutBack z.own c.page ∷ []) v was is old new

@@ -12,13 +12,13 @@ use Rattle.row_words.specs.Openings.{opening}
 use Rattle.rows_trait.specs.Views.{Shape}
 use Rattle.rows_trait.specs.declared.view.View.{View}
 use Rattle.row_engine.specs.Inside.Backs.{HasFailedBack, HasUndone, IsPutBack, PutsAllBack, StepsBack}
-use Rattle.row_engine.specs.Holds.{Holds}
-use Rattle.row_engine.specs.Puts.{KeepsLog}
-use Rattle.row_engine.specs.declared.session.Session.{Session}
-use Rattle.row_engine.specs.declared.undo.Undone.{Undone}
+use Rattle.session_state.specs.Holds.{Holds}
+use Rattle.session_state.specs.Staging.{KeepsLog}
+use Rattle.session_state.specs.declared.session.Session.{Session}
+use Rattle.session_state.specs.declared.undo.Undone.{Undone}
 use Rattle.row_engine.proofs.BackRuns.{goes_back, undoes_more, undoes_none, undoes_still}
 use Rattle.row_engine.proofs.GrowRuns.{goes_none, went_failed}
-use Rattle.row_engine.proofs.Frames.{framed_then}
+use Rattle.session_state.proofs.Frames.{framed_then}
 
 -- a list without any is empty
 pub none_in : (us : List Undone) → length us ≡ 0 → us ≡ []

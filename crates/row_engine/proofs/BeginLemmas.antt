@@ -31,14 +31,14 @@ use Rattle.engine_trait.specs.Refusals.{log_refusal, refusal_in}
 use Rattle.row_engine.specs.Begins.{Begins}
 use Rattle.row_engine.specs.Calls.{Comes}
 use Rattle.row_engine.specs.Flushed.{Looked, flushed_to}
-use Rattle.row_engine.specs.Holds.{Holds, IsOf}
+use Rattle.session_state.specs.Holds.{Holds, IsOf}
 use Rattle.row_engine.specs.Inside.{begin_test, begun_session}
-use Rattle.row_engine.specs.Others.{Steps}
-use Rattle.row_engine.specs.declared.session.Session.{Session}
-use Rattle.row_engine.proofs.Behind.{rows_on}
+use Rattle.session_state.specs.Others.{Steps}
+use Rattle.session_state.specs.declared.session.Session.{Session}
+use Rattle.session_state.proofs.HoldLemmas.{rows_on}
 use Rattle.row_engine.proofs.FlushLemmas.{flushed_all, flushed_from, flushed_low}
-use Rattle.row_engine.proofs.Moments.{acts, free_same, goes_seen, goes_state, met_core, resident_on}
-use Rattle.row_engine.proofs.OwnSteps.{is_own, one_step}
+use Rattle.session_state.proofs.Moments.{acts, free_same, goes_seen, goes_state, met_core, resident_on}
+use Rattle.session_state.proofs.OtherLemmas.{is_own, one_step}
 use Rattle.row_engine.proofs.TakeLemmas.{holds_still, still}
 
 -- ## The moment

@@ -1,5 +1,5 @@
 -- What an engine's seat has seen within a call: the events of the outcomes before, and then the first of its own.
-use Rattle.std.proofs.Common.{◌≡◌, ◌≤◌, ◌++◌, ℕ, suc, Bool, true, false, cond, List, [], ◌∷◌, refl, sym, ap, ◌∙◌, subst, arith, append-nil, eq-eqb}
+use Rattle.std.proofs.Common.{◌≡◌, ◌++◌, ℕ, suc, Bool, true, false, cond, List, [], ◌∷◌, refl, sym, ap, ◌∙◌, subst, arith, append-nil, eq-eqb}
 use Rattle.std.proofs.lemmas.List.{append_assoc}
 use Rattle.map_model.specs.declared.call.Call.{Call}
 use Rattle.map_model.specs.Lists.{all, any, keep}
@@ -23,7 +23,7 @@ use Rattle.lean_disk.specs.Story.{Crash, IsLawful, Story}
 use Rattle.lean_disk.proofs.MomentLemmas.{started}
 use Rattle.log_calls.specs.Calls.{Anything}
 use Rattle.worker_log.specs.Logs.{Log}
-use Rattle.engine_trait.specs.Calls.{call_behind, due_call}
+use Rattle.engine_trait.specs.Calls.{call_behind, due_call, is_half_done}
 use Rattle.row_engine.specs.Deeds.{Keeps}
 use Rattle.engine_calls.specs.Clauses.{Between, IsNewLine}
 use Rattle.engine_calls.specs.Parts.{EveryPart, Gone, behind_first}
@@ -33,16 +33,11 @@ use Rattle.row_words.specs.Moments.{events_of}
 use Rattle.row_words.specs.Openings.{opening}
 use Rattle.row_opening.specs.Openings.{EveryNeed, EveryReached, Opens}
 use Rattle.rows_trait.specs.declared.view.View.{View}
-use Rattle.rows_trait.specs.Views.{Shape, state}
-use Rattle.btree_descent.specs.Known as pages
-use Rattle.key_locks.specs.Rows as locking
-use Rattle.row_engine.specs.Holds.{AreRows}
-use Rattle.row_engine.specs.Numbers.{AreClocked, AreNumbered}
-use Rattle.engine_trait.specs.Calls.{is_half_done}
+use Rattle.rows_trait.specs.Views.{state}
 use Rattle.engine_trait.specs.Limits.{AreLoads, limits}
-pub use Rattle.row_engine.specs.Grown.{Behind}
-use Rattle.row_engine.specs.Ties.{Ties}
-use Rattle.row_engine.proofs.Moments.{events_more}
+pub use Rattle.session_state.specs.Ties.{Behind}
+use Rattle.session_state.specs.Ties.{Ties}
+use Rattle.session_state.proofs.Moments.{events_more}
 
 -- ## Loads
 
@@ -144,25 +139,6 @@ half_own own x xs e = ap (λ b. is_half (cond b (marks_for x.outcome ++ marks_by
 -- the state behind the first events, as one of the run
 pub front_is : (g : Opening) (xs : List Done) (first : List happening.Event) → state_after g (front xs ++ first) ≡ behind_first g xs first
 front_is g xs first = run_more g (start g) (front xs) first
-
--- ## The rows
-
--- what is so of the rows whatever has happened on them
-pub rows_on : (z : Shape) (v w : View) (own workers frames count : ℕ) → w.given ≡ v.given → AreRows z v own workers frames count → AreRows z w own workers frames count
-rows_on z v w own workers frames count e r = record {
-  tree = record { some = r.tree.some; shape = r.tree.shape; given = ap (λ k. (opening k).frames) e ∙ r.tree.given };
-  tree_sound = subst (λ k. pages.IsSound k) (sym e) r.tree_sound;
-  locks = record { spans = r.locks.spans; given = ap (λ k. (opening k).frames) e ∙ r.locks.given; locks = ap (λ k. k.rows) e ∙ r.locks.locks; few = subst (λ k. (opening k).workers ≤ 16) (sym e) r.locks.few; works = subst (λ k. locking.IsWorker (opening k).workers own) (sym e) r.locks.works };
-  locks_sound = subst (λ k. locking.IsSound k) (sym e) r.locks_sound;
-  clocked = subst (λ k. AreClocked k) (sym e) r.clocked;
-  numbered = subst (λ k. AreNumbered k) (sym e) r.numbered;
-  workers = ap (λ k. (opening k).workers) e ∙ r.workers;
-  sized = r.sized;
-  low = r.low;
-  high = r.high;
-  most = r.most;
-  few = r.few;
-}
 
 -- ## On the disk
 

@@ -18,18 +18,17 @@ use Rattle.rows_trait.specs.declared.view.View.{View}
 use Rattle.btree_smo.specs.Outcomes.{Drew, IsSpentIn}
 use Rattle.btree_smo.specs.declared.outcome.Outcome.{Outcome}
 use Rattle.btree_smo.specs.declared.outcome.Outcome.TheVariants as outcome
-use Rattle.row_engine.specs.Free.{first_of, without_first}
-use Rattle.row_engine.specs.Holds.{Holds}
-use Rattle.row_engine.specs.Numbers.{HaveRoom}
+use Rattle.session_state.specs.Free.{first_of, without_first}
+use Rattle.session_state.specs.Holds.{Holds, IsSameSession}
+use Rattle.session_state.specs.Numbers.{HaveRoom}
 use Rattle.row_engine.specs.Puts.{MayChange}
-use Rattle.row_engine.specs.Calls.{IsSameSession}
 use Rattle.row_engine.specs.Inside.Rooms.{IsExpected, answer_of, session_after}
-use Rattle.row_engine.specs.Staging.{Staging}
-use Rattle.row_engine.specs.declared.session.Session.{Session}
+use Rattle.session_state.specs.Staging.{Staging}
+use Rattle.session_state.specs.declared.session.Session.{Session}
 use Rattle.row_engine.proofs.DelLemmas.{same_by_clock, same_then}
 use Rattle.row_engine.proofs.GrowthLemmas.{sound}
 use Rattle.row_engine.proofs.PutLemmas.{low_page}
-use Rattle.row_engine.proofs.UndoLemmas.{room_to_end}
+use Rattle.session_state.proofs.UndoLemmas.{room_to_end}
 
 -- ## Free pages
 

@@ -30,15 +30,16 @@ use Rattle.key_locks.specs.Latching.{is_marked}
 use Rattle.lean_proto.specs.Controls.{CanEnd}
 use Rattle.row_engine.specs.Inside.Ends.{AreMine, Ended, Latched, Latching, MayEnd, MayFlush, end_of, gives, waiting_session}
 use Rattle.row_engine.specs.Flushed.{Looked, flushed_to}
-use Rattle.row_engine.specs.Holds.{Holds, IsOf}
-use Rattle.row_engine.specs.Numbers.{HaveRoom}
-use Rattle.row_engine.specs.Ties.{Ties}
-use Rattle.row_engine.specs.declared.session.Session.{Session}
-use Rattle.row_engine.proofs.Behind.{rows_on}
-use Rattle.row_engine.proofs.FlushLemmas.{behind_commit, behind_flush, behind_more, behind_same, floor_flush, flushed_all}
-use Rattle.row_engine.proofs.LatchLemmas.{seen_state, sized_on}
-use Rattle.row_engine.proofs.Moments.{free_same, met_core, resident_on}
-use Rattle.row_engine.proofs.UndoLemmas.{none_left}
+use Rattle.session_state.specs.Holds.{Holds, IsOf}
+use Rattle.session_state.specs.Numbers.{HaveRoom}
+use Rattle.session_state.specs.Ties.{Ties}
+use Rattle.session_state.specs.declared.session.Session.{Session}
+use Rattle.session_state.proofs.HoldLemmas.{rows_on}
+use Rattle.row_engine.proofs.FlushLemmas.{behind_commit, flushed_all}
+use Rattle.session_state.proofs.WaitLemmas.{behind_flush, behind_more, behind_same, floor_flush}
+use Rattle.session_state.proofs.Moments.{free_same, met_core, resident_on, seen_state}
+use Rattle.row_engine.proofs.LatchLemmas.{sized_on}
+use Rattle.session_state.proofs.UndoLemmas.{none_left}
 
 -- ## Views that have seen the same
 

@@ -51,18 +51,18 @@ use Rattle.key_locks.specs.Latching.{is_marked}
 use Rattle.row_engine.specs.Calls.{CallDoes, DoesOn, commit_answer}
 use Rattle.btree_smo.specs.Outcomes.{AreMisses}
 use Rattle.row_engine.specs.Inside.Ends.{AreAmong, AreMine, Missed}
-use Rattle.row_engine.specs.Holds.{Holds, IsOf}
+use Rattle.session_state.specs.Holds.{Holds, IsOf}
 use Rattle.row_engine.specs.Inside.{call_test, is_going}
-use Rattle.row_engine.specs.Ties.{Ties}
+use Rattle.session_state.specs.Ties.{Ties}
 use Rattle.row_engine.specs.declared.commits.Ended as committed
-use Rattle.row_engine.specs.declared.session.Session.{Session}
+use Rattle.session_state.specs.declared.session.Session.{Session}
 use Rattle.row_engine.proofs.GoingLemmas.{going, not_going, tests_as}
 use Rattle.row_engine.proofs.Behind as behind
-use Rattle.row_engine.proofs.Behind.{rows_on}
+use Rattle.session_state.proofs.HoldLemmas.{rows_on}
 use Rattle.row_engine.proofs.CommitLemmas.{ties_as}
-use Rattle.row_engine.proofs.LatchLemmas.{replicated, seen_state}
+use Rattle.row_engine.proofs.LatchLemmas.{replicated}
+use Rattle.session_state.proofs.Moments.{free_same, resident_on, seen_state}
 use Rattle.row_engine.proofs.Misses.{misses_core, misses_log, misses_met, misses_quiet, misses_run, misses_steps, misses_structure}
-use Rattle.row_engine.proofs.Moments.{free_same, resident_on}
 
 -- ## Tests
 

@@ -59,14 +59,14 @@ use Rattle.rows_trait.specs.Views.{Shape, state}
 use Rattle.row_engine.specs.Calls.{CallDoes, DoesOn}
 use Rattle.row_engine.specs.Inside.Ends.{Ended, HasFlushed, Latched, MayEnd, MayFlush, gives, waiting_session}
 use Rattle.row_engine.specs.Flushed.{Looked, flushed_to}
-use Rattle.row_engine.specs.Holds.{Holds, IsOf}
-use Rattle.row_engine.specs.Puts.{KeepsLog}
-use Rattle.row_engine.specs.Ties.{Ties}
-use Rattle.row_engine.specs.declared.session.Session.{Session}
+use Rattle.session_state.specs.Holds.{Holds, IsOf}
+use Rattle.session_state.specs.Staging.{KeepsLog}
+use Rattle.session_state.specs.Ties.{Ties}
+use Rattle.session_state.specs.declared.session.Session.{Session}
 use Rattle.row_engine.proofs.Behind as behind
 use Rattle.row_engine.proofs.OnOwn.{logs_own, on_own}
 use Rattle.row_engine.proofs.CommitLemmas.{after_end_holds, after_flush_holds, ended_as, floor_is, flush_met, latched_on, may_end, may_flush, same_state, ties_as}
-use Rattle.row_engine.proofs.Frames.{framed_then, within_of, within_then}
+use Rattle.session_state.proofs.Frames.{framed_then, within_of, within_then}
 use Rattle.row_engine.proofs.LatchLemmas.{gives_events}
 
 -- ## Rows that are given back

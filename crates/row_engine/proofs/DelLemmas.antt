@@ -1,5 +1,5 @@
 -- A del that finds no value, behind the taking of its row.
-use Rattle.std.proofs.Common.{◌≡◌, ◌↔◌, ◌≤◌, ◌++◌, ◌&&◌, ℕ, true, List, [], ◌∷◌, length, Option, Some, None, refl, sym, ap, ◌∙◌, subst, arith, append-nil, true≢false}
+use Rattle.std.proofs.Common.{◌≡◌, ◌↔◌, ◌≤◌, ◌++◌, ◌&&◌, ℕ, true, List, [], ◌∷◌, Option, Some, None, refl, sym, ap, ◌∙◌, subst, arith, append-nil, true≢false}
 use Rattle.std.proofs.lemmas.Bool.{and_parts}
 use Rattle.map_model.specs.Lists.{Has}
 use Rattle.map_model.proofs.ListLemmas.{upd_same}
@@ -17,14 +17,13 @@ use Rattle.rows_trait.specs.declared.view.View.{View}
 use Rattle.btree_descent.specs.Dels.{WasAbsent}
 use Rattle.key_locks.specs.declared.mode.Mode.{Mode}
 use Rattle.flush_avoidance.specs.Clocks.{risen}
-use Rattle.row_engine.specs.Calls.{IsSameSession}
+use Rattle.session_state.specs.Holds.{AreNumbers, Holds, IsOf, IsSameSession}
 use Rattle.row_engine.specs.Inside.Dels.{IsAbsent}
-use Rattle.row_engine.specs.Holds.{AreNumbers, Holds, IsOf}
-use Rattle.row_engine.specs.Staging.{IsButClock}
+use Rattle.session_state.specs.Staging.{IsButClock}
 use Rattle.row_engine.specs.Inside.Takes.{Takes}
-use Rattle.row_engine.specs.declared.session.Session.{Session}
-use Rattle.row_engine.proofs.Behind.{rows_on}
-use Rattle.row_engine.proofs.Moments.{free_same, resident_on}
+use Rattle.session_state.specs.declared.session.Session.{Session}
+use Rattle.session_state.proofs.HoldLemmas.{rows_on}
+use Rattle.session_state.proofs.Moments.{free_same, resident_on}
 use Rattle.row_engine.proofs.PutLemmas.{seen_core}
 
 -- ## The session

@@ -47,24 +47,24 @@ use Rattle.rows_trait.specs.declared.view.View.{View}
 use Rattle.btree_descent.specs.declared.descent.TheConstants.{TOMBSTONE}
 use Rattle.btree_descent.specs.Puts.{change_of}
 use Rattle.key_locks.specs.declared.mode.Mode.TheVariants.{Alone}
-use Rattle.engine_trait.specs.Calls.{Nothing, call_behind, is_half_done}
+use Rattle.engine_trait.specs.Calls.{MayCome, Nothing, call_behind, is_half_done}
 use Rattle.engine_trait.specs.Logs.{Logs, LogsEntry}
 use Rattle.flush_avoidance.specs.Clocks.{risen}
 use Rattle.row_engine.specs.Deeds.{Fails}
 use Rattle.engine_trait.specs.Limits.{limits}
 use Rattle.engine_trait.specs.Refusals.{IsRefusedFor, change_refusal, clock_refusal, lock_refusal, met_refusal, refusal_in}
 use Rattle.engine_trait.specs.Rooms.{IsRoomFor, MakesItsRoom}
-use Rattle.engine_trait.specs.Calls.{MayCome}
 use Rattle.row_engine.specs.Calls.{CallDoes, Comes, DoesOn, del_answer}
 use Rattle.row_engine.specs.Inside.Dels.{Dels, IsAbsent}
-use Rattle.row_engine.specs.Grown.{Behind, Went}
-use Rattle.row_engine.specs.Held.{with_row}
-use Rattle.row_engine.specs.Holds.{Holds, IsOf}
+use Rattle.session_state.specs.Ties.{Behind, Ties}
+use Rattle.row_engine.specs.Grown.{Went}
+use Rattle.session_state.specs.Held.{with_row}
+use Rattle.session_state.specs.Holds.{Holds, IsOf}
 use Rattle.row_engine.specs.Inside.{is_going, put_test}
-use Rattle.row_engine.specs.Puts.{IsChanged, IsEarly, KeepsLog, works_after}
+use Rattle.row_engine.specs.Puts.{IsChanged, IsEarly, works_after}
+use Rattle.session_state.specs.Staging.{KeepsLog}
 use Rattle.row_engine.specs.Inside.Takes.{IsHindered, IsSpent, NotTaken, Takes}
-use Rattle.row_engine.specs.Ties.{Ties}
-use Rattle.row_engine.specs.declared.session.Session.{Session}
+use Rattle.session_state.specs.declared.session.Session.{Session}
 use Rattle.row_engine.proofs.Behind as behind
 use Rattle.row_engine.proofs.BeginLemmas.{comes_told}
 use Rattle.row_engine.proofs.ConflictLemmas.{lock_free, lock_refused}
@@ -76,9 +76,9 @@ use Rattle.row_engine.proofs.StepLemmas.{clock_at_end}
 use Rattle.row_engine.proofs.PutTests.{free_of, gate, gate_more, gate_none, gate_of, logs_lock, met_told, none_is, put_told, room_lock, some_is, steps_lock, test_is}
 use Rattle.row_engine.proofs.Refusing as refusing
 use Rattle.row_engine.proofs.Refusing.{hindered_behind, key_free, key_hindered, refusal_comes, spent_behind, spent_end, taken_behind}
-use Rattle.row_engine.proofs.StageLemmas.{staged_flushed}
+use Rattle.session_state.proofs.StageLemmas.{staged_flushed}
 use Rattle.row_engine.proofs.TakeLemmas.{row_is}
-use Rattle.row_engine.proofs.UndoLemmas.{many_of}
+use Rattle.session_state.proofs.UndoLemmas.{many_of}
 
 -- ## Its answers
 

@@ -1,5 +1,5 @@
 -- The end of a transaction, at the session's control word, and its rows behind it.
-use Rattle.std.proofs.Common.{◌≡◌, ◌<◌, ◌+◌, ℕ, zero, suc, Bool, true, false, List, [], ◌∷◌, ◌++◌, sym, ap, ◌∙◌, subst, arith}
+use Rattle.std.proofs.Common.{◌≡◌, ◌+◌, ℕ, Bool, true, false, List, [], ◌∷◌, ◌++◌, sym, ap, ◌∙◌, subst, arith}
 use Rattle.std.proofs.lemmas.List.{append_assoc}
 use Rattle.core_state.specs.Events as happening
 use Rattle.core_state.specs.States.{State}
@@ -14,14 +14,13 @@ use Rattle.lean_disk.specs.Story.{Story}
 use Rattle.log_calls.specs.Calls.{FlushesOn}
 use Rattle.worker_log.specs.Calls.{flushed_log}
 use Rattle.worker_log.specs.Logs.{Log}
-use Rattle.rows_trait.specs.Layout.{count_of}
 use Rattle.rows_trait.specs.declared.view.View.{View}
 use Rattle.rows_trait.specs.Views.{Shape, state}
 use Rattle.rows_trait.specs.Turns.{MayTurn, Turned}
 use Rattle.lean_proto.specs.Controls as controls
 use Rattle.row_engine.specs.Inside.Ends.{AreHeld, AreMine, Ended, Gave, HasFlushed, MayEnd, MayFlush, gives}
-use Rattle.row_engine.specs.declared.session.Session.{Session}
-use Rattle.row_engine.proofs.Moments.{acts, goes_seen, goes_state, met_core}
+use Rattle.session_state.specs.declared.session.Session.{Session}
+use Rattle.session_state.proofs.Moments.{acts, goes_seen, goes_state, met_core}
 
 module _ (turns : controls.EveryTurn) (z : Shape) (v : View) (x : Session) (commit : Bool) (floor number : ℕ) (marks : List Bool) (m : MayEnd z v x commit floor marks) (number_is : number ≡ x.clock.clock + 1) where
   met : may (opening v.given) (state v).core (happening.Event.End x.own commit floor) ≡ true
@@ -69,11 +68,6 @@ module _ (turns : controls.EveryTurn) (z : Shape) (v : View) (x : Session) (comm
       }
 
 -- ## A flush
-
--- a worker has so many words
-pub has_word : (own i : ℕ) → 0 < own → i < 4 → i < count_of own
-has_word zero i low few = absurd (omega arith)
-has_word (suc w) i low few = few
 
 module _ (turns : controls.EveryTurn) (z : Shape) (v : View) (x : Session) (log : Log) (m : MayFlush z v x log) where
   pub flush_turn : MayTurn z x.own 0 (λ _. x.clock.clock) (λ _. Flush x.own x.clock.clock ∷ []) v

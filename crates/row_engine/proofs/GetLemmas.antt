@@ -15,9 +15,8 @@ use Rattle.core_state.specs.Needs.{holds_row, is_value, may, may_hold, value_in}
 use Rattle.core_state.specs.Steps.{at_pages, happens, state_after}
 use Rattle.core_calls.specs.Deeds.{Got, marks_by}
 use Rattle.core_calls.specs.Fronts.{Done, front, outcomes}
-use Rattle.core_calls.specs.LogEvents.{IsTight, is_log}
+use Rattle.core_calls.specs.LogEvents.{IsTight, behind as waits, is_log}
 use Rattle.core_calls.proofs.WhereLemmas.{syncs_kept}
-use Rattle.core_calls.specs.LogEvents.{behind as waits}
 use Rattle.core_calls.specs.Marks.{is_half}
 use Rattle.core_calls.specs.Refusals.{Hinders, IsCause}
 use Rattle.core_calls.specs.Runs.{Tells}
@@ -44,26 +43,25 @@ use Rattle.key_locks.specs.declared.mode.Mode.{Mode}
 use Rattle.key_locks.specs.declared.mode.Mode.TheVariants.{Shared}
 use Rattle.row_opening.specs.Openings.{EveryNeed, EveryReached}
 use Rattle.engine_trait.specs.Limits.{limits}
-use Rattle.engine_trait.specs.Calls.{call_behind, is_half_done}
+use Rattle.engine_trait.specs.Calls.{MayCome, call_behind, is_half_done}
 use Rattle.engine_trait.specs.Refusals.{IsRefusedFor, lock_refusal, refusal_in}
 use Rattle.engine_trait.specs.Rooms.{MakesItsRoom}
-use Rattle.engine_trait.specs.Calls.{MayCome}
 use Rattle.flush_avoidance.specs.Clocks.{after_touch}
 use Rattle.row_engine.specs.Calls.{CallDoes, DoesOn}
-use Rattle.row_engine.specs.Holds.{Holds, IsOf}
+use Rattle.session_state.specs.Holds.{Holds, IsOf}
 use Rattle.row_engine.specs.Inside.{call_test, is_going}
-use Rattle.row_engine.specs.Others.{Steps}
+use Rattle.session_state.specs.Others.{Steps}
 use Rattle.row_engine.specs.Inside.Takes.{NotTaken, Takes}
-use Rattle.row_engine.specs.Ties.{Ties}
-use Rattle.row_engine.specs.declared.session.Session.{Session}
+use Rattle.session_state.specs.Ties.{Ties}
+use Rattle.session_state.specs.declared.session.Session.{Session}
 use Rattle.row_engine.proofs.Behind as behind
-use Rattle.row_engine.proofs.Behind.{rows_on}
+use Rattle.session_state.proofs.HoldLemmas.{rows_on}
 use Rattle.row_engine.proofs.ConflictLemmas.{lock_free, lock_refused}
 use Rattle.row_engine.proofs.GoingLemmas.{goes, going, not_going, tests_as}
-use Rattle.row_engine.proofs.Moments.{free_same, resident_on}
-use Rattle.row_engine.proofs.OwnSteps.{is_own, one_step}
+use Rattle.session_state.proofs.Moments.{free_same, resident_on, seen_state}
+use Rattle.session_state.proofs.OtherLemmas.{is_own, one_step}
 use Rattle.row_engine.proofs.Refusing.{hindered_behind, is_refusal, key_free, key_hindered, refusal_comes, refused_does, spent_behind, spent_end, taken_behind}
-use Rattle.row_engine.proofs.TakeLemmas.{holds_still, numbers_on, ran_seen, row_is, seen_core, seen_state, with_count}
+use Rattle.row_engine.proofs.TakeLemmas.{holds_still, numbers_on, ran_seen, row_is, seen_core, with_count}
 
 -- ## The tests
 

@@ -5,7 +5,7 @@ use Rattle.map_model.specs.declared.call.Refusal.TheVariants as refusal
 use Rattle.core_state.specs.States.{State}
 use Rattle.engine_trait.specs.Refusals.{in_transaction}
 use Rattle.row_engine.specs.Inside.{is_going}
-use Rattle.row_engine.specs.declared.session.Session.{Session}
+use Rattle.session_state.specs.declared.session.Session.{Session}
 
 -- what is so where it does
 pub record Going (x : Session) : Type 0 where

@@ -48,19 +48,21 @@ use Rattle.row_opening.specs.Openings.{EveryNeed, EveryReached, Opens}
 use Rattle.rows_trait.specs.declared.view.View.{View}
 use Rattle.rows_trait.specs.Views.{after_all, state}
 use Rattle.flush_avoidance.specs.Clocks.{risen}
-use Rattle.row_engine.specs.declared.session.Session.{Session}
-use Rattle.row_engine.specs.Puts.{IsChanged, KeepsLog}
-use Rattle.row_engine.specs.Grown.{AreAside, Behind, Gained, Goes, Grows, Went, is_aside}
-use Rattle.row_engine.specs.Others.{Steps}
+use Rattle.session_state.specs.declared.session.Session.{Session}
+use Rattle.row_engine.specs.Puts.{IsChanged}
+use Rattle.session_state.specs.Staging.{KeepsLog}
+use Rattle.row_engine.specs.Grown.{AreAside, Gained, Goes, Grows, Went, is_aside}
+use Rattle.session_state.specs.Ties.{Behind}
+use Rattle.session_state.specs.Others.{Steps}
 use Rattle.row_engine.specs.Inside.Rooms.{IsGrown, IsGrowth}
 use Rattle.row_engine.proofs.Behind as behind
 use Rattle.row_engine.proofs.Formats.{next_as}
 use Rattle.row_engine.proofs.Misses.{is_miss}
-use Rattle.row_engine.proofs.Frames.{framed_then, within_of, within_then}
-use Rattle.row_engine.proofs.Moments.{events_more}
-use Rattle.row_engine.proofs.OtherLemmas.{every_steps}
-use Rattle.row_engine.proofs.OwnSteps.{grown_steps, no_steps}
-use Rattle.row_engine.proofs.StageLemmas.{staged_flushed}
+use Rattle.session_state.proofs.Frames.{framed_then, within_of, within_then}
+use Rattle.session_state.proofs.Moments.{events_more}
+use Rattle.session_state.proofs.OtherLemmas.{every_steps, no_steps}
+use Rattle.row_engine.proofs.OwnSteps.{grown_steps}
+use Rattle.session_state.proofs.StageLemmas.{staged_flushed}
 
 -- ## Changes of the tree
 

@@ -30,18 +30,18 @@ use Rattle.btree_smo.specs.declared.outcome.Outcome.TheVariants.{RowSpent}
 use Rattle.engine_trait.specs.Refusals.{room_refusal}
 use Rattle.engine_trait.specs.Rooms.{IsNextRoom}
 use Rattle.flush_avoidance.specs.Clocks.{risen}
-use Rattle.row_engine.specs.Free.{without_first}
-use Rattle.row_engine.specs.Holds.{AreNumbers, Holds, IsOf}
+use Rattle.session_state.specs.Free.{without_first}
+use Rattle.session_state.specs.Holds.{AreNumbers, Holds, IsOf}
 use Rattle.row_engine.specs.Puts.{MayChange}
-use Rattle.row_engine.specs.Undo.{HasRoomToStage, undo_of}
+use Rattle.session_state.specs.Undo.{HasRoomToStage, undo_of}
 use Rattle.row_engine.specs.Inside.Rooms.{IsGrown, IsGrowth, IsSpentBehind}
-use Rattle.row_engine.specs.Staging.{Staging}
-use Rattle.row_engine.specs.declared.session.Session.{Session}
-use Rattle.row_engine.proofs.Behind.{rows_on}
-use Rattle.row_engine.proofs.Moments.{resident_on}
+use Rattle.session_state.specs.Staging.{Staging}
+use Rattle.session_state.specs.declared.session.Session.{Session}
+use Rattle.session_state.proofs.HoldLemmas.{rows_on}
+use Rattle.session_state.proofs.Moments.{resident_on}
 use Rattle.row_engine.proofs.Misses.{misses_core}
 use Rattle.row_engine.proofs.PutLemmas.{floor_same, ran_seen, same_flushed, seen_core}
-use Rattle.row_engine.proofs.UndoLemmas.{many_of, room_after, room_to_end, room_to_flush, room_to_undo}
+use Rattle.session_state.proofs.UndoLemmas.{room_after, room_to_end, room_to_flush, room_to_undo}
 
 -- ## Moments of a call, where nobody else steps
 

@@ -20,12 +20,10 @@ use Rattle.row_words.specs.declared.event.Event.{Event}
 use Rattle.row_words.specs.declared.event.Event.TheVariants.{Miss, Unlock}
 use Rattle.row_words.specs.Moments.{events_of}
 use Rattle.row_words.specs.Openings.{opening}
-use Rattle.row_words.specs.Sealed.{begun, run}
-use Rattle.row_words.proofs.SealedLemmas.{run_append}
 use Rattle.rows_trait.specs.declared.view.Hold.{Hold}
 use Rattle.rows_trait.specs.declared.view.View.{View}
 use Rattle.rows_trait.specs.Causes.{EveryLow}
-use Rattle.rows_trait.specs.Views.{Shape, AreLow, after_all, holds, state, without}
+use Rattle.rows_trait.specs.Views.{Shape, AreLow, holds, state, without}
 use Rattle.rows_trait.specs.Turns.{Ran}
 use Rattle.rows_trait.proofs.Holds.{holds_without}
 use Rattle.key_locks.specs.declared.latches.Unlatched.{Unlatched}
@@ -35,8 +33,8 @@ use Rattle.key_locks.specs.Rows.{IsWorker, Sized, Spans}
 use Rattle.key_locks.proofs.Masks.{others_not}
 use Rattle.btree_smo.specs.Outcomes.{AreMisses}
 use Rattle.row_engine.specs.Inside.Ends.{AreAmong, AreHeld, AreMarkedTo, AreMine, Gave, Gives, Giving, Latching, Missed, Missing, gives}
-use Rattle.row_engine.specs.Held.{Held}
-use Rattle.row_engine.proofs.Moments.{met_core}
+use Rattle.session_state.specs.Held.{Held}
+use Rattle.session_state.proofs.Moments.{met_core, seen_state}
 
 -- ## The rows
 
@@ -249,9 +247,6 @@ pub all_missed : (frames : ℕ) (h : Held) (at : ℕ) (marks : List Bool) (v w :
 all_missed frames h at marks v w end m = record { given = m.given; misses = m.misses; are_misses = m.are_misses; few = let k = m.few in omega arith; seen = m.seen; idle = idle frames h at marks w.held m.mine m.left end }
 
 -- ## Rows that are given back
-
-pub seen_state : (v w : View) (es : List Event) → w.given ≡ v.given → w.seen ≡ v.seen ++ es → state w ≡ run v.given (state v) es
-seen_state v w es given seen = (λ i. after_all (given i) (seen i)) ∙ run_append v.given (begun v.given) v.seen es
 
 gives_append : (own : ℕ) (rows : List ℕ) (i : ℕ) → gives own (rows ++ i ∷ []) ≡ gives own rows ++ Unlock own i ∷ []
 gives_append own [] i = refl

@@ -15,7 +15,7 @@ use Rattle.row_words.specs.Moments.{Moment, events_of}
 use Rattle.row_words.specs.Sealed as sealed
 use Rattle.btree_smo.specs.Outcomes.{AreMisses}
 use Rattle.row_engine.specs.Grown.{AreAside}
-use Rattle.row_engine.proofs.Moments.{met_core}
+use Rattle.session_state.proofs.Moments.{met_core}
 
 abbrev pub is_miss : happening.Event → Bool
 is_miss (happening.Event.Miss w) = true

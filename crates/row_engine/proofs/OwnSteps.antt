@@ -1,10 +1,9 @@
 -- What the parts of a call say of the events that were seen, as steps of its session.
-use Rattle.std.proofs.Common.{◌≡◌, ◌∙◌, ◌++◌, ◌==◌, ℕ, Bool, true, false, List, [], ◌∷◌, Option, Some, None, Result, Ok, Err, refl, sym, ap, subst, append-nil, eq-eqb, true≢false}
+use Rattle.std.proofs.Common.{◌≡◌, ◌++◌, ◌==◌, ℕ, Bool, true, false, List, [], ◌∷◌, Option, Some, None, Result, Ok, Err, refl, sym, ap, subst, eq-eqb, true≢false}
 use Rattle.std.proofs.lemmas.Bool.{and_from}
 use Rattle.map_model.specs.Lists.{all}
 use Rattle.map_model.specs.declared.call.Refusal.{Refusal}
 use Rattle.map_model.specs.declared.call.Refusal.TheVariants as refusal
-use Rattle.core_state.specs.Needs.{may}
 use Rattle.core_state.specs.Steps.{AllMet, step}
 use Rattle.lean_disk.specs.Story.{Story}
 use Rattle.worker_log.specs.Logs.{Log}
@@ -19,33 +18,19 @@ use Rattle.key_locks.specs.Rows.{event_mode}
 use Rattle.btree_descent.specs.declared.descent.TheConstants.{TOMBSTONE}
 use Rattle.btree_smo.specs.Outcomes.{AreMisses}
 use Rattle.row_engine.specs.declared.commits.Ended as committed
-use Rattle.row_engine.specs.declared.session.Session.{Session}
+use Rattle.session_state.specs.declared.session.Session.{Session}
 use Rattle.row_engine.specs.Inside.Aborts.{Finishes}
 use Rattle.row_engine.specs.Inside.Backs.{IsPutBack, PutsAllBack}
 use Rattle.row_engine.specs.Inside.Dels.{Dels}
 use Rattle.row_engine.specs.Inside.Ends.{Ended, HasFlushed, MayFlush, Missed, gives}
-use Rattle.row_engine.specs.Others.{Steps, is_of}
+use Rattle.session_state.specs.Others.{Steps, is_of}
 use Rattle.row_engine.specs.Inside.Outcomes.{Puts}
 use Rattle.row_engine.specs.Puts.{works_after}
 use Rattle.row_engine.specs.Inside.Rooms.{IsGrown, IsGrowth}
 use Rattle.row_engine.specs.Inside.Takes.{NotTaken, Takes}
 use Rattle.row_engine.proofs.LatchLemmas.{gives_events}
 use Rattle.row_engine.proofs.Misses.{misses_met}
-use Rattle.row_engine.proofs.OtherLemmas.{every_steps}
-
--- ## Single events
-
--- nothing was seen
-pub no_steps : (own : ℕ) (v w : View) → w.given ≡ v.given → w.seen ≡ v.seen → Steps own v w
-no_steps own v w given seen = record { events = []; given = given; seen = seen ∙ sym (append-nil v.seen); are_own = refl; met = tt }
-
--- one event was
-pub one_step : (own : ℕ) (v w : View) (e : Event) → w.given ≡ v.given → w.seen ≡ v.seen ++ e ∷ [] → is_of own e ≡ true → may (opening v.given) (state v).core (event_of e) ≡ true → Steps own v w
-one_step own v w e given seen is met = record { events = e ∷ []; given = given; seen = seen; are_own = and_from (is_of own e) true is refl; met = (met, tt) }
-
--- an event of the worker is one of the session
-pub is_own : (own : ℕ) → (own == own) ≡ true
-is_own own = eq-eqb own own refl
+use Rattle.session_state.proofs.OtherLemmas.{every_steps, is_own, no_steps, one_step}
 
 misses_own : (own : ℕ) (es : List Event) → AreMisses es → all (is_of own) es ≡ true
 misses_own own [] m = refl

@@ -9,7 +9,6 @@ use Rattle.worker_log.specs.Logs.{Log}
 use Rattle.engine_calls.specs.Answers.{EveryAnswer}
 use Rattle.engine_calls.specs.Clauses.{EveryComing}
 use Rattle.engine_calls.specs.Parts.{EveryPart}
-use Rattle.engine_calls.specs.Puts.{taking}
 use Rattle.row_opening.specs.Openings.{EveryNeed, EveryReached}
 use Rattle.rows_trait.specs.Views.{Shape, state}
 use Rattle.rows_trait.specs.declared.view.View.{View}
@@ -17,13 +16,13 @@ use Rattle.key_locks.specs.declared.mode.Mode.TheVariants.{Alone}
 use Rattle.flush_avoidance.specs.Clocks.{risen}
 use Rattle.engine_trait.specs.Refusals.{clock_refusal}
 use Rattle.row_engine.specs.Calls.{CallDoes, DoesOn, put_answer}
-use Rattle.row_engine.specs.Held.{with_row}
-use Rattle.row_engine.specs.Holds.{Holds, IsOf}
+use Rattle.session_state.specs.Held.{with_row}
+use Rattle.session_state.specs.Holds.{Holds, IsOf}
 use Rattle.row_engine.specs.Inside.{put_test}
 use Rattle.row_engine.specs.Inside.Outcomes.{Puts}
 use Rattle.row_engine.specs.Puts.{works_after}
 use Rattle.row_engine.specs.Inside.Takes.{NotTaken, Takes}
-use Rattle.row_engine.specs.declared.session.Session.{Session}
+use Rattle.session_state.specs.declared.session.Session.{Session}
 use Rattle.row_engine.proofs.BeginLemmas.{comes_told}
 use Rattle.row_engine.proofs.PutRuns.{early_does, hindered_does, met_does, put_did, row_does}
 use Rattle.row_engine.proofs.PutTests.{met_told, put_told}

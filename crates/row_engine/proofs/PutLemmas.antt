@@ -35,18 +35,18 @@ use Rattle.btree_descent.specs.Puts.{Changed, IsRowSpent, MayPut, MetFull, MetSp
 use Rattle.btree_descent.specs.Trails.{Came, IsAbove}
 use Rattle.btree_descent.specs.declared.put.Put.TheVariants as put
 use Rattle.flush_avoidance.specs.Clocks.{risen}
-use Rattle.row_engine.specs.Holds.{AreNumbers, Holds, IsOf}
-use Rattle.row_engine.specs.Numbers.{HaveRoom}
+use Rattle.session_state.specs.Holds.{AreNumbers, Holds, IsOf}
+use Rattle.session_state.specs.Numbers.{HaveRoom}
 use Rattle.row_engine.specs.Inside.Outcomes.{HasNoRoom}
 use Rattle.row_engine.specs.Puts.{IsChanged, MayChange}
-use Rattle.row_engine.specs.Staging.{Staging}
+use Rattle.session_state.specs.Staging.{Staging}
 use Rattle.row_engine.specs.Inside.Takes.{IsSpent}
-use Rattle.row_engine.specs.declared.session.Session.{Session}
+use Rattle.session_state.specs.declared.session.Session.{Session}
 use Rattle.row_engine.proofs.TakeLemmas.{row_is}
-use Rattle.row_engine.specs.Undo.{HasRoomToStage}
-use Rattle.row_engine.proofs.UndoLemmas.{many_of, room_after, room_to_end, room_to_flush, room_to_undo}
-use Rattle.row_engine.proofs.Behind.{rows_on}
-use Rattle.row_engine.proofs.Moments.{free_same, met_core, resident_on}
+use Rattle.session_state.specs.Undo.{HasRoomToStage}
+use Rattle.session_state.proofs.UndoLemmas.{many_of, room_after, room_to_end, room_to_flush, room_to_undo}
+use Rattle.session_state.proofs.HoldLemmas.{rows_on}
+use Rattle.session_state.proofs.Moments.{free_same, met_core, resident_on}
 
 -- ## What a seat that is alone has seen
 

@@ -61,24 +61,24 @@ use Rattle.engine_trait.specs.Limits.{limits}
 use Rattle.engine_trait.specs.Refusals.{IsRefusedFor, change_refusal, clock_refusal, is_full_for, lock_refusal, log_refusal, met_refusal, refusal_in, room_refusal}
 use Rattle.engine_trait.specs.Rooms.{AreRoom, IsRoomFor, MakesItsRoom, MakesRoom}
 use Rattle.row_engine.specs.Calls.{Comes, DoesOn, put_answer}
-use Rattle.row_engine.specs.Held.{with_row}
-use Rattle.row_engine.specs.Holds.{Holds, IsOf}
+use Rattle.session_state.specs.Held.{with_row}
+use Rattle.session_state.specs.Holds.{Holds, IsOf}
 use Rattle.row_engine.specs.Inside.{is_going, put_test}
-use Rattle.row_engine.specs.Grown.{AreAside, Behind, Gained, Grows, Went, is_aside}
+use Rattle.row_engine.specs.Grown.{AreAside, Gained, Grows, Went, is_aside}
+use Rattle.session_state.specs.Ties.{Behind, Ties}
 use Rattle.row_engine.specs.Inside.Outcomes.{HasFailed, HasPut, HasRoom, IsCrowded, IsStopped, Puts}
 use Rattle.row_engine.specs.Puts.{works_after}
 use Rattle.row_engine.specs.Inside.Rooms.{IsSpentBehind, IsUnfit}
 use Rattle.row_engine.specs.Inside.Takes.{Takes}
-use Rattle.row_engine.specs.Ties.{Ties}
-use Rattle.row_engine.specs.declared.session.Session.{Session}
+use Rattle.session_state.specs.declared.session.Session.{Session}
 use Rattle.row_engine.proofs.GoingLemmas.{not_going, tests_as}
-use Rattle.row_engine.proofs.UndoLemmas.{many_of}
+use Rattle.session_state.proofs.UndoLemmas.{many_of}
 use Rattle.row_engine.proofs.Behind as behind
 use Rattle.row_engine.proofs.ConflictLemmas.{lock_free, lock_refused}
 use Rattle.row_engine.proofs.Formats.{full_as, full_on, refusal_as, refusal_on}
 use Rattle.row_engine.proofs.GrowRuns.{Asides, all_append, asides, logs_more, logs_same, makes_behind, makes_more, makes_same, record_in, went_quiet}
 use Rattle.row_engine.proofs.Misses.{misses_are, misses_aside, misses_met, misses_quiet, misses_structure}
-use Rattle.row_engine.proofs.Moments.{events_more}
+use Rattle.session_state.proofs.Moments.{events_more}
 use Rattle.row_engine.proofs.OnOwn.{logs_own}
 use Rattle.row_engine.proofs.PutLemmas.{seen_core}
 use Rattle.row_engine.proofs.PutTests.{IsFree, IsTaken, all_three, behind_still, free_of, full_in, gate, gate_more, gate_none, gate_of, length_events, logs_lock, many_behind, none_is, not_full, room_lock, short_is, some_is, some_true, steps_lock, taken_alone, taken_passes, taken_stays, tall_is, test_is}

@@ -35,24 +35,24 @@ use Rattle.row_words.specs.Openings.{opening}
 use Rattle.rows_trait.specs.declared.view.View.{View}
 use Rattle.key_locks.specs.declared.mode.Mode.{Mode}
 use Rattle.key_locks.specs.declared.mode.Mode.TheVariants.{Alone}
-use Rattle.engine_trait.specs.Calls.{IsTold}
+use Rattle.engine_trait.specs.Calls.{IsTold, MayCome}
 use Rattle.engine_trait.specs.Limits.{AreLoads}
 use Rattle.engine_trait.specs.Refusals.{clock_refusal, lock_refusal, log_refusal, met_refusal, room_refusal}
 use Rattle.engine_trait.specs.Rooms.{AreRoom, makes_room}
-use Rattle.engine_trait.specs.Calls.{MayCome}
 use Rattle.row_engine.specs.Inside.{is_going, put_test}
-use Rattle.row_engine.specs.Grown.{AreAside, Behind, is_aside}
+use Rattle.row_engine.specs.Grown.{AreAside, is_aside}
+use Rattle.session_state.specs.Ties.{Behind}
 use Rattle.row_engine.specs.Inside.Outcomes.{Puts}
 use Rattle.row_engine.specs.Puts.{IsEarly, MayChange, works_after}
 use Rattle.row_engine.specs.Inside.Takes.{NotTaken, Takes}
-use Rattle.row_engine.specs.declared.session.Session.{Session}
+use Rattle.session_state.specs.declared.session.Session.{Session}
 use Rattle.row_engine.proofs.ConflictLemmas.{lock_free}
 use Rattle.row_engine.proofs.GoingLemmas.{going}
 use Rattle.row_engine.proofs.GrowthLemmas.{touched}
-use Rattle.row_engine.proofs.StageLemmas.{staged_flushed}
+use Rattle.session_state.proofs.StageLemmas.{staged_flushed}
 use Rattle.row_engine.proofs.StepLemmas.{clock_at_end, clock_below}
 use Rattle.row_engine.proofs.TakesLemmas.{takes_most}
-use Rattle.row_engine.proofs.UndoLemmas.{room_to_stage}
+use Rattle.session_state.proofs.UndoLemmas.{room_to_stage}
 use Rattle.row_engine.proofs.TakeLemmas.{with_count}
 
 pub some_is : (r q : Refusal) → Some r ≡ Some q → r ≡ q

@@ -11,7 +11,7 @@ use Rattle.row_engine.specs.Inside.Ends.{Latched}
 use Rattle.row_engine.specs.Flushed.{flushed_to}
 use Rattle.row_engine.specs.Receipts.{IsEnded}
 use Rattle.row_engine.specs.declared.commits.Ended.{Ended}
-use Rattle.row_engine.specs.declared.session.Session.{Session}
+use Rattle.session_state.specs.declared.session.Session.{Session}
 use Rattle.row_engine.proofs.AbortRuns.{floor_found}
 use Rattle.std.specs.Prelude.{IfOk}
 

@@ -29,13 +29,13 @@ use Rattle.btree_smo.specs.Outcomes.{WasSo}
 use Rattle.btree_smo.specs.Room.{IsFullIn, IsRoomIn, IsRun}
 use Rattle.engine_trait.specs.Refusals.{is_full_for, room_refusal}
 use Rattle.engine_trait.specs.Rooms.{IsNextRoom}
-use Rattle.row_engine.specs.Free.{first_of}
-use Rattle.row_engine.specs.Holds.{Holds}
+use Rattle.session_state.specs.Free.{first_of}
+use Rattle.session_state.specs.Holds.{Holds}
 use Rattle.row_engine.specs.Puts.{MayChange}
 use Rattle.row_engine.specs.Inside.Rooms.{CanGrow, CanLift, CanSplit, Grew, IsGrown, IsNoRoom, IsPathTo, IsSpentBehind, IsUnfit, next_of}
 use Rattle.row_engine.specs.declared.room.Next.{Next}
 use Rattle.row_engine.specs.declared.room.Next.TheVariants as next
-use Rattle.row_engine.specs.declared.session.Session.{Session}
+use Rattle.session_state.specs.declared.session.Session.{Session}
 use Rattle.row_engine.proofs.GrowthLemmas.{holds_same, hot_in, sound, stands}
 use Rattle.row_engine.proofs.PutLemmas.{none_seen, still}
 

@@ -30,13 +30,13 @@ use Rattle.btree_smo.specs.Splits.{Divided, Parted, split_entry}
 use Rattle.btree_smo.specs.declared.outcome.Outcome.{Outcome}
 use Rattle.btree_smo.specs.declared.outcome.Outcome.TheVariants as outcome
 use Rattle.engine_trait.specs.Rooms.{IsNextRoom}
-use Rattle.row_engine.specs.Free.{without_first}
-use Rattle.row_engine.specs.Holds.{Holds}
-use Rattle.row_engine.specs.Numbers.{HaveRoom}
+use Rattle.session_state.specs.Free.{without_first}
+use Rattle.session_state.specs.Holds.{Holds}
+use Rattle.session_state.specs.Numbers.{HaveRoom}
 use Rattle.row_engine.specs.Puts.{MayChange}
 use Rattle.row_engine.specs.Inside.Rooms.{CanSplit, Grew, IsExpected, IsGrown, answer_of, session_after}
-use Rattle.row_engine.specs.Staging.{Staging}
-use Rattle.row_engine.specs.declared.session.Session.{Session}
+use Rattle.session_state.specs.Staging.{Staging}
+use Rattle.session_state.specs.declared.session.Session.{Session}
 use Rattle.row_engine.proofs.GrowthLemmas.{grown, holds_grown, holds_same, hot_in, met, missed_core, now_is, sound, spent_behind, stands, was_then}
 use Rattle.row_engine.proofs.ChangeLemmas.{first_rest, not_full, not_spent, page_bare, page_free}
 use Rattle.row_engine.proofs.TakesLemmas.{takes_split}

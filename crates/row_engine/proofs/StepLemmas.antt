@@ -11,14 +11,13 @@ use Rattle.lean_disk.proofs.MomentLemmas.{framed}
 use Rattle.lean_disk.specs.Moments.{Framed}
 use Rattle.engine_calls.specs.Parts.{EveryPart}
 use Rattle.row_opening.specs.Openings.{EveryNeed, EveryReached}
-use Rattle.row_words.specs.Moments.{events_of}
+use Rattle.row_words.specs.Moments.{event_of, events_of}
 use Rattle.core_state.specs.States.{State}
 use Rattle.core_state.specs.Steps.{happens}
 use Rattle.disk_image.specs.Records.{entry_of}
 use Rattle.lean_disk.specs.Story.{Story}
 use Rattle.row_words.specs.declared.event.Event.{Event}
 use Rattle.row_words.specs.declared.given.Given.{Given}
-use Rattle.row_words.specs.Moments.{event_of}
 use Rattle.row_words.specs.Openings.{opening}
 use Rattle.rows_trait.specs.Views.{after_all, state}
 use Rattle.rows_trait.specs.declared.view.View.{View}
@@ -27,17 +26,18 @@ use Rattle.engine_trait.specs.Refusals.{clock_refusal, room_refusal}
 use Rattle.engine_trait.specs.Rooms.{IsNextRoom}
 use Rattle.row_engine.specs.Inside.Outcomes.{Crowded, HasFailed, HasNoRoom, HasPut, HasRoom, IsCrowded, IsStopped, Puts, Steps, Stopped, Tries}
 use Rattle.lean_disk.specs.Faults.{HasCause}
-use Rattle.row_engine.specs.Puts.{IsChanged, KeepsLog, MayChange, works_after}
+use Rattle.row_engine.specs.Puts.{IsChanged, MayChange, works_after}
+use Rattle.session_state.specs.Staging.{KeepsLog}
 use Rattle.row_engine.specs.Inside.Rooms.{Grew, IsGrown, IsNoRoom, IsSpentBehind, IsUnfit}
 use Rattle.row_engine.specs.declared.puts.Stepped.{Stepped}
 use Rattle.row_engine.specs.declared.puts.Stepped.TheVariants as stepped
 use Rattle.row_engine.specs.declared.puts.Tried.{Tried}
 use Rattle.row_engine.specs.declared.puts.Tried.TheVariants as tried
-use Rattle.row_engine.specs.declared.session.Session.{Session}
+use Rattle.session_state.specs.declared.session.Session.{Session}
 use Rattle.row_engine.proofs.GrowRuns.{first_fits, goes_more, goes_none, goes_put, grows_more, grows_none, grows_still, growth, went_failed}
-use Rattle.row_engine.proofs.Frames.{framed_then}
+use Rattle.session_state.proofs.Frames.{framed_then}
 use Rattle.row_engine.proofs.PutLemmas.{seen_core}
-use Rattle.row_engine.proofs.UndoLemmas.{room_after}
+use Rattle.session_state.proofs.UndoLemmas.{room_after}
 
 -- ## What a test of the clock says
 

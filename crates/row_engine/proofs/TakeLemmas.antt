@@ -22,8 +22,6 @@ use Rattle.row_words.specs.declared.event.Event.{Event}
 use Rattle.row_words.specs.declared.event.Event.TheVariants.{Lock}
 use Rattle.row_words.specs.Moments.{event_of, mode_of}
 use Rattle.row_words.specs.Openings.{opening}
-use Rattle.row_words.specs.Sealed.{begun, run}
-use Rattle.row_words.proofs.SealedLemmas.{run_append}
 use Rattle.rows_trait.specs.Causes.{EveryLow}
 use Rattle.rows_trait.specs.Turns.{Ran}
 use Rattle.rows_trait.specs.Views.{AreLow, Shape, after_all, state}
@@ -33,15 +31,15 @@ use Rattle.key_locks.specs.declared.mode.Mode.TheVariants.{Alone, Shared}
 use Rattle.key_locks.specs.declared.locking.Stamp.{Stamp}
 use Rattle.key_locks.specs.Locking as locking
 use Rattle.key_locks.specs.Rows.{IsRow, core_mode, event_mode}
-use Rattle.row_engine.specs.Held.{Held, with_row}
-use Rattle.row_engine.specs.Holds.{AreNumbers, AreRows, Holds, IsOf}
+use Rattle.session_state.specs.Held.{Held, with_row}
+use Rattle.session_state.specs.Holds.{AreNumbers, AreRows, Holds, IsOf}
 use Rattle.row_engine.specs.Inside.Takes.{IsHindered, IsSpent, NotTaken, Takes}
-use Rattle.row_engine.specs.declared.session.Session.{Session}
-use Rattle.row_engine.proofs.Behind.{rows_on}
+use Rattle.session_state.specs.declared.session.Session.{Session}
+use Rattle.session_state.proofs.HoldLemmas.{rows_on}
 use Rattle.row_engine.proofs.ConflictLemmas.{blocking_hinders, lone_free}
-use Rattle.row_engine.proofs.HeldLemmas.{reader_has}
+use Rattle.session_state.proofs.HeldLemmas.{reader_has}
 use Rattle.row_engine.proofs.LoneLemmas.{lone_row}
-use Rattle.row_engine.proofs.Moments.{free_same, met_core, resident_on}
+use Rattle.session_state.proofs.Moments.{free_same, met_core, resident_on, seen_state}
 
 -- ## What a seat that is alone has seen
 
@@ -49,11 +47,7 @@ use Rattle.row_engine.proofs.Moments.{free_same, met_core, resident_on}
 pub ran_seen : (alone : Bool) (v w : View) (es : List Event) → alone ≡ true → Ran alone v es w → w.seen ≡ v.seen ++ es
 ran_seen alone v w es is r = r.seen ∙ ap (λ ys. v.seen ++ ys) (r.all is)
 
--- the moment after is the moment before with these
-pub seen_state : (v w : View) (es : List Event) → w.given ≡ v.given → w.seen ≡ v.seen ++ es → state w ≡ run v.given (state v) es
-seen_state v w es given seen = (λ i. after_all (given i) (seen i)) ∙ run_append v.given (begun v.given) v.seen es
-
--- and one event whose need was met
+-- an event whose need was met
 pub seen_core : (v w : View) (e : Event) → w.given ≡ v.given → w.seen ≡ v.seen ++ e ∷ [] → may (opening v.given) (state v).core (event_of e) ≡ true → (state w).core ≡ happens (opening v.given) (state v).core (event_of e)
 seen_core v w e given seen met = ap (λ m. m.core) (seen_state v w (e ∷ []) given seen) ∙ met_core v.given (state v) e met
 
@@ -216,10 +210,6 @@ holds_still z v w x log given seen held h = record {
   where
     same : state w ≡ state v
     same = still v w given seen
-
--- as another shape and session, which are the same
-pub holds_as : (z y : Shape) (v : View) (x u : Session) (log : Log) → y ≡ z → u ≡ x → Holds z v x log → Holds y v u log
-holds_as z y v x u log p q h = subst (λ s. Holds s v u log) (sym p) (subst (λ s. Holds z v s log) (sym q) h)
 
 module _ (z : Shape) (v w : View) (x : Session) (log : Log) (h : Holds z v x log) (row : ℕ) (m : happening.Mode) (low : row < x.held.count) (is_open : x.is_open ≡ true)
     (given : w.given ≡ v.given) (held_is : w.held ≡ v.held) (core_is : (state w).core ≡ happens (opening v.given) (state v).core (happening.Event.Lock x.own row m)) where

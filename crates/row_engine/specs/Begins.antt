@@ -7,7 +7,7 @@ use Rattle.row_words.specs.declared.event.Event.TheVariants.{Begin}
 use Rattle.row_words.specs.Openings.{opening}
 use Rattle.rows_trait.specs.declared.view.View.{View}
 use Rattle.rows_trait.specs.Views.{state}
-use Rattle.row_engine.specs.declared.session.Session.{Session}
+use Rattle.session_state.specs.declared.session.Session.{Session}
 use Rattle.row_engine.specs.Inside.{begun_session}
 
 -- The begin was seen next, where all logs were found flushed as they are; the session goes on by it, and its transaction has the next number.

@@ -1,20 +1,21 @@
 -- What a call of an engine on rows did, in each run to which its view is tied.
-use Rattle.std.specs.Prelude.{◌≡◌, ℕ, Bool, List, ◌∷◌, Option, Result, Ok, Err}
+use Rattle.std.specs.Prelude.{◌≡◌, ℕ, Bool, true, List, ◌∷◌, Option, Some, Result, Ok, Err}
 use Rattle.map_model.specs.declared.call.Answer.{Answer}
 use Rattle.map_model.specs.declared.call.Answer.TheVariants as answer
 use Rattle.map_model.specs.declared.call.Call.{Call}
+use Rattle.map_model.specs.declared.call.Call.TheVariants as call
 use Rattle.map_model.specs.declared.call.Refusal.{Refusal}
 use Rattle.map_model.specs.declared.call.Refusal.TheVariants as refusal
 use Rattle.core_state.specs.Openings.{Opening}
 use Rattle.core_calls.specs.Fronts.{Done, outcomes}
+use Rattle.core_calls.specs.Steps.{hindered_in}
 use Rattle.lean_disk.specs.Story.{Story}
 use Rattle.worker_log.specs.Logs.{Log}
 use Rattle.rows_trait.specs.declared.view.View.{View}
 use Rattle.engine_calls.specs.Clauses.{IsNewLine}
 use Rattle.row_engine.specs.Deeds.{Does, Fails}
-use Rattle.row_engine.specs.Ties.{IsAbortDue, Ties}
+use Rattle.session_state.specs.Ties.{Ties}
 use Rattle.row_engine.specs.declared.commits.Ended.{Ended}
-use Rattle.row_engine.specs.declared.session.Session.{Session}
 
 -- It was answered so, and its view is tied to one outcome more, behind which an abort may be half done.
 pub record DoesOn (g : Opening) (group : ℕ) (xs : List Done) (own : ℕ) (c : Call) (a : Answer) (is_half_aborted : Bool) (w : View) (was is : Log) (old new : Story) : Type 0 where
@@ -34,13 +35,15 @@ DoesWhere May own group c a before now v w was is old new = (g : Opening) (xs : 
 abbrev pub CallDoes : (own group : ℕ) → Call → Answer → (before now : Bool) → (v w : View) → (was is : Log) → (old new : Story) → Type 0
 CallDoes = DoesWhere (λ xs. IsNewLine (outcomes xs))
 
+-- An abort may come for this call: the line asks it; or the newest outcome is a call of the session, in its open transaction, that met a conflict, and it is
+-- the abort of that.
+pub data IsAbortDue (xs : List Done) (own : ℕ) (is_open : Bool) (c : Call) : Type 0 where
+  Asked : IsNewLine (outcomes xs) → c ≡ call.Abort → IsAbortDue xs own is_open c
+  Hindered : is_open ≡ true → (y : Done) (earlier : List Done) → xs ≡ y ∷ earlier → hindered_in y.outcome.deed ≡ Some c → y.outcome.session ≡ own → IsAbortDue xs own is_open c
+
 -- an abort, whatever its line asked, where a transaction is open or not
 abbrev pub AbortDoes : (own group : ℕ) → (is_open : Bool) → Answer → (before now : Bool) → (v w : View) → (was is : Log) → (old new : Story) → Type 0
 AbortDoes own group is_open a before now v w was is old new = (c : Call) → DoesWhere (λ xs. IsAbortDue xs own is_open c) own group c a before now v w was is old new
-
--- it is the same session: by its number, of so many, whose commits are flushed in such groups
-abbrev pub IsSameSession : (x y : Session) → Type 0
-IsSameSession x y = (y.own ≡ x.own) × (y.workers ≡ x.workers) × (y.group ≡ x.group)
 
 -- ## Results as answers
 

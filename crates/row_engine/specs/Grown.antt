@@ -3,8 +3,7 @@ use Rattle.std.specs.Prelude.{◌≡◌, ◌⊎◌, ◌+◌, ◌==◌, ◌++◌,
 use Rattle.map_model.specs.Lists.{all}
 use Rattle.core_state.specs.Openings.{Opening}
 use Rattle.core_state.specs.Events as happening
-use Rattle.core_state.specs.Steps.{AllMet, state_after}
-use Rattle.core_calls.specs.Fronts.{Done, front}
+use Rattle.core_calls.specs.Fronts.{Done}
 use Rattle.disk_runs.specs.Stands.{Known}
 use Rattle.lean_disk.specs.Moments.{CrashIn, Framed, LeavesOnly}
 use Rattle.lean_disk.specs.Story.{Crash, Story}
@@ -18,21 +17,15 @@ use Rattle.engine_trait.specs.Rooms.{MakesRoom}
 use Rattle.row_words.specs.declared.event.Event.{Event}
 use Rattle.row_words.specs.Moments.{events_of}
 use Rattle.row_words.specs.Openings.{opening}
-use Rattle.row_opening.specs.Openings.{Opens}
 use Rattle.rows_trait.specs.declared.view.View.{View}
 use Rattle.rows_trait.specs.Views.{state}
 use Rattle.worker_log.specs.Logs.{Log}
 use Rattle.flush_avoidance.specs.Clocks.{risen}
-use Rattle.row_engine.specs.Others.{Steps}
-use Rattle.row_engine.specs.declared.session.Session.{Session}
+use Rattle.session_state.specs.Others.{Steps}
+use Rattle.session_state.specs.Ties.{Behind}
+use Rattle.session_state.specs.declared.session.Session.{Session}
 
 -- ## Within a call
-
--- the view has seen the events of the outcomes, and then these, each of which was met
-pub record Behind (g : Opening) (xs : List Done) (first : List happening.Event) (v : View) : Type 0 where
-  pub opens : Opens g v.given
-  pub met : AllMet g (state_after g (front xs)) first
-  pub seen : events_of v.given.before ++ events_of v.seen ≡ front xs ++ first
 
 -- from `base` the call has come to `now` by these events; its log is so
 pub record Went (own : ℕ) (g : Opening) (xs : List Done) (s0 : Crash) (k : Known) (es : List happening.Event) (log : Log) (base now : Story) : Type 0 where

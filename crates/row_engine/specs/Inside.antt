@@ -13,7 +13,7 @@ use Rattle.map_model.specs.declared.call.Refusal.TheVariants.{Broken, InTransact
 use Rattle.flush_avoidance.specs.Clocks.{after_begin}
 use Rattle.worker_log.specs.Logs.{Log}
 use Rattle.engine_trait.specs.Refusals.{log_refusal}
-use Rattle.row_engine.specs.declared.session.Session.{Session}
+use Rattle.session_state.specs.declared.session.Session.{Session}
 
 -- ## Tests
 

@@ -6,7 +6,6 @@ use Rattle.map_model.specs.declared.call.Refusal.TheVariants as refusal
 use Rattle.core_state.specs.Events as happening
 use Rattle.core_state.specs.Needs.{is_held_by, may, value_in}
 use Rattle.core_calls.specs.Room.{room_takes}
-use Rattle.lean_disk.specs.Moments.{Framed}
 use Rattle.lean_disk.specs.Story.{Story}
 use Rattle.log_record.specs.declared.record.Record.{Record}
 use Rattle.row_words.specs.declared.event.Event.TheVariants.{Change}
@@ -16,10 +15,10 @@ use Rattle.rows_trait.specs.Views.{state}
 use Rattle.btree_descent.specs.Puts.{change_of}
 use Rattle.worker_log.specs.Calls.{After}
 use Rattle.worker_log.specs.Logs.{Log}
-use Rattle.log_calls.specs.Calls.{KeepsWithin, StagesOn}
-use Rattle.engine_calls.specs.Clauses.{OnLog}
-use Rattle.row_engine.specs.declared.session.Session.{Session}
-use Rattle.row_engine.specs.Undo.{HasRoomToStage}
+use Rattle.log_calls.specs.Calls.{StagesOn}
+use Rattle.session_state.specs.Staging.{KeepsLog}
+use Rattle.session_state.specs.declared.session.Session.{Session}
+use Rattle.session_state.specs.Undo.{HasRoomToStage}
 
 -- No test refuses it, its row is held alone, and the log has room for the changes of the tree that room for the key takes, for the change, and for what it puts back.
 pub record MayChange (v : View) (x : Session) (log : Log) (key : ℕ) : Type 0 where
@@ -31,12 +30,6 @@ pub record MayChange (v : View) (x : Session) (log : Log) (key : ℕ) : Type 0 w
   pub room : HasRoomToStage log (suc (room_takes (opening v.given) (state v).core key))
   pub row : is_held_by ((state v).core.row (key % x.held.count)).holder x.own ≡ true
   pub key_low : key < 2 ^ 64 - 1
-
--- what a log and its disk keep whatever comes of a record
-pub record KeepsLog (own : ℕ) (was : Log) (old new : Story) : Type 0 where
-  pub on : OnLog own was old new
-  pub frame : Framed (suc own) old new
-  pub within : KeepsWithin own was old new
 
 -- The change was seen next, at a moment at which the leaf said this of the key, and its record was staged.
 pub record IsChanged (own : ℕ) (v w : View) (key value : ℕ) (before : Option ℕ) (was is : Log) (old new : Story) : Type 0 where

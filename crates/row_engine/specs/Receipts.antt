@@ -6,7 +6,7 @@ use Rattle.row_words.specs.Openings.{opening}
 use Rattle.rows_trait.specs.declared.view.View.{View}
 use Rattle.rows_trait.specs.Views.{state}
 use Rattle.row_engine.specs.declared.commits.Ended.{Ended}
-use Rattle.row_engine.specs.declared.session.Session.{Session}
+use Rattle.session_state.specs.declared.session.Session.{Session}
 
 -- The number of the transaction and that of its end, as the session has them behind it; and what the end needs: what the session owes other logs, where they were
 -- flushed as they were before the call.

@@ -6,22 +6,22 @@ ghost use Rattle.map_model.specs.declared.call.Call.{Call};
 ghost use Rattle.map_model.specs.declared.call.Refusal.{Refusal};
 ghost use Rattle.row_engine.specs.Inside.Aborts.{Finishes};
 ghost use Rattle.row_engine.specs.Inside.Backs.{PutsAllBack};
-ghost use Rattle.row_engine.specs.Calls.{AbortDoes, IsSameSession, abort_answer};
+ghost use Rattle.row_engine.specs.Calls.{AbortDoes, abort_answer};
+ghost use Rattle.session_state.specs.Holds.{Holds, IsSameSession};
 ghost use Rattle.row_engine.specs.Inside.Ends.{Latched};
-ghost use Rattle.row_engine.specs.Holds.{Holds};
-ghost use Rattle.row_engine.specs.Others.{Steps};
+ghost use Rattle.session_state.specs.Others.{Steps};
 ghost use Rattle.row_engine.specs.Receipts.{IsEnded};
 ghost use Rattle.row_engine.specs.Puts.{works_after};
 
 use crate::backs::put_back;
 use crate::begins::least_flushed;
 use crate::commits::{Ended, close, end_rows, latch_rows, unlatch_rows};
-use crate::numbers::next_fits;
-use crate::work::{Stages, Work};
+use crate::steps::abort_refusal;
 use key_locks::latches::Latches;
 use log_record::{Body, Record};
 use map_model::Refusal;
 use rows_trait::rows::Rows;
+use session_state::{Stages, Work, next_fits};
 
 // Puts back what is left, the newest change first.
 fn put_back_all<R: Rows, D: Stages>(
@@ -140,7 +140,7 @@ pub fn abort<R: Rows, D: Stages>(
     engine_calls::every_entry();
     row_opening::every_reached();
     row_opening::every_need();
-    if let Some(why) = work.session.abort_refusal() {
+    if let Some(why) = abort_refusal(&work.session) {
         return Err(why);
     }
     if let Err(why) = put_back_all(rows, seat, work) {

@@ -3,20 +3,16 @@ ghost use Rattle.std.specs.Prelude.{◌≡◌, ◌<◌, Err, Some, true, length}
 ghost use Rattle.lean_disk.specs.Faults.{HasCause};
 ghost use Rattle.map_model.specs.declared.call.Refusal.{Refusal};
 ghost use Rattle.row_engine.specs.Inside.Backs.{StepsBack};
-ghost use Rattle.row_engine.specs.Calls.{IsSameSession};
-ghost use Rattle.row_engine.specs.Holds.{Holds};
+ghost use Rattle.session_state.specs.Holds.{Holds, IsSameSession};
 ghost use Rattle.row_engine.specs.Puts.{works_after};
-ghost use Rattle.row_engine.specs.Undo.{newest_of};
+ghost use Rattle.session_state.specs.Undo.{newest_of};
 
-use crate::numbers::next_fits;
-use crate::session::Session;
-use crate::undo::Undone;
-use crate::work::{Stages, Work};
 use btree_descent::put::{Put, leaf_put_back};
 use draw_trait::draw::Unstaged;
 use lean_proto::path::Path;
 use map_model::Refusal;
 use rows_trait::rows::Rows;
+use session_state::{Session, Stages, Undone, Work, next_fits};
 
 // The newest change that is left.
 fn newest_left(session: &Session) -> Undone

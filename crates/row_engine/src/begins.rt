@@ -6,18 +6,18 @@ ghost use Rattle.map_model.specs.declared.call.Call.{Call};
 ghost use Rattle.map_model.specs.declared.call.Refusal.{Refusal};
 ghost use Rattle.engine_trait.specs.Refusals.{refusal_in};
 ghost use Rattle.row_engine.specs.Begins.{Begins};
-ghost use Rattle.row_engine.specs.Calls.{IsSameSession};
+ghost use Rattle.session_state.specs.Holds.{Holds, IsSameSession};
 ghost use Rattle.row_words.specs.Openings.{opening};
 ghost use Rattle.row_engine.specs.Flushed.{Looked, flushed_to};
-ghost use Rattle.row_engine.specs.Holds.{Holds};
-ghost use Rattle.row_engine.specs.Others.{Steps};
+ghost use Rattle.session_state.specs.Others.{Steps};
 ghost use Rattle.rows_trait.specs.Views.{state};
 
-use crate::work::Work;
+use crate::steps::{begin_refusal, begun};
 use lean_disk::Disk;
 use map_model::Refusal;
 use rows_trait::names::{Names, Nothing};
 use rows_trait::rows::Rows;
+use session_state::Work;
 
 // The event of a begin by the session, where other logs are flushed up to `least` and the last one up to the number that is loaded.
 #[derive(Drop)]
@@ -84,13 +84,13 @@ pub fn begin<R: Rows, D: Disk>(
     lean_proto::every_begin();
     row_opening::every_reached();
     row_opening::every_need();
-    if let Some(why) = work.session.begin_refusal(&work.log) {
+    if let Some(why) = begin_refusal(&work.session, &work.log) {
         return Err(why);
     }
     let own = work.session.own;
     let workers = work.session.workers;
     let least = least_flushed(rows, seat, workers - 1);
     let last = rows.load_control(seat, workers, 0, &Beginning { own, least });
-    work.session.begun(lesser(least, last));
+    begun(&mut work.session, lesser(least, last));
     Ok(work.session.txn)
 }

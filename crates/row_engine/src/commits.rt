@@ -8,24 +8,22 @@ ghost use Rattle.map_model.specs.Lists.{Has};
 ghost use Rattle.rows_trait.specs.Views.{state};
 ghost use Rattle.key_locks.specs.Latching.{is_marked};
 ghost use Rattle.key_locks.specs.Rows.{Sized, Spans};
-ghost use Rattle.row_engine.specs.Calls.{CallDoes, IsSameSession, commit_answer};
+ghost use Rattle.row_engine.specs.Calls.{CallDoes, commit_answer};
+ghost use Rattle.session_state.specs.Holds.{Holds, IsSameSession};
 ghost use Rattle.row_engine.specs.Inside.Ends.{AreAmong, AreHeld, AreMine, Ended as HasEnded, Gave, HasFlushed, Latched, Latching, MayEnd, MayFlush, Missed, ended_session, waiting_session};
-ghost use Rattle.row_engine.specs.Puts.{KeepsLog};
-ghost use Rattle.row_engine.specs.Holds.{Holds};
-ghost use Rattle.row_engine.specs.Others.{Steps};
+ghost use Rattle.session_state.specs.Staging.{KeepsLog};
+ghost use Rattle.session_state.specs.Others.{Steps};
 ghost use Rattle.row_engine.specs.Receipts.{IsEnded};
 
 use crate::begins::least_flushed;
-use crate::held::HeldRows;
-use crate::numbers::next_fits;
-use crate::session::Session;
-use crate::work::Work;
+use crate::steps::call_refusal;
 use key_locks::latches::Latches;
 use lean_disk::Disk;
 use log_record::{Body, Record};
 use map_model::Refusal;
 use rows_trait::names::Names;
 use rows_trait::rows::Rows;
+use session_state::{Flushes, HeldRows, Session, Work, next_fits, settle, wait_for_flush};
 
 /// The number of the transaction, that of its end, and up to which number all logs are to be flushed for it, 0 where it owes the others nothing.
 #[derive(Clone, Copy, Debug, PartialEq, Eq)]
@@ -48,20 +46,6 @@ impl Names for Ends {
     ghost use Rattle.row_words.specs.declared.event.Event.TheVariants.{End};
 
     ghost names = { λ s _. End s.own s.commit s.floor ∷ [] };
-}
-
-// The event of a flush of the session's log up to this number.
-#[derive(Drop)]
-pub(crate) struct Flushes {
-    pub own: u32,
-    pub number: u64,
-}
-
-impl Names for Flushes {
-    ghost use Rattle.std.specs.Prelude.{[], ◌∷◌};
-    ghost use Rattle.row_words.specs.declared.event.Event.TheVariants.{Flush};
-
-    ghost names = { λ s _. Flush s.own s.number ∷ [] };
 }
 
 // Latches the lock rows that the session holds, as they stand, until one is found whose latch has come to its end. Whether all are latched.
@@ -183,14 +167,7 @@ fn close_by_commit(session: &mut Session, number: u64)
     ensures { session.new ≡ waiting_session session.old number (session.old.unflushed + 1) }
 {
     close(session, number);
-    session.unflushed += 1;
-}
-
-// No commit of the session's log waits any more.
-pub(crate) fn settle(session: &mut Session)
-    ensures { session.new ≡ record session.old { unflushed = 0 } }
-{
-    session.unflushed = 0;
+    wait_for_flush(session);
 }
 
 // Flushes the session's log, up to its clock, which is the number of its last record.
@@ -322,7 +299,7 @@ pub fn commit<R: Rows, D: Disk>(
     engine_calls::every_coming();
     row_opening::every_reached();
     row_opening::every_need();
-    if let Some(why) = work.session.call_refusal() {
+    if let Some(why) = call_refusal(&work.session) {
         return Err(why);
     }
     next_fits(rows, seat);

@@ -5,22 +5,22 @@ ghost use Rattle.map_model.specs.declared.call.Refusal.{Refusal};
 ghost use Rattle.lean_disk.specs.Faults.{HasCause};
 ghost use Rattle.lean_disk.specs.Moments.{Framed};
 ghost use Rattle.engine_trait.specs.Calls.{MayCome};
-ghost use Rattle.row_engine.specs.Calls.{CallDoes, IsSameSession, del_answer};
-ghost use Rattle.row_engine.specs.Holds.{Holds};
-ghost use Rattle.row_engine.specs.Others.{Steps};
+ghost use Rattle.row_engine.specs.Calls.{CallDoes, del_answer};
+ghost use Rattle.session_state.specs.Holds.{Holds, IsSameSession};
+ghost use Rattle.session_state.specs.Others.{Steps};
 ghost use Rattle.row_engine.specs.Inside.Dels.{Dels};
 ghost use Rattle.row_engine.specs.Inside.{put_test};
 ghost use Rattle.row_engine.specs.Puts.{IsEarly, MayChange, works_after};
 
-use crate::numbers::next_fits;
+use crate::steps::{clock_refusal, put_refusal};
 use crate::taking::take_row;
-use crate::work::{Stages, Work};
 use btree_descent::del::{Del, leaf_del};
 use draw_trait::draw::Unstaged;
 use key_locks::mode::Mode;
 use lean_proto::path::Path;
 use map_model::Refusal;
 use rows_trait::rows::Rows;
+use session_state::{Stages, Work, next_fits};
 
 // The value of the key, whose row is held, is taken away, if it has one.
 fn del_held<R: Rows, D: Stages>(
@@ -108,14 +108,14 @@ pub fn del<R: Rows, D: Stages>(
     engine_calls::every_coming();
     row_opening::every_reached();
     row_opening::every_need();
-    if let Some(why) = work.session.put_refusal(&work.log) {
+    if let Some(why) = put_refusal(&work.session, &work.log) {
         return Err(why);
     }
     if let Err(why) = take_row(rows, seat, &mut work.session, &work.log, key, Mode::Alone) {
         return Err(why);
     }
     // What the row tells may have brought the clock to its end.
-    if let Some(why) = work.session.clock_refusal() {
+    if let Some(why) = clock_refusal(&work.session) {
         return Err(why);
     }
     del_held(rows, seat, work, key)

@@ -4,17 +4,18 @@ ghost use Rattle.map_model.specs.declared.call.Call.TheVariants as call;
 ghost use Rattle.map_model.specs.declared.call.Refusal.{Refusal};
 ghost use Rattle.btree_descent.specs.Known.{said};
 ghost use Rattle.engine_trait.specs.Calls.{MayCome};
-ghost use Rattle.row_engine.specs.Calls.{CallDoes, IsSameSession, get_answer};
-ghost use Rattle.row_engine.specs.Holds.{Holds};
-ghost use Rattle.row_engine.specs.Others.{Steps};
+ghost use Rattle.row_engine.specs.Calls.{CallDoes, get_answer};
+ghost use Rattle.session_state.specs.Holds.{Holds, IsSameSession};
+ghost use Rattle.session_state.specs.Others.{Steps};
 
+use crate::steps::call_refusal;
 use crate::taking::take_row;
-use crate::work::Work;
 use btree_descent::descent::{Answer, TOMBSTONE, find};
 use key_locks::mode::Mode;
 use lean_disk::Disk;
 use map_model::Refusal;
 use rows_trait::rows::Rows;
+use session_state::Work;
 
 // What a word tells: a tombstone is no value.
 pub(crate) fn value_of(word: Option<u64>) -> Option<u64>
@@ -55,7 +56,7 @@ pub fn get<R: Rows, D: Disk>(
     engine_calls::every_coming();
     row_opening::every_reached();
     row_opening::every_need();
-    if let Some(why) = work.session.call_refusal() {
+    if let Some(why) = call_refusal(&work.session) {
         return Err(why);
     }
     take_row(rows, seat, &mut work.session, &work.log, key, Mode::Shared)?;

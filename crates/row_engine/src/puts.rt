@@ -7,18 +7,17 @@ ghost use Rattle.lean_disk.specs.Faults.{HasCause};
 ghost use Rattle.lean_disk.specs.Moments.{Framed};
 ghost use Rattle.page_model.specs.Tree.{word_or};
 ghost use Rattle.engine_trait.specs.Calls.{MayCome};
-ghost use Rattle.row_engine.specs.Calls.{CallDoes, IsSameSession, put_answer};
-ghost use Rattle.row_engine.specs.Holds.{Holds};
-ghost use Rattle.row_engine.specs.Others.{Steps as OwnSteps};
+ghost use Rattle.row_engine.specs.Calls.{CallDoes, put_answer};
+ghost use Rattle.session_state.specs.Holds.{Holds, IsSameSession};
+ghost use Rattle.session_state.specs.Others.{Steps as OwnSteps};
 ghost use Rattle.row_engine.specs.Inside.Outcomes.{Puts, Steps, Tries};
 ghost use Rattle.row_engine.specs.Inside.{put_test};
 ghost use Rattle.row_engine.specs.Puts.{IsEarly, MayChange, works_after};
 
 use crate::gets::value_of;
-use crate::numbers::next_fits;
 use crate::room::make_room;
+use crate::steps::{clock_refusal, put_refusal};
 use crate::taking::take_row;
-use crate::work::{Stages, Work};
 use btree_descent::descent::TOMBSTONE;
 use btree_descent::put::{Put, leaf_put};
 use draw_trait::draw::Unstaged;
@@ -26,6 +25,7 @@ use key_locks::mode::Mode;
 use lean_proto::path::Path;
 use map_model::Refusal;
 use rows_trait::rows::Rows;
+use session_state::{Stages, Work, next_fits};
 
 // The word that a key had, which is a tombstone's where it had none.
 fn word_of(before: Option<u64>) -> u64
@@ -130,7 +130,7 @@ fn put_step<R: Rows, D: Stages>(
     if let Err(why) = make_room(rows, seat, work, key, &path) {
         return Err(why);
     }
-    match work.session.clock_refusal() {
+    match clock_refusal(&work.session) {
         Some(why) => Err(why),
         None => Ok(Stepped::Grown),
     }
@@ -214,14 +214,14 @@ pub fn put<R: Rows, D: Stages>(
     engine_calls::every_coming();
     row_opening::every_reached();
     row_opening::every_need();
-    if let Some(why) = work.session.put_refusal(&work.log) {
+    if let Some(why) = put_refusal(&work.session, &work.log) {
         return Err(why);
     }
     if let Err(why) = take_row(rows, seat, &mut work.session, &work.log, key, Mode::Alone) {
         return Err(why);
     }
     // What the row tells may have brought the clock to its end. The log is not tested again.
-    if let Some(why) = work.session.clock_refusal() {
+    if let Some(why) = clock_refusal(&work.session) {
         return Err(why);
     }
     put_held(rows, seat, work, key, value)

@@ -2,15 +2,10 @@
 ghost use Rattle.std.specs.Prelude.{◌≡◌, ◌≤◌, ◌<◌, ℕ, length, Err, true, false};
 ghost use Rattle.map_model.specs.declared.call.Refusal.{Refusal};
 ghost use Rattle.lean_disk.specs.Faults.{HasCause};
-ghost use Rattle.row_engine.specs.Calls.{IsSameSession};
-ghost use Rattle.row_engine.specs.Holds.{Holds};
+ghost use Rattle.session_state.specs.Holds.{Holds, IsSameSession};
 ghost use Rattle.row_engine.specs.Puts.{MayChange, works_after};
 ghost use Rattle.row_engine.specs.Inside.Rooms.{CanGrow, CanLift, CanSplit, Grew, IsExpected, IsPathTo, IsUnfit, answer_of, next_of, session_after};
 
-use crate::free::FreePages;
-use crate::numbers::next_fits;
-use crate::session::Session;
-use crate::work::{Stages, Work};
 use btree_smo::lift::lift;
 use btree_smo::outcome::Outcome;
 use btree_smo::room::full_run;
@@ -20,6 +15,7 @@ use lean_disk::Disk;
 use lean_proto::path::{DEEPEST, Path};
 use map_model::Refusal;
 use rows_trait::rows::Rows;
+use session_state::{FreePages, Session, Stages, Work, next_fits};
 
 // What room for a key takes next.
 #[derive(Clone, Copy)]

@@ -3,14 +3,14 @@ ghost use Rattle.std.specs.Prelude.{◌≡◌, ◌<◌, ◌%◌, true, IfErr, On
 ghost use Rattle.core_state.specs.Needs.{is_reader};
 ghost use Rattle.key_locks.specs.declared.mode.Mode.TheVariants as mode;
 ghost use Rattle.map_model.specs.declared.call.Refusal.{Refusal};
-ghost use Rattle.row_engine.specs.Holds.{Holds};
+ghost use Rattle.session_state.specs.Holds.{Holds};
 ghost use Rattle.row_engine.specs.Inside.Takes.{IsSpent, NotTaken, Takes};
 
-use crate::session::Session;
 use key_locks::locking::{Refusal as Unlocked, RowSpent, lock_again, lock_row, row_of};
 use key_locks::mode::Mode;
 use map_model::Refusal;
 use rows_trait::rows::Rows;
+use session_state::Session;
 use worker_log::WorkerLog;
 
 // Takes a lock row, whether the session has it already or not, and meets what the row tells.

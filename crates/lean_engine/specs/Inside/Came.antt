@@ -9,9 +9,8 @@ use Rattle.group_commit.specs.declared.receipts.Receipt.{Receipt}
 use Rattle.lean_disk.specs.Faults.{HasCause}
 use Rattle.rows_trait.specs.Views.{Shape}
 use Rattle.rows_trait.specs.declared.view.View.{View}
-use Rattle.row_engine.specs.Calls.{IsSameSession}
-use Rattle.row_engine.specs.Holds.{Holds}
-use Rattle.row_engine.specs.Others.{Steps}
+use Rattle.session_state.specs.Holds.{Holds, IsSameSession}
+use Rattle.session_state.specs.Others.{Steps}
 use Rattle.row_engine.specs.declared.commits.Ended.{Ended}
 use Rattle.lean_engine.specs.Calls.{IsTo, MayBe}
 use Rattle.lean_engine.specs.Inside.Asks.{IsEndOf}

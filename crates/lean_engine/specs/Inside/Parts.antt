@@ -17,9 +17,9 @@ use Rattle.rows_trait.specs.Rule.{IsPicture, plan}
 use Rattle.rows_trait.specs.Views.{Shape, state}
 use Rattle.worker_log.specs.Logs.{Log}
 use Rattle.row_engine.specs.Calls.{AbortDoes, CallDoes}
-use Rattle.row_engine.specs.Holds.{Holds}
-use Rattle.row_engine.specs.Opened.{plain_shape}
-use Rattle.row_engine.specs.declared.work.Work.{Work}
+use Rattle.session_state.specs.Holds.{Holds}
+use Rattle.session_state.specs.Opened.{plain_shape}
+use Rattle.session_state.specs.declared.work.Work.{Work}
 use Rattle.lean_engine.specs.Calls.{IsTo, MayBe}
 use Rattle.lean_engine.specs.Desks.{AreSeated, Turned, log_of}
 use Rattle.lean_engine.specs.Inside.Asks.{IsEndOf}

@@ -18,7 +18,7 @@ use Rattle.engine_trait.specs.Calls.{IsOf, Memory}
 use Rattle.engine_trait.specs.Limits.{AreLoads, limits}
 use Rattle.engine_trait.specs.Logs.{Logs}
 use Rattle.rows_trait.specs.declared.view.View.{View}
-use Rattle.row_engine.specs.Grown.{Behind}
+use Rattle.session_state.specs.Ties.{Behind}
 
 -- the disk has come to stand for these events of the call, and what is known of it is in memory
 pub record CameTo (g : Opening) (xs : List Done) (es : List happening.Event) (s0 : Crash) (k : Known) (is : Memory) (syncs : Bool) (old now : Story) : Type 0 where

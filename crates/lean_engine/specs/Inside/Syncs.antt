@@ -30,8 +30,8 @@ use Rattle.row_words.specs.Openings.{opening}
 use Rattle.rows_trait.specs.declared.view.View.{View}
 use Rattle.rows_trait.specs.Views.{state}
 use Rattle.worker_log.specs.Logs.{Log}
-use Rattle.row_engine.specs.Grown.{Behind}
-use Rattle.row_engine.specs.Syncs.{HasSynced, flushed_of, flushes_of, synced_session}
+use Rattle.session_state.specs.Ties.{Behind}
+use Rattle.session_state.specs.Syncs.{HasSynced, flushed_of, flushes_of, synced_session}
 use Rattle.lean_engine.specs.Desks.{desk_of}
 use Rattle.lean_engine.specs.declared.desk.Desk.{Desk}
 

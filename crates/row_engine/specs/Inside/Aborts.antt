@@ -14,9 +14,9 @@ use Rattle.rows_trait.specs.Views.{state}
 use Rattle.worker_log.specs.Calls.{After}
 use Rattle.worker_log.specs.Logs.{Log}
 use Rattle.row_engine.specs.declared.commits.Ended as answers
-use Rattle.row_engine.specs.declared.session.Session.{Session}
+use Rattle.session_state.specs.declared.session.Session.{Session}
 use Rattle.row_engine.specs.Inside.Ends.{Ended}
-use Rattle.row_engine.specs.Puts.{KeepsLog}
+use Rattle.session_state.specs.Staging.{KeepsLog}
 
 -- its record, where all logs are flushed so far
 abbrev pub abort_of : Session → (floor : ℕ) → Record

@@ -29,12 +29,13 @@ use Rattle.engine_calls.specs.Parts.{behind_first}
 use Rattle.engine_trait.specs.Logs.{Logs}
 use Rattle.engine_trait.specs.Limits.{limits}
 use Rattle.flush_avoidance.specs.Clocks.{risen}
-use Rattle.row_engine.specs.declared.session.Session.{Session}
-use Rattle.row_engine.specs.Grown.{Behind, Goes, Went}
-use Rattle.row_engine.specs.Others.{Steps}
-use Rattle.row_engine.specs.Puts.{KeepsLog}
+use Rattle.session_state.specs.declared.session.Session.{Session}
+use Rattle.session_state.specs.Ties.{Behind}
+use Rattle.row_engine.specs.Grown.{Goes, Went}
+use Rattle.session_state.specs.Others.{Steps}
+use Rattle.session_state.specs.Staging.{KeepsLog}
 use Rattle.row_engine.specs.Inside.Takes.{IsSpent}
-use Rattle.row_engine.specs.Undo.{without_newest}
+use Rattle.session_state.specs.Undo.{without_newest}
 
 -- ## One change
 

@@ -11,7 +11,8 @@ use Rattle.rows_trait.specs.declared.view.View.{View}
 use Rattle.rows_trait.specs.Views.{state}
 use Rattle.btree_descent.specs.declared.descent.TheConstants.{TOMBSTONE}
 use Rattle.worker_log.specs.Logs.{Log}
-use Rattle.row_engine.specs.Puts.{IsChanged, KeepsLog}
+use Rattle.row_engine.specs.Puts.{IsChanged}
+use Rattle.session_state.specs.Staging.{KeepsLog}
 use Rattle.row_engine.specs.Inside.Takes.{IsSpent}
 
 -- A read was seen next, at a moment at which the leaf had no value of the key.

@@ -19,10 +19,10 @@ use Rattle.log_calls.specs.Calls.{FlushesOn}
 use Rattle.worker_log.specs.Calls.{flushed_log}
 use Rattle.worker_log.specs.Logs.{Log}
 use Rattle.btree_smo.specs.Outcomes.{AreMisses}
-use Rattle.row_engine.specs.Held.{Held}
-use Rattle.row_engine.specs.Holds.{Holds}
-use Rattle.row_engine.specs.Numbers.{HaveRoom}
-use Rattle.row_engine.specs.declared.session.Session.{Session}
+use Rattle.session_state.specs.Held.{Held}
+use Rattle.session_state.specs.Holds.{Holds}
+use Rattle.session_state.specs.Numbers.{HaveRoom}
+use Rattle.session_state.specs.declared.session.Session.{Session}
 
 -- ## Latches
 

@@ -27,9 +27,11 @@ use Rattle.row_engine.specs.declared.puts.Stepped.{Stepped}
 use Rattle.row_engine.specs.declared.puts.Stepped.TheVariants as stepped
 use Rattle.row_engine.specs.declared.puts.Tried.{Tried}
 use Rattle.row_engine.specs.declared.puts.Tried.TheVariants as tried
-use Rattle.row_engine.specs.declared.session.Session.{Session}
-use Rattle.row_engine.specs.Grown.{Behind, Goes, Grows, Went}
-use Rattle.row_engine.specs.Puts.{IsChanged, KeepsLog, MayChange}
+use Rattle.session_state.specs.declared.session.Session.{Session}
+use Rattle.session_state.specs.Ties.{Behind}
+use Rattle.row_engine.specs.Grown.{Goes, Grows, Went}
+use Rattle.row_engine.specs.Puts.{IsChanged, MayChange}
+use Rattle.session_state.specs.Staging.{KeepsLog}
 use Rattle.row_engine.specs.Inside.Rooms.{IsGrown, IsPathTo, IsSpentBehind, IsUnfit}
 use Rattle.row_engine.specs.Inside.Takes.{IsSpent}
 

@@ -33,11 +33,11 @@ use Rattle.log_calls.specs.Calls.{StagesOn}
 use Rattle.engine_trait.specs.Refusals.{room_refusal}
 use Rattle.engine_trait.specs.Rooms.{IsNextRoom}
 use Rattle.flush_avoidance.specs.Clocks.{risen}
-use Rattle.row_engine.specs.declared.session.Session.{Session}
-use Rattle.row_engine.specs.Free.{first_of, without_first}
+use Rattle.session_state.specs.declared.session.Session.{Session}
+use Rattle.session_state.specs.Free.{first_of, without_first}
 use Rattle.row_engine.specs.declared.room.Next.{Next}
 use Rattle.row_engine.specs.declared.room.Next.TheVariants as next
-use Rattle.row_engine.specs.Puts.{KeepsLog}
+use Rattle.session_state.specs.Staging.{KeepsLog}
 
 -- ## What is known before
 

@@ -13,8 +13,8 @@ use Rattle.key_locks.specs.declared.mode.Mode.{Mode}
 use Rattle.key_locks.specs.declared.mode.Mode.TheVariants.{Alone}
 use Rattle.key_locks.specs.Rows.{core_mode, event_mode}
 use Rattle.flush_avoidance.specs.Clocks.{risen}
-use Rattle.row_engine.specs.Held.{with_row}
-use Rattle.row_engine.specs.declared.session.Session.{Session}
+use Rattle.session_state.specs.Held.{with_row}
+use Rattle.session_state.specs.declared.session.Session.{Session}
 
 -- The session's worker took the row: nothing else was seen, and the session has the row with those that it holds. Its clock and its debt may have risen, by
 -- what the row told.

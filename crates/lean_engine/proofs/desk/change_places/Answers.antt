@@ -1,5 +1,5 @@
 use Rattle.std.proofs.Common.{ap, ◌∙◌}
-use Rattle.row_engine.specs.declared.session.Session.{Session}
+use Rattle.session_state.specs.declared.session.Session.{Session}
 use Rattle.lean_engine.proofs.DeskLemmas.{desk_is, free_set}
 use Rattle.lean_engine.proofs.desk.change_places.Goals as goal
 

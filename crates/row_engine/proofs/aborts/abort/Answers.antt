@@ -1,12 +1,12 @@
 use Rattle.std.proofs.Common.{Err, ◌∙◌, false, refl, replicate, subst, sym, ap}
-use Rattle.row_engine.specs.declared.session.Session.{Session}
+use Rattle.session_state.specs.declared.session.Session.{Session}
 use Rattle.engine_calls.proofs.PartLemmas.{every_part}
 use Rattle.row_engine.proofs.AbortRuns.{finished, may_abort, not_aborted, not_back, not_latched, unaborted_told}
-use Rattle.row_engine.proofs.TakeLemmas.{holds_as}
+use Rattle.session_state.proofs.HoldLemmas.{holds_as}
 use Rattle.row_engine.proofs.CommitRefusals.{holds_missed, longer, missed_from, start_among, start_mine}
-use Rattle.row_engine.specs.Others.{Steps}
-use Rattle.row_engine.proofs.OtherLemmas.{every_steps}
-use Rattle.row_engine.proofs.OwnSteps.{finished_steps, latch_steps, no_steps, undone_steps}
+use Rattle.session_state.specs.Others.{Steps}
+use Rattle.session_state.proofs.OtherLemmas.{every_steps, no_steps}
+use Rattle.row_engine.proofs.OwnSteps.{finished_steps, latch_steps, undone_steps}
 use Rattle.row_engine.proofs.BackRuns.{same_flushed}
 use Rattle.row_engine.proofs.ReceiptLemmas.{receipt_from}
 use Rattle.row_engine.proofs.aborts.abort.Goals as goal

@@ -4,10 +4,10 @@ use Rattle.worker_log.specs.Calls.{After}
 use Rattle.log_calls.specs.Calls.{StagesOn}
 use Rattle.row_engine.specs.Inside.Ends.{ended_session}
 use Rattle.row_engine.proofs.AbortRuns.{floor_found, record_is}
-use Rattle.row_engine.proofs.TakeLemmas.{holds_as}
+use Rattle.session_state.proofs.HoldLemmas.{holds_as}
 use Rattle.row_engine.proofs.CommitLemmas.{ended_as, entry_fits, next_small}
 use Rattle.row_engine.proofs.CommitRuns.{found, holds_waiting, may_end_at}
-use Rattle.row_engine.proofs.Frames.{frame_of}
+use Rattle.session_state.proofs.Frames.{frame_of}
 use Rattle.row_engine.proofs.PutLemmas.{same_flushed}
 use Rattle.row_engine.proofs.ReceiptLemmas.{receipt}
 use Rattle.row_engine.proofs.StepLemmas.{cause_from, ok_calm}

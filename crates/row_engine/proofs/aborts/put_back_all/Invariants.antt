@@ -1,6 +1,6 @@
 use Rattle.std.proofs.Common.{◌≡◌, true, length}
 use Rattle.row_engine.specs.Inside.Backs.{HasUndone}
-use Rattle.row_engine.specs.Holds.{Holds}
+use Rattle.session_state.specs.Holds.{Holds}
 use Rattle.row_engine.proofs.aborts.put_back_all.Given as goal
 
 abbrev pub invariant-left : goal.invariant-left

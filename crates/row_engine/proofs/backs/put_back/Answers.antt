@@ -1,10 +1,10 @@
 use Rattle.std.proofs.Common.{◌≡◌, ◌∙◌, Err, ap, refl, sym, subst}
 use Rattle.row_engine.specs.Inside.Backs.{IsPutBack}
-use Rattle.row_engine.specs.Undo.{without_newest}
-use Rattle.row_engine.specs.declared.session.Session.{Session}
+use Rattle.session_state.specs.Undo.{without_newest}
+use Rattle.session_state.specs.declared.session.Session.{Session}
 use Rattle.row_engine.proofs.BackLemmas.{draws_back, half_back, holds_back, is_put_back, key_low}
 use Rattle.row_engine.proofs.PutLemmas.{holds_as, holds_still, is_spent, none_seen, not_last}
-use Rattle.row_engine.proofs.StageLemmas.{undo_set}
+use Rattle.session_state.proofs.StageLemmas.{undo_set}
 use Rattle.row_engine.proofs.StepLemmas.{cause_from}
 use Rattle.row_engine.proofs.backs.put_back.Goals as goal
 

@@ -1,14 +1,13 @@
-use Rattle.std.proofs.Common.{◌<◌, ◌^◌, arith, ◌∙◌, [], ◌∷◌, min, refl, sym, ap, subst}
+use Rattle.std.proofs.Common.{arith, ◌∙◌, [], ◌∷◌, min, refl, sym, ap, subst}
 use Rattle.row_words.specs.declared.event.Event.TheVariants.{Begin}
 use Rattle.row_words.specs.Openings.{opening}
 use Rattle.rows_trait.specs.Turns.{Heard}
 use Rattle.rows_trait.specs.Views.{state}
 use Rattle.row_engine.specs.Inside.{begun_session}
-use Rattle.row_engine.proofs.OtherLemmas.{every_steps}
-use Rattle.row_engine.proofs.OwnSteps.{no_steps}
+use Rattle.session_state.proofs.OtherLemmas.{every_steps, no_steps}
 use Rattle.row_engine.proofs.BeginLemmas.{after_begin, begin_comes, begin_steps, begins_by, free_of, looked_holds, looked_least, test_is}
-use Rattle.row_engine.proofs.Moments.{acts}
-use Rattle.row_engine.proofs.TakeLemmas.{holds_as}
+use Rattle.session_state.proofs.Moments.{acts}
+use Rattle.session_state.proofs.HoldLemmas.{holds_as}
 use Rattle.row_engine.proofs.begins.begin.Goals as goal
 
 pub returns-in-Some-clause-refused : goal.returns-in-Some-clause-refused
@@ -51,7 +50,7 @@ returns-clause-holds g c works =
     let w = g.R.Rows.view c.load_control-last.new.seat in
     let h = c.requires.holds free.works in
     let l = c.least_flushed-least.ensures.seen h.alone in
-    holds_as y (g.R.Rows.shape c.load_control-last.new.self) w (begun_session x (min c.least_flushed-least.result c.load_control-last.result)) c.begun.new.self log c.load_control-last.ensures.shape (c.begun.ensures ∙ ap (begun_session x) c.lesser.ensures)
+    holds_as y (g.R.Rows.shape c.load_control-last.new.self) w (begun_session x (min c.least_flushed-least.result c.load_control-last.result)) c.begun.new.session log c.load_control-last.ensures.shape (c.begun.ensures ∙ ap (begun_session x) c.lesser.ensures)
     (after_begin c.every_begin.ensures y u w x log (holds_as z y u x x log c.least_flushed-least.ensures.fits.1 refl (looked_holds z v u x log l h)) free.closed free.small free.room
     c.least_flushed-least.result c.load_control-last.result (looked_least v u _ c.least_flushed-least.result l (c.least_flushed-least.ensures.least h.alone)) c.load_control-last.type_inv c.load_control-last.ensures.step)
 
@@ -73,7 +72,7 @@ returns-clause-begins g c =
     let w = g.R.Rows.view c.load_control-last.new.seat in
     let free = free_of x log (sym c.begin_refusal.ensures ∙ c.in_default.is) in
     let h = c.requires.holds free.works in
-    begins_by c.every_begin.ensures z v u w x c.begun.new.self log h free (c.least_flushed-least.ensures.seen h.alone) c.least_flushed-least.result c.load_control-last.result (c.least_flushed-least.ensures.least h.alone) c.load_control-last.type_inv
+    begins_by c.every_begin.ensures z v u w x c.begun.new.session log h free (c.least_flushed-least.ensures.seen h.alone) c.least_flushed-least.result c.load_control-last.result (c.least_flushed-least.ensures.least h.alone) c.load_control-last.type_inv
     (subst (λ y. Heard y x.workers 0 (λ n. Begin x.own (min c.least_flushed-least.result n) ∷ []) u c.load_control-last.result w) c.least_flushed-least.ensures.fits.1 c.load_control-last.ensures.step) (c.begun.ensures ∙ ap (begun_session x) c.lesser.ensures)
 
 pub returns-in-Some-clause-come : goal.returns-in-Some-clause-come

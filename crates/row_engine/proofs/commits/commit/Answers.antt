@@ -1,9 +1,9 @@
 use Rattle.std.proofs.Common.{◌∙◌, refl, sym}
 use Rattle.row_engine.proofs.CommitRefusals.{does_from, holds_missed, longer, missed_from, ready_of, refused_by_latch, refused_by_test, start_among, start_mine, fault_told, test_told}
 use Rattle.row_engine.specs.Calls.{commit_answer}
-use Rattle.row_engine.proofs.TakeLemmas.{holds_as}
-use Rattle.row_engine.proofs.OtherLemmas.{every_steps}
-use Rattle.row_engine.proofs.OwnSteps.{latch_steps, no_steps}
+use Rattle.session_state.proofs.HoldLemmas.{holds_as}
+use Rattle.session_state.proofs.OtherLemmas.{every_steps, no_steps}
+use Rattle.row_engine.proofs.OwnSteps.{latch_steps}
 use Rattle.row_engine.proofs.BackRuns.{same_flushed}
 use Rattle.row_engine.proofs.ReceiptLemmas.{receipt_from}
 use Rattle.row_engine.proofs.commits.commit.Goals as goal

@@ -1,7 +1,8 @@
 use Rattle.std.proofs.Common.{refl, ap, ◌∙◌, arith}
 use Rattle.rows_trait.specs.Views.{Shape}
 use Rattle.row_engine.proofs.LatchLemmas.{sized_on}
-use Rattle.row_engine.proofs.EndLemmas.{closed, end_is, ended, has_word, held, may_turn, mine}
+use Rattle.row_engine.proofs.EndLemmas.{closed, end_is, ended, held, may_turn, mine}
+use Rattle.session_state.proofs.SyncLemmas.{has_word}
 use Rattle.row_engine.proofs.commits.end_rows.Goals as goal
 
 pub store_control-requires-clause-event : goal.store_control-requires-clause-event

@@ -6,15 +6,15 @@ use Rattle.map_model.specs.declared.call.Call.TheVariants as call
 use Rattle.map_model.specs.declared.call.Refusal.TheVariants as refusal
 use Rattle.row_engine.specs.Calls.{CallDoes}
 use Rattle.row_engine.specs.Inside.Ends.{HasFlushed, MayFlush, waiting_session}
-use Rattle.row_engine.specs.Puts.{KeepsLog}
-use Rattle.row_engine.specs.declared.session.Session.{Session}
-use Rattle.row_engine.proofs.TakeLemmas.{holds_as}
+use Rattle.session_state.specs.Staging.{KeepsLog}
+use Rattle.session_state.specs.declared.session.Session.{Session}
+use Rattle.session_state.proofs.HoldLemmas.{holds_as}
 use Rattle.row_engine.proofs.CommitRefusals.{does_from}
 use Rattle.row_engine.proofs.CommitRuns.{fills, flushed_does, found, holds_flushed, holds_waiting, may_end_at, may_flush_at, unflushed_does, unstaged_does, waiting_does, waiting_is, waits}
-use Rattle.row_engine.proofs.Frames.{frame_of}
+use Rattle.session_state.proofs.Frames.{frame_of}
 use Rattle.row_engine.proofs.PutLemmas.{same_flushed}
-use Rattle.row_engine.proofs.OtherLemmas.{every_steps}
-use Rattle.row_engine.proofs.OwnSteps.{ended_steps, flushed_steps, no_steps}
+use Rattle.session_state.proofs.OtherLemmas.{every_steps, no_steps}
+use Rattle.row_engine.proofs.OwnSteps.{ended_steps, flushed_steps}
 use Rattle.row_engine.proofs.ReceiptLemmas.{receipt}
 use Rattle.row_engine.proofs.CommitLemmas.{entry_fits, next_small}
 use Rattle.row_engine.proofs.StepLemmas.{calm_then, cause_from, ok_calm}

@@ -1,6 +1,7 @@
 use Rattle.std.proofs.Common.{arith}
-use Rattle.row_engine.proofs.EndLemmas.{flush_turn, has_flushed, has_word}
-use Rattle.row_engine.proofs.Frames.{frame_of}
+use Rattle.row_engine.proofs.EndLemmas.{flush_turn, has_flushed}
+use Rattle.session_state.proofs.SyncLemmas.{has_word}
+use Rattle.session_state.proofs.Frames.{frame_of}
 use Rattle.row_engine.proofs.commits.flush_log.Goals as goal
 
 pub returns-in-Err-clause-keeps : goal.returns-in-Err-clause-keeps

@@ -2,7 +2,7 @@ use Rattle.std.proofs.Common.{refl, sym, ap, ◌∙◌, inr, subst, ◌<◌, ⊎
 use Rattle.map_model.specs.Lists.{Has}
 use Rattle.rows_trait.specs.Views.{Shape}
 use Rattle.row_engine.proofs.LatchLemmas.{Stopped, has_at, has_none, latched_less, latched_more, place, sized_on, start_latching, stopped}
-use Rattle.row_engine.proofs.Moments.{acts}
+use Rattle.session_state.proofs.Moments.{acts}
 use Rattle.row_engine.proofs.commits.latch_rows.Goals as goal
 
 pub loop-at-init : goal.loop-at-init

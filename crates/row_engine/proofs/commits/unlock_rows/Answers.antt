@@ -1,7 +1,7 @@
 use Rattle.std.proofs.Common.{refl, sym, ap, ◌∙◌, subst, ◌<◌, arith}
 use Rattle.rows_trait.specs.Views.{Shape}
 use Rattle.row_engine.proofs.LatchLemmas.{all_gave, closed_on, end_on, gave_more, place, sized_on, start_giving, unmarked}
-use Rattle.row_engine.proofs.Moments.{acts}
+use Rattle.session_state.proofs.Moments.{acts}
 use Rattle.row_engine.proofs.commits.unlock_rows.Goals as goal
 
 pub loop-at-init : goal.loop-at-init

@@ -8,7 +8,8 @@ use Rattle.row_engine.proofs.DelLemmas.{same_by_row, same_then}
 use Rattle.row_engine.proofs.DelRuns.{del_did, del_framed, del_never_early, dels_flushed, dels_told, not_deleted, row_refused, row_stopped}
 use Rattle.row_engine.proofs.PutTests.{may_taken, met_comes, met_late, none_is, not_taken_comes, put_comes, some_is, works_of}
 use Rattle.row_engine.proofs.StepLemmas.{clock_below, stopped_works}
-use Rattle.row_engine.proofs.OwnSteps.{no_steps, del_steps, taken_then, takes_steps, untaken_steps}
+use Rattle.session_state.proofs.OtherLemmas.{no_steps}
+use Rattle.row_engine.proofs.OwnSteps.{del_steps, taken_then, takes_steps, untaken_steps}
 use Rattle.row_engine.proofs.dels.del.Goals as goal
 
 pub returns-in-Some-clause-does : goal.returns-in-Some-clause-does

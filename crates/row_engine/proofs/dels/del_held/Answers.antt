@@ -3,7 +3,7 @@ use Rattle.btree_descent.specs.declared.descent.TheConstants.{TOMBSTONE}
 use Rattle.row_engine.specs.Puts.{IsChanged}
 use Rattle.row_engine.proofs.DelLemmas.{holds_absent, is_absent, same_by_clock}
 use Rattle.row_engine.proofs.PutLemmas.{holds_as, holds_changed, holds_still, is_changed, is_spent, may_put, none_seen, not_cold, not_last, value_said}
-use Rattle.row_engine.proofs.StageLemmas.{undo_set}
+use Rattle.session_state.proofs.StageLemmas.{undo_set}
 use Rattle.row_engine.proofs.StepLemmas.{cause_from, ok_calm}
 use Rattle.row_engine.proofs.dels.del_held.Goals as goal
 

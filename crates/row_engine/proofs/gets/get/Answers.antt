@@ -10,9 +10,10 @@ use Rattle.engine_trait.specs.Calls.{MayCome}
 use Rattle.row_engine.specs.Calls.{CallDoes, get_answer}
 use Rattle.row_engine.specs.Inside.Takes.{NotTaken}
 use Rattle.row_engine.proofs.GetLemmas.{after_read, call_open, got, key_mine, may_come, no_cold, not_got, not_taken, open_still, read_steps}
-use Rattle.row_engine.proofs.OwnSteps.{no_steps, taken_then, untaken_steps}
-use Rattle.row_engine.proofs.StageLemmas.{clock_set}
-use Rattle.row_engine.proofs.TakeLemmas.{holds_as}
+use Rattle.session_state.proofs.OtherLemmas.{no_steps}
+use Rattle.row_engine.proofs.OwnSteps.{taken_then, untaken_steps}
+use Rattle.session_state.proofs.StageLemmas.{clock_set}
+use Rattle.session_state.proofs.HoldLemmas.{holds_as}
 use Rattle.row_engine.proofs.gets.get.Goals as goal
 
 pub returns-in-Some-clause-does : goal.returns-in-Some-clause-does

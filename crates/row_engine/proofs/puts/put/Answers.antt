@@ -7,7 +7,8 @@ use Rattle.lean_disk.specs.Moments.{Framed}
 use Rattle.row_engine.proofs.PutCalls.{met_put, not_put, not_taken, tried_put}
 use Rattle.row_engine.proofs.PutTests.{may_taken, met_comes, met_late, never_early, none_is, not_taken_comes, put_comes, put_framed, puts_flushed, puts_told, some_is, works_of}
 use Rattle.row_engine.proofs.StepLemmas.{stopped_works}
-use Rattle.row_engine.proofs.OwnSteps.{no_steps, put_steps, taken_then, takes_steps, untaken_steps}
+use Rattle.session_state.proofs.OtherLemmas.{no_steps}
+use Rattle.row_engine.proofs.OwnSteps.{put_steps, taken_then, takes_steps, untaken_steps}
 use Rattle.row_engine.proofs.puts.put.Goals as goal
 
 pub returns-in-Some-clause-does : goal.returns-in-Some-clause-does

@@ -1,5 +1,5 @@
 use Rattle.std.proofs.Common.{◌≡◌, length}
-use Rattle.row_engine.specs.Holds.{Holds}
+use Rattle.session_state.specs.Holds.{Holds}
 use Rattle.row_engine.specs.Inside.Outcomes.{HasRoom}
 use Rattle.row_engine.specs.Puts.{MayChange}
 use Rattle.row_engine.proofs.puts.put_held.Given as goal

@@ -3,7 +3,7 @@ use Rattle.page_model.specs.Tree.{word_or}
 use Rattle.row_engine.specs.Puts.{IsChanged}
 use Rattle.row_engine.proofs.DelLemmas.{same_by_clock}
 use Rattle.row_engine.proofs.PutLemmas.{holds_as, holds_changed, holds_still, is_changed, is_spent, may_put, no_room, none_seen, not_cold, not_last}
-use Rattle.row_engine.proofs.StageLemmas.{undo_set}
+use Rattle.session_state.proofs.StageLemmas.{undo_set}
 use Rattle.row_engine.proofs.StepLemmas.{cause_from, ok_calm}
 use Rattle.row_engine.proofs.puts.put_in_leaf.Goals as goal
 

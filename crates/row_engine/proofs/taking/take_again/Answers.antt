@@ -1,5 +1,6 @@
 use Rattle.std.proofs.Common.{refl}
-use Rattle.row_engine.proofs.TakeLemmas.{already, holds_again, holds_as, holds_still, spent, takes_again}
+use Rattle.row_engine.proofs.TakeLemmas.{already, holds_again, holds_still, spent, takes_again}
+use Rattle.session_state.proofs.HoldLemmas.{holds_as}
 use Rattle.row_engine.proofs.taking.take_again.Goals as goal
 
 pub lock_again-requires-clause-has : goal.lock_again-requires-clause-has

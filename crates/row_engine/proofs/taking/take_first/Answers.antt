@@ -1,6 +1,7 @@
 use Rattle.std.proofs.Common.{◌≤◌, ◌+◌, length, refl, subst}
 use Rattle.key_locks.specs.Locking.{Refuses}
-use Rattle.row_engine.proofs.TakeLemmas.{hindered, holds_as, holds_still, holds_taken, session_taken, spent, takes}
+use Rattle.row_engine.proofs.TakeLemmas.{hindered, holds_still, holds_taken, session_taken, spent, takes}
+use Rattle.session_state.proofs.HoldLemmas.{holds_as}
 use Rattle.row_engine.proofs.taking.take_first.Goals as goal
 
 pub returns-in-Ok-clause-holds : goal.returns-in-Ok-clause-holds

@@ -1,5 +1,5 @@
 use Rattle.std.proofs.Common.{false, sym, refl, subst}
-use Rattle.row_engine.specs.Puts.{KeepsLog}
+use Rattle.session_state.specs.Staging.{KeepsLog}
 use Rattle.lean_engine.specs.Inside.Parts.{here, in_store, shape}
 use Rattle.lean_engine.specs.Desks.{log_of}
 use Rattle.lean_engine.specs.Machines.{AreDesks}

@@ -1,0 +1,17 @@
+-- No entry has a number above its worker's clock.
+use Rattle.std.proofs.Common.{◌≤◌, ◌++◌, refl, sym, subst}
+use Rattle.map_model.specs.Lists.{Has}
+use Rattle.image_model.specs.Entries.{Entry}
+use Rattle.core_state.specs.Openings.{Opening}
+use Rattle.core_state.specs.States.{State, start}
+use Rattle.core_commit.proofs.Runs.{good_run, good_start}
+use Rattle.row_words.specs.declared.given.Given.{Given}
+use Rattle.row_words.specs.Moments.{events_of}
+use Rattle.row_opening.specs.Openings.{EveryReached, Opens}
+use Rattle.session_state.specs.Numbers.{AreClocked}
+
+-- on rows that began as an opening
+pub entries_clocked : EveryReached → (g : Opening) (v : Given) → Opens g v → AreClocked v
+entries_clocked reached g v opens es =
+    subst (λ (s : State). (r : Entry) → Has r s.entries → r.number ≤ (s.worker r.log).clock) (sym (reached g v opens es))
+    (λ r i. (((good_run g (events_of v.before ++ events_of es) (start g) (good_start g)).inv.workers r.log).numbers r i refl).0)

@@ -1,0 +1,14 @@
+pub mod Moments
+pub mod Frames
+pub mod EntryNumbers
+pub mod UndoLemmas
+pub mod ReserveLemmas
+pub mod WaitLemmas
+pub mod HoldLemmas
+pub mod OtherLemmas
+pub mod HeldLemmas
+pub mod FreeLemmas
+pub mod StageLemmas
+pub mod SyncLemmas
+pub mod OpenLemmas
+pub mod OpeningLemmas

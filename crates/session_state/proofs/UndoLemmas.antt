@@ -1,0 +1,147 @@
+-- What a transaction has still to put back, and the blocks that it takes.
+use Rattle.std.proofs.Common.{◌≡◌, ◌⊎◌, ◌≤◌, ◌<◌, ◌+◌, ◌-◌, ◌*◌, ◌++◌, ◌==◌, ℕ, suc, Bool, true, false, cond, leb, List, [], ◌∷◌, length, inl, inr, refl, sym, ap, ◌∙◌, arith, append-nil, true≢false}
+use Rattle.std.specs.Prelude.{min, reverse}
+use Rattle.std.proofs.Math.Nat.{min-eq_left, min-eq_right, min-le_left, min-le_right}
+use Rattle.std.proofs.lemmas.Bool.{cases_lt, le-leb, leb-true}
+use Rattle.std.proofs.lemmas.List.{length-append, reverse-append}
+use Rattle.image_model.specs.Entries.{Entry}
+use Rattle.log_record.specs.declared.record.Record.{Record}
+use Rattle.log_record.specs.Spelling.{Fits, record_text}
+use Rattle.log_record.proofs.SizeLemmas.{size_range, text_size}
+use Rattle.log_block.specs.Block.{records_text}
+use Rattle.worker_log.specs.Calls.{After, flushed_log}
+use Rattle.worker_log.specs.Logs.{Log, limit, used}
+use Rattle.session_state.specs.Undo.{HasRoomToStage, HasRoomToUndo, filled, undo_of}
+use Rattle.session_state.specs.declared.undo.Undone.{Undone}
+
+-- as many as the worker's
+pub many_undone : (cs : List Entry) → length (undo_of cs) ≡ length cs
+many_undone [] = refl
+many_undone (c ∷ cs) = let q = many_undone cs in omega arith
+
+pub many_of : (cs : List Entry) (us : List Undone) → undo_of cs ≡ us → length cs ≡ length us
+many_of cs us e = sym (many_undone cs) ∙ ap length e
+
+-- where there are none the worker has none
+pub none_left : (cs : List Entry) → undo_of cs ≡ [] → cs ≡ []
+none_left [] e = refl
+none_left (c ∷ cs) e = absurd (cc)
+
+-- ## A list that is kept the oldest first
+
+pub pushed : (xs : List Undone) (c : Undone) → reverse (xs ++ c ∷ []) ≡ c ∷ reverse xs
+pushed xs c = reverse-append xs (c ∷ [])
+
+-- ## Blocks
+
+-- the bytes of one record
+text_is : (r : Record) → length (records_text (r ∷ [])) ≡ length (record_text r)
+text_is r = ap length (append-nil (record_text r))
+
+-- a record has at most so many
+pub text_short : (r : Record) → Fits r → length (records_text (r ∷ [])) ≤ 1031
+text_short r f = let a = text_is r in let b = text_size r f in let c = (size_range r.body f.body).1 in omega arith
+
+-- those that were written are used
+written_used : (log : Log) → log.next - log.head ≤ used log
+written_used log = go (log.count == 0)
+  where
+    go : (b : Bool) → log.next - log.head ≤ (log.next - log.head) + cond b 0 1
+    go true = omega arith
+    go false = omega arith
+
+pub used_written : (log : Log) → used log ≤ (log.next - log.head) + 1
+used_written log = go (log.count == 0)
+  where
+    go : (b : Bool) → (log.next - log.head) + cond b 0 1 ≤ (log.next - log.head) + 1
+    go true = omega arith
+    go false = omega arith
+
+-- what a record makes of the log: it stands in the block in hand, or closes that, which had more than 2,000 bytes with it
+pub record Fills (r : Record) (old new : Log) : Type 0 where
+  pub blocks : new.blocks ≡ old.blocks
+  pub rises : (filled new ≤ filled old + length (records_text (r ∷ []))) ⊎ (filled new + 100 ≤ filled old + 2 * length (records_text (r ∷ [])))
+
+pub fills : (r : Record) (old new : Log) → After r old new → Fills r old new
+fills r old new a = go (leb (length old.payload + length (records_text (r ∷ []))) 2000) refl
+  where
+    -- what each block in hand counts
+    below : (n : ℕ) → min n 2000 ≤ n
+    below n = min-le_left n 2000
+
+    exact : (n : ℕ) → n ≤ 2000 → min n 2000 ≡ n
+    exact n le = min-eq_left le
+
+    go : (b : Bool) → leb (length old.payload + length (records_text (r ∷ []))) 2000 ≡ b → Fills r old new
+    go true e =
+        let le = leb-true (length old.payload + length (records_text (r ∷ []))) 2000 e in
+        let is = a.room le in
+        let n = ap (λ (l : Log). l.next) is in
+        let h = ap (λ (l : Log). l.head) is in
+        let p = ap (λ (l : Log). length l.payload) is ∙ length-append old.payload (records_text (r ∷ [])) in
+        let was = exact (length old.payload) (omega arith) in
+        let now = below (length new.payload) in
+        record { blocks = ap (λ (l : Log). l.blocks) is; rises = inl (omega arith) }
+    go false e =
+        let off : length old.payload + length (records_text (r ∷ [])) ≤ 2000 → ⊥ = λ le. true≢false (sym (le-leb (length old.payload + length (records_text (r ∷ []))) 2000 le) ∙ e) in
+        let is = a.full off in
+        let n = ap (λ (l : Log). l.next) is in
+        let h = ap (λ (l : Log). l.head) is in
+        let p = ap (λ (l : Log). length l.payload) is in
+        let big : 2000 < length old.payload + length (records_text (r ∷ [])) = big_of (length old.payload + length (records_text (r ∷ []))) off in
+        let was = in_block (length old.payload) (length (records_text (r ∷ []))) big in
+        let now = below (length new.payload) in
+        record { blocks = ap (λ (l : Log). l.blocks) is; rises = inr (omega arith) }
+      where
+        big_of : (n : ℕ) → (n ≤ 2000 → ⊥) → 2000 < n
+        big_of n off = omega arith
+
+        in_block : (n m : ℕ) → 2000 < n + m → 2000 ≤ min n 2000 + m
+        in_block n m lt = elim (cases_lt 2000 n) [ inl over ↦ (let k : min n 2000 ≡ 2000 = min-eq_right (omega arith) in omega arith) | inr within ↦ (let k = exact n within in omega arith) ]
+
+-- what a block in hand counts at most
+most_in_hand : (log : Log) → min (length log.payload) 2000 ≤ 2000
+most_in_hand log = min-le_right (length log.payload) 2000
+
+-- a flush closes a block at most
+pub flush_fills : (log : Log) → filled (flushed_log log) ≤ filled log + 1900
+flush_fills log = go (log.count == 0)
+  where
+    go : (b : Bool) → 1900 * ((log.next + cond b 0 1) - log.head) + 0 ≤ filled log + 1900
+    go true = omega arith
+    go false = omega arith
+
+-- where blocks for changes are left, it is filled so far
+pub written_most : (log : Log) → used log < limit log → filled log + 30_300 ≤ 1900 * log.blocks
+written_most log free = let a = written_used log in let b = most_in_hand log in omega arith
+
+-- ## Room
+
+-- where blocks for changes are left, so many records of any size may be staged
+pub room_to_stage : (log : Log) (many : ℕ) → used log < limit log → many ≤ 11 → HasRoomToStage log many
+room_to_stage log many free few = let a = written_most log free in omega arith
+
+-- one fewer behind each
+pub room_after : (r : Record) (old new : Log) (many : ℕ) → length (records_text (r ∷ [])) ≤ 1031 → After r old new → HasRoomToStage old (suc many) → HasRoomToStage new many
+room_after r old new many short a room = let f = fills r old new a in let b = f.blocks in elim f.rises [ inl within ↦ omega arith | inr over ↦ omega arith ]
+
+-- there is a block for an end
+pub room_to_end : (log : Log) (many : ℕ) → HasRoomToStage log many → used log + 1 ≤ log.blocks
+room_to_end log many room = let a = used_written log in omega arith
+
+-- all changes may be put back
+pub room_to_undo : (log : Log) (many some : ℕ) → HasRoomToStage log many → some ≤ 64 → HasRoomToUndo log some
+room_to_undo log many some room few = omega arith
+
+-- also where the log is flushed before
+pub room_to_flush : (log : Log) (many some : ℕ) → HasRoomToStage log many → some ≤ 64 → HasRoomToUndo (flushed_log log) some
+room_to_flush log many some room few = let a = flush_fills log in omega arith
+
+-- and behind a put-back one fewer, and an end
+pub room_behind : (r : Record) (old new : Log) (many : ℕ) → length (records_text (r ∷ [])) ≤ 64 → After r old new → HasRoomToUndo old (suc many) → HasRoomToUndo new many × (used new + 1 ≤ new.blocks)
+room_behind r old new many short a room =
+    let f = fills r old new a in
+    let b = f.blocks in
+    let s : filled new ≤ filled old + 64 = elim f.rises [ inl within ↦ omega arith | inr over ↦ omega arith ] in
+    let u = used_written new in
+    (omega arith, omega arith)

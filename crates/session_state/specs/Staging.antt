@@ -1,0 +1,53 @@
+-- What came of a record that a change asked its log to stage.
+use Rattle.std.specs.Prelude.{◌≡◌, ◌≤◌, ℕ, suc, List, [], ◌∷◌, length, Result, Ok, Err}
+use Rattle.draw_trait.specs.declared.draw.Unstaged.{Unstaged}
+use Rattle.draw_trait.specs.declared.draw.Unstaged.TheVariants.{DiskFault, LogFull}
+use Rattle.lean_disk.specs.Faults.{HasCause}
+use Rattle.lean_disk.specs.Moments.{Framed}
+use Rattle.lean_disk.specs.Story.{Story}
+use Rattle.log_record.specs.declared.record.Record.{Record}
+use Rattle.log_block.specs.Block.{records_text}
+use Rattle.worker_log.specs.Calls.{After}
+use Rattle.worker_log.specs.Logs.{Log, used}
+use Rattle.log_calls.specs.Calls.{KeepsWithin, StagesOn}
+use Rattle.engine_calls.specs.Clauses.{OnLog}
+use Rattle.flush_avoidance.specs.Clocks.{risen}
+use Rattle.session_state.specs.declared.session.Session.{Session}
+
+-- the session is as it was, but for its clock and its debt
+abbrev pub IsButClock : (x y : Session) → Type 0
+IsButClock x y = y ≡ record x { clock = risen x.clock y.clock }
+
+-- what a log and its disk keep whatever comes of a record
+pub record KeepsLog (own : ℕ) (was : Log) (old new : Story) : Type 0 where
+  pub on : OnLog own was old new
+  pub frame : Framed (suc own) old new
+  pub within : KeepsWithin own was old new
+
+-- it stands in the log, and was told to the proof
+pub record WasStaged (own : ℕ) (before now : List Record) (was is : Log) (old new : Story) : Type 0 where
+  pub entry : Record
+  pub told : now ≡ entry ∷ before
+  pub after : After entry was is
+  pub last : is.last ≡ entry.gsn
+  pub short : length (records_text (entry ∷ [])) ≤ 1031
+  pub stands : StagesOn own entry was is old new
+  pub keeps : KeepsLog own was old new
+
+-- the log had no block for it, not even one that is kept back, and nothing was done
+pub record WasFull (was is : Log) (SameDisk : Type 0) : Type 0 where
+  pub full : was.blocks ≤ used was
+  pub log : is ≡ was
+  pub disk : SameDisk
+
+-- by outcome
+abbrev pub Came : Result (Unit {0}) Unstaged → (own : ℕ) → (before now : List Record) → (was is : Log) → (old new : Story) → (SameDisk : Type 0) → Type 0
+Came (Ok u) own before now was is old new SameDisk = WasStaged own before now was is old new
+Came (Err (LogFull used limit)) own before now was is old new SameDisk = WasFull was is SameDisk
+Came (Err DiskFault) own before now was is old new SameDisk = KeepsLog own was old new
+
+-- and whatever came of it: the disk's faults are told, and beside log and disk the session's clock alone may have changed
+pub record Staging (r : Result (Unit {0}) Unstaged) (x y : Session) (before now : List Record) (was is : Log) (old new : Story) (SameDisk : Type 0) (faults_before faults_now : ℕ) : Type 0 where
+  pub came : Came r x.own before now was is old new SameDisk
+  pub cause : HasCause faults_before faults_now (r ≡ Err DiskFault)
+  pub session : IsButClock x y

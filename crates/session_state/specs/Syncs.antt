@@ -1,0 +1,64 @@
+-- What a sync does: each session's log is flushed, and then all are synced up to the greatest clock.
+use Rattle.std.specs.Prelude.{◌≡◌, ◌≤◌, ℕ, true, List, ◌++◌, [], ◌∷◌, ◌==◌, if◌then◌else◌}
+use Rattle.map_model.specs.Lists.{Has}
+use Rattle.image_model.specs.Entries.{Entry, is_record}
+use Rattle.core_state.specs.States.{State}
+use Rattle.core_state.specs.Events as happening
+use Rattle.core_state.specs.Needs.{may}
+use Rattle.lean_disk.specs.Story.{Story}
+use Rattle.log_calls.specs.Wholes.{FlushesWhole, flush_of}
+use Rattle.disk_runs.specs.MasterLaws.{raised}
+use Rattle.row_words.specs.declared.event.Event.{Event}
+use Rattle.row_words.specs.declared.event.Event.TheVariants as told
+use Rattle.row_words.specs.Moments.{events_of}
+use Rattle.row_words.specs.Openings.{opening}
+use Rattle.rows_trait.specs.declared.view.View.{View}
+use Rattle.rows_trait.specs.Views.{Shape, state}
+use Rattle.worker_log.specs.Calls.{flushed_log}
+use Rattle.worker_log.specs.Logs.{Log}
+use Rattle.session_state.specs.Holds.{Holds}
+use Rattle.session_state.specs.Others.{Steps}
+use Rattle.session_state.specs.declared.session.Session.{Session}
+
+-- ## A flush of one log
+
+-- the log is flushed as far as it goes, if it is not yet
+abbrev pub flushes_of : (own : ℕ) → Log → List Event
+flushes_of own log = if log.last == log.flushed then [] else told.Flush own log.last ∷ []
+
+-- and is so then
+abbrev pub flushed_of : Log → Log
+flushed_of log = if log.last == log.flushed then log else flushed_log log
+
+-- no record of the log has a number above its last one
+abbrev pub HasNoneBehind : State → (own : ℕ) → Log → Type 0
+HasNoneBehind s own log = (r : Entry) → Has r s.entries → is_record r.kind ≡ true → r.log ≡ own → r.number ≤ log.last
+
+-- It was, and nothing of it is left to flush.
+pub record FlushesOwn (v w : View) (x y : Session) (was is : Log) (old new : Story) : Type 0 where
+  pub given : w.given ≡ v.given
+  pub seen : w.seen ≡ v.seen ++ flushes_of x.own was
+  pub core : events_of (flushes_of x.own was) ≡ flush_of x.own was
+  pub steps : Steps x.own v w
+  pub session : y ≡ record x { unflushed = y.unflushed }
+  pub after : is ≡ flushed_of was
+  pub last : is.last ≡ was.last
+  pub flushed : is.flushed ≡ is.last
+  pub stands : FlushesWhole x.own was is old new
+
+-- ## The sync
+
+-- all logs are synced up to this number, which was seen next
+pub record HasSynced (v w : View) (number : ℕ) : Type 0 where
+  pub given : w.given ≡ v.given
+  pub seen : w.seen ≡ v.seen ++ told.Sync number ∷ []
+  pub held : w.held ≡ v.held
+  pub met : may (opening v.given) (state v).core (happening.Event.Sync number) ≡ true
+
+-- a session behind a sync up to this number
+abbrev pub synced_session : Session → ℕ → Session
+synced_session x number = record x { clock = record x.clock { clock = number }; unflushed = 0 }
+
+-- Behind a sync each session whose log is flushed whole is as between two calls, with its clock and its log raised to the number.
+abbrev pub EverySynced : Type 0
+EverySynced = (z : Shape) (v w : View) (x : Session) (log : Log) (number : ℕ) → Holds z v x log → log.flushed ≡ log.last → HasSynced v w number → Holds z w (synced_session x number) (raised log number)

@@ -1,0 +1,36 @@
+-- What a transaction has still to put back.
+use Rattle.std.specs.Prelude.{◌≤◌, ◌+◌, ◌-◌, ◌*◌, ℕ, min, List, [], ◌∷◌, length, Option, Some, None}
+use Rattle.image_model.specs.Entries.{Entry}
+use Rattle.page_model.specs.Limits.{transaction_changes}
+use Rattle.worker_log.specs.Logs.{Log}
+use Rattle.session_state.specs.declared.undo.Undone.{Undone}
+
+-- the newest one, if there is one
+abbrev pub newest_of : List Undone → Option Undone
+newest_of [] = None
+newest_of (c ∷ cs) = Some c
+
+-- all but that
+abbrev pub without_newest : List Undone → List Undone
+without_newest [] = []
+without_newest (c ∷ cs) = cs
+
+-- of each listed change its key, and the word before it
+abbrev pub undo_of : List Entry → List Undone
+undo_of [] = []
+undo_of (c ∷ cs) = record { key = c.key; word = c.before } ∷ undo_of cs
+
+-- ## Blocks
+
+-- How far the log is filled: 1,900 bytes for each block that was written, and those of the block in hand. A block is closed where it has no room for the next
+-- record. So a record of at most 64 bytes raises this by no more than 64, one of at most 1,031 by no more than 1,962, and a flush by no more than 1,900.
+abbrev pub filled : Log → ℕ
+filled log = 1900 * (log.next - log.head) + min (length log.payload) 2000
+
+-- room for so many put-backs, each of at most 64 bytes, and an end
+abbrev pub HasRoomToUndo : Log → ℕ → Type 0
+HasRoomToUndo log many = filled log + (64 * many + 2064) ≤ 1900 * log.blocks
+
+-- room for so many records of any size, and then, behind a flush, for all that a transaction may put back, and its end
+abbrev pub HasRoomToStage : Log → ℕ → Type 0
+HasRoomToStage log many = filled log + (1962 * many + (1900 + (64 * transaction_changes + 2064))) ≤ 1900 * log.blocks

@@ -1,0 +1,27 @@
+//! What a session of an engine has in memory beside its rows, where one thread executes: what is so of it between two calls, how it begins on
+//! rows that were opened, and what a sync does to it.
+//!
+//! The calls are row_engine's. Read specs/Holds and specs/Ties, then `open_session` and the laws.
+#![tactic(auto)]
+
+mod free;
+mod held;
+mod laws;
+mod numbers;
+mod opening;
+mod session;
+mod syncs;
+mod undo;
+mod work;
+
+pub use draw_trait::staged::Staged;
+pub use free::FreePages;
+pub use held::HeldRows;
+pub use laws::{every_fellow, every_opened, every_other, every_reserve, every_steps, every_synced};
+pub use log_calls::stage_end;
+pub use numbers::{clocks_low, next_fits};
+pub use opening::{further_session, open_session};
+pub use session::Session;
+pub use syncs::{Flushes, flush_own, settle, store_synced, wait_for_flush};
+pub use undo::{UndoList, Undone};
+pub use work::{Stages, Work};
