@@ -36,16 +36,17 @@ use Rattle.group_commit.specs.declared.receipts.Receipt.{Receipt}
 use Rattle.group_commit.proofs.ListLemmas.{queue_set_other, queue_set_same}
 use Rattle.session_state.specs.Opened.{plain_shape}
 use Rattle.lean_engine.specs.Calls.{MayBe}
-use Rattle.lean_engine.specs.Desks.{desk_of}
+use Rattle.session_desks.specs.Desks.{desk_of}
 use Rattle.lean_engine.specs.Inside.Asks.{IsEndOf, is_commit_in, put_ends}
-use Rattle.lean_engine.specs.Machines.{DoesTied, IsMachine, Tied, ends_in}
+use Rattle.lean_engine.specs.Machines.{DoesTied, Tied, ends_in}
+use Rattle.session_desks.specs.Machines.{IsMachine}
 use Rattle.lean_engine.specs.Receipts.{IsReceipt}
 use Rattle.lean_engine.specs.States.{HasRoom, HasRun, InRun, IsOfTurn, IsSettled, State, WhereDue, memory_in}
-use Rattle.lean_engine.specs.declared.desk.Desk.{Desk}
+use Rattle.session_desks.specs.declared.desk.Desk.{Desk}
 use Rattle.lean_engine.proofs.BeginLemmas.{none_wait_behind}
 use Rattle.lean_engine.proofs.DeedLemmas.{Begins, Ends, Neither, Sort, due_behind, end_open, ended, hindered_open, next_behind, sort, unended}
 use Rattle.lean_engine.proofs.OpenMarks.{open_after, open_other, open_own}
-use Rattle.lean_engine.proofs.SeatLemmas.{turn_high, turn_low}
+use Rattle.session_desks.proofs.SeatLemmas.{turn_high, turn_low}
 use Rattle.lean_engine.proofs.SeenLemmas.{Loaded, all_seen, loaded, seen}
 
 -- ## Sessions that are open

@@ -25,11 +25,12 @@ use Rattle.group_commit.specs.declared.queue.End.{End}
 use Rattle.group_commit.specs.declared.receipts.Receipt.{Receipt}
 use Rattle.rows_trait.specs.declared.view.View.{View}
 use Rattle.lean_engine.specs.Calls.{AbortsInRuns, DoesIn, IsTo, MayBe}
-use Rattle.lean_engine.specs.Desks.{desk_of}
+use Rattle.session_desks.specs.Desks.{desk_of}
 use Rattle.lean_engine.specs.Inside.Asks.{IsEndOf, OnAsked, next_behind, put_ends}
-use Rattle.lean_engine.specs.Machines.{AreHalf, DoesTied, DoesByParts, IsDue, IsMachine, ends_in}
+use Rattle.lean_engine.specs.Machines.{AreHalf, DoesTied, DoesByParts, IsDue, ends_in}
+use Rattle.session_desks.specs.Machines.{IsMachine}
 use Rattle.lean_engine.specs.States.{HasRoom, HasRun, InRun, IsOfTurn, IsSettled, State, WhereDue, memory_in}
-use Rattle.lean_engine.specs.declared.desk.Desk.{Desk}
+use Rattle.session_desks.specs.declared.desk.Desk.{Desk}
 use Rattle.lean_engine.proofs.AskLemmas.{Room, has_run, in_run_behind, room_abort, room_line}
 use Rattle.lean_engine.proofs.CallLemmas.{comes_if, did, fault}
 use Rattle.lean_engine.proofs.SeenLemmas.{same_half}

@@ -30,7 +30,7 @@ use Rattle.engine_trait.specs.Limits.{AreLoads, limits}
 use Rattle.engine_trait.specs.Logs.{Logs}
 use Rattle.engine_trait.specs.Refusals.{refusal_in}
 use Rattle.engine_trait.specs.Rooms.{MakesItsRoom}
-use Rattle.lean_engine.specs.Inside.Syncs.{Stood}
+use Rattle.session_desks.specs.Syncs.{Stood}
 use Rattle.lean_engine.proofs.SyncDoes.{flushes_none, line_call, made_logs, made_none, made_few, none_is}
 
 pub never_begun : (n : ℕ) (why : Refusal) → answer.Begun n ≡ answer.Refused why → ⊥

@@ -44,13 +44,13 @@ use Rattle.worker_log.specs.Logs.{Log, limit, used}
 use Rattle.row_engine.specs.Begins.{Begins}
 use Rattle.session_state.specs.Ties.{Behind}
 use Rattle.session_state.specs.declared.session.Session.{Session}
-use Rattle.lean_engine.specs.Desks.{desk_of}
+use Rattle.session_desks.specs.Desks.{desk_of}
 use Rattle.lean_engine.specs.Machines.{AreHalf, DoesTied, Tied}
 use Rattle.lean_engine.specs.Inside.Reached.{Reached}
-use Rattle.lean_engine.specs.declared.desk.Desk.{Desk}
+use Rattle.session_desks.specs.declared.desk.Desk.{Desk}
 use Rattle.lean_engine.proofs.LoggedRuns.{logged_all}
 use Rattle.lean_engine.proofs.SyncDoes.{line_call, none_is}
-use Rattle.lean_engine.proofs.SyncViews.{core_is, front_is, logs_join, may_is, more}
+use Rattle.session_desks.proofs.SyncViews.{core_is, front_is, logs_join, may_is, more}
 use Rattle.lean_engine.proofs.TiedLemmas.{half_other}
 
 -- a begin more is no sync

@@ -35,21 +35,22 @@ use Rattle.row_engine.specs.Begins.{Begins}
 use Rattle.row_engine.specs.Calls.{Comes, begin_answer}
 use Rattle.session_state.specs.Ties.{Ties}
 use Rattle.session_state.specs.declared.session.Session.{Session}
-use Rattle.lean_engine.specs.Desks.{desk_of, log_of}
-use Rattle.lean_engine.specs.Machines.{AreDesks, AreHalf, DoesTied, DoesByParts, OnBegin, Tied, memory_of}
+use Rattle.session_desks.specs.Desks.{desk_of, log_of}
+use Rattle.session_desks.specs.Machines.{AreDesks}
+use Rattle.lean_engine.specs.Machines.{AreHalf, DoesTied, DoesByParts, OnBegin, Tied, memory_of}
 use Rattle.lean_engine.specs.Inside.Reached.{Reached}
-use Rattle.lean_engine.specs.Inside.Syncs.{has_half}
-use Rattle.lean_engine.specs.declared.desk.Desk.{Desk}
+use Rattle.session_desks.specs.Syncs.{has_half}
+use Rattle.session_desks.specs.declared.desk.Desk.{Desk}
 use Rattle.lean_engine.proofs.BeginRuns.{began, not_begun}
-use Rattle.lean_engine.proofs.DeskLemmas.{desk_own, desk_same, place_low}
+use Rattle.session_desks.proofs.DeskLemmas.{desk_own, desk_same, place_low}
 use Rattle.lean_engine.proofs.HalfLates.{half_late, some_half}
-use Rattle.lean_engine.proofs.SeatLemmas.{holds_of, turn_high, turn_low}
+use Rattle.session_desks.proofs.SeatLemmas.{holds_of, turn_high, turn_low}
 use Rattle.core_calls.proofs.WhereLemmas.{refused_kept}
 use Rattle.lean_engine.proofs.SpentRuns.{spent}
 use Rattle.lean_engine.proofs.SyncDoes.{loads_none, none_is}
-use Rattle.lean_engine.proofs.SyncRuns.{around_none}
+use Rattle.session_desks.proofs.SyncRuns.{around_none}
 use Rattle.lean_engine.proofs.SyncTies.{loads_quiet}
-use Rattle.lean_engine.proofs.SyncViews.{core_is, front_is}
+use Rattle.session_desks.proofs.SyncViews.{core_is, front_is}
 
 -- where a script is told of it, no disk failed
 pub comes_told : (d f : Type 0) (why : Refusal) → IsTold why → d → Comes (answer.Refused why) d f

@@ -23,11 +23,12 @@ use Rattle.row_engine.specs.declared.commits.Ended.{Ended}
 use Rattle.lean_engine.specs.Calls.{IsTo, MayBe}
 use Rattle.lean_engine.specs.Inside.Came.{Came, receipt_in}
 use Rattle.lean_engine.specs.Inside.Asks.{IsEndOf}
-use Rattle.lean_engine.specs.Inside.Parts.{CallCame, IsBetween, Works, here, shape}
+use Rattle.lean_engine.specs.Inside.Parts.{CallCame}
+use Rattle.session_desks.specs.Parts.{IsBetween, Works, here, shape}
 use Rattle.lean_engine.specs.Machines.{ends_in}
 use Rattle.lean_engine.specs.Receipts.{IsReceipt}
-use Rattle.lean_engine.specs.declared.desk.Desk.{Desk}
-use Rattle.lean_engine.specs.declared.machine.Machine.{Machine}
+use Rattle.session_desks.specs.declared.desk.Desk.{Desk}
+use Rattle.session_desks.specs.declared.machine.Machine.{Machine}
 use Rattle.lean_engine.specs.declared.machine.Response.{Response}
 
 -- ## Refusals

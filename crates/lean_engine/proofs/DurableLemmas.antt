@@ -16,12 +16,12 @@ use Rattle.rows_trait.specs.declared.view.View.{View}
 use Rattle.rows_trait.specs.Views.{state}
 use Rattle.worker_log.specs.Logs.{Log}
 use Rattle.session_state.specs.Opened.{plain_shape}
-use Rattle.lean_engine.specs.Desks.{AreSeated, desk_of, log_of}
+use Rattle.session_desks.specs.Desks.{AreSeated, desk_of, log_of}
 use Rattle.lean_engine.specs.Inside.Asks.{AreNumbers, durable_of}
 use Rattle.lean_engine.specs.Receipts.{AreFlushed}
 use Rattle.lean_engine.specs.States.{InRun, IsEngine, State, memory_in}
-use Rattle.lean_engine.specs.declared.desk.Desk.{Desk}
-use Rattle.lean_engine.proofs.SeatLemmas.{seated_of}
+use Rattle.session_desks.specs.declared.desk.Desk.{Desk}
+use Rattle.session_desks.proofs.SeatLemmas.{seated_of}
 use Rattle.lean_engine.proofs.SeenLemmas.{same_half}
 use Rattle.lean_engine.proofs.StateLemmas.{state_of}
 use Rattle.lean_engine.proofs.TakeLemmas.{flushed_take, has_run_none, has_run_some, in_run_none, in_run_some}

@@ -26,11 +26,11 @@ use Rattle.session_state.specs.Holds.{Holds}
 use Rattle.session_state.specs.Opened.{EveryFellow, EveryOpened, IsOpened, IsOpenedOn, plain_shape}
 use Rattle.session_state.specs.Ties.{Ties}
 use Rattle.session_state.specs.declared.session.Session.{Session}
-use Rattle.lean_engine.specs.Desks.{desk_of, log_of}
-use Rattle.lean_engine.specs.Machines.{IsDesk, IsLogged, IsMachine}
+use Rattle.session_desks.specs.Desks.{desk_of, log_of}
+use Rattle.session_desks.specs.Machines.{IsDesk, IsLogged, IsMachine}
 use Rattle.lean_engine.specs.Openings.{AreFurther, HasOpened, HasRecovered, IsFurther, IsMadeBy, IsOn, OpeningLaws}
 use Rattle.lean_engine.specs.States.{HasRoom, HasRun, InRun, IsEngine, State}
-use Rattle.lean_engine.specs.declared.desk.Desk.{Desk}
+use Rattle.session_desks.specs.declared.desk.Desk.{Desk}
 use Rattle.lean_engine.specs.declared.engine.Size.{Size}
 use Rattle.lean_engine.proofs.OpenedDesks.{at_each}
 use Rattle.lean_engine.proofs.LoggedLemmas.{logged_start}

@@ -19,13 +19,13 @@ use Rattle.engine_trait.specs.Calls.{is_half_done}
 use Rattle.engine_trait.specs.Limits.{limits}
 use Rattle.rows_trait.specs.declared.view.View.{View}
 use Rattle.rows_trait.specs.Views.{Shape}
-use Rattle.lean_engine.specs.Desks.{desk_of, place_of}
-use Rattle.lean_engine.specs.Machines.{AreDesks}
-use Rattle.lean_engine.specs.Inside.Syncs.{AreWhole, has_half, is_half_desk}
-use Rattle.lean_engine.specs.declared.desk.Desk.{Desk}
-use Rattle.lean_engine.proofs.DeskLemmas.{desk_apart, desk_own, place_low}
-use Rattle.lean_engine.proofs.SeatLemmas.{turn_high, turn_low}
-use Rattle.lean_engine.proofs.SyncNeeds.{seats}
+use Rattle.session_desks.specs.Desks.{desk_of, place_of}
+use Rattle.session_desks.specs.Machines.{AreDesks}
+use Rattle.session_desks.specs.Syncs.{AreWhole, has_half, is_half_desk}
+use Rattle.session_desks.specs.declared.desk.Desk.{Desk}
+use Rattle.session_desks.proofs.DeskLemmas.{desk_apart, desk_own, place_low}
+use Rattle.session_desks.proofs.SeatLemmas.{turn_high, turn_low}
+use Rattle.session_desks.proofs.SyncNeeds.{seats}
 
 -- ## In a run
 

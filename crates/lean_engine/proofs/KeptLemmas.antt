@@ -9,17 +9,19 @@ use Rattle.map_model.specs.declared.call.Call.{Call}
 use Rattle.map_model.specs.declared.call.Refusal.TheVariants as refusal
 use Rattle.row_engine.specs.Calls.{AbortDoes, CallDoes}
 use Rattle.session_state.specs.Others.{EveryOther, Steps}
-use Rattle.lean_engine.specs.Desks.{log_of}
+use Rattle.session_desks.specs.Desks.{log_of}
 use Rattle.lean_engine.specs.Inside.Came.{Came}
-use Rattle.lean_engine.specs.Inside.Parts.{AbortCame, CallCame, IsBeside, IsSound, MachineDoes, MachineWent, SeatFits, Works, here, logs, memory, shape}
+use Rattle.lean_engine.specs.Inside.Parts.{AbortCame, CallCame, IsBeside, MachineDoes, MachineWent, memory}
+use Rattle.session_desks.specs.Parts.{IsSound, SeatFits, Works, here, logs, shape}
 use Rattle.lean_engine.specs.Inside.Quiet.{AreAsFlushed}
-use Rattle.lean_engine.specs.Machines.{DoesByParts, IsDue, IsMachine, OnLine, memory_of}
-use Rattle.lean_engine.specs.declared.desk.Desk.{Desk}
-use Rattle.lean_engine.specs.declared.machine.Machine.{Machine}
+use Rattle.lean_engine.specs.Machines.{DoesByParts, IsDue, OnLine, memory_of}
+use Rattle.session_desks.specs.Machines.{IsMachine}
+use Rattle.session_desks.specs.declared.desk.Desk.{Desk}
+use Rattle.session_desks.specs.declared.machine.Machine.{Machine}
 use Rattle.lean_engine.specs.declared.machine.Response.{Response}
-use Rattle.lean_engine.proofs.MachineLemmas.{machine_behind}
+use Rattle.session_desks.proofs.MachineLemmas.{machine_behind}
 use Rattle.lean_engine.proofs.QuietLemmas.{as_flushed}
-use Rattle.lean_engine.proofs.SeatLemmas.{turn_high, turn_low}
+use Rattle.session_desks.proofs.SeatLemmas.{turn_high, turn_low}
 use Rattle.lean_engine.proofs.TiedLemmas.{abort_where, call_where, due_where}
 
 module _ (law : EveryOther) {D : Type 0} (story : D → Story) (faults : D → ℕ) (m n : Machine D) (was : IsSound m) (shape_is : shape n ≡ shape m) (fits : SeatFits n) (beside : IsBeside m n) where

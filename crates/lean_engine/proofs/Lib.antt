@@ -1,10 +1,6 @@
-pub mod DeskLemmas
-pub mod SeatLemmas
 pub mod OwnEvents
-pub mod FloorLemmas
 pub mod AreaLemmas
 pub mod TiedLemmas
-pub mod MachineLemmas
 pub mod LoggedLemmas
 pub mod LoggedRuns
 pub mod CameLemmas
@@ -14,16 +10,10 @@ pub mod OpeningLemmas
 pub mod OpenedDesks
 pub mod MadeLemmas
 pub mod EngineLemmas
-pub mod SyncRuns
 pub mod SyncDoes
-pub mod SyncViews
-pub mod SyncNeeds
 pub mod SyncTies
-pub mod SyncMachines
-pub mod SyncGoes
 pub mod SyncEnds
 pub mod SyncBegins
-pub mod FlushOnes
 pub mod BeginDoes
 pub mod BeginRuns
 pub mod BeginSteps

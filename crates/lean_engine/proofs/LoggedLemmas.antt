@@ -23,7 +23,7 @@ use Rattle.worker_log.specs.Calls.{After, flushed_log}
 use Rattle.worker_log.specs.Logs.{Log}
 use Rattle.engine_trait.specs.Logs.{LogsEntry, LogsOne, LogsRecord, Logs}
 use Rattle.log_calls.specs.Wholes.{EndsInRecord}
-use Rattle.lean_engine.specs.Machines.{IsLogged}
+use Rattle.session_desks.specs.Machines.{IsLogged}
 
 -- no record of the log is above its last number, which is flushed, or that of a record
 pub record Reaches (s : State) (w : ℕ) (log : Log) : Type 0 where

@@ -30,7 +30,7 @@ use Rattle.worker_log.specs.Logs.{Log}
 use Rattle.engine_trait.specs.Logs.{LogsOne, LogsRecord, Logs}
 use Rattle.engine_trait.specs.Limits.{AreLoads, limits}
 use Rattle.engine_trait.specs.Calls.{Happens, Memory}
-use Rattle.lean_engine.specs.Machines.{IsLogged}
+use Rattle.session_desks.specs.Machines.{IsLogged}
 use Rattle.lean_engine.proofs.LoggedLemmas.{Reaches, reaches, behind_record, run_reaches, step_is}
 
 -- ## Flushed numbers

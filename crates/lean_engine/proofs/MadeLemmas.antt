@@ -8,7 +8,7 @@ use Rattle.run_opening.specs.Starts.{empty_log}
 use Rattle.worker_log.specs.Kept.{IsFresh, IsInRange, IsKept, fresh_account}
 use Rattle.worker_log.specs.Logs.{Log}
 use Rattle.lean_engine.specs.Openings.{IsFurther, IsMadeBy}
-use Rattle.lean_engine.specs.declared.desk.Desk.{Desk}
+use Rattle.session_desks.specs.declared.desk.Desk.{Desk}
 
 -- a log that is as it should be is made
 pub made_if : {E : Type 0} (n : Master) (w : ℕ) (log : Result Log E) → IfOk log (λ it. it ≡ empty_log n w) → IfOk log IsInRange → IfOk log (λ it. (area : Area) → IsFresh it area → IsKept (fresh_account area) it area) → IfOk log (IsMadeBy n w)

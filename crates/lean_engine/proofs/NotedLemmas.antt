@@ -8,7 +8,7 @@ use Rattle.engine_trait.specs.declared.calls.Next.{Next}
 use Rattle.group_commit.specs.declared.queue.End.{End}
 use Rattle.rows_trait.specs.declared.view.View.{View}
 use Rattle.lean_engine.specs.States.{HasRun, InRun, IsEngine, State}
-use Rattle.lean_engine.specs.declared.desk.Desk.{Desk}
+use Rattle.session_desks.specs.declared.desk.Desk.{Desk}
 use Rattle.lean_engine.proofs.StateLemmas.{state_of}
 
 module _ {D : Type 0} (v : View) (disk disk_new : D) (work : Desk) (desks : List Desk) (master : Master) (next : Next) (ends : List (List End)) where

@@ -5,9 +5,9 @@ use Rattle.std.proofs.lemmas.Option.{slice_get-get_or}
 use Rattle.disk_slots.specs.declared.master.Master.{Master}
 use Rattle.session_state.specs.declared.session.Session.{Session}
 use Rattle.worker_log.specs.Logs.{Log}
-use Rattle.lean_engine.specs.Desks.{desk_of, place_of}
+use Rattle.session_desks.specs.Desks.{desk_of, place_of}
 use Rattle.lean_engine.specs.Openings.{AreFurther, IsFurther}
-use Rattle.lean_engine.specs.declared.desk.Desk.{Desk}
+use Rattle.session_desks.specs.declared.desk.Desk.{Desk}
 
 module _ (n : Master) (x : Session) (own : x.own ≡ 1) (log : Log) (desks : List Desk) (further : AreFurther n x desks) where
   abbrev first : Desk

@@ -14,14 +14,15 @@ use Rattle.rows_trait.specs.Views.{Shape}
 use Rattle.rows_trait.specs.declared.view.View.{View}
 use Rattle.worker_log.specs.Logs.{Log}
 use Rattle.lean_engine.specs.Calls.{IsTo}
-use Rattle.lean_engine.specs.Desks.{Turned, log_of}
+use Rattle.session_desks.specs.Desks.{Turned, log_of}
 use Rattle.lean_engine.specs.Inside.Asks.{AreNumbers, IsEndOf, put_ends}
-use Rattle.lean_engine.specs.Machines.{AreDesks, ends_in}
+use Rattle.session_desks.specs.Machines.{AreDesks}
+use Rattle.lean_engine.specs.Machines.{ends_in}
 use Rattle.lean_engine.specs.Inside.Quiet.{AreAsFlushed, IsQuiet, is_still}
-use Rattle.lean_engine.specs.declared.desk.Desk.{Desk}
-use Rattle.lean_engine.proofs.DeskLemmas.{desk_own, desk_same, place_low}
+use Rattle.session_desks.specs.declared.desk.Desk.{Desk}
+use Rattle.session_desks.proofs.DeskLemmas.{desk_own, desk_same, place_low}
 use Rattle.lean_engine.proofs.DurableLemmas.{are_all, are_numbers, numbers_of}
-use Rattle.lean_engine.proofs.SeatLemmas.{turn_high, turn_low}
+use Rattle.session_desks.proofs.SeatLemmas.{turn_high, turn_low}
 use Rattle.lean_engine.proofs.TakeLemmas.{flushed_take}
 
 -- ## What the logs have flushed

@@ -19,7 +19,8 @@ use Rattle.worker_log.specs.Logs.{Log}
 use Rattle.engine_trait.specs.Calls.{Memory, is_half_done}
 use Rattle.engine_trait.specs.Limits.{AreLoads, limits}
 use Rattle.session_state.specs.Ties.{Ties}
-use Rattle.lean_engine.specs.Machines.{AreLogged, IsLogged, Tied}
+use Rattle.session_desks.specs.Machines.{AreLogged, IsLogged}
+use Rattle.lean_engine.specs.Machines.{Tied}
 use Rattle.lean_engine.proofs.HalfMarks.{half_told, halves, halves_more}
 
 -- ## Loads

@@ -29,7 +29,7 @@ use Rattle.engine_trait.specs.Rooms.{MakesItsRoom}
 use Rattle.rows_trait.specs.declared.view.View.{View}
 use Rattle.lean_engine.specs.Machines.{AreHalf, DoesTied, Tied}
 use Rattle.lean_engine.specs.Inside.Reached.{Reached}
-use Rattle.lean_engine.specs.declared.desk.Desk.{Desk}
+use Rattle.session_desks.specs.declared.desk.Desk.{Desk}
 use Rattle.lean_engine.proofs.LoggedRuns.{logged_all}
 use Rattle.lean_engine.proofs.SyncDoes.{line_call}
 

@@ -21,15 +21,16 @@ use Rattle.group_commit.specs.Queues.{queue_of}
 use Rattle.group_commit.specs.declared.queue.End.{End}
 use Rattle.group_commit.specs.declared.receipts.Receipt.{Receipt}
 use Rattle.lean_engine.specs.Calls.{AbortsInRuns, DoesInRuns, IsTo, MayBe, Went}
-use Rattle.lean_engine.specs.Desks.{desk_of, log_of}
+use Rattle.session_desks.specs.Desks.{desk_of, log_of}
 use Rattle.lean_engine.specs.Inside.Asks.{IsEndOf, OnAsked, next_behind, put_ends}
-use Rattle.lean_engine.specs.Machines.{AreLogged, DoesByParts, IsDue, IsMachine, memory_of}
+use Rattle.session_desks.specs.Machines.{AreLogged, IsMachine}
+use Rattle.lean_engine.specs.Machines.{DoesByParts, IsDue, memory_of}
 use Rattle.lean_engine.specs.States.{HasRun, IsEngine, State}
-use Rattle.lean_engine.specs.Inside.Syncs.{HasOpening}
-use Rattle.lean_engine.specs.declared.desk.Desk.{Desk}
+use Rattle.session_desks.specs.Syncs.{HasOpening}
+use Rattle.session_desks.specs.declared.desk.Desk.{Desk}
 use Rattle.lean_engine.proofs.AskingLemmas.{aborts_in, asked_of, begun_of, due_of, end_room, in_runs, may_more, open_due, room_on_abort, room_on_line, run_behind, some_session}
 use Rattle.lean_engine.proofs.CallLemmas.{fault, no_device, went}
-use Rattle.lean_engine.proofs.SeatLemmas.{turn_low, turn_high}
+use Rattle.session_desks.proofs.SeatLemmas.{turn_low, turn_high}
 use Rattle.lean_engine.proofs.SeenLemmas.{logged_seen}
 use Rattle.session_state.specs.Opened.{plain_shape}
 

@@ -34,19 +34,20 @@ use Rattle.row_engine.specs.Begins.{Begins}
 use Rattle.row_engine.specs.Calls.{begin_answer}
 use Rattle.session_state.specs.Syncs.{flushed_of}
 use Rattle.session_state.specs.declared.session.Session.{Session}
-use Rattle.lean_engine.specs.Desks.{Turned, desk_of, log_of}
-use Rattle.lean_engine.specs.Machines.{AreDesks, AreHalf, DoesTied, DoesByParts, OnBegin, Tied, memory_of}
+use Rattle.session_desks.specs.Desks.{Turned, desk_of, log_of}
+use Rattle.session_desks.specs.Machines.{AreDesks}
+use Rattle.lean_engine.specs.Machines.{AreHalf, DoesTied, DoesByParts, OnBegin, Tied, memory_of}
 use Rattle.lean_engine.specs.Inside.Reached.{Reached}
-use Rattle.lean_engine.specs.Inside.Syncs.{AreSynced, SyncMade}
-use Rattle.lean_engine.specs.declared.desk.Desk.{Desk}
+use Rattle.session_desks.specs.Syncs.{AreSynced, SyncMade}
+use Rattle.session_desks.specs.declared.desk.Desk.{Desk}
 use Rattle.lean_engine.proofs.BeginDoes.{prepares}
 use Rattle.lean_engine.proofs.BeginRuns.{began, not_begun}
 use Rattle.lean_engine.proofs.BeginSteps.{comes_told}
-use Rattle.lean_engine.proofs.DeskLemmas.{desk_own, desk_same, place_low}
-use Rattle.lean_engine.proofs.SeatLemmas.{desks_turned, holds_of, turn_high, turn_low}
+use Rattle.session_desks.proofs.DeskLemmas.{desk_own, desk_same, place_low}
+use Rattle.session_desks.proofs.SeatLemmas.{desks_turned, holds_of, turn_high, turn_low}
 use Rattle.lean_engine.proofs.SyncDoes.{none_is}
 use Rattle.lean_engine.proofs.SyncEnds.{came, made_as}
-use Rattle.lean_engine.proofs.SyncViews.{core_is, front_is}
+use Rattle.session_desks.proofs.SyncViews.{core_is, front_is}
 
 -- ## What a log that is full stays
 

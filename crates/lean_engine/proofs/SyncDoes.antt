@@ -30,7 +30,7 @@ use Rattle.engine_trait.specs.Limits.{AreLoads, limits}
 use Rattle.engine_trait.specs.Logs.{Logs}
 use Rattle.engine_trait.specs.Refusals.{refusal_in}
 use Rattle.engine_trait.specs.Rooms.{MakesItsRoom, makes_sync}
-use Rattle.lean_engine.specs.Inside.Syncs.{Stood}
+use Rattle.session_desks.specs.Syncs.{Stood}
 
 -- ## Events
 

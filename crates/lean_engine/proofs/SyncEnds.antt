@@ -35,12 +35,12 @@ use Rattle.session_state.specs.Ties.{Ties}
 use Rattle.session_state.specs.declared.session.Session.{Session}
 use Rattle.lean_engine.specs.Machines.{AreHalf, DoesTied, DoesByParts, OnBegin, OnLine, Tied, memory_of}
 use Rattle.lean_engine.specs.Inside.Reached.{Reached}
-use Rattle.lean_engine.specs.Inside.Syncs.{AreSynced, Stood, SyncFails, SyncMade}
-use Rattle.lean_engine.specs.declared.desk.Desk.{Desk}
+use Rattle.session_desks.specs.Syncs.{AreSynced, Stood, SyncFails, SyncMade}
+use Rattle.session_desks.specs.declared.desk.Desk.{Desk}
 use Rattle.lean_engine.proofs.SyncDoes.{any_last, flushes_none, made_none}
-use Rattle.lean_engine.proofs.SyncRuns.{around_more, master_aside, written_by}
+use Rattle.session_desks.proofs.SyncRuns.{around_more, master_aside, written_by}
 use Rattle.lean_engine.proofs.SyncTies as ties
-use Rattle.lean_engine.proofs.SyncViews.{logs_join}
+use Rattle.session_desks.proofs.SyncViews.{logs_join}
 
 -- where the logs are the same
 abbrev pub made_as : {D : Type 0} (story : D → Story) (many n : ℕ) (v w : View) (was is other : ℕ → Log) (master next : Master) (old new : D) → SyncMade story many n v w was is master next old new → ((a : ℕ) → 0 < a → a ≤ many → other a ≡ is a) → SyncMade story many n v w was other master next old new

@@ -39,14 +39,14 @@ use Rattle.rows_trait.specs.Views.{state}
 use Rattle.worker_log.specs.Logs.{Log}
 use Rattle.session_state.specs.Ties.{Behind, Ties}
 use Rattle.session_state.specs.Syncs.{HasSynced}
-use Rattle.lean_engine.specs.Desks.{desk_of}
+use Rattle.session_desks.specs.Desks.{desk_of}
 use Rattle.lean_engine.specs.Machines.{AreHalf, DoesTied, Tied}
-use Rattle.lean_engine.specs.Inside.Syncs.{FlushFails, Flushed, IsWriting, Stood, next_with}
-use Rattle.lean_engine.specs.declared.desk.Desk.{Desk}
+use Rattle.session_desks.specs.Syncs.{FlushFails, Flushed, IsWriting, Stood, next_with}
+use Rattle.session_desks.specs.declared.desk.Desk.{Desk}
 use Rattle.lean_engine.proofs.LoggedRuns.{logged_all}
 use Rattle.lean_engine.proofs.SyncDoes.{does, flushes_ready, line_call, loads_ready, ready_join}
-use Rattle.lean_engine.proofs.SyncRuns.{around_more, master_aside, master_failed, stood_master, stood_still}
-use Rattle.lean_engine.proofs.SyncViews.{front_is, logs_join, may_is, more}
+use Rattle.session_desks.proofs.SyncRuns.{around_more, master_aside, master_failed, stood_master, stood_still}
+use Rattle.session_desks.proofs.SyncViews.{front_is, logs_join, may_is, more}
 
 pub loads_quiet : (es : List happening.Event) → AreLoads es → all is_quiet es ≡ true
 loads_quiet [] a = refl

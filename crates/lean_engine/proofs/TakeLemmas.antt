@@ -21,11 +21,11 @@ use Rattle.group_commit.specs.declared.queue.End.{End}
 use Rattle.group_commit.specs.declared.receipts.Receipt.{Receipt}
 use Rattle.group_commit.proofs.ListLemmas.{queue_set_other, queue_set_same}
 use Rattle.rows_trait.specs.declared.view.View.{View}
-use Rattle.lean_engine.specs.Desks.{desk_of}
+use Rattle.session_desks.specs.Desks.{desk_of}
 use Rattle.lean_engine.specs.Inside.Asks.{AreNumbers, durable_of}
 use Rattle.lean_engine.specs.Machines.{Tied}
 use Rattle.lean_engine.specs.States.{HasRoom, HasRun, InRun, IsOfTurn, IsSettled, State, WhereDue, memory_in}
-use Rattle.lean_engine.specs.declared.desk.Desk.{Desk}
+use Rattle.session_desks.specs.declared.desk.Desk.{Desk}
 
 -- ## Queues get no longer
 

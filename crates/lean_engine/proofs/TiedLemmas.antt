@@ -34,11 +34,11 @@ use Rattle.row_engine.specs.Calls as alone
 use Rattle.row_engine.specs.Deeds as alone_did
 use Rattle.session_state.specs.Others.{Steps}
 use Rattle.session_state.specs.Ties.{Ties}
-use Rattle.lean_engine.specs.Desks.{desk_of}
+use Rattle.session_desks.specs.Desks.{desk_of}
 use Rattle.lean_engine.specs.Machines.{AreHalf, DoesTied, DoesByParts, IsDue, OnLine, Tied, memory_of}
-use Rattle.lean_engine.specs.declared.desk.Desk.{Desk}
+use Rattle.session_desks.specs.declared.desk.Desk.{Desk}
 use Rattle.lean_engine.proofs.AreaLemmas.{around, leaves_beside}
-use Rattle.lean_engine.proofs.DeskLemmas.{desk_own, desk_same, place_low}
+use Rattle.session_desks.proofs.DeskLemmas.{desk_own, desk_same, place_low}
 use Rattle.lean_engine.proofs.OwnEvents.{all_last, is_own, logs_still, outcome_own, own_unsynced}
 use Rattle.lean_engine.proofs.LoggedRuns.{logged_all}
 

@@ -20,10 +20,11 @@ use Rattle.rows_trait.specs.declared.view.View.{View}
 use Rattle.worker_log.specs.Logs.{Log}
 use Rattle.row_engine.specs.Calls.{Comes}
 use Rattle.session_state.specs.declared.session.Session.{Session}
-use Rattle.lean_engine.specs.Desks.{Turned, desk_of}
+use Rattle.session_desks.specs.Desks.{Turned, desk_of}
 use Rattle.lean_engine.specs.Inside.Asks.{OnAsked}
-use Rattle.lean_engine.specs.Machines.{AreHalf, DoesTied, DoesByParts, IsLogged, OnLine, Tied, memory_of}
-use Rattle.lean_engine.specs.declared.desk.Desk.{Desk}
+use Rattle.lean_engine.specs.Machines.{AreHalf, DoesTied, DoesByParts, OnLine, Tied, memory_of}
+use Rattle.session_desks.specs.Machines.{IsLogged}
+use Rattle.session_desks.specs.declared.desk.Desk.{Desk}
 
 pub comes_as : (a : Answer) (d e f h : Type 0) → (d → e) → (f → h) → Comes a d f → Comes a e h
 comes_as (answer.Refused refusal.DiskFault) d e f h to other x = other x
@@ -103,7 +104,7 @@ module _ (session workers : ℕ) (was mid : Desk) (desks_was desks_mid : List De
       logs w p q = t.log_of w p (within w (subst (λ (k : ℕ). w ≤ k) same q))
 
   -- the logs have their records still
-  pub logged_turned : (s : Rattle.core_state.specs.States.State) → Rattle.lean_engine.specs.Machines.AreLogged s (Rattle.lean_engine.specs.Desks.log_of was desks_was) workers → Rattle.lean_engine.specs.Machines.AreLogged s (Rattle.lean_engine.specs.Desks.log_of mid desks_mid) workers
+  pub logged_turned : (s : Rattle.core_state.specs.States.State) → Rattle.session_desks.specs.Machines.AreLogged s (Rattle.session_desks.specs.Desks.log_of was desks_was) workers → Rattle.session_desks.specs.Machines.AreLogged s (Rattle.session_desks.specs.Desks.log_of mid desks_mid) workers
   logged_turned s h w low high = subst (λ (l : Log). IsLogged s w l) (sym (t.log_of w low (within w high))) (h w low high)
 
 -- ## What the session that has the turn did

@@ -1,5 +1,5 @@
 -- What a call left of a machine.
-use Rattle.std.proofs.Common.{◌≡◌, ◌≤◌, ◌<◌, ℕ, true, List, None, Result, Ok, Err, IfErr, true≢false, refl, sym, ap, ◌∙◌, subst}
+use Rattle.std.proofs.Common.{◌≡◌, ◌≤◌, ◌<◌, ℕ, true, List, None, Result, Ok, Err, IfErr, true≢false, refl, sym, ap, ◌∙◌, subst, arith}
 use Rattle.core_calls.specs.Fronts.{Done}
 use Rattle.core_state.specs.Openings.{Opening}
 use Rattle.engine_trait.specs.Calls.{IsTold}
@@ -15,14 +15,20 @@ use Rattle.rows_trait.specs.declared.view.View.{View}
 use Rattle.row_engine.specs.Calls.{begin_answer}
 use Rattle.lean_engine.specs.Calls.{IsTo, MayBe}
 use Rattle.lean_engine.specs.Inside.Asks.{IsEndOf}
-use Rattle.lean_engine.specs.Inside.Parts.{AreAsMany, HasTurned, IsSound, MachineDoes, MachineWent, SeatFits, Works, here, memory}
-use Rattle.lean_engine.specs.declared.machine.Machine.{Machine}
+use Rattle.session_desks.specs.Parts.{AreAsMany, HasTurned, IsSound, SeatFits, Works, here}
+use Rattle.lean_engine.specs.Inside.Parts.{MachineDoes, MachineWent, memory}
+use Rattle.session_desks.specs.declared.machine.Machine.{Machine}
 use Rattle.lean_engine.specs.declared.machine.Response.{Response}
 use Rattle.lean_engine.proofs.AskingLemmas.{may_more}
 use Rattle.lean_engine.proofs.CameLemmas.{ends_none}
 use Rattle.lean_engine.proofs.BeginAll.{begun_may, no_fault, not_broken}
-use Rattle.lean_engine.proofs.SyncGoes.{calm_cause}
 use Rattle.lean_engine.proofs.TurnLemmas.{does_as}
+
+-- ## No fault
+
+-- where the count of faults is the same, and none is told
+pub calm_cause : {before now : ℕ} {failed : Type 0} → now ≡ before → (failed → ⊥) → HasCause before now failed
+calm_cause {before} e none = record { later = subst (λ n. before ≤ n) (sym e) (omega arith); cause = λ f. absurd (none f); calm = λ _. e }
 
 fault_only : (r : Answer) → r ≡ answer.Refused refusal.RowSpent → r ≡ answer.Refused refusal.DiskFault → ⊥
 fault_only r e f = absurd (cc)

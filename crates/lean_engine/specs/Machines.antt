@@ -1,13 +1,11 @@
--- The parts of an engine that work on rows and disk: its rows and their seat, the session in the store and those at their desks, and the master that counts.
-use Rattle.std.specs.Prelude.{◌≡◌, ◌≤◌, ◌<◌, ◌+◌, ◌^◌, ℕ, suc, Bool, true, false, List, ◌∷◌, length, replicate, leb, Some, ◌*◌, min}
+-- In which run what works on rows and disk stands, and what a call of it did in each such run.
+use Rattle.std.specs.Prelude.{◌≡◌, ◌≤◌, ◌<◌, ℕ, Bool, true, false, List, ◌∷◌, leb, Some}
 use Rattle.page_model.specs.Limits.{waiting_ends}
-use Rattle.image_model.specs.Entries.{Entry, is_record}
-use Rattle.map_model.specs.Lists.{Has, any}
+use Rattle.map_model.specs.Lists.{any}
 use Rattle.map_model.specs.declared.call.Answer.{Answer}
 use Rattle.map_model.specs.declared.call.Answer.TheVariants as answer
 use Rattle.map_model.specs.declared.call.Call.{Call}
 use Rattle.core_state.specs.Openings.{Opening}
-use Rattle.core_state.specs.States as core
 use Rattle.core_state.specs.Local.{is_sync}
 use Rattle.core_state.specs.Steps.{state_after}
 use Rattle.core_calls.specs.Fronts.{Done, front, outcomes}
@@ -17,65 +15,18 @@ use Rattle.disk_slots.specs.declared.master.Master.{Master}
 use Rattle.engine_calls.specs.Clauses.{IsNewLine}
 use Rattle.engine_trait.specs.Calls.{Does, Fails, Memory, is_half_done}
 use Rattle.lean_disk.specs.Story.{Story}
-use Rattle.log_calls.specs.Wholes.{EndsInRecord}
 use Rattle.rows_trait.specs.declared.view.View.{View}
-use Rattle.rows_trait.specs.Plain.{sizes}
-use Rattle.rows_trait.specs.Rule.{IsPicture, plan}
-use Rattle.rows_trait.specs.Views.{Shape, state}
-use Rattle.worker_log.specs.Logs.{Log}
 use Rattle.row_engine.specs.Calls.{Comes}
-use Rattle.session_state.specs.Holds.{Holds}
-use Rattle.session_state.specs.Opened.{plain_shape}
 use Rattle.session_state.specs.Ties.{Ties}
-use Rattle.session_state.specs.declared.session.Session.{Session}
-use Rattle.lean_engine.specs.Desks.{desk_of, log_of}
-use Rattle.lean_engine.specs.declared.desk.Desk.{Desk}
-
--- ## What holds between two calls
-
--- A session at its desk, beside the one whose turn it is: it is as between two calls, with the free pages that that one knows.
-pub record IsDesk (z : Shape) (v : View) (turn : Session) (session : ℕ) (desk : Desk) : Type 0 where
-  pub own : desk.session.own ≡ session
-  pub workers : desk.session.workers ≡ turn.workers
-  pub group : desk.session.group ≡ turn.group
-  pub frames : desk.session.frames ≡ turn.frames
-  pub count : desk.session.held.count ≡ turn.held.count
-  pub works : desk.session.works ≡ true
-  pub holds : Holds z v (record desk.session { free = turn.free }) desk.log
-
--- there is a desk for each session
-pub record AreDesks (z : Shape) (v : View) (work : Desk) (desks : List Desk) : Type 0 where
-  pub count : suc (length desks) ≡ work.session.workers
-  pub each : (w : ℕ) → 0 < w → w ≤ work.session.workers → IsDesk z v work.session w (desk_of work desks w)
-
--- the master that counts has a head for each log, and further sequence numbers for all syncs that may come
-pub record HasNumbers (master : Master) (logs : ℕ) : Type 0 where
-  pub sequence : master.sequence < 2 ^ 61 + min master.floor (2 ^ 62 + 66 * 16)
-  pub heads : length master.heads ≡ logs
-
--- The parts belong together; no lock row is latched.
-pub record IsMachine (frames locks workers : ℕ) (words : List ℕ) (v : View) (work : Desk) (others : List Desk) (marks : List Bool) (master : Master) : Type 0 where
-  pub fits : IsPicture (plan (sizes frames locks workers) v.given) words v
-  pub desks : AreDesks (plain_shape frames locks workers) v work others
-  pub unmarked : marks ≡ replicate work.session.held.count false
-  pub numbers : HasNumbers master work.session.workers
-  pub floor : master.floor ≡ (state v).core.floor
+use Rattle.session_desks.specs.Machines.{IsLogged}
+use Rattle.session_desks.specs.Desks.{desk_of, log_of}
+use Rattle.session_desks.specs.declared.desk.Desk.{Desk}
 
 -- what they have in memory of the disk
 abbrev pub memory_of : (work : Desk) → (desks : List Desk) → Master → Memory
 memory_of work desks master = record { log = log_of work desks; master = master }
 
 -- ## In a run
-
--- Each record of log w is numbered up to its last number, which is that of a record where it is not flushed; and it is flushed as far as the core says.
-pub record IsLogged (s : core.State) (w : ℕ) (log : Log) : Type 0 where
-  pub last : (r : Entry) → Has r s.entries → is_record r.kind ≡ true → r.log ≡ w → r.number ≤ log.last
-  pub ends : EndsInRecord s w log
-  pub flushed : s.flushed w ≡ log.flushed
-
--- so each log of so many
-abbrev pub AreLogged : core.State → (log : ℕ → Log) → (logs : ℕ) → Type 0
-AreLogged s log logs = (w : ℕ) → 0 < w → w ≤ logs → IsLogged s w (log w)
 
 -- The view has seen just the events of these outcomes, and maybe loads of the opening; the logs have their records.
 pub record Tied (g : Opening) (group : ℕ) (xs : List Done) (v : View) (memory : Memory) : Type 0 where

@@ -27,7 +27,7 @@ use Rattle.engine_trait.specs.Calls.{IsOf, Memory}
 use Rattle.engine_trait.specs.declared.calls.Next.TheVariants.{Line}
 use Rattle.session_state.specs.declared.session.Session.{Session}
 use Rattle.lean_engine.specs.States.{InRun, State, memory_in}
-use Rattle.lean_engine.specs.declared.desk.Desk.{Desk}
+use Rattle.session_desks.specs.declared.desk.Desk.{Desk}
 use Rattle.lean_engine.specs.declared.engine.Size.{Size}
 use Rattle.lean_engine.specs.declared.opening.Parts.{Parts}
 use Rattle.disk_runs.specs.Fair.{IsAsRead}

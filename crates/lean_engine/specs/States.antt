@@ -18,9 +18,10 @@ use Rattle.group_commit.specs.declared.queue.End.{End}
 use Rattle.rows_trait.specs.declared.view.View.{View}
 use Rattle.rows_trait.specs.Plain.{sizes}
 use Rattle.rows_trait.specs.Rule.{IsPicture, plan}
-use Rattle.lean_engine.specs.Desks.{desk_of}
-use Rattle.lean_engine.specs.Machines.{AreHalf, IsMachine, Tied, memory_of}
-use Rattle.lean_engine.specs.declared.desk.Desk.{Desk}
+use Rattle.session_desks.specs.Desks.{desk_of}
+use Rattle.lean_engine.specs.Machines.{AreHalf, Tied, memory_of}
+use Rattle.session_desks.specs.Machines.{IsMachine}
+use Rattle.session_desks.specs.declared.desk.Desk.{Desk}
 
 -- ## What it is
 

@@ -12,16 +12,19 @@ ghost use Rattle.engine_trait.specs.Turns.{is_conflict_in};
 ghost use Rattle.engine_trait.specs.declared.calls.Next.{Next};
 ghost use Rattle.lean_engine.specs.Calls.{Asked, AskedAbort, IsTo, MayBe};
 ghost use Rattle.lean_engine.specs.Inside.Asks.{IsEndOf, OnAsked, next_behind, put_ends};
-ghost use Rattle.lean_engine.specs.Inside.Parts.{HasLogs, IsSound, KeepsFlushed, MachineWent, Works};
+ghost use Rattle.session_desks.specs.Parts.{HasLogs, IsSound, Works};
+ghost use Rattle.lean_engine.specs.Inside.Parts.{KeepsFlushed, MachineWent};
 ghost use Rattle.lean_engine.specs.Inside.Quiet.{is_still};
-ghost use Rattle.lean_engine.specs.Inside.Syncs.{HasOpening};
+ghost use Rattle.session_desks.specs.Syncs.{HasOpening};
 
+use crate::begins::{begin, sync};
 use crate::engine::Engine;
-use crate::machine::{Machine, Response};
+use crate::machine::{Response, abort, row_call};
 use engine_trait::calls::Next;
 use group_commit::Unripe;
 use map_model::{Answer, Call, Refusal};
 use page_model::limits::WAITING_ENDS;
+use session_desks::Machine;
 use session_state::Stages;
 
 // A conflict is the answer.
@@ -78,32 +81,30 @@ fn stays_quiet(quiet: bool, call: &Call, is_long: bool) -> bool
     }
 }
 
-impl<D: Stages> Machine<D> {
-    // What a session asks, or for 0 nobody does.
-    fn ask(&mut self, session: u32, call: &Call, is_long: bool) -> Response
-        requires asked { IsAsked self.old.work.session.workers session call.now }
-        requires machine { IsSound self.old }
-        requires works { Works self.old }
-        requires opens { HasOpening self.old.seat.view.given }
-        requires logged { HasLogs self.old }
-        ensures went { MachineWent D.story D.faults (OnAsked session call.now is_long) self.old.work.session.workers session call.now result self.old self.new }
-        ensures turn { Works self.new → is_conflict_in result.answer ≡ true → self.new.work.session.own ≡ session }
-        ensures flushed { is_still call.now is_long ≡ true → KeepsFlushed self.old self.new }
-    {
-        match call {
-            Call::Sync => self.sync(),
-            Call::Begin => {
-                self.turn_to(session);
-                self.begin(is_long)
-            }
-            Call::Abort => {
-                self.turn_to(session);
-                self.abort()
-            }
-            call => {
-                self.turn_to(session);
-                self.call(call)
-            }
+// What a session asks, or for 0 nobody does.
+fn ask<D: Stages>(machine: &mut Machine<D>, session: u32, call: &Call, is_long: bool) -> Response
+    requires asked { IsAsked machine.old.work.session.workers session call.now }
+    requires machine { IsSound machine.old }
+    requires works { Works machine.old }
+    requires opens { HasOpening machine.old.seat.view.given }
+    requires logged { HasLogs machine.old }
+    ensures went { MachineWent D.story D.faults (OnAsked session call.now is_long) machine.old.work.session.workers session call.now result machine.old machine.new }
+    ensures turn { Works machine.new → is_conflict_in result.answer ≡ true → machine.new.work.session.own ≡ session }
+    ensures flushed { is_still call.now is_long ≡ true → KeepsFlushed machine.old machine.new }
+{
+    match call {
+        Call::Sync => sync(machine),
+        Call::Begin => {
+            machine.turn_to(session);
+            begin(machine, is_long)
+        }
+        Call::Abort => {
+            machine.turn_to(session);
+            abort(machine)
+        }
+        call => {
+            machine.turn_to(session);
+            row_call(machine, call)
         }
     }
 }
@@ -125,7 +126,7 @@ impl<D: Stages> Engine<D> {
         row_opening::every_reached();
         group_commit::every_outcome();
         let is_long = is_long(&self.unripe, session, call);
-        let response = self.machine.ask(session, call, is_long);
+        let response = ask(&mut self.machine, session, call, is_long);
         put_end(&mut self.unripe, response);
         self.quiet = stays_quiet(self.quiet, call, is_long);
         self.next = next_behind(self.machine.work.session.works, self.next, &response.answer);
@@ -145,7 +146,7 @@ impl<D: Stages> Engine<D> {
         }
         row_opening::every_reached();
         group_commit::every_outcome();
-        let response = self.machine.abort();
+        let response = abort(&mut self.machine);
         put_end(&mut self.unripe, response);
         self.quiet = false;
         self.next = next_behind(self.machine.work.session.works, self.next, &response.answer);

@@ -7,17 +7,17 @@ ghost use Rattle.core_calls.specs.Fronts.{Done};
 ghost use Rattle.engine_trait.specs.Calls.{is_half_done};
 ghost use Rattle.engine_trait.specs.Turns.{behind_durables};
 ghost use Rattle.lean_engine.specs.Calls.{DurableDoes};
-ghost use Rattle.lean_engine.specs.Desks.{desk_of, place_of};
+ghost use Rattle.session_desks.specs.Desks.{desk_of, place_of};
 ghost use Rattle.lean_engine.specs.Inside.Asks.{AreNumbers};
-ghost use Rattle.lean_engine.specs.Inside.Parts.{IsSeated, here, logs};
+ghost use Rattle.session_desks.specs.Parts.{IsSeated, here, logs};
 ghost use Rattle.lean_engine.specs.Receipts.{IsRipeness};
 ghost use Rattle.lean_engine.specs.States.{InRun};
 
 use crate::engine::Engine;
-use crate::machine::Machine;
 use engine_trait::calls::{Durable, Next};
 use group_commit::{LOGS, Receipt, Ripeness, ripe};
 use lean_disk::Disk;
+use session_desks::Machine;
 
 /// An earlier call met a fault of the disk. Nothing is answered any more.
 #[derive(Clone, Copy, Debug, PartialEq, Eq)]
@@ -45,45 +45,45 @@ fn place_of(turn: u32, session: u32) -> usize
     at as usize - 2
 }
 
-impl<D> Machine<D> {
-    // The number up to which the log of a session is flushed.
-    fn flushed_of(&self, session: u32) -> u64
-        requires session { (0 < session) × (session ≤ self.now.work.session.workers) }
-        requires seated { IsSeated self.now }
-        ensures { result ≡ (logs self.now session).flushed }
-    {
-        let turn = self.work.session.own;
-        if session == turn {
-            return self.work.log.flushed();
-        }
-        self.desks[place_of(turn, session)].log.flushed()
+// The number up to which the log of a session is flushed.
+fn flushed_of<D>(machine: &Machine<D>, session: u32) -> u64
+    requires session { (0 < session) × (session ≤ machine.now.work.session.workers) }
+    requires seated { IsSeated machine.now }
+    ensures { result ≡ (logs machine.now session).flushed }
+{
+    let turn = machine.work.session.own;
+    if session == turn {
+        return machine.work.log.flushed();
     }
+    machine.desks[place_of(turn, session)].log.flushed()
+}
 
-    // The number up to which each log is flushed.
-    fn flushed_numbers(&self) -> [u64; LOGS]
-        requires seated { IsSeated self.now }
-        requires few { self.now.work.session.workers ≤ most_sessions }
-        ensures { AreNumbers self.now.work.session.workers (logs self.now) result }
-    {
-        let mut numbers = [0; LOGS];
-        for session in 1..self.work.session.workers + 1 {
-            numbers[session as usize - 1] = self.flushed_of(session);
-        }
-        numbers
+// The number up to which each log is flushed.
+fn flushed_numbers<D>(machine: &Machine<D>) -> [u64; LOGS]
+    requires seated { IsSeated machine.now }
+    requires few { machine.now.work.session.workers ≤ most_sessions }
+    ensures { AreNumbers machine.now.work.session.workers (logs machine.now) result }
+{
+    let mut numbers = [0; LOGS];
+    for session in 1..machine.work.session.workers + 1 {
+        numbers[session as usize - 1] = flushed_of(machine, session);
     }
+    numbers
+}
 
-    // Whether an abort of a session is half done.
-    fn is_half(&self, session: u32) -> bool
-        requires session { (0 < session) × (session ≤ self.now.work.session.workers) }
-        requires seated { IsSeated self.now }
-        ensures { result ≡ (desk_of (here self.now) self.now.desks.items session).session.is_half_aborted }
-    {
-        let turn = self.work.session.own;
-        if session == turn {
-            return self.work.session.is_half_aborted;
-        }
-        self.desks[place_of(turn, session)].session.is_half_aborted
+// Whether an abort of a session is half done.
+fn is_half<D>(machine: &Machine<D>, session: u32) -> bool
+    requires session { (0 < session) × (session ≤ machine.now.work.session.workers) }
+    requires seated { IsSeated machine.now }
+    ensures { result ≡ (desk_of (here machine.now) machine.now.desks.items session).session.is_half_aborted }
+{
+    let turn = machine.work.session.own;
+    if session == turn {
+        return machine.work.session.is_half_aborted;
     }
+    machine.desks[place_of(turn, session)]
+        .session
+        .is_half_aborted
 }
 
 impl<D: Disk> Engine<D> {
@@ -106,7 +106,7 @@ impl<D: Disk> Engine<D> {
         ensures cause { IsErr result ↔ (self.now.works ≡ false) }
     {
         self.is_working()?;
-        let numbers = self.machine.flushed_numbers();
+        let numbers = flushed_numbers(&self.machine);
         Ok(ripe(
             &numbers[..self.machine.work.session.workers as usize],
             receipt,
@@ -120,7 +120,7 @@ impl<D: Disk> Engine<D> {
         ensures { DurableDoes result self.old self.new }
     {
         group_commit::every_take();
-        let numbers = self.machine.flushed_numbers();
+        let numbers = flushed_numbers(&self.machine);
         match self
             .unripe
             .take(&numbers[..self.machine.work.session.workers as usize])
@@ -163,7 +163,7 @@ impl<D: Disk> Engine<D> {
         ensures cause { IsErr result ↔ (self.now.works ≡ false) }
     {
         self.is_working()?;
-        Ok(self.machine.is_half(session))
+        Ok(is_half(&self.machine, session))
     }
 
     /// What may be asked next.

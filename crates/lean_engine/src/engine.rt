@@ -6,13 +6,12 @@ ghost use Rattle.recovery.specs.Opened.{IsRefusal, IsUntouched};
 ghost use Rattle.recovery.specs.declared.opening.Unrecovered.{Unrecovered};
 ghost use Rattle.lean_engine.specs.Openings.{HasOpened, OpenKeeps, Shows};
 
-use crate::desk::Desk;
-use crate::machine::Machine;
 use crate::opening::{Parts, open_parts};
 use engine_trait::calls::Next;
 use group_commit::Unripe;
 use lean_disk::Disk;
 use recovery::Unrecovered;
+use session_desks::{Desk, Machine};
 use session_state::{Staged, Work};
 use std::alloc::Global;
 use std::marker::{Brand, Model};
@@ -27,7 +26,8 @@ pub struct Engine<D> {
 }
 
 impl<D> Model for Engine<D> {
-    ghost use Rattle.lean_engine.specs.Inside.Parts.{IsEngineBy, logs, state_by};
+    ghost use Rattle.lean_engine.specs.Inside.Parts.{IsEngineBy, state_by};
+    ghost use Rattle.session_desks.specs.Parts.{logs};
     ghost use Rattle.lean_engine.specs.Inside.Quiet.{IsQuiet};
     ghost use Rattle.lean_engine.specs.States.{State};
 

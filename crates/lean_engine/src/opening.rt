@@ -8,7 +8,6 @@ ghost use Rattle.recovery.specs.declared.opening.Unrecovered.{Unrecovered};
 ghost use Rattle.lean_engine.specs.Openings.{AreFurther, HasOpened, IsFurther, IsMadeBy, OpenKeeps, Shows, opened_state};
 ghost use Rattle.lean_engine.specs.Inside.Parts.{AreEngine};
 
-use crate::desk::Desk;
 use crate::engine::Size;
 use crate::pages::are_pages;
 use disk_slots::Master;
@@ -18,6 +17,7 @@ use lean_disk::Disk;
 use recovery::{Recovered, Unrecovered, recover};
 use rows_trait::plain::PlainRows;
 use rows_trait::trace::Trace;
+use session_desks::Desk;
 use session_state::{Session, further_session, open_session};
 use std::alloc::{AllocError, Global};
 use worker_log::WorkerLog;

@@ -14,7 +14,7 @@ use Rattle.session_state.specs.Others.{Steps}
 use Rattle.row_engine.specs.declared.commits.Ended.{Ended}
 use Rattle.lean_engine.specs.Calls.{IsTo, MayBe}
 use Rattle.lean_engine.specs.Inside.Asks.{IsEndOf}
-use Rattle.lean_engine.specs.declared.desk.Desk.{Desk}
+use Rattle.session_desks.specs.declared.desk.Desk.{Desk}
 
 -- the receipt of an end
 abbrev pub receipt_in : (own : ℕ) → Result Ended Refusal → Option Receipt

@@ -1,7 +1,7 @@
 use Rattle.std.proofs.Common.{◌≡◌, ◌+◌, ◌++◌, ◌∷◌, [], ℕ, List, length, slice_get, Some, sym, ap, ◌∙◌, subst, arith}
 use Rattle.std.proofs.lemmas.List.{length-append}
 use Rattle.lean_engine.specs.Openings.{IsFurther}
-use Rattle.lean_engine.specs.declared.desk.Desk.{Desk}
+use Rattle.session_desks.specs.declared.desk.Desk.{Desk}
 use Rattle.lean_engine.proofs.MadeLemmas.{more_made}
 use Rattle.lean_engine.proofs.opening.further_desks.Goals as goal
 

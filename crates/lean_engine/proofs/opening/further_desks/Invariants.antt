@@ -1,6 +1,6 @@
 use Rattle.std.proofs.Common.{◌≡◌, ◌≤◌, ◌+◌, ℕ, length, slice_get, Some, vec_capacity}
 use Rattle.lean_engine.specs.Openings.{IsFurther}
-use Rattle.lean_engine.specs.declared.desk.Desk.{Desk}
+use Rattle.session_desks.specs.declared.desk.Desk.{Desk}
 use Rattle.lean_engine.proofs.opening.further_desks.Given as goal
 
 abbrev pub invariant-loop-number : goal.invariant-loop-number

@@ -1,4 +1,4 @@
-use Rattle.lean_engine.specs.Inside.Parts.{here}
+use Rattle.session_desks.specs.Parts.{here}
 use Rattle.lean_engine.proofs.NotedLemmas.{engine_on}
 use Rattle.lean_engine.proofs.answers.EngineCalls.put_line.Goals as goal
 

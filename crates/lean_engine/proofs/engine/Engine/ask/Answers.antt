@@ -1,9 +1,9 @@
 use Rattle.std.proofs.Common.{◌&&◌, ℕ, Bool, List, sym, ap, ◌∙◌, subst, rules}
 use Rattle.engine_trait.specs.Calls.{IsAsked}
 use Rattle.group_commit.specs.declared.queue.End.{End}
-use Rattle.lean_engine.specs.Inside.Parts.{here}
+use Rattle.session_desks.specs.Parts.{here}
 use Rattle.lean_engine.specs.Calls.{Asked}
-use Rattle.lean_engine.specs.Desks.{log_of}
+use Rattle.session_desks.specs.Desks.{log_of}
 use Rattle.lean_engine.specs.Inside.Asks.{put_ends}
 use Rattle.lean_engine.specs.Inside.Quiet.{IsQuiet, is_still}
 use Rattle.lean_engine.specs.States.{State}
@@ -14,7 +14,7 @@ use Rattle.lean_engine.proofs.engine.Engine.ask.Goals as goal
 pub returns-clause-asked : goal.returns-clause-asked
 returns-clause-asked g c =
     let m = c.self.inside.machine in
-    let n = c.ask-response.new.self in
+    let n = c.ask-response.new.machine in
     let e = c.ask-response.ensures in
     subst (λ (s : State g.row.D.Denot). Asked g.D.Disk.story c.args.session c.args.call.now c.ask-response.result.answer s (state_of n.seat.view n.work.disk (here n) n.desks.items n.master c.next_behind-self-inside.result c.put_end.new.unripe)) c.self.view_is
     (asked_went c.every_reached.ensures c.every_outcome.ensures m.seat.view n.seat.view m.work.disk n.work.disk (here m) m.desks.items (here n) n.desks.items m.master n.master c.self.inside.next c.next_behind-self-inside.result c.self.inside.unripe c.put_end.new.unripe
@@ -25,7 +25,7 @@ returns-clause-asked g c =
 pub invariant_of-self : goal.invariant_of-self
 invariant_of-self g c =
     let m = c.self.inside.machine in
-    let n = c.ask-response.new.self in
+    let n = c.ask-response.new.machine in
     let e = c.ask-response.ensures in (
       asked_engine c.every_reached.ensures c.every_outcome.ensures m.seat.view n.seat.view m.work.disk n.work.disk (here m) m.desks.items (here n) n.desks.items m.master n.master c.self.inside.next c.next_behind-self-inside.result c.self.inside.unripe c.put_end.new.unripe
           m.rows.frames m.rows.locks m.rows.workers n.rows.frames n.rows.locks n.rows.workers m.rows.words.items n.rows.words.items m.latches n.latches c.ask-response.result.answer c.ask-response.result.receipt (g.D.Disk.story m.work.disk) (g.D.Disk.story n.work.disk)
@@ -53,5 +53,5 @@ pub put_end-requires-clause-room : goal.put_end-requires-clause-room
 put_end-requires-clause-room g c =
     let m = c.self.inside.machine in
     let e = c.ask-response.ensures in
-    (room_asked m.seat.view c.ask-response.new.self.seat.view m.work.disk (here m) m.desks.items m.master c.self.inside.next c.self.inside.unripe m.rows.frames m.rows.locks m.rows.workers m.rows.words.items m.latches (search rules) c.self.invariant.0 c.args.session c.args.call.now c.ask-response.result.answer c.ask-response.result.receipt
+    (room_asked m.seat.view c.ask-response.new.machine.seat.view m.work.disk (here m) m.desks.items m.master c.self.inside.next c.self.inside.unripe m.rows.frames m.rows.locks m.rows.workers m.rows.words.items m.latches (search rules) c.self.invariant.0 c.args.session c.args.call.now c.ask-response.result.answer c.ask-response.result.receipt
     (ap (λ s. s.next) c.self.view_is ∙ c.requires.next) (subst (λ s. IsAsked s.sessions c.args.session c.args.call.now) (sym c.self.view_is) c.requires.asked) e.went.to e.went.ends).1

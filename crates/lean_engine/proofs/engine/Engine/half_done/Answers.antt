@@ -1,5 +1,5 @@
 use Rattle.std.proofs.Common.{◌≤◌, sym, ap, ◌∙◌, subst}
-use Rattle.lean_engine.specs.Inside.Parts.{here}
+use Rattle.session_desks.specs.Parts.{here}
 use Rattle.lean_engine.specs.States.{InRun, State}
 use Rattle.lean_engine.proofs.DurableLemmas.{half_in, seated_in, works_of}
 use Rattle.lean_engine.proofs.engine.Engine.half_done.Goals as goal

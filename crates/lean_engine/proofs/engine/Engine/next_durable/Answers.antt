@@ -1,7 +1,7 @@
 use Rattle.std.proofs.Common.{ℕ, take, None, refl, sym, ap, ◌∙◌, subst, rules}
 use Rattle.worker_log.specs.Logs.{Log}
-use Rattle.lean_engine.specs.Inside.Parts.{here}
-use Rattle.lean_engine.specs.Desks.{log_of}
+use Rattle.session_desks.specs.Parts.{here}
+use Rattle.session_desks.specs.Desks.{log_of}
 use Rattle.lean_engine.specs.States.{InRun, State}
 use Rattle.lean_engine.proofs.DurableLemmas.{are_all, are_numbers, engine_none, numbers_of, tells_none}
 use Rattle.lean_engine.proofs.QuietLemmas.{takes_quiet}

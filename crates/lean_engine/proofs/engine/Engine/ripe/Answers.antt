@@ -1,5 +1,5 @@
 use Rattle.std.proofs.Common.{◌≤◌, length, take, ap, ◌∙◌, subst, arith}
-use Rattle.lean_engine.specs.Inside.Parts.{here}
+use Rattle.session_desks.specs.Parts.{here}
 use Rattle.lean_engine.specs.Receipts.{IsRipeness}
 use Rattle.lean_engine.specs.States.{State}
 use Rattle.lean_engine.proofs.DurableLemmas.{flushed_in, seated_in, works_of}

@@ -1,6 +1,6 @@
 use Rattle.std.proofs.Common.{◌≤◌, true, length, take, Some, None, refl, sym, ap, ◌∙◌, subst, arith, rules}
-use Rattle.lean_engine.specs.Inside.Parts.{here}
-use Rattle.lean_engine.specs.Desks.{log_of}
+use Rattle.session_desks.specs.Parts.{here}
+use Rattle.session_desks.specs.Desks.{log_of}
 use Rattle.lean_engine.specs.States.{InRun, State}
 use Rattle.lean_engine.proofs.DurableLemmas.{engine_none, engine_some, seated_in, tells_none, tells_some}
 use Rattle.lean_engine.proofs.QuietLemmas.{not_quiet, quiet_found}

@@ -1,0 +1,10 @@
+pub mod DeskLemmas
+pub mod SeatLemmas
+pub mod FloorLemmas
+pub mod MachineLemmas
+pub mod FlushOnes
+pub mod SyncRuns
+pub mod SyncViews
+pub mod SyncMachines
+pub mod SyncNeeds
+pub mod SyncGoes

@@ -1,0 +1,52 @@
+use Rattle.std.proofs.Common.{subst}
+use Rattle.disk_slots.specs.declared.master.Master.{Master}
+use Rattle.session_desks.specs.Parts.{here, shape}
+use Rattle.session_desks.specs.Desks.{log_of}
+use Rattle.session_desks.specs.Syncs.{SyncFails, SyncMade}
+use Rattle.session_desks.specs.declared.desk.Desk.{Desk}
+use Rattle.session_desks.proofs.SyncGoes.{if_all, if_ok, sync_fails, sync_made, sync_sessions}
+use Rattle.session_desks.proofs.SyncNeeds.{numbered}
+use Rattle.session_desks.proofs.machine.Machine.sync_all.Goals as goal
+
+pub clocks_low-requires-clause-numbered : goal.clocks_low-requires-clause-numbered
+clocks_low-requires-clause-numbered g c = let m = c.flush_all.new.self in numbered (shape m) m.seat.view (here m) m.desks.items c.in_ok-flush_all.ensures.machine.desks
+
+pub returns-clause-sessions : goal.returns-clause-sessions
+returns-clause-sessions g c =
+    let s = c.args.self.now in
+    let m = c.flush_all.new.self in
+    let n = c.sync_flushed.new.self in
+    let e = c.in_ok-flush_all.ensures in
+    let x : Desk = here s in
+    let d : Desk = here m in
+    let y : Desk = here n in
+    let z = shape m in
+    if_ok c.sync_flushed.result c.sync_flushed.ensures.raised c.sync_flushed.ensures.number (λ k r at. sync_sessions z s.seat.view m.seat.view x d s.desks.items m.desks.items g.D.Disk.story s.work.disk m.work.disk e.session.0 c.requires.logged e.flushed e.machine.desks c.every_reached.ensures m.master e.machine.numbers c.requires.opens c.clocks_low.ensures k at y n.desks.items e.still r)
+
+pub returns-clause-made : goal.returns-clause-made
+returns-clause-made g c =
+    let s = c.args.self.now in
+    let m = c.flush_all.new.self in
+    let n = c.sync_flushed.new.self in
+    let e = c.in_ok-flush_all.ensures in
+    let x : Desk = here s in
+    let d : Desk = here m in
+    let y : Desk = here n in
+    let z = shape m in
+    let f = c.sync_flushed.ensures in
+    if_all c.sync_flushed.result f.synced f.raised f.number f.written (λ k sync r at w.
+    subst (λ (master : Master). SyncMade g.D.Disk.story s.work.session.workers k s.seat.view n.seat.view (log_of x s.desks.items) (log_of y n.desks.items) master n.master s.work.disk n.work.disk) e.master
+    (sync_made z s.seat.view m.seat.view x d s.desks.items m.desks.items g.D.Disk.story s.work.disk m.work.disk e.session.0 c.requires.logged e.flushed e.machine.desks c.every_reached.ensures m.master e.machine.numbers c.requires.opens c.clocks_low.ensures k at n.seat.view y n.desks.items n.master n.work.disk sync r w))
+
+pub returns-clause-failed : goal.returns-clause-failed
+returns-clause-failed g c =
+    let s = c.args.self.now in
+    let m = c.flush_all.new.self in
+    let n = c.sync_flushed.new.self in
+    let e = c.in_ok-flush_all.ensures in
+    let x : Desk = here s in
+    let d : Desk = here m in
+    let y : Desk = here n in
+    let z = shape m in
+    λ h. subst (λ (master : Master). SyncFails g.D.Disk.story s.work.session.workers s.seat.view (log_of x s.desks.items) master s.work.disk n.work.disk) e.master
+    (sync_fails z s.seat.view m.seat.view x d s.desks.items m.desks.items g.D.Disk.story s.work.disk m.work.disk e.session.0 c.requires.logged e.flushed e.machine.desks c.every_reached.ensures m.master e.machine.numbers c.requires.opens c.clocks_low.ensures n.work.disk (c.sync_flushed.ensures.failed h))

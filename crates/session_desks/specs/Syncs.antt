@@ -1,0 +1,179 @@
+-- How a sync goes on: it flushes the log of one session after another, and then writes the next master. Words of private functions.
+use Rattle.std.specs.Prelude.{◌≡◌, ◌⊎◌, ◌≤◌, ◌<◌, ◌+◌, ◌^◌, ◌++◌, ◌||◌, max, ℕ, Bool, true, false, List, [], ◌∷◌, get_or, length}
+use Rattle.map_model.specs.Lists.{any}
+use Rattle.core_state.specs.Events as happening
+use Rattle.core_state.specs.Needs.{may}
+use Rattle.core_state.specs.Openings.{Opening}
+use Rattle.core_state.specs.States as core
+use Rattle.core_state.specs.Steps.{AllMet}
+use Rattle.core_calls.specs.Fronts.{Done}
+use Rattle.core_calls.specs.LogEvents.{AreFlushes}
+use Rattle.lean_disk.specs.Moments.{CrashIn, Framed, LeavesOnly}
+use Rattle.lean_disk.specs.Story.{Crash, Story}
+use Rattle.disk_slots.specs.declared.master.Master.{Master}
+use Rattle.disk_runs.specs.MasterLaws.{IsAllSynced, raised}
+use Rattle.disk_runs.specs.Stands.{Known}
+use Rattle.log_calls.specs.Calls.{Anything}
+use Rattle.log_calls.specs.Syncs.{KeepsEither, SyncsOn}
+use Rattle.log_calls.specs.Wholes.{FlushesWhole, flush_of}
+use Rattle.run_crashes.specs.Lines.{CallLeaves}
+use Rattle.engine_calls.specs.Clauses.{Between}
+use Rattle.engine_calls.specs.Parts.{Gone}
+use Rattle.engine_trait.specs.Areas.{Around, Beside}
+use Rattle.engine_trait.specs.Limits.{limits}
+use Rattle.engine_trait.specs.Logs.{Logs}
+use Rattle.row_opening.specs.Openings.{Opens}
+use Rattle.row_words.specs.declared.event.Event as told
+use Rattle.row_words.specs.declared.given.Given.{Given}
+use Rattle.row_words.specs.Moments.{events_of}
+use Rattle.row_words.specs.Openings.{opening}
+use Rattle.rows_trait.specs.declared.view.View.{View}
+use Rattle.rows_trait.specs.Views.{state}
+use Rattle.worker_log.specs.Logs.{Log}
+use Rattle.session_state.specs.Ties.{Behind}
+use Rattle.session_state.specs.Syncs.{HasSynced, flushed_of, flushes_of, synced_session}
+use Rattle.session_desks.specs.Desks.{desk_of}
+use Rattle.session_desks.specs.declared.desk.Desk.{Desk}
+
+-- the rows began as an opening of the core
+pub record HasOpening (v : Given) : Type 0 where
+  pub opening : Opening
+  pub opens : Opens opening v
+
+-- the greatest of a clock and those of these sessions
+abbrev pub greatest : ℕ → List Desk → ℕ
+greatest n [] = n
+greatest n (d ∷ ds) = greatest (max n d.session.clock.clock) ds
+
+-- the next master of a run, with this floor
+abbrev pub next_with : Master → ℕ → Master
+next_with m floor = record m { sequence = m.sequence + 1; floor = floor }
+
+-- a session and its log behind a sync up to this number
+abbrev pub raised_desk : Desk → ℕ → Desk
+raised_desk d n = record { session = synced_session d.session n; log = raised d.log n }
+
+-- so is each
+pub record AreRaised (old new : List Desk) (n : ℕ) : Type 0 where
+  pub count : length new ≡ length old
+  pub each : (i : ℕ) (d : Desk) → i < length old → get_or new i d ≡ raised_desk (get_or old i d) n
+
+-- at every moment of it a crash leaves what one does before the sync or behind it, and the other areas as they were
+pub record IsWriting (m : Master) (old new : Story) : Type 0 where
+  pub either : KeepsEither m old new
+  pub frame : Framed 0 old new
+  pub within : LeavesOnly old new (CrashIn old 0 Anything)
+
+-- ## In a run
+
+-- By these events of a call the disk has come to stand. The logs and the master are so, and of the first logs, so many, nothing is left to flush.
+pub record Stood (g : Opening) (xs : List Done) (es : List happening.Event) (s0 : Crash) (k : Known) (logs : ℕ → Log) (master : Master) (done : ℕ) (old now : Story) : Type 0 where
+  pub known : Known
+  pub gone : Gone g xs es s0 k old known now
+  pub log_is : (w : ℕ) → 0 < w → w ≤ g.workers → known.log w ≡ logs w
+  pub synced : (w : ℕ) → 0 < w → w ≤ done → IsAllSynced (known.account w)
+  pub master_is : known.master ≡ master
+  pub within : LeavesOnly old now (Beside g.workers true old)
+
+-- ## Flushes
+
+-- the log of session `own` was flushed whole, and the other ones are as they were
+pub record FlushedOne (own many : ℕ) (v w : View) (was is : ℕ → Log) (old new : Story) : Type 0 where
+  pub given : w.given ≡ v.given
+  pub seen : w.seen ≡ v.seen ++ flushes_of own (was own)
+  pub core : events_of (flushes_of own (was own)) ≡ flush_of own (was own)
+  pub met : AllMet (opening v.given) (state v).core (flush_of own (was own))
+  pub after : is own ≡ flushed_of (was own)
+  pub last : (is own).last ≡ (was own).last
+  pub flushed : (is own).flushed ≡ (is own).last
+  pub others : (u : ℕ) → 0 < u → u ≤ many → (u ≡ own → ⊥) → is u ≡ was u
+  pub whole : FlushesWhole own (was own) (is own) old new
+
+-- The logs of the first sessions, so many, were flushed whole, one after another; so it is in each run.
+pub record Flushed (count many : ℕ) (v w : View) (was is : ℕ → Log) (old new : Story) : Type 0 where
+  pub events : List told.Event
+  pub given : w.given ≡ v.given
+  pub seen : w.seen ≡ v.seen ++ events
+  pub flushes : AreFlushes (events_of events)
+  pub few : length (events_of events) ≤ count
+  pub last : (u : ℕ) → 0 < u → u ≤ many → (is u).last ≡ (was u).last
+  pub flushed : (u : ℕ) → 0 < u → u ≤ count → (is u).flushed ≡ (is u).last
+  pub others : (u : ℕ) → count < u → u ≤ many → is u ≡ was u
+  pub after : (u : ℕ) → 0 < u → u ≤ many → (is u ≡ was u) ⊎ (is u ≡ flushed_of (was u))
+  pub logs : (u : ℕ) → 0 < u → u ≤ many → (g : Opening) (s : core.State) → Logs u g s (events_of events) (was u) (is u)
+  pub entries : (state w).core.entries ≡ (state v).core.entries
+  pub around : Around many true old new
+  pub behind : (g : Opening) (xs : List Done) (first : List happening.Event) → Behind g xs first v → Behind g xs (first ++ events_of events) w
+  pub stands : (g : Opening) (group : ℕ) (xs : List Done) (first : List happening.Event) → g.workers ≡ many → Behind g xs first v → (s0 : Crash) (k : Known) → Between limits g group xs s0 k old → (m : Master)
+      → Stood g xs first s0 k was m 0 old old → Stood g xs (first ++ events_of events) s0 k is m count old new
+
+-- a device failed at a flush, behind those of some first sessions
+pub record FlushFails (many : ℕ) (v : View) (was : ℕ → Log) (old new : Story) : Type 0 where
+  pub events : List happening.Event
+  pub flushes : AreFlushes events
+  pub few : length events ≤ many
+  pub around : Around many true old new
+  pub leaves : (g : Opening) (group : ℕ) (xs : List Done) (first : List happening.Event) → g.workers ≡ many → Behind g xs first v → (s0 : Crash) (k : Known) → Between limits g group xs s0 k old → (m : Master)
+      → Stood g xs first s0 k was m 0 old old → LeavesOnly old new (CallLeaves g xs (first ++ events) s0 k.master) × LeavesOnly old new (Beside g.workers true old)
+
+-- ## Sessions
+
+-- no abort is half done
+abbrev pub AreWhole : (many : ℕ) → (work : Desk) → (desks : List Desk) → Type 0
+AreWhole many work desks = (w : ℕ) → 0 < w → w ≤ many → (desk_of work desks w).session.is_half_aborted ≡ false
+
+abbrev pub is_half_desk : Desk → Bool
+is_half_desk d = d.session.is_half_aborted
+
+-- one is
+abbrev pub has_half : (work : Desk) → (desks : List Desk) → Bool
+has_half work desks = work.session.is_half_aborted || any is_half_desk desks
+
+-- of each session only what it knows of free pages, and how many of its commits wait for a flush, may have changed
+abbrev pub AreStill : (many : ℕ) → (store0 : Desk) → (desks0 : List Desk) → (store1 : Desk) → (desks1 : List Desk) → Type 0
+AreStill many store0 desks0 store1 desks1 = (w : ℕ) → 0 < w → w ≤ many
+    → (desk_of store1 desks1 w).session ≡ record (desk_of store0 desks0 w).session { free = (desk_of store1 desks1 w).session.free; unflushed = (desk_of store1 desks1 w).session.unflushed }
+
+-- and the clocks are raised to the number of a sync
+abbrev pub AreSynced : (many : ℕ) → (store0 : Desk) → (desks0 : List Desk) → (store1 : Desk) → (desks1 : List Desk) → (n : ℕ) → Type 0
+AreSynced many store0 desks0 store1 desks1 n = (w : ℕ) → 0 < w → w ≤ many → ((desk_of store0 desks0 w).session.clock.clock ≤ n)
+    × ((desk_of store1 desks1 w).session ≡ record (desk_of store0 desks0 w).session { clock = record (desk_of store0 desks0 w).session.clock { clock = n }; free = (desk_of store1 desks1 w).session.free; unflushed = 0 })
+
+-- nothing of the logs is left to flush
+abbrev pub AllFlushed : (many : ℕ) → (log : ℕ → Log) → Type 0
+AllFlushed many log = (w : ℕ) → 0 < w → w ≤ many → (log w).flushed ≡ (log w).last
+
+-- sessions and logs are raised to the number
+abbrev pub AreRaisedTo : (many : ℕ) → (store0 : Desk) → (desks0 : List Desk) → (store1 : Desk) → (desks1 : List Desk) → (n : ℕ) → Type 0
+AreRaisedTo many store0 desks0 store1 desks1 n = (w : ℕ) → 0 < w → w ≤ many → desk_of store1 desks1 w ≡ raised_desk (desk_of store0 desks0 w) n
+
+-- ## The sync
+
+-- the next master was written, unless the one that counts has the number as its floor
+pub record IsWritten {D : Type 0} (story : D → Story) (n : ℕ) (master next : Master) (old new : D) : Type 0 where
+  pub still : n ≡ master.floor → (new ≡ old) × (next ≡ master)
+  pub wrote : (n ≡ master.floor → ⊥) → SyncsOn (next_with master n) (story old) (story new) × IsWriting (next_with master n) (story old) (story new) × (next ≡ next_with master n)
+
+-- Behind flushes, as a sync up to n asks.
+pub record MaySync (many n : ℕ) (master : Master) (u : View) (logs : ℕ → Log) : Type 0 where
+  pub met : may (opening u.given) (state u).core (happening.Event.Sync n) ≡ true
+  pub within : (w : ℕ) → 0 < w → w ≤ many → (logs w).last ≤ n
+  pub low : n < 2 ^ 64
+  pub small : master.sequence + 1 < 2 ^ 63
+
+-- The log of each session was flushed, and then all were synced up to n.
+pub record SyncMade {D : Type 0} (story : D → Story) (many n : ℕ) (v w : View) (was is : ℕ → Log) (master next : Master) (old new : D) : Type 0 where
+  pub view : View
+  pub logs : ℕ → Log
+  pub between : D
+  pub flushed : Flushed many many v view was logs (story old) (story between)
+  pub ready : MaySync many n master view logs
+  pub synced : HasSynced view w n
+  pub raised : (a : ℕ) → 0 < a → a ≤ many → is a ≡ raised (logs a) n
+  pub written : IsWritten story n master next between new
+
+-- a device failed: at a flush, or at the master
+pub data SyncFails {D : Type 0} (story : D → Story) (many : ℕ) (v : View) (was : ℕ → Log) (master : Master) (old new : D) : Type 0 where
+  AtFlush : FlushFails many v was (story old) (story new) → SyncFails story many v was master old new
+  AtMaster : (n : ℕ) (u : View) (logs : ℕ → Log) (between : D) → Flushed many many v u was logs (story old) (story between) → MaySync many n master u logs → IsWriting (next_with master n) (story between) (story new)
+      → SyncFails story many v was master old new
