@@ -1,0 +1,3 @@
+pub mod PairLemmas
+pub mod KeptLemmas
+pub mod RowLemmas

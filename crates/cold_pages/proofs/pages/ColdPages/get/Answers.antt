@@ -1,0 +1,36 @@
+-- What the words of a page say.
+use Rattle.std.proofs.Common.{◌∙◌, sym, arith}
+use Rattle.std.proofs.lemmas.List.{get_or_default}
+use Rattle.cold_pages.proofs.RowLemmas.{page_within, kept_of-rows}
+use Rattle.cold_pages.proofs.pages.ColdPages.get.Goals as goal
+
+pub index-requires : goal.index-requires
+index-requires c = let l = page_within _ _ _ _ _ c.self.invariant _ c.args.page c.self.view_is c.requires in omega arith
+
+pub index-requires-2 : goal.index-requires-2
+index-requires-2 c = let l = page_within _ _ _ _ _ c.self.invariant _ c.args.page c.self.view_is c.requires in let e = c.self.invariant.lasts in omega arith
+
+pub index-requires-3 : goal.index-requires-3
+index-requires-3 c = let l = page_within _ _ _ _ _ c.self.invariant _ c.args.page c.self.view_is c.requires in let e = c.self.invariant.parents in omega arith
+
+pub index-requires-4 : goal.index-requires-4
+index-requires-4 c = let l = page_within _ _ _ _ _ c.self.invariant _ c.args.page c.self.view_is c.requires in let e = c.self.invariant.keys in omega arith
+
+pub index-requires-5 : goal.index-requires-5
+index-requires-5 c = let l = page_within _ _ _ _ _ c.self.invariant _ c.args.page c.self.view_is c.requires in let e = c.self.invariant.counts in omega arith
+
+pub returns : goal.returns
+returns c =
+    let i = c.self.inside in
+    let p = c.args.page in
+    let l = page_within _ _ _ _ _ c.self.invariant _ p c.self.view_is c.requires in
+    let e2 = c.self.invariant.lasts in
+    let e3 = c.self.invariant.parents in
+    let e4 = c.self.invariant.keys in
+    let e5 = c.self.invariant.counts in
+    let g = c.index.ensures ∙ get_or_default i.gsns.items p c.index.result.now 0 (omega arith) in
+    let o = c.index-2.ensures ∙ get_or_default i.lasts.items p c.index-2.result.now 0 (omega arith) in
+    let w = c.index-3.ensures ∙ get_or_default i.parents.items p c.index-3.result.now 0 (omega arith) in
+    let k = c.index-4.ensures ∙ get_or_default i.keys.items p c.index-4.result.now 0 (omega arith) in
+    let n = c.index-5.ensures ∙ get_or_default i.counts.items p c.index-5.result.now 0 (omega arith) in
+    rw (c.from_word.ensures, g, o, w, k, n, ← c.self.view_is) (sym (kept_of-rows _ _ _ _ _ c.self.invariant p l))
