@@ -58,9 +58,9 @@ fresh : (m : Map) (w k v : ℕ) (a b : Option ℕ) (l : List Step) → Gives m (
 fresh m w k v a b l h = ap value_or (h.1 refl) ∙ ap (λ (o : Option (Option ℕ)). write_or (first_of o (last_write l k)) (m k)) (cond-true (k == k) (Some (Some v)) None (eq-eqb k k refl))
 
 module _ (laws : EveryTold) (durable : EveryDurable) (ordered : EveryOrdered) (g : Opening) where
-  stale : (es : List Event) (w n at k v : ℕ) (a b : Option ℕ) (alone : Bool) (earlier : List Outcome) →
+  stale : g.faithful ≡ true → (es : List Event) (w n at k v : ℕ) (a b : Option ℕ) (alone : Bool) (earlier : List Outcome) →
       Answers g es (of w (Committed n at) ∷ of w (Got k b alone) ∷ of w (Changed k v a) ∷ earlier) → b ≡ Some v
-  stale es w n at k v a b alone earlier x = let q = gives_of (first_map g) (journal (transcript xs)) (txn (steps_of (lines_in w (lines behind)))) (laws g es xs x).serial member in
+  stale f es w n at k v a b alone earlier x = let q = gives_of (first_map g) (journal (transcript xs)) (txn (steps_of (lines_in w (lines behind)))) ((laws g es xs x).serial f) member in
       fresh q.0 w k v a b (steps_of (lines_in w (lines earlier))) (subst (Gives q.0) calls_are q.1)
     where
       behind : List Outcome
@@ -89,7 +89,7 @@ module _ (laws : EveryTold) (durable : EveryDurable) (ordered : EveryOrdered) (g
 
   pub controls : Controls g
   controls = record {
-    stale_get = λ es w n at k v a b alone earlier x q no. no (sym q ∙ stale es w n at k v a b alone earlier x);
+    stale_get = λ f es w n at k v a b alone earlier x q no. no (sym q ∙ stale f es w n at k v a b alone earlier x);
     early_line = early;
     lost_put_back = λ es w n m at k v a c earlier x.
         let o = subst AreOrdered (mine w (Aborted c n at []) (of w (Changed k v a) ∷ of w (Begun m) ∷ earlier)

@@ -70,7 +70,7 @@ to_txns xs t i = order_has is_earlier (told_in (lines xs)) t (subst (λ (j : Jou
 from_txns : (xs : List Outcome) (t : Txn) → Has t (told_in (lines xs)) → Has t (journal (transcript xs))
 from_txns xs t i = subst (λ (j : Journal). Has t j) (sym (journal_is xs)) (has_order is_earlier (told_in (lines xs)) t i)
 
-module _ (laws : EveryTold) (durable : EveryDurable) (prints : EveryPrinted) (l : Limits) (g : Opening) (group : ℕ) (earlier : List Done) (before : List Event)
+module _ (laws : EveryTold) (durable : EveryDurable) (prints : EveryPrinted) (l : Limits) (g : Opening) (faithful : g.faithful ≡ true) (group : ℕ) (earlier : List Done) (before : List Event)
     (t : EachTells l g group earlier) (logs : ℕ → List Entry) (page : ℕ → Contents) (c : Leaves g (front earlier ++ before) logs page) where
   abbrev es : List Event
   es = front earlier ++ before
@@ -91,9 +91,9 @@ module _ (laws : EveryTold) (durable : EveryDurable) (prints : EveryPrinted) (l 
     numbers = λ r i k v j p q.
         let u = pair_of SameTxn (journal (transcript xs)) (journal_in g (state_after g es)) (laws g es xs a).same v (b.only v j).0 in
         u.2.at ∙ number_of g es u.0 u.1 r i k (sym u.2.session ∙ p) (sym u.2.number ∙ q);
-    survives = (laws g es xs a).crash logs page c told_by_then by_then b;
+    survives = (laws g es xs a).crash faithful logs page c told_by_then by_then b;
     reported = λ newer first q n i. subst (λ (f : List Event). IsKept g (run g (start g) (f ++ before)) logs page by_then n) (up_to_moments earlier)
-        ((durable g (moments earlier)).kept before xs (subst (λ (f : List Event). Answers g (f ++ before) xs) (sym (up_to_moments earlier)) a) logs page
+        ((durable g (moments earlier)).kept faithful before xs (subst (λ (f : List Event). Answers g (f ++ before) xs) (sym (up_to_moments earlier)) a) logs page
         (subst (λ (f : List Event). Leaves g (f ++ before) logs page) (sym (up_to_moments earlier)) c) told_by_then by_then
         (subst (λ (f : List Event). ByThen (image_of g (run g (start g) (f ++ before)) logs page) told_by_then (journal (transcript xs)) by_then) (sym (up_to_moments earlier)) b)
         n (let f = (prints g earlier).first newer first q in subst (λ (k : List Done). Has n (durables g (moments k))) f.are (due_later g f.later f.heard n (f.reports n i))));
@@ -114,7 +114,7 @@ module _ (laws : EveryTold) (durable : EveryDurable) (prints : EveryPrinted) (l 
       all = laws g (front earlier ++ before) (y ∷ outcomes earlier) a
 
       go : OneMore y (told_in (lines (outcomes earlier))) (told_in (lines (y ∷ outcomes earlier))) → RunSurvives g es logs page earlier (Some y)
-      go (inl q) = given (Some y) (y ∷ outcomes earlier) a told_by_then (inl refl) old.serial (subst (λ (j : Journal). ByThen image told_by_then j told_by_then)
+      go (inl q) = given (Some y) (y ∷ outcomes earlier) a told_by_then (inl refl) (old.serial faithful) (subst (λ (j : Journal). ByThen image told_by_then j told_by_then)
           (journal_is (outcomes earlier) ∙ (ap journal_of (sym q) ∙ sym (journal_is (y ∷ outcomes earlier)))) (whole told_by_then old.falls))
       go (inr o) = elim (cases_Bool (is_kept image.logs image.floor (found image) o.more)) [
         | inl k ↦ given (Some y) (y ∷ outcomes earlier) a (journal (transcript (y ∷ outcomes earlier))) (inr (record {
@@ -131,9 +131,9 @@ module _ (laws : EveryTold) (durable : EveryDurable) (prints : EveryPrinted) (l 
           kept = k;
           has = has;
           only = only;
-        })) all.serial
+        })) (all.serial faithful)
             (record { falls = all.falls; has_told = has; has_kept = λ v i j. i; only = λ v i. (i, kept k v (only v i)) })
-        | inr k ↦ given (Some y) (y ∷ outcomes earlier) a told_by_then (inl refl) old.serial
+        | inr k ↦ given (Some y) (y ∷ outcomes earlier) a told_by_then (inl refl) (old.serial faithful)
             (record { falls = old.falls; has_told = λ v i. i; has_kept = λ v i j. lost k v (only v i) j; only = λ v i. (has v i, inl i) })
       ]
         where
@@ -156,22 +156,22 @@ module _ (laws : EveryTold) (durable : EveryDurable) (prints : EveryPrinted) (l 
           lost k v (inr p) j = absurd (true≢false (sym j ∙ (ap (is_kept image.logs image.floor (found image)) p ∙ k)))
 
   waiting : (next : Option Outcome) → Answers g es (outcomes earlier) → RunSurvives g es logs page earlier next
-  waiting next a = given next (outcomes earlier) a told_by_then (inl refl) old.serial (whole told_by_then old.falls)
+  waiting next a = given next (outcomes earlier) a told_by_then (inl refl) (old.serial faithful) (whole told_by_then old.falls)
 
   crashed : (x : Done) → Moment g es (outcomes earlier) x.outcome → RunSurvives g es logs page earlier (Some x.outcome)
   crashed x (Waiting a) = waiting (Some x.outcome) a
   crashed x (InHand q a) = in_hand x.outcome a
 
 pub every_run_crash : EveryTold → EveryRun → EveryDurable → EveryPrinted → EveryRunCrash
-every_run_crash laws runs durable prints l g group = record {
-  between = λ earlier x before after t e logs page c. crashed laws durable prints l g group earlier before t.0 logs page c x ((runs l g group earlier x t).moments before after e);
-  stopped = λ earlier rest t n logs page c. waiting laws durable prints l g group earlier rest t logs page c None (record {
+every_run_crash laws runs durable prints l g f group = record {
+  between = λ earlier x before after t e logs page c. crashed laws durable prints l g f group earlier before t.0 logs page c x ((runs l g group earlier x t).moments before after e);
+  stopped = λ earlier rest t n logs page c. waiting laws durable prints l g f group earlier rest t logs page c None (record {
     rest = λ w. marks g (state_after g (front earlier)) rest w [];
     each = λ w. marks_behind g (front earlier) rest w ∙ ap (λ (k : List Mark). marks g (state_after g (front earlier)) rest w [] ++ k) (marks_all l g group earlier t w);
     open_yet = n;
     in_turn = in_turn_all l g group earlier t;
   });
   behind = λ earlier t logs page c. subst (λ (es : List Event). RunSurvives g es logs page earlier None) (append-nil (front earlier))
-      (waiting laws durable prints l g group earlier [] t logs page (subst (λ (es : List Event). Leaves g es logs page) (sym (append-nil (front earlier))) c) None
+      (waiting laws durable prints l g f group earlier [] t logs page (subst (λ (es : List Event). Leaves g es logs page) (sym (append-nil (front earlier))) c) None
       (subst (λ (es : List Event). Answers g es (outcomes earlier)) (sym (append-nil (front earlier))) (answers_all l g group earlier t)));
 }

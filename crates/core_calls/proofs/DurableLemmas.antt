@@ -209,10 +209,10 @@ module _ (rises : EveryRise) (g : Opening) where
       go ih false q (inl p) = absurd (true≢false (sym k ∙ (ap (λ (y : Entry). is_commit y.kind) p ∙ q)))
       go ih false q (inr j) = ih j
 
-  kept_later : EveryTold → (ms : List (List Event)) (later : List Event) (xs : List Outcome) → Answers g (up_to ms ++ later) xs → (logs : ℕ → List Entry) (page : ℕ → Contents) → Leaves g (up_to ms ++ later) logs page →
+  kept_later : EveryTold → g.faithful ≡ true → (ms : List (List Event)) (later : List Event) (xs : List Outcome) → Answers g (up_to ms ++ later) xs → (logs : ℕ → List Entry) (page : ℕ → Contents) → Leaves g (up_to ms ++ later) logs page →
       (told by_then : Journal) → ByThen (image_of g (run g (start g) (up_to ms ++ later)) logs page) told (journal (transcript xs)) by_then →
       (n : Name) → Has n (durables g ms) → IsKept g (run g (start g) (up_to ms ++ later)) logs page by_then n
-  kept_later laws ms later xs a logs page c told by_then b n i = record { txn = t.0; session = t.2.session ∙ (u.2 ∙ ap (λ (m : Name). m.session) d.3); number = t.2.number ∙ (u.3 ∙ ap (λ (m : Name). m.number) d.3); kept = kept }
+  kept_later laws f ms later xs a logs page c told by_then b n i = record { txn = t.0; session = t.2.session ∙ (u.2 ∙ ap (λ (m : Name). m.session) d.3); number = t.2.number ∙ (u.3 ∙ ap (λ (m : Name). m.number) d.3); kept = kept }
     where
       law : ToldLaws g (up_to ms ++ later) xs
       law = laws g (up_to ms ++ later) xs a
@@ -241,10 +241,10 @@ module _ (rises : EveryRise) (g : Opening) where
 
       among : Has t.0 by_then
       among = b.has_kept t.0 t.1 (keep_has (is_kept (image_of g (past ms later) logs page).logs (image_of g (past ms later) logs page).floor (Rattle.image_model.specs.Images.found (image_of g (past ms later) logs page))) (journal (transcript xs)) t.0
-          ((law.crash logs page c (journal (transcript xs)) (journal (transcript xs)) whole).ripe t.0 t.1 is)).1
+          ((law.crash f logs page c (journal (transcript xs)) (journal (transcript xs)) whole).ripe t.0 t.1 is)).1
 
       kept : Has t.0 (kept_of (image_of g (past ms later) logs page) by_then)
-      kept = (law.crash logs page c told by_then b).ripe t.0 among is
+      kept = (law.crash f logs page c told by_then b).ripe t.0 among is
 
   -- behind a sync all is flushed
   pub all_synced : (before es : List Event) (n : ℕ) → may g (run g (start g) before) (Event.Sync n) ≡ true → (e : Entry) → Has e (run g (start g) before).entries → is_commit e.kind ≡ true → Ripe g (synced (run g (start g) before) n) e
@@ -280,7 +280,7 @@ module _ (rises : EveryRise) (g : Opening) where
     told = was_ripe ms;
     all = all_told ms;
     once = once ms;
-    kept = kept_later laws ms;
+    kept = λ f. kept_later laws f ms;
     synced = sync_told ms;
   }
 

@@ -378,6 +378,7 @@ adds g s (Event.Peek w p k a) m = same g s (Event.Peek w p k a) refl refl refl
 adds g s (Event.Unlock w i) m = same g s (Event.Unlock w i) refl refl refl
 adds g s (Event.Flush w n) m = same g s (Event.Flush w n) refl refl refl
 adds g s (Event.Post w n) m = same g s (Event.Post w n) refl refl refl
+adds g s (Event.Fetch p pairs) m = same g s (Event.Fetch p pairs) refl refl refl
 adds g s (Event.Load p f) m = same g s (Event.Load p f) refl refl refl
 adds g s (Event.Cool p) m = same g s (Event.Cool p) refl refl refl
 adds g s (Event.Rescue p) m = same g s (Event.Rescue p) refl refl refl

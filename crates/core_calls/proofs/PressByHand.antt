@@ -24,6 +24,7 @@ tree = (page_check.every_check format node).sound (omega arith) refl
 
 abbrev opening : Opening
 opening = record {
+  faithful = true;
   workers = 2;
   frames = 4;
   row_of = λ k. k;

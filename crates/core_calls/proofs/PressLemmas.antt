@@ -3,13 +3,15 @@ use Rattle.std.proofs.Common.{◌≡◌, ◌⊎◌, ◌<◌, ◌≤◌, ℕ, suc
 use Rattle.std.proofs.lemmas.Bool.{and_parts, cases_eq, lt-ltb, ltb-true}
 use Rattle.map_model.specs.Lists.{all, any, upd}
 use Rattle.map_model.proofs.ListLemmas.{upd_other, upd_same}
+use Rattle.image_model.specs.Entries.{Contents}
+use Rattle.page_model.specs.Pairs.{Pair}
 use Rattle.page_model.specs.Nodes.{covers}
 use Rattle.core_state.specs.Openings.{Opening}
 use Rattle.core_state.specs.Events.{Event}
 use Rattle.core_state.specs.Lists.{all_below}
-use Rattle.core_state.specs.Needs.{has_hot_child, has_hot_parent, is_dirty, is_empty_frame, is_inside, may}
+use Rattle.core_state.specs.Needs.{has_hot_child, has_hot_parent, is_dirty, is_empty_frame, is_inside, may, may_have}
 use Rattle.core_state.specs.States.{Place, State, flushed_by_all, frame_of, in_frame, is_cold, is_cooling, is_hot, start, waits_for}
-use Rattle.core_state.specs.Steps.{AllMet, happens, run, state_after, step}
+use Rattle.core_state.specs.Steps.{AllMet, happens, run, state_after, step, with_pairs}
 use Rattle.core_state.proofs.Runs.{run_more}
 use Rattle.core_paging.specs.Paging.{EveryResidence, EverySaved, Residence}
 use Rattle.core_paging.proofs.Places.{below}
@@ -80,6 +82,25 @@ module _ (g : Opening) (s : State) (key p : ℕ) (place : Place) (t : IsTight g 
       taken_then : (f : ℕ) → f < g.frames → IsTaken g s key f → IsTaken g n key f
       taken_then f lt k = record { page = k.page; here = ap (λ h. in_frame (h k.page) f) places ∙ here_then f lt k (cases_eq k.page p); stays = stays_then f k }
 
+-- a cold leaf is read: fences and numbers stay
+fetched : (g : Opening) (s : State) (key p : ℕ) (pairs : List Pair) → Residence g s → is_cold (s.place p) ≡ true → IsTight g s key → IsTight g (happens g s (Event.Fetch p pairs)) key
+fetched g s key p pairs r cold t = record {
+  page = t.page;
+  below = t.below;
+  needed = same t.page (λ v. (covers v.node key ≡ true) ⊎ (v.node.live ≡ false)) t.needed t.needed;
+  cold = t.cold;
+  taken = λ f lt. let k = t.taken f lt in record { page = k.page; here = k.here; stays = same k.page (λ v. (covers v.node key ≡ true) ⊎ (flushed_by_all g s < v.gsn)) k.stays k.stays };
+}
+  where
+    here : (q : ℕ) → q ≡ p → s.saved p ≡ s.page q
+    here q e = sym (r.cold p cold) ∙ ap s.page (sym e)
+
+    same : (q : ℕ) (P : Contents → Type 0) → P (s.page q) → P (with_pairs pairs (s.page q)) → P (upd s.page p (with_pairs pairs (s.saved p)) q)
+    same q P a b = elim (cases_eq q p) [
+      | inl e ↦ subst P (sym (upd_same s.page p (with_pairs pairs (s.saved p)) q e)) (subst (λ v. P (with_pairs pairs v)) (sym (here q e)) b)
+      | inr n ↦ subst P (sym (upd_other s.page p (with_pairs pairs (s.saved p)) q n)) a
+    ]
+
 -- one event, whose need is met
 one_move : (g : Opening) (s : State) (key : ℕ) (e : Event) → Residence g s → ((p : ℕ) → (s.saved p).gsn ≤ flushed_by_all g s) → is_move e ≡ true → may g s e ≡ true
     → ((p f : ℕ) → covers (s.page p).node key ≡ true → in_frame (s.place p) f ≡ true → in_frame ((happens g s e).place p) f ≡ true) → IsTight g s key → IsTight g (happens g s e) key × (is_load e ≡ false)
@@ -89,6 +110,7 @@ one_move g s key (Event.Load p f) r saved move met keeps t =
     let c = and_parts (is_cold (s.place p)) (has_hot_parent g s p && is_empty_frame g s f) b.1 in
     let d = and_parts (has_hot_parent g s p) (is_empty_frame g s f) c.1 in
     absurd (none_loose g s key f r (ltb-true f g.frames b.0) (IsLoose.Empty d.1) t)
+one_move g s key (Event.Fetch p pairs) r saved move met keeps t = (fetched g s key p pairs r (and_parts (is_cold (s.place p)) (may_have g (s.saved p).node pairs) (and_parts (ltb p g.format.pages) (is_cold (s.place p) && may_have g (s.saved p).node pairs) met).1).0 t, refl)
 one_move g s key (Event.Cool p) r saved move met keeps t =
     let hot = (and_parts (is_hot (s.place p)) true (and_parts (is_hot (s.place p) && true) (not (p == 0) && not (has_hot_child g s p)) met).0).0 in (
       moved g s key p (Place.Cooling (frame_of (s.place p)) s.epoch (λ w. is_inside (s.inside w))) t (happens g s (Event.Cool p)) refl refl refl (λ e. absurd (not_hot (s.place p) (ap (λ x. is_cold (s.place x)) (sym e) ∙ t.cold) hot))

@@ -19,6 +19,7 @@ is_tree = (every_check format node).sound (omega arith) refl
 
 abbrev opening : Opening
 opening = record {
+  faithful = true;
   workers = 1;
   frames = 3;
   row_of = λ k. k;

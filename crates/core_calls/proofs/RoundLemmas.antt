@@ -115,13 +115,13 @@ commit_entry f (e ∷ h) u i = go (commit_entry f h u) (is_commit e.kind) refl i
     go ih false k j = let z = ih j in (z.0, inr z.1, z.2, z.3, z.4)
 
 pub every_round_synced : EveryRise → EveryTold → EveryRoundSynced
-every_round_synced rises laws g es n xs a m logs page c = (survives, λ t i. survives.ripe t i (ripe t i))
+every_round_synced rises laws g f es n xs a m logs page c = (survives, λ t i. survives.ripe t i (ripe t i))
   where
     law : ToldLaws g (es ++ Event.Sync n ∷ []) xs
     law = laws g (es ++ Event.Sync n ∷ []) xs a
 
     survives : Survives g (run g (start g) (es ++ Event.Sync n ∷ [])) (image_of g (run g (start g) (es ++ Event.Sync n ∷ [])) logs page) (journal (transcript xs))
-    survives = law.crash logs page c (journal (transcript xs)) (journal (transcript xs)) (record { falls = law.falls; has_told = λ t i. i; has_kept = λ t i k. i; only = λ t i. (i, inl i) })
+    survives = law.crash f logs page c (journal (transcript xs)) (journal (transcript xs)) (record { falls = law.falls; has_told = λ t i. i; has_kept = λ t i k. i; only = λ t i. (i, inl i) })
 
     state : run g (start g) (es ++ Event.Sync n ∷ []) ≡ synced (run g (start g) es) n
     state = run_more g (start g) es (Event.Sync n ∷ []) ∙ cond-true (may g (run g (start g) es) (Event.Sync n)) (happens g (run g (start g) es) (Event.Sync n)) (run g (start g) es) m

@@ -65,7 +65,7 @@ module _ (order : EveryOrder) (closed : EveryClosed) (serial : EverySerial) (cra
   core_falls : IsFalling K
   core_falls = (order (histories.committed g.format now.entries) (Rattle.core_calls.proofs.JournalLemmas.core_apart g (flushed_by_all g now) g.format now.entries hist)).falls
 
-  module _ (i : Image) (r : Recovers g now i) where
+  module _ (faithful : g.faithful ≡ true) (i : Image) (r : Recovers g now i) where
     abbrev p : Txn → Bool
     p = is_kept i.logs i.floor (found i)
 
@@ -73,7 +73,7 @@ module _ (order : EveryOrder) (closed : EveryClosed) (serial : EverySerial) (cra
     kept_ties = pairs_keep (Ties now.entries) p p (λ t u c. kept_same i t u c.session c.number c.at) J K ties
 
     maps : after (first_map g) (kept_of i J) ≡ after (first_map g) (kept_of i K)
-    maps = (run_same now.entries (first_map g) (kept_of i J) (kept_of i K) kept_ties (closed (first_map g) K p core_falls (serial g es) r.closed)).map
+    maps = (run_same now.entries (first_map g) (kept_of i J) (kept_of i K) kept_ties (closed (first_map g) K p core_falls (serial g faithful es) r.closed)).map
 
     -- whose write a kept one used is kept
     follows : (t u : Txn) → Has t (kept_of i J) → Has u J → (k : ℕ) → Used t k → Wrote u k → is_earlier u t ≡ true → Has u (kept_of i J)
@@ -125,8 +125,8 @@ module _ (order : EveryOrder) (closed : EveryClosed) (serial : EverySerial) (cra
   laws = record {
     same = pairs_map (Ties now.entries) SameTxn (λ t u c. record { session = c.session; number = c.number; at = c.at; calls = c.calls }) J K ties;
     falls = falls;
-    serial = (run_same now.entries (first_map g) J K ties (serial g es)).serial;
-    crash = λ logs page l told by_then b. survives (image_of g now logs page) (crash g es logs page l) told by_then b;
+    serial = λ f. (run_same now.entries (first_map g) J K ties (serial g f es)).serial;
+    crash = λ f logs page l told by_then b. survives f (image_of g now logs page) (crash g f es logs page l) told by_then b;
   }
 
 pub every_told : EveryOrder → EveryClosed → EverySerial → EveryCrash → EveryTold

@@ -24,8 +24,8 @@ of w d = record { session = w; deed = d; unsaid = [] }
 
 -- none of these are the outcomes of a list of events
 pub record Controls (g : Opening) : Type 0 where
-  -- a committed transaction that put a value and got the one at the opening
-  pub stale_get : (es : List Event) (w n at k v : ℕ) (a b : Option ℕ) (alone : Bool) (earlier : List Outcome) →
+  -- a committed transaction that put a value and got the one at the opening, where that is faithful
+  pub stale_get : g.faithful ≡ true → (es : List Event) (w n at k v : ℕ) (a b : Option ℕ) (alone : Bool) (earlier : List Outcome) →
       Answers g es (of w (Committed n at) ∷ of w (Got k b alone) ∷ of w (Changed k v a) ∷ earlier) → b ≡ first_map g k → (first_map g k ≡ Some v → ⊥) → ⊥
   -- a durable line of a commit that is not ripe
   pub early_line : (ms : List (List Event)) (e : Entry) → Has e (state_after g (up_to ms)).entries → is_commit e.kind ≡ true → is_ripe g (state_after g (up_to ms)) e ≡ false → Has (name_of e) (durables g ms) → ⊥

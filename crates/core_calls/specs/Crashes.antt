@@ -64,6 +64,6 @@ pub record RunCrashes (l : Limits) (g : Opening) (group : ℕ) : Type 0 where
       (logs : ℕ → List Entry) (page : ℕ → Contents) → Leaves g (front earlier ++ rest) logs page → RunSurvives g (front earlier ++ rest) logs page earlier None
   pub behind : (earlier : List Done) → EachTells l g group earlier → (logs : ℕ → List Entry) (page : ℕ → Contents) → Leaves g (front earlier) logs page → RunSurvives g (front earlier) logs page earlier None
 
--- in each run
+-- in each run from a faithful opening
 abbrev pub EveryRunCrash : Type 0
-EveryRunCrash = (l : Limits) (g : Opening) (group : ℕ) → RunCrashes l g group
+EveryRunCrash = (l : Limits) (g : Opening) → g.faithful ≡ true → (group : ℕ) → RunCrashes l g group

@@ -65,8 +65,8 @@ pub record DurableLaws (g : Opening) (ms : List (List Event)) : Type 0 where
   pub all : (e : Entry) → Has e (state_after g (up_to ms)).entries → is_ripe g (state_after g (up_to ms)) e ≡ true → Has (name_of e) (durables g ms)
   -- once
   pub once : AreOnce (durables g ms)
-  -- whatever happens later and wherever a crash falls, it is kept
-  pub kept : (later : List Event) (xs : List Outcome) → Answers g (up_to ms ++ later) xs → (logs : ℕ → List Entry) (page : ℕ → Contents) → Leaves g (up_to ms ++ later) logs page →
+  -- where the opening is faithful, whatever happens later and wherever a crash falls, it is kept
+  pub kept : g.faithful ≡ true → (later : List Event) (xs : List Outcome) → Answers g (up_to ms ++ later) xs → (logs : ℕ → List Entry) (page : ℕ → Contents) → Leaves g (up_to ms ++ later) logs page →
       (told by_then : Journal) → ByThen (image_of g (state_after g (up_to ms ++ later)) logs page) told (journal (transcript xs)) by_then →
       (n : Name) → Has n (durables g ms) → IsKept g (state_after g (up_to ms ++ later)) logs page by_then n
   -- behind a sync each commit was told

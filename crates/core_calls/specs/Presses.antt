@@ -14,8 +14,9 @@ pub data IsLoose (g : Opening) (s : State) (key frame : ℕ) : Type 0 where
   Empty : is_empty_frame g s frame ≡ true → IsLoose g s key frame
   Ready : (page : ℕ) → in_frame (s.place page) frame ≡ true → covers (s.page page).node key ≡ false → (s.page page).gsn ≤ flushed_by_all g s → IsLoose g s key frame
 
--- a page is moved or saved, or the epoch goes on
+-- a page is read, moved or saved, or the epoch goes on
 abbrev pub is_move : Event → Bool
+is_move (Event.Fetch p pairs) = true
 is_move (Event.Load p f) = true
 is_move (Event.Cool p) = true
 is_move (Event.Rescue p) = true

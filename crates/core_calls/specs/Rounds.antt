@@ -56,9 +56,9 @@ pub record FinishLaws (g : Opening) (es : List Event) (ys : List Outcome) (x : D
 abbrev pub EveryFinish : Type 0
 EveryFinish = (g : Opening) (es : List Event) (ys : List Outcome) (a : Answers g es ys) (x : Done) → Finishes g es ys a x → FinishLaws g es ys x
 
--- Last comes a sync. Behind it every image keeps every transaction, so all are in hand, whatever was printed by then.
+-- Last comes a sync, where the opening is faithful. Behind it every image keeps every transaction, so all are in hand, whatever was printed by then.
 abbrev pub EveryRoundSynced : Type 0
-EveryRoundSynced = (g : Opening) (es : List Event) (n : ℕ) (xs : List Outcome) → Answers g (es ++ Event.Sync n ∷ []) xs → may g (state_after g es) (Event.Sync n) ≡ true →
+EveryRoundSynced = (g : Opening) → g.faithful ≡ true → (es : List Event) (n : ℕ) (xs : List Outcome) → Answers g (es ++ Event.Sync n ∷ []) xs → may g (state_after g es) (Event.Sync n) ≡ true →
     (logs : ℕ → List Entry) (page : ℕ → Contents) → Leaves g (es ++ Event.Sync n ∷ []) logs page →
     let s = state_after g (es ++ Event.Sync n ∷ []) in
     let i = image_of g s logs page in

@@ -68,14 +68,14 @@ pub record ByThen (i : Image) (told all by_then : Journal) : Type 0 where
   pub has_kept : (t : Txn) → Has t all → is_kept i.logs i.floor (found i) t ≡ true → Has t by_then
   pub only : (t : Txn) → Has t by_then → Has t all × (Has t told ⊎ (is_kept i.logs i.floor (found i) t ≡ true))
 
--- what holds of the outcomes of a list of events
+-- What holds of the outcomes of a list of events; what the pages contain is known where the opening is faithful.
 pub record ToldLaws (g : Opening) (es : List Event) (xs : List Outcome) : Type 0 where
   -- their journal is the core's
   pub same : SameJournal (journal (transcript xs)) (journal_in g (state_after g es))
   pub falls : IsFalling (journal (transcript xs))
-  pub serial : Serial (first_map g) (journal (transcript xs))
+  pub serial : g.faithful ≡ true → Serial (first_map g) (journal (transcript xs))
   -- wherever a crash falls, with whatever was told by then
-  pub crash : (logs : ℕ → List Entry) (page : ℕ → Contents) → Leaves g es logs page →
+  pub crash : g.faithful ≡ true → (logs : ℕ → List Entry) (page : ℕ → Contents) → Leaves g es logs page →
       let s = state_after g es in
       let i = image_of g s logs page in
       (told by_then : Journal) → ByThen i told (journal (transcript xs)) by_then → Survives g s i by_then

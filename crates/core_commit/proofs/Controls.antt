@@ -49,7 +49,7 @@ inv_begin g s i w f m = record {
   rows = λ j. row_same g (bound g s) (tops s) (λ v. max (upd s.worker w (begun a f) v).debt F) (λ v. top_of (upd s.worker w (begun a f) v)) h j (s.row j)
       (upd_at_most (λ b. max b.debt F) s.worker w (begun a f) debt_le.1) (upd_at_most top_of s.worker w (begun a f) (let e = o.end in rw (shut_top a shut) (omega arith))) (i.rows j);
   workers = λ j. at_upd (λ j b. WorkerOk g F s.floor (s.flushed j) h s.row j b) s.worker w (begun a f) j own (λ _. i.workers j);
-  told = told i.told;
+  told = λ f. told (i.told f);
 }
   where
     h : List Entry
@@ -127,7 +127,7 @@ inv_lock g s v w i o' op hold mk = record {
   workers = λ j. at_upd (λ j b. WorkerOk g F s.floor (s.flushed j) h (upd s.row i o') j b) s.worker w a' j
       (worker_same g F F s.floor (s.flushed w) h s.row (upd s.row i o') w a' (omega arith) (keeps w) (worker_raised g F s.floor (s.flushed w) h s.row w a a'.clock a'.debt (omega arith) td.0 (let q = td.1 in omega arith) o))
       (λ _. worker_same g F F s.floor (s.flushed j) h s.row (upd s.row i o') j (s.worker j) (omega arith) (keeps j) (v.workers j));
-  told = let t = v.told in record { history = t.history; pages = t.pages; undo = undo_at g h s.worker w a' t.undo (t.undo w) };
+  told = λ f. let t = v.told f in record { history = t.history; pages = t.pages; undo = undo_at g h s.worker w a' t.undo (t.undo w) };
 }
   where
     h : List Entry
@@ -312,7 +312,7 @@ inv_unlock g s v w i m = record {
     | inl e ↦ subst (λ j. WorkerOk g F s.floor (s.flushed j) h (upd s.row i (unlocked o w a.end)) j (s.worker j)) (sym e) shut_own
     | inr n ↦ worker_same g F F s.floor (s.flushed j) h s.row (upd s.row i (unlocked o w a.end)) j (s.worker j) (omega arith) (keeps j n) (v.workers j)
   ];
-  told = let t = v.told in record { history = t.history; pages = t.pages; undo = t.undo };
+  told = λ f. let t = v.told f in record { history = t.history; pages = t.pages; undo = t.undo };
 }
   where
     h : List Entry
@@ -456,7 +456,7 @@ inv_flush g s v w n m = record {
   tree = v.tree;
   rows = λ j. row_same g (bound g s) (tops s) (λ u. max (s.worker u).debt F') (tops s) h j (s.row j) (λ u. let z = lF in omega arith) (λ u. omega arith) (v.rows j);
   workers = λ j. at_upd (λ j fl. WorkerOk g F' s.floor fl h s.row j (s.worker j)) s.flushed w n j own (λ _. grown j);
-  told = let t = v.told in record { history = history_same g F F' h lF t.history; pages = t.pages; undo = t.undo };
+  told = λ f. let t = v.told f in record { history = history_same g F F' h lF t.history; pages = t.pages; undo = t.undo };
 }
   where
     h : List Entry
@@ -537,7 +537,7 @@ inv_synced g s v = record {
   tree = v.tree;
   rows = λ j. row_same g (bound g s) (tops s) (λ u. max (s.worker u).debt F') (tops (synced s n)) h j (s.row j) (λ u. let z = lF in omega arith) tops_rise (v.rows j);
   workers = own;
-  told = let t = v.told in record { history = history_same g F F' h lF t.history; pages = t.pages; undo = t.undo };
+  told = λ f. let t = v.told f in record { history = history_same g F F' h lF t.history; pages = t.pages; undo = t.undo };
 }
   where
     h : List Entry
@@ -623,7 +623,7 @@ inv_cut g s v x heads m = record {
     changes = o.changes;
     words = o.words;
   };
-  told = let t = v.told in record { history = t.history; pages = t.pages; undo = t.undo };
+  told = λ f. let t = v.told f in record { history = t.history; pages = t.pages; undo = t.undo };
 }
   where
     h : List Entry
@@ -669,7 +669,7 @@ inv_looks g s v w p op = record {
       (upd_at_most (λ b. max b.debt F) s.worker w a (let q = t.1 in omega arith)) (upd_at_most top_of s.worker w a (rw (open_top (s.worker w) op, open_top a op) (let q = t.0 in omega arith))) (v.rows j);
   workers = λ j. at_upd (λ j b. WorkerOk g F s.floor (s.flushed j) s.entries s.row j b) s.worker w a j
       (worker_raised g F s.floor (s.flushed w) s.entries s.row w (s.worker w) a.clock a.debt t.0 t.1 t.2 (v.workers w)) (λ _. v.workers j);
-  told = let k = v.told in record { history = k.history; pages = k.pages; undo = undo_at g s.entries s.worker w a k.undo (k.undo w) };
+  told = λ f. let k = v.told f in record { history = k.history; pages = k.pages; undo = undo_at g s.entries s.worker w a k.undo (k.undo w) };
 }
   where
     F : ℕ
@@ -705,5 +705,5 @@ inv_start g = record {
     changes = λ q. absurd (true≢false (sym q));
     words = λ q. absurd (true≢false (sym q));
   };
-  told = record { history = tt; pages = λ p. refl; undo = λ w q. absurd (true≢false (sym q)) };
+  told = λ _. record { history = tt; pages = λ p. refl; undo = λ w q. absurd (true≢false (sym q)) };
 }

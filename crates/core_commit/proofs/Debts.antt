@@ -151,6 +151,7 @@ owe_event P g s (Event.Purge v p keys) m q k = owe_moves P g s (Event.Purge v p 
 owe_event P g s (Event.End v commit f) m q k = quiet P g s (Event.End v commit f) (upd s.worker v (finished (s.worker v) (suc (s.worker v).clock))) k (λ w n z. z.by)
     (λ w. at_place (λ j b. Owes (P j) (s.worker j).floor (s.worker j).debt → Owes (P j) b.floor b.debt) s.worker v (finished (s.worker v) (suc (s.worker v).clock)) w
     (λ e o. subst (λ (j : ℕ). Owes (P w) (s.worker j).floor (s.worker j).debt) e o) (λ _ o. o))
+owe_event P g s (Event.Fetch p pairs) m q k = quiet P g s (Event.Fetch p pairs) s.worker k (λ w n z. z.by) (λ w o. o)
 owe_event P g s (Event.Sync n) m q k = quiet P g s (Event.Sync n) (happens g s (Event.Sync n)).worker k (λ w n z. z.by) (λ w o. o)
 owe_event P g s (Event.Enter w e) m q k = quiet P g s (Event.Enter w e) s.worker k (λ w n z. z.by) (λ w o. o)
 owe_event P g s (Event.Leave w) m q k = quiet P g s (Event.Leave w) s.worker k (λ w n z. z.by) (λ w o. o)

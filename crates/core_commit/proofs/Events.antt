@@ -56,7 +56,7 @@ inv_entry g s v w a x page l st tree en me lx lt own fresh told = record {
       (row_more g (bound g s) (tops s) s.entries i (s.row i) x (me i) (v.rows i));
   workers = λ j. at_upd (λ j b. WorkerOk g (flushed_by_all g s) s.floor (s.flushed j) (x ∷ s.entries) s.row j b) s.worker w a j own
       (λ n. worker_more g (flushed_by_all g s) s.floor (s.flushed j) s.entries s.row j (s.worker j) x (λ e. n (sym e ∙ l)) (v.workers j));
-  told = told v.told;
+  told = λ f. told (v.told f);
 }
 
 -- what is told of contents then

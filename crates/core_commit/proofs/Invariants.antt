@@ -238,7 +238,7 @@ pub record IsTold (g : Opening) (s : State) : Type 0 where
   pub pages : (p : ℕ) → s.page p ≡ page_at g s.entries p
   pub undo : (w : ℕ) → Undoes g s.entries w (s.worker w)
 
--- all but `told` lasts without it
+-- all but `told` lasts whatever pages contain; what is told is so where the opening is faithful
 pub record Inv (g : Opening) (s : State) : Type 0 where
   pub cuts : CutsOk g (flushed_by_all g s) s.floor s.cut s.head s.flushed s.entries
   pub records : IsRecorded g (flushed_by_all g s) s.entries
@@ -246,7 +246,7 @@ pub record Inv (g : Opening) (s : State) : Type 0 where
   pub tree : IsTree g.format (nodes_of s)
   pub rows : (i : ℕ) → RowOk g (bound g s) (tops s) s.entries i (s.row i)
   pub workers : (w : ℕ) → WorkerOk g (flushed_by_all g s) s.floor (s.flushed w) s.entries s.row w (s.worker w)
-  pub told : IsTold g s
+  pub told : g.faithful ≡ true → IsTold g s
 
 -- one worker's part changes
 pub undo_at : (g : Opening) (h : List Entry) (worker : ℕ → Worker) (w : ℕ) (a : Worker) → ((j : ℕ) → Undoes g h j (worker j)) → Undoes g h w a → (j : ℕ) → Undoes g h j (upd worker w a j)

@@ -7,6 +7,7 @@ pub mod Events
 pub mod Controls
 pub mod Nexts
 pub mod Copies
+pub mod Fetched
 pub mod Runs
 pub mod Debts
 pub mod Says

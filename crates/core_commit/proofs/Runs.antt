@@ -1,5 +1,5 @@
 -- Every event keeps the invariants, and so does every run.
-use Rattle.page_model.specs.Pairs.{Rising}
+use Rattle.page_model.specs.Pairs.{Pair, Rising}
 use Rattle.page_model.specs.Records.{Record}
 use Rattle.page_model.specs.Nodes.{holds}
 use Rattle.page_model.specs.Tree.{IsTree}
@@ -13,11 +13,12 @@ use Rattle.core_state.specs.Openings.{Opening}
 use Rattle.core_state.specs.Events.{Event}
 use Rattle.core_state.specs.Needs.{are_hot, pages_of, is_dirty, is_empty_frame, has_hot_parent, holds_answer, holds_row, is_following, is_inside, is_leaf_of, following, is_value, value_in, may_read, may, needs}
 use Rattle.core_state.specs.Steps.{at_pages, page_entry, write_entry, moves, put_back, follows, happens, step, run}
-use Rattle.core_commit.proofs.Invariants.{Inv}
+use Rattle.core_commit.proofs.Invariants.{Inv, IsTold}
 use Rattle.core_commit.proofs.Events.{inv_change, inv_put_back, inv_split, inv_lift, inv_join, inv_drop, inv_purge, inv_reads, inv_end}
 use Rattle.core_commit.proofs.Controls.{inv_begin, inv_lock_event, inv_unlock, inv_flush, inv_sync, inv_cut, inv_looks, inv_start}
 use Rattle.core_commit.proofs.Nexts.{following_is, following_at, follows_in}
 use Rattle.core_commit.proofs.Copies.{Copied, loaded, copied_records, copied_place, copied_load, copied_save, copied_evict, copied_leave, copied_start, above_pages}
+use Rattle.core_commit.proofs.Fetched.{fetch_is, fetch_same, fetch_gsn, fetch_tree, fetch_copied}
 use Rattle.std.proofs.Common.{◌≡◌, ◌<◌, ◌≤◌, ℕ, suc, Bool, true, false, cond, ◌&&◌, not, leb, ltb, ◌==◌, List, [], ◌∷◌, Option, Some, None, length, refl, sym, ap, ◌∙◌, subst, arith, true≢false}
 use Rattle.std.proofs.lemmas.Bool.{and_parts, and_from, ltb-true, ltb-false, not-true}
 use mathlib.Core.Path.{fun_ext}
@@ -59,7 +60,7 @@ inv_moved g s v saved place queue posted inside epoch = record {
   tree = v.tree;
   rows = v.rows;
   workers = v.workers;
-  told = let t = v.told in record { history = t.history; pages = t.pages; undo = t.undo };
+  told = λ f. let t = v.told f in record { history = t.history; pages = t.pages; undo = t.undo };
 }
 
 inv_load : (g : Opening) (s : State) → Inv g s → (p f : ℕ) → ((q : ℕ) → upd s.page p (s.saved p) q ≡ s.page q) → Inv g (happens g s (Event.Load p f))
@@ -70,7 +71,18 @@ inv_load g s v p f same = record {
   tree = subst (IsTree g.format) (sym (fun_ext (λ q. ap (λ (c : Contents). c.node) (same q)))) v.tree;
   rows = v.rows;
   workers = v.workers;
-  told = let t = v.told in record { history = t.history; pages = λ q. same q ∙ t.pages q; undo = t.undo };
+  told = λ f. let t = v.told f in record { history = t.history; pages = λ q. same q ∙ t.pages q; undo = t.undo };
+}
+
+inv_fetch : (g : Opening) (s : State) → Inv g s → Copied s.page s.saved s.place → (p : ℕ) (pairs : List Pair) → needs g s (Event.Fetch p pairs) ≡ true → Inv g (happens g s (Event.Fetch p pairs))
+inv_fetch g s v c p pairs m = let i = fetch_is g s p pairs m in record {
+  cuts = v.cuts;
+  records = v.records;
+  stamps = λ q. let k = v.stamps q in let e = fetch_gsn s c p pairs i.cold q in (e.0 ∙ k.0, e.1 ∙ k.1);
+  tree = fetch_tree g s c v.tree p pairs i;
+  rows = v.rows;
+  workers = v.workers;
+  told = λ f. subst (IsTold g) (sym (fetch_same g s c f p pairs m)) (v.told f);
 }
 
 pub load_cold : (g : Opening) (s : State) (p f : ℕ) → needs g s (Event.Load p f) ≡ true → is_cold (s.place p) ≡ true
@@ -111,6 +123,7 @@ inv_event g s i (Event.Unlock w o) m = inv_unlock g s i.inv w o m
 inv_event g s i (Event.Flush w n) m = inv_flush g s i.inv w n m
 inv_event g s i (Event.Sync n) m = inv_sync g s i.inv n m
 inv_event g s i (Event.Post w n) m = inv_moved g s i.inv s.saved s.place s.queue (Rattle.std.proofs.Common.max s.posted n) s.inside s.epoch
+inv_event g s i (Event.Fetch p pairs) m = inv_fetch g s i.inv i.copied p pairs m
 inv_event g s i (Event.Load p f) m = inv_load g s i.inv p f (loaded s.page s.saved s.place i.copied p (load_cold g s p f m))
 inv_event g s i (Event.Cool p) m = inv_moved g s i.inv s.saved (upd s.place p (Place.Cooling (frame_of (s.place p)) s.epoch (λ w. is_inside (s.inside w)))) (at_end s.queue p) s.posted s.inside s.epoch
 inv_event g s i (Event.Rescue p) m = inv_moved g s i.inv s.saved (upd s.place p (Place.Hot (frame_of (s.place p)))) (without p s.queue) s.posted s.inside s.epoch
@@ -162,6 +175,7 @@ copied_event g s i (Event.Unlock w o) h m = i.copied
 copied_event g s i (Event.Flush w n) h m = i.copied
 copied_event g s i (Event.Sync n) h m = i.copied
 copied_event g s i (Event.Post w n) h m = i.copied
+copied_event g s i (Event.Fetch p pairs) h m = fetch_copied g s i.copied p pairs (fetch_is g s p pairs m).cold
 copied_event g s i (Event.Load p f) h m = copied_load s.page s.saved s.place p f i.copied (load_cold g s p f m)
 copied_event g s i (Event.Cool p) h m = copied_place s.page s.saved s.place p (Place.Cooling (frame_of (s.place p)) s.epoch (λ w. is_inside (s.inside w))) refl i.copied
 copied_event g s i (Event.Rescue p) h m = copied_place s.page s.saved s.place p (Place.Hot (frame_of (s.place p))) refl i.copied

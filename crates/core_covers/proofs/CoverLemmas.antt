@@ -10,7 +10,7 @@ use Rattle.core_state.specs.Openings.{Opening}
 use Rattle.core_state.specs.States.{Place, State, flushed_by_all, frame_of, in_frame, is_cold, left_by}
 use Rattle.core_state.specs.Events.{Event}
 use Rattle.core_state.specs.Needs.{are_hot, is_inside, needs, pages_of}
-use Rattle.core_state.specs.Steps.{follows, happens, put_back, state_after, step}
+use Rattle.core_state.specs.Steps.{follows, happens, put_back, state_after, step, with_pairs}
 use Rattle.core_commit.specs.Rises.{EveryRise}
 use Rattle.core_commit.proofs.Copies.{at_place}
 use Rattle.core_commit.proofs.Lists.{le_least}
@@ -75,6 +75,7 @@ IsSaved s p n = (n ≡ (s.saved p).gsn) ⊎ (n ≡ (s.page p).gsn)
 
 saved_event : (g : Opening) (s : State) (e : Event) (p : ℕ) → IsSaved s p ((happens g s e).saved p).gsn
 saved_event g s (Event.Save q) p = at_place (λ j v. IsSaved s j v.gsn) s.saved q (s.page q) p (λ e. inr (ap (λ (j : ℕ). (s.page j).gsn) (sym e))) (λ _. inl refl)
+saved_event g s (Event.Fetch q pairs) p = at_place (λ j v. IsSaved s j v.gsn) s.saved q (with_pairs pairs (s.saved q)) p (λ e. inl (ap (λ (j : ℕ). (s.saved j).gsn) (sym e))) (λ _. inl refl)
 saved_event g s (Event.Next w q j a) p = go a
   where
     go : (a : MapAnswer) → IsSaved s p ((follows g s w q a).saved p).gsn

@@ -27,6 +27,7 @@ leaf_tree = (page_check.every_check format leaf).sound (omega arith) refl
 
 abbrev pub opening : Opening
 opening = record {
+  faithful = true;
   workers = 2;
   frames = 1;
   row_of = λ k. k;
@@ -118,8 +119,8 @@ worked = record {
   x = example;
   no_reach = refl;
   none_kept = none_kept;
-  no_map = λ k. sym ((every_crash opening events (logs_left last false) (start_page opening) leaves_without).stands.map k) ∙ (ap (λ (l : List Txn). after (first_map opening) l k) none_kept ∙ nothing k);
+  no_map = λ k. sym ((every_crash opening refl events (logs_left last false) (start_page opening) leaves_without).stands.map k) ∙ (ap (λ (l : List Txn). after (first_map opening) l k) none_kept ∙ nothing k);
   reached = refl;
   one_kept = one_kept;
-  map = λ k. sym ((every_crash opening events (logs_left last true) (start_page opening) leaves_with).stands.map k) ∙ (ap (λ (l : List Txn). after (first_map opening) l k) one_kept ∙ second_map k);
+  map = λ k. sym ((every_crash opening refl events (logs_left last true) (start_page opening) leaves_with).stands.map k) ∙ (ap (λ (l : List Txn). after (first_map opening) l k) one_kept ∙ second_map k);
 }

@@ -248,11 +248,11 @@ distinct_history g F p (r ∷ h) pr hist = go (distinct_history g F p h pr hist.
     go ih true e = (λ y i. comparable r y (λ l. hist.0.later (pr r e) y (keep_has p h y i).0 (sym l)), ih)
     go ih false e = ih
 
-pub every_image : (g : Opening) (es : List Event) (logs : ℕ → List Entry) (page : ℕ → Contents) → Leaves g es logs page →
+pub every_image : (g : Opening) → g.faithful ≡ true → (es : List Event) (logs : ℕ → List Entry) (page : ℕ → Contents) → Leaves g es logs page →
     let s = run g (start g) es in
     let z = gathered (λ w. from_head (s.head w) (logs w)) g.workers in
     Stands g s.entries s.floor z page × ((t : Done) → Has t (journal s.entries) → IsRipe g s t → Has t (kept g s.floor z (journal s.entries)))
-every_image g es logs page c = (
+every_image g faithful es logs page c = (
   record {
     map = λ k. ap (λ (f : ℕ → ℕ). f k) (recovered_same z1 z2 same d1 d2 g s.floor page) ∙ (main.0.map k ∙ ap (λ (l : List Done). after (first g) l k) (sym keeps));
     closed = subst (IsClosed (journal s.entries)) (sym keeps) main.0.closed;
@@ -293,7 +293,7 @@ every_image g es logs page c = (
     crash = record { logs = λ w l. omega arith; pages = c.pages; numbers = c.numbers; changes = c.changes }
 
     main : Stands g s.entries s.floor z2 page × ((t : Done) → Has t (journal s.entries) → IsRipe g s t → Has t (kept g s.floor z2 (journal s.entries)))
-    main = every_crash g es up_to page crash
+    main = every_crash g faithful es up_to page crash
 
     -- a record up to the greatest number left is left
     filled : (r : Entry) → Has r s.entries → is_record r.kind ≡ true → Within g.workers r.log → r.number ≤ up_to r.log → Has r (logs r.log)

@@ -57,14 +57,14 @@ had_run : (g : Opening) (es : List Event) (s : State) (p : ℕ) (v : Contents) �
 had_run g [] s p v h = h
 had_run g (e ∷ es) s p v h = had_run g es (step g s e) p v (had_step g s e p v h)
 
-had : (g : Opening) (es : List Event) (s : State) (p : ℕ) (v : Contents) → Good g s → HasBeen g s es p v → Had g (run g s es).entries p v
-had g [] s p v i b = subst (λ (q : Contents). Had g s.entries p q) (sym (b ∙ i.inv.told.pages p)) (had_now g s.entries p)
-had g (e ∷ es) s p v i (inl b) = had_run g (e ∷ es) s p v (subst (λ (q : Contents). Had g s.entries p q) (sym (b ∙ i.inv.told.pages p)) (had_now g s.entries p))
-had g (e ∷ es) s p v i (inr b) = had g es (step g s e) p v (good_step g s e i) b
+had : (g : Opening) → g.faithful ≡ true → (es : List Event) (s : State) (p : ℕ) (v : Contents) → Good g s → HasBeen g s es p v → Had g (run g s es).entries p v
+had g f [] s p v i b = subst (λ (q : Contents). Had g s.entries p q) (sym (b ∙ (i.inv.told f).pages p)) (had_now g s.entries p)
+had g f (e ∷ es) s p v i (inl b) = had_run g (e ∷ es) s p v (subst (λ (q : Contents). Had g s.entries p q) (sym (b ∙ (i.inv.told f).pages p)) (had_now g s.entries p))
+had g f (e ∷ es) s p v i (inr b) = had g f es (step g s e) p v (good_step g s e i) b
 
 pub every_crash : EveryCrash
-every_crash g es up_to page c = (
-  stands_for g F s.floor R up_to s.head s.entries page refl cut c.numbers image co v.told.history,
+every_crash g f es up_to page c = (
+  stands_for g F s.floor R up_to s.head s.entries page refl cut c.numbers image co (v.told f).history,
   λ t i r. ripe_kept g F s.floor R up_to s.head s.entries page refl cut c.numbers image co t i (own t i r) r.1,
 )
   where
@@ -81,7 +81,7 @@ every_crash g es up_to page c = (
     R = reach g.workers s.floor (keep (found up_to) s.entries)
 
     image : (p : ℕ) → Had g s.entries p (page p)
-    image p = had g es (start g) p (page p) (good_start g) (c.pages p)
+    image p = had g f es (start g) p (page p) (good_start g) (c.pages p)
 
     cut : Cut g F R up_to s.entries
     cut = record {

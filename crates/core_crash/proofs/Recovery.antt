@@ -55,7 +55,7 @@ some_of None n = absurd (n refl)
 some_of (Some w) n = refl
 
 pub every_crash : EveryCrash
-every_crash g es logs page c = record { stands = stands; closed = closed; followed = followed; ripe = ripe }
+every_crash g f es logs page c = record { stands = stands; closed = closed; followed = followed; ripe = ripe }
   where
     s : State
     s = run g (start g) es
@@ -67,7 +67,7 @@ every_crash g es logs page c = record { stands = stands; closed = closed; follow
     inv = (good_run g es (start g) (good_start g)).inv
 
     main : Stands g s.entries s.floor (found i) page × ((t : Done) → Has t (journal s.entries) → words.IsRipe g s t → Has t (kept g s.floor (found i) (journal s.entries)))
-    main = by_log.every_image g es logs page c
+    main = by_log.every_image g f es logs page c
 
     keeps : kept_in g s i ≡ txns g.format (kept g s.floor (found i) (journal s.entries))
     keeps = ap (Rattle.image_model.specs.Ends.kept g.workers s.floor (found i)) (journal_as g.format s.entries) ∙ kept_as g s.floor (found i) (journal s.entries)
@@ -132,7 +132,7 @@ every_crash g es logs page c = record { stands = stands; closed = closed; follow
         ))))
 
 pub every_serial : EverySerial
-every_serial g es = subst (maps.Serial (first_map g)) (sym (journal_as g.format (run g (start g) es).entries)) (serial_as g.format (first g) (first_map g) (journal (run g (start g) es).entries) (first_as g) (serial.every_serial g es))
+every_serial g f es = subst (maps.Serial (first_map g)) (sym (journal_as g.format (run g (start g) es).entries)) (serial_as g.format (first g) (first_map g) (journal (run g (start g) es).entries) (first_as g) (serial.every_serial g f es))
 
 pub every_stored : EveryStored
-every_stored g es logs a b = every_crash g es logs (run g (start g) es).saved (let w = every_saved g es in record { prefixes = a; flushed = b; pages = w.pages; numbers = w.numbers; changes = w.changes })
+every_stored g f es logs a b = every_crash g f es logs (run g (start g) es).saved (let w = every_saved g es in record { prefixes = a; flushed = b; pages = w.pages; numbers = w.numbers; changes = w.changes })

@@ -59,8 +59,9 @@ before_word g F h hist r i w =
     let e = (p.key w).1 in omega arith
 
 pub every_reopening : EveryReopening
-every_reopening g es logs page c base low = record {
+every_reopening g f es logs page c base low = record {
   opening = record g { base = base; gsn = gsn; last = λ p. (recovered_page i p).last; node = λ p. (recovered_page i p).node; low = below; tree = laws.tree };
+  faithful = f;
   format = refl;
   workers = refl;
   frames = refl;
@@ -86,11 +87,11 @@ every_reopening g es logs page c base low = record {
     happened r j =
         let q = gathered_has (λ w. from_head (s.head w) (logs w)) g.workers r (order_has Rattle.image_model.specs.Entries.earlier (found i) r j) in
         let p = keep_has (λ r. not (leb r.number (s.head q.0))) (logs q.0) r q.2 in
-        let f = c.prefixes q.0 q.1.0 q.1.1 in
-        (keep_has (λ r. is_record r.kind && (r.log == q.0)) s.entries r (subst (λ (l : List Entry). Has r l) f.1 (has_right r f.0 (logs q.0) p.0))).0
+        let x = c.prefixes q.0 q.1.0 q.1.1 in
+        (keep_has (λ r. is_record r.kind && (r.log == q.0)) s.entries r (subst (λ (l : List Entry). Has r l) x.1 (has_right r x.0 (logs q.0) p.0))).0
 
     laws : UndoneLaws i
-    laws = every_undone i (every_crash g es logs page c).stands.sound (λ r j l. before_word g (flushed_by_all g s) s.entries inv.told.history r (happened r j) (and_parts (is_write r.kind) _ l).0)
+    laws = every_undone i (every_crash g f es logs page c).stands.sound (λ r j l. before_word g (flushed_by_all g s) s.entries (inv.told f).history r (happened r j) (and_parts (is_write r.kind) _ l).0)
 
     gsn : ℕ → ℕ
     gsn p = if ltb p g.format.pages then (recovered_page i p).gsn else 0

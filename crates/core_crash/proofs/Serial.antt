@@ -323,10 +323,10 @@ independent_each g F (e ∷ b) hist = go (independent_each g F b hist.1) (is_com
     go ih false k = ih
 
 pub every_serial : EverySerial
-every_serial g es =
+every_serial g f es =
     let s : State = run g (start g) es in
     let v : Inv g s = (good_run g es (start g) (good_start g)).inv in
-    serial_order (first g) (committed s.entries) (independent_each g (flushed_by_all g s) s.entries v.records) (serial_history g (flushed_by_all g s) s.entries v.told.history)
+    serial_order (first g) (committed s.entries) (independent_each g (flushed_by_all g s) s.entries v.records) (serial_history g (flushed_by_all g s) s.entries (v.told f).history)
 
 write_pick_all : (m : ℕ → ℕ) (k : ℕ) (h : List Entry) → write_all h m k ≡ pick (λ r b. on_key k r) (λ r b. r.after) (m k) h
 write_pick_all m k h = ap (λ (l : List Entry). write_all l m k) (sym (keep_all h)) ∙ (write_pick (λ _. true) m k h ∙ go h)
@@ -348,4 +348,4 @@ legal_history g F [] hist = tt
 legal_history g F (r ∷ h) hist = (legal_history g F h hist.1, λ c. hist.0.answers c ∙ (history_pick g F r.key h hist.1 ∙ sym (write_pick_all (first g) r.key h)))
 
 pub every_legal : EveryLegal
-every_legal g es = let v : Inv g (run g (start g) es) = (good_run g es (start g) (good_start g)).inv in legal_history g (flushed_by_all g (run g (start g) es)) (run g (start g) es).entries v.told.history
+every_legal g f es = let v : Inv g (run g (start g) es) = (good_run g es (start g) (good_start g)).inv in legal_history g (flushed_by_all g (run g (start g) es)) (run g (start g) es).entries (v.told f).history

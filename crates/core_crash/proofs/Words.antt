@@ -137,15 +137,15 @@ pub record Stands (g : Opening) (h : List Entry) (floor : ℕ) (z : List Entry) 
   pub entries : (r : Entry) → Has r z → is_lost g.workers floor z (redo page (in_order earlier z)) r ≡ true → entry g.format.pages (λ p. ((redo page (in_order earlier z)).page p).node) r.key ≡ None → ⊥
 
 abbrev pub EveryCrash : Type 0
-EveryCrash = (g : Opening) (es : List Event) (up_to : ℕ → ℕ) (page : ℕ → Contents) → Crash g es up_to page →
+EveryCrash = (g : Opening) → g.faithful ≡ true → (es : List Event) (up_to : ℕ → ℕ) (page : ℕ → Contents) → Crash g es up_to page →
     let s = run g (start g) es in
     let z = left up_to s in
     Stands g s.entries s.floor z page
     × ((t : Done) → Has t (journal s.entries) → IsRipe g s t → Has t (kept g s.floor z (journal s.entries)))
 
 abbrev pub EverySerial : Type 0
-EverySerial = (g : Opening) (es : List Event) → Serial (first g) (journal (run g (start g) es).entries)
+EverySerial = (g : Opening) → g.faithful ≡ true → (es : List Event) → Serial (first g) (journal (run g (start g) es).entries)
 
 -- the calls of all sessions, in the order in which they happened, are a legal history
 abbrev pub EveryLegal : Type 0
-EveryLegal = (g : Opening) (es : List Event) → Lawful (first g) (run g (start g) es).entries
+EveryLegal = (g : Opening) → g.faithful ≡ true → (es : List Event) → Lawful (first g) (run g (start g) es).entries

@@ -81,19 +81,19 @@ pub record Recovers (g : Opening) (s : State) (i : Image) : Type 0 where
   pub followed : (t u : Txn) → Has t (kept_in g s i) → Follows g s t u → Has u (kept_in g s i)
   pub ripe : (t : Txn) → Has t (journal_in g s) → IsRipe g s t → Has t (kept_in g s i)
 
--- Whatever happens and wherever a crash falls, recovery gives the map after a closed set of committed transactions that
--- holds each ripe one.
+-- Where the opening is faithful, whatever happens and wherever a crash falls, recovery gives the map after a closed set of
+-- committed transactions that holds each ripe one.
 abbrev pub EveryCrash : Type 0
-EveryCrash = (g : Opening) (es : List Event) (logs : ℕ → List Entry) (page : ℕ → Contents) → Leaves g es logs page →
+EveryCrash = (g : Opening) → g.faithful ≡ true → (es : List Event) (logs : ℕ → List Entry) (page : ℕ → Contents) → Leaves g es logs page →
     let s = run g (start g) es in Recovers g s (image_of g s logs page)
 
--- Run one after another from the first map, in the order of their commit numbers, the committed transactions give their answers.
+-- Where the opening is faithful: run one after another from the first map, in the order of their commit numbers, the committed transactions give their answers.
 abbrev pub EverySerial : Type 0
-EverySerial = (g : Opening) (es : List Event) → Serial (first_map g) (journal_in g (run g (start g) es))
+EverySerial = (g : Opening) → g.faithful ≡ true → (es : List Event) → Serial (first_map g) (journal_in g (run g (start g) es))
 
 -- The same of the saved contents: recovery from the logs and the saved pages.
 abbrev pub EveryStored : Type 0
-EveryStored = (g : Opening) (es : List Event) (logs : ℕ → List Entry) → let s = run g (start g) es in
+EveryStored = (g : Opening) → g.faithful ≡ true → (es : List Event) (logs : ℕ → List Entry) → let s = run g (start g) es in
     ((w : ℕ) → 0 < w → w ≤ g.workers → IsPrefix (logs w) (log_of w s.entries)) →
     ((w : ℕ) → 0 < w → w ≤ g.workers → (r : Entry) → Has r (log_of w s.entries) → r.number ≤ s.flushed w → Has r (logs w)) →
     Recovers g s (image_of g s logs s.saved)
@@ -101,6 +101,7 @@ EveryStored = (g : Opening) (es : List Event) (logs : ℕ → List Entry) → le
 -- What opening then gives: the pages that recovery leaves, with a new base number.
 pub record Reopened (g : Opening) (i : Image) (base : ℕ) : Type 0 where
   pub opening : Opening
+  pub faithful : opening.faithful ≡ true
   pub format : opening.format ≡ g.format
   pub workers : opening.workers ≡ g.workers
   pub frames : opening.frames ≡ g.frames
@@ -111,8 +112,8 @@ pub record Reopened (g : Opening) (i : Image) (base : ℕ) : Type 0 where
   pub last : (p : ℕ) → p < g.format.pages → opening.last p ≡ (recovered_page i p).last
   pub map : (k : ℕ) → first_map opening k ≡ map_of i k
 
--- After a crash the engine opens again, on the map for which the image stands, at any base number that no page is above.
+-- Where the opening is faithful: after a crash the engine opens again, as faithfully, on the map for which the image stands, at any base number that no page is above.
 abbrev pub EveryReopening : Type 0
-EveryReopening = (g : Opening) (es : List Event) (logs : ℕ → List Entry) (page : ℕ → Contents) → Leaves g es logs page →
+EveryReopening = (g : Opening) → g.faithful ≡ true → (es : List Event) (logs : ℕ → List Entry) (page : ℕ → Contents) → Leaves g es logs page →
     let i = image_of g (run g (start g) es) logs page in
     (base : ℕ) → ((p : ℕ) → p < g.format.pages → (recovered_page i p).gsn ≤ base) → Reopened g i base

@@ -76,7 +76,7 @@ module _ (crashes : EveryCrash) (saves : EverySaved) (agrees : EveryAgreement) (
   image = image_of g s logs page
 
   core : Recovers g s image
-  core = crashes g es logs page leaves
+  core = crashes g h.is.faithful es logs page leaves
 
   agree : Agree image (image_by n area)
   agree = record {

@@ -58,7 +58,9 @@ pub record HoldsPage (g : Opening) (es : List Event) (n : Master) (p : ℕ) (byt
 -- ## Disks
 
 -- The master is one of the state: as many pages and logs, and its floor. That its heads are those of the state is said by the logs.
+-- What is read of a disk's pages is what was saved, so the run is from a faithful opening.
 pub record IsMasterOf (g : Opening) (s : State) (n : Master) : Type 0 where
+  pub faithful : g.faithful ≡ true
   pub format : g.format ≡ format_of n.pages
   pub logs : length n.heads ≡ g.workers
   pub floor : n.floor ≡ s.floor

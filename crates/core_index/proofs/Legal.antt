@@ -277,6 +277,7 @@ tells_event g s h (Event.Unlock w o) inv i j m t = tells_same g s (happens g s (
 tells_event g s h (Event.Flush w n) inv i j m t = tells_same g s (happens g s (Event.Flush w n)) h i j refl t
 tells_event g s h (Event.Sync n) inv i j m t = tells_same g s (happens g s (Event.Sync n)) h i j refl t
 tells_event g s h (Event.Post w n) inv i j m t = tells_same g s (happens g s (Event.Post w n)) h i j refl t
+tells_event g s h (Event.Fetch p pairs) inv i j m t = tells_same g s (happens g s (Event.Fetch p pairs)) h i j refl t
 tells_event g s h (Event.Load p f) inv i j m t = tells_same g s (happens g s (Event.Load p f)) h i j refl t
 tells_event g s h (Event.Cool p) inv i j m t = tells_same g s (happens g s (Event.Cool p)) h i j refl t
 tells_event g s h (Event.Rescue p) inv i j m t = tells_same g s (happens g s (Event.Rescue p)) h i j refl t
@@ -288,23 +289,23 @@ tells_event g s h (Event.Ask w) inv i j m t = t
 tells_event g s h (Event.Refused w n k) inv i j m t = t
 tells_event g s h (Event.Miss w) inv i j m t = t
 
-tells_run : (g : Opening) (es : List Event) (s : State) (h : List Step) → Good g s → Tells g s h → Tells g (run g s es) (history g s es h)
-tells_run g [] s h i t = t
-tells_run g (e ∷ es) s h i t = go (may g s e) refl (λ u k j x. tells_run g es u k j x)
+tells_run : (g : Opening) → g.faithful ≡ true → (es : List Event) (s : State) (h : List Step) → Good g s → Tells g s h → Tells g (run g s es) (history g s es h)
+tells_run g f [] s h i t = t
+tells_run g f (e ∷ es) s h i t = go (may g s e) refl (λ u k j x. tells_run g f es u k j x)
   where
     go : (b : Bool) → may g s e ≡ b → ((u : State) (k : List Step) → Good g u → Tells g u k → Tells g (run g u es) (history g u es k)) → Tells g (run g (cond b (happens g s e) s) es) (history g (cond b (happens g s e) s) es (cond b (told g s e h) h))
-    go true m ih = let j = good_event g s i e m in ih (happens g s e) (told g s e h) j (tells_event g s h e i.inv i.inv.told j.inv.told (and_parts (are_hot s (pages_of e)) (needs g s e) m).1 t)
+    go true m ih = let j = good_event g s i e m in ih (happens g s e) (told g s e h) j (tells_event g s h e i.inv (i.inv.told f) (j.inv.told f) (and_parts (are_hot s (pages_of e)) (needs g s e) m).1 t)
     go false m ih = ih s h i t
 
-every_tells : (g : Opening) (es : List Event) → Tells g (run g (start g) es) (history g (start g) es [])
-every_tells g es = tells_run g es (start g) [] (good_start g) (record { legal = tt; map = λ k. refl })
+every_tells : (g : Opening) → g.faithful ≡ true → (es : List Event) → Tells g (run g (start g) es) (history g (start g) es [])
+every_tells g f es = tells_run g f es (start g) [] (good_start g) (record { legal = tt; map = λ k. refl })
 
 pub every_legal : EveryLegal
-every_legal g es = (every_tells g es).legal
+every_legal g f es = (every_tells g f es).legal
 
 pub every_map : EveryMap
 every_map g es = record {
-  map = (every_tells g es).map;
+  map = λ f. (every_tells g f es).map;
   ranges = record {
     keys = λ k h. ap (value_of g.format) (entry_beyond g.format (nodes_of s) tree k (let t = g.keys in omega arith));
     values = λ k v e. let l = live (entry g.format.pages (nodes_of s) k) v e in let t = g.values in omega arith;

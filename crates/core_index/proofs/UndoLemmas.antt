@@ -27,10 +27,14 @@ use Rattle.core_index.specs.Undo.{EveryUndo}
 use Rattle.std.proofs.Common.{◌≡◌, ◌<◌, ℕ, suc, Bool, true, false, ◌&&◌, leb, ltb, ◌==◌, List, [], ◌∷◌, Option, Some, None, length, refl, sym, ap, ◌∙◌, subst, inl, inr, true≢false}
 use Rattle.std.proofs.lemmas.Bool.{cases_lt, and_parts, cond-false, eq-eqb, eqb-true}
 
--- the key of each change of an open worker has an entry, and a closed worker has no changes
+-- what is told of contents, where the opening is faithful
+abbrev Told : Opening → State → Type 0
+Told g s = g.faithful ≡ true → IsTold g s
+
+-- the key of each change of an open worker has an entry then, and a closed worker has no changes
 record Kept (g : Opening) (s : State) (a : Worker) : Type 0 where
   is_open : (c : Entry) → Has c a.changes → a.is_open ≡ true
-  has : (c : Entry) → Has c a.changes → entry g.format.pages (nodes_of s) c.key ≡ None → ⊥
+  has : g.faithful ≡ true → (c : Entry) → Has c a.changes → entry g.format.pages (nodes_of s) c.key ≡ None → ⊥
 
 abbrev AllKept : Opening → State → Type 0
 AllKept g s = (w : ℕ) → Kept g s (s.worker w)
@@ -66,15 +70,15 @@ entry_written g s t inv i j x e wx none =
 
 -- the entries of a worker's changes stay
 abbrev Carries : Opening → State → State → Worker → Type 0
-Carries g s t a = (c : Entry) → Has c a.changes → (entry g.format.pages (nodes_of s) c.key ≡ None → ⊥) → entry g.format.pages (nodes_of t) c.key ≡ None → ⊥
+Carries g s t a = g.faithful ≡ true → (c : Entry) → Has c a.changes → (entry g.format.pages (nodes_of s) c.key ≡ None → ⊥) → entry g.format.pages (nodes_of t) c.key ≡ None → ⊥
 
 -- no change is new
 kept_fewer : (g : Opening) (s t : State) (a b : Worker) → Carries g s t a → ((c : Entry) → Has c b.changes → Has c a.changes) → (a.is_open ≡ true → b.is_open ≡ true) → Kept g s a → Kept g t b
-kept_fewer g s t a b m l o k = record { is_open = λ c i. o (k.is_open c (l c i)); has = λ c i. m c (l c i) (k.has c (l c i)) }
+kept_fewer g s t a b m l o k = record { is_open = λ c i. o (k.is_open c (l c i)); has = λ f c i. m f c (l c i) (k.has f c (l c i)) }
 
 -- there are none
 kept_none : (g : Opening) (t : State) (b : Worker) → b.changes ≡ [] → Kept g t b
-kept_none g t b e = record { is_open = λ c i. absurd (subst (Has c) e i); has = λ c i. absurd (subst (Has c) e i) }
+kept_none g t b e = record { is_open = λ c i. absurd (subst (Has c) e i); has = λ _ c i. absurd (subst (Has c) e i) }
 
 -- the workers stay
 all_same : (g : Opening) (s t : State) → ((v : ℕ) → Carries g s t (s.worker v)) → AllKept g s → (v : ℕ) → Kept g t (s.worker v)
@@ -85,21 +89,21 @@ all_but : (g : Opening) (s t : State) → ((v : ℕ) → Carries g s t (s.worker
 all_but g s t m k w b o e v = subst (λ (f : ℕ → Worker). Kept g t (f v)) (sym e) (at_upd (λ _ a. Kept g t a) s.worker w b v o (λ _. all_same g s t m k v))
 
 -- no entry came, and the worker w has the same changes
-kept_same : (g : Opening) (s t : State) → IsTold g s → IsTold g t → t.entries ≡ s.entries → t.worker ≡ s.worker → AllKept g s → AllKept g t
-kept_same g s t i j e q k v = subst (λ (f : ℕ → Worker). Kept g t (f v)) (sym q) (all_same g s t (λ v c _ h. entry_same g s t i j e c.key h) k v)
+kept_same : (g : Opening) (s t : State) → Told g s → Told g t → t.entries ≡ s.entries → t.worker ≡ s.worker → AllKept g s → AllKept g t
+kept_same g s t i j e q k v = subst (λ (f : ℕ → Worker). Kept g t (f v)) (sym q) (all_same g s t (λ v f c _ h. entry_same g s t (i f) (j f) e c.key h) k v)
 
-kept_but : (g : Opening) (s t : State) → IsTold g s → IsTold g t → t.entries ≡ s.entries → (w : ℕ) (b : Worker) → b.changes ≡ (s.worker w).changes → ((s.worker w).is_open ≡ true → b.is_open ≡ true) → t.worker ≡ upd s.worker w b → AllKept g s → AllKept g t
+kept_but : (g : Opening) (s t : State) → Told g s → Told g t → t.entries ≡ s.entries → (w : ℕ) (b : Worker) → b.changes ≡ (s.worker w).changes → ((s.worker w).is_open ≡ true → b.is_open ≡ true) → t.worker ≡ upd s.worker w b → AllKept g s → AllKept g t
 kept_but g s t i j e w b cb ob q k =
     all_but g s t m k w b (kept_fewer g s t (s.worker w) b (m w) (λ c z. subst (Has c) cb z) ob (k w)) q
   where
     m : (v : ℕ) → Carries g s t (s.worker v)
-    m v c _ h = entry_same g s t i j e c.key h
+    m v f c _ h = entry_same g s t (i f) (j f) e c.key h
 
 -- an entry came that purges nothing
-carries_more : (g : Opening) (s t : State) → Inv g s → IsTold g s → IsTold g t → (x : Entry) → t.entries ≡ x ∷ s.entries → is_purge x.kind ≡ false → (v : ℕ) → Carries g s t (s.worker v)
-carries_more g s t inv i j x e np v c _ h = entry_more g s t inv i j x e c.key (λ p. absurd (true≢false (sym p ∙ np))) h
+carries_more : (g : Opening) (s t : State) → Inv g s → Told g s → Told g t → (x : Entry) → t.entries ≡ x ∷ s.entries → is_purge x.kind ≡ false → (v : ℕ) → Carries g s t (s.worker v)
+carries_more g s t inv i j x e np v f c _ h = entry_more g s t inv (i f) (j f) x e c.key (λ p. absurd (true≢false (sym p ∙ np))) h
 
-kept_entry : (g : Opening) (s t : State) → Inv g s → IsTold g s → IsTold g t → (x : Entry) → t.entries ≡ x ∷ s.entries → is_purge x.kind ≡ false → (w : ℕ) (b : Worker) → b.changes ≡ (s.worker w).changes → ((s.worker w).is_open ≡ true → b.is_open ≡ true) → t.worker ≡ upd s.worker w b → AllKept g s → AllKept g t
+kept_entry : (g : Opening) (s t : State) → Inv g s → Told g s → Told g t → (x : Entry) → t.entries ≡ x ∷ s.entries → is_purge x.kind ≡ false → (w : ℕ) (b : Worker) → b.changes ≡ (s.worker w).changes → ((s.worker w).is_open ≡ true → b.is_open ≡ true) → t.worker ≡ upd s.worker w b → AllKept g s → AllKept g t
 kept_entry g s t inv i j x e np w b cb ob q k =
     all_but g s t m k w b (kept_fewer g s t (s.worker w) b (m w) (λ c z. subst (Has c) cb z) ob (k w)) q
   where
@@ -109,7 +113,7 @@ kept_entry g s t inv i j x e np w b cb ob q k =
 -- ## Every event
 
 -- pages move, and no key goes
-kept_moves : (g : Opening) (s : State) (K : Kind) (w : ℕ) (ps : List ℕ) (y : Record) → Inv g s → IsTold g s → IsTold g (moves s K w ps y) → is_purge K ≡ false →
+kept_moves : (g : Opening) (s : State) (K : Kind) (w : ℕ) (ps : List ℕ) (y : Record) → Inv g s → Told g s → Told g (moves s K w ps y) → is_purge K ≡ false →
     (at_pages s w (s.worker w) ps).changes ≡ (s.worker w).changes → (at_pages s w (s.worker w) ps).is_open ≡ (s.worker w).is_open → AllKept g s → AllKept g (moves s K w ps y)
 kept_moves g s K w ps y inv i j np ce oe k = kept_entry g s (moves s K w ps y) inv i j x refl np w (record a { clock = x.number; changes = a.changes }) ce (λ o. oe ∙ o) refl k
   where
@@ -133,7 +137,7 @@ of_each p (j ∷ ks) h k e = go (of_each p ks (and_parts (p j) (redo.all_keys p 
     go ih false q = ih (sym (cond-false (j == k) true (pairs.is_in k ks) q) ∙ e)
 
 -- a key that is purged has a free row, so no worker has it to put back
-kept_purge : (g : Opening) (s : State) (w p : ℕ) (keys : List ℕ) → Inv g s → IsTold g s → IsTold g (happens g s (Event.Purge w p keys)) → needs g s (Event.Purge w p keys) ≡ true → AllKept g s → AllKept g (happens g s (Event.Purge w p keys))
+kept_purge : (g : Opening) (s : State) (w p : ℕ) (keys : List ℕ) → Inv g s → Told g s → Told g (happens g s (Event.Purge w p keys)) → needs g s (Event.Purge w p keys) ≡ true → AllKept g s → AllKept g (happens g s (Event.Purge w p keys))
 kept_purge g s w p keys inv i j m k =
     all_but g s t carries k w (record a { clock = x.number; changes = a.changes }) (kept_fewer g s t (s.worker w) (record a { clock = x.number; changes = a.changes }) (carries w) (λ c z. z) (λ o. o) (k w)) refl
   where
@@ -150,11 +154,11 @@ kept_purge g s w p keys inv i j m k =
     settled q e = of_each (λ n. is_settled g s n) keys (and_parts (may_purge g (nodes_of s) p keys) (redo.all_keys (λ n. is_settled g s n) keys) (and_parts (s.worker w).is_open (may_purge g (nodes_of s) p keys && redo.all_keys (λ n. is_settled g s n) keys) m).1).1 q e
 
     carries : (v : ℕ) → Carries g s t (s.worker v)
-    carries v c has h = entry_more g s t inv i j x refl c.key (λ _ e. free_holder (s.row (g.row_of c.key)).holder v
+    carries v f c has h = entry_more g s t inv (i f) (j f) x refl c.key (λ _ e. free_holder (s.row (g.row_of c.key)).holder v
         (and_parts (is_free (s.row (g.row_of c.key)).holder) (is_empty (s.row (g.row_of c.key)).readers && leb (s.row (g.row_of c.key)).number (flushed_by_all g s)) (settled c.key e)).0
         ((inv.workers v).changes ((k v).is_open c has) c has)) h
 
-kept_change : (g : Opening) (s : State) (w p n v : ℕ) → Inv g s → IsTold g s → IsTold g (happens g s (Event.Change w p n v)) → needs g s (Event.Change w p n v) ≡ true → AllKept g s → AllKept g (happens g s (Event.Change w p n v))
+kept_change : (g : Opening) (s : State) (w p n v : ℕ) → Inv g s → Told g s → Told g (happens g s (Event.Change w p n v)) → needs g s (Event.Change w p n v) ≡ true → AllKept g s → AllKept g (happens g s (Event.Change w p n v))
 kept_change g s w p n v inv i j m k = all_but g s t carries k w b own refl
   where
     t : State
@@ -175,17 +179,17 @@ kept_change g s w p n v inv i j m k = all_but g s t carries k w b own refl
     op : (s.worker w).is_open ≡ true
     op = (and_parts (s.worker w).is_open (is_held_by (s.row (g.row_of n)).holder w && may_put g (s.page p).node p n v) (and_parts (ltb (length (s.worker w).changes) g.changes) ((s.worker w).is_open && (is_held_by (s.row (g.row_of n)).holder w && may_put g (s.page p).node p n v)) m).1).0
 
-    has : (c : Entry) → Has c b.changes → entry g.format.pages (nodes_of t) c.key ≡ None → ⊥
-    has c (inl e) none = entry_written g s t inv i j x refl refl (ap (λ (y : Entry). entry g.format.pages (nodes_of t) y.key) (sym e) ∙ none)
-    has c (inr z) none = carries w c z ((k w).has c z) none
+    has : g.faithful ≡ true → (c : Entry) → Has c b.changes → entry g.format.pages (nodes_of t) c.key ≡ None → ⊥
+    has f c (inl e) none = entry_written g s t inv (i f) (j f) x refl refl (ap (λ (y : Entry). entry g.format.pages (nodes_of t) y.key) (sym e) ∙ none)
+    has f c (inr z) none = carries w f c z ((k w).has f c z) none
 
     own : Kept g t b
     own = record { is_open = λ c z. op; has = has }
 
-kept_put_back : (g : Opening) (s : State) (w p : ℕ) → Inv g s → IsTold g s → IsTold g (happens g s (Event.Put_back w p)) → AllKept g s → AllKept g (happens g s (Event.Put_back w p))
+kept_put_back : (g : Opening) (s : State) (w p : ℕ) → Inv g s → Told g s → Told g (happens g s (Event.Put_back w p)) → AllKept g s → AllKept g (happens g s (Event.Put_back w p))
 kept_put_back g s w p inv i j k = go (s.worker w).changes refl j
   where
-    go : (cs : List Entry) → (s.worker w).changes ≡ cs → IsTold g (put_back g s w p cs) → AllKept g (put_back g s w p cs)
+    go : (cs : List Entry) → (s.worker w).changes ≡ cs → Told g (put_back g s w p cs) → AllKept g (put_back g s w p cs)
     go [] e j = k
     go (c ∷ cs) e j = all_but g s t carries k w b (kept_fewer g s t (s.worker w) b (carries w) (λ d z. subst (Has d) (sym e) (inr z)) (λ o. o) (k w)) refl
       where
@@ -204,25 +208,25 @@ kept_put_back g s w p inv i j k = go (s.worker w).changes refl j
         carries : (u : ℕ) → Carries g s t (s.worker u)
         carries = carries_more g s t inv i j x refl refl
 
-kept_reads : (g : Opening) (s : State) (w p n : ℕ) → Inv g s → IsTold g s → IsTold g (reads g s w p n) → AllKept g s → AllKept g (reads g s w p n)
+kept_reads : (g : Opening) (s : State) (w p n : ℕ) → Inv g s → Told g s → Told g (reads g s w p n) → AllKept g s → AllKept g (reads g s w p n)
 kept_reads g s w p n inv i j k =
     kept_entry g s (reads g s w p n) inv i j (read_entry w a n (word_in g.format (s.page p).node n) (is_held_by (s.row (g.row_of n)).holder w)) refl refl w a refl (λ o. o) refl k
   where
     a : Worker
     a = at_pages s w (s.worker w) (p ∷ [])
 
-kept_end : (g : Opening) (s : State) (w : ℕ) (commit : Bool) (f : ℕ) → Inv g s → IsTold g s → IsTold g (happens g s (Event.End w commit f)) → AllKept g s → AllKept g (happens g s (Event.End w commit f))
+kept_end : (g : Opening) (s : State) (w : ℕ) (commit : Bool) (f : ℕ) → Inv g s → Told g s → Told g (happens g s (Event.End w commit f)) → AllKept g s → AllKept g (happens g s (Event.End w commit f))
 kept_end g s w commit f inv i j k = all_but g s (happens g s (Event.End w commit f)) (carries commit j) k w (finished (s.worker w) (suc (s.worker w).clock)) (kept_none g (happens g s (Event.End w commit f)) (finished (s.worker w) (suc (s.worker w).clock)) refl) refl
   where
-    carries : (b : Bool) → IsTold g (happens g s (Event.End w b f)) → (v : ℕ) → Carries g s (happens g s (Event.End w b f)) (s.worker v)
+    carries : (b : Bool) → Told g (happens g s (Event.End w b f)) → (v : ℕ) → Carries g s (happens g s (Event.End w b f)) (s.worker v)
     carries true j = carries_more g s (happens g s (Event.End w true f)) inv i j (end_entry Kind.Commit w (s.worker w) f) refl refl
     carries false j = carries_more g s (happens g s (Event.End w false f)) inv i j (end_entry Kind.Abort w (s.worker w) f) refl refl
 
-kept_event : (g : Opening) (s : State) (e : Event) → Inv g s → IsTold g s → IsTold g (happens g s e) → needs g s e ≡ true → AllKept g s → AllKept g (happens g s e)
+kept_event : (g : Opening) (s : State) (e : Event) → Inv g s → Told g s → Told g (happens g s e) → needs g s e ≡ true → AllKept g s → AllKept g (happens g s e)
 kept_event g s (Event.Read w p n a) inv i j m k = kept_reads g s w p n inv i j k
 kept_event g s (Event.Next w p n a) inv i j m k = go a j
   where
-    go : (a : MapAnswer) → IsTold g (follows g s w p a) → AllKept g (follows g s w p a)
+    go : (a : MapAnswer) → Told g (follows g s w p a) → AllKept g (follows g s w p a)
     go (MapAnswer.Pair at word) j = kept_reads g s w p at inv i j k
     go (MapAnswer.Gap b) j = kept_but g s (follows g s w p (MapAnswer.Gap b)) i j refl w (at_pages s w (s.worker w) (p ∷ [])) refl (λ o. o) refl k
     go (MapAnswer.Value b) j = k
@@ -235,17 +239,18 @@ kept_event g s (Event.Join w l r q) inv i j m k = kept_moves g s Kind.Join w (l 
 kept_event g s (Event.Drop w c) inv i j m k = kept_moves g s Kind.Drop w (0 ∷ c ∷ []) (record_needs.drop_record (nodes_of s) (gsns_of s) c) inv i j refl refl refl k
 kept_event g s (Event.Purge w p keys) inv i j m k = kept_purge g s w p keys inv i j m k
 kept_event g s (Event.End w commit f) inv i j m k = kept_end g s w commit f inv i j k
-kept_event g s (Event.Begin w f) inv i j m k = all_but g s t (λ v c _ h. entry_same g s t i j refl c.key h) k w (begun (s.worker w) f) (kept_none g t (begun (s.worker w) f) refl) refl
+kept_event g s (Event.Begin w f) inv i j m k = all_but g s t (λ v f c _ h. entry_same g s t (i f) (j f) refl c.key h) k w (begun (s.worker w) f) (kept_none g t (begun (s.worker w) f) refl) refl
   where
     t : State
     t = happens g s (Event.Begin w f)
 kept_event g s (Event.Lock w o mode) inv i j m k = kept_but g s (happens g s (Event.Lock w o mode)) i j refl w (at_row w (s.worker w) (s.row o)) refl (λ o. o) refl k
-kept_event g s (Event.Sync n) inv i j m k = λ v. kept_fewer g s (happens g s (Event.Sync n)) (s.worker v) ((happens g s (Event.Sync n)).worker v) (λ c _ h. entry_same g s (happens g s (Event.Sync n)) i j refl c.key h) (λ c z. z) (λ o. o) (k v)
+kept_event g s (Event.Sync n) inv i j m k = λ v. kept_fewer g s (happens g s (Event.Sync n)) (s.worker v) ((happens g s (Event.Sync n)).worker v) (λ f c _ h. entry_same g s (happens g s (Event.Sync n)) (i f) (j f) refl c.key h) (λ c z. z) (λ o. o) (k v)
 kept_event g s (Event.Enter w e) inv i j m k = kept_same g s (happens g s (Event.Enter w e)) i j refl refl k
 kept_event g s (Event.Leave w) inv i j m k = kept_same g s (happens g s (Event.Leave w)) i j refl refl k
 kept_event g s (Event.Unlock w o) inv i j m k = kept_same g s (happens g s (Event.Unlock w o)) i j refl refl k
 kept_event g s (Event.Flush w n) inv i j m k = kept_same g s (happens g s (Event.Flush w n)) i j refl refl k
 kept_event g s (Event.Post w n) inv i j m k = kept_same g s (happens g s (Event.Post w n)) i j refl refl k
+kept_event g s (Event.Fetch p pairs) inv i j m k = kept_same g s (happens g s (Event.Fetch p pairs)) i j refl refl k
 kept_event g s (Event.Load p f) inv i j m k = kept_same g s (happens g s (Event.Load p f)) i j refl refl k
 kept_event g s (Event.Cool p) inv i j m k = kept_same g s (happens g s (Event.Cool p)) i j refl refl k
 kept_event g s (Event.Rescue p) inv i j m k = kept_same g s (happens g s (Event.Rescue p)) i j refl refl k
@@ -289,13 +294,9 @@ pub every_undo : EveryUndo
 every_undo g es w c i =
     let k = good_kept_run g es (start g) (record { good = good_start g; kept = λ v. kept_none g (start g) ((start g).worker v) refl }) in
     let s = run g (start g) es in
-    let l = has_leaf g s c.key k.good.inv.tree ((k.kept w).has c i) in
     let a = k.good.inv.workers w in
     record {
-      page = l.0;
-      below = l.1;
-      leaf = l.2;
-      has = l.3;
+      there = λ f. let l = has_leaf g s c.key k.good.inv.tree ((k.kept w).has f c i) in record { page = l.0; below = l.1; leaf = l.2; has = l.3 };
       holder = ap (λ (h : Option ℕ). is_held_by h w) (a.changes ((k.kept w).is_open c i) c i) ∙ eq-eqb w w refl;
       word = a.words ((k.kept w).is_open c i) c i;
     }

@@ -9,7 +9,7 @@ use Rattle.core_state.specs.Openings.{Opening}
 use Rattle.core_state.specs.Events.{Event}
 use Rattle.core_state.specs.Needs.{value_in, may}
 use Rattle.core_state.specs.Steps.{step, run}
-use Rattle.std.specs.Prelude.{◌≡◌, ℕ, List, [], ◌∷◌, if◌then◌else◌}
+use Rattle.std.specs.Prelude.{◌≡◌, ℕ, true, List, [], ◌∷◌, if◌then◌else◌}
 
 -- a write is answered the value before it
 abbrev pub write_told : Opening → State → (w p k v : ℕ) → Step
@@ -38,13 +38,13 @@ history g s (e ∷ es) earlier = history g (step g s e) es (if may g s e then to
 abbrev pub map_in : Opening → State → Map
 map_in g s k = value g.format (nodes_of s) k
 
--- The calls are a legal history from the map of the start.
+-- Where the opening is faithful, the calls are a legal history from the map of the start.
 abbrev pub EveryLegal : Type 0
-EveryLegal = (g : Opening) (es : List Event) → IsLegal (map_in g (start g)) (history g (start g) es [])
+EveryLegal = (g : Opening) → g.faithful ≡ true → (es : List Event) → IsLegal (map_in g (start g)) (history g (start g) es [])
 
--- The pages hold the map after these calls.
+-- The pages hold a map, and where the opening is faithful it is the one after these calls.
 pub record Holds (g : Opening) (es : List Event) : Type 0 where
-  pub map : (k : ℕ) → map_in g (run g (start g) es) k ≡ over (map_in g (start g)) (last_write (history g (start g) es [])) k
+  pub map : g.faithful ≡ true → (k : ℕ) → map_in g (run g (start g) es) k ≡ over (map_in g (start g)) (last_write (history g (start g) es [])) k
   pub ranges : IsMap (map_in g (run g (start g) es))
 
 -- so after every list of events

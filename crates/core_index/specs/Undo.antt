@@ -10,12 +10,17 @@ use Rattle.core_state.specs.Needs.{is_held_by}
 use Rattle.core_state.specs.Steps.{run}
 use Rattle.std.specs.Prelude.{◌≡◌, ◌<◌, ◌≤◌, ℕ, true, List}
 
--- The key of worker w's change c has an entry in its leaf, w holds the key's row alone, and a leaf can have the word before.
-pub record IsUndo (g : Opening) (s : State) (w : ℕ) (c : Entry) : Type 0 where
+-- The key of the change has an entry in its leaf.
+pub record HasEntry (g : Opening) (s : State) (c : Entry) : Type 0 where
   pub page : ℕ
   pub below : page < g.format.pages
   pub leaf : holds (s.page page).node c.key ≡ true
   pub has : has_key c.key (s.page page).node ≡ true
+
+-- Worker w holds the row of its change's key alone, and a leaf can have the word before; where the opening is faithful the
+-- key has its entry.
+pub record IsUndo (g : Opening) (s : State) (w : ℕ) (c : Entry) : Type 0 where
+  pub there : g.faithful ≡ true → HasEntry g s c
   pub holder : is_held_by (s.row (g.row_of c.key)).holder w ≡ true
   pub word : c.before ≤ g.format.dead
 

@@ -6,12 +6,13 @@
 ghost use Rattle.core_index.specs.Answers.{EveryLegal, EveryMap, EveryTree};
 ghost use Rattle.core_index.specs.Undo.{EveryUndo};
 
-/// Reads, walks, peeks, changes and put-backs, in the order in which they happened, are answered as one map does.
+/// Where the opening is faithful, reads, walks, peeks, changes and put-backs, in the order in which they happened, are answered as
+/// one map does.
 pub fn every_legal()
     ensures { EveryLegal }
 {}
 
-/// The pages hold the map after the calls: the union of all leaf pairs without tombstones.
+/// The pages hold a map, the union of all leaf pairs without tombstones; where the opening is faithful, the one after the calls.
 pub fn every_map()
     ensures { EveryMap }
 {}
@@ -21,8 +22,8 @@ pub fn every_tree()
     ensures { EveryTree }
 {}
 
-/// What a worker has still to put back is there: the key of each of its changes has an entry in its leaf, and the worker holds
-/// the key's row alone.
+/// Of what a worker has still to put back it holds each key's row alone; where the opening is faithful, the key has an entry in
+/// its leaf.
 pub fn every_undo()
     ensures { EveryUndo }
 {}

@@ -14,7 +14,7 @@ use Rattle.core_state.specs.Lists.{is_empty, most}
 use Rattle.core_state.specs.Needs.{are_hot, holds_row, is_behind, is_held_by, is_leaf_of, is_following, following, holds_answer, is_settled, is_value, is_worker, may, may_drop, may_hold, may_join, may_lift, may_purge, may_put, may_put_back, may_read, may_split, needs, pages_of, value_in}
 use Rattle.core_state.specs.Openings.{Opening}
 use Rattle.core_state.specs.States.{Row, State, Worker, start, flushed_by_all, nodes_of, gsns_of}
-use Rattle.core_state.specs.Steps.{at_pages, at_row, begun, finished, follows, happens, locked, moves, page_entry, put_back, records_in, run, step, synced, touch, unlocked, write_entry}
+use Rattle.core_state.specs.Steps.{at_pages, at_row, begun, finished, follows, happens, with_pairs, locked, moves, page_entry, put_back, records_in, run, step, synced, touch, unlocked, write_entry}
 use Rattle.core_numbers.specs.Numbers.{AreLow, AreNumbered, AreTame, AreUpTo, EveryNext, EveryNumber, EveryStart, IsTame, last_of, left_to, left_to_all}
 use Rattle.core_numbers.proofs.Lefts.{left_low, left_high, left_none, left_some, left_all, less, most_up}
 use Rattle.core_numbers.proofs.Rooms.{by_room, by_end, by_number, Met, met_pages, met_row, by_met, up_more, clocks, ends, up_same, locked_same, by_record}
@@ -79,6 +79,7 @@ sane_event b g s most h (Event.Peek w p k a) t m = h
 sane_event b g s most h (Event.Unlock w i) t m = sane_same b g s h (happens g s (Event.Unlock w i)) refl
 sane_event b g s most h (Event.Flush w n) t m = sane_same b g s h (happens g s (Event.Flush w n)) refl
 sane_event b g s most h (Event.Post w n) t m = sane_same b g s h (happens g s (Event.Post w n)) refl
+sane_event b g s most h (Event.Fetch p pairs) t m = sane_same b g s h (happens g s (Event.Fetch p pairs)) refl
 sane_event b g s most h (Event.Load p f) t m = sane_same b g s h (happens g s (Event.Load p f)) refl
 sane_event b g s most h (Event.Cool p) t m = sane_same b g s h (happens g s (Event.Cool p)) refl
 sane_event b g s most h (Event.Rescue p) t m = sane_same b g s h (happens g s (Event.Rescue p)) refl
@@ -282,6 +283,8 @@ module _ (b : ℕ) (g : Opening) (s : State) (most_is : g.changes ≤ 64) (h : S
   low_event (Event.End w commit f) t m = low_end w commit f (and_parts (s.worker w).is_open (leb (s.worker w).floor f && (leb f (flushed_by_all g s) && (commit || is_empty (s.worker w).changes))) m).0
   low_event (Event.Unlock w i) t m = low_unlock w i
   low_event (Event.Sync k) t m = low_sync k (eqb-true k (most (λ w. (s.worker w).clock) g.workers) (and_parts (k == most (λ w. (s.worker w).clock) g.workers) (not (is_behind s)) m).0)
+  low_event (Event.Fetch p pairs) t m = low_pages (happens g s (Event.Fetch p pairs)) (λ q. at_upd (λ (k : ℕ) (c : Contents). c.gsn ≤ l.top) s.page p (with_pairs pairs (s.saved p)) q (l.up_to.saved p) (λ _. l.up_to.page q))
+      (λ q. at_upd (λ (k : ℕ) (c : Contents). c.gsn ≤ l.top) s.saved p (with_pairs pairs (s.saved p)) q (l.up_to.saved p) (λ _. l.up_to.saved q)) refl refl
   low_event (Event.Load p f) t m = low_pages (happens g s (Event.Load p f)) (λ q. at_upd (λ (k : ℕ) (c : Contents). c.gsn ≤ l.top) s.page p (s.saved p) q (l.up_to.saved p) (λ _. l.up_to.page q)) l.up_to.saved refl refl
   low_event (Event.Save p) t m = low_pages (happens g s (Event.Save p)) l.up_to.page (λ q. at_upd (λ (k : ℕ) (c : Contents). c.gsn ≤ l.top) s.saved p (s.page p) q (l.up_to.page p) (λ _. l.up_to.saved q)) refl refl
   low_event (Event.Enter w e) t m = low_same (happens g s (Event.Enter w e)) refl refl refl refl

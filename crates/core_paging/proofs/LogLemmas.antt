@@ -8,7 +8,7 @@ use Rattle.core_state.specs.States.{State, start, nodes_of, gsns_of}
 use Rattle.core_state.specs.Openings.{Opening}
 use Rattle.core_state.specs.Events.{Event}
 use Rattle.core_state.specs.Needs.{are_hot, pages_of, is_held_by, is_settled, may_put, may_put_back, may_split, may_lift, may_join, may_drop, may_purge, needs}
-use Rattle.core_state.specs.Steps.{at_pages, page_entry, write_entry, moves, put_back, follows, happens, step, run}
+use Rattle.core_state.specs.Steps.{at_pages, page_entry, write_entry, moves, put_back, follows, happens, step, run, with_pairs}
 use Rattle.map_model.proofs.ListLemmas.{at_upd}
 use Rattle.core_commit.proofs.Invariants.{Inv}
 use Rattle.core_commit.proofs.Runs.{Good, step_keeps, good_step, good_start}
@@ -53,6 +53,10 @@ module _ (g : Opening) (most : ℕ) (fit : g.workers ≤ most) where
   logs_event s i k (Event.Join w l r q) m = logs_moves s i k Kind.Join w (l ∷ r ∷ q ∷ []) (record_needs.join_record (nodes_of s) (gsns_of s) l r q) (and_parts (s.worker w).is_open (may_join g (nodes_of s) l r q) m).0
   logs_event s i k (Event.Drop w c) m = logs_moves s i k Kind.Drop w (0 ∷ c ∷ []) (record_needs.drop_record (nodes_of s) (gsns_of s) c) (and_parts (s.worker w).is_open (may_drop (nodes_of s) c) m).0
   logs_event s i k (Event.Purge w p keys) m = logs_moves s i k Kind.Purge w (p ∷ []) (record_needs.purge_record (gsns_of s) p keys) (and_parts (s.worker w).is_open (may_purge g (nodes_of s) p keys && all_keys (λ k. is_settled g s k) keys) m).0
+  logs_event s i k (Event.Fetch p pairs) m = record {
+    page = λ q. at_upd (λ _ v. v.last ≤ most) s.page p (with_pairs pairs (s.saved p)) q (k.saved p) (λ _. k.page q);
+    saved = λ q. at_upd (λ _ v. v.last ≤ most) s.saved p (with_pairs pairs (s.saved p)) q (k.saved p) (λ _. k.saved q);
+  }
   logs_event s i k (Event.Load p f) m = record { page = λ q. at_upd (λ _ v. v.last ≤ most) s.page p (s.saved p) q (k.saved p) (λ _. k.page q); saved = k.saved }
   logs_event s i k (Event.Save p) m = record { page = k.page; saved = λ q. at_upd (λ _ v. v.last ≤ most) s.saved p (s.page p) q (k.page p) (λ _. k.saved q) }
   logs_event s i k _ m = record { page = k.page; saved = k.saved }

@@ -2,6 +2,7 @@
 use Rattle.map_model.specs.Lists.{upd}
 use Rattle.map_model.specs.Maps.{MapAnswer}
 use Rattle.image_model.specs.Entries.{Kind, Entry, Contents, touches, written}
+use Rattle.page_model.specs.Pairs.{Pair}
 use Rattle.page_model.specs.Nodes.{Node}
 use Rattle.page_model.specs.Tree.{IsTree}
 use Rattle.page_model.specs.Records.{Record}
@@ -18,6 +19,7 @@ use Rattle.core_state.specs.Steps.{at_pages, page_entry, write_entry, moves, put
 use Rattle.map_model.proofs.ListLemmas.{upd_other}
 use Rattle.core_commit.proofs.Events.{names_to}
 use Rattle.core_commit.proofs.Copies.{at_place as at_upd, loaded, above_pages}
+use Rattle.core_commit.proofs.Fetched.{fetch_is, fetch_names}
 use Rattle.core_commit.proofs.Runs.{Good}
 use Rattle.core_paging.specs.Paging.{one_if}
 use Rattle.core_paging.proofs.Places.{below, times_end, times_gone, times_kept, hot_not_cold, hot_not_cooling, cooling_not_cold, cold_not_cooling, left_hot, left_cooling, left_frame, own_frame}
@@ -129,6 +131,16 @@ pub cooling_not_hot : (x : Place) → is_cooling x ≡ true → is_hot x ≡ fal
 cooling_not_hot (Hot f) h = absurd (true≢false (sym h))
 cooling_not_hot (Cooling f e v) h = refl
 cooling_not_hot Cold h = refl
+
+-- a leaf names no page, whatever it is read with
+placed_fetch : (g : Opening) (s : State) → Good g s → PlacedIn g s → (p : ℕ) (pairs : List Pair) → needs g s (Event.Fetch p pairs) ≡ true → PlacedIn g (happens g s (Event.Fetch p pairs))
+placed_fetch g s good i p pairs m = record {
+  one = i.one;
+  within = i.within;
+  root = i.root;
+  parent = λ q c l k h. i.parent q c l (sym (fetch_names g s good.copied p pairs (fetch_is g s p pairs m) q c) ∙ k) h;
+  queue = i.queue;
+}
 
 placed_load : (g : Opening) (s : State) → Good g s → PlacedIn g s → (p f : ℕ) → needs g s (Event.Load p f) ≡ true → PlacedIn g (happens g s (Event.Load p f))
 placed_load g s good i p f m = record {
@@ -267,6 +279,7 @@ placed_event g s good i (Event.Lift w c) h m = placed_moves g s good i Kind.Lift
 placed_event g s good i (Event.Join w l r q) h m = placed_moves g s good i Kind.Join w (l ∷ r ∷ q ∷ []) (record_needs.join_record (nodes_of s) (gsns_of s) l r q) h
 placed_event g s good i (Event.Drop w c) h m = placed_moves g s good i Kind.Drop w (0 ∷ c ∷ []) (record_needs.drop_record (nodes_of s) (gsns_of s) c) h
 placed_event g s good i (Event.Purge w p keys) h m = placed_moves g s good i Kind.Purge w (p ∷ []) (record_needs.purge_record (gsns_of s) p keys) h
+placed_event g s good i (Event.Fetch p pairs) h m = placed_fetch g s good i p pairs m
 placed_event g s good i (Event.Load p f) h m = placed_load g s good i p f m
 placed_event g s good i (Event.Cool p) h m = placed_cool g s good.inv.tree i p (and_parts (is_hot (s.place p)) true h).0 m
 placed_event g s good i (Event.Rescue p) h m = placed_rescue g s i p m

@@ -9,7 +9,7 @@ use Rattle.core_state.specs.States.{State, start, flushed_by_all, nodes_of, gsns
 use Rattle.core_state.specs.Openings.{Opening}
 use Rattle.core_state.specs.Events.{Event}
 use Rattle.core_state.specs.Needs.{is_held_by, is_settled, may_put, may_put_back, may_split, may_lift, may_join, may_drop, may_purge, is_behind, is_ripe_up_to, is_saved_up_to, needs}
-use Rattle.core_state.specs.Steps.{at_pages, page_entry, write_entry, moves, put_back, follows, happens, step, run, HasBeen}
+use Rattle.core_state.specs.Steps.{at_pages, page_entry, write_entry, moves, put_back, follows, happens, step, run, HasBeen, with_pairs}
 use Rattle.page_model.specs.Redo.{all_keys}
 use Rattle.core_commit.proofs.Lists.{le_least, least_le}
 use Rattle.map_model.proofs.ListLemmas.{upd_same, upd_other}
@@ -109,6 +109,10 @@ saves_event g s i k (Event.Purge w p keys) m = saves_moves g s i k Kind.Purge w 
 saves_event g s i k (Event.End w commit f) m = record { numbers = k.numbers; held = λ q r h t l. elim h [ inl e ↦ absurd (true≢false (sym t ∙ ap (touches q) e)) | inr h ↦ k.held q r h t l ] }
 saves_event g s i k (Event.Flush w n) m = record { numbers = λ p. let a = k.numbers p in let b = flush_rises g s w n m in omega arith; held = k.held }
 saves_event g s i k (Event.Sync n) m = record { numbers = λ p. let a = k.numbers p in let b = sync_rises g s i.inv n m in omega arith; held = k.held }
+saves_event g s i k (Event.Fetch p pairs) m = record {
+  numbers = λ c. at_place (λ _ v. v.gsn ≤ flushed_by_all g s) s.saved p (with_pairs pairs (s.saved p)) c (λ _. k.numbers p) (λ _. k.numbers c);
+  held = λ c r h t l. at_place (λ j v. touches j r ≡ true → r.number ≤ v.gsn) s.saved p (with_pairs pairs (s.saved p)) c (λ e t. k.held p r h (ap (λ (j : ℕ). touches j r) (sym e) ∙ t) l) (λ _ t. k.held c r h t l) t;
+}
 saves_event g s i k (Event.Save p) m = record {
   numbers = λ c. at_place (λ j v. v.gsn ≤ flushed_by_all g s) s.saved p (s.page p) c (λ _. leb-true (s.page p).gsn (flushed_by_all g s) (and_parts (not (is_cold (s.place p))) (leb (s.page p).gsn (flushed_by_all g s)) m).1) (λ _. k.numbers c);
   held = λ c r h t l. at_place (λ j v. touches j r ≡ true → r.number ≤ v.gsn) s.saved p (s.page p) c (λ e t. had g s i.inv p r h (ap (λ (j : ℕ). touches j r) (sym e) ∙ t)) (λ _ t. k.held c r h t l) t;
@@ -124,35 +128,47 @@ saves_start g = record {
 
 -- ## What is saved has been there
 
-saved_event : (g : Opening) (s : State) (e : Event) (p : ℕ) → ((happens g s e).saved p ≡ s.saved p) ⊎ ((happens g s e).saved p ≡ s.page p)
+-- what is saved of the page is as it was, what the page was, or what it is
+abbrev IsKept : State → State → ℕ → Type 0
+IsKept s t p = (t.saved p ≡ s.saved p) ⊎ (t.saved p ≡ s.page p) ⊎ (t.saved p ≡ t.page p)
+
+saved_event : (g : Opening) (s : State) (e : Event) (p : ℕ) → IsKept s (happens g s e) p
 saved_event g s (Event.Save q) p = elim (cases_eq p q) [
-  | inl e ↦ inr (upd_same s.saved q (s.page q) p e ∙ ap s.page (sym e))
+  | inl e ↦ inr (inl (upd_same s.saved q (s.page q) p e ∙ ap s.page (sym e)))
   | inr n ↦ inl (upd_other s.saved q (s.page q) p n)
+]
+saved_event g s (Event.Fetch q pairs) p = elim (cases_eq p q) [
+  | inl e ↦ inr (inr (upd_same s.saved q (with_pairs pairs (s.saved q)) p e ∙ sym (upd_same s.page q (with_pairs pairs (s.saved q)) p e)))
+  | inr n ↦ inl (upd_other s.saved q (with_pairs pairs (s.saved q)) p n)
 ]
 saved_event g s (Event.Next w q j a) p = go a
   where
-    go : (a : MapAnswer) → ((follows g s w q a).saved p ≡ s.saved p) ⊎ ((follows g s w q a).saved p ≡ s.page p)
+    go : (a : MapAnswer) → IsKept s (follows g s w q a) p
     go (MapAnswer.Pair at word) = inl refl
     go (MapAnswer.Gap b) = inl refl
     go (MapAnswer.Value v) = inl refl
     go (MapAnswer.Was v) = inl refl
 saved_event g s (Event.Put_back w q) p = go (s.worker w).changes
   where
-    go : (cs : List Entry) → ((put_back g s w q cs).saved p ≡ s.saved p) ⊎ ((put_back g s w q cs).saved p ≡ s.page p)
+    go : (cs : List Entry) → IsKept s (put_back g s w q cs) p
     go [] = inl refl
     go (c ∷ cs) = inl refl
 saved_event g s _ p = inl refl
 
-saved_step : (g : Opening) (s : State) (e : Event) (p : ℕ) → ((step g s e).saved p ≡ s.saved p) ⊎ ((step g s e).saved p ≡ s.page p)
-saved_step g s e p = step_keeps (λ t. (t.saved p ≡ s.saved p) ⊎ (t.saved p ≡ s.page p)) g s e (inl refl) (λ _. saved_event g s e p)
+saved_step : (g : Opening) (s : State) (e : Event) (p : ℕ) → IsKept s (step g s e) p
+saved_step g s e p = step_keeps (λ t. IsKept s t p) g s e (inl refl) (λ _. saved_event g s e p)
+
+pub now_been : (g : Opening) (es : List Event) (s : State) (p : ℕ) (v : Contents) → v ≡ s.page p → HasBeen g s es p v
+now_been g [] s p v e = e
+now_been g (x ∷ es) s p v e = inl e
 
 pub saved_run : (g : Opening) (es : List Event) (s : State) (p : ℕ) → ((run g s es).saved p ≡ s.saved p) ⊎ HasBeen g s es p ((run g s es).saved p)
 saved_run g [] s p = inl refl
 saved_run g (e ∷ es) s p = elim (saved_run g es (step g s e) p) [
   | inr h ↦ inr (inr h)
-  | inl h ↦ elim (saved_step g s e p) [ inl q ↦ inl (h ∙ q) | inr q ↦ inr (inl (h ∙ q)) ]
+  | inl h ↦ elim (saved_step g s e p) [
+    | inl q ↦ inl (h ∙ q)
+    | inr (inl q) ↦ inr (inl (h ∙ q))
+    | inr (inr q) ↦ inr (inr (now_been g es (step g s e) p ((run g (step g s e) es).saved p) (h ∙ q)))
+  ]
 ]
-
-pub now_been : (g : Opening) (es : List Event) (s : State) (p : ℕ) (v : Contents) → v ≡ s.page p → HasBeen g s es p v
-now_been g [] s p v e = e
-now_been g (x ∷ es) s p v e = inl e

@@ -7,7 +7,7 @@ use Rattle.page_model.specs.Needs as page_needs
 use Rattle.core_state.specs.States.{Place, State, Worker, is_hot, is_cooling, frame_of, left_by, nodes_of, gsns_of}
 use Rattle.core_state.specs.Openings.{Opening}
 use Rattle.core_state.specs.Events.{Event}
-use Rattle.core_state.specs.Steps.{at_pages, at_row, begun, finished, write_entry, moves, put_back, looks, reads, follows, happens}
+use Rattle.core_state.specs.Steps.{at_pages, at_row, begun, finished, write_entry, moves, put_back, looks, reads, follows, happens, with_pairs}
 use Rattle.core_state.specs.Local.{publishes_row, publishes_page, is_of, is_sync, EveryLocal}
 use Rattle.std.proofs.Common.{◌≡◌, ◌==◌, ◌||◌, ℕ, suc, Bool, true, false, List, [], ◌∷◌, Some, None, refl, sym, ap, true≢false}
 use Rattle.std.proofs.lemmas.Bool.{cond-false, ne_eqb, eqb-false}
@@ -55,11 +55,13 @@ module _ (g : Opening) (s : State) where
   pages (Event.Join w l r p) q h = rw h refl
   pages (Event.Drop w c) q h = rw h refl
   pages (Event.Purge w p keys) q h = rw h refl
+  pages (Event.Fetch p pairs) q h = kept s.page p (with_pairs pairs (s.saved p)) q (one_page p q h)
   pages (Event.Load p f) q h = kept s.page p (s.saved p) q (one_page p q h)
   pages (Event.Next w p k a) q h = next_keeps (λ (x : State). x.page q) w p a (λ i. refl) refl
   pages _ q h = refl
 
   saved : (e : Event) (q : ℕ) → publishes_page e q ≡ false → (happens g s e).saved q ≡ s.saved q
+  saved (Event.Fetch p pairs) q h = kept s.saved p (with_pairs pairs (s.saved p)) q (one_page p q h)
   saved (Event.Save p) q h = kept s.saved p (s.page p) q (one_page p q h)
   saved (Event.Put_back w p) q h = back_keeps (λ (x : State). x.saved q) w p (λ c cs. refl)
   saved (Event.Next w p k a) q h = next_keeps (λ (x : State). x.saved q) w p a (λ i. refl) refl

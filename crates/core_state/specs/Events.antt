@@ -1,5 +1,6 @@
 -- What can happen: each event by its worker, if it has one, and what it names.
 use Rattle.map_model.specs.Maps.{MapAnswer}
+use Rattle.page_model.specs.Pairs.{Pair}
 use Rattle.std.specs.Prelude.{ℕ, Bool, List, Option}
 
 -- how a row is held: with others that read, or by one alone
@@ -8,6 +9,7 @@ pub data Mode : Type 0 where
 
 -- w a worker, p, l, r, q, c pages (left, right, their parent, the root's child), i a row or the place of a pair,
 -- k a key, v a word, n a number, f the least flushed number as the worker found it (of Load: a frame), e an epoch.
+-- Fetch: the cold leaf p was read, and had these pairs.
 pub data Event : Type 0 where
   Enter : (w e : ℕ) → Event
   Leave : (w : ℕ) → Event
@@ -28,6 +30,7 @@ pub data Event : Type 0 where
   Flush : (w n : ℕ) → Event
   Sync : (n : ℕ) → Event
   Post : (w n : ℕ) → Event
+  Fetch : (p : ℕ) → (pairs : List Pair) → Event
   Load : (p f : ℕ) → Event
   Cool : (p : ℕ) → Event
   Rescue : (p : ℕ) → Event

@@ -12,7 +12,7 @@ publishes_row (Event.Lock w i mode) j = i == j
 publishes_row (Event.Unlock w i) j = i == j
 publishes_row _ j = false
 
--- the pages that it changes, brings into frames, takes out of them or saves
+-- the pages that it changes, reads, brings into frames, takes out of them or saves
 abbrev pub published : Event → List ℕ
 published (Event.Change w p k v) = p ∷ []
 published (Event.Put_back w p) = p ∷ []
@@ -21,6 +21,7 @@ published (Event.Lift w c) = 0 ∷ c ∷ []
 published (Event.Join w l r q) = l ∷ r ∷ q ∷ []
 published (Event.Drop w c) = 0 ∷ c ∷ []
 published (Event.Purge w p keys) = p ∷ []
+published (Event.Fetch p pairs) = p ∷ []
 published (Event.Load p f) = p ∷ []
 published (Event.Cool p) = p ∷ []
 published (Event.Rescue p) = p ∷ []

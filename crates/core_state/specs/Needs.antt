@@ -3,10 +3,10 @@ use Rattle.map_model.specs.Lists.{any, all}
 use Rattle.map_model.specs.Maps.{MapAnswer}
 use Rattle.image_model.specs.Entries.{Entry, is_record, is_end, same_txn}
 use Rattle.page_model.specs.Pairs.{Pair, find}
-use Rattle.page_model.specs.Nodes.{Format, Node, holds}
+use Rattle.page_model.specs.Nodes.{Format, Node, holds, is_leaf}
 use Rattle.page_model.specs.Tree.{value_of}
 use Rattle.page_model.specs.Redo.{has_key, all_keys}
-use Rattle.page_model.specs.Check.{is_nil, names_page}
+use Rattle.page_model.specs.Check.{is_nil, is_rising, names_page}
 use Rattle.core_state.specs.Lists.{is_empty, most, all_below, count_below}
 use Rattle.core_state.specs.States.{Row, State, flushed_by_all, nodes_of, is_hot, is_cooling, is_cold, in_frame, waits_for}
 use Rattle.core_state.specs.Openings.{Opening}
@@ -130,6 +130,20 @@ holds_answer g s w _ = true
 abbrev pub has_hot_parent : Opening → State → ℕ → Bool
 has_hot_parent g s p = all_below g.format.pages (λ q. not (names_page (s.page q).node p) || is_hot (s.place q))
 
+-- the same pairs
+abbrev pub are_same : List Pair → List Pair → Bool
+are_same [] [] = true
+are_same (x ∷ xs) (y ∷ ys) = (x.key == y.key) && ((x.word == y.word) && are_same xs ys)
+are_same _ _ = false
+
+-- no word is above a tombstone's
+abbrev pub are_words : Format → List Pair → Bool
+are_words f pairs = all (λ x. leb x.word f.dead) pairs
+
+-- the leaf may be read with these pairs: they would be well formed there, and where the opening is faithful they are its own
+abbrev pub may_have : Opening → Node → List Pair → Bool
+may_have g n pairs = is_leaf n && (leb (length pairs) g.format.room && (is_rising n.low pairs n.high && (are_words g.format pairs && (not g.faithful || are_same pairs n.pairs))))
+
 -- some page that p names is hot
 abbrev pub has_hot_child : Opening → State → ℕ → Bool
 has_hot_child g s p = not (all_below g.format.pages (λ c. not (names_page (s.page p).node c && is_hot (s.place c))))
@@ -211,6 +225,7 @@ needs g s (Event.Unlock w i) = not (s.worker w).is_open && holds_row (s.row i) w
 needs g s (Event.Flush w n) = leb (s.flushed w) n && any (λ r. is_record r.kind && ((r.log == w) && (r.number == n))) s.entries
 needs g s (Event.Sync n) = (n == most (λ w. (s.worker w).clock) g.workers) && not (is_behind s)
 needs g s (Event.Post w n) = leb n (s.worker w).debt
+needs g s (Event.Fetch p pairs) = ltb p g.format.pages && (is_cold (s.place p) && may_have g (s.saved p).node pairs)
 needs g s (Event.Load p f) = ltb p g.format.pages && (ltb f g.frames && (is_cold (s.place p) && (has_hot_parent g s p && is_empty_frame g s f)))
 needs g s (Event.Cool p) = not (p == 0) && not (has_hot_child g s p)
 needs g s (Event.Rescue p) = is_cooling (s.place p) && has_hot_parent g s p

@@ -3,14 +3,16 @@ use Rattle.map_model.specs.Maps.{key_end, value_end}
 use Rattle.image_model.specs.Entries.{Contents}
 use Rattle.page_model.specs.Nodes.{Format, Node}
 use Rattle.page_model.specs.Tree.{IsTree, lookup}
-use Rattle.std.specs.Prelude.{◌<◌, ◌≤◌, ℕ}
+use Rattle.std.specs.Prelude.{◌<◌, ◌≤◌, ℕ, Bool}
 use Rattle.map_model.specs.Maps.{Map}
 use Rattle.page_model.specs.Tree.{value}
 
 -- What opening gives. Workers and their logs are 1 to `workers`; log 0 is none. Keys share lock rows. Clocks, floors
 -- and flushed numbers begin at the base number; each page has a number up to it, and the contents form a tree.
 -- A transaction makes at most `changes` changes; two pages are joined that have at most `joined` pairs together.
+-- `faithful`: a page that is read again has the pairs with which it was saved. Of a device that tells nothing it is not known.
 pub record Opening : Type 0 where
+  pub faithful : Bool
   pub workers : ℕ
   pub frames : ℕ
   pub row_of : ℕ → ℕ

@@ -3,6 +3,7 @@ use Rattle.page_model.specs.Needs as page_needs
 use Rattle.map_model.specs.Lists.{upd, keep}
 use Rattle.map_model.specs.Maps.{MapAnswer}
 use Rattle.image_model.specs.Entries.{Kind, Entry, is_write, is_call, page_kind, touches, word_in, Contents, written}
+use Rattle.page_model.specs.Pairs.{Pair}
 use Rattle.page_model.specs.Records.{Ref, Record, no_record, write_record}
 use Rattle.rfa_model.specs.Stamps.{owed, debt_at_begin, need_of}
 use Rattle.core_state.specs.Lists.{without, at_end}
@@ -121,6 +122,10 @@ follows g s w p _ = s
 abbrev pub ends : State → ℕ → Entry → State
 ends s w r = record s { entries = r ∷ s.entries; worker = upd s.worker w (finished (s.worker w) r.number) }
 
+-- the contents with these pairs
+abbrev pub with_pairs : List Pair → Contents → Contents
+with_pairs pairs c = record c { node = record c.node { pairs = pairs } }
+
 -- all clocks and flushed numbers are n
 abbrev pub synced : State → ℕ → State
 synced s n = record s {
@@ -160,6 +165,7 @@ happens g s (Event.Unlock w i) = record s { row = upd s.row i (unlocked (s.row i
 happens g s (Event.Flush w n) = record s { flushed = upd s.flushed w n }
 happens g s (Event.Sync n) = synced s n
 happens g s (Event.Post w n) = record s { posted = max s.posted n }
+happens g s (Event.Fetch p pairs) = record s { page = upd s.page p (with_pairs pairs (s.saved p)); saved = upd s.saved p (with_pairs pairs (s.saved p)) }
 happens g s (Event.Load p f) = record s { place = upd s.place p (Place.Hot f); page = upd s.page p (s.saved p) }
 happens g s (Event.Cool p) = record s { place = upd s.place p (Place.Cooling (frame_of (s.place p)) s.epoch (λ w. is_inside (s.inside w))); queue = at_end s.queue p }
 happens g s (Event.Rescue p) = record s { place = upd s.place p (Place.Hot (frame_of (s.place p))); queue = without p s.queue }

@@ -106,7 +106,7 @@ module _ (versions : EveryVersion) (cuts : logs.EveryCut) (s0 : Crash) (s : Stor
   cut_next = record {
     next = is.next;
     valid = is.valid;
-    is = record { format = stands.is.format ∙ ap format_of (sym is.next.pages); logs = is.next.logs ∙ stands.is.logs; floor = is.floor };
+    is = record { faithful = stands.is.faithful; format = stands.is.format ∙ ap format_of (sym is.next.pages); logs = is.next.logs ∙ stands.is.logs; floor = is.floor };
     pages = same_pages g (then es e) x.master m (s0.image 1) (s0.writes 1) x.firm x.late (s.area 1) is.next.pages is.next.generation
         (pages_then g es (then es e) x.master.pages x.master.generation (s0.image 1) (s0.writes 1) x.firm x.late (s.area 1) stay stands.pages);
     saved = λ p lt. stands.saved p (let q = is.next.pages in omega arith) ∙ ap (λ (z : State). z.saved p) (sym happened);

@@ -75,5 +75,5 @@ every_survival held serial g least more n area h = record {
   master = h.master;
   no_earlier = h.no_earlier;
   lives = held g (least ++ h.first) h.master area h.holds;
-  serial = serial g (least ++ h.first);
+  serial = serial g h.holds.is.faithful (least ++ h.first);
 }

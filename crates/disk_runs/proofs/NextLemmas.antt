@@ -230,7 +230,7 @@ module _ (versions : EveryVersion) (s0 : Crash) (s : Story) (g : Opening) (es : 
   sync_next = record {
     next = is.next;
     valid = is.valid;
-    is = record { format = stands.is.format ∙ ap format_of (sym is.next.pages); logs = is.next.logs ∙ stands.is.logs; floor = is.floor ∙ ap (λ (t : State). t.floor) (sym happened) };
+    is = record { faithful = stands.is.faithful; format = stands.is.format ∙ ap format_of (sym is.next.pages); logs = is.next.logs ∙ stands.is.logs; floor = is.floor ∙ ap (λ (t : State). t.floor) (sym happened) };
     pages = same_pages g (then es e) x.master m (s0.image 1) (s0.writes 1) x.firm x.late (s.area 1) is.next.pages is.next.generation (still_pages versions g es e s0 x (s.area 1) refl stands.pages);
     saved = λ p lt. stands.saved p (let q = is.next.pages in omega arith) ∙ ap (λ (t : State). t.saved p) (sym happened);
     logs = log_next;

@@ -46,7 +46,7 @@ module _ (versions : EveryVersion) (s0 : Crash) (s : Story) (g : Opening) (n : M
   pub stands_opened : Stands g [] s0 (opened n log firm s) s
   stands_opened = record {
     tells = opens.tells;
-    is = record { format = opens.format; logs = opens.logs; floor = opens.floor };
+    is = record { faithful = opens.faithful; format = opens.format; logs = opens.logs; floor = opens.floor };
     master = opens.master;
     pages = record {
       since = opens.pages.since;

@@ -105,7 +105,7 @@ pub same_stands : (s t : State) (n : Master) (first : List ℕ) (older : List Wr
 same_stands s t n first older w x log area same st = record { is = st.is; ranges = st.ranges; accounts = same_accounts w s t x log same st.accounts; began = st.began; kept = st.kept }
 
 pub still_master : (g : Opening) (s t : State) (n : Master) → t.floor ≡ s.floor → IsMasterOf g s n → IsMasterOf g t n
-still_master g s t n same is = record { format = is.format; logs = is.logs; floor = is.floor ∙ sym same }
+still_master g s t n same is = record { faithful = is.faithful; format = is.format; logs = is.logs; floor = is.floor ∙ sym same }
 
 pub still_pages : EveryVersion → (g : Opening) (es : List Event) (e : Event) (s0 : Crash) (x : Known) (area : Area) → is_cut e ≡ false
     → PagesStand g es x.master.pages x.master.generation (s0.image 1) (s0.writes 1) x.firm x.late area

@@ -1,5 +1,5 @@
 -- How a run begins on the disk that recovery leaves.
-use Rattle.std.specs.Prelude.{◌≡◌, ◌⊎◌, ◌<◌, ◌≤◌, ◌-◌, ◌++◌, ℕ, suc, List, [], length, Some, None}
+use Rattle.std.specs.Prelude.{◌≡◌, ◌⊎◌, ◌<◌, ◌≤◌, ◌-◌, ◌++◌, ℕ, suc, true, List, [], length, Some, None}
 use Rattle.map_model.specs.Lists.{Has}
 use Rattle.page_model.specs.Page.{Page}
 use Rattle.core_state.specs.Openings.{Opening, start_page}
@@ -57,6 +57,7 @@ pub record OpensLog (n : Master) (w : ℕ) (log : Log) (first : List ℕ) (older
 -- The disk was opened: it was s0 as a read gave it before, and it tells s now.
 pub record Opens (g : Opening) (s0 : Crash) (n : Master) (log : ℕ → Log) (firm : ℕ → Firm) (s : Story) : Type 0 where
   pub tells : TellsAll g.workers s
+  pub faithful : g.faithful ≡ true
   pub format : g.format ≡ format_of n.pages
   pub logs : length n.heads ≡ g.workers
   pub floor : n.floor ≡ g.base

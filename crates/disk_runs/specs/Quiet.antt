@@ -29,4 +29,4 @@ pub record QuietLaws (g : Opening) (es : List Event) (e : Event) : Type 0 where
 
 -- in each run, of each such event
 abbrev pub EveryQuiet : Type 0
-EveryQuiet = (g : Opening) (es : List Event) (e : Event) → is_quiet e ≡ true → QuietLaws g es e
+EveryQuiet = (g : Opening) → g.faithful ≡ true → (es : List Event) (e : Event) → is_quiet e ≡ true → QuietLaws g es e

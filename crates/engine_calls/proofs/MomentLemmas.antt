@@ -36,4 +36,4 @@ still keeps prefixes seals g xs more s0 k s law stands counted =
 
 -- an event more that the disk does not see
 pub quiet_more : EveryVersion → (g : Opening) (es : List Event) (e : Event) (s0 : Crash) (k : Known) (s : Story) → is_quiet e ≡ true → Stands g es s0 k s → Stands g (then es e) s0 k s
-quiet_more versions g es e s0 k s q st = let x = every_quiet g es e q in every_still versions s s0 g es k e st x.no_cut x.same
+quiet_more versions g es e s0 k s q st = let x = every_quiet g st.is.faithful es e q in every_still versions s s0 g es k e st x.no_cut x.same

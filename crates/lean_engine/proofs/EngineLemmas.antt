@@ -178,4 +178,4 @@ module _ (law : EveryOpened) (fellow : EveryFellow) (tracks : EveryStart) (r : R
       where
         laws : OpeningLaws size.sessions g r (record { log = logs; master = r.master }) s0 s1
         laws = every_opening size.sessions s0 s1 undone own (every_start s1 stands s0) r logs g has (λ w low high. let o = on.workers in made_each w low (omega arith))
-            (subst (λ (xs : List Page). IsOn xs r.master.floor (length r.master.heads) g) same (record { workers = many; format = on.format; base_is = on.base_is; page = on.page }))
+            (subst (λ (xs : List Page). IsOn xs r.master.floor (length r.master.heads) g) same (record { faithful = start_is.opens.faithful; workers = many; format = on.format; base_is = on.base_is; page = on.page }))

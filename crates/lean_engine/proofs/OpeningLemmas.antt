@@ -78,6 +78,7 @@ module _ (undone : EveryUndone) (every_own : EveryOwn) (r : Recovered) (g : Open
     from : (tells : telling.TellsAll most s0) → IsFrom most g s0 r.master.generation r.winners r.undone
     from tells =
         let a = has.answer tells in let is : IsRecovered a.0 (areas_of s0) r = a.2 in record {
+          faithful = on.faithful;
           m = a.0;
           openable = a.1;
           sound = is.sound;
@@ -110,6 +111,7 @@ module _ (undone : EveryUndone) (every_own : EveryOwn) (r : Recovered) (g : Open
       start : IsStart m r g log s0 s1
       start = record {
         tells = λ a l. told a (first_tells a l);
+        faithful = on.faithful;
         clean = clean;
         recovered = given.1;
         whole = has.whole;

@@ -37,8 +37,9 @@ use Rattle.row_opening.specs.Opened.{contents_of, page_at}
 
 -- ## What is done
 
--- the opening is one of so many workers on these pages, with this base number
+-- the opening is a faithful one of so many workers on these pages, with this base number
 pub record IsOn (pages : List Page) (base logs : ℕ) (g : Opening) : Type 0 where
+  pub faithful : g.faithful ≡ true
   pub workers : g.workers ≡ logs
   pub format : g.format ≡ format_of (length pages)
   pub base_is : g.base ≡ base
@@ -62,8 +63,9 @@ pub record IsMadeBy (n : Master) (w : ℕ) (log : Log) : Type 0 where
 
 -- ## What it gives
 
--- The opening is the start that the disk gives, with the map for which it stands; and the counts are those of its image.
+-- The opening is the start that the disk gives, faithful, with the map for which it stands; and the counts are those of its image.
 pub record IsFrom (most : ℕ) (g : Opening) (s : Story) (generation won lost : ℕ) : Type 0 where
+  pub faithful : g.faithful ≡ true
   pub m : Master
   pub openable : IsOpenable most m
   pub sound : IsSoundDisk m (areas_of s)

@@ -1,5 +1,5 @@
 -- How a run of a script ended.
-use Rattle.std.specs.Prelude.{◌≡◌, ◌++◌, ◌+◌, ◌<◌, ◌≤◌, ◌^◌, ℕ, suc, false, List, [], ◌∷◌, length, take, IsTrue, Option, None, Some}
+use Rattle.std.specs.Prelude.{◌≡◌, ◌++◌, ◌+◌, ◌<◌, ◌≤◌, ◌^◌, ℕ, suc, true, false, List, [], ◌∷◌, length, take, IsTrue, Option, None, Some}
 use Rattle.image_model.specs.Images.{won_by, lost_by, map_of}
 use Rattle.lean_disk.specs.Faults.{Rose}
 use Rattle.lean_disk.specs.Story.{Story, areas_of}
@@ -82,8 +82,10 @@ pub record Counts : Type 0 where
 abbrev pub first_line : Counts → List ℕ
 first_line n = opened_line n.generation n.winners n.undone
 
--- The opening is the start that the disk on entry, of at most so many logs, gives, with the map for which it stands, and the counts are those of its image.
+-- The opening is the start that the disk on entry, of at most so many logs, gives, faithful, with the map for which it stands, and the counts are those of
+-- its image.
 pub record IsFrom (most : ℕ) (g : Opening) (s : Story) (n : Counts) : Type 0 where
+  pub faithful : g.faithful ≡ true
   pub m : Master
   pub openable : IsOpenable most m
   pub sound : IsSoundDisk m (areas_of s)

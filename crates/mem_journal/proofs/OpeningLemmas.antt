@@ -43,6 +43,7 @@ tree keys room some wide = record {
 pub every_opening : EveryOpening
 every_opening sessions rows base keys room some_worker some wide end = record {
   opening = record {
+    faithful = true;
     workers = sessions;
     frames = 1;
     row_of = λ k. k % rows;

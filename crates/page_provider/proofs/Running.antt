@@ -45,7 +45,7 @@ pub quiet_all : DiskLaws → (g : Opening) (es more : List happening.Event) (s0 
 quiet_all laws g es [] s0 x s q st = subst (λ z. Stands g z s0 x s) (sym (append-nil es)) st
 quiet_all laws g es (e ∷ more) s0 x s q st =
     let k = and_true (is_quiet e) (all is_quiet more) q in
-    let l = laws.quiet g es e k.0 in
+    let l = laws.quiet g st.is.faithful es e k.0 in
     subst (λ z. Stands g z s0 x s) (append_assoc es (e ∷ []) more) (quiet_all laws g (then es e) more s0 x s k.1 (every_still laws.versions s s0 g es x e st l.no_cut l.same))
 
 -- ## Calls

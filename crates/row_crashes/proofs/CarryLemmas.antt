@@ -32,7 +32,7 @@ use Rattle.row_crashes.proofs.RowLemmas.{RowFacts, abort, change_5, change_6, ch
 -- one that the disk does not see
 quiet : EveryVersion → (es : List Event) (e : Event) → is_quiet e ≡ true → (g : Opening) (s0 : Crash) (n : Master) (first second : Log) (s : Story) → Runs es g s0 n first second s → Runs (then es e) g s0 n first second s
 quiet versions es e q g s0 n first second s r =
-    let l = every_quiet g es e q in
+    let l = every_quiet g r.stands.is.faithful es e q in
     record { opening = r.opening; known = r.known; stands = every_still versions s s0 g es r.known e r.stands l.no_cut l.same; master = r.master; first_is = r.first_is; second_is = r.second_is }
 
 -- its facts of the entries

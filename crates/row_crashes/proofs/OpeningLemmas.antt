@@ -1,5 +1,5 @@
 -- An opening of two workers on sixteen fresh pages.
-use Rattle.std.proofs.Common.{refl, arith}
+use Rattle.std.proofs.Common.{true, refl, arith}
 use Rattle.page_model.specs.Nodes.{free}
 use Rattle.page_model.specs.Tree.{IsTree}
 use Rattle.page_model.proofs.Check as page_check
@@ -13,6 +13,7 @@ tree = (page_check.every_check (format_of 16) (nodes (λ _. free))).sound (omega
 
 abbrev pub opening : Opening
 opening = record {
+  faithful = true;
   workers = 2;
   frames = 16;
   row_of = λ k. k;

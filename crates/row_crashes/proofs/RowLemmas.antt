@@ -83,6 +83,7 @@ pub record RowFacts (g : Opening) : Type 0 where
 abbrev pub made : (g : Opening) (workers : ℕ) → 0 < workers → (row_of : ℕ → ℕ) (changes base : ℕ) (gsn : ℕ → ℕ) → ((p : ℕ) → gsn p ≤ base)
     → (f : Format) → g.joined ≤ f.room → f.top ≤ key_end → f.dead ≤ value_end → (node : ℕ → Node) → IsTree f node → Opening
 made g workers some row_of changes base gsn low f fit keys values node tree = record {
+  faithful = g.faithful;
   workers = workers;
   frames = g.frames;
   row_of = row_of;

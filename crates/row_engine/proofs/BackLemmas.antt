@@ -13,7 +13,7 @@ use Rattle.core_state.specs.States.{State, Worker, flushed_by_all, nodes_of}
 use Rattle.core_state.specs.Steps.{at_pages, happens, put_back, write_entry, writes}
 use Rattle.core_calls.specs.LogEvents as commits
 use Rattle.core_calls.specs.Room.{EveryRoom, free_list}
-use Rattle.core_index.specs.Undo.{IsUndo}
+use Rattle.core_index.specs.Undo.{HasEntry}
 use Rattle.disk_image.specs.Records.{entry_of}
 use Rattle.lean_disk.specs.Story.{Story}
 use Rattle.log_record.specs.declared.record.Record.{Record}
@@ -107,7 +107,7 @@ module _ (z : Shape) (v : View) (x : Session) (log : Log) (h : Holds z v x log) 
   key_low =
       let b = begins u.key u.word ((state v).core.worker x.own).changes may_put_back.newest in
       let sound = h.rows.tree_sound v.seen in
-      let it : IsUndo (opening v.given) (state v).core x.own b.first = sound.undo x.own b.first (subst (λ (l : List Entry). Has b.first l) (sym b.is) (inl refl)) in
+      let it : HasEntry (opening v.given) (state v).core b.first = (sound.undo x.own b.first (subst (λ (l : List Entry). Has b.first l) (sym b.is) (inl refl))).there refl in
       let l = (holds_to ((state v).core.page it.page).node b.first.key it.leaf).lies in
       let a = l.high in
       let t = below_top (opening v.given).format (nodes_of (state v).core) sound.tree it.page it.below l.live in

@@ -113,6 +113,7 @@ module _ (pages : List Page) (workers base : ℕ) (are : ArePages pages base) wh
 
     abbrev start : Opening
     start = record {
+      faithful = true;
       workers = (opening given).workers;
       frames = (opening given).frames;
       row_of = (opening given).row_of;
@@ -134,6 +135,7 @@ module _ (pages : List Page) (workers base : ℕ) (are : ArePages pages base) wh
 
     opens : Opens start given
     opens = record {
+      faithful = refl;
       workers = refl;
       frames = refl;
       locks = refl;

@@ -1,6 +1,6 @@
 -- A step reads of an opening its sizes alone.
 use Rattle.std.proofs.Common.{◌≡◌, ◌<◌, ◌≤◌, ℕ, true, ◌&&◌, ltb, leb, List, [], ◌∷◌, ◌++◌, refl, sym, ap, subst, ◌∙◌, arith}
-use Rattle.std.specs.Prelude.{if◌then◌else◌}
+use Rattle.std.specs.Prelude.{Bool, if◌then◌else◌}
 use Rattle.map_model.specs.Maps.{MapAnswer, key_end, value_end}
 use Rattle.image_model.specs.Entries.{Entry}
 use Rattle.page_model.specs.Nodes.{Format, Node}
@@ -32,6 +32,7 @@ use Rattle.row_opening.specs.Openings.{Opens, Opened, EveryNeed, EveryOpened, Ev
 
 -- what a step reads
 record Sizes : Type 0 where
+  faithful : Bool
   workers : ℕ
   frames : ℕ
   changes : ℕ
@@ -40,7 +41,7 @@ record Sizes : Type 0 where
   format : Format
 
 abbrev sizes_of : Opening → Sizes
-sizes_of x = record { workers = x.workers; frames = x.frames; changes = x.changes; joined = x.joined; row_of = x.row_of; format = x.format }
+sizes_of x = record { faithful = x.faithful; workers = x.workers; frames = x.frames; changes = x.changes; joined = x.joined; row_of = x.row_of; format = x.format }
 
 -- the rest of an opening of these sizes
 record Rest (z : Sizes) : Type 0 where
@@ -58,6 +59,7 @@ record Rest (z : Sizes) : Type 0 where
 
 abbrev make : (z : Sizes) → Rest z → Opening
 make z r = record {
+  faithful = z.faithful;
   workers = z.workers;
   frames = z.frames;
   row_of = z.row_of;
@@ -77,7 +79,7 @@ make z r = record {
   tree = r.tree;
 }
 
-abbrev rest_of : (x : Opening) → Rest (record { workers = x.workers; frames = x.frames; changes = x.changes; joined = x.joined; row_of = x.row_of; format = x.format })
+abbrev rest_of : (x : Opening) → Rest (record { faithful = x.faithful; workers = x.workers; frames = x.frames; changes = x.changes; joined = x.joined; row_of = x.row_of; format = x.format })
 rest_of x = record { node = x.node; tree = x.tree; some_worker = x.some_worker; some_frame = x.some_frame; fit = x.fit; keys = x.keys; values = x.values; base = x.base; gsn = x.gsn; last = x.last; low = x.low }
 
 module _ (z : Sizes) (a b : Rest z) (s : State) where
@@ -126,7 +128,7 @@ may_of_sizes x y s e same = go (rest_of x)
 
 module _ (x : Opening) (v : Given) (o : Opens x v) where
   sizes_same : sizes_of x ≡ sizes_of (rows.opening v)
-  sizes_same = λ i. record { workers = o.workers i; frames = o.frames i; changes = o.changes i; joined = o.joined i; row_of = o.locks i; format = o.format i }
+  sizes_same = λ i. record { faithful = o.faithful i; workers = o.workers i; frames = o.frames i; changes = o.changes i; joined = o.joined i; row_of = o.locks i; format = o.format i }
 
   runs : (es : List Event) (m : Moment) → (run v m es).core ≡ steps.run x m.core (events_of es)
   unfolding stepped
@@ -161,10 +163,7 @@ module _ (x : Opening) (v : Given) (o : Opens x v) where
 
   undone : (s : State) → EachUndo x s → EachUndo (rows.opening v) s
   undone s u w c i = let a = u w c i in record {
-    page = a.page;
-    below = subst (λ f. a.page < f.pages) o.format a.below;
-    leaf = a.leaf;
-    has = a.has;
+    there = λ _. let e = a.there o.faithful in record { page = e.page; below = subst (λ f. e.page < f.pages) o.format e.below; leaf = e.leaf; has = e.has };
     holder = subst (λ f. is_held_by (s.row (f c.key)).holder w ≡ true) o.locks a.holder;
     word = subst (λ f. c.before ≤ f.dead) o.format a.word;
   }

@@ -1,5 +1,5 @@
 -- Rows that begin as an opening gives them.
-use Rattle.std.specs.Prelude.{◌≡◌, ◌<◌, ℕ, List, ◌++◌}
+use Rattle.std.specs.Prelude.{◌≡◌, ◌<◌, ℕ, true, List, ◌++◌}
 use Rattle.page_model.specs.Limits.{transaction_changes}
 use Rattle.page_model.specs.Tree.{IsTree}
 use Rattle.core_state.specs.Openings.{Opening}
@@ -16,8 +16,9 @@ use Rattle.row_words.specs.Moments.{first_state, events_of}
 use Rattle.row_words.specs.Openings as rows
 use Rattle.rows_trait.specs.Views.{after_all}
 
--- the opening has these sizes, its start is what is given, and each page's last log is below 256
+-- the opening is faithful and has these sizes, its start is what is given, and each page's last log is below 256
 pub record Opens (x : Opening) (v : Given) : Type 0 where
+  pub faithful : x.faithful ≡ true
   pub workers : x.workers ≡ (rows.opening v).workers
   pub frames : x.frames ≡ (rows.opening v).frames
   pub locks : x.row_of ≡ (rows.opening v).row_of

@@ -55,7 +55,7 @@ of_worker g w h = let t = and_parts (ltb 0 w) (leb w g.workers) h in record { on
 
 -- an opening opens so whatever happened before
 opens_unbegun : (x : Opening) (v : Given) → Opens x v → Opens x (unbegun v)
-opens_unbegun x v o = record { workers = o.workers; frames = o.frames; locks = o.locks; changes = o.changes; joined = o.joined; format = o.format; first = o.first; logs = o.logs }
+opens_unbegun x v o = record { faithful = o.faithful; workers = o.workers; frames = o.frames; locks = o.locks; changes = o.changes; joined = o.joined; format = o.format; first = o.first; logs = o.logs }
 
 pub first_locks : (x : Opening) (v : Given) → Opens x v → IsSound v
 first_locks x v o = every_sound v (λ es i. let l = (every_opened x (unbegun v) (opens_unbegun x v o) es).locks in record {

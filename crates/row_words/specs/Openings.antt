@@ -45,10 +45,11 @@ lone_tree n = record {
     upward zero lt l ne = absurd (ne refl)
     upward (suc p) lt l ne = absurd (true≢false (sym l))
 
--- an opening of these sizes, with at least one worker, frame and page; a transaction makes up to 64 changes, and pages of up to
--- 45 pairs together are joined
+-- a faithful opening of these sizes, with at least one worker, frame and page; a transaction makes up to 64 changes, and pages of
+-- up to 45 pairs together are joined
 abbrev pub like : (workers frames rows pages : ℕ) → Opening
 like workers frames rows pages = record {
+  faithful = true;
   workers = suc (workers - 1);
   frames = suc (frames - 1);
   row_of = λ k. k % rows;

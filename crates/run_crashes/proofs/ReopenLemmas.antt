@@ -115,11 +115,11 @@ module _ (agrees : EveryAgreement) (g : Opening) (Such : List Done → List Even
 pub every_reopened_for : EveryShown → EveryRunCrash → EveryAgreement → (Such : List Done → List Event → Type 0) → EveryReopenedFor Such
 every_reopened_for shows crashes agrees Such l g group xs m n area = record {
   between = λ x before after newer out t e lines q h. let s = shows g (front xs ++ before) n area h in
-      recovers agrees g Such m n area xs (Some x) newer out lines before (InCall x refl after e) q h s ((crashes l g group).between xs x before after t (sym e) s.logs s.page s.leaves);
+      recovers agrees g Such m n area xs (Some x) newer out lines before (InCall x refl after e) q h s ((crashes l g h.is.faithful group).between xs x before after t (sym e) s.logs s.page s.leaves);
   stopped = λ es newer out t none such lines q h. let s = shows g (front xs ++ es) n area h in
-      recovers agrees g Such m n area xs None newer out lines es (Stopped such) q h s ((crashes l g group).stopped xs es t none s.logs s.page s.leaves);
+      recovers agrees g Such m n area xs None newer out lines es (Stopped such) q h s ((crashes l g h.is.faithful group).stopped xs es t none s.logs s.page s.leaves);
   behind = λ newer out t lines q h. let at = subst (λ (k : List Event). HoldsRun g k n area) (sym (append-nil (front xs))) h in let s = shows g (front xs ++ []) n area at in
-      recovers agrees g Such m n area xs None newer out lines [] (Between refl) (subst (λ (k : List Event). IsOfRunBy k m n) (sym (append-nil (front xs))) q) at s ((crashes l g group).stopped xs [] t (λ w. refl) s.logs s.page s.leaves);
+      recovers agrees g Such m n area xs None newer out lines [] (Between refl) (subst (λ (k : List Event). IsOfRunBy k m n) (sym (append-nil (front xs))) q) at s ((crashes l g h.is.faithful group).stopped xs [] t (λ w. refl) s.logs s.page s.leaves);
 }
 
 pub every_reopened : EveryShown → EveryRunCrash → EveryAgreement → EveryReopened

@@ -283,6 +283,7 @@ module _ (s0 s : Story) (m : Master) (r : Recovered) (g : Opening) (log : ℕ �
     opens : Opens g c r.master log firm s
     opens = record {
       tells = is.tells;
+      faithful = is.faithful;
       format = is.opening.format ∙ ap format_of (sym pages);
       logs = ap (λ (hs : List ℕ). length hs) heads ∙ (length-replicate (length m.heads) 0 ∙ sym is.opening.logs);
       floor = one_greatest (image_by m (areas_of s0)) r.master.floor g.base is.recovered.base is.opening.base;

@@ -1,5 +1,5 @@
 -- A run begins on a disk that recovery has opened: what recovery's clauses give, and the logs as they are made.
-use Rattle.std.specs.Prelude.{◌≡◌, ◌<◌, ◌≤◌, ℕ, suc, [], length, slice_index}
+use Rattle.std.specs.Prelude.{◌≡◌, ◌<◌, ◌≤◌, ℕ, suc, true, [], length, slice_index}
 use Rattle.core_state.specs.Openings.{Opening}
 use Rattle.lean_disk.specs.Area.{Area}
 use Rattle.lean_disk.specs.Story.{Crash, Story, areas_of}
@@ -26,9 +26,11 @@ pub record IsMade (n : Master) (w : ℕ) (log : Log) (area : Area) : Type 0 wher
   pub ranges : IsInRange log
   pub starts : IsFresh log area → IsKept (fresh_account area) log area
 
--- A clean disk, which told s0, was opened and tells s; the opening is the start that it gave; and its logs are made.
+-- A clean disk, which told s0, was opened and tells s; the opening is the start that it gave, and faithful, since the disk tells; and its
+-- logs are made.
 pub record IsStart (m : Master) (r : Recovered) (g : Opening) (log : ℕ → Log) (s0 s : Story) : Type 0 where
   pub tells : TellsAll g.workers s
+  pub faithful : g.faithful ≡ true
   pub clean : IsCleanDisk m (areas_of s0)
   -- what recovery says
   pub recovered : IsRecovered m (areas_of s0) r

@@ -248,7 +248,7 @@ module _ (versions : EveryVersion) (g : Opening) (group : ℕ) (xs : List Done) 
       stands : Stands g (then (front xs ++ es) (Event.Sync n)) s0 x mid
       stands = record {
         tells = at.gone.stands.tells;
-        is = record { format = next.is.format; logs = next.is.logs; floor = (ap (λ (m : Master). m.floor) at.master_is ∙ floor) ∙ next.is.floor };
+        is = record { faithful = next.is.faithful; format = next.is.format; logs = next.is.logs; floor = (ap (λ (m : Master). m.floor) at.master_is ∙ floor) ∙ next.is.floor };
         master = at.gone.stands.master;
         pages = next.pages;
         saved = next.saved;

@@ -176,7 +176,7 @@ of_worker : (g : Opening) (w : ℕ) → is_worker g w ≡ true → IsWorker g.wo
 of_worker g w h = let t = and_parts (ltb 0 w) (leb w g.workers) h in record { one = ltb-true 0 w t.0; among = leb-true w g.workers t.1 }
 
 opens_unbegun : (g : Opening) (v : Given) → Opens g v → Opens g (unbegun v)
-opens_unbegun g v o = record { workers = o.workers; frames = o.frames; locks = o.locks; changes = o.changes; joined = o.joined; format = o.format; first = o.first; logs = o.logs }
+opens_unbegun g v o = record { faithful = o.faithful; workers = o.workers; frames = o.frames; locks = o.locks; changes = o.changes; joined = o.joined; format = o.format; first = o.first; logs = o.logs }
 
 locks_sound : EveryOpened → EverySound → (g : Opening) (v : Given) → Opens g v → locking.IsSound v
 locks_sound every sound g v o = sound v (λ es i. let l = (every g (unbegun v) (opens_unbegun g v o) es).locks in record {

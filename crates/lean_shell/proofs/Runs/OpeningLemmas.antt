@@ -25,7 +25,7 @@ module _ {D : Type 0} (size : Size) (s0 sa : Story) (e : State D) (generation wo
   counts = record { generation = generation; winners = won; undone = lost }
 
   from_engine : engine.IsFrom size.sessions o.opening s0 generation won lost → IsFrom size.sessions o.opening s0 counts
-  from_engine f = record { m = f.m; openable = f.openable; sound = f.sound; starts = f.starts; map = f.map; generation = f.generation_is; won = f.won_is; lost = f.lost_is }
+  from_engine f = record { faithful = f.faithful; m = f.m; openable = f.openable; sound = f.sound; starts = f.starts; map = f.map; generation = f.generation_is; won = f.won_is; lost = f.lost_is }
 
   pub from : TellsAll size.sessions s0 → IsFrom size.sessions o.opening s0 counts
   from tells = from_engine (o.from tells)

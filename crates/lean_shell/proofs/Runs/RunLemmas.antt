@@ -203,7 +203,7 @@ module _ (size : Size) (few : size.sessions ≤ 16) (laws : Laws) (s0 sa sb sc s
       let law = laws.told g (front h.heard) (outcomes h.heard) (answers_all limits g size.group h.heard each_first) in
       let journal_is : model.journal (transcript g.workers input put) ≡ model.journal (in_turn (calls_of h.heard)) = ap model.journal (all_tells tells) ∙ every_count (in_turn (calls_of h.heard)) in
       subst (λ (n : ℕ). Serial map (model.journal (transcript n input put))) workers
-      (subst (λ (j : Journal). Serial map j) (sym journal_is) (subst (λ (mp : Map). Serial mp (model.journal (in_turn (calls_of h.heard)))) maps law.serial))
+      (subst (λ (j : Journal). Serial map j) (sym journal_is) (subst (λ (mp : Map). Serial mp (model.journal (in_turn (calls_of h.heard)))) maps (law.serial f.faithful)))
     where
       same_master : (x y : Master) → Some x ≡ Some y → x ≡ y
       same_master x y e = cc
