@@ -34,12 +34,14 @@ pub const OF_IMAGES: Limits = Limits {
     top: TOP,
 };
 
-/// The numbers of workers and frames, the base number, which is that of each page, the limits, and the pages.
+/// The numbers of workers and frames, the base number, which is that of each page, whether a page that is read again has the
+/// pairs with which it was saved, the limits, and the pages.
 #[derive(Clone, Copy)]
 pub struct Opening {
     pub workers: u64,
     pub frames: u64,
     pub base: u64,
+    pub faithful: bool,
     pub limits: Limits,
     pub pages: &'static [Contents],
 }
@@ -49,6 +51,7 @@ pub const EMPTY: Opening = Opening {
     workers: 2,
     frames: 2,
     base: 0,
+    faithful: true,
     limits: OF_IMAGES,
     pages: &[Contents::Node(0, 0, TOP, &[]), Contents::Free],
 };
@@ -58,6 +61,7 @@ pub const LEAF: Opening = Opening {
     workers: 2,
     frames: 2,
     base: 0,
+    faithful: true,
     limits: OF_IMAGES,
     pages: &[Contents::Node(0, 0, TOP, &[(5, 50)]), Contents::Free],
 };
@@ -67,6 +71,7 @@ pub const SPARSE: Opening = Opening {
     workers: 2,
     frames: 2,
     base: 0,
+    faithful: true,
     limits: OF_IMAGES,
     pages: &[
         Contents::Node(0, 0, TOP, &[(3, DEAD), (5, 50)]),
@@ -79,6 +84,7 @@ pub const FULL: Opening = Opening {
     workers: 2,
     frames: 3,
     base: 0,
+    faithful: true,
     limits: OF_IMAGES,
     pages: &[
         Contents::Node(0, 0, TOP, &[(1, 11), (2, 12), (3, 13), (4, 14)]),
@@ -92,6 +98,7 @@ pub const CHAIN: Opening = Opening {
     workers: 2,
     frames: 3,
     base: 0,
+    faithful: true,
     limits: OF_IMAGES,
     pages: &[
         Contents::Node(2, 0, TOP, &[(0, 1)]),
@@ -106,6 +113,7 @@ pub const WIDE: Opening = Opening {
     workers: 3,
     frames: 9,
     base: 0,
+    faithful: true,
     limits: OF_IMAGES,
     pages: &[
         Contents::Node(2, 0, TOP, &[(0, 1), (100, 2), (200, 9), (300, 10)]),
@@ -127,6 +135,7 @@ pub const WIDE: Opening = Opening {
 /// The state that opening gives. Four pairs a node; a transaction makes at most three changes.
 pub fn opened(alloc: Global, opening: Opening) -> Result<Core, AllocError> {
     let settings = Settings {
+        faithful: opening.faithful,
         workers: opening.workers,
         frames: opening.frames,
         rows: 0,

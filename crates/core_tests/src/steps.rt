@@ -1,4 +1,5 @@
 // What a list of events is written in.
+use crate::openings::pairs_of;
 use plain_core::{Event, Following, Mode, Table};
 use std::alloc::{AllocError, Global};
 
@@ -27,6 +28,7 @@ pub enum Step {
     Flush(u64, u64),
     Sync(u64),
     Post(u64, u64),
+    Fetch(u64, &'static [(u64, u64)]),
     Load(u64, u64),
     Cool(u64),
     Rescue(u64),
@@ -110,6 +112,10 @@ pub fn event_of(alloc: Global, step: Step) -> Result<Event, AllocError> {
         Step::Flush(worker, number) => Ok(Event::Flush { worker, number }),
         Step::Sync(number) => Ok(Event::Sync { number }),
         Step::Post(worker, number) => Ok(Event::Post { worker, number }),
+        Step::Fetch(page, pairs) => Ok(Event::Fetch {
+            page,
+            pairs: pairs_of(alloc, pairs)?,
+        }),
         Step::Load(page, frame) => Ok(Event::Load { page, frame }),
         Step::Cool(page) => Ok(Event::Cool { page }),
         Step::Rescue(page) => Ok(Event::Rescue { page }),

@@ -81,7 +81,7 @@ pub const NO_WORD: u64 = u64::MAX;
 pub const NO_FRAME: u64 = u64::MAX;
 
 /// All walks.
-pub fn walks() -> [&'static Walk; 12] {
+pub fn walks() -> [&'static Walk; 14] {
     [
         &transactions::END_NEEDS,
         &transactions::CHANGE_NEEDS,
@@ -95,6 +95,8 @@ pub fn walks() -> [&'static Walk; 12] {
         &frames::LOADED_UNDER_A_HOT_PARENT,
         &frames::EVICTION_WAITS,
         &frames::SAVED_BEFORE_EVICTED,
+        &frames::FETCHED_AS_SAVED,
+        &frames::FETCHED_WITH_OTHER_PAIRS,
     ]
 }
 

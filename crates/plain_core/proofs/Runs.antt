@@ -55,6 +55,18 @@ loaded old mid new p l v e h k i = record {
       ∙ ap (λ (z : logged.Contents). record (state_of old) { place = upd (state_of old).place p l; page = upd (state_of old).page p z }) i;
 }
 
+-- a page, and then what is saved of it
+pub fetched : (old mid new : Core) (p : ℕ) (u v e : logged.Contents) →
+    Becomes old mid (record (state_of old) { page = upd (state_of old).page p u }) →
+    Becomes mid new (record (state_of mid) { saved = upd (state_of mid).saved p v }) → u ≡ e → v ≡ e →
+    Becomes old new (record (state_of old) { page = upd (state_of old).page p e; saved = upd (state_of old).saved p e })
+fetched old mid new p u v e h k i j = record {
+  settings = k.settings ∙ h.settings;
+  state = k.state ∙ ap (λ (t : model.State). record t { saved = upd t.saved p v }) h.state
+      ∙ ap (λ (z : logged.Contents). record (state_of old) { page = upd (state_of old).page p z; saved = upd (state_of old).saved p v }) i
+      ∙ ap (λ (z : logged.Contents). record (state_of old) { page = upd (state_of old).page p e; saved = upd (state_of old).saved p z }) j;
+}
+
 -- where a page stands, and then the queue
 pub queued : (old mid new : Core) (p : ℕ) (l e : model.Place) →
     Becomes old mid (record (state_of old) { place = upd (state_of old).place p l }) →

@@ -7,6 +7,7 @@ use Rattle.plain_core.specs.declared.event.Following.{Following}
 use Rattle.plain_core.specs.declared.event.Following.TheVariants as answers
 use Rattle.plain_core.specs.declared.event.Event.{Event}
 use Rattle.plain_core.specs.declared.event.Event.TheVariants as events
+use Rattle.plain_images.specs.Pages.{pair_of}
 use Rattle.plain_core.specs.Tables.{at}
 use Rattle.std.specs.Prelude.{List, map}
 
@@ -40,6 +41,7 @@ event_of (events.Unlock w i) = model.Event.Unlock w i
 event_of (events.Flush w n) = model.Event.Flush w n
 event_of (events.Sync n) = model.Event.Sync n
 event_of (events.Post w n) = model.Event.Post w n
+event_of (events.Fetch p pairs) = model.Event.Fetch p (map pair_of pairs.items)
 event_of (events.Load p f) = model.Event.Load p f
 event_of (events.Cool p) = model.Event.Cool p
 event_of (events.Rescue p) = model.Event.Rescue p

@@ -4,15 +4,15 @@ use Rattle.map_model.specs.Lists.{any, all as every}
 use Rattle.image_model.specs.Entries.{Kind, Entry, Contents, page_kind, is_record}
 use Rattle.page_model.specs.Records as records
 use Rattle.page_model.specs.Records.{nowhere}
-use Rattle.page_model.specs.Pairs.{find, put}
+use Rattle.page_model.specs.Pairs.{Pair, find, put}
 use Rattle.page_model.specs.Tree.{word_or}
-use Rattle.page_model.specs.Nodes.{Node, holds}
+use Rattle.page_model.specs.Nodes.{Node, is_leaf, holds}
 use Rattle.page_model.specs.Redo.{has_key}
-use Rattle.page_model.specs.Check.{names_page}
+use Rattle.page_model.specs.Check.{is_rising, names_page}
 use Rattle.rfa_model.specs.Reaches.{least}
 use Rattle.core_state.specs.Lists.{all_below}
 use Rattle.core_state.specs.States.{State, Worker, is_hot, in_frame, waits_for}
-use Rattle.core_state.specs.Needs.{holds_row, is_ripe_end}
+use Rattle.core_state.specs.Needs.{holds_row, are_same, is_ripe_end}
 use Rattle.plain_core.specs.declared.table.Placed.{Placed}
 use Rattle.plain_core.specs.declared.state.Settings.{Settings}
 use Rattle.plain_core.specs.States.{row_at}
@@ -85,6 +85,10 @@ is_ripe_in s c x = not (any (is_unripe c.flushed (least c.flushed s.workers) x c
 -- what the function is at these places
 abbrev pub heads_at : (ℕ → ℕ) → List (Placed ℕ) → List (Placed ℕ)
 heads_at f xs = map (λ x. record { place = x.place; value = f x.place }) xs
+
+-- a leaf for which these pairs are well formed, and its own where that is asked
+abbrev pub may_have_in : Settings → Node → List Pair → Bool
+may_have_in s n pairs = is_leaf n && (leb (length pairs) s.room && (is_rising n.low pairs n.high && (every (λ x. leb x.word s.dead) pairs && (not s.faithful || are_same pairs n.pairs))))
 
 -- each page that names p is hot
 abbrev pub has_hot_parent_in : Settings → State → ℕ → Bool

@@ -42,7 +42,7 @@ row_at rows k = if rows == 0 then k else k % rows
 
 -- the opening
 abbrev pub opening : (s : Settings) → Rest s → openings.Opening
-opening s x = record { workers = s.workers; frames = s.frames; row_of = row_at s.rows; changes = s.changes; joined = s.joined; base = s.base; format = format_of s x; gsn = x.gsn; last = x.last; node = x.node; some_worker = x.some_worker; some_frame = x.some_frame; fit = x.fit; keys = x.keys; values = x.values; low = x.low; tree = x.tree }
+opening s x = record { faithful = s.faithful; workers = s.workers; frames = s.frames; row_of = row_at s.rows; changes = s.changes; joined = s.joined; base = s.base; format = format_of s x; gsn = x.gsn; last = x.last; node = x.node; some_worker = x.some_worker; some_frame = x.some_frame; fit = x.fit; keys = x.keys; values = x.values; low = x.low; tree = x.tree }
 
 -- where a page stands
 abbrev pub place_of : Place → model.Place

@@ -189,7 +189,7 @@ impl Node {
         self.copy(alloc)
     }
 
-    fn with_pairs(&self, pairs: Vec<Pair>) -> Node
+    pub(crate) fn with_pairs(&self, pairs: Vec<Pair>) -> Node
         ensures { node_of result ≡ node_of (record self.now { pairs = pairs }) }
     {
         Node {

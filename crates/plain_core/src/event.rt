@@ -1,5 +1,6 @@
 // What can happen.
 use crate::table::Table;
+use plain_images::Pair;
 
 /// How a row is held: with others that read, or by one alone.
 #[derive(Clone, Copy)]
@@ -16,6 +17,7 @@ pub enum Following {
 }
 
 /// An event, by its worker, if it has one, and what it names. `flushed` is the least flushed number as the worker found it.
+/// `Fetch`: the cold leaf was read, and had these pairs.
 #[derive(Drop)]
 pub enum Event {
     Enter {
@@ -104,6 +106,10 @@ pub enum Event {
     Post {
         worker: u64,
         number: u64,
+    },
+    Fetch {
+        page: u64,
+        pairs: Vec<Pair>,
     },
     Load {
         page: u64,

@@ -1,19 +1,38 @@
-// Frames: what it needs to load a page, to cool it, to rescue and to evict it, and what that makes of the state.
-ghost use Rattle.std.specs.Prelude.{◌≡◌, ◌||◌, ◌&&◌, not, ℕ, IfOk};
+// Frames: what it needs to read and to load a page, to cool it, to rescue and to evict it, and what that makes of the state.
+ghost use Rattle.std.specs.Prelude.{◌≡◌, ◌||◌, ◌&&◌, not, ℕ, map, IfOk};
 ghost use Rattle.map_model.specs.Lists.{upd};
 ghost use Rattle.page_model.specs.Check as check;
 ghost use Rattle.core_state.specs.Lists as lists;
 ghost use Rattle.core_state.specs.States as states;
 ghost use Rattle.core_state.specs.Needs as needs;
+ghost use Rattle.core_state.specs.Steps as steps;
 ghost use Rattle.core_state.specs.Events as events;
-ghost use Rattle.plain_core.specs.Inside.{has_hot_parent_in, has_hot_child_in, is_empty_in, is_ripe_page};
+ghost use Rattle.plain_images.specs.Pages.{pair_of};
+ghost use Rattle.plain_core.specs.Inside.{may_have_in, has_hot_parent_in, has_hot_child_in, is_empty_in, is_ripe_page};
 ghost use Rattle.plain_core.specs.Tables.{at};
+ghost use Rattle.plain_core.specs.Records.{node_of};
 ghost use Rattle.plain_core.specs.States.{Rest, Becomes, opening, place_of, state_of};
 
+use crate::pairs::{are_same, are_words, is_rising};
+use crate::records::Node;
 use crate::refusal::Refusal;
-use crate::state::{Core, Place};
+use crate::state::{Core, Place, Settings};
 use crate::table::{Placed, Table};
+use plain_images::Pair;
 use std::alloc::{AllocError, Global};
+
+impl Node {
+    // A leaf for which these pairs are well formed, and its own where the opening is faithful.
+    fn may_have(&self, settings: Settings, pairs: &[Pair]) -> bool
+        ensures { result ≡ may_have_in settings (node_of self.now) (map pair_of pairs.now) }
+    {
+        (self.live && self.level == 0)
+            && (pairs.len() as u64 <= settings.room
+                && (is_rising(self.low, pairs, self.high)
+                    && (are_words(settings.dead, pairs)
+                        && (!settings.faithful || are_same(pairs, &self.pairs)))))
+    }
+}
 
 impl Place {
     fn is_cooling(&self) -> bool
@@ -174,6 +193,14 @@ impl Core {
         !place.waits_for(self.settings.workers) && place.waits_for_none(self.settings.workers)
     }
 
+    pub(crate) fn may_fetch(&self, page: u64, pairs: &[Pair]) -> bool
+        ensures { (x : Rest self.now.settings) → result ≡ needs.may (opening self.now.settings x) (state_of self.now) (events.Event.Fetch page (map pair_of pairs.now)) }
+    {
+        page < self.settings.pages
+            && (self.places.get(page).is_cold()
+                && self.saved.get(page).node.may_have(self.settings, pairs))
+    }
+
     pub(crate) fn may_load(&self, page: u64, frame: u64) -> bool
         ensures { (x : Rest self.now.settings) → result ≡ needs.may (opening self.now.settings x) (state_of self.now) (events.Event.Load page frame) }
     {
@@ -199,6 +226,16 @@ impl Core {
         ensures { (x : Rest self.now.settings) → result ≡ needs.may (opening self.now.settings x) (state_of self.now) (events.Event.Evict page) }
     {
         self.places.get(page).is_cooling() && (!self.is_dirty(page) && self.is_ripe(page))
+    }
+
+    pub(crate) fn fetch(&mut self, alloc: Global, page: u64, pairs: &[Pair]) -> Result<(), Refusal>
+        ensures { IfOk result (λ _. Becomes self.old self.new (let s = state_of self.old in record s { page = upd s.page page (steps.with_pairs (map pair_of pairs.now) (s.saved page)); saved = upd s.saved page (steps.with_pairs (map pair_of pairs.now) (s.saved page)) })) }
+    {
+        let found = self.saved.get(page).with_pairs(alloc, pairs)?;
+        let saved = found.copy(alloc)?;
+        self.set_page(page, found)?;
+        self.set_saved(page, saved)?;
+        Ok(())
     }
 
     pub(crate) fn load(&mut self, alloc: Global, page: u64, frame: u64) -> Result<(), Refusal>

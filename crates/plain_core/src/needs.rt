@@ -472,6 +472,7 @@ impl Core {
             Event::Flush { worker, number } => self.may_flush(worker, number),
             Event::Sync { number } => self.may_sync(number),
             Event::Post { worker, number } => self.may_post(worker, number),
+            Event::Fetch { page, ref pairs } => self.may_fetch(page, pairs),
             Event::Load { page, frame } => self.may_load(page, frame),
             Event::Cool { page } => self.may_cool(page),
             Event::Rescue { page } => self.may_rescue(page),

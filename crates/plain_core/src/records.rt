@@ -1,5 +1,7 @@
 // Pages, and the entries of what happened.
 ghost use Rattle.std.specs.Prelude.{◌≡◌, ◌∷◌, map, IfOk};
+ghost use Rattle.core_state.specs.Steps as steps;
+ghost use Rattle.plain_images.specs.Pages.{pair_of};
 ghost use Rattle.plain_core.specs.Records.{node_of, page_of, record_of, entry_of, entries_of};
 
 use crate::refusal::Refusal;
@@ -48,6 +50,17 @@ impl Page {
             number: self.number,
             log: self.log,
             node: self.node.copy(alloc)?,
+        })
+    }
+
+    /// The page with these pairs.
+    pub fn with_pairs(&self, alloc: Global, pairs: &[Pair]) -> Result<Page, AllocError>
+        ensures { IfOk result (λ v. page_of v ≡ steps.with_pairs (map pair_of pairs.now) (page_of self.now)) }
+    {
+        Ok(Page {
+            number: self.number,
+            log: self.log,
+            node: self.node.with_pairs(Vec::from_slice(alloc, pairs)?),
         })
     }
 }

@@ -10,9 +10,11 @@ use std::alloc::{AllocError, Global};
 
 /// The numbers of an opening. Workers and their logs are 1 to `workers`. Key k has the lock row k modulo `rows`, or k where
 /// `rows` is 0. A transaction makes at most `changes` changes, and two pages are joined that have at most `joined` pairs
-/// together. There are `pages` pages with room for `room` pairs each; `dead` is a tombstone's word.
+/// together. There are `pages` pages with room for `room` pairs each; `dead` is a tombstone's word. Where it is `faithful`, a page
+/// that is read again has the pairs with which it was saved.
 #[derive(Clone, Copy)]
 pub struct Settings {
+    pub faithful: bool,
     pub workers: u64,
     pub frames: u64,
     pub rows: u64,

@@ -70,6 +70,7 @@ impl Core {
                 self.post(number);
                 Ok(())
             }
+            Event::Fetch { page, ref pairs } => self.fetch(alloc, page, pairs),
             Event::Load { page, frame } => self.load(alloc, page, frame),
             Event::Cool { page } => self.cool(alloc, page),
             Event::Rescue { page } => self.rescue(alloc, page),
@@ -128,6 +129,7 @@ impl Core {
             | Event::Flush { .. }
             | Event::Sync { .. }
             | Event::Post { .. }
+            | Event::Fetch { .. }
             | Event::Load { .. }
             | Event::Cool { .. }
             | Event::Rescue { .. }

@@ -2,7 +2,8 @@
 use crate::expectations::{Crash, End, List};
 use crate::openings::CHAIN;
 use crate::steps::Step::{
-    Begin, Change, Commit, Cool, Enter, Evict, Flush, Leave, Load, Lock, Peek, Rescue, Save, Tick,
+    Begin, Change, Commit, Cool, Enter, Evict, Fetch, Flush, Leave, Load, Lock, Peek, Rescue, Save,
+    Tick,
 };
 use plain_core::Mode::Alone;
 
@@ -77,6 +78,8 @@ pub static DIRTY_PAGE_STAYS: List = List {
         (Evict(2), false),
         (Save(2), false),
         (Peek(1, 2, 5, Some(7)), false),
+        (Fetch(2, &[(5, 50)]), false),
+        (Fetch(2, &[(5, 7)]), true),
         (Load(2, 1), false),
         (Load(2, 2), true),
         (Peek(1, 2, 5, Some(7)), true),

@@ -15,6 +15,7 @@ const FULL_LEAF: Opening = Opening {
     workers: 2,
     frames: 3,
     base: 0,
+    faithful: true,
     limits: Limits {
         joined: 3,
         levels: 1,

@@ -14,6 +14,7 @@ const ONE_LEAF: Opening = Opening {
     workers: 2,
     frames: 2,
     base: 0,
+    faithful: true,
     limits: Limits {
         joined: 2,
         levels: 2,

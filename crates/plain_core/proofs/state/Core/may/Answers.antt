@@ -1,6 +1,7 @@
-use Rattle.std.proofs.Common.{◌∙◌, ap, sym}
+use Rattle.std.proofs.Common.{◌∙◌, ap, map, sym}
 use Rattle.core_state.specs.Needs as needs
 use Rattle.core_state.specs.Events as events
+use Rattle.plain_images.specs.Pages.{pair_of}
 use Rattle.plain_core.specs.Events.{event_of}
 use Rattle.plain_core.specs.Tables.{at}
 use Rattle.plain_core.specs.States.{opening, state_of}
@@ -68,6 +69,9 @@ returns-in-Join c = λ x. c.may_join.ensures x ∙ ap (λ e. needs.may (opening 
 
 pub returns-in-Drop : goal.returns-in-Drop
 returns-in-Drop c = λ x. c.may_drop.ensures x ∙ ap (λ e. needs.may (opening c.args.self.now.settings x) (state_of c.args.self.now) (event_of e)) (sym c.in-Drop.is)
+
+pub returns-in-Fetch : goal.returns-in-Fetch
+returns-in-Fetch c = λ x. c.may_fetch.ensures x ∙ ap (λ pairs. needs.may (opening c.args.self.now.settings x) (state_of c.args.self.now) (events.Event.Fetch c.in-Fetch.page (map pair_of pairs))) c.deref-in-Fetch.ensures.value ∙ ap (λ e. needs.may (opening c.args.self.now.settings x) (state_of c.args.self.now) (event_of e)) (sym c.in-Fetch.is)
 
 pub returns-in-Purge : goal.returns-in-Purge
 returns-in-Purge c = λ x. c.may_purge.ensures x ∙ ap (λ keys. needs.may (opening c.args.self.now.settings x) (state_of c.args.self.now) (events.Event.Purge c.in-Purge.worker c.in-Purge.page keys)) c.deref.ensures.value ∙ ap (λ e. needs.may (opening c.args.self.now.settings x) (state_of c.args.self.now) (event_of e)) (sym c.in-Purge.is)
