@@ -12,7 +12,7 @@ use Rattle.core_state.specs.Lists.{most}
 use Rattle.core_state.specs.Needs.{are_hot, is_behind, is_held_by, is_reader, may, needs, pages_of}
 use Rattle.core_state.specs.Openings.{Opening}
 use Rattle.core_state.specs.States.{Row, State, Worker, gsns_of, nodes_of, start}
-use Rattle.core_state.specs.Steps.{at_pages, at_row, begun, end_entry, finished, follows, happens, locked, moves, page_entry, put_back, read_entry, run, state_after, step, unlocked, write_entry, writes}
+use Rattle.core_state.specs.Steps.{at_pages, at_row, begun, end_entry, finished, follows, happens, locked, moves, page_entry, put_back, read_entry, run, state_after, step, unlocked, with_pairs, write_entry, writes}
 use Rattle.core_commit.proofs.Lists.{least_le}
 
 -- no number of these is above top
@@ -209,6 +209,15 @@ module _ (g : Opening) (top : ℕ) (s : State) (u : IsUpTo top s) where
         flushes = λ w. omega arith;
         low = omega arith;
       }
+  happens_up (Event.Fetch p pairs) m = record {
+    entered = up.entered;
+    pages = λ q. at_upd (λ i (v : Contents). v.gsn ≤ suc top) s.page p (with_pairs pairs (s.saved p)) q (up.saves p) (λ other. up.pages q);
+    saves = λ q. at_upd (λ i (v : Contents). v.gsn ≤ suc top) s.saved p (with_pairs pairs (s.saved p)) q (up.saves p) (λ other. up.saves q);
+    rows = up.rows;
+    workers = up.workers;
+    flushes = up.flushes;
+    low = up.low;
+  }
   happens_up (Event.Load p f) m = record {
     entered = up.entered;
     pages = λ q. at_upd (λ i (v : Contents). v.gsn ≤ suc top) s.page p (s.saved p) q (up.saves p) (λ other. up.pages q);
