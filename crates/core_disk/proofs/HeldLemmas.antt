@@ -5,21 +5,24 @@ use Rattle.map_model.specs.Lists.{Has}
 use Rattle.map_model.specs.Journals.{Journal, IsClosed, after}
 use Rattle.page_model.specs.Nodes.{Format}
 use Rattle.image_model.specs.Entries.{Entry, Contents}
-use Rattle.image_model.specs.Ends.{kept}
-use Rattle.image_model.specs.Images.{Image, StandsFor, gathered, won_by}
+use Rattle.image_model.specs.Ends.{is_kept, kept}
+use Rattle.image_model.specs.Images.{Image, StandsFor, found, gathered, won_by}
 use Rattle.core_state.specs.Openings.{Opening, first_map}
 use Rattle.core_state.specs.States.{State}
 use Rattle.core_state.specs.Events.{Event}
 use Rattle.core_paging.specs.Paging.{EverySaved}
+use Rattle.core_crash.proofs.Cuts.{keep_same}
 use Rattle.core_crash.specs.Crashes.{EveryCrash, Leaves, Recovers, image_of, journal_in, kept_in}
 use Rattle.disk_slots.specs.declared.master.Master.{Master}
 use Rattle.disk_image.specs.Laws.{Agree, Agreement, EveryAgreement}
 use Rattle.disk_image.specs.Runs.{AreReadable}
 use Rattle.disk_image.specs.Shown.{Areas, image_by, run_of}
 use Rattle.core_state.specs.Steps.{state_after}
+use Rattle.core_disk.specs.FloorLaws.{ReachesAsFar, at_floor}
 use Rattle.core_disk.specs.Held.{base_in, HoldsPrefix, HoldsRun, IsVersion}
 use Rattle.core_disk.specs.Lives.{EveryHeld, Lives, kept_on}
 use Rattle.core_disk.specs.Shows.{EveryShown}
+use Rattle.core_disk.proofs.FloorLemmas.{agreement_at, every_floor_reach, sound_at}
 
 pub gathered_same : (log other : ℕ → List Entry) (n : ℕ) → ((w : ℕ) → 0 < w → w ≤ n → log w ≡ other w) → gathered log n ≡ gathered other n
 gathered_same log other zero h = refl
@@ -78,21 +81,25 @@ module _ (crashes : EveryCrash) (saves : EverySaved) (agrees : EveryAgreement) (
   core : Recovers g s image
   core = crashes g h.is.faithful es logs page leaves
 
-  agree : Agree image (image_by n area)
+  -- by the master's floor
+  as_far : ReachesAsFar g s n.floor (found image)
+  as_far = every_floor_reach g es logs page n.floor leaves h.is.floor
+
+  agree : Agree (at_floor n.floor image) (image_by n area)
   agree = record {
     format = h.is.format;
     logs = sym h.is.logs;
-    floor = sym h.is.floor;
+    floor = refl;
     log = λ w low high. sym (log_is w low high).entries;
     base = λ p lt. sym ((page_of p).2 (subst (λ (f : Format). p < f.pages) h.is.format lt));
   }
 
   agreement : Agreement image (image_by n area)
-  agreement = agrees image (image_by n area) agree core.stands.sound
+  agreement = agreement_at image n.floor as_far.reach (image_by n area) (agrees (at_floor n.floor image) (image_by n area) agree (sound_at image n.floor as_far.reach core.stands.sound))
 
   kept_is : kept_in g s image ≡ kept_on g s n area
-  kept_is = ap₂ (λ (f : ℕ) (z : List Entry). kept g.workers f z (journal_in g s)) (sym h.is.floor)
-      (gathered_same image.log (image_by n area).log g.workers agree.log ∙ ap (gathered (image_by n area).log) (sym h.is.logs))
+  kept_is = sym (keep_same (is_kept g.workers n.floor (found image)) (is_kept g.workers s.floor (found image)) (journal_in g s) as_far.kept)
+      ∙ ap (λ (z : List Entry). kept g.workers n.floor z (journal_in g s)) (gathered_same image.log (image_by n area).log g.workers agree.log ∙ ap (gathered (image_by n area).log) (sym h.is.logs))
 
   within : (w : ℕ) → w ≤ length n.heads → w ≤ g.workers
   within w high = let e = h.is.logs in omega arith
@@ -132,5 +139,6 @@ every_shown crashes saves agrees g es n area h = record {
   page = page crashes saves agrees g es n area h;
   leaves = leaves crashes saves agrees g es n area h;
   agree = agree crashes saves agrees g es n area h;
+  as_far = as_far crashes saves agrees g es n area h;
   clean = (lives crashes saves agrees g es n area h).clean;
 }

@@ -14,6 +14,7 @@ use Rattle.disk_image.specs.Formats.{format_of}
 use Rattle.disk_image.specs.MasterSlots.{master_on}
 use Rattle.disk_image.specs.Runs.{AreReadable, entries_in, sealed_in}
 use Rattle.disk_image.specs.Shown.{Areas, logged_in, page_slot_in, run_of, slot_of}
+use Rattle.core_disk.specs.MasterFloors.{IsFloorOf}
 
 -- ## Logs
 
@@ -57,13 +58,13 @@ pub record HoldsPage (g : Opening) (es : List Event) (n : Master) (p : ℕ) (byt
 
 -- ## Disks
 
--- The master is one of the state: as many pages and logs, and its floor. That its heads are those of the state is said by the logs.
+-- The master is one of the state: as many pages and logs, and a floor by which recovery finds the same. That its heads are those of the state is said by the logs.
 -- What is read of a disk's pages is what was saved, so the run is from a faithful opening.
 pub record IsMasterOf (g : Opening) (s : State) (n : Master) : Type 0 where
   pub faithful : g.faithful ≡ true
   pub format : g.format ≡ format_of n.pages
   pub logs : length n.heads ≡ g.workers
-  pub floor : n.floor ≡ s.floor
+  pub floor : IsFloorOf g s n.floor
 
 -- The bytes hold, by the master n, what a crash after the events es leaves: n counts and is the state's, and so is each log and each page.
 pub record HoldsRun (g : Opening) (es : List Event) (n : Master) (area : Areas) : Type 0 where

@@ -1,6 +1,7 @@
 -- Which crash of the core's state the bytes of a disk show.
 use Rattle.std.specs.Prelude.{ℕ, List}
 use Rattle.image_model.specs.Entries.{Entry, Contents}
+use Rattle.image_model.specs.Images.{found}
 use Rattle.core_state.specs.Openings.{Opening}
 use Rattle.core_state.specs.Events.{Event}
 use Rattle.core_crash.specs.Crashes.{Leaves, image_of}
@@ -8,14 +9,17 @@ use Rattle.disk_slots.specs.declared.master.Master.{Master}
 use Rattle.disk_image.specs.Laws.{Agree}
 use Rattle.disk_image.specs.Shown.{Areas, IsCleanDisk, image_by}
 use Rattle.core_state.specs.Steps.{state_after}
+use Rattle.core_disk.specs.FloorLaws.{ReachesAsFar, at_floor}
 use Rattle.core_disk.specs.Held.{HoldsRun}
 
--- The image of the bytes is one that a crash of the core's state may leave, and nothing of a later generation lies there.
+-- The image of the bytes is one that a crash of the core's state may leave, but for its floor, by which recovery finds the same; and nothing of a later generation
+-- lies there.
 pub record Shows (g : Opening) (es : List Event) (n : Master) (area : Areas) : Type 0 where
   pub logs : ℕ → List Entry
   pub page : ℕ → Contents
   pub leaves : Leaves g es logs page
-  pub agree : Agree (image_of g (state_after g es) logs page) (image_by n area)
+  pub agree : Agree (at_floor n.floor (image_of g (state_after g es) logs page)) (image_by n area)
+  pub as_far : ReachesAsFar g (state_after g es) n.floor (found (image_of g (state_after g es) logs page))
   pub clean : IsCleanDisk n area
 
 -- Whatever run it was, a disk that holds what a crash of it left shows such a crash.

@@ -26,6 +26,7 @@ use Rattle.worker_log.proofs.ListLemmas.{joined-append}
 use Rattle.worker_log.proofs.ReadLemmas.{entries-join}
 use Rattle.core_disk.specs.Held.{IsVersion}
 use Rattle.core_disk.specs.Versions.{EveryVersion, then}
+use Rattle.core_disk.proofs.FloorLemmas.{every_floor_step}
 use Rattle.core_disk.proofs.VersionLemmas.{state_then}
 use Rattle.disk_runs.specs.Logs.{LogStands}
 use Rattle.disk_runs.specs.MasterLaws.{EveryCut, IsCut, StandsNext, with_cut}
@@ -106,7 +107,7 @@ module _ (versions : EveryVersion) (cuts : logs.EveryCut) (s0 : Crash) (s : Stor
   cut_next = record {
     next = is.next;
     valid = is.valid;
-    is = record { faithful = stands.is.faithful; format = stands.is.format ∙ ap format_of (sym is.next.pages); logs = is.next.logs ∙ stands.is.logs; floor = is.floor };
+    is = record { faithful = stands.is.faithful; format = stands.is.format ∙ ap format_of (sym is.next.pages); logs = is.next.logs ∙ stands.is.logs; floor = (every_floor_step g (then es e) m.floor).own is.floor };
     pages = same_pages g (then es e) x.master m (s0.image 1) (s0.writes 1) x.firm x.late (s.area 1) is.next.pages is.next.generation
         (pages_then g es (then es e) x.master.pages x.master.generation (s0.image 1) (s0.writes 1) x.firm x.late (s.area 1) stay stands.pages);
     saved = λ p lt. stands.saved p (let q = is.next.pages in omega arith) ∙ ap (λ (z : State). z.saved p) (sym happened);

@@ -16,3 +16,4 @@ pub mod MomentLemmas
 pub mod LastingLemmas
 pub mod ReadLemmas
 pub mod RefusalLemmas
+pub mod RingLemmas

@@ -1,5 +1,5 @@
 -- The next master of a run is written and synced.
-use Rattle.std.proofs.Common.{◌≡◌, ◌⊎◌, inl, inr, ⊎_elim, ◌≤◌, ◌<◌, ◌-◌, ◌*◌, ℕ, suc, List, [], ◌∷◌, ◌++◌, length, drop, slice_index_or, Option, Some, codes, refl, sym, ap, ap₂, ◌∙◌, subst, arith}
+use Rattle.std.proofs.Common.{◌≡◌, ◌⊎◌, inl, inr, ⊎_elim, ◌≤◌, ◌<◌, ◌-◌, ◌*◌, ℕ, suc, true, List, [], ◌∷◌, ◌++◌, length, drop, slice_index_or, Option, Some, codes, refl, sym, ap, ap₂, ◌∙◌, subst, arith}
 use Rattle.std.proofs.lemmas.Bool.{cond-true}
 use Rattle.std.proofs.lemmas.List.{drop_all}
 use Rattle.map_model.specs.Lists.{Has}
@@ -26,14 +26,15 @@ use Rattle.disk_image.specs.MasterSlots.{master_on}
 use Rattle.disk_image.specs.Runs.{sealed_in}
 use Rattle.master_store.specs.Masters.{WritesOnce}
 use Rattle.worker_log.specs.Accounts.{joined, records_of}
-use Rattle.worker_log.specs.Kept.{RiseFrom}
+use Rattle.worker_log.specs.Kept.{EndsAt, RiseFrom}
 use Rattle.worker_log.specs.Laws.{EveryPrefix, EveryKept}
 use Rattle.core_disk.specs.Held.{HoldsRun}
 use Rattle.core_disk.specs.Versions.{EveryVersion, then}
+use Rattle.core_disk.proofs.FloorLemmas.{every_floor_step}
 use Rattle.core_disk.proofs.VersionLemmas.{state_then}
 use Rattle.disk_runs.specs.Logs.{LogStands}
 use Rattle.disk_runs.specs.Masters.{MasterStands, slot_of}
-use Rattle.disk_runs.specs.MasterLaws.{EveryMaster, EveryMasterWrite, EveryNextMaster, EverySync, Installs, InstallsNext, IsSync, LeavesEither, StandsNext, WritesNext, raised, with_sync}
+use Rattle.disk_runs.specs.MasterLaws.{EveryMaster, EveryMasterWrite, EveryNextMaster, EveryStillSync, EverySync, Installs, InstallsNext, IsAllSynced, IsStillSync, IsSync, LeavesEither, StandsNext, WritesNext, raised, with_sync}
 use Rattle.disk_runs.specs.Pages.{PagesStand, Firm}
 use Rattle.disk_runs.specs.Stands.{Known, Stands}
 use Rattle.disk_runs.proofs.LogLemmas.{rests_log}
@@ -187,7 +188,14 @@ pub same_pages : (g : Opening) (es : List Event) (n m : Master) (first : List �
     → PagesStand g es n.pages n.generation first older firm late area → PagesStand g es m.pages m.generation first older firm late area
 same_pages g es n m first older firm late area p q st = subst (λ (k : ℕ). PagesStand g es m.pages k first older firm late area) (sym q) (subst (λ (k : ℕ). PagesStand g es k n.generation first older firm late area) (sym p) st)
 
-module _ (versions : EveryVersion) (s0 : Crash) (s : Story) (g : Opening) (es : List Event) (x : Known) (m : Master) (k : ℕ) (stands : Stands g es s0 x s) (is : IsSync g es x m k) where
+-- as a master of the same generation, blocks and heads has it, each log that is flushed whole goes on from the number of a sync
+record IsOfSameRing (n m : Master) : Type 0 where
+  generation : m.generation ≡ n.generation
+  blocks : m.blocks ≡ n.blocks
+  heads : m.heads ≡ n.heads
+
+module _ (s0 : Crash) (s : Story) (g : Opening) (es : List Event) (x : Known) (m : Master) (k : ℕ) (stands : Stands g es s0 x s) (met : may g (state_after g es) (Event.Sync k) ≡ true)
+    (whole : (w : ℕ) → 0 < w → w ≤ g.workers → IsAllSynced (x.account w)) (within : (w : ℕ) → 0 < w → w ≤ g.workers → (x.log w).last ≤ k) (same : IsOfSameRing x.master m) where
   abbrev now : State
   now = state_after g es
 
@@ -195,23 +203,23 @@ module _ (versions : EveryVersion) (s0 : Crash) (s : Story) (g : Opening) (es : 
   e = Event.Sync k
 
   happened : state_after g (then es e) ≡ happens g now e
-  happened = state_then g es e ∙ cond-true (may g now e) (happens g now e) now is.met
+  happened = state_then g es e ∙ cond-true (may g now e) (happens g now e) now met
 
   log_next : (w : ℕ) → 0 < w → w ≤ g.workers → LogStands (state_after g (then es e)) m (s0.image (suc w)) (s0.writes (suc w)) w (x.account w) (raised (x.log w) k) (s.area (suc w))
   log_next w low high =
       let st = stands.logs w low high in
-      let all = is.flushed w low high in
-      let last = is.within w low high in
+      let all = whole w low high in
+      let last = within w low high in
       let none : drop (x.account w).synced (x.account w).written ≡ [] = ap (λ (i : ℕ). drop i (x.account w).written) all.synced ∙ drop_all (length (x.account w).written) (x.account w).written (omega arith) in
       record {
-        is = record { generation = st.is.generation ∙ sym is.next.generation; number = st.is.number; blocks = st.is.blocks ∙ sym is.next.blocks; head = st.is.head ∙ ap (λ (hs : List ℕ). slice_index_or hs (w - 1) 0) (sym is.heads) };
+        is = record { generation = st.is.generation ∙ sym same.generation; number = st.is.number; blocks = st.is.blocks ∙ sym same.blocks; head = st.is.head ∙ ap (λ (hs : List ℕ). slice_index_or hs (w - 1) 0) (sym same.heads) };
         ranges = record { generation = st.ranges.generation; number = st.ranges.number; some = st.ranges.some; head = st.ranges.head; ring = st.ranges.ring };
         accounts = record {
           entries = st.accounts.entries ∙ ap (λ (t : State). from_head (t.head w) (log_of w t.entries)) (sym happened);
           flushed = let f = ap (λ (t : State). t.flushed w) happened in omega arith;
           order = omega arith;
         };
-        began = record { first_is = st.began.first_is; older_is = st.began.older_is; sealed = λ q h. let a = st.began.sealed q (subst (λ (b : ℕ). Has q (sealed_in b (s0.image (suc w)))) is.next.blocks h) in let b = is.next.generation in omega arith };
+        began = record { first_is = st.began.first_is; older_is = st.began.older_is; sealed = λ q h. let a = st.began.sealed q (subst (λ (b : ℕ). Has q (sealed_in b (s0.image (suc w)))) same.blocks h) in let b = same.generation in omega arith };
         kept = record {
           next = st.kept.next;
           payload = st.kept.payload;
@@ -219,6 +227,8 @@ module _ (versions : EveryVersion) (s0 : Crash) (s : Story) (g : Opening) (es : 
           fit = st.kept.fit;
           ring = st.kept.ring;
           numbers = (st.kept.numbers.0, rise_to st.kept.numbers.0 (records_of (x.account w)) (x.log w).last k last st.kept.numbers.1);
+          ends = st.kept.ends;
+          ending = subst (λ (rs : List Record). EndsAt rs k) (sym all.current) tt;
           synced = st.kept.synced;
           below = λ r h. let a = st.kept.below r h in let o = st.accounts.order in omega arith;
           above = λ r h. absurd (subst (Has r) (ap₂ (λ (bs : List (List Record)) (rs : List Record). joined bs ++ rs) none all.current) h);
@@ -226,15 +236,40 @@ module _ (versions : EveryVersion) (s0 : Crash) (s : Story) (g : Opening) (es : 
         };
       }
 
-  pub sync_next : StandsNext g es e s0 x (with_sync x m k) s
+module _ (versions : EveryVersion) (s0 : Crash) (s : Story) (g : Opening) (es : List Event) (x : Known) (m : Master) (k : ℕ) (stands : Stands g es s0 x s) (is : IsSync g es x m k) where
+  same_ring : IsOfSameRing x.master m
+  same_ring = record { generation = is.next.generation; blocks = is.next.blocks; heads = is.heads }
+
+  synced_is : state_after g (then es (Event.Sync k)) ≡ happens g (state_after g es) (Event.Sync k)
+  synced_is = happened s0 s g es x m k stands is.met is.flushed is.within same_ring
+
+  pub sync_next : StandsNext g es (Event.Sync k) s0 x (with_sync x m k) s
   sync_next = record {
     next = is.next;
     valid = is.valid;
-    is = record { faithful = stands.is.faithful; format = stands.is.format ∙ ap format_of (sym is.next.pages); logs = is.next.logs ∙ stands.is.logs; floor = is.floor ∙ ap (λ (t : State). t.floor) (sym happened) };
-    pages = same_pages g (then es e) x.master m (s0.image 1) (s0.writes 1) x.firm x.late (s.area 1) is.next.pages is.next.generation (still_pages versions g es e s0 x (s.area 1) refl stands.pages);
-    saved = λ p lt. stands.saved p (let q = is.next.pages in omega arith) ∙ ap (λ (t : State). t.saved p) (sym happened);
-    logs = log_next;
+    is = record { faithful = stands.is.faithful; format = stands.is.format ∙ ap format_of (sym is.next.pages); logs = is.next.logs ∙ stands.is.logs; floor = (every_floor_step g (then es (Event.Sync k)) m.floor).own (is.floor ∙ ap (λ (t : State). t.floor) (sym synced_is)) };
+    pages = same_pages g (then es (Event.Sync k)) x.master m (s0.image 1) (s0.writes 1) x.firm x.late (s.area 1) is.next.pages is.next.generation (still_pages versions g es (Event.Sync k) s0 x (s.area 1) refl stands.pages);
+    saved = λ p lt. stands.saved p (let q = is.next.pages in omega arith) ∙ ap (λ (t : State). t.saved p) (sym synced_is);
+    logs = log_next s0 s g es x m k stands is.met is.flushed is.within same_ring;
+  }
+
+-- no master is written
+module _ (versions : EveryVersion) (s0 : Crash) (s : Story) (g : Opening) (es : List Event) (x : Known) (k : ℕ) (stands : Stands g es s0 x s) (still : IsStillSync g es x k) where
+  its_own : IsOfSameRing x.master x.master
+  its_own = record { generation = refl; blocks = refl; heads = refl }
+
+  pub still_sync : Stands g (then es (Event.Sync k)) s0 (with_sync x x.master k) s
+  still_sync = record {
+    tells = stands.tells;
+    is = record { faithful = stands.is.faithful; format = stands.is.format; logs = stands.is.logs; floor = (every_floor_step g es x.master.floor).sync k still.reached stands.is.floor };
+    master = stands.master;
+    pages = still_pages versions g es (Event.Sync k) s0 x (s.area 1) refl stands.pages;
+    saved = λ p lt. stands.saved p lt ∙ ap (λ (t : State). t.saved p) (sym (happened s0 s g es x x.master k stands still.met still.flushed still.within its_own));
+    logs = log_next s0 s g es x x.master k stands still.met still.flushed still.within its_own;
   }
 
 pub every_sync : EveryVersion → (s : Story) → EverySync s
 every_sync versions s s0 g es x m n stands is = sync_next versions s0 s g es x m n stands is
+
+pub every_still_sync : EveryVersion → (s : Story) → EveryStillSync s
+every_still_sync versions s s0 g es x n stands still = still_sync versions s0 s g es x n stands still

@@ -12,6 +12,7 @@ use Rattle.page_store.proofs.PieceLemmas.{every_whole}
 use Rattle.worker_log.specs.Logs.{Log}
 use Rattle.core_disk.specs.Held.{IsVersion}
 use Rattle.core_disk.specs.Versions.{EveryVersion}
+use Rattle.core_disk.proofs.FloorLemmas.{every_floor_step}
 use Rattle.disk_runs.specs.Logs.{LogStands}
 use Rattle.disk_runs.specs.Openings.{EveryOpened, MayBe, Opens, opened}
 use Rattle.disk_runs.specs.Pages.{Firm, IsFirm, MayStand}
@@ -46,7 +47,7 @@ module _ (versions : EveryVersion) (s0 : Crash) (s : Story) (g : Opening) (n : M
   pub stands_opened : Stands g [] s0 (opened n log firm s) s
   stands_opened = record {
     tells = opens.tells;
-    is = record { faithful = opens.faithful; format = opens.format; logs = opens.logs; floor = opens.floor };
+    is = record { faithful = opens.faithful; format = opens.format; logs = opens.logs; floor = (every_floor_step g [] n.floor).own opens.floor };
     master = opens.master;
     pages = record {
       since = opens.pages.since;

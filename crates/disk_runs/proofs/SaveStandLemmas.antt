@@ -133,7 +133,7 @@ module _ (keeps : EveryKept) (prefixes : EveryPrefix) (seals : EverySealed) (ver
       any_moment = goes_on old old new (LeavesRun g es s0 n) (started old (LeavesRun g es s0 n) law (λ c now. every_rest keeps prefixes seals old s0 g es x stands c now)) wrote.time leaves;
       after = λ done. record {
         tells = λ a l. wrote.time.tells a ∙ stands.tells a l;
-        is = still_master g (state_after g es) (state_after g (then es (Event.Save p))) n (same_floor g es p is.met) stands.is;
+        is = still_master g es (Event.Save p) n refl (same_floor g es p is.met) stands.is;
         master = subst (MasterStands n (s0.image 0) (s0.writes 0)) (sym (wrote.elsewhere 0 (λ e. omega arith))) stands.master;
         pages = still_pages versions g es (Event.Save p) s0 (with_late x p y) (new.area 1) refl
             (subst (PagesStand g es n.pages n.generation (s0.image 1) (s0.writes 1) x.firm (upd x.late p (Some y))) (sym (wrote.done (stands.tells 1 (omega arith)) done))

@@ -27,6 +27,7 @@ use Rattle.worker_log.specs.Laws.{EveryFlushed, EveryPrefix, EveryKept, EverySta
 use Rattle.core_state.specs.Steps.{state_after}
 use Rattle.core_disk.specs.Held.{HoldsLog, HoldsPage, IsMasterOf}
 use Rattle.core_disk.specs.Versions.{EveryVersion, is_cut, then}
+use Rattle.core_disk.proofs.FloorLemmas.{every_floor_step}
 use Rattle.core_disk.proofs.VersionLemmas.{good}
 use Rattle.disk_runs.specs.Fair.{IsFairFrom}
 use Rattle.disk_runs.specs.Logs.{Accounts, LogStands, Records}
@@ -104,8 +105,8 @@ same_accounts w s t x log same a = record {
 pub same_stands : (s t : State) (n : Master) (first : List ℕ) (older : List Write) (w : ℕ) (x : Account) (log : Log) (area : Area) → SameLog w s t → LogStands s n first older w x log area → LogStands t n first older w x log area
 same_stands s t n first older w x log area same st = record { is = st.is; ranges = st.ranges; accounts = same_accounts w s t x log same st.accounts; began = st.began; kept = st.kept }
 
-pub still_master : (g : Opening) (s t : State) (n : Master) → t.floor ≡ s.floor → IsMasterOf g s n → IsMasterOf g t n
-still_master g s t n same is = record { faithful = is.faithful; format = is.format; logs = is.logs; floor = is.floor ∙ sym same }
+pub still_master : (g : Opening) (es : List Event) (e : Event) (n : Master) → is_cut e ≡ false → (state_after g (then es e)).floor ≡ (state_after g es).floor → IsMasterOf g (state_after g es) n → IsMasterOf g (state_after g (then es e)) n
+still_master g es e n no_cut same is = record { faithful = is.faithful; format = is.format; logs = is.logs; floor = (every_floor_step g es n.floor).more e no_cut same is.floor }
 
 pub still_pages : EveryVersion → (g : Opening) (es : List Event) (e : Event) (s0 : Crash) (x : Known) (area : Area) → is_cut e ≡ false
     → PagesStand g es x.master.pages x.master.generation (s0.image 1) (s0.writes 1) x.firm x.late area
@@ -116,7 +117,7 @@ still_pages versions g es e s0 x area no_cut st = pages_then g es (then es e) x.
 pub every_still : EveryVersion → (s : Story) → EveryStill s
 every_still versions s s0 g es x e stands no_cut same = record {
   tells = stands.tells;
-  is = still_master g (state_after g es) (state_after g (then es e)) x.master same.floor stands.is;
+  is = still_master g es e x.master no_cut same.floor stands.is;
   master = stands.master;
   pages = still_pages versions g es e s0 x (s.area 1) no_cut stands.pages;
   saved = λ p lt. stands.saved p lt ∙ sym (same.saved p);
@@ -160,7 +161,7 @@ module _ (versions : EveryVersion) (g : Opening) (es : List Event) (e : Event) (
   pub goes_on : Stands g (then es e) s0 (with_log x w log y) new
   goes_on = record {
     tells = λ a l. frame.tells a ∙ stands.tells a l;
-    is = still_master g (state_after g es) t x.master floor stands.is;
+    is = still_master g es e x.master no_cut floor stands.is;
     master = subst (MasterStands x.master (s0.image 0) (s0.writes 0)) (sym (frame.elsewhere 0 (λ k. omega arith))) stands.master;
     pages = subst (PagesStand g (then es e) x.master.pages x.master.generation (s0.image 1) (s0.writes 1) x.firm x.late) (sym (frame.elsewhere 1 (λ k. omega arith)))
         (still_pages versions g es e s0 x (old.area 1) no_cut stands.pages);

@@ -5,6 +5,7 @@ use Rattle.map_model.specs.Lists.{Has}
 use Rattle.core_state.specs.Openings.{Opening}
 use Rattle.core_state.specs.Events.{Event}
 use Rattle.core_state.specs.Needs.{may}
+use Rattle.core_state.specs.States.{flushed_by_all}
 use Rattle.lean_disk.specs.Calls.{Synced, Wrote}
 use Rattle.lean_disk.specs.Area.{synced, written}
 use Rattle.lean_disk.specs.Moments.{CrashIn, Framed, LeavesOnly}
@@ -103,6 +104,17 @@ pub record IsSync (g : Opening) (es : List Event) (x : Known) (m : Master) (n : 
 -- All but the master stands after the event of the sync.
 abbrev pub EverySync : (s : Story) → Type 0
 EverySync s = (s0 : Crash) (g : Opening) (es : List Event) (x : Known) (m : Master) (n : ℕ) → Stands g es s0 x s → IsSync g es x m n → StandsNext g es (Event.Sync n) s0 x (with_sync x m n) s
+
+-- Each log is flushed, and that was up to the number already: it is nowhere further than the logs reach.
+pub record IsStillSync (g : Opening) (es : List Event) (x : Known) (n : ℕ) : Type 0 where
+  pub met : may g (state_after g es) (Event.Sync n) ≡ true
+  pub flushed : (w : ℕ) → 0 < w → w ≤ g.workers → IsAllSynced (x.account w)
+  pub within : (w : ℕ) → 0 < w → w ≤ g.workers → (x.log w).last ≤ n
+  pub reached : n ≤ flushed_by_all g (state_after g es)
+
+-- Then no master is written, and the disk stands after the event of the sync as it is.
+abbrev pub EveryStillSync : (s : Story) → Type 0
+EveryStillSync s = (s0 : Crash) (g : Opening) (es : List Event) (x : Known) (n : ℕ) → Stands g es s0 x s → IsStillSync g es x n → Stands g (then es (Event.Sync n)) s0 (with_sync x x.master n) s
 
 -- ## A cut
 

@@ -7,12 +7,13 @@
 ghost use Rattle.disk_runs.specs.Fair.{EveryFair};
 ghost use Rattle.disk_runs.specs.Laws.{EveryFlush, EveryLogCall, EveryRead, EveryRest, EverySame, EveryStage, EveryStill};
 ghost use Rattle.disk_runs.specs.PageLaws.{EveryFetch, EverySave, EverySettled};
-ghost use Rattle.disk_runs.specs.MasterLaws.{EveryCut, EveryMaster, EveryMasterWrite, EveryNextMaster, EverySync};
+ghost use Rattle.disk_runs.specs.MasterLaws.{EveryCut, EveryMaster, EveryMasterWrite, EveryNextMaster, EveryStillSync, EverySync};
 ghost use Rattle.disk_runs.specs.Masters.{EveryMasterCount, EveryMasterLine};
 ghost use Rattle.disk_runs.specs.Moments.{EveryAmong, EveryLasting, EveryMoment, EverySurvival};
 ghost use Rattle.disk_runs.specs.Openings.{EveryOpened};
 ghost use Rattle.disk_runs.specs.Quiet.{EveryQuiet};
 ghost use Rattle.disk_runs.specs.Refusals.{Refusals};
+ghost use Rattle.disk_runs.specs.Rings.{EveryRing, EveryStillCut};
 
 use lean_disk::Disk;
 
@@ -136,12 +137,34 @@ pub fn every_sync<D: Disk>(now: &D)
     core_disk::every_version();
 }
 
+/// A sync up to what all logs were flushed to needs no master.
+pub fn every_still_sync<D: Disk>(now: &D)
+    ensures { EveryStillSync (D.story now.now) }
+{
+    core_disk::every_version();
+}
+
 /// What stands by the master of a cut.
 pub fn every_cut<D: Disk>(now: &D)
     ensures { EveryCut (D.story now.now) }
 {
     core_disk::every_version();
     worker_log::every_cut();
+}
+
+/// Each head passes the blocks that have no record above the cut's number.
+pub fn every_ring<D: Disk>(now: &D)
+    ensures { EveryRing (D.story now.now) }
+{
+    worker_log::every_passed();
+}
+
+/// A cut by which no head moves needs no master.
+pub fn every_still_cut<D: Disk>(now: &D)
+    ensures { EveryStillCut (D.story now.now) }
+{
+    core_disk::every_version();
+    worker_log::every_passed();
 }
 
 /// Most events change nothing that a disk shows.

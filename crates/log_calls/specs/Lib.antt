@@ -1,4 +1,5 @@
--- Read Calls, then Wholes and Syncs.
+-- Read Calls, then Wholes, Syncs and Cuts.
 pub mod Calls
 pub mod Wholes
 pub mod Syncs
+pub mod Cuts

@@ -13,7 +13,7 @@ use disk_slots::Master;
 use lean_disk::{AreaOf, Did, Disk};
 use master_store::write_next;
 
-fn write_on<D: Disk>(disk: &mut D, master: &Master) -> Did
+pub(crate) fn write_on<D: Disk>(disk: &mut D, master: &Master) -> Did
     ensures any_moment { LeavesOnly (D.story disk.old) (D.story disk.new) (CrashIn (D.story disk.old) 0 (WritesOnce (1024 * (master.now.sequence % 2)) (master_slot master.now) ((D.story disk.old).area 0))) }
     ensures frame { Framed 0 (D.story disk.old) (D.story disk.new) }
     ensures done { result ≡ Did.Done → Tells (D.story disk.old) 0 → (D.story disk.new).area 0 ≡ synced (written (1024 * (master.now.sequence % 2)) (master_slot master.now) ((D.story disk.old).area 0)) }

@@ -1,35 +1,38 @@
 -- From a disk that holds what a crash of a run left to the words of the lines that were out.
-use Rattle.std.proofs.Common.{◌≡◌, ◌&&◌, ◌==◌, not, leb, inl, inr, ℕ, List, [], ◌++◌, length, Option, Some, None, refl, sym, ap, ap₂, ◌∙◌, subst}
+use Rattle.std.proofs.Common.{◌≡◌, ◌&&◌, ◌||◌, ◌==◌, not, leb, inl, inr, ℕ, List, [], ◌++◌, length, Option, Some, None, refl, sym, ap, ap₂, ◌∙◌, subst}
 use Rattle.std.proofs.lemmas.List.{append-nil}
-use Rattle.map_model.specs.Lists.{Has}
+use Rattle.map_model.specs.Lists.{Has, any}
 use Rattle.map_model.specs.Journals.{Journal, Txn, IsClosed, after}
 use Rattle.map_model.proofs.ListLemmas.{has_right, keep_has}
 use Rattle.map_model.specs.Outputs.{Reply}
 use Rattle.image_model.specs.Entries.{Entry, is_record}
-use Rattle.image_model.specs.Ends.{is_kept, kept}
+use Rattle.image_model.specs.Ends.{is_kept, kept, reach, wins}
 use Rattle.image_model.specs.Images.{Image, StandsFor, found, gathered, won_by}
 use Rattle.core_state.specs.Openings.{Opening, first_map}
 use Rattle.core_state.specs.Events.{Event}
 use Rattle.core_state.specs.Steps.{state_after}
 use Rattle.core_crash.specs.Crashes.{image_of}
+use Rattle.core_crash.proofs.Cuts.{keep_same}
 use Rattle.core_crash.proofs.Images.{gathered_has}
 use Rattle.disk_slots.specs.declared.master.Master.{Master}
 use Rattle.disk_image.specs.Laws.{Agreement, EveryAgreement}
 use Rattle.disk_image.specs.Shown.{Areas, image_by}
+use Rattle.core_disk.specs.FloorLaws.{at_floor}
 use Rattle.core_disk.specs.Held.{HoldsRun}
 use Rattle.core_disk.specs.Shows.{EveryShown, Shows}
+use Rattle.core_disk.proofs.FloorLemmas.{agreement_at, sound_at}
 use Rattle.core_disk.proofs.HeldLemmas.{gathered_same}
 use Rattle.core_calls.specs.Crashes.{EveryRunCrash, RunSurvives, WithOneInHand}
 use Rattle.core_calls.specs.Deeds.{Outcome}
 use Rattle.core_calls.specs.Fronts.{Done, front, outcomes}
 use Rattle.core_calls.specs.Printed.{printed}
-use Rattle.core_calls.specs.Told.{kept_of}
+use Rattle.core_calls.specs.Told.{SameTxn, kept_of}
 use Rattle.disk_runs.specs.Masters.{IsOfRunBy}
 use Rattle.run_crashes.specs.Laws.{EveryReopened, EveryReopenedFor, Passing}
 use Rattle.run_crashes.specs.Lines.{FellIn, Between, InCall, Stopped, Recovers, outcome_of}
 
 -- what is in hand is kept by an image that keeps the same
-in_hand : (i j : Image) (told : List Outcome) (next : Option Outcome) (by_then : Journal) → ((t : Txn) → is_kept i.logs i.floor (found i) t ≡ is_kept j.logs j.floor (found j) t)
+in_hand : (i j : Image) (told : List Outcome) (next : Option Outcome) (by_then : Journal) → ((t : Txn) → Has t by_then → is_kept i.logs i.floor (found i) t ≡ is_kept j.logs j.floor (found j) t)
     → WithOneInHand i told next by_then → WithOneInHand j told next by_then
 in_hand i j told next by_then same (inl e) = inl e
 in_hand i j told next by_then same (inr h) = inr (record {
@@ -43,10 +46,15 @@ in_hand i j told next by_then same (inr h) = inr (record {
   session_is = h.session_is;
   number_is = h.number_is;
   at_is = h.at_is;
-  kept = sym (same h.more) ∙ h.kept;
+  kept = sym (same h.more h.one) ∙ h.kept;
+  one = h.one;
   has = h.has;
   only = h.only;
 })
+
+-- whether a transaction is kept goes by its session, its number and its commit number
+kept_by : (logs floor : ℕ) (z : List Entry) (t u : Txn) → SameTxn t u → is_kept logs floor z t ≡ is_kept logs floor z u
+kept_by logs floor z t u same = λ i. leb (same.at i) floor || any (λ e. wins (reach logs floor z) e && ((e.log == same.session i) && (e.txn == same.number i))) z
 
 module _ (agrees : EveryAgreement) (g : Opening) (Such : List Done → List Event → Type 0) (m n : Master) (area : Areas) (heard : List Done) (next : Option Done) (newer out : List Reply) (lines : newer ++ out ≡ printed g heard)
     (behind : List Event) (fell : FellIn (Such heard) next behind) (of_run : IsOfRunBy (front heard ++ behind) m n) (h : HoldsRun g (front heard ++ behind) n area) (x : Shows g (front heard ++ behind) n area)
@@ -60,15 +68,20 @@ module _ (agrees : EveryAgreement) (g : Opening) (Such : List Done → List Even
   abbrev shown : Image
   shown = image_by n area
 
+  -- by the master's floor, and so by the core's
   agreement : Agreement image shown
-  agreement = agrees image shown x.agree r.survives.stands.sound
+  agreement = agreement_at image n.floor x.as_far.reach shown (agrees (at_floor n.floor image) shown x.agree (sound_at image n.floor x.as_far.reach r.survives.stands.sound))
 
   found_is : found image ≡ found shown
   found_is = gathered_same image.log shown.log g.workers x.agree.log ∙ ap (gathered shown.log) (sym h.is.logs)
 
-  keeps_same : (t : Txn) → is_kept image.logs image.floor (found image) t ≡ is_kept shown.logs shown.floor (found shown) t
-  keeps_same t = ap (λ (l : ℕ). is_kept l image.floor (found image) t) (sym h.is.logs)
-      ∙ ap₂ (λ (f : ℕ) (z : List Entry). is_kept (length n.heads) f z t) (sym h.is.floor) found_is
+  -- the core's floor keeps the same of them as the master's
+  keeps_same : (t : Txn) → Has t r.by_then → is_kept image.logs image.floor (found image) t ≡ is_kept shown.logs shown.floor (found shown) t
+  keeps_same t i =
+      let u = r.happened t i in
+      kept_by g.workers image.floor (found image) t u.0 u.2
+      ∙ (sym (x.as_far.kept u.0 u.1)
+      ∙ (sym (kept_by g.workers n.floor (found image) t u.0 u.2) ∙ ap₂ (λ (l : ℕ) (z : List Entry). is_kept l n.floor z t) (sym h.is.logs) found_is))
 
   -- what is found in the image has happened
   entered : (r : Entry) → Has r (found shown) → Has r (state_after g es).entries
@@ -83,8 +96,7 @@ module _ (agrees : EveryAgreement) (g : Opening) (Such : List Done → List Even
   kept_ones = kept (length n.heads) n.floor (found shown) r.by_then
 
   kept_is : kept_of image r.by_then ≡ kept_ones
-  kept_is = ap (λ (l : ℕ). kept l image.floor (found image) r.by_then) (sym h.is.logs)
-      ∙ ap₂ (λ (f : ℕ) (z : List Entry). kept (length n.heads) f z r.by_then) (sym h.is.floor) found_is
+  kept_is = keep_same (is_kept image.logs image.floor (found image)) (is_kept shown.logs shown.floor (found shown)) r.by_then keeps_same
 
   pub recovers : Recovers g Such heard next out m area
   recovers = record {

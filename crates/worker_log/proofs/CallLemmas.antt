@@ -1,6 +1,6 @@
 -- From a device's calls to what an account says: each moment of a write and of a sync, and what stands after it.
-use Rattle.std.proofs.Common.{◌≡◌, ◌⊎◌, inl, inr, ⊎_elim, ℕ, ◌+◌, ◌*◌, ◌%◌, ◌^◌, ◌≤◌, ◌<◌, List, [], ◌∷◌, ◌++◌, length, get_or, refl, sym, ◌∙◌, ap, subst, IsTrue, arith}
-use Rattle.std.proofs.lemmas.Bool.{cases_lt}
+use Rattle.std.proofs.Common.{◌≡◌, ◌⊎◌, inl, inr, ⊎_elim, ℕ, ◌+◌, ◌*◌, ◌%◌, ◌^◌, ◌≤◌, ◌<◌, List, [], ◌∷◌, ◌++◌, length, get_or, refl, sym, ◌∙◌, ap, subst, IsTrue, arith, cond, length-append, ◌==◌}
+use Rattle.std.proofs.lemmas.Bool.{cases_lt, cond-false, cond-true, eq-eqb, ne_eqb}
 use Rattle.map_model.specs.Lists.{Has}
 use Rattle.image_model.specs.Fair.{IsFair}
 use Rattle.lean_disk.specs.Area.{Area, Leaves, Write, IsApart, torn}
@@ -250,6 +250,14 @@ staged_here x old new area r sized kept fits rises room is = record {
   kept = subst (λ (l : Log). IsKept (staged x r) l area) (sym is) (kept_put x old area sized kept r fits rises room);
 }
 
+ends_closed : (log : Log) → IsSized log → log.head + length (cond (log.count == 0) log.ends (log.ends ++ log.last ∷ [])) ≡ log.next + cond (log.count == 0) 0 1
+ends_closed log sized = ⊎_elim
+    (λ (some : 0 < log.count). let e = cond-false (log.count == 0) log.ends (log.ends ++ log.last ∷ []) (ne_eqb log.count 0 (λ e. omega (arith, some))) in
+    omega (arith, count_some log.count some, sized.ends, ap length e, length-append log.ends (log.last ∷ [])))
+    (λ (none : log.count ≤ 0). let e = cond-true (log.count == 0) log.ends (log.ends ++ log.last ∷ []) (eq-eqb log.count 0 (omega (arith, none))) in
+    omega (arith, count_none log.count (omega (arith, none)), sized.ends, ap length e))
+    (cases_lt 0 log.count)
+
 -- a log that is sized still is where the block in hand was written
 pub sized_closed : (log : Log) → IsSized log → IsSized (closed_log log)
 sized_closed log sized =
@@ -266,6 +274,7 @@ sized_closed log sized =
         ring = omega (arith, step, sized.ranges.ring);
       };
       order = omega (arith, sized.order);
+      ends = ends_closed log sized;
       payload = omega arith;
       count = omega arith;
       none = λ e. refl;

@@ -9,7 +9,7 @@ use Rattle.disk_image.specs.Runs.{Block}
 use Rattle.disk_image.proofs.BlockInLemmas.{every_belongs}
 use Rattle.worker_log.specs.Logs.{Log}
 use Rattle.worker_log.specs.Accounts.{Account, joined, spelled_from}
-use Rattle.worker_log.specs.Kept.{HoldsBlocks, IsBlockWrite, IsInRange, IsKept, IsOwnWrite, IsPassed, RiseFrom, cut}
+use Rattle.worker_log.specs.Kept.{HoldsBlocks, IsBlockWrite, IsInRange, IsKept, IsOwnWrite, IsPassed, RiseFrom, cut, ends_of}
 use Rattle.worker_log.specs.Calls.{cut_log}
 use Rattle.worker_log.specs.Laws.{EveryCut, IsCutOff}
 use Rattle.worker_log.proofs.ListLemmas.{fit_blocks-drop, joined-dropped, rise-behind, spelled-belongs, spelled-dropped, spelled-split}
@@ -19,6 +19,11 @@ joined-split : (k : ℕ) (ws : List (List Record)) → joined (take k ws) ++ joi
 joined-split zero ws = refl
 joined-split (suc k) [] = refl
 joined-split (suc k) (v ∷ ws) = append_assoc v (joined (take k ws)) (joined (drop k ws)) ∙ ap (λ (rs : List Record). v ++ rs) (joined-split k ws)
+
+pub ends-drop : (k : ℕ) (ws : List (List Record)) → ends_of (drop k ws) ≡ drop k (ends_of ws)
+ends-drop zero ws = refl
+ends-drop (suc k) [] = refl
+ends-drop (suc k) (v ∷ ws) = ends-drop k ws
 
 module _ (k : ℕ) (x : Account) (log : Log) (area : Area) (ranges : IsInRange log) (le : k ≤ x.synced) (low : log.head + k < 2 ^ 63) (kept : IsKept x log area) where
   abbrev ws : List (List Record)
@@ -85,6 +90,8 @@ module _ (k : ℕ) (x : Account) (log : Log) (area : Area) (ranges : IsInRange l
     fit = (fit_blocks-drop k ws kept.fit.0, kept.fit.1);
     ring = omega (arith, long, kept.ring);
     numbers = rises;
+    ends = ap (drop k) kept.ends ∙ sym (ends-drop k ws);
+    ending = kept.ending;
     synced = omega (arith, long, kept.synced, le);
     below = λ r has. kept.below r (joined-dropped k (take x.synced ws) r (subst (λ (l : List (List Record)). Has r (joined l)) synced_rest has));
     above = λ r has. kept.above r (subst (λ (l : List (List Record)). Has r (joined l ++ x.current)) late_rest has);

@@ -1,6 +1,6 @@
 -- What an account says after each step: a block is written, the ring is synced, a record is put into the block in hand.
-use Rattle.std.proofs.Common.{◌≡◌, inl, inr, ⊎_elim, ℕ, ◌+◌, ◌*◌, ◌%◌, ◌^◌, ◌≤◌, ◌<◌, ◌==◌, if◌then◌else◌, Bool, List, [], ◌∷◌, ◌++◌, length, drop, refl, sym, ◌∙◌, ap, subst, arith, append_assoc, length-append}
-use Rattle.std.proofs.lemmas.Bool.{cases_eq, cases_lt, eq-eqb, ne_eqb}
+use Rattle.std.proofs.Common.{◌≡◌, ◌⊎◌, inl, inr, ⊎_elim, ℕ, ◌+◌, ◌*◌, ◌%◌, ◌^◌, ◌≤◌, ◌<◌, ◌==◌, if◌then◌else◌, Bool, List, [], ◌∷◌, ◌++◌, length, drop, refl, sym, ◌∙◌, ap, subst, arith, append_assoc, length-append}
+use Rattle.std.proofs.lemmas.Bool.{cases_eq, cases_lt, cond-false, eq-eqb, ne_eqb}
 use Rattle.std.proofs.lemmas.List.{append-nil, length-drop, nil_from_length, take-append-le, take_all, drop_all}
 use Rattle.std.proofs.lemmas.List.Concat.{flat_map-append}
 use Rattle.map_model.proofs.ListLemmas.{has_cases, has_left, has_right}
@@ -17,7 +17,7 @@ use Rattle.disk_image.proofs.RunLemmas.{belongs-text}
 use Rattle.worker_log.specs.Inside.{IsSized, closed_log}
 use Rattle.worker_log.specs.Logs.{Log}
 use Rattle.worker_log.specs.Accounts.{Account, joined, spelled, spelled_from, with_current}
-use Rattle.worker_log.specs.Kept.{AllFitBlocks, FitsBlock, HoldsBlocks, IsBlockWrite, IsKept, IsPassed, RiseFrom, closed, flushed, staged}
+use Rattle.worker_log.specs.Kept.{AllFitBlocks, EndsAt, FitsBlock, HoldsBlocks, IsBlockWrite, IsFresh, fresh_account, IsKept, IsPassed, RiseFrom, closed, end_behind, end_of, ends_of, flushed, staged}
 use Rattle.worker_log.specs.Calls.{HasRoom}
 use Rattle.worker_log.proofs.ListLemmas.{block_of, fit-push, fit_blocks-drop, fit_blocks-with, has_first, joined-drop-with, joined-dropped, joined-with, none_left, rise-has, rise-push, rise-to, spelled-last, spelled-more, spelled-number, spelled-push, spelled-take, take-with, with_none, with_some}
 use Rattle.worker_log.proofs.RingLemmas.{rem_apart, rem_next, write_here, write_other, write_size}
@@ -113,6 +113,28 @@ module _ (g s n h : ℕ) (first : List ℕ) (older : List Write) (ws : List (Lis
     reach = holds.reach;
   }
 
+-- ## The last numbers of blocks
+
+ends-append : (a b : List (List Record)) → ends_of (a ++ b) ≡ ends_of a ++ ends_of b
+ends-append [] b = refl
+ends-append (rs ∷ a) b = ap (λ (l : List ℕ). end_of rs ∷ l) (ends-append a b)
+
+end_behind-push : (n : ℕ) (rs : List Record) (r : Record) → end_behind n (rs ++ r ∷ []) ≡ r.gsn
+end_behind-push n [] r = refl
+end_behind-push n (s ∷ rs) r = end_behind-push s.gsn rs r
+
+ends_at-push : (rs : List Record) (r : Record) → EndsAt (rs ++ r ∷ []) r.gsn
+ends_at-push [] r = refl
+ends_at-push (s ∷ rs) r = end_behind-push s.gsn rs r
+
+ends_at-none : (rs : List Record) (n : ℕ) → ((r : Record) → Has r rs → ⊥) → EndsAt rs n
+ends_at-none [] n none = tt
+ends_at-none (r ∷ rs) n none = absurd (none r (inl refl))
+
+ends_last : (rs : List Record) (n : ℕ) → EndsAt rs n → 0 < length rs → end_of rs ≡ n
+ends_last [] n is some = absurd (omega arith)
+ends_last (r ∷ rs) n is some = is
+
 -- ## The account
 
 pub count_some : (c : ℕ) → 0 < c → ◌≡◌ {A = ℕ} (if c == 0 then 0 else 1) 1
@@ -122,11 +144,12 @@ pub count_none : (c : ℕ) → c ≡ 0 → ◌≡◌ {A = ℕ} (if c == 0 then 0
 count_none c none = ap (λ (b : Bool). let n : ℕ = if b then 0 else 1 in n) (eq-eqb c 0 none)
 
 -- the log after a block was written
-pub closed_is : (now log : Log) → now ≡ log → 0 < log.count → record now { next = now.next + 1; payload = []; count = 0 } ≡ closed_log log
-closed_is now log same some =
+pub closed_is : (now log : Log) (more : List ℕ) → now ≡ log → 0 < log.count → more ≡ now.ends ++ now.last ∷ [] → record now { next = now.next + 1; payload = []; count = 0; ends = more } ≡ closed_log log
+closed_is now log more same some pushed =
     let count : now.count ≡ log.count = ap (λ (l : Log). l.count) same in
     let next : now.next + 1 ≡ now.next + (if now.count == 0 then 0 else 1) = omega (arith, count_some now.count (omega (arith, some, count))) in
-    let closes : record now { next = now.next + 1; payload = []; count = 0 } ≡ closed_log now = λ i. record now { next = next i; payload = []; count = 0 } in
+    let ends : more ≡ (if now.count == 0 then now.ends else now.ends ++ now.last ∷ []) = pushed ∙ sym (cond-false (now.count == 0) now.ends (now.ends ++ now.last ∷ []) (ne_eqb now.count 0 (λ e. omega (arith, some, count)))) in
+    let closes : record now { next = now.next + 1; payload = []; count = 0; ends = more } ≡ closed_log now = λ i. record now { next = next i; payload = []; count = 0; ends = ends i } in
     closes ∙ ap closed_log same
 
 module _ (x : Account) (log : Log) (area : Area) (sized : IsSized log) (kept : IsKept x log area) where
@@ -174,6 +197,9 @@ module _ (x : Account) (log : Log) (area : Area) (sized : IsSized log) (kept : I
       fit = (fit_blocks-with x.written x.current kept.fit.0 kept.fit.1, record { fit = tt; room = omega arith });
       ring = omega (arith, one_more, place_left);
       numbers = (kept.numbers.0, subst (λ (l : List Record). RiseFrom kept.numbers.0 l log.last) (sym (append-nil (joined all) ∙ joined-with x.written x.current)) kept.numbers.1);
+      ends = cond-false (log.count == 0) log.ends (log.ends ++ log.last ∷ []) (ne_eqb log.count 0 (λ e. omega (arith, some))) ∙ (ap (λ (l : List ℕ). l ++ log.last ∷ []) kept.ends
+          ∙ (ap (λ (n : ℕ). ends_of x.written ++ n ∷ []) (sym (ends_last x.current log.last kept.ending has_some)) ∙ (sym (ends-append x.written (x.current ∷ [])) ∙ ap ends_of (sym (with_some x.written x.current has_some)))));
+      ending = tt;
       synced = omega (arith, kept.synced, one_more);
       below = λ r has. kept.below r (subst (λ (l : List (List Record)). Has r (joined l)) (take-with x.synced x.written x.current kept.synced) has);
       above = λ r has. kept.above r (subst (Has r) (append-nil (joined (drop x.synced all)) ∙ joined-drop-with x.synced x.written x.current kept.synced) has);
@@ -221,6 +247,8 @@ module _ (x : Account) (log : Log) (area : Area) (sized : IsSized log) (kept : I
         fit = (kept.fit.0, record { fit = fit-push x.current r kept.fit.1.fit fits; room = omega (arith, long, room) });
         ring = kept.ring;
         numbers = (kept.numbers.0, subst (λ (l : List Record). RiseFrom kept.numbers.0 l r.gsn) (append_assoc (joined x.written) x.current (r ∷ [])) (rise-push kept.numbers.0 (joined x.written ++ x.current) log.last r kept.numbers.1 rises));
+        ends = kept.ends;
+        ending = ends_at-push x.current r;
         synced = kept.synced;
         below = kept.below;
         above = λ y has. ⊎_elim (kept.above y)
@@ -240,6 +268,8 @@ module _ (first : List ℕ) (older : List Write) (ws : List (List Record)) (done
     fit = kept.fit;
     ring = kept.ring;
     numbers = kept.numbers;
+    ends = kept.ends;
+    ending = tt;
     synced = omega arith;
     below = λ r has. rise-has kept.numbers.0 (joined ws ++ []) log.last kept.numbers.1 r (has_left r (joined ws) [] (subst (λ (l : List (List Record)). Has r (joined l)) (take_all (length ws) ws (omega arith)) has));
     above = λ r has. absurd (subst (λ (l : List (List Record)). Has r (joined l ++ [])) (drop_all (length ws) ws (omega arith)) has);
@@ -255,14 +285,47 @@ kept_marked number x log area all rises kept = record {
   fit = kept.fit;
   ring = kept.ring;
   numbers = (kept.numbers.0, rise-to kept.numbers.0 (joined x.written ++ x.current) log.last number rises kept.numbers.1);
+  ends = kept.ends;
+  ending = ends_at-none x.current number (λ r has. none r (inr has));
   synced = kept.synced;
   below = λ r has. omega (arith, kept.below r has, all, rises);
-  above = λ r has.
-      let late : log.flushed < r.gsn = kept.above r has in
-      let early : r.gsn ≤ log.last = rise-has kept.numbers.0 (joined x.written ++ x.current) log.last kept.numbers.1 r (⊎_elim
-      (λ old. has_left r (joined x.written) x.current (joined-dropped x.synced x.written r old))
-      (λ now. has_right r (joined x.written) x.current now)
-      (has_cases r (joined (drop x.synced x.written)) x.current has)) in
-      absurd (omega (arith, late, early, all));
+  above = λ r has. absurd (none r (has_cases r (joined (drop x.synced x.written)) x.current has));
   holds = kept.holds;
+}
+  where
+    none : (r : Record) → Has r (joined (drop x.synced x.written)) ⊎ Has r x.current → ⊥
+    none r has =
+        let late : log.flushed < r.gsn = kept.above r (⊎_elim (λ old. has_left r (joined (drop x.synced x.written)) x.current old) (λ now. has_right r (joined (drop x.synced x.written)) x.current now) has) in
+        let early : r.gsn ≤ log.last = rise-has kept.numbers.0 (joined x.written ++ x.current) log.last kept.numbers.1 r (⊎_elim
+        (λ old. has_left r (joined x.written) x.current (joined-dropped x.synced x.written r old))
+        (λ now. has_right r (joined x.written) x.current now)
+        has) in
+        omega (arith, late, early, all)
+
+-- A log without blocks.
+pub kept_fresh : (generation number blocks head flushed : ℕ) (area : Area) → let log : Log = record { generation = generation; log = number; blocks = blocks; head = head; next = head; payload = []; count = 0; last = flushed; flushed = flushed; ends = [] } in
+    IsFresh log area → IsKept (fresh_account area) log area
+kept_fresh generation number blocks head flushed area fresh = record {
+  next = omega arith;
+  payload = refl;
+  count = refl;
+  fit = (tt, record { fit = tt; room = omega arith });
+  ring = omega arith;
+  numbers = (flushed, omega arith);
+  ends = refl;
+  ending = tt;
+  synced = omega arith;
+  below = λ r has. absurd has;
+  above = λ r has. absurd has;
+  holds = record {
+    since = [];
+    writes = refl;
+    blocks = λ w has. absurd has;
+    new = fresh.new;
+    fair = λ p sealed. inl refl;
+    reads = λ b has. absurd has;
+    late = record { late = λ range has. absurd (subst (Has range) fresh.clean has) };
+    end = λ b has. absurd has;
+    reach = subst (λ (q : ℕ). 2048 * (q % blocks) ≤ length area.bytes) (let e : head ≡ head + 0 = omega arith in e) fresh.reach;
+  };
 }

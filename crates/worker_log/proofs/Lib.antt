@@ -8,3 +8,5 @@ pub mod PutLemmas
 pub mod ReadLemmas
 pub mod AccountLemmas
 pub mod CutLemmas
+pub mod EndLemmas
+pub mod PassedLemmas

@@ -37,6 +37,26 @@ abbrev pub RiseFrom : ℕ → List Record → ℕ → Type 0
 RiseFrom low [] last = low ≤ last
 RiseFrom low (r ∷ rs) last = (low < r.gsn) × RiseFrom r.gsn rs last
 
+-- the number of the last of records, the first one's or a later one's
+abbrev pub end_behind : ℕ → List Record → ℕ
+end_behind n [] = n
+end_behind n (r ∷ rs) = end_behind r.gsn rs
+
+-- 0 where there is none
+abbrev pub end_of : List Record → ℕ
+end_of [] = 0
+end_of (r ∷ rs) = end_behind r.gsn rs
+
+-- those of blocks
+abbrev pub ends_of : List (List Record) → List ℕ
+ends_of [] = []
+ends_of (rs ∷ rest) = end_of rs ∷ ends_of rest
+
+-- if there are records, the last has this number
+abbrev pub EndsAt : List Record → ℕ → Type 0
+EndsAt [] n = Unit {0}
+EndsAt (r ∷ rs) n = end_behind r.gsn rs ≡ n
+
 -- where block q of a ring of n blocks stands, and how long it is
 abbrev pub range_of : (n q : ℕ) → ℕ × ℕ
 range_of n q = (2048 * (q % n), 2048)
@@ -97,6 +117,8 @@ pub record IsKept (x : Account) (log : Log) (area : Area) : Type 0 where
   pub fit : AllFitBlocks x.written × FitsBlock x.current
   pub ring : length x.written ≤ log.blocks
   pub numbers : (low : ℕ) × RiseFrom low (records_of x) log.last
+  pub ends : log.ends ≡ ends_of x.written
+  pub ending : EndsAt x.current log.last
   -- what is flushed: the synced blocks, and these alone
   pub synced : x.synced ≤ length x.written
   pub below : (r : Record) → Has r (joined (take x.synced x.written)) → r.gsn ≤ log.flushed

@@ -1,5 +1,5 @@
 -- What a crash leaves between two calls, what the run that a crash leaves says, and what stands after a cut.
-use Rattle.std.specs.Prelude.{◌≡◌, ◌≤◌, ◌<◌, ◌+◌, ◌^◌, ℕ, List, [], ◌∷◌, ◌++◌, length}
+use Rattle.std.specs.Prelude.{◌≡◌, ◌≤◌, ◌<◌, ◌+◌, ◌^◌, ℕ, List, [], ◌∷◌, ◌++◌, drop, length, take}
 use Rattle.map_model.specs.Lists.{Has}
 use Rattle.image_model.specs.Entries.{Entry}
 use Rattle.image_model.specs.Images.{IsFalling}
@@ -7,7 +7,7 @@ use Rattle.lean_disk.specs.Area.{Area, Leaves}
 use Rattle.log_record.specs.declared.record.Record.{Record}
 use Rattle.disk_image.specs.Records.{entry_of}
 use Rattle.disk_image.specs.Runs.{Block, logged_onto, entries_in, AreReadable}
-use Rattle.worker_log.specs.Logs.{Log}
+use Rattle.worker_log.specs.Logs.{Log, passed_by, passed_end}
 use Rattle.worker_log.specs.Kept.{IsInRange, AllFitBlocks, HoldsFirst, IsKept, LeavesBlocks, Staged, cut, flushed, run_of}
 use Rattle.worker_log.specs.Calls.{cut_log}
 use Rattle.worker_log.specs.Accounts.{Account, all_blocks, spelled_from, joined, records_of}
@@ -72,3 +72,17 @@ pub record IsCutOff (k : ℕ) (x : Account) (log : Log) (area : Area) : Type 0 w
 
 abbrev pub EveryCut : Type 0
 EveryCut = (k : ℕ) (x : Account) (log : Log) (area : Area) → IsInRange log → k ≤ x.synced → log.head + k < 2 ^ 63 → IsKept x log area → IsCutOff k x log area
+
+-- What blocks a head may pass up to the number x, by the account: they are synced, and hold no record above x. The greatest number in them is below all records behind them; and the
+-- first written block that is not passed has a record above x.
+pub record PassesUpTo (x : ℕ) (a : Account) (log : Log) : Type 0 where
+  pub synced : passed_by x log.ends ≤ a.synced
+  pub low : passed_end x log.ends ≤ x
+  pub none : passed_by x log.ends ≡ 0 → passed_end x log.ends ≡ 0
+  pub before : (r : Record) → Has r (joined (take (passed_by x log.ends) a.written)) → r.gsn ≤ passed_end x log.ends
+  pub behind : 0 < passed_by x log.ends → (r : Record) → Has r (records_of (cut (passed_by x log.ends) a)) → passed_end x log.ends < r.gsn
+  pub first : (rs : List Record) (rest : List (List Record)) → drop (passed_by x log.ends) a.written ≡ rs ∷ rest → (r : Record) × Has r rs × (x < r.gsn)
+
+-- up to any number that is flushed
+abbrev pub EveryPassed : Type 0
+EveryPassed = (x : ℕ) (a : Account) (log : Log) (area : Area) → x ≤ log.flushed → IsKept a log area → PassesUpTo x a log

@@ -1,5 +1,5 @@
 // What holds of accounts and of the runs that crashes leave.
-ghost use Rattle.worker_log.specs.Laws.{EveryCut, EveryFlushed, EveryPrefix, EveryKept, EveryRun, EveryStaged};
+ghost use Rattle.worker_log.specs.Laws.{EveryCut, EveryFlushed, EveryPassed, EveryPrefix, EveryKept, EveryRun, EveryStaged};
 
 /// What a crash leaves between two calls.
 pub fn every_kept()
@@ -29,4 +29,9 @@ pub fn every_flushed()
 /// What stands where the head has passed blocks that are synced.
 pub fn every_cut()
     ensures { EveryCut }
+{}
+
+/// What blocks a head may pass up to a number that is flushed.
+pub fn every_passed()
+    ensures { EveryPassed }
 {}

@@ -7,11 +7,13 @@ ghost use Rattle.lean_disk.specs.Moments.{CrashIn, Framed, LeavesOnly};
 ghost use Rattle.lean_disk.specs.Story.{Tells};
 ghost use Rattle.log_record.specs.Spelling.{Fits, record_text};
 ghost use Rattle.log_block.specs.Block.{block_text, records_text};
-ghost use Rattle.worker_log.specs.Logs.{Log, limit, used};
+ghost use Rattle.worker_log.specs.Logs.{Log, limit, passed_by, used};
 ghost use Rattle.worker_log.specs.Kept.{IsInRange, IsFresh, IsKept, LeavesBlocks, StagesTo, closed, cut, fresh_account, flushed as flushed_account};
 ghost use Rattle.worker_log.specs.Calls.{After, HasRoom, cut_log, flushed_log};
 ghost use Rattle.worker_log.specs.Accounts.{Account};
 
+use crate::ends::{drop_ends, new_ends, passed, push_end};
+use circular_buffer::HeapCircularBuffer;
 use lean_disk::{Did, Part};
 use log_block::{BLOCK, PAYLOAD, block_bytes};
 use log_record::{Record, record_bytes, record_size};
@@ -47,6 +49,7 @@ pub struct WorkerLog {
     count: u32,
     last: u64,
     flushed: u64,
+    ends: HeapCircularBuffer<u64>,
     block: Vec<u8>,
 }
 
@@ -57,13 +60,14 @@ impl Model for WorkerLog {
 
     ghost Value = { Log };
 
-    ghost view = { λ s. record { generation = s.generation; log = s.log; blocks = s.blocks; head = s.head; next = s.next; payload = take s.size s.payload.items; count = s.count; last = s.last; flushed = s.flushed } };
+    ghost view = { λ s. record { generation = s.generation; log = s.log; blocks = s.blocks; head = s.head; next = s.next; payload = take s.size s.payload.items; count = s.count; last = s.last; flushed = s.flushed; ends = s.ends.items } };
 
     ghost invariant = { λ s. record {
-      sized : IsSized (record { generation = s.generation; log = s.log; blocks = s.blocks; head = s.head; next = s.next; payload = take s.size s.payload.items; count = s.count; last = s.last; flushed = s.flushed });
+      sized : IsSized (record { generation = s.generation; log = s.log; blocks = s.blocks; head = s.head; next = s.next; payload = take s.size s.payload.items; count = s.count; last = s.last; flushed = s.flushed; ends = s.ends.items });
       filled : s.size ≤ 2000;
       payload_room : vec_len s.payload ≡ 2000;
       block_room : vec_len s.block ≡ 2048;
+      ends_room : s.ends.capacity ≡ s.blocks;
     } };
 }
 
@@ -83,23 +87,51 @@ impl WorkerLog {
         requires number { (1 ≤ log) × (log ≤ 16) }
         requires some { (64 ≤ blocks) × (blocks ≤ 4096) }
         requires head { head < 2 ^ 63 }
-        ensures log { IfOk result (λ it. it ≡ record { generation = generation; log = log; blocks = blocks; head = head; next = head; payload = []; count = 0; last = flushed; flushed = flushed }) }
+        ensures log { IfOk result (λ it. it ≡ record { generation = generation; log = log; blocks = blocks; head = head; next = head; payload = []; count = 0; last = flushed; flushed = flushed; ends = [] }) }
         ensures ranges { IfOk result IsInRange }
         ensures starts { IfOk result (λ it. (area : Area) → IsFresh it area → IsKept (fresh_account area) it area) }
     {
-        Ok(WorkerLog {
+        let payload = vec![in alloc; 0; PAYLOAD]?;
+        let ends = new_ends(alloc, blocks)?;
+        let block = vec![in alloc; 0; BLOCK]?;
+        Ok(WorkerLog::with_buffers(generation, log, blocks, head, flushed, payload, ends, block))
+    }
+
+    // It has these buffers.
+    fn with_buffers(
+        generation: u64,
+        log: u32,
+        blocks: u32,
+        head: u64,
+        flushed: u64,
+        payload: Vec<u8>,
+        ends: HeapCircularBuffer<u64>,
+        block: Vec<u8>,
+    ) -> WorkerLog
+        requires number { (1 ≤ log) × (log ≤ 16) }
+        requires some { (64 ≤ blocks) × (blocks ≤ 4096) }
+        requires head { head < 2 ^ 63 }
+        requires payload { length payload.items ≡ 2000 }
+        requires ends { (ends.items ≡ []) × (ends.capacity ≡ blocks) }
+        requires block { length block.items ≡ 2048 }
+        ensures log { result ≡ record { generation = generation; log = log; blocks = blocks; head = head; next = head; payload = []; count = 0; last = flushed; flushed = flushed; ends = [] } }
+        ensures ranges { IsInRange result }
+        ensures starts { (area : Area) → IsFresh result area → IsKept (fresh_account area) result area }
+    {
+        WorkerLog {
             generation,
             log,
             blocks,
             head,
             next: head,
-            payload: vec![in alloc; 0; PAYLOAD]?,
+            payload,
             size: 0,
             count: 0,
             last: flushed,
             flushed,
-            block: vec![in alloc; 0; BLOCK]?,
-        })
+            ends,
+            block,
+        }
     }
 
     /// How many blocks of the ring it uses.
@@ -255,7 +287,16 @@ impl WorkerLog {
         ensures log { self.new ≡ cut_log (head - self.old.head) self.old }
         ensures kept { (x : Account) (area : Area) → head - self.old.head ≤ x.synced → IsKept x self.old area → IsKept (cut (head - self.old.head) x) self.new area }
     {
+        drop_ends(&mut self.ends, head - self.head);
         self.head = head;
+    }
+
+    /// The first block with a record above this number; the block in hand where no written one has such.
+    pub fn head_above(&self, number: u64) -> u64
+        ensures answer { result ≡ self.now.head + passed_by number self.now.ends }
+        ensures order { (self.now.head ≤ result) × (result ≤ self.now.next) }
+    {
+        self.head + passed(&self.ends, number)
     }
 
     /// Its clock and the number up to which it is flushed become the number of a sync, where nothing is new since the
@@ -297,6 +338,7 @@ impl WorkerLog {
         }
         match self.write_block(dev) {
             Did::Done => {
+                push_end(&mut self.ends, self.last);
                 self.next += 1;
                 self.size = 0;
                 self.count = 0;

@@ -1,0 +1,5 @@
+use Rattle.core_disk.proofs.every_floor_step.Goals as goal
+use Rattle.core_disk.proofs.FloorLemmas.{every_floor_step}
+
+pub returns : goal.returns
+returns c = every_floor_step

@@ -1,0 +1,30 @@
+// The master of a cut.
+ghost use Rattle.std.specs.Prelude.{◌≡◌};
+ghost use Rattle.lean_disk.specs.Faults.{HasCause};
+ghost use Rattle.lean_disk.specs.Moments.{CrashIn, Framed, LeavesOnly};
+ghost use Rattle.log_calls.specs.Calls.{Anything};
+ghost use Rattle.log_calls.specs.Cuts.{CutsOn, KeepsCut};
+
+use crate::syncs::write_on;
+use disk_slots::Master;
+use lean_disk::{Did, Disk};
+
+/// Writes the master of a cut, the next one of the run, and syncs it. Behind it the head of each log passes the blocks that
+/// have no record above the cut's number.
+pub fn cut_master<D: Disk>(disk: &mut D, master: &Master) -> Did
+    ensures stands { result ≡ Did.Done → CutsOn master.now (D.story disk.old) (D.story disk.new) }
+    ensures any_moment { KeepsCut master.now (D.story disk.old) (D.story disk.new) }
+    ensures frame { Framed 0 (D.story disk.old) (D.story disk.new) }
+    ensures within { LeavesOnly (D.story disk.old) (D.story disk.new) (CrashIn (D.story disk.old) 0 Anything) }
+    ensures same_notes { (D.story disk.new).notes ≡ (D.story disk.old).notes }
+
+    ensures cause { HasCause (D.faults disk.old) (D.faults disk.new) (result ≡ Did.Failed) }
+{
+    core_disk::every_version();
+    worker_log::every_cut();
+    worker_log::every_passed();
+    worker_log::every_kept();
+    worker_log::every_prefix();
+    disk_image::every_sealed();
+    write_on(disk, master)
+}
