@@ -1,4 +1,5 @@
-//! The way from the root to a key's leaf over frame rows, what the leaf says of the key, and how the key gets a word there or loses it.
+//! The way from the root to a key's leaf over frame rows, what the leaf says of the key and of the next pair, and how the key gets a word
+//! there or loses it.
 //!
 //! It is optimistic lock coupling: no row is latched on the way. At each node the words that are needed are loaded, the child's version
 //! is loaded, and then the node's own version is checked; so the child's version is one of a time at which the node led there.
@@ -7,6 +8,7 @@
 pub mod del;
 pub mod descent;
 pub mod events;
+pub mod next;
 mod node;
 pub mod put;
 pub mod reach;

@@ -88,6 +88,7 @@ module _ (laws : EveryTold) (durable : EveryDurable) (prints : EveryPrinted) (l 
     by_then_is = w;
     serial = s;
     falls = b.falls;
+    happened = λ v j. pair_of SameTxn (journal (transcript xs)) (journal_in g (state_after g es)) (laws g es xs a).same v (b.only v j).0;
     numbers = λ r i k v j p q.
         let u = pair_of SameTxn (journal (transcript xs)) (journal_in g (state_after g es)) (laws g es xs a).same v (b.only v j).0 in
         u.2.at ∙ number_of g es u.0 u.1 r i k (sym u.2.session ∙ p) (sym u.2.number ∙ q);
@@ -129,6 +130,7 @@ module _ (laws : EveryTold) (durable : EveryDurable) (prints : EveryPrinted) (l 
           number_is = o.number_is;
           at_is = o.at_is;
           kept = k;
+          one = from_txns (y ∷ outcomes earlier) o.more (subst (λ (ts : List Txn). Has o.more ts) (sym o.new_is) (inl refl));
           has = has;
           only = only;
         })) (all.serial faithful)

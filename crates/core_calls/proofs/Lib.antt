@@ -19,6 +19,8 @@ pub mod LineLemmas
 pub mod HinderLemmas
 pub mod WhereLemmas
 pub mod StepControls
+pub mod ScanControls
+pub mod MetLemmas
 pub mod PressLemmas
 pub mod PressByHand
 pub mod WarmLemmas
@@ -26,4 +28,5 @@ pub mod RoomLemmas
 pub mod RoomByHand
 pub mod OrderLemmas
 pub mod ReleaseLemmas
+pub mod ScanLemmas
 pub mod AloneLemmas

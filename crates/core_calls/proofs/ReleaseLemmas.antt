@@ -21,7 +21,7 @@ use Rattle.core_calls.proofs.RunLemmas.{marks_more}
 
 -- ## Rows of others
 
-or_false : (a b : Bool) → (a || b) ≡ false → (a ≡ false) × (b ≡ false)
+pub or_false : (a b : Bool) → (a || b) ≡ false → (a ≡ false) × (b ≡ false)
 or_false true b h = absurd (true≢false h)
 or_false false b h = (refl, h)
 

@@ -1,20 +1,24 @@
 -- Wrong outcomes, each refused.
-use Rattle.std.specs.Prelude.{◌≡◌, ◌≤◌, ℕ, suc, Bool, true, false, List, [], ◌∷◌, Option, Some}
+use Rattle.std.specs.Prelude.{◌≡◌, ◌≤◌, ◌<◌, ℕ, suc, Bool, true, false, List, [], ◌∷◌, Option, Some}
 use Rattle.map_model.specs.declared.call.Call.{Call}
 use Rattle.map_model.specs.declared.call.Call.TheVariants as call
 use Rattle.map_model.specs.declared.call.Refusal.{Refusal}
 use Rattle.map_model.specs.declared.call.Refusal.TheVariants as refusal
+use Rattle.map_model.specs.Maps.{MapAnswer}
 use Rattle.map_model.specs.Histories.{Step}
 use Rattle.map_model.specs.Lists.{Has}
 use Rattle.image_model.specs.Entries.{Entry, is_commit}
 use Rattle.image_model.specs.Ends.{name_of}
 use Rattle.core_state.specs.Openings.{Opening, first_map}
+use Rattle.core_state.specs.States.{State}
 use Rattle.core_state.specs.Events.{Event, Mode}
+use Rattle.core_state.specs.Needs.{is_leaf_of}
 use Rattle.core_state.specs.Steps.{state_after}
-use Rattle.core_calls.specs.Deeds.{Deed, Begun, Got, Changed, Committed, Aborted, Refused, Outcome, Answers}
+use Rattle.core_calls.specs.Deeds.{Deed, Begun, Got, Changed, Met, Over, Committed, Aborted, Refused, Outcome, Answers}
 use Rattle.core_calls.specs.Refusals.{Limits}
 use Rattle.core_calls.specs.Fronts.{Done, outcomes}
-use Rattle.core_calls.specs.Steps.{Goes, call_behind, is_change}
+use Rattle.core_calls.specs.Steps.{Goes, Walks, call_behind, is_change}
+use Rattle.core_calls.specs.Scans.{ScansRows, rows_met}
 use Rattle.core_calls.specs.LogEvents.{LogsGo}
 use Rattle.core_calls.specs.Durables.{is_ripe, up_to, durables}
 
@@ -69,3 +73,25 @@ pub record StepControls (l : Limits) (g : Opening) (group : ℕ) (w : ℕ) (earl
 -- on a new line
 abbrev pub EveryStepControl : Type 0
 EveryStepControl = (l : Limits) (g : Opening) (group : ℕ) (w : ℕ) (earlier : List Done) → ((c : Call) → call_behind (outcomes earlier) c ≡ c) → StepControls l g group w earlier
+
+-- ## The rows of a scan
+
+-- The events are a walk of session w from a key on, and are not those of this deed of it, behind no outcome.
+abbrev pub IsWalkOnly : Opening → State → (w at : ℕ) → Deed → List Event → (ℕ → Type 0) → Type 0
+IsWalkOnly g s w at d es P = Walks w at es P × (ScansRows g w [] s d es → ⊥)
+
+-- so it is of each of these
+pub record ScanControls (g : Opening) (s : State) (w p at : ℕ) : Type 0 where
+  -- a pair is told behind a tombstone whose row was not taken
+  pub passed_over : (to i j k v : ℕ) → rows_met g s p at ≡ i ∷ j ∷ [] → IsWalkOnly g s w at (Met at to k v false) (Event.Lock w j Mode.Shared ∷ Event.Next w p at (MapAnswer.Pair k v) ∷ []) (λ n. n ≡ suc k)
+  -- a pair is told whose row the session has, and did not take again
+  pub not_again : (to i k v : ℕ) → rows_met g s p at ≡ i ∷ [] → IsWalkOnly g s w at (Met at to k v false) (Event.Next w p at (MapAnswer.Pair k v) ∷ []) (λ n. n ≡ suc k)
+  -- a scan is over that took the row of no entry, before its gap, or behind it
+  pub stray : (to i high : ℕ) → rows_met g s p at ≡ [] → to < high → IsWalkOnly g s w at (Over at to) (Event.Lock w i Mode.Shared ∷ Event.Next w p at (MapAnswer.Gap high) ∷ []) (λ n. to < n)
+  pub more : (to i high : ℕ) → to < high → IsWalkOnly g s w at (Over at to) (Event.Next w p at (MapAnswer.Gap high) ∷ Event.Lock w i Mode.Shared ∷ []) (λ n. to < n)
+  -- it met a conflict, where its leaf has no further entry
+  pub far : (to h : ℕ) → ((q : ℕ) → is_leaf_of g (s.page q).node q at ≡ true → rows_met g s q at ≡ []) → IsWalkOnly g s w at (Refused (call.Scan at to) (refusal.Conflict h) []) [] (λ n. Unit {0})
+
+-- at each state
+abbrev pub EveryScanControl : Type 0
+EveryScanControl = (g : Opening) (s : State) (w p at : ℕ) → ScanControls g s w p at

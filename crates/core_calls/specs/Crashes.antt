@@ -11,10 +11,10 @@ use Rattle.image_model.specs.Images.{Image, found}
 use Rattle.core_state.specs.Openings.{Opening, first_map}
 use Rattle.core_state.specs.Events.{Event}
 use Rattle.core_state.specs.Steps.{state_after}
-use Rattle.core_crash.specs.Crashes.{Leaves, image_of}
+use Rattle.core_crash.specs.Crashes.{Leaves, image_of, journal_in}
 use Rattle.core_calls.specs.Marks.{marks}
 use Rattle.core_calls.specs.Deeds.{Committed, Outcome, commits, transcript}
-use Rattle.core_calls.specs.Told.{Survives}
+use Rattle.core_calls.specs.Told.{SameTxn, Survives}
 use Rattle.core_calls.specs.Refusals.{Limits}
 use Rattle.core_calls.specs.Fronts.{Done, front, outcomes}
 use Rattle.core_calls.specs.Runs.{EachTells}
@@ -35,6 +35,7 @@ pub record HasOneInHand (i : Image) (told : List Outcome) (next : Option Outcome
   pub number_is : more.number ≡ number
   pub at_is : more.at ≡ at
   pub kept : is_kept i.logs i.floor (found i) more ≡ true
+  pub one : Has more by_then
   pub has : (t : Txn) → Has t (journal (transcript told)) → Has t by_then
   pub only : (t : Txn) → Has t by_then → Has t (journal (transcript told)) ⊎ (t ≡ more)
 
@@ -48,6 +49,8 @@ pub record RunSurvives (g : Opening) (es : List Event) (logs : ℕ → List Entr
   pub by_then_is : WithOneInHand (image_of g (state_after g es) logs page) (outcomes earlier) next by_then
   pub serial : Serial (first_map g) by_then
   pub falls : IsFalling by_then
+  -- each has happened: it is one of the core's
+  pub happened : (t : Txn) → Has t by_then → (u : Txn) × Has u (journal_in g (state_after g es)) × SameTxn t u
   -- a commit that happened has the number of its transaction
   pub numbers : (r : Entry) → Has r (state_after g es).entries → is_commit r.kind ≡ true → (t : Txn) → Has t by_then → t.session ≡ r.log → t.number ≡ r.txn → t.at ≡ r.number
   pub survives : Survives g (state_after g es) (image_of g (state_after g es) logs page) by_then

@@ -1,4 +1,4 @@
--- Read Marks, Deeds and Told; then Room, Refusals, Fronts, Steps, LogEvents and Runs; then Durables, Alone, Printed, Lines and Crashes.
+-- Read Marks, Deeds and Told; then Room, Refusals, Fronts, Steps, Scans, LogEvents and Runs; then Durables, Alone, Printed, Lines and Crashes.
 pub mod Marks
 pub mod Deeds
 pub mod Told
@@ -6,6 +6,7 @@ pub mod Room
 pub mod Refusals
 pub mod Fronts
 pub mod Steps
+pub mod Scans
 pub mod LogEvents
 pub mod Presses
 pub mod Warms

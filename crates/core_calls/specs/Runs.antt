@@ -12,6 +12,7 @@ use Rattle.core_calls.specs.Deeds.{Deed, Committed, Aborted, Refused, asked, may
 use Rattle.core_calls.specs.Refusals.{Limits, IsCause}
 use Rattle.core_calls.specs.Fronts.{Done, front, outcomes, AreFresh}
 use Rattle.core_calls.specs.Steps.{is_step, is_structure, Goes, is_change, FollowsConflict}
+use Rattle.core_calls.specs.Scans.{HoldsMet, ScansRows, is_scan}
 use Rattle.core_calls.specs.LogEvents.{LogsGo}
 
 -- its session's transaction ends
@@ -35,6 +36,7 @@ pub record Tells (l : Limits) (g : Opening) (group : ℕ) (earlier : List Done) 
   pub told : (w : ℕ) → marks g (state_after g (front earlier)) x.events w [] ≡ (if x.outcome.session == w then marks_for x.outcome else [])
   pub in_turn : may_follow (is_half (marks_by x.outcome.session (outcomes earlier))) x.outcome.deed
   pub steps : Goes l g x.outcome.session (outcomes earlier) x.outcome.unsaid x.outcome.deed (keep is_step x.events)
+  pub scans : ScansRows g x.outcome.session (outcomes earlier) (state_after g (front earlier)) x.outcome.deed x.events
   pub hindered : FollowsConflict (outcomes earlier) x.outcome
   pub goes_on : GoesOn (map in_words (outcomes earlier)) (in_words x.outcome)
   pub structure : is_change x.outcome.deed ≡ false → any is_structure x.events ≡ false
@@ -70,3 +72,7 @@ EveryRun = (l : Limits) (g : Opening) (group : ℕ) (earlier : List Done) (x : D
 abbrev pub EveryReleased : Type 0
 EveryReleased = (l : Limits) (g : Opening) (group : ℕ) (xs : List Done) → EachTells l g group xs →
     (w i : ℕ) → ((state_after g (front xs)).worker w).is_open ≡ false → holds_row ((state_after g (front xs)).row i) w ≡ false
+
+-- Where a scan tells a pair, or is over, its session has the row of each entry that it met, tombstones too.
+abbrev pub EveryMet : Type 0
+EveryMet = (l : Limits) (g : Opening) (group : ℕ) (earlier : List Done) (x : Done) → Tells l g group earlier x → is_scan x.outcome.deed ≡ true → HoldsMet g (state_after g (front earlier)) x.events

@@ -1,12 +1,12 @@
 //! What the lines of a script are answered, as events of the core: definitions and their laws.
 #![tactic(auto)]
 
-ghost use Rattle.core_calls.specs.Runs.{EveryReleased, EveryRun};
+ghost use Rattle.core_calls.specs.Runs.{EveryMet, EveryReleased, EveryRun};
 ghost use Rattle.core_calls.specs.Alone.{EveryAlone};
 ghost use Rattle.core_calls.specs.Crashes.{EveryRunCrash};
 ghost use Rattle.core_calls.specs.Durables.{EveryCommit, EveryDue, EveryDurable, EverySynced};
 ghost use Rattle.core_calls.specs.Counts.{EveryOrdered};
-ghost use Rattle.core_calls.specs.Controls.{EveryControl, EveryStepControl};
+ghost use Rattle.core_calls.specs.Controls.{EveryControl, EveryScanControl, EveryStepControl};
 ghost use Rattle.core_calls.specs.Lines.{EveryRoundScript, EveryScript};
 ghost use Rattle.core_calls.specs.LogEvents.{EveryWhere};
 ghost use Rattle.core_calls.specs.Presses.{EveryPress, WorkedPress};
@@ -86,6 +86,12 @@ pub fn every_control()
 /// nothing asked for; and whatever a call did that was refused before it was begun.
 pub fn every_step_control()
     ensures { EveryStepControl }
+{}
+
+/// Walks that take other rows than a scan are refused: none for a tombstone, none for a pair whose row the session has already, one of no
+/// entry, one behind the last gap; and a conflict about the row of no entry.
+pub fn every_scan_control()
+    ensures { EveryScanControl }
 {}
 
 /// Wherever a crash falls in a run on one thread, the transactions that were told by then, with at most one in hand, are
@@ -185,6 +191,11 @@ pub fn every_round_script()
     map_model::every_round_script();
     map_model::every_count();
 }
+
+/// Where a scan tells a pair, or is over, its session has the row of each entry that it met, tombstones too.
+pub fn every_met()
+    ensures { EveryMet }
+{}
 
 /// A session with no open transaction holds no row.
 pub fn every_released()

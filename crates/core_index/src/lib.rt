@@ -1,10 +1,12 @@
 //! The calls of all sessions are a legal history of one map, which the pages hold.
 //!
-//! Read specs/Answers: the history of a list of events, and the map of a state; specs/Undo: what is still to put back.
+//! Read specs/Answers: the history of a list of events, and the map of a state; specs/Undo: what is still to put back; specs/Walks:
+//! which entries a walk meets.
 #![tactic(auto)]
 
 ghost use Rattle.core_index.specs.Answers.{EveryLegal, EveryMap, EveryTree};
 ghost use Rattle.core_index.specs.Undo.{EveryUndo};
+ghost use Rattle.core_index.specs.Walks.{EveryWalk};
 
 /// Where the opening is faithful, reads, walks, peeks, changes and put-backs, in the order in which they happened, are answered as
 /// one map does.
@@ -26,4 +28,9 @@ pub fn every_tree()
 /// its leaf.
 pub fn every_undo()
     ensures { EveryUndo }
+{}
+
+/// A walk from a key on meets each entry of its leaf from there on, up to the pair that follows, and no other.
+pub fn every_walk()
+    ensures { EveryWalk }
 {}

@@ -163,6 +163,7 @@ module _ (l : Limits) (g : Opening) (group : ℕ) (xs : List Done) (c : Call) (f
     structure = λ e. any_append is_structure first (end_event ∷ unlocks w rows) i.structure (unlocks_structure w rows);
     logs = syncs_more (IsTightSomewhere g) g first (end_event ∷ unlocks w rows) s0_state false i.syncs (syncs_none (IsTightSomewhere g) g (end_event ∷ unlocks w rows) s (unlocks_logs w rows));
     refused = tt;
+    scans = tt;
     released = λ e j. ap (λ (t : State). holds_row (t.row j) w) last_state ∙ i.released j;
   }
 

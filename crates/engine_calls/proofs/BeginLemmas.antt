@@ -59,6 +59,7 @@ module _ (l : Limits) (g : Opening) (group : ℕ) (xs : List Done) (before : Lis
     structure = λ e. any_append is_structure before (begin ∷ []) i.structure refl;
     logs = (before, f, refl, subst (λ (es : List Event). Prepares l g xs w es) (sym (keep_append is_log before (begin ∷ []) ∙ append-nil (keep is_log before))) i.prepares);
     refused = tt;
+    scans = tt;
     released = λ e. absurd (true≢false (sym e));
   }
 

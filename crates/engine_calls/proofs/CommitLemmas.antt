@@ -184,6 +184,7 @@ module _ (l : Limits) (g : Opening) (group : ℕ) (xs : List Done) (first : List
     structure = λ e. ap (any is_structure) events_are ∙ any_append is_structure first own i.structure (no_structure due w at rows);
     logs = logs;
     refused = tt;
+    scans = tt;
     released = λ e j. ap (λ (o : Row). holds_row o w) (ap (λ (t : State). t.row j) last_state ∙ row_same g due w at (run g start_state lead) j) ∙ i.released j;
   }
 

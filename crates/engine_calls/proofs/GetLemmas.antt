@@ -73,6 +73,7 @@ get_tells l g group xs before between w page key value i =
       structure = λ e. structure l g group xs Mode.Shared before between w page key value i;
       logs = syncs_more (λ s. IsTight g s key) g first (Event.Read w page key value ∷ []) (state_after g (front xs)) false i.syncs tt;
       refused = tt;
+      scans = tt;
       released = λ e. absurd (true≢false (sym e));
     }
 
@@ -93,6 +94,7 @@ absent_tells l g group xs before between w page key i alone =
       structure = λ e. structure l g group xs Mode.Alone before between w page key None i;
       logs = syncs_more (λ s. IsTight g s key) g first (Event.Read w page key None ∷ []) (state_after g (front xs)) false i.syncs tt;
       refused = tt;
+      scans = tt;
       released = λ e. absurd (true≢false (sym e));
     }
 

@@ -14,6 +14,7 @@ use Rattle.core_calls.specs.Fronts.{AreFresh, Done, front, outcomes}
 use Rattle.core_calls.specs.Marks.{Mark, marks}
 use Rattle.core_calls.specs.Refusals.{Limits}
 use Rattle.core_calls.specs.Runs.{Tells}
+use Rattle.core_calls.specs.Scans.{StopsOnWay}
 use Rattle.core_calls.specs.Steps.{MayPutBack, Tries, is_step}
 use Rattle.engine_calls.specs.Aborts.{backs_by}
 use Rattle.engine_calls.specs.Halves.{EveryHalved, IsHalved, halved_by}
@@ -38,6 +39,7 @@ tells l g group xs w c es i =
       structure = λ e. i.structure;
       logs = i.due;
       refused = (es, [], sym (append-nil es), i.cause);
+      scans = no_scan i.asks;
       released = λ e. absurd (true≢false (sym e));
     }
   where
@@ -47,6 +49,9 @@ tells l g group xs w c es i =
 
     tries : {d : Call} → d ≡ call.Abort → Tries g w (outcomes xs) d RowSpent (keep is_step es)
     tries e = subst (λ d. Tries g w (outcomes xs) d RowSpent (keep is_step es)) (sym e) i.backs
+
+    no_scan : {d : Call} → d ≡ call.Abort → StopsOnWay g w (outcomes xs) (state_after g (front xs)) d RowSpent es
+    no_scan e = subst (λ d. StopsOnWay g w (outcomes xs) (state_after g (front xs)) d RowSpent es) (sym e) tt
 
 pub every_halved : (old new : Story) → EveryHalved old new
 every_halved old new l g group xs s0 k a w c es b x i =

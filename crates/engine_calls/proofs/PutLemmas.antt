@@ -116,6 +116,7 @@ put_tells l g group xs before between w page key value was r i q =
       structure = λ e. absurd (true≢false e);
       logs = syncs_more (λ s. IsTight g s key) g first (Event.Change w page key value ∷ []) (state_after g (front xs)) false i.syncs tt;
       refused = tt;
+      scans = tt;
       released = λ e. absurd (true≢false (sym e));
     }
 
@@ -136,6 +137,7 @@ del_tells l g group xs before between w page key was r i q =
       structure = λ e. absurd (true≢false e);
       logs = syncs_more (λ s. IsTight g s key) g first (Event.Change w page key g.format.dead ∷ []) (state_after g (front xs)) false i.syncs tt;
       refused = tt;
+      scans = tt;
       released = λ e. absurd (true≢false (sym e));
     }
 

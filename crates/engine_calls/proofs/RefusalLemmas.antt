@@ -41,6 +41,7 @@ tells l g group xs w c why es i = record {
   structure = i.structure;
   logs = i.due;
   refused = (es, [], sym (append-nil es), i.cause);
+  scans = i.scans;
   released = λ e. absurd (true≢false (sym e));
 }
 

@@ -79,6 +79,7 @@ every_scan versions old new l g group xs s0 k a first w from to b = record {
           structure = λ e. any_append is_structure first (Event.Next w page at (MapAnswer.Pair key v) ∷ []) i.structure refl;
           logs = syncs_more (IsTightSomewhere g) g first (Event.Next w page at (MapAnswer.Pair key v) ∷ []) (state_after g (front xs)) false i.syncs tt;
           refused = tt;
+          scans = i.rows;
           released = λ e. absurd (true≢false (sym e));
         };
         known = a;
@@ -99,6 +100,7 @@ every_scan versions old new l g group xs s0 k a first w from to b = record {
       structure = λ e. i.structure;
       logs = i.syncs;
       refused = tt;
+      scans = tt;
       released = λ e. absurd (true≢false (sym e));
     };
     known = a;
@@ -119,6 +121,7 @@ every_scan versions old new l g group xs s0 k a first w from to b = record {
       structure = λ e. i.structure;
       logs = i.syncs;
       refused = tt;
+      scans = i.rows;
       released = λ e. absurd (true≢false (sym e));
     };
     known = a;
@@ -141,6 +144,7 @@ every_scan versions old new l g group xs s0 k a first w from to b = record {
           structure = λ e. any_append is_structure first (Event.Next w page at (MapAnswer.Pair key v) ∷ []) i.structure refl;
           logs = syncs_more (IsTightSomewhere g) g first (Event.Next w page at (MapAnswer.Pair key v) ∷ []) (state_after g (front xs)) false i.syncs tt;
           refused = tt;
+          scans = i.rows;
           released = λ e. absurd (true≢false (sym e));
         };
         known = a;

@@ -38,6 +38,7 @@ every_sync old new l g group xs s0 k a before b = record {
           structure = λ e. i.structure;
           logs = (before, refl, is_sync);
           refused = tt;
+          scans = tt;
           released = λ e. absurd (true≢false (sym e));
         };
         known = a;
@@ -60,6 +61,7 @@ every_sync old new l g group xs s0 k a before b = record {
           structure = λ e. i.structure;
           logs = (before, heads, refl, is_cut);
           refused = tt;
+          scans = tt;
           released = λ e. absurd (true≢false (sym e));
         };
         known = a;

@@ -12,6 +12,7 @@ use Rattle.core_calls.specs.Fronts.{Done, front, outcomes}
 use Rattle.core_calls.specs.LogEvents.{RefusedLogs}
 use Rattle.core_calls.specs.Marks.{is_half}
 use Rattle.core_calls.specs.Refusals.{Limits, IsCause}
+use Rattle.core_calls.specs.Scans.{StopsOnWay}
 use Rattle.core_calls.specs.Steps.{Tries, call_behind, is_change, is_step, is_structure}
 use Rattle.disk_runs.specs.Stands.{Known}
 use Rattle.engine_calls.specs.Clauses.{Between, CallAnswers, MayCome}
@@ -27,13 +28,14 @@ TakesRows w [] = Unit {0}
 TakesRows w (Event.Lock v i mode ∷ es) = (v ≡ w) × TakesRows w es
 TakesRows w _ = ⊥
 
--- What the body shows: it may come next; the need of each event is met; its steps took rows alone, and those that a call refused so has taken; it changed the tree only if it asks for a change
+-- What the body shows: it may come next; the need of each event is met; its steps took rows alone, and those that a call refused so has taken; a scan, those of the entries that it met; it changed the tree only if it asks for a change
 -- and had its row; the state has the cause; and what was due at the logs was done.
 pub record IsRefusal (l : Limits) (g : Opening) (xs : List Done) (w : ℕ) (c : Call) (why : Refusal) (es : List Event) : Type 0 where
   pub comes : MayCome xs (refused_by w c why es).outcome
   pub met : AllMet g (state_after g (front xs)) es
   pub rows : TakesRows w (keep is_step es)
   pub tries : Tries g w (outcomes xs) (call_behind (outcomes xs) c) why (keep is_step es)
+  pub scans : StopsOnWay g w (outcomes xs) (state_after g (front xs)) (call_behind (outcomes xs) c) why es
   pub structure : is_change (Refused c why []) ≡ false → any is_structure es ≡ false
   pub cause : IsCause l g (front xs ++ es) (behind_first g xs es) (is_half (marks_by w (outcomes xs))) w c why
   pub due : RefusedLogs l g xs w c why es

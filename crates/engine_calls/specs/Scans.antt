@@ -11,6 +11,7 @@ use Rattle.core_calls.specs.Deeds.{Deed, Met, Over, Paused, Unsaid}
 use Rattle.core_calls.specs.Fronts.{Done, front, outcomes}
 use Rattle.core_calls.specs.LogEvents.{IsTightSomewhere, SyncsWhere}
 use Rattle.core_calls.specs.Refusals.{Limits}
+use Rattle.core_calls.specs.Scans.{ScansRows}
 use Rattle.core_calls.specs.Steps.{Walks, is_step, is_structure, met_last, scan_from}
 use Rattle.disk_runs.specs.Stands.{Known}
 use Rattle.engine_calls.specs.Clauses.{Between, CallAnswers, MayCome}
@@ -32,11 +33,12 @@ scanned_by w d us es = record { outcome = record { session = w; deed = d; unsaid
 abbrev pub pair_behind : List Event → (w page at k v : ℕ) → List Event
 pair_behind first w page at k v = first ++ Event.Next w page at (MapAnswer.Pair k v) ∷ []
 
--- What the body shows of the events of each: the outcome may come next; the need of each event is met; before the pair, if one is met, rows are taken
--- and gaps passed, the tree stays as it is, and at the logs there are whole syncs alone, each where a page that is needed finds no frame.
+-- What the body shows of the events of each: the outcome may come next; the need of each event is met; the rows of the entries that it met
+-- are taken, and no others; before the pair, if one is met, rows are taken and gaps passed, the tree stays as it is, and at the logs there are whole syncs alone, each where a page that is needed finds no frame.
 pub record IsScan (g : Opening) (xs : List Done) (x : Done) (first : List Event) : Type 0 where
   pub comes : MayCome xs x.outcome
   pub met : AllMet g (state_after g (front xs)) x.events
+  pub rows : ScansRows g x.outcome.session (outcomes xs) (state_after g (front xs)) x.outcome.deed x.events
   pub gaps : PassesGaps (keep is_step first)
   pub structure : any is_structure first ≡ false
   pub syncs : SyncsWhere (IsTightSomewhere g) g (state_after g (front xs)) false first

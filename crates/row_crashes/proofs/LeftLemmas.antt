@@ -143,7 +143,7 @@ module _ (held : EveryHeld) (g : Opening) (es : List Event) (n : Master) (area :
   logs_are = h.is.logs ∙ opening.workers
 
   floor_is : n.floor ≡ 0
-  floor_is = h.is.floor ∙ b.floor
+  floor_is = let l = h.is.floor.low in let e = b.floor in omega arith
 
   abbrev z : List Entry
   z = both (shown n area 1) (shown n area 2)

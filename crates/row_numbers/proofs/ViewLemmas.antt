@@ -36,6 +36,7 @@ tame_core now (told.Unlock w i) t = tt
 tame_core now (told.Flush w n) t = tt
 tame_core now (told.Sync n) t = tt
 tame_core now (told.Post w n) t = tt
+tame_core now (told.Fetch p pairs) t = tt
 tame_core now (told.Load p f) t = tt
 tame_core now (told.Cool p) t = tt
 tame_core now (told.Rescue p) t = tt

@@ -1,5 +1,5 @@
 -- What is given of pages: the pages as they are, and an opening of the core that opens so.
-use Rattle.std.proofs.Common.{◌≡◌, ◌<◌, ◌≤◌, ◌-◌, ◌^◌, ◌==◌, ltb, ℕ, zero, suc, true, List, Some, None, slice_get, get_or, [], ◌∷◌, length, refl, sym, ap, subst, ◌∙◌, inl, inr, arith}
+use Rattle.std.proofs.Common.{◌≡◌, ◌<◌, ◌≤◌, ◌-◌, ◌^◌, ◌==◌, ltb, ℕ, zero, suc, Bool, true, List, Some, None, slice_get, get_or, [], ◌∷◌, length, refl, sym, ap, subst, ◌∙◌, inl, inr, arith}
 use Rattle.std.proofs.lemmas.Bool.{cases_lt, cases_Bool, lt-ltb, le-ltb, ltb-true}
 use Rattle.image_model.specs.Entries.{Contents}
 use Rattle.page_model.specs.Pairs.{Pair}
@@ -98,9 +98,9 @@ module _ (pages : List Page) (workers base : ℕ) (are : ArePages pages base) wh
   ]
 
   -- the pages as they are, and what happened before
-  module _ (frames locks : ℕ) (before : List Event) where
+  module _ (faithful : Bool) (frames locks : ℕ) (before : List Event) where
     abbrev given : Given
-    given = record { workers = workers; frames = frames; rows = locks; base = base; pages = pages_of pages; before = before }
+    given = record { faithful = faithful; workers = workers; frames = frames; rows = locks; base = base; pages = pages_of pages; before = before }
 
     nodes : (λ p. (page_at pages p).node) ≡ node_in given.pages
     nodes = λ i p. (sym (page_back pages p) i).node
@@ -113,7 +113,7 @@ module _ (pages : List Page) (workers base : ℕ) (are : ArePages pages base) wh
 
     abbrev start : Opening
     start = record {
-      faithful = true;
+      faithful = faithful;
       workers = (opening given).workers;
       frames = (opening given).frames;
       row_of = (opening given).row_of;
@@ -159,7 +159,7 @@ module _ (pages : List Page) (workers base : ℕ) (are : ArePages pages base) wh
     fits = let a = pages_long pages in omega arith
 
     pub began : begun v ≡ at v (λ q. ltb q (length v.pages))
-    began = begins v (tree frames locks v.before) many fits refl
+    began = begins v (tree true frames locks v.before) many fits refl
 
     pub opened : IsOpened pages v
     opened = record {
@@ -167,16 +167,16 @@ module _ (pages : List Page) (workers base : ℕ) (are : ArePages pages base) wh
       cold = λ p h. ap (λ m. m.core.place p) began ∙ ap (λ b. place_of b p) (le-ltb p (length v.pages) (let a = pages_long pages in omega arith));
       page = λ p. ap (λ m. m.core.page p) began ∙ page_back pages p;
       rest = subst (λ (m : Moment). m ≡ record { core = record (first_state v) { place = m.core.place }; answer = λ _. 0 }) (sym began) refl;
-      met = met v (tree frames locks v.before) many fits refl;
-      start = start frames locks v.before;
-      opens = opens frames locks v.before;
+      met = met v (tree true frames locks v.before) many fits refl;
+      start = start true frames locks v.before;
+      opens = opens true frames locks v.before;
     }
 
   -- ## The root alone
 
-  module _ (frames locks : ℕ) where
+  module _ (faithful : Bool) (frames locks : ℕ) where
     abbrev rooted_v : Given
-    rooted_v = rooted_of frames locks workers base pages
+    rooted_v = rooted_of faithful frames locks workers base pages
 
     rest : begun rooted_v ≡ record { core = first_state rooted_v; answer = λ _. 0 }
     unfolding begun
@@ -193,6 +193,6 @@ module _ (pages : List Page) (workers base : ℕ) (are : ArePages pages base) wh
       saved = λ p. ap (λ m. m.core.saved p) rest ∙ page_back pages p;
       queue = ap (λ m. m.core.queue) rest;
       rest = rest;
-      start = start frames locks [];
-      opens = opens frames locks [];
+      start = start faithful frames locks [];
+      opens = opens faithful frames locks [];
     }

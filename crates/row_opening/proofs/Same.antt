@@ -163,7 +163,7 @@ module _ (x : Opening) (v : Given) (o : Opens x v) where
 
   undone : (s : State) → EachUndo x s → EachUndo (rows.opening v) s
   undone s u w c i = let a = u w c i in record {
-    there = λ _. let e = a.there o.faithful in record { page = e.page; below = subst (λ f. e.page < f.pages) o.format e.below; leaf = e.leaf; has = e.has };
+    there = λ f. let e = a.there (o.faithful ∙ f) in record { page = e.page; below = subst (λ f. e.page < f.pages) o.format e.below; leaf = e.leaf; has = e.has };
     holder = subst (λ f. is_held_by (s.row (f c.key)).holder w ≡ true) o.locks a.holder;
     word = subst (λ f. c.before ≤ f.dead) o.format a.word;
   }

@@ -268,9 +268,9 @@ module _ (pages : List Page) (workers low : ℕ) (are : ArePages pages low) (fra
 
   -- ## The root alone
 
-  module _ (some_frame : 1 ≤ frames) where
+  module _ (faithful : Bool) (some_frame : 1 ≤ frames) where
     abbrev v_rooted : Given
-    v_rooted = rooted_of frames locks workers low pages
+    v_rooted = rooted_of faithful frames locks workers low pages
 
     abbrev first : ℕ → Bool
     first q = q == 0
@@ -298,7 +298,7 @@ module _ (pages : List Page) (workers low : ℕ) (are : ArePages pages low) (fra
 
     pub rooted_framed : AreFramed v_rooted first (root_row root)
     rooted_framed = record {
-      begins = began_rooted pages workers low are frames locks;
+      begins = began_rooted pages workers low are faithful frames locks;
       frames = some_frame;
       workers = some_worker;
       within = λ p t. let e = eqb-true p 0 t in let a = pages_long pages in let b = are.tree.some in omega arith;

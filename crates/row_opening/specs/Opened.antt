@@ -1,5 +1,5 @@
 -- What plain rows begin with that are opened from pages.
-use Rattle.std.specs.Prelude.{◌≡◌, ◌<◌, ◌≤◌, ◌++◌, ◌&&◌, ◌==◌, ℕ, zero, suc, Bool, not, List, [], ◌∷◌, Option, Some, None, length, slice_get, if◌then◌else◌}
+use Rattle.std.specs.Prelude.{◌≡◌, ◌<◌, ◌≤◌, ◌++◌, ◌&&◌, ◌==◌, ℕ, zero, suc, Bool, true, not, List, [], ◌∷◌, Option, Some, None, length, slice_get, if◌then◌else◌}
 use Rattle.page_model.specs.Pairs.{Pair}
 use Rattle.page_model.specs.Nodes.{free}
 use Rattle.page_model.specs.Page.{Page, new_page}
@@ -72,9 +72,10 @@ abbrev pub frees : ℕ → List plain.Page → List Event
 frees p [] = []
 frees p (x ∷ xs) = if x.live then frees (suc p) xs else told.Load p p ∷ frees (suc p) xs
 
--- the pages as they are, and loads of all levels, 7 to 0, and of the free pages behind them
+-- the pages as they are, and loads of all levels, 7 to 0, and of the free pages behind them; each is in a frame, so none is read
+-- again
 abbrev pub given_of : (frames locks workers base : ℕ) → List Page → Given
-given_of frames locks workers base pages = record { workers = workers; frames = frames; rows = locks; base = base; pages = pages_of pages; before = loads 8 (pages_of pages) ++ frees 0 (pages_of pages) }
+given_of frames locks workers base pages = record { faithful = true; workers = workers; frames = frames; rows = locks; base = base; pages = pages_of pages; before = loads 8 (pages_of pages) ++ frees 0 (pages_of pages) }
 
 -- ## The moment at which the rows begin
 

@@ -16,9 +16,9 @@ use Rattle.row_words.specs.Moments.{first_state, events_of}
 use Rattle.row_words.specs.Openings as rows
 use Rattle.rows_trait.specs.Views.{after_all}
 
--- the opening is faithful and has these sizes, its start is what is given, and each page's last log is below 256
+-- the opening has these sizes, and is faithful where the rows are; its start is what is given, and each page's last log is below 256
 pub record Opens (x : Opening) (v : Given) : Type 0 where
-  pub faithful : x.faithful ≡ true
+  pub faithful : x.faithful ≡ v.faithful
   pub workers : x.workers ≡ (rows.opening v).workers
   pub frames : x.frames ≡ (rows.opening v).frames
   pub locks : x.row_of ≡ (rows.opening v).row_of
@@ -28,8 +28,8 @@ pub record Opens (x : Opening) (v : Given) : Type 0 where
   pub first : start x ≡ first_state v
   pub logs : (p : ℕ) → x.last p < 256
 
--- at that moment the pages are a tree, places are in order, last logs are below 256, workers hold the lock rows, and what they
--- have still to put back is there
+-- at that moment the pages are a tree, places are in order, last logs are below 256, workers hold the lock rows, and where the
+-- rows began faithful what they have still to put back is there
 pub record Opened (v : Given) (es : List Event) : Type 0 where
   pub tree : IsTree (rows.opening v).format (nodes_of (after_all v es).core)
   pub places : Residence (rows.opening v) (after_all v es).core

@@ -1,5 +1,5 @@
 -- What plain rows begin with of which the root alone is in a frame, so that there may be more pages than frames.
-use Rattle.std.specs.Prelude.{◌≡◌, ◌<◌, ℕ, List, []}
+use Rattle.std.specs.Prelude.{◌≡◌, ◌<◌, ℕ, Bool, List, []}
 use Rattle.page_model.specs.Page.{Page}
 use Rattle.core_state.specs.Openings.{Opening}
 use Rattle.core_state.specs.States.{Place}
@@ -10,8 +10,8 @@ use Rattle.row_opening.specs.Openings.{Opens}
 use Rattle.row_opening.specs.Opened.{page_at, pages_of, contents_of}
 
 -- the pages as they are, and nothing before: page 0 alone is hot, in frame 0
-abbrev pub rooted_of : (frames locks workers base : ℕ) → List Page → Given
-rooted_of frames locks workers base pages = record { workers = workers; frames = frames; rows = locks; base = base; pages = pages_of pages; before = [] }
+abbrev pub rooted_of : Bool → (frames locks workers base : ℕ) → List Page → Given
+rooted_of faithful frames locks workers base pages = record { faithful = faithful; workers = workers; frames = frames; rows = locks; base = base; pages = pages_of pages; before = [] }
 
 -- page 0 is hot in frame 0, and no other page is in a frame; each is as it was given, and saved so
 pub record IsRooted (pages : List Page) (v : Given) : Type 0 where

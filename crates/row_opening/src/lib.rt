@@ -3,6 +3,7 @@
 //! Read specs/Opened.antt and specs/Rooted.antt, what the rows begin with, and specs/Openings.antt, the laws.
 #![tactic(auto)]
 
+mod faith;
 mod frame;
 mod worker;
 
@@ -15,6 +16,7 @@ ghost use Rattle.row_opening.specs.Rooted.{rooted_of, IsRooted};
 ghost use Rattle.row_opening.specs.Openings.{EveryNeed, EveryOpened, EveryReached};
 
 use btree_node::Node;
+pub use faith::Faith;
 use frame::{set_frames, set_root};
 use rows_trait::plain::PlainRows;
 use rows_trait::trace::{Trace, Which};
@@ -49,9 +51,9 @@ pub fn open_rows(
 }
 
 /// Plain rows of which page 0, the root, alone is in a frame, the first, and their seat. The other frames are empty, so
-/// there may be more pages than frames. There are `locks` lock rows, and numbers are drawn above `base`. The one error
-/// is that memory is refused.
-pub fn open_root(
+/// there may be more pages than frames. There are `locks` lock rows, and numbers are drawn above `base`; `F` says for the proof
+/// alone whether a page that is read again is as it was saved. The one error is that memory is refused.
+pub fn open_root<F: Faith>(
     alloc: Global,
     pages: &[Node],
     frames: u32,
@@ -64,9 +66,9 @@ pub fn open_root(
     requires workers { 1 ≤ workers }
     requires few { frames + locks + workers < 2 ^ 32 }
     ensures sizes { IfOk result (λ r. (r.0.frames ≡ frames) × (r.0.locks ≡ locks) × (r.0.workers ≡ workers)) }
-    ensures view { IfOk result (λ r. r.1.view ≡ first_plain (rooted_of frames locks workers base pages.now)) }
+    ensures view { IfOk result (λ r. r.1.view ≡ first_plain (rooted_of F.faithful frames locks workers base pages.now)) }
     ensures picture { IfOk result (λ r. IsPicture (plan (sizes r.0.frames r.0.locks r.0.workers) r.1.view.given) r.0.words.items r.1.view) }
-    ensures opened { IsRooted pages.now (rooted_of frames locks workers base pages.now) }
+    ensures opened { IsRooted pages.now (rooted_of F.faithful frames locks workers base pages.now) }
 {
     let mut rows = PlainRows::new(alloc, frames, locks, workers)?;
     set_root(&mut rows.words, 2 + 4 * workers as usize, frames, &pages[0]);
@@ -87,8 +89,8 @@ fn seat_of<K: Which>(rows: &PlainRows, pages: &[Node], base: u64) -> Trace
 
 /// After every list of events the pages are a tree, and where pages stand in frames is in order: one page a frame, the root hot,
 /// the parent of a hot page hot; each page's last log is below 256, where there are fewer than 256 workers; whoever holds a lock row
-/// is a worker, and a row that is held alone has no readers; the key of each change that a worker has still to put back has an entry
-/// in its leaf, and the worker holds the key's row alone.
+/// is a worker, and a row that is held alone has no readers; the worker holds alone the row of each key whose change it has still to
+/// put back, and where the rows began faithful the key has an entry in its leaf.
 pub fn every_opened()
     ensures { EveryOpened }
 {}

@@ -48,6 +48,7 @@ is_silent (told.Begin w f) = true
 is_silent (told.Read w p k a) = true
 is_silent (told.Next w p k a) = true
 is_silent (told.Peek w p k a) = true
+is_silent (told.Fetch p pairs) = true
 is_silent (told.Miss w) = true
 is_silent _ = false
 
@@ -63,6 +64,8 @@ silent_row g s e row h = go e h (ltb row g.frames)
     go (told.Next w p k a) h false = refl
     go (told.Peek w p k a) h true = refl
     go (told.Peek w p k a) h false = refl
+    go (told.Fetch p pairs) h true = refl
+    go (told.Fetch p pairs) h false = refl
     go (told.Miss w) h true = refl
     go (told.Miss w) h false = refl
     go _ h b = absurd (true≢false (sym h))
@@ -77,6 +80,7 @@ silent_sets (told.Begin w f) c i h = refl
 silent_sets (told.Read w p k a) c i h = refl
 silent_sets (told.Next w p k a) c i h = refl
 silent_sets (told.Peek w p k a) c i h = refl
+silent_sets (told.Fetch p pairs) c i h = refl
 silent_sets (told.Miss w) c i h = refl
 silent_sets _ c i h = absurd (true≢false (sym h))
 

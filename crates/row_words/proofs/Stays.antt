@@ -10,14 +10,14 @@ use Rattle.page_model.specs.Check.{names_page}
 use Rattle.btree_node.specs.Words.{words_of}
 use Rattle.core_state.specs.Lists.{all_below}
 use Rattle.core_state.specs.Openings.{Opening}
-use Rattle.core_state.specs.States.{Place, State, is_hot, is_cooling, frame_of, in_frame, waits_for}
+use Rattle.core_state.specs.States.{Place, State, is_hot, is_cooling, is_cold, frame_of, in_frame, waits_for}
 use Rattle.core_state.specs.Events.{Event}
-use Rattle.core_state.specs.Needs.{may, needs, has_hot_parent, is_dirty, is_inside, is_empty_frame}
+use Rattle.core_state.specs.Needs.{may, needs, may_have, has_hot_parent, is_dirty, is_inside, is_empty_frame}
 use Rattle.core_state.specs.Steps.{happens, follows, put_back}
 use Rattle.core_state.specs.Steps as steps
 use Rattle.core_state.specs.Local.{published, publishes_page, publishes_row}
 use Rattle.core_state.proofs.Locality.{every_local}
-use Rattle.row_words.specs.Words.{swip, framed, ShowsPage, ShowsFrame, Shows, lock_words, relinks, relinked, fills, has_parent_in, publishes_frame, publishes}
+use Rattle.row_words.specs.Words.{swip, framed, ShowsPage, ShowsFrame, Shows, lock_words, relinks, relinked, fills, has_parent_in, rewritten, publishes_frame, publishes}
 use Rattle.row_words.proofs.Frames.{one_hot, in_left, swip_left, swip_cooling, framed_same}
 
 pub or_false : (a b : Bool) → (a || b) ≡ false → (a ≡ false) × (b ≡ false)
@@ -84,6 +84,11 @@ not_true false e = refl
 all_mono : (n : ℕ) (P Q : ℕ → Bool) → ((p : ℕ) → P p ≡ true → Q p ≡ true) → all_below n P ≡ true → all_below n Q ≡ true
 all_mono zero P Q f h = refl
 all_mono (suc n) P Q f h = let a = and_true (P n) (all_below n P) h in rw (f n a.0, all_mono n P Q f a.1) refl
+
+cold_out : (x : Place) (f : ℕ) → is_cold x ≡ true → in_frame x f ≡ false
+cold_out (Place.Hot f) i h = absurd (true≢false (sym h))
+cold_out (Place.Cooling f e v) i h = absurd (true≢false (sym h))
+cold_out Place.Cold i h = refl
 
 in_parts : (x : Place) (f : ℕ) → in_frame x f ≡ ((is_hot x || is_cooling x) && (frame_of x == f))
 in_parts (Place.Hot f) i = refl
@@ -167,25 +172,29 @@ module _ (g : Opening) (s : State) where
       let n = not_true (names_page (s.page p).node c && in_frame (s.place p) f) (below_false g.format.pages (λ q. not (names_page (s.page q).node c && in_frame (s.place q) f)) all p lt) in
       cases (names_page (s.page p).node c) (λ y. absurd (true≢false (sym (rw y i) ∙ n))) (λ z. z)
 
-  -- a page in a frame that the event does not publish
-  pub not_published : (e : Event) (f p : ℕ) → publishes_frame g s e f ≡ false → in_frame (s.place p) f ≡ true → publishes_page e p ≡ false
-  not_published e f p off before = unpublished s.place f p (published e) (or_false (any (λ p. in_frame (s.place p) f) (published e)) (fills e f || any (has_parent_in g s f) (relinked e)) off).0 before
+  -- a page in a frame that the event does not rewrite; one that is read again stands in none
+  pub not_published : (e : Event) (f p : ℕ) → may g s e ≡ true → publishes_frame g s e f ≡ false → in_frame (s.place p) f ≡ true → publishes_page e p ≡ false
+  not_published (Event.Fetch q pairs) f p m off before = cases (q == p)
+      (λ t. let cold = (and_true (is_cold (s.place q)) (may_have g (s.saved q).node pairs) (and_true (ltb q g.format.pages) (is_cold (s.place q) && may_have g (s.saved q).node pairs) m).1).0 in
+      absurd (true≢false (sym before ∙ cold_out (s.place p) f (ap (λ z. is_cold (s.place z)) (sym (eqb-true q p t)) ∙ cold))))
+      (λ n. rw n refl)
+  not_published e f p m off before = unpublished s.place f p (published e) (or_false (any (λ p. in_frame (s.place p) f) (published e)) (fills e f || any (has_parent_in g s f) (relinked e)) off).0 before
 
   -- a page that stands hot in a frame that the event does not publish stands there as it was
-  pub hot_stays : (e : Event) (f p : ℕ) → publishes_frame g s e f ≡ false → s.place p ≡ Place.Hot f → ((happens g s e).place p ≡ Place.Hot f) × ((happens g s e).page p ≡ s.page p)
-  hot_stays e f p off hot =
+  pub hot_stays : (e : Event) (f p : ℕ) → may g s e ≡ true → publishes_frame g s e f ≡ false → s.place p ≡ Place.Hot f → ((happens g s e).place p ≡ Place.Hot f) × ((happens g s e).page p ≡ s.page p)
+  hot_stays e f p m off hot =
       let it : (f == f) ≡ true = grind (arith, nat_tests) in
-      let un = not_published e f p off (ap (λ z. in_frame z f) hot ∙ it) in
+      let un = not_published e f p m off (ap (λ z. in_frame z f) hot ∙ it) in
       let l = every_local g s e in
       (one_hot ((happens g s e).place p) f (l.hot p un ∙ ap is_hot hot) (l.frame p un ∙ ap frame_of hot), l.pages p un)
 
   -- a frame that the event does not publish is empty after it only if it was before
-  empty_before : (e : Event) (f : ℕ) → publishes_frame g s e f ≡ false → is_empty_frame g (happens g s e) f ≡ true → is_empty_frame g s f ≡ true
-  empty_before e f off h = all_mono g.format.pages (λ p. not (in_frame ((happens g s e).place p) f)) (λ p. not (in_frame (s.place p) f)) each h
+  empty_before : (e : Event) (f : ℕ) → may g s e ≡ true → publishes_frame g s e f ≡ false → is_empty_frame g (happens g s e) f ≡ true → is_empty_frame g s f ≡ true
+  empty_before e f m off h = all_mono g.format.pages (λ p. not (in_frame ((happens g s e).place p) f)) (λ p. not (in_frame (s.place p) f)) each h
     where
       each : (p : ℕ) → not (in_frame ((happens g s e).place p) f) ≡ true → not (in_frame (s.place p) f) ≡ true
       each p none = cases (in_frame (s.place p) f)
-          (λ y. let un = not_published e f p off y in let l = every_local g s e in
+          (λ y. let un = not_published e f p m off y in let l = every_local g s e in
           let same = in_same ((happens g s e).place p) (s.place p) f (l.hot p un) (l.cooling p un) (l.frame p un) in
           absurd (true≢false (sym (same ∙ y) ∙ not_true (in_frame ((happens g s e).place p) f) none)))
           (λ n. ap not n)
@@ -195,10 +204,10 @@ module _ (g : Opening) (s : State) where
       → ShowsFrame g s f i x
       → (p : ℕ) → p < g.format.pages → in_frame ((happens g s e).place p) f ≡ true → ShowsPage (happens g s e) p i x
   frame_stays e f i x m off shows p lt after =
-      let parts = or_false (any (λ p. in_frame (s.place p) f) (published e)) (fills e f || any (has_parent_in g s f) (relinked e)) off in
+      let parts = or_false (any (λ p. in_frame (s.place p) f) (rewritten e)) (fills e f || any (has_parent_in g s f) (relinked e)) off in
       let more = or_false (fills e f) (any (has_parent_in g s f) (relinked e)) parts.1 in
       let before = in_before e p f m more.0 after in
-      let un : publishes_page e p ≡ false = unpublished s.place f p (published e) parts.0 before in
+      let un = not_published e f p m off before in
       let local = every_local g s e in
       let page = local.pages p un in
       let old = shows.page p lt before in
@@ -214,11 +223,11 @@ module _ (g : Opening) (s : State) where
       }
 
   pub hot_kept : (e : Event) (row p : ℕ) → ltb row g.frames ≡ true → publishes g s e row ≡ false → s.place p ≡ Place.Hot row → ((steps.step g s e).place p ≡ Place.Hot row) × ((steps.step g s e).page p ≡ s.page p)
-  hot_kept e row p lt off hot = go (may g s e)
+  hot_kept e row p lt off hot = go (may g s e) refl
     where
-      go : (b : Bool) → ((Rattle.std.specs.Prelude.if◌then◌else◌ b (happens g s e) s).place p ≡ Place.Hot row) × ((Rattle.std.specs.Prelude.if◌then◌else◌ b (happens g s e) s).page p ≡ s.page p)
-      go true = hot_stays e row p (sym (cond-true (ltb row g.frames) (publishes_frame g s e row) (publishes_row e (row - g.frames)) lt) ∙ off) hot
-      go false = (hot, refl)
+      go : (b : Bool) → may g s e ≡ b → ((Rattle.std.specs.Prelude.if◌then◌else◌ b (happens g s e) s).place p ≡ Place.Hot row) × ((Rattle.std.specs.Prelude.if◌then◌else◌ b (happens g s e) s).page p ≡ s.page p)
+      go true m = hot_stays e row p m (sym (cond-true (ltb row g.frames) (publishes_frame g s e row) (publishes_row e (row - g.frames)) lt) ∙ off) hot
+      go false m = (hot, refl)
 
   pub stays : (e : Event) (row i x : ℕ) → publishes g s e row ≡ false → Shows g s row i x → Shows g (steps.step g s e) row i x
   stays e row i x off shows = go (may g s e) refl
@@ -233,7 +242,7 @@ module _ (g : Opening) (s : State) where
       go true m = record {
         frame = λ t. record {
           page = frame_stays e row i x m (framing t) (shows.frame t);
-          empty = λ l h. (shows.frame t).empty l (empty_before e row (framing t) h);
+          empty = λ l h. (shows.frame t).empty l (empty_before e row m (framing t) h);
         };
         lock = λ t. shows.lock t ∙ ap (λ z. slice_index (lock_words g.workers z) i) (sym ((every_local g s e).rows (row - g.frames) (locking t)));
       }

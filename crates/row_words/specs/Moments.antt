@@ -24,6 +24,11 @@ use Rattle.row_words.specs.declared.given.Entry.{Entry}
 
 -- ## Events
 
+-- the pairs of a page that is given
+abbrev pub pairs_of : List Entry → List Pair
+pairs_of [] = []
+pairs_of (x ∷ xs) = record { key = x.key; word = x.word } ∷ pairs_of xs
+
 -- the core's mode
 abbrev pub mode_of : Mode → happening.Mode
 mode_of mode.Shared = happening.Mode.Shared
@@ -55,6 +60,7 @@ event_of (told.Unlock w i) = happening.Event.Unlock w i
 event_of (told.Flush w n) = happening.Event.Flush w n
 event_of (told.Sync n) = happening.Event.Sync n
 event_of (told.Post w n) = happening.Event.Post w n
+event_of (told.Fetch p pairs) = happening.Event.Fetch p (pairs_of pairs)
 event_of (told.Load p f) = happening.Event.Load p f
 event_of (told.Cool p) = happening.Event.Cool p
 event_of (told.Rescue p) = happening.Event.Rescue p
@@ -71,11 +77,6 @@ event_of (told.Miss w) = happening.Event.Miss w
 -- so many pages; sixty pairs a page, levels 0 to 7; a tombstone is 2^63, and no key is 2^64 - 1
 abbrev pub format_of : ℕ → Format
 format_of pages = record { pages = pages; room = 60; levels = 7; dead = 2 ^ 63; top = 2 ^ 64 - 1; some = lit< tt; wide = lit< tt }
-
--- the pairs of a page that is given
-abbrev pub pairs_of : List Entry → List Pair
-pairs_of [] = []
-pairs_of (x ∷ xs) = record { key = x.key; word = x.word } ∷ pairs_of xs
 
 -- page p of those that are given, a free one where there is none
 abbrev pub page_in : List Page → ℕ → Contents

@@ -1,6 +1,6 @@
 -- The core's opening for what rows begin with. A step reads of an opening its sizes alone (row_opening proves it), so the tree
 -- of this one is the least: page 0 is an empty leaf, and all else is free.
-use Rattle.std.specs.Prelude.{◌≡◌, ◌-◌, ◌<◌, ◌%◌, ℕ, zero, suc, true, [], length}
+use Rattle.std.specs.Prelude.{◌≡◌, ◌-◌, ◌<◌, ◌%◌, ℕ, zero, suc, Bool, true, [], length}
 use Rattle.std.proofs.Common.{lit≤, refl, sym, true≢false}
 use Rattle.std.proofs.Math.Nat.{zero-lt-suc}
 use Rattle.std.proofs.Math.Bridge.{no_suc-le-zero}
@@ -45,11 +45,11 @@ lone_tree n = record {
     upward zero lt l ne = absurd (ne refl)
     upward (suc p) lt l ne = absurd (true≢false (sym l))
 
--- a faithful opening of these sizes, with at least one worker, frame and page; a transaction makes up to 64 changes, and pages of
--- up to 45 pairs together are joined
-abbrev pub like : (workers frames rows pages : ℕ) → Opening
-like workers frames rows pages = record {
-  faithful = true;
+-- an opening of these sizes, with at least one worker, frame and page; a transaction makes up to 64 changes, and pages of up to
+-- 45 pairs together are joined
+abbrev pub like : (faithful : Bool) → (workers frames rows pages : ℕ) → Opening
+like faithful workers frames rows pages = record {
+  faithful = faithful;
   workers = suc (workers - 1);
   frames = suc (frames - 1);
   row_of = λ k. k % rows;
@@ -71,4 +71,4 @@ like workers frames rows pages = record {
 
 -- the opening for what is given
 abbrev pub opening : Given → Opening
-opening v = like v.workers v.frames v.rows (length v.pages)
+opening v = like v.faithful v.workers v.frames v.rows (length v.pages)

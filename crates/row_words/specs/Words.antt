@@ -105,9 +105,14 @@ fills _ i = false
 abbrev pub has_parent_in : Opening → State → ℕ → ℕ → Bool
 has_parent_in g s f p = not (all_below g.format.pages (λ q. not (names_page (s.page q).node p && in_frame (s.place q) f)))
 
--- the words of frame f may change: a page there is published, the frame is filled, or a page there names one whose swip changes
+-- the pages whose words in frames the event changes; one that is read again stands in none
+abbrev pub rewritten : Event → List ℕ
+rewritten (Event.Fetch p pairs) = []
+rewritten e = published e
+
+-- the words of frame f may change: a page there is rewritten, the frame is filled, or a page there names one whose swip changes
 abbrev pub publishes_frame : Opening → State → Event → ℕ → Bool
-publishes_frame g s e f = any (λ p. in_frame (s.place p) f) (published e) || (fills e f || any (has_parent_in g s f) (relinked e))
+publishes_frame g s e f = any (λ p. in_frame (s.place p) f) (rewritten e) || (fills e f || any (has_parent_in g s f) (relinked e))
 
 -- the words of the row may change; lock rows stand behind the frames
 abbrev pub publishes : Opening → State → Event → ℕ → Bool

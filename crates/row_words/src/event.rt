@@ -1,4 +1,5 @@
 //! The core's events as plain data, so that what a seat has seen can be data too. No value of these types is made.
+use crate::given::Entry;
 use std::collections::LinkedList;
 
 /// How a lock row is held: with others that read, or by one alone.
@@ -35,6 +36,7 @@ pub enum Event {
     Flush(u32, u64),
     Sync(u64),
     Post(u32, u64),
+    Fetch(u32, LinkedList<Entry>),
     Load(u32, u32),
     Cool(u32),
     Rescue(u32),

@@ -20,9 +20,11 @@ pub struct Page {
     pub pairs: LinkedList<Entry>,
 }
 
-/// How many workers, frames and lock rows there are (no workers, frames or pages count as one); the base number, above which
-/// numbers are drawn; the pages, page 0 first; and what happened up to the moment at which the rows begin, the first event first.
+/// Whether a page that is read again has the pairs with which it was saved; how many workers, frames and lock rows there are
+/// (no workers, frames or pages count as one); the base number, above which numbers are drawn; the pages, page 0 first; and what
+/// happened up to the moment at which the rows begin, the first event first.
 pub struct Given {
+    pub faithful: bool,
     pub workers: u32,
     pub frames: u32,
     pub rows: u32,

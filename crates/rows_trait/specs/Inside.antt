@@ -17,7 +17,7 @@ after v between es steps held = record { live = v.live; given = v.given; actor =
 
 -- nothing is given
 abbrev pub nowhere : Given
-nowhere = record { workers = 0; frames = 0; rows = 0; base = 0; pages = []; before = [] }
+nowhere = record { faithful = false; workers = 0; frames = 0; rows = 0; base = 0; pages = []; before = [] }
 
 -- the view of no seat
 abbrev pub no_view : View

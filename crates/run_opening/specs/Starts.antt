@@ -18,7 +18,7 @@ use Rattle.disk_runs.specs.Stands.{Stands}
 
 -- log w of the generation, without a block or a record, flushed up to the master's floor
 abbrev pub empty_log : Master → ℕ → Log
-empty_log n w = record { generation = n.generation; log = w; blocks = n.blocks; head = 0; next = 0; payload = []; count = 0; last = n.floor; flushed = n.floor }
+empty_log n w = record { generation = n.generation; log = w; blocks = n.blocks; head = 0; next = 0; payload = []; count = 0; last = n.floor; flushed = n.floor; ends = [] }
 
 -- the log is made so for its area: an account of it begins where the area holds nothing of its generation
 pub record IsMade (n : Master) (w : ℕ) (log : Log) (area : Area) : Type 0 where
