@@ -14,7 +14,7 @@ is_missed (refusal.Moved m) = tt
 is_missed (refusal.Latched l) = tt
 is_missed (refusal.RowSpent row) = tt
 
-found : (row : ℕ) (v w : View) (why : Refusal) → held.Caused row v why w → Caused v (outcome_of why) w
+pub found : (row : ℕ) (v w : View) (why : Refusal) → held.Caused row v why w → Caused v (outcome_of why) w
 found row v w (refusal.Moved m) e = moved_loads e.1
 found row v w (refusal.Latched l) e = (e.1.odd, found_loads e.1.found)
 found row v w (refusal.RowSpent r) e = (e.1.0, e.1.1, subst (λ q. Found q e.1.0 v w) (sym e.0) (found_loads e.1.2))

@@ -1,4 +1,4 @@
--- Pairs of a record.
+-- Pairs and keys of a record.
 use Rattle.std.proofs.Common.{◌≡◌, ◌<◌, ◌≤◌, ◌+◌, ◌-◌, ◌*◌, ℕ, zero, suc, List, [], ◌∷◌, ◌++◌, length, map, set, take, drop, replicate, refl, sym, ap, subst, ◌∙◌, arith}
 use Rattle.std.specs.Prelude.{slice_index}
 use Rattle.std.specs.List.{All}
@@ -51,3 +51,19 @@ none_behind count le = go 60 count le
     go n zero l = let e : n - 0 ≡ n = omega arith in ap (λ k. replicate {A = Pair} k no_pair) (sym e)
     go zero (suc a) l = absurd (omega arith)
     go (suc n) (suc a) l = let e : suc n - suc a ≡ n - a = omega arith in go n a (omega arith) ∙ ap (λ k. replicate {A = Pair} k no_pair) (sym e)
+
+-- ## Keys
+
+pub key_behind : (ks : List ℕ) (n count k : ℕ) → n < count → drop count (set ks n k) ≡ drop count ks
+key_behind [] n count k lt = refl
+key_behind (x ∷ xs) n zero k lt = absurd (omega arith)
+key_behind (x ∷ xs) zero (suc count) k lt = refl
+key_behind (x ∷ xs) (suc n) (suc count) k lt = key_behind xs n count k (omega arith)
+
+pub none_keys : (count : ℕ) → count ≤ 60 → drop count (replicate {A = ℕ} 60 0) ≡ replicate (60 - count) 0
+none_keys count le = go 60 count le
+  where
+    go : (n a : ℕ) → a ≤ n → drop a (replicate {A = ℕ} n 0) ≡ replicate (n - a) 0
+    go n zero l = let e : n - 0 ≡ n = omega arith in ap (λ k. replicate {A = ℕ} k 0) (sym e)
+    go zero (suc a) l = absurd (omega arith)
+    go (suc n) (suc a) l = let e : suc n - suc a ≡ n - a = omega arith in go n a (omega arith) ∙ ap (λ k. replicate {A = ℕ} k 0) (sym e)

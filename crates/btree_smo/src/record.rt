@@ -1,11 +1,12 @@
-// The pairs of a record.
-ghost use Rattle.std.specs.Prelude.{◌≡◌, ◌≤◌, ◌*◌, ◌%◌, length, map, take, drop};
+// The pairs, the keys and the pages of a record.
+ghost use Rattle.std.specs.Prelude.{◌≡◌, ◌≤◌, ◌<◌, ◌^◌, ◌*◌, ◌%◌, length, map, take, drop};
 ghost use Rattle.std.specs.List.{All};
 ghost use Rattle.btree_node.specs.Words.{pairs_of, pairs_in};
-ghost use Rattle.log_record.specs.Model.{model_pair, model_pairs};
-ghost use Rattle.log_record.specs.Spelling.{PairFits, PairsFit};
+ghost use Rattle.log_record.specs.Model.{model_pair, model_pairs, model_keys};
+ghost use Rattle.log_record.specs.Spelling.{PairFits, PairsFit, KeyFits, KeysFit, RefFits};
 
-use log_record::{Pair, Pairs};
+use btree_node::Node;
+use log_record::{Keys, PageRef, Pair, Pairs};
 
 // Pairs of their words, key and word in turn.
 pub(crate) fn pairs_of(words: &[u64]) -> Pairs
@@ -34,5 +35,44 @@ fn fill(words: &[u64], count: usize, pairs: &mut [Pair; 60])
         let key = words[2 * i];
         let word = words[2 * i + 1];
         pairs[i] = Pair { key, word };
+    }
+}
+
+// Keys of a leaf.
+pub(crate) fn keys_of(list: &[u64]) -> Keys
+    requires few { length list.now ≤ 60 }
+    ensures keys { model_keys result ≡ list.now }
+    ensures fits { KeysFit result }
+{
+    let mut keys = Keys::NONE;
+    fill_keys(list, &mut keys.keys);
+    keys.count = list.len() as u8;
+    keys
+}
+
+// Sets the first keys.
+fn fill_keys(list: &[u64], keys: &mut [u64; 60])
+    requires few { length list.now ≤ 60 }
+    ensures first { take (length list.now) keys.new ≡ list.now }
+    ensures fits { All KeyFits (take (length list.now) keys.new) }
+    ensures rest { drop (length list.now) keys.new ≡ drop (length list.now) keys.old }
+    ensures size { length keys.new ≡ 60 }
+{
+    for i in 0..list.len() {
+        let key = list[i];
+        keys[i] = key;
+    }
+}
+
+// The page with its number before.
+pub(crate) fn reference(node: &Node) -> PageRef
+    requires { node.now.number < 2 ^ 32 }
+    ensures page { result.page ≡ node.now.number }
+    ensures prev { result.prev ≡ node.now.gsn }
+    ensures fits { RefFits result }
+{
+    PageRef {
+        page: node.number() as u32,
+        prev: node.gsn(),
     }
 }

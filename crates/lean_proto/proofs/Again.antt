@@ -1,23 +1,23 @@
 -- An event makes the same of its rows in a second state where its worker's record, its lock rows and what is near its pages are as in the first.
-use Rattle.std.proofs.Common.{◌≡◌, ◌==◌, ◌||◌, ◌&&◌, not, ltb, leb, ℕ, suc, Bool, true, false, List, [], ◌∷◌, length, refl, sym, ap, subst, ◌∙◌, true≢false, inl, inr}
+use Rattle.std.proofs.Common.{◌≡◌, ◌==◌, ◌||◌, ◌&&◌, not, ltb, leb, ◌+◌, ℕ, suc, Bool, true, false, List, [], ◌∷◌, ◌++◌, length, refl, sym, ap, subst, ◌∙◌, true≢false, inl, inr}
 use Rattle.std.specs.Prelude.{if◌then◌else◌}
 use Rattle.std.proofs.lemmas.Bool.{and_from, or_left, or_right, eq-eqb, eqb-true}
 use Rattle.map_model.specs.Lists.{Has, any}
 use Rattle.image_model.specs.Entries.{Kind, Contents, Entry, touches, written, applied_as}
-use Rattle.page_model.specs.Pairs.{Pair, Span, spans, keep, below, onward, put}
-use Rattle.page_model.specs.Nodes.{Format, Node, WellFormed, holds}
+use Rattle.page_model.specs.Pairs.{Pair, Span, spans, keep, below, onward, put, is_in, without}
+use Rattle.page_model.specs.Nodes.{Format, Node, WellFormed, free, holds}
 use Rattle.page_model.specs.Records as records
 use Rattle.page_model.specs.Records.{Record, write_record}
-use Rattle.page_model.specs.Redo.{has_key}
-use Rattle.page_model.specs.Needs.{key_at, split_record, lift_record}
+use Rattle.page_model.specs.Redo.{has_key, all_keys}
+use Rattle.page_model.specs.Needs.{key_at, split_record, lift_record, join_record, drop_record, purge_record}
 use Rattle.page_model.specs.Check.{names_page}
-use Rattle.page_model.proofs.Pairs.{keep_has, put_has}
+use Rattle.page_model.proofs.Pairs.{keep_has, put_has, has_append}
 use Rattle.page_model.proofs.Spans.{span_pair}
 use Rattle.core_commit.proofs.Events.{names_to}
 use Rattle.core_state.specs.Openings.{Opening}
 use Rattle.core_state.specs.States.{Place, State, Worker, nodes_of, gsns_of, in_frame}
 use Rattle.core_state.specs.Events.{Event, Mode}
-use Rattle.core_state.specs.Needs.{may, needs, are_hot, pages_of, is_held_by, may_put, may_put_back, may_split, may_lift}
+use Rattle.core_state.specs.Needs.{may, needs, are_hot, pages_of, is_held_by, may_put, may_put_back, may_split, may_lift, may_join, may_drop, may_purge, is_single, is_settled, is_dead}
 use Rattle.core_state.specs.Steps.{happens, locked, unlocked, put_back, touch, at_pages, refs_of, moves, write_entry, page_entry}
 use Rattle.core_state.specs.Local.{published, publishes_row}
 use Rattle.row_words.specs.Words.{swip, is_inner, publishes_frame}
@@ -365,4 +365,192 @@ again_lift g s t w c formed ok rest = record {
       level = (root.page j).node.level;
       pairs = (root.page j).node.pairs;
       keys = [];
+    })
+
+-- ## A join
+
+pub plain_join : (w l r q : ℕ) → IsPlain (Event.Join w l r q)
+plain_join w l r q = record { pages = refl; frame = λ g s f. bare (any (λ p. in_frame (s.place p) f) (l ∷ r ∷ q ∷ [])); place = λ g s. refl; saved = λ g s. refl }
+
+-- what a join makes of a page, by whether it is the left one, the right one, the parent
+abbrev pub joined : Record → Node → Bool → Bool → Bool → Node
+joined x v l r q =
+    if l then record { live = v.live; level = v.level; low = v.low; high = x.high; pairs = (v.pairs ++ x.pairs) }
+    else (if r then free
+    else (if q then record { live = v.live; level = v.level; low = v.low; high = v.high; pairs = without x.sep v.pairs }
+    else v))
+
+join_agree : (a b : ℕ → Place) (x : Record) (p : ℕ) (v : Node) → (is_inner v ≡ true → Agree a b v.pairs) → (p ≡ x.left.page → is_inner v ≡ true → Agree a b x.pairs)
+    → is_inner (records.applied_as records.Kind.Join x p v) ≡ true → Agree a b (records.applied_as records.Kind.Join x p v).pairs
+join_agree a b x p v old right = go (p == x.left.page) refl (p == x.right.page) (p == x.parent.page)
+  where
+    go : (l : Bool) → (p == x.left.page) ≡ l → (r q : Bool) → is_inner (joined x v l r q) ≡ true → Agree a b (joined x v l r q).pairs
+    go true e r q h = λ y has. elim (has_append y v.pairs x.pairs has) [ inl m ↦ old h y m | inr m ↦ right (eqb-true p x.left.page e) h y m ]
+    go false e true q h = absurd (true≢false (sym h))
+    go false e false true h = agree_keep a b (λ k. not (k == x.sep)) v.pairs (old h)
+    go false e false false h = old h
+
+-- where the left page is inner, so is the right one
+pub again_join : (g : Opening) (s t : State) (w l r q : ℕ) → (is_inner (s.page l).node ≡ true → is_inner (s.page r).node ≡ true) → may g s (Event.Join w l r q) ≡ true → Rest s t w (Event.Join w l r q) → Again g s t (Event.Join w l r q)
+again_join g s t w l r q level ok rest = record {
+  met = rw (left.place, right.place, parent.place, rest.worker, fits) ok;
+  rows = λ j h. absurd (true≢false (sym h));
+  pages = moves_same s t w Kind.Join (l ∷ r ∷ q ∷ []) (join_record (nodes_of s) (gsns_of s) l r q) (join_record (nodes_of t) (gsns_of t) l r q) rest.worker (λ p h. (rest.near p h).page) record_same;
+  swips = λ p h. let n = rest.near p h in
+      let x = join_record (nodes_of s) (gsns_of s) l r q in
+      let old = agree_named s.place t.place (s.page p).node n.swips in
+      moved s.place t.place (page_entry Kind.Join s w (at_pages s w (s.worker w) (l ∷ r ∷ q ∷ [])) (l ∷ r ∷ q ∷ []) x) p (s.page p) old
+      (join_agree s.place t.place x p (s.page p).node old
+      (λ is up. agree_named s.place t.place (s.page r).node right.swips (level (subst (λ z. is_inner (s.page z).node ≡ true) is up))));
+}
+  where
+    left : SameNear s t l
+    left = rest.near l (inl refl)
+
+    right : SameNear s t r
+    right = rest.near r (inr (inl refl))
+
+    parent : SameNear s t q
+    parent = rest.near q (inr (inr (inl refl)))
+
+    fits : may_join g (nodes_of t) l r q ≡ may_join g (nodes_of s) l r q
+    fits = (λ j. ltb q g.format.pages && (names_page (parent.page j).node l && (names_page (parent.page j).node r && (((left.page j).node.high == (right.page j).node.low)
+        && leb (length (left.page j).node.pairs + length (right.page j).node.pairs) g.joined))))
+
+    record_same : join_record (nodes_of t) (gsns_of t) l r q ≡ join_record (nodes_of s) (gsns_of s) l r q
+    record_same = (λ j. record {
+      kind = records.Kind.Join;
+      left = record { page = l; prev = (left.page j).gsn };
+      right = record { page = r; prev = (right.page j).gsn };
+      parent = record { page = q; prev = (parent.page j).gsn };
+      key = 0;
+      before = 0;
+      after = 0;
+      sep = (right.page j).node.low;
+      high = (right.page j).node.high;
+      level = 0;
+      pairs = (right.page j).node.pairs;
+      keys = [];
+    })
+
+-- ## A drop
+
+pub plain_drop : (w c : ℕ) → IsPlain (Event.Drop w c)
+plain_drop w c = record { pages = refl; frame = λ g s f. bare (any (λ p. in_frame (s.place p) f) (0 ∷ c ∷ [])); place = λ g s. refl; saved = λ g s. refl }
+
+-- what a drop makes of a page, by whether it is page 0, the child
+abbrev pub dropped : Record → Node → Bool → Bool → Node
+dropped x v z r =
+    if z then record { live = v.live; level = x.level; low = v.low; high = v.high; pairs = x.pairs }
+    else (if r then free else v)
+
+drop_agree : (a b : ℕ → Place) (x : Record) (p : ℕ) (v : Node) → (is_inner v ≡ true → Agree a b v.pairs) → (ltb 0 x.level ≡ true → Agree a b x.pairs)
+    → is_inner (records.applied_as records.Kind.Drop x p v) ≡ true → Agree a b (records.applied_as records.Kind.Drop x p v).pairs
+drop_agree a b x p v old child = go (p == 0) (p == x.right.page)
+  where
+    go : (z r : Bool) → is_inner (dropped x v z r) ≡ true → Agree a b (dropped x v z r).pairs
+    go true r h = child (and_true v.live (ltb 0 x.level) h).1
+    go false true h = absurd (true≢false (sym h))
+    go false false h = old h
+
+pub again_drop : (g : Opening) (s t : State) (w c : ℕ) → WellFormed g.format (s.page c).node → may g s (Event.Drop w c) ≡ true → Rest s t w (Event.Drop w c) → Again g s t (Event.Drop w c)
+again_drop g s t w c formed ok rest = record {
+  met = rw (root.place, child.place, rest.worker, fits) ok;
+  rows = λ j h. absurd (true≢false (sym h));
+  pages = moves_same s t w Kind.Drop (0 ∷ c ∷ []) (drop_record (nodes_of s) (gsns_of s) c) (drop_record (nodes_of t) (gsns_of t) c) rest.worker (λ p h. (rest.near p h).page) record_same;
+  swips = λ p h. let n = rest.near p h in
+      let x = drop_record (nodes_of s) (gsns_of s) c in
+      let old = agree_named s.place t.place (s.page p).node n.swips in
+      moved s.place t.place (page_entry Kind.Drop s w (at_pages s w (s.worker w) (0 ∷ c ∷ [])) (0 ∷ c ∷ []) x) p (s.page p) old
+      (drop_agree s.place t.place x p (s.page p).node old
+      (λ up. agree_named s.place t.place (s.page c).node child.swips (inner_live g.format (s.page c).node formed up)));
+}
+  where
+    root : SameNear s t 0
+    root = rest.near 0 (inl refl)
+
+    child : SameNear s t c
+    child = rest.near c (inr (inl refl))
+
+    fits : may_drop (nodes_of t) c ≡ may_drop (nodes_of s) c
+    fits = (λ j. ltb 0 (root.page j).node.level && is_single (root.page j).node.pairs c)
+
+    record_same : drop_record (nodes_of t) (gsns_of t) c ≡ drop_record (nodes_of s) (gsns_of s) c
+    record_same = (λ j. record {
+      kind = records.Kind.Drop;
+      left = record { page = 0; prev = (root.page j).gsn };
+      right = record { page = c; prev = (child.page j).gsn };
+      parent = records.nowhere;
+      key = 0;
+      before = 0;
+      after = 0;
+      sep = 0;
+      high = 0;
+      level = (child.page j).node.level;
+      pairs = (child.page j).node.pairs;
+      keys = [];
+    })
+
+-- ## A purge
+
+pub plain_purge : (w p : ℕ) (keys : List ℕ) → IsPlain (Event.Purge w p keys)
+plain_purge w p keys = record { pages = refl; frame = λ g s f. bare (in_frame (s.place p) f || false); place = λ g s. refl; saved = λ g s. refl }
+
+-- a purge leaves the level
+purged : (x : Record) (q : ℕ) (v : Node) → is_inner (records.applied_as records.Kind.Purge x q v) ≡ is_inner v
+purged x q v = go (q == x.left.page)
+  where
+    go : (b : Bool) → is_inner (if b then record { live = v.live; level = v.level; low = v.low; high = v.high; pairs = keep (λ k. not (is_in k x.keys)) v.pairs } else v) ≡ is_inner v
+    go true = refl
+    go false = refl
+
+-- its need hangs on lock rows that it does not publish: the keys are settled in the second state too
+pub again_purge : (g : Opening) (s t : State) (w p : ℕ) (keys : List ℕ) → may g s (Event.Purge w p keys) ≡ true → all_keys (λ k. is_settled g t k) keys ≡ true → Rest s t w (Event.Purge w p keys) → Again g s t (Event.Purge w p keys)
+again_purge g s t w p keys ok settled rest = record {
+  met = rw (near.place, rest.worker, fits, settled ∙ sym still) ok;
+  rows = λ j h. absurd (true≢false (sym h));
+  pages = moves_same s t w Kind.Purge (p ∷ []) (purge_record (gsns_of s) p keys) (purge_record (gsns_of t) p keys) rest.worker (λ q h. (rest.near q h).page) record_same;
+  swips = λ q h inner.
+      let kept = touched (page_entry Kind.Purge s w (at_pages s w (s.worker w) (p ∷ [])) (p ∷ []) (purge_record (gsns_of s) p keys)) q (s.page q) (purged (purge_record (gsns_of s) p keys) q (s.page q).node) in
+      absurd (true≢false (sym inner ∙ (kept ∙ (ap (λ z. is_inner (s.page z).node) (sym (only p q h)) ∙ flat))));
+}
+  where
+    near : SameNear s t p
+    near = rest.near p (inl refl)
+
+    asked : (may_purge g (nodes_of s) p keys && all_keys (λ k. is_settled g s k) keys) ≡ true
+    asked = (and_true (s.worker w).is_open (may_purge g (nodes_of s) p keys && all_keys (λ k. is_settled g s k) keys) (and_true (are_hot s (p ∷ [])) (needs g s (Event.Purge w p keys)) ok).1).1
+
+    still : all_keys (λ k. is_settled g s k) keys ≡ true
+    still = (and_true (may_purge g (nodes_of s) p keys) (all_keys (λ k. is_settled g s k) keys) asked).1
+
+    flat : is_inner (s.page p).node ≡ false
+    flat =
+        let a = (and_true (may_purge g (nodes_of s) p keys) (all_keys (λ k. is_settled g s k) keys) asked).0 in
+        let b = and_true (ltb p g.format.pages) _ a in
+        let d = and_true (s.page p).node.live _ b.1 in
+        let e = and_true ((s.page p).node.level == 0) _ d.1 in
+        bottom (s.page p).node.live (s.page p).node.level e.0
+      where
+        bottom : (a : Bool) (n : ℕ) → (n == 0) ≡ true → (a && ltb 0 n) ≡ false
+        bottom true n e = ap (ltb 0) (eqb-true n 0 e)
+        bottom false n e = refl
+
+    fits : may_purge g (nodes_of t) p keys ≡ may_purge g (nodes_of s) p keys
+    fits = (λ j. ltb p g.format.pages && ((near.page j).node.live && (((near.page j).node.level == 0) && all_keys (λ k. is_dead g.format (Rattle.page_model.specs.Pairs.find k (near.page j).node.pairs)) keys)))
+
+    record_same : purge_record (gsns_of t) p keys ≡ purge_record (gsns_of s) p keys
+    record_same = (λ j. record {
+      kind = records.Kind.Purge;
+      left = record { page = p; prev = (near.page j).gsn };
+      right = records.nowhere;
+      parent = records.nowhere;
+      key = 0;
+      before = 0;
+      after = 0;
+      sep = 0;
+      high = 0;
+      level = 0;
+      pairs = [];
+      keys = keys;
     })

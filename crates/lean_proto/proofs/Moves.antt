@@ -48,14 +48,14 @@ use Rattle.lean_proto.proofs.Near.{hot_at}
 -- a page in a frame that the event does not change
 page_next : (v : View) (f p : ℕ) → f < (opening v.given).frames → (e : Event) (m : Moment) → changes v.given m e f ≡ false → in_frame (m.core.place p) f ≡ true → (stepped v.given m e).core.page p ≡ m.core.page p
 unfolding changes stepped
-page_next v f p lt e m off i = go (core.may (opening v.given) m.core (event_of e))
+page_next v f p lt e m off i = go (core.may (opening v.given) m.core (event_of e)) refl
   where
     frame : publishes_frame (opening v.given) m.core (event_of e) f ≡ false
     frame = sym (cond-true (ltb f (opening v.given).frames) (publishes_frame (opening v.given) m.core (event_of e) f) (publishes_row (event_of e) (f - (opening v.given).frames)) (lt-ltb f (opening v.given).frames lt)) ∙ off
 
-    go : (b : Bool) → (if b then happens (opening v.given) m.core (event_of e) else m.core).page p ≡ m.core.page p
-    go true = (every_local (opening v.given) m.core (event_of e)).pages p (words.not_published (opening v.given) m.core (event_of e) f p frame i)
-    go false = refl
+    go : (b : Bool) → core.may (opening v.given) m.core (event_of e) ≡ b → (if b then happens (opening v.given) m.core (event_of e) else m.core).page p ≡ m.core.page p
+    go true met = (every_local (opening v.given) m.core (event_of e)).pages p (words.not_published (opening v.given) m.core (event_of e) f p met frame i)
+    go false met = refl
 
 -- a page in a held frame
 pub page_on : (v : View) → v.actor ≡ pager → (f p : ℕ) → f < (opening v.given).frames → holds v.held f ≡ true → (es : List Event) (m : Moment) → AreApart v m es → in_frame (m.core.place p) f ≡ true

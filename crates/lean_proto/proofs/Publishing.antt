@@ -51,14 +51,14 @@ module _ (v : View) (row w p k : ℕ) (page : Contents) (saved : ℕ) (worker : 
 
   saved_next : (m : Moment) (e : Event) → changes v.given m e row ≡ false → m.core.place p ≡ Place.Hot row → (stepped v.given m e).core.saved p ≡ m.core.saved p
   unfolding stepped changes
-  saved_next m e off hot = go (core.may g m.core (event_of e))
+  saved_next m e off hot = go (core.may g m.core (event_of e)) refl
     where
       frame : publishes_frame g m.core (event_of e) row ≡ false
       frame = sym (cond-true (ltb row g.frames) (publishes_frame g m.core (event_of e) row) (publishes_row (event_of e) (row - g.frames)) (lt-ltb row g.frames lt)) ∙ off
 
-      go : (b : Bool) → (if b then happens g m.core (event_of e) else m.core).saved p ≡ m.core.saved p
-      go true = (every_local g m.core (event_of e)).saved p (words.not_published g m.core (event_of e) row p frame (hot_place (m.core.place p) row hot))
-      go false = refl
+      go : (b : Bool) → core.may g m.core (event_of e) ≡ b → (if b then happens g m.core (event_of e) else m.core).saved p ≡ m.core.saved p
+      go true met = (every_local g m.core (event_of e)).saved p (words.not_published g m.core (event_of e) row p met frame (hot_place (m.core.place p) row hot))
+      go false met = refl
 
   rests_next : (m : Moment) (e : Event) → IsApart v m e → Rests v row w p k page saved worker m → Rests v row w p k page saved worker (stepped v.given m e)
   unfolding stepped
@@ -166,7 +166,7 @@ module _ (z : Shape) (v : View) (row : ℕ) (how : Write) (w p k x : ℕ) (it : 
 
   pub may_change : MayPublish z row (event_by how w p k x) v
   may_change = may_publish z v row (event_by how w p k x) plain (write_part w p k x how) (no_words (event_by how w p k x) (write_steady w p k x how)) (ap (may z.alone v) (writer w p k x how) ∙ it.actor) it.places it.met.met (write_tame o m0.core w p k x how m0 refl it.met) leaves
-      (λ t rest. again_write o m0.core w p k x how t it.met rest)
+      (λ t kept rest. again_write o m0.core w p k x how t it.met rest)
 
 pub every_change : EveryChange
 every_change = may_change

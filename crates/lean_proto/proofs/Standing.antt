@@ -48,6 +48,7 @@ queue_same g s _ ne = refl
 
 -- it changes only pages that it needs hot
 is_published : (e : Event) → actor_of e ≢ pager → (q : ℕ) → Has q (published (event_of e)) → Has q (pages_of (event_of e))
+is_published (told.Fetch p pairs) ne q h = absurd (ne refl)
 is_published (told.Load p f) ne q h = absurd (ne refl)
 is_published (told.Cool p) ne q h = absurd (ne refl)
 is_published (told.Rescue p) ne q h = absurd (ne refl)

@@ -1,5 +1,5 @@
 -- Who is ready to publish a steady event may publish it, whatever others did meanwhile.
-use Rattle.std.proofs.Common.{◌≡◌, ◌||◌, not, ltb, ◌<◌, ◌+◌, ◌-◌, ℕ, Bool, true, false, List, [], ◌∷◌, ◌++◌, refl, sym, ap, subst, ◌∙◌, true≢false, arith, inl, inr}
+use Rattle.std.proofs.Common.{◌≡◌, ◌||◌, not, ltb, ◌<◌, ◌+◌, ◌-◌, ◌≤◌, ℕ, Bool, true, false, List, [], ◌∷◌, ◌++◌, refl, sym, ap, subst, ◌∙◌, true≢false, arith, inl, inr}
 use Rattle.std.specs.Prelude.{slice_index, if◌then◌else◌}
 use Rattle.std.proofs.lemmas.Bool.{cond-true, cond-false, lt-ltb, le-ltb}
 use Rattle.map_model.specs.Lists.{Has, any}
@@ -25,11 +25,15 @@ use Rattle.row_words.proofs.Stays.{cases, and_true}
 use Rattle.rows_trait.specs.declared.view.View.{View}
 use Rattle.rows_trait.specs.Views.{Shape, after_all, state, AreApart, IsApart, holds, held_at, may}
 use Rattle.rows_trait.specs.Turns.{Leaves, MayPublish}
-use Rattle.rows_trait.proofs.EventLemmas.{none_apart, by_none}
+use Rattle.rows_trait.proofs.EventLemmas.{none_apart, apart_sync, by_none}
 use Rattle.lean_proto.specs.Ready.{is_steady, IsReady, EveryReady}
+use Rattle.lean_proto.specs.Purges.{EveryPurge}
+use Rattle.lean_proto.proofs.Levels.{level_with}
+use Rattle.lean_proto.proofs.Growing.{flushed_on}
+use Rattle.lean_proto.proofs.Settling.{settled_on, can_purge}
 use Rattle.row_words.proofs.Frames.{hot_place}
 use Rattle.lean_proto.proofs.Near.{SameNear, near_none, near_on, hot_at, shows_near}
-use Rattle.lean_proto.proofs.Again.{agree_child, IsPlain, Rest, Again, plain_lock, plain_unlock, plain_change, plain_back, plain_split, plain_lift, again_lock, again_unlock, again_change, again_back, again_split, again_lift}
+use Rattle.lean_proto.proofs.Again.{agree_child, IsPlain, Rest, Again, plain_lock, plain_unlock, plain_change, plain_back, plain_split, plain_lift, plain_join, plain_drop, plain_purge, again_lock, again_unlock, again_change, again_back, again_split, again_lift, again_join, again_drop, again_purge}
 use Rattle.lean_proto.proofs.Meanwhile.{meanwhile}
 use Rattle.lean_proto.proofs.Owns.{worker_apart, holder_on}
 use Rattle.lean_proto.proofs.Loads.{load_ready}
@@ -64,14 +68,16 @@ module _ (v : View) (j : ℕ) (mine : holds v.held ((opening v.given).frames + j
   row_on (e ∷ es) m a = row_on es (stepped v.given m e) a.1 ∙ row_next m e a.0
 
 -- what stays of what worker w knows
-record Keeps (v : View) (w : ℕ) (s t : State) : Type 0 where
+pub record Keeps (v : View) (w : ℕ) (s t : State) : Type 0 where
   pub worker : t.worker w ≡ s.worker w
   pub alone : (j : ℕ) → is_held_by (s.row j).holder w ≡ true → is_held_by (t.row j).holder w ≡ true
   pub row : (j : ℕ) → holds v.held ((opening v.given).frames + j) ≡ true → t.row j ≡ s.row j
   pub near : (f p : ℕ) → f < (opening v.given).frames → holds v.held f ≡ true → p < (opening v.given).format.pages → s.place p ≡ Place.Hot f → SameNear s t p
+  -- logs are flushed no less
+  pub flushed : (u : ℕ) → s.flushed u ≤ t.flushed u
 
 keeps_none : (v : View) (w : ℕ) (s : State) → Keeps v w s s
-keeps_none v w s = record { worker = refl; alone = λ j h. h; row = λ j mine. refl; near = λ f p lt mine below hot. near_none s p }
+keeps_none v w s = record { worker = refl; alone = λ j h. h; row = λ j mine. refl; near = λ f p lt mine below hot. near_none s p; flushed = λ u. omega arith }
 
 keeps_on : (v : View) (es : List Event) (m : Moment) → AreApart v m es → Keeps v v.actor m.core (run v.given m es).core
 keeps_on v es m a =
@@ -80,6 +86,7 @@ keeps_on v es m a =
       alone = λ j h. holder_on v.given v.actor j es m n h;
       row = λ j mine. row_on v j mine es m a;
       near = λ f p lt mine below hot. near_on v f p lt mine below es m a hot;
+      flushed = flushed_on v.given es m (apart_sync v m es a);
     }
 
 any_same : (P Q : ℕ → Bool) (l : List ℕ) → ((x : ℕ) → Has x l → P x ≡ Q x) → any P l ≡ any Q l
@@ -194,7 +201,7 @@ module _ (z : Shape) (v : View) (row : ℕ) (e : Event) (plain : IsPlain (event_
 -- an event that may happen again wherever what it rests on is the same
 pub may_publish : (z : Shape) (v : View) (row : ℕ) (e : Event) → IsPlain (event_of e) → is_sync e ≡ false → ((c i : ℕ) → sets e c i ≡ false)
     → may z.alone v (actor_of e) ≡ true → ((es : List Event) → Residence (opening v.given) (after_all v.given es).core) → core.may (opening v.given) (state v).core (event_of e) ≡ true → IsTame (state v) e → Leaves z row e v (state v)
-    → ((t : State) → Rest (state v).core t (actor_of e) (event_of e) → Again (opening v.given) (state v).core t (event_of e)) → MayPublish z row e v
+    → ((t : State) → Keeps v (actor_of e) (state v).core t → Rest (state v).core t (actor_of e) (event_of e) → Again (opening v.given) (state v).core t (event_of e)) → MayPublish z row e v
 may_publish z v row e plain part words actor places met tame leaves again = record {
   actor = actor;
   part = part;
@@ -205,7 +212,7 @@ may_publish z v row e plain part words actor places met tame leaves again = reco
       let kept = meanwhile z v (actor_of e) (λ n. Keeps v (actor_of e) (state v).core n.core) actor (keeps_none v (actor_of e) (state v).core)
       (λ es is a. subst (λ w. Keeps v w (state v).core (run v.given (state v) es).core) is (keeps_on v es (state v) a)) between quiet apart in
       let rest = rests z v row e plain (state v) (places v.seen) met leaves (actor_of e) m.core kept in
-      leaves_again z v row e plain (state v) (places v.seen) met leaves m (actor_of e) (places (v.seen ++ between)) rest (again m.core rest);
+      leaves_again z v row e plain (state v) (places v.seen) met leaves m (actor_of e) (places (v.seen ++ between)) rest (again m.core kept rest);
 }
 
 no_sync : (e : Event) → is_steady e ≡ true → is_sync e ≡ false
@@ -220,6 +227,8 @@ no_words (told.Change w p k x) h c j = refl
 no_words (told.PutBack w p) h c j = refl
 no_words (told.Split w l r q i) h c j = refl
 no_words (told.Lift w d) h c j = refl
+no_words (told.Join w l r q) h c j = refl
+no_words (told.Drop w d) h c j = refl
 no_words (told.Load p f) h c j = refl
 no_words (told.Cool p) h c j = refl
 no_words (told.Rescue p) h c j = refl
@@ -230,7 +239,7 @@ no_words _ h c j = absurd (true≢false (sym h))
 -- what is ready, of events that move no page
 plain_ready : (z : Shape) (v : View) (row : ℕ) (e : Event) → is_steady e ≡ true → IsPlain (event_of e) → IsReady z v row e
     → ((t : State) → Rest (state v).core t (actor_of e) (event_of e) → Again (opening v.given) (state v).core t (event_of e)) → MayPublish z row e v
-plain_ready z v row e steady plain r again = may_publish z v row e plain (no_sync e steady) (no_words e steady) r.actor (λ es. (r.order es).places) r.met r.tame r.leaves again
+plain_ready z v row e steady plain r again = may_publish z v row e plain (no_sync e steady) (no_words e steady) r.actor (λ es. (r.order es).places) r.met r.tame r.leaves (λ t kept rest. again t rest)
 
 pub every_ready : EveryReady
 every_ready z v row (told.Lock w i mode) h r = plain_ready z v row (told.Lock w i mode) h (plain_lock w i (mode_of mode)) r (λ t rest. again_lock (opening v.given) (state v).core t w i (mode_of mode) r.met rest)
@@ -244,9 +253,31 @@ every_ready z v row (told.Split w l right q i) h r = plain_ready z v row (told.S
     left = (stands z v row (told.Split w l right q i) (plain_split w l right q i) (state v) (r.order v.seen).places r.met r.leaves l (inl refl)).below
 every_ready z v row (told.Lift w c) h r = plain_ready z v row (told.Lift w c) h (plain_lift w c) r
     (λ t rest. let tree = (r.order v.seen).tree in again_lift (opening v.given) (state v).core t w c (tree.formed 0 tree.some) r.met rest)
+every_ready z v row (told.Join w l right q) h r = plain_ready z v row (told.Join w l right q) h (plain_join w l right q) r
+    (λ t rest. again_join (opening v.given) (state v).core t w l right q (level_with (opening v.given) (state v).core w l right q (r.order v.seen).tree r.met) r.met rest)
+every_ready z v row (told.Drop w c) h r = plain_ready z v row (told.Drop w c) h (plain_drop w c) r
+    (λ t rest. again_drop (opening v.given) (state v).core t w c ((r.order v.seen).tree.formed c child) r.met rest)
+  where
+    child : c < (opening v.given).format.pages
+    child = (stands z v row (told.Drop w c) (plain_drop w c) (state v) (r.order v.seen).places r.met r.leaves c (inr (inl refl))).below
 every_ready z v row (told.Load p f) h r = load_ready z v row p f r
 every_ready z v row (told.Cool p) h r = cool_ready z v row p r
 every_ready z v row (told.Rescue p) h r = rescue_ready z v row p r
 every_ready z v row (told.Save p) h r = save_ready z v row p r
 every_ready z v row (told.Evict p) h r = evict_ready z v row p r
 every_ready z v row _ h r = absurd (true≢false (sym h))
+
+-- ## Purges
+
+purge_sets : (w p : ℕ) (keys : List ℕ) (c i : ℕ) → sets (told.Purge w p keys) c i ≡ false
+unfolding sets
+purge_sets w p keys c i = refl
+
+-- a key whose lock row the view holds is settled still
+pub every_purge : EveryPurge
+every_purge z v row w p keys = record {
+  ready = λ it. let r = it.ready in may_publish z v row (told.Purge w p keys) (plain_purge w p keys) refl (purge_sets w p keys) r.actor (λ es. (r.order es).places) r.met r.tame r.leaves
+      (λ t kept rest. again_purge (opening v.given) (state v).core t w p keys r.met
+      (settled_on (opening v.given) (state v).core t w p keys r.met kept.flushed (λ k h. kept.row ((opening v.given).row_of k) (it.locks k h))) rest);
+  need = λ f c. can_purge (opening v.given) (state v).core w p keys f c;
+}

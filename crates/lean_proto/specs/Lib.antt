@@ -1,6 +1,7 @@
--- Read Ready, Writes, Changes, Over, Met, Kept and Controls in this order, and Paths and Paging by themselves; Inside has words of private
+-- Read Ready, Purges, Writes, Changes, Over, Met, Kept and Controls in this order, and Paths and Paging by themselves; Inside has words of private
 -- functions.
 pub mod Ready
+pub mod Purges
 pub mod Writes
 pub mod Changes
 pub mod Over

@@ -6,7 +6,7 @@ use Rattle.core_state.specs.States.{nodes_of}
 use Rattle.core_state.specs.Needs as core
 use Rattle.core_paging.specs.Paging.{Residence}
 use Rattle.row_words.specs.declared.event.Event.{Event}
-use Rattle.row_words.specs.declared.event.Event.TheVariants.{Lock, Unlock, Change, PutBack, Split, Lift, Load, Cool, Rescue, Save, Evict}
+use Rattle.row_words.specs.declared.event.Event.TheVariants.{Lock, Unlock, Change, PutBack, Split, Lift, Join, Drop, Load, Cool, Rescue, Save, Evict}
 use Rattle.row_words.specs.Moments.{event_of, actor_of}
 use Rattle.row_words.specs.Openings.{opening}
 use Rattle.row_words.specs.Sealed.{IsTame}
@@ -23,6 +23,8 @@ is_steady (Change w p k x) = true
 is_steady (PutBack w p) = true
 is_steady (Split w l r q i) = true
 is_steady (Lift w c) = true
+is_steady (Join w l r q) = true
+is_steady (Drop w c) = true
 is_steady (Load p f) = true
 is_steady (Cool p) = true
 is_steady (Rescue p) = true

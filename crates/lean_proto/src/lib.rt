@@ -12,15 +12,24 @@ ghost use Rattle.lean_proto.specs.Changes.{EveryChange};
 ghost use Rattle.lean_proto.specs.Controls.{EveryBegin, EveryEpoch, EveryLoad, EveryTurn};
 ghost use Rattle.lean_proto.specs.Kept.{EveryKept};
 ghost use Rattle.lean_proto.specs.Paging.{EveryPaged};
+ghost use Rattle.lean_proto.specs.Purges.{EveryPurge};
 ghost use Rattle.lean_proto.specs.Ready.{EveryReady};
 ghost use Rattle.lean_proto.specs.Still.{EveryStood};
 
 /// Who is ready to publish a steady event may publish it: its need is met at the state that the seat has seen, and its rows, all
 /// held, have the words that it leaves there. Whatever others did meanwhile, the need is met still, and the words are right. Steady
 /// are the lock and the unlock of a row, the change of a key and a change that is put back, the split of a page, the lift of the
-/// root, and the load, the cooling, the rescue, the save and the eviction of a page.
+/// root, the join of two pages, the drop of the root's one child, and the load, the cooling, the rescue, the save and the eviction of a
+/// page.
 pub fn every_ready()
     ensures { EveryReady }
+{}
+
+/// A purge of tombstones may be published by who is ready and holds the lock rows of its keys besides. Nobody else changes these rows
+/// meanwhile, and what logs are flushed up to does not fall; so each key is settled still. Its need follows from the numbers that were
+/// loaded of the logs, and from the words of the rows.
+pub fn every_purge()
+    ensures { EveryPurge }
 {}
 
 /// A worker that holds the lock of a key and the row of its leaf may publish the change of the key, or its newest change of it put
@@ -30,8 +39,8 @@ pub fn every_change()
     ensures { EveryChange }
 {}
 
-/// Over a call in which a worker appends nothing, its own record and the locks that it holds alone stay, whatever others do. So
-/// what a change needs can be shown before a descent and used after it.
+/// Over a call in which a worker appends nothing, its own record and its locks stay, those that it holds alone and those that it holds
+/// with others, whatever others do. So what a change needs can be shown before a descent and used after it.
 pub fn every_kept()
     ensures { EveryKept }
 {}
