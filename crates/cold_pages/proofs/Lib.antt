@@ -1,3 +1,4 @@
 pub mod PairLemmas
+pub mod TableLemmas
 pub mod KeptLemmas
 pub mod RowLemmas

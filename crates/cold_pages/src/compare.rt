@@ -1,31 +1,23 @@
 // A page that was loaded is compared with what is kept.
-ghost use Rattle.std.specs.Prelude.{◌≡◌, ◌<◌, ◌↔◌, ◌≤◌, suc, true, length, IsTrue};
-ghost use Rattle.cold_pages.specs.Kept.{kept_of};
+ghost use Rattle.std.specs.Prelude.{◌≡◌, ◌<◌, ◌↔◌, false, length, IsTrue, IfSome};
+ghost use Rattle.cold_pages.specs.Kept.{kept_of, level_of};
 ghost use Rattle.cold_pages.specs.Inside.{IsFree};
-ghost use Rattle.cold_pages.specs.Compared.{span, HasNumbers, IsKeptUnder, AreAsKept, IsUnder, IsAsKept, IsFreeAsKept};
+ghost use Rattle.cold_pages.specs.Compared.{HasFields, IsKeptUnder, AreAsKept, IsAsKept};
 
 use super::kept::Kept;
 use super::pages::ColdPages;
 use btree_node::Node;
 
 impl ColdPages {
-    /// Whether a loaded page is the child that a node of the level `above` names between these fences, with the numbers that were kept. Of a
-    /// leaf's entries nothing is asked; an inner node has as many pairs as were kept, and each names a page that was kept so.
-    pub fn is_as_kept(&self, page: u32, above: u8, low: u64, high: u64, loaded: &Node) -> bool
+    /// Whether a loaded page has the numbers, the level and the fences that were kept. Of a leaf's entries nothing is asked; an inner node has as
+    /// many pairs as were kept, and each names a page that was kept so; a free page says nothing else.
+    pub fn is_as_kept(&self, page: u32, loaded: &Node) -> bool
         requires { page < length self.now }
-        ensures { IsTrue result ↔ IsAsKept self.now above (span page low high) loaded.now }
+        ensures { IsTrue result ↔ IsAsKept self.now page loaded.now }
     {
-        has_numbers(&self.get(page), loaded)
-            && is_under(above, low, high, loaded)
+        has_fields(&self.get(page), loaded)
+            && (loaded.is_live() || is_free(loaded))
             && (loaded.level() == 0 || self.are_as_kept(page, loaded))
-    }
-
-    /// Whether a loaded page is free, with the numbers that were kept.
-    pub fn is_free_as_kept(&self, page: u32, loaded: &Node) -> bool
-        requires { page < length self.now }
-        ensures { IsTrue result ↔ IsFreeAsKept self.now page loaded.now }
-    {
-        has_numbers(&self.get(page), loaded) && is_free(loaded)
     }
 
     // Whether an inner node has as many pairs as were kept, and each names a page that was kept so.
@@ -52,31 +44,35 @@ impl ColdPages {
             return false;
         }
         let kept = self.get(child as u32);
-        kept.parent == Some(page) && kept.key == from
+        kept.parent == Some(page) && kept.low == from
     }
 }
 
-// Whether a page has the numbers that were kept.
-fn has_numbers(kept: &Kept, loaded: &Node) -> bool
-    ensures { IsTrue result ↔ HasNumbers kept.now loaded.now }
+// The level of a node; a free page has none.
+pub(crate) fn level_of(node: &Node) -> Option<u8>
+    ensures answer { result ≡ level_of node.now.node }
+    ensures bound { IfSome result (λ level. level < 255) }
 {
-    loaded.gsn() == kept.gsn && loaded.last_log() == u32::from(kept.last)
+    if !node.is_live() {
+        return None;
+    }
+    Some(node.level())
 }
 
-// Whether a page is a node of the level below, with these fences.
-fn is_under(above: u8, low: u64, high: u64, loaded: &Node) -> bool
-    ensures { IsTrue result ↔ IsUnder above low high loaded.now.node }
+// Whether a page has the numbers, the level and the fences that were kept.
+fn has_fields(kept: &Kept, loaded: &Node) -> bool
+    ensures { IsTrue result ↔ HasFields kept.now loaded.now }
 {
-    loaded.is_live() && loaded.level() + 1 == above && loaded.low() == low && loaded.high() == high
+    loaded.gsn() == kept.gsn
+        && loaded.last_log() == u32::from(kept.last)
+        && level_of(loaded) == kept.level
+        && loaded.low() == kept.low
+        && loaded.high() == kept.high
 }
 
-// Whether a page is free, and says nothing else.
+// Whether a page is free, and has no level and no pairs.
 fn is_free(loaded: &Node) -> bool
     ensures { IsTrue result ↔ IsFree loaded.now.node }
 {
-    !loaded.is_live()
-        && loaded.level() == 0
-        && loaded.low() == 0
-        && loaded.high() == 0
-        && loaded.count() == 0
+    !loaded.is_live() && loaded.level() == 0 && loaded.count() == 0
 }

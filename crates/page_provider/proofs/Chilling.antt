@@ -36,6 +36,7 @@ use Rattle.page_provider.proofs.Judging.{SomeAbove, SomeHeld, tells}
 use Rattle.page_provider.proofs.Keeping.{keeps_ran, plays, ran_stood}
 use Rattle.page_provider.specs.Shares.{cools_in}
 use Rattle.page_provider.proofs.Moving.{moved_then, rested_then, then_events}
+use Rattle.page_provider.proofs.Unsaved.{cools_none, cools_quiet, none_append, quiet_append}
 use Rattle.page_provider.proofs.Shares.{cools_append}
 use Rattle.page_provider.proofs.Standing.{core_step, onward, ran_state, state_on}
 
@@ -164,29 +165,15 @@ chills_idle {path = path} {k = k} {is = is} laws c i =
 
 -- ## The disk does not see it
 
-quiet_cools : (es : List Event) → AreTicked es → others_in es ≤ 0 → all is_quiet (events_of es) ≡ true
-quiet_cools [] t few = refl
-quiet_cools (Cool p ∷ (Tick ∷ es)) t few = quiet_cools es t few
-quiet_cools (Cool p ∷ _) t few = absurd t
-quiet_cools (Tick ∷ es) t few = absurd t
-quiet_cools (_ ∷ es) t few = absurd (omega arith)
-
 pub chills_calm : {z : Shape} {path : List ℕ} {v u : View} {k is : Provider} → Chills z path v k u is → IsCalm z v k u is
-chills_calm h = record { events = h.moved.events; ran = h.moved.goes.ran; quiet = quiet_cools h.moved.events h.moved.ticked h.moved.few; memory = h.memory }
-
-quiet_append : (es fs : List Event) → all is_quiet (events_of es) ≡ true → all is_quiet (events_of fs) ≡ true → all is_quiet (events_of (es ++ fs)) ≡ true
-quiet_append [] fs a b = b
-quiet_append (e ∷ es) fs a b = go (is_quiet (event_of e)) a (λ k. quiet_append es fs k b)
-  where
-    go : (q : Bool) → (q && all is_quiet (events_of es)) ≡ true → (all is_quiet (events_of es) ≡ true → all is_quiet (events_of (es ++ fs)) ≡ true) → (q && all is_quiet (events_of (es ++ fs))) ≡ true
-    go true k rest = rest k
-    go false k rest = absurd (true≢false (sym k))
+chills_calm h = record { events = h.moved.events; ran = h.moved.goes.ran; quiet = cools_quiet h.moved.events h.moved.ticked h.moved.few; none = cools_none h.moved.events h.moved.ticked h.moved.few; memory = h.memory }
 
 pub calm_then : {z : Shape} {v u w : View} {a b c : Provider} → IsCalm z v a u b → IsCalm z u b w c → IsCalm z v a w c
 calm_then {z = z} {v = v} {u = u} {w = w} {a = a} {b = b} {c = c} one two = record {
   events = one.events ++ two.events;
   ran = ran_append z.alone v one.events u two.events w one.ran two.ran;
   quiet = quiet_append one.events two.events one.quiet two.quiet;
+  none = none_append one.events two.events one.none two.none;
   memory = memory_then a b c one.memory two.memory;
 }
 

@@ -30,32 +30,23 @@ use Rattle.page_provider.proofs.Chilling.{calm_then, chills_calm, chills_idle, c
 use Rattle.page_provider.proofs.Flushing.{flushed_ran, same_state}
 use Rattle.page_provider.proofs.Judging.{as_there, entry_is, none_same, tells}
 use Rattle.page_provider.proofs.Keeping.{keeps_ran}
+use Rattle.page_provider.proofs.Unsaved.{few_none, few_quiet, misses_none, misses_quiet}
 use Rattle.page_provider.proofs.Moving.{halts_refused, missed_halts, refused_then, refused_up, stalls_refused}
 use Rattle.rows_trait.proofs.Runs.{ran_append}
 
 -- ## Refusals
-
-misses_quiet : (es : List Event) → held.AreMisses es → all is_quiet (events_of es) ≡ true
-misses_quiet [] m = refl
-misses_quiet (Miss w ∷ es) m = misses_quiet es m
-misses_quiet (_ ∷ es) m = absurd m
-
-few_quiet : (es : List Event) → IsMissAtMost es → all is_quiet (events_of es) ≡ true
-few_quiet [] k = refl
-few_quiet (Miss w ∷ []) k = refl
-few_quiet (Miss w ∷ (e ∷ es)) k = absurd k
-few_quiet (_ ∷ es) k = absurd k
 
 stalls_calm : {n : ℕ} {z : Shape} {v u : View} {k is : Provider} {why : Refusal} → Stalls n z v k why u is → IsCalm z v k u is
 stalls_calm {k = k} {is = is} s = record {
   events = s.stopped.missed.events;
   ran = s.stopped.missed.ran;
   quiet = misses_quiet s.stopped.missed.events s.stopped.missed.misses;
+  none = misses_none s.stopped.missed.events s.stopped.missed.misses;
   memory = s.memory ∙ (λ i. record k { queue = sym (ap (λ (p : Provider). p.queue) s.memory) i; free = sym (ap (λ (p : Provider). p.free) s.memory) i; hand = is.hand });
 }
 
 missed_calm : {z : Shape} {v u : View} {k : Provider} {why : Refusal} → Missed z v why u → IsCalm z v k u k
-missed_calm m = record { events = m.misses; ran = m.ran; quiet = few_quiet m.misses m.few; memory = refl }
+missed_calm m = record { events = m.misses; ran = m.ran; quiet = few_quiet m.misses m.few; none = few_none m.misses m.few; memory = refl }
 
 -- a part that was stopped, behind pages that cooled
 module _ {z : Shape} {path : List ℕ} {v u : View} {was k : Provider} (laws : RowLaws) (h : Chills z path v was u k) where

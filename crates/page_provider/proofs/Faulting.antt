@@ -57,6 +57,7 @@ use Rattle.page_provider.specs.Steps.{AreMisses}
 use Rattle.page_provider.specs.Refusals.{IsOfRow, IsOthers}
 use Rattle.page_provider.proofs.Easing.{eased_path, eased_stood}
 use Rattle.page_provider.proofs.Joins.{held_misses, met_misses}
+use Rattle.page_provider.proofs.Unsaved.{misses_none, misses_quiet}
 use Rattle.page_provider.proofs.Keeping.{keeps_ran, ran_stood}
 use Rattle.page_provider.proofs.Moving.{halts_refused, missed_halts, moved_none, moved_then, moved_up, path_none, path_then, refused_then, refused_up, same_none}
 use Rattle.page_provider.proofs.Pools.{found_entry}
@@ -396,11 +397,6 @@ others_row _ o = absurd o
 
 -- ## A page of the queue
 
-misses_quiet : (es : List Event) → AreMisses es → all is_quiet (events_of es) ≡ true
-misses_quiet [] m = refl
-misses_quiet (told.Miss w ∷ es) m = misses_quiet es m
-misses_quiet (_ ∷ es) m = absurd m
-
 cool_off : (x : Place) → is_cooling x ≡ true → is_hot x ≡ false
 cool_off (Place.Hot f) h = absurd (true≢false (sym h))
 cool_off (Place.Cooling f e w) h = refl
@@ -437,19 +433,20 @@ module _ {z : Shape} {v : View} {now : Provider} {entry : Cooling} (laws : RowLa
   }
 
 pub rescue_quiet : {z : Shape} {v u : View} {k is : Provider} {page frame : ℕ} → HasCome z (told.Rescue page) page frame v k u is → IsUnseen z.alone v k u is
-rescue_quiet {page = page} h = record { events = told.Rescue page ∷ []; ran = h.goes.ran; quiet = refl; slots = ap (λ (p : Provider). p.slots) h.memory; generation = ap (λ (p : Provider). p.generation) h.memory }
+rescue_quiet {page = page} h = record { events = told.Rescue page ∷ []; ran = h.goes.ran; quiet = refl; none = (refl, tt); slots = ap (λ (p : Provider). p.slots) h.memory; generation = ap (λ (p : Provider). p.generation) h.memory }
 
 pub halts_quiet : {z : Shape} {v u : View} {k is : Provider} {n : ℕ} {why : Refusal} → is ≡ k → Halts n z v why u → IsUnseen z.alone v k u is
 halts_quiet same h = record {
   events = h.stopped.missed.events;
   ran = h.stopped.missed.ran;
-  quiet = misses_quiet h.stopped.missed.events (held_misses h.stopped.missed.events h.stopped.missed.misses);
+  quiet = misses_quiet h.stopped.missed.events h.stopped.missed.misses;
+  none = misses_none h.stopped.missed.events h.stopped.missed.misses;
   slots = ap (λ (p : Provider). p.slots) same;
   generation = ap (λ (p : Provider). p.generation) same;
 }
 
 pub idle_quiet : {z : Shape} {v u : View} {k is : Provider} → Idle z v k u is → is ≡ k → IsUnseen z.alone v k u is
-idle_quiet {z = z} {v = v} {u = u} i same = record { events = []; ran = subst (λ es. Ran z.alone v es u) i.events_are i.moved.goes.ran; quiet = refl; slots = ap (λ (p : Provider). p.slots) same; generation = ap (λ (p : Provider). p.generation) same }
+idle_quiet {z = z} {v = v} {u = u} i same = record { events = []; ran = subst (λ es. Ran z.alone v es u) i.events_are i.moved.goes.ran; quiet = refl; none = tt; slots = ap (λ (p : Provider). p.slots) same; generation = ap (λ (p : Provider). p.generation) same }
 
 pub halted : {z : Shape} {v u : View} {k is : Provider} {why : Refusal} (path : List ℕ) → RowLaws → Keeps z v k → v.held ≡ [] → is ≡ k → Halts 2 z v why u → HasRefused 4 z path v k why u is
 halted {z = z} {v = v} {u = u} {k = k} {why = why} path laws c none same h = subst (λ (p : Provider). HasRefused 4 z path v k why u p) (sym same) (refused_up (omega arith) (halts_refused laws c none h))

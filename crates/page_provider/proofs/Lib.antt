@@ -39,5 +39,6 @@ pub mod Cooled
 pub mod Faulting
 pub mod Descents
 pub mod Filling
+pub mod Unsaved
 pub mod Mirrored
 pub mod Framing

@@ -43,7 +43,7 @@ use Rattle.page_provider.specs.Finds.{Standing, Stopped}
 use Rattle.page_provider.specs.Inside.{HasGone, IsEntered, MayGo, Missed}
 use Rattle.page_provider.specs.Laws.{RowLaws}
 use Rattle.page_provider.specs.Leaves.{IsCalm}
-use Rattle.page_provider.specs.Mirrored.{EveryMirroredGives, EveryMirroredRest, EveryMirroredRun, IsMirrored, KeepsMirrored, NoSaves, SavesNone, is_save}
+use Rattle.page_provider.specs.Mirrored.{EveryMirroredGives, EveryMirroredRest, EveryMirroredRun, IsMirrored, KeepsMirrored, NoSaves, SavesNone, sets_saved}
 use Rattle.page_provider.specs.Providers.{Provider, Keeps}
 use Rattle.page_provider.specs.Steps.{IsMissAtMost}
 use Rattle.page_provider.specs.declared.refusal.Refusal.{Refusal}
@@ -52,11 +52,13 @@ use Rattle.page_provider.proofs.Faulting.{standing_ran}
 use Rattle.page_provider.proofs.Keeping.{at_event, event_happens, parted, plays, stood_after, stood_before}
 use Rattle.page_provider.proofs.Sightings.{missed_before}
 use Rattle.page_provider.proofs.Standing.{core_step, ran_state, state_on}
+use Rattle.page_provider.proofs.Unsaved.{few_none, misses_none}
 
 -- ## What is saved, over events that save nothing
 
-saved_same : (g : Opening) (s : State) (e : Event) → is_save e ≡ false → (q : ℕ) → (happens g s (event_of e)).saved q ≡ s.saved q
+saved_same : (g : Opening) (s : State) (e : Event) → sets_saved e ≡ false → (q : ℕ) → (happens g s (event_of e)).saved q ≡ s.saved q
 saved_same g s (told.Save p) n q = absurd (true≢false n)
+saved_same g s (told.Fetch p pairs) n q = absurd (true≢false n)
 saved_same g s (told.PutBack w p) n q = go (s.worker w).changes
   where
     go : (cs : _) → (put_back g s w p cs).saved q ≡ s.saved q
@@ -66,7 +68,7 @@ saved_same g s (told.Next w p k (met.Pair at word)) n q = refl
 saved_same g s (told.Next w p k (met.Gap b)) n q = refl
 saved_same g s _ n q = refl
 
-saved_next : (v : Given) (m : Moment) (e : Event) → is_save e ≡ false → (q : ℕ) → (stepped v m e).core.saved q ≡ m.core.saved q
+saved_next : (v : Given) (m : Moment) (e : Event) → sets_saved e ≡ false → (q : ℕ) → (stepped v m e).core.saved q ≡ m.core.saved q
 saved_next v m e n q = ap (λ (s : State). s.saved q) (core_step v m e) ∙ go (core.may (opening v) m.core (event_of e))
   where
     go : (b : Bool) → (if b then happens (opening v) m.core (event_of e) else m.core).saved q ≡ m.core.saved q
@@ -77,9 +79,10 @@ saved_run : (v : Given) (es : List Event) (m : Moment) → NoSaves es → (q : �
 saved_run v [] m n q = refl
 saved_run v (e ∷ es) m n q = saved_run v es (stepped v m e) n.1 q ∙ saved_next v m e n.0 q
 
--- the pager alone saves
-not_save : (e : Event) → (actor_of e == pager) ≡ false → is_save e ≡ false
+-- the pager alone saves and reads pages
+not_save : (e : Event) → (actor_of e == pager) ≡ false → sets_saved e ≡ false
 not_save (told.Save p) n = absurd (true≢false n)
+not_save (told.Fetch p pairs) n = absurd (true≢false n)
 not_save _ n = refl
 
 none_by : (es : List Event) → NoSaves (by pager es) → NoSaves es
@@ -96,27 +99,6 @@ none_ran false v u es m r n = none_by r.more (subst (λ a. NoSaves (by a r.more)
 
 saved_ran : (alone : Bool) (v u : View) (es : List Event) → may alone v pager ≡ true → Ran alone v es u → NoSaves es → (q : ℕ) → (state u).core.saved q ≡ (state v).core.saved q
 saved_ran alone v u es m r n q = ap (λ (t : Moment). t.core.saved q) (ran_state r) ∙ (ap (λ (t : Moment). t.core.saved q) (state_on v r.more) ∙ saved_run v.given r.more (state v) (none_ran alone v u es m r n) q)
-
--- ## Which events save nothing
-
-misses_none : (es : List Event) → AreMisses es → NoSaves es
-misses_none [] k = tt
-misses_none (told.Miss w ∷ es) k = (refl, misses_none es k)
-misses_none (_ ∷ es) k = absurd k
-
-few_none : (es : List Event) → IsMissAtMost es → NoSaves es
-few_none [] k = tt
-few_none (told.Miss w ∷ []) k = (refl, tt)
-few_none (told.Miss w ∷ (e ∷ es)) k = absurd k
-few_none (_ ∷ es) k = absurd k
-
-quiet_one : (e : Event) → is_quiet (event_of e) ≡ true → is_save e ≡ false
-quiet_one (told.Save p) q = absurd (true≢false (sym q))
-quiet_one _ q = refl
-
-quiet_none : (es : List Event) → all is_quiet (events_of es) ≡ true → NoSaves es
-quiet_none [] q = tt
-quiet_none (e ∷ es) q = let k = and_true (is_quiet (event_of e)) (all is_quiet (events_of es)) q in (quiet_one e k.0, quiet_none es k.1)
 
 -- ## Calls
 
@@ -144,10 +126,10 @@ pub mirrored_misses : {z : Shape} {v u : View} {k : Provider} {es : List Event} 
 mirrored_misses {es = es} c r few = mirrored_quiet c r (few_none es few) refl refl
 
 pub mirrored_unseen : {z : Shape} {v u : View} {k was is : Provider} {s : Story} → Keeps z v k → IsUnseen z.alone v was u is → KeepsMirrored v was u is s s
-mirrored_unseen c h = mirrored_quiet c h.ran (quiet_none h.events h.quiet) h.slots h.generation
+mirrored_unseen c h = mirrored_quiet c h.ran h.none h.slots h.generation
 
 pub mirrored_calm : {z : Shape} {v u : View} {was is : Provider} {s : Story} → Keeps z v was → IsCalm z v was u is → KeepsMirrored v was u is s s
-mirrored_calm c q = mirrored_quiet c q.ran (quiet_none q.events q.quiet) (ap (λ (p : Provider). p.slots) q.memory) (ap (λ (p : Provider). p.generation) q.memory)
+mirrored_calm c q = mirrored_quiet c q.ran q.none (ap (λ (p : Provider). p.slots) q.memory) (ap (λ (p : Provider). p.generation) q.memory)
 
 -- one call behind another
 pub mirrored_then : {v u w : View} {a b d : Provider} {old mid new : Story} → b.broken ≡ false → KeepsMirrored v a u b old mid → KeepsMirrored u b w d mid new → KeepsMirrored v a w d old new

@@ -29,7 +29,8 @@ use Rattle.page_provider.specs.Moves.{AreMet, is_pagers, others_in}
 use Rattle.page_provider.specs.Providers.{Provider, Keeps}
 use Rattle.page_provider.specs.Shares.{cools_in}
 use Rattle.page_provider.proofs.Hands.{idle_is, idle_path}
-use Rattle.page_provider.proofs.Joins.{held_misses}
+use Rattle.page_provider.specs.Mirrored.{sets_saved}
+use Rattle.page_provider.proofs.Unsaved.{misses_none, misses_quiet}
 use Rattle.page_provider.proofs.Running.{disked_quiet}
 use Rattle.page_provider.proofs.Moving.{come_moved, halts_refused, moved_up, refused_up}
 use Rattle.page_provider.proofs.Pools.{found_entry}
@@ -121,25 +122,21 @@ wanted_lost w h = go w.at_hand h
 
 -- ## The device was asked for nothing
 
-misses_quiet : (es : List Event) → AreMisses es → all is_quiet (events_of es) ≡ true
-misses_quiet [] k = refl
-misses_quiet (Miss w ∷ es) k = misses_quiet es k
-misses_quiet (_ ∷ es) k = absurd k
-
 pub halts_unseen : {n : ℕ} {z : Shape} {v u : View} {k is : Provider} {why : Refusal} → is ≡ k → Halts n z v why u → IsUnseen z.alone v k u is
 halts_unseen same h = record {
   events = h.stopped.missed.events;
   ran = h.stopped.missed.ran;
-  quiet = misses_quiet h.stopped.missed.events (held_misses h.stopped.missed.events h.stopped.missed.misses);
+  quiet = misses_quiet h.stopped.missed.events h.stopped.missed.misses;
+  none = misses_none h.stopped.missed.events h.stopped.missed.misses;
   slots = ap (λ (p : Provider). p.slots) same;
   generation = ap (λ (p : Provider). p.generation) same;
 }
 
-pub come_unseen : {z : Shape} {v u : View} {k is : Provider} {page frame : ℕ} {e : Event} → all is_quiet (events_of (e ∷ [])) ≡ true → HasCome z e page frame v k u is → IsUnseen z.alone v k u is
-come_unseen {e = e} quiet h = record { events = e ∷ []; ran = h.goes.ran; quiet = quiet; slots = ap (λ (p : Provider). p.slots) h.memory; generation = ap (λ (p : Provider). p.generation) h.memory }
+pub come_unseen : {z : Shape} {v u : View} {k is : Provider} {page frame : ℕ} {e : Event} → all is_quiet (events_of (e ∷ [])) ≡ true → sets_saved e ≡ false → HasCome z e page frame v k u is → IsUnseen z.alone v k u is
+come_unseen {e = e} quiet none h = record { events = e ∷ []; ran = h.goes.ran; quiet = quiet; none = (none, tt); slots = ap (λ (p : Provider). p.slots) h.memory; generation = ap (λ (p : Provider). p.generation) h.memory }
 
 pub idle_unseen : {z : Shape} {v u : View} {k is : Provider} → Idle z v k u is → IsUnseen z.alone v k u is
-idle_unseen h = record { events = []; ran = idle_is h; quiet = refl; slots = ap (λ (p : Provider). p.slots) h.memory; generation = ap (λ (p : Provider). p.generation) h.memory }
+idle_unseen h = record { events = []; ran = idle_is h; quiet = refl; none = tt; slots = ap (λ (p : Provider). p.slots) h.memory; generation = ap (λ (p : Provider). p.generation) h.memory }
 
 pub unseen_disk : {alone : Bool} {v u : View} {was is : Provider} {s : Story} → DiskLaws → IsLawful s → IsUnseen alone v was u is → Disked alone was v is u s s
 unseen_disk disk law h = disked_quiet disk law h.ran h.quiet h.slots h.generation

@@ -22,16 +22,18 @@ use Rattle.page_provider.specs.declared.refusal.Refusal.TheVariants as refusal
 use Rattle.page_provider.specs.Faults.{FullCause, HasLost, LostCause}
 use Rattle.page_provider.specs.Cools.{Idle}
 use Rattle.page_provider.specs.Disks.{Runs, told}
+use Rattle.page_provider.specs.Mirrored.{NoSaves}
 use Rattle.page_provider.specs.Moves.{AreMet, KeepsPath, Moved, Rested}
 use Rattle.page_provider.specs.Providers.{Provider}
 use Rattle.page_provider.specs.Shares.{AreNeeded, HasShare}
 use Rattle.page_provider.specs.Steps.{Goes}
 
--- The disk does not see what was appended, and the same is known of each page's slots.
+-- The disk does not see what was appended, no page was read, and the same is known of each page's slots.
 pub record IsUnseen (alone : Bool) (v : View) (was : Provider) (u : View) (is : Provider) : Type 0 where
   pub events : List Event
   pub ran : Ran alone v events u
   pub quiet : all is_quiet (events_of events) ≡ true
+  pub none : NoSaves events
   pub slots : is.slots ≡ was.slots
   pub generation : is.generation ≡ was.generation
 

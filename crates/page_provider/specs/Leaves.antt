@@ -20,6 +20,7 @@ use Rattle.page_provider.specs.declared.leaving.Chosen.{Chosen}
 use Rattle.page_provider.specs.declared.leaving.Chosen.TheVariants as chosen
 use Rattle.page_provider.specs.Evicts.{CanLeave}
 use Rattle.page_provider.specs.Inside.{Missed}
+use Rattle.page_provider.specs.Mirrored.{NoSaves}
 use Rattle.page_provider.specs.Providers.{Provider}
 use Rattle.page_provider.specs.Refusals.{IsOfRow}
 
@@ -86,11 +87,12 @@ IsCounted k path held _ = ⊥
 
 -- ## Refusals
 
--- The disk does not see what was appended, and of the pager's memory the queue, the free pages and the hand alone may have gone on.
+-- The disk does not see what was appended, no page was read, and of the pager's memory the queue, the free pages and the hand alone may have gone on.
 pub record IsCalm (z : Shape) (v : View) (was : Provider) (u : View) (is : Provider) : Type 0 where
   pub events : List Event
   pub ran : Ran z.alone v events u
   pub quiet : all is_quiet (events_of events) ≡ true
+  pub none : NoSaves events
   pub memory : is ≡ record was { queue = is.queue; free = is.free; hand = is.hand }
 
 -- It was stopped by a row, and so it is.

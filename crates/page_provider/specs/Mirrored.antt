@@ -6,7 +6,7 @@ use Rattle.lean_disk.specs.Story.{Crash, Story, Tells}
 use Rattle.disk_runs.specs.Stands.{Known}
 use Rattle.page_calls.specs.Mirrors.{Mirrors, Spans}
 use Rattle.row_words.specs.declared.event.Event.{Event}
-use Rattle.row_words.specs.declared.event.Event.TheVariants.{Save}
+use Rattle.row_words.specs.declared.event.Event.TheVariants.{Fetch, Save}
 use Rattle.row_words.specs.Moments.{pager}
 use Rattle.row_words.specs.Openings.{opening}
 use Rattle.rows_trait.specs.declared.view.View.{View}
@@ -28,17 +28,18 @@ KeepsMirrored v was u is old new = IsMirrored v was old → is.broken ≡ false 
 
 -- ## Steps that save nothing
 
--- a page is saved
-abbrev pub is_save : Event → Bool
-is_save (Save p) = true
-is_save _ = false
+-- what is saved of a page may change: it is saved, or read again
+abbrev pub sets_saved : Event → Bool
+sets_saved (Save p) = true
+sets_saved (Fetch p pairs) = true
+sets_saved _ = false
 
--- none of the events saves a page
+-- none of the events saves a page, or reads one again
 abbrev pub NoSaves : List Event → Type 0
 NoSaves [] = Unit {0}
-NoSaves (e ∷ es) = (is_save e ≡ false) × NoSaves es
+NoSaves (e ∷ es) = (sets_saved e ≡ false) × NoSaves es
 
--- no page was saved, and the same is known of each page's slots
+-- no page was saved or read again, and the same is known of each page's slots
 pub record SavesNone (z : Shape) (v : View) (was : Provider) (u : View) (is : Provider) : Type 0 where
   pub events : List Event
   pub ran : Ran z.alone v events u
@@ -56,6 +57,6 @@ EveryMirroredGives s = (v : View) (k : Provider) (page : ℕ) → IsMirrored v k
 abbrev pub EveryMirroredRun : (s : Story) → Type 0
 EveryMirroredRun s = (g : Opening) (s0 : Crash) (x : Known) (k : Provider) (v : View) → Runs g s0 x k v s → IsMirrored v k s
 
--- and so it stays, whatever workers do, where the pager saves no page and asks nothing of the device
+-- and so it stays, whatever workers do, where the pager saves no page, reads none again and asks nothing of the device
 abbrev pub EveryMirroredRest : (s : Story) → Type 0
 EveryMirroredRest s = (z : Shape) (v u : View) (k is : Provider) → may z.alone v pager ≡ true → SavesNone z v k u is → IsMirrored v k s → IsMirrored u is s

@@ -25,9 +25,9 @@ pages_long : (pages : List Page) → length (pages_of pages) ≡ length pages
 pages_long [] = refl
 pages_long (x ∷ xs) = ap suc (pages_long xs)
 
-module _ (every : EveryOpened) (new : EveryFresh) (pages : List Page) (frames locks workers base : ℕ) (are : ArePages pages base) (few : length pages ≤ 65536) (some_frame : 1 ≤ frames) (some_worker : 1 ≤ workers) (few_workers : workers ≤ 16) where
+module _ (every : EveryOpened) (new : EveryFresh) (pages : List Page) (faithful : Bool) (frames locks workers base : ℕ) (are : ArePages pages base) (few : length pages ≤ 65536) (some_frame : 1 ≤ frames) (some_worker : 1 ≤ workers) (few_workers : workers ≤ 16) where
   abbrev v : Given
-  v = rooted_of frames locks workers base pages
+  v = rooted_of faithful frames locks workers base pages
 
   module _ (o : IsRooted pages v) where
     long : suc (length (pages_of pages) - 1) ≡ length pages
@@ -72,12 +72,12 @@ module _ (every : EveryOpened) (new : EveryFresh) (pages : List Page) (frames lo
 
 -- ## What recovery gave, and what is made of it
 
-module _ (every : EveryOpened) (new : EveryFresh) (frames locks : ℕ) (r : Recovered) (whole : IsWhole r) (are : ArePages r.pages.items r.master.floor) (some_frame : 1 ≤ frames) (o : code.Opened) where
+module _ (every : EveryOpened) (new : EveryFresh) (faithful : Bool) (frames locks : ℕ) (r : Recovered) (whole : IsWhole r) (are : ArePages r.pages.items r.master.floor) (some_frame : 1 ≤ frames) (o : code.Opened) where
   abbrev workers : ℕ
   workers = length r.master.heads
 
   abbrev given : Given
-  given = rooted_of frames locks workers r.master.floor r.pages.items
+  given = rooted_of faithful frames locks workers r.master.floor r.pages.items
 
   abbrev pager : Provider
   pager = fresh frames workers r.master.generation (free_of r.pages.items) (map opened_slot r.slots.items)
@@ -85,10 +85,10 @@ module _ (every : EveryOpened) (new : EveryFresh) (frames locks : ℕ) (r : Reco
   paged_by : (o.rows.frames ≡ frames) × (o.rows.locks ≡ locks) × (o.rows.workers ≡ workers)
       → IsPicture (plan (sizes o.rows.frames o.rows.locks o.rows.workers) o.seat.view.given) o.rows.words.items o.seat.view
       → o.seat.view ≡ first_plain given → IsRooted r.pages.items given → o.pager ≡ pager
-      → o.master ≡ r.master → o.winners ≡ r.winners → o.undone ≡ r.undone → IsPaged frames locks r o
+      → o.master ≡ r.master → o.winners ≡ r.winners → o.undone ≡ r.undone → IsPaged faithful frames locks r o
   paged_by size fits view rooted made master won lost =
       let m = whole.master.1 in
-      let at = keeps_at every new r.pages.items frames locks workers r.master.floor are (let c = whole.count in let l = m.pages.1 in omega arith) some_frame m.logs.0 m.logs.1 rooted
+      let at = keeps_at every new r.pages.items faithful frames locks workers r.master.floor are (let c = whole.count in let l = m.pages.1 in omega arith) some_frame m.logs.0 m.logs.1 rooted
       o.rows.frames o.rows.locks o.rows.workers r.master.generation o.seat.view (map opened_slot r.slots.items) size.0 size.1 size.2 view in
       record {
         frames_are = size.0;
@@ -110,14 +110,14 @@ module _ (every : EveryOpened) (new : EveryFresh) (frames locks : ℕ) (r : Reco
       → free ≡ free_of qs → slots ≡ map opened_slot ns
       → (o.rows.frames ≡ frames) × (o.rows.locks ≡ locks) × (o.rows.workers ≡ n)
       → IsPicture (plan (sizes o.rows.frames o.rows.locks o.rows.workers) o.seat.view.given) o.rows.words.items o.seat.view
-      → o.seat.view ≡ first_plain (rooted_of frames locks n r.master.floor ps) → IsRooted ps (rooted_of frames locks n r.master.floor ps)
+      → o.seat.view ≡ first_plain (rooted_of faithful frames locks n r.master.floor ps) → IsRooted ps (rooted_of faithful frames locks n r.master.floor ps)
       → o.pager ≡ fresh frames n r.master.generation free slots
-      → o.master ≡ r.master → o.winners ≡ r.winners → o.undone ≡ r.undone → IsPaged frames locks r o
+      → o.master ≡ r.master → o.winners ≡ r.winners → o.undone ≡ r.undone → IsPaged faithful frames locks r o
   paged n ps qs ns free slots e p q s f t size fits view rooted made =
       let marks : free ≡ free_of r.pages.items = f ∙ ap free_of q in
       let known : slots ≡ map opened_slot r.slots.items = t ∙ ap (map opened_slot) s in
       paged_by (size.0, size.1, size.2 ∙ e) fits
-      (view ∙ (λ i. first_plain (rooted_of frames locks (e i) r.master.floor (p i))))
-      (subst (λ (k : ℕ). IsRooted r.pages.items (rooted_of frames locks k r.master.floor r.pages.items)) e
-      (subst (λ (xs : List Page). IsRooted xs (rooted_of frames locks n r.master.floor xs)) p rooted))
+      (view ∙ (λ i. first_plain (rooted_of faithful frames locks (e i) r.master.floor (p i))))
+      (subst (λ (k : ℕ). IsRooted r.pages.items (rooted_of faithful frames locks k r.master.floor r.pages.items)) e
+      (subst (λ (xs : List Page). IsRooted xs (rooted_of faithful frames locks n r.master.floor xs)) p rooted))
       (made ∙ (λ i. fresh frames (e i) r.master.generation (marks i) (known i)))

@@ -125,7 +125,7 @@ pub mirrored : EveryWhole → (frames locks most : ℕ) (s0 s : Story) (x : code
 mirrored whole frames locks most s0 s x h told m clean =
     let r = h.recovered in
     let a = h.is.answer told in
-    let v = given_by frames locks r in
+    let v = given_by (s.tells 1) frames locks r in
     let answer : IsRecovered m (areas_of s0) r = subst (λ (z : Master). IsRecovered z (areas_of s0) r) (same_Some a.0 m (sym a.2.sound.master ∙ clean.master)) a.2 in
     let made = mirror whole m r s0 s h.is.whole answer (h.is.opened told m clean) v h.paged.rooted r.master.generation in
     let k = x.pager in

@@ -48,20 +48,21 @@ shape_of rows = lone_shape rows.frames rows.locks rows.workers
 abbrev pub free_of : List Page → List Bool
 free_of pages = map (λ x. not x.node.live) pages
 
--- what the rows begin with: the recovered pages, page 0 alone in a frame, a worker for each log, and the base number
-abbrev pub given_by : (frames locks : ℕ) → Recovered → Given
-given_by frames locks r = rooted_of frames locks (length r.master.heads) r.master.floor r.pages.items
+-- what the rows begin with: the recovered pages, page 0 alone in a frame, a worker for each log, and the base number; and whether
+-- a page that is read again is as it was saved
+abbrev pub given_by : Bool → (frames locks : ℕ) → Recovered → Given
+given_by faithful frames locks r = rooted_of faithful frames locks (length r.master.heads) r.master.floor r.pages.items
 
 -- The rows are so many and at their beginning, the seat is theirs, and the pager is a new one of theirs: it knows the pages
 -- that are free and the slot that recovery gives for each page, and saves by the new generation. The master and the counts
 -- are recovery's.
-pub record IsPaged (frames locks : ℕ) (r : Recovered) (o : code.Opened) : Type 0 where
+pub record IsPaged (faithful : Bool) (frames locks : ℕ) (r : Recovered) (o : code.Opened) : Type 0 where
   pub frames_are : o.rows.frames ≡ frames
   pub locks_are : o.rows.locks ≡ locks
   pub workers_are : o.rows.workers ≡ length r.master.heads
   pub fits : IsPicture (plan (sizes o.rows.frames o.rows.locks o.rows.workers) o.seat.view.given) o.rows.words.items o.seat.view
-  pub view : o.seat.view ≡ first_plain (given_by frames locks r)
-  pub rooted : IsRooted r.pages.items (given_by frames locks r)
+  pub view : o.seat.view ≡ first_plain (given_by faithful frames locks r)
+  pub rooted : IsRooted r.pages.items (given_by faithful frames locks r)
   pub pager : o.pager ≡ fresh frames (length r.master.heads) r.master.generation (free_of r.pages.items) (map opened_slot r.slots.items)
   pub keeps : Keeps (shape_of o.rows) o.seat.view o.pager
   pub works : o.pager.broken ≡ false
@@ -71,8 +72,9 @@ pub record IsPaged (frames locks : ℕ) (r : Recovered) (o : code.Opened) : Type
 
 -- ## Both
 
--- A disk that told s0 was opened and tells s1: recovery gave something, of which these are the rows and their pager.
+-- A disk that told s0 was opened and tells s1: recovery gave something, of which these are the rows and their pager. The rows
+-- begin faithful where the disk tells of its pages.
 pub record HasOpened (frames locks most : ℕ) (s0 s1 : Story) (o : code.Opened) : Type 0 where
   pub recovered : Recovered
   pub is : HasRecovered most s0 s1 recovered
-  pub paged : IsPaged frames locks recovered o
+  pub paged : IsPaged (s1.tells 1) frames locks recovered o

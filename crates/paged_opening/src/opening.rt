@@ -22,10 +22,11 @@ use lean_disk::Disk;
 use page_calls::Slots;
 use page_provider::Pager;
 use recovery::{Recovered, Unrecovered, recover};
-use row_opening::open_root;
+use row_opening::{Faith, open_root};
 use rows_trait::plain::PlainRows;
 use rows_trait::trace::Trace;
 use std::alloc::{AllocError, Global};
+use std::marker::Brand;
 
 /// Rows of which page 0 alone is in a frame, their seat, and the pager that brings the others in from the disk; the master
 /// that recovery wrote, and its counts of transactions.
@@ -39,9 +40,11 @@ pub struct Opened {
     pub undone: u64,
 }
 
-// Rows and their pager from what recovery gave. The pages are let go: but for page 0 they are on the disk alone.
-fn page_in(
+// Rows and their pager from what recovery gave. The pages are let go: but for page 0 they are on the disk alone. The disk
+// stands here for the proof alone.
+fn page_in<D: Disk, F: Faith>(
     alloc: Global,
+    disk: &D,
     recovered: Recovered,
     frames: u32,
     locks: u32,
@@ -49,7 +52,7 @@ fn page_in(
     requires whole { IsWhole recovered }
     requires frames { 1 ≤ frames }
     requires few { frames + locks + length recovered.master.heads < 2 ^ 32 }
-    ensures { IfOk result (IsPaged frames locks recovered) }
+    ensures { IfOk result (IsPaged F.faithful frames locks recovered) }
 {
     row_opening::every_opened();
     page_provider::every_fresh();
@@ -62,7 +65,7 @@ fn page_in(
         master,
     } = recovered;
     let workers = master.heads.logs();
-    let (rows, seat) = open_root(
+    let (rows, seat) = open_root::<F>(
         alloc,
         pages.as_slice(),
         frames,
@@ -118,7 +121,7 @@ pub fn open<D: Disk>(
         Ok(recovered) => recovered,
         Err(reason) => return Err(reason),
     };
-    let Ok(opened) = page_in(alloc, recovered, frames, locks) else {
+    let Ok(opened) = page_in::<D, Brand>(alloc, disk, recovered, frames, locks) else {
         return Err(Unrecovered::Memory);
     };
     Ok(opened)

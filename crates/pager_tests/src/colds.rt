@@ -5,13 +5,23 @@ use std::alloc::{AllocError, Global};
 use std::process::Abort;
 use std::test::Fail;
 
-fn kept(gsn: u64, last: u8, parent: Option<u32>, key: u64, count: u8) -> Kept {
+fn kept(
+    gsn: u64,
+    last: u8,
+    level: Option<u8>,
+    low: u64,
+    high: u64,
+    count: u8,
+    parent: Option<u32>,
+) -> Kept {
     Kept {
         gsn,
         last,
-        parent,
-        key,
+        level,
+        low,
+        high,
         count,
+        parent,
     }
 }
 
@@ -27,26 +37,31 @@ fn is_list(table: &ColdPages, list: &[Kept]) -> bool {
     page == table.pages()
 }
 
-// Writes an entry, where the page and its parent are in the table.
+// Writes an entry, where the page is in the table, and its level and parent can be kept.
 fn note(table: &mut ColdPages, page: u32, kept: Kept) -> bool {
-    let pages = table.pages();
     if let Some(parent) = kept.parent {
-        if parent >= pages {
+        if parent == 0xffff_ffff {
             return false;
         }
     }
-    if page >= pages {
+    if let Some(level) = kept.level {
+        if level == 0xff {
+            return false;
+        }
+    }
+    if page >= table.pages() {
         return false;
     }
     table.note(page, kept);
     true
 }
 
-// How many of so many entries, by a linear congruence, leave the table as the list. About one of four has no parent.
+// How many of so many entries, by a linear congruence, leave the table as the list. About one of four has no parent, and one of four
+// no level.
 fn agreed(alloc: Global, pages: u32, times: u32) -> Result<u32, AllocError> {
     let mut table = ColdPages::new(alloc, pages)?;
     let mut list = Vec::new(alloc);
-    list.resize(pages as usize, kept(0, 0, None, 0, 0))?;
+    list.resize(pages as usize, kept(0, 0, None, 0, 0, 0, None))?;
     let mut state: u64 = 1;
     for done in 0..times {
         state = state
@@ -58,12 +73,19 @@ fn agreed(alloc: Global, pages: u32, times: u32) -> Result<u32, AllocError> {
         } else {
             Some((state >> 40) as u32 % pages.max(1))
         };
+        let level = if state & 3 << 22 == 0 {
+            None
+        } else {
+            Some((state >> 45 & 7) as u8)
+        };
         let entry = kept(
             state,
             (state >> 56) as u8,
-            parent,
+            level,
             !state,
+            state ^ 1,
             (state >> 48 & 255) as u8,
+            parent,
         );
         if page as usize >= list.len() || !note(&mut table, page, entry) {
             return Ok(done);
@@ -80,12 +102,12 @@ fn agreed(alloc: Global, pages: u32, times: u32) -> Result<u32, AllocError> {
 fn table(alloc: Global) -> Result<ColdPages, AllocError> {
     let mut table = ColdPages::new(alloc, 10)?;
     for (page, entry) in [
-        (3, kept(9, 2, Some(1), 10, 3)),
-        (5, kept(4, 1, Some(3), 10, 0)),
-        (6, kept(5, 1, Some(3), 20, 0)),
-        (7, kept(6, 1, Some(3), 30, 0)),
-        (8, kept(7, 1, Some(4), 20, 0)),
-        (9, kept(8, 3, None, 0, 0)),
+        (3, kept(9, 2, Some(1), 10, 40, 3, Some(1))),
+        (5, kept(4, 1, Some(0), 10, 40, 0, Some(3))),
+        (6, kept(5, 1, Some(0), 20, 40, 0, Some(3))),
+        (7, kept(6, 1, Some(0), 30, 40, 0, Some(3))),
+        (8, kept(7, 1, Some(0), 20, 40, 0, Some(4))),
+        (9, kept(8, 3, None, 0, 0, 0, None)),
     ] {
         note(&mut table, page, entry);
     }
@@ -131,30 +153,28 @@ fn random_entries_stand_as_in_a_list(rt: HostRuntime) -> Result<(), Fail> {
 #[test]
 fn a_page_passes_as_it_was_kept_alone(rt: HostRuntime) -> Result<(), Fail> {
     let table = table(rt.alloc())?;
-    for (page, above, level, low, high, gsn, log, at, word, words, right) in [
+    for (page, level, low, high, gsn, log, at, word, words, right) in [
         // as it was kept; a leaf with other entries; with none
-        (3, 2, 1, 10, 40, 9, 2, 0, 10, 6, true),
-        (6, 1, 0, 20, 40, 5, 1, 0, 20, 0, true),
-        (5, 1, 0, 10, 40, 4, 1, 5, 77, 6, true),
+        (3, 1, 10, 40, 9, 2, 0, 10, 6, true),
+        (6, 0, 20, 40, 5, 1, 0, 20, 0, true),
+        (5, 0, 10, 40, 4, 1, 5, 77, 6, true),
         // another number, log, level, low and high fence
-        (3, 2, 1, 10, 40, 8, 2, 0, 10, 6, false),
-        (3, 2, 1, 10, 40, 9, 1, 0, 10, 6, false),
-        (3, 2, 2, 10, 40, 9, 2, 0, 10, 6, false),
-        (3, 2, 0, 10, 40, 9, 2, 0, 10, 6, false),
-        (3, 2, 1, 9, 40, 9, 2, 0, 10, 6, false),
-        (3, 2, 1, 10, 41, 9, 2, 0, 10, 6, false),
+        (3, 1, 10, 40, 8, 2, 0, 10, 6, false),
+        (3, 1, 10, 40, 9, 1, 0, 10, 6, false),
+        (3, 2, 10, 40, 9, 2, 0, 10, 6, false),
+        (3, 0, 10, 40, 9, 2, 0, 10, 6, false),
+        (3, 1, 9, 40, 9, 2, 0, 10, 6, false),
+        (3, 1, 10, 41, 9, 2, 0, 10, 6, false),
         // a pair less; another key; another node's child; a child that is free; one twice; one that is no page
-        (3, 2, 1, 10, 40, 9, 2, 0, 10, 4, false),
-        (3, 2, 1, 10, 40, 9, 2, 4, 31, 6, false),
-        (3, 2, 1, 10, 40, 9, 2, 3, 8, 6, false),
-        (3, 2, 1, 10, 40, 9, 2, 3, 9, 6, false),
-        (3, 2, 1, 10, 40, 9, 2, 3, 5, 6, false),
-        (3, 2, 1, 10, 40, 9, 2, 3, 4294967302, 6, false),
+        (3, 1, 10, 40, 9, 2, 0, 10, 4, false),
+        (3, 1, 10, 40, 9, 2, 4, 31, 6, false),
+        (3, 1, 10, 40, 9, 2, 3, 8, 6, false),
+        (3, 1, 10, 40, 9, 2, 3, 9, 6, false),
+        (3, 1, 10, 40, 9, 2, 3, 5, 6, false),
+        (3, 1, 10, 40, 9, 2, 3, 4294967302, 6, false),
     ] {
         let passes = match loaded(level, low, high, gsn, log, at, word, words) {
-            Some(node) if page < table.pages() => {
-                table.is_as_kept(page, above, table.get(page).key, 40, &node)
-            }
+            Some(node) if page < table.pages() => table.is_as_kept(page, &node),
             _ => !right,
         };
         assert_eq!(rt; passes, right, "of page {page} with word {word} at {at}");
@@ -180,7 +200,7 @@ fn a_free_page_passes_as_it_was_kept_alone(rt: HostRuntime) -> Result<(), Fail> 
         };
         node.set_gsn(gsn);
         node.set_last_log(log);
-        let passes = page < table.pages() && table.is_free_as_kept(page, &node);
+        let passes = page < table.pages() && table.is_as_kept(page, &node);
         assert_eq!(rt;
             passes,
             right,

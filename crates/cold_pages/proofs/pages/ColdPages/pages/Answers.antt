@@ -5,7 +5,7 @@ use Rattle.cold_pages.proofs.pages.ColdPages.pages.Goals as goal
 
 pub returns : goal.returns
 returns c =
-    let n = length-rows _ _ _ _ _ c.self.invariant in
+    let n = length-rows _ _ _ _ _ _ _ c.self.invariant in
     let e = ap (λ (z : List Kept). length z) c.self.view_is in
     let l = c.len.ensures in
     omega arith

@@ -80,14 +80,14 @@ pub returns-in_err-rescue_free-clause-unseen : goal.returns-in_err-rescue_free-c
 returns-in_err-rescue_free-clause-unseen g c = halts_unseen c.in_err-rescue_free.ensures.same c.in_err-rescue_free.ensures.err
 
 pub returns-then-contains-clause-unseen : goal.returns-then-contains-clause-unseen
-returns-then-contains-clause-unseen g c = come_unseen refl c.in_ok-rescue_free.ensures.ok
+returns-then-contains-clause-unseen g c = come_unseen refl refl c.in_ok-rescue_free.ensures.ok
 
 pub returns-in_err-rescue_node-clause-unseen : goal.returns-in_err-rescue_node-clause-unseen
 returns-in_err-rescue_node-clause-unseen g c = halts_unseen c.in_err-rescue_node.ensures.same c.in_err-rescue_node.ensures.err
 
 pub returns-then-branch-clause-unseen : goal.returns-then-branch-clause-unseen
 returns-then-branch-clause-unseen g c =
-    come_unseen refl (subst (λ d. ComesOrNot d (g.R.Rows.shape c.args.rows.now) (Rescue c.args.entry.page) c.args.entry.page c.args.entry.frame (g.R.Rows.view c.args.seat.now) c.args.self.now (g.R.Rows.view c.rescue_node.new.seat) c.rescue_node.new.self) c.if-branch.true c.in_ok-rescue_node.ensures.ok)
+    come_unseen refl refl (subst (λ d. ComesOrNot d (g.R.Rows.shape c.args.rows.now) (Rescue c.args.entry.page) c.args.entry.page c.args.entry.frame (g.R.Rows.view c.args.seat.now) c.args.self.now (g.R.Rows.view c.rescue_node.new.seat) c.rescue_node.new.self) c.if-branch.true c.in_ok-rescue_node.ensures.ok)
 
 pub returns-clause-unseen : goal.returns-clause-unseen
 returns-clause-unseen g c =
