@@ -17,6 +17,8 @@ enum Step {
     Flush(Result<u64, DiskFault>),
     /// The clock takes the number of a sync.
     Mark(u64),
+    /// The first block with a record above this number.
+    Above(u64, u64),
     /// The head passes the blocks before this one.
     Pass(u64),
     Room(Result<(), Staging>),
@@ -185,7 +187,11 @@ static CASES: [Case; 6] = [
             Step::Change(6, Ok(())),
             Step::Flush(Ok(6)),
             Step::Stands(2, 6),
+            Step::Above(0, 0),
+            Step::Above(5, 1),
+            Step::Above(6, 2),
             Step::Pass(1),
+            Step::Above(0, 1),
             Step::Stands(1, 6),
             Step::Blocks(1, 2),
         ],
@@ -214,6 +220,8 @@ static CASES: [Case; 6] = [
             Step::Stands(0, 48),
             Step::Room(Ok(())),
             Step::Flushes(49, 80),
+            Step::Above(60, 60),
+            Step::Above(1000, 80),
             Step::Stands(32, 80),
             Step::Blocks(48, 80),
         ],
@@ -324,6 +332,7 @@ fn is_done<P: Part>(rt: &impl Abort, log: &mut WorkerLog, dev: &mut P, step: &St
             mark(rt, log, *number);
             true
         }
+        Step::Above(number, block) => log.head_above(*number) == *block,
         Step::Pass(head) => {
             pass(rt, log, *head);
             true

@@ -18,6 +18,7 @@ use Rattle.core_calls.specs.LogEvents.{Prepares, RefusedLogs, is_log}
 use Rattle.core_calls.specs.Marks.{is_half}
 use Rattle.core_calls.specs.Refusals.{IsCause}
 use Rattle.core_calls.specs.Runs.{EachTells, Tells}
+use Rattle.core_calls.specs.Scans.{StopsOnWay}
 use Rattle.core_calls.specs.Steps.{Tries, is_step, is_structure}
 use Rattle.lean_disk.specs.Moments.{LeavesOnly}
 use Rattle.lean_disk.specs.Story.{Story}
@@ -200,6 +201,7 @@ module _ (reached : EveryReached) (needs : EveryNeed) (g : Opening) (group : ℕ
       met = r.behind.met;
       rows = subst (TakesRows own) (sym (keep_none is_step r.events r.steps)) tt;
       tries = subst (λ c. Tries g own (outcomes xs) c q (keep is_step r.events)) (sym begin_is) (keep_none is_step r.events r.steps);
+      scans = subst (λ c. StopsOnWay g own (outcomes xs) (state_after g (front xs)) c q r.events) (sym begin_is) tt;
       structure = λ _. r.structure;
       cause = cause;
       due = due;

@@ -95,7 +95,7 @@ module _ {D : Type 0} (v : View) (disk : D) (work : Desk) (desks : List Desk) (m
     tells_none q n g xs names run = in_run_none law was is fs numbers found fs_are long are refl refl refl refl refl takes g xs names run q n
 
     pub engine_some : (r : Receipt) → found ≡ Some r → next_new ≡ next → IsEngine f l k words is work desks marks
-    engine_some r q n = record { few = e.few; fits = e.fits; machine = e.machine; run = λ w. has_run_some law was is fs numbers found fs_are long are refl refl refl refl refl takes work desks (e.run w) r q n }
+    engine_some r q n = record { few = e.few; fits = e.fits; machine = e.machine; home = e.home; run = λ w. has_run_some law was is fs numbers found fs_are long are refl refl refl refl refl takes work desks (e.run w) r q n }
 
     pub engine_none : found ≡ None → next_new ≡ behind_durables next → IsEngine f l k words is work desks marks
-    engine_none q n = record { few = e.few; fits = e.fits; machine = e.machine; run = λ w. has_run_none law was is fs numbers found fs_are long are refl refl refl refl refl takes work desks (e.run w) q n }
+    engine_none q n = record { few = e.few; fits = e.fits; machine = e.machine; home = e.home; run = λ w. has_run_none law was is fs numbers found fs_are long are refl refl refl refl refl takes work desks (e.run w) q n }

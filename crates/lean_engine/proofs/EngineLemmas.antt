@@ -109,7 +109,7 @@ module _ (law : EveryOpened) (fellow : EveryFellow) (tracks : EveryStart) (r : R
       desks = record { count = further.count; each = subst (λ (y : Shape). (s : ℕ) → 0 < s → s ≤ x.workers → IsDesk y v x s (desk_of first desks s)) same (each (IsDesk z v x) first_desk further_desk) };
       unmarked = free ∙ ap (λ n. replicate n false) (sym on.rows);
       numbers = record { sequence = below_more r.master.sequence _ low; heads = sym is_x.1 };
-      floor = sym (ap (λ (s : core.State). s.floor) start_is.rest ∙ on.base_is);
+      floor = let e = ap (λ (s : core.State). s.floor) start_is.rest ∙ on.base_is in omega arith;
     }
 
     -- ## Its run
@@ -151,6 +151,7 @@ module _ (law : EveryOpened) (fellow : EveryFellow) (tracks : EveryStart) (r : R
     is_engine disk f l w words marks same fits free low = record {
       fits = fits;
       machine = λ _. is_machine f l w words marks same fits free low;
+      home = λ _. start_is.resident.hot;
       run = λ _. has_run disk;
       few = start_is.rows.most;
     }
@@ -178,4 +179,4 @@ module _ (law : EveryOpened) (fellow : EveryFellow) (tracks : EveryStart) (r : R
       where
         laws : OpeningLaws size.sessions g r (record { log = logs; master = r.master }) s0 s1
         laws = every_opening size.sessions s0 s1 undone own (every_start s1 stands s0) r logs g has (λ w low high. let o = on.workers in made_each w low (omega arith))
-            (subst (λ (xs : List Page). IsOn xs r.master.floor (length r.master.heads) g) same (record { faithful = start_is.opens.faithful; workers = many; format = on.format; base_is = on.base_is; page = on.page }))
+            (subst (λ (xs : List Page). IsOn xs r.master.floor (length r.master.heads) g) same (record { faithful = start_is.opens.faithful ∙ start_is.rows.faithful; workers = many; format = on.format; base_is = on.base_is; page = on.page }))

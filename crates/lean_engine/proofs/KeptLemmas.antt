@@ -19,6 +19,7 @@ use Rattle.session_desks.specs.Machines.{IsMachine}
 use Rattle.session_desks.specs.declared.desk.Desk.{Desk}
 use Rattle.session_desks.specs.declared.machine.Machine.{Machine}
 use Rattle.lean_engine.specs.declared.machine.Response.{Response}
+use Rattle.session_state.proofs.HomeLemmas.{every_home}
 use Rattle.session_desks.proofs.MachineLemmas.{machine_behind}
 use Rattle.lean_engine.proofs.QuietLemmas.{as_flushed}
 use Rattle.session_desks.proofs.SeatLemmas.{turn_high, turn_low}
@@ -61,6 +62,7 @@ module _ (law : EveryOther) {D : Type 0} (story : D → Story) (faults : D → �
       ends = came.ends;
       fits = fits;
       machine = sound;
+      home = λ h works. every_home m.work.session.own m.seat.view n.seat.view (came.steps works) h;
       session = (came.session.1, came.session.2);
       works = came.works;
       not_broken = came.not_broken;

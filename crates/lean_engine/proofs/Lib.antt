@@ -25,6 +25,7 @@ pub mod OpenMarks
 pub mod SeenLemmas
 pub mod BeginLemmas
 pub mod TurnLemmas
+pub mod HomeLemmas
 pub mod WentLemmas
 pub mod DeedLemmas
 pub mod AskLemmas

@@ -26,4 +26,4 @@ module _ {D : Type 0} (v : View) (disk disk_new : D) (work : Desk) (desks : List
   has_run_on h = record { opening = h.opening; done = h.done; names = h.names; in_run = in_run_on h.opening h.done h.names h.in_run; is_half_aborted = h.is_half_aborted; room = h.room; is_open = h.is_open }
 
   pub engine_on : (f l k : ℕ) (words : List ℕ) (marks : List Bool) → IsEngine f l k words was work desks marks → IsEngine f l k words is work desks marks
-  engine_on f l k words marks e = record { few = e.few; fits = e.fits; machine = e.machine; run = λ w. has_run_on (e.run w) }
+  engine_on f l k words marks e = record { few = e.few; fits = e.fits; machine = e.machine; home = e.home; run = λ w. has_run_on (e.run w) }

@@ -14,6 +14,8 @@ use Rattle.core_calls.specs.Fronts.{Done, front, outcomes}
 use Rattle.core_calls.specs.LogEvents.{RefusedLogs}
 use Rattle.core_calls.specs.Marks.{Mark, is_half}
 use Rattle.core_calls.specs.Runs.{EachTells, Tells}
+use Rattle.core_calls.specs.Scans.{StopsOnWay}
+use Rattle.core_calls.proofs.ScanLemmas.{stops_none}
 use Rattle.core_calls.specs.Steps.{Tries, is_step}
 use Rattle.lean_disk.specs.Moments.{LeavesOnly}
 use Rattle.lean_disk.specs.Story.{Story}
@@ -52,6 +54,7 @@ module _ (g : Opening) (group : ℕ) (xs : List Done) (line : IsNewLine (outcome
     met = r.behind.met;
     rows = subst (TakesRows own) (sym (keep_none is_step r.events r.steps)) tt;
     tries = subst (λ (d : Call). Tries g own (outcomes xs) d refusal.RowSpent (keep is_step r.events)) (sym (line_call xs c line)) (subst (Tries g own (outcomes xs) c refusal.RowSpent) (sym (keep_none is_step r.events r.steps)) tries);
+    scans = subst (λ (d : Call). StopsOnWay g own (outcomes xs) (state_after g (front xs)) d refusal.RowSpent r.events) (sym (line_call xs c line)) (stops_none g own (outcomes xs) (state_after g (front xs)) c r.events r.steps);
     structure = λ _. r.structure;
     cause = let a = length-append (front xs) r.events in omega arith;
     due = due;

@@ -23,6 +23,7 @@ use Rattle.group_commit.specs.declared.receipts.Receipt.{Receipt}
 use Rattle.lean_engine.specs.Calls.{AbortsInRuns, DoesInRuns, IsTo, MayBe, Went}
 use Rattle.session_desks.specs.Desks.{desk_of, log_of}
 use Rattle.lean_engine.specs.Inside.Asks.{IsEndOf, OnAsked, next_behind, put_ends}
+use Rattle.session_state.specs.Others.{AreHome}
 use Rattle.session_desks.specs.Machines.{AreLogged, IsMachine}
 use Rattle.lean_engine.specs.Machines.{DoesByParts, IsDue, memory_of}
 use Rattle.lean_engine.specs.States.{HasRun, IsEngine, State}
@@ -69,6 +70,7 @@ module _ {D : Type 0} (reached : EveryReached) (outcome : EveryOutcome) (v w : V
     (f l k f_new l_new k_new : ℕ) (words words_new : List ℕ) (marks marks_new : List Bool) (a : Answer) (receipt : Option Receipt) (old new : Story)
     (works : work.session.works ≡ true) (e : IsEngine f l k words (state_of v disk work desks master next ends) work desks marks)
     (fits : IsPicture (plan (sizes f_new l_new k_new) w.given) words_new w) (machine : store_new.session.works ≡ true → IsMachine f_new l_new k_new words_new w store_new desks_new marks_new master_new)
+    (home : store_new.session.works ≡ true → AreHome w)
     (same : (store_new.session.workers ≡ work.session.workers) × (store_new.session.group ≡ work.session.group))
     (works_is : (store_new.session.works ≡ true) ↔ (a ≡ fault → ⊥)) (not_broken : a ≡ no_device → ⊥)
     (next_is : next_new ≡ next_behind store_new.session.works next a) (ends_are : ends_new ≡ put_ends receipt a ends) where
@@ -99,6 +101,7 @@ module _ {D : Type 0} (reached : EveryReached) (outcome : EveryOutcome) (v w : V
       few = many;
       fits = fits;
       machine = machine;
+      home = home;
       run = run_behind reached outcome was is own c a receipt work desks store_new desks_new old new same.0 same.1 may ended ends_are works_is next_is turn stood (OnAsked own c is_long) does
           f l k f_new l_new k_new words words_new marks marks_new master master_new (e.machine works) machine refl same.0 turn (λ q. (some_session work.session.workers own c a asked to q).0)
           (room_on_line was line work desks stood) (λ n q. begun_of was line own c a stood.opening stood.done stood.names stood.in_run asked to n q)
@@ -134,6 +137,7 @@ module _ {D : Type 0} (reached : EveryReached) (outcome : EveryOutcome) (v w : V
       few = many;
       fits = fits;
       machine = machine;
+      home = home;
       run = run_behind reached outcome was is work.session.own d.0 a receipt work desks store_new desks_new old new same.0 same.1 may_all ended ends_are works_is next_is (λ b q. turn b) stood_abort (IsDue work.session.own d.0) (does is_open d.0)
           f l k f_new l_new k_new words words_new marks marks_new master master_new (e.machine works) machine refl same.0 (λ b q. turn b) (λ q. seated.0)
           (room_on_abort was due work desks stood_abort) (λ n q. absurd (no_begin n q)) d.1;

@@ -143,6 +143,7 @@ module _ (g : Opening) (group : ℕ) (xs : List Done) (line : IsNewLine (outcome
       structure = λ e. keeping.structure;
       logs = (first ++ flushes, refl, made_logs);
       refused = tt;
+      scans = tt;
       released = λ e. absurd (true≢false (sym e));
     }
 

@@ -35,7 +35,7 @@ use Rattle.session_state.specs.Ties.{Ties}
 use Rattle.session_state.specs.declared.session.Session.{Session}
 use Rattle.lean_engine.specs.Machines.{AreHalf, DoesTied, DoesByParts, OnBegin, OnLine, Tied, memory_of}
 use Rattle.lean_engine.specs.Inside.Reached.{Reached}
-use Rattle.session_desks.specs.Syncs.{AreSynced, Stood, SyncFails, SyncMade}
+use Rattle.session_desks.specs.Syncs.{AreSynced, IsWritten, Stood, SyncFails, SyncMade}
 use Rattle.session_desks.specs.declared.desk.Desk.{Desk}
 use Rattle.lean_engine.proofs.SyncDoes.{any_last, flushes_none, made_none}
 use Rattle.session_desks.proofs.SyncRuns.{around_more, master_aside, written_by}
@@ -96,30 +96,30 @@ module _ (versions : EveryVersion) (kept : EveryKept) (prefixes : EveryPrefix) (
 
       -- what the disk stands for
       pub stood : (s0 : Crash) (k : Known) → Between limits g group xs s0 k old → IsOf g was k → Stood g xs made s0 k is.log is.master many old new
-      stood s0 k between of_k = elim (cases_eq n was.master.floor) [
-        | inl e ↦ (
-            let st = m.written.still e in
-            subst (λ (d : D). Stood g xs made s0 k is.log is.master many old (story d)) (sym st.0) (subst (λ (r : Master). Stood g xs made s0 k is.log r many old middle) (sym st.1)
-            (ties.by_none reached needs g group xs many many_is v m.view was tied line m.logs old middle m.flushed sixteen w n m.ready.met m.ready.within m.ready.low
-            versions (every_rest kept prefixes seals middle) (laws m.between) is.log m.raised law (parts old old old) (parts old middle middle) m.ready.small (sym e) s0 k between of_k)))
-        | inr other ↦ (
-            let wr = m.written.wrote other in
-            subst (λ (r : Master). Stood g xs made s0 k is.log r many old new) (sym wr.2)
-            (ties.by_master reached needs g group xs many many_is v m.view was tied line m.logs old middle m.flushed sixteen w n m.ready.met m.ready.within m.ready.low
-            is.log new m.raised law (parts old old old) (parts old middle new) m.ready.small wr.1 wr.0 s0 k between of_k))
-      ]
+      stood s0 k between of_k = go m.written
+        where
+          go : IsWritten story many n m.logs was.master is.master m.between end → Stood g xs made s0 k is.log is.master many old new
+          go (IsWritten.Still all_end same same_master) =
+              subst (λ (d : D). Stood g xs made s0 k is.log is.master many old (story d)) (sym same) (subst (λ (r : Master). Stood g xs made s0 k is.log r many old middle) (sym same_master)
+              (ties.by_none reached needs g group xs many many_is v m.view was tied line m.logs old middle m.flushed sixteen w n m.ready.met m.ready.within m.ready.low
+              versions (every_rest kept prefixes seals middle) (laws m.between) is.log m.raised law (parts old old old) (parts old middle middle) m.ready.counted all_end s0 k between of_k))
+          go (IsWritten.Wrote some_below syncs writes is_next) =
+              subst (λ (r : Master). Stood g xs made s0 k is.log r many old new) (sym is_next)
+              (ties.by_master reached needs g group xs many many_is v m.view was tied line m.logs old middle m.flushed sixteen w n m.ready.met m.ready.within m.ready.low
+              is.log new m.raised law (parts old old old) (parts old middle new) m.ready.small writes syncs s0 k between of_k)
 
       pub written : IsNoEarlier made was.master is.master
-      written = written_by story n was.master is.master m.between end (t.loads ++ flushes) m.written
+      written = written_by story many n m.logs was.master is.master m.between end (t.loads ++ flushes) m.written
 
       pub around : Around g.workers true old new
-      around = elim (cases_eq n was.master.floor) [
-        | inl e ↦ subst (λ (d : D). Around g.workers true old (story d)) (sym (m.written.still e).0) here
-        | inr other ↦ around_more g.workers 0 old middle new here (λ a i e. master_aside g.workers a i e) (m.written.wrote other).1.frame
-      ]
+      around = go m.written
         where
           here : Around g.workers true old middle
           here = ties.around_now reached needs g group xs many many_is v m.view was tied line m.logs old middle m.flushed sixteen
+
+          go : IsWritten story many n m.logs was.master is.master m.between end → Around g.workers true old new
+          go (IsWritten.Still all_end same same_master) = subst (λ (d : D). Around g.workers true old (story d)) (sym same) here
+          go (IsWritten.Wrote some_below syncs writes is_next) = around_more g.workers 0 old middle new here (λ a i e. master_aside g.workers a i e) writes.frame
 
       -- it was asked
       pub synced : (store0 : Desk) (desks0 : List Desk) (store1 : Desk) (desks1 : List Desk) → AreHalf many xs store0 desks0 → AreSynced many store0 desks0 store1 desks1 n → DoesTied g group xs 0 call.Sync (answer.Synced n) w was is store1 desks1 old new

@@ -9,7 +9,9 @@ use Rattle.map_model.specs.Lists.{all}
 use Rattle.core_state.specs.Openings.{Opening}
 use Rattle.core_state.specs.Events as happening
 use Rattle.core_state.specs.Needs.{may}
+use Rattle.core_state.specs.States.{State, flushed_by_all}
 use Rattle.core_state.specs.Steps.{state_after}
+use Rattle.core_commit.proofs.Lists.{le_least}
 use Rattle.core_calls.specs.Fronts.{Done, front, outcomes}
 use Rattle.core_calls.specs.Refusals.{waiting}
 use Rattle.lean_disk.specs.Moments.{LeavesOnly}
@@ -41,12 +43,12 @@ use Rattle.session_state.specs.Ties.{Behind, Ties}
 use Rattle.session_state.specs.Syncs.{HasSynced}
 use Rattle.session_desks.specs.Desks.{desk_of}
 use Rattle.lean_engine.specs.Machines.{AreHalf, DoesTied, Tied}
-use Rattle.session_desks.specs.Syncs.{FlushFails, Flushed, IsWriting, Stood, next_with}
+use Rattle.session_desks.specs.Syncs.{AllEndAt, FlushFails, Flushed, IsWriting, Stood, next_with}
 use Rattle.session_desks.specs.declared.desk.Desk.{Desk}
 use Rattle.lean_engine.proofs.LoggedRuns.{logged_all}
 use Rattle.lean_engine.proofs.SyncDoes.{does, flushes_ready, line_call, loads_ready, ready_join}
 use Rattle.session_desks.proofs.SyncRuns.{around_more, master_aside, master_failed, stood_master, stood_still}
-use Rattle.session_desks.proofs.SyncViews.{front_is, logs_join, may_is, more}
+use Rattle.session_desks.proofs.SyncViews.{core_is, front_is, logs_join, may_is, more}
 
 pub loads_quiet : (es : List happening.Event) → AreLoads es → all is_quiet es ≡ true
 loads_quiet [] a = refl
@@ -180,10 +182,14 @@ module _ (reached : EveryReached) (needs : EveryNeed) (g : Opening) (group : ℕ
         (λ a some high. are a some (subst (λ c. a ≤ c) many_is high))
 
     -- none was
-    pub by_none : EveryVersion → EveryRest now → IsLawful now → (is : ℕ → Log) → ((a : ℕ) → 0 < a → a ≤ many → is a ≡ raised (mid a) n) → IsLawful old → EveryPart old old old → EveryPart old now now → was.master.sequence + 1 < 2 ^ 63 → was.master.floor ≡ n
+    reached_run : ((a : ℕ) → 0 < a → a ≤ many → (state u).core.flushed a ≡ (mid a).last) → AllEndAt many n mid → n ≤ flushed_by_all g (state_after g (front xs ++ (first ++ flushes)))
+    reached_run counted all_end = subst (λ (s : State). n ≤ flushed_by_all g s) (core_is reached needs g xs (first ++ flushes) u b_mid ∙ sym (front_is g xs (first ++ flushes)))
+        (le_least (state u).core.flushed g.workers n g.some_worker (λ a l. let h : a ≤ many = subst (λ k. a ≤ k) many_is l.1 in let c = counted a l.0 h in let e = all_end a l.0 h in omega arith))
+
+    pub by_none : EveryVersion → EveryRest now → IsLawful now → (is : ℕ → Log) → ((a : ℕ) → 0 < a → a ≤ many → is a ≡ raised (mid a) n) → IsLawful old → EveryPart old old old → EveryPart old now now → ((a : ℕ) → 0 < a → a ≤ many → (state u).core.flushed a ≡ (mid a).last) → AllEndAt many n mid
         → (s0 : Crash) (k : Known) → Between limits g group xs s0 k old → IsOf g was k → Stood g xs ((first ++ flushes) ++ happening.Event.Sync n ∷ []) s0 k is was.master many old now
-    by_none versions rest law_now is are law part goes small floor s0 k between of_k =
-        stood_still versions g group xs s0 k (first ++ flushes) old now goes rest law_now between mid was.master many (at_flushed law part s0 k between of_k) around_now n (sym many_is) met within_run small low is floor
+    by_none versions rest law_now is are law part goes counted all_end s0 k between of_k =
+        stood_still versions g group xs s0 k (first ++ flushes) old now goes rest law_now between mid was.master many (at_flushed law part s0 k between of_k) around_now n (sym many_is) met within_run (reached_run counted all_end) is
         (λ a some high. are a some (subst (λ c. a ≤ c) many_is high))
 
 -- ## A device failed at a flush

@@ -15,8 +15,9 @@ use Rattle.rows_trait.specs.declared.view.View.{View}
 use Rattle.row_engine.specs.Calls.{begin_answer}
 use Rattle.lean_engine.specs.Calls.{IsTo, MayBe}
 use Rattle.lean_engine.specs.Inside.Asks.{IsEndOf}
+use Rattle.session_state.specs.Others.{AreHome}
 use Rattle.session_desks.specs.Parts.{AreAsMany, HasTurned, IsSound, SeatFits, Works, here}
-use Rattle.lean_engine.specs.Inside.Parts.{MachineDoes, MachineWent, memory}
+use Rattle.lean_engine.specs.Inside.Parts.{IsHome, MachineDoes, MachineWent, memory}
 use Rattle.session_desks.specs.declared.machine.Machine.{Machine}
 use Rattle.lean_engine.specs.declared.machine.Response.{Response}
 use Rattle.lean_engine.proofs.AskingLemmas.{may_more}
@@ -43,6 +44,7 @@ went_spent story faults May many own c m sound works to does = record {
   ends = ends_none own m.seat.view m.seat.view (answer.Refused refusal.RowSpent) refl;
   fits = sound.fits;
   machine = λ _. sound;
+  home = λ h _. h;
   session = (refl, refl);
   works = ((λ _. fault_only (answer.Refused refusal.RowSpent) refl), λ _. works);
   not_broken = λ e. absurd (cc);
@@ -60,6 +62,7 @@ fault_went story faults May many own c m n to does fits broken as_many rose = re
   ends = ends_none own m.seat.view n.seat.view (answer.Refused refusal.DiskFault) refl;
   fits = fits;
   machine = λ w. absurd (broken w);
+  home = λ _ w. absurd (broken w);
   session = as_many;
   works = ((λ w. absurd (broken w)), λ d. absurd (d refl));
   not_broken = λ e. absurd (cc);
@@ -77,14 +80,15 @@ begun_to (Ok number) = tt
 begun_to (Err why) = tt
 
 pub begun_went : {D : Type 0} (story : D → Story) (faults : D → ℕ) (May : Opening → List Done → Type 0) (own : ℕ) (m n : Machine D) (r : Result ℕ Refusal) → MachineDoes story May own Call.Begin (begin_answer r) m n → IfErr r IsTold
-    → SeatFits n → (Works n → IsSound n) → Works n → AreAsMany m n → faults n.work.disk ≡ faults m.work.disk → MachineWent story faults May 1 own Call.Begin (record { answer = begin_answer r; receipt = None }) m n
-begun_went story faults May own m n r does told fits sound works many calm = record {
+    → SeatFits n → (Works n → IsSound n) → (IsHome m → IsHome n) → Works n → AreAsMany m n → faults n.work.disk ≡ faults m.work.disk → MachineWent story faults May 1 own Call.Begin (record { answer = begin_answer r; receipt = None }) m n
+begun_went story faults May own m n r does told fits sound home works many calm = record {
   does = does;
   to = begun_to r;
   may = begun_may r told;
   ends = begun_ends own m.seat.view n.seat.view r;
   fits = fits;
   machine = sound;
+  home = λ h _. home h;
   session = many;
   works = ((λ _. no_fault r told), λ _. works);
   not_broken = not_broken r told;
@@ -93,15 +97,16 @@ begun_went story faults May own m n r does told fits sound works many calm = rec
 
 -- ## A sync
 
-pub synced_went : {D : Type 0} (story : D → Story) (faults : D → ℕ) (May : Opening → List Done → Type 0) (at : ℕ) (m n : Machine D) → MachineDoes story May 0 Call.Sync (answer.Synced at) m n → SeatFits n → IsSound n → Works n → AreAsMany m n
+pub synced_went : {D : Type 0} (story : D → Story) (faults : D → ℕ) (May : Opening → List Done → Type 0) (at : ℕ) (m n : Machine D) → MachineDoes story May 0 Call.Sync (answer.Synced at) m n → SeatFits n → IsSound n → (IsHome m → IsHome n) → Works n → AreAsMany m n
     → faults n.work.disk ≡ faults m.work.disk → MachineWent story faults May 1 0 Call.Sync (record { answer = answer.Synced at; receipt = None }) m n
-synced_went story faults May at m n does fits sound works many calm = record {
+synced_went story faults May at m n does fits sound home works many calm = record {
   does = does;
   to = tt;
   may = tt;
   ends = ends_none 0 m.seat.view n.seat.view (answer.Synced at) refl;
   fits = fits;
   machine = λ _. sound;
+  home = λ h _. home h;
   session = many;
   works = ((λ _ e. absurd (cc)), λ _. works);
   not_broken = λ e. absurd (cc);
@@ -123,6 +128,7 @@ module _ {D : Type 0} (story : D → Story) (faults : D → ℕ) (own : ℕ) (m 
       ends = subst (λ (k : ℕ). IsEndOf k m.seat.view n.seat.view r.answer r.receipt) turned.own (subst (λ (v : View). IsEndOf t.work.session.own v n.seat.view r.answer r.receipt) same.0 w.ends);
       fits = w.fits;
       machine = w.machine;
+      home = λ h works. w.home (subst AreHome (sym same.0) h) works;
       session = (w.session.0 ∙ turned.workers, w.session.1 ∙ same.3);
       works = w.works;
       not_broken = w.not_broken;
@@ -145,6 +151,7 @@ went_more story faults May own c r m n many w = record {
   ends = w.ends;
   fits = w.fits;
   machine = w.machine;
+  home = w.home;
   session = w.session;
   works = w.works;
   not_broken = w.not_broken;

@@ -20,6 +20,7 @@ use Rattle.rows_trait.specs.Plain.{sizes}
 use Rattle.rows_trait.specs.Rule.{IsPicture, plan}
 use Rattle.session_desks.specs.Desks.{desk_of}
 use Rattle.lean_engine.specs.Machines.{AreHalf, Tied, memory_of}
+use Rattle.session_state.specs.Others.{AreHome}
 use Rattle.session_desks.specs.Machines.{IsMachine}
 use Rattle.session_desks.specs.declared.desk.Desk.{Desk}
 
@@ -97,4 +98,6 @@ pub record IsEngine {D : Type 0} (frames locks workers : ℕ) (words : List ℕ)
   pub few : e.sessions ≤ most_sessions
   pub fits : IsPicture (plan (sizes frames locks workers) e.view.given) words e.view
   pub machine : e.works ≡ true → IsMachine frames locks workers words e.view work desks marks e.master
+  -- each page is in memory
+  pub home : e.works ≡ true → AreHome e.view
   pub run : e.works ≡ true → HasRun e work desks

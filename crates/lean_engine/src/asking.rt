@@ -13,7 +13,7 @@ ghost use Rattle.engine_trait.specs.declared.calls.Next.{Next};
 ghost use Rattle.lean_engine.specs.Calls.{Asked, AskedAbort, IsTo, MayBe};
 ghost use Rattle.lean_engine.specs.Inside.Asks.{IsEndOf, OnAsked, next_behind, put_ends};
 ghost use Rattle.session_desks.specs.Parts.{HasLogs, IsSound, Works};
-ghost use Rattle.lean_engine.specs.Inside.Parts.{KeepsFlushed, MachineWent};
+ghost use Rattle.lean_engine.specs.Inside.Parts.{IsHome, KeepsFlushed, MachineWent};
 ghost use Rattle.lean_engine.specs.Inside.Quiet.{is_still};
 ghost use Rattle.session_desks.specs.Syncs.{HasOpening};
 
@@ -85,6 +85,7 @@ fn stays_quiet(quiet: bool, call: &Call, is_long: bool) -> bool
 fn ask<D: Stages>(machine: &mut Machine<D>, session: u32, call: &Call, is_long: bool) -> Response
     requires asked { IsAsked machine.old.work.session.workers session call.now }
     requires machine { IsSound machine.old }
+    requires home { IsHome machine.old }
     requires works { Works machine.old }
     requires opens { HasOpening machine.old.seat.view.given }
     requires logged { HasLogs machine.old }

@@ -6,7 +6,7 @@ ghost use Rattle.row_engine.specs.Calls.{abort_answer, commit_answer, del_answer
 ghost use Rattle.lean_engine.specs.Inside.Asks.{IsRowCall};
 ghost use Rattle.lean_engine.specs.Inside.Came.{receipt_in};
 ghost use Rattle.session_desks.specs.Parts.{IsSound, Works};
-ghost use Rattle.lean_engine.specs.Inside.Parts.{KeepsFlushed, MachineDoes, MachineWent};
+ghost use Rattle.lean_engine.specs.Inside.Parts.{IsHome, KeepsFlushed, MachineDoes, MachineWent};
 ghost use Rattle.lean_engine.specs.Inside.Quiet.{is_still};
 ghost use Rattle.lean_engine.specs.Machines.{IsDue, OnLine};
 
@@ -103,6 +103,7 @@ fn receipt_of(own: u32, ended: &Ended) -> Receipt
 pub(crate) fn row_call<D: Stages>(machine: &mut Machine<D>, call: &Call) -> Response
     requires call { IsRowCall call.now }
     requires machine { IsSound machine.old }
+    requires home { IsHome machine.old }
     requires works { Works machine.old }
     ensures went { MachineWent D.story D.faults OnLine machine.old.work.session.workers machine.old.work.session.own call.now result machine.old machine.new }
     ensures turn { machine.new.work.session.own ≡ machine.old.work.session.own }
@@ -145,6 +146,7 @@ pub(crate) fn row_call<D: Stages>(machine: &mut Machine<D>, call: &Call) -> Resp
 /// The session whose turn it is aborts its transaction: its line asks it, or a call of it met a conflict.
 pub(crate) fn abort<D: Stages>(machine: &mut Machine<D>) -> Response
     requires machine { IsSound machine.old }
+    requires home { IsHome machine.old }
     requires works { Works machine.old }
     ensures went { MachineWent D.story D.faults OnLine 1 machine.old.work.session.own call.Abort result machine.old machine.new }
     ensures due { machine.old.work.session.is_open ≡ true → (c : Call) → MachineDoes D.story (IsDue machine.old.work.session.own c) machine.old.work.session.own c result.answer machine.old machine.new }

@@ -97,7 +97,7 @@ pub record IsFrom (most : ℕ) (g : Opening) (s : Story) (n : Counts) : Type 0 w
 
 -- log w of the next generation, which is empty
 abbrev pub first_log : Master → (base w : ℕ) → Log
-first_log m base w = record { generation = suc m.generation; log = w; blocks = m.blocks; head = 0; next = 0; payload = []; count = 0; last = base; flushed = base }
+first_log m base w = record { generation = suc m.generation; log = w; blocks = m.blocks; head = 0; next = 0; payload = []; count = 0; last = base; flushed = base; ends = [] }
 
 -- The sink failed as it was given the first line, and the script was not read.
 pub record CutFirst (most status : ℕ) (s0 : Story) (feed0 feed1 : Feed) (put : List ℕ) (sink0 sink1 : ℕ) : Type 0 where

@@ -6,6 +6,7 @@ use Rattle.lean_disk.specs.Story.{Crash, Story, areas_of}
 use Rattle.disk_slots.specs.declared.master.Master.{Master}
 use Rattle.disk_image.specs.MasterSlots.{master_on}
 use Rattle.disk_image.specs.Shown.{Areas, image_by, shown_by}
+use Rattle.core_disk.specs.MasterFloors.{IsFloorOf}
 use Rattle.disk_runs.specs.Masters.{IsNoEarlier}
 use Rattle.recovery.specs.Crashes.{IsNextOf}
 use Rattle.recovery.specs.Starts.{IsStartOf}
@@ -113,7 +114,7 @@ pub record IsLeft (size : Size) (Such : Opening → List Done → List Event →
   pub its : AreIts opening heard next_one
   pub behind : List Event
   pub fell : FellIn (Such opening heard) next_one behind
-  -- so its sequence number is above that of the opening by no more than the syncs and cuts among these, and it has the floor of the core then
+  -- so its sequence number is above that of the opening by no more than the syncs and cuts among these, and its floor is one of the core's state then
   pub written : of_opening.events ≡ front heard ++ behind
-  pub floor : n.floor ≡ (state_after opening (front heard ++ behind)).floor
+  pub floor : IsFloorOf opening (state_after opening (front heard ++ behind)) n.floor
   pub logs : (w : ℕ) → 0 < w → w ≤ length m.heads → IsOldestOf (state_after opening (front heard ++ behind)) w ((image_by n c.image).log w)

@@ -91,7 +91,7 @@ module _ (reached : EveryReached) (needs : EveryNeed) (answers : EveryAnswer) (c
       closed shut c g xs t (Asked line of_it) =
           subst (λ k. DoesOn g x.group xs x.own k (answer.Refused refusal.NoTransaction) x.is_half_aborted v log log old old) (sym of_it)
           (refused_does answers g x.group xs x.own v t log old lawful (parts old old old) call.Abort refusal.NoTransaction (refusal_comes coming xs x.own call.Abort refusal.NoTransaction t.loads line) v (behind.begins g x.group xs x.own v t)
-          (is_refusal answers g x.group xs x.own v t log old lawful (parts old old old) call.Abort refusal.NoTransaction (refusal_comes coming xs x.own call.Abort refusal.NoTransaction t.loads line) (inl (open_in ∙ shut)) tt call.Abort (behind.line_call xs call.Abort line) refl)
+          (is_refusal answers g x.group xs x.own v t log old lawful (parts old old old) call.Abort refusal.NoTransaction (refusal_comes coming xs x.own call.Abort refusal.NoTransaction t.loads line) (inl (open_in ∙ shut)) tt call.Abort (behind.line_call xs call.Abort line) refl tt)
           call.Abort (behind.line_call xs call.Abort line) (inl none) (λ q k. inl (some_is refusal.NoTransaction q (sym none ∙ k))))
         where
           open_in : ((behind_first g xs t.loads).worker x.own).is_open ≡ x.is_open

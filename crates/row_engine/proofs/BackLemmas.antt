@@ -39,7 +39,6 @@ use Rattle.session_state.specs.Undo.{HasRoomToUndo, newest_of, undo_of, without_
 use Rattle.session_state.specs.declared.session.Session.{Session}
 use Rattle.session_state.specs.declared.undo.Undone.{Undone}
 use Rattle.session_state.proofs.HoldLemmas.{rows_on}
-use Rattle.session_state.proofs.Moments.{resident_on}
 use Rattle.row_engine.proofs.PutLemmas.{same_flushed, seen_core}
 use Rattle.session_state.proofs.UndoLemmas.{room_behind}
 
@@ -107,7 +106,7 @@ module _ (z : Shape) (v : View) (x : Session) (log : Log) (h : Holds z v x log) 
   key_low =
       let b = begins u.key u.word ((state v).core.worker x.own).changes may_put_back.newest in
       let sound = h.rows.tree_sound v.seen in
-      let it : HasEntry (opening v.given) (state v).core b.first = (sound.undo x.own b.first (subst (λ (l : List Entry). Has b.first l) (sym b.is) (inl refl))).there refl in
+      let it : HasEntry (opening v.given) (state v).core b.first = (sound.undo x.own b.first (subst (λ (l : List Entry). Has b.first l) (sym b.is) (inl refl))).there h.rows.faithful in
       let l = (holds_to ((state v).core.page it.page).node b.first.key it.leaf).lies in
       let a = l.high in
       let t = below_top (opening v.given).format (nodes_of (state v).core) sound.tree it.page it.below l.live in
@@ -262,7 +261,6 @@ module _ (rooms : EveryRoom) (z : Shape) (v w : View) (x : Session) (log : Log) 
       flushed = ap (λ k. k.flushed x.own) core_is ∙ (h.flushed ∙ sym flushed_is);
       floor = subst (λ n. x.clock.floor ≤ n) (λ i. flushed_by_all (opening (sym d.ran.given i)) (sym core_is i)) h.floor;
       behind = ap (λ k. commits.behind k x.own) core_is ∙ h.behind;
-      resident = resident_on z v w d.ran.given (ap (λ k. k.place) core_is) h.resident;
       held = λ i. subst (λ k. holds_row (k.row i) x.own ≡ true ↔ Has i x.held.rows) (sym core_is) (h.held i);
       within = h.within;
       fewer = h.fewer;

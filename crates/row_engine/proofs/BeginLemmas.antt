@@ -37,7 +37,7 @@ use Rattle.session_state.specs.Others.{Steps}
 use Rattle.session_state.specs.declared.session.Session.{Session}
 use Rattle.session_state.proofs.HoldLemmas.{rows_on}
 use Rattle.row_engine.proofs.FlushLemmas.{flushed_all, flushed_from, flushed_low}
-use Rattle.session_state.proofs.Moments.{acts, free_same, goes_seen, goes_state, met_core, resident_on}
+use Rattle.session_state.proofs.Moments.{acts, free_same, goes_seen, goes_state, met_core}
 use Rattle.session_state.proofs.OtherLemmas.{is_own, one_step}
 use Rattle.row_engine.proofs.TakeLemmas.{holds_still, still}
 
@@ -283,7 +283,6 @@ module _ (begins : controls.EveryBegin) (z : Shape) (v w : View) (x : Session) (
     flushed = ap (λ k. k.flushed x.own) core_is ∙ h.flushed;
     floor = subst (λ n. all_flushed ≤ n) (f_all ∙ (λ i. flushed_by_all (opening (sym e.goes.given i)) (sym core_is i))) (omega arith);
     behind = ap (λ k. waits k x.own) core_is ∙ h.behind;
-    resident = resident_on z v w e.goes.given (ap (λ k. k.place) core_is) h.resident;
     held = λ i. subst (λ k. holds_row (k.row i) x.own ≡ true ↔ Has i x.held.rows) (sym core_is) (h.held i);
     within = h.within;
     fewer = h.fewer;

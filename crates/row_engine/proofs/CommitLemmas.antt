@@ -37,7 +37,7 @@ use Rattle.session_state.specs.declared.session.Session.{Session}
 use Rattle.session_state.proofs.HoldLemmas.{rows_on}
 use Rattle.row_engine.proofs.FlushLemmas.{behind_commit, flushed_all}
 use Rattle.session_state.proofs.WaitLemmas.{behind_flush, behind_more, behind_same, floor_flush}
-use Rattle.session_state.proofs.Moments.{free_same, met_core, resident_on, seen_state}
+use Rattle.session_state.proofs.Moments.{free_same, met_core, seen_state}
 use Rattle.row_engine.proofs.LatchLemmas.{sized_on}
 use Rattle.session_state.proofs.UndoLemmas.{none_left}
 
@@ -260,7 +260,6 @@ module _ (z : Shape) (b : View) (x : Session) (log : Log) (h : Holds z b x log) 
       flushed = flushed_u;
       floor = floor_u;
       behind = behind_u;
-      resident = resident_on z b u (given ∙ e.given) (place_u ∙ place_w) h.resident;
       held = λ i. ((λ q. absurd (true≢false (sym q ∙ (ap (λ k. holds_row (k i) x.own) row_u ∙ e.free i)))), (λ q. absurd q));
       within = λ i q. absurd q;
       fewer = omega arith;

@@ -27,6 +27,7 @@ use Rattle.core_calls.proofs.WhereLemmas.{refused_kept}
 use Rattle.core_calls.specs.Marks.{is_half}
 use Rattle.core_calls.specs.Refusals.{IsCause}
 use Rattle.core_calls.specs.Runs.{Tells}
+use Rattle.core_calls.specs.Scans.{StopsOnWay}
 use Rattle.core_calls.specs.Steps.{Tries, is_step, is_structure}
 use Rattle.engine_calls.specs.Answers.{EveryAnswer}
 use Rattle.engine_calls.specs.Clauses.{EveryComing, IsNewLine}
@@ -61,7 +62,7 @@ use Rattle.row_engine.proofs.Behind as behind
 use Rattle.session_state.proofs.HoldLemmas.{rows_on}
 use Rattle.row_engine.proofs.CommitLemmas.{ties_as}
 use Rattle.row_engine.proofs.LatchLemmas.{replicated}
-use Rattle.session_state.proofs.Moments.{free_same, resident_on, seen_state}
+use Rattle.session_state.proofs.Moments.{free_same, seen_state}
 use Rattle.row_engine.proofs.Misses.{misses_core, misses_log, misses_met, misses_quiet, misses_run, misses_steps, misses_structure}
 
 -- ## Tests
@@ -136,7 +137,6 @@ holds_missed z y v w x log same m h = subst (λ k. Holds k w x log) (sym same) (
   flushed = ap (λ k. k.flushed x.own) core_is ∙ h.flushed;
   floor = subst (λ k. x.clock.floor ≤ flushed_by_all (opening k) (state w).core) (sym m.given) (subst (λ (k : State). x.clock.floor ≤ flushed_by_all (opening v.given) k) (sym core_is) h.floor);
   behind = ap (λ (k : State). log_events.behind k x.own) core_is ∙ h.behind;
-  resident = resident_on z v w m.given (ap (λ k. k.place) core_is) h.resident;
   held = λ i. subst (λ (k : State). holds_row (k.row i) x.own ≡ true ↔ Has i x.held.rows) (sym core_is) (h.held i);
   within = h.within;
   fewer = h.fewer;
@@ -201,6 +201,7 @@ module _ (reached : EveryReached) (needs : EveryNeed) (answers : EveryAnswer) (c
     met = behind_es.met;
     rows = subst (TakesRows x.own) (sym (keep_none is_step es steps)) tt;
     tries = subst (λ d. Tries g x.own (outcomes xs) d why (keep is_step es)) (sym asks) (keep_none is_step es steps);
+    scans = subst (λ d. StopsOnWay g x.own (outcomes xs) (state_after g (front xs)) d why es) (sym asks) tt;
     structure = λ _. structure;
     cause = cause;
     due = refused_kept limits g xs x.own call.Commit why es tt (keep_none is_log es logs);

@@ -23,7 +23,7 @@ use Rattle.session_state.specs.Staging.{IsButClock}
 use Rattle.row_engine.specs.Inside.Takes.{Takes}
 use Rattle.session_state.specs.declared.session.Session.{Session}
 use Rattle.session_state.proofs.HoldLemmas.{rows_on}
-use Rattle.session_state.proofs.Moments.{free_same, resident_on}
+use Rattle.session_state.proofs.Moments.{free_same}
 use Rattle.row_engine.proofs.PutLemmas.{seen_core}
 
 -- ## The session
@@ -136,7 +136,6 @@ module _ (z : Shape) (v w : View) (x y : Session) (log : Log) (key : ℕ) (h : H
     flushed = ap (λ k. k.flushed x.own) core_is ∙ h.flushed;
     floor = subst (λ n. x.clock.floor ≤ n) (λ i. flushed_by_all (opening (sym given_is i)) (sym core_is i)) h.floor;
     behind = ap (λ k. commits.behind k x.own) core_is ∙ h.behind;
-    resident = resident_on z v w given_is (ap (λ k. k.place) core_is) h.resident;
     held = λ i. subst (λ k. holds_row (k.row i) x.own ≡ true ↔ Has i x.held.rows) (sym core_is) (h.held i);
     within = h.within;
     fewer = h.fewer;

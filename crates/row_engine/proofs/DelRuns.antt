@@ -30,6 +30,7 @@ use Rattle.core_calls.proofs.WhereLemmas.{refused_kept, syncs_kept}
 use Rattle.core_calls.specs.Marks.{is_half}
 use Rattle.core_calls.specs.Refusals.{Hinders, IsCause}
 use Rattle.core_calls.specs.Runs.{Tells}
+use Rattle.core_calls.specs.Scans.{StopsOnWay}
 use Rattle.core_calls.specs.Steps.{Tries, is_step, is_structure}
 use Rattle.disk_runs.specs.Stands.{Known}
 use Rattle.engine_calls.specs.Answers.{EveryAnswer}
@@ -198,7 +199,7 @@ module _ (reached : EveryReached) (need : EveryNeed) (answers : EveryAnswer) (co
     refused_early w bw cause tries is_for refuses =
         let comes = refusal_comes coming xs own asks why first line in
         refusing.refused_does answers g x.group xs own v t log st lawful (parts st st st) asks why comes w bw
-        (refusing.is_refusal answers g x.group xs own v t log st lawful (parts st st st) asks why comes cause tt asks asks_is tries) asks asks_is is_for refuses
+        (refusing.is_refusal answers g x.group xs own v t log st lawful (parts st st st) asks why comes cause tt asks asks_is tries tt) asks asks_is is_for refuses
 
     pub early_does : put_test x log ≡ Some why → DoesOn g x.group xs own asks (answer.Refused why) x.is_half_aborted v log log st st
     early_does e = let f = early why e in refused_early v b f.cause f.tries (inl (tested why e)) (λ q r. inl (some_is why q (sym (tested why e) ∙ r)))
@@ -452,6 +453,7 @@ module _ (reached : EveryReached) (need : EveryNeed) (answers : EveryAnswer) (co
         met = b4.met;
         rows = subst (TakesRows own) (sym (steps_lock own first (g.row_of key) [] t.are_loads refl)) (refl, tt);
         tries = subst (λ e. Tries g own (outcomes xs) e why (keep is_step start)) (sym asks_is) (subst (Tries g own (outcomes xs) asks why) (sym (steps_lock own first (g.row_of key) [] t.are_loads refl)) tries);
+        scans = subst (λ e. StopsOnWay g own (outcomes xs) (state_after g (front xs)) e why start) (sym asks_is) tt;
         structure = λ e. no_structure;
         cause = cause;
         due = refused_kept limits g xs own asks why start tt no_logs;

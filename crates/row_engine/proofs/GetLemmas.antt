@@ -58,7 +58,7 @@ use Rattle.row_engine.proofs.Behind as behind
 use Rattle.session_state.proofs.HoldLemmas.{rows_on}
 use Rattle.row_engine.proofs.ConflictLemmas.{lock_free, lock_refused}
 use Rattle.row_engine.proofs.GoingLemmas.{goes, going, not_going, tests_as}
-use Rattle.session_state.proofs.Moments.{free_same, resident_on, seen_state}
+use Rattle.session_state.proofs.Moments.{free_same, seen_state}
 use Rattle.session_state.proofs.OtherLemmas.{is_own, one_step}
 use Rattle.row_engine.proofs.Refusing.{hindered_behind, is_refusal, key_free, key_hindered, refusal_comes, refused_does, spent_behind, spent_end, taken_behind}
 use Rattle.row_engine.proofs.TakeLemmas.{holds_still, numbers_on, ran_seen, row_is, seen_core, with_count}
@@ -90,14 +90,6 @@ call_closed x why works e = open_case (is_going x) refl ((λ i. cond (sym works 
     open_case : (b : Bool) → is_going x ≡ b → cond b None (Some refusal.NoTransaction) ≡ Some why → (is_going x ≡ false) × (refusal.NoTransaction ≡ why)
     open_case true q r = absurd (none_is why r)
     open_case false q r = (q, some_is _ why r)
-
--- ## No page on the way is cold
-
-pub no_cold : (z : Shape) (v w : View) (x : Session) (log : Log) → Holds z v x log → (key page : ℕ) → descents.MetCold z.alone key page v w → w.held ≡ v.held → ⊥
-no_cold z v w x log h key page m held_is = true≢false (sym (ap is_hot (now.resident.hot page m.cold.below)) ∙ m.cold.cold)
-  where
-    now : Holds z w x log
-    now = holds_still z v w x log m.ran.given (ran_seen z.alone v w [] h.alone m.ran ∙ append-nil v.seen) held_is h
 
 -- ## The read
 
@@ -214,7 +206,6 @@ module _ (z : Shape) (v w : View) (x : Session) (log : Log) (h : Holds z v x log
     flushed = ap (λ k. k.flushed x.own) core_is ∙ h.flushed;
     floor = subst (λ n. x.clock.floor ≤ n) (λ i. flushed_by_all (opening (sym read_given i)) (sym core_is i)) h.floor;
     behind = ap (λ k. waits k x.own) core_is ∙ h.behind;
-    resident = resident_on z v w read_given (ap (λ k. k.place) core_is) h.resident;
     held = λ i. subst (λ k. holds_row (k.row i) x.own ≡ true ↔ Has i x.held.rows) (sym core_is) (h.held i);
     within = h.within;
     fewer = h.fewer;
@@ -381,7 +372,7 @@ module _ (reached : EveryReached) (needs : EveryNeed) (answers : EveryAnswer) (c
   refuse g xs t line why w b cause tries is_for refuses =
       let comes = refusal_comes coming xs x.own (call.Get key) why t.loads line in
       refused_does answers g x.group xs x.own v t log st lawful part (call.Get key) why comes w b
-      (is_refusal answers g x.group xs x.own v t log st lawful part (call.Get key) why comes cause tt (call.Get key) (behind.line_call xs (call.Get key) line) tries) (call.Get key) (behind.line_call xs (call.Get key) line) is_for refuses
+      (is_refusal answers g x.group xs x.own v t log st lawful part (call.Get key) why comes cause tt (call.Get key) (behind.line_call xs (call.Get key) line) tries tt) (call.Get key) (behind.line_call xs (call.Get key) line) is_for refuses
 
   pub not_got : (why : Refusal) → x.works ≡ true → call_test x ≡ Some why → CallDoes x.own x.group (call.Get key) (answer.Refused why) x.is_half_aborted x.is_half_aborted v v log log st st
   not_got why works e = subst (λ q. CallDoes x.own x.group (call.Get key) (answer.Refused q) x.is_half_aborted x.is_half_aborted v v log log st st) (call_closed x why works e).1 closed

@@ -129,14 +129,15 @@ pub record Growth (own : ℕ) (g : Opening) (s : State) (e : happening.Event) : 
   pub flushed : (w : ℕ) → (happens g s e).flushed w ≡ s.flushed w
   pub head : (w : ℕ) → (happens g s e).head w ≡ s.head w
   pub floor : (happens g s e).floor ≡ s.floor
+  pub place : (happens g s e).place ≡ s.place
   pub row : (i : ℕ) → (happens g s e).row i ≡ s.row i
   pub cut : is_cut e ≡ false
   pub aside : is_aside own e ≡ true
   pub any_opening : (o : Opening) → happens o s e ≡ happens g s e
 
 pub growth : (own : ℕ) (g : Opening) (s : State) (e : Event) → IsGrowth own e → Growth own g s (event_of e)
-growth own g s (event.Split w l r q i) a = record { entry = _; entries = refl; kind = refl; saved = λ p. refl; flushed = λ v. refl; head = λ v. refl; floor = refl; row = λ j. refl; cut = refl; aside = eq-eqb w own a; any_opening = λ o. refl }
-growth own g s (event.Lift w c) a = record { entry = _; entries = refl; kind = refl; saved = λ p. refl; flushed = λ v. refl; head = λ v. refl; floor = refl; row = λ j. refl; cut = refl; aside = eq-eqb w own a; any_opening = λ o. refl }
+growth own g s (event.Split w l r q i) a = record { entry = _; entries = refl; kind = refl; saved = λ p. refl; flushed = λ v. refl; head = λ v. refl; floor = refl; place = refl; row = λ j. refl; cut = refl; aside = eq-eqb w own a; any_opening = λ o. refl }
+growth own g s (event.Lift w c) a = record { entry = _; entries = refl; kind = refl; saved = λ p. refl; flushed = λ v. refl; head = λ v. refl; floor = refl; place = refl; row = λ j. refl; cut = refl; aside = eq-eqb w own a; any_opening = λ o. refl }
 growth own g s _ a = absurd a
 
 -- the log has its record

@@ -31,6 +31,7 @@ use Rattle.engine_trait.specs.Refusals.{room_refusal}
 use Rattle.engine_trait.specs.Rooms.{IsNextRoom}
 use Rattle.flush_avoidance.specs.Clocks.{risen}
 use Rattle.session_state.specs.Free.{without_first}
+use Rattle.session_state.specs.Others.{AreHome}
 use Rattle.session_state.specs.Holds.{AreNumbers, Holds, IsOf}
 use Rattle.row_engine.specs.Puts.{MayChange}
 use Rattle.session_state.specs.Undo.{HasRoomToStage, undo_of}
@@ -38,7 +39,6 @@ use Rattle.row_engine.specs.Inside.Rooms.{IsGrown, IsGrowth, IsSpentBehind}
 use Rattle.session_state.specs.Staging.{Staging}
 use Rattle.session_state.specs.declared.session.Session.{Session}
 use Rattle.session_state.proofs.HoldLemmas.{rows_on}
-use Rattle.session_state.proofs.Moments.{resident_on}
 use Rattle.row_engine.proofs.Misses.{misses_core}
 use Rattle.row_engine.proofs.PutLemmas.{floor_same, ran_seen, same_flushed, seen_core}
 use Rattle.session_state.proofs.UndoLemmas.{room_after, room_to_end, room_to_flush, room_to_undo}
@@ -72,7 +72,6 @@ holds_same z v w x log given core held h = record {
   flushed = ap (λ s. s.flushed x.own) core ∙ h.flushed;
   floor = floor_same v w x.clock.floor given (ap (λ s. s.flushed) core) h.floor;
   behind = ap (λ s. behind s x.own) core ∙ h.behind;
-  resident = resident_on z v w given (ap (λ s. s.place) core) h.resident;
   held = λ i. subst (λ s. holds_row (s.row i) x.own ≡ true ↔ Has i x.held.rows) (sym core) (h.held i);
   within = h.within;
   fewer = h.fewer;
@@ -101,15 +100,23 @@ module _ (z : Shape) (v : View) (x : Session) (log : Log) (h : Holds z v x log) 
   pub sound : Sound v.given (state v)
   sound = h.rows.tree_sound v.seen
 
+module _ (z : Shape) (v : View) (x : Session) (log : Log) (h : Holds z v x log) (home : AreHome v) where
   -- a page that stands hot in a frame has its number
   pub stands : (p frame : ℕ) → (state v).core.place p ≡ Place.Hot frame → p ≡ frame
   stands p frame hot =
-      let within = sound.residence.within p frame (ap (λ k. in_frame k frame) hot ∙ eq-eqb frame frame refl) in
-      ap frame_of (sym (h.resident.hot p within.0) ∙ hot)
+      let within = (sound z v x log h).residence.within p frame (ap (λ k. in_frame k frame) hot ∙ eq-eqb frame frame refl) in
+      ap frame_of (sym (home p within.0) ∙ hot)
 
   -- and each page stands there
   pub hot_in : (p : ℕ) → p < (opening v.given).format.pages → IsHotIn v.given (state v) p p
-  hot_in p below = record { below = below; hot = h.resident.hot p below }
+  hot_in p below = record { below = below; hot = home p below }
+
+  -- whose number is below that of the frames
+  pub framed : (p : ℕ) → p < (opening v.given).format.pages → p < x.frames
+  framed p below =
+      let within = ((sound z v x log h).residence.within p p (ap (λ k. in_frame k p) (home p below) ∙ eq-eqb p p refl)).1 in
+      let given = h.rows.tree.given in
+      omega arith
 
 -- ## What a worker touches
 
@@ -233,7 +240,6 @@ module _ (z : Shape) (v w : View) (x : Session) (log : Log) (h : Holds z v x log
       flushed = ap (λ k. k.flushed x.own) core_is ∙ (h.flushed ∙ sym flushed_is);
       floor = floor_same v w x.clock.floor d.ran.given (ap (λ k. k.flushed) core_is) h.floor;
       behind = ap (λ k. behind k x.own) core_is ∙ behind_on;
-      resident = resident_on z v w d.ran.given (ap (λ k. k.place) core_is) h.resident;
       held = λ i. subst (λ k. holds_row (k.row i) x.own ≡ true ↔ Has i x.held.rows) (sym core_is) (h.held i);
       within = h.within;
       fewer = h.fewer;

@@ -66,7 +66,7 @@ module _ (rooms : EveryRoom) (z : Shape) (v w : View) (x y : Session) (log log_n
     where
       go : ((row ≡ 0) × (length (nodes_of s 0).pairs ≢ 60)) ⊎ ((row ≡ page) × ((p : ℕ) → IsHotIn w.given (state v) page p → (nodes_of s p).live ≡ true)) → ⊥
       go (inl a) = a.1 can.full
-      go (inr b) = true≢false (sym (b.1 page (subst (λ k. IsHotIn k (state v) page page) (sym given) (hot_in z v x log h page free_at.0))) ∙ free_at.1)
+      go (inr b) = true≢false (sym (b.1 page (subst (λ k. IsHotIn k (state v) page page) (sym given) (hot_in z v x log h f.home page free_at.0))) ∙ free_at.1)
 
   spent : lifts.IsSpent page w.given (state v) → ⊥
   spent (inl t) = not_spent z v w x log key h fits f 0 t
@@ -86,7 +86,7 @@ module _ (rooms : EveryRoom) (z : Shape) (v w : View) (x y : Session) (log log_n
 
   module _ (l : Lifted z.alone x.own page v rs w y.clock now) where
     here : l.page ≡ page
-    here = stands z v x log h l.page page (ap (λ m. m.core.place l.page) (sym (now_is z.alone v w l.change.past h.alone l.change.ran.given l.change.onward)) ∙ l.hot)
+    here = stands z v x log h f.home l.page page (ap (λ m. m.core.place l.page) (sym (now_is z.alone v w l.change.past h.alone l.change.ran.given l.change.onward)) ∙ l.hot)
 
     least_is : x.free ≡ l.page ∷ without_first x.free
     least_is = first_rest x.free page can.least ∙ ap (λ k. k ∷ without_first x.free) (sym here)

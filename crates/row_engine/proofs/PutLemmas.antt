@@ -41,12 +41,13 @@ use Rattle.row_engine.specs.Inside.Outcomes.{HasNoRoom}
 use Rattle.row_engine.specs.Puts.{IsChanged, MayChange}
 use Rattle.session_state.specs.Staging.{Staging}
 use Rattle.row_engine.specs.Inside.Takes.{IsSpent}
+use Rattle.session_state.specs.Others.{AreHome}
 use Rattle.session_state.specs.declared.session.Session.{Session}
 use Rattle.row_engine.proofs.TakeLemmas.{row_is}
 use Rattle.session_state.specs.Undo.{HasRoomToStage}
 use Rattle.session_state.proofs.UndoLemmas.{many_of, room_after, room_to_end, room_to_flush, room_to_undo}
 use Rattle.session_state.proofs.HoldLemmas.{rows_on}
-use Rattle.session_state.proofs.Moments.{free_same, met_core, resident_on}
+use Rattle.session_state.proofs.Moments.{free_same, met_core}
 
 -- ## What a seat that is alone has seen
 
@@ -84,7 +85,6 @@ holds_still z v w x log given seen held h =
       flushed = ap (λ s. s.flushed x.own) core ∙ h.flushed;
       floor = floor_same v w x.clock.floor given (ap (λ s. s.flushed) core) h.floor;
       behind = ap (λ s. behind s x.own) core ∙ h.behind;
-      resident = resident_on z v w given (ap (λ s. s.place) core) h.resident;
       held = λ i. subst (λ s. holds_row (s.row i) x.own ≡ true ↔ Has i x.held.rows) (sym core) (h.held i);
       within = h.within;
       fewer = h.fewer;
@@ -105,13 +105,6 @@ not_last z v w x log key h room opened m =
     let b = m.spent in
     omega arith
 
--- each page stands in a frame
-pub not_cold : (z : Shape) (v w : View) (x : Session) (log : Log) (key page : ℕ) → Holds z v x log → w.held ≡ [] → MetCold z.alone key page v w → ⊥
-not_cold z v w x log key page h held m = true≢false (sym (ap is_hot (hw.resident.hot page m.cold.below)) ∙ m.cold.cold)
-  where
-    hw : Holds z w x log
-    hw = holds_still z v w x log m.ran.given (none_seen z.alone v w h.alone m.ran) held h
-
 -- a version that was loaded is low, so many events were seen
 pub spent_many : EveryLow → (row : ℕ) (v w : View) → AreLow (length w.seen) w.steps → IsRowSpent row v w → 2 ^ 61 ≤ length w.seen
 spent_many low row v w are r =
@@ -124,8 +117,8 @@ is_spent low z row v w alone ran are r = record { given = ran.given; seen = none
 
 -- ## Where the leaf is full
 
-pub no_room : (z : Shape) (v w : View) (x : Session) (log : Log) (key row : ℕ) (path : List ℕ) → Holds z v x log → MetFull z.alone key row v w → Came z.alone x.own x.frames key path v (put.Full row) w → HasNoRoom v w x.frames key path
-no_room z v w x log key row path h m t = record {
+pub no_room : (z : Shape) (v w : View) (x : Session) (log : Log) (key row : ℕ) (path : List ℕ) → Holds z v x log → AreHome v → MetFull z.alone key row v w → Came z.alone x.own x.frames key path v (put.Full row) w → HasNoRoom v w x.frames key path
+no_room z v w x log key row path h home m t = record {
   given = m.ran.given;
   seen = seen_is;
   leaf = m.page;
@@ -144,7 +137,7 @@ no_room z v w x log key row path h m t = record {
     seen_is = none_seen z.alone v w h.alone m.ran
 
     hw_hot : (state w).core.place m.page ≡ Place.Hot m.page
-    hw_hot = ap (λ k. k.core.place m.page) (still v w m.ran.given seen_is) ∙ h.resident.hot m.page (subst (λ k. m.page < (opening k).format.pages) m.ran.given m.leaf.below)
+    hw_hot = ap (λ k. k.core.place m.page) (still v w m.ran.given seen_is) ∙ home m.page (subst (λ k. m.page < (opening k).format.pages) m.ran.given m.leaf.below)
 
     row_is : row ≡ m.page
     row_is = same_frame row m.page (sym m.leaf.hot ∙ hw_hot)
@@ -306,7 +299,6 @@ module _ (rooms : EveryRoom) (z : Shape) (v w : View) (x : Session) (log : Log) 
       flushed = ap (λ k. k.flushed x.own) core_is ∙ (h.flushed ∙ sym flushed_is);
       floor = floor_same v w x.clock.floor d.ran.given (ap (λ k. k.flushed) core_is) h.floor;
       behind = ap (λ k. behind k x.own) core_is ∙ h.behind;
-      resident = resident_on z v w d.ran.given (ap (λ k. k.place) core_is) h.resident;
       held = λ i. subst (λ k. holds_row (k.row i) x.own ≡ true ↔ Has i x.held.rows) (sym core_is) (h.held i);
       within = h.within;
       fewer = h.fewer;

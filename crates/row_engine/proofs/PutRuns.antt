@@ -32,6 +32,7 @@ use Rattle.core_calls.proofs.WhereLemmas.{refused_kept, syncs_kept}
 use Rattle.core_calls.specs.Marks.{is_half}
 use Rattle.core_calls.specs.Refusals.{Hinders, IsCause, IsFull}
 use Rattle.core_calls.specs.Runs.{Tells}
+use Rattle.core_calls.specs.Scans.{StopsOnWay}
 use Rattle.core_calls.specs.Steps.{Tries, is_behind_row, is_step, is_structure}
 use Rattle.disk_runs.specs.Stands.{Known}
 use Rattle.engine_calls.specs.Answers.{EveryAnswer}
@@ -168,6 +169,7 @@ module _ (reached : EveryReached) (need : EveryNeed) (answers : EveryAnswer) (co
       met = o.behind.met;
       rows = o.rows;
       tries = subst (λ d. Tries g x.own (outcomes xs) d why (keep is_step (first ++ o.events))) (sym asks_is) tries;
+      scans = subst (λ d. StopsOnWay g x.own (outcomes xs) (state_after g (front xs)) d why (first ++ o.events)) (sym asks_is) tt;
       structure = whole;
       cause = cause;
       due = refused_kept limits g xs x.own asks why (first ++ o.events) tt o.no_logs;

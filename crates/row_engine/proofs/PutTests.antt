@@ -33,6 +33,8 @@ use Rattle.row_opening.specs.Openings.{Opens}
 use Rattle.rows_trait.specs.Views.{state}
 use Rattle.row_words.specs.Openings.{opening}
 use Rattle.rows_trait.specs.declared.view.View.{View}
+use Rattle.row_words.specs.declared.event.Event.TheVariants.{Lock}
+use Rattle.key_locks.specs.Rows.{event_mode}
 use Rattle.key_locks.specs.declared.mode.Mode.{Mode}
 use Rattle.key_locks.specs.declared.mode.Mode.TheVariants.{Alone}
 use Rattle.engine_trait.specs.Calls.{IsTold, MayCome}
@@ -45,6 +47,8 @@ use Rattle.session_state.specs.Ties.{Behind}
 use Rattle.row_engine.specs.Inside.Outcomes.{Puts}
 use Rattle.row_engine.specs.Puts.{IsEarly, MayChange, works_after}
 use Rattle.row_engine.specs.Inside.Takes.{NotTaken, Takes}
+use Rattle.session_state.specs.Others.{AreHome}
+use Rattle.session_state.proofs.HomeLemmas.{home_step}
 use Rattle.session_state.specs.declared.session.Session.{Session}
 use Rattle.row_engine.proofs.ConflictLemmas.{lock_free}
 use Rattle.row_engine.proofs.GoingLemmas.{going}
@@ -113,9 +117,13 @@ works_of x log e = go x.works refl
     go true w = w
     go false w = absurd (none_is refusal.Broken (sym e ∙ (λ i. cond (w i) (cond (is_going x) (cond (leb 64 (length x.undo)) (Some refusal.TooLong) (log_refusal x.clock.clock log None)) (Some refusal.NoTransaction)) (Some refusal.Broken))))
 
+-- pages stay where they are while a lock row is taken
+pub home_taken : (v v1 : View) (x x1 : Session) (row : ℕ) (mode : Mode) → Takes v v1 x x1 row mode → AreHome v → AreHome v1
+home_taken v v1 x x1 row mode t home = home_step x.own v v1 (Lock x.own row (event_mode mode)) (eq-eqb x.own x.own refl) t.given t.seen t.met home
+
 -- and once its row is taken, and its clock is below its end still, the key may be changed
-pub may_taken : (v v1 : View) (x x1 : Session) (log : Log) (key : ℕ) → put_test x log ≡ None → Takes v v1 x x1 (key % x.held.count) Alone → key < 2 ^ 64 - 1 → clock_refusal x1.clock.clock None ≡ None → MayChange v1 x1 log key
-may_taken v v1 x x1 log key e t low there =
+pub may_taken : (v v1 : View) (x x1 : Session) (log : Log) (key : ℕ) → put_test x log ≡ None → Takes v v1 x x1 (key % x.held.count) Alone → key < 2 ^ 64 - 1 → clock_refusal x1.clock.clock None ≡ None → AreHome v → MayChange v1 x1 log key
+may_taken v v1 x x1 log key e t low there home =
     let works = works_of x log e in
     let f = free_of x log works e in
     let count : x1.held.count ≡ x.held.count = ap (λ (s : Session). s.held.count) t.session ∙ with_count x.held (key % x.held.count) in
@@ -129,6 +137,7 @@ may_taken v v1 x x1 log key e t low there =
       room = room_to_stage log (suc (room_takes (opening v1.given) (state v1).core key)) f.room (let m = takes_most (opening v1.given) (state v1).core key in omega arith);
       row = (λ i. is_held_by ((state v1).core.row (key % count i)).holder (own i)) ∙ t.alone refl;
       key_low = low;
+      home = home_taken v v1 x x1 (key % x.held.count) Alone t home;
     }
 
 -- a script is told of what they refuse

@@ -20,6 +20,7 @@ use Rattle.core_calls.proofs.WhereLemmas.{refused_kept}
 use Rattle.core_calls.specs.Marks.{is_half}
 use Rattle.core_calls.specs.Refusals.{Hinders, IsCause}
 use Rattle.core_calls.specs.Runs.{Tells}
+use Rattle.core_calls.specs.Scans.{StopsOnWay}
 use Rattle.core_calls.specs.Steps.{Tries, is_step}
 use Rattle.lean_disk.proofs.MomentLemmas.{framed}
 use Rattle.lean_disk.specs.Story.{IsLawful, Story}
@@ -122,12 +123,14 @@ module _ (answers : EveryAnswer) (g : Opening) (group : ℕ) (xs : List Done) (o
   abbrev is_half_aborted : Bool
   is_half_aborted = is_half_done own xs
 
-  pub is_refusal : IsCause limits g (front xs ++ t.loads) s (is_half (marks_by own (outcomes xs))) own c why → RefusedLogs limits g xs own c why [] → (d : Call) → call_behind (outcomes xs) c ≡ d → Tries g own (outcomes xs) d why [] → IsRefusal limits g xs own c why t.loads
-  is_refusal cause due d d_is tries = record {
+  pub is_refusal : IsCause limits g (front xs ++ t.loads) s (is_half (marks_by own (outcomes xs))) own c why → RefusedLogs limits g xs own c why [] → (d : Call) → call_behind (outcomes xs) c ≡ d → Tries g own (outcomes xs) d why []
+      → StopsOnWay g own (outcomes xs) (state_after g (front xs)) d why t.loads → IsRefusal limits g xs own c why t.loads
+  is_refusal cause due d d_is tries scans = record {
     comes = comes;
     met = t.met;
     rows = behind.takes_none own t.loads t.are_loads;
     tries = subst (λ e. Tries g own (outcomes xs) e why (keep is_step t.loads)) (sym d_is) (subst (Tries g own (outcomes xs) d why) (sym (behind.no_steps t.loads t.are_loads)) tries);
+    scans = subst (λ e. StopsOnWay g own (outcomes xs) (state_after g (front xs)) e why t.loads) (sym d_is) scans;
     structure = λ _. behind.loads_structure t.loads t.are_loads;
     cause = cause;
     due = refused_kept limits g xs own c why t.loads due (behind.no_logs t.loads t.are_loads);

@@ -30,6 +30,8 @@ use Rattle.btree_smo.specs.Room.{IsFullIn, IsRoomIn, IsRun}
 use Rattle.engine_trait.specs.Refusals.{is_full_for, room_refusal}
 use Rattle.engine_trait.specs.Rooms.{IsNextRoom}
 use Rattle.session_state.specs.Free.{first_of}
+use Rattle.session_state.specs.Others.{AreHome}
+use Rattle.session_state.proofs.HomeLemmas.{home_on}
 use Rattle.session_state.specs.Holds.{Holds}
 use Rattle.row_engine.specs.Puts.{MayChange}
 use Rattle.row_engine.specs.Inside.Rooms.{CanGrow, CanLift, CanSplit, Grew, IsGrown, IsNoRoom, IsPathTo, IsSpentBehind, IsUnfit, next_of}
@@ -93,7 +95,7 @@ record OnWay (g : Opening) (s : State) (key l p : ℕ) : Type 0 where
   pub covers : covers (nodes_of s p) key ≡ true
   pub level : (nodes_of s p).level ≡ l
 
-module _ (rooms : EveryRoom) (z : Shape) (v : View) (x : Session) (log : Log) (h : Holds z v x log) (key leaf : ℕ) (path : List ℕ) (u : IsUnfit v key leaf) (p : IsPathTo v x.frames key path leaf) where
+module _ (rooms : EveryRoom) (z : Shape) (v : View) (x : Session) (log : Log) (h : Holds z v x log) (home : AreHome v) (key leaf : ℕ) (path : List ℕ) (u : IsUnfit v key leaf) (p : IsPathTo v x.frames key path leaf) where
   abbrev g : Opening
   g = opening v.given
 
@@ -123,9 +125,9 @@ module _ (rooms : EveryRoom) (z : Shape) (v : View) (x : Session) (log : Log) (h
   parent_at : (l : ℕ) → suc l < length path → OnWay g s key l (page l) → OnWay g s key (suc l) (page (suc l))
   parent_at l lt i =
       let a = p.led l (page (suc l)) (page l) (above_is (suc l) lt) (above_is l (omega arith)) in
-      let child : a.routes.span.child ≡ page l = stands z v x log h a.routes.span.child (page l) a.child in
+      let child : a.routes.span.child ≡ page l = stands z v x log h home a.routes.span.child (page l) a.child in
       let t = (rooms g s key).parent (sound z v x log h).tree a.routes.parent a.routes.below a.routes.span a.routes.names a.routes.low a.routes.high in
-      subst (OnWay g s key (suc l)) (stands z v x log h a.routes.parent (page (suc l)) a.routes.hot)
+      subst (OnWay g s key (suc l)) (stands z v x log h home a.routes.parent (page (suc l)) a.routes.hot)
       (record { below = a.routes.below; covers = t.0; level = sym t.2 ∙ ap suc (ap (λ k. (nodes_of s k).level) child ∙ i.level) })
 
   climb : (l : ℕ) → l < length path → OnWay g s key l (page l)
@@ -148,7 +150,7 @@ module _ (rooms : EveryRoom) (z : Shape) (v : View) (x : Session) (log : Log) (h
   names_below : (l : ℕ) → suc l < length path → names_page (nodes_of s (page (suc l))) (page l) ≡ true
   names_below l lt =
       let a = p.led l (page (suc l)) (page l) (above_is (suc l) lt) (above_is l (omega arith)) in
-      (λ i. names_page (nodes_of s (sym (stands z v x log h a.routes.parent (page (suc l)) a.routes.hot) i)) (sym (stands z v x log h a.routes.span.child (page l) a.child) i))
+      (λ i. names_page (nodes_of s (sym (stands z v x log h home a.routes.parent (page (suc l)) a.routes.hot) i)) (sym (stands z v x log h home a.routes.span.child (page l) a.child) i))
       ∙ names_child (nodes_of s a.routes.parent) a.routes.span a.routes.names
 
   full_for : is_full_for g s key ≡ true
@@ -163,10 +165,10 @@ module _ (rooms : EveryRoom) (z : Shape) (v : View) (x : Session) (log : Log) (h
     full_at : (l : ℕ) → l < n → length (nodes_of s (page l)).pairs ≡ 60
     full_at l lt =
         let le : l < length path = (let q = r.within in omega arith) in
-        run_so (IsFullIn v.given (page l)) (r.full l (page l) lt (above_is l le)) (page l) (hot_in z v x log h (page l) (climb l le).below)
+        run_so (IsFullIn v.given (page l)) (r.full l (page l) lt (above_is l le)) (page l) (hot_in z v x log h home (page l) (climb l le).below)
 
     room_at : n < length path → length (nodes_of s (page n)).pairs ≢ 60
-    room_at lt = run_so (IsRoomIn v.given (page n)) (r.next (page n) (above_is n lt)) (page n) (hot_in z v x log h (page n) (climb n lt).below)
+    room_at lt = run_so (IsRoomIn v.given (page n)) (r.next (page n) (above_is n lt)) (page n) (hot_in z v x log h home (page n) (climb n lt).below)
 
     -- the leaf is full
     pub some_full : 0 < n
@@ -289,6 +291,7 @@ may_on v w x log key given st f = record {
   room = let e : room_takes (opening w.given) (state w).core key ≡ room_takes (opening v.given) (state v).core key = (λ i. room_takes (opening (given i)) (st i).core key) in let r = f.room in omega arith;
   row = ap (λ m. is_held_by (m.core.row (key % x.held.count)).holder x.own) st ∙ f.row;
   key_low = f.key_low;
+  home = home_on v w given (ap (λ m. m.core.place) st) f.home;
 }
 
 module _ (key : ℕ) (v u w : View) (x y : Session) (was is : Log) (old new : Story) (given : u.given ≡ v.given) (seen : u.seen ≡ v.seen) where
@@ -331,7 +334,7 @@ module _ (key : ℕ) (v u w : View) (x y : Session) (was is : Log) (old new : St
 
 -- ## Behind the look at the path
 
-module _ (rooms : EveryRoom) (z : Shape) (v u : View) (x : Session) (log : Log) (h : Holds z v x log) (key : ℕ) (path : List ℕ) (to : (leaf : ℕ) × IsUnfit v key leaf × IsPathTo v x.frames key path leaf) (n : ℕ) (looked : IsRun z.alone path n v u) (held : u.held ≡ v.held) where
+module _ (rooms : EveryRoom) (z : Shape) (v u : View) (x : Session) (log : Log) (h : Holds z v x log) (home : AreHome v) (key : ℕ) (path : List ℕ) (to : (leaf : ℕ) × IsUnfit v key leaf × IsPathTo v x.frames key path leaf) (n : ℕ) (looked : IsRun z.alone path n v u) (held : u.held ≡ v.held) where
   pub seen_there : u.seen ≡ v.seen
   seen_there = none_seen z.alone v u h.alone looked.ran
 
@@ -341,11 +344,14 @@ module _ (rooms : EveryRoom) (z : Shape) (v u : View) (x : Session) (log : Log) 
   pub holds_there : Holds z u x log
   holds_there = holds_same z v u x log looked.ran.given (ap (λ m. m.core) moment_is) (held ∙ h.idle) h
 
+  home_there : AreHome u
+  home_there = home_on v u looked.ran.given (ap (λ m. m.core.place) moment_is) home
+
   pub some_there : 0 < n
-  some_there = some_full rooms z u x log holds_there key to.0 path (unfit_on v u key to.0 looked.ran.given moment_is to.1) (path_on v u x.frames key path to.0 looked.ran.given moment_is to.2) n v looked
+  some_there = some_full rooms z u x log holds_there home_there key to.0 path (unfit_on v u key to.0 looked.ran.given moment_is to.1) (path_on v u x.frames key path to.0 looked.ran.given moment_is to.2) n v looked
 
   pub right_there : IsRight u x key (next_of path n x.free)
-  right_there = next_right rooms z u x log holds_there key to.0 path (unfit_on v u key to.0 looked.ran.given moment_is to.1) (path_on v u x.frames key path to.0 looked.ran.given moment_is to.2) n v looked
+  right_there = next_right rooms z u x log holds_there home_there key to.0 path (unfit_on v u key to.0 looked.ran.given moment_is to.1) (path_on v u x.frames key path to.0 looked.ran.given moment_is to.2) n v looked
 
 -- ## Where there can be no room
 

@@ -78,7 +78,7 @@ module _ (rooms : EveryRoom) (z : Shape) (v w : View) (x y : Session) (log log_n
   then_so P m so = was_then z.alone v w P h.alone m.ran.given so
 
   stands_in : (p : ℕ) → p < g.format.pages → w.given ≡ v.given → IsHotIn w.given (state v) p p
-  stands_in p below given = subst (λ k. IsHotIn k (state v) p p) (sym given) (hot_in z v x log h p below)
+  stands_in p below given = subst (λ k. IsHotIn k (state v) p p) (sym given) (hot_in z v x log h f.home p below)
 
   unfit : (row : ℕ) → splits.IsUnfit left page parent row w.given (state v) → w.given ≡ v.given → ⊥
   unfit row t given = go t.either
@@ -91,7 +91,7 @@ module _ (rooms : EveryRoom) (z : Shape) (v w : View) (x y : Session) (log log_n
       go (inr (inr c)) = c.1 left parent (stands_in left can.below given) (stands_in parent can.within given) can.names
 
   no_room : (row : ℕ) → splits.IsFull parent row w.given (state v) → ⊥
-  no_room row t = can.room (ap (λ k. length (nodes_of s k).pairs) (sym (stands z v x log h t.page parent t.stands.hot)) ∙ t.full)
+  no_room row t = can.room (ap (λ k. length (nodes_of s k).pairs) (sym (stands z v x log h f.home t.page parent t.stands.hot)) ∙ t.full)
 
   spent : splits.IsSpent left page parent w.given (state v) → ⊥
   spent (inl t) = not_spent z v w x log key h fits f left t
@@ -112,7 +112,7 @@ module _ (rooms : EveryRoom) (z : Shape) (v w : View) (x y : Session) (log log_n
 
   module _ (l : Divided z.alone x.own left page parent v rs w y.clock now) where
     here : (p frame : ℕ) → (after_all w.given l.change.past).core.place p ≡ Place.Hot frame → p ≡ frame
-    here p frame hot = stands z v x log h p frame (ap (λ m. m.core.place p) (sym (now_is z.alone v w l.change.past h.alone l.change.ran.given l.change.onward)) ∙ hot)
+    here p frame hot = stands z v x log h f.home p frame (ap (λ m. m.core.place p) (sym (now_is z.alone v w l.change.past h.alone l.change.ran.given l.change.onward)) ∙ hot)
 
     left_here : l.left ≡ left
     left_here = here l.left left l.left_hot

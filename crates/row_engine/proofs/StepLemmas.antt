@@ -33,6 +33,7 @@ use Rattle.row_engine.specs.declared.puts.Stepped.{Stepped}
 use Rattle.row_engine.specs.declared.puts.Stepped.TheVariants as stepped
 use Rattle.row_engine.specs.declared.puts.Tried.{Tried}
 use Rattle.row_engine.specs.declared.puts.Tried.TheVariants as tried
+use Rattle.session_state.proofs.HomeLemmas.{home_on}
 use Rattle.session_state.specs.declared.session.Session.{Session}
 use Rattle.row_engine.proofs.GrowRuns.{first_fits, goes_more, goes_none, goes_put, grows_more, grows_none, grows_still, growth, went_failed}
 use Rattle.session_state.proofs.Frames.{framed_then}
@@ -156,6 +157,7 @@ may_after key v w x y was is old new f c e = record {
       ∙ (ap (λ o. is_held_by o.holder y.own) ((growth x.own (opening v.given) (state v).core c.event c.growth).row (key % y.held.count))
       ∙ (ap (λ (s : Session). is_held_by ((state v).core.row (key % s.held.count)).holder s.own) c.session ∙ f.row));
   key_low = f.key_low;
+  home = home_on v w c.given (ap (λ (k : State). k.place) (seen_core v w c.event c.given c.seen c.met) ∙ (growth x.own (opening v.given) (state v).core c.event c.growth).place) f.home;
 }
 
 -- ## A step

@@ -39,7 +39,7 @@ use Rattle.session_state.proofs.HoldLemmas.{rows_on}
 use Rattle.row_engine.proofs.ConflictLemmas.{blocking_hinders, lone_free}
 use Rattle.session_state.proofs.HeldLemmas.{reader_has}
 use Rattle.row_engine.proofs.LoneLemmas.{lone_row}
-use Rattle.session_state.proofs.Moments.{free_same, met_core, resident_on, seen_state}
+use Rattle.session_state.proofs.Moments.{free_same, met_core, seen_state}
 
 -- ## What a seat that is alone has seen
 
@@ -199,7 +199,6 @@ holds_still z v w x log given seen held h = record {
   flushed = ap (λ m. m.core.flushed x.own) same ∙ h.flushed;
   floor = subst (λ n. x.clock.floor ≤ n) (λ i. flushed_by_all (opening (sym given i)) (sym same i).core) h.floor;
   behind = ap (λ m. behind m.core x.own) same ∙ h.behind;
-  resident = resident_on z v w given (ap (λ m. m.core.place) same) h.resident;
   held = λ i. subst (λ m. holds_row (m.core.row i) x.own ≡ true ↔ Has i x.held.rows) (sym same) (h.held i);
   within = h.within;
   fewer = h.fewer;
@@ -282,7 +281,6 @@ module _ (z : Shape) (v w : View) (x : Session) (log : Log) (h : Holds z v x log
     flushed = ap (λ k. k.flushed x.own) core_is ∙ h.flushed;
     floor = subst (λ n. x.clock.floor ≤ n) (λ i. flushed_by_all (opening (sym given i)) (sym core_is i)) h.floor;
     behind = ap (λ k. behind k x.own) core_is ∙ h.behind;
-    resident = resident_on z v w given (ap (λ k. k.place) core_is) h.resident;
     held = λ i. subst (λ k. holds_row (k.row i) x.own ≡ true ↔ Has i (with_row x.held row).rows) (sym core_is) (row_held i);
     within = row_within;
     fewer = fewer;

@@ -18,9 +18,10 @@ use Rattle.worker_log.specs.Logs.{Log}
 use Rattle.log_calls.specs.Calls.{StagesOn}
 use Rattle.session_state.specs.Staging.{KeepsLog}
 use Rattle.session_state.specs.declared.session.Session.{Session}
+use Rattle.session_state.specs.Others.{AreHome}
 use Rattle.session_state.specs.Undo.{HasRoomToStage}
 
--- No test refuses it, its row is held alone, and the log has room for the changes of the tree that room for the key takes, for the change, and for what it puts back.
+-- No test refuses it, each page stands in the frame of its own number, its row is held alone, and the log has room for the changes of the tree that room for the key takes, for the change, and for what it puts back.
 pub record MayChange (v : View) (x : Session) (log : Log) (key : ℕ) : Type 0 where
   pub works : x.works ≡ true
   pub is_open : x.is_open ≡ true
@@ -30,6 +31,7 @@ pub record MayChange (v : View) (x : Session) (log : Log) (key : ℕ) : Type 0 w
   pub room : HasRoomToStage log (suc (room_takes (opening v.given) (state v).core key))
   pub row : is_held_by ((state v).core.row (key % x.held.count)).holder x.own ≡ true
   pub key_low : key < 2 ^ 64 - 1
+  pub home : AreHome v
 
 -- The change was seen next, at a moment at which the leaf said this of the key, and its record was staged.
 pub record IsChanged (own : ℕ) (v w : View) (key value : ℕ) (before : Option ℕ) (was is : Log) (old new : Story) : Type 0 where

@@ -9,7 +9,7 @@ ghost use Rattle.row_engine.specs.Inside.Backs.{PutsAllBack};
 ghost use Rattle.row_engine.specs.Calls.{AbortDoes, abort_answer};
 ghost use Rattle.session_state.specs.Holds.{Holds, IsSameSession};
 ghost use Rattle.row_engine.specs.Inside.Ends.{Latched};
-ghost use Rattle.session_state.specs.Others.{Steps};
+ghost use Rattle.session_state.specs.Others.{AreHome, Steps};
 ghost use Rattle.row_engine.specs.Receipts.{IsEnded};
 ghost use Rattle.row_engine.specs.Puts.{works_after};
 
@@ -33,6 +33,7 @@ fn put_back_all<R: Rows, D: Stages>(
     requires holds { Holds (R.shape rows.old) (R.view seat.old) work.old.session work.old.log }
     requires works { work.old.session.works ≡ true }
     requires is_open { work.old.session.is_open ≡ true }
+    requires home { AreHome (R.view seat.old) }
     ensures fits { R.fits rows.new seat.new × (R.shape rows.new ≡ R.shape rows.old) }
     ensures holds { work.new.session.works ≡ true → Holds (R.shape rows.new) (R.view seat.new) work.new.session work.new.log }
     ensures session { IsSameSession work.old.session work.new.session }
@@ -114,6 +115,8 @@ pub fn abort<R: Rows, D: Stages>(
 ) -> Result<Ended, Refusal>
     requires fits { R.fits rows.old seat.old }
     requires holds { work.old.session.works ≡ true → Holds (R.shape rows.old) (R.view seat.old) work.old.session work.old.log }
+    // Each page is in memory.
+    requires home { work.old.session.works ≡ true → AreHome (R.view seat.old) }
     requires unmarked { work.old.session.works ≡ true → latches.old ≡ replicate work.old.session.held.count false }
     ensures fits { R.fits rows.new seat.new × (R.shape rows.new ≡ R.shape rows.old) }
     ensures holds { work.new.session.works ≡ true → Holds (R.shape rows.new) (R.view seat.new) work.new.session work.new.log }

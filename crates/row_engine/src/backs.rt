@@ -5,6 +5,7 @@ ghost use Rattle.map_model.specs.declared.call.Refusal.{Refusal};
 ghost use Rattle.row_engine.specs.Inside.Backs.{StepsBack};
 ghost use Rattle.session_state.specs.Holds.{Holds, IsSameSession};
 ghost use Rattle.row_engine.specs.Puts.{works_after};
+ghost use Rattle.session_state.specs.Others.{AreHome};
 ghost use Rattle.session_state.specs.Undo.{newest_of};
 
 use btree_descent::put::{Put, leaf_put_back};
@@ -36,6 +37,7 @@ pub(crate) fn put_back<R: Rows, D: Stages>(
     requires works { work.old.session.works ≡ true }
     requires is_open { work.old.session.is_open ≡ true }
     requires left { 0 < length work.old.session.undo }
+    requires home { AreHome (R.view seat.old) }
     ensures fits { R.fits rows.new seat.new × (R.shape rows.new ≡ R.shape rows.old) }
     ensures holds { work.new.session.works ≡ true → Holds (R.shape rows.new) (R.view seat.new) work.new.session work.new.log }
     ensures session { IsSameSession work.old.session work.new.session }
@@ -75,7 +77,8 @@ pub(crate) fn put_back<R: Rows, D: Stages>(
             work.session.works = false;
             Err(Refusal::DiskFault)
         }
-        // The key has an entry, the log has a block, each page stands in a frame, no number is above the clock, and nobody else steps.
+        // The rows began faithful, so the key has an entry; the log has a block, each page stands in a frame, no number is above the
+        // clock, and nobody else steps.
         Put::Full { row: _ } => unreachable!(),
         Put::Unstaged(Unstaged::LogFull { .. }) => unreachable!(),
         Put::Cold(_) => unreachable!(),

@@ -6,7 +6,7 @@ ghost use Rattle.btree_descent.specs.Known.{said};
 ghost use Rattle.engine_trait.specs.Calls.{MayCome};
 ghost use Rattle.row_engine.specs.Calls.{CallDoes, get_answer};
 ghost use Rattle.session_state.specs.Holds.{Holds, IsSameSession};
-ghost use Rattle.session_state.specs.Others.{Steps};
+ghost use Rattle.session_state.specs.Others.{AreHome, Steps};
 
 use crate::steps::call_refusal;
 use crate::taking::take_row;
@@ -36,6 +36,8 @@ pub fn get<R: Rows, D: Disk>(
 ) -> Result<Option<u64>, Refusal>
     requires fits { R.fits rows.old seat.old }
     requires holds { work.old.session.works ≡ true → Holds (R.shape rows.old) (R.view seat.old) work.old.session work.old.log }
+    // Each page is in memory.
+    requires home { work.old.session.works ≡ true → AreHome (R.view seat.old) }
     requires key { key < 2 ^ 64 - 1 }
     ensures fits { R.fits rows.new seat.new × (R.shape rows.new ≡ R.shape rows.old) }
     ensures holds { work.new.session.works ≡ true → Holds (R.shape rows.new) (R.view seat.new) work.new.session work.new.log }

@@ -9,7 +9,7 @@ ghost use Rattle.page_model.specs.Tree.{word_or};
 ghost use Rattle.engine_trait.specs.Calls.{MayCome};
 ghost use Rattle.row_engine.specs.Calls.{CallDoes, put_answer};
 ghost use Rattle.session_state.specs.Holds.{Holds, IsSameSession};
-ghost use Rattle.session_state.specs.Others.{Steps as OwnSteps};
+ghost use Rattle.session_state.specs.Others.{AreHome, Steps as OwnSteps};
 ghost use Rattle.row_engine.specs.Inside.Outcomes.{Puts, Steps, Tries};
 ghost use Rattle.row_engine.specs.Inside.{put_test};
 ghost use Rattle.row_engine.specs.Puts.{IsEarly, MayChange, works_after};
@@ -183,6 +183,8 @@ pub fn put<R: Rows, D: Stages>(
 ) -> Result<Option<u64>, Refusal>
     requires fits { R.fits rows.old seat.old }
     requires holds { work.old.session.works ≡ true → Holds (R.shape rows.old) (R.view seat.old) work.old.session work.old.log }
+    // Each page is in memory.
+    requires home { work.old.session.works ≡ true → AreHome (R.view seat.old) }
     requires key { key < 2 ^ 64 - 1 }
     requires value { value < tombstone }
     ensures fits { R.fits rows.new seat.new × (R.shape rows.new ≡ R.shape rows.old) }

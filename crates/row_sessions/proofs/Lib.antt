@@ -6,3 +6,4 @@ pub mod Locks
 pub mod Unlocks
 pub mod Changes
 pub mod Reshaping
+pub mod Walked

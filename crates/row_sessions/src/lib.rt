@@ -1,6 +1,6 @@
 //! Sessions of several workers on one thread over plain rows: what tests and measurements of rows call.
 //!
-//! A session begins, locks keys, puts, ends and gives up its locks; a find is the main actor's. Each call keeps `Stands`, from which
+//! A session begins, locks keys, puts, walks to the next pair, ends and gives up its locks; a find is the main actor's. Each call keeps `Stands`, from which
 //! the premises of all that it calls are proved.
 #![tactic(auto)]
 
@@ -14,3 +14,4 @@ pub mod session;
 pub mod sessions;
 pub mod structure;
 pub mod transaction;
+pub mod walks;

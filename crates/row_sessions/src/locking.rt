@@ -1,5 +1,5 @@
 //! Locks of keys, and how they are given up.
-ghost use Rattle.std.specs.Prelude.{◌≡◌, ◌<◌, ◌≤◌, true, IfOk};
+ghost use Rattle.std.specs.Prelude.{◌≡◌, ◌<◌, ◌≤◌, ℕ, true, IfOk};
 ghost use Rattle.row_sessions.specs.Standing.{Stands, HoldsAlone, HoldsRow};
 
 use crate::session::{session_of, set_session};
@@ -47,12 +47,13 @@ impl Sessions {
     }
 
     // Whether a worker holds the lock row of a key.
-    fn holds(&mut self, worker: u32, key: u64) -> bool
+    pub(crate) fn holds(&mut self, worker: u32, key: u64) -> bool
         requires stands { Stands self.old }
         requires worker { (0 < worker) × (worker ≤ self.old.rows.workers) }
         ensures stands { Stands self.new }
         ensures same { self.new.rows.workers ≡ self.old.rows.workers }
         ensures held { result ≡ true → HoldsRow self.new worker key }
+        ensures still { (k : ℕ) → HoldsRow self.old worker k → HoldsRow self.new worker k }
     {
         match holds(
             &mut self.rows,

@@ -5,6 +5,7 @@ use row_opening::open_root;
 use row_sessions::opening::are_pages;
 use row_sessions::sessions::Sessions;
 use std::alloc::Global;
+use std::marker::Brand;
 
 /// A word: where it lies, and what it is.
 struct Word(usize, u64);
@@ -190,7 +191,7 @@ fn is_root_alone(alloc: Global) -> bool {
     let Ok(true) = are_pages(alloc, &pages, 2, 9) else {
         return false;
     };
-    match open_root(alloc, &pages, 2, 1, 2, 9) {
+    match open_root::<Brand>(alloc, &pages, 2, 1, 2, 9) {
         Ok((rows, _)) => are_there(rows.words.as_slice(), &ROOT_ALONE),
         Err(_) => false,
     }

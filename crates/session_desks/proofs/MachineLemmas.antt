@@ -1,5 +1,5 @@
 -- The parts of an engine behind a call of the session in the store.
-use Rattle.std.proofs.Common.{◌≡◌, ◌⊎◌, inl, inr, ◌≤◌, ◌<◌, ℕ, Bool, true, false, List, replicate, refl, sym, ap, ◌∙◌, subst}
+use Rattle.std.proofs.Common.{◌≡◌, ◌⊎◌, inl, inr, ◌≤◌, ◌<◌, ℕ, Bool, true, false, List, replicate, refl, sym, ap, ◌∙◌, subst, arith}
 use Rattle.std.proofs.lemmas.Bool.{cases_eq}
 use Rattle.disk_slots.specs.declared.master.Master.{Master}
 use Rattle.rows_trait.specs.Plain.{sizes}
@@ -65,7 +65,7 @@ machine_behind law f l m f' l' m' words words' v w x y desks marks marks' master
       desks = desks_behind law (plain_shape f' l' m') v w x y desks are works same steps holds;
       unmarked = free ∙ (was.unmarked ∙ ap (λ (n : ℕ). replicate n false) (sym (count_same law (plain_shape f' l' m') v w x y desks are works same steps holds)));
       numbers = record { sequence = was.numbers.sequence; heads = was.numbers.heads ∙ sym same.1 };
-      floor = was.floor ∙ sym (steps_floor x.session.own v w steps);
+      floor = let a = was.floor in let b = steps_floor x.session.own v w steps in omega arith;
     }
   where
     are : AreDesks (plain_shape f' l' m') v x desks

@@ -1,6 +1,7 @@
 -- From the parts of a sync to the whole, by what its rows and its disk show.
-use Rattle.std.proofs.Common.{◌≡◌, ◌≤◌, ◌<◌, ◌+◌, ◌*◌, ◌^◌, ◌⊎◌, inl, inr, ℕ, suc, List, length, get_or, Result, Ok, Err, IfOk, refl, sym, ap, ◌∙◌, subst, arith}
-use Rattle.std.proofs.lemmas.Bool.{cases_eq}
+use Rattle.std.proofs.Common.{◌≡◌, ◌≤◌, ◌<◌, ◌+◌, ◌*◌, ◌^◌, ◌⊎◌, inl, inr, ◌&&◌, ◌==◌, ℕ, zero, suc, Bool, true, false, List, [], ◌∷◌, length, get_or, Result, Ok, Err, IfOk, refl, sym, ap, ◌∙◌, subst, arith, true≢false}
+use Rattle.std.proofs.lemmas.Bool.{and_from, and_parts, cases_eq, cases_lt, eq-eqb, eqb-true}
+use Rattle.map_model.specs.Lists.{all}
 use Rattle.disk_slots.specs.declared.master.Master.{Master}
 use Rattle.disk_runs.specs.MasterLaws.{raised}
 use Rattle.lean_disk.specs.Story.{Story}
@@ -10,11 +11,11 @@ use Rattle.rows_trait.specs.Views.{Shape, state}
 use Rattle.session_state.specs.Numbers.{AreClocksLow}
 use Rattle.session_state.specs.Syncs.{HasSynced, synced_session}
 use Rattle.session_state.specs.declared.session.Session.{Session}
-use Rattle.session_desks.specs.Desks.{desk_of, log_of}
+use Rattle.session_desks.specs.Desks.{desk_of, log_of, place_of}
 use Rattle.session_desks.specs.Machines.{AreDesks, AreLogged, HasNumbers}
-use Rattle.session_desks.specs.Syncs.{AllFlushed, AreRaised, AreRaisedTo, AreStill, AreSynced, Flushed, HasOpening, IsWriting, IsWritten, MaySync, SyncFails, SyncMade, greatest, next_with, raised_desk}
+use Rattle.session_desks.specs.Syncs.{AllEndAt, AllFlushed, AreRaised, AreRaisedTo, AreStill, AreSynced, Flushed, HasOpening, IsWriting, IsWritten, MaySync, SyncFails, SyncMade, all_end_at, ends_at, greatest, next_with, raised_desk}
 use Rattle.session_desks.specs.declared.desk.Desk.{Desk}
-use Rattle.session_desks.proofs.DeskLemmas.{desk_apart, desk_own, get_any}
+use Rattle.session_desks.proofs.DeskLemmas.{desk_apart, desk_own, get_any, place_low}
 use Rattle.session_desks.proofs.SeatLemmas.{turn_high, turn_low}
 use Rattle.session_desks.proofs.SyncMachines.{desk_raised, logged_flushed, numbers_next, sequence_small}
 use Rattle.session_desks.proofs.SyncNeeds as needs
@@ -54,6 +55,36 @@ module _ (z : Shape) (v : View) (work : Desk) (desks : List Desk) (are : AreDesk
       high (inl e) = let b = are.count in omega arith
       high (inr e) = let a = turn_low z v work desks are in let b = turn_high z v work desks are in omega arith
 
+-- ## Ends of logs
+
+ends_each : (n : ℕ) (ds : List Desk) → all (ends_at n) ds ≡ true → (i : ℕ) (x : Desk) → i < length ds → (get_or ds i x).log.last ≡ n
+ends_each n [] e i x lt = absurd (omega arith)
+ends_each n (d ∷ ds) e zero x lt = eqb-true d.log.last n (and_parts (d.log.last == n) (all (ends_at n) ds) e).0
+ends_each n (d ∷ ds) e (suc i) x lt = ends_each n ds (and_parts (d.log.last == n) (all (ends_at n) ds) e).1 i x (omega arith)
+
+each_ends : (n : ℕ) (ds : List Desk) → ((i : ℕ) (x : Desk) → i < length ds → (get_or ds i x).log.last ≡ n) → all (ends_at n) ds ≡ true
+each_ends n [] each = refl
+each_ends n (d ∷ ds) each = and_from (d.log.last == n) (all (ends_at n) ds) (eq-eqb d.log.last n (each 0 d (omega arith))) (each_ends n ds (λ i x lt. each (suc i) x (omega arith)))
+
+-- whether each log ends at the number
+module _ (z : Shape) (v : View) (work : Desk) (desks : List Desk) (are : AreDesks z v work desks) (n : ℕ) where
+  pub end_at_all : all_end_at n work.log desks ≡ true → AllEndAt work.session.workers n (log_of work desks)
+  end_at_all e w low high = elim (cases_eq w work.session.own) [
+    | inl q ↦ ap (λ (d : Desk). d.log.last) (desk_own work desks w q) ∙ eqb-true work.log.last n both.0
+    | inr other ↦ ap (λ (d : Desk). d.log.last) (desk_apart work desks w other)
+        ∙ ends_each n desks both.1 (place_of work.session.own w) work (place_low work.session.own w work.session.workers desks are.count (turn_low z v work desks are) (turn_high z v work desks are) low high other)
+  ]
+    where
+      both : ((work.log.last == n) ≡ true) × (all (ends_at n) desks ≡ true)
+      both = and_parts (work.log.last == n) (all (ends_at n) desks) e
+
+  pub end_at_from : AllEndAt work.session.workers n (log_of work desks) → all_end_at n work.log desks ≡ true
+  end_at_from all_end = and_from (work.log.last == n) (all (ends_at n) desks) (eq-eqb work.log.last n (at_store z v work desks are (λ d. d.log.last ≡ n) all_end))
+      (each_ends n desks (at_desk z v work desks are (λ d. d.log.last ≡ n) all_end))
+
+  pub end_at_none : all_end_at n work.log desks ≡ false → AllEndAt work.session.workers n (log_of work desks) → ⊥
+  end_at_none e all_end = true≢false (sym (end_at_from all_end) ∙ e)
+
 -- ## What a sync needs
 
 module _ (reached : EveryReached) (z : Shape) (u : View) (work : Desk) (desks : List Desk) (are : AreDesks z u work desks) (master : Master) (numbers : HasNumbers master work.session.workers) (o : HasOpening u.given) (logged : AreLogged (state u).core (log_of work desks) work.session.workers)
@@ -65,6 +96,7 @@ module _ (reached : EveryReached) (z : Shape) (u : View) (work : Desk) (desks : 
   may_sync = record {
     met = needs.sync_met z u work desks are reached o logged flushed;
     within = needs.within z u work desks are;
+    counted = λ w low high. (logged w low high).flushed ∙ flushed w low high;
     low = needs.number_small z u work desks are clocks;
     small = sequence_small master work.session.workers numbers;
   }
@@ -72,24 +104,31 @@ module _ (reached : EveryReached) (z : Shape) (u : View) (work : Desk) (desks : 
   pub may_sync_at : (n : ℕ) → n ≡ number → MaySync work.session.workers n master u (log_of work desks)
   may_sync_at n e = subst (λ k. MaySync work.session.workers k master u (log_of work desks)) (sym e) may_sync
 
-  -- behind it the master has the number as its floor, and numbers for more
-  module _ (floor : master.floor ≡ (state u).core.floor) where
-    high : (number ≡ master.floor → ⊥) → number ≤ 2 ^ 62 + 66 * 16
-    high other = go (needs.low_or_floor z u work desks are reached o logged flushed clocks)
-      where
-        go : (number ≤ 2 ^ 62 + 66 * 16) ⊎ (number ≡ (state u).core.floor) → number ≤ 2 ^ 62 + 66 * 16
-        go (inl le) = le
-        go (inr e) = absurd (other (e ∙ sym floor))
+  -- behind it the master's floor is at most the number, and it has numbers for more
+  module _ (floor : master.floor ≤ (state u).core.floor) where
+    module _ (some_below : all_end_at number work.log desks ≡ false) where
+      above_floor : (state u).core.floor < number
+      above_floor = elim (cases_lt (state u).core.floor number) [
+        | inl lt ↦ lt
+        | inr le ↦ absurd (true≢false (sym (end_at_from z u work desks are number (needs.end_at_floor z u work desks are reached o logged flushed le)) ∙ some_below))
+      ]
 
-    pub numbers_new : (next : Master) → (number ≡ master.floor → next ≡ master) → ((number ≡ master.floor → ⊥) → next ≡ next_with master number) → (next.floor ≡ number) × HasNumbers next work.session.workers
-    numbers_new next still wrote = elim (cases_eq number master.floor) [
-      | inl e ↦ (ap (λ (m : Master). m.floor) (still e) ∙ sym e, subst (λ (m : Master). HasNumbers m work.session.workers) (sym (still e)) numbers)
-      | inr other ↦ (
-        ap (λ (m : Master). m.floor) (wrote other),
-        subst (λ (m : Master). HasNumbers m work.session.workers) (sym (wrote other))
-            (numbers_next master number work.session.workers numbers (let a = needs.floor_low z u work desks are reached o logged flushed in omega arith) other (high other)),
-      )
-    ]
+      high : number ≤ 2 ^ 62 + 66 * 16
+      high = go (needs.low_or_floor z u work desks are reached o logged flushed clocks)
+        where
+          go : (number ≤ 2 ^ 62 + 66 * 16) ⊎ (number ≡ (state u).core.floor) → number ≤ 2 ^ 62 + 66 * 16
+          go (inl le) = le
+          go (inr e) = let a = above_floor in absurd (omega arith)
+
+    pub numbers_new : (next : Master) (all_end : Bool) → all_end ≡ all_end_at number work.log desks → (all_end ≡ true → next ≡ master) → (all_end ≡ false → next ≡ next_with master number) → (next.floor ≤ number) × HasNumbers next work.session.workers
+    numbers_new next true e still wrote =
+        let low = needs.floor_low z u work desks are reached o logged flushed in let f = ap (λ (m : Master). m.floor) (still refl) in
+        (omega arith, subst (λ (m : Master). HasNumbers m work.session.workers) (sym (still refl)) numbers)
+    numbers_new next false e still wrote =
+        let f = ap (λ (m : Master). m.floor) (wrote refl) in let up = above_floor (sym e) in (
+          omega arith,
+          subst (λ (m : Master). HasNumbers m work.session.workers) (sym (wrote refl)) (numbers_next master number work.session.workers numbers (omega arith) (λ q. omega arith) (high (sym e))),
+        )
 
 -- ## Behind the flushes
 
@@ -118,7 +157,7 @@ module _ (z : Shape) (v u : View) (work mid : Desk) (desks desks_mid : List Desk
     ready = subst (λ k. MaySync k n master u (log_of mid desks_mid)) same (may_sync reached z u mid desks_mid are master numbers (opens_still o) all_logged all_flushed clocks)
 
     -- it was made
-    pub sync_made : (number : ℕ) → number ≡ n → (w : View) (new_store : Desk) (news : List Desk) (next : Master) (new : D) → HasSynced u w number → AreRaisedTo mid.session.workers mid desks_mid new_store news number → IsWritten story number master next between new
+    pub sync_made : (number : ℕ) → number ≡ n → (w : View) (new_store : Desk) (news : List Desk) (next : Master) (new : D) → HasSynced u w number → AreRaisedTo mid.session.workers mid desks_mid new_store news number → IsWritten story mid.session.workers number (log_of mid desks_mid) master next between new
         → SyncMade story work.session.workers number v w (log_of work desks) (log_of new_store news) master next old new
     sync_made number e w new_store news next new sync raised written = record {
       view = u;
@@ -128,7 +167,7 @@ module _ (z : Shape) (v u : View) (work mid : Desk) (desks desks_mid : List Desk
       ready = subst (λ k. MaySync work.session.workers k master u (log_of mid desks_mid)) (sym e) ready;
       synced = sync;
       raised = λ a some most. ap (λ (d : Desk). d.log) (raised a some (subst (λ k. a ≤ k) (sym same) most));
-      written = written;
+      written = subst (λ k. IsWritten story k number (log_of mid desks_mid) master next between new) same written;
     }
 
     -- its sessions

@@ -75,14 +75,14 @@ synced_floor v w n s = ap (λ (m : Moment). m.core.floor) (seen_more v w (told.S
 -- ## The parts
 
 pub machine_synced : EverySynced → (f l m f' l' m' : ℕ) (words words' : List ℕ) (v w : View) (work : Desk) (desks news : List Desk) (marks : List Bool) (master next : Master) (n : ℕ) → IsMachine f l m words v work desks marks master → plain_shape f' l' m' ≡ plain_shape f l m
-    → IsPicture (plan (sizes f' l' m') w.given) words' w → AreRaised desks news n → ((u : ℕ) → 0 < u → u ≤ work.session.workers → (log_of work desks u).flushed ≡ (log_of work desks u).last) → HasSynced v w n → next.floor ≡ n → HasNumbers next work.session.workers
+    → IsPicture (plan (sizes f' l' m') w.given) words' w → AreRaised desks news n → ((u : ℕ) → 0 < u → u ≤ work.session.workers → (log_of work desks u).flushed ≡ (log_of work desks u).last) → HasSynced v w n → next.floor ≤ n → HasNumbers next work.session.workers
     → IsMachine f' l' m' words' w (raised_desk work n) news marks next
 machine_synced law f l m f' l' m' words words' v w work desks news marks master next n was shape fits r flushed sync floor numbers = record {
   fits = fits;
   desks = subst (λ (z : Shape). AreDesks z w (raised_desk work n) news) (sym shape) (desks_synced (plain_shape f l m) v work desks news n was.desks r law w flushed sync);
   unmarked = was.unmarked;
   numbers = record { sequence = numbers.sequence; heads = numbers.heads };
-  floor = floor ∙ sym (synced_floor v w n sync);
+  floor = let a = floor in let b = synced_floor v w n sync in omega arith;
 }
 
 -- the next master has numbers too

@@ -158,6 +158,15 @@ module _ (z : Shape) (v : View) (work : Desk) (desks : List Desk) (are : AreDesk
         let b = (good.inv.workers 1).based (omega arith, (let b = o.opens.workers in let c = workers_are in let d = one_some in omega arith)) in
         let c = clock_at 1 (omega arith) one_some in let d = desk_low 1 (omega arith) one_some in omega arith
 
+    -- where that is the number, each log ends there
+    pub end_at_floor : number ≤ (state v).core.floor → (w : ℕ) → 0 < w → w ≤ many → (log_of work desks w).last ≡ number
+    end_at_floor le w low high =
+        let based = (good.inv.workers w).based (low, (let b = o.opens.workers in let c = workers_are in omega arith)) in
+        let l = (logged w low high).flushed in
+        let f = flushed w low high in
+        let top = (are.each w low high).holds.numbers.last in let d = desk_low w low high in
+        omega arith
+
     -- where clocks have come to their end at the opening, none has risen since
     pub low_or_floor : AreClocksLow v → (number ≤ 2 ^ 62 + 66 * 16) ⊎ (number ≡ (state v).core.floor)
     low_or_floor low = elim (cases_lt (2 ^ 62 + 66 * 16) number) [

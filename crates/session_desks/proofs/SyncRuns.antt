@@ -5,8 +5,7 @@ use Rattle.std.proofs.lemmas.List.{append_assoc}
 use Rattle.core_state.specs.Openings.{Opening}
 use Rattle.core_state.specs.Events.{Event}
 use Rattle.core_state.specs.Needs.{may}
-use Rattle.core_state.specs.States.{State}
-use Rattle.worker_log.specs.Accounts.{Account}
+use Rattle.core_state.specs.States.{flushed_by_all}
 use Rattle.core_state.specs.Steps.{state_after}
 use Rattle.core_calls.specs.Fronts.{Done, front}
 use Rattle.lean_disk.specs.Area.{Area, Leaves, Write}
@@ -16,19 +15,18 @@ use Rattle.lean_disk.proofs.MomentLemmas.{started, weaker}
 use Rattle.lean_disk.proofs.MomentLemmas as moments
 use Rattle.disk_slots.specs.Masters.{IsMaster}
 use Rattle.disk_slots.specs.declared.master.Master.{Master}
-use Rattle.core_disk.specs.Versions.{EveryVersion, then}
+use Rattle.core_disk.specs.Versions.{EveryVersion}
 use Rattle.disk_runs.specs.Laws.{EveryRest}
-use Rattle.disk_runs.specs.MasterLaws.{IsAllSynced, IsSync, StandsNext, raised, with_sync}
+use Rattle.disk_runs.specs.MasterLaws.{IsAllSynced, IsStillSync, IsSync, raised, with_sync}
 use Rattle.disk_runs.specs.Masters.{IsNextOf, IsNoEarlier, slot_of}
 use Rattle.image_model.specs.Fair.{piece}
 use Rattle.disk_runs.specs.Moments.{LeavesSome}
 use Rattle.disk_runs.specs.Stands.{Known, LeavesRun, Stands}
-use Rattle.disk_runs.specs.Logs.{LogStands}
 use Rattle.disk_runs.proofs.LineLemmas.{same}
 use Rattle.disk_runs.proofs.LineLemmas as lines
 use Rattle.disk_runs.proofs.MasterLemmas.{is_slot}
 use Rattle.disk_runs.proofs.MomentLemmas.{every_moment}
-use Rattle.disk_runs.proofs.NextLemmas.{every_sync}
+use Rattle.disk_runs.proofs.NextLemmas.{every_still_sync}
 use Rattle.worker_log.specs.Logs.{Log}
 use Rattle.log_calls.specs.Calls.{Anything, IsLog, KeepsWithin}
 use Rattle.log_calls.specs.Syncs.{KeepsEither, SyncsOn}
@@ -102,13 +100,10 @@ next_is : (n : Master) (k : ℕ) → IsNextOf n (next_with n k)
 next_is n k = record { sequence = refl; generation = refl; pages = refl; blocks = refl; logs = refl }
 
 -- what a sync writes is no earlier
-pub written_by : {D : Type 0} (story : D → Story) (n : ℕ) (master next : Master) (old new : D) (es : List Event) → IsWritten story n master next old new → IsNoEarlier (es ++ Event.Sync n ∷ []) master next
-written_by story n master next old new es w = go (cases_eq n master.floor)
-  where
-    go : (n ≡ master.floor) ⊎ (n ≡ master.floor → ⊥) → IsNoEarlier (es ++ Event.Sync n ∷ []) master next
-    go (inl e) = subst (IsNoEarlier (es ++ Event.Sync n ∷ []) master) (sym (w.still e).1) (same (es ++ Event.Sync n ∷ []) master)
-    go (inr other) = subst (IsNoEarlier (es ++ Event.Sync n ∷ []) master) (sym (w.wrote other).2)
-        (lines.further es (Event.Sync n ∷ []) master master (next_with master n) (same es master) (lines.next (Event.Sync n) master (next_with master n) refl (next_is master n)))
+pub written_by : {D : Type 0} (story : D → Story) (many n : ℕ) (logs : ℕ → Log) (master next : Master) (old new : D) (es : List Event) → IsWritten story many n logs master next old new → IsNoEarlier (es ++ Event.Sync n ∷ []) master next
+written_by story many n logs master next old new es (IsWritten.Still all_end same_disk same_master) = subst (IsNoEarlier (es ++ Event.Sync n ∷ []) master) (sym same_master) (same (es ++ Event.Sync n ∷ []) master)
+written_by story many n logs master next old new es (IsWritten.Wrote some_below syncs writes is) = subst (IsNoEarlier (es ++ Event.Sync n ∷ []) master) (sym is)
+    (lines.further es (Event.Sync n ∷ []) master master (next_with master n) (same es master) (lines.next (Event.Sync n) master (next_with master n) refl (next_is master n)))
 
 -- ## A call of the disk more
 
@@ -216,41 +211,24 @@ module _ (g : Opening) (group : ℕ) (xs : List Done) (s0 : Crash) (k : Known) (
       moments.then old mid new (Beside g.workers true old) at.within (beside_in g.workers 0 old mid new around (λ a i e. master_aside g.workers a i e) crash),
     )
 
--- ## Where the master has the number already
-
-same_master : (s : State) (n : Master) (k : ℕ) (first : List ℕ) (older : List Write) (w : ℕ) (x : Account) (log : Log) (area : Area) → LogStands s (next_with n k) first older w x log area → LogStands s n first older w x log area
-same_master s n k first older w x log area l = record {
-  is = record { generation = l.is.generation; number = l.is.number; blocks = l.is.blocks; head = l.is.head };
-  ranges = l.ranges;
-  accounts = l.accounts;
-  began = record { first_is = l.began.first_is; older_is = l.began.older_is; sealed = l.began.sealed };
-  kept = l.kept;
-}
+-- ## Where each log ends at the number
 
 module _ (versions : EveryVersion) (g : Opening) (group : ℕ) (xs : List Done) (s0 : Crash) (k : Known) (es : List Event) (old mid : Story) (part : EveryPart old mid mid) (rest : EveryRest mid) (law : IsLawful mid) (b : Between limits g group xs s0 k old)
     (logs : ℕ → Log) (master : Master) (done : ℕ) (at : Stood g xs es s0 k logs master done old mid) (around : Around g.workers true old mid)
-    (n : ℕ) (all : done ≡ g.workers) (met : may g (state_after g (front xs ++ es)) (Event.Sync n) ≡ true) (within : (w : ℕ) → 0 < w → w ≤ g.workers → (logs w).last ≤ n) (small : master.sequence + 1 < 2 ^ 63) (low : n < 2 ^ 64) where
-  -- the disk stands by it behind the sync too
-  pub stood_still : (logs_new : ℕ → Log) → master.floor ≡ n → ((w : ℕ) → 0 < w → w ≤ g.workers → logs_new w ≡ raised (logs w) n) → Stood g xs (es ++ Event.Sync n ∷ []) s0 k logs_new master done old mid
-  stood_still logs_new floor are =
-      stood_more g group xs s0 k es old mid mid part b logs master done at around 0 (Event.Sync n ∷ []) x logs_new master done (λ a i e. master_aside g.workers a i e) (same (Event.Sync n ∷ []) at.known.master)
-      (subst (λ ys. Stands g ys s0 x mid) (append_assoc (front xs) es (Event.Sync n ∷ [])) stands) refl
+    (n : ℕ) (all : done ≡ g.workers) (met : may g (state_after g (front xs ++ es)) (Event.Sync n) ≡ true) (within : (w : ℕ) → 0 < w → w ≤ g.workers → (logs w).last ≤ n) (reached : n ≤ flushed_by_all g (state_after g (front xs ++ es))) where
+  still : IsStillSync g (front xs ++ es) at.known n
+  still = record {
+    met = met;
+    flushed = λ w some high. at.synced w some (omega arith);
+    within = λ w some high. let a = ap (λ (l : Log). l.last) (at.log_is w some high) in let b = within w some high in omega arith;
+    reached = reached;
+  }
+
+  -- the disk stands by the same master behind the sync too
+  pub stood_still : (logs_new : ℕ → Log) → ((w : ℕ) → 0 < w → w ≤ g.workers → logs_new w ≡ raised (logs w) n) → Stood g xs (es ++ Event.Sync n ∷ []) s0 k logs_new master done old mid
+  stood_still logs_new are =
+      stood_more g group xs s0 k es old mid mid part b logs master done at around 0 (Event.Sync n ∷ []) (with_sync at.known at.known.master n) logs_new master done (λ a i e. master_aside g.workers a i e) (same (Event.Sync n ∷ []) at.known.master)
+      (subst (λ ys. Stands g ys s0 (with_sync at.known at.known.master n) mid) (append_assoc (front xs) es (Event.Sync n ∷ [])) (every_still_sync versions mid s0 g (front xs ++ es) at.known n at.gone.stands still)) refl
       (started mid (CrashIn mid 0 Anything) law (λ c now. record { notes = now.notes; writes = λ a ne told. now.writes a told; leaves = λ a ne told. now.leaves a told; here = tt }))
       ((every_moment old mid mid s0 g (front xs ++ es) at.known.master).call (Event.Sync n ∷ []) (started mid (LeavesRun g (front xs ++ es) s0 at.known.master) law (λ c now. rest s0 g (front xs ++ es) at.known at.gone.stands c now)))
-      (logs_raised g group xs s0 k es old mid mid part b logs master done at around n all met within small low logs_new are) at.synced at.master_is
-    where
-      x : Known
-      x = with_sync at.known at.known.master n
-
-      next : StandsNext g (front xs ++ es) (Event.Sync n) s0 at.known (with_sync at.known (next_with at.known.master n) n) mid
-      next = every_sync versions mid s0 g (front xs ++ es) at.known (next_with at.known.master n) n at.gone.stands (sync_of g group xs s0 k es old mid mid part b logs master done at around n all met within small low)
-
-      stands : Stands g (then (front xs ++ es) (Event.Sync n)) s0 x mid
-      stands = record {
-        tells = at.gone.stands.tells;
-        is = record { faithful = next.is.faithful; format = next.is.format; logs = next.is.logs; floor = (ap (λ (m : Master). m.floor) at.master_is ∙ floor) ∙ next.is.floor };
-        master = at.gone.stands.master;
-        pages = next.pages;
-        saved = next.saved;
-        logs = λ w some high. same_master (state_after g (then (front xs ++ es) (Event.Sync n))) at.known.master n (s0.image (suc w)) (s0.writes (suc w)) w (at.known.account w) (raised (at.known.log w) n) (mid.area (suc w)) (next.logs w some high);
-      }
+      (λ w some high. ap (λ (l : Log). raised l n) (at.log_is w some high) ∙ sym (are w some high)) at.synced at.master_is

@@ -44,7 +44,7 @@ pub record IsMachine (frames locks workers : ℕ) (words : List ℕ) (v : View) 
   pub desks : AreDesks (plain_shape frames locks workers) v work others
   pub unmarked : marks ≡ replicate work.session.held.count false
   pub numbers : HasNumbers master work.session.workers
-  pub floor : master.floor ≡ (state v).core.floor
+  pub floor : master.floor ≤ (state v).core.floor
 
 -- ## The logs
 

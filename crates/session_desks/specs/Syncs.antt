@@ -1,6 +1,6 @@
 -- How a sync goes on: it flushes the log of one session after another, and then writes the next master. Words of private functions.
-use Rattle.std.specs.Prelude.{◌≡◌, ◌⊎◌, ◌≤◌, ◌<◌, ◌+◌, ◌^◌, ◌++◌, ◌||◌, max, ℕ, Bool, true, false, List, [], ◌∷◌, get_or, length}
-use Rattle.map_model.specs.Lists.{any}
+use Rattle.std.specs.Prelude.{◌≡◌, ◌⊎◌, ◌≤◌, ◌<◌, ◌+◌, ◌^◌, ◌++◌, ◌&&◌, ◌||◌, ◌==◌, max, ℕ, Bool, true, false, List, [], ◌∷◌, get_or, length}
+use Rattle.map_model.specs.Lists.{all, any}
 use Rattle.core_state.specs.Events as happening
 use Rattle.core_state.specs.Needs.{may}
 use Rattle.core_state.specs.Openings.{Opening}
@@ -44,6 +44,18 @@ pub record HasOpening (v : Given) : Type 0 where
 abbrev pub greatest : ℕ → List Desk → ℕ
 greatest n [] = n
 greatest n (d ∷ ds) = greatest (max n d.session.clock.clock) ds
+
+-- the desk's log ends at n
+abbrev pub ends_at : ℕ → Desk → Bool
+ends_at n d = d.log.last == n
+
+-- this log does, and those at the desks
+abbrev pub all_end_at : (n : ℕ) → Log → List Desk → Bool
+all_end_at n log desks = (log.last == n) && all (ends_at n) desks
+
+-- each log of so many does: none has a last number below it
+abbrev pub AllEndAt : (many n : ℕ) → (logs : ℕ → Log) → Type 0
+AllEndAt many n logs = (w : ℕ) → 0 < w → w ≤ many → (logs w).last ≡ n
 
 -- the next master of a run, with this floor
 abbrev pub next_with : Master → ℕ → Master
@@ -149,15 +161,17 @@ AreRaisedTo many store0 desks0 store1 desks1 n = (w : ℕ) → 0 < w → w ≤ m
 
 -- ## The sync
 
--- the next master was written, unless the one that counts has the number as its floor
-pub record IsWritten {D : Type 0} (story : D → Story) (n : ℕ) (master next : Master) (old new : D) : Type 0 where
-  pub still : n ≡ master.floor → (new ≡ old) × (next ≡ master)
-  pub wrote : (n ≡ master.floor → ⊥) → SyncsOn (next_with master n) (story old) (story new) × IsWriting (next_with master n) (story old) (story new) × (next ≡ next_with master n)
+-- The next master was written where some log's last number is below the number, and there alone.
+pub data IsWritten {D : Type 0} (story : D → Story) (many n : ℕ) (logs : ℕ → Log) (master next : Master) (old new : D) : Type 0 where
+  Still : AllEndAt many n logs → new ≡ old → next ≡ master → IsWritten story many n logs master next old new
+  Wrote : (AllEndAt many n logs → ⊥) → SyncsOn (next_with master n) (story old) (story new) → IsWriting (next_with master n) (story old) (story new) → next ≡ next_with master n → IsWritten story many n logs master next old new
 
 -- Behind flushes, as a sync up to n asks.
 pub record MaySync (many n : ℕ) (master : Master) (u : View) (logs : ℕ → Log) : Type 0 where
   pub met : may (opening u.given) (state u).core (happening.Event.Sync n) ≡ true
   pub within : (w : ℕ) → 0 < w → w ≤ many → (logs w).last ≤ n
+  -- each log is flushed up to its last number, as the core says
+  pub counted : (w : ℕ) → 0 < w → w ≤ many → (state u).core.flushed w ≡ (logs w).last
   pub low : n < 2 ^ 64
   pub small : master.sequence + 1 < 2 ^ 63
 
@@ -170,7 +184,7 @@ pub record SyncMade {D : Type 0} (story : D → Story) (many n : ℕ) (v w : Vie
   pub ready : MaySync many n master view logs
   pub synced : HasSynced view w n
   pub raised : (a : ℕ) → 0 < a → a ≤ many → is a ≡ raised (logs a) n
-  pub written : IsWritten story n master next between new
+  pub written : IsWritten story many n logs master next between new
 
 -- a device failed: at a flush, or at the master
 pub data SyncFails {D : Type 0} (story : D → Story) (many : ℕ) (v : View) (was : ℕ → Log) (master : Master) (old new : D) : Type 0 where

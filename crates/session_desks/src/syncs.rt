@@ -1,6 +1,6 @@
 // A sync of all logs.
 ghost use Rattle.std.specs.Prelude.{◌≡◌, ◌↔◌, ◌≤◌, ◌<◌, ◌+◌, ◌^◌, ℕ, max, IsErr, IsOk, IfOk, OnOk, get_or, length, true, false};
-ghost use Rattle.map_model.specs.Lists.{any};
+ghost use Rattle.map_model.specs.Lists.{all, any};
 ghost use Rattle.lean_disk.specs.Faults.{HasCause};
 ghost use Rattle.log_calls.specs.Syncs.{SyncsOn};
 ghost use Rattle.log_calls.specs.Wholes.{EndsInRecord};
@@ -10,7 +10,7 @@ ghost use Rattle.session_state.specs.Syncs.{HasNoneBehind, HasSynced, synced_ses
 ghost use Rattle.rows_trait.specs.Views.{state};
 ghost use Rattle.session_desks.specs.Desks.{desk_of};
 ghost use Rattle.session_desks.specs.Parts.{AreAsMany, FailsToFlush, FailsToSync, FlushesAll, FlushesOne, HasLogs, IsFlushed, IsRaised, IsSound, IsStill, IsSynced, MakesSync, NoneIsHalf, SeatFits, Works, here, logs};
-ghost use Rattle.session_desks.specs.Syncs.{AreRaised, HasOpening, IsWriting, IsWritten, greatest, has_half, is_half_desk, next_with};
+ghost use Rattle.session_desks.specs.Syncs.{AreRaised, HasOpening, IsWriting, IsWritten, all_end_at, ends_at, greatest, has_half, is_half_desk, next_with};
 
 use crate::desk::Desk;
 use crate::grounds::laws;
@@ -76,16 +76,40 @@ fn next_master(master: &Master, floor: u64) -> Master
     }
 }
 
-// Writes a master with this floor, unless it is that of the one that counts.
-fn write_floor<D: Disk>(disk: &mut D, master: &mut Master, floor: u64) -> Result<(), DiskFault>
-    requires sequence { (floor ≡ master.old.floor → ⊥) → master.old.sequence + 1 < 2 ^ 63 }
-    ensures same { floor ≡ master.old.floor → IsOk result × (disk.new ≡ disk.old) × (master.new ≡ master.old) }
-    ensures next { (floor ≡ master.old.floor → ⊥) → OnOk result (SyncsOn (next_with master.old floor) (D.story disk.old) (D.story disk.new) × (master.new ≡ next_with master.old floor)) }
-    ensures any_moment { (floor ≡ master.old.floor → ⊥) → IsWriting (next_with master.old floor) (D.story disk.old) (D.story disk.new) }
+// Whether the logs at these desks end at the number.
+fn desks_end_at(desks: &[Desk], number: u64) -> bool
+    ensures { result ≡ all (ends_at number) desks.now }
+{
+    for desk in desks {
+        if desk.log.last() != number {
+            return false;
+        }
+    }
+    true
+}
+
+// Whether this log does too: then no last number is below it.
+fn end_at(log: &WorkerLog, desks: &[Desk], number: u64) -> bool
+    ensures { result ≡ all_end_at number log.now desks.now }
+{
+    log.last() == number && desks_end_at(desks, number)
+}
+
+// Writes a master with this floor, unless all logs end there.
+fn write_floor<D: Disk>(
+    disk: &mut D,
+    master: &mut Master,
+    floor: u64,
+    all_end: bool,
+) -> Result<(), DiskFault>
+    requires sequence { master.old.sequence + 1 < 2 ^ 63 }
+    ensures same { all_end ≡ true → IsOk result × (disk.new ≡ disk.old) × (master.new ≡ master.old) }
+    ensures next { all_end ≡ false → OnOk result (SyncsOn (next_with master.old floor) (D.story disk.old) (D.story disk.new) × (master.new ≡ next_with master.old floor)) }
+    ensures any_moment { all_end ≡ false → IsWriting (next_with master.old floor) (D.story disk.old) (D.story disk.new) }
 
     ensures cause_disk_fault { HasCause (D.faults disk.old) (D.faults disk.new) (IsErr result) }
 {
-    if floor == master.floor {
+    if all_end {
         return Ok(());
     }
     let next = next_master(master, floor);
@@ -169,7 +193,7 @@ impl<D: Stages> Machine<D> {
         Ok(())
     }
 
-    // Writes a master whose floor is the greatest clock, unless the one that counts has it, and raises every clock, and what is flushed of every log, to it. All logs
+    // Writes a master whose floor is the greatest clock, unless each log ends there, and raises every clock, and what is flushed of every log, to it. All logs
     // are flushed.
     fn sync_flushed(&mut self) -> Result<u64, DiskFault>
         requires machine { IsSound self.old }
@@ -183,7 +207,7 @@ impl<D: Stages> Machine<D> {
         ensures synced { IfOk result (HasSynced self.old.seat.view self.new.seat.view) }
         ensures raised { IfOk result (IsRaised self.old self.new) }
         ensures number { IfOk result (λ n. n ≡ greatest self.old.work.session.clock.clock self.old.desks.items) }
-        ensures written { IfOk result (λ n. IsWritten D.story n self.old.master self.new.master self.old.work.disk self.new.work.disk) }
+        ensures written { IfOk result (λ n. IsWritten D.story self.old.work.session.workers n (logs self.old) self.old.master self.new.master self.old.work.disk self.new.work.disk) }
         ensures failed { IsErr result → IsWriting (next_with self.old.master (greatest self.old.work.session.clock.clock self.old.desks.items)) (D.story self.old.work.disk) (D.story self.new.work.disk) }
         ensures works { Works self.new ↔ (IsErr result → ⊥) }
 
@@ -193,7 +217,8 @@ impl<D: Stages> Machine<D> {
         session_state::every_synced();
         clocks_low(&self.rows, &self.seat);
         let number = greatest_clock(&self.work.session, &self.desks);
-        if let Err(fault) = write_floor(&mut self.work.disk, &mut self.master, number) {
+        let all_end = end_at(&self.work.log, &self.desks, number);
+        if let Err(fault) = write_floor(&mut self.work.disk, &mut self.master, number, all_end) {
             self.work.session.works = false;
             return Err(fault);
         }

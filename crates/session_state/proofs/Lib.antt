@@ -6,6 +6,7 @@ pub mod ReserveLemmas
 pub mod WaitLemmas
 pub mod HoldLemmas
 pub mod OtherLemmas
+pub mod HomeLemmas
 pub mod HeldLemmas
 pub mod FreeLemmas
 pub mod StageLemmas

@@ -65,7 +65,6 @@ module _ (g : Opening) (z : Shape) (v : View) (x : Session) (log : Log) (o : IsO
     flushed = at (λ s. s.flushed x.own ≡ log.flushed) (sym o.flushed);
     floor = floor;
     behind = at (λ s. behind s x.own ≡ x.unflushed) (sym o.session.behind);
-    resident = o.resident;
     held = λ i. at (λ s. holds_row (s.row i) x.own ≡ true ↔ Has i x.held.rows) ((λ q. absurd (true≢false (sym q)), λ h. absurd (subst (Has i) o.session.rows h)));
     within = λ i h. absurd (subst (Has i) o.session.rows h);
     fewer = let e = ap length o.session.rows in omega arith;
@@ -89,6 +88,7 @@ every_fellow g z v x log own few o low high = record {
   alone = o.alone;
   idle = o.idle;
   rows = record {
+    faithful = o.rows.faithful;
     tree = o.rows.tree;
     tree_sound = o.rows.tree_sound;
     locks = record { spans = o.rows.locks.spans; given = o.rows.locks.given; locks = o.rows.locks.locks; few = o.rows.locks.few; works = record { one = low; among = let e = o.rows.workers in omega arith } };

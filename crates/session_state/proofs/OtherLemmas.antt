@@ -201,7 +201,7 @@ stays_run v m own u other (e ∷ es) are =
     stays_on (opening v) u m.core (stepped v m e).core (run v (stepped v m e) es).core (stays_step v m own u other e p.0) (stays_run v (stepped v m e) own u other es p.1)
 
 -- where steps lead
-steps_state : (own : ℕ) (v w : View) (t : Steps own v w) → state w ≡ run v.given (state v) t.events
+pub steps_state : (own : ℕ) (v w : View) (t : Steps own v w) → state w ≡ run v.given (state v) t.events
 steps_state own v w t = (λ i. after_all (t.given i) (t.seen i)) ∙ run_append v.given (begun v.given) v.seen t.events
 
 -- ## Two sessions
@@ -216,7 +216,6 @@ every_other z v w x y log log_of_y h k other _ _ _ t = record {
   flushed = now.flushed ∙ h.flushed;
   floor = let a = h.floor in let b = now.least in let c = ap (λ q. flushed_by_all (opening q) (state w).core) t.given in omega arith;
   behind = now.commits ∙ h.behind;
-  resident = k.resident;
   held = λ i. ((λ e. (h.held i).0 (sym (now.held i) ∙ e)), (λ e. now.held i ∙ (h.held i).1 e));
   within = h.within;
   fewer = h.fewer;

@@ -30,7 +30,7 @@ use Rattle.session_state.specs.Syncs.{EverySynced, FlushesOwn, HasNoneBehind, Ha
 use Rattle.session_state.specs.declared.session.Session.{Session}
 use Rattle.session_state.proofs.HoldLemmas.{rows_on}
 use Rattle.session_state.proofs.WaitLemmas.{behind_flush, behind_same, floor_flush}
-use Rattle.session_state.proofs.Moments.{acts, free_same, goes_seen, met_core, resident_on, seen_state}
+use Rattle.session_state.proofs.Moments.{acts, free_same, goes_seen, met_core, seen_state}
 use Rattle.session_state.proofs.OtherLemmas.{is_own, no_steps, one_step}
 
 -- ## Words
@@ -159,7 +159,6 @@ module _ (z : Shape) (v : View) (x : Session) (log : Log) (h : Holds z v x log) 
       flushed = ap (λ k. k.flushed x.own) core_w ∙ upd_same s.flushed x.own log.last x.own refl;
       floor = floor_w;
       behind = ap (λ (k : State). log_events.behind k x.own) core_w ∙ behind_flush (opening v.given) s x.own log.last (λ e i is. last e i (commit_record e.kind is));
-      resident = resident_on z v w given (ap (λ k. k.place) core_w) h.resident;
       held = λ i. subst (λ (k : State). holds_row (k.row i) x.own ≡ true ↔ Has i x.held.rows) (sym core_w) (h.held i);
       within = h.within;
       fewer = h.fewer;
@@ -202,7 +201,6 @@ every_synced z v w x log number h whole e = record {
   behind = ap (λ (k : State). log_events.behind k x.own) core_w
       ∙ (behind_same (happens (opening v.given) (state v).core (happening.Event.Flush x.own number)) (happens (opening v.given) (state v).core (happening.Event.Sync number)) x.own refl (sym (upd_same (state v).core.flushed x.own number x.own refl))
       ∙ behind_flush (opening v.given) (state v).core x.own number below);
-  resident = resident_on z v w e.given (ap (λ k. k.place) core_w) h.resident;
   held = λ i. subst (λ (k : State). holds_row (k.row i) x.own ≡ true ↔ Has i x.held.rows) (sym core_w) (h.held i);
   within = h.within;
   fewer = h.fewer;

@@ -12,7 +12,6 @@ use Rattle.rows_trait.specs.Views.{Shape, state}
 use Rattle.btree_descent.specs.Descents as descents
 use Rattle.btree_descent.specs.Known as pages
 use Rattle.key_locks.specs.Rows as locking
-use Rattle.lean_proto.specs.Paging.{IsResident}
 use Rattle.worker_log.specs.Calls.{flushed_log}
 use Rattle.worker_log.specs.Logs.{Log, used}
 use Rattle.session_state.specs.declared.session.Session.{Session}
@@ -52,9 +51,10 @@ pub record AreNumbers (x : Session) (log : Log) : Type 0 where
   -- so few of its commits wait for a flush
   pub behind : x.unflushed < x.group
 
--- the rows are those of the opening, with so many workers; the tree, the locks and the entries' numbers are sound at each moment that can come, and
--- numbers where the rows began
+-- the rows are those of the opening, with so many workers, and began faithful; the tree, the locks and the entries' numbers are sound at each moment
+-- that can come, and numbers where the rows began
 pub record AreRows (z : Shape) (v : View) (own many frames count : ℕ) : Type 0 where
+  pub faithful : v.given.faithful ≡ true
   pub tree : descents.Sized z v frames
   pub tree_sound : pages.IsSound v.given
   pub locks : locking.Sized z v own frames count
@@ -68,9 +68,8 @@ pub record AreRows (z : Shape) (v : View) (own many frames count : ℕ) : Type 0
   pub most : many ≤ most_sessions
   pub few : count ≤ 2 ^ 16
 
--- Nobody else steps, and no row is latched. The session is the worker's at the moment that the seat has seen, where its log is flushed as it says, each
--- page, also a free one, is hot in the frame of its own number, the lock rows that the worker holds are those that the session has, and so are the free
--- pages.
+-- Nobody else steps, and no row is latched. The session is the worker's at the moment that the seat has seen, where its log is flushed as it says, the
+-- lock rows that the worker holds are those that the session has, and so are the free pages. It says nothing of where pages stand.
 pub record Holds (z : Shape) (v : View) (x : Session) (log : Log) : Type 0 where
   pub alone : z.alone ≡ true
   pub idle : v.held ≡ []
@@ -80,7 +79,6 @@ pub record Holds (z : Shape) (v : View) (x : Session) (log : Log) : Type 0 where
   pub flushed : (state v).core.flushed x.own ≡ log.flushed
   pub floor : x.clock.floor ≤ flushed_by_all (opening v.given) (state v).core
   pub behind : behind (state v).core x.own ≡ x.unflushed
-  pub resident : IsResident z v
   pub held : (i : ℕ) → holds_row ((state v).core.row i) x.own ≡ true ↔ Has i x.held.rows
   pub within : (i : ℕ) → Has i x.held.rows → i < x.held.count
   pub fewer : length x.held.rows ≤ x.held.count

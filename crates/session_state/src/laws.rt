@@ -1,6 +1,6 @@
 // What holds of an engine as it begins, and of its sessions beside each other.
 ghost use Rattle.session_state.specs.Opened.{EveryFellow, EveryOpened};
-ghost use Rattle.session_state.specs.Others.{EveryOther, EverySteps};
+ghost use Rattle.session_state.specs.Others.{EveryHome, EveryOther, EverySteps};
 ghost use Rattle.session_state.specs.Reserves.{EveryReserve};
 ghost use Rattle.session_state.specs.Syncs.{EverySynced};
 
@@ -24,6 +24,11 @@ pub fn every_other()
 /// The steps of a call and those of a later call of the same session are steps of that session.
 pub fn every_steps()
     ensures { EverySteps }
+{}
+
+/// Where each page stands in the frame of its own number, it does so behind the steps of a session.
+pub fn every_home()
+    ensures { EveryHome }
 {}
 
 /// Behind a sync each session whose log is flushed whole is as between two calls.

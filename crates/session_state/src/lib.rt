@@ -17,7 +17,9 @@ mod work;
 pub use draw_trait::staged::Staged;
 pub use free::FreePages;
 pub use held::HeldRows;
-pub use laws::{every_fellow, every_opened, every_other, every_reserve, every_steps, every_synced};
+pub use laws::{
+    every_fellow, every_home, every_opened, every_other, every_reserve, every_steps, every_synced,
+};
 pub use log_calls::stage_end;
 pub use numbers::{clocks_low, next_fits};
 pub use opening::{further_session, open_session};

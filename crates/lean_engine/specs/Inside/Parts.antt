@@ -23,6 +23,7 @@ use Rattle.lean_engine.specs.States.{IsEngine, State}
 use Rattle.session_desks.specs.declared.machine.Machine.{Machine}
 use Rattle.lean_engine.specs.declared.machine.Response.{Response}
 use Rattle.lean_engine.specs.declared.opening.Parts as opening
+use Rattle.session_state.specs.Others.{AreHome}
 use Rattle.session_desks.specs.Parts.{AreAsMany, IsSound, SeatFits, Works, here, logs, shape}
 
 -- ## Its parts
@@ -67,6 +68,10 @@ IsBeside m n = (n.desks ≡ m.desks) × (n.master ≡ m.master)
 abbrev pub KeepsFlushed : {D : Type 0} → Machine D → Machine D → Type 0
 KeepsFlushed m n = Works n → AreAsFlushed m.work.session.workers (logs m) (logs n)
 
+-- each page is in memory
+abbrev pub IsHome : {D : Type 0} → Machine D → Type 0
+IsHome m = AreHome m.seat.view
+
 -- what row_engine's call of the session in the store came to
 abbrev pub CallCame : {D : Type 0} → (story : D → Story) → (faults : D → ℕ) → Call → Response → Machine D → Machine D → Type 0
 CallCame story faults c r m n = Came (CallDoes m.work.session.own m.work.session.group c r.answer m.work.session.is_half_aborted n.work.session.is_half_aborted m.seat.view n.seat.view m.work.log n.work.log (story m.work.disk) (story n.work.disk))
@@ -89,6 +94,7 @@ pub record MachineWent {D : Type 0} (story : D → Story) (faults : D → ℕ) (
   pub ends : IsEndOf own m.seat.view n.seat.view r.answer r.receipt
   pub fits : SeatFits n
   pub machine : Works n → IsSound n
+  pub home : IsHome m → Works n → IsHome n
   pub session : AreAsMany m n
   pub works : Works n ↔ (r.answer ≡ answer.Refused refusal.DiskFault → ⊥)
   pub not_broken : r.answer ≡ answer.Refused refusal.Broken → ⊥

@@ -254,7 +254,7 @@ module _ (size : Size) (laws : Laws) (m : Master) (s0 sa : Story) (g : Opening) 
           let low : k.more.at ≤ r.n.floor = leb-true k.more.at image.floor e in
           let high = commit_above laws.rises g size.group o.left.heard nx.done k.number k.at each_next.1 deed_is r.behind after is in
           let more = k.at_is in
-          let floor = r.holds.is.floor in
+          let floor = r.holds.is.floor.low in
           omega (arith, low, high, more, floor))
 
       -- so its record was found
@@ -444,7 +444,7 @@ module _ (size : Size) (laws : Laws) (m : Master) (s0 sa : Story) (g : Opening) 
       greatest = λ low high l h.
           let base : g.base ≡ low = one_greatest (image_by m (areas_of s0)) g.base low b.starts.base l in
           let v = events_few in
-          let floor = r.holds.is.floor in
+          let floor = r.holds.is.floor.low in
           let own = (goes_to g by).floor in
           let top : high ≤ g.base + length by = greatest_most image high (g.base + length by) h (omega (arith, floor, own)) found_low
           (λ p within. let e = ap (λ o. (page_or o).gsn) (base_is p within) in let d = g.low p in omega arith) in

@@ -7,6 +7,7 @@ use Rattle.map_model.specs.declared.call.Call.TheVariants as calls
 use Rattle.lean_engine.specs.Calls.{MayBe}
 use Rattle.lean_engine.specs.Inside.Asks.{OnAsked}
 use Rattle.lean_engine.specs.Inside.Parts.{MachineWent}
+use Rattle.session_state.specs.Others.{AreHome}
 use Rattle.session_desks.specs.Parts.{here}
 use Rattle.lean_engine.specs.Inside.Quiet.{is_still}
 use Rattle.lean_engine.specs.Machines.{OnBegin, OnLine}
@@ -80,3 +81,9 @@ returns-in_default-clause-flushed g c still works =
     let n = c.row_call.new.machine in
     turned_flushed c.args.session (here o) (here t) (here n) o.desks.items t.desks.items n.desks.items c.turn_to-in_default.ensures.turned
     (c.row_call.ensures.flushed c.args.is_long still works)
+
+pub abort-requires-clause-home : goal.abort-requires-clause-home
+abort-requires-clause-home g c κs within = subst AreHome (sym c.turn_to-in-Abort.ensures.same.0) c.requires.home
+
+pub row_call-requires-clause-home : goal.row_call-requires-clause-home
+row_call-requires-clause-home g c κs within = subst AreHome (sym c.turn_to-in_default.ensures.same.0) c.requires.home

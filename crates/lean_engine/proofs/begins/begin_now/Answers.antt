@@ -15,6 +15,7 @@ use Rattle.session_desks.specs.declared.machine.Machine.{Machine}
 use Rattle.lean_engine.specs.declared.machine.Response.{Response}
 use Rattle.lean_engine.proofs.BeginAll.{told_of, with_works}
 use Rattle.lean_engine.proofs.BeginSteps.{without_sync}
+use Rattle.session_state.proofs.HomeLemmas.{every_home}
 use Rattle.session_desks.proofs.MachineLemmas.{machine_behind}
 use Rattle.lean_engine.proofs.QuietLemmas.{as_flushed}
 use Rattle.session_desks.proofs.SeatLemmas.{holds_of}
@@ -51,7 +52,7 @@ returns-clause-went g c =
     told e.fits.0
     (λ works. machine_behind c.every_other.ensures s.rows.frames s.rows.locks s.rows.workers n.rows.frames n.rows.locks n.rows.workers s.rows.words.items n.rows.words.items s.seat.view n.seat.view x y s.desks.items s.latches s.latches s.master
     c.requires.machine e.fits.1 e.fits.0 works e.session (e.steps c.requires.works works) (e.holds works) refl)
-    works (e.session.1, e.session.2) (ap faults e.same_disk.0))
+    (every_home own s.seat.view n.seat.view (e.steps c.requires.works works)) works (e.session.1, e.session.2) (ap faults e.same_disk.0))
 
 pub returns-clause-flushed : goal.returns-clause-flushed
 returns-clause-flushed g c works =

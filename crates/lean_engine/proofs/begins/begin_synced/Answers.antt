@@ -17,6 +17,9 @@ use Rattle.session_desks.specs.declared.desk.Desk.{Desk}
 use Rattle.session_desks.specs.declared.machine.Machine.{Machine}
 use Rattle.lean_engine.specs.declared.machine.Response.{Response}
 use Rattle.lean_engine.proofs.BeginAll.{told_of, with_works}
+use Rattle.session_state.specs.Others.{AreHome}
+use Rattle.session_state.proofs.HomeLemmas.{every_home}
+use Rattle.lean_engine.proofs.HomeLemmas.{home_synced}
 use Rattle.session_desks.proofs.MachineLemmas.{machine_behind}
 use Rattle.session_desks.proofs.SeatLemmas.{holds_of, turn_high, turn_low}
 use Rattle.lean_engine.proofs.SyncBegins.{with_sync}
@@ -91,6 +94,8 @@ returns-clause-went g c =
     told b.fits.0
     (λ on. machine_behind c.every_other.ensures t.rows.frames t.rows.locks t.rows.workers n.rows.frames n.rows.locks n.rows.workers t.rows.words.items n.rows.words.items t.seat.view n.seat.view k y t.desks.items t.latches t.latches t.master
     c.turn_to.ensures.machine b.fits.1 b.fits.0 on b.session (b.steps c.turn_to.ensures.works on) (b.holds on) (refl {a = t.latches}))
+    (λ h. every_home t.work.session.own t.seat.view n.seat.view (b.steps c.turn_to.ensures.works works)
+    (subst AreHome (sym q.0) (home_synced story s.work.session.workers c.in_default.field-0 s.seat.view m.seat.view _ _ s.master m.master s.work.disk m.work.disk e.made h)))
     works (many.1 ∙ (c.turn_to.ensures.turned.workers ∙ e.session.0), many.2 ∙ (q.3 ∙ e.session.1))
     (ap faults b.same_disk.0 ∙ (ap faults q.1 ∙ e.cause_disk_fault.calm (λ h. cc))))
 

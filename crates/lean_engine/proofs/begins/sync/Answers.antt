@@ -8,6 +8,7 @@ use Rattle.lean_engine.specs.Machines.{OnLine}
 use Rattle.session_desks.specs.declared.desk.Desk.{Desk}
 use Rattle.lean_engine.specs.declared.machine.Response.{Response}
 use Rattle.lean_engine.proofs.BeginSteps.{spent_where}
+use Rattle.lean_engine.proofs.HomeLemmas.{home_synced}
 use Rattle.lean_engine.proofs.HalfLates.{whole}
 use Rattle.session_desks.proofs.SeatLemmas.{holds_of}
 use Rattle.lean_engine.proofs.SyncEnds.{sync_does, sync_fails}
@@ -46,7 +47,7 @@ returns-in-Ok g c =
     subst (λ (r : Response). MachineWent story faults OnLine 1 0 call.Sync r s n) (sym c.only-in-Ok.ensures) (synced_went story faults OnLine c.in-Ok.at s n
     (sync_does c.laws.ensures.versions c.laws.ensures.kept c.laws.ensures.prefixes c.laws.ensures.seals c.laws.ensures.reached c.laws.ensures.needs story laws s.work.session.workers s.work.session.group (holds_of (shape s) s.seat.view (here s) s.desks.items c.requires.machine.desks).rows.most
     s.seat.view (here s) s.desks.items s.master s.work.disk c.in-Ok.at n.seat.view (here n) n.desks.items n.master n.work.disk e.made e.sessions)
-    e.fits e.machine (e.works.1 (λ h. cc)) e.session (e.cause_disk_fault.calm (λ h. cc)))
+    e.fits e.machine (home_synced story s.work.session.workers c.in-Ok.at s.seat.view n.seat.view _ _ s.master n.master s.work.disk n.work.disk e.made) (e.works.1 (λ h. cc)) e.session (e.cause_disk_fault.calm (λ h. cc)))
 
 pub returns-in-Err : goal.returns-in-Err
 returns-in-Err g c =

@@ -49,3 +49,6 @@ returns-clause-due g c =
     (receipt_in own r) (shape n) s.seat.view n.seat.view (here s) (here n) s.latches n.latches (faults s.work.disk) (faults n.work.disk) r
     (e.does c.requires.works) e.holds e.session (e.steps c.requires.works) e.unmarked
     (tells_any 1 r e.told) (abort_ends (shape n) s.seat.view n.seat.view (here s) (here n) r works e.holds e.session e.receipt) works (unbroken r s.work.session.works c.requires.works e.cause_broken) e.cause_disk_fault))
+
+pub abort-requires-clause-home : goal.abort-requires-clause-home
+abort-requires-clause-home g c κs within = λ _. c.requires.home

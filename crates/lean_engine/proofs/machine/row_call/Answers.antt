@@ -130,3 +130,12 @@ returns-in-Del-clause-flushed g c is_long still works =
     let s = c.args.machine.now in
     let n : Machine g.row.D.Denot = record s { rows = c.del.new.rows; seat = c.del.new.seat; work = c.del.new.work } in
     flushed_kept c.every_other.ensures g.D.Disk.story g.D.Disk.faults s n c.requires.machine e.fits.1 e.fits.0 (refl, refl) e.session.0 (e.flushed works)
+
+pub get-requires-clause-home : goal.get-requires-clause-home
+get-requires-clause-home g c κs within = λ _. c.requires.home
+
+pub put-requires-clause-home : goal.put-requires-clause-home
+put-requires-clause-home g c κs within = λ _. c.requires.home
+
+pub del-requires-clause-home : goal.del-requires-clause-home
+del-requires-clause-home g c κs within = λ _. c.requires.home

@@ -136,3 +136,6 @@ returns-clause-receipt g c =
     let u = g.R.Rows.view c.put_back_all.new.seat in
     let u1 = g.R.Rows.view c.latch_rows.new.seat in
     receipt_from (g.R.Rows.view c.args.seat.now) u1 c.finish.new.work.session c.finish.result (l.given ∙ undoes.given) (same_flushed u u1 l.given l.seen ∙ undoes.flushed) c.finish.ensures.receipt
+
+pub put_back_all-requires-clause-home : goal.put_back_all-requires-clause-home
+put_back_all-requires-clause-home g c κs within = c.requires.home (may_abort c.args.work.now.session (sym c.abort_refusal.ensures ∙ c.in_default.is)).works

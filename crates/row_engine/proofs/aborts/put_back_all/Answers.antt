@@ -1,4 +1,6 @@
-use Rattle.std.proofs.Common.{◌∙◌, ap, refl}
+use Rattle.std.proofs.Common.{◌∙◌, ap, eq-eqb, refl}
+use Rattle.row_words.specs.declared.event.Event.TheVariants.{PutBack}
+use Rattle.session_state.proofs.HomeLemmas.{home_step}
 use Rattle.engine_calls.proofs.PartLemmas.{every_part}
 use Rattle.session_state.specs.declared.session.Session.{Session}
 use Rattle.row_engine.proofs.BackSteps.{back_last, undone_next, undone_none, within_workers}
@@ -11,6 +13,7 @@ left-init g c = record {
   holds = c.requires.holds;
   works = c.requires.works;
   is_open = c.requires.is_open;
+  home = c.requires.home;
   undone = undone_none c.every_reached.ensures c.every_need.ensures (every_part c.every_version.ensures c.every_kept.ensures c.every_prefix.ensures c.every_sealed.ensures) (g.R.Rows.view c.args.seat.now) c.args.work.now.session c.requires.holds.rows.low (within_workers (g.R.Rows.shape c.args.rows.now) (g.R.Rows.view c.args.seat.now) c.args.work.now.session c.args.work.now.log c.requires.holds) c.args.work.now.log (g.D.Disk.story c.args.work.now.disk);
   faults = refl;
 }
@@ -30,6 +33,8 @@ left-preserved g c =
       holds = e.holds e.works;
       works = e.works;
       is_open = ap (λ (s : Session). s.is_open) e.backs.session ∙ i.is_open;
+      home = home_step c.left.work.session.own (g.R.Rows.view c.left.seat) (g.R.Rows.view c.put_back.new.seat) (PutBack c.left.work.session.own e.backs.page)
+          (eq-eqb c.left.work.session.own c.left.work.session.own refl) e.backs.given e.backs.seen e.backs.met i.home;
       undone = undone_next c.every_reached.ensures c.every_need.ensures (every_part c.every_version.ensures c.every_kept.ensures c.every_prefix.ensures c.every_sealed.ensures) (g.R.Rows.view c.args.seat.now) c.args.work.now.session
           c.requires.holds.rows.low (within_workers (g.R.Rows.shape c.args.rows.now) (g.R.Rows.view c.args.seat.now) c.args.work.now.session c.args.work.now.log c.requires.holds) c.args.work.now.log (g.D.Disk.story c.args.work.now.disk) (g.R.Rows.view c.left.seat) c.left.work.session c.left.work.log (g.D.Disk.story c.left.work.disk) i.undone
           (g.R.Rows.view c.put_back.new.seat) c.put_back.new.work.session c.put_back.new.work.log (g.D.Disk.story c.put_back.new.work.disk) e.backs;

@@ -1,6 +1,7 @@
 use Rattle.std.proofs.Common.{◌≡◌, true, length}
 use Rattle.row_engine.specs.Inside.Backs.{HasUndone}
 use Rattle.session_state.specs.Holds.{Holds}
+use Rattle.session_state.specs.Others.{AreHome}
 use Rattle.row_engine.proofs.aborts.put_back_all.Given as goal
 
 abbrev pub invariant-left : goal.invariant-left
@@ -9,6 +10,7 @@ invariant-left g l = record {
   holds : Holds (g.R.Rows.shape l.rows) (g.R.Rows.view l.seat) l.work.session l.work.log;
   works : l.work.session.works ≡ true;
   is_open : l.work.session.is_open ≡ true;
+  home : AreHome (g.R.Rows.view l.seat);
   undone : HasUndone (g.R.Rows.view l.fn.seat) (g.R.Rows.view l.seat) l.fn.work.session l.work.session l.fn.work.log l.work.log (g.D.Disk.story l.fn.work.disk) (g.D.Disk.story l.work.disk);
   faults : g.D.Disk.faults l.work.disk ≡ g.D.Disk.faults l.fn.work.disk;
 }

@@ -1,9 +1,10 @@
-use Rattle.std.proofs.Common.{◌≡◌, ◌∙◌, Err, ap, refl, sym, subst}
+use Rattle.std.proofs.Common.{◌≡◌, ◌∙◌, Err, ap, refl, sym, subst, true≢false}
 use Rattle.row_engine.specs.Inside.Backs.{IsPutBack}
 use Rattle.session_state.specs.Undo.{without_newest}
 use Rattle.session_state.specs.declared.session.Session.{Session}
 use Rattle.row_engine.proofs.BackLemmas.{draws_back, half_back, holds_back, is_put_back, key_low}
 use Rattle.row_engine.proofs.PutLemmas.{holds_as, holds_still, is_spent, none_seen, not_last}
+use Rattle.session_state.proofs.HomeLemmas.{no_cold}
 use Rattle.session_state.proofs.StageLemmas.{undo_set}
 use Rattle.row_engine.proofs.StepLemmas.{cause_from}
 use Rattle.row_engine.proofs.backs.put_back.Goals as goal
@@ -73,6 +74,16 @@ returns-in-RowSpent-clause-session g c = let e = c.in-RowSpent.ensures.drew in (
 pub unreachable-requires-in-ClockSpent : goal.unreachable-requires-in-ClockSpent
 unreachable-requires-in-ClockSpent g c =
     not_last (g.R.Rows.shape c.args.rows.now) (g.R.Rows.view c.args.seat.now) (g.R.Rows.view c.leaf_put_back.new.seat) c.args.work.now.session c.args.work.now.log c.newest_left-undone.result.key c.requires.holds c.next_fits.ensures c.requires.is_open c.in-ClockSpent.ensures.put
+
+pub unreachable-requires-in-Cold : goal.unreachable-requires-in-Cold
+unreachable-requires-in-Cold g c =
+    no_cold (g.R.Rows.shape c.args.rows.now) (g.R.Rows.view c.args.seat.now) (g.R.Rows.view c.leaf_put_back.new.seat) c.newest_left-undone.result.key c.in-Cold.field-0 c.requires.holds.alone c.requires.home c.in-Cold.ensures.put
+
+-- the rows began faithful
+pub unreachable-requires-in-Full : goal.unreachable-requires-in-Full
+unreachable-requires-in-Full g c =
+    let p = c.in-Full.ensures.put in
+    true≢false (sym c.requires.holds.rows.faithful ∙ (sym (ap (λ k. k.faithful) p.0.ran.given) ∙ p.1))
 
 pub returns-in-Unstaged-DiskFault-clause-cause_disk_fault : goal.returns-in-Unstaged-DiskFault-clause-cause_disk_fault
 returns-in-Unstaged-DiskFault-clause-cause_disk_fault g c =

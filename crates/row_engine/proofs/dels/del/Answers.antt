@@ -77,6 +77,7 @@ returns-clause-told g c =
 pub del_held-requires-clause-may : goal.del_held-requires-clause-may
 del_held-requires-clause-may g c κs within =
     may_taken (g.R.Rows.view c.args.seat.now) (g.R.Rows.view c.take_row.new.seat) c.args.work.now.session c.take_row.new.session c.args.work.now.log c.args.key (sym c.put_refusal.ensures ∙ c.in_default.is) c.in_default-take_row.ensures.taken c.requires.key (sym c.clock_refusal.ensures ∙ c.in_default-clock_refusal.is)
+    (c.requires.home (works_of c.args.work.now.session c.args.work.now.log (sym c.put_refusal.ensures ∙ c.in_default.is)))
 
 pub returns-in-Some-clause-tested : goal.returns-in-Some-clause-tested
 returns-in-Some-clause-tested g c why e = (ap Err (some_is c.in-Some.why why (sym c.in-Some.is ∙ (c.put_refusal.ensures ∙ e))), refl, refl)

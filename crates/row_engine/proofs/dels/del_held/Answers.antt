@@ -2,14 +2,15 @@ use Rattle.std.proofs.Common.{◌≡◌, ℕ, ◌∷◌, Option, Some, Err, ap, 
 use Rattle.btree_descent.specs.declared.descent.TheConstants.{TOMBSTONE}
 use Rattle.row_engine.specs.Puts.{IsChanged}
 use Rattle.row_engine.proofs.DelLemmas.{holds_absent, is_absent, same_by_clock}
-use Rattle.row_engine.proofs.PutLemmas.{holds_as, holds_changed, holds_still, is_changed, is_spent, may_put, none_seen, not_cold, not_last, value_said}
+use Rattle.row_engine.proofs.PutLemmas.{holds_as, holds_changed, holds_still, is_changed, is_spent, may_put, none_seen, not_last, value_said}
+use Rattle.session_state.proofs.HomeLemmas.{no_cold}
 use Rattle.session_state.proofs.StageLemmas.{undo_set}
 use Rattle.row_engine.proofs.StepLemmas.{cause_from, ok_calm}
 use Rattle.row_engine.proofs.dels.del_held.Goals as goal
 
 pub unreachable-requires-in-Cold : goal.unreachable-requires-in-Cold
 unreachable-requires-in-Cold g c =
-    not_cold (g.R.Rows.shape c.args.rows.now) (g.R.Rows.view c.args.seat.now) (g.R.Rows.view c.leaf_del.new.seat) c.args.work.now.session c.args.work.now.log c.args.key c.in-Cold.field-0 c.requires.holds c.in-Cold.ensures.fits.2 c.in-Cold.ensures.del
+    no_cold (g.R.Rows.shape c.args.rows.now) (g.R.Rows.view c.args.seat.now) (g.R.Rows.view c.leaf_del.new.seat) c.args.key c.in-Cold.field-0 c.requires.holds.alone c.requires.may.home c.in-Cold.ensures.del
 
 pub leaf_del-requires-clause-may : goal.leaf_del-requires-clause-may
 leaf_del-requires-clause-may g c = may_put (g.R.Rows.shape c.args.rows.now) (g.R.Rows.view c.args.seat.now) c.args.work.now.session c.args.work.now.log c.args.key TOMBSTONE c.requires.holds c.requires.may (omega arith)

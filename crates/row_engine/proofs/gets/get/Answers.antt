@@ -9,8 +9,10 @@ use Rattle.key_locks.specs.declared.mode.Mode.TheVariants.{Shared}
 use Rattle.engine_trait.specs.Calls.{MayCome}
 use Rattle.row_engine.specs.Calls.{CallDoes, get_answer}
 use Rattle.row_engine.specs.Inside.Takes.{NotTaken}
-use Rattle.row_engine.proofs.GetLemmas.{after_read, call_open, got, key_mine, may_come, no_cold, not_got, not_taken, open_still, read_steps}
+use Rattle.row_engine.proofs.GetLemmas.{after_read, call_open, got, key_mine, may_come, not_got, not_taken, open_still, read_steps}
+use Rattle.session_state.proofs.HomeLemmas.{no_cold}
 use Rattle.session_state.proofs.OtherLemmas.{no_steps}
+use Rattle.row_engine.proofs.PutTests.{home_taken}
 use Rattle.row_engine.proofs.OwnSteps.{taken_then, untaken_steps}
 use Rattle.session_state.proofs.StageLemmas.{clock_set}
 use Rattle.session_state.proofs.HoldLemmas.{holds_as}
@@ -44,7 +46,8 @@ unreachable-requires g c =
     let z = g.R.Rows.shape c.take_row.new.rows in
     let w = g.R.Rows.view c.take_row.new.seat in
     let u = g.R.Rows.view c.find.new.seat in
-    no_cold z w u c.take_row.new.session c.args.work.now.log c.take_row.ensures.holds c.args.key c.in-Cold.field-0 c.in-Cold.ensures.went c.in-Cold.ensures.fits.2
+    no_cold z w u c.args.key c.in-Cold.field-0 c.take_row.ensures.holds.alone
+    (home_taken (g.R.Rows.view c.args.seat.now) w c.args.work.now.session c.take_row.new.session _ Shared c.in_ok-take_row.ensures.taken (c.requires.home (call_open c.args.work.now.session (sym c.call_refusal.ensures ∙ c.in_default.is)).0)) c.in-Cold.ensures.went
 
 pub returns-clause-holds : goal.returns-clause-holds
 returns-clause-holds g c works =

@@ -2,14 +2,15 @@ use Rattle.std.proofs.Common.{◌≡◌, ◌^◌, ◌∙◌, ℕ, ◌∷◌, Opt
 use Rattle.page_model.specs.Tree.{word_or}
 use Rattle.row_engine.specs.Puts.{IsChanged}
 use Rattle.row_engine.proofs.DelLemmas.{same_by_clock}
-use Rattle.row_engine.proofs.PutLemmas.{holds_as, holds_changed, holds_still, is_changed, is_spent, may_put, no_room, none_seen, not_cold, not_last}
+use Rattle.row_engine.proofs.PutLemmas.{holds_as, holds_changed, holds_still, is_changed, is_spent, may_put, no_room, none_seen, not_last}
+use Rattle.session_state.proofs.HomeLemmas.{no_cold}
 use Rattle.session_state.proofs.StageLemmas.{undo_set}
 use Rattle.row_engine.proofs.StepLemmas.{cause_from, ok_calm}
 use Rattle.row_engine.proofs.puts.put_in_leaf.Goals as goal
 
 pub unreachable-requires-in-Cold : goal.unreachable-requires-in-Cold
 unreachable-requires-in-Cold g c =
-    not_cold (g.R.Rows.shape c.args.rows.now) (g.R.Rows.view c.args.seat.now) (g.R.Rows.view c.leaf_put.new.seat) c.args.work.now.session c.args.work.now.log c.args.key c.in-Cold.field-0 c.requires.holds c.in-Cold.ensures.fits.2 c.in-Cold.ensures.put
+    no_cold (g.R.Rows.shape c.args.rows.now) (g.R.Rows.view c.args.seat.now) (g.R.Rows.view c.leaf_put.new.seat) c.args.key c.in-Cold.field-0 c.requires.holds.alone c.requires.may.home c.in-Cold.ensures.put
 
 pub unreachable-requires-in-ClockSpent : goal.unreachable-requires-in-ClockSpent
 unreachable-requires-in-ClockSpent g c =
@@ -67,7 +68,7 @@ returns-in-RowSpent-clause-tries g c =
 
 pub returns-in-Full-clause-tries : goal.returns-in-Full-clause-tries
 returns-in-Full-clause-tries g c =
-    (no_room (g.R.Rows.shape c.args.rows.now) (g.R.Rows.view c.args.seat.now) (g.R.Rows.view c.leaf_put.new.seat) c.args.work.now.session c.args.work.now.log c.args.key c.in-Full.row c.leaf_put.new.path c.requires.holds c.in-Full.ensures.put c.in-Full.ensures.trail, c.in-Full.ensures.drew)
+    (no_room (g.R.Rows.shape c.args.rows.now) (g.R.Rows.view c.args.seat.now) (g.R.Rows.view c.leaf_put.new.seat) c.args.work.now.session c.args.work.now.log c.args.key c.in-Full.row c.leaf_put.new.path c.requires.holds c.requires.may.home c.in-Full.ensures.put c.in-Full.ensures.trail, c.in-Full.ensures.drew)
 
 pub returns-in-Done-clause-cause_disk_fault : goal.returns-in-Done-clause-cause_disk_fault
 returns-in-Done-clause-cause_disk_fault g c =

@@ -5,17 +5,14 @@ use Rattle.map_model.specs.declared.call.Refusal.TheVariants as refusal
 use Rattle.lean_disk.specs.Faults.{HasCause}
 use Rattle.row_engine.specs.Inside.Rooms.{session_after}
 use Rattle.row_engine.proofs.ChangeLemmas.{faults_told, page_free, session_kept}
+use Rattle.row_engine.proofs.GrowthLemmas.{framed}
 use Rattle.row_engine.proofs.PutLemmas.{holds_as}
 use Rattle.row_engine.proofs.LiftLemmas.{lift_expected, lift_answered, lift_holds, lift_apart}
 use Rattle.row_engine.proofs.room.lift_root.Goals as goal
 
 pub lift-outcome-requires-clause-frame : goal.lift-outcome-requires-clause-frame
 lift-outcome-requires-clause-frame g c =
-    let h = c.requires.holds in
-    let p = (page_free c.every_room.ensures (g.R.Rows.shape c.args.rows.now) (g.R.Rows.view c.args.seat.now) c.args.work.now.session c.args.work.now.log h c.args.key c.args.page c.requires.can.least).0 in
-    let room = h.resident.room in
-    let shape = h.rows.tree.shape in
-    omega arith
+    framed (g.R.Rows.shape c.args.rows.now) (g.R.Rows.view c.args.seat.now) c.args.work.now.session c.args.work.now.log c.requires.holds c.requires.may.home c.args.page (page_free c.every_room.ensures (g.R.Rows.shape c.args.rows.now) (g.R.Rows.view c.args.seat.now) c.args.work.now.session c.args.work.now.log c.requires.holds c.args.key c.args.page c.requires.can.least).0
 
 pub finish-requires : goal.finish-requires
 finish-requires g c =

@@ -5,17 +5,22 @@ use Rattle.map_model.specs.declared.call.Refusal.TheVariants as refusal
 use Rattle.lean_disk.specs.Faults.{HasCause}
 use Rattle.row_engine.specs.Inside.Rooms.{session_after}
 use Rattle.row_engine.proofs.ChangeLemmas.{faults_told, page_free, session_kept}
+use Rattle.row_engine.proofs.GrowthLemmas.{framed}
 use Rattle.row_engine.proofs.PutLemmas.{holds_as}
 use Rattle.row_engine.proofs.SplitLemmas.{split_expected, split_answered, split_holds, left_page, left_parent, page_parent}
 use Rattle.row_engine.proofs.room.split_page.Goals as goal
 
 pub split-outcome-requires-clause-right : goal.split-outcome-requires-clause-right
 split-outcome-requires-clause-right g c =
-    let h = c.requires.holds in
-    let p = (page_free c.every_room.ensures (g.R.Rows.shape c.args.rows.now) (g.R.Rows.view c.args.seat.now) c.args.work.now.session c.args.work.now.log h c.args.key c.args.page c.requires.can.least).0 in
-    let room = h.resident.room in
-    let shape = h.rows.tree.shape in
-    omega arith
+    framed (g.R.Rows.shape c.args.rows.now) (g.R.Rows.view c.args.seat.now) c.args.work.now.session c.args.work.now.log c.requires.holds c.requires.may.home c.args.page (page_free c.every_room.ensures (g.R.Rows.shape c.args.rows.now) (g.R.Rows.view c.args.seat.now) c.args.work.now.session c.args.work.now.log c.requires.holds c.args.key c.args.page c.requires.can.least).0
+
+pub split-outcome-requires-clause-left : goal.split-outcome-requires-clause-left
+split-outcome-requires-clause-left g c =
+    framed (g.R.Rows.shape c.args.rows.now) (g.R.Rows.view c.args.seat.now) c.args.work.now.session c.args.work.now.log c.requires.holds c.requires.may.home c.args.left c.requires.can.below
+
+pub split-outcome-requires-clause-parent : goal.split-outcome-requires-clause-parent
+split-outcome-requires-clause-parent g c =
+    framed (g.R.Rows.shape c.args.rows.now) (g.R.Rows.view c.args.seat.now) c.args.work.now.session c.args.work.now.log c.requires.holds c.requires.may.home c.args.parent c.requires.can.within
 
 pub finish-requires : goal.finish-requires
 finish-requires g c =

@@ -4,12 +4,22 @@ use Rattle.session_desks.specs.Parts.{here, shape}
 use Rattle.session_desks.specs.Desks.{log_of}
 use Rattle.session_desks.specs.Syncs.{SyncFails, SyncMade}
 use Rattle.session_desks.specs.declared.desk.Desk.{Desk}
-use Rattle.session_desks.proofs.SyncGoes.{if_all, if_ok, sync_fails, sync_made, sync_sessions}
+use Rattle.session_desks.proofs.SyncGoes.{all_logged, if_all, if_ok, sync_fails, sync_made, sync_sessions}
 use Rattle.session_desks.proofs.SyncNeeds.{numbered}
 use Rattle.session_desks.proofs.machine.Machine.sync_all.Goals as goal
 
 pub clocks_low-requires-clause-numbered : goal.clocks_low-requires-clause-numbered
 clocks_low-requires-clause-numbered g c = let m = c.flush_all.new.self in numbered (shape m) m.seat.view (here m) m.desks.items c.in_ok-flush_all.ensures.machine.desks
+
+pub sync_flushed-requires-clause-logged : goal.sync_flushed-requires-clause-logged
+sync_flushed-requires-clause-logged g c κs within =
+    let s = c.args.self.now in
+    let m = c.flush_all.new.self in
+    let e = c.in_ok-flush_all.ensures in
+    let x : Desk = here s in
+    let d : Desk = here m in
+    let z = shape m in
+    all_logged z s.seat.view m.seat.view x d s.desks.items m.desks.items g.D.Disk.story s.work.disk m.work.disk e.session.0 c.requires.logged e.flushed e.machine.desks
 
 pub returns-clause-sessions : goal.returns-clause-sessions
 returns-clause-sessions g c =

@@ -1,9 +1,10 @@
-use Rattle.std.proofs.Common.{◌≡◌, ◌≤◌, ap, sym, subst, ◌∙◌}
+use Rattle.std.proofs.Common.{◌≡◌, ◌≤◌, true, false, ⊎_elim, ap, sym, subst, ◌∙◌, arith, true≢false}
+use Rattle.std.proofs.lemmas.Bool.{cases_Bool}
 use Rattle.session_desks.specs.Parts.{here, shape}
 use Rattle.session_desks.specs.Machines.{IsMachine}
-use Rattle.session_desks.specs.Syncs.{IsWriting, greatest, next_with}
+use Rattle.session_desks.specs.Syncs.{IsWriting, IsWritten, all_end_at, greatest, next_with}
 use Rattle.session_desks.specs.declared.desk.Desk.{Desk}
-use Rattle.session_desks.proofs.SyncGoes.{at_desk, at_store, may_sync_at, numbers_new, raised_to}
+use Rattle.session_desks.proofs.SyncGoes.{at_desk, at_store, end_at_all, end_at_none, may_sync_at, numbers_new, raised_to}
 use Rattle.session_desks.proofs.SyncMachines.{machine_synced}
 use Rattle.session_desks.proofs.SyncNeeds.{numbered}
 use Rattle.session_desks.proofs.machine.Machine.sync_flushed.Goals as goal
@@ -12,7 +13,8 @@ pub returns-in-Err-clause-failed : goal.returns-in-Err-clause-failed
 returns-in-Err-clause-failed g c =
     let s = c.args.self.now in
     let at = c.greatest_clock-number.ensures ∙ ap (greatest s.work.session.clock.clock) c.deref.ensures.value in
-    λ _. subst (λ k. IsWriting (next_with s.master k) (g.D.Disk.story s.work.disk) (g.D.Disk.story c.write_floor.new.disk)) at (c.in-Err.ensures.any_moment (λ q. let h = (c.in-Err.ensures.same q).0 in cc))
+    λ _. subst (λ k. IsWriting (next_with s.master k) (g.D.Disk.story s.work.disk) (g.D.Disk.story c.write_floor.new.disk)) at
+    (⊎_elim (λ (q : c.end_at-all_end.result ≡ true). absurd (true≢false (sym (c.in-Err.ensures.same q).0))) (λ (q : c.end_at-all_end.result ≡ false). c.in-Err.ensures.any_moment q) (cases_Bool c.end_at-all_end.result))
 
 pub clocks_low-requires-clause-numbered : goal.clocks_low-requires-clause-numbered
 clocks_low-requires-clause-numbered g c = let s = c.args.self.now in numbered (shape s) s.seat.view (here s) s.desks.items c.requires.machine.desks
@@ -71,10 +73,10 @@ returns-clause-machine g c =
     let rows = c.store_synced.new.rows in
     let e = c.in_default.ensures in
     let next = numbers_new c.every_reached.ensures z s.seat.view x s.desks.items are s.master c.requires.machine.numbers c.requires.opens c.requires.logged c.requires.flushed c.clocks_low.ensures c.requires.machine.floor c.write_floor.new.master
-    (λ q. (e.same (at ∙ q)).2) (λ o. subst (λ k. c.write_floor.new.master ≡ next_with s.master k) at (e.next (λ q. o (sym at ∙ q))).1) in
+    c.end_at-all_end.result (c.end_at-all_end.ensures ∙ (ap (all_end_at n x.log) c.deref-2.ensures.value ∙ ap (λ k. all_end_at k x.log s.desks.items) at)) (λ q. (e.same q).2) (λ q. subst (λ k. c.write_floor.new.master ≡ next_with s.master k) at (e.next q).1) in
     subst (λ (d : Desk). IsMachine rows.frames rows.locks rows.workers rows.words.items c.store_synced.new.seat.view d c.raise_desks.new.desks.items s.latches c.write_floor.new.master) (λ i. record { session = sym c.raise.ensures.session i; log = sym c.raise.ensures.log i })
     (machine_synced c.every_synced.ensures s.rows.frames s.rows.locks s.rows.workers rows.frames rows.locks rows.workers s.rows.words.items rows.words.items s.seat.view c.store_synced.new.seat.view x s.desks.items c.raise_desks.new.desks.items s.latches s.master c.write_floor.new.master n
-    c.requires.machine c.store_synced.ensures.fits.1 c.store_synced.ensures.fits.0 c.raise_desks.ensures c.requires.flushed c.store_synced.ensures.synced (next.0 ∙ sym at) next.1)
+    c.requires.machine c.store_synced.ensures.fits.1 c.store_synced.ensures.fits.0 c.raise_desks.ensures c.requires.flushed c.store_synced.ensures.synced (let a = next.0 in omega arith) next.1)
 
 pub returns-clause-raised : goal.returns-clause-raised
 returns-clause-raised g c =
@@ -86,8 +88,14 @@ returns-clause-raised g c =
 
 pub returns-clause-written : goal.returns-clause-written
 returns-clause-written g c =
+    let s = c.args.self.now in
+    let x : Desk = here s in
+    let z = shape s in
+    let are = c.requires.machine.desks in
+    let n = c.greatest_clock-number.result in
+    let ends = c.end_at-all_end.ensures ∙ ap (all_end_at n x.log) c.deref-2.ensures.value in
     let e = c.in_default.ensures in
-    record {
-      still = λ q. ((e.same q).1, (e.same q).2);
-      wrote = λ o. ((e.next o).0, e.any_moment o, (e.next o).1);
-    }
+    ⊎_elim
+    (λ (q : c.end_at-all_end.result ≡ true). IsWritten.Still (end_at_all z s.seat.view x s.desks.items are n (sym ends ∙ q)) (e.same q).1 (e.same q).2)
+    (λ (q : c.end_at-all_end.result ≡ false). IsWritten.Wrote (end_at_none z s.seat.view x s.desks.items are n (sym ends ∙ q)) (e.next q).0 (e.any_moment q) (e.next q).1)
+    (cases_Bool c.end_at-all_end.result)
