@@ -618,15 +618,7 @@ impl Rules {
         }
     }
 
-    // The floor of the newest master.
-    fn floor(&self) -> u64 {
-        match self.masters.last() {
-            Some(master) => master.floor,
-            None => 0,
-        }
-    }
-
-    /// Adds a sync: each log is flushed, and then a master is written with the greatest clock as its floor, unless it has that one.
+    /// Adds a sync: each log is flushed, and then, where some log ends below the greatest clock, a master is written with that as its floor.
     pub(crate) fn add_sync<R: Abort>(&mut self, rt: &R) {
         self.text.push_str("sync\n").expect(rt, MEMORY);
         let mut at = 0;
@@ -636,7 +628,11 @@ impl Rules {
         for one in &self.sessions {
             at = at.max(one.clock);
         }
-        if self.floor() != at {
+        let mut is_below = false;
+        for one in &self.sessions {
+            is_below = is_below || one.last != at;
+        }
+        if is_below {
             let written = self.tick();
             let synced = self.tick();
             let floor = at;
