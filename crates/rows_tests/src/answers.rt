@@ -3,12 +3,14 @@ ghost use Rattle.std.specs.Prelude.{◌≡◌, ◌<◌, ◌≤◌};
 ghost use Rattle.row_sessions.specs.Standing.{Stands, workers_of};
 
 use btree_descent::descent::Answer;
+use btree_descent::next::Following;
 use btree_descent::put::Put;
 use key_locks::locking::Refusal;
 use key_locks::mode::Mode;
 use row_sessions::locking::Unlocked;
 use row_sessions::puts::Unput;
 use row_sessions::sessions::Sessions;
+use row_sessions::walks::Unwalked;
 
 /// The word of a tombstone, the greatest that there is.
 pub const TOMBSTONE: u64 = 1 << 63;
@@ -24,6 +26,8 @@ pub enum Call {
     Stamp(u32),
     Lock(u32, Mode),
     Put(u32, u64),
+    /// A walk from a key on, over these keys, whose rows the worker is to hold.
+    Next(u32, &'static [u64]),
     Unlock(u32),
 }
 
@@ -38,6 +42,12 @@ pub enum Told {
     Word(Option<u64>),
     /// Number and log of the last record that changed the key's leaf.
     Stamp(u64, u32),
+    /// The pair that follows.
+    Pair(u64, u64),
+    /// None up to this key.
+    Gap(u64),
+    /// This key is on the way, and not among those of the walk.
+    Unlocked(u64),
     /// The worker has no transaction open, or one with no change left.
     NotOpen,
     /// This worker is in the way.
@@ -62,6 +72,7 @@ pub fn answer(sessions: &mut Sessions, worker: u32, call: Call) -> Told
         Call::Stamp(key) => stamped(sessions.find(u64::from(key))),
         Call::Lock(key, mode) => locked(sessions.lock(worker, u64::from(key), mode)),
         Call::Put(key, word) => put(sessions.put(worker, u64::from(key), word.min(TOMBSTONE))),
+        Call::Next(key, keys) => walked(sessions.next(worker, u64::from(key), keys)),
         Call::Unlock(key) => Told::Did(sessions.unlock(worker, u64::from(key))),
     }
 }
@@ -102,5 +113,16 @@ fn put(outcome: Result<Option<u64>, Unput>) -> Told {
         Err(Unput::Unlocked(unlocked)) => refused(unlocked),
         Err(Unput::Refused(Put::Full { row: _ })) => Told::Full,
         Err(Unput::Refused(_)) => Told::Other,
+    }
+}
+
+fn walked(outcome: Result<Following, Unwalked>) -> Told {
+    match outcome {
+        Ok(Following::Pair { key, value, .. }) => Told::Pair(key, value),
+        Ok(Following::Gap { high, .. }) => Told::Gap(high),
+        Ok(Following::Unlocked { key }) => Told::Unlocked(key),
+        Ok(_) => Told::Other,
+        Err(Unwalked::NotOpen) => Told::NotOpen,
+        Err(Unwalked::NotHeld(_)) => Told::Other,
     }
 }

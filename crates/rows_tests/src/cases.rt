@@ -111,20 +111,70 @@ static CLOCKS_COME_TO_THEIR_END: [Case; 9] = [
     Case(3, Call::End, Told::Did(true)),
 ];
 
+// Over three leaves of four entries: worker 1 makes tombstones of two of the first leaf and of all of the second, and worker 2 walks.
+static A_WALK_MEETS_EACH_ENTRY_ON_ITS_WAY: [Case; 32] = [
+    Case(1, Call::Begin, Told::Did(true)),
+    Case(1, Call::Put(10, TOMBSTONE), Told::Word(Some(1))),
+    Case(1, Call::Put(20, TOMBSTONE), Told::Word(Some(2))),
+    Case(1, Call::Put(1000, TOMBSTONE), Told::Word(Some(0))),
+    Case(1, Call::Put(1010, TOMBSTONE), Told::Word(Some(1))),
+    Case(1, Call::Put(1020, TOMBSTONE), Told::Word(Some(2))),
+    Case(1, Call::Put(1030, TOMBSTONE), Told::Word(Some(3))),
+    Case(1, Call::End, Told::Did(true)),
+    Case(1, Call::Unlock(10), Told::Did(true)),
+    Case(1, Call::Unlock(20), Told::Did(true)),
+    Case(1, Call::Unlock(1000), Told::Did(true)),
+    Case(1, Call::Unlock(1030), Told::Did(true)),
+    Case(2, Call::Next(5, &[]), Told::NotOpen),
+    Case(2, Call::Begin, Told::Did(true)),
+    // a tombstone
+    Case(2, Call::Next(5, &[]), Told::Unlocked(10)),
+    Case(2, Call::Next(5, &[10]), Told::Other),
+    Case(2, Call::Lock(10, Mode::Shared), Told::Locked),
+    // another in the middle
+    Case(2, Call::Next(5, &[10]), Told::Unlocked(20)),
+    Case(2, Call::Lock(20, Mode::Shared), Told::Locked),
+    Case(2, Call::Lock(30, Mode::Shared), Told::Locked),
+    Case(2, Call::Next(5, &[10, 30]), Told::Unlocked(20)),
+    // the pair itself
+    Case(2, Call::Next(5, &[10, 20]), Told::Unlocked(30)),
+    Case(2, Call::Next(5, &[10, 20, 30]), Told::Pair(30, 3)),
+    Case(2, Call::Next(30, &[30]), Told::Pair(30, 3)),
+    // behind the last entry, and over a leaf of tombstones
+    Case(2, Call::Next(31, &[]), Told::Gap(1000)),
+    Case(2, Call::Next(1000, &[]), Told::Unlocked(1000)),
+    Case(2, Call::Lock(1000, Mode::Shared), Told::Locked),
+    // of the other keys the rows are held, by keys of the first leaf
+    Case(
+        2,
+        Call::Next(1000, &[1000, 1010, 1020]),
+        Told::Unlocked(1030),
+    ),
+    Case(
+        2,
+        Call::Next(1000, &[1000, 1010, 1020, 1030]),
+        Told::Gap(2000),
+    ),
+    Case(2, Call::Next(2000, &[2000]), Told::Pair(2000, 0)),
+    Case(2, Call::Next(2001, &[2010]), Told::Pair(2010, 1)),
+    Case(2, Call::Next(2031, &[]), Told::Gap(u64::MAX)),
+];
+
 /// Three workers and eight lock rows over two leaves, which begin at 0 and 1000, with entries ten apart.
 pub fn opened(alloc: Global, entries: u64) -> Result<Sessions, Unopened>
     requires { entries ≤ 60 }
     ensures { IfOk result (λ s. Stands s × (3 ≤ workers_of s)) }
 {
-    opened_at(alloc, entries, 7)
+    opened_at(alloc, 2, entries, 7)
 }
 
-// The same, where numbers begin behind this base.
-fn opened_at(alloc: Global, entries: u64, base: u64) -> Result<Sessions, Unopened>
-    requires { entries ≤ 60 }
+// The same over so many leaves, a thousand apart, where numbers begin behind this base.
+fn opened_at(alloc: Global, leaves: u32, entries: u64, base: u64) -> Result<Sessions, Unopened>
+    requires leaves { leaves ≤ 60 }
+    requires entries { entries ≤ 60 }
     ensures { IfOk result (λ s. Stands s × (3 ≤ workers_of s)) }
 {
-    match two_levels(alloc, 2, 1000, 10, entries) {
+    match two_levels(alloc, leaves, 1000, 10, entries) {
         Ok(pages) => Sessions::open(alloc, &pages, 4, 8, 3, base),
         Err(_) => Err(Unopened::Memory),
     }
@@ -186,8 +236,15 @@ fn makes_no_more_changes(alloc: Global) -> bool {
 }
 
 fn clocks_end(alloc: Global) -> bool {
-    match opened_at(alloc, 60, CLOCK_END - 1) {
+    match opened_at(alloc, 2, 60, CLOCK_END - 1) {
         Ok(mut sessions) => are_told(&mut sessions, &CLOCKS_COME_TO_THEIR_END),
+        Err(_) => false,
+    }
+}
+
+fn meets_each_entry(alloc: Global) -> bool {
+    match opened_at(alloc, 3, 4, 7) {
+        Ok(mut sessions) => are_told(&mut sessions, &A_WALK_MEETS_EACH_ENTRY_ON_ITS_WAY),
         Err(_) => false,
     }
 }
@@ -198,6 +255,11 @@ fn each_call_is_told_what_its_row_says(rt: HostRuntime) {
     for scenario in &SCENARIOS {
         expect(&rt, scenario.name, is_met(alloc, scenario));
     }
+    expect(
+        &rt,
+        "a walk meets each entry on its way",
+        meets_each_entry(alloc),
+    );
     expect(
         &rt,
         "a transaction makes sixty-four changes",

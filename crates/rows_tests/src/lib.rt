@@ -16,6 +16,8 @@ mod openings;
 #[cfg(test)]
 mod random;
 #[cfg(test)]
+mod shrinking;
+#[cfg(test)]
 mod stores;
 #[cfg(test)]
 mod structure;

@@ -90,6 +90,8 @@ impl Model {
             Call::Find(_) => Told::Word(self.word(place.leaf, place.slot)),
             // It keeps no numbers.
             Call::Stamp(_) => Told::Other,
+            // Nor does it walk.
+            Call::Next(_, _) => Told::Other,
             Call::Lock(_, mode) => self.lock(worker, place.row, mode),
             Call::Put(_, word) => self.put(worker, place, word),
             Call::Unlock(_) => Told::Did(self.unlock(worker, place.row)),

@@ -1,28 +1,31 @@
-// Lifts and splits: what each makes of a tree, and what refuses it. A refusal leaves all frames as they stood.
+// Changes of the structure, step by step; and lifts and splits: what each makes of a tree, and what refuses it. A refusal leaves all rows
+// as they stood.
 ghost use Rattle.std.specs.Prelude.{◌≤◌, IfOk};
 ghost use Rattle.row_sessions.specs.Standing.{Stands, workers_of};
 
-use crate::answers::{Call, Told, answer};
+use crate::answers::{Call, TOMBSTONE, Told, answer};
 use crate::expect::expect;
 use btree_node::Node;
 use btree_smo::outcome::Outcome;
 use lean_proto::path::{DEEPEST, Path};
 use row_sessions::pages::{eight_levels, one_leaf, two_levels};
 use row_sessions::sessions::{Sessions, Unopened};
-use row_sessions::structure::Unchanged;
+use row_sessions::structure::{Unchanged, Unpurged};
 use std::alloc::{AllocError, Global};
 
-/// What came of a lift or a split.
+/// What came of a change of the structure, or of a purge.
 #[derive(Clone, Copy, PartialEq, Eq)]
-enum Made {
+pub enum Made {
     Done,
-    /// The parent in this row is full.
+    /// The parent in this row is full, or the left page in it has no room for the right one's pairs.
     Full(u32),
     TooTall,
     /// The page in this row is none for the change.
     Stale(u32),
     /// The row was held.
     Latched(u32),
+    /// Nothing is purged: so many entries would be left.
+    Spared(usize),
     /// The record was not staged.
     Unstaged,
     /// The worker may draw no number.
@@ -35,12 +38,18 @@ enum Made {
 
 /// What worker 1 does, and what comes of it.
 #[derive(Clone, Copy)]
-enum Step {
+pub enum Step {
     Call(Call, Told),
     /// The root, into this frame.
     Lift(u32, Made),
     /// The left page, the right one and the parent.
     Split([u32; 3], Made),
+    /// The root's one child.
+    Drop(u32, Made),
+    /// The left page, the right one and the parent.
+    Join([u32; 3], Made),
+    /// A leaf's tombstones, where at most so many entries are left.
+    Purge(u32, usize, Made),
     /// How many nodes at the end of the path are full.
     Run(&'static [u32], usize),
     /// Sixty keys from this one on, ten apart, have the words 0 to 59.
@@ -51,11 +60,16 @@ enum Step {
 
 /// What the rows begin with. Leaf `i` of two levels is page `i + 1`, and has keys from `1000 * i` on.
 #[derive(Clone, Copy)]
-enum Tree {
+pub enum Tree {
     /// With so many entries, ten apart, and so many free pages.
     OneLeaf {
         entries: u64,
         free: u32,
+    },
+    /// With so many entries, ten apart, the first of which are tombstones.
+    Tombstones {
+        entries: u64,
+        dead: u64,
     },
     /// With so many leaves, entries in each, and free pages.
     TwoLevels {
@@ -68,10 +82,10 @@ enum Tree {
 }
 
 /// What is done, one after the other.
-struct Scenario {
-    name: &'static str,
-    tree: Tree,
-    steps: &'static [Step],
+pub struct Scenario {
+    pub name: &'static str,
+    pub tree: Tree,
+    pub steps: &'static [Step],
 }
 
 static SCENARIOS: [Scenario; 9] = [
@@ -244,9 +258,35 @@ const FIRST: usize = 14;
 /// The words of a frame row, its latch with them.
 const ROW: usize = 129;
 
+/// How many lock rows there are, at the end of the words.
+const LOCKS: u32 = 8;
+
+/// The words of a lock row, its latch with them.
+const LOCK_ROW: usize = 6;
+
+// A leaf, page 0: key `10 * i` has the word `i`, and the first ones are tombstones.
+fn leaf_of(entries: u64, dead: u64) -> Node
+    requires entries { entries ≤ 60 }
+{
+    let mut leaf = Node::empty_leaf(0, 0, u64::MAX);
+    for entry in 0..entries {
+        let key = 10 * entry;
+        let word = if entry < dead { TOMBSTONE } else { entry };
+        if leaf.low() <= key && key < leaf.high() {
+            let _ = leaf.put(key, word);
+        }
+    }
+    leaf
+}
+
 fn pages_of(alloc: Global, tree: Tree) -> Result<Vec<Node>, AllocError> {
     match tree {
         Tree::OneLeaf { entries, free } => one_leaf(alloc, 10, entries.min(60), free.min(60)),
+        Tree::Tombstones { entries, dead } => {
+            let mut pages = Vec::new(alloc);
+            pages.push(leaf_of(entries.min(60), dead))?;
+            Ok(pages)
+        }
         Tree::TwoLevels {
             leaves,
             entries,
@@ -273,7 +313,7 @@ fn opened(alloc: Global, tree: Tree) -> Result<Sessions, Unopened>
     let Ok(frames) = u32::try_from(pages.len()) else {
         return Err(Unopened::Sizes);
     };
-    Sessions::open(alloc, &pages, frames, 8, 3, 7)
+    Sessions::open(alloc, &pages, frames, LOCKS, 3, 7)
 }
 
 fn made_of(outcome: Result<(), Unchanged>) -> Made {
@@ -282,6 +322,16 @@ fn made_of(outcome: Result<(), Unchanged>) -> Made {
         Err(Unchanged::Spent) => Made::Spent,
         Err(Unchanged::NoFrame) => Made::NoFrame,
         Err(Unchanged::Refused(outcome)) => refused(outcome),
+    }
+}
+
+fn purged_of(outcome: Result<(), Unpurged>) -> Made {
+    match outcome {
+        Ok(()) => Made::Done,
+        Err(Unpurged::Spent) => Made::Spent,
+        Err(Unpurged::NoFrame) => Made::NoFrame,
+        Err(Unpurged::Spared(left)) => Made::Spared(left),
+        Err(Unpurged::Refused(outcome)) => refused(outcome),
     }
 }
 
@@ -296,14 +346,23 @@ fn refused(outcome: Outcome) -> Made {
     }
 }
 
+// Whether a latch has this place; the lock rows begin at another.
+fn is_latch(at: usize, locks: usize) -> bool {
+    if at >= locks {
+        (at - locks) % LOCK_ROW == 0
+    } else {
+        at >= FIRST && (at - FIRST) % ROW == 0
+    }
+}
+
 // Whether only latches are other words.
 fn are_alike(before: &[u64], after: &[u64]) -> bool {
     if before.len() != after.len() {
         return false;
     }
+    let locks = before.len().saturating_sub(LOCKS as usize * LOCK_ROW);
     for at in 0..before.len() {
-        let is_latch = at >= FIRST && (at - FIRST) % ROW == 0;
-        if before[at] != after[at] && !is_latch {
+        if before[at] != after[at] && !is_latch(at, locks) {
             return false;
         }
     }
@@ -359,6 +418,31 @@ fn splits(sessions: &mut Sessions, frames: [u32; 3], to: Made) -> bool
     made_of(sessions.split(1, left, right, parent)) == to
 }
 
+// Whether this comes of a drop of the root's one child.
+fn drops(sessions: &mut Sessions, frame: u32, to: Made) -> bool
+    requires { Stands sessions.old × (3 ≤ workers_of sessions.old) }
+    ensures { Stands sessions.new × (3 ≤ workers_of sessions.new) }
+{
+    made_of(sessions.drop_root(1, frame)) == to
+}
+
+// Whether this comes of a join.
+fn joins(sessions: &mut Sessions, frames: [u32; 3], to: Made) -> bool
+    requires { Stands sessions.old × (3 ≤ workers_of sessions.old) }
+    ensures { Stands sessions.new × (3 ≤ workers_of sessions.new) }
+{
+    let [left, right, parent] = frames;
+    made_of(sessions.join(1, left, right, parent)) == to
+}
+
+// Whether this comes of a purge.
+fn purges(sessions: &mut Sessions, leaf: u32, most: usize, to: Made) -> bool
+    requires { Stands sessions.old × (3 ≤ workers_of sessions.old) }
+    ensures { Stands sessions.new × (3 ≤ workers_of sessions.new) }
+{
+    purged_of(sessions.purge(1, leaf, most)) == to
+}
+
 // Whether so many nodes at the end of a path are full.
 fn runs(sessions: &mut Sessions, frames: &[u32], full: usize) -> bool
     requires { Stands sessions.old × (3 ≤ workers_of sessions.old) }
@@ -377,6 +461,9 @@ fn comes(sessions: &mut Sessions, step: Step) -> bool
         Step::Call(call, told) => is_answered(sessions, call, told),
         Step::Lift(frame, to) => lifts(sessions, frame, to),
         Step::Split(frames, to) => splits(sessions, frames, to),
+        Step::Drop(frame, to) => drops(sessions, frame, to),
+        Step::Join(frames, to) => joins(sessions, frames, to),
+        Step::Purge(leaf, most, to) => purges(sessions, leaf, most, to),
         Step::Run(frames, full) => runs(sessions, frames, full),
         Step::Find(first) => finds(sessions, first),
         Step::FillLog => {
@@ -392,6 +479,9 @@ fn changes_nothing(step: Step) -> bool {
         Step::Call(_, _) => false,
         Step::Lift(_, to) => to != Made::Done,
         Step::Split(_, to) => to != Made::Done,
+        Step::Drop(_, to) => to != Made::Done,
+        Step::Join(_, to) => to != Made::Done,
+        Step::Purge(_, _, to) => to != Made::Done,
         Step::Run(_, _) => true,
         Step::Find(_) => true,
         Step::FillLog => true,
@@ -422,7 +512,8 @@ fn all_go(sessions: &mut Sessions, alloc: Global, steps: &[Step]) -> bool
     true
 }
 
-fn is_met(alloc: Global, scenario: &Scenario) -> bool {
+/// Whether each step of a scenario comes out as it says.
+pub fn is_met(alloc: Global, scenario: &Scenario) -> bool {
     match opened(alloc, scenario.tree) {
         Ok(mut sessions) => all_go(&mut sessions, alloc, scenario.steps),
         Err(_) => false,

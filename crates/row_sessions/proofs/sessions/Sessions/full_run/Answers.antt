@@ -21,7 +21,7 @@ returns-in-Err-clause-stands c =
     let s = c.args.self.now in
     let u = c.full_run.new.seat.view in
     let o = c.full_run.ensures in
-    let same = missed_core s.seat.view u c.in-Err.ensures.err in
+    let same = missed_core 8 s.seat.view u c.in-Err.ensures.err in
     stands_then s _ st o.fits.1 refl refl refl o.fits.0 (o.held ∙ st.held) same.0 refl
     (sessions_core s.rows.workers s.base s.sessions.items (state s.seat.view) (state u) same.1 st.sessions)
 
