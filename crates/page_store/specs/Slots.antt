@@ -2,6 +2,7 @@
 use Rattle.std.specs.Prelude.{◌≡◌, ◌<◌, ◌≤◌, ◌+◌, ◌*◌, ℕ, List, Some, None, codes}
 use Rattle.page_model.specs.Page.{Page}
 use Rattle.image_model.specs.Fair.{piece}
+use Rattle.disk_slots.specs.Pages.{IsPage}
 use Rattle.disk_slots.specs.Slots.{IsSealed}
 use Rattle.disk_image.specs.PageSlots.{page_in}
 use Rattle.page_store.specs.declared.slot.Bounds.{Bounds}
@@ -26,10 +27,11 @@ abbrev pub HoldsIn : Bounds → ℕ → List ℕ → Held → Type 0
 HoldsIn b p bytes (held.Page x) = (page_in p b.pages bytes ≡ Some x) × (x.generation ≤ b.generation)
 HoldsIn b p bytes (held.NoPage s) = HasSeal b p bytes s
 
--- Whatever the disk told: the page is the one that was asked for, of no later generation.
+-- Whatever the disk told: the page is the one that was asked for, of no later generation, and its contents are well formed by themselves.
 pub record IsOf (b : Bounds) (page : ℕ) (x : Page) : Type 0 where
   pub number : x.number ≡ page
   pub generation : x.generation ≤ b.generation
+  pub stored : IsPage page b.pages x
 
 abbrev pub IsHeldOf : Bounds → ℕ → Held → Type 0
 IsHeldOf b page (held.Page x) = IsOf b page x
