@@ -1,5 +1,5 @@
 -- A begin in a run, behind a sync or none: its transaction began, or it was refused.
-use Rattle.std.proofs.Common.{◌≡◌, ◌≤◌, ◌<◌, ◌^◌, ◌⊎◌, inl, inr, ◌++◌, ◌||◌, ◌==◌, ℕ, suc, cond, leb, Bool, true, false, List, [], ◌∷◌, length, Some, None, refl, sym, ap, ◌∙◌, subst, arith, append-nil, true≢false, eq-eqb}
+use Rattle.std.proofs.Common.{◌≡◌, ◌≤◌, ◌<◌, ◌^◌, ◌⊎◌, inl, inr, ◌++◌, ◌||◌, ◌==◌, ℕ, suc, cond, leb, Bool, true, false, List, [], ◌∷◌, length, Some, None, refl, sym, ap, ◌∙◌, subst, arith, true≢false, eq-eqb}
 use Rattle.std.proofs.lemmas.Bool.{cases_eq, cond-true, leb-true}
 use Rattle.std.proofs.lemmas.List.{append_assoc, length-append}
 use Rattle.map_model.specs.declared.call.Answer.TheVariants as answer
@@ -49,7 +49,7 @@ use Rattle.session_desks.specs.Desks.{desk_of}
 use Rattle.lean_engine.specs.Machines.{AreHalf, DoesTied, Tied}
 use Rattle.lean_engine.specs.Inside.Reached.{Reached}
 use Rattle.session_desks.specs.declared.desk.Desk.{Desk}
-use Rattle.lean_engine.proofs.LoggedRuns.{logged_all}
+use Rattle.lean_engine.proofs.ReachedLemmas.{does_tied, tied_more}
 use Rattle.lean_engine.proofs.SyncDoes.{line_call, none_is}
 use Rattle.session_desks.proofs.SyncViews.{core_is, front_is, logs_join, may_is, more}
 use Rattle.lean_engine.proofs.TiedLemmas.{half_other}
@@ -164,19 +164,7 @@ module _ (reached : EveryReached) (needs : EveryNeed) (g : Opening) (group : ℕ
           → DoesTied g group xs own call.Begin (answer.Begun number) w was is store1 desks1 old now
       began v tied store0 desks0 store1 desks1 is_half_aborted same none = record {
         does = does;
-        tied = record {
-          ties = λ a. record {
-            opens = next.opens;
-            told = (each, tells);
-            half_is = refl;
-            loads = [];
-            are_loads = tt;
-            few = omega arith;
-            met = tt;
-            seen = next.seen ∙ sym (append-nil (front xs ++ begun.events));
-          };
-          logged = logged_all g group xs begun was is each happens tied.logged;
-        };
+        tied = tied_more g group xs begun v w was is each next happens tied;
         is_half_aborted = λ a some most. at a some most (cases_eq a own);
         unsynced = λ e. absurd (true≢false (sym e));
       }
@@ -231,65 +219,19 @@ module _ (reached : EveryReached) (needs : EveryNeed) (g : Opening) (group : ℕ
     tells_no : Tells limits g group xs turned
     tells_no = (every_answer limits g group xs).refused own call.Begin why r.events is_refused
 
-    abbrev how_no : Answers g xs turned (was.log own) (is.log own)
-    how_no = record {
-      first = r.first;
-      own = r.more;
-      events = r.are;
-      loads = r.loads;
-      few = let a = r.few in let b = r.short in let d = length-append r.first r.more in let e = ap (λ (es : List happening.Event). length es) r.are in omega arith;
-      refused = λ q e. inl (subst (λ c. refusal_in g (state_after g (front xs ++ r.events)) own (is_half_done own xs) (was.log own) c ≡ Some q) (sym begin_is) (test_was ∙ ap Some (refused_is why q e)));
-      refuses = λ q e. inl (ap answer.Refused (some_is why q (sym test ∙ stays q (subst (λ c. refusal_in g at_first own (is_half_done own xs) (was.log own) c ≡ Some q) begin_is e))));
-      still = λ _ _. r.own_structure;
-      log = λ _. r.logs own low high;
-      room = subst (λ c. MakesItsRoom own g at_first c r.more) (sym begin_is) r.own_structure;
-    }
-
-    happens_no : Happens g group xs turned was is
-    happens_no = record { tells = tells_no; how = how_no; others = λ a some most _. r.logs a some most; master = λ e. r.master (sym r.syncs_is ∙ e); no_earlier = r.no_earlier }
-
-    abbrev does_no : Does g group xs own call.Begin (answer.Refused why) was is old now
-    does_no = record {
-      done = turned;
-      session = refl;
-      asked_is = refl;
-      answer_is = refl;
-      happens = happens_no;
-      frame = subst (λ b. Around g.workers b old now) (sym r.syncs_is) r.around;
-      keeps = λ s0 k between of_k.
-          let c = r.goes s0 k between of_k in
-          record {
-            answers = record { answer = tells_no; known = c.known; no_earlier = c.gone.no_earlier; stands = c.gone.stands; notes = c.gone.notes; any_moment = c.gone.any_moment };
-            memory = c.is_of;
-            within = subst (λ b. LeavesOnly old now (Beside g.workers b old)) (sym r.syncs_is) c.within;
-          };
-    }
-
-    half_no : is_half_done own (turned ∷ xs) ≡ is_half_done own xs
-    half_no = ap is_half (cond-true (own == own) (marks_for turned.outcome ++ marks_by own (outcomes xs)) (marks_by own (outcomes xs)) (eq-eqb own own refl))
-
     pub not_begun : (v : View) → Tied g group xs v was → (store0 : Desk) (desks0 : List Desk) (store1 : Desk) (desks1 : List Desk) → AreHalf g.workers xs store0 desks0
         → ((a : ℕ) → 0 < a → a ≤ g.workers → (desk_of store1 desks1 a).session.is_half_aborted ≡ (desk_of store0 desks0 a).session.is_half_aborted)
         → DoesTied g group xs own call.Begin (answer.Refused why) u was is store1 desks1 old now
-    not_begun v tied store0 desks0 store1 desks1 is_half_aborted same = record {
-      does = does_no;
-      tied = record {
-        ties = λ a. record {
-          opens = r.behind.opens;
-          told = (each, tells_no);
-          half_is = refl;
-          loads = [];
-          are_loads = tt;
-          few = omega arith;
-          met = tt;
-          seen = r.behind.seen ∙ sym (append-nil (front xs ++ r.events));
-        };
-        logged = logged_all g group xs turned was is each happens_no tied.logged;
-      };
-      is_half_aborted = λ a some most. at a some most (cases_eq a own) ∙ (is_half_aborted a some most ∙ sym (same a some most));
-      unsynced = λ e. absurd (true≢false (sym e));
-    }
+    not_begun v tied store0 desks0 store1 desks1 half same =
+        does_tied g group xs each syncs u was is old now r turned.outcome high tells_no
+        (λ q e. inl (subst (λ c. refusal_in g (state_after g (front xs ++ r.events)) own (is_half_done own xs) (was.log own) c ≡ Some q) (sym begin_is) (test_was ∙ ap Some (refused_is why q e))))
+        (λ q e. inl (ap answer.Refused (some_is why q (sym test ∙ stays q (subst (λ c. refusal_in g at_first own (is_half_done own xs) (was.log own) c ≡ Some q) begin_is e)))))
+        (subst (λ c. MakesItsRoom own g at_first c r.more) (sym begin_is) r.own_structure)
+        v tied store1 desks1 (λ a some most. at a some most (cases_eq a own) ∙ (half a some most ∙ sym (same a some most))) refl
       where
+        half_no : is_half_done own (turned ∷ xs) ≡ is_half_done own xs
+        half_no = ap is_half (cond-true (own == own) (marks_for turned.outcome ++ marks_by own (outcomes xs)) (marks_by own (outcomes xs)) (eq-eqb own own refl))
+
         at : (a : ℕ) → 0 < a → a ≤ g.workers → (a ≡ own) ⊎ (a ≡ own → ⊥) → is_half_done a (turned ∷ xs) ≡ is_half_done a xs
         at a some most (inl e) = ap (λ n. is_half_done n (turned ∷ xs)) e ∙ (half_no ∙ ap (λ n. is_half_done n xs) (sym e))
         at a some most (inr n) = half_other a turned xs n

@@ -17,7 +17,7 @@ use Rattle.rows_trait.specs.declared.view.View.{View}
 use Rattle.row_engine.specs.Calls.{CallDoes, abort_answer, commit_answer, del_answer, get_answer, put_answer}
 use Rattle.session_state.specs.Holds.{Holds, IsSameSession}
 use Rattle.session_state.specs.Others.{Steps}
-use Rattle.row_engine.specs.Puts.{works_after}
+use Rattle.row_changes.specs.Puts.{works_after}
 use Rattle.row_engine.specs.Receipts.{IsEnded}
 use Rattle.row_engine.specs.declared.commits.Ended.{Ended}
 use Rattle.lean_engine.specs.Calls.{IsTo, MayBe}

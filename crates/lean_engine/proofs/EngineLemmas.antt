@@ -151,7 +151,7 @@ module _ (law : EveryOpened) (fellow : EveryFellow) (tracks : EveryStart) (r : R
     is_engine disk f l w words marks same fits free low = record {
       fits = fits;
       machine = λ _. is_machine f l w words marks same fits free low;
-      home = λ _. start_is.resident.hot;
+      home = λ _. record { faithful = start_is.faithful; place = start_is.resident.hot };
       run = λ _. has_run disk;
       few = start_is.rows.most;
     }
@@ -179,4 +179,4 @@ module _ (law : EveryOpened) (fellow : EveryFellow) (tracks : EveryStart) (r : R
       where
         laws : OpeningLaws size.sessions g r (record { log = logs; master = r.master }) s0 s1
         laws = every_opening size.sessions s0 s1 undone own (every_start s1 stands s0) r logs g has (λ w low high. let o = on.workers in made_each w low (omega arith))
-            (subst (λ (xs : List Page). IsOn xs r.master.floor (length r.master.heads) g) same (record { faithful = start_is.opens.faithful ∙ start_is.rows.faithful; workers = many; format = on.format; base_is = on.base_is; page = on.page }))
+            (subst (λ (xs : List Page). IsOn xs r.master.floor (length r.master.heads) g) same (record { faithful = start_is.opens.faithful ∙ start_is.faithful; workers = many; format = on.format; base_is = on.base_is; page = on.page }))

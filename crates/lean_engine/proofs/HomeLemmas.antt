@@ -1,5 +1,5 @@
 -- Each page is in memory still behind a sync.
-use Rattle.std.proofs.Common.{◌≡◌, ◌++◌, ◌∙◌, ℕ, Bool, true, false, cond, List, [], ◌∷◌, refl, ap}
+use Rattle.std.proofs.Common.{◌≡◌, ◌∙◌, ℕ, Bool, true, false, cond, List, [], ◌∷◌, refl, ap}
 use Rattle.core_calls.specs.LogEvents.{AreFlushes}
 use Rattle.core_state.specs.Needs.{may}
 use Rattle.core_state.specs.Openings.{Opening}
@@ -13,9 +13,8 @@ use Rattle.row_words.specs.Openings.{opening}
 use Rattle.row_words.specs.Sealed.{run, stepped}
 use Rattle.rows_trait.specs.declared.view.View.{View}
 use Rattle.rows_trait.specs.Views.{state}
-use Rattle.disk_slots.specs.declared.master.Master.{Master}
+use Rattle.engine_trait.specs.Calls.{Memory}
 use Rattle.lean_disk.specs.Story.{Story}
-use Rattle.worker_log.specs.Logs.{Log}
 use Rattle.session_state.specs.Others.{AreHome}
 use Rattle.session_state.proofs.HomeLemmas.{home_on}
 use Rattle.session_state.proofs.Moments.{met_core, seen_state}
@@ -35,8 +34,8 @@ flushes_on v m (e ∷ es) k = let f = flush_happens (opening v) m.core e es k in
     go true h = h
     go false h = refl
 
-pub home_synced : {D : Type 0} (story : D → Story) (many n : ℕ) (v w : View) (was is : ℕ → Log) (master next : Master) (old new : D) → SyncMade story many n v w was is master next old new → AreHome v → AreHome w
-home_synced story many n v w was is master next old new made home = home_on made.view w made.synced.given synced (home_on v made.view made.flushed.given flushed home)
+pub home_synced : {D : Type 0} (story : D → Story) (many n : ℕ) (v w : View) (was is : Memory) (old new : D) → SyncMade story many n v w was is old new → AreHome v → AreHome w
+home_synced story many n v w was is old new made home = home_on made.view w made.synced.given synced (home_on v made.view made.flushed.given flushed home)
   where
     flushed : (state made.view).core.place ≡ (state v).core.place
     flushed = ap (λ (m : Moment). m.core.place) (seen_state v made.view made.flushed.events made.flushed.given made.flushed.seen) ∙ flushes_on v.given (state v) made.flushed.events made.flushed.flushes

@@ -10,11 +10,11 @@ pub mod OpeningLemmas
 pub mod OpenedDesks
 pub mod MadeLemmas
 pub mod EngineLemmas
+pub mod ReachedLemmas
 pub mod SyncDoes
 pub mod SyncTies
 pub mod SyncEnds
 pub mod SyncBegins
-pub mod BeginDoes
 pub mod BeginRuns
 pub mod BeginSteps
 pub mod BeginAll

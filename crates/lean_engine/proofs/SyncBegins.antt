@@ -10,7 +10,7 @@ use Rattle.core_state.specs.Openings.{Opening}
 use Rattle.core_state.specs.States.{State}
 use Rattle.core_state.specs.Steps.{state_after}
 use Rattle.core_calls.specs.Fronts.{Done, front, outcomes}
-use Rattle.core_calls.specs.LogEvents.{Prepares, is_log}
+use Rattle.core_calls.specs.LogEvents.{Prepares, PreparesBy, is_log}
 use Rattle.core_calls.specs.Refusals.{waiting}
 use Rattle.core_disk.specs.Versions.{EveryVersion}
 use Rattle.disk_image.specs.Laws.{EverySealed}
@@ -23,7 +23,6 @@ use Rattle.engine_trait.specs.Calls.{IsTold, Memory, is_half_done}
 use Rattle.engine_trait.specs.Limits.{limits}
 use Rattle.engine_trait.specs.Refusals.{log_refusal, refusal_in}
 use Rattle.row_opening.specs.Openings.{EveryNeed, EveryReached}
-use Rattle.row_words.specs.Moments.{events_of}
 use Rattle.row_words.specs.Openings.{opening}
 use Rattle.rows_trait.specs.declared.view.View.{View}
 use Rattle.rows_trait.specs.Views.{Shape, state}
@@ -38,15 +37,15 @@ use Rattle.session_desks.specs.Desks.{Turned, desk_of, log_of}
 use Rattle.session_desks.specs.Machines.{AreDesks}
 use Rattle.lean_engine.specs.Machines.{AreHalf, DoesTied, DoesByParts, OnBegin, Tied, memory_of}
 use Rattle.lean_engine.specs.Inside.Reached.{Reached}
-use Rattle.session_desks.specs.Syncs.{AreSynced, SyncMade}
+use Rattle.session_desks.specs.Syncs.{AreSynced, SyncGoes}
 use Rattle.session_desks.specs.declared.desk.Desk.{Desk}
-use Rattle.lean_engine.proofs.BeginDoes.{prepares}
 use Rattle.lean_engine.proofs.BeginRuns.{began, not_begun}
 use Rattle.lean_engine.proofs.BeginSteps.{comes_told}
 use Rattle.session_desks.proofs.DeskLemmas.{desk_own, desk_same, place_low}
 use Rattle.session_desks.proofs.SeatLemmas.{desks_turned, holds_of, turn_high, turn_low}
-use Rattle.lean_engine.proofs.SyncDoes.{none_is}
-use Rattle.lean_engine.proofs.SyncEnds.{came, made_as}
+use Rattle.lean_engine.proofs.SyncDoes.{none_is, sync_logs}
+use Rattle.lean_engine.proofs.SyncTies.{came}
+use Rattle.session_desks.proofs.SyncWholes.{sync_as}
 use Rattle.session_desks.proofs.SyncViews.{core_is, front_is}
 
 -- ## What a log that is full stays
@@ -98,20 +97,14 @@ stays_closed c d a b true open1 e f u l le q h = absurd (true≢false e)
 stays_closed c d a b false true e f u l le q h = absurd (true≢false f)
 stays_closed c d a b false false e f u l le q h = stays_log c d a b u l le q h
 
-module _ (versions : EveryVersion) (kept : EveryKept) (prefixes : EveryPrefix) (seals : EverySealed) (reached : EveryReached) (needs : EveryNeed) (z : Shape) (v : View) (x : Desk) (desks : List Desk) (master : Master) (are : AreDesks z v x desks) {D : Type 0} (story : D → Story) (laws : (d : D) → IsLawful (story d)) (start : D) (shut : x.session.is_open ≡ false) (order : x.log.head ≤ x.log.next)
-    (n : ℕ) (u : View) (mid : Desk) (desks_mid : List Desk) (next : Master) (end : D) (made : SyncMade story x.session.workers n v u (memory_of x desks master).log (memory_of mid desks_mid next).log master next start end) (sessions : AreSynced x.session.workers x desks mid desks_mid n)
+module _ (versions : EveryVersion) (kept : EveryKept) (prefixes : EveryPrefix) (seals : EverySealed) (reached : EveryReached) (needs : EveryNeed) (z : Shape) (v : View) (x : Desk) (desks : List Desk) (master : Master) (are : AreDesks z v x desks) (old new : Story) (law : IsLawful old) (shut : x.session.is_open ≡ false) (order : x.log.head ≤ x.log.next)
+    (n : ℕ) (u : View) (mid : Desk) (desks_mid : List Desk) (next : Master) (made : SyncGoes x.session.workers n v u (memory_of x desks master) (memory_of mid desks_mid next) old new) (sessions : AreSynced x.session.workers x desks mid desks_mid n)
     (z1 : Shape) (are_mid : AreDesks z1 u mid desks_mid) (many_mid : mid.session.workers ≡ x.session.workers) (t : Desk) (desks_t : List Desk) (turned : Turned x.session.own mid t desks_mid desks_t) where
   abbrev own : ℕ
   own = x.session.own
 
   abbrev many : ℕ
   many = x.session.workers
-
-  abbrev old : Story
-  old = story start
-
-  abbrev new : Story
-  new = story end
 
   abbrev was : Memory
   was = memory_of x desks master
@@ -171,22 +164,18 @@ module _ (versions : EveryVersion) (kept : EveryKept) (prefixes : EveryPrefix) (
         at (inl e) = ap (λ (d : Desk). d.log) (desk_own y desks_t a (e ∙ sym y_own)) ∙ (y_log ∙ ap (λ (d : Desk). d.log) (sym (desk_own t desks_t a (e ∙ sym turned.own))))
         at (inr other) = ap (λ (d : Desk). d.log) (still a some most other)
 
-    abbrev made_y : SyncMade story many n v u was.log is.log master next start end
-    made_y = made_as story many n v u was.log (memory_of mid desks_mid next).log is.log master next start end made logs_same
+    abbrev made_y : SyncGoes many n v u was is old new
+    made_y = sync_as many n v u was (memory_of mid desks_mid next) is old new made logs_same refl
 
     own_log : is.log own ≡ t.log
     own_log = ap (λ (d : Desk). d.log) y_is ∙ y_log
 
     -- the log is as full as it was
-    raised_own : is.log own ≡ raised (made.logs own) n
-    raised_own = made_y.raised own low high
+    raised_own : is.log own ≡ raised (flushed_of (was.log own)) n
+    raised_own = made_y.after own low high
 
     room_as : (f : Log → ℕ) → ((l : Log) → f (raised l n) ≡ f l) → (f (flushed_of (was.log own)) ≡ f (was.log own)) → f (is.log own) ≡ f (was.log own)
-    room_as f same flushed = ap f raised_own ∙ (same (made.logs own) ∙ at (made.flushed.after own low high))
-      where
-        at : (made.logs own ≡ was.log own) ⊎ (made.logs own ≡ flushed_of (was.log own)) → f (made.logs own) ≡ f (was.log own)
-        at (inl e) = ap f e
-        at (inr e) = ap f e ∙ flushed
+    room_as f same flushed = ap f raised_own ∙ (same (flushed_of (was.log own)) ∙ flushed)
 
     order_was : (was.log own).head ≤ (was.log own).next
     order_was = subst (λ (l : Log). l.head ≤ l.next) (sym log_own) order
@@ -201,7 +190,7 @@ module _ (versions : EveryVersion) (kept : EveryKept) (prefixes : EveryPrefix) (
 
     module _ (g : Opening) (xs : List Done) (many_is : g.workers ≡ many) (tied : Tied g x.session.group xs v was) (is_half_aborted : AreHalf many xs x desks) (line : IsNewLine (outcomes xs)) (long : leb 256 (waiting g (state_after g (front xs)) own) ≡ true) where
       abbrev r : Reached g x.session.group xs true u was is old new
-      r = came versions kept prefixes seals reached needs story laws many sixteen v was start g x.session.group xs many_is tied line n u is end made_y
+      r = came g x.session.group xs many many_is sixteen v was tied old new law (every_part versions kept prefixes seals old old new) n u is made_y
 
       at_view : (state u).core ≡ state_after g (front xs ++ r.events)
       at_view = core_is reached needs g xs r.events u r.behind ∙ sym (front_is g xs r.events)
@@ -244,7 +233,7 @@ module _ (versions : EveryVersion) (kept : EveryKept) (prefixes : EveryPrefix) (
       log_kept = let f : ℕ → ℕ → Option Refusal = λ u l. begin_by (state_after g (front xs ++ r.events)) own u l in ap (λ u. f u (limit (was.log own))) (sym used_same) ∙ ap (λ l. f (used (is.log own)) l) (sym limit_same)
 
       prepared : Prepares limits g xs own (keep is_log r.events)
-      prepared = prepares g x.session.group xs line r.first (events_of made.flushed.events) n r.loads r.few made.flushed.flushes (let a = made.flushed.few in let b = sixteen in omega arith) own 0 0 long
+      prepared = subst (λ b. PreparesBy false b (keep is_log r.events)) (sym long) (n, sync_logs n r.first r.more r.loads made_y.are)
 
       most : own ≤ g.workers
       most = subst (λ k. own ≤ k) (sym many_is) high

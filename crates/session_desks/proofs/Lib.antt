@@ -7,4 +7,5 @@ pub mod SyncRuns
 pub mod SyncViews
 pub mod SyncMachines
 pub mod SyncNeeds
+pub mod SyncWholes
 pub mod SyncGoes

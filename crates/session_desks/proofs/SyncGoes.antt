@@ -1,24 +1,29 @@
 -- From the parts of a sync to the whole, by what its rows and its disk show.
-use Rattle.std.proofs.Common.{◌≡◌, ◌≤◌, ◌<◌, ◌+◌, ◌*◌, ◌^◌, ◌⊎◌, inl, inr, ◌&&◌, ◌==◌, ℕ, zero, suc, Bool, true, false, List, [], ◌∷◌, length, get_or, Result, Ok, Err, IfOk, refl, sym, ap, ◌∙◌, subst, arith, true≢false}
+use Rattle.std.proofs.Common.{◌≡◌, ◌≤◌, ◌<◌, ◌+◌, ◌*◌, ◌^◌, ◌⊎◌, inl, inr, ◌==◌, ℕ, zero, suc, Bool, true, false, List, [], ◌∷◌, length, get_or, Result, Ok, Err, IfOk, refl, sym, ap, ◌∙◌, subst, arith, true≢false}
 use Rattle.std.proofs.lemmas.Bool.{and_from, and_parts, cases_eq, cases_lt, eq-eqb, eqb-true}
 use Rattle.map_model.specs.Lists.{all}
 use Rattle.disk_slots.specs.declared.master.Master.{Master}
 use Rattle.disk_runs.specs.MasterLaws.{raised}
-use Rattle.lean_disk.specs.Story.{Story}
-use Rattle.row_opening.specs.Openings.{EveryReached}
+use Rattle.core_disk.specs.Versions.{EveryVersion}
+use Rattle.disk_image.specs.Laws.{EverySealed}
+use Rattle.lean_disk.specs.Story.{IsLawful, Story}
+use Rattle.row_opening.specs.Openings.{EveryNeed, EveryReached}
 use Rattle.rows_trait.specs.declared.view.View.{View}
 use Rattle.rows_trait.specs.Views.{Shape, state}
+use Rattle.worker_log.specs.Laws.{EveryKept, EveryPrefix}
 use Rattle.session_state.specs.Numbers.{AreClocksLow}
 use Rattle.session_state.specs.Syncs.{HasSynced, synced_session}
 use Rattle.session_state.specs.declared.session.Session.{Session}
 use Rattle.session_desks.specs.Desks.{desk_of, log_of, place_of}
 use Rattle.session_desks.specs.Machines.{AreDesks, AreLogged, HasNumbers}
+use Rattle.session_desks.specs.Runs.{memory_with}
 use Rattle.session_desks.specs.Syncs.{AllEndAt, AllFlushed, AreRaised, AreRaisedTo, AreStill, AreSynced, Flushed, HasOpening, IsWriting, IsWritten, MaySync, SyncFails, SyncMade, all_end_at, ends_at, greatest, next_with, raised_desk}
 use Rattle.session_desks.specs.declared.desk.Desk.{Desk}
 use Rattle.session_desks.proofs.DeskLemmas.{desk_apart, desk_own, get_any, place_low}
 use Rattle.session_desks.proofs.SeatLemmas.{turn_high, turn_low}
 use Rattle.session_desks.proofs.SyncMachines.{desk_raised, logged_flushed, numbers_next, sequence_small}
 use Rattle.session_desks.proofs.SyncNeeds as needs
+use Rattle.session_desks.proofs.SyncWholes.{master_fails, sync_goes}
 
 -- ## Sessions
 
@@ -157,18 +162,28 @@ module _ (z : Shape) (v u : View) (work mid : Desk) (desks desks_mid : List Desk
     ready = subst (λ k. MaySync k n master u (log_of mid desks_mid)) same (may_sync reached z u mid desks_mid are master numbers (opens_still o) all_logged all_flushed clocks)
 
     -- it was made
-    pub sync_made : (number : ℕ) → number ≡ n → (w : View) (new_store : Desk) (news : List Desk) (next : Master) (new : D) → HasSynced u w number → AreRaisedTo mid.session.workers mid desks_mid new_store news number → IsWritten story mid.session.workers number (log_of mid desks_mid) master next between new
-        → SyncMade story work.session.workers number v w (log_of work desks) (log_of new_store news) master next old new
-    sync_made number e w new_store news next new sync raised written = record {
+    pub sync_made : EveryNeed → ((d : D) → IsLawful (story d)) → EveryKept → EveryPrefix → EverySealed → EveryVersion → (number : ℕ) → number ≡ n → (w : View) (new_store : Desk) (news : List Desk) (next : Master) (new : D) → HasSynced u w number → AreRaisedTo mid.session.workers mid desks_mid new_store news number
+        → IsWritten story mid.session.workers number (log_of mid desks_mid) master next between new → SyncMade story work.session.workers number v w (memory_with (log_of work desks) master) (memory_with (log_of new_store news) next) old new
+    sync_made need laws keeps prefixes seals versions number e w new_store news next new sync rises written = record {
       view = u;
       logs = log_of mid desks_mid;
       between = between;
       flushed = f;
-      ready = subst (λ k. MaySync work.session.workers k master u (log_of mid desks_mid)) (sym e) ready;
+      ready = ready_at;
       synced = sync;
-      raised = λ a some most. ap (λ (d : Desk). d.log) (raised a some (subst (λ k. a ≤ k) (sym same) most));
-      written = subst (λ k. IsWritten story k number (log_of mid desks_mid) master next between new) same written;
+      raised = raised_at;
+      written = written_at;
+      whole = sync_goes reached need work.session.workers number v u (memory_with (log_of work desks) master) (log_of mid desks_mid) story laws old between f ready_at keeps prefixes seals versions w (memory_with (log_of new_store news) next) sync raised_at new written_at;
     }
+      where
+        ready_at : MaySync work.session.workers number master u (log_of mid desks_mid)
+        ready_at = subst (λ k. MaySync work.session.workers k master u (log_of mid desks_mid)) (sym e) ready
+
+        raised_at : (a : ℕ) → 0 < a → a ≤ work.session.workers → log_of new_store news a ≡ raised (log_of mid desks_mid a) number
+        raised_at a some most = ap (λ (d : Desk). d.log) (rises a some (subst (λ k. a ≤ k) (sym same) most))
+
+        written_at : IsWritten story work.session.workers number (log_of mid desks_mid) master next between new
+        written_at = subst (λ k. IsWritten story k number (log_of mid desks_mid) master next between new) same written
 
     -- its sessions
     pub sync_sessions : (number : ℕ) → number ≡ n → (new_store : Desk) (news : List Desk) → AreStill work.session.workers work desks mid desks_mid → AreRaisedTo mid.session.workers mid desks_mid new_store news number → AreSynced work.session.workers work desks new_store news number
@@ -179,5 +194,5 @@ module _ (z : Shape) (v u : View) (work mid : Desk) (desks desks_mid : List Desk
         )
 
     -- a device failed at the master
-    pub sync_fails : (new : D) → IsWriting (next_with master n) (story between) (story new) → SyncFails story work.session.workers v (log_of work desks) master old new
-    sync_fails new writes = SyncFails.AtMaster n u (log_of mid desks_mid) between f ready writes
+    pub sync_fails : EveryNeed → ((d : D) → IsLawful (story d)) → (new : D) → IsWriting (next_with master n) (story between) (story new) → SyncFails work.session.workers v (memory_with (log_of work desks) master) (story old) (story new)
+    sync_fails need laws new writes = master_fails reached need work.session.workers n v u (memory_with (log_of work desks) master) (log_of mid desks_mid) story laws old between f ready (story new) writes

@@ -1,5 +1,5 @@
 -- How a sync goes on in a run: by the flush of one log more, and by the master.
-use Rattle.std.proofs.Common.{◌≡◌, ◌≤◌, ◌<◌, ◌⊎◌, inl, inr, ◌++◌, ◌+◌, ◌^◌, ℕ, suc, Bool, true, List, [], ◌∷◌, IsTrue, refl, sym, ap, ◌∙◌, subst, arith, append-nil, true≢false}
+use Rattle.std.proofs.Common.{◌≡◌, ◌≤◌, ◌<◌, ◌⊎◌, inl, inr, ◌++◌, ◌+◌, ◌^◌, ℕ, suc, Bool, true, List, [], ◌∷◌, IsTrue, refl, sym, ap, ◌∙◌, subst, arith, true≢false}
 use Rattle.std.proofs.lemmas.Bool.{cases_eq}
 use Rattle.std.proofs.lemmas.List.{append_assoc}
 use Rattle.core_state.specs.Openings.{Opening}
@@ -8,36 +8,39 @@ use Rattle.core_state.specs.Needs.{may}
 use Rattle.core_state.specs.States.{flushed_by_all}
 use Rattle.core_state.specs.Steps.{state_after}
 use Rattle.core_calls.specs.Fronts.{Done, front}
-use Rattle.lean_disk.specs.Area.{Area, Leaves, Write}
+use Rattle.lean_disk.specs.Area.{Leaves}
 use Rattle.lean_disk.specs.Moments.{CrashIn, Framed, LeavesOnly}
 use Rattle.lean_disk.specs.Story.{Crash, IsLawful, Story}
 use Rattle.lean_disk.proofs.MomentLemmas.{started, weaker}
 use Rattle.lean_disk.proofs.MomentLemmas as moments
+use Rattle.disk_image.specs.Laws.{EverySealed}
 use Rattle.disk_slots.specs.Masters.{IsMaster}
 use Rattle.disk_slots.specs.declared.master.Master.{Master}
 use Rattle.core_disk.specs.Versions.{EveryVersion}
-use Rattle.disk_runs.specs.Laws.{EveryRest}
-use Rattle.disk_runs.specs.MasterLaws.{IsAllSynced, IsStillSync, IsSync, raised, with_sync}
+use Rattle.disk_runs.specs.MasterLaws.{IsAllSynced, IsSync, raised, with_sync}
 use Rattle.disk_runs.specs.Masters.{IsNextOf, IsNoEarlier, slot_of}
 use Rattle.image_model.specs.Fair.{piece}
 use Rattle.disk_runs.specs.Moments.{LeavesSome}
-use Rattle.disk_runs.specs.Stands.{Known, LeavesRun, Stands}
+use Rattle.disk_runs.specs.Stands.{Known, Stands}
 use Rattle.disk_runs.proofs.LineLemmas.{same}
 use Rattle.disk_runs.proofs.LineLemmas as lines
 use Rattle.disk_runs.proofs.MasterLemmas.{is_slot}
-use Rattle.disk_runs.proofs.MomentLemmas.{every_moment}
+use Rattle.disk_runs.proofs.MomentLemmas.{every_moment, none_yet}
 use Rattle.disk_runs.proofs.NextLemmas.{every_still_sync}
+use Rattle.disk_runs.proofs.StandLemmas.{every_rest}
+use Rattle.worker_log.specs.Laws.{EveryKept, EveryPrefix}
 use Rattle.worker_log.specs.Logs.{Log}
 use Rattle.log_calls.specs.Calls.{Anything, IsLog, KeepsWithin}
 use Rattle.log_calls.specs.Syncs.{KeepsEither, SyncsOn}
 use Rattle.log_calls.specs.Wholes.{EndsInRecord, FlushesWhole, IsWhole, flush_of}
-use Rattle.engine_calls.specs.Clauses.{Between, OnLog}
-use Rattle.engine_calls.specs.Parts.{EveryPart, Passes}
-use Rattle.engine_calls.proofs.PartLemmas.{on_log, whole}
-use Rattle.run_crashes.specs.Lines.{CallLeaves}
+use Rattle.engine_calls.specs.Clauses.{OnLog}
+use Rattle.engine_calls.specs.Parts.{Passes}
+use Rattle.engine_calls.proofs.MoveLemmas as moves
 use Rattle.engine_trait.specs.Areas.{Around, Beside, IsAside}
-use Rattle.engine_trait.specs.Limits.{limits}
-use Rattle.session_desks.specs.Syncs.{IsWritten, Stood, next_with}
+use Rattle.engine_trait.specs.Calls.{IsOf, Memory}
+use Rattle.rows_trait.specs.declared.view.View.{View}
+use Rattle.session_desks.specs.Runs.{Breaks, EachGoes, Goes, GoesFlushed, memory_with}
+use Rattle.session_desks.specs.Syncs.{IsWriting, IsWritten, next_with}
 
 -- ## Areas
 
@@ -73,13 +76,21 @@ module _ (logs area : ℕ) (old mid new : Story) (around : Around logs true old 
       at (inl q) = subst (λ (b : ℕ). (new.area b).first ≡ (mid.area b).first) (sym q) f.first
       at {a} (inr n) = ap (λ z. z.first) (f.elsewhere a n)
 
-  -- a crash in it leaves the areas aside
-  pub beside_in : LeavesOnly mid new (CrashIn mid area Anything) → LeavesOnly mid new (Beside logs true old)
-  beside_in = weaker mid new (CrashIn mid area Anything) (Beside logs true old) (λ c is. record {
-    notes = is.notes ∙ around.notes;
-    writes = λ a i t. is.writes a (apart a i) (subst (λ (b : Bool). IsTrue b) (sym (around.tells a)) t) ∙ ap (λ z. z.writes) (around.aside a i);
-    leaves = λ a i t. subst (λ z. Leaves z (c.image a)) (around.aside a i) (is.leaves a (apart a i) (subst (λ (b : Bool). IsTrue b) (sym (around.tells a)) t));
-  })
+-- a crash now leaves all as it is
+beside_none : (logs : ℕ) (s : Story) → IsLawful s → LeavesOnly s s (Beside logs true s)
+beside_none logs s law = started s (Beside logs true s) law (λ c now. record { notes = now.notes; writes = λ a i tells. now.writes a tells; leaves = λ a i tells. now.leaves a tells })
+
+-- a crash in a call on such an area leaves those aside
+beside_one : (logs area : ℕ) (old new : Story) → ((a : ℕ) → IsAside logs true a → a ≡ area → ⊥) → LeavesOnly old new (CrashIn old area Anything) → LeavesOnly old new (Beside logs true old)
+beside_one logs area old new apart crash = weaker old new (CrashIn old area Anything) (Beside logs true old) (λ c is. record { notes = is.notes; writes = λ a i t. is.writes a (apart a i) t; leaves = λ a i t. is.leaves a (apart a i) t }) crash
+
+-- and as they were before the calls up to there
+pub beside_more : (logs : ℕ) (old mid new : Story) → Around logs true old mid → LeavesOnly mid new (Beside logs true mid) → LeavesOnly mid new (Beside logs true old)
+beside_more logs old mid new around crash = weaker mid new (Beside logs true mid) (Beside logs true old) (λ c is. record {
+  notes = is.notes ∙ around.notes;
+  writes = λ a i t. is.writes a i (subst (λ (b : Bool). IsTrue b) (sym (around.tells a)) t) ∙ ap (λ z. z.writes) (around.aside a i);
+  leaves = λ a i t. subst (λ z. Leaves z (c.image a)) (around.aside a i) (is.leaves a i (subst (λ (b : Bool). IsTrue b) (sym (around.tells a)) t));
+}) crash
 
 -- ## The next master
 
@@ -105,130 +116,186 @@ written_by story many n logs master next old new es (IsWritten.Still all_end sam
 written_by story many n logs master next old new es (IsWritten.Wrote some_below syncs writes is) = subst (IsNoEarlier (es ++ Event.Sync n ∷ []) master) (sym is)
     (lines.further es (Event.Sync n ∷ []) master master (next_with master n) (same es master) (lines.next (Event.Sync n) master (next_with master n) refl (next_is master n)))
 
--- ## A call of the disk more
-
--- what its any moment is, as a part of the call
-passes : (g : Opening) (xs : List Done) (es more : List Event) (s0 : Crash) (a : Known) (mid new : Story) → LeavesOnly mid new (λ c. c.notes ≡ mid.notes) → LeavesOnly mid new (LeavesSome g (front xs ++ es) more s0 a.master)
-    → Passes g xs es more s0 a mid new
-passes g xs es more s0 a mid new told some = record { told = told; any_moment = some }
+-- ## From where the disk stands
 
 no_earlier : (es : List Event) (n m : Master) → m ≡ n → IsNoEarlier es n m
 no_earlier es n m e = subst (IsNoEarlier es n) (sym e) (same es n)
 
-module _ (g : Opening) (group : ℕ) (xs : List Done) (s0 : Crash) (k : Known) (es : List Event) (old mid new : Story) (part : EveryPart old mid new) (b : Between limits g group xs s0 k old)
-    (logs : ℕ → Log) (master : Master) (done : ℕ) (at : Stood g xs es s0 k logs master done old mid) (around : Around g.workers true old mid) where
-  -- behind more events, of which the disk is told by one call in this area
-  stood_more : (area : ℕ) (more : List Event) (x : Known) (logs_new : ℕ → Log) (next : Master) (count : ℕ) → ((a : ℕ) → IsAside g.workers true a → a ≡ area → ⊥) → IsNoEarlier more at.known.master x.master → Stands g (front xs ++ (es ++ more)) s0 x new → new.notes ≡ mid.notes
-      → LeavesOnly mid new (CrashIn mid area Anything) → LeavesOnly mid new (LeavesSome g (front xs ++ es) more s0 at.known.master)
-      → ((w : ℕ) → 0 < w → w ≤ g.workers → x.log w ≡ logs_new w) → ((w : ℕ) → 0 < w → w ≤ count → IsAllSynced (x.account w)) → x.master ≡ next → Stood g xs (es ++ more) s0 k logs_new next count old new
-  stood_more area more x logs_new next count apart earlier stands notes crash some log_is synced master_is = record {
-    known = x;
-    gone = (part limits g group xs s0 k es at.known b).pass more x at.gone
-        (passes g xs es more s0 at.known mid new (weaker mid new (CrashIn mid area Anything) (λ c. c.notes ≡ mid.notes) (λ c is. is.notes) crash) some) earlier stands notes;
-    log_is = log_is;
-    synced = synced;
-    master_is = master_is;
-    within = moments.then old mid new (Beside g.workers true old) at.within (beside_in g.workers area old mid new around apart crash);
+-- nothing yet
+pub goes_none : EveryKept → EveryPrefix → EverySealed → EveryVersion → (many : ℕ) (v : View) (was : Memory) (s : Story) → IsLawful s → EachGoes many v was was [] s s
+goes_none keeps prefixes seals versions many v was s law g xs first s0 a at = record {
+  known = a;
+  moved = moves.rest g xs first s0 a s s s law at.stands keeps prefixes seals versions [] refl;
+  is_of = at.is_of;
+  firm = refl;
+  late = refl;
+  within = beside_none g.workers s law;
+}
+
+-- the same logs and the same master
+pub goes_as : (g : Opening) (xs : List Done) (first more : List Event) (s0 : Crash) (a : Known) (was is : Memory) (old new : Story) → Goes g xs first more s0 a was old new → ((w : ℕ) → 0 < w → w ≤ g.workers → was.log w ≡ is.log w) → was.master ≡ is.master → Goes g xs first more s0 a is old new
+goes_as g xs first more s0 a was is old new x logs master = record {
+  known = x.known;
+  moved = x.moved;
+  is_of = record { log = λ w some high. x.is_of.log w some high ∙ logs w some high; master = x.is_of.master ∙ master };
+  firm = x.firm;
+  late = x.late;
+  within = x.within;
+}
+
+-- ## One part behind another
+
+module _ (g : Opening) (xs : List Done) (first es : List Event) (s0 : Crash) (a : Known) (was : Memory) (old mid new : Story) (law : IsLawful old) (st : Stands g (front xs ++ first) s0 a old) (at : Goes g xs first es s0 a was old mid) (around : Around g.workers true old mid) (more : List Event) where
+  abbrev pub goes_join : (is : Memory) → Goes g xs (first ++ es) more s0 at.known is mid new → Goes g xs first (es ++ more) s0 a is old new
+  goes_join is x = record {
+    known = x.known;
+    moved = moves.join g xs first s0 a old mid new law st es more at.known x.known at.moved x.moved;
+    is_of = x.is_of;
+    firm = x.firm ∙ at.firm;
+    late = x.late ∙ at.late;
+    within = moments.then old mid new (Beside g.workers true old) at.within (beside_more g.workers old mid new around x.within);
   }
 
-  -- the log of the next session was flushed whole
-  pub stood_flush : (own : ℕ) (was is : Log) (logs_new : ℕ → Log) → own ≡ suc done → own ≤ g.workers → logs own ≡ was → EndsInRecord (state_after g (front xs ++ es)) own was → OnLog own was mid new → KeepsWithin own was mid new → FlushesWhole own was is mid new
-      → logs_new own ≡ is → ((w : ℕ) → 0 < w → w ≤ g.workers → (w ≡ own → ⊥) → logs_new w ≡ logs w) → Stood g xs (es ++ flush_of own was) s0 k logs_new master own old new
-  stood_flush own was is logs_new next most was_is ends on within whole is_is others =
-      stood_more (own + 1) (flush_of own was) f.known logs_new master own (λ a i e. log_aside g.workers own a (omega arith) most i (omega arith)) (no_earlier (flush_of own was) at.known.master f.known.master f.master)
-      (subst (λ ys. Stands g ys s0 f.known new) (append_assoc (front xs) es (flush_of own was)) f.stands) on.notes (within s0 g (front xs ++ es) at.known log)
-      ((every_moment old mid new s0 g (front xs ++ es) at.known.master).call (flush_of own was) (on.moments s0 g (front xs ++ es) at.known log))
-      (λ w some high. log_at w some high (cases_eq w own)) (λ w some high. synced_at w some high (cases_eq w own)) (f.master ∙ at.master_is)
-    where
-      log : IsLog g (front xs ++ es) s0 at.known own was mid
-      log = record { stands = at.gone.stands; low = omega arith; high = most; is = at.log_is own (omega arith) most ∙ was_is }
+  -- a device failed in the later one
+  pub breaks_join : Breaks g xs (first ++ es) more s0 at.known mid new → Breaks g xs first (es ++ more) s0 a old new
+  breaks_join x = record {
+    passes = moves.passes_join g xs first es more s0 a at.known old mid new at.moved.passes at.moved.line at.moved.notes x.passes;
+    within = moments.then old mid new (Beside g.workers true old) at.within (beside_more g.workers old mid new around x.within);
+  }
 
-      f : IsWhole g (front xs ++ es) s0 at.known own was is new
-      f = whole s0 g (front xs ++ es) at.known log ends
+-- ## One call of the disk
 
-      log_at : (w : ℕ) → 0 < w → w ≤ g.workers → (w ≡ own) ⊎ (w ≡ own → ⊥) → f.known.log w ≡ logs_new w
-      log_at w some high (inl q) = ap f.known.log q ∙ (f.own ∙ (sym is_is ∙ ap logs_new (sym q)))
-      log_at w some high (inr n) = f.logs w n ∙ (at.log_is w some high ∙ sym (others w some high n))
+module _ (g : Opening) (xs : List Done) (es : List Event) (s0 : Crash) (a : Known) (was : Memory) (old new : Story) (st : Stands g (front xs ++ es) s0 a old) (of_a : IsOf g was a) where
+  told : (area : ℕ) → LeavesOnly old new (CrashIn old area Anything) → LeavesOnly old new (λ c. c.notes ≡ old.notes)
+  told area crash = weaker old new (CrashIn old area Anything) (λ c. c.notes ≡ old.notes) (λ c is. is.notes) crash
 
-      synced_at : (w : ℕ) → 0 < w → w ≤ own → (w ≡ own) ⊎ (w ≡ own → ⊥) → IsAllSynced (f.known.account w)
-      synced_at w some high (inl q) = subst (λ v. IsAllSynced (f.known.account v)) (sym q) f.synced
-      synced_at w some high (inr n) = subst IsAllSynced (sym (f.accounts w n)) (at.synced w some (omega arith))
+  -- ## A log's flush
 
-  -- the flush failed: by then its events had not happened
-  pub stood_failed : (own : ℕ) (was : Log) → 0 < own → own ≤ g.workers → logs own ≡ was → OnLog own was mid new → KeepsWithin own was mid new → LeavesOnly old new (CallLeaves g xs es s0 k.master) × LeavesOnly old new (Beside g.workers true old)
-  stood_failed own was some most was_is on within = (
-    subst (λ ys. LeavesOnly old new (CallLeaves g xs ys s0 k.master)) (append-nil es) (whole limits g group xs s0 k old mid new es at.known b [] at.gone (on_log limits g group xs s0 k old mid new es at.known b [] own some most at.gone
-        (subst (λ (l : Log). OnLog own l mid new) (sym log) on))),
-    moments.then old mid new (Beside g.workers true old) at.within (beside_in g.workers (own + 1) old mid new around (λ a i e. log_aside g.workers own a some most i (omega arith))
-        (within s0 g (front xs ++ es) at.known (record { stands = at.gone.stands; low = some; high = most; is = log }))),
-  )
-    where
-      log : at.known.log own ≡ was
-      log = at.log_is own some most ∙ was_is
+  module _ (own : ℕ) (some : 0 < own) (most : own ≤ g.workers) (on : OnLog own (was.log own) old new) (within : KeepsWithin own (was.log own) old new) where
+    log : IsLog g (front xs ++ es) s0 a own (was.log own) old
+    log = record { stands = st; low = some; high = most; is = of_a.log own some most }
+
+    crash : LeavesOnly old new (CrashIn old (own + 1) Anything)
+    crash = within s0 g (front xs ++ es) a log
+
+    beside : LeavesOnly old new (Beside g.workers true old)
+    beside = beside_one g.workers (own + 1) old new (λ x i e. log_aside g.workers own x some most i (omega arith)) crash
+
+    passes : (more : List Event) → Passes g xs es more s0 a old new
+    passes more = record { told = told (own + 1) crash; any_moment = (every_moment old old new s0 g (front xs ++ es) a.master).call more (on.moments s0 g (front xs ++ es) a log) }
+
+    -- it failed: by then its events had not happened
+    pub flush_breaks : Breaks g xs es [] s0 a old new
+    flush_breaks = record { passes = passes []; within = beside }
+
+    -- it was flushed whole, and so were the logs before it
+    pub flush_goes : (count : ℕ) (is : ℕ → Log) → ((w : ℕ) → 0 < w → w ≤ count → IsAllSynced (a.account w)) → own ≡ suc count → EndsInRecord (state_after g (front xs ++ es)) own (was.log own) → FlushesWhole own (was.log own) (is own) old new
+        → ((w : ℕ) → 0 < w → w ≤ g.workers → (w ≡ own → ⊥) → is w ≡ was.log w) → GoesFlushed own g xs es (flush_of own (was.log own)) s0 a (memory_with is was.master) old new
+    flush_goes count is synced next ends whole others = record {
+      goes = record {
+        known = f.known;
+        moved = record {
+          line = no_earlier now a.master f.known.master f.master;
+          passes = passes now;
+          stands = subst (λ ys. Stands g ys s0 f.known new) (append_assoc (front xs) es now) f.stands;
+          notes = on.notes;
+        };
+        is_of = record { log = λ w low high. log_at w low high (cases_eq w own); master = f.master ∙ of_a.master };
+        firm = f.firm;
+        late = f.late;
+        within = beside;
+      };
+      synced = λ w low high. synced_at w low high (cases_eq w own);
+    }
+      where
+        now : List Event
+        now = flush_of own (was.log own)
+
+        f : IsWhole g (front xs ++ es) s0 a own (was.log own) (is own) new
+        f = whole s0 g (front xs ++ es) a log ends
+
+        log_at : (w : ℕ) → 0 < w → w ≤ g.workers → (w ≡ own) ⊎ (w ≡ own → ⊥) → f.known.log w ≡ is w
+        log_at w low high (inl q) = ap f.known.log q ∙ (f.own ∙ ap is (sym q))
+        log_at w low high (inr n) = f.logs w n ∙ (of_a.log w low high ∙ sym (others w low high n))
+
+        synced_at : (w : ℕ) → 0 < w → w ≤ own → (w ≡ own) ⊎ (w ≡ own → ⊥) → IsAllSynced (f.known.account w)
+        synced_at w low high (inl q) = subst (λ v. IsAllSynced (f.known.account v)) (sym q) f.synced
+        synced_at w low high (inr n) = subst IsAllSynced (sym (f.accounts w n)) (synced w low (omega arith))
+
+  -- ## The master
 
   -- what a sync up to this number needs, once each log is flushed
-  module _ (n : ℕ) (all : done ≡ g.workers) (met : may g (state_after g (front xs ++ es)) (Event.Sync n) ≡ true) (within : (w : ℕ) → 0 < w → w ≤ g.workers → (logs w).last ≤ n) (small : master.sequence + 1 < 2 ^ 63) (low : n < 2 ^ 64) where
-    is_master : IsMaster (slot_of at.known.master) at.known.master
-    is_master = (is_slot (slot_of at.known.master) (piece 1024 (slot_of at.known.master) (mid.area 0).bytes) at.known.master at.gone.stands.master.there).holds
+  module _ (n : ℕ) (synced : (w : ℕ) → 0 < w → w ≤ g.workers → IsAllSynced (a.account w)) (met : may g (state_after g (front xs ++ es)) (Event.Sync n) ≡ true) (within : (w : ℕ) → 0 < w → w ≤ g.workers → (was.log w).last ≤ n) where
+    within_known : (w : ℕ) → 0 < w → w ≤ g.workers → (a.log w).last ≤ n
+    within_known w some high = let b = ap (λ (l : Log). l.last) (of_a.log w some high) in let c = within w some high in omega arith
 
-    sync_of : IsSync g (front xs ++ es) at.known (next_with at.known.master n) n
-    sync_of = record {
-      met = met;
-      flushed = λ w some high. at.synced w some (omega arith);
-      within = λ w some high. let a = ap (λ (l : Log). l.last) (at.log_is w some high) in let b = within w some high in omega arith;
-      next = next_is at.known.master n;
-      valid = next_valid at.known.master n (slot_of at.known.master) is_master (let a = ap (λ (m : Master). m.sequence) at.master_is in omega arith) low;
-      floor = refl;
-      heads = refl;
+    raised_known : (is : ℕ → Log) → ((w : ℕ) → 0 < w → w ≤ g.workers → is w ≡ raised (was.log w) n) → (w : ℕ) → 0 < w → w ≤ g.workers → raised (a.log w) n ≡ is w
+    raised_known is are w some high = ap (λ (l : Log). raised l n) (of_a.log w some high) ∙ sym (are w some high)
+
+    module _ (small : was.master.sequence + 1 < 2 ^ 63) (low : n < 2 ^ 64) (writes : IsWriting (next_with was.master n) old new) where
+      abbrev to : Master
+      to = next_with a.master n
+
+      to_is : to ≡ next_with was.master n
+      to_is = ap (λ (m : Master). next_with m n) of_a.master
+
+      is_master : IsMaster (slot_of a.master) a.master
+      is_master = (is_slot (slot_of a.master) (piece 1024 (slot_of a.master) (old.area 0).bytes) a.master st.master.there).holds
+
+      sync_of : IsSync g (front xs ++ es) a to n
+      sync_of = record {
+        met = met;
+        flushed = synced;
+        within = within_known;
+        next = next_is a.master n;
+        valid = next_valid a.master n (slot_of a.master) is_master (let b = ap (λ (m : Master). m.sequence) of_a.master in omega arith) low;
+        floor = refl;
+        heads = refl;
+      }
+
+      either : KeepsEither to old new
+      either = subst (λ (m : Master). KeepsEither m old new) (sym to_is) writes.either
+
+      beside_master : LeavesOnly old new (Beside g.workers true old)
+      beside_master = beside_one g.workers 0 old new (λ x i e. master_aside g.workers x i e) writes.within
+
+      -- it failed: a crash leaves what one does before the sync or behind it
+      pub master_breaks : Breaks g xs es (Event.Sync n ∷ []) s0 a old new
+      master_breaks = record {
+        passes = record {
+          told = told 0 writes.within;
+          any_moment = (every_moment old old new s0 g (front xs ++ es) a.master).master (Event.Sync n) to [] refl (next_is a.master n) (either s0 g (front xs ++ es) a n st sync_of);
+        };
+        within = beside_master;
+      }
+
+      -- the next one was written
+      pub master_goes : IsLawful old → SyncsOn (next_with was.master n) old new → (is : ℕ → Log) → ((w : ℕ) → 0 < w → w ≤ g.workers → is w ≡ raised (was.log w) n) → Goes g xs es (Event.Sync n ∷ []) s0 a (memory_with is (next_with was.master n)) old new
+      master_goes law syncs is are = record {
+        known = with_sync a to n;
+        moved = moves.sync g xs es s0 a old old new law st to n sync_of (subst (λ (m : Master). SyncsOn m old new) (sym to_is) syncs) either (told 0 writes.within) writes.frame.notes;
+        is_of = record { log = raised_known is are; master = to_is };
+        firm = refl;
+        late = refl;
+        within = beside_master;
+      }
+
+    -- each log ends at the number: no master is written, and the disk stands by the same one behind the sync too
+    pub still_goes : EveryKept → EveryPrefix → EverySealed → EveryVersion → IsLawful old → n ≤ flushed_by_all g (state_after g (front xs ++ es)) → (is : ℕ → Log) → ((w : ℕ) → 0 < w → w ≤ g.workers → is w ≡ raised (was.log w) n) → Goes g xs es (Event.Sync n ∷ []) s0 a (memory_with is was.master) old old
+    still_goes keeps prefixes seals versions law reached is are = record {
+      known = with_sync a a.master n;
+      moved = record {
+        line = same (Event.Sync n ∷ []) a.master;
+        passes = record {
+          told = started old (λ c. c.notes ≡ old.notes) law (λ c now. now.notes);
+          any_moment = started old (LeavesSome g (front xs ++ es) (Event.Sync n ∷ []) s0 a.master) law (λ c now fair. none_yet g (front xs ++ es) (Event.Sync n ∷ []) a.master c.image (every_rest keeps prefixes seals old s0 g (front xs ++ es) a st c now fair));
+        };
+        stands = subst (λ ys. Stands g ys s0 (with_sync a a.master n) old) (append_assoc (front xs) es (Event.Sync n ∷ []))
+            (every_still_sync versions old s0 g (front xs ++ es) a n st (record { met = met; flushed = synced; within = within_known; reached = reached }));
+        notes = refl;
+      };
+      is_of = record { log = raised_known is are; master = of_a.master };
+      firm = refl;
+      late = refl;
+      within = beside_none g.workers old law;
     }
-
-    next_same : next_with at.known.master n ≡ next_with master n
-    next_same = ap (λ (m : Master). next_with m n) at.master_is
-
-    logs_raised : (logs_new : ℕ → Log) → ((w : ℕ) → 0 < w → w ≤ g.workers → logs_new w ≡ raised (logs w) n) → (w : ℕ) → 0 < w → w ≤ g.workers → raised (at.known.log w) n ≡ logs_new w
-    logs_raised logs_new are w some high = ap (λ (l : Log). raised l n) (at.log_is w some high) ∙ sym (are w some high)
-
-    -- the next master was written
-    pub stood_master : (logs_new : ℕ → Log) → SyncsOn (next_with master n) mid new → KeepsEither (next_with master n) mid new → new.notes ≡ mid.notes → LeavesOnly mid new (CrashIn mid 0 Anything) → ((w : ℕ) → 0 < w → w ≤ g.workers → logs_new w ≡ raised (logs w) n)
-        → Stood g xs (es ++ Event.Sync n ∷ []) s0 k logs_new (next_with master n) done old new
-    stood_master logs_new syncs either notes crash are =
-        stood_more 0 (Event.Sync n ∷ []) x logs_new (next_with master n) done (λ a i e. master_aside g.workers a i e) (lines.next (Event.Sync n) at.known.master (next_with at.known.master n) refl (next_is at.known.master n))
-        (subst (λ ys. Stands g ys s0 x new) (append_assoc (front xs) es (Event.Sync n ∷ [])) (subst (λ (m : Master). SyncsOn m mid new) (sym next_same) syncs s0 g (front xs ++ es) at.known n at.gone.stands sync_of)) notes crash
-        ((every_moment old mid new s0 g (front xs ++ es) at.known.master).master (Event.Sync n) (next_with at.known.master n) [] refl (next_is at.known.master n) (subst (λ (m : Master). KeepsEither m mid new) (sym next_same) either s0 g (front xs ++ es) at.known n at.gone.stands sync_of))
-        (logs_raised logs_new are) at.synced next_same
-      where
-        x : Known
-        x = with_sync at.known (next_with at.known.master n) n
-
-    -- it failed: a crash leaves what one does before the sync or behind it
-    pub master_failed : KeepsEither (next_with master n) mid new → LeavesOnly mid new (CrashIn mid 0 Anything) → LeavesOnly old new (CallLeaves g xs (es ++ Event.Sync n ∷ []) s0 k.master) × LeavesOnly old new (Beside g.workers true old)
-    master_failed either crash = (
-      whole limits g group xs s0 k old mid new es at.known b (Event.Sync n ∷ []) at.gone (record {
-        told = weaker mid new (CrashIn mid 0 Anything) (λ c. c.notes ≡ mid.notes) (λ c is. is.notes) crash;
-        any_moment = (every_moment old mid new s0 g (front xs ++ es) at.known.master).master (Event.Sync n) (next_with at.known.master n) [] refl (next_is at.known.master n)
-            (subst (λ (m : Master). KeepsEither m mid new) (sym next_same) either s0 g (front xs ++ es) at.known n at.gone.stands sync_of);
-      }),
-      moments.then old mid new (Beside g.workers true old) at.within (beside_in g.workers 0 old mid new around (λ a i e. master_aside g.workers a i e) crash),
-    )
-
--- ## Where each log ends at the number
-
-module _ (versions : EveryVersion) (g : Opening) (group : ℕ) (xs : List Done) (s0 : Crash) (k : Known) (es : List Event) (old mid : Story) (part : EveryPart old mid mid) (rest : EveryRest mid) (law : IsLawful mid) (b : Between limits g group xs s0 k old)
-    (logs : ℕ → Log) (master : Master) (done : ℕ) (at : Stood g xs es s0 k logs master done old mid) (around : Around g.workers true old mid)
-    (n : ℕ) (all : done ≡ g.workers) (met : may g (state_after g (front xs ++ es)) (Event.Sync n) ≡ true) (within : (w : ℕ) → 0 < w → w ≤ g.workers → (logs w).last ≤ n) (reached : n ≤ flushed_by_all g (state_after g (front xs ++ es))) where
-  still : IsStillSync g (front xs ++ es) at.known n
-  still = record {
-    met = met;
-    flushed = λ w some high. at.synced w some (omega arith);
-    within = λ w some high. let a = ap (λ (l : Log). l.last) (at.log_is w some high) in let b = within w some high in omega arith;
-    reached = reached;
-  }
-
-  -- the disk stands by the same master behind the sync too
-  pub stood_still : (logs_new : ℕ → Log) → ((w : ℕ) → 0 < w → w ≤ g.workers → logs_new w ≡ raised (logs w) n) → Stood g xs (es ++ Event.Sync n ∷ []) s0 k logs_new master done old mid
-  stood_still logs_new are =
-      stood_more g group xs s0 k es old mid mid part b logs master done at around 0 (Event.Sync n ∷ []) (with_sync at.known at.known.master n) logs_new master done (λ a i e. master_aside g.workers a i e) (same (Event.Sync n ∷ []) at.known.master)
-      (subst (λ ys. Stands g ys s0 (with_sync at.known at.known.master n) mid) (append_assoc (front xs) es (Event.Sync n ∷ [])) (every_still_sync versions mid s0 g (front xs ++ es) at.known n at.gone.stands still)) refl
-      (started mid (CrashIn mid 0 Anything) law (λ c now. record { notes = now.notes; writes = λ a ne told. now.writes a told; leaves = λ a ne told. now.leaves a told; here = tt }))
-      ((every_moment old mid mid s0 g (front xs ++ es) at.known.master).call (Event.Sync n ∷ []) (started mid (LeavesRun g (front xs ++ es) s0 at.known.master) law (λ c now. rest s0 g (front xs ++ es) at.known at.gone.stands c now)))
-      (λ w some high. ap (λ (l : Log). raised l n) (at.log_is w some high) ∙ sym (are w some high)) at.synced at.master_is

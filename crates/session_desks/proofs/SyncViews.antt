@@ -13,15 +13,15 @@ use Rattle.core_state.specs.Steps as steps
 use Rattle.core_state.proofs.Runs.{run_more}
 use Rattle.core_calls.specs.Fronts.{Done, front}
 use Rattle.core_calls.specs.LogEvents.{AreFlushes}
-use Rattle.lean_disk.specs.Story.{Crash, Story}
+use Rattle.lean_disk.specs.Story.{Crash, IsLawful, Story}
+use Rattle.core_disk.specs.Versions.{EveryVersion}
+use Rattle.disk_image.specs.Laws.{EverySealed}
 use Rattle.disk_slots.specs.declared.master.Master.{Master}
 use Rattle.disk_runs.specs.Stands.{Known}
 use Rattle.log_calls.specs.Wholes.{EndsInRecord, flush_of}
-use Rattle.engine_calls.specs.Clauses.{Between}
-use Rattle.engine_calls.specs.Parts.{EveryPart, behind_first}
+use Rattle.engine_calls.specs.Parts.{behind_first}
 use Rattle.engine_calls.proofs.MarkLemmas.{met_join}
 use Rattle.engine_trait.specs.Areas.{Around}
-use Rattle.engine_trait.specs.Limits.{limits}
 use Rattle.engine_trait.specs.Logs.{Logs}
 use Rattle.row_opening.specs.Openings.{EveryNeed, EveryReached, Opens}
 use Rattle.row_words.specs.declared.event.Event.{Event}
@@ -33,13 +33,15 @@ use Rattle.row_words.specs.Sealed.{run, stepped}
 use Rattle.rows_trait.specs.declared.view.View.{View}
 use Rattle.rows_trait.specs.Views.{state}
 use Rattle.worker_log.specs.Calls.{flushed_log}
+use Rattle.worker_log.specs.Laws.{EveryKept, EveryPrefix}
 use Rattle.worker_log.specs.Logs.{Log}
 use Rattle.session_state.specs.Ties.{Behind}
 use Rattle.session_state.specs.Staging.{KeepsLog}
 use Rattle.session_state.specs.Syncs.{HasNoneBehind, flushed_of, flushes_of}
-use Rattle.session_desks.specs.Syncs.{FlushFails, Flushed, FlushedOne, Stood}
+use Rattle.session_desks.specs.Runs.{Breaks, GoesFlushed, IsAt, memory_with}
+use Rattle.session_desks.specs.Syncs.{FlushFails, Flushed, FlushedOne}
 use Rattle.session_desks.proofs.FloorLemmas.{seen_more}
-use Rattle.session_desks.proofs.SyncRuns.{around_more, around_none, log_aside, stood_failed, stood_flush}
+use Rattle.session_desks.proofs.SyncRuns.{around_more, around_none, breaks_join, flush_breaks, flush_goes, goes_join, goes_none, log_aside}
 
 -- ## In a run
 
@@ -113,8 +115,8 @@ entries_one v m own n false = step_entries v m own n
 -- ## One log behind another
 
 -- none yet
-pub flushed_none : (many : ℕ) (v : View) (was : ℕ → Log) (s : Story) → Flushed 0 many v v was was s s
-flushed_none many v was s = record {
+pub flushed_none : EveryKept → EveryPrefix → EverySealed → EveryVersion → (many : ℕ) (v : View) (was : ℕ → Log) (s : Story) → IsLawful s → Flushed 0 many v v was was s s
+flushed_none keeps prefixes seals versions many v was s law = record {
   events = [];
   given = refl;
   seen = sym (append-nil v.seen);
@@ -123,15 +125,15 @@ flushed_none many v was s = record {
   last = λ u some high. refl;
   flushed = λ u some high. absurd (omega arith);
   others = λ u low high. refl;
-  after = λ u some high. inl refl;
+  after = λ u some high. absurd (omega arith);
   logs = λ u some high g s. refl;
   entries = refl;
   around = around_none many true s;
   behind = λ g xs first b. subst (λ ys. Behind g xs ys v) (sym (append-nil first)) b;
-  stands = λ g group xs first many_is b s0 k between m at. subst (λ ys. Stood g xs ys s0 k was m 0 s s) (sym (append-nil first)) at;
+  goes = λ m g xs first s0 a at. record { goes = goes_none keeps prefixes seals versions many v (memory_with was m) s law g xs first s0 a at; synced = λ w some high. absurd (omega arith) };
 }
 
-module _ (reached : EveryReached) (needs : EveryNeed) (count own many : ℕ) (v u : View) (was mid : ℕ → Log) (old now new : Story) (f : Flushed count many v u was mid old now) (next : own ≡ suc count) (most : own ≤ many) (part : EveryPart old now new) (keeps : KeepsLog own (mid own) now new) where
+module _ (reached : EveryReached) (needs : EveryNeed) (count own many : ℕ) (v u : View) (was mid : ℕ → Log) (old now new : Story) (f : Flushed count many v u was mid old now) (next : own ≡ suc count) (most : own ≤ many) (law : IsLawful old) (keeps : KeepsLog own (mid own) now new) where
   abbrev events : List happening.Event
   events = events_of f.events
 
@@ -157,7 +159,7 @@ module _ (reached : EveryReached) (needs : EveryNeed) (count own many : ℕ) (v 
     entries = ap (λ (m : Moment). m.core.entries) (seen_more u w (flushes_of own (mid own)) x.given x.seen) ∙ (entries_one u.given (state u) own (mid own).last ((mid own).last == (mid own).flushed) ∙ f.entries);
     around = around_new;
     behind = λ g xs first b. behind_at g xs first b;
-    stands = λ g group xs first many_is b s0 k between m at. stands_at g group xs first many_is b s0 k between m at;
+    goes = λ m g xs first s0 a at. goes_at m g xs first s0 a at;
   }
     where
       all : events_of (f.events ++ flushes_of own (mid own)) ≡ events ++ flush_of own (mid own)
@@ -174,13 +176,9 @@ module _ (reached : EveryReached) (needs : EveryNeed) (count own many : ℕ) (v 
       flushed_at t some high (inl q) = subst (λ s. (is s).flushed ≡ (is s).last) (sym q) x.flushed
       flushed_at t some high (inr n) = subst (λ (l : Log). l.flushed ≡ l.last) (sym (x.others t some (omega arith) n)) (f.flushed t some (omega arith))
 
-      after_at : (t : ℕ) → 0 < t → t ≤ many → (t ≡ own) ⊎ (t ≡ own → ⊥) → (is t ≡ was t) ⊎ (is t ≡ flushed_of (was t))
-      after_at t some high (inl q) = inr (subst (λ r. is r ≡ flushed_of (was r)) (sym q) (x.after ∙ ap flushed_of (f.others own (omega arith) most)))
-      after_at t some high (inr n) = on (x.others t some high n) (f.after t some high)
-        where
-          on : {a b : Log} → a ≡ b → (b ≡ was t) ⊎ (b ≡ flushed_of (was t)) → (a ≡ was t) ⊎ (a ≡ flushed_of (was t))
-          on e (inl q) = inl (e ∙ q)
-          on e (inr q) = inr (e ∙ q)
+      after_at : (t : ℕ) → 0 < t → t ≤ own → (t ≡ own) ⊎ (t ≡ own → ⊥) → is t ≡ flushed_of (was t)
+      after_at t some high (inl q) = subst (λ r. is r ≡ flushed_of (was r)) (sym q) (x.after ∙ ap flushed_of (f.others own (omega arith) most))
+      after_at t some high (inr n) = x.others t some (omega arith) n ∙ f.after t some (omega arith)
 
       logs_at : (t : ℕ) → 0 < t → t ≤ many → (g : Opening) (s : core.State) → Logs t g s (flush_of own (mid own)) (mid t) (is t)
       logs_at t some high g s = logs_one own t (mid own).last g s (mid t) (is t) ((mid own).last == (mid own).flushed)
@@ -193,13 +191,13 @@ module _ (reached : EveryReached) (needs : EveryNeed) (count own many : ℕ) (v 
           (subst (AllMet g (behind_first g xs (first ++ events))) (sym x.core) (met_one ((mid own).last == (mid own).flushed) (opening u.given) g (state u).core (behind_first g xs (first ++ events)) (happening.Event.Flush own (mid own).last)
           (may_is reached needs g xs (first ++ events) u c (happening.Event.Flush own (mid own).last)) x.met)))
 
-      stands_at : (g : Opening) (group : ℕ) (xs : List Done) (first : List happening.Event) → g.workers ≡ many → Behind g xs first v → (s0 : Crash) (k : Known) → Between limits g group xs s0 k old → (m : Master)
-          → Stood g xs first s0 k was m 0 old old → Stood g xs (first ++ events_of (f.events ++ flushes_of own (mid own))) s0 k is m own old new
-      stands_at g group xs first many_is b s0 k between m at =
-          subst (λ ys. Stood g xs ys s0 k is m own old new) (all_behind first)
-          (stood_flush g group xs s0 k (first ++ events) old now new part between mid m count (f.stands g group xs first many_is b s0 k between m at) (around_on g many_is) own (mid own) (is own) is next (let e = many_is in let h = most in omega arith) refl
-          (subst (λ s. EndsInRecord s own (mid own)) (core_is reached needs g xs (first ++ events) u (f.behind g xs first b) ∙ sym (front_is g xs (first ++ events))) ends) keeps.on keeps.within x.whole refl
-          (λ t some high n. x.others t some (subst (λ c. t ≤ c) many_is high) n))
+      goes_at : (m : Master) (g : Opening) (xs : List Done) (first : List happening.Event) (s0 : Crash) (a : Known) → IsAt many v (memory_with was m) g xs first s0 a old → GoesFlushed own g xs first (events_of (f.events ++ flushes_of own (mid own))) s0 a (memory_with is m) old new
+      goes_at m g xs first s0 a at =
+          let c = f.goes m g xs first s0 a at in
+          let y = flush_goes g xs (first ++ events) s0 c.goes.known (memory_with mid m) now new c.goes.moved.stands c.goes.is_of own (omega arith) (let e = at.many_is in let h = most in omega arith) keeps.on keeps.within count is c.synced next
+          (subst (λ s. EndsInRecord s own (mid own)) (core_is reached needs g xs (first ++ events) u (f.behind g xs first at.behind) ∙ sym (front_is g xs (first ++ events))) ends) x.whole (λ t some high n. x.others t some (subst (λ c. t ≤ c) at.many_is high) n) in
+          subst (λ ys. GoesFlushed own g xs first ys s0 a (memory_with is m) old new) (sym all)
+          (record { goes = goes_join g xs first events s0 a (memory_with mid m) old now new law at.stands c.goes (around_on g at.many_is) (flush_of own (mid own)) (memory_with is m) y.goes; synced = y.synced })
 
   -- or a device failed there
   pub flush_fails : FlushFails many v was old new
@@ -207,9 +205,13 @@ module _ (reached : EveryReached) (needs : EveryNeed) (count own many : ℕ) (v 
     events = events;
     flushes = f.flushes;
     few = let a = f.few in let h = most in let q = next in omega arith;
+    met = λ g xs first b. (f.behind g xs first b).met;
     around = around_new;
-    leaves = λ g group xs first many_is b s0 k between m at.
-        stood_failed g group xs s0 k (first ++ events) old now new part between mid m count (f.stands g group xs first many_is b s0 k between m at) (around_on g many_is) own (mid own) (omega arith) (let e = many_is in let h = most in omega arith) refl keeps.on keeps.within;
+    leaves = λ m g xs first s0 a at.
+        let c = (f.goes m g xs first s0 a at).goes in
+        subst (λ ys. Breaks g xs first ys s0 a old new) (append-nil events)
+        (breaks_join g xs first events s0 a (memory_with mid m) old now new law at.stands c (around_on g at.many_is) []
+        (flush_breaks g xs (first ++ events) s0 c.known (memory_with mid m) now new c.moved.stands c.is_of own (omega arith) (let e = at.many_is in let h = most in omega arith) keeps.on keeps.within));
   }
 
 -- ## The next log is as it was

@@ -1,6 +1,7 @@
 -- A machine and its parts, as its functions name them, and what a sync left of it.
 use Rattle.std.specs.Prelude.{◌≡◌, ℕ, true}
 use Rattle.lean_disk.specs.Story.{Story}
+use Rattle.engine_trait.specs.Calls.{Memory}
 use Rattle.rows_trait.specs.Plain.{sizes}
 use Rattle.rows_trait.specs.Rule.{IsPicture, plan}
 use Rattle.rows_trait.specs.Views.{Shape, state}
@@ -9,6 +10,7 @@ use Rattle.session_state.specs.Holds.{Holds}
 use Rattle.session_state.specs.Opened.{plain_shape}
 use Rattle.session_state.specs.declared.work.Work.{Work}
 use Rattle.session_desks.specs.Desks.{AreSeated, Turned, log_of}
+use Rattle.session_desks.specs.Runs.{memory_with}
 use Rattle.session_desks.specs.Syncs.{AllFlushed, AreRaisedTo, AreStill, AreSynced, AreWhole, FlushFails, Flushed, FlushedOne, SyncFails, SyncMade}
 use Rattle.session_desks.specs.Machines.{AreLogged, IsMachine}
 use Rattle.session_desks.specs.declared.desk.Desk.{Desk}
@@ -30,6 +32,10 @@ shape m = plain_shape m.rows.frames m.rows.locks m.rows.workers
 -- the log of each session
 abbrev pub logs : {D : Type 0} → Machine D → ℕ → Log
 logs m = log_of (here m) m.desks.items
+
+-- what is in memory of the disk
+abbrev pub memory : {D : Type 0} → Machine D → Memory
+memory m = memory_with (logs m) m.master
 
 -- ## What holds
 
@@ -103,8 +109,8 @@ IsSynced m n number = AreSynced m.work.session.workers (here m) m.desks.items (h
 
 -- all of a sync was done
 abbrev pub MakesSync : {D : Type 0} → (story : D → Story) → Machine D → Machine D → (number : ℕ) → Type 0
-MakesSync story m n number = SyncMade story m.work.session.workers number m.seat.view n.seat.view (logs m) (logs n) m.master n.master m.work.disk n.work.disk
+MakesSync story m n number = SyncMade story m.work.session.workers number m.seat.view n.seat.view (memory m) (memory n) m.work.disk n.work.disk
 
 -- a device failed in it
 abbrev pub FailsToSync : {D : Type 0} → (story : D → Story) → Machine D → Machine D → Type 0
-FailsToSync story m n = SyncFails story m.work.session.workers m.seat.view (logs m) m.master m.work.disk n.work.disk
+FailsToSync story m n = SyncFails m.work.session.workers m.seat.view (memory m) (story m.work.disk) (story n.work.disk)

@@ -1,26 +1,23 @@
--- How a sync goes on: it flushes the log of one session after another, and then writes the next master. Words of private functions.
-use Rattle.std.specs.Prelude.{◌≡◌, ◌⊎◌, ◌≤◌, ◌<◌, ◌+◌, ◌^◌, ◌++◌, ◌&&◌, ◌||◌, ◌==◌, max, ℕ, Bool, true, false, List, [], ◌∷◌, get_or, length}
+-- How a sync goes on: it flushes the log of one session after another, and then writes the next master; and what that comes to.
+use Rattle.std.specs.Prelude.{◌≡◌, ◌⊎◌, ◌≤◌, ◌<◌, ◌+◌, ◌^◌, ◌++◌, ◌&&◌, ◌||◌, ◌==◌, max, ℕ, suc, Bool, true, false, List, [], ◌∷◌, get_or, length}
 use Rattle.map_model.specs.Lists.{all, any}
 use Rattle.core_state.specs.Events as happening
 use Rattle.core_state.specs.Needs.{may}
 use Rattle.core_state.specs.Openings.{Opening}
 use Rattle.core_state.specs.States as core
-use Rattle.core_state.specs.Steps.{AllMet}
-use Rattle.core_calls.specs.Fronts.{Done}
-use Rattle.core_calls.specs.LogEvents.{AreFlushes}
+use Rattle.core_state.specs.Steps.{AllMet, state_after}
+use Rattle.core_calls.specs.Fronts.{Done, front}
+use Rattle.core_calls.specs.LogEvents.{AreFlushes, IsSync}
 use Rattle.lean_disk.specs.Moments.{CrashIn, Framed, LeavesOnly}
-use Rattle.lean_disk.specs.Story.{Crash, Story}
+use Rattle.lean_disk.specs.Story.{Story}
 use Rattle.disk_slots.specs.declared.master.Master.{Master}
-use Rattle.disk_runs.specs.MasterLaws.{IsAllSynced, raised}
-use Rattle.disk_runs.specs.Stands.{Known}
+use Rattle.disk_runs.specs.MasterLaws.{raised}
+use Rattle.disk_runs.specs.Masters.{IsNoEarlier}
 use Rattle.log_calls.specs.Calls.{Anything}
 use Rattle.log_calls.specs.Syncs.{KeepsEither, SyncsOn}
 use Rattle.log_calls.specs.Wholes.{FlushesWhole, flush_of}
-use Rattle.run_crashes.specs.Lines.{CallLeaves}
-use Rattle.engine_calls.specs.Clauses.{Between}
-use Rattle.engine_calls.specs.Parts.{Gone}
-use Rattle.engine_trait.specs.Areas.{Around, Beside}
-use Rattle.engine_trait.specs.Limits.{limits}
+use Rattle.engine_trait.specs.Areas.{Around}
+use Rattle.engine_trait.specs.Calls.{Memory}
 use Rattle.engine_trait.specs.Logs.{Logs}
 use Rattle.row_opening.specs.Openings.{Opens}
 use Rattle.row_words.specs.declared.event.Event as told
@@ -33,6 +30,7 @@ use Rattle.worker_log.specs.Logs.{Log}
 use Rattle.session_state.specs.Ties.{Behind}
 use Rattle.session_state.specs.Syncs.{HasSynced, flushed_of, flushes_of, synced_session}
 use Rattle.session_desks.specs.Desks.{desk_of}
+use Rattle.session_desks.specs.Runs.{EachBreaks, EachFlushes, EachGoes, memory_with}
 use Rattle.session_desks.specs.declared.desk.Desk.{Desk}
 
 -- the rows began as an opening of the core
@@ -76,17 +74,6 @@ pub record IsWriting (m : Master) (old new : Story) : Type 0 where
   pub frame : Framed 0 old new
   pub within : LeavesOnly old new (CrashIn old 0 Anything)
 
--- ## In a run
-
--- By these events of a call the disk has come to stand. The logs and the master are so, and of the first logs, so many, nothing is left to flush.
-pub record Stood (g : Opening) (xs : List Done) (es : List happening.Event) (s0 : Crash) (k : Known) (logs : ℕ → Log) (master : Master) (done : ℕ) (old now : Story) : Type 0 where
-  pub known : Known
-  pub gone : Gone g xs es s0 k old known now
-  pub log_is : (w : ℕ) → 0 < w → w ≤ g.workers → known.log w ≡ logs w
-  pub synced : (w : ℕ) → 0 < w → w ≤ done → IsAllSynced (known.account w)
-  pub master_is : known.master ≡ master
-  pub within : LeavesOnly old now (Beside g.workers true old)
-
 -- ## Flushes
 
 -- the log of session `own` was flushed whole, and the other ones are as they were
@@ -111,22 +98,21 @@ pub record Flushed (count many : ℕ) (v w : View) (was is : ℕ → Log) (old n
   pub last : (u : ℕ) → 0 < u → u ≤ many → (is u).last ≡ (was u).last
   pub flushed : (u : ℕ) → 0 < u → u ≤ count → (is u).flushed ≡ (is u).last
   pub others : (u : ℕ) → count < u → u ≤ many → is u ≡ was u
-  pub after : (u : ℕ) → 0 < u → u ≤ many → (is u ≡ was u) ⊎ (is u ≡ flushed_of (was u))
+  pub after : (u : ℕ) → 0 < u → u ≤ count → is u ≡ flushed_of (was u)
   pub logs : (u : ℕ) → 0 < u → u ≤ many → (g : Opening) (s : core.State) → Logs u g s (events_of events) (was u) (is u)
   pub entries : (state w).core.entries ≡ (state v).core.entries
   pub around : Around many true old new
   pub behind : (g : Opening) (xs : List Done) (first : List happening.Event) → Behind g xs first v → Behind g xs (first ++ events_of events) w
-  pub stands : (g : Opening) (group : ℕ) (xs : List Done) (first : List happening.Event) → g.workers ≡ many → Behind g xs first v → (s0 : Crash) (k : Known) → Between limits g group xs s0 k old → (m : Master)
-      → Stood g xs first s0 k was m 0 old old → Stood g xs (first ++ events_of events) s0 k is m count old new
+  pub goes : EachFlushes count many v was is (events_of events) old new
 
 -- a device failed at a flush, behind those of some first sessions
 pub record FlushFails (many : ℕ) (v : View) (was : ℕ → Log) (old new : Story) : Type 0 where
   pub events : List happening.Event
   pub flushes : AreFlushes events
   pub few : length events ≤ many
+  pub met : (g : Opening) (xs : List Done) (first : List happening.Event) → Behind g xs first v → AllMet g (state_after g (front xs)) (first ++ events)
   pub around : Around many true old new
-  pub leaves : (g : Opening) (group : ℕ) (xs : List Done) (first : List happening.Event) → g.workers ≡ many → Behind g xs first v → (s0 : Crash) (k : Known) → Between limits g group xs s0 k old → (m : Master)
-      → Stood g xs first s0 k was m 0 old old → LeavesOnly old new (CallLeaves g xs (first ++ events) s0 k.master) × LeavesOnly old new (Beside g.workers true old)
+  pub leaves : (m : Master) → EachBreaks many v (memory_with was m) events old new
 
 -- ## Sessions
 
@@ -175,19 +161,37 @@ pub record MaySync (many n : ℕ) (master : Master) (u : View) (logs : ℕ → L
   pub low : n < 2 ^ 64
   pub small : master.sequence + 1 < 2 ^ 63
 
+-- A sync up to n as one part of a call: by flushes and then the sync, each met; and in each run the disk has gone on by them.
+pub record SyncGoes (many n : ℕ) (v w : View) (was is : Memory) (old new : Story) : Type 0 where
+  pub events : List told.Event
+  pub given : w.given ≡ v.given
+  pub seen : w.seen ≡ v.seen ++ events
+  pub are : IsSync n (events_of events)
+  pub few : length (events_of events) ≤ suc many
+  pub behind : (g : Opening) (xs : List Done) (first : List happening.Event) → Behind g xs first v → Behind g xs (first ++ events_of events) w
+  pub logs : (u : ℕ) → 0 < u → u ≤ many → (g : Opening) (s : core.State) → Logs u g s (events_of events) (was.log u) (is.log u)
+  pub after : (u : ℕ) → 0 < u → u ≤ many → is.log u ≡ raised (flushed_of (was.log u)) n
+  pub no_earlier : IsNoEarlier (events_of events) was.master is.master
+  pub around : Around many true old new
+  pub goes : EachGoes many v was is (events_of events) old new
+
 -- The log of each session was flushed, and then all were synced up to n.
-pub record SyncMade {D : Type 0} (story : D → Story) (many n : ℕ) (v w : View) (was is : ℕ → Log) (master next : Master) (old new : D) : Type 0 where
+pub record SyncMade {D : Type 0} (story : D → Story) (many n : ℕ) (v w : View) (was is : Memory) (old new : D) : Type 0 where
   pub view : View
   pub logs : ℕ → Log
   pub between : D
-  pub flushed : Flushed many many v view was logs (story old) (story between)
-  pub ready : MaySync many n master view logs
+  pub flushed : Flushed many many v view was.log logs (story old) (story between)
+  pub ready : MaySync many n was.master view logs
   pub synced : HasSynced view w n
-  pub raised : (a : ℕ) → 0 < a → a ≤ many → is a ≡ raised (logs a) n
-  pub written : IsWritten story many n logs master next between new
+  pub raised : (a : ℕ) → 0 < a → a ≤ many → is.log a ≡ raised (logs a) n
+  pub written : IsWritten story many n logs was.master is.master between new
+  pub whole : SyncGoes many n v w was is (story old) (story new)
 
--- a device failed: at a flush, or at the master
-pub data SyncFails {D : Type 0} (story : D → Story) (many : ℕ) (v : View) (was : ℕ → Log) (master : Master) (old new : D) : Type 0 where
-  AtFlush : FlushFails many v was (story old) (story new) → SyncFails story many v was master old new
-  AtMaster : (n : ℕ) (u : View) (logs : ℕ → Log) (between : D) → Flushed many many v u was logs (story old) (story between) → MaySync many n master u logs → IsWriting (next_with master n) (story between) (story new)
-      → SyncFails story many v was master old new
+-- A device failed, at a flush or at the master: these are the flushes so far, or they and the sync, each met.
+pub record SyncFails (many : ℕ) (v : View) (was : Memory) (old new : Story) : Type 0 where
+  pub events : List happening.Event
+  pub are : AreFlushes events ⊎ ((n : ℕ) × IsSync n events)
+  pub few : length events ≤ suc many
+  pub met : (g : Opening) (xs : List Done) (first : List happening.Event) → Behind g xs first v → AllMet g (state_after g (front xs)) (first ++ events)
+  pub around : Around many true old new
+  pub leaves : EachBreaks many v was events old new

@@ -246,7 +246,7 @@ impl<D: Stages> Machine<D> {
 
         ensures cause_disk_fault { HasCause (D.faults self.old.work.disk) (D.faults self.new.work.disk) (IsErr result) }
     {
-        row_opening::every_reached();
+        laws();
         self.flush_all()?;
         clocks_low(&self.rows, &self.seat);
         self.sync_flushed()

@@ -45,9 +45,9 @@ returns-in-Ok g c =
     let laws : (d : g.row.D.Denot) → IsLawful (story d) = λ d. (g.met.D.Disk g.world.𝓛 g.world.𝓜 g.world.𝓡 ((λ s x. x), (λ x. x), (λ x. x), (λ x. x))).lawful d in
     let e = c.in-Ok.ensures in
     subst (λ (r : Response). MachineWent story faults OnLine 1 0 call.Sync r s n) (sym c.only-in-Ok.ensures) (synced_went story faults OnLine c.in-Ok.at s n
-    (sync_does c.laws.ensures.versions c.laws.ensures.kept c.laws.ensures.prefixes c.laws.ensures.seals c.laws.ensures.reached c.laws.ensures.needs story laws s.work.session.workers s.work.session.group (holds_of (shape s) s.seat.view (here s) s.desks.items c.requires.machine.desks).rows.most
-    s.seat.view (here s) s.desks.items s.master s.work.disk c.in-Ok.at n.seat.view (here n) n.desks.items n.master n.work.disk e.made e.sessions)
-    e.fits e.machine (home_synced story s.work.session.workers c.in-Ok.at s.seat.view n.seat.view _ _ s.master n.master s.work.disk n.work.disk e.made) (e.works.1 (λ h. cc)) e.session (e.cause_disk_fault.calm (λ h. cc)))
+    (sync_does s.work.session.workers s.work.session.group (holds_of (shape s) s.seat.view (here s) s.desks.items c.requires.machine.desks).rows.most s.seat.view (here s) s.desks.items s.master (story s.work.disk) (story n.work.disk) (laws s.work.disk)
+    (every_part c.laws.ensures.versions c.laws.ensures.kept c.laws.ensures.prefixes c.laws.ensures.seals (story s.work.disk) (story s.work.disk) (story n.work.disk)) c.in-Ok.at n.seat.view (here n) n.desks.items n.master e.made.whole e.sessions)
+    e.fits e.machine (home_synced story s.work.session.workers c.in-Ok.at s.seat.view n.seat.view (memory s) (memory n) s.work.disk n.work.disk e.made) (e.works.1 (λ h. cc)) e.session (e.cause_disk_fault.calm (λ h. cc)))
 
 pub returns-in-Err : goal.returns-in-Err
 returns-in-Err g c =
@@ -58,6 +58,6 @@ returns-in-Err g c =
     let laws : (d : g.row.D.Denot) → IsLawful (story d) = λ d. (g.met.D.Disk g.world.𝓛 g.world.𝓜 g.world.𝓡 ((λ s x. x), (λ x. x), (λ x. x), (λ x. x))).lawful d in
     let e = c.in-Err.ensures in
     subst (λ (r : Response). MachineWent story faults OnLine 1 0 call.Sync r s n) (sym c.only-in-Err.ensures) (fault_went story faults OnLine 1 0 call.Sync s n tt
-    (sync_fails c.laws.ensures.versions c.laws.ensures.kept c.laws.ensures.prefixes c.laws.ensures.seals c.laws.ensures.reached c.laws.ensures.needs story laws s.work.session.workers s.work.session.group (holds_of (shape s) s.seat.view (here s) s.desks.items c.requires.machine.desks).rows.most
-    s.seat.view (here s) s.desks.items s.master s.work.disk n.seat.view (here n) n.desks.items (memory n) n.work.disk (e.failed refl))
+    (sync_fails s.work.session.workers s.work.session.group (holds_of (shape s) s.seat.view (here s) s.desks.items c.requires.machine.desks).rows.most s.seat.view (here s) s.desks.items s.master (story s.work.disk) (story n.work.disk) (laws s.work.disk)
+    (every_part c.laws.ensures.versions c.laws.ensures.kept c.laws.ensures.prefixes c.laws.ensures.seals (story s.work.disk) (story s.work.disk) (story n.work.disk)) n.seat.view (here n) n.desks.items (memory n) (e.failed refl))
     e.fits (λ on. e.works.0 on refl) e.session (e.cause_disk_fault.later, e.cause_disk_fault.cause refl))

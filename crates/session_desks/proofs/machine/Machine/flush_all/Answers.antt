@@ -1,5 +1,4 @@
 use Rattle.std.proofs.Common.{◌≡◌, ◌≤◌, ◌<◌, ◌+◌, ◌-◌, suc, refl, sym, ◌∙◌, subst, arith}
-use Rattle.engine_calls.proofs.PartLemmas.{every_part}
 use Rattle.session_desks.specs.Parts.{here, shape}
 use Rattle.session_desks.specs.Desks.{desk_of, log_of}
 use Rattle.session_desks.specs.Syncs.{Flushed, FlushedOne}
@@ -26,7 +25,7 @@ loop-session-init g c =
       workers = refl;
       group = refl;
       still = λ w low high. refl;
-      flushed = flushed_none s.work.session.workers s.seat.view (log_of x s.desks.items) (g.D.Disk.story s.work.disk);
+      flushed = flushed_none c.laws.ensures.kept c.laws.ensures.prefixes c.laws.ensures.seals c.laws.ensures.versions s.work.session.workers s.seat.view (log_of x s.desks.items) (g.D.Disk.story s.work.disk) ((g.met.D.Disk g.world.𝓛 g.world.𝓜 g.world.𝓡 ((λ s x. x), (λ x. x), (λ x. x), (λ x. x))).lawful s.work.disk);
       master = refl;
       calm = refl;
     }
@@ -55,7 +54,7 @@ loop-session-preserved g c =
       still = λ w some most. still_more (desk_of x s.desks.items w).session (desk_of d m.desks.items w).session (desk_of y n.desks.items w).session (i.still w some most) (e.still w some (subst (λ k. w ≤ k) (sym i.workers) most));
       flushed = subst (λ k. Flushed k s.work.session.workers s.seat.view n.seat.view (log_of x s.desks.items) (log_of y n.desks.items) (g.D.Disk.story s.work.disk) (g.D.Disk.story n.work.disk)) same
           (flushed_more c.laws.ensures.reached c.laws.ensures.needs (l.session - 1) l.session s.work.session.workers s.seat.view m.seat.view (log_of x s.desks.items) (log_of d m.desks.items) (g.D.Disk.story s.work.disk) (g.D.Disk.story m.work.disk) (g.D.Disk.story n.work.disk)
-          i.flushed next high (every_part c.laws.ensures.versions c.laws.ensures.kept c.laws.ensures.prefixes c.laws.ensures.seals (g.D.Disk.story s.work.disk) (g.D.Disk.story m.work.disk) (g.D.Disk.story n.work.disk)) e.keeps
+          i.flushed next high ((g.met.D.Disk g.world.𝓛 g.world.𝓜 g.world.𝓡 ((λ s x. x), (λ x. x), (λ x. x), (λ x. x))).lawful s.work.disk) e.keeps
           n.seat.view (log_of y n.desks.items)
           (ends_still (l.session - 1) l.session s.work.session.workers s.seat.view m.seat.view (log_of x s.desks.items) (log_of d m.desks.items) (g.D.Disk.story s.work.disk) (g.D.Disk.story m.work.disk) i.flushed low high (c.requires.logged l.session i.some high).ends)
           (subst (λ k. FlushedOne l.session k m.seat.view n.seat.view (log_of d m.desks.items) (log_of y n.desks.items) (g.D.Disk.story m.work.disk) (g.D.Disk.story n.work.disk)) i.workers e.flushed));
@@ -73,7 +72,7 @@ returns-in_err-flush_one-clause-failed g c =
     let x : Desk = here s in
     let d : Desk = here m in
     λ _. flush_fails c.laws.ensures.reached c.laws.ensures.needs (l.session - 1) l.session s.work.session.workers s.seat.view m.seat.view (log_of x s.desks.items) (log_of d m.desks.items) (g.D.Disk.story s.work.disk) (g.D.Disk.story m.work.disk) (g.D.Disk.story n.work.disk)
-    i.flushed (let a = i.some in omega arith) (let a = c.loop-session-test.true in omega arith) (every_part c.laws.ensures.versions c.laws.ensures.kept c.laws.ensures.prefixes c.laws.ensures.seals (g.D.Disk.story s.work.disk) (g.D.Disk.story m.work.disk) (g.D.Disk.story n.work.disk)) c.flush_one.ensures.keeps
+    i.flushed (let a = i.some in omega arith) (let a = c.loop-session-test.true in omega arith) ((g.met.D.Disk g.world.𝓛 g.world.𝓜 g.world.𝓡 ((λ s x. x), (λ x. x), (λ x. x), (λ x. x))).lawful s.work.disk) c.flush_one.ensures.keeps
 
 pub returns-clause-flushed : goal.returns-clause-flushed
 returns-clause-flushed g c =
