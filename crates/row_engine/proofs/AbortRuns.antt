@@ -29,7 +29,7 @@ use Rattle.row_engine.specs.Flushed.{flushed_to}
 use Rattle.session_state.specs.Holds.{Holds}
 use Rattle.row_engine.specs.Inside.{abort_test}
 use Rattle.session_state.specs.Staging.{KeepsLog}
-use Rattle.row_engine.specs.Puts.{works_after}
+use Rattle.row_changes.specs.Puts.{works_after}
 use Rattle.row_engine.specs.declared.commits.Ended as committed
 use Rattle.session_state.specs.declared.session.Session.{Session}
 use Rattle.row_engine.proofs.AbortLemmas.{aborted_does, failed_back, halved_does, unended}

@@ -35,7 +35,8 @@ use Rattle.rows_trait.specs.declared.view.View.{View}
 use Rattle.rows_trait.specs.Views.{after_all, state}
 use Rattle.flush_avoidance.specs.Clocks.{risen}
 use Rattle.session_state.specs.declared.session.Session.{Session}
-use Rattle.row_engine.specs.Inside.Backs.{IsPutBack, Undoes, Undone, is_back}
+use Rattle.row_changes.specs.Backs.{IsPutBack}
+use Rattle.row_engine.specs.Inside.Backs.{Undoes, Undone, is_back}
 use Rattle.session_state.specs.Others.{Steps}
 use Rattle.session_state.specs.Ties.{Behind}
 use Rattle.row_engine.specs.Grown.{Goes, Went}
@@ -45,7 +46,7 @@ use Rattle.row_engine.proofs.GrowRuns.{all_append, logs_more, went_more}
 use Rattle.session_state.proofs.Moments.{events_more}
 use Rattle.session_state.proofs.OtherLemmas.{every_steps, no_steps}
 use Rattle.row_engine.proofs.OwnSteps.{back_steps}
-use Rattle.row_engine.proofs.PutLemmas.{seen_core}
+use Rattle.row_changes.proofs.SeenLemmas.{seen_core}
 
 -- ## Lists of them
 

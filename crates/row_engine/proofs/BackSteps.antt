@@ -11,7 +11,9 @@ use Rattle.row_words.specs.Moments.{events_of}
 use Rattle.row_words.specs.Openings.{opening}
 use Rattle.rows_trait.specs.Views.{Shape}
 use Rattle.rows_trait.specs.declared.view.View.{View}
-use Rattle.row_engine.specs.Inside.Backs.{HasFailedBack, HasUndone, IsPutBack, PutsAllBack, StepsBack}
+use Rattle.row_engine.specs.Inside.Backs.{HasFailedBack, HasUndone, PutsAllBack}
+use Rattle.row_changes.specs.Backs.{IsPutBack}
+use Rattle.row_engine.specs.Inside.Backs.{StepsBack}
 use Rattle.session_state.specs.Holds.{Holds}
 use Rattle.session_state.specs.Staging.{KeepsLog}
 use Rattle.session_state.specs.declared.session.Session.{Session}

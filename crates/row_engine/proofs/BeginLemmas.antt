@@ -39,7 +39,8 @@ use Rattle.session_state.proofs.HoldLemmas.{rows_on}
 use Rattle.row_engine.proofs.FlushLemmas.{flushed_all, flushed_from, flushed_low}
 use Rattle.session_state.proofs.Moments.{acts, free_same, goes_seen, goes_state, met_core}
 use Rattle.session_state.proofs.OtherLemmas.{is_own, one_step}
-use Rattle.row_engine.proofs.TakeLemmas.{holds_still, still}
+use Rattle.row_changes.proofs.TakeLemmas.{holds_still}
+use Rattle.row_changes.proofs.SeenLemmas.{still}
 
 -- ## The moment
 

@@ -63,7 +63,8 @@ use Rattle.session_state.proofs.HoldLemmas.{rows_on}
 use Rattle.row_engine.proofs.CommitLemmas.{ties_as}
 use Rattle.row_engine.proofs.LatchLemmas.{replicated}
 use Rattle.session_state.proofs.Moments.{free_same, seen_state}
-use Rattle.row_engine.proofs.Misses.{misses_core, misses_log, misses_met, misses_quiet, misses_run, misses_steps, misses_structure}
+use Rattle.row_changes.proofs.Misses.{misses_core}
+use Rattle.row_engine.proofs.Misses.{misses_log, misses_met, misses_quiet, misses_run, misses_steps, misses_structure}
 
 -- ## Tests
 

@@ -1,4 +1,4 @@
--- Who stands in the way of a lock: as a lock finds, as the core names and as a refusal tells.
+-- Who stands in the way of a lock, as a refusal tells.
 use Rattle.std.proofs.Common.{◌≡◌, ◌⊎◌, inl, inr, ◌≤◌, ◌||◌, ◌==◌, ℕ, Bool, true, false, cond, min, List, [], ◌∷◌, Option, Some, None, refl, sym, ap, ◌∙◌, subst, arith, true≢false, eq-eqb}
 use Rattle.std.proofs.lemmas.Bool.{cases_eq, cases_lt, eqb-true, ne_eqb, or_cases, or_left}
 use Rattle.map_model.specs.declared.call.Refusal.{Refusal}
@@ -8,21 +8,7 @@ use Rattle.core_state.specs.Needs.{is_free, is_held_by, is_reader, may_hold}
 use Rattle.core_state.specs.Openings.{Opening}
 use Rattle.core_state.specs.States.{Row, State}
 use Rattle.core_calls.specs.Refusals.{Hinders}
-use Rattle.key_locks.specs.Rows.{IsBlocking, IsRow, IsWorker, Stands}
 use Rattle.engine_trait.specs.Refusals.{blocker_of, conflict_with, least_other, least_with, lock_refusal}
-
--- ## As the core names it
-
--- who blocks a lock hinders it
-pub blocking_hinders : (o : Row) (w : ℕ) (m : happening.Mode) (b : ℕ) → IsBlocking o w m b → Hinders o w m b
-blocking_hinders o w m b k = record { may_not = k.refused; other = (parts o.holder refl k.blocks).0; holds = (parts o.holder refl k.blocks).1 }
-  where
-    parts : (h : Option ℕ) → o.holder ≡ h → Stands h o.readers w b
-        → (b ≡ w → ⊥) × ((is_held_by o.holder b ≡ true) ⊎ ((is_free o.holder ≡ true) × (is_reader b o.readers ≡ true) × ((v : ℕ) → is_reader v o.readers ≡ true → (v ≡ w → ⊥) → b ≤ v)))
-    parts None e s = (s.other, inr (ap is_free e, s.reads, s.least))
-    parts (Some v) e s = (λ q. s.0 (sym s.1 ∙ q), inl (ap (λ (h : Option ℕ). is_held_by h b) e ∙ eq-eqb v b (sym s.1)))
-
--- ## As a refusal tells it
 
 -- the least of the readers but w
 record IsLeast (w : ℕ) (readers : List ℕ) (u : ℕ) : Type 0 where
@@ -108,16 +94,3 @@ lock_refused g s own key m h k later =
 -- and one that may be had is not
 pub lock_free : (g : Opening) (s : State) (own key : ℕ) (m : happening.Mode) → may_hold (s.row (g.row_of key)) own m ≡ true → (later : Option Refusal) → lock_refusal g s own key m later ≡ later
 lock_free g s own key m e later = ap (λ b. cond b later (conflict_with (blocker_of (s.row (g.row_of key)).holder own (s.row (g.row_of key)).readers))) e
-
--- ## One session alone
-
--- whoever holds or reads a row is worker 1, so nobody is in its way
-pub lone_free : (o : Row) (own : ℕ) (m : happening.Mode) (h : ℕ) → IsRow 1 o → own ≡ 1 → Hinders o own m h → ⊥
-lone_free o own m h r own_is k = k.other (one h (holds k.holds) ∙ sym own_is)
-  where
-    one : (w : ℕ) → IsWorker 1 w → w ≡ 1
-    one w i = let a = i.one in let b = i.among in omega arith
-
-    holds : (is_held_by o.holder h ≡ true) ⊎ ((is_free o.holder ≡ true) × (is_reader h o.readers ≡ true) × ((v : ℕ) → is_reader v o.readers ≡ true → (v ≡ own → ⊥) → h ≤ v)) → IsWorker 1 h
-    holds (inl e) = r.holder h e
-    holds (inr e) = r.reader h e.1

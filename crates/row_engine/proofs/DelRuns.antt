@@ -56,15 +56,17 @@ use Rattle.engine_trait.specs.Limits.{limits}
 use Rattle.engine_trait.specs.Refusals.{IsRefusedFor, change_refusal, clock_refusal, lock_refusal, met_refusal, refusal_in}
 use Rattle.engine_trait.specs.Rooms.{IsRoomFor, MakesItsRoom}
 use Rattle.row_engine.specs.Calls.{CallDoes, Comes, DoesOn, del_answer}
-use Rattle.row_engine.specs.Inside.Dels.{Dels, IsAbsent}
+use Rattle.row_engine.specs.Inside.Dels.{Dels}
+use Rattle.row_changes.specs.Reads.{HasRead}
 use Rattle.session_state.specs.Ties.{Behind, Ties}
 use Rattle.row_engine.specs.Grown.{Went}
 use Rattle.session_state.specs.Held.{with_row}
 use Rattle.session_state.specs.Holds.{Holds, IsOf}
 use Rattle.row_engine.specs.Inside.{is_going, put_test}
-use Rattle.row_engine.specs.Puts.{IsChanged, IsEarly, works_after}
+use Rattle.row_changes.specs.Puts.{IsChanged, works_after}
+use Rattle.row_engine.specs.Puts.{IsEarly}
 use Rattle.session_state.specs.Staging.{KeepsLog}
-use Rattle.row_engine.specs.Inside.Takes.{IsHindered, IsSpent, NotTaken, Takes}
+use Rattle.row_changes.specs.Takes.{IsHindered, IsSpent, NotTaken, Takes}
 use Rattle.session_state.specs.declared.session.Session.{Session}
 use Rattle.row_engine.proofs.Behind as behind
 use Rattle.row_engine.proofs.BeginLemmas.{comes_told}
@@ -73,12 +75,12 @@ use Rattle.row_engine.proofs.GetLemmas.{any_more}
 use Rattle.row_engine.proofs.GoingLemmas.{not_going, tests_as}
 use Rattle.row_engine.proofs.OnOwn.{logs_own}
 use Rattle.row_engine.proofs.GrowRuns.{goes_none, goes_put, grows_none, record_in, went_failed, went_quiet}
-use Rattle.row_engine.proofs.StepLemmas.{clock_at_end}
+use Rattle.row_changes.proofs.StepLemmas.{clock_at_end}
 use Rattle.row_engine.proofs.PutTests.{free_of, gate, gate_more, gate_none, gate_of, logs_lock, met_told, none_is, put_told, room_lock, some_is, steps_lock, test_is}
 use Rattle.row_engine.proofs.Refusing as refusing
 use Rattle.row_engine.proofs.Refusing.{hindered_behind, key_free, key_hindered, refusal_comes, spent_behind, spent_end, taken_behind}
 use Rattle.session_state.proofs.StageLemmas.{staged_flushed}
-use Rattle.row_engine.proofs.TakeLemmas.{row_is}
+use Rattle.row_changes.proofs.TakeLemmas.{row_is}
 use Rattle.session_state.proofs.UndoLemmas.{many_of}
 
 -- ## Its answers
@@ -295,7 +297,7 @@ module _ (reached : EveryReached) (need : EveryNeed) (answers : EveryAnswer) (co
 
     -- ## The key had no value
 
-    module _ (below : x1.clock.clock < 2 ^ 62) (st : Story) (lawful : IsLawful st) (w : View) (a : IsAbsent own v1 w key) where
+    module _ (below : x1.clock.clock < 2 ^ 62) (st : Story) (lawful : IsLawful st) (w : View) (a : HasRead own v1 w key None) where
       abbrev read : happening.Event
       read = happening.Event.Read own a.page key None
 

@@ -1,21 +1,19 @@
 -- A get.
-use Rattle.std.proofs.Common.{◌≡◌, ◌⊎◌, inl, inr, ◌↔◌, ◌≤◌, ◌<◌, ◌%◌, ◌++◌, ◌&&◌, ◌||◌, ℕ, suc, max, Bool, true, false, cond, ltb, List, [], ◌∷◌, length, Option, Some, None, refl, sym, ap, ◌∙◌, subst, arith, append-nil, true≢false, eq-eqb, lt-ltb}
+use Rattle.std.proofs.Common.{◌≡◌, ◌⊎◌, inl, inr, ◌%◌, ◌++◌, ◌||◌, ℕ, suc, Bool, true, false, cond, List, [], ◌∷◌, length, Option, Some, None, refl, sym, ap, ◌∙◌, subst, arith, true≢false}
 use Rattle.std.proofs.lemmas.List.{append_assoc, length-append}
 use Rattle.map_model.specs.declared.call.Answer.TheVariants as answer
 use Rattle.map_model.specs.declared.call.Call.TheVariants as call
 use Rattle.map_model.specs.declared.call.Refusal.{Refusal}
 use Rattle.map_model.specs.declared.call.Refusal.TheVariants as refusal
-use Rattle.map_model.specs.Lists.{Has, any, keep, upd}
-use Rattle.page_model.specs.Nodes.{holds}
-use Rattle.rfa_model.specs.Stamps.{owed}
+use Rattle.map_model.specs.Lists.{any, keep}
 use Rattle.core_state.specs.Openings.{Opening}
-use Rattle.core_state.specs.States.{State, flushed_by_all, is_hot}
+use Rattle.core_state.specs.States.{State}
 use Rattle.core_state.specs.Events as happening
-use Rattle.core_state.specs.Needs.{holds_row, is_value, may, may_hold, value_in}
-use Rattle.core_state.specs.Steps.{at_pages, happens, state_after}
+use Rattle.core_state.specs.Needs.{holds_row, may, may_hold, value_in}
+use Rattle.core_state.specs.Steps.{state_after}
 use Rattle.core_calls.specs.Deeds.{Got, marks_by}
 use Rattle.core_calls.specs.Fronts.{Done, front, outcomes}
-use Rattle.core_calls.specs.LogEvents.{IsTight, behind as waits, is_log}
+use Rattle.core_calls.specs.LogEvents.{IsTight, is_log}
 use Rattle.core_calls.proofs.WhereLemmas.{syncs_kept}
 use Rattle.core_calls.specs.Marks.{is_half}
 use Rattle.core_calls.specs.Refusals.{Hinders, IsCause}
@@ -28,17 +26,9 @@ use Rattle.engine_calls.specs.Answers.{EveryAnswer}
 use Rattle.engine_calls.specs.Clauses.{EveryComing, IsNewLine}
 use Rattle.engine_calls.specs.Parts.{EveryPart, Gone, behind_first}
 use Rattle.engine_calls.specs.Puts.{IsRead, is_alone, read_by, taking}
-use Rattle.row_words.specs.declared.event.Event.{Event}
 use Rattle.row_words.specs.declared.event.Event.TheVariants.{Read}
-use Rattle.row_words.specs.declared.given.Given.{Given}
-use Rattle.row_words.specs.Moments.{Moment}
-use Rattle.row_words.specs.Openings.{opening}
-use Rattle.row_words.specs.Sealed.{stepped}
 use Rattle.rows_trait.specs.declared.view.View.{View}
-use Rattle.rows_trait.specs.Views.{Shape, after_all, state}
-use Rattle.btree_descent.specs.declared.descent.Found.{Found}
-use Rattle.btree_descent.specs.Descents as descents
-use Rattle.btree_descent.specs.Known as pages
+use Rattle.rows_trait.specs.Views.{Shape, state}
 use Rattle.key_locks.specs.declared.mode.Mode.{Mode}
 use Rattle.key_locks.specs.declared.mode.Mode.TheVariants.{Shared}
 use Rattle.row_opening.specs.Openings.{EveryNeed, EveryReached}
@@ -46,22 +36,18 @@ use Rattle.engine_trait.specs.Limits.{limits}
 use Rattle.engine_trait.specs.Calls.{MayCome, call_behind, is_half_done}
 use Rattle.engine_trait.specs.Refusals.{IsRefusedFor, lock_refusal, refusal_in}
 use Rattle.engine_trait.specs.Rooms.{MakesItsRoom}
-use Rattle.flush_avoidance.specs.Clocks.{after_touch}
+use Rattle.row_changes.specs.Reads.{HasRead}
 use Rattle.row_engine.specs.Calls.{CallDoes, DoesOn}
-use Rattle.session_state.specs.Holds.{Holds, IsOf}
+use Rattle.session_state.specs.Holds.{Holds}
 use Rattle.row_engine.specs.Inside.{call_test, is_going}
-use Rattle.session_state.specs.Others.{Steps}
-use Rattle.row_engine.specs.Inside.Takes.{NotTaken, Takes}
+use Rattle.row_changes.specs.Takes.{NotTaken, Takes}
 use Rattle.session_state.specs.Ties.{Ties}
 use Rattle.session_state.specs.declared.session.Session.{Session}
 use Rattle.row_engine.proofs.Behind as behind
-use Rattle.session_state.proofs.HoldLemmas.{rows_on}
 use Rattle.row_engine.proofs.ConflictLemmas.{lock_free, lock_refused}
 use Rattle.row_engine.proofs.GoingLemmas.{goes, going, not_going, tests_as}
-use Rattle.session_state.proofs.Moments.{free_same, seen_state}
-use Rattle.session_state.proofs.OtherLemmas.{is_own, one_step}
 use Rattle.row_engine.proofs.Refusing.{hindered_behind, is_refusal, key_free, key_hindered, refusal_comes, refused_does, spent_behind, spent_end, taken_behind}
-use Rattle.row_engine.proofs.TakeLemmas.{holds_still, numbers_on, ran_seen, row_is, seen_core, with_count}
+use Rattle.row_changes.proofs.TakeLemmas.{with_count}
 
 -- ## The tests
 
@@ -91,133 +77,12 @@ call_closed x why works e = open_case (is_going x) refl ((λ i. cond (sym works 
     open_case true q r = absurd (none_is why r)
     open_case false q r = (q, some_is _ why r)
 
--- ## The read
+-- ## The row
 
--- it changes entries and its worker alone
-record LeavesPages (m n : State) : Type 0 where
-  page : n.page ≡ m.page
-  place : n.place ≡ m.place
-
-read_pages : (v : Given) (m : Moment) (own p k : ℕ) (a : Option ℕ) → LeavesPages m.core (stepped v m (Read own p k a)).core
-unfolding stepped
-read_pages v m own p k a = go (may (opening v) m.core (happening.Event.Read own p k a))
-  where
-    go : (b : Bool) → LeavesPages m.core (cond b (happens (opening v) m.core (happening.Event.Read own p k a)) m.core)
-    go true = record { page = refl; place = refl }
-    go false = record { page = refl; place = refl }
-
-all_true : (a b c d e f : Bool) → a ≡ true → b ≡ true → c ≡ true → d ≡ true → e ≡ true → f ≡ true → ((a && true) && ((b && (c && (d && e))) && f)) ≡ true
-all_true false b c d e f p q r s t u = p
-all_true true false c d e f p q r s t u = q
-all_true true true false d e f p q r s t u = r
-all_true true true true false e f p q r s t u = s
-all_true true true true true false f p q r s t u = t
-all_true true true true true true f p q r s t u = u
-
-same_value : (a : Option ℕ) → is_value a a ≡ true
-same_value None = refl
-same_value (Some n) = eq-eqb n n refl
-
-module _ (z : Shape) (v w : View) (x : Session) (log : Log) (h : Holds z v x log) (is_open : x.is_open ≡ true) (key : ℕ) (found : Found) (st : descents.Stamped z.alone x.own key found v w) (held_is : w.held ≡ v.held)
-    (mine : holds_row ((state v).core.row ((opening v.given).row_of key)) x.own ≡ true) where
-  abbrev a : descents.Answered z.alone x.own key found.word v w
-  a = st.answered
-
-  abbrev e : Event
-  e = Read x.own a.page key (pages.said found.word)
-
-  abbrev s : State
-  s = (state v).core
-
-  pub read_given : w.given ≡ v.given
-  read_given = a.ran.given
-
-  pub read_seen : w.seen ≡ v.seen ++ e ∷ []
-  read_seen = ran_seen z.alone v w (e ∷ []) h.alone a.ran
-
-  then_is : state w ≡ stepped v.given (state v) e
-  then_is = seen_state v w (e ∷ []) read_given read_seen
-
-  leaves : LeavesPages s (state w).core
-  leaves = subst (λ m. LeavesPages s m.core) (sym then_is) (read_pages v.given (state v) x.own a.page key (pages.said found.word))
-
-  below : a.page < (opening v.given).format.pages
-  below = subst (λ k. a.page < (opening k).format.pages) read_given a.says.below
-
-  hot : is_hot (s.place a.page) ≡ true
-  hot = ap (λ f. is_hot (f a.page)) (sym leaves.place) ∙ a.says.hot
-
-  leaf : holds (s.page a.page).node key ≡ true
-  leaf = ap (λ f. holds (f a.page).node key) (sym leaves.page) ∙ a.says.leaf
-
-  -- the leaf said it before the read
-  pub read_value : pages.said found.word ≡ value_in (opening v.given).format (s.page a.page).node key
-  read_value = a.says.value ∙ (λ i. value_in (opening (read_given i)).format (leaves.page i a.page).node key)
-
-  pub read_met : may (opening v.given) s (happening.Event.Read x.own a.page key (pages.said found.word)) ≡ true
-  read_met = all_true (is_hot (s.place a.page)) (s.worker x.own).is_open (holds_row (s.row ((opening v.given).row_of key)) x.own) (ltb a.page (opening v.given).format.pages) (holds (s.page a.page).node key) (is_value (pages.said found.word) (value_in (opening v.given).format (s.page a.page).node key))
-      hot (h.session.is_open ∙ is_open) mine (lt-ltb a.page (opening v.given).format.pages below) leaf (ap (λ k. is_value (pages.said found.word) k) (sym read_value) ∙ same_value (pages.said found.word))
-
-  -- the read is all that happened
-  pub read_steps : Steps x.own v w
-  read_steps = one_step x.own v w e read_given read_seen (is_own x.own) read_met
-
-  core_is : (state w).core ≡ happens (opening v.given) s (happening.Event.Read x.own a.page key (pages.said found.word))
-  core_is = seen_core v w e read_given read_seen read_met
-
-  -- the leaf's stamp was that before the read
-  before : after_all w.given a.past ≡ state v
-  before = λ i. after_all (read_given i) (past i)
-    where
-      past : a.past ≡ v.seen
-      past = a.onward.whole ∙ (ap (λ ys. v.seen ++ ys) (a.onward.quiet h.alone) ∙ append-nil v.seen)
-
-  number_is : found.number ≡ (s.page a.page).gsn
-  number_is = st.number ∙ ap (λ m. (m.core.page a.page).gsn) before
-
-  log_is : found.log ≡ (s.page a.page).last
-  log_is = st.log ∙ ap (λ m. (m.core.page a.page).last) before
-
-  -- the session that has met it
-  abbrev now : Session
-  now = record x { clock = after_touch x.own x.clock found.number found.log }
-
-  now_of : IsOf now (at_pages s x.own (s.worker x.own) (a.page ∷ []))
-  now_of = record {
-    is_open = h.session.is_open;
-    txn = h.session.txn;
-    clock = λ i. max (h.session.clock i) (sym number_is i);
-    floor = h.session.floor;
-    debt = λ i. owed x.own (h.session.floor i) (h.session.debt i) (sym number_is i) (sym log_is i);
-    end = h.session.end;
-    undo = h.session.undo;
-  }
-
-  at_worker : upd s.worker x.own (at_pages s x.own (s.worker x.own) (a.page ∷ [])) x.own ≡ at_pages s x.own (s.worker x.own) (a.page ∷ [])
-  at_worker = ap (λ b. cond b (at_pages s x.own (s.worker x.own) (a.page ∷ [])) (s.worker x.own)) (eq-eqb x.own x.own refl)
-
-  pub after_read : Holds z w now log
-  after_read = record {
-    alone = h.alone;
-    idle = held_is ∙ h.idle;
-    rows = rows_on z v w x.own x.workers x.frames x.held.count read_given h.rows;
-    session = subst (λ k. IsOf now (k.worker x.own)) (sym core_is) (subst (λ k. IsOf now k) (sym at_worker) now_of);
-    numbers = numbers_on x now log x.held refl (omega arith) h.numbers;
-    flushed = ap (λ k. k.flushed x.own) core_is ∙ h.flushed;
-    floor = subst (λ n. x.clock.floor ≤ n) (λ i. flushed_by_all (opening (sym read_given i)) (sym core_is i)) h.floor;
-    behind = ap (λ k. waits k x.own) core_is ∙ h.behind;
-    held = λ i. subst (λ k. holds_row (k.row i) x.own ≡ true ↔ Has i x.held.rows) (sym core_is) (h.held i);
-    within = h.within;
-    fewer = h.fewer;
-    none = h.none;
-    free = free_same v w x.free read_given (ap (λ k. k.page) core_is) h.free;
-    spare = h.spare;
-  }
-
--- the row of the key is the one that was taken
-pub key_mine : (z : Shape) (v w : View) (x y : Session) (log : Log) → Holds z w y log → (key : ℕ) → Takes v w x y (key % x.held.count) Shared → holds_row ((state w).core.row ((opening w.given).row_of key)) y.own ≡ true
-key_mine z v w x y log i key k = ap (λ r. holds_row ((state w).core.row r) y.own) (row_is z w y.own y.workers y.frames y.held.count key i.rows ∙ (ap (λ s. key % s.held.count) k.session ∙ ap (λ n. key % n) (with_count x.held (key % x.held.count))))
-    ∙ (ap (λ s. holds_row ((state w).core.row (key % x.held.count)) s.own) k.session ∙ k.mine)
+-- the row of the key is held
+pub row_held : (v w : View) (x y : Session) (key : ℕ) → Takes v w x y (key % x.held.count) Shared → holds_row ((state w).core.row (key % y.held.count)) y.own ≡ true
+row_held v w x y key k = ap (λ (n : ℕ). holds_row ((state w).core.row (key % n)) y.own) (ap (λ (s : Session). s.held.count) k.session ∙ with_count x.held (key % x.held.count))
+    ∙ (ap (λ (s : Session). holds_row ((state w).core.row (key % x.held.count)) s.own) k.session ∙ k.mine)
 
 -- and the session is open still
 pub open_still : (v w : View) (x y : Session) (row : ℕ) → Takes v w x y row Shared → x.is_open ≡ true → y.is_open ≡ true
@@ -247,25 +112,19 @@ none_refuses g s own is_half_aborted log key is_open whole free =
     (λ i. cond (whole i) (Some refusal.NoTransaction) (cond (is_open i) (lock_refusal g s own key happening.Mode.Shared None) (Some refusal.NoTransaction))) ∙ lock_free g s own key happening.Mode.Shared free None
 
 -- It was answered: the row was taken by w, and the read was seen by u.
-module _ (reached : EveryReached) (needs : EveryNeed) (answers : EveryAnswer) (g : Opening) (xs : List Done) (line : IsNewLine (outcomes xs)) (z : Shape) (v w u : View) (x y : Session) (log : Log) (t : Ties g x.group xs x.own x.is_half_aborted v) (h : Holds z v x log) (i : Holds z w y log) (is_open : x.is_open ≡ true)
-    (whole : x.is_half_aborted ≡ false) (key : ℕ) (found : Found) (k : Takes v w x y (key % x.held.count) Shared) (st : descents.Stamped z.alone y.own key found w u) (held_is : u.held ≡ w.held) (story : Story) (lawful : IsLawful story) (part : EveryPart story story story) where
+module _ (reached : EveryReached) (needs : EveryNeed) (answers : EveryAnswer) (g : Opening) (xs : List Done) (line : IsNewLine (outcomes xs)) (z : Shape) (v w u : View) (x y : Session) (log : Log) (t : Ties g x.group xs x.own x.is_half_aborted v) (h : Holds z v x log) (is_open : x.is_open ≡ true)
+    (whole : x.is_half_aborted ≡ false) (key : ℕ) (value : Option ℕ) (k : Takes v w x y (key % x.held.count) Shared) (seen_read : HasRead x.own w u key value) (story : Story) (lawful : IsLawful story) (part : EveryPart story story story) where
   abbrev first : List happening.Event
   first = t.loads
-
-  abbrev answered : descents.Answered z.alone y.own key found.word w u
-  answered = st.answered
 
   abbrev taken : List happening.Event
   taken = taking g x.own key happening.Mode.Shared first []
 
-  abbrev value : Option ℕ
-  value = pages.said found.word
-
   abbrev read : happening.Event
-  read = happening.Event.Read x.own answered.page key value
+  read = happening.Event.Read x.own seen_read.page key value
 
   abbrev done : Done
-  done = read_by (Got key value (is_alone g xs taken x.own key)) taken x.own answered.page key value
+  done = read_by (Got key value (is_alone g xs taken x.own key)) taken x.own seen_read.page key value
 
   b0 : behind.Behind g xs first v
   b0 = behind.begins g x.group xs x.own v t
@@ -273,32 +132,19 @@ module _ (reached : EveryReached) (needs : EveryNeed) (answers : EveryAnswer) (g
   b : behind.Behind g xs taken w
   b = taken_behind reached needs g xs first z v w x y key Shared b0 h.rows k
 
-  own_is : y.own ≡ x.own
-  own_is = ap (λ q. q.own) k.session
-
-  y_open : y.is_open ≡ true
-  y_open = open_still v w x y (key % x.held.count) k is_open
-
-  mine : holds_row ((state w).core.row ((opening w.given).row_of key)) y.own ≡ true
-  mine = key_mine z v w x y log i key k
-
   met : may g (behind_first g xs taken) read ≡ true
-  met = behind.may_is reached needs g xs taken w b read
-      ∙ subst (λ o. may (opening w.given) (state w).core (happening.Event.Read o answered.page key value) ≡ true) own_is (read_met z w u y log i y_open key found st held_is mine)
-
-  seen : u.seen ≡ w.seen ++ Read x.own answered.page key value ∷ []
-  seen = subst (λ o. u.seen ≡ w.seen ++ Read o answered.page key value ∷ []) own_is (read_seen z w u y log i y_open key found st held_is mine)
+  met = behind.may_is reached needs g xs taken w b read ∙ seen_read.met
 
   next : behind.Behind g xs (taken ++ read ∷ []) u
-  next = behind.more reached needs g xs taken w b (Read x.own answered.page key value ∷ []) u (read_given z w u y log i y_open key found st held_is mine) seen (met, tt)
+  next = behind.more reached needs g xs taken w b (Read x.own seen_read.page key value ∷ []) u seen_read.given seen_read.seen (met, tt)
 
-  value_is : value ≡ value_in g.format ((behind_first g xs taken).page answered.page).node key
-  value_is = read_value z w u y log i y_open key found st held_is mine ∙ (λ j. value_in (sym b.opens.format j) ((behind.core_is reached needs g xs taken w b j).page answered.page).node key)
+  value_is : value ≡ value_in g.format ((behind_first g xs taken).page seen_read.page).node key
+  value_is = seen_read.told ∙ (λ j. value_in (sym b.opens.format j) ((behind.core_is reached needs g xs taken w b j).page seen_read.page).node key)
 
   no_more_logs : keep is_log taken ≡ []
   no_more_logs = keep_none is_log taken (any_more is_log first (happening.Event.Lock x.own (g.row_of key) happening.Mode.Shared ∷ []) (behind.loads_log first t.are_loads) refl)
 
-  is_read : IsRead g xs happening.Mode.Shared first [] x.own answered.page key value
+  is_read : IsRead g xs happening.Mode.Shared first [] x.own seen_read.page key value
   is_read = record {
     line = line;
     before_steps = behind.loads_steps first t.are_loads;
@@ -311,7 +157,7 @@ module _ (reached : EveryReached) (needs : EveryNeed) (answers : EveryAnswer) (g
   }
 
   told : Tells limits g x.group xs done
-  told = (answers limits g x.group xs).get first [] x.own answered.page key value is_read
+  told = (answers limits g x.group xs).get first [] x.own seen_read.page key value is_read
 
   -- before it took the row no test refused it
   none : refusal_in g (state_after g (front xs ++ first)) x.own (is_half_done x.own xs) log (call_behind (outcomes xs) (call.Get key)) ≡ None

@@ -49,12 +49,12 @@ use Rattle.rows_trait.specs.declared.view.View.{View}
 use Rattle.rows_trait.specs.Views.{after_all, state}
 use Rattle.flush_avoidance.specs.Clocks.{risen}
 use Rattle.session_state.specs.declared.session.Session.{Session}
-use Rattle.row_engine.specs.Puts.{IsChanged}
+use Rattle.row_changes.specs.Puts.{IsChanged}
 use Rattle.session_state.specs.Staging.{KeepsLog}
 use Rattle.row_engine.specs.Grown.{AreAside, Gained, Goes, Grows, Went, is_aside}
 use Rattle.session_state.specs.Ties.{Behind}
 use Rattle.session_state.specs.Others.{Steps}
-use Rattle.row_engine.specs.Inside.Rooms.{IsGrown, IsGrowth}
+use Rattle.row_changes.specs.Rooms.{IsGrown, IsGrowth}
 use Rattle.row_engine.proofs.Behind as behind
 use Rattle.row_engine.proofs.Formats.{next_as}
 use Rattle.row_engine.proofs.Misses.{is_miss}

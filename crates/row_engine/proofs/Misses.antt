@@ -1,5 +1,5 @@
 -- Misses change nothing.
-use Rattle.std.proofs.Common.{◌≡◌, ◌∙◌, ℕ, Bool, true, false, List, [], ◌∷◌, refl}
+use Rattle.std.proofs.Common.{◌≡◌, ℕ, Bool, true, false, List, [], ◌∷◌, refl}
 use Rattle.map_model.specs.Lists.{all, any}
 use Rattle.core_state.specs.Openings.{Opening}
 use Rattle.core_state.specs.Events as happening
@@ -10,12 +10,9 @@ use Rattle.core_calls.specs.Steps.{is_step, is_structure}
 use Rattle.disk_runs.specs.Quiet.{is_quiet}
 use Rattle.row_words.specs.declared.event.Event.{Event}
 use Rattle.row_words.specs.declared.event.Event.TheVariants.{Miss}
-use Rattle.row_words.specs.declared.given.Given.{Given}
-use Rattle.row_words.specs.Moments.{Moment, events_of}
-use Rattle.row_words.specs.Sealed as sealed
+use Rattle.row_words.specs.Moments.{events_of}
 use Rattle.btree_smo.specs.Outcomes.{AreMisses}
 use Rattle.row_engine.specs.Grown.{AreAside}
-use Rattle.session_state.proofs.Moments.{met_core}
 
 abbrev pub is_miss : happening.Event → Bool
 is_miss (happening.Event.Miss w) = true
@@ -50,11 +47,6 @@ pub misses_quiet : (es : List Event) → AreMisses es → all is_quiet (events_o
 misses_quiet [] m = refl
 misses_quiet (Miss a ∷ es) m = misses_quiet es m
 misses_quiet _ m = absurd m
-
-pub misses_core : (v : Given) (k : Moment) (es : List Event) → AreMisses es → (sealed.run v k es).core ≡ k.core
-misses_core v k [] m = refl
-misses_core v k (Miss a ∷ es) m = misses_core v (sealed.stepped v k (Miss a)) es m ∙ met_core v k (Miss a) refl
-misses_core v k _ m = absurd m
 
 pub misses_aside : (own : ℕ) (es : List Event) → AreMisses es → AreAside own (events_of es)
 misses_aside own [] m = refl

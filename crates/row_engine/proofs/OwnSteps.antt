@@ -20,14 +20,15 @@ use Rattle.btree_smo.specs.Outcomes.{AreMisses}
 use Rattle.row_engine.specs.declared.commits.Ended as committed
 use Rattle.session_state.specs.declared.session.Session.{Session}
 use Rattle.row_engine.specs.Inside.Aborts.{Finishes}
-use Rattle.row_engine.specs.Inside.Backs.{IsPutBack, PutsAllBack}
+use Rattle.row_changes.specs.Backs.{IsPutBack}
+use Rattle.row_engine.specs.Inside.Backs.{PutsAllBack}
 use Rattle.row_engine.specs.Inside.Dels.{Dels}
 use Rattle.row_engine.specs.Inside.Ends.{Ended, HasFlushed, MayFlush, Missed, gives}
 use Rattle.session_state.specs.Others.{Steps, is_of}
 use Rattle.row_engine.specs.Inside.Outcomes.{Puts}
-use Rattle.row_engine.specs.Puts.{works_after}
-use Rattle.row_engine.specs.Inside.Rooms.{IsGrown, IsGrowth}
-use Rattle.row_engine.specs.Inside.Takes.{NotTaken, Takes}
+use Rattle.row_changes.specs.Puts.{works_after}
+use Rattle.row_changes.specs.Rooms.{IsGrown, IsGrowth}
+use Rattle.row_changes.specs.Takes.{NotTaken, Takes}
 use Rattle.row_engine.proofs.LatchLemmas.{gives_events}
 use Rattle.row_engine.proofs.Misses.{misses_met}
 use Rattle.session_state.proofs.OtherLemmas.{every_steps, is_own, no_steps, one_step}

@@ -20,13 +20,13 @@ use Rattle.session_state.specs.Held.{with_row}
 use Rattle.session_state.specs.Holds.{Holds, IsOf}
 use Rattle.row_engine.specs.Inside.{put_test}
 use Rattle.row_engine.specs.Inside.Outcomes.{Puts}
-use Rattle.row_engine.specs.Puts.{works_after}
-use Rattle.row_engine.specs.Inside.Takes.{NotTaken, Takes}
+use Rattle.row_changes.specs.Puts.{works_after}
+use Rattle.row_changes.specs.Takes.{NotTaken, Takes}
 use Rattle.session_state.specs.declared.session.Session.{Session}
 use Rattle.row_engine.proofs.BeginLemmas.{comes_told}
 use Rattle.row_engine.proofs.PutRuns.{early_does, hindered_does, met_does, put_did, row_does}
 use Rattle.row_engine.proofs.PutTests.{met_told, put_told}
-use Rattle.row_engine.proofs.StepLemmas.{clock_below}
+use Rattle.row_changes.proofs.StepLemmas.{clock_below}
 
 module _ (reached : EveryReached) (need : EveryNeed) (answers : EveryAnswer) (coming : EveryComing) (parts : (old mid new : Story) → EveryPart old mid new)
     (z : Shape) (v : View) (x : Session) (log : Log) (h : Holds z v x log) (works : x.works ≡ true) (key value : ℕ) where

@@ -68,9 +68,9 @@ use Rattle.row_engine.specs.Inside.{is_going, put_test}
 use Rattle.row_engine.specs.Grown.{AreAside, Gained, Grows, Went, is_aside}
 use Rattle.session_state.specs.Ties.{Behind, Ties}
 use Rattle.row_engine.specs.Inside.Outcomes.{HasFailed, HasPut, HasRoom, IsCrowded, IsStopped, Puts}
-use Rattle.row_engine.specs.Puts.{works_after}
-use Rattle.row_engine.specs.Inside.Rooms.{IsSpentBehind, IsUnfit}
-use Rattle.row_engine.specs.Inside.Takes.{Takes}
+use Rattle.row_changes.specs.Puts.{works_after}
+use Rattle.row_changes.specs.Rooms.{IsSpentBehind, IsUnfit}
+use Rattle.row_changes.specs.Takes.{Takes}
 use Rattle.session_state.specs.declared.session.Session.{Session}
 use Rattle.row_engine.proofs.GoingLemmas.{not_going, tests_as}
 use Rattle.session_state.proofs.UndoLemmas.{many_of}
@@ -81,9 +81,9 @@ use Rattle.row_engine.proofs.GrowRuns.{Asides, all_append, asides, logs_more, lo
 use Rattle.row_engine.proofs.Misses.{misses_are, misses_aside, misses_met, misses_quiet, misses_structure}
 use Rattle.session_state.proofs.Moments.{events_more}
 use Rattle.row_engine.proofs.OnOwn.{logs_own}
-use Rattle.row_engine.proofs.PutLemmas.{seen_core}
+use Rattle.row_changes.proofs.SeenLemmas.{seen_core}
 use Rattle.row_engine.proofs.PutTests.{IsFree, IsTaken, all_three, behind_still, free_of, full_in, gate, gate_more, gate_none, gate_of, length_events, logs_lock, many_behind, none_is, not_full, room_lock, short_is, some_is, some_true, steps_lock, taken_alone, taken_passes, taken_stays, tall_is, test_is}
-use Rattle.row_engine.proofs.StepLemmas.{IsAtEnd, clock_at_end}
+use Rattle.row_changes.proofs.StepLemmas.{IsAtEnd, clock_at_end}
 
 module _ (reached : EveryReached) (need : EveryNeed) (answers : EveryAnswer) (coming : EveryComing) (parts : (old mid new : Story) → EveryPart old mid new)
     (g : Opening) (xs : List Done) (z : Shape) (v : View) (x : Session) (log : Log) (h : Holds z v x log) (t : Ties g x.group xs x.own x.is_half_aborted v) (line : IsNewLine (outcomes xs)) (works : x.works ≡ true) (key value : ℕ) where

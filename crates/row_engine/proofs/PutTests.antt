@@ -45,19 +45,20 @@ use Rattle.row_engine.specs.Inside.{is_going, put_test}
 use Rattle.row_engine.specs.Grown.{AreAside, is_aside}
 use Rattle.session_state.specs.Ties.{Behind}
 use Rattle.row_engine.specs.Inside.Outcomes.{Puts}
-use Rattle.row_engine.specs.Puts.{IsEarly, MayChange, works_after}
-use Rattle.row_engine.specs.Inside.Takes.{NotTaken, Takes}
+use Rattle.row_engine.specs.Puts.{IsEarly}
+use Rattle.row_changes.specs.Puts.{MayChange, works_after}
+use Rattle.row_changes.specs.Takes.{NotTaken, Takes}
 use Rattle.session_state.specs.Others.{AreHome}
 use Rattle.session_state.proofs.HomeLemmas.{home_step}
 use Rattle.session_state.specs.declared.session.Session.{Session}
 use Rattle.row_engine.proofs.ConflictLemmas.{lock_free}
 use Rattle.row_engine.proofs.GoingLemmas.{going}
-use Rattle.row_engine.proofs.GrowthLemmas.{touched}
+use Rattle.row_changes.proofs.GrowthLemmas.{touched}
 use Rattle.session_state.proofs.StageLemmas.{staged_flushed}
-use Rattle.row_engine.proofs.StepLemmas.{clock_at_end, clock_below}
-use Rattle.row_engine.proofs.TakesLemmas.{takes_most}
+use Rattle.row_changes.proofs.StepLemmas.{clock_at_end, clock_below}
+use Rattle.row_changes.proofs.TakesLemmas.{takes_most}
 use Rattle.session_state.proofs.UndoLemmas.{room_to_stage}
-use Rattle.row_engine.proofs.TakeLemmas.{with_count}
+use Rattle.row_changes.proofs.TakeLemmas.{with_count}
 
 pub some_is : (r q : Refusal) → Some r ≡ Some q → r ≡ q
 some_is r q e = cc
@@ -122,8 +123,8 @@ pub home_taken : (v v1 : View) (x x1 : Session) (row : ℕ) (mode : Mode) → Ta
 home_taken v v1 x x1 row mode t home = home_step x.own v v1 (Lock x.own row (event_mode mode)) (eq-eqb x.own x.own refl) t.given t.seen t.met home
 
 -- and once its row is taken, and its clock is below its end still, the key may be changed
-pub may_taken : (v v1 : View) (x x1 : Session) (log : Log) (key : ℕ) → put_test x log ≡ None → Takes v v1 x x1 (key % x.held.count) Alone → key < 2 ^ 64 - 1 → clock_refusal x1.clock.clock None ≡ None → AreHome v → MayChange v1 x1 log key
-may_taken v v1 x x1 log key e t low there home =
+pub may_taken : (v v1 : View) (x x1 : Session) (log : Log) (key : ℕ) → put_test x log ≡ None → Takes v v1 x x1 (key % x.held.count) Alone → key < 2 ^ 64 - 1 → clock_refusal x1.clock.clock None ≡ None → MayChange v1 x1 log key
+may_taken v v1 x x1 log key e t low there =
     let works = works_of x log e in
     let f = free_of x log works e in
     let count : x1.held.count ≡ x.held.count = ap (λ (s : Session). s.held.count) t.session ∙ with_count x.held (key % x.held.count) in
@@ -137,7 +138,6 @@ may_taken v v1 x x1 log key e t low there home =
       room = room_to_stage log (suc (room_takes (opening v1.given) (state v1).core key)) f.room (let m = takes_most (opening v1.given) (state v1).core key in omega arith);
       row = (λ i. is_held_by ((state v1).core.row (key % count i)).holder (own i)) ∙ t.alone refl;
       key_low = low;
-      home = home_taken v v1 x x1 (key % x.held.count) Alone t home;
     }
 
 -- a script is told of what they refuse

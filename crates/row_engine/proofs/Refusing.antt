@@ -44,11 +44,11 @@ use Rattle.engine_trait.specs.Rooms.{MakesItsRoom}
 use Rattle.engine_trait.specs.Limits.{limits}
 use Rattle.row_engine.specs.Calls.{DoesOn}
 use Rattle.session_state.specs.Holds.{AreRows}
-use Rattle.row_engine.specs.Inside.Takes.{IsHindered, IsSpent, Takes}
+use Rattle.row_changes.specs.Takes.{IsHindered, IsSpent, Takes}
 use Rattle.session_state.specs.Ties.{Ties}
 use Rattle.session_state.specs.declared.session.Session.{Session}
 use Rattle.row_engine.proofs.Behind as behind
-use Rattle.row_engine.proofs.TakeLemmas.{row_is, same_mode}
+use Rattle.row_changes.proofs.TakeLemmas.{row_is, same_mode}
 
 -- ## A row is taken
 

@@ -1,7 +1,6 @@
 -- Words of private functions: the tests of a call and what comes of them; then by what they are about.
-pub mod Takes
+pub mod Home
 pub mod Dels
-pub mod Rooms
 pub mod Outcomes
 pub mod Backs
 pub mod Aborts

@@ -1,58 +1,6 @@
--- What a put does behind the taking of its row.
-use Rattle.std.specs.Prelude.{◌≡◌, ◌<◌, ◌%◌, ◌-◌, ◌^◌, ℕ, suc, Bool, ◌++◌, true, false, [], ◌∷◌, length, Option, Result, Err}
-use Rattle.page_model.specs.Limits.{transaction_changes}
+-- Which refusals of a put or a del come first.
 use Rattle.map_model.specs.declared.call.Refusal.{Refusal}
 use Rattle.map_model.specs.declared.call.Refusal.TheVariants as refusal
-use Rattle.core_state.specs.Events as happening
-use Rattle.core_state.specs.Needs.{is_held_by, may, value_in}
-use Rattle.core_calls.specs.Room.{room_takes}
-use Rattle.lean_disk.specs.Story.{Story}
-use Rattle.log_record.specs.declared.record.Record.{Record}
-use Rattle.row_words.specs.declared.event.Event.TheVariants.{Change}
-use Rattle.row_words.specs.Openings.{opening}
-use Rattle.rows_trait.specs.declared.view.View.{View}
-use Rattle.rows_trait.specs.Views.{state}
-use Rattle.btree_descent.specs.Puts.{change_of}
-use Rattle.worker_log.specs.Calls.{After}
-use Rattle.worker_log.specs.Logs.{Log}
-use Rattle.log_calls.specs.Calls.{StagesOn}
-use Rattle.session_state.specs.Staging.{KeepsLog}
-use Rattle.session_state.specs.declared.session.Session.{Session}
-use Rattle.session_state.specs.Others.{AreHome}
-use Rattle.session_state.specs.Undo.{HasRoomToStage}
-
--- No test refuses it, each page stands in the frame of its own number, its row is held alone, and the log has room for the changes of the tree that room for the key takes, for the change, and for what it puts back.
-pub record MayChange (v : View) (x : Session) (log : Log) (key : ℕ) : Type 0 where
-  pub works : x.works ≡ true
-  pub is_open : x.is_open ≡ true
-  pub whole : x.is_half_aborted ≡ false
-  pub few : length x.undo < transaction_changes
-  pub small : x.clock.clock < 2 ^ 62
-  pub room : HasRoomToStage log (suc (room_takes (opening v.given) (state v).core key))
-  pub row : is_held_by ((state v).core.row (key % x.held.count)).holder x.own ≡ true
-  pub key_low : key < 2 ^ 64 - 1
-  pub home : AreHome v
-
--- The change was seen next, at a moment at which the leaf said this of the key, and its record was staged.
-pub record IsChanged (own : ℕ) (v w : View) (key value : ℕ) (before : Option ℕ) (was is : Log) (old new : Story) : Type 0 where
-  pub page : ℕ
-  pub given : w.given ≡ v.given
-  pub seen : w.seen ≡ v.seen ++ Change own page key value ∷ []
-  pub met : may (opening v.given) (state v).core (happening.Event.Change own page key value) ≡ true
-  pub told : before ≡ value_in (opening v.given).format ((state v).core.page page).node key
-  pub entry : Record
-  pub entry_is : entry ≡ change_of (opening v.given) (state v).core own page key value
-  pub after : After entry was is
-  pub stands : StagesOn own entry was is old new
-  pub keeps : KeepsLog own was old new
-
--- ## As its caller sees it
-
--- whether the engine works behind this answer
-abbrev pub works_after : {A : Type 0} → Result A Refusal → Bool
-works_after (Err refusal.Broken) = false
-works_after (Err refusal.DiskFault) = false
-works_after _ = true
 
 -- a refusal that comes before all that is done; one by the clock may come behind room that was made
 abbrev pub IsEarly : Refusal → Type 0

@@ -1,27 +1,54 @@
 // An abort.
-ghost use Rattle.std.specs.Prelude.{◌≡◌, ◌⊎◌, ◌↔◌, Err, IsOk, IfErr, IfOk, true, false, [], replicate};
+ghost use Rattle.std.specs.Prelude.{◌≡◌, ◌<◌, ◌⊎◌, ◌↔◌, length, Err, IsOk, IfErr, IfOk, true, false, [], replicate};
 ghost use Rattle.engine_trait.specs.Calls.{IsTold};
 ghost use Rattle.lean_disk.specs.Faults.{HasCause};
 ghost use Rattle.map_model.specs.declared.call.Call.{Call};
 ghost use Rattle.map_model.specs.declared.call.Refusal.{Refusal};
 ghost use Rattle.row_engine.specs.Inside.Aborts.{Finishes};
-ghost use Rattle.row_engine.specs.Inside.Backs.{PutsAllBack};
+ghost use Rattle.row_engine.specs.Inside.Backs.{PutsAllBack, StepsBack};
 ghost use Rattle.row_engine.specs.Calls.{AbortDoes, abort_answer};
 ghost use Rattle.session_state.specs.Holds.{Holds, IsSameSession};
 ghost use Rattle.row_engine.specs.Inside.Ends.{Latched};
 ghost use Rattle.session_state.specs.Others.{AreHome, Steps};
 ghost use Rattle.row_engine.specs.Receipts.{IsEnded};
-ghost use Rattle.row_engine.specs.Puts.{works_after};
+ghost use Rattle.row_changes.specs.Puts.{works_after};
 
-use crate::backs::put_back;
 use crate::begins::least_flushed;
 use crate::commits::{Ended, close, end_rows, latch_rows, unlatch_rows};
 use crate::steps::abort_refusal;
 use key_locks::latches::Latches;
 use log_record::{Body, Record};
 use map_model::Refusal;
+use row_changes::refusal_of;
 use rows_trait::rows::Rows;
 use session_state::{Stages, Work, next_fits};
+
+// Puts the newest change back that is left, where each page is in memory.
+fn put_back<R: Rows, D: Stages>(
+    rows: &mut R,
+    seat: &mut R::Seat,
+    work: &mut Work<D>,
+) -> Result<(), Refusal>
+    requires fits { R.fits rows.old seat.old }
+    requires holds { Holds (R.shape rows.old) (R.view seat.old) work.old.session work.old.log }
+    requires works { work.old.session.works ≡ true }
+    requires is_open { work.old.session.is_open ≡ true }
+    requires left { 0 < length work.old.session.undo }
+    requires home { AreHome (R.view seat.old) }
+    ensures fits { R.fits rows.new seat.new × (R.shape rows.new ≡ R.shape rows.old) }
+    ensures holds { work.new.session.works ≡ true → Holds (R.shape rows.new) (R.view seat.new) work.new.session work.new.log }
+    ensures session { IsSameSession work.old.session work.new.session }
+    ensures backs { StepsBack result (R.view seat.old) (R.view seat.new) work.old.session work.new.session work.old.log work.new.log (D.story work.old.disk) (D.story work.new.disk) (work.new ≡ work.old) }
+    ensures works { work.new.session.works ≡ works_after result }
+    ensures cause_disk_fault { HasCause (D.faults work.old.disk) (D.faults work.new.disk) (result ≡ Err Refusal.DiskFault) }
+{
+    row_changes::every_warm_at_home();
+    match row_changes::put_back(rows, seat, work) {
+        Ok(()) => Ok(()),
+        // Each page is hot, and was never read again.
+        Err(unmade) => Err(refusal_of(unmade)),
+    }
+}
 
 // Puts back what is left, the newest change first.
 fn put_back_all<R: Rows, D: Stages>(

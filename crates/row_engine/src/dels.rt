@@ -1,5 +1,5 @@
 // A del.
-ghost use Rattle.std.specs.Prelude.{◌≡◌, suc, ◌⊎◌, ◌<◌, ◌-◌, ◌^◌, ◌↔◌, [], Err, IfErr, IsErrAnd, Some, true, false};
+ghost use Rattle.std.specs.Prelude.{◌≡◌, suc, ◌⊎◌, ◌<◌, ◌-◌, ◌^◌, ◌↔◌, Err, IfErr, IsErrAnd, Some, true, false};
 ghost use Rattle.map_model.specs.declared.call.Call.{Call};
 ghost use Rattle.map_model.specs.declared.call.Refusal.{Refusal};
 ghost use Rattle.lean_disk.specs.Faults.{HasCause};
@@ -10,19 +10,17 @@ ghost use Rattle.session_state.specs.Holds.{Holds, IsSameSession};
 ghost use Rattle.session_state.specs.Others.{AreHome, Steps};
 ghost use Rattle.row_engine.specs.Inside.Dels.{Dels};
 ghost use Rattle.row_engine.specs.Inside.{put_test};
-ghost use Rattle.row_engine.specs.Puts.{IsEarly, MayChange, works_after};
+ghost use Rattle.row_engine.specs.Puts.{IsEarly};
+ghost use Rattle.row_changes.specs.Puts.{MayChange, works_after};
 
-use crate::steps::{clock_refusal, put_refusal};
-use crate::taking::take_row;
-use btree_descent::del::{Del, leaf_del};
-use draw_trait::draw::Unstaged;
+use crate::steps::put_refusal;
 use key_locks::mode::Mode;
-use lean_proto::path::Path;
 use map_model::Refusal;
+use row_changes::{clock_refusal, refusal_of, take_row};
 use rows_trait::rows::Rows;
-use session_state::{Stages, Work, next_fits};
+use session_state::{Stages, Work};
 
-// The value of the key, whose row is held, is taken away, if it has one.
+// The value of the key, whose row is held, is taken away, if it has one, where each page is in memory.
 fn del_held<R: Rows, D: Stages>(
     rows: &mut R,
     seat: &mut R::Seat,
@@ -32,6 +30,7 @@ fn del_held<R: Rows, D: Stages>(
     requires fits { R.fits rows.old seat.old }
     requires holds { Holds (R.shape rows.old) (R.view seat.old) work.old.session work.old.log }
     requires may { MayChange (R.view seat.old) work.old.session work.old.log key }
+    requires home { AreHome (R.view seat.old) }
     ensures fits { R.fits rows.new seat.new × (R.shape rows.new ≡ R.shape rows.old) }
     ensures holds { work.new.session.works ≡ true → Holds (R.shape rows.new) (R.view seat.new) work.new.session work.new.log }
     ensures session { IsSameSession work.old.session work.new.session }
@@ -40,31 +39,11 @@ fn del_held<R: Rows, D: Stages>(
     ensures works { work.new.session.works ≡ works_after result }
     ensures cause_disk_fault { HasCause (D.faults work.old.disk) (D.faults work.new.disk) (result ≡ Err Refusal.DiskFault) }
 {
-    core_calls::every_room();
-    rows_trait::every_low();
-    next_fits(rows, seat);
-    let frames = work.session.frames;
-    let mut path = Path::new();
-    match leaf_del(rows, seat, work.session.own, frames, key, &mut path, work) {
-        Del::Done(was) => {
-            work.session.undo.push(key, was);
-            Ok(Some(was))
-        }
-        Del::Absent => Ok(None),
-        Del::RowSpent { row: _ } => {
-            rows.versions(seat);
-            Err(Refusal::RowSpent)
-        }
-        Del::Unstaged(Unstaged::DiskFault) => {
-            work.session.works = false;
-            Err(Refusal::DiskFault)
-        }
-        // The log has a block, each page stands in a frame, no number is above the clock, and nobody else steps.
-        Del::Unstaged(Unstaged::LogFull { .. }) => unreachable!(),
-        Del::Cold(_) => unreachable!(),
-        Del::ClockSpent => unreachable!(),
-        Del::Moved(_) => unreachable!(),
-        Del::Latched(_) => unreachable!(),
+    row_changes::every_warm_at_home();
+    match row_changes::del_held(rows, seat, work, key) {
+        Ok(was) => Ok(was),
+        // Each page is hot.
+        Err(unmade) => Err(refusal_of(unmade)),
     }
 }
 

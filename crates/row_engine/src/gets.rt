@@ -2,30 +2,18 @@
 ghost use Rattle.std.specs.Prelude.{◌≡◌, ◌⊎◌, ◌↔◌, ◌<◌, ◌-◌, ◌^◌, IfErr, Err, true, false};
 ghost use Rattle.map_model.specs.declared.call.Call.TheVariants as call;
 ghost use Rattle.map_model.specs.declared.call.Refusal.{Refusal};
-ghost use Rattle.btree_descent.specs.Known.{said};
 ghost use Rattle.engine_trait.specs.Calls.{MayCome};
 ghost use Rattle.row_engine.specs.Calls.{CallDoes, get_answer};
 ghost use Rattle.session_state.specs.Holds.{Holds, IsSameSession};
 ghost use Rattle.session_state.specs.Others.{AreHome, Steps};
 
 use crate::steps::call_refusal;
-use crate::taking::take_row;
-use btree_descent::descent::{Answer, TOMBSTONE, find};
 use key_locks::mode::Mode;
 use lean_disk::Disk;
 use map_model::Refusal;
+use row_changes::{read_held, take_row};
 use rows_trait::rows::Rows;
 use session_state::Work;
-
-// What a word tells: a tombstone is no value.
-pub(crate) fn value_of(word: Option<u64>) -> Option<u64>
-    ensures { result ≡ said word }
-{
-    match word {
-        Some(value) if value < TOMBSTONE => Some(value),
-        _ => None,
-    }
-}
 
 /// The value that a key has.
 pub fn get<R: Rows, D: Disk>(
@@ -58,21 +46,14 @@ pub fn get<R: Rows, D: Disk>(
     engine_calls::every_coming();
     row_opening::every_reached();
     row_opening::every_need();
+    row_changes::every_warm_at_home();
     if let Some(why) = call_refusal(&work.session) {
         return Err(why);
     }
     take_row(rows, seat, &mut work.session, &work.log, key, Mode::Shared)?;
-    match find(rows, seat, work.session.own, work.session.frames, key) {
-        Answer::Found(found) => {
-            work.session
-                .clock
-                .touch(work.session.own, found.number, found.log);
-            Ok(value_of(found.word))
-        }
+    match read_held(rows, seat, &mut work.session, &work.log, key) {
+        Ok(value) => Ok(value),
         // Each page is hot.
-        Answer::Cold(_) => unreachable!(),
-        // Nobody else steps.
-        Answer::Moved(_) => unreachable!(),
-        Answer::Latched(_) => unreachable!(),
+        Err(_) => unreachable!(),
     }
 }

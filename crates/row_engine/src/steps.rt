@@ -1,15 +1,13 @@
 // What a session asks of itself before a call, and how it goes on.
 ghost use Rattle.std.specs.Prelude.{None, ◌<◌, ◌^◌, ◌≡◌};
-ghost use Rattle.engine_trait.specs.Refusals.{clock_refusal, log_refusal};
+ghost use Rattle.engine_trait.specs.Refusals.{log_refusal};
 ghost use Rattle.row_engine.specs.Inside.{abort_test, begin_test, begun_session, call_test, is_going, put_test};
 
 use map_model::Refusal;
 use page_model::limits::TRANSACTION_CHANGES;
+use row_changes::CLOCK_END;
 use session_state::Session;
 use worker_log::WorkerLog;
-
-/// Where the clock ends.
-pub(crate) const CLOCK_END: u64 = 1 << 62;
 
 // Why a call that takes numbers is refused by its log or its clock.
 fn log_refusal(clock: u64, log: &WorkerLog) -> Option<Refusal>
@@ -83,16 +81,6 @@ pub(crate) fn put_refusal(session: &Session, log: &WorkerLog) -> Option<Refusal>
         return Some(Refusal::TooLong);
     }
     log_refusal(session.clock.clock, log)
-}
-
-// Why no further change may be made: a row or a page that was met may have brought the clock to its end.
-pub(crate) fn clock_refusal(session: &Session) -> Option<Refusal>
-    ensures { result ≡ clock_refusal session.now.clock.clock None }
-{
-    if CLOCK_END <= session.clock.clock {
-        return Some(Refusal::ClockSpent);
-    }
-    None
 }
 
 // A transaction begins, with all logs flushed up to this number.

@@ -13,7 +13,6 @@ use Rattle.session_state.specs.declared.session.Session.{Session}
 -- what is so of the rows whatever has happened on them
 pub rows_on : (z : Shape) (v w : View) (own workers frames count : ℕ) → w.given ≡ v.given → AreRows z v own workers frames count → AreRows z w own workers frames count
 rows_on z v w own workers frames count e r = record {
-  faithful = ap (λ k. k.faithful) e ∙ r.faithful;
   tree = record { some = r.tree.some; shape = r.tree.shape; given = ap (λ k. (opening k).frames) e ∙ r.tree.given };
   tree_sound = subst (λ k. pages.IsSound k) (sym e) r.tree_sound;
   locks = record { spans = r.locks.spans; given = ap (λ k. (opening k).frames) e ∙ r.locks.given; locks = ap (λ k. k.rows) e ∙ r.locks.locks; few = subst (λ k. (opening k).workers ≤ 16) (sym e) r.locks.few; works = subst (λ k. locking.IsWorker (opening k).workers own) (sym e) r.locks.works };

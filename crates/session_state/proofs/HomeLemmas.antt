@@ -1,5 +1,5 @@
 -- Each page stays in the frame of its own number, where it stands there, over the steps of a session.
-use Rattle.std.proofs.Common.{◌≡◌, ◌<◌, ◌&&◌, ltb, ℕ, Bool, true, false, List, [], ◌∷◌, ◌++◌, append-nil, refl, sym, ap, ◌∙◌, subst, true≢false}
+use Rattle.std.proofs.Common.{◌≡◌, ◌<◌, ◌&&◌, ltb, ℕ, true, List, [], ◌∷◌, ◌++◌, append-nil, refl, sym, ap, ◌∙◌, subst, true≢false}
 use Rattle.std.proofs.lemmas.Bool.{and_from, and_parts, ltb-true}
 use Rattle.map_model.specs.Lists.{all}
 use Rattle.image_model.specs.Entries.{Entry}
@@ -16,7 +16,7 @@ use Rattle.row_words.specs.Sealed.{run, stepped}
 use Rattle.rows_trait.specs.declared.view.View.{View}
 use Rattle.rows_trait.specs.Views.{Shape, after_all, state}
 use Rattle.btree_descent.specs.Descents.{MetCold}
-use Rattle.session_state.specs.Others.{AreHome, EveryHome, Steps, is_of}
+use Rattle.session_state.specs.Others.{AreHome, EveryHome, is_of}
 use Rattle.session_state.proofs.Moments.{met_core}
 use Rattle.session_state.proofs.OtherLemmas.{steps_state}
 
@@ -64,11 +64,14 @@ home_run v m own (e ∷ es) are met home =
 
 -- where no page moved
 pub home_on : (v w : View) → w.given ≡ v.given → (state w).core.place ≡ (state v).core.place → AreHome v → AreHome w
-home_on v w given place h p lt = ap (λ (k : ℕ → Place). k p) place ∙ h p (subst (λ (k : Given). p < (opening k).format.pages) given lt)
+home_on v w given place h = record {
+  faithful = ap (λ (k : Given). k.faithful) given ∙ h.faithful;
+  place = λ p lt. ap (λ (k : ℕ → Place). k p) place ∙ h.place p (subst (λ (k : Given). p < (opening k).format.pages) given lt);
+}
 
 -- so a descent meets no cold page
 pub no_cold : (z : Shape) (v w : View) (key page : ℕ) → z.alone ≡ true → AreHome v → MetCold z.alone key page v w → ⊥
-no_cold z v w key page alone home m = true≢false (sym (ap is_hot (now page m.cold.below)) ∙ m.cold.cold)
+no_cold z v w key page alone home m = true≢false (sym (ap is_hot (now.place page m.cold.below)) ∙ m.cold.cold)
   where
     seen_is : w.seen ≡ v.seen
     seen_is = m.ran.seen ∙ (ap (λ (es : List Event). v.seen ++ es) (m.ran.all alone) ∙ append-nil v.seen)
@@ -77,8 +80,11 @@ no_cold z v w key page alone home m = true≢false (sym (ap is_hot (now page m.c
     now = home_on v w m.ran.given (λ i. (after_all (m.ran.given i) (seen_is i)).core.place) home
 
 pub every_home : EveryHome
-every_home own v w t home p lt = ap (λ (m : Moment). m.core.place p) (steps_state own v w t)
-    ∙ home_run v.given (state v) own t.events t.are_own t.met home p (subst (λ (k : Given). p < (opening k).format.pages) t.given lt)
+every_home own v w t home = record {
+  faithful = ap (λ (k : Given). k.faithful) t.given ∙ home.faithful;
+  place = λ p lt. ap (λ (m : Moment). m.core.place p) (steps_state own v w t)
+      ∙ home_run v.given (state v) own t.events t.are_own t.met home.place p (subst (λ (k : Given). p < (opening k).format.pages) t.given lt);
+}
 
 -- behind one event of the session
 pub home_step : (own : ℕ) (v w : View) (e : Event) → is_of own e ≡ true → w.given ≡ v.given → w.seen ≡ v.seen ++ e ∷ [] → may (opening v.given) (state v).core (event_of e) ≡ true → AreHome v → AreHome w

@@ -84,11 +84,11 @@ every_fellow g z v x log own few o low high = record {
   met = o.met;
   rest = o.rest;
   resident = o.resident;
+  faithful = o.faithful;
   seen = o.seen;
   alone = o.alone;
   idle = o.idle;
   rows = record {
-    faithful = o.rows.faithful;
     tree = o.rows.tree;
     tree_sound = o.rows.tree_sound;
     locks = record { spans = o.rows.locks.spans; given = o.rows.locks.given; locks = o.rows.locks.locks; few = o.rows.locks.few; works = record { one = low; among = let e = o.rows.workers in omega arith } };

@@ -261,7 +261,6 @@ module _ (every : EveryOpened) (need : EveryNeed) (reached : EveryReached) (soun
 
     rows : AreRows (plain_shape (length pages) count many) (first_plain v) 1 many (length pages) count
     rows = record {
-      faithful = refl;
       tree = record { some = are.tree.some; shape = refl; given = let a = are.tree.some in omega arith };
       tree_sound = tree_sound;
       locks = record { spans = record { shape = refl; rows = refl; some = some_lock; small = omega arith }; given = let a = are.tree.some in omega arith; locks = refl; few = let e = workers_is in omega arith; works = record { one = omega arith; among = let e = workers_is in omega arith } };
@@ -285,6 +284,7 @@ module _ (every : EveryOpened) (need : EveryNeed) (reached : EveryReached) (soun
         met = met;
         rest = ap (λ m. m.core) o.rest ∙ ap (λ (s : State). record s { place = (state (first_plain v)).core.place }) (sym o.opens.first);
         resident = resident;
+        faithful = refl;
         seen = refl;
         alone = refl;
         idle = refl;

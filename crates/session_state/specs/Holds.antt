@@ -51,10 +51,9 @@ pub record AreNumbers (x : Session) (log : Log) : Type 0 where
   -- so few of its commits wait for a flush
   pub behind : x.unflushed < x.group
 
--- the rows are those of the opening, with so many workers, and began faithful; the tree, the locks and the entries' numbers are sound at each moment
--- that can come, and numbers where the rows began
+-- the rows are those of the opening, with so many workers; the tree, the locks and the entries' numbers are sound at each moment that can come, and numbers
+-- where the rows began
 pub record AreRows (z : Shape) (v : View) (own many frames count : ℕ) : Type 0 where
-  pub faithful : v.given.faithful ≡ true
   pub tree : descents.Sized z v frames
   pub tree_sound : pages.IsSound v.given
   pub locks : locking.Sized z v own frames count
@@ -69,7 +68,8 @@ pub record AreRows (z : Shape) (v : View) (own many frames count : ℕ) : Type 0
   pub few : count ≤ 2 ^ 16
 
 -- Nobody else steps, and no row is latched. The session is the worker's at the moment that the seat has seen, where its log is flushed as it says, the
--- lock rows that the worker holds are those that the session has, and so are the free pages. It says nothing of where pages stand.
+-- lock rows that the worker holds are those that the session has, and so are the free pages. It says nothing of where pages stand,
+-- nor whether a page that was read again has its pairs still.
 pub record Holds (z : Shape) (v : View) (x : Session) (log : Log) : Type 0 where
   pub alone : z.alone ≡ true
   pub idle : v.held ≡ []

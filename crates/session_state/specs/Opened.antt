@@ -34,8 +34,8 @@ pub record IsFirst (base : ℕ) (x : Session) : Type 0 where
   pub is_half_aborted : x.is_half_aborted ≡ false
   pub rows : x.held.rows ≡ []
 
--- The rows began as an opening, behind loads alone by which each page, also a free one, came into the frame of its own number. The seat is
--- alone, and has seen nothing.
+-- The rows began as an opening, faithful, behind loads alone by which each page, also a free one, came into the frame of its own number. The seat
+-- is alone, and has seen nothing.
 pub record IsOpened (g : Opening) (z : Shape) (v : View) (x : Session) (log : Log) : Type 0 where
   pub opens : Opens g v.given
   pub loads : AreLoads (events_of v.given.before)
@@ -43,6 +43,7 @@ pub record IsOpened (g : Opening) (z : Shape) (v : View) (x : Session) (log : Lo
   pub met : AllMet g (start g) (events_of v.given.before)
   pub rest : (state v).core ≡ record (start g) { place = (state v).core.place }
   pub resident : IsResident z v
+  pub faithful : v.given.faithful ≡ true
   pub seen : v.seen ≡ []
   pub alone : z.alone ≡ true
   pub idle : v.held ≡ []

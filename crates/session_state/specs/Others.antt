@@ -48,9 +48,10 @@ EveryOther = (z : Shape) (v w : View) (x y : Session) (log log_of_y : Log) → H
 
 -- ## Pages that stay in memory
 
--- each page, also a free one, is hot in the frame of its own number
-abbrev pub AreHome : View → Type 0
-AreHome v = (p : ℕ) → p < (opening v.given).format.pages → (state v).core.place p ≡ Place.Hot p
+-- Each page, also a free one, is hot in the frame of its own number, and the rows began faithful: a page that never leaves memory is never read again.
+pub record AreHome (v : View) : Type 0 where
+  pub faithful : v.given.faithful ≡ true
+  pub place : (p : ℕ) → p < (opening v.given).format.pages → (state v).core.place p ≡ Place.Hot p
 
 -- so it is behind a session's steps: none of them moves a page
 abbrev pub EveryHome : Type 0

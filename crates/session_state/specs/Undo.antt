@@ -1,5 +1,5 @@
 -- What a transaction has still to put back.
-use Rattle.std.specs.Prelude.{◌≤◌, ◌+◌, ◌-◌, ◌*◌, ℕ, min, List, [], ◌∷◌, length, Option, Some, None}
+use Rattle.std.specs.Prelude.{◌≤◌, ◌<◌, ◌+◌, ◌-◌, ◌*◌, ◌^◌, ℕ, min, List, [], ◌∷◌, length, Option, Some, None}
 use Rattle.image_model.specs.Entries.{Entry}
 use Rattle.page_model.specs.Limits.{transaction_changes}
 use Rattle.worker_log.specs.Logs.{Log}
@@ -14,6 +14,11 @@ newest_of (c ∷ cs) = Some c
 abbrev pub without_newest : List Undone → List Undone
 without_newest [] = []
 without_newest (c ∷ cs) = cs
+
+-- each is of a key that a leaf can have
+abbrev pub AreKeys : List Undone → Type 0
+AreKeys [] = Unit {0}
+AreKeys (c ∷ cs) = (c.key < 2 ^ 64 - 1) × AreKeys cs
 
 -- of each listed change its key, and the word before it
 abbrev pub undo_of : List Entry → List Undone

@@ -1,5 +1,5 @@
 // What a transaction has still to put back.
-ghost use Rattle.std.specs.Prelude.{◌≡◌, ◌<◌, [], ◌∷◌, length, IfOk};
+ghost use Rattle.std.specs.Prelude.{◌≡◌, ◌<◌, ◌-◌, ◌^◌, [], ◌∷◌, length, IfOk, IfSome};
 ghost use Rattle.page_model.specs.Limits.{transaction_changes};
 ghost use Rattle.session_state.specs.Undo.{newest_of, without_newest};
 
@@ -15,7 +15,7 @@ pub struct Undone {
 }
 
 /// The changes of a transaction that are still to put back. Room for as many as it may make is reserved. They are kept the oldest first,
-/// so that the newest one is taken from the end.
+/// so that the newest one is taken from the end. Each is of a key that a leaf can have.
 #[derive(Drop)]
 pub struct UndoList {
     changes: Vec<Undone>,
@@ -25,13 +25,14 @@ impl Model for UndoList {
     ghost use Rattle.std.specs.Prelude.{◌≤◌, reverse, vec_capacity, List};
     ghost use Rattle.page_model.specs.Limits.{transaction_changes};
     ghost use Rattle.session_state.specs.declared.undo.Undone.{Undone};
+    ghost use Rattle.session_state.specs.Undo.{AreKeys};
 
     // The newest first.
     ghost Value = { List Undone };
 
     ghost view = { λ u. reverse u.changes.items };
 
-    ghost invariant = { λ u. transaction_changes ≤ vec_capacity u.changes };
+    ghost invariant = { λ u. (transaction_changes ≤ vec_capacity u.changes) × AreKeys (reverse u.changes.items) };
 }
 
 impl UndoList {
@@ -52,14 +53,16 @@ impl UndoList {
 
     /// The newest one.
     pub fn newest(&self) -> Option<Undone>
-        ensures { result ≡ newest_of self.now }
+        ensures newest { result ≡ newest_of self.now }
+        ensures key { IfSome result (λ u. u.key < 2 ^ 64 - 1) }
     {
         self.changes.last().copied()
     }
 
     /// A change was made.
     pub fn push(&mut self, key: u64, word: u64)
-        requires { length self.old < transaction_changes }
+        requires few { length self.old < transaction_changes }
+        requires key { key < 2 ^ 64 - 1 }
         ensures { self.new ≡ record { key = key; word = word } ∷ self.old }
     {
         self.changes.push_reserved(Undone { key, word });

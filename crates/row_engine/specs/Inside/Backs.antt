@@ -1,28 +1,21 @@
 -- What an abort does before its end: its changes are put back one by one, the newest first.
-use Rattle.std.specs.Prelude.{◌≡◌, ◌≤◌, ◌+◌, ◌++◌, ◌==◌, ◌^◌, ℕ, suc, Bool, true, false, List, [], ◌∷◌, length, Result, Ok, Err, if◌then◌else◌}
+use Rattle.std.specs.Prelude.{◌≡◌, ◌≤◌, ◌+◌, ◌++◌, ◌==◌, ◌^◌, ℕ, suc, Bool, true, false, List, [], length, Result, Ok, Err, if◌then◌else◌}
 use Rattle.map_model.specs.Lists.{all}
 use Rattle.map_model.specs.declared.call.Refusal.{Refusal}
 use Rattle.map_model.specs.declared.call.Refusal.TheVariants as refusal
 use Rattle.core_state.specs.Openings.{Opening}
 use Rattle.core_state.specs.Events as happening
-use Rattle.core_state.specs.Needs.{may}
 use Rattle.core_state.specs.Lists.{is_empty}
-use Rattle.core_state.specs.Steps.{happens}
 use Rattle.core_calls.specs.Fronts.{Done}
-use Rattle.disk_image.specs.Records.{entry_of}
 use Rattle.disk_runs.specs.Stands.{Known}
 use Rattle.lean_disk.specs.Moments.{CrashIn, Framed, LeavesOnly}
 use Rattle.lean_disk.specs.Story.{Crash, Story}
-use Rattle.log_calls.specs.Calls.{Anything, StagesOn}
-use Rattle.log_record.specs.declared.record.Record.{Record}
+use Rattle.log_calls.specs.Calls.{Anything}
 use Rattle.run_crashes.specs.Lines.{CallLeaves}
 use Rattle.row_words.specs.declared.event.Event.{Event}
-use Rattle.row_words.specs.declared.event.Event.TheVariants.{PutBack}
 use Rattle.row_words.specs.Moments.{events_of}
-use Rattle.row_words.specs.Openings.{opening}
 use Rattle.rows_trait.specs.declared.view.View.{View}
 use Rattle.rows_trait.specs.Views.{state}
-use Rattle.worker_log.specs.Calls.{After}
 use Rattle.worker_log.specs.Logs.{Log}
 use Rattle.engine_calls.specs.Clauses.{Between}
 use Rattle.engine_calls.specs.Parts.{behind_first}
@@ -33,34 +26,12 @@ use Rattle.session_state.specs.declared.session.Session.{Session}
 use Rattle.session_state.specs.Ties.{Behind}
 use Rattle.row_engine.specs.Grown.{Goes, Went}
 use Rattle.session_state.specs.Others.{Steps}
-use Rattle.session_state.specs.Staging.{KeepsLog}
-use Rattle.row_engine.specs.Inside.Takes.{IsSpent}
-use Rattle.session_state.specs.Undo.{without_newest}
+use Rattle.row_changes.specs.Backs as leaves
+use Rattle.row_engine.specs.Inside.Home.{at_leaf}
 
--- ## One change
-
--- The newest change that was left was put back next, in its leaf, and its record was staged.
-pub record IsPutBack (v w : View) (x y : Session) (was is : Log) (old new : Story) : Type 0 where
-  pub page : ℕ
-  pub given : w.given ≡ v.given
-  pub seen : w.seen ≡ v.seen ++ PutBack x.own page ∷ []
-  pub met : may (opening v.given) (state v).core (happening.Event.Put_back x.own page) ≡ true
-  pub entry : Record
-  pub entry_is : (happens (opening v.given) (state v).core (happening.Event.Put_back x.own page)).entries ≡ entry_of x.own entry ∷ (state v).core.entries
-  pub after : After entry was is
-  pub stands : StagesOn x.own entry was is old new
-  pub keeps : KeepsLog x.own was old new
-  pub session : y ≡ record x { is_half_aborted = true; clock = risen x.clock y.clock; undo = without_newest x.undo }
-  pub fewer : suc (length y.undo) ≡ length x.undo
-
--- by answer
+-- what a put-back does in its leaf, where each page is in memory, by answer
 abbrev pub StepsBack : Result (Unit {0}) Refusal → (v w : View) → (x y : Session) → (was is : Log) → (old new : Story) → (same : Type 0) → Type 0
-StepsBack (Ok u) v w x y was is old new same = IsPutBack v w x y was is old new
-StepsBack (Err refusal.RowSpent) v w x y was is old new same = IsSpent v w × same
-StepsBack (Err refusal.DiskFault) v w x y was is old new same = KeepsLog x.own was old new
-StepsBack (Err why) v w x y was is old new same = ⊥
-
--- ## All of them
+StepsBack r = leaves.StepsBack (at_leaf r)
 
 -- it puts a change of session `own` back
 abbrev pub is_back : (own : ℕ) → happening.Event → Bool

@@ -23,62 +23,10 @@ use Rattle.worker_log.specs.Logs.{Log}
 use Rattle.engine_calls.specs.Clauses.{Between}
 use Rattle.engine_trait.specs.Limits.{limits}
 use Rattle.engine_trait.specs.Refusals.{room_refusal}
-use Rattle.row_engine.specs.declared.puts.Stepped.{Stepped}
-use Rattle.row_engine.specs.declared.puts.Stepped.TheVariants as stepped
-use Rattle.row_engine.specs.declared.puts.Tried.{Tried}
-use Rattle.row_engine.specs.declared.puts.Tried.TheVariants as tried
 use Rattle.session_state.specs.declared.session.Session.{Session}
 use Rattle.session_state.specs.Ties.{Behind}
 use Rattle.row_engine.specs.Grown.{Goes, Grows, Went}
-use Rattle.row_engine.specs.Puts.{IsChanged, MayChange}
-use Rattle.session_state.specs.Staging.{KeepsLog}
-use Rattle.row_engine.specs.Inside.Rooms.{IsGrown, IsPathTo, IsSpentBehind, IsUnfit}
-use Rattle.row_engine.specs.Inside.Takes.{IsSpent}
-
--- ## One try
-
--- nothing was seen, and the path leads to the leaf, which has no room for the key
-pub record HasNoRoom (v w : View) (frames key : ℕ) (path : List ℕ) : Type 0 where
-  pub given : w.given ≡ v.given
-  pub seen : w.seen ≡ v.seen
-  pub leaf : ℕ
-  pub unfit : IsUnfit w key leaf
-  pub path_to : IsPathTo w frames key path leaf
-
-abbrev pub Tries : Result Tried Refusal → (v w : View) → (key value : ℕ) → (x y : Session) → (was is : Log) → (old new : Story) → (path : List ℕ) → (same broken : Type 0) → Type 0
-Tries (Ok (tried.Done before)) v w key value x y was is old new path same broken = IsChanged x.own v w key value before was is old new
-Tries (Ok tried.Full) v w key value x y was is old new path same broken = HasNoRoom v w x.frames key path × same
-Tries (Err refusal.RowSpent) v w key value x y was is old new path same broken = IsSpent v w × same
-Tries (Err refusal.DiskFault) v w key value x y was is old new path same broken = KeepsLog x.own was old new × broken
-Tries (Err why) v w key value x y was is old new path same broken = ⊥
-
--- ## One step
-
--- nothing was seen; the leaf is full, and there can be no room
-pub record Crowded (key : ℕ) (why : Refusal) (v w : View) (clock : ℕ) : Type 0 where
-  pub given : w.given ≡ v.given
-  pub seen : w.seen ≡ v.seen
-  pub leaf : ℕ
-  pub unfit : IsUnfit w key leaf
-  pub ready : clock < 2 ^ 62
-  pub cause : room_refusal (opening w.given) (state w).core key ≡ Some why
-
--- the tree was changed, and that brought the clock to its end
-pub record Stopped (key : ℕ) (v w : View) (x y : Session) (was is : Log) (old new : Story) : Type 0 where
-  pub grown : IsGrown key v w x y was is old new
-  pub spent : 2 ^ 62 ≤ y.clock.clock
-
-abbrev pub Steps : Result Stepped Refusal → (v w : View) → (key value : ℕ) → (x y : Session) → (was is : Log) → (old new : Story) → (same : Type 0) → Type 0
-Steps (Ok (stepped.Done before)) v w key value x y was is old new same = IsChanged x.own v w key value before was is old new
-Steps (Ok stepped.Grown) v w key value x y was is old new same = IsGrown key v w x y was is old new × MayChange w y is key
-Steps (Err refusal.TooTall) v w key value x y was is old new same = Crowded key refusal.TooTall v w x.clock.clock × same
-Steps (Err refusal.NoPages) v w key value x y was is old new same = Crowded key refusal.NoPages v w x.clock.clock × same
-Steps (Err refusal.ClockSpent) v w key value x y was is old new same = Stopped key v w x y was is old new
-Steps (Err refusal.RowSpent) v w key value x y was is old new same = IsSpentBehind v w × same
-Steps (Err refusal.DiskFault) v w key value x y was is old new same = KeepsLog x.own was old new
-Steps (Err why) v w key value x y was is old new same = ⊥
-
--- ## All of it
+use Rattle.row_changes.specs.Rooms.{IsSpentBehind, IsUnfit}
 
 -- Room was made, and then the change was seen, at a moment at which the leaf said this of the key; the disk stands for all of it.
 pub record HasPut (key value : ℕ) (before : Option ℕ) (v w : View) (x : Session) (was is : Log) (old new : Story) : Type 0 where

@@ -8,9 +8,9 @@ use Rattle.session_state.proofs.HoldLemmas.{holds_as}
 use Rattle.row_engine.proofs.CommitLemmas.{ended_as, entry_fits, next_small}
 use Rattle.row_engine.proofs.CommitRuns.{found, holds_waiting, may_end_at}
 use Rattle.session_state.proofs.Frames.{frame_of}
-use Rattle.row_engine.proofs.PutLemmas.{same_flushed}
+use Rattle.row_changes.proofs.PutLemmas.{same_flushed}
 use Rattle.row_engine.proofs.ReceiptLemmas.{receipt}
-use Rattle.row_engine.proofs.StepLemmas.{cause_from, ok_calm}
+use Rattle.row_changes.proofs.StepLemmas.{cause_from, ok_calm}
 use Rattle.row_engine.proofs.aborts.finish.Goals as goal
 
 pub returns-in-Err-clause-finishes : goal.returns-in-Err-clause-finishes

@@ -4,7 +4,7 @@ use Rattle.session_state.proofs.HomeLemmas.{home_step}
 use Rattle.engine_calls.proofs.PartLemmas.{every_part}
 use Rattle.session_state.specs.declared.session.Session.{Session}
 use Rattle.row_engine.proofs.BackSteps.{back_last, undone_next, undone_none, within_workers}
-use Rattle.row_engine.proofs.StepLemmas.{ok_calm}
+use Rattle.row_changes.proofs.StepLemmas.{ok_calm}
 use Rattle.row_engine.proofs.aborts.put_back_all.Goals as goal
 
 pub left-init : goal.left-init

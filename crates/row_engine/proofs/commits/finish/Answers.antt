@@ -12,12 +12,12 @@ use Rattle.session_state.proofs.HoldLemmas.{holds_as}
 use Rattle.row_engine.proofs.CommitRefusals.{does_from}
 use Rattle.row_engine.proofs.CommitRuns.{fills, flushed_does, found, holds_flushed, holds_waiting, may_end_at, may_flush_at, unflushed_does, unstaged_does, waiting_does, waiting_is, waits}
 use Rattle.session_state.proofs.Frames.{frame_of}
-use Rattle.row_engine.proofs.PutLemmas.{same_flushed}
+use Rattle.row_changes.proofs.PutLemmas.{same_flushed}
 use Rattle.session_state.proofs.OtherLemmas.{every_steps, no_steps}
 use Rattle.row_engine.proofs.OwnSteps.{ended_steps, flushed_steps}
 use Rattle.row_engine.proofs.ReceiptLemmas.{receipt}
 use Rattle.row_engine.proofs.CommitLemmas.{entry_fits, next_small}
-use Rattle.row_engine.proofs.StepLemmas.{calm_then, cause_from, ok_calm}
+use Rattle.row_changes.proofs.StepLemmas.{calm_then, cause_from, ok_calm}
 use Rattle.row_engine.proofs.commits.finish.Goals as goal
 
 pub returns-in-Err-clause-does : goal.returns-in-Err-clause-does

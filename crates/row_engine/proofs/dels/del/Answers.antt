@@ -4,10 +4,10 @@ use Rattle.std.proofs.Common.{ℕ, Option, Err, suc, ap, inl, refl, sym, ◌∙�
 use Rattle.lean_disk.specs.Moments.{Framed}
 use Rattle.key_locks.specs.declared.mode.Mode.TheVariants.{Alone}
 use Rattle.engine_calls.proofs.PartLemmas.{every_part}
-use Rattle.row_engine.proofs.DelLemmas.{same_by_row, same_then}
+use Rattle.row_changes.proofs.DelLemmas.{same_by_row, same_then}
 use Rattle.row_engine.proofs.DelRuns.{del_did, del_framed, del_never_early, dels_flushed, dels_told, not_deleted, row_refused, row_stopped}
-use Rattle.row_engine.proofs.PutTests.{may_taken, met_comes, met_late, none_is, not_taken_comes, put_comes, some_is, works_of}
-use Rattle.row_engine.proofs.StepLemmas.{clock_below, stopped_works}
+use Rattle.row_engine.proofs.PutTests.{home_taken, may_taken, met_comes, met_late, none_is, not_taken_comes, put_comes, some_is, works_of}
+use Rattle.row_changes.proofs.StepLemmas.{clock_below, stopped_works}
 use Rattle.session_state.proofs.OtherLemmas.{no_steps}
 use Rattle.row_engine.proofs.OwnSteps.{del_steps, taken_then, takes_steps, untaken_steps}
 use Rattle.row_engine.proofs.dels.del.Goals as goal
@@ -77,6 +77,10 @@ returns-clause-told g c =
 pub del_held-requires-clause-may : goal.del_held-requires-clause-may
 del_held-requires-clause-may g c κs within =
     may_taken (g.R.Rows.view c.args.seat.now) (g.R.Rows.view c.take_row.new.seat) c.args.work.now.session c.take_row.new.session c.args.work.now.log c.args.key (sym c.put_refusal.ensures ∙ c.in_default.is) c.in_default-take_row.ensures.taken c.requires.key (sym c.clock_refusal.ensures ∙ c.in_default-clock_refusal.is)
+
+pub del_held-requires-clause-home : goal.del_held-requires-clause-home
+del_held-requires-clause-home g c κs within =
+    home_taken (g.R.Rows.view c.args.seat.now) (g.R.Rows.view c.take_row.new.seat) c.args.work.now.session c.take_row.new.session _ Alone c.in_default-take_row.ensures.taken
     (c.requires.home (works_of c.args.work.now.session c.args.work.now.log (sym c.put_refusal.ensures ∙ c.in_default.is)))
 
 pub returns-in-Some-clause-tested : goal.returns-in-Some-clause-tested

@@ -1,95 +1,16 @@
-use Rattle.std.proofs.Common.{◌≡◌, ℕ, ◌∷◌, Option, Some, Err, ap, refl, subst, arith}
-use Rattle.btree_descent.specs.declared.descent.TheConstants.{TOMBSTONE}
-use Rattle.row_engine.specs.Puts.{IsChanged}
-use Rattle.row_engine.proofs.DelLemmas.{holds_absent, is_absent, same_by_clock}
-use Rattle.row_engine.proofs.PutLemmas.{holds_as, holds_changed, holds_still, is_changed, is_spent, may_put, none_seen, not_last, value_said}
-use Rattle.session_state.proofs.HomeLemmas.{no_cold}
-use Rattle.session_state.proofs.StageLemmas.{undo_set}
-use Rattle.row_engine.proofs.StepLemmas.{cause_from, ok_calm}
+use Rattle.std.proofs.Common.{◌≡◌, ℕ, Option}
+use Rattle.row_changes.proofs.DelLemmas.{none_lost_by_del}
+use Rattle.row_changes.proofs.StepLemmas.{handed_on}
 use Rattle.row_engine.proofs.dels.del_held.Goals as goal
 
-pub unreachable-requires-in-Cold : goal.unreachable-requires-in-Cold
-unreachable-requires-in-Cold g c =
-    no_cold (g.R.Rows.shape c.args.rows.now) (g.R.Rows.view c.args.seat.now) (g.R.Rows.view c.leaf_del.new.seat) c.args.key c.in-Cold.field-0 c.requires.holds.alone c.requires.may.home c.in-Cold.ensures.del
+pub refusal_of-requires-clause-cut : goal.refusal_of-requires-clause-cut
+refusal_of-requires-clause-cut g c = c.in-Err.ensures.cause_cold (c.every_warm_at_home.ensures (g.R.Rows.view c.args.seat.now) c.requires.home c.args.key)
 
-pub leaf_del-requires-clause-may : goal.leaf_del-requires-clause-may
-leaf_del-requires-clause-may g c = may_put (g.R.Rows.shape c.args.rows.now) (g.R.Rows.view c.args.seat.now) c.args.work.now.session c.args.work.now.log c.args.key TOMBSTONE c.requires.holds c.requires.may (omega arith)
+pub refusal_of-requires-clause-lost : goal.refusal_of-requires-clause-lost
+refusal_of-requires-clause-lost g c =
+    none_lost_by_del c.in-Err.unmade c.args.work.now.session.own (g.R.Rows.view c.args.seat.now) (g.R.Rows.view c.del_held.new.seat) c.args.key c.args.work.now.log c.del_held.new.work.log (g.D.Disk.story c.args.work.now.disk) (g.D.Disk.story c.del_held.new.work.disk)
+    (c.del_held.new.work ≡ c.args.work.now) (c.del_held.new.work.disk ≡ c.args.work.now.disk) c.in-Err.ensures.dels
 
-pub returns-in-Done-clause-dels : goal.returns-in-Done-clause-dels
-returns-in-Done-clause-dels g c =
-    let z = g.R.Rows.shape c.args.rows.now in
-    let v = g.R.Rows.view c.args.seat.now in
-    let w = g.R.Rows.view c.leaf_del.new.seat in
-    let old = g.D.Disk.story c.args.work.now.disk in
-    let new = g.D.Disk.story c.leaf_del.new.draw.disk in
-    subst (λ (b : Option ℕ). IsChanged c.args.work.now.session.own v w c.args.key TOMBSTONE b c.args.work.now.log c.leaf_del.new.draw.log old new) (value_said c.in-Done.was c.in-Done.ensures.del.value)
-    (is_changed z v w c.args.work.now.session c.args.work.now.log c.args.key TOMBSTONE (Some c.in-Done.was) c.args.work.now.staged.list c.leaf_del.new.draw.staged.list c.leaf_del.new.draw.session c.leaf_del.new.draw.log
-    old new (c.leaf_del.new.draw.disk ≡ c.args.work.now.disk) (g.D.Disk.faults c.args.work.now.disk) (g.D.Disk.faults c.leaf_del.new.draw.disk) c.requires.holds.alone c.in-Done.ensures.del.changed c.in-Done.ensures.drew)
-
-pub returns-in-Done-clause-holds : goal.returns-in-Done-clause-holds
-returns-in-Done-clause-holds g c works =
-    let z = g.R.Rows.shape c.args.rows.now in
-    let v = g.R.Rows.view c.args.seat.now in
-    let w = g.R.Rows.view c.leaf_del.new.seat in
-    let y = c.leaf_del.new.draw.session in
-    holds_as z (g.R.Rows.shape c.leaf_del.new.rows) w (record y { undo = record { key = c.args.key; word = c.in-Done.was } ∷ y.undo }) _ c.leaf_del.new.draw.log c.leaf_del.new.draw.log c.in-Done.ensures.fits.1 (undo_set y c.push.new.self (record { key = c.args.key; word = c.in-Done.was } ∷ y.undo) _ c.push.ensures) refl
-    (holds_changed c.every_room.ensures z v w c.args.work.now.session c.args.work.now.log c.requires.holds c.args.key TOMBSTONE c.requires.may (Some c.in-Done.was) c.args.work.now.staged.list c.leaf_del.new.draw.staged.list y c.leaf_del.new.draw.log c.in-Done.ensures.del.changed
-    (g.D.Disk.story c.args.work.now.disk) (g.D.Disk.story c.leaf_del.new.draw.disk) (c.leaf_del.new.draw.disk ≡ c.args.work.now.disk) (g.D.Disk.faults c.args.work.now.disk) (g.D.Disk.faults c.leaf_del.new.draw.disk) c.in-Done.ensures.fits.2 c.in-Done.ensures.drew c.in-Done.ensures.last)
-
-pub returns-in-Absent-clause-holds : goal.returns-in-Absent-clause-holds
-returns-in-Absent-clause-holds g c works =
-    let z = g.R.Rows.shape c.args.rows.now in
-    let v = g.R.Rows.view c.args.seat.now in
-    let w = g.R.Rows.view c.leaf_del.new.seat in
-    let x = c.args.work.now.session in
-    let y = c.leaf_del.new.draw.session in
-    let e = c.in-Absent.ensures in
-    holds_as z (g.R.Rows.shape c.leaf_del.new.rows) w y y c.args.work.now.log c.leaf_del.new.draw.log e.fits.1 refl (ap (λ k. k.log) e.drew)
-    (holds_absent z v w x y c.args.work.now.log c.args.key c.requires.holds c.requires.may.is_open c.args.work.now.staged.list c.leaf_del.new.draw.staged.list e.del e.fits.2 (ap (λ k. k.session) e.drew))
-
-pub returns-in-Absent-clause-dels : goal.returns-in-Absent-clause-dels
-returns-in-Absent-clause-dels g c =
-    let z = g.R.Rows.shape c.args.rows.now in
-    let v = g.R.Rows.view c.args.seat.now in
-    let w = g.R.Rows.view c.leaf_del.new.seat in
-    let x = c.args.work.now.session in
-    let y = c.leaf_del.new.draw.session in
-    let e = c.in-Absent.ensures in
-    (is_absent z v w x y c.args.work.now.log c.args.key c.requires.holds c.requires.may.is_open c.args.work.now.staged.list c.leaf_del.new.draw.staged.list e.del e.fits.2 (ap (λ k. k.session) e.drew), ap (λ k. k.log) e.drew, ap (λ k. k.disk) e.drew)
-
-pub returns-in-RowSpent-clause-holds : goal.returns-in-RowSpent-clause-holds
-returns-in-RowSpent-clause-holds g c works =
-    let z = g.R.Rows.shape c.args.rows.now in
-    let v = g.R.Rows.view c.args.seat.now in
-    let w = g.R.Rows.view c.leaf_del.new.seat in
-    let e = c.in-RowSpent.ensures.del in
-    holds_as z (g.R.Rows.shape c.leaf_del.new.rows) w c.args.work.now.session c.leaf_del.new.draw.session c.args.work.now.log c.leaf_del.new.draw.log c.in-RowSpent.ensures.fits.1 (ap (λ k. k.session) c.in-RowSpent.ensures.drew) (ap (λ k. k.log) c.in-RowSpent.ensures.drew)
-    (holds_still z v w c.args.work.now.session c.args.work.now.log e.given (none_seen z.alone v w c.requires.holds.alone e) c.in-RowSpent.ensures.fits.2 c.requires.holds)
-
-pub returns-in-RowSpent-clause-dels : goal.returns-in-RowSpent-clause-dels
-returns-in-RowSpent-clause-dels g c =
-    let z = g.R.Rows.shape c.args.rows.now in
-    let v = g.R.Rows.view c.args.seat.now in
-    let w = g.R.Rows.view c.leaf_del.new.seat in
-    (is_spent c.every_low.ensures z c.in-RowSpent.row v w c.requires.holds.alone c.in-RowSpent.ensures.del c.versions.ensures.low c.in-RowSpent.ensures.cause, c.in-RowSpent.ensures.drew)
-
-pub returns-in-Done-clause-cause_disk_fault : goal.returns-in-Done-clause-cause_disk_fault
-returns-in-Done-clause-cause_disk_fault g c =
-    cause_from (g.D.Disk.faults c.args.work.now.disk) (g.D.Disk.faults c.args.work.now.disk) (g.D.Disk.faults c.leaf_del.new.draw.disk) _ _ refl c.in-Done.ensures.drew.cause (λ q. absurd (ok_calm _ _ q)) (λ p. absurd (cc))
-
-pub returns-in-Done-clause-session : goal.returns-in-Done-clause-session
-returns-in-Done-clause-session g c = same_by_clock c.args.work.now.session c.leaf_del.new.draw.session c.in-Done.ensures.drew.session
-
-pub returns-in-Absent-clause-session : goal.returns-in-Absent-clause-session
-returns-in-Absent-clause-session g c = same_by_clock c.args.work.now.session c.leaf_del.new.draw.session (ap (λ k. k.session) c.in-Absent.ensures.drew)
-
-pub returns-in-Unstaged-DiskFault-clause-session : goal.returns-in-Unstaged-DiskFault-clause-session
-returns-in-Unstaged-DiskFault-clause-session g c = same_by_clock c.args.work.now.session c.leaf_del.new.draw.session c.in-Unstaged-DiskFault.ensures.drew.session
-
-pub unreachable-requires-in-ClockSpent : goal.unreachable-requires-in-ClockSpent
-unreachable-requires-in-ClockSpent g c =
-    not_last (g.R.Rows.shape c.args.rows.now) (g.R.Rows.view c.args.seat.now) (g.R.Rows.view c.leaf_del.new.seat) c.args.work.now.session c.args.work.now.log c.args.key c.requires.holds c.next_fits.ensures c.requires.may.is_open c.in-ClockSpent.ensures.del
-
-pub returns-in-Unstaged-DiskFault-clause-cause_disk_fault : goal.returns-in-Unstaged-DiskFault-clause-cause_disk_fault
-returns-in-Unstaged-DiskFault-clause-cause_disk_fault g c =
-    cause_from (g.D.Disk.faults c.args.work.now.disk) (g.D.Disk.faults c.args.work.now.disk) (g.D.Disk.faults c.leaf_del.new.draw.disk) _ _ refl c.in-Unstaged-DiskFault.ensures.drew.cause (λ q. ap Err c.in-Unstaged-DiskFault.field-0-is) (λ p. refl)
+pub returns-in-Err-clause-cause_disk_fault : goal.returns-in-Err-clause-cause_disk_fault
+returns-in-Err-clause-cause_disk_fault g c =
+    handed_on (Option ℕ) (Option ℕ) (g.D.Disk.faults c.args.work.now.disk) (g.D.Disk.faults c.del_held.new.work.disk) c.in-Err.unmade c.refusal_of.result c.refusal_of.ensures c.in-Err.ensures.cause_disk_fault

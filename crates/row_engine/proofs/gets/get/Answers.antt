@@ -3,19 +3,16 @@ use Rattle.std.proofs.lemmas.Result.{err_from_is_err_and}
 use Rattle.map_model.specs.declared.call.Answer.TheVariants as answer
 use Rattle.map_model.specs.declared.call.Call.TheVariants as call
 use Rattle.map_model.specs.declared.call.Refusal.TheVariants as refusal
-use Rattle.btree_descent.specs.Descents.{Stamped}
-use Rattle.btree_descent.specs.Known.{said}
 use Rattle.key_locks.specs.declared.mode.Mode.TheVariants.{Shared}
 use Rattle.engine_trait.specs.Calls.{MayCome}
 use Rattle.row_engine.specs.Calls.{CallDoes, get_answer}
-use Rattle.row_engine.specs.Inside.Takes.{NotTaken}
-use Rattle.row_engine.proofs.GetLemmas.{after_read, call_open, got, key_mine, may_come, not_got, not_taken, open_still, read_steps}
-use Rattle.session_state.proofs.HomeLemmas.{no_cold}
-use Rattle.session_state.proofs.OtherLemmas.{no_steps}
+use Rattle.row_changes.specs.Reads.{HasRead}
+use Rattle.row_changes.specs.Takes.{NotTaken}
+use Rattle.row_engine.proofs.GetLemmas.{call_open, got, may_come, not_got, not_taken, open_still, row_held}
+use Rattle.row_words.specs.declared.event.Event.TheVariants.{Read}
+use Rattle.session_state.proofs.OtherLemmas.{is_own, no_steps, one_step}
 use Rattle.row_engine.proofs.PutTests.{home_taken}
 use Rattle.row_engine.proofs.OwnSteps.{taken_then, untaken_steps}
-use Rattle.session_state.proofs.StageLemmas.{clock_set}
-use Rattle.session_state.proofs.HoldLemmas.{holds_as}
 use Rattle.row_engine.proofs.gets.get.Goals as goal
 
 pub returns-in-Some-clause-does : goal.returns-in-Some-clause-does
@@ -43,25 +40,16 @@ returns-in_err-take_row-clause-does g c works =
 
 pub unreachable-requires : goal.unreachable-requires
 unreachable-requires g c =
-    let z = g.R.Rows.shape c.take_row.new.rows in
     let w = g.R.Rows.view c.take_row.new.seat in
-    let u = g.R.Rows.view c.find.new.seat in
-    no_cold z w u c.args.key c.in-Cold.field-0 c.take_row.ensures.holds.alone
-    (home_taken (g.R.Rows.view c.args.seat.now) w c.args.work.now.session c.take_row.new.session _ Shared c.in_ok-take_row.ensures.taken (c.requires.home (call_open c.args.work.now.session (sym c.call_refusal.ensures ∙ c.in_default.is)).0)) c.in-Cold.ensures.went
+    c.in-Err.ensures.cause_cold (c.every_warm_at_home.ensures w
+    (home_taken (g.R.Rows.view c.args.seat.now) w c.args.work.now.session c.take_row.new.session _ Shared c.in_ok-take_row.ensures.taken (c.requires.home (call_open c.args.work.now.session (sym c.call_refusal.ensures ∙ c.in_default.is)).0)) c.args.key) refl
 
-pub returns-clause-holds : goal.returns-clause-holds
-returns-clause-holds g c works =
-    let z = g.R.Rows.shape c.take_row.new.rows in
-    let v = g.R.Rows.view c.args.seat.now in
-    let w = g.R.Rows.view c.take_row.new.seat in
-    let u = g.R.Rows.view c.find.new.seat in
-    let x = c.args.work.now.session in
-    let y = c.take_row.new.session in
-    let log = c.args.work.now.log in
-    let o = call_open x (sym c.call_refusal.ensures ∙ c.in_default.is) in
-    let t = c.in_ok-take_row.ensures.taken in
-    holds_as z (g.R.Rows.shape c.find.new.rows) u _ _ log c.in-Found.ensures.fits.1 (clock_set y _ _ _ c.touch.ensures)
-    (after_read z w u y log c.take_row.ensures.holds (open_still v w x y (c.args.key % x.held.count) t o.1) c.args.key c.in-Found.found c.in-Found.ensures.went c.in-Found.ensures.fits.2 (key_mine z v w x y log c.take_row.ensures.holds c.args.key t))
+pub read_held-requires-clause-open_is : goal.read_held-requires-clause-open_is
+read_held-requires-clause-open_is g c =
+    open_still (g.R.Rows.view c.args.seat.now) (g.R.Rows.view c.take_row.new.seat) c.args.work.now.session c.take_row.new.session _ c.in_ok-take_row.ensures.taken (call_open c.args.work.now.session (sym c.call_refusal.ensures ∙ c.in_default.is)).1
+
+pub read_held-requires-clause-row : goal.read_held-requires-clause-row
+read_held-requires-clause-row g c = row_held (g.R.Rows.view c.args.seat.now) (g.R.Rows.view c.take_row.new.seat) c.args.work.now.session c.take_row.new.session c.args.key c.in_ok-take_row.ensures.taken
 
 pub returns-clause-does : goal.returns-clause-does
 returns-clause-does g c works =
@@ -70,17 +58,21 @@ returns-clause-does g c works =
     let z = g.R.Rows.shape c.args.rows.now in
     let v = g.R.Rows.view c.args.seat.now in
     let w = g.R.Rows.view c.take_row.new.seat in
-    let u = g.R.Rows.view c.find.new.seat in
+    let u = g.R.Rows.view c.read_held.new.seat in
     let x = c.args.work.now.session in
     let y = c.take_row.new.session in
     let log = c.args.work.now.log in
-    let found = c.in-Found.found in
     let o = call_open x (sym c.call_refusal.ensures ∙ c.in_default.is) in
     let t = c.in_ok-take_row.ensures.taken in
-    subst (λ r. CallDoes x.own x.group (call.Get c.args.key) (answer.Value r) x.is_half_aborted y.is_half_aborted v u log log st st) (sym c.value_of.ensures)
-    (subst (λ k. CallDoes x.own x.group (call.Get c.args.key) (answer.Value (said found.word)) x.is_half_aborted k v u log log st st) (sym (ap (λ k. k.is_half_aborted) t.session))
-    (λ h xs ties line. got c.every_reached.ensures c.every_need.ensures c.every_answer.ensures h xs line z v w u x y log ties (c.requires.holds works) (holds_as (g.R.Rows.shape c.take_row.new.rows) z w y y log (sym c.take_row.ensures.fits.1) refl c.take_row.ensures.holds) o.1 o.2
-    c.args.key found t (subst (λ s. Stamped s.alone y.own c.args.key found w u) c.take_row.ensures.fits.1 c.in-Found.ensures.went) c.in-Found.ensures.fits.2 st lawful c.every_part.ensures))
+    subst (λ k. CallDoes x.own x.group (call.Get c.args.key) (answer.Value c.in-Ok.value) x.is_half_aborted k v u log log st st) (sym (ap (λ k. k.is_half_aborted) c.in-Ok.ensures.session ∙ ap (λ k. k.is_half_aborted) t.session))
+    (λ h xs ties line. got c.every_reached.ensures c.every_need.ensures c.every_answer.ensures h xs line z v w u x y log ties (c.requires.holds works) o.1 o.2
+    c.args.key c.in-Ok.value t (subst (λ n. HasRead n w u c.args.key c.in-Ok.value) (ap (λ k. k.own) t.session) c.in-Ok.ensures.reads) st lawful c.every_part.ensures)
+
+pub returns-clause-session : goal.returns-clause-session
+returns-clause-session g c =
+    let t = c.in_ok-take_row.ensures.taken.session in
+    let r = c.in-Ok.ensures.session in
+    (ap (λ k. k.own) r ∙ ap (λ k. k.own) t, ap (λ k. k.workers) r ∙ ap (λ k. k.workers) t, ap (λ k. k.group) r ∙ ap (λ k. k.group) t)
 
 pub returns-in_err-take_row-clause-come : goal.returns-in_err-take_row-clause-come
 returns-in_err-take_row-clause-come g c =
@@ -106,14 +98,8 @@ returns-in_err-take_row-clause-steps g c works still =
 
 pub returns-clause-steps : goal.returns-clause-steps
 returns-clause-steps g c works still =
-    let z = g.R.Rows.shape c.take_row.new.rows in
-    let v = g.R.Rows.view c.args.seat.now in
     let w = g.R.Rows.view c.take_row.new.seat in
-    let u = g.R.Rows.view c.find.new.seat in
-    let x = c.args.work.now.session in
     let y = c.take_row.new.session in
-    let log = c.args.work.now.log in
-    let o = call_open x (sym c.call_refusal.ensures ∙ c.in_default.is) in
-    let t = c.in_ok-take_row.ensures.taken in
-    taken_then v w u x y (c.args.key % x.held.count) Shared t
-    (read_steps z w u y log c.take_row.ensures.holds (open_still v w x y (c.args.key % x.held.count) t o.1) c.args.key c.in-Found.found c.in-Found.ensures.went c.in-Found.ensures.fits.2 (key_mine z v w x y log c.take_row.ensures.holds c.args.key t))
+    let r = c.in-Ok.ensures.reads in
+    taken_then (g.R.Rows.view c.args.seat.now) w (g.R.Rows.view c.read_held.new.seat) c.args.work.now.session y (c.args.key % c.args.work.now.session.held.count) Shared c.in_ok-take_row.ensures.taken
+    (one_step y.own w (g.R.Rows.view c.read_held.new.seat) (Read y.own r.page c.args.key c.in-Ok.value) r.given r.seen (is_own y.own) r.met)

@@ -5,8 +5,8 @@ use Rattle.std.proofs.Common.{ℕ, Option, Err, suc, ap, inl, refl, sym, ◌∙�
 use Rattle.engine_calls.proofs.PartLemmas.{every_part}
 use Rattle.lean_disk.specs.Moments.{Framed}
 use Rattle.row_engine.proofs.PutCalls.{met_put, not_put, not_taken, tried_put}
-use Rattle.row_engine.proofs.PutTests.{may_taken, met_comes, met_late, never_early, none_is, not_taken_comes, put_comes, put_framed, puts_flushed, puts_told, some_is, works_of}
-use Rattle.row_engine.proofs.StepLemmas.{stopped_works}
+use Rattle.row_engine.proofs.PutTests.{home_taken, may_taken, met_comes, met_late, never_early, none_is, not_taken_comes, put_comes, put_framed, puts_flushed, puts_told, some_is, works_of}
+use Rattle.row_changes.proofs.StepLemmas.{stopped_works}
 use Rattle.session_state.proofs.OtherLemmas.{no_steps}
 use Rattle.row_engine.proofs.OwnSteps.{put_steps, taken_then, takes_steps, untaken_steps}
 use Rattle.row_engine.proofs.puts.put.Goals as goal
@@ -88,6 +88,10 @@ returns-clause-told g c =
 pub put_held-requires-clause-may : goal.put_held-requires-clause-may
 put_held-requires-clause-may g c κs within =
     may_taken (g.R.Rows.view c.args.seat.now) (g.R.Rows.view c.take_row.new.seat) c.args.work.now.session c.take_row.new.session c.args.work.now.log c.args.key (sym c.put_refusal.ensures ∙ c.in_default.is) c.in_default-take_row.ensures.taken c.requires.key (sym c.clock_refusal.ensures ∙ c.in_default-clock_refusal.is)
+
+pub put_held-requires-clause-home : goal.put_held-requires-clause-home
+put_held-requires-clause-home g c κs within =
+    home_taken (g.R.Rows.view c.args.seat.now) (g.R.Rows.view c.take_row.new.seat) c.args.work.now.session c.take_row.new.session _ Alone c.in_default-take_row.ensures.taken
     (c.requires.home (works_of c.args.work.now.session c.args.work.now.log (sym c.put_refusal.ensures ∙ c.in_default.is)))
 
 pub returns-in-Some-clause-tested : goal.returns-in-Some-clause-tested

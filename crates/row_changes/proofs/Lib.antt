@@ -1,0 +1,17 @@
+pub mod Misses
+pub mod SeenLemmas
+pub mod ConflictLemmas
+pub mod LoneLemmas
+pub mod TakeLemmas
+pub mod WayLemmas
+pub mod ReadLemmas
+pub mod PutLemmas
+pub mod DelLemmas
+pub mod BackLemmas
+pub mod TakesLemmas
+pub mod GrowthLemmas
+pub mod ChangeLemmas
+pub mod LiftLemmas
+pub mod SplitLemmas
+pub mod RoomLemmas
+pub mod StepLemmas

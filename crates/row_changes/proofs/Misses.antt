@@ -1,0 +1,14 @@
+-- Misses change nothing of the core.
+use Rattle.std.proofs.Common.{◌≡◌, ◌∙◌, List, [], ◌∷◌, refl}
+use Rattle.row_words.specs.declared.event.Event.{Event}
+use Rattle.row_words.specs.declared.event.Event.TheVariants.{Miss}
+use Rattle.row_words.specs.declared.given.Given.{Given}
+use Rattle.row_words.specs.Moments.{Moment}
+use Rattle.row_words.specs.Sealed as sealed
+use Rattle.btree_smo.specs.Outcomes.{AreMisses}
+use Rattle.session_state.proofs.Moments.{met_core}
+
+pub misses_core : (v : Given) (k : Moment) (es : List Event) → AreMisses es → (sealed.run v k es).core ≡ k.core
+misses_core v k [] m = refl
+misses_core v k (Miss a ∷ es) m = misses_core v (sealed.stepped v k (Miss a)) es m ∙ met_core v k (Miss a) refl
+misses_core v k _ m = absurd m

@@ -1,0 +1,34 @@
+-- Where a page of a key's way is not hot, so that what goes to its leaf stops there.
+use Rattle.std.specs.Prelude.{◌≡◌, ℕ}
+use Rattle.core_calls.specs.Warms.{IsWarmFrom}
+use Rattle.row_words.specs.Openings.{opening}
+use Rattle.rows_trait.specs.declared.view.View.{View}
+use Rattle.rows_trait.specs.Views.{state}
+use Rattle.btree_descent.specs.Known.{IsCold}
+use Rattle.session_state.specs.Others.{AreHome}
+use Rattle.row_changes.specs.declared.ways.Unmade.{Unmade}
+use Rattle.row_changes.specs.declared.ways.Unmade.TheVariants as unmade
+
+-- each page of the key's way is hot
+abbrev pub IsWarm : View → (key : ℕ) → Type 0
+IsWarm v key = IsWarmFrom (opening v.given) (state v).core key 0
+
+-- nothing was seen, and this page of the key's way is not hot
+pub record HasMetCold (key page : ℕ) (v w : View) : Type 0 where
+  pub given : w.given ≡ v.given
+  pub seen : w.seen ≡ v.seen
+  pub cold : IsCold w.given (state w) key page
+
+-- a change was not made since a page of the way is not hot
+abbrev pub IsCut : Unmade → Type 0
+IsCut (unmade.Cold cold) = Unit {0}
+IsCut _ = ⊥
+
+-- a change was not put back since its key has no entry
+abbrev pub IsLost : Unmade → Type 0
+IsLost unmade.Lost = Unit {0}
+IsLost _ = ⊥
+
+-- where each page is hot in the frame of its own number, so is the way of each key
+abbrev pub EveryWarmAtHome : Type 0
+EveryWarmAtHome = (v : View) → AreHome v → (key : ℕ) → IsWarm v key

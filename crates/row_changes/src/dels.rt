@@ -1,0 +1,65 @@
+// The deleting of a key behind its lock.
+ghost use Rattle.std.specs.Prelude.{◌≡◌, Err, IsErrAnd, true};
+ghost use Rattle.map_model.specs.declared.call.Refusal.{Refusal};
+ghost use Rattle.lean_disk.specs.Faults.{HasCause};
+ghost use Rattle.session_state.specs.Holds.{Holds, IsSameSession};
+ghost use Rattle.row_changes.specs.Dels.{Dels};
+ghost use Rattle.row_changes.specs.Puts.{MayChange, works_behind};
+ghost use Rattle.row_changes.specs.Ways.{IsCut, IsWarm};
+ghost use Rattle.row_changes.specs.declared.ways.Unmade.{Unmade};
+
+use crate::ways::{Cold, Unmade};
+use btree_descent::del::{Del, leaf_del};
+use draw_trait::draw::Unstaged;
+use lean_proto::path::Path;
+use map_model::Refusal;
+use rows_trait::rows::Rows;
+use session_state::{Stages, Work, next_fits};
+
+/// The value of the key, whose row is held, is taken away, if it has one.
+pub fn del_held<R: Rows, D: Stages>(
+    rows: &mut R,
+    seat: &mut R::Seat,
+    work: &mut Work<D>,
+    key: u64,
+) -> Result<Option<u64>, Unmade>
+    requires fits { R.fits rows.old seat.old }
+    requires holds { Holds (R.shape rows.old) (R.view seat.old) work.old.session work.old.log }
+    requires may { MayChange (R.view seat.old) work.old.session work.old.log key }
+    ensures fits { R.fits rows.new seat.new × (R.shape rows.new ≡ R.shape rows.old) }
+    ensures holds { work.new.session.works ≡ true → Holds (R.shape rows.new) (R.view seat.new) work.new.session work.new.log }
+    ensures session { IsSameSession work.old.session work.new.session }
+    ensures is_half_aborted { work.new.session.works ≡ true → work.new.session.is_half_aborted ≡ work.old.session.is_half_aborted }
+    ensures dels { Dels result work.old.session.own (R.view seat.old) (R.view seat.new) key work.old.log work.new.log (D.story work.old.disk) (D.story work.new.disk) (work.new ≡ work.old) (work.new.disk ≡ work.old.disk) }
+    ensures works { work.new.session.works ≡ works_behind result }
+
+    ensures cause_cold { IsWarm (R.view seat.old) key → IsErrAnd result IsCut → ⊥ }
+    ensures cause_disk_fault { HasCause (D.faults work.old.disk) (D.faults work.new.disk) (result ≡ Err (Unmade.Refused Refusal.DiskFault)) }
+{
+    core_calls::every_room();
+    rows_trait::every_low();
+    next_fits(rows, seat);
+    let frames = work.session.frames;
+    let mut path = Path::new();
+    match leaf_del(rows, seat, work.session.own, frames, key, &mut path, work) {
+        Del::Done(was) => {
+            work.session.undo.push(key, was);
+            Ok(Some(was))
+        }
+        Del::Absent => Ok(None),
+        Del::RowSpent { row: _ } => {
+            rows.versions(seat);
+            Err(Unmade::Refused(Refusal::RowSpent))
+        }
+        Del::Unstaged(Unstaged::DiskFault) => {
+            work.session.works = false;
+            Err(Unmade::Refused(Refusal::DiskFault))
+        }
+        Del::Cold(page) => Err(Unmade::Cold(Cold { page })),
+        // The log has a block, no number is above the clock, and nobody else steps.
+        Del::Unstaged(Unstaged::LogFull { .. }) => unreachable!(),
+        Del::ClockSpent => unreachable!(),
+        Del::Moved(_) => unreachable!(),
+        Del::Latched(_) => unreachable!(),
+    }
+}

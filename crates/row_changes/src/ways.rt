@@ -1,0 +1,41 @@
+// What stops a descent to the leaf of a key.
+ghost use Rattle.std.specs.Prelude.{◌≡◌};
+ghost use Rattle.row_changes.specs.Ways.{EveryWarmAtHome, IsCut, IsLost};
+
+use map_model::Refusal;
+
+/// The page of the key's way that is not hot, by its number: bring it into a frame, and go to the leaf again.
+#[derive(Clone, Copy)]
+pub struct Cold {
+    pub page: u64,
+}
+
+/// Why a change was not made.
+#[derive(Clone, Copy)]
+pub enum Unmade {
+    /// A page of the way is not hot, and nothing was done.
+    Cold(Cold),
+    /// The key of the change that was to be put back has no entry in its leaf, and nothing was done: the leaf was read again from a device that
+    /// gave other entries than it took. Behind rows that began faithful this never comes.
+    Lost,
+    /// The call is refused.
+    Refused(Refusal),
+}
+
+/// Why it was refused, where the way is hot and no entry is lost.
+pub fn refusal_of(unmade: Unmade) -> Refusal
+    requires cut { IsCut unmade → ⊥ }
+    requires lost { IsLost unmade → ⊥ }
+    ensures { unmade ≡ Unmade.Refused result }
+{
+    match unmade {
+        Unmade::Refused(why) => why,
+        Unmade::Cold(_) => unreachable!(),
+        Unmade::Lost => unreachable!(),
+    }
+}
+
+/// Where each page stands in the frame of its own number, each way is hot.
+pub fn every_warm_at_home()
+    ensures { EveryWarmAtHome }
+{}
