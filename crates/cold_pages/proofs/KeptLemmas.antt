@@ -228,6 +228,9 @@ module _ (f : Format) (page : ℕ → Contents) (t : IsTree f (λ p. (page p).no
   span_child : (p : ℕ) (s : Span) → Names (page p).node s → Has (record { key = s.low; word = s.child }) (children (page p).node)
   span_child p s m = subst (λ (xs : List Pair). Has (record { key = s.low; word = s.child }) xs) (sym (children_inner (page p).node m.inner)) (pair_of_span (page p).node.pairs (page p).node.high s m.has)
 
+  within_tree : (p : ℕ) → p < f.pages → (x : Pair) → Has x (children (page p).node) → x.word < f.pages
+  within_tree p l x m = let s = child_span p l x m in subst (λ (n : ℕ). n < f.pages) s.2 (child_page f (λ q. (page q).node) t p s.0 l s.1).1
+
   -- the page names it by a span
   abbrev pub IsNamed : ℕ → ℕ → Type 0
   IsNamed p c = (s : Span) × Names (page p).node s × (s.child ≡ c)
@@ -393,6 +396,7 @@ module _ (f : Format) (page : ℕ → Contents) (t : IsTree f (λ p. (page p).no
 
 pub every_kept : EveryKept
 every_kept f page cold table t right = record {
+  within = λ p l x m. subst (λ (n : ℕ). x.word < n) (sym right.pages) (within_tree f page t p l x m);
   came = λ p v l c. came f page t cold table right p v l c;
   passes = λ p v l c. passes f page t cold table right p v l c;
   stays = stays f page t cold table right;

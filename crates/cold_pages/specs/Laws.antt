@@ -7,7 +7,7 @@ use Rattle.page_model.specs.Tree.{Names, IsTree}
 use Rattle.page_model.specs.Page.{Page}
 use Rattle.btree_node.specs.Words.{IsOrdered}
 use Rattle.cold_pages.specs.declared.kept.Kept.{Kept}
-use Rattle.cold_pages.specs.Kept.{nothing, kept_of, level_of, left, come}
+use Rattle.cold_pages.specs.Kept.{AreWithin, nothing, kept_of, level_of, left, come}
 use Rattle.cold_pages.specs.Compared.{IsAsKept}
 
 -- what is kept of the page itself is so; how many pairs an inner node has too
@@ -45,9 +45,10 @@ pub record IsButEntries (old new : Contents) : Type 0 where
   pub fields : new.node ≡ record old.node { pairs = new.node.pairs }
   pub other : is_leaf old.node ≡ false → new.node ≡ old.node
 
--- Of a page that is cold: what comes is what left, and what left passes. And the table is right of another moment: where the same pages are
--- cold, and they are as they were but for entries of leaves; where one more has left; and where one has come.
+-- Each page names pages of the table. Of a page that is cold: what comes is what left, and what left passes. And the table is right of another
+-- moment: where the same pages are cold, and they are as they were but for entries of leaves; where one more has left; and where one has come.
 pub record KeptLaws (f : Format) (page : ℕ → Contents) (cold : ℕ → Bool) (table : List Kept) : Type 0 where
+  pub within : (p : ℕ) → p < f.pages → AreWithin (length table) (page p).node
   pub came : (p : ℕ) (v : Page) → p < f.pages → cold p ≡ true → IsOrdered v.node.low v.node.pairs v.node.high → IsAsKept table p v → IsButEntries (page p) (contents v)
   pub passes : (p : ℕ) (v : Page) → p < f.pages → cold p ≡ true → contents v ≡ page p → IsAsKept table p v
   pub stays : (other : ℕ → Contents) (later : ℕ → Bool) → ((p : ℕ) → p < f.pages → later p ≡ cold p) → ((p : ℕ) → p < f.pages → cold p ≡ true → IsButEntries (page p) (other p)) → IsRight f other later table

@@ -208,6 +208,7 @@ module _ (g : Opening) (s : State) (res : Residence g s) where
       let lt : p < g.format.pages = (res.within p (frame_of (s.place p)) (in_own (s.place p) was)).0 in
       let c : suc (hot_pages g (happens g s (happening.Event.Cool p))) ≤ hot_pages g s = count_down g.format.pages p (λ q. is_hot (s.place q)) (λ q. is_hot (upd s.place p cooling q)) lt was (ap is_hot (upd_same s.place p cooling p refl)) (λ q ne. ap is_hot (upd_other s.place p cooling q ne)) in
       omega arith
+  step_hot (told.Fetch p pairs) k m = let c : hot_pages g (happens g s (event_of (told.Fetch p pairs))) ≡ hot_pages g s = refl in omega arith
   step_hot (told.Save p) k m = let c : hot_pages g (happens g s (happening.Event.Save p)) ≡ hot_pages g s = refl in omega arith
   step_hot told.Tick k m = let c : hot_pages g (happens g s happening.Event.Tick) ≡ hot_pages g s = refl in omega arith
   step_hot (told.Miss w) k m = let c : hot_pages g (happens g s (happening.Event.Miss w)) ≡ hot_pages g s = refl in omega arith

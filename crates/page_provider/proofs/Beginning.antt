@@ -74,7 +74,7 @@ module _ (g : Opening) (s : State) (res : Residence g s) (cold : (p : ℕ) → 0
       here = ap (λ x. in_frame x 0) res.root
 
 pub fresh_keeps : EveryFresh
-fresh_keeps z v frames workers generation free slots b =
+fresh_keeps z v frames workers generation free slots kept b =
     let g = opening v.given in
     let s = (state v).core in
     let res = (b.sound v.seen).residence in
@@ -98,6 +98,7 @@ fresh_keeps z v frames workers generation free slots b =
         once = down_once frames;
         free = λ p lt. b.marks p lt ∙ free_is p lt;
       };
+      kept = b.table;
       epoch = b.epoch;
     }
   where

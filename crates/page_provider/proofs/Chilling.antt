@@ -1,8 +1,8 @@
 -- Pages are cooled one behind another: what holds behind all of them.
-use Rattle.std.proofs.Common.{◌≡◌, ◌≢◌, ◌<◌, ◌≤◌, ◌+◌, ◌==◌, ◌||◌, ◌&&◌, ◌⊎◌, inl, inr, ℕ, suc, Bool, true, false, List, [], ◌∷◌, ◌++◌, length, length-append, append-nil, append_assoc, None, Some, refl, sym, ap, subst, ◌∙◌, arith, true≢false}
+use Rattle.std.proofs.Common.{◌≡◌, ◌≢◌, ◌<◌, ◌+◌, ◌==◌, ◌||◌, ◌⊎◌, inl, inr, ℕ, suc, Bool, true, false, List, [], ◌∷◌, ◌++◌, length, length-append, append-nil, append_assoc, None, Some, refl, sym, ap, subst, ◌∙◌, arith, true≢false}
 use Rattle.std.specs.Prelude.{if◌then◌else◌}
 use Rattle.std.proofs.lemmas.Bool.{cases_eq, eq-eqb, eqb-true}
-use Rattle.map_model.specs.Lists.{Has, all, any}
+use Rattle.map_model.specs.Lists.{Has, any}
 use Rattle.map_model.proofs.ListLemmas.{upd_other}
 use Rattle.rfa_model.specs.Reaches.{least}
 use Rattle.core_state.specs.Events as happening
@@ -10,11 +10,10 @@ use Rattle.core_state.specs.Needs as core
 use Rattle.core_state.specs.Openings.{Opening}
 use Rattle.core_state.specs.States.{Place, State, epoch_of, flushed_by_all, in_frame, is_cooling, is_hot}
 use Rattle.core_state.specs.Steps.{happens, step}
-use Rattle.disk_runs.specs.Quiet.{is_quiet}
 use Rattle.row_words.specs.declared.event.Event.{Event}
 use Rattle.row_words.specs.declared.event.Event.TheVariants.{Cool, Tick}
 use Rattle.row_words.specs.declared.given.Given.{Given}
-use Rattle.row_words.specs.Moments.{Moment, actor_of, by, event_of, events_of, pager}
+use Rattle.row_words.specs.Moments.{Moment, actor_of, by, pager}
 use Rattle.row_words.specs.Openings.{opening}
 use Rattle.row_words.specs.Sealed.{stepped}
 use Rattle.rows_trait.specs.declared.view.View.{View}
@@ -28,7 +27,7 @@ use Rattle.page_pool.specs.Full.{IsHeldBack, NoneRipe}
 use Rattle.page_provider.specs.Cools.{Chills, HasCooled, Idle, Stepped}
 use Rattle.page_provider.specs.Laws.{RowLaws}
 use Rattle.page_provider.specs.Leaves.{IsCalm, IsFlushed, NoneLeaves}
-use Rattle.page_provider.specs.Moves.{AreMet, AreTicked, KeepsPath, Moved, Rested, is_on, others_in, way}
+use Rattle.page_provider.specs.Moves.{AreMet, KeepsPath, Moved, Rested, is_on, way}
 use Rattle.page_provider.specs.Providers.{Provider, Keeps}
 use Rattle.page_provider.proofs.Departures.{low_on}
 use Rattle.page_provider.proofs.Flushing.{same_state}

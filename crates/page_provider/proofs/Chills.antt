@@ -49,6 +49,7 @@ use Rattle.page_provider.specs.Finds.{IsChildless, TakesSeen}
 use Rattle.page_provider.specs.Laws.{RowLaws}
 use Rattle.page_provider.specs.Moves.{AreMet}
 use Rattle.page_provider.specs.Providers.{Provider, Keeps, pool}
+use Rattle.page_provider.proofs.Kept.{kept_placed}
 use Rattle.page_provider.proofs.Keeping.{Parted, at_event, by_event, event_happens, keeps_before, keeps_event, keeps_ran, plays, stood_after, stood_before}
 use Rattle.page_provider.proofs.Latches.{taken_words}
 use Rattle.page_provider.proofs.Outcomes.{is_pager}
@@ -288,6 +289,7 @@ module _ {z : Shape} {v t u : View} {k : Provider} {live : Bool} (entry : Coolin
       worker = refl;
       page = size;
       agrees = agrees_free marks agrees;
+      kept = kept_placed (opening v.given) at k.kept (c.sound (v.seen ++ q.before)).tree kept.kept p _ gone refl refl (ap is_cold fit_at.hot) refl;
       epoch = kept.epoch;
     })
 

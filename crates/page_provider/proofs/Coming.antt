@@ -41,11 +41,14 @@ use Rattle.page_provider.specs.Finds.{Halts}
 use Rattle.page_provider.specs.Inside.{Missed}
 use Rattle.page_provider.specs.Laws.{RowLaws}
 use Rattle.page_provider.specs.Moves.{AreMet}
-use Rattle.page_provider.specs.Providers.{Provider, Keeps, pool}
+use Rattle.cold_pages.specs.declared.kept.Kept.{Kept}
+use Rattle.cold_pages.specs.Kept.{AreWithin, come as come_kept}
+use Rattle.page_provider.specs.Providers.{IsKept, Provider, Keeps, pool}
 use Rattle.page_provider.specs.Steps.{IsMissAtMost}
 use Rattle.page_provider.specs.declared.refusal.Refusal.{Refusal}
 use Rattle.held_rows.specs.Steps as steps
 use Rattle.page_provider.proofs.Departures.{framed}
+use Rattle.page_provider.proofs.Kept.{kept_come, kept_placed, kept_within}
 use Rattle.page_provider.proofs.Keeping.{Parted, at_event, by_event, event_happens, keeps_before, keeps_event, keeps_ran, parted, ran_stood, stood_after, stood_before}
 use Rattle.page_provider.proofs.Outcomes.{is_pager}
 use Rattle.page_provider.proofs.Standing.{state_on}
@@ -176,9 +179,9 @@ module _ {z : Shape} {v u : View} {e : Event} {was : Provider} (page frame : ℕ
   gone = happens (opening v.given) at (event_of e)
 
   pub come : {is : Provider} → core.may (opening v.given) at (event_of e) ≡ true → gone.place ≡ upd at.place page (Place.Hot frame) → gone.epoch ≡ at.epoch → is_hot ((state v).core.place page) ≡ false
-      → Agrees (opening v.given) gone (pool is) → is.frames ≡ was.frames → is.workers ≡ was.workers → length is.free ≡ length was.free → is ≡ record was { queue = is.queue; empty = is.empty; free = is.free } → HasCome z e page frame v was u is
-  come may place epoch off agrees frames workers pages memory = record {
-    goes = record { ran = r; held = none; keeps = keeps_event laws.stood laws.standing r q c gone now (record { frame = frames; worker = workers; page = pages; agrees = agrees; epoch = subst (λ n. n ≤ 2 ^ 62) (sym epoch) (keeps_before laws.stood laws.standing r.given q c).epoch }) };
+      → Agrees (opening v.given) gone (pool is) → IsKept (opening v.given) gone is.kept → is.frames ≡ was.frames → is.workers ≡ was.workers → length is.free ≡ length was.free → is ≡ record was { queue = is.queue; empty = is.empty; free = is.free; kept = is.kept } → HasCome z e page frame v was u is
+  come may place epoch off agrees table frames workers pages memory = record {
+    goes = record { ran = r; held = none; keeps = keeps_event laws.stood laws.standing r q c gone now (record { frame = frames; worker = workers; page = pages; agrees = agrees; kept = table; epoch = subst (λ n. n ≤ 2 ^ 62) (sym epoch) (keeps_before laws.stood laws.standing r.given q c).epoch }) };
     met = subst (AreMet v.given (state v)) (append_cancel_left v.seen (q.before ++ e ∷ q.after) r.more (sym q.seen ∙ r.seen))
         (met_event v.given (state v) q.before e q.after q.first q.last (subst (λ (m : Moment). core.may (opening v.given) m.core (event_of e) ≡ true) (state_on v q.before) may));
     hot = place_hot ((state u).core.place page) frame (last.hot page ∙ ap is_hot here) (last.frame page frame ∙ (ap (λ x. in_frame x frame) here ∙ eq-eqb frame frame refl));
@@ -214,6 +217,11 @@ cold_hot (Place.Hot f) h = absurd (true≢false (sym h))
 cold_hot (Place.Cooling f e w) h = refl
 cold_hot Place.Cold h = refl
 
+pub cool_cold : (x : Place) → is_cooling x ≡ true → is_cold x ≡ false
+cool_cold (Place.Hot f) h = absurd (true≢false (sym h))
+cool_cold (Place.Cooling f e w) h = refl
+cool_cold Place.Cold h = absurd (true≢false (sym h))
+
 -- what the queue has of it
 pub entry_is : {z : Shape} {v : View} {k : Provider} {entry : Cooling} → RowLaws → Keeps z v k → found entry.page k.queue ≡ Some entry → IsFound (opening v.given) (state v).core entry.page entry
 entry_is {v = v} {k = k} {entry = entry} laws c there = (laws.queues (opening v.given) (state v).core (pool k) (c.sound v.seen).residence c.agrees).cooling entry.page entry there
@@ -231,7 +239,8 @@ rescued {z = z} {v = v} {u = u} {was = was} {entry = entry} laws c there parent 
     let may = rescue_same first g entry.page ∙ rescue_met g (state v).core entry.page x.cooling parent in
     let home : frame_of (s.place entry.page) ≡ entry.frame = framed (s.place entry.page) entry.frame (first.frame entry.page entry.frame ∙ x.here) in
     come entry.page entry.frame laws c r none q may (λ i. upd s.place entry.page (Place.Hot (home i))) refl (cool_hot ((state v).core.place entry.page) x.cooling)
-    (agrees_free (is_in free) same (laws.pools g s (happening.Event.Rescue entry.page) (pool was) refl may (c.sound (v.seen ++ q.before)).residence kept.agrees)) refl refl long refl
+    (agrees_free (is_in free) same (laws.pools g s (happening.Event.Rescue entry.page) (pool was) refl may (c.sound (v.seen ++ q.before)).residence kept.agrees))
+    (kept_placed g s was.kept (c.sound (v.seen ++ q.before)).tree kept.kept entry.page _ (happens g s (happening.Event.Rescue entry.page)) refl refl (cool_cold (s.place entry.page) (first.cooling entry.page ∙ x.cooling)) refl) refl refl long refl
 
 -- ## A cold page comes
 
@@ -247,10 +256,16 @@ empty_is {frame = frame} c m = c.agrees.empty frame (subst (Has frame) (sym m.la
 pub node_is : {z : Shape} {v : View} {k : Provider} {page frame : ℕ} {n : stored.Page} → Keeps z v k → CanCome v k page frame n → (state v).core.page page ≡ contents_of n
 node_is {v = v} {page = page} c m = (c.sound v.seen).residence.cold page m.cold ∙ sym m.contents
 
+-- each page that it names is in the table
+pub comes_within : {z : Shape} {v : View} {k now : Provider} {page frame : ℕ} {n : stored.Page} → k ≡ now → Keeps z v now → CanCome v now page frame n → AreWithin (length k.kept) n.node
+comes_within {v = v} {k = k} {now = now} {page = page} same c m =
+    subst (λ (w : Node). AreWithin (length k.kept) w) (ap (λ x. x.node) (node_is c m))
+    (subst (λ (p : Provider). AreWithin (length p.kept) ((state v).core.page page).node) (sym same) (kept_within (opening v.given) (state v).core now.kept (c.sound v.seen).tree c.kept page m.below))
+
 pub loaded : {z : Shape} {v u : View} {was : Provider} {page frame : ℕ} {n : stored.Page} → RowLaws → Keeps z v was → (m : CanCome v was page frame n) → has_hot_parent (opening v.given) (state v).core page ≡ true → Ran z.alone v (Load page frame ∷ []) u → u.held ≡ []
     → (empty : List ℕ) → empty ≡ m.rest → (free : List Bool) → length free ≡ length was.free → ((p : ℕ) → p < (opening v.given).format.pages → is_in free p ≡ upd (is_in was.free) page false p)
-    → HasCome z (Load page frame) page frame v was u (record was { empty = empty; free = free })
-loaded {z = z} {v = v} {u = u} {was = was} {page = page} {frame = frame} laws c m parent r none empty rest free long same =
+    → HasCome z (Load page frame) page frame v was u (record was { empty = empty; free = free; kept = come_kept was.kept n.node })
+loaded {z = z} {v = v} {u = u} {was = was} {page = page} {frame = frame} {n = n} laws c m parent r none empty rest free long same =
     let g = opening v.given in
     let q = parted z.alone v u (Load page frame) c.actor r in
     let first = stood_before z laws.stood r.given q in
@@ -258,11 +273,14 @@ loaded {z = z} {v = v} {u = u} {was = was} {page = page} {frame = frame} laws c 
     let kept = keeps_before laws.stood laws.standing r.given q c in
     let room = empty_is c m in
     let may = load_same first g page frame ∙ load_met g (state v).core page frame m.below room.0 m.cold parent room.1 in
+    let here : is_cold (s.place page) ≡ true = first.cold page ∙ m.cold in
     let left : others frame was.empty ≡ empty = ap (others frame) m.last ∙ (laws.pops m.rest frame (subst AreOnce m.last c.agrees.once) ∙ sym rest) in
     let t = happens g s (happening.Event.Load page frame) in
     come page frame laws c r none q may refl refl (cold_hot ((state v).core.place page) m.cold)
     (subst (λ (l : List ℕ). Agrees g t (record { queue = was.queue; empty = l; free = is_in free })) left
-    (agrees_free (is_in free) same (laws.pools g s (happening.Event.Load page frame) (pool was) refl may (c.sound (v.seen ++ q.before)).residence kept.agrees))) refl refl long refl
+    (agrees_free (is_in free) same (laws.pools g s (happening.Event.Load page frame) (pool was) refl may (c.sound (v.seen ++ q.before)).residence kept.agrees)))
+    (kept_come g s was.kept (c.sound (v.seen ++ q.before)).tree kept.kept page frame n.node m.below here ((c.sound (v.seen ++ q.before)).residence.cold page here)
+    (ap (λ x. x.node) (sym (first.page page (cold_hot ((state v).core.place page) m.cold) ∙ node_is c m)))) refl refl long refl
 
 -- the others of the empty frames
 pub popped : (l all rest : List ℕ) (f : ℕ) → all ≡ rest ++ f ∷ [] → l ≡ take (length all - 1) all → l ≡ rest
@@ -376,16 +394,19 @@ module _ {z : Shape} {v u : View} {k now : Provider} (same : k ≡ now) (laws : 
       rescued_as entry queue a free (b ∙ ap (λ (p : Provider). slice_set p.free entry.page false) same)
       (rescued laws c there (free_parents (opening v.given) (state v).core entry.page (c.sound v.seen).tree off) r none (slice_set now.free entry.page false) (length-set now.free entry.page false) (λ p l. removed now.free entry.page p few))
 
-  filled_as : {page frame : ℕ} {free : List Bool} (empty : List ℕ) (marks : List Bool) → marks ≡ free → HasCome z (Load page frame) page frame v now u (record now { empty = empty; free = free }) → HasCome z (Load page frame) page frame v now u (record k { empty = empty; free = marks })
-  filled_as {page} {frame} empty marks b h = subst (λ (s : Provider × List Bool). HasCome z (Load page frame) page frame v now u (record (s.0) { empty = empty; free = s.1 })) (λ i. (sym same i, sym b i)) h
+  filled_as : {page frame : ℕ} {free : List Bool} (node : Node) (empty : List ℕ) (marks : List Bool) → marks ≡ free → (table : List Kept) → table ≡ come_kept k.kept node → HasCome z (Load page frame) page frame v now u (record now { empty = empty; free = free; kept = come_kept now.kept node })
+      → HasCome z (Load page frame) page frame v now u (record k { empty = empty; free = marks; kept = table })
+  filled_as {page} {frame} node empty marks b table d h =
+      let e : table ≡ come_kept now.kept node = d ∙ ap (λ (p : Provider). come_kept p.kept node) same in
+      subst (λ (s : Provider × (List Bool × List Kept)). HasCome z (Load page frame) page frame v now u (record (s.0) { empty = empty; free = s.1.0; kept = s.1.1 })) (λ i. (sym same i, (sym b i, sym e i))) h
 
   pub filled_free : {page frame : ℕ} {n : stored.Page} → (m : CanCome v now page frame n) → n.node.live ≡ false → Ran z.alone v (Load page frame ∷ []) u
-      → (empty : List ℕ) → empty ≡ take (length k.empty - 1) k.empty → (free : List Bool) → free ≡ slice_set k.free page false → HasCome z (Load page frame) page frame v now u (record k { empty = empty; free = free })
-  filled_free {page} {frame} m off r empty a free b =
+      → (empty : List ℕ) → empty ≡ take (length k.empty - 1) k.empty → (free : List Bool) → free ≡ slice_set k.free page false → (table : List Kept) → table ≡ come_kept k.kept n.node → HasCome z (Load page frame) page frame v now u (record k { empty = empty; free = free; kept = table })
+  filled_free {page} {frame} {n} m off r empty a free b table d0 =
       let d = m.below in
       let e = c.pages in
       let few : page < length now.free = omega arith in
-      filled_as empty free (b ∙ ap (λ (p : Provider). slice_set p.free page false) same)
+      filled_as n.node empty free (b ∙ ap (λ (p : Provider). slice_set p.free page false) same) table d0
       (loaded laws c m (free_parents (opening v.given) (state v).core page (c.sound v.seen).tree (ap (λ x. x.node.live) (node_is c m) ∙ off)) r none empty (popped empty k.empty m.rest frame (ap (λ (p : Provider). p.empty) same ∙ m.last) a)
       (slice_set now.free page false) (length-set now.free page false) (λ p l. removed now.free page p few))
 
@@ -395,7 +416,7 @@ module _ {z : Shape} {v u : View} {k now : Provider} (same : k ≡ now) (laws : 
       (rescued laws c there parent r none now.free refl (λ p l. unmarked entry.page c (entry_is laws c there).below live p))
 
   pub filled_node : {page frame : ℕ} {n : stored.Page} → (m : CanCome v now page frame n) → n.node.live ≡ true → has_hot_parent (opening v.given) (state v).core page ≡ true → Ran z.alone v (Load page frame ∷ []) u
-      → (empty : List ℕ) → empty ≡ take (length k.empty - 1) k.empty → HasCome z (Load page frame) page frame v now u (record k { empty = empty })
-  filled_node {page} {frame} m live parent r empty a = filled_as empty k.free (ap (λ (p : Provider). p.free) same)
+      → (empty : List ℕ) → empty ≡ take (length k.empty - 1) k.empty → (table : List Kept) → table ≡ come_kept k.kept n.node → HasCome z (Load page frame) page frame v now u (record k { empty = empty; kept = table })
+  filled_node {page} {frame} {n} m live parent r empty a table d0 = filled_as n.node empty k.free (ap (λ (p : Provider). p.free) same) table d0
       (loaded laws c m parent r none empty (popped empty k.empty m.rest frame (ap (λ (p : Provider). p.empty) same ∙ m.last) a)
       now.free refl (λ p l. unmarked page c m.below (ap (λ x. x.node.live) (node_is c m) ∙ live) p))

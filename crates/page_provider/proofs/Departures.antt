@@ -27,6 +27,10 @@ use Rattle.cooling_stage.specs.Queue.{without}
 use Rattle.page_pool.specs.Pools.{Agrees, EveryPool, EveryStanding}
 use Rattle.page_provider.specs.Providers.{Provider, Keeps, pool}
 use Rattle.page_provider.specs.Inside.{MayGo}
+use Rattle.cold_pages.specs.Kept.{left}
+use Rattle.page_model.specs.Page.{Page}
+use Rattle.page_moves.specs.Moves.{contents_of}
+use Rattle.page_provider.proofs.Kept.{kept_left}
 use Rattle.page_provider.proofs.Keeping.{Parted, at_event, by_event, event_happens, keeps_before, keeps_event, stood_after, stood_before}
 
 -- ## Flushed numbers
@@ -133,6 +137,7 @@ module _ {z : Shape} {v u : View} {k : Provider} {p : ℕ} (every : EveryStood) 
         worker = refl;
         page = refl;
         agrees = pools (opening v.given) s (happening.Event.Save p) (pool k) refl save_may (c.sound (v.seen ++ q.before)).residence b.agrees;
+        kept = b.kept;
         epoch = b.epoch;
       })
 
@@ -151,16 +156,16 @@ module _ {z : Shape} {v u : View} {k : Provider} {p : ℕ} (every : EveryStood) 
 
 -- ## An eviction
 
--- behind it the frame is empty
-abbrev pub emptied : Provider → (page frame : ℕ) → Provider
-emptied k page frame = record k { queue = without page k.queue; empty = k.empty ++ frame ∷ [] }
+-- behind it the frame is empty, and what the page was is kept
+abbrev pub emptied : Provider → (page frame : ℕ) → Page → Provider
+emptied k page frame n = record k { queue = without page k.queue; empty = k.empty ++ frame ∷ []; kept = left k.kept page n }
 
 pub framed : (x : Place) (f : ℕ) → in_frame x f ≡ true → frame_of x ≡ f
 framed (Place.Hot i) f h = Rattle.std.proofs.lemmas.Bool.eqb-true i f h
 framed (Place.Cooling i e w) f h = Rattle.std.proofs.lemmas.Bool.eqb-true i f h
 framed Place.Cold f h = absurd (true≢false (sym h))
 
-module _ {z : Shape} {v u : View} {k : Provider} {p : ℕ} (f : ℕ) (every : EveryStood) (standing : EveryStanding) (pools : EveryPool) (c : Keeps z v k) (m : MayGo v p) (clean : is_dirty (state v).core p ≡ false) (here : in_frame ((state v).core.place p) f ≡ true) (r : Ran z.alone v (told.Evict p ∷ []) u) (q : Parted v (told.Evict p) u) where
+module _ {z : Shape} {v u : View} {k : Provider} {p : ℕ} (f : ℕ) (every : EveryStood) (standing : EveryStanding) (pools : EveryPool) (c : Keeps z v k) (m : MayGo v p) (clean : is_dirty (state v).core p ≡ false) (here : in_frame ((state v).core.place p) f ≡ true) (r : Ran z.alone v (told.Evict p ∷ []) u) (q : Parted v (told.Evict p) u) (n : Page) (is : contents_of n ≡ (state v).core.page p) where
   abbrev at : State
   at = (state (at_event q)).core
 
@@ -185,11 +190,12 @@ module _ {z : Shape} {v u : View} {k : Provider} {p : ℕ} (f : ℕ) (every : Ev
   abbrev gone : State
   gone = happens (opening v.given) at (happening.Event.Evict p)
 
-  pub evicted_keeps : Keeps z u (emptied k p f)
+  pub evicted_keeps : Keeps z u (emptied k p f n)
   evicted_keeps = keeps_event every standing r q c gone (event_happens q evict_may) (record {
     frame = refl;
     worker = refl;
     page = refl;
     agrees = subst (λ i. Agrees (opening v.given) gone (record { queue = without p k.queue; empty = k.empty ++ i ∷ []; free = (pool k).free })) home (pools (opening v.given) at (happening.Event.Evict p) (pool k) refl evict_may residence kept.agrees);
+    kept = kept_left (opening v.given) at k.kept (c.sound (v.seen ++ q.before)).tree kept.kept p n m.below (is ∙ sym (page_on before m));
     epoch = kept.epoch;
   })

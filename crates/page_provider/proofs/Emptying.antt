@@ -1,12 +1,6 @@
 -- A page is chosen that can leave: how the calls that look for one end.
-use Rattle.std.proofs.Common.{◌≡◌, ◌≢◌, ◌<◌, ◌≤◌, ◌+◌, ◌⊎◌, inl, inr, ℕ, true, List, [], ◌∷◌, length, Some, refl, sym, ap, ◌∙◌, arith, subst, Option}
-use Rattle.map_model.specs.Lists.{all}
-use Rattle.disk_runs.specs.Quiet.{is_quiet}
-use Rattle.held_rows.specs.Steps as held
+use Rattle.std.proofs.Common.{◌≡◌, ◌≢◌, ◌<◌, ◌≤◌, ◌+◌, ◌⊎◌, inl, inr, ℕ, true, List, [], length, Some, refl, sym, ap, ◌∙◌, arith, subst, Option}
 use Rattle.core_state.specs.States.{is_cooling}
-use Rattle.row_words.specs.declared.event.Event.{Event}
-use Rattle.row_words.specs.declared.event.Event.TheVariants.{Miss}
-use Rattle.row_words.specs.Moments.{events_of}
 use Rattle.row_words.specs.Openings.{opening}
 use Rattle.rows_trait.specs.declared.view.View.{View}
 use Rattle.rows_trait.specs.Turns.{Ran}
@@ -25,7 +19,6 @@ use Rattle.page_provider.specs.Laws.{RowLaws}
 use Rattle.page_provider.specs.Leaves as leaves
 use Rattle.page_provider.specs.Leaves.{Chooses, Chose, HasFlushed, HasHalted, IsCalm, IsFlushed, MissedLater, NoOther, NoneLeaves}
 use Rattle.page_provider.specs.Providers.{Provider, Keeps}
-use Rattle.page_provider.specs.Steps.{IsMissAtMost}
 use Rattle.page_provider.proofs.Chilling.{calm_then, chills_calm, chills_idle, chills_none, chills_ran, chills_step, chills_then, cooled_long, cooled_there, flushed_cooled, idle_ran, none_above, none_held, none_others, ticked, ticked_state}
 use Rattle.page_provider.proofs.Flushing.{flushed_ran, same_state}
 use Rattle.page_provider.proofs.Judging.{as_there, entry_is, none_same, tells}

@@ -3,7 +3,6 @@ use Rattle.std.proofs.Common.{◌≡◌, ◌<◌, ◌||◌, ◌&&◌, not, ltb, 
 use Rattle.std.specs.Prelude.{Result, Err, IfErr, IfOk}
 use Rattle.std.proofs.lemmas.Bool.{and_from, eq-eqb, lt-ltb}
 use Rattle.map_model.specs.Lists.{all}
-use Rattle.disk_runs.specs.Quiet.{is_quiet}
 use Rattle.page_model.specs.Check.{names_page}
 use Rattle.page_model.specs.Nodes.{Node}
 use Rattle.page_model.specs.Page as stored
@@ -17,8 +16,7 @@ use Rattle.row_image.proofs.Pages.{names_pair}
 use Rattle.core_state.specs.Needs.{has_hot_parent}
 use Rattle.core_state.specs.Openings.{Opening}
 use Rattle.core_state.specs.States.{Place, State, is_cold, is_cooling, is_hot, in_frame, nodes_of}
-use Rattle.row_words.specs.Moments.{Moment, events_of}
-use Rattle.row_words.specs.declared.event.Event.{Event}
+use Rattle.row_words.specs.Moments.{Moment}
 use Rattle.row_words.specs.declared.event.Event.TheVariants as told
 use Rattle.row_words.specs.Openings.{opening}
 use Rattle.row_words.specs.Words.{framed_page}
@@ -53,10 +51,9 @@ use Rattle.page_provider.specs.Laws.{DiskLaws, RowLaws}
 use Rattle.page_provider.specs.Moves.{KeepsPath, Moved, way}
 use Rattle.page_provider.specs.Providers.{Provider, Keeps, pool}
 use Rattle.page_provider.specs.Comes.{IsUnseen}
-use Rattle.page_provider.specs.Steps.{AreMisses}
 use Rattle.page_provider.specs.Refusals.{IsOfRow, IsOthers}
 use Rattle.page_provider.proofs.Easing.{eased_path, eased_stood}
-use Rattle.page_provider.proofs.Joins.{held_misses, met_misses}
+use Rattle.page_provider.proofs.Joins.{met_misses}
 use Rattle.page_provider.proofs.Unsaved.{misses_none, misses_quiet}
 use Rattle.page_provider.proofs.Keeping.{keeps_ran, ran_stood}
 use Rattle.page_provider.proofs.Moving.{halts_refused, missed_halts, moved_none, moved_then, moved_up, path_none, path_then, refused_then, refused_up, same_none}
@@ -266,7 +263,7 @@ hot_cold Place.Cold h = absurd (true≢false (sym h))
 
 -- no node names it, where nobody else steps, and this is where it stands
 pub standing_faulted : {z : Shape} {v u : View} (w : View) {k : Provider} {page frames : ℕ} (path : List ℕ) → RowLaws → Keeps z v k → v.held ≡ [] → w.held ≡ v.held → frames ≡ k.frames → page < (opening v.given).format.pages → is_in k.free page ≡ false
-    → Ran z.alone v [] u → (z.alone ≡ true → NoneNames frames page u) → (come : Option ℕ) → Standing z u page come w → Faulted 4 z path v k page come w k
+    → Ran z.alone v [] u → (z.alone ≡ true → NoneNames frames page u) → (come : Option ℕ) → Standing z u page come w → Faulted 5 z path v k page come w k
 standing_faulted {z = z} {v = v} {u = u} w {page = page} path laws c none held all below used r names (Some f) h =
     let t = ran_append z.alone v [] u [] w r h.0 in
     record { moved = moved_up (omega arith) (moved_look z t laws c none held); keeps = path_look z t laws c path; hot = h.1; broken = refl; needed = λ alone. record { events = []; ran = t; few = inl refl }; enough = λ alone cold. absurd (true≢false (sym cold ∙ hot_cold ((state v).core.place page) (sym ((stood_look z t laws c).hot page) ∙ ap is_hot h.1))) }
@@ -291,7 +288,7 @@ standing_faulted {z = z} {v = v} {u = u} w {k = k} {page = page} {frames = frame
     }
 
 -- a look that was refused
-pub missed_refused : {z : Shape} {v u : View} {k : Provider} {path : List ℕ} {why : Refusal} → RowLaws → Keeps z v k → v.held ≡ [] → Missed z v why u → HasRefused 4 z path v k why u k
+pub missed_refused : {z : Shape} {v u : View} {k : Provider} {path : List ℕ} {why : Refusal} → RowLaws → Keeps z v k → v.held ≡ [] → Missed z v why u → HasRefused 5 z path v k why u k
 missed_refused laws c none m = refused_up (omega arith) (halts_refused laws c none (missed_halts none m))
 
 pub standing_ran : (z : Shape) {v w : View} (page : ℕ) (come : Option ℕ) → Standing z v page come w → Ran z.alone v [] w
@@ -300,11 +297,11 @@ standing_ran z page None h = h.0
 
 module _ {z y : Shape} {v u : View} (w : View) {k : Provider} (page : ℕ) (path : List ℕ) (laws : RowLaws) (c : Keeps z v k) (none : v.held ≡ []) (same : y ≡ z) (looked : Watched z.alone v u) where
   -- the same, where no node names it
-  pub settled : {frames word : ℕ} → w.held ≡ u.held → frames ≡ k.frames → word ≡ page → page < (opening v.given).format.pages → is_in k.free page ≡ false → Naming z v frames word None u → (come : Option ℕ) → Standing y u page come w → Faulted 4 z path v k page come w k
+  pub settled : {frames word : ℕ} → w.held ≡ u.held → frames ≡ k.frames → word ≡ page → page < (opening v.given).format.pages → is_in k.free page ≡ false → Naming z v frames word None u → (come : Option ℕ) → Standing y u page come w → Faulted 5 z path v k page come w k
   settled {frames} held all is below used names come h =
       standing_faulted w path laws c none (held ∙ looked.held) all below used looked.ran (subst (λ n. z.alone ≡ true → NoneNames frames n u) is names.1) come (subst (λ (s : Shape). Standing s u page come w) same h)
 
-  pub unsettled : (why : Refusal) → Missed y u why w → HasRefused 4 z path v k why w k
+  pub unsettled : (why : Refusal) → Missed y u why w → HasRefused 5 z path v k why w k
   unsettled why m = missed_refused laws c none (missed_before same looked m)
 
   pub settled_disk : {s : Story} → DiskLaws → IsLawful s → (r : Result (Option ℕ) Refusal) → IfOk r (λ come. Standing y u page come w) → IfErr r (λ why. Missed y u why w) → Disked z.alone k v k w s s
@@ -366,7 +363,7 @@ or_off true = refl
 or_off false = refl
 
 -- an earlier call had failed
-pub broken_refused : {z : Shape} {v : View} {k : Provider} (path : List ℕ) → Keeps z v k → v.held ≡ [] → k.broken ≡ true → HasRefused 4 z path v k refusal.Broken v k
+pub broken_refused : {z : Shape} {v : View} {k : Provider} (path : List ℕ) → Keeps z v k → v.held ≡ [] → k.broken ≡ true → HasRefused 5 z path v k refusal.Broken v k
 broken_refused {z = z} {v = v} {k = k} path c none well = record {
   moved = moved_up (omega arith) (moved_none c none);
   keeps = path_none path v;
@@ -422,7 +419,7 @@ module _ {z : Shape} {v : View} {now : Provider} {entry : Cooling} (laws : RowLa
   entry_live same used = used_of c entry_below (ap (λ (p : Provider). is_in p.free entry.page) (sym same) ∙ sym used) entry_off
 
   -- no node in a frame names it
-  pub entry_lost : {u : View} {is : Provider} (path : List ℕ) → ((state v).core.page entry.page).node.live ≡ true → Idle z v now u is × (is ≡ now) × (z.alone ≡ true → has_hot_parent (opening v.given) (state v).core entry.page ≡ false) → HasLost 4 z path v now entry.page u is
+  pub entry_lost : {u : View} {is : Provider} (path : List ℕ) → ((state v).core.page entry.page).node.live ≡ true → Idle z v now u is × (is ≡ now) × (z.alone ≡ true → has_hot_parent (opening v.given) (state v).core entry.page ≡ false) → HasLost 5 z path v now entry.page u is
   entry_lost {u} {is} path live i = record {
     moved = moved_up (omega arith) i.0.moved;
     keeps = eased_path v u path (eased_stood (ran_stood laws.stood c tt (subst (λ es. Ran z.alone v es u) i.0.events_are i.0.moved.goes.ran)));
@@ -448,5 +445,5 @@ halts_quiet same h = record {
 pub idle_quiet : {z : Shape} {v u : View} {k is : Provider} → Idle z v k u is → is ≡ k → IsUnseen z.alone v k u is
 idle_quiet {z = z} {v = v} {u = u} i same = record { events = []; ran = subst (λ es. Ran z.alone v es u) i.events_are i.moved.goes.ran; quiet = refl; none = tt; slots = ap (λ (p : Provider). p.slots) same; generation = ap (λ (p : Provider). p.generation) same }
 
-pub halted : {z : Shape} {v u : View} {k is : Provider} {why : Refusal} (path : List ℕ) → RowLaws → Keeps z v k → v.held ≡ [] → is ≡ k → Halts 2 z v why u → HasRefused 4 z path v k why u is
-halted {z = z} {v = v} {u = u} {k = k} {why = why} path laws c none same h = subst (λ (p : Provider). HasRefused 4 z path v k why u p) (sym same) (refused_up (omega arith) (halts_refused laws c none h))
+pub halted : {z : Shape} {v u : View} {k is : Provider} {why : Refusal} (path : List ℕ) → RowLaws → Keeps z v k → v.held ≡ [] → is ≡ k → Halts 2 z v why u → HasRefused 5 z path v k why u is
+halted {z = z} {v = v} {u = u} {k = k} {why = why} path laws c none same h = subst (λ (p : Provider). HasRefused 5 z path v k why u p) (sym same) (refused_up (omega arith) (halts_refused laws c none h))

@@ -1,5 +1,6 @@
 -- A cold page that was read comes into a frame that is made empty for it.
 use Rattle.std.proofs.Common.{◌≡◌, ◌<◌, ◌≤◌, ◌+◌, ◌==◌, ◌||◌, not, inl, inr, ℕ, zero, suc, Bool, true, false, List, [], ◌∷◌, append-nil, Option, Some, None, refl, sym, ap, subst, ◌∙◌, arith, true≢false}
+use Rattle.std.specs.Prelude.{Result, Err, IfErr}
 use Rattle.std.proofs.lemmas.Bool.{eqb-true, and_from}
 use Rattle.map_model.specs.Lists.{Has, any}
 use Rattle.page_model.specs.Page as stored
@@ -16,18 +17,17 @@ use Rattle.page_provider.specs.declared.refusal.Refusal.{Refusal}
 use Rattle.page_provider.specs.declared.refusal.Refusal.TheVariants as refusal
 use Rattle.page_provider.specs.Comes.{CanCome, ComesOrNot, Fills, HasCome, HasContents, HasRoom, HasRead, IsOfRoom, PlaceCause, ReadsWell}
 use Rattle.page_provider.specs.Ends.{HasRefused}
-use Rattle.page_provider.specs.Faults.{Faulted, FullCause, HasLost, HasPlaced, LeadsTo, LostCause}
+use Rattle.page_provider.specs.Faults.{Faulted, FullCause, HasLost, HasPlaced, LeadsTo, LostCause, StaysCold}
 use Rattle.page_provider.specs.Finds.{Halts}
 use Rattle.page_provider.specs.Laws.{RowLaws}
 use Rattle.page_provider.specs.Leaves.{IsCounted}
-use Rattle.page_provider.specs.Moves.{is_on, way}
+use Rattle.page_provider.specs.Moves.{Rested, is_on, way}
 use Rattle.page_provider.specs.Providers.{Provider, Keeps}
 use Rattle.page_provider.specs.Refusals.{Caused, IsOfEvict, IsOfRow, IsOthers, breaks}
-use Rattle.lean_disk.specs.Story.{Story, Tells}
+use Rattle.lean_disk.specs.Story.{Story}
 use Rattle.page_calls.specs.Calls.{IsOn}
 use Rattle.rows_trait.proofs.Runs.{ran_none}
 use Rattle.page_provider.specs.Disks.{Disked, told}
-use Rattle.page_provider.specs.Gives.{Gives, Holds}
 use Rattle.page_provider.specs.Laws.{DiskLaws}
 use Rattle.page_provider.proofs.Keeping.{keeps_slots}
 use Rattle.page_provider.proofs.Running.{beside_same, went_call}
@@ -57,22 +57,37 @@ pub counted_room : (k : Provider) (path : List ℕ) (held : ℕ) (why : Refusal)
 counted_room k path held (refusal.PoolFull on latched above h) c = tt
 counted_room k path held _ c = absurd c
 
-pub room_cause : (z : Shape) (path : List ℕ) (u : View) (is : Provider) (why : Refusal) → IsOfRoom why → FullCause z path u is why → PlaceCause z path u is why
-room_cause z path u is refusal.NoPages k f = absurd k
-room_cause z path u is (refusal.Damaged page counts other) k f = absurd k
-room_cause z path u is _ k f = f
+pub room_cause : (z : Shape) (path : List ℕ) (page : ℕ) (v u : View) (is : Provider) (why : Refusal) → IsOfRoom why → FullCause z path u is why → StaysCold v why u → is_cold ((state v).core.place page) ≡ true → PlaceCause z path page u is why
+room_cause z path page v u is (refusal.PoolFull on latched above held) k f stays cold = (f, stays page cold)
+room_cause z path page v u is (refusal.Moved m) k f stays cold = tt
+room_cause z path page v u is (refusal.Latched l) k f stays cold = tt
+room_cause z path page v u is (refusal.RowSpent row) k f stays cold = tt
+room_cause z path page v u is refusal.DiskFault k f stays cold = tt
+room_cause z path page v u is refusal.Broken k f stays cold = tt
+room_cause z path page v u is refusal.NoPages k f stays cold = absurd k
+room_cause z path page v u is (refusal.Damaged p counts other) k f stays cold = absurd k
+room_cause z path page v u is (refusal.Altered p) k f stays cold = absurd k
 
-pub row_place : (z : Shape) (path : List ℕ) (u : View) (is : Provider) (why : Refusal) → IsOfRow why → PlaceCause z path u is why
-row_place z path u is (refusal.Moved m) k = tt
-row_place z path u is (refusal.Latched l) k = tt
-row_place z path u is (refusal.RowSpent row) k = tt
-row_place z path u is _ k = absurd k
+-- pages that rested are cold still
+pub stays_cold : {z : Shape} {v u : View} (why : Refusal) → Rested z v u → StaysCold v why u
+stays_cold (refusal.PoolFull on latched above held) r = r.cold
+stays_cold _ r = tt
+
+pub row_place : (z : Shape) (path : List ℕ) (page : ℕ) (u : View) (is : Provider) (why : Refusal) → IsOfRow why → PlaceCause z path page u is why
+row_place z path page u is (refusal.Moved m) k = tt
+row_place z path page u is (refusal.Latched l) k = tt
+row_place z path page u is (refusal.RowSpent row) k = tt
+row_place z path page u is _ k = absurd k
 
 pub row_fault : (why : Refusal) → IsOfRow why → why ≡ refusal.DiskFault → ⊥
 row_fault (refusal.Moved m) k e = cc
 row_fault (refusal.Latched l) k e = cc
 row_fault (refusal.RowSpent row) k e = cc
 row_fault _ k e = absurd k
+
+-- a call that asks nothing of the device has no fault
+pub halts_fault : {A : Type 0} (P : Refusal → Type 0) → ((why : Refusal) → P why → IsOfRow why) → (r : Result A Refusal) → IfErr r P → r ≡ Err refusal.DiskFault → ⊥
+halts_fault P kind r h e = row_fault refusal.DiskFault (kind refusal.DiskFault (subst (λ q. IfErr q P) e h)) refl
 
 -- ## It fills the frame
 
@@ -188,6 +203,7 @@ module _ {z : Shape} {path : List ℕ} {v u : View} {was mid : Provider} {frame 
 lost_breaks : (was : Provider) (page : ℕ) (s : Story) (why : Refusal) → LostCause was page s why → breaks why ≡ true
 lost_breaks was page s refusal.DiskFault k = refl
 lost_breaks was page s (refusal.Damaged p counts other) k = refl
+lost_breaks was page s (refusal.Altered p) k = refl
 lost_breaks was page s _ k = absurd k
 
 lost_others : (was : Provider) (page : ℕ) (s : Story) (why : Refusal) → LostCause was page s why → IsOthers why → ⊥
@@ -198,18 +214,20 @@ lost_others was page s _ k o = o
 lost_earlier : (was : Provider) (page : ℕ) (s : Story) (why : Refusal) → LostCause was page s why → why ≡ refusal.Broken → ⊥
 lost_earlier was page s refusal.DiskFault k e = cc
 lost_earlier was page s (refusal.Damaged p counts other) k e = cc
+lost_earlier was page s (refusal.Altered p) k e = cc
 lost_earlier was page s _ k e = absurd k
 
 lost_caused : (v u : View) (was : Provider) (page : ℕ) (s : Story) (why : Refusal) → LostCause was page s why → Caused v why u
 lost_caused v u was page s refusal.DiskFault k = tt
 lost_caused v u was page s (refusal.Damaged p counts other) k = tt
+lost_caused v u was page s (refusal.Altered p) k = tt
 lost_caused v u was page s _ k = absurd k
 
 or_on : (b : Bool) → true ≡ (b || true)
 or_on true = refl
 or_on false = refl
 
-pub read_refused : {z : Shape} {v : View} {k is : Provider} {page : ℕ} {s : Story} {why : Refusal} (path : List ℕ) → Keeps z v k → v.held ≡ [] → HasRead k page s why is → HasRefused 4 z path v k why v is
+pub read_refused : {z : Shape} {v : View} {k is : Provider} {page : ℕ} {s : Story} {why : Refusal} (path : List ℕ) → Keeps z v k → v.held ≡ [] → HasRead k page s why is → HasRefused 5 z path v k why v is
 read_refused {z} {v} {k} {is} {page} {s} {why} path c none h =
     record {
       moved = record {
@@ -233,6 +251,3 @@ reads_disked {v = v} {is = is} {new = new} laws reads only g s0 x k =
     let r = reads g s0 x v k in
     went_call laws k (ran_none true v) (sym r.1.generation ∙ k.generation) r.0
     (λ _. (x, beside_same x, subst (λ es. IsOn g es s0 x is.slots new) (sym (append-nil (told v))) r.1.on))
-
-pub has_contents : {v : View} {k : Provider} {page : ℕ} {s : Story} {n : stored.Page} → page < (opening v.given).format.pages → is_cold ((state v).core.place page) ≡ true → Gives v k page s → (n.number ≡ page) × (Tells s 1 → Holds k.slots k.generation page (s.area 1).bytes n) → HasContents v page n
-has_contents {n = n} below cold gives read = record { below = below; cold = cold; number_is = read.0; contents = gives.saved n (read.1 gives.tells) }

@@ -2,7 +2,7 @@
 use Rattle.std.proofs.Common.{◌≡◌, ◌<◌, ◌≤◌, ◌^◌, ◌==◌, ◌||◌, Bool, true, false, List, [], ◌∷◌, ◌++◌, length, append_assoc, refl, sym, ap, subst, ◌∙◌, true≢false}
 use Rattle.std.specs.Prelude.{if◌then◌else◌}
 use Rattle.std.proofs.lemmas.Bool.{eqb-true}
-use Rattle.core_state.specs.States.{State}
+use Rattle.core_state.specs.States.{Place, State, is_cold, is_hot}
 use Rattle.core_state.specs.Needs as core
 use Rattle.core_state.specs.Steps.{happens, step}
 use Rattle.core_paging.specs.Paging.{Waiting}
@@ -18,8 +18,9 @@ use Rattle.btree_descent.specs.Known.{IsSound}
 use Rattle.lean_proto.specs.Still.{Stood, EveryStood}
 use Rattle.page_calls.specs.declared.slots.Slot.{Slot}
 use Rattle.page_pool.specs.Pools.{Agrees, EveryStanding}
-use Rattle.page_provider.specs.Providers.{Provider, Keeps, pool}
+use Rattle.page_provider.specs.Providers.{IsKept, Provider, Keeps, pool}
 use Rattle.page_provider.specs.Steps.{AreMisses}
+use Rattle.page_provider.proofs.Kept.{kept_same}
 use Rattle.page_provider.proofs.Standing.{onward, state_on, core_step, ran_state, stood_same, stood_then, stood_others, stood_misses}
 
 -- ## The seat
@@ -48,6 +49,11 @@ ran_stood {z = z} {v = v} {u = u} {es = es} every c m r = stood_then (stood_miss
 
 -- ## While it appends nothing but misses
 
+cold_off : (x : Place) → is_cold x ≡ true → is_hot x ≡ false
+cold_off (Place.Hot f) h = absurd (true≢false (sym h))
+cold_off (Place.Cooling f e w) h = absurd (true≢false (sym h))
+cold_off Place.Cold h = refl
+
 pub keeps_stood : {z : Shape} {v u : View} {k : Provider} → EveryStanding → u.given ≡ v.given → u.actor ≡ v.actor → Stood v u → Keeps z v k → Keeps z u k
 keeps_stood {z = z} {v = v} {u = u} {k = k} standing given actor st c = record {
   actor = subst (λ a. (z.alone || (pager == a)) ≡ true) (sym actor) c.actor;
@@ -58,6 +64,8 @@ keeps_stood {z = z} {v = v} {u = u} {k = k} standing given actor st c = record {
   workers = (c.workers.0, ap (λ (g : Given). (opening g).workers) given ∙ c.workers.1);
   pages = c.pages ∙ sym (ap (λ (g : Given). (opening g).format.pages) given);
   agrees = standing v u (pool k) given st c.agrees;
+  kept = subst (λ (g : Given). IsKept (opening g) (state u).core k.kept) (sym given)
+      (kept_same (opening v.given) (state v).core k.kept (c.sound v.seen).tree c.kept (state u).core st.cold (λ q cold. st.page q (cold_off ((state v).core.place q) cold)));
   epoch = subst (λ n. n ≤ 2 ^ 62) (sym st.epoch) c.epoch;
 }
 
@@ -142,6 +150,7 @@ pub record Leads (v : View) (t : State) (was is : Provider) : Type 0 where
   pub worker : is.workers ≡ was.workers
   pub page : length is.free ≡ length was.free
   pub agrees : Agrees (opening v.given) t (pool is)
+  pub kept : IsKept (opening v.given) t is.kept
   pub epoch : t.epoch ≤ 2 ^ 62
 
 pub keeps_before : {z : Shape} {v u : View} {e : Event} {k : Provider} → EveryStood → EveryStanding → u.given ≡ v.given → (p : Parted v e u) → Keeps z v k → Keeps z (at_event p) k
@@ -158,6 +167,7 @@ module _ {z : Shape} {v u : View} {e : Event} {was is : Provider} (every : Every
     workers = (c.workers.0 ∙ sym l.worker, c.workers.1 ∙ sym l.worker);
     pages = l.page ∙ c.pages;
     agrees = subst (λ s. Agrees (opening v.given) s (pool is)) (sym e) l.agrees;
+    kept = subst (λ (s : State). IsKept (opening v.given) s is.kept) (sym e) l.kept;
     epoch = subst (λ (s : State). s.epoch ≤ 2 ^ 62) (sym e) l.epoch;
   }
 
@@ -167,4 +177,4 @@ module _ {z : Shape} {v u : View} {e : Event} {was is : Provider} (every : Every
 
 -- what is known of slots, and whether the device failed, it keeps whatever it is
 pub keeps_slots : {z : Shape} {v : View} {k : Provider} (slots : List Slot) (broken : Bool) → Keeps z v k → Keeps z v (record k { slots = slots; broken = broken })
-keeps_slots slots broken c = record { actor = c.actor; sound = c.sound; waiting = c.waiting; sized = c.sized; some = c.some; workers = c.workers; pages = c.pages; agrees = c.agrees; epoch = c.epoch }
+keeps_slots slots broken c = record { actor = c.actor; sound = c.sound; waiting = c.waiting; sized = c.sized; some = c.some; workers = c.workers; pages = c.pages; agrees = c.agrees; kept = c.kept; epoch = c.epoch }

@@ -1,5 +1,6 @@
 pub mod Loaded
 pub mod Sequels
+pub mod Kept
 pub mod Standing
 pub mod Pools
 pub mod Keeping
@@ -39,6 +40,8 @@ pub mod Cooled
 pub mod Faulting
 pub mod Descents
 pub mod Filling
+pub mod Fetched
 pub mod Unsaved
 pub mod Mirrored
 pub mod Framing
+pub mod Unwritten

@@ -1,7 +1,7 @@
 -- What the slots of the pager hold behind each part of a call.
 use Rattle.std.proofs.Common.{◌≡◌, ◌<◌, ◌≤◌, ◌==◌, ℕ, Bool, true, false, List, [], ◌∷◌, ◌++◌, Ok, Err, Some, None, length, refl, sym, ap, subst, ◌∙◌, arith, true≢false}
 use Rattle.std.specs.Prelude.{Option, Result, IfErr, IfOk, if◌then◌else◌}
-use Rattle.map_model.specs.Lists.{all, upd}
+use Rattle.map_model.specs.Lists.{upd}
 use Rattle.btree_node.specs.Words.{words_of}
 use Rattle.lean_bytes.specs.Numbers.{AreWords}
 use Rattle.page_model.specs.Nodes.{WellFormed}
@@ -13,9 +13,7 @@ use Rattle.core_state.specs.Openings.{Opening}
 use Rattle.core_state.specs.States.{State, flushed_by_all}
 use Rattle.core_state.specs.Steps.{happens, put_back, state_after}
 use Rattle.cooling_stage.specs.declared.stage.Cooling.{Cooling}
-use Rattle.disk_runs.specs.Quiet.{is_quiet}
 use Rattle.disk_slots.specs.Pages.{IsPage}
-use Rattle.held_rows.specs.Steps.{AreMisses}
 use Rattle.lean_disk.specs.Story.{Story}
 use Rattle.page_calls.specs.Mirrors.{EveryMirrored, KeepsMirrors, Mirrors, SavesMirrors}
 use Rattle.page_calls.specs.declared.slots.Slot.{Slot}
@@ -27,10 +25,9 @@ use Rattle.row_words.specs.declared.event.Event.{Event}
 use Rattle.row_words.specs.declared.event.Event.TheVariants as told
 use Rattle.row_words.specs.declared.event.Met.TheVariants as met
 use Rattle.row_words.specs.declared.given.Given.{Given}
-use Rattle.row_words.specs.Moments.{Moment, actor_of, by, event_of, events_of, pager}
+use Rattle.row_words.specs.Moments.{Moment, actor_of, by, event_of, pager}
 use Rattle.row_words.specs.Openings.{opening}
 use Rattle.row_words.specs.Sealed.{run, stepped}
-use Rattle.row_words.proofs.Stays.{and_true}
 use Rattle.rows_trait.specs.declared.view.View.{View}
 use Rattle.rows_trait.specs.Turns.{Ran}
 use Rattle.rows_trait.specs.Views.{Shape, may, state}
@@ -146,9 +143,6 @@ mirrored_broken broken m well = absurd (true≢false (sym broken ∙ well))
 -- a page was read, or not
 pub read_keeps : {k was : Provider} {slots : List Slot} {old new : Story} → k ≡ was → slots ≡ k.slots → KeepsMirrors k.slots k.slots old new → KeepsMirrors was.slots slots old new
 read_keeps {old = old} {new = new} same is keeps = subst (λ (n : List Slot × List Slot). KeepsMirrors n.0 n.1 old new) (λ i. ((same i).slots, sym is i)) keeps
-
-pub mirrored_read : {v : View} {was is : Provider} {old new : Story} → KeepsMirrors was.slots is.slots old new → is.generation ≡ was.generation → KeepsMirrored v was v is old new
-mirrored_read keeps generation m well = mirrored_kept keeps generation (λ q. refl) m
 
 -- ## A save
 

@@ -79,7 +79,7 @@ rested_then a b = record { cold = λ p h. b.cold p (a.cold p h); saved = λ p h.
 
 -- of the memory the hand may go on
 hand_keeps : {z : Shape} {v : View} {k : Provider} (hand : ℕ) → Keeps z v k → Keeps z v (record k { hand = hand })
-hand_keeps hand c = record { actor = c.actor; sound = c.sound; waiting = c.waiting; sized = c.sized; some = c.some; workers = c.workers; pages = c.pages; agrees = c.agrees; epoch = c.epoch }
+hand_keeps hand c = record { actor = c.actor; sound = c.sound; waiting = c.waiting; sized = c.sized; some = c.some; workers = c.workers; pages = c.pages; agrees = c.agrees; kept = c.kept; epoch = c.epoch }
 
 pub keeps_hand : {z : Shape} {v : View} {k is : Provider} → is ≡ record k { hand = is.hand } → Keeps z v k → Keeps z v is
 keeps_hand {z = z} {v = v} {is = is} same c = subst (Keeps z v) (sym same) (hand_keeps is.hand c)

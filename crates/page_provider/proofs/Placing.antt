@@ -8,7 +8,7 @@ use Rattle.cooling_stage.specs.Queue.{found}
 use Rattle.free_pages.specs.Pages.{is_in}
 use Rattle.page_pool.specs.Pools.{IsEntry}
 use Rattle.row_words.specs.declared.event.Event.{Event}
-use Rattle.row_words.specs.declared.event.Event.TheVariants.{Miss, Rescue}
+use Rattle.row_words.specs.declared.event.Event.TheVariants.{Rescue}
 use Rattle.row_words.specs.Moments.{events_of}
 use Rattle.map_model.specs.Lists.{all}
 use Rattle.disk_runs.specs.Quiet.{is_quiet}
@@ -24,7 +24,6 @@ use Rattle.page_provider.specs.Faults.{HasLost, HasPlaced, IsWanted}
 use Rattle.page_provider.specs.Finds.{Halts}
 use Rattle.page_provider.specs.Disks.{Disked}
 use Rattle.page_provider.specs.Laws.{DiskLaws, RowLaws}
-use Rattle.page_provider.specs.Steps.{AreMisses}
 use Rattle.page_provider.specs.Moves.{AreMet, is_pagers, others_in}
 use Rattle.page_provider.specs.Providers.{Provider, Keeps}
 use Rattle.page_provider.specs.Shares.{cools_in}
@@ -77,7 +76,7 @@ module _ {z : Shape} {v : View} {k : Provider} {entry : Cooling} (c : Keeps z v 
 
 -- ## It comes, or not
 
-pub come_placed : (path : List ℕ) {z : Shape} {v u : View} {k is : Provider} {page frame : ℕ} {e : Event} → is_pagers e ≡ true → others_in (e ∷ []) ≡ 1 → cools_in (e ∷ []) ≡ 0 → is_cold ((state v).core.place page) ≡ false → HasCome z e page frame v k u is → HasPlaced 4 z path v k page frame u is
+pub come_placed : (path : List ℕ) {z : Shape} {v u : View} {k is : Provider} {page frame : ℕ} {e : Event} → is_pagers e ≡ true → others_in (e ∷ []) ≡ 1 → cools_in (e ∷ []) ≡ 0 → is_cold ((state v).core.place page) ≡ false → HasCome z e page frame v k u is → HasPlaced 5 z path v k page frame u is
 come_placed path {e = e} pagers one none off h = record {
   moved = moved_up (omega arith) (come_moved pagers one h);
   keeps = λ f p has hot. h.others p (ap is_hot hot) ∙ hot;
@@ -88,7 +87,7 @@ come_placed path {e = e} pagers one none off h = record {
 }
 
 pub none_lost : (path : List ℕ) {z : Shape} {v u : View} {k is : Provider} {page : ℕ} → RowLaws → Keeps z v k → is_hot ((state v).core.place page) ≡ false → ((state v).core.page page).node.live ≡ true
-    → Idle z v k u is × (is ≡ k) × (z.alone ≡ true → has_hot_parent (opening v.given) (state v).core page ≡ false) → HasLost 4 z path v k page u is
+    → Idle z v k u is × (is ≡ k) × (z.alone ≡ true → has_hot_parent (opening v.given) (state v).core page ≡ false) → HasLost 5 z path v k page u is
 none_lost path laws c hot live h = record {
   moved = moved_up (omega arith) h.0.moved;
   keeps = idle_path path laws c h.0;

@@ -20,7 +20,10 @@ use Rattle.rows_trait.proofs.Runs.{ran_append}
 use Rattle.row_image.specs.Images.{IsImage, written}
 use Rattle.page_calls.specs.declared.slots.Slot.{Slot}
 use Rattle.page_calls.specs.Calls.{SavesMoments}
-use Rattle.page_moves.specs.Moves.{CanEvict, CanSave}
+use Rattle.cold_pages.specs.declared.kept.Kept.{Kept}
+use Rattle.cold_pages.specs.Kept.{AreWithin, left}
+use Rattle.page_moves.specs.Moves.{CanEvict, CanSave, contents_of}
+use Rattle.page_provider.proofs.Kept.{kept_within}
 use Rattle.page_provider.specs.Disks.{Disked}
 use Rattle.page_provider.specs.Evicts.{CanLeave, HasLeft, gone, leaving}
 use Rattle.page_provider.specs.Steps.{Goes}
@@ -90,6 +93,15 @@ module _ {z : Shape} {v w : View} {k now : Provider} {entry : Cooling} {n : Page
 
 -- ## A page that leaves
 
+-- it is within the table, and so is each page that it names
+pub leaves_within : {z : Shape} {v : View} {k now : Provider} {entry : Cooling} → k ≡ now → Keeps z v now → IsEntered v now entry → entry.page < length k.kept
+leaves_within {entry = entry} same c e = subst (λ (p : Provider). entry.page < length p.kept) (sym same) (subst (λ n. entry.page < n) (sym c.kept.pages) e.goes.below)
+
+pub names_within : {z : Shape} {v : View} {k now : Provider} {entry : Cooling} (n : Page) → k ≡ now → Keeps z v now → IsEntered v now entry → contents_of n ≡ (state v).core.page entry.page → AreWithin (length k.kept) n.node
+names_within {v = v} {k = k} {now = now} {entry = entry} n same c e is =
+    subst (λ x. AreWithin (length k.kept) x.node) (sym is)
+    (subst (λ (p : Provider). AreWithin (length p.kept) ((state v).core.page entry.page).node) (sym same) (kept_within (opening v.given) (state v).core now.kept (c.sound v.seen).tree c.kept entry.page e.goes.below))
+
 pub can_evict : {z y : Shape} {v t : View} {k : Provider} {entry : Cooling} {row : ℕ} → RowLaws → Keeps z v k → IsEntered v k entry → is_dirty (state v).core entry.page ≡ false → Ran z.alone v [] t → y ≡ z → row ≡ entry.frame → CanEvict y t row entry.page
 can_evict {z = z} {v = v} {t = t} {k = k} {entry = entry} laws c e clean r shape place =
     let there = keeps_ran laws.stood laws.standing tt r c in
@@ -101,20 +113,20 @@ can_evict {z = z} {v = v} {t = t} {k = k} {entry = entry} laws c e clean r shape
     })
 
 pub has_gone : {z : Shape} {v w : View} {k now : Provider} {entry : Cooling} → k ≡ now → RowLaws → Keeps z v now → IsEntered v now entry → is_dirty (state v).core entry.page ≡ false → Ran z.alone v (Evict entry.page ∷ []) w → w.held ≡ []
-    → HasGone z v now entry w (gone k entry.page entry.frame k)
-has_gone {z = z} {v = v} {w = w} {now = now} {entry = entry} same laws c e clean r free =
+    → (n : Page) → contents_of n ≡ (state v).core.page entry.page → HasGone z v now entry w (gone k entry.page entry.frame (record k { kept = left k.kept entry.page n }))
+has_gone {z = z} {v = v} {w = w} {now = now} {entry = entry} same laws c e clean r free n is =
     let q = parted z.alone v w (Evict entry.page) c.actor r in
-    subst (λ (p : Provider). HasGone z v now entry w (gone p entry.page entry.frame p)) (sym same) (record {
-      goes = record { ran = r; held = free; keeps = evicted_keeps entry.frame laws.stood laws.standing laws.pools c e.goes clean (entry_frame c e) r q };
+    subst (λ (p : Provider). HasGone z v now entry w (gone p entry.page entry.frame (record p { kept = left p.kept entry.page n }))) (sym same) (record {
+      goes = record { ran = r; held = free; keeps = evicted_keeps entry.frame laws.stood laws.standing laws.pools c e.goes clean (entry_frame c e) r q n is };
       pool = refl;
     })
 
 -- ## The whole
 
-pool_is : (k : Provider) {is : Provider} (entry : Cooling) {page frame : ℕ} → entry.page ≡ page → frame ≡ entry.frame → is ≡ gone k entry.page entry.frame k → is ≡ gone k page frame is
+pool_is : (k : Provider) {is : Provider} (entry : Cooling) {page frame : ℕ} → entry.page ≡ page → frame ≡ entry.frame → is ≡ gone k entry.page entry.frame (record k { kept = is.kept }) → is ≡ gone k page frame is
 pool_is k {is = is} entry {page = page} same place e =
     let s : is.slots ≡ k.slots = ap (λ (p : Provider). p.slots) e in
-    e ∙ (λ i. record k { queue = without (same i) k.queue; empty = k.empty ++ (sym place i) ∷ []; slots = sym s i })
+    e ∙ (λ i. record k { queue = without (same i) k.queue; empty = k.empty ++ (sym place i) ∷ []; slots = sym s i; kept = is.kept })
 
 pub left_clean : {z : Shape} {v u w : View} {k is : Provider} {entry : Cooling} {page : ℕ} → entry.page ≡ page → Ran z.alone v [] u → frame_of ((state v).core.place page) ≡ entry.frame → is_dirty (state v).core page ≡ false → HasGone z u k entry w is → HasLeft z v k page w is
 left_clean {z = z} {v = v} {u = u} {w = w} {k = k} {is = is} {entry = entry} {page = page} same r frame clean h = record {
@@ -154,6 +166,6 @@ pub disked_gone : {z : Shape} {v w : View} {k is : Provider} {entry : Cooling} {
 disked_gone disk law h = disked_quiet disk law h.goes.ran refl (ap (λ (p : Provider). p.slots) h.pool) (ap (λ (p : Provider). p.generation) h.pool)
 
 -- said of the queue and of the list of empty frames as the calls left them
-pub gone_as : {z : Shape} {v w : View} {k now : Provider} {entry : Cooling} → k ≡ now → (queue : Stage) (empty : List ℕ) → queue ≡ stage k.frames (without entry.page k.queue) → empty ≡ k.empty ++ entry.frame ∷ [] → HasGone z v now entry w (gone k entry.page entry.frame k)
-    → HasGone z v now entry w (record k { frames = queue.frames; queue = queue.queue; empty = empty })
-gone_as {z = z} {v = v} {w = w} {k = k} {now = now} {entry = entry} same queue empty a b h = subst (λ (s : Stage × List ℕ). HasGone z v now entry w (record k { frames = s.0.frames; queue = s.0.queue; empty = s.1 })) (λ i. (sym a i, sym b i)) h
+pub gone_as : {z : Shape} {v w : View} {k now : Provider} {entry : Cooling} → k ≡ now → (queue : Stage) (empty : List ℕ) (table : List Kept) (n : Page) → queue ≡ stage k.frames (without entry.page k.queue) → empty ≡ k.empty ++ entry.frame ∷ [] → table ≡ left k.kept entry.page n → HasGone z v now entry w (gone k entry.page entry.frame (record k { kept = left k.kept entry.page n }))
+    → HasGone z v now entry w (record k { frames = queue.frames; queue = queue.queue; empty = empty; kept = table })
+gone_as {z = z} {v = v} {w = w} {k = k} {now = now} {entry = entry} same queue empty table n a b d h = subst (λ (s : Stage × (List ℕ × List Kept)). HasGone z v now entry w (record k { frames = s.0.frames; queue = s.0.queue; empty = s.1.0; kept = s.1.1 })) (λ i. (sym a i, (sym b i, sym d i))) h

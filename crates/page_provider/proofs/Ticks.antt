@@ -109,6 +109,7 @@ module _ {z : Shape} {v u : View} {k : Provider} (laws : RowLaws) (c : Keeps z v
         worker = refl;
         page = refl;
         agrees = laws.pools (opening v.given) tick_at happening.Event.Tick (pool k) refl refl (c.sound (v.seen ++ tick_part.before)).residence kept.agrees;
+        kept = kept.kept;
         epoch = (let same = tick_before.epoch in omega arith);
       })
 

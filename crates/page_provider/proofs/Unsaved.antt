@@ -1,5 +1,5 @@
 -- Events that change nothing of what is saved, and of which the disk sees nothing.
-use Rattle.std.proofs.Common.{◌≡◌, ◌≤◌, ℕ, Bool, true, false, List, [], ◌∷◌, ◌++◌, ◌&&◌, refl, sym, ◌∙◌, arith, true≢false}
+use Rattle.std.proofs.Common.{◌≡◌, ◌≤◌, Bool, true, false, List, [], ◌∷◌, ◌++◌, ◌&&◌, refl, sym, arith, true≢false}
 use Rattle.map_model.specs.Lists.{all}
 use Rattle.disk_runs.specs.Quiet.{is_quiet}
 use Rattle.held_rows.specs.Steps as held

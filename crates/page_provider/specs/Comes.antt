@@ -54,6 +54,7 @@ pub record HasRoom (z : Shape) (path : List ℕ) (v : View) (was : Provider) (fr
 abbrev pub IsOfRoom : Refusal → Type 0
 IsOfRoom (refusal.NoPages) = ⊥
 IsOfRoom (refusal.Damaged page counts other) = ⊥
+IsOfRoom (refusal.Altered page) = ⊥
 IsOfRoom _ = Unit {0}
 
 -- ## A page comes
@@ -64,7 +65,7 @@ pub record HasCome (z : Shape) (e : Event) (page frame : ℕ) (v : View) (was : 
   pub met : AreMet v.given (state v) goes.ran.more
   pub hot : (state u).core.place page ≡ Place.Hot frame
   pub others : (p : ℕ) → is_hot ((state v).core.place p) ≡ true → (state u).core.place p ≡ (state v).core.place p
-  pub memory : is ≡ record was { queue = is.queue; empty = is.empty; free = is.free }
+  pub memory : is ≡ record was { queue = is.queue; empty = is.empty; free = is.free; kept = is.kept }
 
 -- or none came, since no node in a frame names it: where nobody else steps not each page that names it is hot
 abbrev pub ComesOrNot : Bool → Shape → Event → (page frame : ℕ) → View → Provider → View → Provider → Type 0
@@ -87,7 +88,8 @@ pub record CanCome (v : View) (k : Provider) (page frame : ℕ) (n : stored.Page
 
 -- ## What was read
 
--- the page was not: the device failed, or the slot that counts holds no valid page, and this is what both hold; the pager is broken
+-- the page was not: the device failed, or the slot that counts holds no valid page, and this is what both hold, or one that is
+-- not as it was kept; the pager is broken
 pub record HasRead (was : Provider) (page : ℕ) (s : Story) (why : Refusal) (is : Provider) : Type 0 where
   pub memory : is ≡ record was { broken = true }
   pub cause : LostCause was page s why
@@ -106,7 +108,9 @@ pub record HasContents (v : View) (page : ℕ) (n : stored.Page) : Type 0 where
   pub contents : contents_of n ≡ (state v).core.saved page
 
 -- why it did not come
-abbrev pub PlaceCause : Shape → List ℕ → View → Provider → Refusal → Type 0
-PlaceCause z path u is (refusal.NoPages) = ⊥
-PlaceCause z path u is (refusal.Damaged page counts other) = ⊥
-PlaceCause z path u is why = FullCause z path u is why
+abbrev pub PlaceCause : Shape → List ℕ → (page : ℕ) → View → Provider → Refusal → Type 0
+PlaceCause z path page u is (refusal.PoolFull on latched above held) = FullCause z path u is (refusal.PoolFull on latched above held) × (is_cold ((state u).core.place page) ≡ true)
+PlaceCause z path page u is (refusal.NoPages) = ⊥
+PlaceCause z path page u is (refusal.Damaged p counts other) = ⊥
+PlaceCause z path page u is (refusal.Altered p) = ⊥
+PlaceCause z path page u is why = Unit {0}

@@ -1,13 +1,15 @@
--- What a call of the pager makes of the disk, where a run of the core goes on over it.
+-- What a call of the pager makes of the disk: of its pages' area alone, and where a run of the core goes on over it.
 use Rattle.std.specs.Prelude.{◌≡◌, Bool, true, false, List, ◌++◌}
+use Rattle.map_model.specs.Lists.{any}
 use Rattle.core_state.specs.Openings.{Opening}
 use Rattle.core_state.specs.Events as happening
-use Rattle.lean_disk.specs.Moments.{LeavesOnly}
+use Rattle.lean_disk.specs.Moments.{LeavesOnly, OnlyReads}
 use Rattle.lean_disk.specs.Story.{Crash, Story}
 use Rattle.disk_runs.specs.Moments.{LeavesSome}
 use Rattle.disk_runs.specs.Stands.{Known}
 use Rattle.page_calls.specs.Calls.{IsOn}
 use Rattle.row_opening.specs.Openings.{Opens}
+use Rattle.row_words.specs.declared.event.Event.{Event}
 use Rattle.row_words.specs.Moments.{events_of}
 use Rattle.rows_trait.specs.declared.view.View.{View}
 use Rattle.page_provider.specs.Providers.{Provider}
@@ -40,3 +42,16 @@ pub record Went (g : Opening) (s0 : Crash) (x : Known) (v : View) (k : Provider)
 -- in each run
 abbrev pub Disked : (alone : Bool) → (was : Provider) → View → (is : Provider) → View → (old new : Story) → Type 0
 Disked alone was v is u old new = alone ≡ true → (g : Opening) (s0 : Crash) (x : Known) → Runs g s0 x was v old → Went g s0 x v is u old new
+
+-- ## The pages' area
+
+-- a page is saved
+abbrev pub saves_page : happening.Event → Bool
+saves_page (happening.Event.Save p) = true
+saves_page _ = false
+
+-- Where none of the events that were seen more saves a page, the device was only read, unless the pager is broken behind it.
+pub record ReadsUnlessSaved (v u : View) (is : Provider) (old new : Story) : Type 0 where
+  pub more : List Event
+  pub seen : u.seen ≡ v.seen ++ more
+  pub reads : is.broken ≡ false → any saves_page (events_of more) ≡ false → OnlyReads old new

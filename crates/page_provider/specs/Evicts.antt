@@ -29,9 +29,9 @@ saving dirty page = if dirty then Save page ∷ [] else []
 abbrev pub leaving : Bool → ℕ → List Event
 leaving dirty page = saving dirty page ++ Evict page ∷ []
 
--- the page has left its frame, and the queue
+-- the page has left its frame, and the queue, and what it was is kept
 abbrev pub gone : Provider → (page frame : ℕ) → Provider → Provider
-gone was page frame is = record was { queue = without page was.queue; empty = was.empty ++ frame ∷ []; slots = is.slots }
+gone was page frame is = record was { queue = without page was.queue; empty = was.empty ++ frame ∷ []; slots = is.slots; kept = is.kept }
 
 pub record HasLeft (z : Shape) (v : View) (was : Provider) (page : ℕ) (u : View) (is : Provider) : Type 0 where
   pub goes : Goes z v (leaving (is_dirty (state v).core page) page) u is

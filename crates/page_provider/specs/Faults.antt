@@ -5,6 +5,8 @@ use Rattle.page_model.specs.Check.{names_page}
 use Rattle.core_state.specs.Needs.{has_hot_parent}
 use Rattle.core_state.specs.States.{Place, flushed_by_all, is_cold, is_cooling, is_hot}
 use Rattle.lean_disk.specs.Story.{Story, Tells}
+use Rattle.cold_pages.specs.Compared.{IsAsKept}
+use Rattle.page_model.specs.Page.{Page}
 use Rattle.page_calls.specs.Calls.{IsDamaged}
 use Rattle.free_pages.specs.Pages.{count}
 use Rattle.row_words.specs.Openings.{opening}
@@ -13,6 +15,7 @@ use Rattle.rows_trait.specs.Views.{Shape, state}
 use Rattle.page_pool.specs.Full.{IsHeldBack, IsTaken, IsWay}
 use Rattle.page_provider.specs.declared.refusal.Refusal.{Refusal}
 use Rattle.page_provider.specs.declared.refusal.Refusal.TheVariants as refusal
+use Rattle.page_provider.specs.Gives.{Holds}
 use Rattle.page_provider.specs.Moves.{KeepsPath, Moved, way}
 use Rattle.page_provider.specs.Providers.{Provider}
 use Rattle.page_provider.specs.Shares.{AreNeeded, HasShare}
@@ -80,18 +83,31 @@ abbrev pub FullCause : Shape → List ℕ → View → Provider → Refusal → 
 FullCause z path u is (refusal.PoolFull on latched above held) = (on + latched + above + held ≡ is.frames) × (z.alone ≡ true → (latched ≡ 0) × IsFull z path on above held u)
 FullCause z path u is _ = Unit {0}
 
+-- then no page came: one that was cold is so still
+abbrev pub StaysCold : View → Refusal → View → Type 0
+StaysCold v (refusal.PoolFull on latched above held) u = (p : ℕ) → is_cold ((state v).core.place p) ≡ true → is_cold ((state u).core.place p) ≡ true
+StaysCold v _ u = Unit {0}
+
 -- ## Why a page could not be read
+
+-- the slot that counts holds a page that is not as it was kept
+pub record IsAltered (was : Provider) (page : ℕ) (s : Story) : Type 0 where
+  pub found : Page
+  pub holds : Holds was.slots was.generation page (s.area 1).bytes found
+  pub other : IsAsKept was.kept page found → ⊥
 
 abbrev pub LostCause : Provider → (page : ℕ) → Story → Refusal → Type 0
 LostCause was page s (refusal.DiskFault) = Unit {0}
 LostCause was page s (refusal.Damaged p counts other) = (p ≡ page) × (Tells s 1 → IsDamaged was.slots was.generation page (s.area 1).bytes counts other)
+LostCause was page s (refusal.Altered p) = (p ≡ page) × (Tells s 1 → IsAltered was page s)
 LostCause was page s _ = ⊥
 
--- ## Why no page came: s is what the device told before
+-- ## Why no page came: s is what the device told before. Where no frame could be given the page is cold.
 
 abbrev pub FaultCause : Shape → List ℕ → Provider → (page : ℕ) → Story → View → Provider → Refusal → Type 0
-FaultCause z path was page s u is (refusal.PoolFull on latched above held) = FullCause z path u is (refusal.PoolFull on latched above held)
+FaultCause z path was page s u is (refusal.PoolFull on latched above held) = FullCause z path u is (refusal.PoolFull on latched above held) × (is_cold ((state u).core.place page) ≡ true)
 FaultCause z path was page s u is (refusal.Damaged p counts other) = LostCause was page s (refusal.Damaged p counts other)
+FaultCause z path was page s u is (refusal.Altered p) = LostCause was page s (refusal.Altered p)
 FaultCause z path was page s u is (refusal.NoPages) = ⊥
 FaultCause z path was page s u is _ = Unit {0}
 

@@ -10,8 +10,9 @@ use Rattle.rows_trait.specs.declared.view.View.{View}
 use Rattle.rows_trait.specs.Views.{Shape, after_all, may, state}
 use Rattle.btree_descent.specs.Descents.{Sized}
 use Rattle.btree_descent.specs.Known.{IsSound}
+use Rattle.cold_pages.specs.declared.kept.Kept.{Kept}
 use Rattle.page_calls.specs.declared.slots.Slot.{Slot}
-use Rattle.page_provider.specs.Providers.{Provider, Keeps}
+use Rattle.page_provider.specs.Providers.{IsKept, Keeps, Provider}
 
 -- the numbers from n - 1 down to 1
 abbrev pub down_to_one : ℕ → List ℕ
@@ -20,11 +21,11 @@ down_to_one (suc zero) = []
 down_to_one (suc (suc n)) = suc n ∷ down_to_one (suc n)
 
 -- no page cools, and each frame but frame 0 is empty
-abbrev pub fresh : (frames workers generation : ℕ) → List Bool → List Slot → Provider
-fresh frames workers generation free slots = record { frames = frames; workers = workers; generation = generation; queue = []; empty = down_to_one frames; free = free; slots = slots; hand = 0; broken = false }
+abbrev pub fresh : (frames workers generation : ℕ) → List Bool → List Slot → List Kept → Provider
+fresh frames workers generation free slots kept = record { frames = frames; workers = workers; generation = generation; queue = []; empty = down_to_one frames; free = free; slots = slots; kept = kept; hand = 0; broken = false }
 
--- Rows of which page 0 alone is in a frame, where the seat may step as the pager, and which pages are free.
-pub record Begins (z : Shape) (v : View) (frames workers : ℕ) (free : List Bool) : Type 0 where
+-- Rows of which page 0 alone is in a frame, where the seat may step as the pager, which pages are free, and what is kept of the others.
+pub record Begins (z : Shape) (v : View) (frames workers : ℕ) (free : List Bool) (kept : List Kept) : Type 0 where
   pub actor : may z.alone v pager ≡ true
   pub sound : IsSound v.given
   pub waiting : (es : _) → Waiting (after_all v.given es).core
@@ -34,12 +35,13 @@ pub record Begins (z : Shape) (v : View) (frames workers : ℕ) (free : List Boo
   pub pages : length free ≡ (opening v.given).format.pages
   pub cold : (p : ℕ) → 0 < p → (state v).core.place p ≡ Place.Cold
   pub queue : (state v).core.queue ≡ []
+  pub table : IsKept (opening v.given) (state v).core kept
   pub marks : (p : ℕ) → p < (opening v.given).format.pages → is_in free p ≡ not ((state v).core.page p).node.live
   pub epoch : (state v).core.epoch ≤ 2 ^ 62
 
 -- a fresh pager is the pager of these
 abbrev pub EveryFresh : Type 0
-EveryFresh = (z : Shape) (v : View) (frames workers generation : ℕ) (free : List Bool) (slots : List Slot) → Begins z v frames workers free → Keeps z v (fresh frames workers generation free slots)
+EveryFresh = (z : Shape) (v : View) (frames workers generation : ℕ) (free : List Bool) (slots : List Slot) (kept : List Kept) → Begins z v frames workers free kept → Keeps z v (fresh frames workers generation free slots kept)
 
 -- The free pages are as many as the core has, free and not hot.
 abbrev pub EveryFree : Type 0

@@ -78,7 +78,7 @@ pub record HasSaved (z : Shape) (v : View) (was : Provider) (entry : Cooling) (u
 -- It has left its frame, and the queue.
 pub record HasGone (z : Shape) (v : View) (was : Provider) (entry : Cooling) (u : View) (is : Provider) : Type 0 where
   pub goes : Goes z v (Evict entry.page ∷ []) u is
-  pub pool : is ≡ gone was entry.page entry.frame was
+  pub pool : is ≡ gone was entry.page entry.frame (record was { kept = is.kept })
 
 -- It was saved, and has left then.
 pub record HasCleared (z : Shape) (v : View) (was : Provider) (entry : Cooling) (u : View) (is : Provider) : Type 0 where

@@ -14,6 +14,7 @@ pub mod Descents
 pub mod Amounts
 pub mod Gives
 pub mod Fresh
+pub mod Fetches
 pub mod Evicts
 pub mod Laws
 pub mod Inside

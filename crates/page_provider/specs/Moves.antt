@@ -4,7 +4,7 @@ use Rattle.map_model.specs.Lists.{Has, any}
 use Rattle.core_state.specs.Needs as core
 use Rattle.core_state.specs.States.{Place, State, is_cold}
 use Rattle.row_words.specs.declared.event.Event.{Event}
-use Rattle.row_words.specs.declared.event.Event.TheVariants.{Load, Cool, Rescue, Save, Evict, Tick, Miss}
+use Rattle.row_words.specs.declared.event.Event.TheVariants.{Fetch, Load, Cool, Rescue, Save, Evict, Tick, Miss}
 use Rattle.row_words.specs.declared.given.Given.{Given}
 use Rattle.row_words.specs.Moments.{Moment, actor_of, event_of, pager}
 use Rattle.row_words.specs.Openings.{opening}
@@ -16,8 +16,9 @@ use Rattle.page_provider.specs.Steps.{Goes}
 
 -- ## Events
 
--- a page moves or is saved, or the global epoch goes on; or a row was not as it has to be
+-- a page moves, is saved or read again, or the global epoch goes on; or a row was not as it has to be
 abbrev pub is_pagers : Event → Bool
+is_pagers (Fetch p pairs) = true
 is_pagers (Load p f) = true
 is_pagers (Cool p) = true
 is_pagers (Rescue p) = true

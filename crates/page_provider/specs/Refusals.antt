@@ -60,10 +60,11 @@ IsOthers (refusal.Moved m) = Unit {0}
 IsOthers (refusal.Latched l) = Unit {0}
 IsOthers _ = ⊥
 
--- the device failed, or a page that is needed is damaged
+-- the device failed, or a page that is needed is damaged, or altered
 abbrev pub breaks : Refusal → Bool
 breaks (refusal.DiskFault) = true
 breaks (refusal.Damaged page counts other) = true
+breaks (refusal.Altered page) = true
 breaks _ = false
 
 -- the row of a frame was another seat's, or its version has come to the last one

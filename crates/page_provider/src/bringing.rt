@@ -2,8 +2,7 @@
 ghost use Rattle.std.specs.Prelude.{◌≡◌, ◌≢◌, ◌<◌, ◌^◌, true, false, [], length, IfOk, IfErr, Ok, Err, Some};
 ghost use Rattle.core_state.specs.Needs.{has_hot_parent};
 ghost use Rattle.lean_disk.specs.Faults.{HasCause};
-ghost use Rattle.lean_disk.specs.Moments.{Framed};
-ghost use Rattle.lean_disk.specs.Story.{Tells};
+ghost use Rattle.lean_disk.specs.Moments.{Framed, OnlyReads};
 ghost use Rattle.row_words.specs.declared.event.Event.TheVariants.{Load, Rescue};
 ghost use Rattle.row_words.specs.Openings.{opening};
 ghost use Rattle.rows_trait.specs.Views.{state};
@@ -11,7 +10,7 @@ ghost use Rattle.cooling_stage.specs.Queue.{found};
 ghost use Rattle.page_calls.specs.Mirrors.{KeepsMirrors};
 ghost use Rattle.page_provider.specs.Comes.{CanCome, ComesOrNot, HasCome, HasRead, ReadsWell};
 ghost use Rattle.page_provider.specs.Finds.{Halts};
-ghost use Rattle.page_provider.specs.Gives.{Holds};
+ghost use Rattle.page_provider.specs.Fetches.{WasRead};
 ghost use Rattle.page_provider.specs.Providers.{Keeps};
 ghost use Rattle.page_provider.specs.declared.refusal.Refusal.TheVariants as refusal;
 
@@ -30,21 +29,31 @@ use page_store::Lost;
 use rows_trait::rows::Rows;
 
 impl Pager {
-    // The page as it was saved last.
+    // The page as it was saved last. It is compared with what is kept of it.
+    //
+    // Altered: it is not as it was kept.
     pub(crate) fn read<P: Part>(&mut self, dev: &mut P, page: u32) -> Result<Node, Refusal>
         requires area { (P.seat dev.old).area ≡ 1 }
         requires page { page < length self.old.slots }
-        ensures ok { IfOk result (λ node. (node.number ≡ page) × (Tells (P.story dev.old) 1 → Holds self.old.slots self.old.generation page ((P.story dev.old).area 1).bytes node)) }
+        requires kept { page < length self.old.kept }
+        ensures ok { IfOk result (WasRead self.old page (P.story dev.old)) }
         ensures same { IfOk result (λ _. self.new ≡ self.old) }
         ensures err { IfErr result (λ why. HasRead self.old page (P.story dev.old) why self.new) }
         ensures disk { ReadsWell self.old self.new (P.story dev.old) (P.story dev.new) }
         ensures mirrors { KeepsMirrors self.old.slots self.new.slots (P.story dev.old) (P.story dev.new) }
         ensures frame { Framed 1 (P.story dev.old) (P.story dev.new) }
+        ensures reads { OnlyReads (P.story dev.old) (P.story dev.new) }
         ensures seat { P.seat dev.new ≡ P.seat dev.old }
         ensures cause { HasCause (P.faults dev.old) (P.faults dev.new) (result ≡ Err refusal.DiskFault) }
     {
         match load(dev, &self.slots, self.generation, page, &mut self.buffer) {
-            Ok(node) => Ok(node),
+            Ok(node) => {
+                if self.kept.is_as_kept(page, &node) {
+                    return Ok(node);
+                }
+                self.broken = true;
+                Err(Refusal::Altered { page })
+            }
             Err(Lost::DiskFault) => {
                 self.broken = true;
                 Err(Refusal::DiskFault)
@@ -147,6 +156,7 @@ impl Pager {
         let (above, own) = take_with(rows, seat, &parent, frame)?;
         fill(rows, seat, above, own, at, page, node);
         self.empty.pop();
+        self.kept.come(node);
         Ok(true)
     }
 
@@ -173,6 +183,7 @@ impl Pager {
         let own = take(rows, seat, self.stage.frames(), frame)?;
         fill_free(rows, seat, own, page, node);
         self.empty.pop();
+        self.kept.come(node);
         self.free.remove(page);
         Ok(())
     }

@@ -5,11 +5,12 @@ ghost use Rattle.core_state.specs.States.{is_cold};
 ghost use Rattle.cooling_stage.specs.Queue.{found};
 ghost use Rattle.lean_disk.specs.Faults.{HasCause};
 ghost use Rattle.lean_disk.specs.Moments.{Framed};
+ghost use Rattle.page_calls.specs.Calls.{KeepsWithin};
 ghost use Rattle.row_words.specs.Openings.{opening};
 ghost use Rattle.rows_trait.specs.Views.{state};
 ghost use Rattle.free_pages.specs.Pages.{IsLeast, count, is_in};
 ghost use Rattle.page_provider.specs.Comes.{CanCome, Fills, HasContents, IsUnseen, PlaceCause};
-ghost use Rattle.page_provider.specs.Disks.{Disked};
+ghost use Rattle.page_provider.specs.Disks.{Disked, ReadsUnlessSaved};
 ghost use Rattle.page_provider.specs.Ends.{HasRefused};
 ghost use Rattle.page_provider.specs.Faults.{FaultCause, Faulted, HasPlaced, IsAstray, IsDescent, IsWanted, LeadsTo, NoPageCause};
 ghost use Rattle.page_provider.specs.Finds.{Halts};
@@ -19,6 +20,7 @@ ghost use Rattle.page_provider.specs.Providers.{Keeps};
 ghost use Rattle.page_provider.specs.Refusals.{IsOfRow};
 ghost use Rattle.page_provider.specs.declared.refusal.Refusal.TheVariants as refusal;
 
+use crate::fetching::fetch;
 use crate::finding::{naming, standing};
 use crate::laws::laws;
 use crate::pager::Pager;
@@ -43,8 +45,8 @@ impl Pager {
         requires held { (R.view seat.old).held ≡ [] }
         requires there { found entry.page self.old.queue ≡ Some entry }
         ensures fits { R.fits rows.new seat.new × (R.shape rows.new ≡ R.shape rows.old) }
-        ensures ok { IfOk result (λ come. Faulted 4 (R.shape rows.old) path.now (R.view seat.old) self.old entry.page come (R.view seat.new) self.new) }
-        ensures err { IfErr result (λ why. HasRefused 4 (R.shape rows.old) path.now (R.view seat.old) self.old why (R.view seat.new) self.new) }
+        ensures ok { IfOk result (λ come. Faulted 5 (R.shape rows.old) path.now (R.view seat.old) self.old entry.page come (R.view seat.new) self.new) }
+        ensures err { IfErr result (λ why. HasRefused 5 (R.shape rows.old) path.now (R.view seat.old) self.old why (R.view seat.new) self.new) }
         ensures kind { IfErr result IsOfRow }
         ensures unseen { IsUnseen (R.shape rows.old).alone (R.view seat.old) self.old (R.view seat.new) self.new }
         ensures astray { (R.shape rows.old).alone ≡ true → IsAstray (R.view seat.old) entry.page → result ≡ Ok None }
@@ -115,10 +117,12 @@ impl Pager {
         ensures fits { R.fits rows.new seat.new × (R.shape rows.new ≡ R.shape rows.old) }
         ensures ok { IfOk result (λ come. Faulted 4 (R.shape rows.old) path.now (R.view seat.old) self.old page come (R.view seat.new) self.new) }
         ensures err { IfErr result (λ why. HasRefused 4 (R.shape rows.old) path.now (R.view seat.old) self.old why (R.view seat.new) self.new) }
-        ensures cause { IfErr result (PlaceCause (R.shape rows.old) path.now (R.view seat.new) self.new) }
+        ensures cause { IfErr result (PlaceCause (R.shape rows.old) path.now page (R.view seat.new) self.new) }
         ensures disk { Disked (R.shape rows.old).alone self.old (R.view seat.old) self.new (R.view seat.new) (P.story dev.old) (P.story dev.new) }
         ensures mirrors { KeepsMirrored (R.view seat.old) self.old (R.view seat.new) self.new (P.story dev.old) (P.story dev.new) }
+        ensures within { KeepsWithin (P.story dev.old) (P.story dev.new) }
         ensures frame { Framed 1 (P.story dev.old) (P.story dev.new) }
+        ensures reads { ReadsUnlessSaved (R.view seat.old) (R.view seat.new) self.new (P.story dev.old) (P.story dev.new) }
         ensures seat { P.seat dev.new ≡ P.seat dev.old }
         ensures cause_disk_fault { HasCause (P.faults dev.old) (P.faults dev.new) (result ≡ Err refusal.DiskFault) }
     {
@@ -146,20 +150,23 @@ impl Pager {
         requires below { page < (opening (R.view seat.old).given).format.pages }
         requires descent { IsDescent (R.shape rows.old) (R.view seat.old) path.now }
         requires leads { LeadsTo (R.shape rows.old) (R.view seat.old) path.now page }
-        requires gives { is_cold ((state (R.view seat.old)).core.place page) ≡ true → Gives (R.view seat.old) self.old page (P.story dev.old) }
+        requires gives { (R.view seat.old).given.faithful ≡ true → is_cold ((state (R.view seat.old)).core.place page) ≡ true → Gives (R.view seat.old) self.old page (P.story dev.old) }
         ensures fits { R.fits rows.new seat.new × (R.shape rows.new ≡ R.shape rows.old) }
-        ensures ok { IfOk result (λ come. Faulted 4 (R.shape rows.old) path.now (R.view seat.old) self.old page come (R.view seat.new) self.new) }
-        ensures err { IfErr result (λ why. HasRefused 4 (R.shape rows.old) path.now (R.view seat.old) self.old why (R.view seat.new) self.new) }
+        ensures ok { IfOk result (λ come. Faulted 5 (R.shape rows.old) path.now (R.view seat.old) self.old page come (R.view seat.new) self.new) }
+        ensures err { IfErr result (λ why. HasRefused 5 (R.shape rows.old) path.now (R.view seat.old) self.old why (R.view seat.new) self.new) }
         ensures cause { IfErr result (FaultCause (R.shape rows.old) path.now self.old page (P.story dev.old) (R.view seat.new) self.new) }
         ensures disk { Disked (R.shape rows.old).alone self.old (R.view seat.old) self.new (R.view seat.new) (P.story dev.old) (P.story dev.new) }
         ensures mirrors { KeepsMirrored (R.view seat.old) self.old (R.view seat.new) self.new (P.story dev.old) (P.story dev.new) }
+        ensures within { KeepsWithin (P.story dev.old) (P.story dev.new) }
         ensures frame { Framed 1 (P.story dev.old) (P.story dev.new) }
+        ensures reads { ReadsUnlessSaved (R.view seat.old) (R.view seat.new) self.new (P.story dev.old) (P.story dev.new) }
         ensures seat { P.seat dev.new ≡ P.seat dev.old }
         ensures cause_disk_fault { HasCause (P.faults dev.old) (P.faults dev.new) (result ≡ Err refusal.DiskFault) }
     {
         laws();
         let _pages = self.slots.len();
-        let node = self.read(dev, page)?;
+        let found = self.read(dev, page)?;
+        let node = fetch(rows, seat, page, found);
         self.place(rows, seat, dev, page, &node, path)
     }
 
@@ -182,14 +189,16 @@ impl Pager {
         requires below { page < (opening (R.view seat.old).given).format.pages }
         requires descent { IsDescent (R.shape rows.old) (R.view seat.old) path.now }
         requires leads { LeadsTo (R.shape rows.old) (R.view seat.old) path.now page }
-        requires gives { is_cold ((state (R.view seat.old)).core.place page) ≡ true → Gives (R.view seat.old) self.old page (P.story dev.old) }
+        requires gives { (R.view seat.old).given.faithful ≡ true → is_cold ((state (R.view seat.old)).core.place page) ≡ true → Gives (R.view seat.old) self.old page (P.story dev.old) }
         ensures fits { R.fits rows.new seat.new × (R.shape rows.new ≡ R.shape rows.old) }
-        ensures ok { IfOk result (λ come. Faulted 4 (R.shape rows.old) path.now (R.view seat.old) self.old page come (R.view seat.new) self.new) }
-        ensures err { IfErr result (λ why. HasRefused 4 (R.shape rows.old) path.now (R.view seat.old) self.old why (R.view seat.new) self.new) }
+        ensures ok { IfOk result (λ come. Faulted 5 (R.shape rows.old) path.now (R.view seat.old) self.old page come (R.view seat.new) self.new) }
+        ensures err { IfErr result (λ why. HasRefused 5 (R.shape rows.old) path.now (R.view seat.old) self.old why (R.view seat.new) self.new) }
         ensures cause { IfErr result (FaultCause (R.shape rows.old) path.now self.old page (P.story dev.old) (R.view seat.new) self.new) }
         ensures disk { Disked (R.shape rows.old).alone self.old (R.view seat.old) self.new (R.view seat.new) (P.story dev.old) (P.story dev.new) }
         ensures mirrors { KeepsMirrored (R.view seat.old) self.old (R.view seat.new) self.new (P.story dev.old) (P.story dev.new) }
+        ensures within { KeepsWithin (P.story dev.old) (P.story dev.new) }
         ensures frame { Framed 1 (P.story dev.old) (P.story dev.new) }
+        ensures reads { ReadsUnlessSaved (R.view seat.old) (R.view seat.new) self.new (P.story dev.old) (P.story dev.new) }
         ensures seat { P.seat dev.new ≡ P.seat dev.old }
         ensures cause_disk_fault { HasCause (P.faults dev.old) (P.faults dev.new) (result ≡ Err refusal.DiskFault) }
         ensures astray { (R.shape rows.old).alone ≡ true → IsAstray (R.view seat.old) page → result ≡ Ok None }
@@ -207,10 +216,11 @@ impl Pager {
     /// or is made so: pages cool until the queue has a tenth of the frames, or a turn of the hand finds none to cool, and the first of
     /// the queue leaves that can. `path` has the frames of the descent that met the page; their pages stay.
     ///
-    /// None: the page is in no frame, and no node in a frame names it: the descent begins again. PoolFull: no page can leave, and none
-    /// can be cooled. Damaged: the slot of the page that counts holds no valid page; the pager is Broken from then on, as behind a
-    /// DiskFault. Moved and Latched: a row was another seat's; never where nobody else steps. RowSpent: the version of a row, or the
-    /// global epoch, has come to the last one. Broken: an earlier call met a damaged page or a fault of the device.
+    /// None: the page is in no frame, and no node in a frame names it: the descent begins again. PoolFull: the page is cold, no page
+    /// can leave, and none can be cooled. Damaged: the slot of the page that counts holds no valid page. Altered: it holds one that is
+    /// not as it was kept. Behind both the pager is Broken, as behind a DiskFault. Moved and Latched: a row was another seat's; never
+    /// where nobody else steps. RowSpent: the version of a row, or the global epoch, has come to the last one. Broken: an earlier call
+    /// met a damaged or altered page or a fault of the device.
     pub fn fault<R: Rows, P: Part>(
         &mut self,
         rows: &mut R,
@@ -226,14 +236,16 @@ impl Pager {
         requires below { page < (opening (R.view seat.old).given).format.pages }
         requires descent { IsDescent (R.shape rows.old) (R.view seat.old) path.now }
         requires leads { LeadsTo (R.shape rows.old) (R.view seat.old) path.now page }
-        requires gives { is_cold ((state (R.view seat.old)).core.place page) ≡ true → Gives (R.view seat.old) self.old page (P.story dev.old) }
+        requires gives { (R.view seat.old).given.faithful ≡ true → is_cold ((state (R.view seat.old)).core.place page) ≡ true → Gives (R.view seat.old) self.old page (P.story dev.old) }
         ensures fits { R.fits rows.new seat.new × (R.shape rows.new ≡ R.shape rows.old) }
-        ensures ok { IfOk result (λ come. Faulted 4 (R.shape rows.old) path.now (R.view seat.old) self.old page come (R.view seat.new) self.new) }
-        ensures err { IfErr result (λ why. HasRefused 4 (R.shape rows.old) path.now (R.view seat.old) self.old why (R.view seat.new) self.new) }
+        ensures ok { IfOk result (λ come. Faulted 5 (R.shape rows.old) path.now (R.view seat.old) self.old page come (R.view seat.new) self.new) }
+        ensures err { IfErr result (λ why. HasRefused 5 (R.shape rows.old) path.now (R.view seat.old) self.old why (R.view seat.new) self.new) }
         ensures cause { IfErr result (FaultCause (R.shape rows.old) path.now self.old page (P.story dev.old) (R.view seat.new) self.new) }
         ensures disk { Disked (R.shape rows.old).alone self.old (R.view seat.old) self.new (R.view seat.new) (P.story dev.old) (P.story dev.new) }
         ensures mirrors { KeepsMirrored (R.view seat.old) self.old (R.view seat.new) self.new (P.story dev.old) (P.story dev.new) }
+        ensures within { KeepsWithin (P.story dev.old) (P.story dev.new) }
         ensures frame { Framed 1 (P.story dev.old) (P.story dev.new) }
+        ensures reads { ReadsUnlessSaved (R.view seat.old) (R.view seat.new) self.new (P.story dev.old) (P.story dev.new) }
         ensures seat { P.seat dev.new ≡ P.seat dev.old }
         ensures cause_disk_fault { HasCause (P.faults dev.old) (P.faults dev.new) (result ≡ Err refusal.DiskFault) }
         ensures earlier { self.old.broken ≡ true → result ≡ Err refusal.Broken }
@@ -270,14 +282,16 @@ impl Pager {
         requires wanted { IsWanted (R.shape rows.old) (R.view seat.old) page }
         requires descent { IsDescent (R.shape rows.old) (R.view seat.old) path.now }
         requires leads { LeadsTo (R.shape rows.old) (R.view seat.old) path.now page }
-        requires gives { is_cold ((state (R.view seat.old)).core.place page) ≡ true → Gives (R.view seat.old) self.old page (P.story dev.old) }
+        requires gives { (R.view seat.old).given.faithful ≡ true → is_cold ((state (R.view seat.old)).core.place page) ≡ true → Gives (R.view seat.old) self.old page (P.story dev.old) }
         ensures fits { R.fits rows.new seat.new × (R.shape rows.new ≡ R.shape rows.old) }
-        ensures ok { IfOk result (λ frame. HasPlaced 4 (R.shape rows.old) path.now (R.view seat.old) self.old page frame (R.view seat.new) self.new) }
-        ensures err { IfErr result (λ why. HasRefused 4 (R.shape rows.old) path.now (R.view seat.old) self.old why (R.view seat.new) self.new) }
+        ensures ok { IfOk result (λ frame. HasPlaced 5 (R.shape rows.old) path.now (R.view seat.old) self.old page frame (R.view seat.new) self.new) }
+        ensures err { IfErr result (λ why. HasRefused 5 (R.shape rows.old) path.now (R.view seat.old) self.old why (R.view seat.new) self.new) }
         ensures cause { IfErr result (FaultCause (R.shape rows.old) path.now self.old page (P.story dev.old) (R.view seat.new) self.new) }
         ensures disk { Disked (R.shape rows.old).alone self.old (R.view seat.old) self.new (R.view seat.new) (P.story dev.old) (P.story dev.new) }
         ensures mirrors { KeepsMirrored (R.view seat.old) self.old (R.view seat.new) self.new (P.story dev.old) (P.story dev.new) }
+        ensures within { KeepsWithin (P.story dev.old) (P.story dev.new) }
         ensures frame { Framed 1 (P.story dev.old) (P.story dev.new) }
+        ensures reads { ReadsUnlessSaved (R.view seat.old) (R.view seat.new) self.new (P.story dev.old) (P.story dev.new) }
         ensures seat { P.seat dev.new ≡ P.seat dev.old }
         ensures cause_disk_fault { HasCause (P.faults dev.old) (P.faults dev.new) (result ≡ Err refusal.DiskFault) }
         ensures earlier { self.old.broken ≡ true → result ≡ Err refusal.Broken }
@@ -291,7 +305,7 @@ impl Pager {
     /// The least page that is free and not hot, for a change that takes so many. It stays among the free pages until `frame_for` has
     /// brought it into a frame.
     ///
-    /// NoPages: fewer pages are free and not hot. Broken: an earlier call met a damaged page or a fault of the device.
+    /// NoPages: fewer pages are free and not hot. Broken: an earlier call met a damaged or altered page or a fault of the device.
     pub fn page_for(&self, wanted: u32) -> Result<u32, Refusal>
         requires some { 0 < wanted }
         ensures ok { IfOk result (IsLeast self.now.free) }

@@ -171,7 +171,7 @@ impl Pager {
     ///
     /// False: nothing was done, since the node that names the page went on to another frame; never where nobody else steps. Moved and
     /// Latched: a row was another seat's; never where nobody else steps. RowSpent: the version of a row has come to the last one, or the
-    /// global epoch has. Broken: an earlier call met a damaged page or a fault of the device.
+    /// global epoch has. Broken: an earlier call met a damaged or altered page or a fault of the device.
     pub fn cool<R: Rows>(
         &mut self,
         rows: &mut R,

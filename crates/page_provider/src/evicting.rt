@@ -4,9 +4,10 @@ ghost use Rattle.core_state.specs.Needs as core;
 ghost use Rattle.core_state.specs.States.{flushed_by_all};
 ghost use Rattle.lean_disk.specs.Faults.{HasCause};
 ghost use Rattle.lean_disk.specs.Moments.{Framed};
+ghost use Rattle.page_calls.specs.Calls.{KeepsWithin};
 ghost use Rattle.row_words.specs.Openings.{opening};
 ghost use Rattle.rows_trait.specs.Views.{state};
-ghost use Rattle.page_provider.specs.Disks.{Disked};
+ghost use Rattle.page_provider.specs.Disks.{Disked, ReadsUnlessSaved};
 ghost use Rattle.page_provider.specs.Evicts.{CanLeave, HasLeft, HasStayed};
 ghost use Rattle.page_provider.specs.Inside.{HasCleared, HasGone, IsEntered};
 ghost use Rattle.page_provider.specs.Mirrored.{KeepsMirrored};
@@ -14,7 +15,7 @@ ghost use Rattle.page_provider.specs.Providers.{Keeps};
 ghost use Rattle.page_provider.specs.declared.refusal.Refusal.TheVariants as refusal;
 
 use crate::laws::laws;
-use crate::looking::is_dirty;
+use crate::looking::{is_dirty, page_in};
 use crate::pager::Pager;
 use crate::refusal::Refusal;
 use crate::taking::take;
@@ -23,7 +24,7 @@ use lean_disk::Part;
 use rows_trait::rows::Rows;
 
 impl Pager {
-    // A clean page leaves its frame.
+    // A clean page leaves its frame, and what it was is kept.
     fn leave<R: Rows>(
         &mut self,
         rows: &mut R,
@@ -42,9 +43,13 @@ impl Pager {
         ensures device { result ≡ Err refusal.DiskFault → ⊥ }
     {
         laws();
-        let hold = take(rows, seat, self.stage.frames(), entry.frame)?;
+        let frames = self.stage.frames();
+        // Nobody changes a page that cools, so it leaves as it is seen here.
+        let node = page_in(rows, seat, frames, entry.frame, self.generation)?;
+        let hold = take(rows, seat, frames, entry.frame)?;
         page_moves::evict(rows, seat, hold, entry.page);
         self.stage.take(entry.page);
+        self.kept.leave(entry.page, &node);
         self.empty.push_reserved(entry.frame);
         Ok(())
     }
@@ -70,7 +75,9 @@ impl Pager {
         ensures err { IfErr result (λ why. HasStayed (R.shape rows.old) (R.view seat.old) self.old entry.page why (R.view seat.new) self.new) }
         ensures disk { Disked (R.shape rows.old).alone self.old (R.view seat.old) self.new (R.view seat.new) (P.story dev.old) (P.story dev.new) }
         ensures mirrors { KeepsMirrored (R.view seat.old) self.old (R.view seat.new) self.new (P.story dev.old) (P.story dev.new) }
+        ensures within { KeepsWithin (P.story dev.old) (P.story dev.new) }
         ensures frame { Framed 1 (P.story dev.old) (P.story dev.new) }
+        ensures reads { ReadsUnlessSaved (R.view seat.old) (R.view seat.new) self.new (P.story dev.old) (P.story dev.new) }
         ensures seat { P.seat dev.new ≡ P.seat dev.old }
         ensures cause { HasCause (P.faults dev.old) (P.faults dev.new) (result ≡ Err refusal.DiskFault) }
     {
@@ -102,7 +109,9 @@ impl Pager {
         ensures err { IfErr result (λ why. HasStayed (R.shape rows.old) (R.view seat.old) self.old page why (R.view seat.new) self.new) }
         ensures disk { Disked (R.shape rows.old).alone self.old (R.view seat.old) self.new (R.view seat.new) (P.story dev.old) (P.story dev.new) }
         ensures mirrors { KeepsMirrored (R.view seat.old) self.old (R.view seat.new) self.new (P.story dev.old) (P.story dev.new) }
+        ensures within { KeepsWithin (P.story dev.old) (P.story dev.new) }
         ensures frame { Framed 1 (P.story dev.old) (P.story dev.new) }
+        ensures reads { ReadsUnlessSaved (R.view seat.old) (R.view seat.new) self.new (P.story dev.old) (P.story dev.new) }
         ensures seat { P.seat dev.new ≡ P.seat dev.old }
         ensures cause { HasCause (P.faults dev.old) (P.faults dev.new) (result ≡ Err refusal.DiskFault) }
         ensures earlier { self.old.broken ≡ true → result ≡ Err refusal.Broken }

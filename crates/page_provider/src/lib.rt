@@ -6,6 +6,7 @@ mod bringing;
 mod calls;
 mod cooling;
 mod evicting;
+mod fetching;
 mod finding;
 mod latching;
 mod laws;
@@ -20,9 +21,10 @@ mod turning;
 
 ghost use Rattle.page_provider.specs.Amounts.{EveryFew};
 ghost use Rattle.page_provider.specs.Descents.{EveryDescent};
+ghost use Rattle.page_provider.specs.Fetches.{EveryGivenKept};
 ghost use Rattle.page_provider.specs.Fresh.{EveryFree, EveryFresh};
 ghost use Rattle.page_provider.specs.Gives.{EveryGiven};
-ghost use Rattle.page_provider.specs.Sequels.{EveryDiskRest, EveryDiskSequel, EverySequel};
+ghost use Rattle.page_provider.specs.Sequels.{EveryAreaRest, EveryAreaSequel, EveryDiskRest, EveryDiskSequel, EverySequel, EveryUnsaved};
 ghost use Rattle.page_provider.specs.Mirrored.{EveryMirroredGives, EveryMirroredRest, EveryMirroredRun};
 
 use lean_disk::Part;
@@ -59,6 +61,11 @@ pub fn every_given<P: Part>(now: &P)
     row_opening::every_reached();
 }
 
+/// What a device gives of a cold page, where that is what is saved, is as it was kept.
+pub fn every_given_kept<P: Part>(now: &P)
+    ensures { EveryGivenKept (P.story now.now) }
+{}
+
 /// Two calls, one behind the other, have done together what each did; and where nobody else steps no page has other contents behind them.
 pub fn every_sequel()
     ensures { EverySequel }
@@ -79,6 +86,21 @@ pub fn every_disk_sequel<P: Part>()
 {
     laws::laws();
 }
+
+/// Where nothing was asked of a device, its areas are as they were at every moment, and it was only read.
+pub fn every_area_rest<P: Part>(now: &P)
+    ensures { EveryAreaRest (P.story now.now) }
+{}
+
+/// Two calls, one behind the other, stay within the pages' area, and have only read the device where neither saved a page.
+pub fn every_area_sequel<P: Part>()
+    ensures { (old mid new : P) → EveryAreaSequel (P.story old) (P.story mid) (P.story new) }
+{}
+
+/// A call none of whose events saves a page has only read the device.
+pub fn every_unsaved<P: Part>()
+    ensures { (old new : P) → EveryUnsaved (P.story old) (P.story new) }
+{}
 
 /// Where the slots hold what is saved, and the device tells of them, it gives each page as it is saved.
 pub fn every_mirrored_gives<P: Part>(now: &P)

@@ -2,6 +2,7 @@
 ghost use Rattle.std.specs.Prelude.{◌≡◌, ◌≤◌, vec_capacity, IfOk};
 ghost use Rattle.page_provider.specs.Fresh.{down_to_one};
 
+use cold_pages::ColdPages;
 use cooling_stage::CoolingStage;
 use free_pages::FreePages;
 use page_calls::Slots;
@@ -14,6 +15,7 @@ use std::marker::Model;
 pub struct Pager {
     pub(crate) stage: CoolingStage,
     pub(crate) slots: Slots,
+    pub(crate) kept: ColdPages,
     pub(crate) free: FreePages,
     pub(crate) empty: Vec<u32>,
     pub(crate) hand: u32,
@@ -30,7 +32,7 @@ impl Model for Pager {
 
     ghost Value = { Provider };
 
-    ghost view = { λ s. record { frames = s.stage.frames; workers = s.workers; generation = s.generation; queue = s.stage.queue; empty = s.empty.items; free = s.free; slots = s.slots; hand = s.hand; broken = s.broken } };
+    ghost view = { λ s. record { frames = s.stage.frames; workers = s.workers; generation = s.generation; queue = s.stage.queue; empty = s.empty.items; free = s.free; slots = s.slots; kept = s.kept; hand = s.hand; broken = s.broken } };
 
     ghost invariant = { λ s. IsWhole s.stage.frames (vec_capacity s.empty) s.free s.slots s.buffer.items };
 }
@@ -51,8 +53,8 @@ impl Pager {
     ghost use Rattle.std.specs.Prelude.{◌≡◌, ◌<◌, List, Bool, length, IfOk};
     ghost use Rattle.page_provider.specs.Fresh.{fresh};
 
-    /// A pager where page 0 alone is in a frame, frame 0: with the pages that are free, and what is known of each page's slots. Pages are saved
-    /// by this generation. The one error is that memory is refused, and no later call takes any.
+    /// A pager where page 0 alone is in a frame, frame 0: with the pages that are free, what is known of each page's slots, and what
+    /// is kept of each page. Pages are saved by this generation. The one error is that memory is refused, and no later call takes any.
     pub fn new(
         alloc: Global,
         frames: u32,
@@ -60,9 +62,10 @@ impl Pager {
         generation: u64,
         free: FreePages,
         slots: Slots,
+        kept: ColdPages,
     ) -> Result<Pager, AllocError>
         requires slots { length slots ≡ length free }
-        ensures made { IfOk result (λ k. k ≡ fresh frames workers generation free slots) }
+        ensures made { IfOk result (λ k. k ≡ fresh frames workers generation free slots kept) }
     {
         let empty = empty_frames(alloc, frames)?;
         let mut buffer = Vec::new(alloc);
@@ -70,6 +73,7 @@ impl Pager {
         Ok(Pager {
             stage: CoolingStage::new(alloc, frames)?,
             slots,
+            kept,
             free,
             empty,
             hand: 0,
@@ -95,7 +99,7 @@ impl Pager {
         self.slots.len()
     }
 
-    /// Whether an earlier call met a damaged page or a fault of the device: then every call is refused.
+    /// Whether an earlier call met a damaged or altered page or a fault of the device: then every call is refused.
     pub fn is_broken(&self) -> bool
         ensures { result ≡ self.now.broken }
     {

@@ -24,11 +24,15 @@ pub enum Refusal {
         counts: Seal,
         other: Seal,
     },
+    /// The page that was read is not the one that left its frame: it has other numbers, fences or children.
+    Altered {
+        page: u32,
+    },
     DiskFault,
     /// The version of the row has come to the last one, or the global epoch has.
     RowSpent {
         row: u32,
     },
-    /// An earlier call met a damaged page or a fault of the device.
+    /// An earlier call met a page that was damaged or altered, or a fault of the device.
     Broken,
 }

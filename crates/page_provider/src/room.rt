@@ -2,11 +2,12 @@
 ghost use Rattle.std.specs.Prelude.{◌≡◌, ◌<◌, ◌≤◌, ◌⊎◌, ◌++◌, ◌∷◌, ℕ, List, true, false, [], IfOk, IfErr, MatchOption, Err, length};
 ghost use Rattle.lean_disk.specs.Faults.{HasCause};
 ghost use Rattle.lean_disk.specs.Moments.{Framed};
+ghost use Rattle.page_calls.specs.Calls.{KeepsWithin};
 ghost use Rattle.page_provider.specs.Comes.{HasRoom, IsOfRoom};
 ghost use Rattle.page_provider.specs.Cools.{Chills};
-ghost use Rattle.page_provider.specs.Disks.{Disked};
+ghost use Rattle.page_provider.specs.Disks.{Disked, ReadsUnlessSaved};
 ghost use Rattle.page_provider.specs.Ends.{HasRefused};
-ghost use Rattle.page_provider.specs.Faults.{FullCause, IsDescent};
+ghost use Rattle.page_provider.specs.Faults.{FullCause, IsDescent, StaysCold};
 ghost use Rattle.page_provider.specs.Leaves.{Chooses, HasHalted, IsCounted, IsFlushed, NoOther, NoneCools, NoneLeaves};
 ghost use Rattle.page_provider.specs.Mirrored.{KeepsMirrored};
 ghost use Rattle.page_provider.specs.Providers.{Keeps};
@@ -129,9 +130,12 @@ impl Pager {
         ensures err { IfErr result (λ why. HasRefused 3 (R.shape rows.old) path.now (R.view seat.old) self.old why (R.view seat.new) self.new) }
         ensures kind { IfErr result IsOfRoom }
         ensures full { IfErr result (λ why. FullCause (R.shape rows.old) path.now (R.view seat.new) self.new why) }
+        ensures cold { IfErr result (λ why. StaysCold (R.view seat.old) why (R.view seat.new)) }
         ensures disk { Disked (R.shape rows.old).alone self.old (R.view seat.old) self.new (R.view seat.new) (P.story dev.old) (P.story dev.new) }
         ensures mirrors { KeepsMirrored (R.view seat.old) self.old (R.view seat.new) self.new (P.story dev.old) (P.story dev.new) }
+        ensures within { KeepsWithin (P.story dev.old) (P.story dev.new) }
         ensures frame { Framed 1 (P.story dev.old) (P.story dev.new) }
+        ensures reads { ReadsUnlessSaved (R.view seat.old) (R.view seat.new) self.new (P.story dev.old) (P.story dev.new) }
         ensures seat { P.seat dev.new ≡ P.seat dev.old }
         ensures cause { HasCause (P.faults dev.old) (P.faults dev.new) (result ≡ Err refusal.DiskFault) }
     {

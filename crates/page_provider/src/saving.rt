@@ -6,10 +6,10 @@ ghost use Rattle.lean_disk.specs.Faults.{HasCause};
 ghost use Rattle.lean_disk.specs.Moments.{Framed};
 ghost use Rattle.row_words.specs.Openings.{opening};
 ghost use Rattle.rows_trait.specs.Views.{state};
-ghost use Rattle.page_calls.specs.Calls.{KeepsMoments, SavesMoments};
+ghost use Rattle.page_calls.specs.Calls.{KeepsMoments, KeepsWithin, SavesMoments};
 ghost use Rattle.page_calls.specs.Mirrors.{KeepsMirrors, SavesMirrors};
 ghost use Rattle.page_calls.specs.declared.slots.Slot.{Slot};
-ghost use Rattle.page_provider.specs.Disks.{Disked};
+ghost use Rattle.page_provider.specs.Disks.{Disked, ReadsUnlessSaved};
 ghost use Rattle.page_provider.specs.Evicts.{HasStayed};
 ghost use Rattle.page_provider.specs.Inside.{HasSaved, IsEntered, StandsOn, WritesOn};
 ghost use Rattle.page_provider.specs.Mirrored.{KeepsMirrored};
@@ -37,6 +37,7 @@ fn settle_first<P: Part>(dev: &mut P, slots: &mut Slots, page: u32) -> Did
     ensures size { length slots.new ≡ length slots.old }
     ensures mirrors { KeepsMirrors slots.old slots.new (P.story dev.old) (P.story dev.new) }
     ensures any_moment { KeepsMoments slots.old (P.story dev.old) (P.story dev.new) }
+    ensures within { KeepsWithin (P.story dev.old) (P.story dev.new) }
     ensures frame { Framed 1 (P.story dev.old) (P.story dev.new) }
     ensures seat { P.seat dev.new ≡ P.seat dev.old }
     ensures cause { HasCause (P.faults dev.old) (P.faults dev.new) (result ≡ Did.Failed) }
@@ -61,6 +62,7 @@ fn write<P: Part>(dev: &mut P, slots: &mut Slots, node: &Node, buffer: &mut [u8]
     ensures size { length slots.new ≡ length slots.old }
     ensures mirrors { result ≡ Did.Done → SavesMirrors slots.old slots.new node.now (P.story dev.old) (P.story dev.new) }
     ensures any_moment { SavesMoments slots.old node.now (P.story dev.old) (P.story dev.new) }
+    ensures within { KeepsWithin (P.story dev.old) (P.story dev.new) }
     ensures frame { Framed 1 (P.story dev.old) (P.story dev.new) }
     ensures seat { P.seat dev.new ≡ P.seat dev.old }
     ensures cause { HasCause (P.faults dev.old) (P.faults dev.new) (result ≡ Did.Failed) }
@@ -94,7 +96,9 @@ impl Pager {
         ensures err { IfErr result (λ why. HasStayed (R.shape rows.old) (R.view seat.old) self.old entry.page why (R.view seat.new) self.new) }
         ensures disk { Disked (R.shape rows.old).alone self.old (R.view seat.old) self.new (R.view seat.new) (P.story dev.old) (P.story dev.new) }
         ensures mirrors { KeepsMirrored (R.view seat.old) self.old (R.view seat.new) self.new (P.story dev.old) (P.story dev.new) }
+        ensures within { KeepsWithin (P.story dev.old) (P.story dev.new) }
         ensures frame { Framed 1 (P.story dev.old) (P.story dev.new) }
+        ensures reads { ReadsUnlessSaved (R.view seat.old) (R.view seat.new) self.new (P.story dev.old) (P.story dev.new) }
         ensures seat { P.seat dev.new ≡ P.seat dev.old }
         ensures cause { HasCause (P.faults dev.old) (P.faults dev.new) (result ≡ Err refusal.DiskFault) }
     {

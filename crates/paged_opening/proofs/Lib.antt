@@ -1,3 +1,4 @@
+pub mod ColdLemmas
 mod PageLemmas
 mod FreeLemmas
 mod BeginLemmas

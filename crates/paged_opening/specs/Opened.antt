@@ -1,6 +1,6 @@
 -- What an opening gives to an engine larger than memory: rows of which page 0 alone is in a frame, their one seat, and the
 -- pager that brings the other pages in.
-use Rattle.std.specs.Prelude.{◌≡◌, ◌<◌, ◌≤◌, ◌+◌, ◌^◌, ℕ, Bool, true, false, not, List, length, map, Some}
+use Rattle.std.specs.Prelude.{◌≡◌, ◌<◌, ◌≤◌, ◌+◌, ◌^◌, ℕ, zero, suc, Bool, true, false, not, List, length, map, replicate, Some}
 use Rattle.page_model.specs.Page.{Page}
 use Rattle.lean_disk.specs.Story.{Story, areas_of}
 use Rattle.disk_slots.specs.declared.master.Master.{Master}
@@ -12,6 +12,9 @@ use Rattle.rows_trait.specs.Rule.{IsPicture, plan}
 use Rattle.rows_trait.specs.Views.{Shape, first_plain, no_place}
 use Rattle.rows_trait.specs.declared.plain.PlainRows.{PlainRows}
 use Rattle.row_opening.specs.Rooted.{IsRooted, rooted_of}
+use Rattle.cold_pages.specs.declared.kept.Kept.{Kept}
+use Rattle.cold_pages.specs.Kept.{left, nothing}
+use Rattle.row_opening.specs.Opened.{page_at}
 use Rattle.page_calls.specs.Slots.{opened_slot}
 use Rattle.page_provider.specs.Fresh.{fresh}
 use Rattle.page_provider.specs.Providers.{Keeps}
@@ -48,14 +51,23 @@ shape_of rows = lone_shape rows.frames rows.locks rows.workers
 abbrev pub free_of : List Page → List Bool
 free_of pages = map (λ x. not x.node.live) pages
 
+-- what is kept of the pages below page n: nothing of page 0, which stands in a frame, and of each other page as it left
+abbrev pub cold_to : List Page → ℕ → List Kept
+cold_to pages zero = replicate (length pages) nothing
+cold_to pages (suc zero) = replicate (length pages) nothing
+cold_to pages (suc (suc n)) = left (cold_to pages (suc n)) (suc n) (page_at pages (suc n))
+
+abbrev pub cold_of : List Page → List Kept
+cold_of pages = cold_to pages (length pages)
+
 -- what the rows begin with: the recovered pages, page 0 alone in a frame, a worker for each log, and the base number; and whether
 -- a page that is read again is as it was saved
 abbrev pub given_by : Bool → (frames locks : ℕ) → Recovered → Given
 given_by faithful frames locks r = rooted_of faithful frames locks (length r.master.heads) r.master.floor r.pages.items
 
 -- The rows are so many and at their beginning, the seat is theirs, and the pager is a new one of theirs: it knows the pages
--- that are free and the slot that recovery gives for each page, and saves by the new generation. The master and the counts
--- are recovery's.
+-- that are free, the slot that recovery gives for each page, and what each page but page 0 is, and saves by the new
+-- generation. The master and the counts are recovery's.
 pub record IsPaged (faithful : Bool) (frames locks : ℕ) (r : Recovered) (o : code.Opened) : Type 0 where
   pub frames_are : o.rows.frames ≡ frames
   pub locks_are : o.rows.locks ≡ locks
@@ -63,7 +75,7 @@ pub record IsPaged (faithful : Bool) (frames locks : ℕ) (r : Recovered) (o : c
   pub fits : IsPicture (plan (sizes o.rows.frames o.rows.locks o.rows.workers) o.seat.view.given) o.rows.words.items o.seat.view
   pub view : o.seat.view ≡ first_plain (given_by faithful frames locks r)
   pub rooted : IsRooted r.pages.items (given_by faithful frames locks r)
-  pub pager : o.pager ≡ fresh frames (length r.master.heads) r.master.generation (free_of r.pages.items) (map opened_slot r.slots.items)
+  pub pager : o.pager ≡ fresh frames (length r.master.heads) r.master.generation (free_of r.pages.items) (map opened_slot r.slots.items) (cold_of r.pages.items)
   pub keeps : Keeps (shape_of o.rows) o.seat.view o.pager
   pub works : o.pager.broken ≡ false
   pub master : o.master ≡ r.master

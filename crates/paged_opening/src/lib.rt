@@ -3,6 +3,7 @@
 //! Read specs/Opened.antt.
 #![tactic(auto)]
 
+mod cold;
 mod free;
 mod opening;
 mod pages;

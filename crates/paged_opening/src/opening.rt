@@ -15,6 +15,7 @@ ghost use Rattle.recovery.specs.Telling.{TellsAll};
 ghost use Rattle.recovery.specs.declared.opening.Unrecovered.{Unrecovered};
 ghost use Rattle.paged_opening.specs.Opened.{HasOpened, IsPaged};
 
+use crate::cold::cold_pages_of;
 use crate::free::free_pages_of;
 use crate::pages::are_pages;
 use disk_slots::Master;
@@ -56,6 +57,8 @@ fn page_in<D: Disk, F: Faith>(
 {
     row_opening::every_opened();
     page_provider::every_fresh();
+    cold_pages::every_new();
+    cold_pages::every_kept();
     are_pages(&recovered);
     let Recovered {
         pages,
@@ -75,7 +78,9 @@ fn page_in<D: Disk, F: Faith>(
     )?;
     let free = free_pages_of(alloc, pages.as_slice())?;
     let slots = Slots::new(alloc, slots.as_slice())?;
-    let pager = Pager::new(alloc, frames, workers, master.generation, free, slots)?;
+    let kept = cold_pages_of(alloc, pages.as_slice())?;
+    let generation = master.generation;
+    let pager = Pager::new(alloc, frames, workers, generation, free, slots, kept)?;
     Ok(Opened {
         rows,
         seat,

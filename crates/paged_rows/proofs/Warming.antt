@@ -1,6 +1,6 @@
 -- A way that is brought into frames page by page.
 use Rattle.std.proofs.Common.{◌≡◌, ◌∙◌, ◌<◌, ◌≤◌, ◌+◌, ◌*◌, ◌-◌, ℕ, suc, Bool, true, false, List, [], ap, arith, refl, subst, sym, ◌&&◌, ◌==◌, leb, ltb}
-use Rattle.std.proofs.lemmas.Bool.{and_from, and_parts, eqb-true, le-leb, lt-ltb}
+use Rattle.std.proofs.lemmas.Bool.{and_from, and_parts, eqb-true, le-leb, lt-ltb, or_cases}
 use Rattle.core_calls.specs.Warms.{EveryWarm, IsWarmFrom}
 use Rattle.core_state.specs.Openings.{Opening}
 use Rattle.core_state.specs.States.{Place, State, is_hot, nodes_of}
@@ -21,12 +21,19 @@ use Rattle.page_provider.specs.Providers.{Provider}
 use Rattle.page_provider.specs.Sequels.{EverySequel}
 use Rattle.page_provider.specs.declared.refusal.Refusal.{Refusal}
 use Rattle.rows_trait.proofs.Runs.{ran_none}
-use Rattle.paged_rows.specs.Paged.{IsFed, IsPaged}
+use Rattle.paged_rows.specs.Paged.{IsFedIfFaithful, IsPaged}
 use Rattle.page_calls.specs.Mirrors.{Mirrors}
 use Rattle.page_provider.specs.Mirrored.{KeepsMirrored}
 use Rattle.lean_disk.specs.Moments.{Framed}
 use Rattle.std.specs.Prelude.{IsTrue}
-use Rattle.paged_rows.specs.Warms.{HasCome, HasMoved, IsRefusedTo, Warmed}
+use Rattle.paged_rows.specs.Paged.{paged}
+use Rattle.paged_rows.specs.Warms.{CrowdedCause, HasCome, HasMoved, IsCrowded, IsKept, IsRefusedTo, most_a_page}
+use Rattle.map_model.specs.Lists.{any}
+use Rattle.map_model.proofs.ListLemmas.{any_has}
+use Rattle.page_pool.specs.Full.{IsTaken}
+use Rattle.cold_pages.specs.Laws.{IsButEntries}
+use Rattle.page_provider.specs.Moves.{is_on, way}
+use Rattle.core_state.specs.States.{is_cold}
 use Rattle.std.proofs.Common.{◌++◌, ◌||◌, append-nil}
 use Rattle.std.proofs.Common.{IfErr, IfOk, Ok, Err, Option, Some, None, ◌∷◌, inl, inr, length, zero}
 use Rattle.std.specs.Prelude.{slice_index}
@@ -71,85 +78,11 @@ module _ (v : Given) (m : Moment) (key row page : ℕ) (sound : Sound v m) where
 pub warm_up : (g : Opening) (s : State) (key : ℕ) {a b : ℕ} → a ≤ b → IsWarmFrom g s key a → IsWarmFrom g s key b
 warm_up g s key le w p below covers level = w p below covers (omega arith)
 
--- ## Calls
-
--- so many pages have come
-pub record IsWarming (key n : ℕ) (p q : Paged) : Type 0 where
-  pub few : n ≤ 8
-  pub moved : HasMoved (4 * n) p q
-  pub warm : IsWarm q key (8 - n)
-
--- the pages of a moment are sound
-sound_of : (p : Paged) → IsPaged p → Sound p.view.given (state p.view)
-sound_of p i = i.keeps.sound p.view.seen
-
-module _ (key : ℕ) (every : EveryWarm) (seq : EverySequel) where
-  pub warming_none : (p : Paged) → IsPaged p → IsWarming key 0 p p
-  warming_none p i =
-      let s = sound_of p i in
-      let tall = ((s.tree.formed 0 s.tree.some).node s.tree.root.0).tall in record {
-        few = omega arith;
-        moved = record { shape = refl; moved = seq.rest p.shape p.view p.view p.pager i.keeps i.held i.held (ran_none p.shape.alone p.view); broken = refl };
-        warm = warm_up (opening p.view.given) (state p.view).core key (omega arith) ((every (opening p.view.given) (state p.view).core key).first s.tree);
-      }
-
-  -- what was done behind a part
-  moved_on : {m n most : ℕ} {p q r : Paged} → m + n ≤ most → HasMoved m p q → HasMoved n q r → HasMoved most p r
-  moved_on {m = m} {n = n} {most = most} {p = p} {q = q} {r = r} few a b = record {
-    shape = b.shape ∙ a.shape;
-    moved = seq.moved m n most p.shape p.view q.view r.view p.pager q.pager r.pager few a.moved (subst (λ (z : Shape). Moved n z q.view q.pager r.view r.pager) a.shape b.moved);
-    broken = b.broken ∙ a.broken;
-  }
-
-  pub warming_more : (n : ℕ) (p q r : Paged) → IsPaged q → IsPaged r → IsWarming key n p q → HasCome key q r → IsWarming key (n + 1) p r
-  warming_more n p q r i j w c =
-      let v = q.view in let u = r.view in
-      let given : u.given ≡ v.given = c.moved.moved.goes.ran.given in
-      let same = seq.pages 4 q.shape v u q.pager r.pager i.alone i.keeps c.moved.moved c.page in
-      let lower = (every (opening v.given) (state v).core key).lower c.page (8 - n) w.warm c.below c.covers c.cold in
-      let level : ((state u).core.page c.page).node.level ≡ ((state v).core.page c.page).node.level = ap (λ x. x.node.level) same in
-      let s = sound_of r j in
-      let few = w.few in record {
-        few = omega arith;
-        moved = moved_on (omega arith) w.moved c.moved;
-        warm = warm_up (opening u.given) (state u).core key (omega arith)
-            ((every (opening u.given) (state u).core key).up s.tree s.residence c.page (subst (λ (g : Given). c.page < (opening g).format.pages) (sym given) c.below)
-            (ap (λ x. covers x.node key) same ∙ c.covers) c.hot);
-      }
-
-  pub warming_done : (n : ℕ) (p q r : Paged) → IsWarming key n p q → HasMoved 0 q r → IsWarm r key 0 → Warmed key p r
-  warming_done n p q r w m warm = let few = w.few in record { moved = moved_on (omega arith) w.moved m; warm = warm }
-
-  pub warming_refused : (n : ℕ) (p q r : Paged) (why : Refusal) → IsWarming key n p q → IsRefusedTo 4 q key why r → IsRefusedTo 36 p key why r
-  warming_refused n p q r why w e = let few = w.few in record {
-    shape = e.shape ∙ w.moved.shape;
-    refused = seq.refused (4 * n) 4 36 p.shape [] p.view q.view r.view p.pager q.pager r.pager why (omega arith) w.moved.moved w.moved.broken
-        (subst (λ (z : Shape). Rattle.page_provider.specs.Ends.HasRefused 4 z [] q.view q.pager why r.view r.pager) w.moved.shape e.refused);
-    path = e.path;
-    few = e.few;
-    on_way = e.on_way;
-    full = e.full;
-  }
-
 -- so they do behind a call
-pub fed_on : (p q : Paged) (old new : Story) → KeepsMirrored p.view p.pager q.view q.pager old new → Framed 1 old new → q.pager.broken ≡ false → IsFed p old → IsFed q new
-fed_on p q old new keeps frame well f = record { tells = subst IsTrue (sym (frame.tells 1)) f.tells; mirrored = keeps f.mirrored well }
+pub fed_on : (p q : Paged) (old new : Story) → q.view.given ≡ p.view.given → KeepsMirrored p.view p.pager q.view q.pager old new → Framed 1 old new → q.pager.broken ≡ false → IsFedIfFaithful p old → IsFedIfFaithful q new
+fed_on p q old new given keeps frame well h faithful = let f = h (sym (ap (λ (v : Given). v.faithful) given) ∙ faithful) in record { tells = subst IsTrue (sym (frame.tells 1)) f.tells; mirrored = keeps f.mirrored well }
 
 -- ## One page
-
--- rows, what their seat has seen, and a pager's memory
-abbrev pub paged : Shape → View → Provider → Paged
-paged z v k = record { shape = z; view = v; pager = k }
-
-cause_full : (z : Shape) (path : List ℕ) (page : ℕ) (was is : Provider) (s : Story) (u : View) (why : Refusal) → FaultCause z path was page s u is why → FullCause z path u is why
-cause_full z path page was is s u (refusal.PoolFull on latched above held) c = c
-cause_full z path page was is s u (refusal.Moved m) c = tt
-cause_full z path page was is s u (refusal.Latched l) c = tt
-cause_full z path page was is s u (refusal.RowSpent row) c = tt
-cause_full z path page was is s u refusal.NoPages c = absurd c
-cause_full z path page was is s u (refusal.Damaged p counts other) c = tt
-cause_full z path page was is s u refusal.DiskFault c = tt
-cause_full z path page was is s u refusal.Broken c = tt
 
 -- the page of a frame of the way covers the key
 routes_cover : (v : Given) (m : Moment) (key f : ℕ) → Sound v m → (r : Routes v m key f) → covers (m.core.page r.parent).node key ≡ true
@@ -173,6 +106,25 @@ place_of (x ∷ xs) f (inr h) = let p = place_of xs f h in let lt = p.1 in (suc 
 
 above_at : (path : List ℕ) (n : ℕ) → n < length path → above path n ≡ Some (slice_index path (length path - suc n))
 above_at path n lt = cond-true (ltb n (length path)) (Some (slice_index path (length path - suc n))) None (lt-ltb n (length path) lt)
+
+-- the last frame is one of them
+has_at : (xs : List ℕ) (i : ℕ) → i < length xs → Has (slice_index xs i) xs
+has_at [] i lt = absurd (omega arith)
+has_at (x ∷ xs) zero lt = inl refl
+has_at (x ∷ xs) (suc i) lt = inr (has_at xs i (omega arith))
+
+has_last : (path : List ℕ) (f : ℕ) → above path 0 ≡ Some f → Has f path
+has_last [] f e = cc
+has_last (x ∷ path) f e = subst (λ g. Has g (x ∷ path)) (some_same (slice_index (x ∷ path) (length (x ∷ path) - 1)) f (sym (above_at (x ∷ path) 0 (omega arith)) ∙ e)) (has_at (x ∷ path) (length (x ∷ path) - 1) (omega arith))
+
+-- a page of the way stands hot in one of its frames
+hot_on : (path : List ℕ) (p : ℕ) (x : Place) → Has 0 path → (p ≡ 0 → x ≡ Place.Hot 0) → is_on path p x ≡ true → (f : ℕ) × Has f path × (x ≡ Place.Hot f)
+hot_on path p (Place.Hot f) root at on = elim (or_cases (p == 0) (any (λ i. i == f) path) on) [
+  | inl e ↦ (0, root, at (eqb-true p 0 e))
+  | inr e ↦ let a = any_has (λ i. i == f) path e in (f, subst (λ i. Has i path) (eqb-true a.0 f a.2) a.1, refl)
+]
+hot_on path p (Place.Cooling f e w) root at on = (0, root, at (eqb-true p 0 on))
+hot_on path p Place.Cold root at on = (0, root, at (eqb-true p 0 on))
 
 routes_at : (R : ℕ → Type 0) (path : List ℕ) (f : ℕ) → Has f path → (above path 0 ≡ Some f → R f) → ((n next : ℕ) → above path (suc n) ≡ Some f → above path n ≡ Some next → R f) → R f
 routes_at R path f has last inner = go (length path - suc p.0) refl
@@ -224,12 +176,12 @@ module _ {x y : Shape} {v w : View} {k : Provider} (same : x ≡ y) (i : IsPaged
     pub wanted_is : IsWanted x w page
     wanted_is = subst (λ (z : Shape). IsWanted z w page) (sym same) ((law.1 page there.there).1 i.alone)
 
-    pub has_come : {z : Shape} {u : View} {is : Provider} {frame : ℕ} → z ≡ x → HasPlaced 4 x path w k page frame u is → HasCome key (paged y v k) (paged z u is)
+    pub has_come : {z : Shape} {u : View} {is : Provider} {frame : ℕ} → z ≡ x → HasPlaced most_a_page x path w k page frame u is → HasCome key (paged y v k) (paged z u is)
     has_come {z = z} {u = u} {is = is} later h =
         let cold : IsColdBelow v.given (state v) key there.row page = subst (λ (q : Given × Moment). IsColdBelow q.0 q.1 key there.row page) (λ j. (ran.given j, now j)) there.there in record {
           moved = record {
             shape = later ∙ same;
-            moved = seq.moved 0 4 4 y v w u k k is (omega arith) rested (subst (λ (q : Shape). Moved 4 q w k u is) same h.moved);
+            moved = seq.moved 0 most_a_page most_a_page y v w u k k is (omega arith) rested (subst (λ (q : Shape). Moved most_a_page q w k u is) same h.moved);
             broken = h.broken;
           };
           page = page;
@@ -239,36 +191,91 @@ module _ {x y : Shape} {v w : View} {k : Provider} (same : x ≡ y) (i : IsPaged
           hot = ap is_hot h.hot;
         }
 
-    pub refused_to : {z : Shape} {u : View} {is : Provider} (s : Story) (why : Refusal) → z ≡ x → HasRefused 4 x path w k why u is → FaultCause x path k page s u is why → IsRefusedTo 4 (paged y v k) key why (paged z u is)
-    refused_to {z = z} {u = u} {is = is} s why later h c = record {
-      shape = later ∙ same;
-      refused = seq.refused 0 4 4 y path v w u k k is why (omega arith) rested refl (subst (λ (q : Shape). HasRefused 4 q path w k why u is) same h);
-      path = path;
-      few = there.trail.few;
-      on_way = on_way;
-      full = subst (λ (q : Shape). FullCause q path u is why) (sym later) (cause_full x path page k is s u why c);
-    }
-      where
-        sound : Sound w.given (state w)
-        sound = paged_now.keeps.sound w.seen
+    -- behind a refused call: of the way from the root to the page that named it each one stands where it stood
+    module _ {z : Shape} {u : View} {is : Provider} (s : Story) (why : Refusal) (warms : EveryWarm) (later : z ≡ x) (h : HasRefused most_a_page x path w k why u is) where
+      sound : Sound w.given (state w)
+      sound = paged_now.keeps.sound w.seen
 
-        led : (n frame next : ℕ) → above path (suc n) ≡ Some frame → above path n ≡ Some next → IsAbove w.given (state w) key frame next
-        led n frame next a b = subst (λ (q : Given × Moment). IsAbove q.0 q.1 key frame next) (λ j. (sym ran.given j, sym now j)) (there.trail.still i.alone n frame next a b)
+      behind : Sound u.given (state u)
+      behind = h.moved.goes.keeps.sound u.seen
 
-        routes : (f : ℕ) → Has f path → Routes w.given (state w) key f
-        routes f has = routes_at (Routes w.given (state w) key) path f has (λ e. subst (Routes w.given (state w) key) (some_same there.row f (sym there.trail.ends ∙ e)) there.there.routes) (λ n next a b. (led n f next a b).routes)
+      given : u.given ≡ w.given
+      given = h.moved.goes.ran.given
 
-        on_way : (f : ℕ) → Has f path → (p : ℕ) → (state u).core.place p ≡ Place.Hot f → covers ((state u).core.page p).node key ≡ true
-        on_way f has p hot =
-            let r = routes f has in
-            let stays = h.keeps f r.parent has r.hot in
-            let e : p ≡ r.parent = (h.moved.goes.keeps.sound u.seen).residence.one p r.parent f (in_hot hot) (in_hot stays) in
-            let pages = seq.pages 4 x w u k is paged_now.alone paged_now.keeps h.moved r.parent in
-            ap (λ q. covers ((state u).core.page q).node key) e ∙ (ap (λ c. covers c.node key) pages ∙ routes_cover w.given (state w) key f sound r)
+      contents : (p : ℕ) → IsButEntries ((state w).core.page p) ((state u).core.page p)
+      contents p = seq.pages most_a_page x w u k is paged_now.alone paged_now.keeps h.moved p
+
+      led : (n frame next : ℕ) → above path (suc n) ≡ Some frame → above path n ≡ Some next → IsAbove w.given (state w) key frame next
+      led n frame next a b = subst (λ (q : Given × Moment). IsAbove q.0 q.1 key frame next) (λ j. (sym ran.given j, sym now j)) (there.trail.still i.alone n frame next a b)
+
+      routes : (f : ℕ) → Has f path → Routes w.given (state w) key f
+      routes f has = routes_at (Routes w.given (state w) key) path f has (λ e. subst (Routes w.given (state w) key) (some_same there.row f (sym there.trail.ends ∙ e)) there.there.routes) (λ n next a b. (led n f next a b).routes)
+
+      on_way : (f : ℕ) → Has f path → (p : ℕ) → (state u).core.place p ≡ Place.Hot f → covers ((state u).core.page p).node key ≡ true
+      on_way f has p hot =
+          let r = routes f has in
+          let stays = h.keeps f r.parent has r.hot in
+          let e : p ≡ r.parent = behind.residence.one p r.parent f (in_hot hot) (in_hot stays) in
+          ap (λ q. covers ((state u).core.page q).node key) e ∙ (ap (λ n. covers n key) (contents r.parent).fields ∙ routes_cover w.given (state w) key f sound r)
+
+      root : Has 0 path
+      root = subst (λ fs. Has 0 fs) (sym there.trail.starts) (inl refl)
+
+      covered : (p : ℕ) → way path (state u).core p ≡ true → covers ((state u).core.page p).node key ≡ true
+      covered p on = let a = hot_on path p ((state u).core.place p) root (λ e. ap (state u).core.place e ∙ behind.residence.root) on in on_way a.0 a.1 p a.2
+
+      kept : (f : ℕ) → IsTaken (opening u.given) (state u).core (way path (state u).core) f → IsKept key f (paged z u is)
+      kept f t = record { page = t.page; here = t.here; why = elim t.why [ inl on ↦ inl (covered t.page on) | inr e ↦ inr e ] }
+
+      crowded : (why : Refusal) → FaultCause x path k page s u is why → CrowdedCause key why (paged z u is)
+      crowded (refusal.PoolFull on latched over held) c =
+          let full = c.0.1 paged_now.alone in
+          let none = full.0 in
+          let sum = c.0.0 in
+          let few = full.1.on_few in
+          let short = there.trail.few in record {
+            page = page;
+            below = subst (λ (q : Given). page < (opening q).format.pages) (sym given) wanted_is.below;
+            covers = ap (λ n. covers n key) (contents page).fields ∙ cold_covers w.given (state w) key there.row page sound there.there;
+            cold = c.1;
+            kept = λ f lt. kept f (full.1.taken f lt);
+            sum = omega arith;
+            few = omega arith;
+            some_above = full.1.some_above;
+            some_held = full.1.some_held;
+          }
+      crowded refusal.NoPages c = absurd c
+      crowded _ c = tt
+
+      -- its parent is hot still, and so all of the way that was
+      warm : (level : ℕ) → IsWarm (paged y v k) key level → IsWarm (paged z u is) key level
+      warm level m =
+          let r = there.there.routes in
+          let at : IsWarmFrom (opening w.given) (state w).core key level = subst (λ (q : Given × Moment). IsWarmFrom (opening q.0) q.1.core key level) (λ j. (sym ran.given j, sym now j)) m in
+          let under : ((state w).core.page page).node.level < level = (warms (opening w.given) (state w).core key).lower page level at wanted_is.below (cold_covers w.given (state w) key there.row page sound there.there) there.there.cold in
+          let child = (sound.tree.down r.parent r.below r.span r.names).level in
+          let named = ap (λ p. ((state w).core.page p).node.level) there.there.child in
+          let over = ap (λ n. n.level) (contents r.parent).fields in
+          let hot : is_hot ((state u).core.place r.parent) ≡ true = ap is_hot (h.keeps there.row r.parent (has_last path there.row there.trail.ends) r.hot) in
+          warm_up (opening u.given) (state u).core key (omega arith)
+          ((warms (opening u.given) (state u).core key).up behind.tree behind.residence r.parent (subst (λ (q : Given). r.parent < (opening q).format.pages) (sym given) r.below)
+          (ap (λ n. covers n key) (contents r.parent).fields ∙ routes_cover w.given (state w) key there.row sound r) hot)
+
+      pub refused_to : FaultCause x path k page s u is why → IsRefusedTo key (paged y v k) why (paged z u is)
+      refused_to c = record {
+        shape = later ∙ same;
+        refused = seq.refused 0 most_a_page most_a_page y path v w u k k is why (omega arith) rested refl (subst (λ (q : Shape). HasRefused most_a_page q path w k why u is) same h);
+        warm = warm;
+        crowded = crowded why c;
+      }
 
   -- the slots hold what is saved still
-  pub fed_now : (s : Story) → IsFed (paged y v k) s → IsFed (paged x w k) s
-  fed_now s f = record { tells = f.tells; mirrored = record { mirrors = subst (λ (m : Moment). Mirrors k.slots k.generation m.core.saved s) (sym now) f.mirrored.mirrors; spans = f.mirrored.spans } }
+  pub fed_now : (s : Story) → IsFedIfFaithful (paged y v k) s → IsFedIfFaithful (paged x w k) s
+  fed_now s h faithful =
+      let f = h (sym (ap (λ (v : Given). v.faithful) ran.given) ∙ faithful) in record {
+        tells = f.tells;
+        mirrored = record { mirrors = subst (λ (m : Moment). Mirrors k.slots k.generation m.core.saved s) (sym now) f.mirrored.mirrors; spans = f.mirrored.spans };
+      }
 
 -- what was done to the disk behind a search
 pub disk_from : {alone : Bool} {v w u : View} {k is : Provider} {old new : Story} → Rattle.page_provider.specs.Sequels.EveryDiskSequel old old new → k.broken ≡ false → Disked alone k v k w old old → Disked alone k w is u old new → Disked alone k v is u old new
@@ -276,46 +283,3 @@ disk_from {alone = alone} {v = v} {w = w} {u = u} {k = k} {is = is} sequel well 
 
 pub if_err : {A E : Type 0} (r : Rattle.std.proofs.Common.Result A E) (e : E) (P : E → Type 0) → r ≡ Err e → P e → IfErr r P
 if_err r e P is p = subst (λ q. IfErr q P) (sym is) p
-
--- ## A call
-
--- it was broken before, and nothing is done
-pub broken_to : (key : ℕ) (seq : EverySequel) (p : Paged) → IsPaged p → p.pager.broken ≡ true → IsRefusedTo 36 p key refusal.Broken p
-broken_to key seq p i b = let none = seq.rest p.shape p.view p.view p.pager i.keeps i.held i.held (ran_none p.shape.alone p.view) in record {
-  shape = refl;
-  refused = record {
-    moved = seq.moved 0 0 36 p.shape p.view p.view p.view p.pager p.pager p.pager (omega arith) none none;
-    keeps = λ f q h. absurd h;
-    broken = sym (or_false p.pager.broken);
-    cause = tt;
-    quiet = λ _ o. o;
-    earlier = λ _. b;
-  };
-  path = [];
-  few = omega arith;
-  on_way = λ f h. absurd h;
-  full = tt;
-}
-  where
-    or_false : (b : Bool) → (b || false) ≡ b
-    or_false true = refl
-    or_false false = refl
-
--- what is left of the device by two calls
-pub framed_then : {a : ℕ} {old mid new : Story} → Framed a old mid → Framed a mid new → Framed a old new
-framed_then x y = record {
-  notes = y.notes ∙ x.notes;
-  tells = λ b. y.tells b ∙ x.tells b;
-  areas = y.areas ∙ x.areas;
-  counts = y.counts ∙ x.counts;
-  later = let l = x.later in let m = y.later in omega arith;
-  past = λ m c le h. x.past m c le (y.past m c (let l = x.later in omega arith) h);
-  elsewhere = λ b ne. y.elsewhere b ne ∙ x.elsewhere b ne;
-  first = y.first ∙ x.first;
-}
-
--- the disk behind two parts
-pub disk_then : {p q : Paged} (r : Paged) {old mid new : Story} → Rattle.page_provider.specs.Sequels.EveryDiskSequel old mid new → q.shape ≡ p.shape → q.pager.broken ≡ false → Disked p.shape.alone p.pager p.view q.pager q.view old mid
-    → Disked q.shape.alone q.pager q.view r.pager r.view mid new → Disked p.shape.alone p.pager p.view r.pager r.view old new
-disk_then {p = p} {q = q} r {mid = mid} {new = new} sequel same well a b =
-    sequel p.shape.alone p.view q.view r.view p.pager q.pager r.pager well a (subst (λ (z : Shape). Disked z.alone q.pager q.view r.pager r.view mid new) same b)

@@ -14,7 +14,10 @@ pub record Paged : Type 0 where
   pub view : View
   pub pager : Provider
 
--- Between two calls nobody else steps, no row is held, and the pager keeps what it has to.
+abbrev pub paged : Shape → View → Provider → Paged
+paged z v k = record { shape = z; view = v; pager = k }
+
+-- Nobody else steps, no row is held, and the pager keeps what it has to.
 pub record IsPaged (p : Paged) : Type 0 where
   pub alone : p.shape.alone ≡ true
   pub held : p.view.held ≡ []
@@ -24,6 +27,10 @@ pub record IsPaged (p : Paged) : Type 0 where
 pub record IsFed (p : Paged) (s : Story) : Type 0 where
   pub tells : Tells s 1
   pub mirrored : IsMirrored p.view p.pager s
+
+-- so it is where the rows began faithful, as those over such a device do
+abbrev pub IsFedIfFaithful : Paged → Story → Type 0
+IsFedIfFaithful p s = p.view.given.faithful ≡ true → IsFed p s
 
 -- each page on the key's way is hot, from this level up
 abbrev pub IsWarm : Paged → (key level : ℕ) → Type 0

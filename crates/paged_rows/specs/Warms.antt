@@ -1,15 +1,24 @@
--- A key's way is brought into frames.
-use Rattle.std.specs.Prelude.{◌≡◌, ◌<◌, ◌≤◌, ℕ, Bool, true, false, List, [], length}
-use Rattle.core_state.specs.States.{Place, is_hot}
+-- A page of a key's way is brought into a frame.
+use Rattle.std.specs.Prelude.{◌≡◌, ◌<◌, ◌≤◌, ◌+◌, ◌⊎◌, ℕ, Bool, true, false, []}
+use Rattle.core_state.specs.States.{flushed_by_all, in_frame, is_cold, is_cooling, is_hot}
 use Rattle.page_model.specs.Nodes.{covers}
+use Rattle.page_pool.specs.Full.{IsHeldBack}
 use Rattle.page_provider.specs.declared.refusal.Refusal.{Refusal}
+use Rattle.page_provider.specs.declared.refusal.Refusal.TheVariants as refusal
+use Rattle.lean_disk.specs.Moments.{OnlyReads}
+use Rattle.lean_disk.specs.Story.{Story}
+use Rattle.map_model.specs.Lists.{any}
+use Rattle.page_provider.specs.Disks.{saves_page}
 use Rattle.page_provider.specs.Ends.{HasRefused}
-use Rattle.page_provider.specs.Faults.{FullCause}
 use Rattle.page_provider.specs.Moves.{Moved}
-use Rattle.map_model.specs.Lists.{Has}
+use Rattle.row_words.specs.Moments.{events_of}
 use Rattle.row_words.specs.Openings.{opening}
 use Rattle.rows_trait.specs.Views.{state}
 use Rattle.paged_rows.specs.Paged.{IsWarm, Paged}
+
+-- so many events at most, beside those by which pages cool, has the coming of one page
+abbrev pub most_a_page : ℕ
+most_a_page = 5
 
 -- Pages have moved, and at most so many events were no cool and no tick; the pager is broken where it was.
 pub record HasMoved (most : ℕ) (p q : Paged) : Type 0 where
@@ -19,7 +28,7 @@ pub record HasMoved (most : ℕ) (p q : Paged) : Type 0 where
 
 -- A page of the key's way that was not hot is hot now.
 pub record HasCome (key : ℕ) (p q : Paged) : Type 0 where
-  pub moved : HasMoved 4 p q
+  pub moved : HasMoved most_a_page p q
   pub page : ℕ
   pub below : page < (opening p.view.given).format.pages
   pub covers : covers ((state p.view).core.page page).node key ≡ true
@@ -31,21 +40,42 @@ abbrev pub Warms : (key : ℕ) → Bool → (p q : Paged) → Type 0
 Warms key true p q = HasMoved 0 p q × IsWarm q key 0
 Warms key false p q = HasCome key p q
 
--- All of it is hot.
-pub record Warmed (key : ℕ) (p q : Paged) : Type 0 where
-  pub moved : HasMoved 32 p q
-  pub warm : IsWarm q key 0
+-- ## The device
 
--- each page that stands hot in the frame covers the key
-abbrev pub IsOnWay : (key frame : ℕ) → Paged → Type 0
-IsOnWay key frame q = (p : ℕ) → (state q.view).core.place p ≡ Place.Hot frame → covers ((state q.view).core.page p).node key ≡ true
+-- by whichever events it is said: where the pager is whole, and none of them saves a page, the device was only read
+abbrev pub ReadsUnlessSaved : (p q : Paged) → (old new : Story) → Type 0
+ReadsUnlessSaved p q old new = (most : ℕ) (m : Moved most p.shape p.view p.pager q.view q.pager) → q.pager.broken ≡ false → any saves_page (events_of m.events) ≡ false → OnlyReads old new
 
--- It was refused; some of the way may have come, and other pages may have cooled and left.
-pub record IsRefusedTo (most : ℕ) (p : Paged) (key : ℕ) (why : Refusal) (q : Paged) : Type 0 where
+-- ## No frame
+
+-- a page of the key's way stands in the frame, or one above what is flushed everywhere, or one that is held back by a worker
+pub record IsKept (key frame : ℕ) (q : Paged) : Type 0 where
+  pub page : ℕ
+  pub here : in_frame ((state q.view).core.place page) frame ≡ true
+  pub why : (covers ((state q.view).core.page page).node key ≡ true) ⊎ ((flushed_by_all (opening q.view.given) (state q.view).core < ((state q.view).core.page page).gsn) ⊎ IsHeldBack (state q.view).core page)
+
+-- A page of the key's way is in no frame, and each frame is kept from it: so many by pages of the way, of each level one at most; so many by pages
+-- above what is flushed everywhere, and so many by pages that are held back; and there is such a page where the count is not 0.
+pub record IsCrowded (key on above held : ℕ) (q : Paged) : Type 0 where
+  pub page : ℕ
+  pub below : page < (opening q.view.given).format.pages
+  pub covers : covers ((state q.view).core.page page).node key ≡ true
+  pub cold : is_cold ((state q.view).core.place page) ≡ true
+  pub kept : (frame : ℕ) → frame < (opening q.view.given).frames → IsKept key frame q
+  pub sum : on + above + held ≡ q.pager.frames
+  pub few : on ≤ 8
+  pub some_above : 0 < above → (p : ℕ) × (is_cooling ((state q.view).core.place p) ≡ true) × (flushed_by_all (opening q.view.given) (state q.view).core < ((state q.view).core.page p).gsn)
+  pub some_held : 0 < held → (p : ℕ) × (is_cooling ((state q.view).core.place p) ≡ true) × IsHeldBack (state q.view).core p
+
+-- so it is where no frame could be given; pages are not asked for
+abbrev pub CrowdedCause : (key : ℕ) → Refusal → Paged → Type 0
+CrowdedCause key (refusal.PoolFull on latched above held) q = IsCrowded key on above held q
+CrowdedCause key refusal.NoPages q = ⊥
+CrowdedCause key _ q = Unit {0}
+
+-- It was refused; other pages may have cooled and left, and what was hot of the way is so still.
+pub record IsRefusedTo (key : ℕ) (p : Paged) (why : Refusal) (q : Paged) : Type 0 where
   pub shape : q.shape ≡ p.shape
-  pub refused : HasRefused most p.shape [] p.view p.pager why q.view q.pager
-  -- where no frame could be given: frames of the key's way alone were kept from it, of each level one at most
-  pub path : List ℕ
-  pub few : length path ≤ 8
-  pub on_way : (f : ℕ) → Has f path → IsOnWay key f q
-  pub full : FullCause q.shape path q.view q.pager why
+  pub refused : HasRefused most_a_page p.shape [] p.view p.pager why q.view q.pager
+  pub warm : (level : ℕ) → IsWarm p key level → IsWarm q key level
+  pub crowded : CrowdedCause key why q

@@ -1,6 +1,6 @@
-//! Rows whose pages need not all be in frames: with rows and their one seat goes the pager that brings pages in.
+//! The pages on a key's way come into frames one by one, for an engine whose pages need not all be in memory.
 #![tactic(auto)]
 
-mod paged;
+mod coming;
 
-pub use paged::PagedRows;
+pub use coming::bring;

@@ -1,4 +1,5 @@
 // A new pager, with as much memory as it wants, and the pages that it gives out.
+use cold_pages::ColdPages;
 use free_pages::FreePages;
 use page_calls::Slots;
 use page_provider::{Pager, Refusal};
@@ -33,7 +34,8 @@ fn pager_with(
     if slots.len() != set.pages() {
         return Ok(None);
     }
-    Ok(Some(Pager::new(alloc, frames, 1, 1, set, slots)?))
+    let kept = ColdPages::new(alloc, pages)?;
+    Ok(Some(Pager::new(alloc, frames, 1, 1, set, slots, kept)?))
 }
 
 fn given(pager: &Pager, wanted: u32) -> Answer {

@@ -2,6 +2,7 @@ use Rattle.page_provider.proofs.Saves.{rest_moments, settled_early, settles_on}
 use Rattle.std.proofs.Common.{◌≡◌, Some, refl, slice_get, subst}
 use Rattle.page_provider.proofs.Mirrored.{keeps_same}
 use Rattle.lean_disk.proofs.MomentLemmas.{framed}
+use Rattle.page_provider.proofs.Framing.{within_none}
 use Rattle.page_provider.proofs.saving.settle_first.Goals as goal
 
 pub returns-then-not-of-clause-any_moment : goal.returns-then-not-of-clause-any_moment
@@ -18,3 +19,6 @@ returns-then-not-of-clause-mirrors g c = keeps_same refl
 
 pub returns-then-not-of-clause-frame : goal.returns-then-not-of-clause-frame
 returns-then-not-of-clause-frame g c = framed 1 (g.P.Part.story c.args.dev.now)
+
+pub returns-then-not-of-clause-within : goal.returns-then-not-of-clause-within
+returns-then-not-of-clause-within g c = within_none (g.met.P.Part.lawful c.args.dev.now)

@@ -1,7 +1,7 @@
 use Rattle.page_provider.proofs.Saves.{saved_size, writes_moments, writes_on}
 use Rattle.std.proofs.Common.{◌∙◌}
 use Rattle.page_provider.proofs.Mirrored.{settled_saves}
-use Rattle.page_provider.proofs.Framing.{framed_then}
+use Rattle.page_provider.proofs.Framing.{framed_then, within_then}
 use Rattle.page_provider.proofs.saving.write.Goals as goal
 
 pub returns-clause-writes : goal.returns-clause-writes
@@ -18,3 +18,6 @@ returns-clause-mirrors g c = λ done. settled_saves c.settle_first.ensures.size 
 
 pub returns-clause-frame : goal.returns-clause-frame
 returns-clause-frame g c = framed_then c.settle_first.ensures.frame c.save.ensures.frame
+
+pub returns-clause-within : goal.returns-clause-within
+returns-clause-within g c = within_then c.settle_first.ensures.frame c.settle_first.ensures.within c.save.ensures.within

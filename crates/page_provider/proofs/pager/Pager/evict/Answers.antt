@@ -14,6 +14,8 @@ use Rattle.page_provider.proofs.Savings.{entered_is, frame_is, if_err, is_found,
 use Rattle.page_provider.proofs.Writing.{disked_misses}
 use Rattle.page_provider.proofs.Mirrored.{leave_mirrored, mirrored_after, mirrored_misses}
 use Rattle.lean_disk.proofs.MomentLemmas.{framed}
+use Rattle.page_provider.proofs.Framing.{within_none}
+use Rattle.page_provider.proofs.Unwritten.{left_unsaved, reads_untouched, unsaved_then}
 use Rattle.page_provider.proofs.pager.Pager.evict.Goals as goal
 
 pub returns-then-self-clause-err : goal.returns-then-self-clause-err
@@ -179,3 +181,26 @@ returns-in_err-dirty-clause-frame g c = framed 1 (g.P.Part.story c.args.dev.now)
 
 pub returns-clause-frame : goal.returns-clause-frame
 returns-clause-frame g c = framed 1 (g.P.Part.story c.args.dev.now)
+
+pub returns-then-self-clause-within : goal.returns-then-self-clause-within
+returns-then-self-clause-within g c = within_none (g.met.P.Part.lawful c.args.dev.now)
+
+pub returns-in_err-dirty-clause-within : goal.returns-in_err-dirty-clause-within
+returns-in_err-dirty-clause-within g c = within_none (g.met.P.Part.lawful c.args.dev.now)
+
+pub returns-clause-within : goal.returns-clause-within
+returns-clause-within g c = within_none (g.met.P.Part.lawful c.args.dev.now)
+
+pub returns-then-self-clause-reads : goal.returns-then-self-clause-reads
+returns-then-self-clause-reads g c = reads_untouched (g.met.P.Part.lawful c.args.dev.now) (ran_none (g.R.Rows.shape c.args.rows.now).alone (g.R.Rows.view c.args.seat.now))
+
+pub returns-in_err-dirty-clause-reads : goal.returns-in_err-dirty-clause-reads
+returns-in_err-dirty-clause-reads g c = reads_untouched (g.met.P.Part.lawful c.args.dev.now) c.in_err-dirty.ensures.err.ran
+
+pub returns-then-dirty-clause-reads : goal.returns-then-dirty-clause-reads
+returns-then-dirty-clause-reads g c = unsaved_then c.args.self.now (ap (λ (p : Provider). p.broken) (sym c.self.view_is) ∙ c.if-self.false) (reads_untouched (g.met.P.Part.lawful c.args.dev.now) c.in_ok-dirty.ensures.ok.ran) c.leave_dirty.ensures.reads
+
+pub returns-clause-reads : goal.returns-clause-reads
+returns-clause-reads g c =
+    let law = g.met.P.Part.lawful c.args.dev.now in
+    unsaved_then c.args.self.now (ap (λ (p : Provider). p.broken) (sym c.self.view_is) ∙ c.if-self.false) (reads_untouched law c.in_ok-dirty.ensures.ok.ran) (left_unsaved (g.R.Rows.shape c.is_dirty.new.rows) c.args.self.now c.in-Some.entry law c.leave.result c.leave.ensures.ok c.leave.ensures.err)

@@ -7,6 +7,8 @@ use Rattle.page_provider.proofs.Faulting.{broken_refused, found_at, free_cold, f
 use Rattle.page_provider.proofs.Writing.{disked_misses}
 use Rattle.page_provider.proofs.Mirrored.{mirrored_unseen}
 use Rattle.lean_disk.proofs.MomentLemmas.{framed}
+use Rattle.page_provider.proofs.Framing.{within_none}
+use Rattle.page_provider.proofs.Unwritten.{reads_untouched}
 use Rattle.page_provider.proofs.pager.Pager.fault.Goals as goal
 
 pub returns-then-self-clause-err : goal.returns-then-self-clause-err
@@ -23,7 +25,7 @@ returns-in-Some-clause-ok g c =
     let z = g.R.Rows.shape c.args.rows.now in
     let v = g.R.Rows.view c.args.seat.now in
     let w = g.R.Rows.view c.rescue.new.seat in
-    subst (λ p. IfOk c.rescue.result (λ come. Faulted 4 z c.args.path.now v c.args.self.now p come w c.rescue.new.self)) (found_at c.args.page c.self.view_is c.in-Some.ensures).0 c.rescue.ensures.ok
+    subst (λ p. IfOk c.rescue.result (λ come. Faulted 5 z c.args.path.now v c.args.self.now p come w c.rescue.new.self)) (found_at c.args.page c.self.view_is c.in-Some.ensures).0 c.rescue.ensures.ok
 
 pub returns-in-Some-clause-disk : goal.returns-in-Some-clause-disk
 returns-in-Some-clause-disk g c = quiet_disk c.laws.ensures.disk (g.met.P.Part.lawful c.args.dev.now) c.rescue.ensures.unseen
@@ -48,3 +50,15 @@ returns-then-self-clause-frame g c = framed 1 (g.P.Part.story c.args.dev.now)
 
 pub returns-in-Some-clause-frame : goal.returns-in-Some-clause-frame
 returns-in-Some-clause-frame g c = framed 1 (g.P.Part.story c.args.dev.now)
+
+pub returns-then-self-clause-within : goal.returns-then-self-clause-within
+returns-then-self-clause-within g c = within_none (g.met.P.Part.lawful c.args.dev.now)
+
+pub returns-in-Some-clause-within : goal.returns-in-Some-clause-within
+returns-in-Some-clause-within g c = within_none (g.met.P.Part.lawful c.args.dev.now)
+
+pub returns-then-self-clause-reads : goal.returns-then-self-clause-reads
+returns-then-self-clause-reads g c = reads_untouched (g.met.P.Part.lawful c.args.dev.now) (ran_none (g.R.Rows.shape c.args.rows.now).alone (g.R.Rows.view c.args.seat.now))
+
+pub returns-in-Some-clause-reads : goal.returns-in-Some-clause-reads
+returns-in-Some-clause-reads g c = reads_untouched (g.met.P.Part.lawful c.args.dev.now) c.rescue.ensures.unseen.ran

@@ -4,7 +4,7 @@ use Rattle.rows_trait.specs.Turns.{Ran}
 use Rattle.rows_trait.specs.Views.{Shape}
 use Rattle.rows_trait.proofs.Runs.{ran_append}
 use Rattle.page_provider.specs.Providers.{Provider}
-use Rattle.page_provider.proofs.Coming.{can_fill_free, empty_is, filled_free}
+use Rattle.page_provider.proofs.Coming.{can_fill_free, comes_within, empty_is, filled_free}
 use Rattle.page_provider.proofs.pager.Pager.fill_free_page.Goals as goal
 
 pub take-requires-clause-frame : goal.take-requires-clause-frame
@@ -30,4 +30,7 @@ returns-clause-ok g c =
     let h = c.in_ok-own.ensures.ok in
     let ran = subst (λ row. Ran (g.R.Rows.shape c.take.new.rows).alone t (Load c.args.page row ∷ []) w) h.0 went.ran in
     let all = ran_append z.alone v [] t (Load c.args.page c.args.frame ∷ []) w h.1.ran (subst (λ (s : Shape). Ran s.alone t (Load c.args.page c.args.frame ∷ []) w) c.in_ok-own.ensures.fits.1 ran) in
-    filled_free c.self.view_is c.laws.ensures.rows c.requires.keeps went.held c.requires.comes c.requires.free all c.pop.new.self.items (let p = c.self.inside.empty.ok.0 in c.pop.ensures.rest ∙ ap (λ n. take (n - 1) c.self.inside.empty.items) p) c.remove.new.self c.remove.ensures
+    filled_free c.self.view_is c.laws.ensures.rows c.requires.keeps went.held c.requires.comes c.requires.free all c.pop.new.self.items (let p = c.self.inside.empty.ok.0 in c.pop.ensures.rest ∙ ap (λ n. take (n - 1) c.self.inside.empty.items) p) c.remove.new.self c.remove.ensures c.come.new.self c.come.ensures
+
+pub come-requires : goal.come-requires
+come-requires g c = record { within = comes_within c.self.view_is c.requires.keeps c.requires.comes }

@@ -7,7 +7,7 @@ use Rattle.rows_trait.proofs.Runs.{ran_append}
 use Rattle.page_provider.specs.Finds.{Halts, IsSeen, Naming}
 use Rattle.page_provider.specs.Providers.{Provider}
 use Rattle.page_provider.specs.declared.refusal.Refusal.{Refusal}
-use Rattle.page_provider.proofs.Coming.{cold_hot, come_on, empty_is, filled_node, node_is}
+use Rattle.page_provider.proofs.Coming.{cold_hot, come_on, comes_within, empty_is, filled_node, node_is}
 use Rattle.page_provider.proofs.Parents.{can_fill, frame_fits, halts_stopped, linked, named_off, named_keeps, named_seen, none_comes}
 use Rattle.page_provider.proofs.Savings.{if_err}
 use Rattle.page_provider.proofs.pager.Pager.fill_node.Goals as goal
@@ -79,4 +79,7 @@ returns-clause-ok g c =
     let ran = subst (λ row. Ran (g.R.Rows.shape c.take_with.new.rows).alone t (Load c.args.page row ∷ []) w) h.1 went.ran in
     let all = ran_append z.alone v [] t (Load c.args.page c.args.frame ∷ []) w l.ran (subst (λ (s : Shape). Ran s.alone t (Load c.args.page c.args.frame ∷ []) w) (c.in_ok-above.ensures.fits.1 ∙ c.in_ok-parent.ensures.fits.1) ran) in
     let p = c.self.inside.empty.ok.0 in
-    filled_node c.self.view_is c.laws.ensures.rows c.requires.keeps went.held m c.requires.live l.before all c.pop.new.self.items (c.pop.ensures.rest ∙ ap (λ n. take (n - 1) c.self.inside.empty.items) p)
+    filled_node c.self.view_is c.laws.ensures.rows c.requires.keeps went.held m c.requires.live l.before all c.pop.new.self.items (c.pop.ensures.rest ∙ ap (λ n. take (n - 1) c.self.inside.empty.items) p) c.come.new.self c.come.ensures
+
+pub come-requires : goal.come-requires
+come-requires g c = record { within = comes_within c.self.view_is c.requires.keeps c.requires.comes }

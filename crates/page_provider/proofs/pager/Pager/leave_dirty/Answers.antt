@@ -10,6 +10,7 @@ use Rattle.page_provider.proofs.Parts.{cause_to, err_to, keeps_shape, leave_disk
 use Rattle.page_provider.proofs.Running.{disked_then}
 use Rattle.page_provider.proofs.Savings.{frame_is, if_err}
 use Rattle.page_provider.proofs.Mirrored.{leave_mirrored, mirrored_then}
+use Rattle.page_provider.proofs.Unwritten.{left_unsaved, unsaved_then}
 use Rattle.page_provider.proofs.pager.Pager.leave_dirty.Goals as goal
 
 pub leave-requires-clause-keeps : goal.leave-requires-clause-keeps
@@ -77,3 +78,7 @@ returns-clause-mirrors g c =
     let k = c.in_ok-save.ensures.ok in
     mirrored_then (saved_well k c.requires.well) c.in_ok-save.ensures.mirrors
     (leave_mirrored c.args.entry (keeps_shape c.in_ok-save.ensures.fits.1 k.goes.keeps) k.clean c.leave.result c.leave.ensures.ok c.leave.ensures.err c.leave.ensures.same)
+
+pub returns-clause-reads : goal.returns-clause-reads
+returns-clause-reads g c =
+    unsaved_then c.save.new.self (saved_well c.in_ok-save.ensures.ok c.requires.well) c.in_ok-save.ensures.reads (left_unsaved (g.R.Rows.shape c.save.new.rows) c.save.new.self c.args.entry (g.met.P.Part.lawful c.save.new.dev) c.leave.result c.leave.ensures.ok c.leave.ensures.err)

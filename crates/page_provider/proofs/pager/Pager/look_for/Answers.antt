@@ -1,5 +1,6 @@
 use Rattle.std.proofs.Common.{◌≡◌, ◌∙◌, ℕ, Option, sym, ap, subst}
 use Rattle.std.proofs.lemmas.Result.{err_from_is_err_and, IfErr-weaker, IfOk-weaker}
+use Rattle.row_words.specs.declared.given.Given.{Given}
 use Rattle.rows_trait.specs.Views.{Shape}
 use Rattle.row_image.specs.declared.sight.Sight.{Sight}
 use Rattle.page_provider.specs.Disks.{Disked}
@@ -16,6 +17,8 @@ use Rattle.page_provider.proofs.Savings.{if_err}
 use Rattle.page_provider.proofs.Sightings.{sound_still}
 use Rattle.page_provider.proofs.Mirrored.{mirrored_after, mirrored_misses, settled_mirrored}
 use Rattle.lean_disk.proofs.MomentLemmas.{framed}
+use Rattle.page_provider.proofs.Framing.{within_none}
+use Rattle.page_provider.proofs.Unwritten.{reads_untouched, settled_unsaved, unsaved_then}
 use Rattle.page_provider.proofs.pager.Pager.look_for.Goals as goal
 
 pub returns-in_err-naming-clause-err : goal.returns-in_err-naming-clause-err
@@ -27,7 +30,7 @@ returns-in_err-naming-clause-err g c =
     let p2 = p.2 in
     let why = c.in_err-naming.field-0.0 in
     let e : why ≡ p.0 = cc in
-    let P : Refusal → Type 0 = λ q. HasRefused 4 z c.args.path.now v c.args.self.now q w c.args.self.now in
+    let P : Refusal → Type 0 = λ q. HasRefused 5 z c.args.path.now v c.args.self.now q w c.args.self.now in
     if_err c.from_residual.result p.0 P p.1 (subst P e (missed_refused c.laws.ensures.rows c.requires.keeps c.requires.held c.in_err-naming.ensures.err))
 
 pub standing-requires-clause-sound : goal.standing-requires-clause-sound
@@ -42,7 +45,7 @@ returns-in_default-clause-ok g c =
     let o = c.in_ok-naming.ensures in
     let names = subst (λ (x : Option (Sight × ℕ)). Naming z v c.frames-frames.result c.from.result x u) c.in_default.is o.ok in
     let P : Option ℕ → Type 0 = λ come. Standing (g.R.Rows.shape c.naming.new.rows) u c.args.page come w in
-    let Q : Option ℕ → Type 0 = λ come. Faulted 4 z c.args.path.now v c.args.self.now c.args.page come w c.args.self.now in
+    let Q : Option ℕ → Type 0 = λ come. Faulted 5 z c.args.path.now v c.args.self.now c.args.page come w c.args.self.now in
     IfOk-weaker c.standing.result P Q (λ come h. settled w c.args.page c.args.path.now c.laws.ensures.rows c.requires.keeps c.requires.held o.fits.1 o.kept c.standing.ensures.fits.2 (c.frames-frames.ensures ∙ ap (λ (k : Provider). k.frames) c.self.view_is) c.from.ensures c.requires.below c.requires.used names come h) c.standing.ensures.ok
 
 pub returns-in_default-clause-err : goal.returns-in_default-clause-err
@@ -53,7 +56,7 @@ returns-in_default-clause-err g c =
     let w = g.R.Rows.view c.standing.new.seat in
     let o = c.in_ok-naming.ensures in
     let P : Refusal → Type 0 = λ why. Missed (g.R.Rows.shape c.naming.new.rows) u why w in
-    let Q : Refusal → Type 0 = λ why. HasRefused 4 z c.args.path.now v c.args.self.now why w c.args.self.now in
+    let Q : Refusal → Type 0 = λ why. HasRefused 5 z c.args.path.now v c.args.self.now why w c.args.self.now in
     IfErr-weaker c.standing.result P Q (λ why h. unsettled w c.args.page c.args.path.now c.laws.ensures.rows c.requires.keeps c.requires.held o.fits.1 o.kept why h) c.standing.ensures.err
 
 pub returns-in_default-clause-disk : goal.returns-in_default-clause-disk
@@ -94,7 +97,7 @@ bring-requires-clause-gives g c =
     let z = g.R.Rows.shape c.args.rows.now in
     let r = c.in_ok-naming.ensures.kept.ran in
     let laws = c.laws.ensures.rows in
-    λ cold. gives_on z r laws c.requires.keeps (c.requires.gives (sym ((stood_look z r laws c.requires.keeps).cold c.args.page) ∙ cold))
+    λ faithful cold. gives_on z r laws c.requires.keeps (c.requires.gives (ap (λ (g : Given). g.faithful) (sym r.given) ∙ faithful) (sym ((stood_look z r laws c.requires.keeps).cold c.args.page) ∙ cold))
 
 pub returns-clause-ok : goal.returns-clause-ok
 returns-clause-ok g c =
@@ -104,9 +107,9 @@ returns-clause-ok g c =
     let u = g.R.Rows.view c.naming.new.seat in
     let w = g.R.Rows.view c.bring.new.seat in
     let o = c.in_ok-naming.ensures in
-    let P : Option ℕ → Type 0 = λ come. Faulted 4 y c.args.path.now u c.args.self.now c.args.page come w c.bring.new.self in
-    let Q : Option ℕ → Type 0 = λ come. Faulted 4 z c.args.path.now v c.args.self.now c.args.page come w c.bring.new.self in
-    IfOk-weaker c.bring.result P Q (λ come h. faulted_before z o.kept.ran c.laws.ensures.rows c.requires.keeps 4 c.args.path.now c.args.page w c.bring.new.self c.requires.held o.kept.held come (subst (λ (s : Shape). Faulted 4 s c.args.path.now u c.args.self.now c.args.page come w c.bring.new.self) o.fits.1 h)) c.bring.ensures.ok
+    let P : Option ℕ → Type 0 = λ come. Faulted 5 y c.args.path.now u c.args.self.now c.args.page come w c.bring.new.self in
+    let Q : Option ℕ → Type 0 = λ come. Faulted 5 z c.args.path.now v c.args.self.now c.args.page come w c.bring.new.self in
+    IfOk-weaker c.bring.result P Q (λ come h. faulted_before z o.kept.ran c.laws.ensures.rows c.requires.keeps 5 c.args.path.now c.args.page w c.bring.new.self c.requires.held o.kept.held come (subst (λ (s : Shape). Faulted 5 s c.args.path.now u c.args.self.now c.args.page come w c.bring.new.self) o.fits.1 h)) c.bring.ensures.ok
 
 pub returns-clause-err : goal.returns-clause-err
 returns-clause-err g c =
@@ -116,9 +119,9 @@ returns-clause-err g c =
     let u = g.R.Rows.view c.naming.new.seat in
     let w = g.R.Rows.view c.bring.new.seat in
     let o = c.in_ok-naming.ensures in
-    let P : Refusal → Type 0 = λ why. HasRefused 4 y c.args.path.now u c.args.self.now why w c.bring.new.self in
-    let Q : Refusal → Type 0 = λ why. HasRefused 4 z c.args.path.now v c.args.self.now why w c.bring.new.self in
-    IfErr-weaker c.bring.result P Q (λ why h. refused_before z o.kept.ran c.laws.ensures.rows c.requires.keeps c.requires.held o.kept.held (subst (λ (s : Shape). HasRefused 4 s c.args.path.now u c.args.self.now why w c.bring.new.self) o.fits.1 h)) c.bring.ensures.err
+    let P : Refusal → Type 0 = λ why. HasRefused 5 y c.args.path.now u c.args.self.now why w c.bring.new.self in
+    let Q : Refusal → Type 0 = λ why. HasRefused 5 z c.args.path.now v c.args.self.now why w c.bring.new.self in
+    IfErr-weaker c.bring.result P Q (λ why h. refused_before z o.kept.ran c.laws.ensures.rows c.requires.keeps c.requires.held o.kept.held (subst (λ (s : Shape). HasRefused 5 s c.args.path.now u c.args.self.now why w c.bring.new.self) o.fits.1 h)) c.bring.ensures.err
 
 pub returns-clause-disk : goal.returns-clause-disk
 returns-clause-disk g c =
@@ -153,3 +156,20 @@ returns-in_err-naming-clause-frame g c = framed 1 (g.P.Part.story c.args.dev.now
 
 pub returns-in_default-clause-frame : goal.returns-in_default-clause-frame
 returns-in_default-clause-frame g c = framed 1 (g.P.Part.story c.args.dev.now)
+
+pub returns-in_err-naming-clause-within : goal.returns-in_err-naming-clause-within
+returns-in_err-naming-clause-within g c = within_none (g.met.P.Part.lawful c.args.dev.now)
+
+pub returns-in_default-clause-within : goal.returns-in_default-clause-within
+returns-in_default-clause-within g c = within_none (g.met.P.Part.lawful c.args.dev.now)
+
+pub returns-in_err-naming-clause-reads : goal.returns-in_err-naming-clause-reads
+returns-in_err-naming-clause-reads g c = reads_untouched (g.met.P.Part.lawful c.args.dev.now) c.in_err-naming.ensures.err.ran
+
+pub returns-in_default-clause-reads : goal.returns-in_default-clause-reads
+returns-in_default-clause-reads g c =
+    let o = c.in_ok-naming.ensures in
+    settled_unsaved c.args.page (g.met.P.Part.lawful c.args.dev.now) o.fits.1 o.kept c.standing.result c.standing.ensures.ok c.standing.ensures.err
+
+pub returns-clause-reads : goal.returns-clause-reads
+returns-clause-reads g c = unsaved_then c.args.self.now c.requires.well (reads_untouched (g.met.P.Part.lawful c.args.dev.now) c.in_ok-naming.ensures.kept.ran) c.bring.ensures.reads

@@ -6,13 +6,14 @@ use Rattle.page_provider.specs.Ends.{HasRefused}
 use Rattle.page_provider.specs.Faults.{Faulted}
 use Rattle.page_provider.specs.Finds.{Halts}
 use Rattle.page_provider.specs.declared.refusal.Refusal.{Refusal}
-use Rattle.page_provider.proofs.Filling.{faulted_then, refused_behind}
+use Rattle.page_provider.proofs.Filling.{faulted_then, halts_fault, refused_behind}
 use Rattle.page_provider.proofs.Moving.{refused_up}
-use Rattle.page_provider.proofs.Parts.{err_to}
+use Rattle.page_provider.proofs.Parts.{cause_to, err_to}
 use Rattle.page_provider.proofs.Placing.{unseen_disk}
 use Rattle.page_provider.proofs.Running.{disked_then}
 use Rattle.page_provider.proofs.Savings.{if_err}
 use Rattle.page_provider.proofs.Mirrored.{mirrored_then, mirrored_unseen}
+use Rattle.page_provider.proofs.Unwritten.{reads_untouched, unsaved_then}
 use Rattle.page_provider.proofs.pager.Pager.place.Goals as goal
 
 pub returns-in_err-frame-clause-err : goal.returns-in_err-frame-clause-err
@@ -66,3 +67,13 @@ returns-clause-mirrors g c =
     let w = g.R.Rows.view c.fill.new.seat in
     let unseen = subst (λ (s : Shape). IsUnseen s.alone u c.room.new.self w c.fill.new.self) c.in_ok-frame.ensures.fits.1 c.fill.ensures.unseen in
     mirrored_then (c.in_ok-frame.ensures.ok.broken ∙ c.requires.well) c.in_ok-frame.ensures.mirrors (mirrored_unseen c.in_ok-frame.ensures.ok.moved.goes.keeps unseen)
+
+pub returns-clause-cause_disk_fault : goal.returns-clause-cause_disk_fault
+returns-clause-cause_disk_fault g c =
+    let u = g.R.Rows.view c.room.new.seat in
+    let w = g.R.Rows.view c.fill.new.seat in
+    let P : Refusal → Type 0 = λ why. Halts 2 (g.R.Rows.shape c.room.new.rows) u why w in
+    cause_to c.in_ok-frame.ensures.cause (λ e. cc) (halts_fault P (λ why h. h.stopped.kind) c.fill.result c.fill.ensures.err)
+
+pub returns-clause-reads : goal.returns-clause-reads
+returns-clause-reads g c = unsaved_then c.room.new.self (c.in_ok-frame.ensures.ok.broken ∙ c.requires.well) c.in_ok-frame.ensures.reads (reads_untouched (g.met.P.Part.lawful c.room.new.dev) c.fill.ensures.unseen.ran)

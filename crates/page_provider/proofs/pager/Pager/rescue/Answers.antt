@@ -25,7 +25,7 @@ returns-in_err-rescue_free-clause-err g c =
     let p2 = p.2 in
     let why = c.in_err-rescue_free.field-0.0 in
     let e : why ≡ p.0 = cc in
-    let P : Refusal → Type 0 = λ q. HasRefused 4 z c.args.path.now v c.args.self.now q w c.rescue_free.new.self in
+    let P : Refusal → Type 0 = λ q. HasRefused 5 z c.args.path.now v c.args.self.now q w c.rescue_free.new.self in
     if_err c.from_residual.result p.0 P p.1 (subst P e (halts_as (omega arith) c.laws.ensures.rows c.requires.keeps c.requires.held c.in_err-rescue_free.ensures.same c.in_err-rescue_free.ensures.err))
 
 pub returns-then-contains-clause-ok : goal.returns-then-contains-clause-ok
@@ -43,7 +43,7 @@ returns-in_err-rescue_node-clause-err g c =
     let p2 = p.2 in
     let why = c.in_err-rescue_node.field-0.0 in
     let e : why ≡ p.0 = cc in
-    let P : Refusal → Type 0 = λ q. HasRefused 4 z c.args.path.now v c.args.self.now q w c.rescue_node.new.self in
+    let P : Refusal → Type 0 = λ q. HasRefused 5 z c.args.path.now v c.args.self.now q w c.rescue_node.new.self in
     if_err c.from_residual-in_err-rescue_node.result p.0 P p.1 (subst P e (halts_as (omega arith) c.laws.ensures.rows c.requires.keeps c.requires.held c.in_err-rescue_node.ensures.same c.in_err-rescue_node.ensures.err))
 
 pub returns-then-branch-clause-ok : goal.returns-then-branch-clause-ok

@@ -15,6 +15,7 @@ use Rattle.page_provider.specs.Shares.{share}
 use Rattle.page_provider.proofs.Chilling.{calm_then, chills_calm, chills_then}
 use Rattle.page_provider.proofs.Crowded.{full_cause, way_closed}
 use Rattle.page_provider.proofs.Emptying.{then_refused}
+use Rattle.page_provider.proofs.Filling.{stays_cold}
 use Rattle.page_provider.proofs.Judging.{tells}
 use Rattle.page_provider.proofs.Moving.{refused_up}
 use Rattle.page_provider.proofs.Rooms.{calm_disked, room_full, room_kept, room_left, room_stayed}
@@ -22,6 +23,8 @@ use Rattle.page_provider.proofs.Running.{disked_then}
 use Rattle.page_provider.proofs.Savings.{if_err}
 use Rattle.page_provider.proofs.Mirrored.{mirrored_calm, mirrored_then}
 use Rattle.lean_disk.proofs.MomentLemmas.{framed}
+use Rattle.page_provider.proofs.Framing.{within_none}
+use Rattle.page_provider.proofs.Unwritten.{reads_untouched, unsaved_then}
 use Rattle.page_provider.proofs.pager.Pager.room.Goals as goal
 
 -- what the second part cooled, behind what the first did
@@ -211,3 +214,52 @@ returns-in_err-entry-clause-frame g c = framed 1 (g.P.Part.story c.args.dev.now)
 
 pub returns-in-Nobody-clause-frame : goal.returns-in-Nobody-clause-frame
 returns-in-Nobody-clause-frame g c = framed 1 (g.P.Part.story c.args.dev.now)
+
+-- ## Pages that are cold
+
+pub returns-in-Nobody-clause-cold : goal.returns-in-Nobody-clause-cold
+returns-in-Nobody-clause-cold g c =
+    stays_cold c.full.result (behind c.in_ok-chill_some.ensures.fits.1 c.in_ok-chill_some.ensures.ok.chills c.in_ok-entry.ensures.ok.0).rested
+
+-- at every moment
+
+pub returns-in_err-chill_some-clause-within : goal.returns-in_err-chill_some-clause-within
+returns-in_err-chill_some-clause-within g c = within_none (g.met.P.Part.lawful c.args.dev.now)
+
+pub returns-in-Some-clause-within : goal.returns-in-Some-clause-within
+returns-in-Some-clause-within g c = within_none (g.met.P.Part.lawful c.args.dev.now)
+
+pub returns-in_err-entry-clause-within : goal.returns-in_err-entry-clause-within
+returns-in_err-entry-clause-within g c = within_none (g.met.P.Part.lawful c.args.dev.now)
+
+pub returns-in-Nobody-clause-within : goal.returns-in-Nobody-clause-within
+returns-in-Nobody-clause-within g c = within_none (g.met.P.Part.lawful c.args.dev.now)
+
+-- ## Where no page is saved
+
+pub returns-in_err-chill_some-clause-reads : goal.returns-in_err-chill_some-clause-reads
+returns-in_err-chill_some-clause-reads g c = reads_untouched (g.met.P.Part.lawful c.args.dev.now) c.in_err-chill_some.ensures.halted.calm.ran
+
+pub returns-in-Some-clause-reads : goal.returns-in-Some-clause-reads
+returns-in-Some-clause-reads g c = reads_untouched (g.met.P.Part.lawful c.args.dev.now) c.in_ok-chill_some.ensures.ok.chills.moved.goes.ran
+
+pub returns-in_err-entry-clause-reads : goal.returns-in_err-entry-clause-reads
+returns-in_err-entry-clause-reads g c =
+    let u = g.R.Rows.view c.chill_some.new.seat in
+    let w = g.R.Rows.view c.leaver.new.seat in
+    let why = c.in_err-entry.field-0.0 in
+    let h = subst (λ (s : Shape). HasHalted s u c.chill_some.new.self why w c.leaver.new.self) c.in_ok-chill_some.ensures.fits.1 c.in_err-entry.ensures.halted in
+    reads_untouched (g.met.P.Part.lawful c.args.dev.now) (calm_then (chills_calm c.in_ok-chill_some.ensures.ok.chills) h.calm).ran
+
+pub returns-in-Nobody-clause-reads : goal.returns-in-Nobody-clause-reads
+returns-in-Nobody-clause-reads g c = reads_untouched (g.met.P.Part.lawful c.args.dev.now) (behind c.in_ok-chill_some.ensures.fits.1 c.in_ok-chill_some.ensures.ok.chills c.in_ok-entry.ensures.ok.0).moved.goes.ran
+
+pub returns-in_err-evict-clause-reads : goal.returns-in_err-evict-clause-reads
+returns-in_err-evict-clause-reads g c =
+    let h = behind c.in_ok-chill_some.ensures.fits.1 c.in_ok-chill_some.ensures.ok.chills c.in_ok-entry.ensures.ok.0 in
+    unsaved_then c.leaver.new.self (ap (λ (p : Provider). p.broken) h.memory ∙ c.requires.well) (reads_untouched (g.met.P.Part.lawful c.args.dev.now) h.moved.goes.ran) c.evict.ensures.reads
+
+pub returns-clause-reads : goal.returns-clause-reads
+returns-clause-reads g c =
+    let h = behind c.in_ok-chill_some.ensures.fits.1 c.in_ok-chill_some.ensures.ok.chills c.in_ok-entry.ensures.ok.0 in
+    unsaved_then c.leaver.new.self (ap (λ (p : Provider). p.broken) h.memory ∙ c.requires.well) (reads_untouched (g.met.P.Part.lawful c.args.dev.now) h.moved.goes.ran) c.evict.ensures.reads

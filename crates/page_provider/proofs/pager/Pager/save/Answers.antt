@@ -17,6 +17,8 @@ use Rattle.page_provider.proofs.Savings.{can_save, disk_failed, disk_saved, fram
 use Rattle.page_provider.proofs.Writing.{disked_misses}
 use Rattle.page_provider.proofs.Mirrored.{mirrored_broken, mirrored_misses, mirrored_saved}
 use Rattle.lean_disk.proofs.MomentLemmas.{framed}
+use Rattle.page_provider.proofs.Framing.{within_none}
+use Rattle.page_provider.proofs.Unwritten.{reads_broken, reads_saved, reads_untouched}
 use Rattle.page_provider.proofs.pager.Pager.save.Goals as goal
 
 pub page_in-requires-clause-frame : goal.page_in-requires-clause-frame
@@ -200,3 +202,56 @@ returns-in_err-node-clause-frame g c = framed 1 (g.P.Part.story c.args.dev.now)
 
 pub returns-in_err-hold-clause-frame : goal.returns-in_err-hold-clause-frame
 returns-in_err-hold-clause-frame g c = framed 1 (g.P.Part.story c.args.dev.now)
+
+pub returns-in_err-node-clause-within : goal.returns-in_err-node-clause-within
+returns-in_err-node-clause-within g c = within_none (g.met.P.Part.lawful c.args.dev.now)
+
+pub returns-in_err-hold-clause-within : goal.returns-in_err-hold-clause-within
+returns-in_err-hold-clause-within g c = within_none (g.met.P.Part.lawful c.args.dev.now)
+
+pub returns-in_err-node-clause-reads : goal.returns-in_err-node-clause-reads
+returns-in_err-node-clause-reads g c = reads_untouched (g.met.P.Part.lawful c.args.dev.now) c.in_err-node.ensures.err.ran
+
+pub returns-in_err-hold-clause-reads : goal.returns-in_err-hold-clause-reads
+returns-in_err-hold-clause-reads g c =
+    let z = g.R.Rows.shape c.args.rows.now in
+    let v = g.R.Rows.view c.args.seat.now in
+    let u = g.R.Rows.view c.page_in.new.seat in
+    let s1 = c.in_ok-node.ensures.fits.1 in
+    let i = c.in_ok-node.ensures.ok in
+    let w = g.R.Rows.view c.take.new.seat in
+    let m = subst (λ (s : Shape). Missed s u c.in_err-hold.field-0.0 w) s1 c.in_err-hold.ensures.err in
+    reads_untouched (g.met.P.Part.lawful c.args.dev.now) (ran_append z.alone v [] u m.misses w i.ran m.ran)
+
+pub returns-in_default-clause-reads : goal.returns-in_default-clause-reads
+returns-in_default-clause-reads g c =
+    let z = g.R.Rows.shape c.args.rows.now in
+    let v = g.R.Rows.view c.args.seat.now in
+    let u = g.R.Rows.view c.page_in.new.seat in
+    let s1 = c.in_ok-node.ensures.fits.1 in
+    let i = c.in_ok-node.ensures.ok in
+    let t = g.R.Rows.view c.take.new.seat in
+    let taken = c.in_ok-hold.ensures.ok.1 in
+    let s2 = c.in_ok-hold.ensures.fits.1 ∙ s1 in
+    let r = ran_append z.alone v [] u [] t i.ran (subst (λ (s : Shape). Ran s.alone u [] t) s1 taken.ran) in
+    let is = image_is c.laws.ensures.rows c.requires.keeps c.requires.entered i in
+    let w = g.R.Rows.view c.give_up.new.seat in
+    let m = subst (λ (s : Shape). MissedUpTo 1 s.alone t w) s2 c.give_up.ensures.missed in
+    let all = ran_append z.alone v [] t m.events w r m.ran in
+    reads_broken refl all
+
+pub returns-clause-reads : goal.returns-clause-reads
+returns-clause-reads g c =
+    let z = g.R.Rows.shape c.args.rows.now in
+    let v = g.R.Rows.view c.args.seat.now in
+    let u = g.R.Rows.view c.page_in.new.seat in
+    let s1 = c.in_ok-node.ensures.fits.1 in
+    let i = c.in_ok-node.ensures.ok in
+    let t = g.R.Rows.view c.take.new.seat in
+    let taken = c.in_ok-hold.ensures.ok.1 in
+    let s2 = c.in_ok-hold.ensures.fits.1 ∙ s1 in
+    let r = ran_append z.alone v [] u [] t i.ran (subst (λ (s : Shape). Ran s.alone u [] t) s1 taken.ran) in
+    let is = image_is c.laws.ensures.rows c.requires.keeps c.requires.entered i in
+    let w = g.R.Rows.view c.note_saved.new.seat in
+    let all = ran_append z.alone v [] t (Save c.args.entry.page ∷ []) w r (subst (λ (s : Shape). Ran s.alone t (Save c.args.entry.page ∷ []) w) s2 c.note_saved.ensures.went.ran) in
+    reads_saved all
