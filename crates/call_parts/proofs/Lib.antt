@@ -1,0 +1,10 @@
+pub mod RunLemmas
+pub mod SightLemmas
+pub mod AreaLemmas
+pub mod StepLemmas
+pub mod OwnLemmas
+pub mod StillLemmas
+pub mod JoinLemmas
+pub mod MemoryLemmas
+pub mod EndLemmas
+pub mod ByHand

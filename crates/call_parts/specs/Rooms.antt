@@ -1,0 +1,92 @@
+-- What a call may have done when its disk fails, and in which areas it may have worked.
+use Rattle.std.specs.Prelude.{◌≡◌, ◌==◌, ◌&&◌, ◌||◌, ◌≤◌, ◌^◌, ℕ, Bool, true, false, List, [], length}
+use Rattle.map_model.specs.Lists.{all, any}
+use Rattle.map_model.specs.declared.call.Call.{Call}
+use Rattle.map_model.specs.declared.call.Call.TheVariants as call
+use Rattle.core_state.specs.Openings.{Opening}
+use Rattle.core_state.specs.Events.{Event, Mode}
+use Rattle.core_state.specs.Steps.{state_after}
+use Rattle.core_calls.specs.Fronts.{Done, front, outcomes}
+use Rattle.core_calls.specs.Steps.{call_behind, is_structure}
+use Rattle.engine_trait.specs.Rooms.{MakesRoom, needs_sync}
+use Rattle.call_parts.specs.Steps.{moves_page}
+
+-- ## Which events
+
+-- a log is flushed, or all are synced
+abbrev pub makes_sync : Event → Bool
+makes_sync (Event.Flush w n) = true
+makes_sync (Event.Sync n) = true
+makes_sync _ = false
+
+-- a page is moved, or a sync is made for that
+abbrev pub is_paging : Event → Bool
+is_paging e = moves_page e || makes_sync e
+
+-- pages are moved, and no more
+abbrev pub ArePaging : List Event → Type 0
+ArePaging es = all is_paging es ≡ true
+
+-- session `own` takes this lock row so
+abbrev pub takes_row : (own row : ℕ) → Mode → Event → Bool
+takes_row own row Mode.Alone (Event.Lock w i Mode.Alone) = (w == own) && (i == row)
+takes_row own row Mode.Shared (Event.Lock w i Mode.Shared) = (w == own) && (i == row)
+takes_row own row mode _ = false
+
+-- a row is given up as it stood, or session `own` gives the tree a page
+abbrev pub gives_room : (own : ℕ) → Event → Bool
+gives_room own (Event.Miss w) = true
+gives_room own (Event.Split w l r q i) = w == own
+gives_room own (Event.Lift w c) = w == own
+gives_room own _ = false
+
+-- each takes the row, makes room, or moves pages: none changes a value or ends anything
+abbrev pub AreRoom : (own row : ℕ) → Mode → List Event → Type 0
+AreRoom own row mode es = all (λ e. takes_row own row mode e || (gives_room own e || is_paging e)) es ≡ true
+
+-- a row is given up as it stood, or session `own` puts a change back
+abbrev pub puts_back : (own : ℕ) → Event → Bool
+puts_back own (Event.Miss w) = true
+puts_back own (Event.Put_back w p) = w == own
+puts_back own _ = false
+
+-- each puts a change back, or moves pages
+abbrev pub AreBacks : (own : ℕ) → List Event → Type 0
+AreBacks own es = all (λ e. puts_back own e || is_paging e) es ≡ true
+
+-- of a call that needs a sync and of one that needs none
+abbrev pub AreReady : (syncs : Bool) → List Event → Type 0
+AreReady true es = all makes_sync es ≡ true
+AreReady false es = es ≡ []
+
+-- ## By call
+
+-- Behind these outcomes, by these events a put took its key's row and made room for the key, a get and a del took their rows, an abort put changes back, all of
+-- which may move pages; a sync and a begin flushed logs for a sync; and any other call did nothing.
+abbrev pub HasDoneFor : Opening → List Done → (own : ℕ) → Call → List Event → Type 0
+HasDoneFor g xs own (call.Put key value) es = AreRoom own (g.row_of key) Mode.Alone es × MakesRoom own g (state_after g (front xs)) key es
+HasDoneFor g xs own (call.Get key) es = AreRoom own (g.row_of key) Mode.Shared es × (any is_structure es ≡ false)
+HasDoneFor g xs own (call.Del key) es = AreRoom own (g.row_of key) Mode.Alone es × (any is_structure es ≡ false)
+HasDoneFor g xs own call.Abort es = AreBacks own es
+HasDoneFor g xs own c es = AreReady (needs_sync g xs own c) es
+
+-- and these are few
+abbrev pub IsRoomFor : Opening → List Done → (own : ℕ) → Call → List Event → Type 0
+IsRoomFor g xs own c es = HasDoneFor g xs own c es × (length es ≤ 2 ^ 18)
+
+-- the call looks at pages
+abbrev pub looks : Call → Bool
+looks (call.Get key) = true
+looks (call.Put key value) = true
+looks (call.Del key) = true
+looks (call.Scan from to) = true
+looks call.Abort = true
+looks _ = false
+
+-- so it may save some
+abbrev pub may_save : List Done → Call → Bool
+may_save xs c = looks (call_behind (outcomes xs) c)
+
+-- and make syncs for that, as a call does that needs a sync
+abbrev pub may_sync : Opening → List Done → (own : ℕ) → Call → Bool
+may_sync g xs own c = may_save xs c || needs_sync g xs own c

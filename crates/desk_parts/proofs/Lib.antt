@@ -1,0 +1,3 @@
+pub mod PageLemmas
+pub mod SyncLemmas
+pub mod TightLemmas

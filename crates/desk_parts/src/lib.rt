@@ -1,0 +1,42 @@
+//! A call of the pager and a sync of all logs as parts of a call of an engine: laws alone.
+//!
+//! Read specs/Laws. The parameters of a law are the disk as it is before the call and behind it.
+#![tactic(auto)]
+
+ghost use Rattle.desk_parts.specs.Laws.{EveryPagePart, EverySyncPart, EverySyncSlots};
+ghost use Rattle.desk_parts.specs.Tight.{EveryTight};
+
+use lean_disk::Disk;
+
+/// A call of the pager is a part of a call; and what is left where it failed.
+pub fn every_page_part<D: Disk>(old: &D, new: &D)
+    ensures { EveryPagePart (D.story old.now) (D.story new.now) }
+{
+    call_parts::every_area(old, new);
+    call_parts::every_step(old, new);
+}
+
+/// So is a sync of all logs.
+pub fn every_sync_part<D: Disk>(old: &D, new: &D)
+    ensures parts { EverySyncPart (D.story old.now) (D.story new.now) }
+    ensures slots { EverySyncSlots D.story old.now new.now }
+{
+    call_parts::every_still(old, new);
+}
+
+/// Both are so of all disks: a body whose disk has gone on has no earlier one to call a law with.
+pub fn every_disk_part<D: Disk>()
+    ensures pages { (old new : D) → EveryPagePart (D.story old) (D.story new) }
+    ensures syncs { (old new : D) → EverySyncPart (D.story old) (D.story new) }
+    ensures slots { (old new : D) → EverySyncSlots D.story old new }
+{
+    call_parts::laws();
+}
+
+/// Where syncs stand among the events of such parts, one behind another.
+pub fn every_tight()
+    ensures { EveryTight }
+{
+    row_opening::every_reached();
+    core_calls::every_where();
+}
