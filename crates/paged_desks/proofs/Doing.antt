@@ -1,0 +1,124 @@
+-- What was done, as a part of a call of an engine, and one part behind another.
+use Rattle.std.proofs.Common.{◌≡◌, ◌∙◌, ◌≤◌, ◌+◌, ◌*◌, ◌^◌, ◌||◌, ℕ, suc, false, List, [], ◌∷◌, length, refl, sym, subst, arith}
+use Rattle.std.proofs.Math.Nat.{mul-le-mul_right}
+use Rattle.call_parts.proofs.JoinLemmas.{every_join}
+use Rattle.call_parts.proofs.StepLemmas.{every_step}
+use Rattle.call_parts.specs.Areas.{is_save}
+use Rattle.call_parts.specs.Memory.{Memory, with_slots}
+use Rattle.call_parts.specs.Parts.{Part}
+use Rattle.core_calls.specs.LogEvents.{EveryWhere, IsTight}
+use Rattle.core_disk.specs.Versions.{EveryVersion}
+use Rattle.core_state.specs.Events as happening
+use Rattle.desk_parts.specs.Laws.{EveryPagePart, PageLaws}
+use Rattle.desk_parts.specs.Pages.{HasSlots}
+use Rattle.disk_image.specs.Laws.{EverySealed}
+use Rattle.engine_calls.proofs.MoveLemmas.{every_move}
+use Rattle.lean_disk.specs.Story.{IsLawful, Story}
+use Rattle.map_model.specs.Lists.{any}
+use Rattle.page_pool.specs.Counts.{EveryFrame}
+use Rattle.page_provider.specs.Amounts.{EveryFew}
+use Rattle.page_provider.specs.Disks.{saves_page}
+use Rattle.page_provider.specs.Moves.{Moved}
+use Rattle.page_provider.specs.Providers.{pool}
+use Rattle.page_provider.specs.Sequels.{EverySequel}
+use Rattle.row_opening.specs.Openings.{EveryNeed, EveryReached}
+use Rattle.row_words.specs.Moments.{events_of}
+use Rattle.row_words.specs.Openings.{opening}
+use Rattle.rows_trait.specs.Views.{state}
+use Rattle.session_desks.specs.Parts.{here, shape}
+use Rattle.session_desks.proofs.SeatLemmas.{holds_of}
+use Rattle.worker_log.specs.Laws.{EveryKept, EveryPrefix}
+use Rattle.paged_desks.specs.Inside.{HasDone, HasServed, IsBeside, IsSynced}
+use Rattle.paged_desks.specs.Machines.{IsReady, memory, view_of}
+use Rattle.paged_desks.specs.Pages.{hot_in, most_a_level}
+use Rattle.paged_desks.specs.Parts.{HasGone}
+use Rattle.paged_desks.specs.declared.machine.PagedMachine.{PagedMachine}
+use Rattle.paged_desks.proofs.Full.{paged_sync, sync_events}
+use Rattle.paged_desks.proofs.Going.{by_events, none_events, paged_by, paged_none, paged_then, paged_up, then_events, up_events}
+use Rattle.paged_desks.proofs.Standing.{logs_are}
+
+-- ## A call of the pager
+
+-- the pager's word for a save is that of parts
+save_one : (e : happening.Event) → is_save e ≡ saves_page e
+save_one (happening.Event.Save p) = refl
+save_one _ = refl
+
+same_saves : (es : List happening.Event) → any is_save es ≡ any saves_page es
+same_saves [] = refl
+same_saves (e ∷ es) = λ i. save_one e i || same_saves es i
+
+-- what is in memory behind it
+pub memory_with : {D : Type 0} {m n : PagedMachine D} → IsBeside m n → with_slots n.pager.slots (memory m) ≡ memory n
+memory_with {m = m} {n = n} b = λ i. record { log = sym (logs_are b) i; master = sym b.master i; slots = n.pager.slots }
+
+module _ {D : Type 0} (story : D → Story) (m n : PagedMachine D) (ready : IsReady story m) (b : IsBeside m n) {most : ℕ} (moved : Moved most (shape m.machine) (view_of m) m.pager (view_of n) n.pager) (law : EveryPagePart (story m.machine.work.disk) (story n.machine.work.disk)) where
+  laws : PageLaws m.machine.work.session.workers most (shape m.machine) (view_of m) (view_of n) m.pager n.pager (memory m) (story m.machine.work.disk) (story n.machine.work.disk)
+  laws = law m.machine.work.session.workers most (shape m.machine) (view_of m) (view_of n) m.pager n.pager (memory m) refl ready.slots
+
+  pub slots_on : length n.pager.slots ≡ length m.pager.slots → HasSlots (memory n) n.pager
+  slots_on e = subst (λ (x : Memory). HasSlots x n.pager) (memory_with b) (laws.slots moved e)
+
+  pub part_by : HasServed story m n → n.pager.broken ≡ false → Part m.machine.work.session.workers moved.events (view_of m) (view_of n) (memory m) (memory n) (story m.machine.work.disk) (story n.machine.work.disk)
+  part_by served well = subst (λ (is : Memory). Part m.machine.work.session.workers moved.events (view_of m) (view_of n) (memory m) is (story m.machine.work.disk) (story n.machine.work.disk)) (memory_with b)
+      (laws.part (record { call = record { moved = moved; disk = served.disk; stays = served.stays }; well = well; reads = λ none. served.reads most moved well (sym (same_saves (events_of moved.events)) ∙ none) }))
+
+  pub done_by : (key : ℕ) → EveryReached → EveryNeed → EveryWhere → EveryFew → EverySequel → HasServed story m n → n.pager.broken ≡ false → HasDone story key (3 * most) m n
+  done_by key reached needs places few seq served well = record { paged = paged_by story key m n reached needs places few seq ready b moved; part = subst (λ es. Part m.machine.work.session.workers es (view_of m) (view_of n) (memory m) (memory n) (story m.machine.work.disk) (story n.machine.work.disk)) (sym (by_events story key m n reached needs places few seq ready b moved)) (part_by served well) }
+
+-- ## A sync
+
+pub done_sync : {D : Type 0} (story : D → Story) (key : ℕ) (m n : PagedMachine D) → EveryReached → EveryNeed → EveryWhere → (s : IsSynced story m n) → IsTight (opening (view_of m).given) (state (view_of m)).core key → HasDone story key (suc m.machine.work.session.workers) m n
+done_sync story key m n reached needs places s t = record { paged = paged_sync story key m n reached needs places s t; part = subst (λ es. Part m.machine.work.session.workers es (view_of m) (view_of n) (memory m) (memory n) (story m.machine.work.disk) (story n.machine.work.disk)) (sym (sync_events story key m n reached needs places s t)) s.part }
+
+-- ## One behind another
+
+module _ {D : Type 0} (story : D → Story) (key : ℕ) (places : EveryWhere) (keeps : EveryKept) (prefixes : EveryPrefix) (seals : EverySealed) (versions : EveryVersion) (lawful : (d : D) → IsLawful (story d)) where
+  pub done_then : {p q r : PagedMachine D} {i j most : ℕ} → i + j ≤ most → HasDone story key i p q → HasDone story key j q r → HasDone story key most p r
+  done_then {p = p} {q = q} {r = r} few a b =
+      let x = story p.machine.work.disk in
+      let y = story q.machine.work.disk in
+      let z = story r.machine.work.disk in record {
+        paged = paged_then key places few a.paged b.paged;
+        part = subst (λ es. Part p.machine.work.session.workers es (view_of p) (view_of r) (memory p) (memory r) x z) (sym (then_events key places few a.paged b.paged))
+            ((every_join x y z (lawful p.machine.work.disk) (every_move keeps prefixes seals versions x y z) p.machine.work.session.workers a.paged.events (view_of p) (view_of q) (view_of r) (memory p) (memory q) (memory r)).join b.paged.events a.part
+            (subst (λ k. Part k b.paged.events (view_of q) (view_of r) (memory q) (memory r) y z) a.paged.same.0 b.part));
+      }
+
+  pub done_none : EveryReached → EveryNeed → (m : PagedMachine D) → HasDone story key 0 m m
+  done_none reached needs m = let s = story m.machine.work.disk in record {
+    paged = paged_none key m;
+    part = subst (λ es. Part m.machine.work.session.workers es (view_of m) (view_of m) (memory m) (memory m) s s) (sym (none_events key m))
+        (every_step reached needs versions keeps prefixes seals s s (lawful m.machine.work.disk) m.machine.work.session.workers (view_of m) (view_of m) (memory m)).none;
+  }
+
+pub done_up : {D : Type 0} {story : D → Story} {key i j : ℕ} {p q : PagedMachine D} → i ≤ j → HasDone story key i p q → HasDone story key j p q
+done_up {story = story} {p = p} {q = q} few a = record { paged = paged_up few a.paged; part = subst (λ es. Part p.machine.work.session.workers es (view_of p) (view_of q) (memory p) (memory q) (story p.machine.work.disk) (story q.machine.work.disk)) (sym (up_events few a.paged)) a.part }
+
+-- one level more
+module _ {D : Type 0} (story : D → Story) (key : ℕ) (places : EveryWhere) (keeps : EveryKept) (prefixes : EveryPrefix) (seals : EverySealed) (versions : EveryVersion) (lawful : (d : D) → IsLawful (story d)) where
+  pub done_more : (m p q : PagedMachine D) (n : ℕ) → HasDone story key (n * most_a_level m.machine.work.session.workers) m p → HasDone story key (most_a_level p.machine.work.session.workers) p q → HasDone story key ((n + 1) * most_a_level m.machine.work.session.workers) m q
+  done_more m p q n a b = done_then story key places keeps prefixes seals versions lawful (step n m.machine.work.session.workers p.machine.work.session.workers a.paged.same.0) a b
+    where
+      step : (n a b : ℕ) → b ≡ a → n * most_a_level a + most_a_level b ≤ (n + 1) * most_a_level a
+      step n a b e = subst (λ c. n * most_a_level a + most_a_level c ≤ (n + 1) * most_a_level a) (sym e) (let x = most_a_level a in omega arith)
+
+-- at most nine of them
+pub done_nine : {D : Type 0} {story : D → Story} {key : ℕ} {m q : PagedMachine D} (n : ℕ) → n ≤ 8 → HasDone story key ((n + 1) * most_a_level m.machine.work.session.workers) m q → HasDone story key (9 * most_a_level m.machine.work.session.workers) m q
+done_nine {m = m} n few a = done_up (mul-le-mul_right (most_a_level m.machine.work.session.workers) (let f : n + 1 ≤ 9 = omega arith in f)) a
+
+-- ## How many events
+
+module _ {D : Type 0} (story : D → Story) (m : PagedMachine D) (ready : IsReady story m) (frames : EveryFrame) where
+  pub hot_few : hot_in m ≤ 2 ^ 16
+  hot_few =
+      let v = view_of m in
+      let all = frames (opening v.given) (state v).core (pool m.pager) (ready.keeps.sound v.seen).residence ready.keeps.agrees in
+      let given = ready.keeps.sized.given in
+      let few = ready.few in omega arith
+
+  pub sessions_few : m.machine.work.session.workers ≤ 16
+  sessions_few = (holds_of (shape m.machine) (view_of m) (here m.machine) m.machine.desks.items ready.sound.desks).rows.most
+
+  pub gone_of : (key : ℕ) (n : PagedMachine D) → HasDone story key (9 * most_a_level m.machine.work.session.workers) m n → HasGone story key (9 * most_a_level m.machine.work.session.workers) m n
+  gone_of key n d = record { paged = d.paged; few = let a = d.paged.few in let h = hot_few in let w = sessions_few in omega arith; part = d.part }

@@ -1,0 +1,11 @@
+pub mod Moments
+pub mod Standing
+pub mod Going
+pub mod Syncing
+pub mod Full
+pub mod Doing
+pub mod Warmth
+pub mod Stops
+pub mod Stopping
+pub mod Breaking
+pub mod Late

@@ -1,0 +1,91 @@
+use Rattle.std.proofs.Common.{ap, ◌≡◌, ◌∙◌, ◌+◌, ◌*◌, ◌-◌, ◌≤◌, arith, refl, subst, Bool}
+use Rattle.lean_disk.specs.Story.{IsLawful}
+use Rattle.paged_rows.specs.Paged.{IsWarm}
+use Rattle.paged_desks.specs.Machines.{pages}
+use Rattle.paged_desks.specs.Pages.{most_a_level}
+use Rattle.paged_desks.specs.Inside.{Comes}
+use Rattle.paged_desks.proofs.Breaking.{broken_then, failed_of, nine_levels}
+use Rattle.paged_desks.proofs.Doing.{done_more, done_nine, done_none, done_up, gone_of}
+use Rattle.paged_desks.proofs.Late.{half_kept, spent_from}
+use Rattle.paged_desks.proofs.Stops.{err_same, refusing, warm_same}
+use Rattle.paged_desks.specs.declared.warming.Unwarmed.TheVariants as refused
+use Rattle.paged_desks.proofs.Warmth.{warm_first}
+use Rattle.paged_desks.proofs.machine.PagedMachine.warm.Goals as goal
+
+pub bring_or_sync-requires-clause-ready : goal.bring_or_sync-requires-clause-ready
+bring_or_sync-requires-clause-ready g c κs within = c.loop-come.invariant.ready
+
+pub loop-come-init : goal.loop-come-init
+loop-come-init g c =
+    let l = c.laws.ensures in
+    let lawful : (d : g.row.D.Denot) → IsLawful (g.D.Disk.story d) = λ d. (g.met.D.Disk g.world.𝓛 g.world.𝓜 g.world.𝓡 ((λ s x. x), (λ x. x), (λ x. x), (λ x. x))).lawful d in
+    record {
+      ready = c.requires.ready;
+      few = omega arith;
+      done = done_up (let none : 0 ≤ 0 * most_a_level c.args.self.now.machine.work.session.workers = omega arith in none) (done_none g.D.Disk.story c.args.key l.places l.kept l.prefixes l.seals l.versions lawful l.reached l.needs c.args.self.now);
+      warm = warm_first c.args.key c.laws.ensures.warm c.requires.ready;
+      faults = refl;
+    }
+
+pub loop-come-preserved : goal.loop-come-preserved
+loop-come-preserved g c =
+    let l = c.laws.ensures in
+    let lawful : (d : g.row.D.Denot) → IsLawful (g.D.Disk.story d) = λ d. (g.met.D.Disk g.world.𝓛 g.world.𝓜 g.world.𝓡 ((λ s x. x), (λ x. x), (λ x. x), (λ x. x))).lawful d in
+    let i = c.loop-come.invariant in
+    let m = c.args.self.now in
+    let p = c.loop-come.self in
+    let q = c.bring_or_sync.new.self in
+    let o = c.in-Ok-false.ensures in
+    let comes = subst (λ (b : Bool). Comes c.args.key b p q) c.in-Ok-false.field-0-test o.comes in
+    let w = comes (8 - c.loop-come._come) i.warm in
+    let less = w.0 in
+    let e : (8 - c.loop-come._come) - 1 ≡ 8 - (c.loop-come._come + 1) = omega arith in record {
+      ready = o.ready refl;
+      few = omega arith;
+      done = done_more g.D.Disk.story c.args.key l.places l.kept l.prefixes l.seals l.versions lawful m p q c.loop-come._come i.done (o.done refl);
+      warm = subst (λ l. IsWarm (pages q) c.args.key l) e w.1;
+      faults = o.cause_disk_fault.calm (λ x. cc) ∙ i.faults;
+    }
+
+pub returns-in-Ok-true-clause-gone : goal.returns-in-Ok-true-clause-gone
+returns-in-Ok-true-clause-gone g c _ =
+    let i = c.loop-come.invariant in
+    let m = c.args.self.now in
+    let l = c.laws.ensures in
+    let lawful : (d : g.row.D.Denot) → IsLawful (g.D.Disk.story d) = λ d. (g.met.D.Disk g.world.𝓛 g.world.𝓜 g.world.𝓡 ((λ s x. x), (λ x. x), (λ x. x), (λ x. x))).lawful d in
+    gone_of g.D.Disk.story m c.requires.ready l.frames c.args.key c.bring_or_sync.new.self
+    (done_nine c.loop-come._come i.few (done_more g.D.Disk.story c.args.key l.places l.kept l.prefixes l.seals l.versions lawful m c.loop-come.self c.bring_or_sync.new.self c.loop-come._come i.done (c.in-Ok-true.ensures.done refl)))
+
+pub returns-in-Err-clause-gone : goal.returns-in-Err-clause-gone
+returns-in-Err-clause-gone g c on =
+    let i = c.loop-come.invariant in
+    let m = c.args.self.now in
+    let l = c.laws.ensures in
+    let lawful : (d : g.row.D.Denot) → IsLawful (g.D.Disk.story d) = λ d. (g.met.D.Disk g.world.𝓛 g.world.𝓜 g.world.𝓡 ((λ s x. x), (λ x. x), (λ x. x), (λ x. x))).lawful d in
+    gone_of g.D.Disk.story m c.requires.ready l.frames c.args.key c.bring_or_sync.new.self
+    (done_nine c.loop-come._come i.few (done_more g.D.Disk.story c.args.key l.places l.kept l.prefixes l.seals l.versions lawful m c.loop-come.self c.bring_or_sync.new.self c.loop-come._come i.done (c.in-Err.ensures.done on)))
+
+pub returns-in-Err-clause-failed : goal.returns-in-Err-clause-failed
+returns-in-Err-clause-failed g c off =
+    let i = c.loop-come.invariant in
+    let m = c.args.self.now in
+    let p = c.loop-come.self in
+    let few = i.few in
+    let same = i.done.paged.same.0 in
+    let l = c.laws.ensures in
+    let lawful : (d : g.row.D.Denot) → IsLawful (g.D.Disk.story d) = λ d. (g.met.D.Disk g.world.𝓛 g.world.𝓜 g.world.𝓡 ((λ s x. x), (λ x. x), (λ x. x), (λ x. x))).lawful d in
+    failed_of g.D.Disk.story m c.bring_or_sync.new.self c.requires.ready l.frames
+    (broken_then g.D.Disk.story c.args.key l.kept l.prefixes l.seals l.versions lawful (nine_levels c.loop-come._come m.machine.work.session.workers p.machine.work.session.workers few same) i.done (c.in-Err.ensures.broke off))
+
+pub returns-in-Err-clause-spent : goal.returns-in-Err-clause-spent
+returns-in-Err-clause-spent g c r =
+    let i = c.loop-come.invariant in
+    let why = err_same (refusing c.in-Err.why) (refusing refused.RowSpent) c.in-Err.why refused.RowSpent refl refl (ap refusing (warm_same c.in-Err.why refused.RowSpent r)) in
+    spent_from c.args.self.now c.loop-come.self c.bring_or_sync.new.self (half_kept i.done.paged.same.0 i.done.paged.sessions) (c.in-Err.ensures.spent (ap refusing why))
+
+pub unreachable-requires : goal.unreachable-requires
+unreachable-requires g c =
+    let few = c.loop-come.invariant.few in
+    let last = c.loop-come-test.false in
+    let e = c.loop-come.auto._come-end in
+    omega arith

@@ -1,0 +1,87 @@
+-- What the coming of pages into frames has done.
+use Rattle.std.specs.Prelude.{◌≡◌, ◌≤◌, ◌<◌, ◌+◌, ◌*◌, ◌++◌, ℕ, suc, Bool, true, false, List, [], ◌∷◌, length, Result, Ok, Err}
+use Rattle.map_model.specs.Lists.{any}
+use Rattle.core_calls.specs.Fronts.{Done}
+use Rattle.core_calls.specs.LogEvents.{IsTight, SyncsWhere}
+use Rattle.core_state.specs.Events as happening
+use Rattle.core_state.specs.Local.{is_sync}
+use Rattle.core_state.specs.Openings.{Opening}
+use Rattle.core_state.specs.States.{State}
+use Rattle.engine_calls.specs.Parts.{behind_first}
+use Rattle.engine_trait.specs.Logs.{Logs}
+use Rattle.page_pool.specs.Counts.{hot_pages}
+use Rattle.page_provider.specs.Moves.{is_pagers}
+use Rattle.paged_rows.specs.Warms.{most_a_page}
+use Rattle.row_words.specs.declared.event.Event.{Event}
+use Rattle.row_words.specs.declared.event.Event.TheVariants as told
+use Rattle.row_words.specs.Moments.{events_of}
+use Rattle.row_words.specs.Openings.{opening}
+use Rattle.rows_trait.specs.Views.{state}
+use Rattle.session_desks.specs.Desks.{desk_of}
+use Rattle.session_desks.specs.Parts.{AreAsMany, here, logs}
+use Rattle.session_desks.specs.declared.machine.Machine.{Machine}
+use Rattle.session_state.specs.Ties.{Behind}
+use Rattle.session_state.specs.declared.session.Session.{Session}
+use Rattle.paged_desks.specs.Machines.{view_of}
+use Rattle.paged_desks.specs.declared.machine.PagedMachine.{PagedMachine}
+use Rattle.paged_desks.specs.declared.warming.Unwarmed.{Unwarmed}
+use Rattle.paged_desks.specs.declared.warming.Unwarmed.TheVariants as unwarmed
+
+-- ## Events
+
+-- a page moves or is saved, or the global epoch goes on; or a log is flushed, or all are synced
+abbrev pub is_paging : Event → Bool
+is_paging (told.Flush w n) = true
+is_paging (told.Sync n) = true
+is_paging e = is_pagers e
+
+-- each of them is such
+abbrev pub ArePaging : List Event → Type 0
+ArePaging [] = Unit {0}
+ArePaging (e ∷ es) = (is_paging e ≡ true) × ArePaging es
+
+-- ## Sessions
+
+-- of the session its clock may have risen, and what it knows of free pages, and how many of its commits wait for a flush, may have changed
+pub record IsKept (x y : Session) : Type 0 where
+  pub clock : x.clock.clock ≤ y.clock.clock
+  pub session : y ≡ record x { clock = record x.clock { clock = y.clock.clock }; free = y.free; unflushed = y.unflushed }
+
+-- so it is of each
+abbrev pub AreKept : {D : Type 0} → Machine D → Machine D → Type 0
+AreKept m n = (w : ℕ) → 0 < w → w ≤ m.work.session.workers → IsKept (desk_of (here m) m.desks.items w).session (desk_of (here n) n.desks.items w).session
+
+-- ## What was done
+
+-- how many pages of the machine are hot
+abbrev pub hot_in : {D : Type 0} → PagedMachine D → ℕ
+hot_in m = hot_pages (opening (view_of m).given) (state (view_of m)).core
+
+-- so many events at most has the coming of one page of a way, beside those by which pages cool: it may be asked for twice, with a sync of so many logs in between
+abbrev pub most_a_level : (logs : ℕ) → ℕ
+most_a_level logs = 6 * most_a_page + suc logs
+
+-- Pages were moved and whole syncs made, by so many events beside those by which pages cool. The turn is with whoever had it, each session is as it was but for its clock, its free
+-- pages and its waiting commits, and its log has the flushes and the syncs. The master is another one only behind a sync.
+pub record HasPaged {D : Type 0} (key most : ℕ) (m n : PagedMachine D) : Type 0 where
+  pub events : List Event
+  pub given : (view_of n).given ≡ (view_of m).given
+  pub seen : (view_of n).seen ≡ (view_of m).seen ++ events
+  pub paging : ArePaging events
+  pub few : length events + 2 * hot_in n ≤ 2 * hot_in m + most
+  pub same : AreAsMany m.machine n.machine
+  pub turn : n.machine.work.session.own ≡ m.machine.work.session.own
+  pub sessions : AreKept m.machine n.machine
+  pub logged : (w : ℕ) → 0 < w → w ≤ m.machine.work.session.workers → (g : Opening) (s : State) → Logs w g s (events_of events) (logs m.machine w) (logs n.machine w)
+  pub master : any is_sync (events_of events) ≡ false → n.machine.master ≡ m.machine.master
+  -- in each run the needs of the events are met, and a sync stands only where a page of the key's way finds no frame
+  pub behind : (g : Opening) (xs : List Done) (first : List happening.Event) → Behind g xs first (view_of m) → Behind g xs (first ++ events_of events) (view_of n)
+  pub tight : (g : Opening) (xs : List Done) (first : List happening.Event) → Behind g xs first (view_of m) → SyncsWhere (λ s. IsTight g s key) g (behind_first g xs first) false (events_of events)
+
+-- ## Answers
+
+-- whether the machine works on
+abbrev pub goes_on : {A : Type 0} → Result A Unwarmed → Bool
+goes_on (Ok a) = true
+goes_on (Err unwarmed.RowSpent) = true
+goes_on (Err why) = false

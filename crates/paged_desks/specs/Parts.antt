@@ -1,0 +1,49 @@
+-- The coming of pages, as a part of a call.
+use Rattle.std.specs.Prelude.{◌≡◌, ◌⊎◌, ◌≤◌, ◌<◌, ◌+◌, ◌^◌, ℕ, true, List, length}
+use Rattle.call_parts.specs.Parts.{Failed, Part}
+use Rattle.call_parts.specs.Rooms.{ArePaging}
+use Rattle.core_state.specs.Events.{Event}
+use Rattle.lean_disk.specs.Story.{Story}
+use Rattle.rows_trait.specs.declared.view.View.{View}
+use Rattle.rows_trait.specs.Views.{state}
+use Rattle.session_desks.specs.Desks.{desk_of}
+use Rattle.session_desks.specs.Parts.{AreAsMany, SeatFits, here}
+use Rattle.paged_desks.specs.Machines.{memory, view_of}
+use Rattle.paged_desks.specs.Pages.{HasPaged}
+use Rattle.paged_desks.specs.declared.machine.PagedMachine.{PagedMachine}
+
+-- so many events at most have the pages of one way
+abbrev pub most_a_way : ℕ
+most_a_way = 2 ^ 17 + 2 ^ 10
+
+-- The coming of the pages of a key's way is a part of a call, of few events.
+pub record HasGone {D : Type 0} (story : D → Story) (key most : ℕ) (m n : PagedMachine D) : Type 0 where
+  pub paged : HasPaged key most m n
+  pub few : length paged.events ≤ most_a_way
+  pub part : Part m.machine.work.session.workers paged.events (view_of m) (view_of n) (memory m) (memory n) (story m.machine.work.disk) (story n.machine.work.disk)
+
+-- A device failed in that, or a page was not to be had: these moves of pages and logs were under way.
+pub record HasFailed {D : Type 0} (story : D → Story) (m n : PagedMachine D) : Type 0 where
+  pub events : List Event
+  pub paging : ArePaging events
+  pub few : length events ≤ most_a_way
+  pub failed : Failed m.machine.work.session.workers true true events (view_of m) (memory m) (story m.machine.work.disk) (story n.machine.work.disk)
+  pub same : AreAsMany m.machine n.machine
+  pub fits : SeatFits n.machine
+
+-- ## Why a RowSpent comes
+
+-- so many events were seen, or the global epoch has come to its last number
+abbrev pub IsLate : View → Type 0
+IsLate v = (2 ^ 61 ≤ length v.seen) ⊎ (2 ^ 62 ≤ (state v).core.epoch)
+
+-- an abort of some session is half done
+pub record HasHalf {D : Type 0} (m : PagedMachine D) : Type 0 where
+  pub session : ℕ
+  pub low : 0 < session
+  pub high : session ≤ m.machine.work.session.workers
+  pub half : (desk_of (here m.machine) m.machine.desks.items session).session.is_half_aborted ≡ true
+
+-- it is late behind the call, or before it an abort was half done, which had met that
+abbrev pub IsSpent : {D : Type 0} → PagedMachine D → PagedMachine D → Type 0
+IsSpent m n = IsLate (view_of n) ⊎ HasHalf m

@@ -1,0 +1,78 @@
+// A machine with the pager that brings pages into its frames.
+ghost use Rattle.std.specs.Prelude.{◌≡◌, ◌↔◌, ◌<◌, ◌*◌, ◌^◌, ◌-◌, suc, true, false, IfOk, IfErr, IsErr, OnOk, Err};
+ghost use Rattle.lean_disk.specs.Faults.{HasCause};
+ghost use Rattle.page_provider.specs.declared.refusal.Refusal.TheVariants as refusal;
+ghost use Rattle.paged_rows.specs.Warms.{IsRefusedTo, Warms, most_a_page};
+ghost use Rattle.session_desks.specs.Parts.{NoneIsHalf};
+ghost use Rattle.paged_desks.specs.Machines.{IsReady, pages};
+ghost use Rattle.paged_desks.specs.Inside.{HasBroken, HasDone, IsBeside, IsSynced, LateCause};
+
+use crate::laws::laws;
+use lean_disk::AreaOf;
+use page_provider::{Pager, Refusal};
+use paged_rows::bring;
+use rows_trait::rows::Rows;
+use session_desks::Machine;
+use session_state::Stages;
+use worker_log::DiskFault;
+
+/// Sessions that take turns on rows and a disk, and the pager that moves pages between these two.
+pub struct PagedMachine<D> {
+    pub machine: Machine<D>,
+    pub pager: Pager,
+}
+
+impl<D: Stages> PagedMachine<D> {
+    // Brings the first page of a key's way that is not hot into a frame. True: there is none.
+    pub(crate) fn bring(&mut self, key: u64) -> Result<bool, Refusal>
+        requires ready { IsReady D.story self.old }
+        requires key { key < 2 ^ 64 - 1 }
+        ensures ready { self.new.pager.broken ≡ false → IsReady D.story self.new }
+        ensures beside { IsBeside self.old self.new }
+        ensures done { self.new.pager.broken ≡ false → HasDone D.story key (3 * most_a_page) self.old self.new }
+        ensures broke { self.new.pager.broken ≡ true → HasBroken D.story (3 * most_a_page) self.old self.new }
+        ensures ok { IfOk result (λ done. Warms key done (pages self.old) (pages self.new)) }
+        ensures err { IfErr result (λ why. IsRefusedTo key (pages self.old) why (pages self.new)) }
+        ensures late { IfErr result (LateCause self.new.machine.seat.view) }
+
+        ensures cause_disk_fault { HasCause (D.faults self.old.machine.work.disk) (D.faults self.new.machine.work.disk) (result ≡ Err refusal.DiskFault) }
+    {
+        laws();
+        rows_trait::every_low();
+        desk_parts::every_disk_part::<D>();
+        let worker = self.machine.work.session.own;
+        // Each page has its slots.
+        self.pager.pages();
+        let came = bring(
+            &mut self.machine.rows,
+            &mut self.machine.seat,
+            &mut self.pager,
+            &mut AreaOf::new(&mut self.machine.work.disk, 1),
+            worker,
+            key,
+        );
+        self.pager.pages();
+        // The numbers of latches that were loaded are low.
+        self.machine.rows.versions(&self.machine.seat);
+        came
+    }
+
+    // Flushes all logs and syncs them; then the turn is again with whoever has it.
+    pub(crate) fn sync(&mut self) -> Result<(), DiskFault>
+        requires ready { IsReady D.story self.old }
+        requires whole { NoneIsHalf self.old.machine }
+        ensures ready { OnOk result (IsReady D.story self.new) }
+        ensures synced { OnOk result (IsSynced D.story self.old self.new) }
+        ensures broke { IsErr result → HasBroken D.story (suc self.old.machine.work.session.workers) self.old self.new }
+        ensures works { self.new.machine.work.session.works ≡ true ↔ (IsErr result → ⊥) }
+
+        ensures cause_disk_fault { HasCause (D.faults self.old.machine.work.disk) (D.faults self.new.machine.work.disk) (IsErr result) }
+    {
+        laws();
+        desk_parts::every_disk_part::<D>();
+        let own = self.machine.work.session.own;
+        self.machine.sync_all()?;
+        self.machine.turn_to(own);
+        Ok(())
+    }
+}

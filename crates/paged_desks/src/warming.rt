@@ -1,0 +1,172 @@
+// The pages of a key's way are brought into frames.
+ghost use Rattle.std.specs.Prelude.{◌≡◌, ◌<◌, ◌+◌, ◌*◌, ◌^◌, ◌-◌, suc, true, false, IfOk, OnOk, Err};
+ghost use Rattle.core_covers.specs.Lows.{IsAllFlushed};
+ghost use Rattle.lean_disk.specs.Faults.{HasCause};
+ghost use Rattle.row_words.specs.Openings.{opening};
+ghost use Rattle.rows_trait.specs.Views.{state};
+ghost use Rattle.paged_rows.specs.Paged.{IsWarm};
+ghost use Rattle.paged_rows.specs.Warms.{most_a_page};
+ghost use Rattle.paged_desks.specs.Machines.{IsReady, pages};
+ghost use Rattle.paged_desks.specs.Pages.{goes_on, most_a_level};
+ghost use Rattle.paged_desks.specs.Parts.{HasFailed, HasGone, IsLate, IsSpent};
+ghost use Rattle.paged_desks.specs.Inside.{Comes, HasBroken, HasDone, IsOfPage, IsStopped, IsTooFull, stopped_by};
+ghost use Rattle.paged_desks.specs.declared.warming.Unwarmed.TheVariants as refused;
+
+use crate::laws::laws;
+use crate::machine::PagedMachine;
+use lean_proto::path::DEEPEST;
+use page_provider::Refusal;
+use session_state::Stages;
+use worker_log::DiskFault;
+
+/// Why the pages of a key's way were not brought into frames.
+#[derive(Clone, Copy, Debug, PartialEq, Eq)]
+pub enum Unwarmed {
+    /// The version of a row, or the global epoch, has come to its last number; or a sync is needed, and an abort is half done, which had met that.
+    RowSpent,
+    /// The disk failed.
+    DiskFault,
+    /// The page has no valid slot.
+    Damaged { page: u32 },
+    /// The page that was read is not the one that left its frame.
+    Altered { page: u32 },
+}
+
+// A refusal of the pager, as the machine says it.
+fn why_of(why: Refusal) -> Unwarmed
+    requires page { IsOfPage why }
+    ensures { result ≡ stopped_by why }
+{
+    match why {
+        Refusal::RowSpent { .. } => Unwarmed::RowSpent,
+        Refusal::DiskFault => Unwarmed::DiskFault,
+        Refusal::Damaged { page, .. } => Unwarmed::Damaged { page },
+        Refusal::Altered { page } => Unwarmed::Altered { page },
+        Refusal::Moved(_)
+        | Refusal::Latched(_)
+        | Refusal::PoolFull { .. }
+        | Refusal::NoPages
+        | Refusal::Broken => unreachable!(),
+    }
+}
+
+// Whether no frame could be given.
+fn is_full(why: Refusal) -> bool
+    ensures { result ≡ Rattle.paged_desks.specs.Inside.is_full why }
+{
+    matches!(why, Refusal::PoolFull { .. })
+}
+
+impl<D: Stages> PagedMachine<D> {
+    // The machine works on behind a refusal, unless the disk is not to be had any longer.
+    fn stop(&mut self, why: Refusal) -> Unwarmed
+        requires page { IsOfPage why }
+        ensures why { result ≡ stopped_by why }
+        ensures goes_on { self.old.pager.broken ≡ false → self.new ≡ self.old }
+        ensures stops { self.old.pager.broken ≡ true → IsStopped self.old self.new }
+        ensures disk { self.new.machine.work.disk ≡ self.old.machine.work.disk }
+    {
+        if self.pager.is_broken() {
+            self.machine.work.session.works = false;
+            return why_of(why);
+        }
+        why_of(why)
+    }
+
+    // Brings the page, where no page is above what is flushed everywhere: then there is a frame for it.
+    fn bring_again(&mut self, key: u64) -> Result<bool, Unwarmed>
+        requires ready { IsReady D.story self.old }
+        requires low { IsAllFlushed (opening self.old.machine.seat.view.given) (state self.old.machine.seat.view).core }
+        requires key { key < 2 ^ 64 - 1 }
+        ensures works { self.new.machine.work.session.works ≡ goes_on result }
+        ensures ready { goes_on result ≡ true → IsReady D.story self.new }
+        ensures done { goes_on result ≡ true → HasDone D.story key (3 * most_a_page) self.old self.new }
+        ensures broke { goes_on result ≡ false → HasBroken D.story (3 * most_a_page) self.old self.new }
+        ensures spent { result ≡ Err refused.RowSpent → IsLate self.new.machine.seat.view }
+        ensures comes { IfOk result (λ done. Comes key done self.old self.new) }
+
+        ensures cause_disk_fault { HasCause (D.faults self.old.machine.work.disk) (D.faults self.new.machine.work.disk) (result ≡ Err refused.DiskFault) }
+    {
+        laws();
+        match self.bring(key) {
+            Ok(done) => Ok(done),
+            Err(why) => Err(self.stop(why)),
+        }
+    }
+
+    // A page finds no frame: all logs are synced, and it is asked for once more.
+    fn sync_and_bring(&mut self, key: u64) -> Result<bool, Unwarmed>
+        requires ready { IsReady D.story self.old }
+        requires crowded { IsTooFull key self.old }
+        requires key { key < 2 ^ 64 - 1 }
+        ensures works { self.new.machine.work.session.works ≡ goes_on result }
+        ensures ready { goes_on result ≡ true → IsReady D.story self.new }
+        ensures done { goes_on result ≡ true → HasDone D.story key (3 * most_a_page + suc self.old.machine.work.session.workers) self.old self.new }
+        ensures broke { goes_on result ≡ false → HasBroken D.story (3 * most_a_page + suc self.old.machine.work.session.workers) self.old self.new }
+        ensures spent { result ≡ Err refused.RowSpent → IsSpent self.old self.new }
+        ensures comes { IfOk result (λ done. Comes key done self.old self.new) }
+
+        ensures cause_disk_fault { HasCause (D.faults self.old.machine.work.disk) (D.faults self.new.machine.work.disk) (result ≡ Err refused.DiskFault) }
+    {
+        laws();
+        if self.machine.any_half() {
+            return Err(Unwarmed::RowSpent);
+        }
+        match self.sync() {
+            Ok(()) => self.bring_again(key),
+            Err(DiskFault) => Err(Unwarmed::DiskFault),
+        }
+    }
+
+    // Brings the first page of a key's way that is not hot into a frame, behind a sync where it finds none. True: there is no such page.
+    fn bring_or_sync(&mut self, key: u64) -> Result<bool, Unwarmed>
+        requires ready { IsReady D.story self.old }
+        requires key { key < 2 ^ 64 - 1 }
+        ensures works { self.new.machine.work.session.works ≡ goes_on result }
+        ensures ready { goes_on result ≡ true → IsReady D.story self.new }
+        ensures done { goes_on result ≡ true → HasDone D.story key (most_a_level self.old.machine.work.session.workers) self.old self.new }
+        ensures broke { goes_on result ≡ false → HasBroken D.story (most_a_level self.old.machine.work.session.workers) self.old self.new }
+        ensures spent { result ≡ Err refused.RowSpent → IsSpent self.old self.new }
+        ensures comes { IfOk result (λ done. Comes key done self.old self.new) }
+
+        ensures cause_disk_fault { HasCause (D.faults self.old.machine.work.disk) (D.faults self.new.machine.work.disk) (result ≡ Err refused.DiskFault) }
+    {
+        laws();
+        let why = match self.bring(key) {
+            Ok(done) => return Ok(done),
+            Err(why) => why,
+        };
+        if is_full(why) {
+            return self.sync_and_bring(key);
+        }
+        Err(self.stop(why))
+    }
+
+    /// Brings each page on a key's way into a frame. Where a page finds no frame, since each has a page of the way or one above the number up to which all
+    /// logs are flushed, it makes a sync first.
+    ///
+    /// RowSpent: the version of a row, or the global epoch, has come to its last number; or a sync is needed while an abort is half done. DiskFault, Damaged, Altered: the
+    /// device failed, or a page is not to be had from it, and from then on the machine works no longer.
+    pub fn warm(&mut self, key: u64) -> Result<(), Unwarmed>
+        requires ready { IsReady D.story self.old }
+        requires key { key < 2 ^ 64 - 1 }
+        ensures works { self.new.machine.work.session.works ≡ goes_on result }
+        ensures ready { goes_on result ≡ true → IsReady D.story self.new }
+        ensures gone { goes_on result ≡ true → HasGone D.story key (9 * most_a_level self.old.machine.work.session.workers) self.old self.new }
+        ensures failed { goes_on result ≡ false → HasFailed D.story self.old self.new }
+        ensures spent { result ≡ Err refused.RowSpent → IsSpent self.old self.new }
+        ensures warm { OnOk result (IsWarm (pages self.new) key 0) }
+
+        ensures cause_disk_fault { HasCause (D.faults self.old.machine.work.disk) (D.faults self.new.machine.work.disk) (result ≡ Err refused.DiskFault) }
+    {
+        laws();
+        for _come in 0..DEEPEST + 1 {
+            match self.bring_or_sync(key) {
+                Ok(true) => return Ok(()),
+                Ok(false) => {}
+                Err(why) => return Err(why),
+            }
+        }
+        unreachable!()
+    }
+}
