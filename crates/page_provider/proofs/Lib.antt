@@ -41,6 +41,7 @@ pub mod Faulting
 pub mod Descents
 pub mod Filling
 pub mod Fetched
+pub mod Losses
 pub mod Unsaved
 pub mod Mirrored
 pub mod Framing

@@ -3,8 +3,10 @@ use Rattle.std.specs.Prelude.{◌≡◌, ◌≤◌, ◌<◌, ◌+◌, ◌⊎◌,
 use Rattle.map_model.specs.Lists.{Has}
 use Rattle.page_model.specs.Check.{names_page}
 use Rattle.core_state.specs.Needs.{has_hot_parent}
+use Rattle.core_state.specs.Openings.{Opening}
 use Rattle.core_state.specs.States.{Place, flushed_by_all, is_cold, is_cooling, is_hot}
-use Rattle.lean_disk.specs.Story.{Story, Tells}
+use Rattle.disk_runs.specs.Stands.{Known}
+use Rattle.lean_disk.specs.Story.{Crash, Story, Tells}
 use Rattle.cold_pages.specs.Compared.{IsAsKept}
 use Rattle.page_model.specs.Page.{Page}
 use Rattle.page_calls.specs.Calls.{IsDamaged}
@@ -15,9 +17,10 @@ use Rattle.rows_trait.specs.Views.{Shape, state}
 use Rattle.page_pool.specs.Full.{IsHeldBack, IsTaken, IsWay}
 use Rattle.page_provider.specs.declared.refusal.Refusal.{Refusal}
 use Rattle.page_provider.specs.declared.refusal.Refusal.TheVariants as refusal
+use Rattle.page_provider.specs.Disks.{Runs}
 use Rattle.page_provider.specs.Gives.{Holds}
 use Rattle.page_provider.specs.Moves.{KeepsPath, Moved, way}
-use Rattle.page_provider.specs.Providers.{Provider}
+use Rattle.page_provider.specs.Providers.{Keeps, Provider}
 use Rattle.page_provider.specs.Shares.{AreNeeded, HasShare}
 
 -- ## What is asked
@@ -101,6 +104,17 @@ LostCause was page s (refusal.DiskFault) = Unit {0}
 LostCause was page s (refusal.Damaged p counts other) = (p ≡ page) × (Tells s 1 → IsDamaged was.slots was.generation page (s.area 1).bytes counts other)
 LostCause was page s (refusal.Altered p) = (p ≡ page) × (Tells s 1 → IsAltered was page s)
 LostCause was page s _ = ⊥
+
+-- such a page was cold
+abbrev pub ColdCause : View → (page : ℕ) → Refusal → Type 0
+ColdCause v page (refusal.Damaged p counts other) = is_cold ((state v).core.place page) ≡ true
+ColdCause v page (refusal.Altered p) = is_cold ((state v).core.place page) ≡ true
+ColdCause v page _ = Unit {0}
+
+-- Where a run of the core stands over the disk each cold page is there as it was kept: a fault alone keeps it back.
+abbrev pub EveryFound : (s : Story) → Type 0
+EveryFound s = (g : Opening) (s0 : Crash) (x : Known) (z : Shape) (k : Provider) (v : View) (page : ℕ) (why : Refusal) → Keeps z v k → Runs g s0 x k v s → page < (opening v.given).format.pages → is_cold ((state v).core.place page) ≡ true
+    → LostCause k page s why → why ≡ refusal.DiskFault
 
 -- ## Why no page came: s is what the device told before. Where no frame could be given the page is cold.
 

@@ -12,7 +12,7 @@ ghost use Rattle.free_pages.specs.Pages.{IsLeast, count, is_in};
 ghost use Rattle.page_provider.specs.Comes.{CanCome, Fills, HasContents, IsUnseen, PlaceCause};
 ghost use Rattle.page_provider.specs.Disks.{Disked, ReadsUnlessSaved};
 ghost use Rattle.page_provider.specs.Ends.{HasRefused};
-ghost use Rattle.page_provider.specs.Faults.{FaultCause, Faulted, HasPlaced, IsAstray, IsDescent, IsWanted, LeadsTo, NoPageCause};
+ghost use Rattle.page_provider.specs.Faults.{ColdCause, FaultCause, Faulted, HasPlaced, IsAstray, IsDescent, IsWanted, LeadsTo, NoPageCause};
 ghost use Rattle.page_provider.specs.Finds.{Halts};
 ghost use Rattle.page_provider.specs.Gives.{Gives};
 ghost use Rattle.page_provider.specs.Mirrored.{KeepsMirrored};
@@ -155,6 +155,7 @@ impl Pager {
         ensures ok { IfOk result (λ come. Faulted 5 (R.shape rows.old) path.now (R.view seat.old) self.old page come (R.view seat.new) self.new) }
         ensures err { IfErr result (λ why. HasRefused 5 (R.shape rows.old) path.now (R.view seat.old) self.old why (R.view seat.new) self.new) }
         ensures cause { IfErr result (FaultCause (R.shape rows.old) path.now self.old page (P.story dev.old) (R.view seat.new) self.new) }
+        ensures cold { IfErr result (ColdCause (R.view seat.old) page) }
         ensures disk { Disked (R.shape rows.old).alone self.old (R.view seat.old) self.new (R.view seat.new) (P.story dev.old) (P.story dev.new) }
         ensures mirrors { KeepsMirrored (R.view seat.old) self.old (R.view seat.new) self.new (P.story dev.old) (P.story dev.new) }
         ensures within { KeepsWithin (P.story dev.old) (P.story dev.new) }
@@ -194,6 +195,7 @@ impl Pager {
         ensures ok { IfOk result (λ come. Faulted 5 (R.shape rows.old) path.now (R.view seat.old) self.old page come (R.view seat.new) self.new) }
         ensures err { IfErr result (λ why. HasRefused 5 (R.shape rows.old) path.now (R.view seat.old) self.old why (R.view seat.new) self.new) }
         ensures cause { IfErr result (FaultCause (R.shape rows.old) path.now self.old page (P.story dev.old) (R.view seat.new) self.new) }
+        ensures cold { IfErr result (ColdCause (R.view seat.old) page) }
         ensures disk { Disked (R.shape rows.old).alone self.old (R.view seat.old) self.new (R.view seat.new) (P.story dev.old) (P.story dev.new) }
         ensures mirrors { KeepsMirrored (R.view seat.old) self.old (R.view seat.new) self.new (P.story dev.old) (P.story dev.new) }
         ensures within { KeepsWithin (P.story dev.old) (P.story dev.new) }
@@ -241,6 +243,7 @@ impl Pager {
         ensures ok { IfOk result (λ come. Faulted 5 (R.shape rows.old) path.now (R.view seat.old) self.old page come (R.view seat.new) self.new) }
         ensures err { IfErr result (λ why. HasRefused 5 (R.shape rows.old) path.now (R.view seat.old) self.old why (R.view seat.new) self.new) }
         ensures cause { IfErr result (FaultCause (R.shape rows.old) path.now self.old page (P.story dev.old) (R.view seat.new) self.new) }
+        ensures cold { IfErr result (ColdCause (R.view seat.old) page) }
         ensures disk { Disked (R.shape rows.old).alone self.old (R.view seat.old) self.new (R.view seat.new) (P.story dev.old) (P.story dev.new) }
         ensures mirrors { KeepsMirrored (R.view seat.old) self.old (R.view seat.new) self.new (P.story dev.old) (P.story dev.new) }
         ensures within { KeepsWithin (P.story dev.old) (P.story dev.new) }
@@ -287,6 +290,7 @@ impl Pager {
         ensures ok { IfOk result (λ frame. HasPlaced 5 (R.shape rows.old) path.now (R.view seat.old) self.old page frame (R.view seat.new) self.new) }
         ensures err { IfErr result (λ why. HasRefused 5 (R.shape rows.old) path.now (R.view seat.old) self.old why (R.view seat.new) self.new) }
         ensures cause { IfErr result (FaultCause (R.shape rows.old) path.now self.old page (P.story dev.old) (R.view seat.new) self.new) }
+        ensures cold { IfErr result (ColdCause (R.view seat.old) page) }
         ensures disk { Disked (R.shape rows.old).alone self.old (R.view seat.old) self.new (R.view seat.new) (P.story dev.old) (P.story dev.new) }
         ensures mirrors { KeepsMirrored (R.view seat.old) self.old (R.view seat.new) self.new (P.story dev.old) (P.story dev.new) }
         ensures within { KeepsWithin (P.story dev.old) (P.story dev.new) }

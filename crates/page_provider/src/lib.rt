@@ -21,13 +21,14 @@ mod turning;
 
 ghost use Rattle.page_provider.specs.Amounts.{EveryFew};
 ghost use Rattle.page_provider.specs.Descents.{EveryDescent};
+ghost use Rattle.page_provider.specs.Faults.{EveryFound};
 ghost use Rattle.page_provider.specs.Fetches.{EveryGivenKept};
 ghost use Rattle.page_provider.specs.Fresh.{EveryFree, EveryFresh};
 ghost use Rattle.page_provider.specs.Gives.{EveryGiven};
 ghost use Rattle.page_provider.specs.Sequels.{EveryAreaRest, EveryAreaSequel, EveryDiskRest, EveryDiskSequel, EverySequel, EveryUnsaved};
 ghost use Rattle.page_provider.specs.Mirrored.{EveryMirroredGives, EveryMirroredRest, EveryMirroredRun};
 
-use lean_disk::Part;
+use lean_disk::{Disk, Part};
 pub use pager::Pager;
 pub use refusal::Refusal;
 
@@ -65,6 +66,14 @@ pub fn every_given<P: Part>(now: &P)
 pub fn every_given_kept<P: Part>(now: &P)
     ensures { EveryGivenKept (P.story now.now) }
 {}
+
+/// Where a run of the core stands over the disk no cold page is Damaged, and none is Altered.
+pub fn every_found<D: Disk>()
+    ensures { (now : D) → EveryFound (D.story now) }
+{
+    page_store::every_seal();
+    row_opening::every_reached();
+}
 
 /// Two calls, one behind the other, have done together what each did; and where nobody else steps no page has other contents behind them.
 pub fn every_sequel()

@@ -9,3 +9,4 @@ pub mod Stops
 pub mod Stopping
 pub mod Breaking
 pub mod Late
+pub mod Losses

@@ -25,7 +25,7 @@ use Rattle.session_desks.specs.Parts.{AreAsMany, SeatFits, logs, shape}
 use Rattle.session_state.specs.Ties.{Behind}
 use Rattle.paged_desks.specs.Machines.{memory, pages, view_of}
 use Rattle.paged_desks.specs.Pages.{AreKept, ArePaging, HasPaged, hot_in}
-use Rattle.paged_desks.specs.Parts.{IsLate}
+use Rattle.paged_desks.specs.Parts.{IsLate, StandsNowhere}
 use Rattle.paged_desks.specs.declared.machine.PagedMachine.{PagedMachine}
 use Rattle.paged_desks.specs.declared.warming.Unwarmed.{Unwarmed}
 use Rattle.paged_desks.specs.declared.warming.Unwarmed.TheVariants as unwarmed
@@ -56,6 +56,18 @@ stopped_by _ = unwarmed.DiskFault
 abbrev pub LateCause : View → Refusal → Type 0
 LateCause v (refusal.RowSpent row) = IsLate v
 LateCause v _ = Unit {0}
+
+-- over a run no page is kept from it
+abbrev pub AwayCause : {D : Type 0} → (story : D → Story) → PagedMachine D → Refusal → Type 0
+AwayCause story m (refusal.Damaged page counts other) = StandsNowhere story m
+AwayCause story m (refusal.Altered page) = StandsNowhere story m
+AwayCause story m _ = Unit {0}
+
+-- as the machine says it
+abbrev pub UnreadCause : {D : Type 0} → (story : D → Story) → PagedMachine D → Unwarmed → Type 0
+UnreadCause story m (unwarmed.Damaged page) = StandsNowhere story m
+UnreadCause story m (unwarmed.Altered page) = StandsNowhere story m
+UnreadCause story m _ = Unit {0}
 
 -- ## One page
 

@@ -1,13 +1,18 @@
 -- The coming of pages, as a part of a call.
-use Rattle.std.specs.Prelude.{◌≡◌, ◌⊎◌, ◌≤◌, ◌<◌, ◌+◌, ◌^◌, ℕ, true, List, length}
+use Rattle.std.specs.Prelude.{◌≡◌, ◌⊎◌, ◌≤◌, ◌<◌, ◌+◌, ◌^◌, ◌++◌, ℕ, true, List, length}
+use Rattle.call_parts.specs.Memory.{IsOf}
 use Rattle.call_parts.specs.Parts.{Failed, Part}
 use Rattle.call_parts.specs.Rooms.{ArePaging}
+use Rattle.core_calls.specs.Fronts.{Done, front}
 use Rattle.core_state.specs.Events.{Event}
-use Rattle.lean_disk.specs.Story.{Story}
+use Rattle.core_state.specs.Openings.{Opening}
+use Rattle.disk_runs.specs.Stands.{Known, Stands}
+use Rattle.lean_disk.specs.Story.{Crash, Story}
 use Rattle.rows_trait.specs.declared.view.View.{View}
 use Rattle.rows_trait.specs.Views.{state}
 use Rattle.session_desks.specs.Desks.{desk_of}
 use Rattle.session_desks.specs.Parts.{AreAsMany, SeatFits, here}
+use Rattle.session_state.specs.Ties.{Behind}
 use Rattle.paged_desks.specs.Machines.{memory, view_of}
 use Rattle.paged_desks.specs.Pages.{HasPaged}
 use Rattle.paged_desks.specs.declared.machine.PagedMachine.{PagedMachine}
@@ -30,6 +35,12 @@ pub record HasFailed {D : Type 0} (story : D → Story) (m n : PagedMachine D) :
   pub failed : Failed m.machine.work.session.workers true true events (view_of m) (memory m) (story m.machine.work.disk) (story n.machine.work.disk)
   pub same : AreAsMany m.machine n.machine
   pub fits : SeatFits n.machine
+
+-- ## Where a page is not to be had
+
+-- in no run in which the view is does the disk stand with what is in memory
+abbrev pub StandsNowhere : {D : Type 0} → (story : D → Story) → PagedMachine D → Type 0
+StandsNowhere story m = (g : Opening) (xs : List Done) (first : List Event) → Behind g xs first (view_of m) → (s0 : Crash) (a : Known) → Stands g (front xs ++ first) s0 a (story m.machine.work.disk) → IsOf g (memory m) a → ⊥
 
 -- ## Why a RowSpent comes
 

@@ -5,7 +5,7 @@ ghost use Rattle.page_provider.specs.declared.refusal.Refusal.TheVariants as ref
 ghost use Rattle.paged_rows.specs.Warms.{IsRefusedTo, Warms, most_a_page};
 ghost use Rattle.session_desks.specs.Parts.{NoneIsHalf};
 ghost use Rattle.paged_desks.specs.Machines.{IsReady, pages};
-ghost use Rattle.paged_desks.specs.Inside.{HasBroken, HasDone, IsBeside, IsSynced, LateCause};
+ghost use Rattle.paged_desks.specs.Inside.{AwayCause, HasBroken, HasDone, IsBeside, IsSynced, LateCause};
 
 use crate::laws::laws;
 use lean_disk::AreaOf;
@@ -34,12 +34,14 @@ impl<D: Stages> PagedMachine<D> {
         ensures ok { IfOk result (λ done. Warms key done (pages self.old) (pages self.new)) }
         ensures err { IfErr result (λ why. IsRefusedTo key (pages self.old) why (pages self.new)) }
         ensures late { IfErr result (LateCause self.new.machine.seat.view) }
+        ensures away { IfErr result (AwayCause D.story self.old) }
 
         ensures cause_disk_fault { HasCause (D.faults self.old.machine.work.disk) (D.faults self.new.machine.work.disk) (result ≡ Err refusal.DiskFault) }
     {
         laws();
         rows_trait::every_low();
         desk_parts::every_disk_part::<D>();
+        page_provider::every_found::<D>();
         let worker = self.machine.work.session.own;
         // Each page has its slots.
         self.pager.pages();

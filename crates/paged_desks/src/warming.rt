@@ -1,5 +1,5 @@
 // The pages of a key's way are brought into frames.
-ghost use Rattle.std.specs.Prelude.{◌≡◌, ◌<◌, ◌+◌, ◌*◌, ◌^◌, ◌-◌, suc, true, false, IfOk, OnOk, Err};
+ghost use Rattle.std.specs.Prelude.{◌≡◌, ◌⊎◌, ◌<◌, ◌+◌, ◌*◌, ◌^◌, ◌-◌, ℕ, suc, true, false, IfErr, IfOk, OnOk, Err};
 ghost use Rattle.core_covers.specs.Lows.{IsAllFlushed};
 ghost use Rattle.lean_disk.specs.Faults.{HasCause};
 ghost use Rattle.row_words.specs.Openings.{opening};
@@ -8,8 +8,8 @@ ghost use Rattle.paged_rows.specs.Paged.{IsWarm};
 ghost use Rattle.paged_rows.specs.Warms.{most_a_page};
 ghost use Rattle.paged_desks.specs.Machines.{IsReady, pages};
 ghost use Rattle.paged_desks.specs.Pages.{goes_on, most_a_level};
-ghost use Rattle.paged_desks.specs.Parts.{HasFailed, HasGone, IsLate, IsSpent};
-ghost use Rattle.paged_desks.specs.Inside.{Comes, HasBroken, HasDone, IsOfPage, IsStopped, IsTooFull, stopped_by};
+ghost use Rattle.paged_desks.specs.Parts.{HasFailed, HasGone, IsLate, IsSpent, StandsNowhere};
+ghost use Rattle.paged_desks.specs.Inside.{Comes, HasBroken, HasDone, IsOfPage, IsStopped, IsTooFull, UnreadCause, stopped_by};
 ghost use Rattle.paged_desks.specs.declared.warming.Unwarmed.TheVariants as refused;
 
 use crate::laws::laws;
@@ -83,6 +83,7 @@ impl<D: Stages> PagedMachine<D> {
         ensures done { goes_on result ≡ true → HasDone D.story key (3 * most_a_page) self.old self.new }
         ensures broke { goes_on result ≡ false → HasBroken D.story (3 * most_a_page) self.old self.new }
         ensures spent { result ≡ Err refused.RowSpent → IsLate self.new.machine.seat.view }
+        ensures unread { IfErr result (UnreadCause D.story self.old) }
         ensures comes { IfOk result (λ done. Comes key done self.old self.new) }
 
         ensures cause_disk_fault { HasCause (D.faults self.old.machine.work.disk) (D.faults self.new.machine.work.disk) (result ≡ Err refused.DiskFault) }
@@ -104,6 +105,7 @@ impl<D: Stages> PagedMachine<D> {
         ensures done { goes_on result ≡ true → HasDone D.story key (3 * most_a_page + suc self.old.machine.work.session.workers) self.old self.new }
         ensures broke { goes_on result ≡ false → HasBroken D.story (3 * most_a_page + suc self.old.machine.work.session.workers) self.old self.new }
         ensures spent { result ≡ Err refused.RowSpent → IsSpent self.old self.new }
+        ensures unread { IfErr result (UnreadCause D.story self.old) }
         ensures comes { IfOk result (λ done. Comes key done self.old self.new) }
 
         ensures cause_disk_fault { HasCause (D.faults self.old.machine.work.disk) (D.faults self.new.machine.work.disk) (result ≡ Err refused.DiskFault) }
@@ -127,6 +129,7 @@ impl<D: Stages> PagedMachine<D> {
         ensures done { goes_on result ≡ true → HasDone D.story key (most_a_level self.old.machine.work.session.workers) self.old self.new }
         ensures broke { goes_on result ≡ false → HasBroken D.story (most_a_level self.old.machine.work.session.workers) self.old self.new }
         ensures spent { result ≡ Err refused.RowSpent → IsSpent self.old self.new }
+        ensures unread { IfErr result (UnreadCause D.story self.old) }
         ensures comes { IfOk result (λ done. Comes key done self.old self.new) }
 
         ensures cause_disk_fault { HasCause (D.faults self.old.machine.work.disk) (D.faults self.new.machine.work.disk) (result ≡ Err refused.DiskFault) }
@@ -155,6 +158,7 @@ impl<D: Stages> PagedMachine<D> {
         ensures gone { goes_on result ≡ true → HasGone D.story key (9 * most_a_level self.old.machine.work.session.workers) self.old self.new }
         ensures failed { goes_on result ≡ false → HasFailed D.story self.old self.new }
         ensures spent { result ≡ Err refused.RowSpent → IsSpent self.old self.new }
+        ensures damaged { (page : ℕ) → (result ≡ Err (refused.Damaged page)) ⊎ (result ≡ Err (refused.Altered page)) → StandsNowhere D.story self.old }
         ensures warm { OnOk result (IsWarm (pages self.new) key 0) }
 
         ensures cause_disk_fault { HasCause (D.faults self.old.machine.work.disk) (D.faults self.new.machine.work.disk) (result ≡ Err refused.DiskFault) }

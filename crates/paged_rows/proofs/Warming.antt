@@ -27,7 +27,7 @@ use Rattle.page_provider.specs.Mirrored.{KeepsMirrored}
 use Rattle.lean_disk.specs.Moments.{Framed}
 use Rattle.std.specs.Prelude.{IsTrue}
 use Rattle.paged_rows.specs.Paged.{paged}
-use Rattle.paged_rows.specs.Warms.{CrowdedCause, HasCome, HasMoved, IsCrowded, IsKept, IsRefusedTo, most_a_page}
+use Rattle.paged_rows.specs.Warms.{CrowdedCause, HasCome, HasMoved, IsCrowded, IsKept, IsLost, IsRefusedTo, LostTo, most_a_page}
 use Rattle.map_model.specs.Lists.{any}
 use Rattle.map_model.proofs.ListLemmas.{any_has}
 use Rattle.page_pool.specs.Full.{IsTaken}
@@ -49,7 +49,7 @@ use Rattle.btree_descent.specs.declared.reach.Way.TheVariants.{Cold}
 use Rattle.btree_descent.specs.Descents.{Sized}
 use Rattle.page_provider.specs.Descents.{EveryDescent}
 use Rattle.page_provider.specs.Ends.{HasRefused}
-use Rattle.page_provider.specs.Faults.{FaultCause, FullCause, HasPlaced, IsDescent, IsWanted, LeadsTo}
+use Rattle.page_provider.specs.Faults.{ColdCause, FaultCause, FullCause, HasPlaced, IsDescent, IsWanted, LeadsTo, LostCause}
 use Rattle.page_provider.specs.Providers.{Keeps}
 use Rattle.page_provider.specs.declared.refusal.Refusal.TheVariants as refusal
 
@@ -260,6 +260,22 @@ module _ {x y : Shape} {v w : View} {k : Provider} (same : x ≡ y) (i : IsPaged
           warm_up (opening u.given) (state u).core key (omega arith)
           ((warms (opening u.given) (state u).core key).up behind.tree behind.residence r.parent (subst (λ (q : Given). r.parent < (opening q).format.pages) (sym given) r.below)
           (ap (λ n. covers n key) (contents r.parent).fields ∙ routes_cover w.given (state w) key there.row sound r) hot)
+
+      -- the page was cold before the search too
+      pub lost_to : FaultCause x path k page s u is why → ColdCause w page why → LostTo (paged y v k) s why
+      lost_to c d = go why c d
+        where
+          as_lost : (r : Refusal) → LostCause k page s r → is_cold ((state w).core.place page) ≡ true → IsLost (paged y v k) page s r
+          as_lost r l e = record {
+            below = subst (λ (q : Given). page < (opening q).format.pages) ran.given wanted_is.below;
+            cold = ap (λ (m : Moment). is_cold (m.core.place page)) (sym now) ∙ e;
+            cause = l;
+          }
+
+          go : (r : Refusal) → FaultCause x path k page s u is r → ColdCause w page r → LostTo (paged y v k) s r
+          go (refusal.Damaged p counts other) l e = subst (λ q. IsLost (paged y v k) q s (refusal.Damaged q counts other)) (sym l.0) (as_lost (refusal.Damaged page counts other) (refl, l.1) e)
+          go (refusal.Altered p) l e = subst (λ q. IsLost (paged y v k) q s (refusal.Altered q)) (sym l.0) (as_lost (refusal.Altered page) (refl, l.1) e)
+          go _ l e = tt
 
       pub refused_to : FaultCause x path k page s u is why → IsRefusedTo key (paged y v k) why (paged z u is)
       refused_to c = record {

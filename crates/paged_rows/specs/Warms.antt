@@ -10,6 +10,7 @@ use Rattle.lean_disk.specs.Story.{Story}
 use Rattle.map_model.specs.Lists.{any}
 use Rattle.page_provider.specs.Disks.{saves_page}
 use Rattle.page_provider.specs.Ends.{HasRefused}
+use Rattle.page_provider.specs.Faults.{LostCause}
 use Rattle.page_provider.specs.Moves.{Moved}
 use Rattle.row_words.specs.Moments.{events_of}
 use Rattle.row_words.specs.Openings.{opening}
@@ -79,3 +80,16 @@ pub record IsRefusedTo (key : ℕ) (p : Paged) (why : Refusal) (q : Paged) : Typ
   pub refused : HasRefused most_a_page p.shape [] p.view p.pager why q.view q.pager
   pub warm : (level : ℕ) → IsWarm p key level → IsWarm q key level
   pub crowded : CrowdedCause key why q
+
+-- ## A page that is not to be had
+
+-- it is cold, and why it could not be read: s is what the device told before
+pub record IsLost (p : Paged) (page : ℕ) (s : Story) (why : Refusal) : Type 0 where
+  pub below : page < (opening p.view.given).format.pages
+  pub cold : is_cold ((state p.view).core.place page) ≡ true
+  pub cause : LostCause p.pager page s why
+
+abbrev pub LostTo : Paged → Story → Refusal → Type 0
+LostTo p s (refusal.Damaged page counts other) = IsLost p page s (refusal.Damaged page counts other)
+LostTo p s (refusal.Altered page) = IsLost p page s (refusal.Altered page)
+LostTo p s _ = Unit {0}

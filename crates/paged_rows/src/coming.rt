@@ -6,7 +6,7 @@ ghost use Rattle.page_calls.specs.Calls.{KeepsWithin};
 ghost use Rattle.page_provider.specs.Disks.{Disked};
 ghost use Rattle.page_provider.specs.declared.refusal.Refusal.TheVariants as refusal;
 ghost use Rattle.paged_rows.specs.Paged.{IsFedIfFaithful, IsPaged, paged};
-ghost use Rattle.paged_rows.specs.Warms.{IsRefusedTo, ReadsUnlessSaved, Warms};
+ghost use Rattle.paged_rows.specs.Warms.{IsRefusedTo, LostTo, ReadsUnlessSaved, Warms};
 
 use btree_descent::reach::{Way, reach};
 use lean_disk::Part;
@@ -37,6 +37,7 @@ pub fn bring<R: Rows, P: Part>(
     ensures paged { IsPaged (paged (R.shape rows.new) (R.view seat.new) pager.new) }
     ensures ok { IfOk result (λ done. Warms key done (paged (R.shape rows.old) (R.view seat.old) pager.old) (paged (R.shape rows.new) (R.view seat.new) pager.new)) }
     ensures err { IfErr result (λ why. IsRefusedTo key (paged (R.shape rows.old) (R.view seat.old) pager.old) why (paged (R.shape rows.new) (R.view seat.new) pager.new)) }
+    ensures lost { IfErr result (LostTo (paged (R.shape rows.old) (R.view seat.old) pager.old) (P.story dev.old)) }
     ensures fed { pager.new.broken ≡ false → IsFedIfFaithful (paged (R.shape rows.new) (R.view seat.new) pager.new) (P.story dev.new) }
     ensures frame { Framed 1 (P.story dev.old) (P.story dev.new) }
     ensures within { KeepsWithin (P.story dev.old) (P.story dev.new) }

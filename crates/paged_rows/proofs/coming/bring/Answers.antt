@@ -5,8 +5,8 @@ use Rattle.page_provider.specs.Disks.{Disked}
 use Rattle.page_provider.specs.Providers.{Keeps}
 use Rattle.rows_trait.specs.Views.{Shape}
 use Rattle.paged_rows.specs.Paged.{IsFed, IsPaged, IsWarm, Paged, paged}
-use Rattle.paged_rows.specs.Warms.{HasCome, HasMoved, IsRefusedTo}
-use Rattle.paged_rows.proofs.Warming.{descent_is, disk_from, fed_now, fed_on, has_come, if_err, leads_is, leaf_met, paged_now, refused_to, wanted_is}
+use Rattle.paged_rows.specs.Warms.{HasCome, HasMoved, IsRefusedTo, LostTo}
+use Rattle.paged_rows.proofs.Warming.{descent_is, disk_from, fed_now, fed_on, has_come, if_err, leads_is, leaf_met, lost_to, paged_now, refused_to, wanted_is}
 use Rattle.paged_rows.proofs.coming.bring.Goals as goal
 
 pub returns-in-Leaf-clause-paged : goal.returns-in-Leaf-clause-paged
@@ -71,6 +71,17 @@ returns-in_err-frame_for-clause-err g c =
     let P : Refusal → Type 0 = λ r. IsRefusedTo c.args.key was r q in
     if_err c.from_residual.result p.0 P p.1 (subst P e
     (refused_to c.reach.ensures.fits.1 c.requires.paged c.every_sequel.ensures c.in-Cold.ensures.went.ran c.reach.ensures.fits.2 c.in-Cold.ensures.came c.every_descent.ensures c.frames-frames.ensures (g.P.Part.story c.args.dev.now) why c.every_warm.ensures c.frame_for.ensures.fits.1 c.in_err-frame_for.ensures.err c.in_err-frame_for.ensures.cause))
+
+pub returns-in_err-frame_for-clause-lost : goal.returns-in_err-frame_for-clause-lost
+returns-in_err-frame_for-clause-lost g c =
+    let p = err_from_is_err_and c.from_residual.result c.from_residual.ensures.1 in
+    let p2 = p.2 in
+    let why = c.in_err-frame_for.field-0.0 in
+    let e : why ≡ p.0 = cc in
+    let s = g.P.Part.story c.args.dev.now in
+    let P : Refusal → Type 0 = LostTo (paged (g.R.Rows.shape c.args.rows.now) (g.R.Rows.view c.args.seat.now) c.args.pager.now) s in
+    if_err c.from_residual.result p.0 P p.1 (subst P e
+    (lost_to c.reach.ensures.fits.1 c.requires.paged c.every_sequel.ensures c.in-Cold.ensures.went.ran c.reach.ensures.fits.2 c.in-Cold.ensures.came c.every_descent.ensures c.frames-frames.ensures s why c.every_warm.ensures c.frame_for.ensures.fits.1 c.in_err-frame_for.ensures.err c.in_err-frame_for.ensures.cause c.in_err-frame_for.ensures.cold))
 
 pub returns-in_err-frame_for-clause-fed : goal.returns-in_err-frame_for-clause-fed
 returns-in_err-frame_for-clause-fed g c well =

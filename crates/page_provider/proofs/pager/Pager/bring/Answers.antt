@@ -10,6 +10,7 @@ use Rattle.page_provider.specs.Providers.{Keeps, Provider}
 use Rattle.page_provider.specs.declared.refusal.Refusal.{Refusal}
 use Rattle.page_provider.proofs.Fetched.{faulted_fetched, fetched, fetched_descent, fetched_leads, fetched_parent, is_found, mirrored_fetched, place_fault, quiet_fetching, refused_fetched}
 use Rattle.page_provider.proofs.Filling.{read_refused, reads_disked}
+use Rattle.page_provider.proofs.Losses.{cold_any}
 use Rattle.page_provider.proofs.Parts.{keeps_shape}
 use Rattle.page_provider.proofs.Running.{disked_quiet, disked_then}
 use Rattle.page_provider.proofs.Savings.{if_err}
@@ -160,3 +161,11 @@ returns-in_err-found-clause-reads g c = reads_only c.in_err-found.ensures.reads 
 
 pub returns-clause-reads : goal.returns-clause-reads
 returns-clause-reads g c = unsaved_then c.read.new.self (ap (λ (p : Provider). p.broken) c.in_ok-found.ensures.same ∙ c.requires.well) (reads_only c.in_ok-found.ensures.reads c.fetch-node.ensures.told.ran) c.place.ensures.reads
+
+-- ## A page that could not be read
+
+pub returns-in_err-found-clause-cold : goal.returns-in_err-found-clause-cold
+returns-in_err-found-clause-cold g c = cold_any (g.R.Rows.view c.args.seat.now) c.args.page c.requires.cold c.from_residual.result
+
+pub returns-clause-cold : goal.returns-clause-cold
+returns-clause-cold g c = cold_any (g.R.Rows.view c.args.seat.now) c.args.page c.requires.cold c.place.result

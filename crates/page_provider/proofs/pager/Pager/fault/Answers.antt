@@ -1,9 +1,12 @@
 use Rattle.std.proofs.Common.{◌∙◌, sym, ap, subst}
 use Rattle.std.specs.Prelude.{IfOk}
+use Rattle.std.proofs.lemmas.Result.{IfErr-weaker}
 use Rattle.rows_trait.proofs.Runs.{ran_none}
-use Rattle.page_provider.specs.Faults.{Faulted, IsAstray}
+use Rattle.page_provider.specs.Faults.{ColdCause, Faulted, IsAstray}
 use Rattle.page_provider.specs.Providers.{Provider}
+use Rattle.page_provider.specs.Refusals.{IsOfRow}
 use Rattle.page_provider.proofs.Faulting.{broken_refused, found_at, free_cold, free_parents, quiet_disk}
+use Rattle.page_provider.proofs.Losses.{cold_row}
 use Rattle.page_provider.proofs.Writing.{disked_misses}
 use Rattle.page_provider.proofs.Mirrored.{mirrored_unseen}
 use Rattle.lean_disk.proofs.MomentLemmas.{framed}
@@ -62,3 +65,8 @@ returns-then-self-clause-reads g c = reads_untouched (g.met.P.Part.lawful c.args
 
 pub returns-in-Some-clause-reads : goal.returns-in-Some-clause-reads
 returns-in-Some-clause-reads g c = reads_untouched (g.met.P.Part.lawful c.args.dev.now) c.rescue.ensures.unseen.ran
+
+pub returns-in-Some-clause-cold : goal.returns-in-Some-clause-cold
+returns-in-Some-clause-cold g c =
+    let v = g.R.Rows.view c.args.seat.now in
+    IfErr-weaker c.rescue.result IsOfRow (ColdCause v c.args.page) (λ why k. cold_row v c.args.page why k) c.rescue.ensures.kind

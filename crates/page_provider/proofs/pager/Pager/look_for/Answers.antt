@@ -5,13 +5,14 @@ use Rattle.rows_trait.specs.Views.{Shape}
 use Rattle.row_image.specs.declared.sight.Sight.{Sight}
 use Rattle.page_provider.specs.Disks.{Disked}
 use Rattle.page_provider.specs.Ends.{HasRefused}
-use Rattle.page_provider.specs.Faults.{Faulted, IsDescent, LeadsTo}
+use Rattle.page_provider.specs.Faults.{ColdCause, Faulted, IsDescent, LeadsTo}
 use Rattle.page_provider.specs.Finds.{Naming, Standing}
 use Rattle.page_provider.specs.Inside.{Missed}
 use Rattle.page_provider.specs.Providers.{Provider}
 use Rattle.page_provider.specs.declared.refusal.Refusal.{Refusal}
 use Rattle.page_provider.proofs.Faulting.{cold_of, descent_on, faulted_before, gives_on, leads_on, missed_refused, named_on, no_astray, refused_before, settled, settled_disk, stood_look, unsettled}
 use Rattle.page_provider.proofs.Keeping.{keeps_ran}
+use Rattle.page_provider.proofs.Losses.{cold_before, cold_row}
 use Rattle.page_provider.proofs.Parts.{disk_after, keeps_shape}
 use Rattle.page_provider.proofs.Savings.{if_err}
 use Rattle.page_provider.proofs.Sightings.{sound_still}
@@ -173,3 +174,31 @@ returns-in_default-clause-reads g c =
 
 pub returns-clause-reads : goal.returns-clause-reads
 returns-clause-reads g c = unsaved_then c.args.self.now c.requires.well (reads_untouched (g.met.P.Part.lawful c.args.dev.now) c.in_ok-naming.ensures.kept.ran) c.bring.ensures.reads
+
+-- ## A page that could not be read
+
+pub returns-in_err-naming-clause-cold : goal.returns-in_err-naming-clause-cold
+returns-in_err-naming-clause-cold g c =
+    let v = g.R.Rows.view c.args.seat.now in
+    let p = err_from_is_err_and c.from_residual.result c.from_residual.ensures.1 in
+    let p2 = p.2 in
+    let why = c.in_err-naming.field-0.0 in
+    let e : why ≡ p.0 = cc in
+    let P : Refusal → Type 0 = ColdCause v c.args.page in
+    if_err c.from_residual.result p.0 P p.1 (subst P e (cold_row v c.args.page why c.in_err-naming.ensures.err.kind))
+
+pub returns-in_default-clause-cold : goal.returns-in_default-clause-cold
+returns-in_default-clause-cold g c =
+    let v = g.R.Rows.view c.args.seat.now in
+    let u = g.R.Rows.view c.naming.new.seat in
+    let w = g.R.Rows.view c.standing.new.seat in
+    let P : Refusal → Type 0 = λ why. Missed (g.R.Rows.shape c.naming.new.rows) u why w in
+    IfErr-weaker c.standing.result P (ColdCause v c.args.page) (λ why h. cold_row v c.args.page why h.kind) c.standing.ensures.err
+
+pub returns-clause-cold : goal.returns-clause-cold
+returns-clause-cold g c =
+    let z = g.R.Rows.shape c.args.rows.now in
+    let v = g.R.Rows.view c.args.seat.now in
+    let u = g.R.Rows.view c.naming.new.seat in
+    let same = (stood_look z c.in_ok-naming.ensures.kept.ran c.laws.ensures.rows c.requires.keeps).cold c.args.page in
+    IfErr-weaker c.bring.result (ColdCause u c.args.page) (ColdCause v c.args.page) (cold_before v u c.args.page same) c.bring.ensures.cold

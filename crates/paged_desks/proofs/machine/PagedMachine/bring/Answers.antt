@@ -1,9 +1,9 @@
-use Rattle.std.proofs.Common.{◌≡◌, ◌∙◌, ◌*◌, ◌≤◌, arith, ap, length, refl, subst, sym, true}
+use Rattle.std.proofs.Common.{◌≡◌, ◌∙◌, ◌*◌, ◌≤◌, IfErr, arith, ap, length, refl, subst, sym, true}
 use Rattle.lean_disk.specs.Moments.{Framed}
 use Rattle.page_calls.specs.Calls.{KeepsWithin}
 use Rattle.page_provider.specs.Disks.{Disked}
 use Rattle.paged_rows.specs.Paged.{paged}
-use Rattle.paged_rows.specs.Warms.{ReadsUnlessSaved}
+use Rattle.paged_rows.specs.Warms.{LostTo, ReadsUnlessSaved}
 use Rattle.row_words.specs.declared.given.Given.{Given}
 use Rattle.row_words.specs.Openings.{opening}
 use Rattle.session_state.specs.Opened.{plain_shape}
@@ -12,6 +12,7 @@ use Rattle.paged_desks.specs.declared.machine.PagedMachine.{PagedMachine}
 use Rattle.paged_desks.proofs.Breaking.{broken_by, broken_up}
 use Rattle.paged_desks.proofs.Doing.{done_by, done_up, slots_on}
 use Rattle.paged_desks.proofs.Late.{late_err}
+use Rattle.paged_desks.proofs.Losses.{away_err}
 use Rattle.paged_desks.proofs.Standing.{ready_on}
 use Rattle.paged_desks.proofs.Warmth.{moved_of, paged_is}
 use Rattle.paged_desks.proofs.machine.PagedMachine.bring.Goals as goal
@@ -76,3 +77,10 @@ pub returns-clause-late : goal.returns-clause-late
 returns-clause-late g c =
     let q = paged (plain_shape c.bring-came.new.rows.frames c.bring-came.new.rows.locks c.bring-came.new.rows.workers) c.bring-came.new.seat.view c.bring-came.new.pager in
     late_err c.every_low.ensures c.args.key (pages c.args.self.now) q c.versions.ensures.low c.bring-came.result c.bring-came.ensures.err
+
+pub returns-clause-away : goal.returns-clause-away
+returns-clause-away g c =
+    let m = c.args.self.now in
+    let s = g.D.Disk.story in
+    let lost : IfErr c.bring-came.result (LostTo (pages m) (s m.machine.work.disk)) = subst (λ d. IfErr c.bring-came.result (LostTo (pages m) (s d))) c.new.ensures.disk c.bring-came.ensures.lost in
+    away_err s m c.requires.ready (c.every_found.ensures m.machine.work.disk) c.bring-came.result lost

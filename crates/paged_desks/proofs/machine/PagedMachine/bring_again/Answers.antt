@@ -7,6 +7,7 @@ use Rattle.paged_desks.specs.Machines.{IsReady, pages, view_of}
 use Rattle.paged_desks.specs.declared.warming.Unwarmed.TheVariants as refused
 use Rattle.paged_desks.proofs.Breaking.{stop_broken}
 use Rattle.paged_desks.proofs.Late.{late_of}
+use Rattle.paged_desks.proofs.Losses.{unread_of}
 use Rattle.paged_desks.proofs.Stopping.{pages_refused, stop_keeps}
 use Rattle.paged_desks.proofs.Stops.{err_same, refusing, stop_cause, stop_works, broken_is}
 use Rattle.paged_desks.proofs.Warmth.{comes_of, paged_is, well_of}
@@ -86,3 +87,6 @@ returns-in-Err-clause-spent g c r =
     let u = err_same (refusing c.stop.result) (refusing refused.RowSpent) c.stop.result refused.RowSpent refl refl r in
     stop_keeps g.D.Disk.story c.args.key m n c.stop.new.self why c.stop.result c.requires.ready e page c.stop.ensures.why c.stop.ensures.goes_on Bool (λ o. IsLate (view_of o))
     (λ _. late_of (view_of n) why page (sym c.stop.ensures.why ∙ u) c.in-Err.ensures.late) (ap (λ x. goes_on {A = Bool} (refusing x)) u)
+
+pub returns-in-Err-clause-unread : goal.returns-in-Err-clause-unread
+returns-in-Err-clause-unread g c = unread_of g.D.Disk.story c.args.self.now c.in-Err.why c.stop.result c.stop.ensures.why c.in-Err.ensures.away

@@ -9,6 +9,7 @@ use Rattle.paged_desks.specs.Pages.{goes_on, most_a_level}
 use Rattle.paged_desks.proofs.Breaking.{broken_then, broken_up, stop_broken}
 use Rattle.paged_desks.proofs.Doing.{done_then, done_up}
 use Rattle.paged_desks.proofs.Late.{half_beside, late_of, spent_from}
+use Rattle.paged_desks.proofs.Losses.{unread_err, unread_of}
 use Rattle.paged_desks.proofs.Stopping.{stop_keeps}
 use Rattle.paged_desks.proofs.Stops.{err_same, refusing, full_calm, broken_is, of_page, stop_works, too_full}
 use Rattle.paged_desks.proofs.Warmth.{comes_of, comes_refused, paged_is, well_of}
@@ -105,3 +106,14 @@ returns-clause-spent g c r =
     let u = err_same (refusing c.stop.result) (refusing refused.RowSpent) c.stop.result refused.RowSpent refl refl r in
     inl (stop_keeps g.D.Disk.story c.args.key m n c.stop.new.self why c.stop.result c.requires.ready e page c.stop.ensures.why c.stop.ensures.goes_on Bool (λ o. IsLate (view_of o))
     (λ _. late_of (view_of n) why page (sym c.stop.ensures.why ∙ u) c.in-Err.ensures.late) (ap (λ x. goes_on {A = Bool} (refusing x)) u))
+
+pub returns-then-is_full-clause-unread : goal.returns-then-is_full-clause-unread
+returns-then-is_full-clause-unread g c =
+    let m = c.args.self.now in
+    let n = c.bring.new.self in
+    let e = c.in-Err.ensures in
+    let d = e.done (broken_is c.args.key (pages m) (pages n) c.in-Err.why c.requires.ready.well e.err ∙ full_calm c.in-Err.why (sym c.is_full.ensures ∙ c.if-is_full.true)) in
+    unread_err g.D.Disk.story m n d.paged.events d.paged.behind d.part c.sync_and_bring.result c.sync_and_bring.ensures.unread
+
+pub returns-clause-unread : goal.returns-clause-unread
+returns-clause-unread g c = unread_of g.D.Disk.story c.args.self.now c.in-Err.why c.stop.result c.stop.ensures.why c.in-Err.ensures.away

@@ -6,6 +6,7 @@ use Rattle.paged_desks.proofs.Breaking.{broken_then, broken_up}
 use Rattle.paged_desks.proofs.Doing.{done_none, done_sync, done_then, done_up}
 use Rattle.paged_desks.proofs.Full.{tight_is}
 use Rattle.paged_desks.proofs.Late.{half_of}
+use Rattle.paged_desks.proofs.Losses.{unread_err}
 use Rattle.paged_desks.proofs.Stops.{whole}
 use Rattle.paged_desks.proofs.Warmth.{comes_synced}
 use Rattle.paged_desks.proofs.machine.PagedMachine.sync_and_bring.Goals as goal
@@ -51,3 +52,8 @@ returns-then-any_half-clause-spent g c _ = inr (half_of c.args.self.now c.requir
 
 pub returns-in-Ok-clause-spent : goal.returns-in-Ok-clause-spent
 returns-in-Ok-clause-spent g c r = inl (c.bring_again.ensures.spent r)
+
+pub returns-in-Ok-clause-unread : goal.returns-in-Ok-clause-unread
+returns-in-Ok-clause-unread g c =
+    let y = c.in-Ok.ensures.synced in
+    unread_err g.D.Disk.story c.args.self.now c.sync.new.self y.events y.behind y.part c.bring_again.result c.bring_again.ensures.unread

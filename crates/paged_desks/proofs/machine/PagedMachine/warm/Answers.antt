@@ -1,4 +1,4 @@
-use Rattle.std.proofs.Common.{ap, ◌≡◌, ◌∙◌, ◌+◌, ◌*◌, ◌-◌, ◌≤◌, arith, refl, subst, Bool}
+use Rattle.std.proofs.Common.{ap, ◌≡◌, ◌∙◌, ◌+◌, ◌*◌, ◌-◌, ◌≤◌, arith, refl, subst, Bool, Ok}
 use Rattle.lean_disk.specs.Story.{IsLawful}
 use Rattle.paged_rows.specs.Paged.{IsWarm}
 use Rattle.paged_desks.specs.Machines.{pages}
@@ -7,7 +7,8 @@ use Rattle.paged_desks.specs.Inside.{Comes}
 use Rattle.paged_desks.proofs.Breaking.{broken_then, failed_of, nine_levels}
 use Rattle.paged_desks.proofs.Doing.{done_more, done_nine, done_none, done_up, gone_of}
 use Rattle.paged_desks.proofs.Late.{half_kept, spent_from}
-use Rattle.paged_desks.proofs.Stops.{err_same, refusing, warm_same}
+use Rattle.paged_desks.proofs.Losses.{damaged_of, unread_before}
+use Rattle.paged_desks.proofs.Stops.{err_same, refusing, unwarmed_by, warm_same}
 use Rattle.paged_desks.specs.declared.warming.Unwarmed.TheVariants as refused
 use Rattle.paged_desks.proofs.Warmth.{warm_first}
 use Rattle.paged_desks.proofs.machine.PagedMachine.warm.Goals as goal
@@ -89,3 +90,12 @@ unreachable-requires g c =
     let last = c.loop-come-test.false in
     let e = c.loop-come.auto._come-end in
     omega arith
+
+pub returns-in-Err-clause-damaged : goal.returns-in-Err-clause-damaged
+returns-in-Err-clause-damaged g c page e =
+    let m = c.args.self.now in
+    let d = c.loop-come.invariant.done in
+    damaged_of g.D.Disk.story m (unwarmed_by c.in-Err.why) (unread_before g.D.Disk.story m c.loop-come.self d.paged.events d.paged.behind d.part c.in-Err.why c.in-Err.ensures.unread) page e
+
+pub returns-in-Ok-true-clause-damaged : goal.returns-in-Ok-true-clause-damaged
+returns-in-Ok-true-clause-damaged g c page e = damaged_of g.D.Disk.story c.args.self.now (Ok tt) tt page e
