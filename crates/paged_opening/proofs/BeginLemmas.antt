@@ -25,12 +25,12 @@ use Rattle.page_provider.specs.Fresh.{Begins, EveryFresh, fresh}
 use Rattle.page_provider.specs.Providers.{IsKept, Keeps, Provider}
 use Rattle.recovery.specs.Opened.{IsWhole}
 use Rattle.recovery.specs.declared.opening.Recovered.{Recovered}
-use Rattle.paged_opening.specs.Opened.{IsPaged, cold_of, free_of, lone_shape}
+use Rattle.paged_opening.specs.Opened.{IsPaged, cold_of, free_of, frees_of, lone_shape}
 use Rattle.paged_opening.specs.declared.opening.Opened as code
 use Rattle.paged_opening.proofs.ColdLemmas.{but_same, cold_right, is_below}
 use Rattle.paged_opening.proofs.FreeLemmas.{marked, of_length}
 
-pages_long : (pages : List Page) → length (pages_of pages) ≡ length pages
+pub pages_long : (pages : List Page) → length (pages_of pages) ≡ length pages
 pages_long [] = refl
 pages_long (x ∷ xs) = ap suc (pages_long xs)
 
@@ -111,9 +111,9 @@ module _ (every : EveryOpened) (new : EveryFresh) (keeps : EveryKept) (empty : E
 
   paged_by : (o.rows.frames ≡ frames) × (o.rows.locks ≡ locks) × (o.rows.workers ≡ workers)
       → IsPicture (plan (sizes o.rows.frames o.rows.locks o.rows.workers) o.seat.view.given) o.rows.words.items o.seat.view
-      → o.seat.view ≡ first_plain given → IsRooted r.pages.items given → o.pager ≡ pager
+      → o.seat.view ≡ first_plain given → IsRooted r.pages.items given → o.pager ≡ pager → o.free ≡ frees_of r.pages.items
       → o.master ≡ r.master → o.winners ≡ r.winners → o.undone ≡ r.undone → IsPaged faithful frames locks r o
-  paged_by size fits view rooted made master won lost =
+  paged_by size fits view rooted made free master won lost =
       let m = whole.master.1 in
       let at = keeps_at every new keeps empty r.pages.items faithful frames locks workers r.master.floor are (let c = whole.count in let l = m.pages.1 in omega arith) some_frame m.logs.0 m.logs.1 rooted
       o.rows.frames o.rows.locks o.rows.workers r.master.generation o.seat.view (map opened_slot r.slots.items) size.0 size.1 size.2 view in
@@ -127,20 +127,21 @@ module _ (every : EveryOpened) (new : EveryFresh) (keeps : EveryKept) (empty : E
         pager = made;
         keeps = subst (λ (k : Provider). Keeps (lone_shape o.rows.frames o.rows.locks o.rows.workers) o.seat.view k) (sym made) at;
         works = ap (λ (k : Provider). k.broken) made;
+        free = free;
         master = master;
         won = won;
         lost = lost;
       }
 
   -- as the calls name it: workers, pages and slots by equal names
-  pub paged : (n : ℕ) (ps qs : List Page) (ns : List ℕ) (free : List Bool) (slots : List Slot) (xs : List Page) (kept : List Kept) → n ≡ workers → ps ≡ r.pages.items → qs ≡ r.pages.items → ns ≡ r.slots.items → xs ≡ r.pages.items
+  pub paged : (n : ℕ) (ps qs : List Page) (ns : List ℕ) (free : List Bool) (slots : List Slot) (xs : List Page) (kept : List Kept) (ys : List Page) → n ≡ workers → ps ≡ r.pages.items → qs ≡ r.pages.items → ns ≡ r.slots.items → xs ≡ r.pages.items → ys ≡ r.pages.items
       → free ≡ free_of qs → slots ≡ map opened_slot ns → kept ≡ cold_of xs
       → (o.rows.frames ≡ frames) × (o.rows.locks ≡ locks) × (o.rows.workers ≡ n)
       → IsPicture (plan (sizes o.rows.frames o.rows.locks o.rows.workers) o.seat.view.given) o.rows.words.items o.seat.view
       → o.seat.view ≡ first_plain (rooted_of faithful frames locks n r.master.floor ps) → IsRooted ps (rooted_of faithful frames locks n r.master.floor ps)
-      → o.pager ≡ fresh frames n r.master.generation free slots kept
+      → o.pager ≡ fresh frames n r.master.generation free slots kept → o.free ≡ frees_of ys
       → o.master ≡ r.master → o.winners ≡ r.winners → o.undone ≡ r.undone → IsPaged faithful frames locks r o
-  paged n ps qs ns free slots xs kept e p q s x f t d size fits view rooted made =
+  paged n ps qs ns free slots xs kept ys e p q s x y f t d size fits view rooted made spare =
       let table : kept ≡ cold_of r.pages.items = d ∙ ap cold_of x in
       let marks : free ≡ free_of r.pages.items = f ∙ ap free_of q in
       let known : slots ≡ map opened_slot r.slots.items = t ∙ ap (map opened_slot) s in
@@ -149,3 +150,4 @@ module _ (every : EveryOpened) (new : EveryFresh) (keeps : EveryKept) (empty : E
       (subst (λ (k : ℕ). IsRooted r.pages.items (rooted_of faithful frames locks k r.master.floor r.pages.items)) e
       (subst (λ (xs : List Page). IsRooted xs (rooted_of faithful frames locks n r.master.floor xs)) p rooted))
       (made ∙ (λ i. fresh frames (e i) r.master.generation (marks i) (known i) (table i)))
+      (spare ∙ ap frees_of y)

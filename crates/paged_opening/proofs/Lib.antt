@@ -1,5 +1,5 @@
 pub mod ColdLemmas
 mod PageLemmas
 mod FreeLemmas
-mod BeginLemmas
-mod MirrorLemmas
+pub mod BeginLemmas
+pub mod MirrorLemmas

@@ -29,12 +29,12 @@ use Rattle.paged_opening.proofs.PageLemmas.{page_is}
 
 -- ## Slots that are made of firm ones
 
-opened_length : (ns : List ℕ) → length (map opened_slot ns) ≡ length ns
+pub opened_length : (ns : List ℕ) → length (map opened_slot ns) ≡ length ns
 opened_length [] = refl
 opened_length (x ∷ ns) = ap suc (opened_length ns)
 
 -- a slot is that of a firm one
-opened_at : (p : ℕ) (ns : List ℕ) (s : Slot) → slice_get (map opened_slot ns) p ≡ Some s → (p < length ns) × (s ≡ opened_slot (get_or ns p 0))
+pub opened_at : (p : ℕ) (ns : List ℕ) (s : Slot) → slice_get (map opened_slot ns) p ≡ Some s → (p < length ns) × (s ≡ opened_slot (get_or ns p 0))
 opened_at p [] s e = absurd (none-some s e)
 opened_at zero (x ∷ ns) s e = (omega arith, sym (same_Some (opened_slot x) s e))
 opened_at (suc p) (x ∷ ns) s e = let k = opened_at p ns s e in ((let l = k.0 in omega arith), k.1)
@@ -44,7 +44,7 @@ there_is p [] lt = absurd (omega arith)
 there_is zero (n ∷ ns) lt = refl
 there_is (suc p) (n ∷ ns) lt = there_is p ns (omega arith)
 
-last_is : (n : ℕ) → n < 2 → last_slot (opened_slot n) ≡ n
+pub last_is : (n : ℕ) → n < 2 → last_slot (opened_slot n) ≡ n
 last_is zero lt = refl
 last_is (suc zero) lt = refl
 last_is (suc (suc n)) lt = absurd (omega arith)

@@ -2,6 +2,7 @@
 -- pager that brings the other pages in.
 use Rattle.std.specs.Prelude.{◌≡◌, ◌<◌, ◌≤◌, ◌+◌, ◌^◌, ℕ, zero, suc, Bool, true, false, not, List, length, map, replicate, Some}
 use Rattle.page_model.specs.Page.{Page}
+use Rattle.core_calls.specs.Room.{frees_from}
 use Rattle.lean_disk.specs.Story.{Story, areas_of}
 use Rattle.disk_slots.specs.declared.master.Master.{Master}
 use Rattle.disk_image.specs.MasterSlots.{master_on}
@@ -18,6 +19,7 @@ use Rattle.row_opening.specs.Opened.{page_at}
 use Rattle.page_calls.specs.Slots.{opened_slot}
 use Rattle.page_provider.specs.Fresh.{fresh}
 use Rattle.page_provider.specs.Providers.{Keeps}
+use Rattle.session_state.specs.Free.{nodes_in}
 use Rattle.recovery.specs.Installed.{HasInstalled}
 use Rattle.recovery.specs.Masters.{IsOpenable}
 use Rattle.recovery.specs.Opened.{IsOpened, IsRecovered, IsWhole}
@@ -51,6 +53,10 @@ shape_of rows = lone_shape rows.frames rows.locks rows.workers
 abbrev pub free_of : List Page → List Bool
 free_of pages = map (λ x. not x.node.live) pages
 
+-- those pages, the least first
+abbrev pub frees_of : List Page → List ℕ
+frees_of pages = frees_from (nodes_in pages) (length pages) 0
+
 -- what is kept of the pages below page n: nothing of page 0, which stands in a frame, and of each other page as it left
 abbrev pub cold_to : List Page → ℕ → List Kept
 cold_to pages zero = replicate (length pages) nothing
@@ -67,7 +73,7 @@ given_by faithful frames locks r = rooted_of faithful frames locks (length r.mas
 
 -- The rows are so many and at their beginning, the seat is theirs, and the pager is a new one of theirs: it knows the pages
 -- that are free, the slot that recovery gives for each page, and what each page but page 0 is, and saves by the new
--- generation. The master and the counts are recovery's.
+-- generation. The free pages are told beside it too. The master and the counts are recovery's.
 pub record IsPaged (faithful : Bool) (frames locks : ℕ) (r : Recovered) (o : code.Opened) : Type 0 where
   pub frames_are : o.rows.frames ≡ frames
   pub locks_are : o.rows.locks ≡ locks
@@ -78,6 +84,7 @@ pub record IsPaged (faithful : Bool) (frames locks : ℕ) (r : Recovered) (o : c
   pub pager : o.pager ≡ fresh frames (length r.master.heads) r.master.generation (free_of r.pages.items) (map opened_slot r.slots.items) (cold_of r.pages.items)
   pub keeps : Keeps (shape_of o.rows) o.seat.view o.pager
   pub works : o.pager.broken ≡ false
+  pub free : o.free ≡ frees_of r.pages.items
   pub master : o.master ≡ r.master
   pub won : o.winners ≡ r.winners
   pub lost : o.undone ≡ r.undone

@@ -26,16 +26,18 @@ use recovery::{Recovered, Unrecovered, recover};
 use row_opening::{Faith, open_root};
 use rows_trait::plain::PlainRows;
 use rows_trait::trace::Trace;
+use session_state::FreePages;
 use std::alloc::{AllocError, Global};
 use std::marker::Brand;
 
-/// Rows of which page 0 alone is in a frame, their seat, and the pager that brings the others in from the disk; the master
-/// that recovery wrote, and its counts of transactions.
+/// Rows of which page 0 alone is in a frame, their seat, and the pager that brings the others in from the disk; the pages that are
+/// free, as a session has them; the master that recovery wrote, and its counts of transactions.
 #[derive(Drop)]
 pub struct Opened {
     pub rows: PlainRows,
     pub seat: Trace,
     pub pager: Pager,
+    pub free: FreePages,
     pub master: Master,
     pub winners: u64,
     pub undone: u64,
@@ -76,15 +78,17 @@ fn page_in<D: Disk, F: Faith>(
         workers,
         master.floor,
     )?;
-    let free = free_pages_of(alloc, pages.as_slice())?;
+    let marks = free_pages_of(alloc, pages.as_slice())?;
     let slots = Slots::new(alloc, slots.as_slice())?;
     let kept = cold_pages_of(alloc, pages.as_slice())?;
     let generation = master.generation;
-    let pager = Pager::new(alloc, frames, workers, generation, free, slots, kept)?;
+    let pager = Pager::new(alloc, frames, workers, generation, marks, slots, kept)?;
+    let free = FreePages::new(alloc, pages.as_slice())?;
     Ok(Opened {
         rows,
         seat,
         pager,
+        free,
         master,
         winners,
         undone,

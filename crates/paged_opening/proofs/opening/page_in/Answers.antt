@@ -11,10 +11,10 @@ pub returns : goal.returns
 returns g c =
     let rows = c.in_ok-rows.ensures in
     paged c.every_opened.ensures c.every_fresh.ensures c.every_kept.ensures c.every_new.ensures g.F.Faith.faithful c.args.frames c.args.locks c.args.recovered c.requires.whole c.are_pages.ensures c.requires.frames _
-    _ c.as_slice.result.now c.as_slice-2.result.now c.as_slice-3.result.now c.in_ok-free.free c.in_ok-slots.slots c.as_slice-4.result.now c.in_ok-kept.kept
-    c.logs-workers.ensures.answer c.as_slice.ensures.value c.as_slice-2.ensures.value c.as_slice-3.ensures.value c.as_slice-4.ensures.value
-    c.in_ok-free.ensures c.in_ok-slots.ensures c.in_ok-kept.ensures
-    rows.sizes rows.picture rows.view rows.opened c.in_ok-pager.ensures.made refl refl refl
+    _ c.as_slice.result.now c.as_slice-2.result.now c.as_slice-3.result.now c.in_ok-marks.marks c.in_ok-slots.slots c.as_slice-4.result.now c.in_ok-kept.kept c.as_slice-5.result.now
+    c.logs-workers.ensures.answer c.as_slice.ensures.value c.as_slice-2.ensures.value c.as_slice-3.ensures.value c.as_slice-4.ensures.value c.as_slice-5.ensures.value
+    c.in_ok-marks.ensures c.in_ok-slots.ensures c.in_ok-kept.ensures
+    rows.sizes rows.picture rows.view rows.opened c.in_ok-pager.ensures.made c.in_ok-free.ensures refl refl refl
 
 pub cold_pages_of-requires-clause-within : goal.cold_pages_of-requires-clause-within
 cold_pages_of-requires-clause-within g c =
