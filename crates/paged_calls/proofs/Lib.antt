@@ -1,0 +1,12 @@
+pub mod StandLemmas
+pub mod PieceLemmas
+pub mod EndingLemmas
+pub mod EventLemmas
+pub mod GoingLemmas
+pub mod Conflicts
+pub mod HalfLates
+pub mod TakingLemmas
+pub mod PieceSteps
+pub mod WarmLemmas
+pub mod KeyLemmas
+pub mod GetLemmas

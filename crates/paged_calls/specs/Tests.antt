@@ -1,0 +1,22 @@
+-- Words of private functions: the tests of a call, and its answer where the pages of a way did not come.
+use Rattle.std.specs.Prelude.{Bool, false, Option, Some, None, if◌then◌else◌}
+use Rattle.map_model.specs.declared.call.Refusal.{Refusal}
+use Rattle.map_model.specs.declared.call.Refusal.TheVariants as refusal
+use Rattle.paged_desks.specs.declared.warming.Unwarmed.{Unwarmed}
+use Rattle.paged_desks.specs.declared.warming.Unwarmed.TheVariants as stopped
+use Rattle.session_state.specs.declared.session.Session.{Session}
+
+-- a transaction is open, and its abort is not half done
+abbrev pub is_going : Session → Bool
+is_going x = if x.is_half_aborted then false else x.is_open
+
+-- why a call within a transaction is refused before it is begun
+abbrev pub call_test : Session → Option Refusal
+call_test x = if x.works then (if is_going x then None else Some refusal.NoTransaction) else Some refusal.Broken
+
+-- why pages did not come, as a call is answered
+abbrev pub refusal_of : Unwarmed → Refusal
+refusal_of stopped.RowSpent = refusal.RowSpent
+refusal_of stopped.DiskFault = refusal.DiskFault
+refusal_of (stopped.Damaged page) = refusal.Damaged 1 page
+refusal_of (stopped.Altered page) = refusal.Damaged 1 page
