@@ -16,7 +16,7 @@ use Rattle.page_store.specs.Runs.{IsReady}
 use Rattle.page_store.specs.Saved.{LeavesSaves, Save}
 use Rattle.record_redo.specs.Pages as redo_images
 use Rattle.recovery.specs.Crashes.{RecoveryLeaves}
-use Rattle.recovery.specs.Inside.{AreAhead, AreSettled, IsPrepared, IsReadied, IsTurned, OnlySettles, SavesAll, saves_to, turned}
+use Rattle.recovery.specs.Inside.{AreSettled, IsPrepared, IsReadied, IsTurned, OnlySettles, SavesAll, saves_to, turned}
 use Rattle.master_store.specs.Masters.{IsOfSlot, WritesOnce}
 use Rattle.recovery.specs.Masters.{IsOpenable, next_master}
 use Rattle.recovery.specs.Installed.{HasInstalled}
@@ -38,7 +38,7 @@ settled_moments m logs s0 s settles = weaker s0 s (AsAt s0) (RecoveryLeaves m s0
 module _ {most : ℕ} (it : Prepared) (readied : IsReadied it) (openable : IsOpenable most it.master) (s0 s4 : Story) (logs : ℕ) (settles : OnlySettles logs s0 s4) (t : TellsAll most s0) (all : AreSettled most (length it.master.heads) s0 s4) (prepared : IsPrepared (areas_of s0) it)
     (m : Master) (seated : IsTrue s4.counts → Tells s4 1) where
   abbrev these : List Save
-  these = saves_to it.pages.items it.slots.items it.changed.items it.master.pages
+  these = saves_to it.pages.items it.slots.items it.marks.items it.master.pages
 
   ready : IsReady 1 s4
   ready = record { seated = seated; clean = λ told. let e = all t 1 (omega arith) in record { clean = e.clean; end = e.end } }
@@ -51,7 +51,7 @@ module _ {most : ℕ} (it : Prepared) (readied : IsReadied it) (openable : IsOpe
   pub installs : master_on (areas_of s0 0) ≡ Some m → (s6 : Story) (result : Did) → (IsReady 1 s4 → SavesAll it.master.pages s4 these result s6) → result ≡ Done → (s7 : Story) → Framed 0 s6 s7 → (r : Recovered)
       → s7.area 0 ≡ synced (written (1024 * (r.master.sequence % 2)) (master_slot r.master) (s6.area 0)) → HasInstalled m r s0 s7
   installs counts s6 result saves done s7 frame r wrote = subst (λ (k : Master). HasInstalled k r s0 s7) (master_is it.master m (sym prepared.master ∙ counts))
-      (installed it readied s0 s4 logs settles prepared ((saves ready).are done) s6 s7 (saves ready).run.frame ((saves ready).done done told_1) frame r wrote)
+      (installed it readied s0 s4 logs settles prepared.based ((saves ready).are done) s6 s7 (saves ready).run.frame ((saves ready).done done told_1) frame r prepared wrote)
 
   -- ## Of a clean disk
 
@@ -83,10 +83,10 @@ module _ {most : ℕ} (it : Prepared) (readied : IsReadied it) (openable : IsOpe
             (subst (λ (k : Master). LeavesOnly s6 s7 (CrashIn s6 0 (WritesOnce (1024 * (k.sequence % 2)) (master_slot k) (s6.area 0)))) next_is run)))
 
         pub opens : Framed 0 s6 s7 → s7.area 0 ≡ synced (written (1024 * (next.sequence % 2)) (master_slot next) (s6.area 0)) → (r : Recovered) → r.pages ≡ it.pages → r.master ≡ next
-            → length it.ahead.items ≡ it.master.pages → AreAhead it.master (areas_of s0) it.slots.items it.ahead.items → IsTurned it.changed.items it.ahead.items it.slots.items r.slots.items → IsOpened m (areas_of s0) r s7
-        opens frame wrote r pages is marks ahead turns = subst (λ (k : Master). IsOpened k (areas_of s0) r s7) same_master
+            → length it.ahead.items ≡ it.master.pages → IsTurned it.marks.items it.ahead.items it.slots.items r.slots.items → IsOpened m (areas_of s0) r s7
+        opens frame wrote r pages is marks turns = subst (λ (k : Master). IsOpened k (areas_of s0) r s7) same_master
             (opened it readied openable s0 s4 logs settles t (all t) prepared clean s6 (saves ready).run.frame ((saves ready).are done) ((saves ready).done done told_1) wide s7 frame
-            (subst (λ (k : Master). s7.area 0 ≡ synced (written (1024 * (k.sequence % 2)) (master_slot k) (s6.area 0))) next_is wrote) r pages (is ∙ next_is) marks ahead turns)
+            (subst (λ (k : Master). s7.area 0 ≡ synced (written (1024 * (k.sequence % 2)) (master_slot k) (s6.area 0))) next_is wrote) r pages (is ∙ next_is) marks turns)
 
 -- ## The answer
 
@@ -109,14 +109,14 @@ module _ {most : ℕ} (it : Prepared) (readied : IsReadied it) (openable : IsOpe
     },
   )
 
-  pub wholes : it.base < 2 ^ 64 → IsTurned it.changed.items it.ahead.items it.slots.items r.slots.items → IsWhole r
+  pub wholes : it.base < 2 ^ 64 → IsTurned it.marks.items it.ahead.items it.slots.items r.slots.items → IsWhole r
   wholes wide turns = record {
     count = ap (λ v. length v.items) pages ∙ (readied.count ∙ sym (ap (λ (k : Master). k.pages) master));
     places = turns.count ∙ (readied.places ∙ sym (ap (λ (k : Master). k.pages) master));
     halves = λ p l.
         let lt : p < it.master.pages = subst (λ (k : Master). p < k.pages) master l in
         subst (λ (i : ℕ). i < 2) (sym (turns.each p (let c : length it.slots.items ≡ it.master.pages = readied.places in omega arith)))
-        (turned_half (get_or it.changed.items p false) (get_or it.ahead.items p false) (get_or it.slots.items p 0) (readied.halves p lt));
+        (turned_half (get_or it.marks.items p false) (get_or it.ahead.items p false) (get_or it.slots.items p 0) (readied.halves p lt));
     own = λ p v e. readied.own p v (ap (λ xs. slice_get xs.items p) (sym pages) ∙ e);
     tree = subst (λ (k : Master). IsTree (format_of k.pages) (nodes_of r.pages.items)) (sym master)
         (subst (λ xs. IsTree (format_of it.master.pages) (nodes_of xs.items)) (sym pages) readied.tree);

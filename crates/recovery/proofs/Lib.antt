@@ -5,12 +5,16 @@ pub mod MasterLemmas
 pub mod WriteLemmas
 pub mod StampLemmas
 pub mod TurnLemmas
+pub mod MarkLemmas
+pub mod StrayLemmas
 pub mod LoadLemmas
 pub mod SaveLemmas
 pub mod SettleLemmas
 pub mod PrepareLemmas
 pub mod FinishLemmas
+pub mod CountLemmas
 pub mod HeldLemmas
 pub mod InstallLemmas
 pub mod LastLemmas
+pub mod SlotLemmas
 pub mod ClauseLemmas

@@ -1,19 +1,42 @@
 -- Which writes an opening made.
-use Rattle.std.specs.Prelude.{◌≡◌, ◌*◌, ◌%◌, ◌++◌, suc, List, ◌∷◌, map}
-use Rattle.map_model.specs.Lists.{Has}
-use Rattle.image_model.specs.Images.{recovered_page}
+use Rattle.std.specs.Prelude.{◌≡◌, ◌⊎◌, ◌<◌, ◌*◌, ◌%◌, ◌++◌, ◌||◌, ℕ, suc, true, List, ◌∷◌, map, Some}
+use Rattle.map_model.specs.Lists.{Has, any}
+use Rattle.page_model.specs.Nodes.{holds}
+use Rattle.page_model.specs.Page.{Page}
+use Rattle.image_model.specs.Entries.{touches}
+use Rattle.image_model.specs.Images.{Image, recovered_page, sorted}
 use Rattle.lean_disk.specs.Story.{Story, areas_of}
 use Rattle.disk_slots.specs.Masters.{master_slot}
 use Rattle.disk_slots.specs.declared.master.Master.{Master}
-use Rattle.disk_image.specs.Shown.{Areas, image_by}
+use Rattle.disk_image.specs.Shown.{Areas, image_by, page_slot_in, IsCleanDisk}
 use Rattle.page_store.specs.Bases.{image_page}
 use Rattle.page_store.specs.Saved.{Save, AreApart, AreSaves, HoldsSaves, write_of}
 use Rattle.recovery.specs.declared.opening.Recovered.{Recovered}
 
--- the recovered page of its number is saved, under the generation that follows the master's
+-- a record names the page, or its key is one that the recovered page, a leaf, may hold
+abbrev pub IsMeant : Image → (p : ℕ) → Type 0
+IsMeant i p = any (λ r. touches p r || holds (recovered_page i p).node r.key) (sorted i) ≡ true
+
+-- A version of page p of a later generation than the master's stands in slot i, and is not the recovered page of the next one.
+pub record HasStray (m : Master) (area : Areas) (p i : ℕ) : Type 0 where
+  pub version : Page
+  pub there : page_slot_in m.pages p i (area 1) ≡ Some version
+  pub later : m.generation < version.generation
+  pub other : version.generation ≡ suc m.generation → image_page version ≡ recovered_page (image_by m area) p → ⊥
+
+-- why page p is saved to slot i: a record is about it, or a stray version is written over
+abbrev pub SavesFor : (m : Master) (area : Areas) (p i : ℕ) → Type 0
+SavesFor m area p i = IsMeant (image_by m area) p ⊎ HasStray m area p i
+
+-- a clean disk has no stray version
+abbrev pub EveryClean : Type 0
+EveryClean = (m : Master) (area : Areas) (p i : ℕ) → IsCleanDisk m area → p < m.pages → i < 2 → HasStray m area p i → ⊥
+
+-- the recovered page of its number is saved, under the generation that follows the master's, for a reason
 pub record IsOwnSave (m : Master) (area : Areas) (x : Save) : Type 0 where
   pub generation : x.node.generation ≡ suc m.generation
   pub page_is : image_page x.node ≡ recovered_page (image_by m area) x.page
+  pub cause : SavesFor m area x.page x.slot
 
 -- Since s0 the next master alone was written to area 0; to area 1 recovered pages alone, under the next generation, each to a slot of its
 -- own, and its bytes are what these saves make of those that it had.

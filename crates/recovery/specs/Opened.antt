@@ -74,6 +74,13 @@ pub record IsSettled (area : Area) : Type 0 where
   pub clean : area.unsynced ≡ []
   pub end : area.end ≡ length area.bytes
 
+-- Of each page the slot that is given counts, by the master and, since no slot is of a later generation, by each later one; and all of
+-- that is on the disk.
+pub record HasSlots (r : Recovered) (s : Story) : Type 0 where
+  pub counts : (p : ℕ) (v : Page) → slice_get r.pages.items p ≡ Some v → Counts r.master.pages (s.area 1).bytes p (slice_index r.slots.items p) v
+  pub latest : (p i : ℕ) (y : Page) → p < r.master.pages → i < 2 → page_slot_in r.master.pages p i (s.area 1).bytes ≡ Some y → y.generation ≤ r.master.generation
+  pub settled : IsSettled (s.area 1)
+
 -- What is in memory of page p is what one of its slots holds, by the same generation. Where a slot of it is of a later one, that is the
 -- master's, and the page is the same.
 pub record IsHeld (i : Shown) (p : ℕ) (v : Page) : Type 0 where

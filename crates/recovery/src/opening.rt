@@ -12,7 +12,7 @@ ghost use Rattle.page_store.specs.Runs.{IsReady};
 ghost use Rattle.recovery.specs.Crashes.{RecoveryLeaves};
 ghost use Rattle.recovery.specs.Masters.{HasOpenable, IsOpenable};
 ghost use Rattle.recovery.specs.Installed.{HasInstalled};
-ghost use Rattle.recovery.specs.Opened.{IsOpened, IsRecovered, IsRefusal, IsUntouched, IsWhole, Keeps};
+ghost use Rattle.recovery.specs.Opened.{HasSlots, IsOpened, IsRecovered, IsRefusal, IsUntouched, IsWhole, Keeps};
 ghost use Rattle.disk_image.specs.Breaks.{IsDamaged};
 ghost use Rattle.recovery.specs.Telling.{TellsAll};
 ghost use Rattle.recovery.specs.Inside.{AreFormed, AreOwn, IsReadied, SavesAll, SavesEach, saves_to};
@@ -68,15 +68,15 @@ fn save_on<D: Disk>(
     save_pages(&mut AreaOf::new(disk, 1), pages, slots, marks, buffer)
 }
 
-// Saves the pages that have changed to their spare slots and syncs them.
+// Saves the marked pages to their spare slots and syncs them.
 fn save_changed<D: Disk>(disk: &mut D, it: &Prepared) -> Did
     requires { IsReadied it.now }
-    ensures saves { IsReady 1 (D.story disk.old) → SavesAll it.now.master.pages (D.story disk.old) (saves_to it.now.pages.items it.now.slots.items it.now.changed.items it.now.master.pages) result (D.story disk.new) }
+    ensures saves { IsReady 1 (D.story disk.old) → SavesAll it.now.master.pages (D.story disk.old) (saves_to it.now.pages.items it.now.slots.items it.now.marks.items it.now.master.pages) result (D.story disk.new) }
     ensures frame { Framed 1 (D.story disk.old) (D.story disk.new) }
     ensures cause { HasCause (D.faults disk.old) (D.faults disk.new) (result ≡ Did.Failed) }
 {
     let mut buffer = [0; 1024];
-    let Did::Done = save_on(disk, &it.pages, &it.slots, &it.changed, &mut buffer) else {
+    let Did::Done = save_on(disk, &it.pages, &it.slots, &it.marks, &mut buffer) else {
         return Did::Failed;
     };
     disk.sync(1)
@@ -102,6 +102,8 @@ pub fn recover<D: Disk>(alloc: Global, disk: &mut D, most: u32) -> Result<Recove
         → IsOpened m (areas_of (D.story disk.old)) r (D.story disk.new)) }
     ensures installed { IfOk result (λ r. TellsAll most (D.story disk.old) → (m : Master) → master_on (areas_of (D.story disk.old) 0) ≡ Some m
         → HasInstalled m r (D.story disk.old) (D.story disk.new)) }
+    // Also of a disk that is not clean, and whatever else it tells.
+    ensures slots { IfOk result (λ r. Tells (D.story disk.old) 1 → HasSlots r (D.story disk.new)) }
     ensures whole { IfOk result IsWhole }
     ensures few { IfOk result (λ r. length r.master.heads ≤ most) }
     ensures sequence { IfOk result (λ r. r.master.sequence < 2 ^ 61) }
@@ -133,7 +135,7 @@ pub fn recover<D: Disk>(alloc: Global, disk: &mut D, most: u32) -> Result<Recove
     let Did::Done = write_next(disk, &master) else {
         return Err(Unrecovered::DiskFault);
     };
-    let slots = turn(it.slots, &it.changed, &it.ahead);
+    let slots = turn(it.slots, &it.marks, &it.ahead);
     Ok(Recovered {
         pages: it.pages,
         slots,

@@ -379,6 +379,20 @@ def ring(i):
     i.raw(1, 1, record_bytes(Record(COMMIT, 1, 2, 29)))
 
 
+@image(0)
+def later_versions(i):
+    """Slots of later generations: beside page 1 another version of the next one, beside page 2 the page itself once more, beside page 3
+    another version of one far off. No record is about these; page 4, which has one too, changes."""
+    ends = [0, 10, 20, 30, TOP]
+    leaves = {p: leaf(low, high, (low + 1, p)) for p, low, high in zip(range(1, 5), ends, ends[1:])}
+    i.base({0: inner(1, 0, TOP, *zip(ends[:4], range(1, 5)))} | leaves)
+    i.save(1, 1, 4, Page(25, 1, leaf(0, 10, (2, 2))))
+    i.save(2, 1, 4)
+    i.save(3, 1, 9, Page(9, 1, leaf(20, 30, (22, 2))))
+    i.save(4, 1, 4, Page(26, 1, leaf(30, TOP, (31, 3))))
+    i.block(1, "20 1 change 4 31 8", "21 1 commit 0")
+
+
 @image(0, 0, 0)
 def strays(i):
     """Each run ends before a block that would end its loser: one of the ring's next round, one of another log, one whose seal is spoilt."""

@@ -3,8 +3,9 @@ use crate::comparison::is_same;
 use crate::engine::Stop;
 use crate::plain::page_of;
 use btree_node::Node;
-use lean_disk::{Choice, MemDisk};
-use recovery::{Unrecovered, recover};
+use lean_disk::{AreaOf, Choice, MemDisk};
+use page_store::fetch_seen;
+use recovery::{Recovered, Unrecovered, recover};
 use recovery_redo::Outcome;
 use std::alloc::{AllocError, Global};
 
@@ -29,7 +30,7 @@ fn has_bytes(disk: &MemDisk, other: &MemDisk) -> bool {
     true
 }
 
-/// Whether the disk opens with these pages, this base number and these counts of transactions.
+/// Whether the disk opens with these pages, this base number and these counts of transactions, and its slots are as it says.
 pub fn opens_so(
     alloc: Global,
     disk: &mut MemDisk,
@@ -41,7 +42,25 @@ pub fn opens_so(
     };
     let counts = [it.winners, it.undone, it.master.floor];
     let wanted = [outcome.winners, outcome.undone, outcome.base];
-    Ok(counts == wanted && are_same(alloc, &it.pages, pages)?)
+    Ok(counts == wanted && are_same(alloc, &it.pages, pages)? && do_count(alloc, disk, &it)?)
+}
+
+// Whether of each page the slot that is given counts by the new master, holds the page, and has no later version beside it.
+fn do_count(alloc: Global, disk: &mut MemDisk, it: &Recovered) -> Result<bool, AllocError> {
+    for page in 0..it.master.pages {
+        let Ok(seen) = fetch_seen(&mut AreaOf::new(disk, 1), &it.master, page) else {
+            return Ok(false);
+        };
+        let (Some(slot), Some(node)) = (it.slots.get(page as usize), it.pages.get(page as usize))
+        else {
+            return Ok(false);
+        };
+        let is_held = is_same(&page_of(alloc, &seen.base.node)?, &page_of(alloc, node)?);
+        if seen.ahead || seen.base.slot != *slot || !is_held {
+            return Ok(false);
+        }
+    }
+    Ok(true)
 }
 
 fn are_same(alloc: Global, some: &[Node], others: &[Node]) -> Result<bool, AllocError> {

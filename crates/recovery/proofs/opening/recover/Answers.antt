@@ -5,6 +5,7 @@ use Rattle.disk_slots.specs.declared.master.Master.{Master}
 use Rattle.recovery.specs.Inside.{IsTurned}
 use Rattle.recovery.specs.Masters.{next_master}
 use Rattle.recovery.proofs.ClauseLemmas.{answers, installs, opens, saved_moments, wholes, written_moments}
+use Rattle.recovery.proofs.SlotLemmas.{has_slots}
 use Rattle.recovery.proofs.opening.recover.Goals as goal
 
 pub returns-in_default-clause-any_moment : goal.returns-in_default-clause-any_moment
@@ -51,7 +52,16 @@ returns-clause-opened g c t m clean =
     let told : Tells s6 0 = c.save_changed.ensures.frame.tells 0 ∙ (e.settles.tells 0 ∙ t.master) in
     opens c.in-Ok.it e.readied e.openable s0 s4 c.args.most e.settles t e.settled (e.prepared t) m
     (((g.met.D.Disk g.world.𝓛 g.world.𝓜 g.world.𝓡 ((λ s x. x), (λ x. x), (λ x. x), (λ x. x))).whole c.prepare.new.disk) 1) clean
-    s6 c.save_changed.result c.save_changed.ensures.saves c.in-Done.is wide next.result next.ensures.answer (story c.write_next.new.disk) c.write_next.ensures.frame (c.write_next.ensures.done (c.in-Done-write_next).is told) _ refl refl e.marks (e.ahead t) (turned_by c.in-Ok.it.changed.items c.deref.result.now c.in-Ok.it.ahead.items c.deref-2.result.now c.in-Ok.it.slots.items c.turn-slots.result.items c.deref.ensures.value c.deref-2.ensures.value c.turn-slots.ensures)
+    s6 c.save_changed.result c.save_changed.ensures.saves c.in-Done.is wide next.result next.ensures.answer (story c.write_next.new.disk) c.write_next.ensures.frame (c.write_next.ensures.done (c.in-Done-write_next).is told) _ refl refl e.marks (turned_by c.in-Ok.it.marks.items c.deref.result.now c.in-Ok.it.ahead.items c.deref-2.result.now c.in-Ok.it.slots.items c.turn-slots.result.items c.deref.ensures.value c.deref-2.ensures.value c.turn-slots.ensures)
+
+pub returns-clause-slots : goal.returns-clause-slots
+returns-clause-slots g c told =
+    let story = g.D.Disk.story in
+    let e = c.in-Ok.ensures in
+    has_slots c.in-Ok.it e.readied (story c.args.disk.now) (story c.prepare.new.disk) c.args.most e.settles told (e.pages told) (e.based told)
+    (((g.met.D.Disk g.world.𝓛 g.world.𝓜 g.world.𝓡 ((λ s x. x), (λ x. x), (λ x. x), (λ x. x))).whole c.prepare.new.disk) 1)
+    (story c.save_changed.new.disk) c.save_changed.result c.save_changed.ensures.saves c.in-Done.is (story c.write_next.new.disk) c.write_next.ensures.frame _ refl c.next_master-master.ensures.answer
+    e.marks (turned_by c.in-Ok.it.marks.items c.deref.result.now c.in-Ok.it.ahead.items c.deref-2.result.now c.in-Ok.it.slots.items c.turn-slots.result.items c.deref.ensures.value c.deref-2.ensures.value c.turn-slots.ensures)
 
 pub returns-clause-installed : goal.returns-clause-installed
 returns-clause-installed g c t m counts =
@@ -74,7 +84,7 @@ pub returns-clause-whole : goal.returns-clause-whole
 returns-clause-whole g c =
     let next = c.next_master-master in
     let wide : c.in-Ok.it.base < 2 ^ 64 = subst (λ (k : Master). k.floor < 2 ^ 64) next.ensures.answer next.ensures.wide in
-    wholes c.in-Ok.it c.in-Ok.ensures.readied c.in-Ok.ensures.openable _ refl refl refl next.ensures.answer wide (turned_by c.in-Ok.it.changed.items c.deref.result.now c.in-Ok.it.ahead.items c.deref-2.result.now c.in-Ok.it.slots.items c.turn-slots.result.items c.deref.ensures.value c.deref-2.ensures.value c.turn-slots.ensures)
+    wholes c.in-Ok.it c.in-Ok.ensures.readied c.in-Ok.ensures.openable _ refl refl refl next.ensures.answer wide (turned_by c.in-Ok.it.marks.items c.deref.result.now c.in-Ok.it.ahead.items c.deref-2.result.now c.in-Ok.it.slots.items c.turn-slots.result.items c.deref.ensures.value c.deref-2.ensures.value c.turn-slots.ensures)
 
 -- the next master has as many logs
 as_many : (m : Master) (base : ℕ) (next : Master) → next ≡ next_master m base → length next.heads ≡ length m.heads
